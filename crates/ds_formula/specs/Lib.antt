@@ -1,0 +1,4 @@
+pub mod Shapes
+pub mod Cells
+pub mod Plain
+pub mod Refs

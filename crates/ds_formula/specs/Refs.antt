@@ -1,0 +1,26 @@
+-- The cells written in a content: references, and ranges spelled out, those in an unchosen branch of IF included.
+use Rattle.std.specs.Prelude.{◌≡◌, ◌⊎◌}
+use Rattle.ds_formula.specs.declared.cells.Cell.{Cell}
+use Rattle.ds_formula.specs.Cells.{IsWithin}
+use Rattle.ds_formula.specs.Plain.{Formula, Literal, At, Area, Signed, Joined, Called, Formulas, Nothing, Then, Plain, Empty, Constant, Computed}
+
+abbrev mutual
+  -- the cell is written in the expression
+  pub Mentions : Formula → Cell → Type 0
+  Mentions (Literal z) c = ⊥
+  Mentions (At d) c = d ≡ c
+  Mentions (Area r) c = IsWithin r c
+  Mentions (Signed s f) c = Mentions f c
+  Mentions (Joined o f g) c = Mentions f c ⊎ Mentions g c
+  Mentions (Called f fs) c = SomeMentions fs c
+
+  -- the cell is written in one of the arguments
+  pub SomeMentions : Formulas → Cell → Type 0
+  SomeMentions Nothing c = ⊥
+  SomeMentions (Then f fs) c = Mentions f c ⊎ SomeMentions fs c
+
+-- the cell is written in the content
+abbrev pub Refers : Plain → Cell → Type 0
+Refers Empty c = ⊥
+Refers (Constant z) c = ⊥
+Refers (Computed f) c = Mentions f c

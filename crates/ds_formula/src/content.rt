@@ -1,0 +1,64 @@
+//! What a cell holds.
+
+use crate::cells::{Cell, Rect};
+
+/// What a cell holds: OpenFormula's empty cell, number or formula.
+#[derive(Debug, Drop)]
+pub enum Content {
+    /// Nothing: the empty text.
+    Blank,
+    /// A constant, a whole number.
+    Number(i64),
+    /// A formula, evaluated when the sheet is calculated.
+    Formula(Tree),
+}
+
+/// The expression of a formula. Parentheses leave no node.
+#[derive(Debug, Drop)]
+pub enum Tree {
+    /// A number as it is written: the reader gives none below 0.
+    Number(i64),
+    /// A reference to one cell, as `[.A1]`.
+    Reference(Cell),
+    /// A range of cells, as `[.A1:.B3]`.
+    Range(Rect),
+    /// A sign before an operand.
+    Prefix(Sign, Box<Tree>),
+    /// An operator between two operands.
+    Binary(Operator, Box<Tree>, Box<Tree>),
+    /// A function and its arguments, in the order in which they are written.
+    Call(Function, Vec<Tree>),
+}
+
+/// A prefix operator (OpenFormula 6.4.14 and 6.4.15).
+#[derive(Clone, Copy, Debug, PartialEq, Eq)]
+pub enum Sign {
+    Plus,
+    Minus,
+}
+
+/// An infix operator (OpenFormula 6.4.2 to 6.4.9).
+#[derive(Clone, Copy, Debug, PartialEq, Eq)]
+pub enum Operator {
+    Multiply,
+    Add,
+    Subtract,
+    Equal,
+    NotEqual,
+    Less,
+    Greater,
+    LessOrEqual,
+    GreaterOrEqual,
+}
+
+/// A function of OpenFormula: SUM, MIN, MAX, ABS, MOD, QUOTIENT or IF.
+#[derive(Clone, Copy, Debug, PartialEq, Eq)]
+pub enum Function {
+    Sum,
+    Min,
+    Max,
+    Abs,
+    Mod,
+    Quotient,
+    If,
+}

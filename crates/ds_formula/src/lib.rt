@@ -1,0 +1,6 @@
+//! Contents of cells: blank, a whole number, or a formula of a subset of OpenFormula.
+#![tactic(auto)]
+
+pub mod cells;
+pub mod content;
+pub mod fault;
