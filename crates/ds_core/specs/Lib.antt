@@ -1,0 +1,4 @@
+pub mod Ledger
+pub mod PlainSheet
+pub mod Refusals
+pub mod Kept

@@ -1,0 +1,46 @@
+//! Why a begin is refused.
+
+ghost use Rattle.std.specs.Prelude.{◌≡◌};
+ghost use Rattle.ds_core.specs.declared.refusal.Refusal.TheVariants.{NoMemory};
+ghost use Rattle.ds_core.specs.Refusals.{refusal_of};
+
+use ds_formula::fault::{FaultKind, TextFault};
+use std::alloc::{AllocError, AllocFailed};
+
+/// Why an edit is refused. After a refusal the sheet is as it was.
+#[derive(Clone, Copy, Debug, PartialEq, Eq)]
+pub enum Refusal {
+    /// Number 1: the text has no content, but this fault.
+    Text(TextFault),
+    /// Number 4: the process has spent its 256 records.
+    RecordsFull,
+    /// Number 5: an allocation failed.
+    NoMemory,
+}
+
+impl From<TextFault> for Refusal {
+    ghost from_gives = { λ f r. r ≡ refusal_of f };
+
+    fn from(fault: TextFault) -> Refusal {
+        match fault.kind {
+            FaultKind::NoMemory => Refusal::NoMemory,
+            _ => Refusal::Text(fault),
+        }
+    }
+}
+
+impl From<AllocError> for Refusal {
+    ghost from_gives = { λ _ r. r ≡ NoMemory };
+
+    fn from(_error: AllocError) -> Refusal {
+        Refusal::NoMemory
+    }
+}
+
+impl<T: Drop> From<AllocFailed<T>> for Refusal {
+    ghost from_gives = { λ _ r. r ≡ NoMemory };
+
+    fn from(_failed: AllocFailed<T>) -> Refusal {
+        Refusal::NoMemory
+    }
+}

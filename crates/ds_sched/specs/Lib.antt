@@ -1,0 +1,9 @@
+pub mod Streams
+pub mod Input
+pub mod Lines
+pub mod Commands
+pub mod Fits
+pub mod Answers
+pub mod Csv
+pub mod Script
+pub mod Running
