@@ -4,3 +4,8 @@
 pub mod cells;
 pub mod content;
 pub mod fault;
+mod functions;
+mod parser;
+mod ranges;
+pub mod reading;
+mod sizes;mod tokens;
