@@ -12,3 +12,4 @@ pub mod Turns
 pub mod Sizes
 pub mod Parsing
 pub mod Grammar
+pub mod Names

@@ -179,7 +179,7 @@ fn letters(text: &[u8]) -> (u64, &[u8])
 }
 
 // A cell by its column and its row, each from 1, where it is one of the sheet.
-fn cell_of(shape: &Shape, column: u64, row: u64) -> Option<Cell>
+pub(crate) fn cell_of(shape: &Shape, column: u64, row: u64) -> Option<Cell>
     ensures { result ≡ cell_of shape.now column row }
 {
     let column = column as usize;
@@ -201,17 +201,16 @@ fn corner<'a>(shape: &Shape, text: &'a [u8]) -> Result<(Option<Cell>, &'a [u8]),
     ensures shorter { IfOk result (λ x. length x.1.now ≤ length text.now) }
 {
     let text = byte(b'.', text)?;
-    let (column, text) = column(text)?;
-    let (row, text) = row(text)?;
+    let (column, text) = column(without_dollar(text))?;
+    let (row, text) = row(without_dollar(text))?;
     Ok((cell_of(shape, column, row), text))
 }
 
 #[tactic(auto, unfolding(crate::specs::References::letters_at))]
-fn column(text: &[u8]) -> Result<(u64, &[u8]), Stop>
-    ensures is { result_of (λ x. (x.0, x.1.now)) result ≡ capped (letters_at (without_dollar text.now)) }
+pub(crate) fn column(text: &[u8]) -> Result<(u64, &[u8]), Stop>
+    ensures is { result_of (λ x. (x.0, x.1.now)) result ≡ capped (letters_at text.now) }
     ensures shorter { IfOk result (λ x. length x.1.now ≤ length text.now) }
 {
-    let text = without_dollar(text);
     match text {
         [first, ..] if first.is_ascii_alphabetic() => Ok(letters(text)),
         _ => Err(unexpected(text)),
@@ -219,11 +218,10 @@ fn column(text: &[u8]) -> Result<(u64, &[u8]), Stop>
 }
 
 #[tactic(auto, unfolding(crate::specs::References::row_at))]
-fn row(text: &[u8]) -> Result<(u64, &[u8]), Stop>
-    ensures is { result_of (λ x. (x.0, x.1.now)) result ≡ capped (row_at (without_dollar text.now)) }
+pub(crate) fn row(text: &[u8]) -> Result<(u64, &[u8]), Stop>
+    ensures is { result_of (λ x. (x.0, x.1.now)) result ≡ capped (row_at text.now) }
     ensures shorter { IfOk result (λ x. length x.1.now ≤ length text.now) }
 {
-    let text = without_dollar(text);
     match text {
         [b'1'..=b'9', ..] => Ok(digits(text)),
         _ => Err(unexpected(text)),
