@@ -2,3 +2,14 @@ pub mod Shapes
 pub mod Cells
 pub mod Plain
 pub mod Refs
+pub mod Bytes
+pub mod References
+pub mod Functions
+pub mod Tokens
+pub mod Ranges
+pub mod Forms
+pub mod Turns
+pub mod Sizes
+pub mod Parsing
+pub mod Grammar
+pub mod Names

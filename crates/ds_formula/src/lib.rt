@@ -3,4 +3,12 @@
 
 pub mod cells;
 pub mod content;
+mod copies;
 pub mod fault;
+mod functions;
+mod names;
+mod parser;
+mod ranges;
+pub mod reading;
+mod sizes;
+mod tokens;

@@ -1,0 +1,9 @@
+pub mod Bytes
+pub mod Counts
+pub mod Views
+pub mod Walks
+pub mod Steps
+pub mod Parses
+pub mod Calls
+pub mod Unique
+pub mod Whole

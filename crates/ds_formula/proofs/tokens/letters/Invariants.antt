@@ -1,0 +1,10 @@
+use Rattle.std.proofs.Common.{◌≡◌, ℕ, ◌-◌, ◌^◌, ◌≤◌, min, length}
+use Rattle.ds_formula.specs.References.{letters_from}
+use Rattle.ds_formula.proofs.tokens.letters.Given as goal
+
+-- some number, capped, was read so far
+abbrev pub invariant-loop-rest : goal.invariant-loop-rest
+invariant-loop-rest l = (m : ℕ) × (l.value ≡ min m (2 ^ 64 - 1)) × (letters_from m l.rest ≡ letters_from 0 l.text) × (length l.rest ≤ length l.text)
+
+abbrev pub decreases-loop-rest : goal.decreases-loop-rest
+decreases-loop-rest l = length l.rest

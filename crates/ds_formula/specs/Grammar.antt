@@ -1,0 +1,98 @@
+-- Which text has which content, and which has which fault.
+use Rattle.std.specs.Prelude.{◌≡◌, ◌⊎◌, ℕ, ℤ, pos, neg_ℤ, ◌≤◌, ◌<◌, ◌-◌, ◌^◌, List, [], ◌∷◌, length, drop, codes, Option, Some, None, Result, Ok, Err, ◌==◌, if◌then◌else◌}
+use Rattle.ds_formula.specs.declared.cells.Shape.{Shape}
+use Rattle.ds_formula.specs.declared.content.Content.{Content}
+use Rattle.ds_formula.specs.declared.fault.TextFault.{TextFault}
+use Rattle.ds_formula.specs.declared.fault.FaultKind.TheVariants.{TooLong, RangeNotAllowed, TooDeep, NoMemory}
+use Rattle.ds_formula.specs.declared.ranges.Ranges.{Ranges}
+use Rattle.ds_formula.specs.declared.reading.TheConstants.{TEXT_LIMIT}
+use Rattle.ds_formula.specs.declared.tokens.Stop.{Stop}
+use Rattle.ds_formula.specs.Plain.{Formula, Plain, plain, Empty, Constant, Computed}
+use Rattle.ds_formula.specs.Bytes.{◌>>=◌, unexpected_stop, begins, number_at}
+use Rattle.ds_formula.specs.Ranges.{misplaced}
+use Rattle.ds_formula.specs.Forms.{Expression}
+use Rattle.ds_formula.specs.Turns.{AnOperand, Faulty}
+use Rattle.ds_formula.specs.Sizes.{Fits}
+
+-- a number that ends the text
+abbrev pub alone : ℕ → List ℕ → Result ℕ Stop
+alone n [] = Ok n
+alone n (b ∷ bs) = Err (unexpected_stop (b ∷ bs))
+
+-- a number and nothing behind it
+unfoldable pub whole_of : ℕ → List ℕ → Result ℕ Stop
+whole_of limit text = number_at limit text >>= λ x. alone x.0 x.1
+
+-- a number, with a sign or without
+unfoldable pub constant_of : List ℕ → Result ℤ Stop
+constant_of text =
+    if begins 45 text
+    then (whole_of (2 ^ 63) (drop 1 text) >>= λ n. Ok (neg_ℤ (pos n)))
+    else (if begins 43 text then (whole_of (2 ^ 63 - 1) (drop 1 text) >>= λ n. Ok (pos n)) else (whole_of (2 ^ 63 - 1) text >>= λ n. Ok (pos n)))
+
+-- what is behind these bytes, where the text begins with them
+abbrev pub behind : List ℕ → List ℕ → Option (List ℕ)
+behind [] text = Some text
+behind (p ∷ ps) [] = None
+behind (p ∷ ps) (b ∷ bs) = if b == p then behind ps bs else None
+
+-- a second `=` changes nothing
+abbrev pub without_equals : List ℕ → List ℕ
+without_equals [] = []
+without_equals (b ∷ bs) = if b == 61 then bs else b ∷ bs
+
+abbrev pub or_else : Option (List ℕ) → Option (List ℕ) → Option (List ℕ)
+or_else (Some x) other = Some x
+or_else None other = other
+
+abbrev pub expression_behind : Option (List ℕ) → Option (List ℕ)
+expression_behind (Some x) = Some (without_equals x)
+expression_behind None = None
+
+-- the expression of a text that is a formula: behind `=` or `of:=`
+unfoldable pub expression_of : List ℕ → Option (List ℕ)
+expression_of text = expression_behind (or_else (behind (codes "=") text) (behind (codes "of:=") text))
+
+-- the text has this content, however long it is
+pub data ReadsLong (shape : Shape) : List ℕ → Plain → Type 0 where
+  blank : ReadsLong shape [] Empty
+  constant : (text : List ℕ) (z : ℤ) → 0 < length text → expression_of text ≡ None → constant_of text ≡ Ok z → ReadsLong shape text (Constant z)
+  computed : (text body : List ℕ) (f : Formula) (r : Ranges)
+      → expression_of text ≡ Some body → Expression shape body f r → misplaced r ≡ None → Fits f → ReadsLong shape text (Computed f)
+
+-- the text has this content
+pub record Reads (shape : Shape) (text : List ℕ) (content : Plain) : Type 0 where
+  pub short : length text ≤ TEXT_LIMIT
+  pub reads : ReadsLong shape text content
+
+-- a fault by the bytes left, and by the bytes before it
+abbrev pub placed : List ℕ → Stop → TextFault
+placed text stop = record { kind = stop.kind; offset = length text - stop.left }
+
+-- the text has this fault; faults of tokens come first, then misplaced ranges, then the size
+pub data FaultsLong (shape : Shape) : List ℕ → TextFault → Type 0 where
+  in_constant : (text : List ℕ) (stop : Stop) → 0 < length text → expression_of text ≡ None → constant_of text ≡ Err stop → FaultsLong shape text (placed text stop)
+  in_formula : (text body : List ℕ) (stop : Stop) → expression_of text ≡ Some body → Faulty shape AnOperand [] body stop → FaultsLong shape text (placed text stop)
+  range : (text body : List ℕ) (f : Formula) (r : Ranges) (left : ℕ)
+      → expression_of text ≡ Some body → Expression shape body f r → misplaced r ≡ Some left → FaultsLong shape text (record { kind = RangeNotAllowed; offset = length text - left })
+  too_deep : (text body : List ℕ) (f : Formula) (r : Ranges)
+      → expression_of text ≡ Some body → Expression shape body f r → misplaced r ≡ None → (Fits f → ⊥) → FaultsLong shape text (record { kind = TooDeep; offset = 0 })
+
+-- the text has this fault, its length first
+pub data Faults (shape : Shape) (text : List ℕ) : TextFault → Type 0 where
+  too_long : TEXT_LIMIT < length text → Faults shape text (record { kind = TooLong; offset = TEXT_LIMIT })
+  within : (fault : TextFault) → length text ≤ TEXT_LIMIT → FaultsLong shape text fault → Faults shape text fault
+
+abbrev pub no_memory : TextFault
+no_memory = record { kind = NoMemory; offset = 0 }
+
+-- a content is one of the text, and a fault is, or memory ran out
+abbrev pub Answers : Shape → List ℕ → Result Content TextFault → Type 0
+Answers shape text (Ok c) = Reads shape text (plain c)
+Answers shape text (Err e) = (e ≡ no_memory) ⊎ Faults shape text e
+
+-- a text has one content or one fault
+pub record OneAnswer (shape : Shape) (text : List ℕ) : Type 0 where
+  pub content : (c d : Plain) → Reads shape text c → Reads shape text d → c ≡ d
+  pub fault : (e f : TextFault) → Faults shape text e → Faults shape text f → e ≡ f
+  pub never_both : (c : Plain) (e : TextFault) → Reads shape text c → Faults shape text e → ⊥
