@@ -11,10 +11,15 @@ use Rattle.ds_formula.specs.declared.content.Content.TheVariants.{Blank}
 use Rattle.ds_formula.specs.Cells.{IsInside, index_of, count_of}
 use Rattle.ds_formula.specs.Plain.{Plain, plain, Empty}
 use Rattle.ds_formula.specs.Grammar.{Reads, blank}
+use Rattle.std.proofs.Common.{lit≤}
 use Rattle.ds_eval.specs.Scratch.{or_empty}
 use Rattle.ds_core.specs.declared.edit.CountedEdit.{CountedEdit}
 use Rattle.ds_core.specs.Ledger.{edits_of, same_cell, text_after, last_text, IsFold}
 use Rattle.ds_core.proofs.LedgerLemmas.{edits_of-own, edits_of-other, text_after-last}
+
+-- an empty text is blank
+blank_read : (shape : Shape) → Reads shape [] Empty
+blank_read shape = record { short = lit≤ tt; reads = blank }
 
 -- what a list of contents holds at a place
 abbrev pub held_at : List Content → ℕ → Plain
@@ -32,7 +37,7 @@ pub no_edits : (shape : Shape) (edits : List CountedEdit) (contents : List Conte
     → IsFold shape edits (λ (cell : Cell). held_at contents (index_of shape cell))
 no_edits shape edits contents none h cell inside =
     let text : last_text edits cell ≡ [] = ap (λ (es : List CountedEdit). last_text es cell) none in
-    subst (λ (t : List ℕ). Reads shape t (held_at contents (index_of shape cell))) (sym text) (subst (λ (p : Plain). Reads shape [] p) (sym (h (index_of shape cell))) blank)
+    subst (λ (t : List ℕ). Reads shape t (held_at contents (index_of shape cell))) (sym text) (subst (λ (p : Plain). Reads shape [] p) (sym (h (index_of shape cell))) (blank_read shape))
 
 pub no_numbers : (numbers : List ℕ) (edits : List CountedEdit) (n p : ℕ) → numbers ≡ replicate n 0 → edits ≡ [] → p < n → get_or numbers p 0 ≡ edits_of p edits
 no_numbers numbers edits n p zeros none h = ap (λ (xs : List ℕ). get_or xs p 0) zeros ∙ get_or-replicate n p 0 0 h ∙ sym (ap (edits_of p) none)

@@ -1,6 +1,7 @@
 //! How faults and cells are shown, and cells by their names.
 
-ghost use Rattle.std.specs.Prelude.{◌≡◌, Some};
+ghost use Rattle.std.specs.Prelude.{◌≡◌, Some, IfSome};
+ghost use Rattle.ds_formula.specs.Cells.{IsInside};
 ghost use Rattle.ds_formula.specs.Names.{name_of_kind, fault_text, cell_text, cell_named};
 
 use crate::cells::{Cell, Shape};
@@ -61,7 +62,8 @@ impl fmt::Display for Cell {
 impl Shape {
     /// The cell with this name, as `A1` or `a1`, where it is one of the sheet. The digits of a row begin with 1 to 9.
     pub fn named(&self, text: &[u8]) -> Option<Cell>
-        ensures { result ≡ cell_named self.now text.now }
+        ensures value { result ≡ cell_named self.now text.now }
+        ensures inside { IfSome result (IsInside self.now) }
     {
         let Ok((column, rest)) = column(text) else {
             return None;

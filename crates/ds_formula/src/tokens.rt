@@ -1,6 +1,7 @@
 //! The tokens of a formula, read from the front of its bytes.
 
-ghost use Rattle.std.specs.Prelude.{◌≡◌, ℕ, ◌≤◌, ◌<◌, ◌^◌, ◌-◌, min, length, Ok, Err, IfOk, option_map, pos};
+ghost use Rattle.std.specs.Prelude.{◌≡◌, ℕ, ◌≤◌, ◌<◌, ◌^◌, ◌-◌, min, length, Ok, Err, IfOk, IfSome, option_map, pos};
+ghost use Rattle.ds_formula.specs.Cells.{IsInside};
 ghost use Rattle.ds_formula.specs.Bytes.{begins, unexpected_stop, result_of, number_from, number_at, byte_at, is_space, skipped};
 ghost use Rattle.ds_formula.specs.References.{letters_from, letters_at, row_at, without_dollar, cell_of, corner_at, area_of, reference_at, capped};
 ghost use Rattle.ds_formula.specs.Tokens.{is_name_byte, word_length, name_at, lead_of, lead_at, follow_of, follow_at, after_less, after_greater};
@@ -180,7 +181,8 @@ fn letters(text: &[u8]) -> (u64, &[u8])
 
 // A cell by its column and its row, each from 1, where it is one of the sheet.
 pub(crate) fn cell_of(shape: &Shape, column: u64, row: u64) -> Option<Cell>
-    ensures { result ≡ cell_of shape.now column row }
+    ensures value { result ≡ cell_of shape.now column row }
+    ensures inside { IfSome result (IsInside shape.now) }
 {
     let column = column as usize;
     let row = row as usize;

@@ -4,7 +4,7 @@ use Rattle.std.specs.Fmt.{decimal}
 use Rattle.csv.specs.Writing.{row_text, default_writer}
 use Rattle.ds_formula.specs.declared.cells.Shape.{Shape}
 use Rattle.ds_formula.specs.declared.cells.Cell.{Cell}
-use Rattle.ds_formula.specs.FaultText.{fault_text}
+use Rattle.ds_formula.specs.Names.{fault_text}
 use Rattle.ds_eval.specs.declared.value.Value.{Value}
 use Rattle.ds_eval.specs.Text.{value_text}
 use Rattle.ds_core.specs.declared.refusal.Refusal.{Refusal}
