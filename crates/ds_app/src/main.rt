@@ -1,0 +1,66 @@
+//! `dsheet`: a shared spreadsheet that survives crashes.
+#![tactic(auto)]
+
+mod command_line;
+mod status;
+
+use crate::command_line::{Action, parse};
+use crate::status::script_status;
+use clap::Error;
+use clap::error::ErrorKind;
+use ds_sched::ending::ScriptEnd;
+use ds_sched::script::run_script;
+use ds_sched::streams::{Reading, Writing};
+use std::io::{self, BufWriter};
+use std::process::ExitCode;
+use std::rt::Env;
+
+/// The status of a failed read or write.
+const STREAM_FAILED: u8 = 3;
+
+/// The status of want of memory.
+const NO_MEMORY: u8 = 4;
+
+// `dsheet run`: a script from standard input, answers to standard output, the fault to standard error.
+fn run<R: AllocGlobal + Input + Print + Eprint>(rt: &R) -> u8 {
+    let Ok(buffered) = BufWriter::new(rt.alloc(), io::writer(rt)) else {
+        return NO_MEMORY;
+    };
+    let mut reader = Reading::new(rt.reader());
+    let mut writer = Writing::new(buffered);
+    let end = run_script(rt.alloc(), &mut reader, &mut writer);
+    if end != ScriptEnd::Ended && eprintln!(rt; "{end}").is_err() {
+        return STREAM_FAILED;
+    }
+    script_status(&end)
+}
+
+// Prints help to standard output, and what is wrong with the words to standard error.
+fn explain(rt: &(impl Print + Eprint), error: &Error) -> u8 {
+    if error.print(rt).is_err() {
+        STREAM_FAILED
+    } else if error.kind() == ErrorKind::OutOfMemory {
+        NO_MEMORY
+    } else if error.use_stderr() {
+        2
+    } else {
+        0
+    }
+}
+
+fn dispatch<R: AllocGlobal + Env + Input + Print + Eprint>(rt: &R) -> u8 {
+    let Ok(arguments) = std::env::args(rt) else {
+        return STREAM_FAILED;
+    };
+    let Ok(words) = arguments.collect::<Vec<String>>(rt.alloc()) else {
+        return NO_MEMORY;
+    };
+    match parse(rt.alloc(), words.as_slice()) {
+        Ok(Action::Run) => run(rt),
+        Err(error) => explain(rt, &error),
+    }
+}
+
+fn main(rt: HostRuntime) -> ExitCode {
+    ExitCode::from(dispatch(&rt))
+}
