@@ -1,0 +1,5 @@
+pub mod Division
+pub mod Tallies
+pub mod Cells
+pub mod Views
+pub mod Calls

@@ -1,0 +1,8 @@
+//! The values of a sheet: exact arithmetic, formulas, circular references.
+#![tactic(auto)]
+
+pub mod arithmetic;
+pub mod evaluate;
+pub mod inputs;
+pub mod tally;
+pub mod value;
