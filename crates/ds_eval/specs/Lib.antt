@@ -5,3 +5,5 @@ pub mod Local
 pub mod Inputs
 pub mod Tally
 pub mod Steps
+pub mod Rounds
+pub mod Sheet

@@ -1,12 +1,13 @@
 -- One look at a cell's neighbours: its value, and how far references lead from it.
-use Rattle.std.specs.Prelude.{◌≡◌, ℕ, suc, min, max, ◌==◌, if◌then◌else◌, List, [], ◌∷◌, map}
+use Rattle.std.specs.Prelude.{◌≡◌, ℕ, suc, min, max, ◌==◌, if◌then◌else◌, List, [], ◌∷◌, length, map}
 use Rattle.ds_formula.specs.declared.cells.Shape.{Shape}
 use Rattle.ds_formula.specs.declared.cells.Cell.{Cell}
-use Rattle.ds_formula.specs.Cells.{IsInside, count_of}
+use Rattle.ds_formula.specs.Cells.{IsInside, index_of, count_of}
 use Rattle.ds_formula.specs.Plain.{Formula, Literal, At, Area, Signed, Joined, Called, Formulas, Nothing, Then, Plain, Empty, Constant, Computed}
 use Rattle.ds_eval.specs.declared.value.Value.{Value}
 use Rattle.ds_eval.specs.declared.value.Value.TheVariants.{Circular}
 use Rattle.ds_eval.specs.declared.inputs.Entry.{Entry}
+use Rattle.ds_eval.specs.Scratch.{at}
 use Rattle.ds_eval.specs.Evaluation.{is_inside, cells_of, content_value}
 
 -- ---- heights
@@ -16,11 +17,14 @@ abbrev pub above : List ℕ → ℕ
 above [] = 0
 above (h ∷ hs) = max (suc h) (above hs)
 
+abbrev pub reference_height : Shape → (Cell → ℕ) → Cell → ℕ
+reference_height shape heights c = if is_inside shape c then suc (heights c) else 0
+
 abbrev mutual
   -- one more than the greatest height of a cell that is written in the formula, 0 where there is none
   pub formula_height : Shape → (Cell → ℕ) → Formula → ℕ
   formula_height shape heights (Literal z) = 0
-  formula_height shape heights (At c) = if is_inside shape c then suc (heights c) else 0
+  formula_height shape heights (At c) = reference_height shape heights c
   formula_height shape heights (Area area) = above (map heights (cells_of shape area))
   formula_height shape heights (Signed s f) = formula_height shape heights f
   formula_height shape heights (Joined o f g) = max (formula_height shape heights f) (formula_height shape heights g)
@@ -53,6 +57,11 @@ entry_at shape content entries height = record {
 -- the entry of a cell that holds the content, where the cells written in it have the entries
 abbrev pub local : Shape → Plain → (Cell → Entry) → Entry
 local shape content entries = entry_at shape content entries (min (count_of shape) (content_height shape (height_of entries) content))
+
+-- the values shown are those of the entries
+pub record IsShown (shape : Shape) (entries : Cell → Entry) (shown : List Value) : Type 0 where
+  pub each : length shown ≡ count_of shape
+  pub same : (c : Cell) → IsInside shape c → at shown (index_of shape c) ≡ value_of entries c
 
 -- each cell's entry is what its neighbours' entries give
 pub record IsLocal (shape : Shape) (sheet : Cell → Plain) (entries : Cell → Entry) : Type 0 where

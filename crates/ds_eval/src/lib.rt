@@ -4,5 +4,8 @@
 pub mod arithmetic;
 pub mod evaluate;
 pub mod inputs;
+pub mod local;
+pub mod scratch;
+pub mod sheet;
 pub mod tally;
 pub mod value;
