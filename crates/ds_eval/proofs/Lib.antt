@@ -1,0 +1,11 @@
+pub mod Division
+pub mod Tallies
+pub mod Cells
+pub mod Views
+pub mod Calls
+pub mod Heights
+pub mod Ranges
+pub mod Neighbours
+pub mod Walks
+pub mod FixedPoint
+pub mod Rounds

@@ -1,0 +1,9 @@
+pub mod Numbers
+pub mod Evaluation
+pub mod Scratch
+pub mod Local
+pub mod Inputs
+pub mod Tally
+pub mod Steps
+pub mod Rounds
+pub mod Sheet

@@ -1,0 +1,124 @@
+-- Values, and exact arithmetic on them.
+use Rattle.std.specs.Prelude.{ℕ, suc, ◌/◌, ◌^◌, ℤ, pos, negsuc, ◌+ℤ◌, ◌-ℤ◌, ◌*ℤ◌, neg_ℤ, int_div, int_lt, Bool, true, false, not, nat_lt, if◌then◌else◌, codes, List, [], ◌∷◌, ◌++◌, fold, Option, Some, None}
+use Rattle.std.specs.Ordering.{int_eq}
+use Rattle.std.specs.Int.{int_min, int_max}
+use Rattle.std.specs.Fmt.{signed_decimal}
+use Rattle.ds_formula.specs.declared.content.Sign.{Sign}
+use Rattle.ds_formula.specs.declared.content.Sign.TheVariants as signs
+use Rattle.ds_formula.specs.declared.content.Operator.{Operator}
+use Rattle.ds_formula.specs.declared.content.Operator.TheVariants as operators
+use Rattle.ds_eval.specs.declared.value.Value.{Value}
+use Rattle.ds_eval.specs.declared.value.Value.TheVariants.{Blank, Number, DivZero, Num, Circular}
+
+-- what is printed of a value
+abbrev pub value_text : Value → List ℕ
+value_text Blank = []
+value_text (Number z) = signed_decimal z
+value_text DivZero = codes "#DIV/0!"
+value_text Num = codes "#NUM!"
+value_text Circular = codes "Err:522"
+
+-- ---- results
+
+-- from -2^63 to 2^63-1
+abbrev pub is_i64 : ℤ → Bool
+is_i64 (pos n) = nat_lt n (2 ^ 63)
+is_i64 (negsuc n) = nat_lt n (2 ^ 63)
+
+-- an exact result
+abbrev pub in_range : ℤ → Value
+in_range z = if is_i64 z then Number z else Num
+
+-- a comparison gives 1 or 0
+abbrev pub truth : Bool → Value
+truth b = Number (if b then pos 1 else pos 0)
+
+-- ---- what the operators and functions do with numbers
+
+abbrev pub signed : Sign → ℤ → Value
+signed signs.Plus a = Number a
+signed signs.Minus a = in_range (neg_ℤ a)
+
+abbrev pub joined : Operator → ℤ → ℤ → Value
+joined operators.Multiply a b = in_range (a *ℤ b)
+joined operators.Add a b = in_range (a +ℤ b)
+joined operators.Subtract a b = in_range (a -ℤ b)
+joined operators.Equal a b = truth (int_eq a b)
+joined operators.NotEqual a b = truth (not (int_eq a b))
+joined operators.Less a b = truth (int_lt a b)
+joined operators.Greater a b = truth (int_lt b a)
+joined operators.LessOrEqual a b = truth (not (int_lt b a))
+joined operators.GreaterOrEqual a b = truth (not (int_lt a b))
+
+abbrev pub absolute : ℤ → Value
+absolute (pos n) = in_range (pos n)
+absolute (negsuc n) = in_range (pos (suc n))
+
+-- a / b, cut towards minus infinity
+abbrev pub floor_by : ℤ → ℕ → ℤ
+floor_by (pos n) d = pos (n / d)
+floor_by (negsuc n) d = negsuc (n / d)
+
+abbrev pub floor_div : ℤ → ℤ → ℤ
+floor_div a (pos d) = floor_by a d
+floor_div a (negsuc d) = floor_by (neg_ℤ a) (suc d)
+
+-- what is left of a, with the sign of b
+abbrev pub floor_rest : ℤ → ℤ → ℤ
+floor_rest a b = a -ℤ b *ℤ floor_div a b
+
+-- MOD
+abbrev pub modulo : ℤ → ℤ → Value
+modulo a b = if int_eq b (pos 0) then DivZero else Number (floor_rest a b)
+
+-- QUOTIENT: a / b, cut towards 0
+abbrev pub quotient : ℤ → ℤ → Value
+quotient a b = if int_eq b (pos 0) then DivZero else in_range (int_div a b)
+
+-- SUM: all of them, added exactly
+abbrev pub total : List ℤ → ℤ
+total ns = fold ◌+ℤ◌ (pos 0) ns
+
+-- MIN and MAX: 0 where there is none
+abbrev pub least : List ℤ → ℤ
+least [] = pos 0
+least (n ∷ ns) = fold int_min n ns
+
+abbrev pub greatest : List ℤ → ℤ
+greatest [] = pos 0
+greatest (n ∷ ns) = fold int_max n ns
+
+-- ---- values as numbers, and the first error
+
+-- a value used as a number: a blank is 0, an error is the result
+abbrev pub with_number : Value → (ℤ → Value) → Value
+with_number Blank f = f (pos 0)
+with_number (Number z) f = f z
+with_number DivZero f = DivZero
+with_number Num f = Num
+with_number Circular f = Circular
+
+-- two values used as numbers: the error of the first goes before that of the second
+abbrev pub with_numbers : Value → Value → (ℤ → ℤ → Value) → Value
+with_numbers a b f = with_number a (λ x. with_number b (f x))
+
+-- the numbers among values: blanks are left out
+abbrev pub numbers : List Value → List ℤ
+numbers [] = []
+numbers (Number z ∷ vs) = z ∷ numbers vs
+numbers (v ∷ vs) = numbers vs
+
+-- the first error among values
+abbrev pub first_error : List Value → Option Value
+first_error [] = None
+first_error (Blank ∷ vs) = first_error vs
+first_error (Number z ∷ vs) = first_error vs
+first_error (v ∷ vs) = Some v
+
+abbrev pub error_or : Option Value → Value → Value
+error_or (Some e) v = e
+error_or None v = v
+
+-- many values used as numbers, blanks left out
+abbrev pub with_all : List Value → (List ℤ → Value) → Value
+with_all vs f = error_or (first_error vs) (f (numbers vs))

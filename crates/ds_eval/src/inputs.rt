@@ -1,0 +1,137 @@
+//! Cells with what they show.
+
+ghost use Rattle.std.specs.Prelude.{◌≡◌, ◌≢◌, ◌↔◌, ℕ, ◌+◌, ◌<◌, ◌≤◌, [], ◌∷◌, ◌++◌, length, false, IsTrue, IfOk, IfSome, IsNone};
+ghost use Rattle.ds_eval.specs.Inputs.{entry_in, entry_at, with_entry, cell_in, IsAscending, IsBehind, IsBefore};
+
+use crate::value::Value;
+use ds_formula::cells::Cell;
+use std::alloc::{AllocError, Global};
+use std::marker::Model;
+
+/// What a cell shows: its value, and how far references lead from it.
+#[derive(Clone, Copy, Debug, PartialEq, Eq)]
+pub struct Entry {
+    pub value: Value,
+    /// The length of the longest walk along references that begins at the cell, at most the number of cells.
+    pub height: usize,
+}
+
+/// A cell that a content refers to, with its entry.
+#[derive(Clone, Copy, Debug, PartialEq, Eq)]
+pub struct Input {
+    pub cell: Cell,
+    pub entry: Entry,
+}
+
+/// The entries of some cells, in which a cell is found by halving.
+/// Clauses see the inputs, which ascend row by row from the left, and how many there is room for.
+#[derive(Debug, Drop)]
+pub struct Inputs {
+    items: Vec<Input>,
+}
+
+impl Model for Inputs {
+    ghost use Rattle.std.specs.Prelude.{vec_capacity};
+    ghost use Rattle.ds_eval.specs.Inputs.{PlainInputs, IsAscending};
+
+    ghost Value = { PlainInputs };
+
+    ghost view = { λ a. record { items = a.items.items; room = vec_capacity a.items } };
+
+    ghost invariant = { λ a. IsAscending a.items.items };
+}
+
+impl Inputs {
+    /// No inputs, with room for so many.
+    pub fn with_capacity(alloc: Global, count: usize) -> Result<Inputs, AllocError>
+        ensures items { IfOk result (λ inputs. inputs.items ≡ []) }
+        ensures room { IfOk result (λ inputs. count ≤ inputs.room) }
+    {
+        Ok(Inputs {
+            items: Vec::with_capacity(alloc, count)?,
+        })
+    }
+
+    /// One more input, whose cell stands behind all that are there. It takes no memory.
+    pub fn push(&mut self, input: Input)
+        requires room { length self.old.items < self.old.room }
+        requires behind { IsBehind self.old.items input.cell }
+        ensures items { self.new.items ≡ self.old.items ++ input ∷ [] }
+        ensures room { self.old.room ≤ self.new.room }
+    {
+        let _ = self.items.push(input);
+    }
+
+    /// The inputs in their order.
+    pub fn as_slice(&self) -> &[Input]
+        ensures { result.now ≡ self.now.items }
+    {
+        &self.items
+    }
+
+    /// Puts another entry in the place of that of the input with this number. Whether it differs.
+    pub fn set(&mut self, place: usize, entry: Entry) -> bool
+        requires { place < length self.old.items }
+        ensures after { self.new ≡ record self.old { items = with_entry self.old.items place entry } }
+        ensures unchanged { result ≡ false → entry_at self.old.items place ≡ entry }
+    {
+        let input = &mut self.items[place];
+        let changed = input.entry != entry;
+        input.entry = entry;
+        changed
+    }
+
+    /// The entry of a cell: a blank of height 0 where it is none of the inputs.
+    pub fn entry(&self, cell: Cell) -> Entry
+        ensures { result ≡ entry_in self.now.items cell }
+    {
+        match find(&self.items, cell) {
+            Some(place) => self.items[place].entry,
+            None => Entry {
+                value: Value::Blank,
+                height: 0,
+            },
+        }
+    }
+}
+
+/// Whether the first cell stands before the second one, row by row from the left.
+fn is_before(first: Cell, second: Cell) -> bool
+    ensures { IsTrue result ↔ IsBefore first second }
+{
+    first.row < second.row || (first.row == second.row && first.column < second.column)
+}
+
+/// Where the cell is among ascending inputs.
+fn find(inputs: &[Input], cell: Cell) -> Option<usize>
+    requires { IsAscending inputs.now }
+    ensures some { IfSome result (λ place. (place < length inputs.now) × (cell_in inputs.now place ≡ cell)) }
+    ensures none { IsNone result → (k : ℕ) → k < length inputs.now → cell_in inputs.now k ≢ cell }
+{
+    let place = count_before(inputs, cell);
+    if place < inputs.len() && inputs[place].cell == cell {
+        Some(place)
+    } else {
+        None
+    }
+}
+
+/// How many of the ascending inputs stand before the cell.
+fn count_before(inputs: &[Input], cell: Cell) -> usize
+    requires { IsAscending inputs.now }
+    ensures at_most { result ≤ length inputs.now }
+    ensures before { (k : ℕ) → k < result → IsBefore (cell_in inputs.now k) cell }
+    ensures not_before { (k : ℕ) → result ≤ k → k < length inputs.now → ¬ IsBefore (cell_in inputs.now k) cell }
+{
+    let mut low = 0;
+    let mut high = inputs.len();
+    while low < high {
+        let middle = low + (high - low) / 2;
+        if is_before(inputs[middle].cell, cell) {
+            low = middle + 1;
+        } else {
+            high = middle;
+        }
+    }
+    low
+}

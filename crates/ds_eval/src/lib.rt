@@ -1,0 +1,11 @@
+//! The values of a sheet: exact arithmetic, formulas, circular references.
+#![tactic(auto)]
+
+pub mod arithmetic;
+pub mod evaluate;
+pub mod inputs;
+pub mod local;
+pub mod scratch;
+pub mod sheet;
+pub mod tally;
+pub mod value;

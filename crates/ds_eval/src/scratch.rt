@@ -1,0 +1,104 @@
+//! The values of a sheet from its contents alone.
+
+ghost use Rattle.std.specs.Prelude.{◌≡◌, ℕ, ◌<◌, suc, List, false, map, IfOk};
+ghost use Rattle.ds_formula.specs.declared.cells.Shape as shapes;
+ghost use Rattle.ds_formula.specs.declared.cells.Cell as cells;
+ghost use Rattle.ds_formula.specs.Cells.{IsInside, count_of};
+ghost use Rattle.ds_formula.specs.Plain.{Plain};
+ghost use Rattle.ds_eval.specs.declared.value.Value as values;
+ghost use Rattle.ds_eval.specs.declared.inputs.Entry as entries;
+ghost use Rattle.ds_eval.specs.Inputs.{entry_in, no_entry};
+ghost use Rattle.ds_eval.specs.Sheet.{contents_of};
+ghost use Rattle.ds_eval.specs.Scratch.{IsScratch, WalkLaw};
+ghost use Rattle.ds_eval.specs.Local.{IsLocal, IsShown};
+ghost use Rattle.ds_eval.specs.Rounds.{IsTable, AreSettled, shown};
+
+use crate::inputs::{Entry, Input, Inputs};
+use crate::local::local;
+use crate::sheet::Sheet;
+use crate::value::Value;
+use ds_formula::cells::Shape;
+use std::alloc::{AllocError, Global};
+
+/// A blank entry for each cell of the sheet.
+fn blank_table(alloc: Global, shape: Shape) -> Result<Inputs, AllocError>
+    ensures table { IfOk result (λ t. IsTable shape t.items) }
+    ensures blank { IfOk result (λ t. (c : cells.Cell) → IsInside shape c → entry_in t.items c ≡ no_entry) }
+{
+    let count = shape.count();
+    let mut table = Inputs::with_capacity(alloc, count)?;
+    for k in 0..count {
+        let cell = shape.cell(k);
+        table.push(Input {
+            cell,
+            entry: Entry {
+                value: Value::Blank,
+                height: 0,
+            },
+        });
+    }
+    Ok(table)
+}
+
+/// Evaluates each cell in turn on what the others show at that moment. Whether any entry changed.
+fn evaluate_all(sheet: &Sheet, table: &mut Inputs) -> bool
+    requires { IsTable sheet.now.shape table.old.items }
+    ensures table { IsTable sheet.now.shape table.new.items }
+    ensures rounds { (n : ℕ) → n < count_of sheet.now.shape → AreSettled sheet.now.shape (contents_of sheet.now) n table.old.items → AreSettled sheet.now.shape (contents_of sheet.now) (suc n) table.new.items }
+    ensures unchanged { result ≡ false → IsLocal sheet.now.shape (contents_of sheet.now) (entry_in table.new.items) }
+{
+    let mut changed = false;
+    for k in 0..sheet.shape.count() {
+        let entry = local(&sheet.contents[k], sheet.shape, table);
+        let differs = table.set(k, entry);
+        changed |= differs;
+    }
+    changed
+}
+
+/// Evaluates all cells until nothing changes, or as often as there are cells: references reach no further.
+fn settle(sheet: &Sheet, table: &mut Inputs)
+    requires table { IsTable sheet.now.shape table.old.items }
+    requires first { AreSettled sheet.now.shape (contents_of sheet.now) 0 table.old.items }
+    ensures { IsScratch sheet.now.shape (contents_of sheet.now) (shown table.new.items) }
+{
+    for _ in 0..sheet.shape.count() {
+        if !evaluate_all(sheet, table) {
+            return;
+        }
+    }
+}
+
+/// The values of the entries.
+fn values_of(alloc: Global, table: &Inputs) -> Result<Vec<Value>, AllocError>
+    ensures { IfOk result (λ values. values.items ≡ shown table.now.items) }
+{
+    let mut values = Vec::new(alloc);
+    for input in table.as_slice() {
+        values.push(input.entry.value)?;
+    }
+    Ok(values)
+}
+
+/// The values of all cells, row by row from the left.
+///
+/// A cell is `Err:522` where references can be followed from it for ever, those in an unchosen branch of IF included;
+/// else it has the value that its content and the cells written in it give. It recurses over formulas alone, and
+/// stops when nothing changes. It fails only where an allocation is refused. Our own rule.
+pub fn scratch(alloc: Global, sheet: &Sheet) -> Result<Vec<Value>, AllocError>
+    ensures { IfOk result (λ values. IsScratch sheet.now.shape (contents_of sheet.now) values.items) }
+{
+    let mut table = blank_table(alloc, sheet.shape)?;
+    settle(sheet, &mut table);
+    values_of(alloc, &table)
+}
+
+/// References that can be followed as often as there are cells can be followed for ever.
+pub fn walk_law()
+    ensures { (shape : shapes.Shape) (sheet : cells.Cell → Plain) (c : cells.Cell) → IsInside shape c → WalkLaw shape sheet c }
+{}
+
+/// Where each cell's entry is what its neighbours' entries give, all values are those from scratch.
+pub fn fixed_point()
+    ensures { (shape : shapes.Shape) (sheet : cells.Cell → Plain) (entries : cells.Cell → entries.Entry) (shown : List values.Value) → IsLocal shape sheet entries → IsShown shape entries shown → IsScratch shape sheet shown }
+{}

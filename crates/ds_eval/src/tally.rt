@@ -1,0 +1,135 @@
+//! Many values at once: SUM, MIN and MAX.
+
+ghost use Rattle.std.specs.Prelude.{◌≡◌, ◌+◌, ◌*◌, ◌<◌, ◌≤◌, ◌^◌, pos, neg_ℤ, ◌≤ℤ◌};
+ghost use Rattle.ds_eval.specs.Steps as Steps;
+
+use crate::value::Value;
+
+/// The numbers among some values, and the first error among them.
+#[derive(Clone, Copy, Debug)]
+pub struct Tally {
+    count: usize,
+    sum: i128,
+    least: i64,
+    greatest: i64,
+    error: Option<Value>,
+    ghost above: { neg_ℤ (pos (2 ^ 63 * count)) ≤ℤ sum },
+    ghost below: { sum ≤ℤ pos (2 ^ 63 * count) },
+}
+
+impl Tally {
+    ghost use Rattle.std.specs.Prelude.{List, [], ◌∷◌, ◌++◌, ◌+ℤ◌, ◌==◌};
+    ghost use Rattle.ds_eval.specs.declared.value.Value as values;
+    ghost use Rattle.ds_eval.specs.Numbers as exact;
+    ghost use Rattle.ds_eval.specs.Tally.{IsTally};
+
+    /// The tally of no values.
+    pub fn new() -> Tally
+        ensures tally { IsTally [] result }
+        ensures count { result.count ≡ 0 }
+    {
+        Tally {
+            count: 0,
+            sum: 0,
+            least: 0,
+            greatest: 0,
+            error: None,
+        }
+    }
+
+    /// With one more value: a blank is left out.
+    pub fn with(self, value: Value) -> Tally
+        requires { self.count < 2 ^ 32 }
+        ensures tally { (vs : List values.Value) → IsTally vs self → IsTally (vs ++ value ∷ []) result }
+        ensures count { result.count ≤ self.count + 1 }
+    {
+        match value {
+            Value::Blank => self,
+            Value::Number(number) => self.with_number(number),
+            Value::DivZero => self.with_error(Value::DivZero),
+            Value::Num => self.with_error(Value::Num),
+            Value::Circular => self.with_error(Value::Circular),
+        }
+    }
+
+    fn with_error(self, error: Value) -> Tally
+        ensures count { result.count ≡ self.count }
+        ensures sum { result.sum ≡ self.sum }
+        ensures least { result.least ≡ self.least }
+        ensures greatest { result.greatest ≡ self.greatest }
+        ensures error { result.error ≡ Steps.first_or self.error (Some error) }
+    {
+        Tally {
+            count: self.count,
+            sum: self.sum,
+            least: self.least,
+            greatest: self.greatest,
+            error: Some(self.error.unwrap_or(error)),
+        }
+    }
+
+    fn with_number(self, number: i64) -> Tally
+        requires { self.count < 2 ^ 32 }
+        ensures count { result.count ≡ self.count + 1 }
+        ensures sum { result.sum ≡ self.sum +ℤ number }
+        ensures least { result.least ≡ Steps.smaller (self.count == 0) self.least number }
+        ensures greatest { result.greatest ≡ Steps.greater (self.count == 0) self.greatest number }
+        ensures error { result.error ≡ self.error }
+    {
+        let first = self.count == 0;
+        Tally {
+            count: self.count + 1,
+            sum: self.sum + i128::from(number),
+            least: smaller(first, self.least, number),
+            greatest: greater(first, self.greatest, number),
+            error: self.error,
+        }
+    }
+
+    /// SUM (OpenFormula 6.16.61): exact, before the range is asked for.
+    pub fn total(self) -> Value
+        ensures { (vs : List values.Value) → IsTally vs self → result ≡ exact.with_all vs (λ ns. exact.in_range (exact.total ns)) }
+    {
+        match self.error {
+            Some(error) => error,
+            None => match i64::try_from(self.sum) {
+                Ok(sum) => Value::Number(sum),
+                Err(_) => Value::Num,
+            },
+        }
+    }
+
+    /// MIN (OpenFormula 6.18.48): 0 of no numbers.
+    pub fn least(self) -> Value
+        ensures { (vs : List values.Value) → IsTally vs self → result ≡ exact.with_all vs (λ ns. Value.Number (exact.least ns)) }
+    {
+        match self.error {
+            Some(error) => error,
+            None => Value::Number(self.least),
+        }
+    }
+
+    /// MAX (OpenFormula 6.18.45): 0 of no numbers.
+    pub fn greatest(self) -> Value
+        ensures { (vs : List values.Value) → IsTally vs self → result ≡ exact.with_all vs (λ ns. Value.Number (exact.greatest ns)) }
+    {
+        match self.error {
+            Some(error) => error,
+            None => Value::Number(self.greatest),
+        }
+    }
+}
+
+/// The smaller number, or the second one where there is no first yet.
+fn smaller(first: bool, a: i64, b: i64) -> i64
+    ensures { result ≡ Steps.smaller first a b }
+{
+    if first { b } else { a.min(b) }
+}
+
+/// The greater number, or the second one where there is no first yet.
+fn greater(first: bool, a: i64, b: i64) -> i64
+    ensures { result ≡ Steps.greater first a b }
+{
+    if first { b } else { a.max(b) }
+}
