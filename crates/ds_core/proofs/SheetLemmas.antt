@@ -12,7 +12,7 @@ use Rattle.ds_formula.specs.Cells.{IsInside, index_of, count_of}
 use Rattle.ds_formula.specs.Plain.{Plain, plain, Empty}
 use Rattle.ds_formula.specs.Grammar.{Reads, blank}
 use Rattle.std.proofs.Common.{lit≤}
-use Rattle.ds_eval.specs.Scratch.{or_empty}
+use Rattle.ds_eval.specs.Sheet.{plain_or_empty}
 use Rattle.ds_core.specs.declared.edit.CountedEdit.{CountedEdit}
 use Rattle.ds_core.specs.Ledger.{edits_of, same_cell, text_after, last_text, IsFold}
 use Rattle.ds_core.proofs.LedgerLemmas.{edits_of-own, edits_of-other, text_after-last}
@@ -23,7 +23,7 @@ blank_read shape = record { short = lit≤ tt; reads = blank }
 
 -- what a list of contents holds at a place
 abbrev pub held_at : List Content → ℕ → Plain
-held_at contents i = or_empty (slice_get contents i)
+held_at contents i = plain_or_empty (slice_get contents i)
 
 -- blank cells and one more
 pub held_at-push_blank : (contents : List Content) → ((i : ℕ) → held_at contents i ≡ Empty) → (i : ℕ) → held_at (contents ++ Blank ∷ []) i ≡ Empty

@@ -2,7 +2,7 @@
 use Rattle.std.specs.Prelude.{◌≡◌, ℕ, ◌<◌, ◌≤◌, vec_len, slice_index}
 use Rattle.ds_core.specs.declared.plain.Plain.TheInside.{Inside}
 use Rattle.ds_core.specs.Ledger.{edits_of, IsFold}
-use Rattle.ds_eval.specs.Scratch.{contents_of}
+use Rattle.ds_eval.specs.Sheet.{contents_of}
 
 -- each process's next number, and each cell's content, are those that the edits give
 pub record IsKept (p : Inside) : Type 0 where

@@ -2,7 +2,7 @@
 use Rattle.std.proofs.Common.{◌≡◌, ℕ, suc, ◌+◌, ◌*◌, ◌-◌, ◌<◌, List, ◌++◌, take, drop, map, refl, sym, ap, ◌∙◌, append_assoc, arith, drop-drop}
 use Rattle.csv.specs.Writing.{row_text, default_writer}
 use Rattle.ds_eval.specs.declared.value.Value.{Value}
-use Rattle.ds_eval.specs.Text.{value_text}
+use Rattle.ds_eval.specs.Numbers.{value_text}
 use Rattle.ds_sched.specs.Answers.{rows_text}
 
 -- one record more is written

@@ -6,7 +6,7 @@ use Rattle.ds_formula.specs.declared.cells.Shape.{Shape}
 use Rattle.ds_formula.specs.declared.cells.Cell.{Cell}
 use Rattle.ds_formula.specs.Names.{fault_text}
 use Rattle.ds_eval.specs.declared.value.Value.{Value}
-use Rattle.ds_eval.specs.Text.{value_text}
+use Rattle.ds_eval.specs.Numbers.{value_text}
 use Rattle.ds_core.specs.declared.refusal.Refusal.{Refusal}
 use Rattle.ds_core.specs.declared.refusal.Refusal.TheVariants.{Text, RecordsFull, NoMemory}
 use Rattle.ds_core.specs.PlainSheet.{PlainSheet, Counts, Refuses, Shows, fresh}

@@ -5,7 +5,7 @@ ghost use Rattle.csv.specs.Records.{fields_of};
 ghost use Rattle.csv.specs.Writing.{row_text, default_writer};
 ghost use Rattle.ds_sched.specs.Csv.{IsReady, text_of};
 ghost use Rattle.ds_formula.specs.Cells.{count_of};
-ghost use Rattle.ds_eval.specs.Text.{value_text};
+ghost use Rattle.ds_eval.specs.Numbers.{value_text};
 ghost use Rattle.ds_sched.specs.Answers.{done_text, refused_text, settled_text};
 
 use csv::{ByteRecord, Writer, WriterBuilder};

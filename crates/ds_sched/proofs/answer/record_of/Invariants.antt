@@ -1,6 +1,6 @@
 use Rattle.std.proofs.Common.{◌≡◌, [], take, map}
 use Rattle.csv.specs.Records.{fields_of, partial_of}
-use Rattle.ds_eval.specs.Text.{value_text}
+use Rattle.ds_eval.specs.Numbers.{value_text}
 use Rattle.ds_sched.proofs.answer.record_of.Given as goal
 
 abbrev pub invariant-loop-value : goal.invariant-loop-value

@@ -67,7 +67,7 @@ invariant_of-self-2 c =
       (λ q l. c.self.invariant.room q (omega (arith, c.self.inside.numbers.ok.0, l))) p (omega (arith, c.self.inside.numbers.ok.0, h));
       fold = λ cell inside.
       let more = fold_more shape old (made c) contents c.in_ok-content.content
-            (omega (arith, c.self.inside.sheet.each, c.self.inside.sheet.contents.ok.0)) (omega (arith, c.index-index.ensures.value, c.index-index.ensures.below)) (own_inside c) (own_read c) c.self.invariant.fold cell inside in
+            (omega (arith, c.self.inside.sheet.whole, c.self.inside.sheet.contents.ok.0)) (omega (arith, c.index-index.ensures.value, c.index-index.ensures.below)) (own_inside c) (own_read c) c.self.invariant.fold cell inside in
       subst (λ (es : List CountedEdit). Reads shape (last_text es cell) (held_at c.put.new.contents.items (index_of shape cell))) (sym items)
       (subst (λ (xs : List Content). Reads shape (last_text (old ++ made c ∷ []) cell) (held_at xs (index_of shape cell))) (sym put) more);
     }
