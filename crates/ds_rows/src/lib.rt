@@ -1,0 +1,13 @@
+//! Worked examples, end to end: each a script and what it answers, as tables.
+#![tactic(auto)]
+
+#[cfg(test)]
+mod endings;
+#[cfg(test)]
+mod large;
+#[cfg(test)]
+mod refusals;
+#[cfg(test)]
+mod rows;
+#[cfg(test)]
+mod running;

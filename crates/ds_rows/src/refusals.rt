@@ -1,0 +1,81 @@
+use crate::running::expect_answers;
+
+// A text that is set in A1, and its refusal.
+const REFUSED: [(&str, &str); 41] = [
+    ("=1.5", "NotWhole 2"),
+    ("=[.C1]", "OutsideSheet 1"),
+    ("=1+", "Unfinished 3"),
+    ("=[.A1:.A2]", "RangeNotAllowed 1"),
+    ("=SUM()", "WrongArguments 1"),
+    ("=PI(1)", "UnknownFunction 1"),
+    ("=", "Unfinished 1"),
+    ("-", "Unfinished 1"),
+    ("of:", "BadToken 0"),
+    ("1 ", "BadToken 1"),
+    ("1.5", "NotWhole 1"),
+    ("=1 2", "BadToken 3"),
+    ("=1e5", "NotWhole 2"),
+    ("=.5", "BadToken 1"),
+    ("=9223372036854775808", "NumberTooLarge 1"),
+    ("=[A1]", "BadToken 2"),
+    ("=[.A0]", "BadToken 4"),
+    ("=[.A1", "Unfinished 5"),
+    ("=[.A3]", "OutsideSheet 1"),
+    ("=SUM(1;;2)", "BadToken 7"),
+    ("=SUM((1;2))", "BadToken 7"),
+    ("=IF(1)", "WrongArguments 1"),
+    ("=SUM 1", "BadToken 5"),
+    ("=A1", "UnknownFunction 1"),
+    ("=1)", "BadToken 2"),
+    ("=SUM([.A1:.B2]+1)", "RangeNotAllowed 5"),
+    ("=1,5", "BadToken 2"),
+    ("=ABS([.A1:.A2])", "RangeNotAllowed 5"),
+    ("9223372036854775808", "NumberTooLarge 0"),
+    ("-9223372036854775809", "NumberTooLarge 1"),
+    ("=9223372036854775808.5", "NotWhole 20"),
+    ("=[.A1]+[.A9:.B1]+", "OutsideSheet 7"),
+    ("=[.A1:.A9", "Unfinished 9"),
+    ("=[.AA1]", "OutsideSheet 1"),
+    ("OF:=1", "BadToken 0"),
+    ("=MOD(1;2;3)", "WrongArguments 1"),
+    ("=1<>>2", "BadToken 4"),
+    ("=< 2", "BadToken 1"),
+    ("===1", "BadToken 2"),
+    ("=QUOTIENT(1;2)+SUM(", "Unfinished 19"),
+    ("=[.A1:.A2]+1.5", "NotWhole 12"),
+];
+
+#[test]
+fn refusals(rt: HostRuntime) -> std::io::Result<()> {
+    for (text, refusal) in REFUSED {
+        let script = format!(in rt.alloc(); "set 0 A1 {text}\nset 0 A1\n")?;
+        let expected = format!(in rt.alloc(); "0 refused 1 {refusal}\n0 0 done\n")?;
+        expect_answers(&rt, script.as_str(), expected.as_str());
+    }
+    Ok(())
+}
+
+// A text that is accepted in A1, and its value.
+const ACCEPTED: [(&str, &str); 11] = [
+    ("=SUM(([.A2:.B2]))", "0"),
+    ("=--1", "1"),
+    ("=2-3-4", "-5"),
+    ("=1<2=1", "1"),
+    ("=-2*3+4>=-2", "1"),
+    ("= 1 + 2", "3"),
+    ("+007", "7"),
+    ("=1<>2", "1"),
+    ("=max([.A2];-3)", "-3"),
+    ("=MIN(+[.A2];3)", "0"),
+    ("=IF(1;[.A2])", "0"),
+];
+
+#[test]
+fn accepted(rt: HostRuntime) -> std::io::Result<()> {
+    for (text, value) in ACCEPTED {
+        let script = format!(in rt.alloc(); "set 0 A1 {text}\nreport 0\n")?;
+        let expected = format!(in rt.alloc(); "0 0 done\nsettled\n{value},\n,\n")?;
+        expect_answers(&rt, script.as_str(), expected.as_str());
+    }
+    Ok(())
+}
