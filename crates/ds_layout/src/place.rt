@@ -11,6 +11,9 @@ pub const RECORDS: usize = 256;
 /// How many words the text of a record has, eight bytes each.
 pub const TEXT_PARTS: usize = 15;
 
+/// How many bytes a text has at most.
+pub const TEXT_BYTES: usize = 8 * TEXT_PARTS;
+
 /// How many words the done bits of a process have, 64 bits each: one bit for each record.
 pub const DONE_PARTS: usize = 4;
 

@@ -1,5 +1,5 @@
-use Rattle.std.proofs.Common.{ℕ, ◌<◌, ◌≡◌, ap, sym, ◌∙◌, subst}
-use Rattle.ds_layout.specs.Places.{words_of, number_of, place_of}
+use Rattle.std.proofs.Common.{ℕ, ◌<◌, ap, sym, ◌∙◌, subst}
+use Rattle.ds_layout.specs.Places.{words_of, place_of}
 use Rattle.ds_layout.proofs.Places.{number_of_below, place_of-number_of, number_of_alone}
 use Rattle.ds_layout.proofs.layout.Layout.number.Goals as goal
 
