@@ -6,3 +6,4 @@ pub mod Announcement
 pub mod Header
 pub mod Text
 pub mod Bits
+pub mod Sheet

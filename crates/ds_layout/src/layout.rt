@@ -37,6 +37,7 @@ struct Starts {
 impl Layout {
     ghost use Rattle.ds_layout.specs.Places.{cells_of, parts_of, IsAscending, starts_of, words_of, IsPlace, number_of, place_of, class_of};
     ghost use Rattle.ds_layout.specs.declared.place.Place.{Place};
+    ghost use Rattle.ds_layout.specs.Sheet.{HasClasses};
 
     /// A layout for 1 to 8 processes; `None` for another number.
     pub fn new(shape: Shape, processes: usize) -> Option<Layout>
@@ -167,6 +168,28 @@ impl Layout {
         Place::Done(at / DONE_PARTS, at % DONE_PARTS)
     }
 
+    /// Whether the place is one of the sheet.
+    pub fn contains(&self, place: Place) -> bool
+        ensures { IsTrue result ↔ IsPlace self.now place }
+    {
+        let cells = self.cells();
+        let processes = self.processes;
+        match place {
+            Place::Version => true,
+            Place::Head(cell) => cell < cells,
+            Place::Mark(cell) => cell < cells,
+            Place::Value(cell) => cell < cells,
+            Place::Kind(cell) => cell < cells,
+            Place::Index(row, part) => row < cells && part < self.row_parts(),
+            Place::Announce(process) => process < processes,
+            Place::Header(process, number) => process < processes && number < RECORDS,
+            Place::Text(process, number, part) => {
+                process < processes && number < RECORDS && part < TEXT_PARTS
+            }
+            Place::Done(process, part) => process < processes && part < DONE_PARTS,
+        }
+    }
+
     /// The number of the word at a place of the sheet. Two different places never share a word.
     pub fn number(&self, place: Place) -> usize
         requires { IsPlace self.now place }
@@ -186,5 +209,17 @@ impl Layout {
         ensures back { number_of self.now result ≡ number }
     {
         self.placed(number)
+    }
+
+    /// The class of each word, in the order of their numbers. An error is a want of memory.
+    pub fn classes(&self, alloc: Global) -> Result<Vec<Class>, AllocError>
+        ensures { IfOk result (λ v. HasClasses self.now v.items) }
+    {
+        let count = self.words();
+        let mut classes = Vec::new(alloc);
+        for number in 0..count {
+            classes.push(self.place(number).class())?;
+        }
+        Ok(classes)
     }
 }

@@ -8,5 +8,6 @@ pub mod header;
 pub mod layout;
 pub mod mark;
 pub mod place;
+pub mod sheet_words;
 pub mod stored;
 pub mod text;

@@ -1,13 +1,14 @@
 -- How reads see writes.
-use Rattle.std.proofs.Common.{ℕ, ◌≡◌, ◌≢◌, ◌<◌, List, [], ◌∷◌, ◌++◌, refl, ap, sym, ◌∙◌, subst, arith, length, get_or, set, drop, take, inl, inr, suc, zero, true, false, ◌==◌, nat_lt, IsTrue}
+use Rattle.std.proofs.Common.{ℕ, ◌≡◌, ◌≢◌, ◌<◌, List, [], ◌∷◌, ◌++◌, refl, ap, sym, ◌∙◌, subst, arith, length, get_or, set, drop, take, inl, inr, suc, zero, replicate, true, false, ◌==◌, nat_lt, IsTrue}
 use Rattle.std.proofs.lemmas.Bool.{cases_eq, ltb-true, lt-ltb, eqb-true}
 use Rattle.std.proofs.lemmas.List.{get_or-set_same, get_or-set_other, get_or-map, map-set, length-map}
 use Rattle.std.proofs.Math.ListN.{length-set, get_or-map as map-read}
 use Rattle.std.specs.Prelude.{map}
 use Rattle.ds_words.specs.declared.access.Entry.{Entry}
 use Rattle.ds_words.specs.declared.words.Word.{Word}
-use Rattle.ds_words.specs.Memory.{StoresAt, FlushesAt, WritesBack, BacksFirst, StopsAt, EvictsAt, Crashes, newer}
-use Rattle.ds_words.specs.Words.{WordsValue, memory_of, word_at, with_word, class_at, buffer_of, with_buffer, HasWord, HasProcess, HasEntry, SameShape, zero_word, crashed}
+use Rattle.ds_words.specs.Memory.{IsFresh, StoresAt, FlushesAt, WritesBack, BacksFirst, StopsAt, EvictsAt, Crashes, newer}
+use Rattle.ds_words.specs.declared.access.Class.{Class}
+use Rattle.ds_words.specs.Words.{fresh_words, WordsValue, memory_of, word_at, with_word, class_at, buffer_of, with_buffer, HasWord, HasProcess, HasEntry, SameShape, zero_word, crashed}
 
 pub word_at-with_same : (v : WordsValue) (n : ℕ) (w : Word) → HasWord v n → word_at (with_word v n w) n ≡ w
 unfolding word_at with_word
@@ -212,3 +213,16 @@ HasEntry-some v p [] e h t =
 HasEntry-some v p (x ∷ xs) e h t =
     let z : suc (length xs) ≡ 0 = eqb-true (suc (length xs)) 0 t in
     absurd (omega arith)
+
+same_all : {X : Type 0} (n k : ℕ) (x : X) → get_or (replicate n x) k x ≡ x
+same_all zero k x = refl
+same_all (suc n) zero x = refl
+same_all (suc n) (suc k) x = same_all n k x
+
+pub IsFresh-fresh_words : (classes : List Class) (processes : ℕ) → IsFresh (memory_of (fresh_words classes processes))
+unfolding word_at buffer_of
+IsFresh-fresh_words classes processes = record {
+  cached = λ r. ap (λ (x : Word). x.cached) (same_all (length classes) r zero_word);
+  persisted = λ r. ap (λ (x : Word). x.persisted) (same_all (length classes) r zero_word);
+  buffer = λ q. same_all processes q [];
+}

@@ -12,6 +12,12 @@ pub record Memory (P : Type 0) : Type 0 where
   pub persisted : P → ℕ
   pub buffer : ℕ → List (Entry P)
 
+-- zero on both sides, with empty buffers
+pub record IsFresh {P : Type 0} (memory : Memory P) : Type 0 where
+  pub cached : (r : P) → memory.cached r ≡ 0
+  pub persisted : (r : P) → memory.persisted r ≡ 0
+  pub buffer : (q : ℕ) → memory.buffer q ≡ []
+
 -- the newer of a persisted and a buffered value
 abbrev pub newer : Class → ℕ → ℕ → ℕ
 newer Stamped persisted buffered = max persisted buffered
