@@ -3,6 +3,7 @@ use Rattle.std.proofs.Common.{ℕ, ◌≡◌, ◌+◌, ◌-◌, ◌*◌, ◌/◌
 use Rattle.std.specs.Prelude.{if◌then◌else◌}
 use Rattle.std.proofs.lemmas.Bool.{cases_lt, lt-ltb, le-ltb}
 use Rattle.std.proofs.lemmas.Nat.{mul-add-lt, div-mul-add, mod-mul-add, div-add-mod', div_below, mod_below, mul-le}
+use Rattle.ds_layout.specs.declared.place.TheConstants.{RECORDS, TEXT_PARTS, DONE_PARTS}
 use Rattle.ds_layout.specs.declared.place.Place.{Place}
 use Rattle.ds_layout.specs.declared.place.Place.TheVariants.{Version, Head, Mark, Value, Kind, Index, Announce, Header, Text, Done}
 use Rattle.ds_layout.specs.declared.layout.Starts.{Starts}
@@ -38,13 +39,13 @@ at_index s parts n up h k = past n s.heads _ _ (omega arith) ∙ past n s.marks 
 at_announcements : (s : Starts) (parts n : ℕ) → IsAscending s → s.announcements ≤ n → n < s.headers → place_by s parts n ≡ Announce (n - s.announcements)
 at_announcements s parts n up h k = past n s.heads _ _ (omega arith) ∙ past n s.marks _ _ (omega arith) ∙ past n s.values _ _ (omega arith) ∙ past n s.kinds _ _ (omega arith) ∙ past n s.index _ _ (omega arith) ∙ past n s.announcements _ _ (omega arith) ∙ upto n s.headers _ _ k
 
-at_headers : (s : Starts) (parts n : ℕ) → IsAscending s → s.headers ≤ n → n < s.texts → place_by s parts n ≡ Header ((n - s.headers) / 256) ((n - s.headers) % 256)
+at_headers : (s : Starts) (parts n : ℕ) → IsAscending s → s.headers ≤ n → n < s.texts → place_by s parts n ≡ Header ((n - s.headers) / RECORDS) ((n - s.headers) % RECORDS)
 at_headers s parts n up h k = past n s.heads _ _ (omega arith) ∙ past n s.marks _ _ (omega arith) ∙ past n s.values _ _ (omega arith) ∙ past n s.kinds _ _ (omega arith) ∙ past n s.index _ _ (omega arith) ∙ past n s.announcements _ _ (omega arith) ∙ past n s.headers _ _ (omega arith) ∙ upto n s.texts _ _ k
 
-at_texts : (s : Starts) (parts n : ℕ) → IsAscending s → s.texts ≤ n → n < s.done → place_by s parts n ≡ Text ((n - s.texts) / 15 / 256) ((n - s.texts) / 15 % 256) ((n - s.texts) % 15)
+at_texts : (s : Starts) (parts n : ℕ) → IsAscending s → s.texts ≤ n → n < s.done → place_by s parts n ≡ Text ((n - s.texts) / TEXT_PARTS / RECORDS) ((n - s.texts) / TEXT_PARTS % RECORDS) ((n - s.texts) % TEXT_PARTS)
 at_texts s parts n up h k = past n s.heads _ _ (omega arith) ∙ past n s.marks _ _ (omega arith) ∙ past n s.values _ _ (omega arith) ∙ past n s.kinds _ _ (omega arith) ∙ past n s.index _ _ (omega arith) ∙ past n s.announcements _ _ (omega arith) ∙ past n s.headers _ _ (omega arith) ∙ past n s.texts _ _ (omega arith) ∙ upto n s.done _ _ k
 
-at_done : (s : Starts) (parts n : ℕ) → IsAscending s → s.done ≤ n → place_by s parts n ≡ Done ((n - s.done) / 4) ((n - s.done) % 4)
+at_done : (s : Starts) (parts n : ℕ) → IsAscending s → s.done ≤ n → place_by s parts n ≡ Done ((n - s.done) / DONE_PARTS) ((n - s.done) % DONE_PARTS)
 at_done s parts n up h = past n s.heads _ _ (omega arith) ∙ past n s.marks _ _ (omega arith) ∙ past n s.values _ _ (omega arith) ∙ past n s.kinds _ _ (omega arith) ∙ past n s.index _ _ (omega arith) ∙ past n s.announcements _ _ (omega arith) ∙ past n s.headers _ _ (omega arith) ∙ past n s.texts _ _ (omega arith) ∙ past n s.done _ _ (omega arith)
 
 -- the starts of a sheet
@@ -92,25 +93,25 @@ place_by-number_by cells parts processes (Announce process) h =
     at_announcements s parts (s.announcements + process) (IsAscending-starts_for cells parts processes) (omega arith) (omega arith) ∙ ap (λ (x : ℕ). Announce x) (less s.announcements process)
 place_by-number_by cells parts processes (Header process number) h =
     let s : Starts = starts_for cells parts processes in
-    at_headers s parts (s.headers + (process * 256 + number)) (IsAscending-starts_for cells parts processes) (omega arith) (omega arith)
-    ∙ ap (λ (x : ℕ). Header (x / 256) (x % 256)) (less s.headers (process * 256 + number))
-    ∙ ap (λ (x : ℕ). Header x ((process * 256 + number) % 256)) (div-mul-add process 256 number h.1)
-    ∙ ap (λ (x : ℕ). Header process x) (mod-mul-add process 256 number h.1)
+    at_headers s parts (s.headers + (process * RECORDS + number)) (IsAscending-starts_for cells parts processes) (omega arith) (omega arith)
+    ∙ ap (λ (x : ℕ). Header (x / RECORDS) (x % RECORDS)) (less s.headers (process * RECORDS + number))
+    ∙ ap (λ (x : ℕ). Header x ((process * RECORDS + number) % RECORDS)) (div-mul-add process RECORDS number h.1)
+    ∙ ap (λ (x : ℕ). Header process x) (mod-mul-add process RECORDS number h.1)
 place_by-number_by cells parts processes (Text process number part) h =
     let s : Starts = starts_for cells parts processes in
-    let record_of : ℕ = process * 256 + number in
-    at_texts s parts (s.texts + (record_of * 15 + part)) (IsAscending-starts_for cells parts processes) (omega arith) (omega arith)
-    ∙ ap (λ (x : ℕ). Text (x / 15 / 256) (x / 15 % 256) (x % 15)) (less s.texts (record_of * 15 + part))
-    ∙ ap (λ (x : ℕ). Text (x / 256) (x % 256) ((record_of * 15 + part) % 15)) (div-mul-add record_of 15 part h.2)
-    ∙ ap (λ (x : ℕ). Text (record_of / 256) (record_of % 256) x) (mod-mul-add record_of 15 part h.2)
-    ∙ ap (λ (x : ℕ). Text x (record_of % 256) part) (div-mul-add process 256 number h.1)
-    ∙ ap (λ (x : ℕ). Text process x part) (mod-mul-add process 256 number h.1)
+    let record_of : ℕ = process * RECORDS + number in
+    at_texts s parts (s.texts + (record_of * TEXT_PARTS + part)) (IsAscending-starts_for cells parts processes) (omega arith) (omega arith)
+    ∙ ap (λ (x : ℕ). Text (x / TEXT_PARTS / RECORDS) (x / TEXT_PARTS % RECORDS) (x % TEXT_PARTS)) (less s.texts (record_of * TEXT_PARTS + part))
+    ∙ ap (λ (x : ℕ). Text (x / RECORDS) (x % RECORDS) ((record_of * TEXT_PARTS + part) % TEXT_PARTS)) (div-mul-add record_of TEXT_PARTS part h.2)
+    ∙ ap (λ (x : ℕ). Text (record_of / RECORDS) (record_of % RECORDS) x) (mod-mul-add record_of TEXT_PARTS part h.2)
+    ∙ ap (λ (x : ℕ). Text x (record_of % RECORDS) part) (div-mul-add process RECORDS number h.1)
+    ∙ ap (λ (x : ℕ). Text process x part) (mod-mul-add process RECORDS number h.1)
 place_by-number_by cells parts processes (Done process part) h =
     let s : Starts = starts_for cells parts processes in
-    at_done s parts (s.done + (process * 4 + part)) (IsAscending-starts_for cells parts processes) (omega arith)
-    ∙ ap (λ (x : ℕ). Done (x / 4) (x % 4)) (less s.done (process * 4 + part))
-    ∙ ap (λ (x : ℕ). Done x ((process * 4 + part) % 4)) (div-mul-add process 4 part h.1)
-    ∙ ap (λ (x : ℕ). Done process x) (mod-mul-add process 4 part h.1)
+    at_done s parts (s.done + (process * DONE_PARTS + part)) (IsAscending-starts_for cells parts processes) (omega arith)
+    ∙ ap (λ (x : ℕ). Done (x / DONE_PARTS) (x % DONE_PARTS)) (less s.done (process * DONE_PARTS + part))
+    ∙ ap (λ (x : ℕ). Done x ((process * DONE_PARTS + part) % DONE_PARTS)) (div-mul-add process DONE_PARTS part h.1)
+    ∙ ap (λ (x : ℕ). Done process x) (mod-mul-add process DONE_PARTS part h.1)
 
 -- the number of a place of the sheet is that of a word
 pub number_by_below : (cells parts processes : ℕ) (place : Place) → IsPlaceOf cells parts processes place

@@ -11,6 +11,7 @@ use Rattle.ds_words.specs.Memory.{Memory, newer, IsFresh, SameMemory, StoresAt, 
 use Rattle.ds_words.specs.Words.{WordsValue, memory_of, class_at, buffer_of, SameShape, fresh_words, zero_word}
 use Rattle.ds_words.specs.Words as words
 use Rattle.ds_words.specs.declared.words.TheConstants.{BUFFER_ENTRIES}
+use Rattle.ds_layout.specs.declared.place.TheConstants.{RECORDS, TEXT_PARTS, DONE_PARTS}
 use Rattle.ds_layout.specs.declared.place.Place.{Place}
 use Rattle.ds_layout.specs.declared.place.Place.TheVariants.{Version, Head, Mark, Value, Kind, Index, Announce, Header, Text, Done}
 use Rattle.ds_layout.specs.declared.layout.Layout.{Layout}
@@ -37,10 +38,10 @@ is_place_of-true cells parts processes (Value cell) h = lt-ltb cell cells h
 is_place_of-true cells parts processes (Kind cell) h = lt-ltb cell cells h
 is_place_of-true cells parts processes (Index row part) h = and-true (nat_lt row cells) (nat_lt part parts) (lt-ltb row cells h.0) (lt-ltb part parts h.1)
 is_place_of-true cells parts processes (Announce process) h = lt-ltb process processes h
-is_place_of-true cells parts processes (Header process number) h = and-true (nat_lt process processes) (nat_lt number 256) (lt-ltb process processes h.0) (lt-ltb number 256 h.1)
+is_place_of-true cells parts processes (Header process number) h = and-true (nat_lt process processes) (nat_lt number RECORDS) (lt-ltb process processes h.0) (lt-ltb number RECORDS h.1)
 is_place_of-true cells parts processes (Text process number part) h =
-    and-true (nat_lt process processes) (nat_lt number 256 && nat_lt part 15) (lt-ltb process processes h.0) (and-true (nat_lt number 256) (nat_lt part 15) (lt-ltb number 256 h.1) (lt-ltb part 15 h.2))
-is_place_of-true cells parts processes (Done process part) h = and-true (nat_lt process processes) (nat_lt part 4) (lt-ltb process processes h.0) (lt-ltb part 4 h.1)
+    and-true (nat_lt process processes) (nat_lt number RECORDS && nat_lt part TEXT_PARTS) (lt-ltb process processes h.0) (and-true (nat_lt number RECORDS) (nat_lt part TEXT_PARTS) (lt-ltb number RECORDS h.1) (lt-ltb part TEXT_PARTS h.2))
+is_place_of-true cells parts processes (Done process part) h = and-true (nat_lt process processes) (nat_lt part DONE_PARTS) (lt-ltb process processes h.0) (lt-ltb part DONE_PARTS h.1)
 
 pub IsPlaceOf-is_place_of : (cells parts processes : ℕ) (place : Place) → is_place_of cells parts processes place ≡ true → IsPlaceOf cells parts processes place
 IsPlaceOf-is_place_of cells parts processes Version e = tt
@@ -52,12 +53,12 @@ IsPlaceOf-is_place_of cells parts processes (Index row part) e =
     (ltb-true row cells (and-left (nat_lt row cells) (nat_lt part parts) e), ltb-true part parts (and-right (nat_lt row cells) (nat_lt part parts) e))
 IsPlaceOf-is_place_of cells parts processes (Announce process) e = ltb-true process processes e
 IsPlaceOf-is_place_of cells parts processes (Header process number) e =
-    (ltb-true process processes (and-left (nat_lt process processes) (nat_lt number 256) e), ltb-true number 256 (and-right (nat_lt process processes) (nat_lt number 256) e))
+    (ltb-true process processes (and-left (nat_lt process processes) (nat_lt number RECORDS) e), ltb-true number RECORDS (and-right (nat_lt process processes) (nat_lt number RECORDS) e))
 IsPlaceOf-is_place_of cells parts processes (Text process number part) e =
-    let r : (nat_lt number 256 && nat_lt part 15) ≡ true = and-right (nat_lt process processes) (nat_lt number 256 && nat_lt part 15) e in
-    (ltb-true process processes (and-left (nat_lt process processes) (nat_lt number 256 && nat_lt part 15) e), ltb-true number 256 (and-left (nat_lt number 256) (nat_lt part 15) r), ltb-true part 15 (and-right (nat_lt number 256) (nat_lt part 15) r))
+    let r : (nat_lt number RECORDS && nat_lt part TEXT_PARTS) ≡ true = and-right (nat_lt process processes) (nat_lt number RECORDS && nat_lt part TEXT_PARTS) e in
+    (ltb-true process processes (and-left (nat_lt process processes) (nat_lt number RECORDS && nat_lt part TEXT_PARTS) e), ltb-true number RECORDS (and-left (nat_lt number RECORDS) (nat_lt part TEXT_PARTS) r), ltb-true part TEXT_PARTS (and-right (nat_lt number RECORDS) (nat_lt part TEXT_PARTS) r))
 IsPlaceOf-is_place_of cells parts processes (Done process part) e =
-    (ltb-true process processes (and-left (nat_lt process processes) (nat_lt part 4) e), ltb-true part 4 (and-right (nat_lt process processes) (nat_lt part 4) e))
+    (ltb-true process processes (and-left (nat_lt process processes) (nat_lt part DONE_PARTS) e), ltb-true part DONE_PARTS (and-right (nat_lt process processes) (nat_lt part DONE_PARTS) e))
 
 pub IsPlace-is_place : (layout : Layout) (place : Place) → is_place layout place ≡ true → IsPlace layout place
 IsPlace-is_place layout place e = IsPlaceOf-is_place_of (cells_of layout) (parts_of layout) layout.processes place e

@@ -12,11 +12,14 @@ pub struct Head {
 }
 
 impl Head {
+    ghost use Rattle.ds_layout.specs.declared.head.Head.{Head};
+
     /// The head's word, `stamp * 65536 + process * 256 + number` (our own rule): a greater stamp gives a greater word.
     /// The stamp is below 2^48, the process and the number are below 256.
     pub fn word(self) -> u64
         requires { CanPack self }
         ensures value { result ≡ head_word self }
+        ensures grows { (other : Head) → CanPack other → other.stamp < self.stamp → head_word other < result }
         ensures reads_back { (processes : ℕ) → IsHead processes self → head_of processes result ≡ Some self }
     {
         self.stamp * 65536 + self.process as u64 * 256 + self.number as u64

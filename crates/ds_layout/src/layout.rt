@@ -97,7 +97,7 @@ impl Layout {
         }
     }
 
-    /// How many words the sheet has, at most 53,313.
+    /// How many words the sheet has, at most 53,289.
     pub fn words(&self) -> usize
         ensures value { result ≡ words_of self.now }
         ensures at_most { result ≤ 60000 }

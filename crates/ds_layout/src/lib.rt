@@ -10,4 +10,6 @@ pub mod mark;
 pub mod place;
 pub mod sheet_words;
 pub mod stored;
+#[cfg(test)]
+mod tests;
 pub mod text;

@@ -1,6 +1,6 @@
 //! The mark of a cell: whether it is clean, marked or held.
 
-ghost use Rattle.std.specs.Prelude.{◌≡◌, ℕ, ◌<◌, ◌≤◌};
+ghost use Rattle.std.specs.Prelude.{◌≡◌, ℕ, ◌<◌, ◌≤◌, true, bit_or};
 ghost use Rattle.ds_layout.specs.Mark.{CanPack, mark_word, mark_of, state_of};
 
 /// The bit of a mark's word that makes the cell dirty.
@@ -27,12 +27,15 @@ pub enum State {
 }
 
 impl Mark {
+    ghost use Rattle.ds_layout.specs.declared.mark.Mark.{Mark};
+
     /// The mark's word, `generation * 32 + holder * 2 + dirty`, where the holder is 0 for nobody, else the process + 1
     /// (our own rule): a greater generation gives a greater word. The generation is below 2^59, the process below 15.
     pub fn word(self) -> u64
         requires { CanPack self }
         ensures value { result ≡ mark_word self }
         ensures reads_back { mark_of result ≡ self }
+        ensures grows { (other : Mark) → CanPack other → other.generation < self.generation → mark_word other < result }
     {
         let holder = match self.holder {
             None => 0,
@@ -52,6 +55,17 @@ impl Mark {
             generation: word / 32,
             holder: if holder == 0 { None } else { Some(holder - 1) },
             dirty: word % 2 == 1,
+        }
+    }
+
+    /// The mark, dirty: its word is the mark's with the bit `DIRTY` added.
+    pub fn dirtied(self) -> Mark
+        ensures value { result ≡ record self { dirty = true } }
+        ensures word { mark_word result ≡ bit_or (mark_word self) DIRTY }
+    {
+        Mark {
+            dirty: true,
+            ..self
         }
     }
 
