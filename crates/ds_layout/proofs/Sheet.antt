@@ -76,17 +76,17 @@ pub side_at_place : (layout : Layout) (side : ℕ → ℕ) (place : Place) → I
 unfolding side_at
 side_at_place layout side place h = ap (λ (b : Bool). if b then side (number_of layout place) else 0) (is_place-true layout place h)
 
-side_same : (layout : Layout) (f g : ℕ → ℕ) → ((n : ℕ) → f n ≡ g n) → (r : Place) → side_at layout f r ≡ side_at layout g r
+pub side_same : (layout : Layout) (f g : ℕ → ℕ) → ((n : ℕ) → f n ≡ g n) → (r : Place) → side_at layout f r ≡ side_at layout g r
 unfolding side_at
 side_same layout f g h r = same_if (is_place layout r) (f (number_of layout r)) (g (number_of layout r)) (λ e. h (number_of layout r))
 
-side_other : (layout : Layout) (f g : ℕ → ℕ) (place : Place) → IsPlace layout place → ((n : ℕ) → n ≢ number_of layout place → f n ≡ g n) → (r : Place) → r ≢ place → side_at layout f r ≡ side_at layout g r
+pub side_other : (layout : Layout) (f g : ℕ → ℕ) (place : Place) → IsPlace layout place → ((n : ℕ) → n ≢ number_of layout place → f n ≡ g n) → (r : Place) → r ≢ place → side_at layout f r ≡ side_at layout g r
 unfolding side_at
 side_other layout f g place k h r ne =
     same_if (is_place layout r) (f (number_of layout r)) (g (number_of layout r))
     (λ e. h (number_of layout r) (λ same. ne (number_of_alone layout r place (IsPlace-is_place layout r e) k same)))
 
-side_zero : (layout : Layout) (f : ℕ → ℕ) → ((n : ℕ) → f n ≡ 0) → (r : Place) → side_at layout f r ≡ 0
+pub side_zero : (layout : Layout) (f : ℕ → ℕ) → ((n : ℕ) → f n ≡ 0) → (r : Place) → side_at layout f r ≡ 0
 unfolding side_at
 side_zero layout f h r = same_if (is_place layout r) (f (number_of layout r)) 0 (λ e. h (number_of layout r)) ∙ zero_if (is_place layout r)
   where

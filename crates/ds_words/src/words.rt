@@ -281,12 +281,12 @@ impl Words {
         ensures evicts { EvictsAt number (memory_of self.old) (memory_of self.new) }
         ensures shape { SameShape self.old self.new }
     {
-        let word = self.word(number);
+        let evicted = self.word(number);
         self.set_word(
             number,
             Word {
-                cached: word.cached,
-                persisted: word.cached,
+                cached: evicted.cached,
+                persisted: evicted.cached,
             },
         );
     }
