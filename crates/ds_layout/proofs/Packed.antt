@@ -1,9 +1,9 @@
 -- Packed forms read back their parts, as equations of plain values.
-use Rattle.std.proofs.Common.{ℕ, ℤ, ◌≡◌, ◌+◌, ◌-◌, ◌*◌, ◌/◌, ◌%◌, ◌^◌, ◌<◌, ◌≤◌, Bool, true, false, Option, Some, None, nat_lt, ◌&&◌, ◌||◌, ◌==◌, List, length, get_or, take, drop, refl, ap, sym, ◌∙◌, subst, arith, suc, zero, inl, inr, pos}
+use Rattle.std.proofs.Common.{ℕ, ℤ, ◌≡◌, ◌≢◌, ◌+◌, ◌-◌, ◌*◌, ◌/◌, ◌%◌, ◌^◌, ◌<◌, ◌≤◌, Bool, true, false, Option, Some, None, nat_lt, ◌&&◌, ◌||◌, ◌==◌, List, length, get_or, take, drop, refl, ap, sym, ◌∙◌, subst, arith, suc, zero, inl, inr, pos}
 use Rattle.std.specs.Prelude.{if◌then◌else◌, FitsSigned, nat_le, map}
 use Rattle.std.specs.Int.{w64, cast_signed, cast_unsigned}
 use Rattle.std.specs.List.{range_with_len}
-use Rattle.std.proofs.lemmas.Bool.{cases_lt, ltb-true, lt-ltb, le-ltb, le-leb, ne_eqb, false≢true}
+use Rattle.std.proofs.lemmas.Bool.{cases_lt, ltb-true, ltb-false, lt-ltb, le-ltb, le-leb, leb-true, ne_eqb, eqb-true, eqb-false, false≢true}
 use Rattle.std.proofs.lemmas.List.{get_or_past, ext_get_or, get_or-take, get_or-drop, length-drop, length-take-le}
 use Rattle.std.proofs.lemmas.Int.{to_z-of_z}
 use Rattle.std.proofs.lemmas.Nat.{le_bytes_8}
@@ -220,3 +220,80 @@ part_of-take text part n eight within =
     ∙ get_or-map-range_with_len f 0 8 i i 0 (omega arith) (omega arith)
     ∙ sym (get_or-drop (8 * part) text i 0)
     ∙ sym (get_or-take n rest i 0 lt))
+
+-- what is read is in range, and its word is the word that was read
+pub IsHeader-header_of : (cells word : ℕ) (h : Header) → header_of cells word ≡ Some h → IsHeader cells h × (header_word h ≡ word)
+unfolding header_with
+IsHeader-header_of cells word h e =
+    let x : Header = header_with (word / 256) (word % 256) in
+    let r = header_if (nat_lt x.cell cells && nat_le x.length TEXT_BYTES) x h e in
+    let is : IsHeader cells x = record {
+      cell = ltb-true x.cell cells (left (nat_lt x.cell cells) (nat_le x.length TEXT_BYTES) r.0);
+      length = leb-true x.length TEXT_BYTES (right (nat_lt x.cell cells) (nat_le x.length TEXT_BYTES) r.0);
+    } in
+    (subst (λ (y : Header). IsHeader cells y) r.1 is, ap header_word (sym r.1) ∙ (omega arith))
+  where
+    header_if : (b : Bool) (x h : Header) → (if b then Some x else None) ≡ Some h → (b ≡ true) × (x ≡ h)
+    header_if true x h e = (refl, cc)
+    header_if false x h e = cc
+
+announced_of : (number code : ℕ) (a : Announcement) → announcement_with number code ≡ Some a → (a.number ≡ number) × (phase_code a.phase ≡ code)
+announced_of number code a e = first (code == 1) (eqb-true code 1) e
+  where
+    third : (b : Bool) → (b ≡ true → code ≡ 3) → (if b then Some (let x : Announcement = record { number = number; phase = NotDone } in x) else None) ≡ Some a → (a.number ≡ number) × (phase_code a.phase ≡ code)
+    third true t e =
+        let same : (let x : Announcement = record { number = number; phase = NotDone } in x) ≡ a = cc in
+        (ap (λ (x : Announcement). x.number) (sym same), ap (λ (x : Announcement). phase_code x.phase) (sym same) ∙ sym (t refl))
+    third false t e = cc
+
+    second : (b : Bool) → (b ≡ true → code ≡ 2) → (if b then Some (let x : Announcement = record { number = number; phase = Done } in x) else (if code == 3 then Some (let x : Announcement = record { number = number; phase = NotDone } in x) else None)) ≡ Some a → (a.number ≡ number) × (phase_code a.phase ≡ code)
+    second true t e =
+        let same : (let x : Announcement = record { number = number; phase = Done } in x) ≡ a = cc in
+        (ap (λ (x : Announcement). x.number) (sym same), ap (λ (x : Announcement). phase_code x.phase) (sym same) ∙ sym (t refl))
+    second false t e = third (code == 3) (eqb-true code 3) e
+
+    first : (b : Bool) → (b ≡ true → code ≡ 1) → (if b then Some (let x : Announcement = record { number = number; phase = Pending } in x) else (if code == 2 then Some (let x : Announcement = record { number = number; phase = Done } in x) else (if code == 3 then Some (let x : Announcement = record { number = number; phase = NotDone } in x) else None))) ≡ Some a → (a.number ≡ number) × (phase_code a.phase ≡ code)
+    first true t e =
+        let same : (let x : Announcement = record { number = number; phase = Pending } in x) ≡ a = cc in
+        (ap (λ (x : Announcement). x.number) (sym same), ap (λ (x : Announcement). phase_code x.phase) (sym same) ∙ sym (t refl))
+    first false t e = second (code == 2) (eqb-true code 2) e
+
+pub IsAnnouncement-announcement_of : (word : ℕ) (a : Announcement) → announcement_of word ≡ Some a → IsAnnouncement a × (announcement_word a ≡ word)
+IsAnnouncement-announcement_of word a e = none (word / 4 == 0) (nat_lt RECORDS (word / 4)) (eqb-false (word / 4) 0) (ltb-false RECORDS (word / 4)) e
+  where
+    none : (b c : Bool) → (b ≡ false → word / 4 ≡ 0 → ⊥) → (c ≡ false → word / 4 ≤ RECORDS) → (if b || c then None else announcement_with (word / 4 - 1) (word % 4)) ≡ Some a → IsAnnouncement a × (announcement_word a ≡ word)
+    none true c f g e = cc
+    none false true f g e = cc
+    none false false f g e =
+        let r = announced_of (word / 4 - 1) (word % 4) a e in
+        let some : word / 4 ≢ 0 = f refl in
+        let within : word / 4 ≤ RECORDS = g refl in
+        let number : a.number ≡ word / 4 - 1 = r.0 in
+        let code : phase_code a.phase ≡ word % 4 = r.1 in
+        (omega arith, omega arith)
+
+stored_by_is : (cells height code : ℕ) (value : ℤ) → height < cells → IsStored cells (stored_by cells height code value)
+stored_by_is cells height code value h = first (code == 0)
+  where
+    fourth : (b : Bool) → IsStored cells (if b then (let s : Stored = record { kind = Num; height = height; value = pos 0 } in s) else (let s : Stored = record { kind = Circular; height = cells; value = pos 0 } in s))
+    fourth true = (h, refl)
+    fourth false = (refl, refl)
+
+    third : (b : Bool) → IsStored cells (if b then (let s : Stored = record { kind = DivZero; height = height; value = pos 0 } in s) else (if code == 3 then (let s : Stored = record { kind = Num; height = height; value = pos 0 } in s) else (let s : Stored = record { kind = Circular; height = cells; value = pos 0 } in s)))
+    third true = (h, refl)
+    third false = fourth (code == 3)
+
+    second : (b : Bool) → IsStored cells (if b then (let s : Stored = record { kind = Number; height = height; value = value } in s) else (if code == 2 then (let s : Stored = record { kind = DivZero; height = height; value = pos 0 } in s) else (if code == 3 then (let s : Stored = record { kind = Num; height = height; value = pos 0 } in s) else (let s : Stored = record { kind = Circular; height = cells; value = pos 0 } in s))))
+    second true = h
+    second false = third (code == 2)
+
+    first : (b : Bool) → IsStored cells (if b then (let s : Stored = record { kind = Blank; height = height; value = pos 0 } in s) else (if code == 1 then (let s : Stored = record { kind = Number; height = height; value = value } in s) else (if code == 2 then (let s : Stored = record { kind = DivZero; height = height; value = pos 0 } in s) else (if code == 3 then (let s : Stored = record { kind = Num; height = height; value = pos 0 } in s) else (let s : Stored = record { kind = Circular; height = cells; value = pos 0 } in s)))))
+    first true = (h, refl)
+    first false = second (code == 1)
+
+pub IsStored-stored_of : (cells value kind : ℕ) → IsStored cells (stored_of cells value kind)
+IsStored-stored_of cells value kind = by_test (nat_lt (kind / 8) cells) (ltb-true (kind / 8) cells)
+  where
+    by_test : (b : Bool) → (b ≡ true → kind / 8 < cells) → IsStored cells (if b then stored_by cells (kind / 8) (kind % 8) (cast_signed w64 value) else (let s : Stored = record { kind = Circular; height = cells; value = pos 0 } in s))
+    by_test true t = stored_by_is cells (kind / 8) (kind % 8) (cast_signed w64 value) (t refl)
+    by_test false t = (refl, refl)

@@ -1,6 +1,6 @@
 //! What a process announces of its last edit.
 
-ghost use Rattle.std.specs.Prelude.{◌≡◌, ℕ, ◌<◌, IfSome, Some};
+ghost use Rattle.std.specs.Prelude.{◌≡◌, IfSome};
 ghost use Rattle.ds_layout.specs.Announcement.{IsAnnouncement, announcement_word, announcement_of, phase_code};
 
 use crate::place::RECORDS;

@@ -1,6 +1,6 @@
 //! One bit for each of many numbers, 64 in a word.
 
-ghost use Rattle.std.specs.Prelude.{◌≡◌, ◌≢◌, ℕ, ◌/◌, ◌%◌, ◌^◌, ◌<◌, ◌↔◌, IsTrue, bit_or};
+ghost use Rattle.std.specs.Prelude.{◌≡◌, ◌≢◌, ℕ, ◌/◌, ◌↔◌, IsTrue, bit_or};
 ghost use Rattle.ds_layout.specs.Bits.{HasBit, bit_of};
 
 /// The part, a word, in which the bit of a number stands.

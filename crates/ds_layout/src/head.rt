@@ -1,6 +1,6 @@
 //! The head of a cell: its last counted edit.
 
-ghost use Rattle.std.specs.Prelude.{◌≡◌, ℕ, ◌<◌, ◌≤◌, IfSome, Some};
+ghost use Rattle.std.specs.Prelude.{◌≡◌, ℕ, ◌<◌, IfSome};
 ghost use Rattle.ds_layout.specs.Head.{CanPack, IsHead, head_word, head_of};
 
 /// An edit of a cell, by its process and its number there. The stamp counts the edits of the cell, from 1.

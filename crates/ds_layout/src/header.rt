@@ -1,6 +1,6 @@
 //! The header of a record: the cell of an edit and the length of its text.
 
-ghost use Rattle.std.specs.Prelude.{◌≡◌, ℕ, ◌<◌, ◌≤◌, IfSome, Some};
+ghost use Rattle.std.specs.Prelude.{◌≡◌, ℕ, IfSome};
 ghost use Rattle.ds_layout.specs.Header.{CanPack, IsHeader, header_word, header_of};
 
 use crate::place::TEXT_BYTES;

@@ -1,10 +1,10 @@
 //! The numbers of the words of a sheet.
 
-ghost use Rattle.std.specs.Prelude.{◌≡◌, ℕ, ◌<◌, ◌≤◌, ◌↔◌, length, IsTrue, IsSome, IfSome, IfOk};
+ghost use Rattle.std.specs.Prelude.{◌≡◌, ◌<◌, ◌≤◌, ◌↔◌, IsTrue, IsSome, IfSome, IfOk};
 
 use crate::place::{DONE_PARTS, Place, RECORDS, TEXT_PARTS};
 use ds_formula::cells::Shape;
-use ds_words::access::Class;
+use ds_words::access::{Access, Class};
 use std::alloc::{AllocError, Global};
 
 /// How many processes a sheet can have.
@@ -35,9 +35,9 @@ struct Starts {
 }
 
 impl Layout {
-    ghost use Rattle.ds_layout.specs.Places.{cells_of, parts_of, IsAscending, starts_of, words_of, IsPlace, number_of, place_of, class_of};
+    ghost use Rattle.ds_layout.specs.Places.{cells_of, parts_of, IsAscending, starts_of, words_of, IsPlace, number_of, place_of};
     ghost use Rattle.ds_layout.specs.declared.place.Place.{Place};
-    ghost use Rattle.ds_layout.specs.Sheet.{HasClasses};
+    ghost use Rattle.ds_layout.specs.Sheet.{HasClasses, NamesPlace, access_at};
 
     /// A layout for 1 to 8 processes; `None` for another number.
     pub fn new(shape: Shape, processes: usize) -> Option<Layout>
@@ -221,5 +221,23 @@ impl Layout {
             classes.push(self.place(number).class())?;
         }
         Ok(classes)
+    }
+
+    /// The access by the number of its word.
+    pub fn numbered(&self, access: Access<Place>) -> Access<usize>
+        requires { NamesPlace self.now access }
+        ensures { result ≡ access_at self.now access }
+    {
+        match access {
+            Access::Nothing => Access::Nothing,
+            Access::Load(place) => Access::Load(self.number(place)),
+            Access::Store(place, value) => Access::Store(self.number(place), value),
+            Access::Or(place, bits) => Access::Or(self.number(place), bits),
+            Access::SwapIf(place, expected, value) => {
+                Access::SwapIf(self.number(place), expected, value)
+            }
+            Access::Flush(place) => Access::Flush(self.number(place)),
+            Access::Back => Access::Back,
+        }
     }
 }

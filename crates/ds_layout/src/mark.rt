@@ -1,6 +1,6 @@
 //! The mark of a cell: whether it is clean, marked or held.
 
-ghost use Rattle.std.specs.Prelude.{◌≡◌, ℕ, ◌<◌, ◌≤◌, true, bit_or};
+ghost use Rattle.std.specs.Prelude.{◌≡◌, ◌<◌, true, bit_or};
 ghost use Rattle.ds_layout.specs.Mark.{CanPack, mark_word, mark_of, state_of};
 
 /// The bit of a mark's word that makes the cell dirty.

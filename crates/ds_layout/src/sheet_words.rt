@@ -1,9 +1,9 @@
 //! The words of a sheet by their places.
 
-ghost use Rattle.std.specs.Prelude.{◌≡◌, ℕ, ◌<◌, IfOk};
+ghost use Rattle.std.specs.Prelude.{◌≡◌, ◌<◌, IfOk};
 ghost use Rattle.ds_words.specs.Memory.{IsFresh, EvictsAt, Crashes, StopsAt};
-ghost use Rattle.ds_layout.specs.Places.{IsPlace, number_of};
-ghost use Rattle.ds_layout.specs.Sheet.{NamesPlace, CanPerform, PerformsAt, access_at, memory};
+ghost use Rattle.ds_layout.specs.Places.{IsPlace};
+ghost use Rattle.ds_layout.specs.Sheet.{CanPerform, PerformsAt, memory};
 
 use crate::layout::Layout;
 use crate::place::Place;
@@ -27,26 +27,6 @@ impl Model for SheetWords {
     ghost view = { λ s. record { layout = s.layout; words = s.words } };
 
     ghost invariant = { λ s. IsLaidOut s.layout s.words };
-}
-
-/// The access by the number of its word.
-pub fn numbered(layout: &Layout, access: Access<Place>) -> Access<usize>
-    requires { NamesPlace layout.now access }
-    ensures { result ≡ access_at layout.now access }
-{
-    match access {
-        Access::Nothing => Access::Nothing,
-        Access::Load(place) => Access::Load(layout.number(place)),
-        Access::Store(place, value) => Access::Store(layout.number(place), value),
-        Access::Or(place, bits) => Access::Or(layout.number(place), bits),
-        Access::SwapIf(place, expected, value) => Access::SwapIf(
-            layout.number(place),
-            expected,
-            value,
-        ),
-        Access::Flush(place) => Access::Flush(layout.number(place)),
-        Access::Back => Access::Back,
-    }
 }
 
 impl SheetWords {
@@ -76,13 +56,21 @@ impl SheetWords {
         self.words.word(self.layout.number(place))
     }
 
+    /// The cached side of the word at a place: what a process sees there.
+    pub fn load(&self, place: Place) -> u64
+        requires { IsPlace self.now.layout place }
+        ensures { result ≡ (memory self.now).cached place }
+    {
+        self.word(place).cached
+    }
+
     /// Performs the access for a process, and answers the number that it saw: 0 where it saw none.
     pub fn perform(&mut self, process: usize, access: Access<Place>) -> u64
         requires { CanPerform self.old.layout (memory self.old) process access }
         ensures performs { PerformsAt access process (memory self.old) (memory self.new) result }
         ensures layout { self.new.layout ≡ self.old.layout }
     {
-        let access = numbered(&self.layout, access);
+        let access = self.layout.numbered(access);
         self.words.perform(process, access)
     }
 

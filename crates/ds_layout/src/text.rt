@@ -1,6 +1,6 @@
 //! The words of a text, eight bytes each.
 
-ghost use Rattle.std.specs.Prelude.{◌≡◌, ◌<◌, ◌≤◌, length, slice_index};
+ghost use Rattle.std.specs.Prelude.{◌≡◌, ◌<◌, slice_index};
 ghost use Rattle.ds_layout.specs.Text.{part_of, part_word, bytes_of};
 
 use crate::place::TEXT_PARTS;
