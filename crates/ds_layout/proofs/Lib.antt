@@ -1,0 +1,4 @@
+pub mod Places
+pub mod OrBits
+pub mod Sheet
+pub mod Packed

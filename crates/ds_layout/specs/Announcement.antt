@@ -1,0 +1,30 @@
+-- What a process announces.
+use Rattle.std.specs.Prelude.{ℕ, ◌+◌, ◌-◌, ◌*◌, ◌/◌, ◌%◌, ◌<◌, ◌==◌, Option, Some, None, nat_lt, ◌||◌, if◌then◌else◌}
+use Rattle.ds_layout.specs.declared.place.TheConstants.{RECORDS}
+use Rattle.ds_layout.specs.declared.announcement.Phase.{Phase}
+use Rattle.ds_layout.specs.declared.announcement.Phase.TheVariants.{Pending, Done, NotDone}
+use Rattle.ds_layout.specs.declared.announcement.Announcement.{Announcement}
+
+-- the number is that of a record
+abbrev pub IsAnnouncement : Announcement → Type 0
+IsAnnouncement a = a.number < RECORDS
+
+abbrev pub phase_code : Phase → ℕ
+phase_code Pending = 1
+phase_code Done = 2
+phase_code NotDone = 3
+
+abbrev pub announcement_word : Announcement → ℕ
+announcement_word a = (a.number + 1) * 4 + phase_code a.phase
+
+abbrev pub announcement_with : ℕ → ℕ → Option Announcement
+announcement_with number code =
+    if code == 1 then Some (record { number = number; phase = Pending })
+    else (if code == 2 then Some (record { number = number; phase = Done })
+    else (if code == 3 then Some (record { number = number; phase = NotDone })
+    else None))
+
+-- what the word says: nothing where the phase is 0 or the number is no record's
+abbrev pub announcement_of : ℕ → Option Announcement
+announcement_of word =
+    if word / 4 == 0 || nat_lt RECORDS (word / 4) then None else announcement_with (word / 4 - 1) (word % 4)

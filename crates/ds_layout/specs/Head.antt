@@ -1,0 +1,24 @@
+-- The head of a cell.
+use Rattle.std.specs.Prelude.{ℕ, ◌+◌, ◌*◌, ◌/◌, ◌%◌, ◌^◌, ◌<◌, Option, Some, None, nat_lt, ◌&&◌, if◌then◌else◌}
+use Rattle.ds_layout.specs.declared.head.Head.{Head}
+
+-- each part fits its place in the word
+pub record CanPack (head : Head) : Type 0 where
+  pub stamp : head.stamp < 2 ^ 48
+  pub process : head.process < 256
+  pub number : head.number < 256
+
+-- an edit of a sheet with so many processes
+pub record IsHead (processes : ℕ) (head : Head) : Type 0 where
+  pub counted : 0 < head.stamp
+  pub packs : CanPack head
+  pub process : head.process < processes
+
+abbrev pub head_word : Head → ℕ
+head_word head = head.stamp * 65536 + head.process * 256 + head.number
+
+-- what the word says: nothing where the stamp is 0 or the process is none of the sheet
+abbrev pub head_of : ℕ → ℕ → Option Head
+head_of processes word =
+    let head : Head = record { stamp = word / 65536; process = word / 256 % 256; number = word % 256 } in
+    if nat_lt 0 head.stamp && nat_lt head.process processes then Some head else None

@@ -1,0 +1,23 @@
+-- The header of a record.
+use Rattle.std.specs.Prelude.{ℕ, ◌+◌, ◌*◌, ◌/◌, ◌%◌, ◌^◌, ◌<◌, ◌≤◌, Option, Some, None, nat_lt, nat_le, ◌&&◌, if◌then◌else◌}
+use Rattle.ds_layout.specs.declared.place.TheConstants.{TEXT_BYTES}
+use Rattle.ds_layout.specs.declared.header.Header.{Header}
+
+-- each part fits its place in the word
+pub record CanPack (header : Header) : Type 0 where
+  pub cell : header.cell < 2 ^ 56
+  pub length : header.length < 256
+
+-- a cell of a sheet with so many, and the length of a text
+pub record IsHeader (cells : ℕ) (header : Header) : Type 0 where
+  pub cell : header.cell < cells
+  pub length : header.length ≤ TEXT_BYTES
+
+abbrev pub header_word : Header → ℕ
+header_word header = header.cell * 256 + header.length
+
+-- what the word says: nothing where the cell is none of the sheet or the length is more than a text's
+abbrev pub header_of : ℕ → ℕ → Option Header
+header_of cells word =
+    let header : Header = record { cell = word / 256; length = word % 256 } in
+    if nat_lt header.cell cells && nat_le header.length TEXT_BYTES then Some header else None

@@ -1,0 +1,42 @@
+-- The mark of a cell.
+use Rattle.std.specs.Prelude.{ℕ, ◌+◌, ◌-◌, ◌*◌, ◌/◌, ◌%◌, ◌^◌, ◌<◌, ◌==◌, Option, Some, None, Bool, true, false, if◌then◌else◌}
+use Rattle.ds_layout.specs.declared.mark.Mark.{Mark}
+use Rattle.ds_layout.specs.declared.mark.State.{State}
+use Rattle.ds_layout.specs.declared.mark.State.TheVariants.{Clean, Marked, Held}
+
+-- 0 for nobody
+abbrev pub holder_code : Option ℕ → ℕ
+holder_code None = 0
+holder_code (Some process) = process + 1
+
+abbrev pub dirty_bit : Bool → ℕ
+dirty_bit false = 0
+dirty_bit true = 1
+
+-- each part fits its place in the word
+pub record CanPack (mark : Mark) : Type 0 where
+  pub generation : mark.generation < 2 ^ 59
+  pub holder : holder_code mark.holder < 16
+
+abbrev pub mark_word : Mark → ℕ
+mark_word mark = mark.generation * 32 + holder_code mark.holder * 2 + dirty_bit mark.dirty
+
+-- the holder with this code
+abbrev pub holder_of : ℕ → Option ℕ
+holder_of code = if code == 0 then None else Some (code - 1)
+
+abbrev pub mark_of : ℕ → Mark
+mark_of word = record {
+  generation = word / 32;
+  holder = holder_of (word / 2 % 16);
+  dirty = word % 2 == 1;
+}
+
+abbrev pub state_by : Option ℕ → Bool → State
+state_by (Some process) dirty = Held process
+state_by None false = Clean
+state_by None true = Marked
+
+-- clean without a holder and not dirty, marked without a holder and dirty, else held
+abbrev pub state_of : Mark → State
+state_of mark = state_by mark.holder mark.dirty

@@ -1,0 +1,16 @@
+-- The words of a text.
+use Rattle.std.specs.Prelude.{ℕ, ◌+◌, ◌*◌, List, map, slice_index}
+use Rattle.std.specs.List.{range_with_len}
+use Rattle.std.specs.Int.{w64, to_le_bytes, from_le_bytes}
+
+-- eight bytes of the text, 0 past its end
+abbrev pub part_of : List ℕ → ℕ → List ℕ
+part_of text part = map (λ k. slice_index text (8 * part + k)) (range_with_len 0 8)
+
+-- their word, the first in the lowest eight bits
+abbrev pub part_word : List ℕ → ℕ → ℕ
+part_word text part = from_le_bytes w64 (part_of text part)
+
+-- the eight bytes of a word
+abbrev pub bytes_of : ℕ → List ℕ
+bytes_of word = to_le_bytes w64 word

@@ -1,0 +1,243 @@
+//! The numbers of the words of a sheet.
+
+ghost use Rattle.std.specs.Prelude.{◌≡◌, ◌<◌, ◌≤◌, ◌↔◌, IsTrue, IsSome, IfSome, IfOk};
+
+use crate::place::{DONE_PARTS, Place, RECORDS, TEXT_PARTS};
+use ds_formula::cells::Shape;
+use ds_words::access::{Access, Class};
+use std::alloc::{AllocError, Global};
+
+/// How many processes a sheet can have.
+pub const MAX_PROCESSES: usize = 8;
+
+/// What fixes the words of a sheet: its shape, and how many processes it has, from 1 to 8.
+#[derive(Clone, Copy, Debug, PartialEq, Eq)]
+pub struct Layout {
+    pub shape: Shape,
+    pub processes: usize,
+    ghost some: { 1 ≤ processes },
+    ghost limited: { processes ≤ 8 },
+}
+
+/// The number of the first word of each kind, and of all words.
+#[derive(Clone, Copy)]
+struct Starts {
+    heads: usize,
+    marks: usize,
+    values: usize,
+    kinds: usize,
+    index: usize,
+    announcements: usize,
+    headers: usize,
+    texts: usize,
+    done: usize,
+    words: usize,
+}
+
+impl Layout {
+    ghost use Rattle.ds_layout.specs.Places.{cells_of, parts_of, IsAscending, starts_of, words_of, IsPlace, number_of, place_of};
+    ghost use Rattle.ds_layout.specs.declared.place.Place.{Place};
+    ghost use Rattle.ds_layout.specs.Sheet.{HasClasses, NamesPlace, access_at};
+
+    /// A layout for 1 to 8 processes; `None` for another number.
+    pub fn new(shape: Shape, processes: usize) -> Option<Layout>
+        ensures within { IsSome result ↔ ((1 ≤ processes) × (processes ≤ MAX_PROCESSES)) }
+        ensures value { IfSome result (λ l. (l.shape ≡ shape) × (l.processes ≡ processes)) }
+    {
+        if (1..=MAX_PROCESSES).contains(&processes) {
+            Some(Layout { shape, processes })
+        } else {
+            None
+        }
+    }
+
+    /// How many cells the sheet has.
+    pub fn cells(&self) -> usize
+        ensures value { result ≡ cells_of self.now }
+        ensures at_least_one { 1 ≤ result }
+        ensures at_most { result ≤ 1024 }
+    {
+        self.shape.count()
+    }
+
+    /// How many words the index row of a cell has, 64 cells each.
+    pub fn row_parts(&self) -> usize
+        ensures value { result ≡ parts_of self.now }
+        ensures at_most { result ≤ 16 }
+    {
+        self.cells().div_ceil(64)
+    }
+
+    fn starts(&self) -> Starts
+        ensures value { result ≡ starts_of self.now }
+        ensures ascending { IsAscending result }
+        ensures at_most { result.words ≤ 60000 }
+    {
+        let cells = self.cells();
+        let heads = 1;
+        let marks = heads + cells;
+        let values = marks + cells;
+        let kinds = values + cells;
+        let index = kinds + cells;
+        let announcements = index + cells * self.row_parts();
+        let headers = announcements + self.processes;
+        let texts = headers + self.processes * RECORDS;
+        let done = texts + self.processes * RECORDS * TEXT_PARTS;
+        Starts {
+            heads,
+            marks,
+            values,
+            kinds,
+            index,
+            announcements,
+            headers,
+            texts,
+            done,
+            words: done + self.processes * DONE_PARTS,
+        }
+    }
+
+    /// How many words the sheet has, at most 53,289.
+    pub fn words(&self) -> usize
+        ensures value { result ≡ words_of self.now }
+        ensures at_most { result ≤ 60000 }
+    {
+        self.starts().words
+    }
+
+    #[tactic(auto, unfolding(crate::specs::Places::number_of))]
+    fn counted(&self, place: Place) -> usize
+        requires { IsPlace self.now place }
+        ensures { result ≡ number_of self.now place }
+    {
+        let starts = self.starts();
+        match place {
+            Place::Version => 0,
+            Place::Head(cell) => starts.heads + cell,
+            Place::Mark(cell) => starts.marks + cell,
+            Place::Value(cell) => starts.values + cell,
+            Place::Kind(cell) => starts.kinds + cell,
+            Place::Index(row, part) => starts.index + (row * self.row_parts() + part),
+            Place::Announce(process) => starts.announcements + process,
+            Place::Header(process, number) => starts.headers + (process * RECORDS + number),
+            Place::Text(process, number, part) => {
+                starts.texts + ((process * RECORDS + number) * TEXT_PARTS + part)
+            }
+            Place::Done(process, part) => starts.done + (process * DONE_PARTS + part),
+        }
+    }
+
+    #[tactic(auto, unfolding(crate::specs::Places::place_of))]
+    fn placed(&self, number: usize) -> Place
+        requires { number < words_of self.now }
+        ensures { result ≡ place_of self.now number }
+    {
+        let starts = self.starts();
+        if number < starts.heads {
+            return Place::Version;
+        }
+        if number < starts.marks {
+            return Place::Head(number - starts.heads);
+        }
+        if number < starts.values {
+            return Place::Mark(number - starts.marks);
+        }
+        if number < starts.kinds {
+            return Place::Value(number - starts.values);
+        }
+        if number < starts.index {
+            return Place::Kind(number - starts.kinds);
+        }
+        if number < starts.announcements {
+            let at = number - starts.index;
+            return Place::Index(at / self.row_parts(), at % self.row_parts());
+        }
+        if number < starts.headers {
+            return Place::Announce(number - starts.announcements);
+        }
+        if number < starts.texts {
+            let at = number - starts.headers;
+            return Place::Header(at / RECORDS, at % RECORDS);
+        }
+        if number < starts.done {
+            let at = number - starts.texts;
+            let record = at / TEXT_PARTS;
+            return Place::Text(record / RECORDS, record % RECORDS, at % TEXT_PARTS);
+        }
+        let at = number - starts.done;
+        Place::Done(at / DONE_PARTS, at % DONE_PARTS)
+    }
+
+    /// Whether the place is one of the sheet.
+    pub fn contains(&self, place: Place) -> bool
+        ensures { IsTrue result ↔ IsPlace self.now place }
+    {
+        let cells = self.cells();
+        let processes = self.processes;
+        match place {
+            Place::Version => true,
+            Place::Head(cell) => cell < cells,
+            Place::Mark(cell) => cell < cells,
+            Place::Value(cell) => cell < cells,
+            Place::Kind(cell) => cell < cells,
+            Place::Index(row, part) => row < cells && part < self.row_parts(),
+            Place::Announce(process) => process < processes,
+            Place::Header(process, number) => process < processes && number < RECORDS,
+            Place::Text(process, number, part) => {
+                process < processes && number < RECORDS && part < TEXT_PARTS
+            }
+            Place::Done(process, part) => process < processes && part < DONE_PARTS,
+        }
+    }
+
+    /// The number of the word at a place of the sheet. Two different places never share a word.
+    pub fn number(&self, place: Place) -> usize
+        requires { IsPlace self.now place }
+        ensures value { result ≡ number_of self.now place }
+        ensures below { result < words_of self.now }
+        ensures back { place_of self.now result ≡ place }
+        ensures alone { (other : Place) → IsPlace self.now other → number_of self.now other ≡ result → other ≡ place }
+    {
+        self.counted(place)
+    }
+
+    /// The place of the word with this number.
+    pub fn place(&self, number: usize) -> Place
+        requires { number < words_of self.now }
+        ensures value { result ≡ place_of self.now number }
+        ensures inside { IsPlace self.now result }
+        ensures back { number_of self.now result ≡ number }
+    {
+        self.placed(number)
+    }
+
+    /// The class of each word, in the order of their numbers. An error is a want of memory.
+    pub fn classes(&self, alloc: Global) -> Result<Vec<Class>, AllocError>
+        ensures { IfOk result (λ v. HasClasses self.now v.items) }
+    {
+        let count = self.words();
+        let mut classes = Vec::new(alloc);
+        for number in 0..count {
+            classes.push(self.place(number).class())?;
+        }
+        Ok(classes)
+    }
+
+    /// The access by the number of its word.
+    pub fn numbered(&self, access: Access<Place>) -> Access<usize>
+        requires { NamesPlace self.now access }
+        ensures { result ≡ access_at self.now access }
+    {
+        match access {
+            Access::Nothing => Access::Nothing,
+            Access::Load(place) => Access::Load(self.number(place)),
+            Access::Store(place, value) => Access::Store(self.number(place), value),
+            Access::Or(place, bits) => Access::Or(self.number(place), bits),
+            Access::SwapIf(place, expected, value) => {
+                Access::SwapIf(self.number(place), expected, value)
+            }
+            Access::Flush(place) => Access::Flush(self.number(place)),
+            Access::Back => Access::Back,
+        }
+    }
+}

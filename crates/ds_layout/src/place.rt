@@ -1,0 +1,58 @@
+//! The words of a sheet, by what they are for.
+
+ghost use Rattle.std.specs.Prelude.{◌≡◌};
+ghost use Rattle.ds_layout.specs.Places.{class_of};
+
+use ds_words::access::Class;
+
+/// How many edits each process can number, and so how many records it has.
+pub const RECORDS: usize = 256;
+
+/// How many words the text of a record has, eight bytes each.
+pub const TEXT_PARTS: usize = 15;
+
+/// How many bytes a text has at most.
+pub const TEXT_BYTES: usize = 8 * TEXT_PARTS;
+
+/// How many words the done bits of a process have, 64 bits each: one bit for each record.
+pub const DONE_PARTS: usize = 4;
+
+/// A word of a sheet. Cells are by their number, processes and edits too.
+#[derive(Clone, Copy, Debug, Default, PartialEq, Eq)]
+pub enum Place {
+    /// Which layout the words have.
+    #[default]
+    Version,
+    /// The last counted edit of a cell.
+    Head(usize),
+    /// Whether a cell is clean, marked or held.
+    Mark(usize),
+    /// The number that a cell shows.
+    Value(usize),
+    /// What a cell shows, and the height of its references.
+    Kind(usize),
+    /// A part of the row of a cell in the index: which cells may refer to that cell.
+    Index(usize, usize),
+    /// The last announced edit of a process.
+    Announce(usize),
+    /// The cell and the length of a text, by process and number.
+    Header(usize, usize),
+    /// A part of a text, by process, number and part.
+    Text(usize, usize, usize),
+    /// A part of the done bits of a process: which of its edits count and were overtaken.
+    Done(usize, usize),
+}
+
+impl Place {
+    /// The class of the word.
+    pub fn class(self) -> Class
+        ensures { result ≡ class_of self }
+    {
+        match self {
+            Place::Version | Place::Head(_) | Place::Mark(_) => Class::Stamped,
+            Place::Index(_, _) | Place::Done(_, _) => Class::Bit,
+            Place::Value(_) | Place::Kind(_) => Class::Owned,
+            Place::Announce(_) | Place::Header(_, _) | Place::Text(_, _, _) => Class::Owned,
+        }
+    }
+}
