@@ -28,10 +28,11 @@ const HELP: &str = "\
 Example:
   printf 'set 0 A1 =1+2\\nsettle 0\\nreport 0\\n' | dsheet run";
 
-fn run_command<'a>(alloc: Global) -> Command<'a> {
+fn run_command<'a>(alloc: Global) -> Result<Command<'a>, AllocError> {
     Command::new(alloc, "run")
         .about("Runs a script from standard input and writes its answers to standard output")
         .after_help(RUN_HELP)
+        .bin_name("dsheet run")
 }
 
 fn program<'a>(alloc: Global) -> Result<Command<'a>, AllocError> {
@@ -40,7 +41,8 @@ fn program<'a>(alloc: Global) -> Result<Command<'a>, AllocError> {
         .after_help(HELP)
         .subcommand_required(true)
         .arg_required_else_help(true)
-        .subcommand(run_command(alloc))
+        .bin_name("dsheet")?
+        .subcommand(run_command(alloc)?)
 }
 
 /// What the words ask for, of which the first is the program's name; `clap`'s error for help and for wrong words.

@@ -49,8 +49,10 @@ fn explain(rt: &(impl Print + Eprint), error: &Error) -> u8 {
 }
 
 fn dispatch<R: AllocGlobal + Env + Input + Print + Eprint>(rt: &R) -> u8 {
-    let Ok(arguments) = std::env::args(rt) else {
-        return STREAM_FAILED;
+    let arguments = match std::env::args(rt) {
+        Ok(arguments) => arguments,
+        Err(error) if error.kind() == io::ErrorKind::OutOfMemory => return NO_MEMORY,
+        Err(_) => return STREAM_FAILED,
     };
     let Ok(words) = arguments.collect::<Vec<String>>(rt.alloc()) else {
         return NO_MEMORY;
