@@ -7,3 +7,4 @@ pub mod Parses
 pub mod Calls
 pub mod Unique
 pub mod Whole
+pub mod Marks

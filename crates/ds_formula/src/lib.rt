@@ -10,5 +10,6 @@ mod names;
 mod parser;
 mod ranges;
 pub mod reading;
+mod references;
 mod sizes;
 mod tokens;
