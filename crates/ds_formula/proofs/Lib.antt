@@ -8,3 +8,4 @@ pub mod Calls
 pub mod Unique
 pub mod Whole
 pub mod Marks
+pub mod Texts

@@ -14,3 +14,4 @@ pub mod Parsing
 pub mod Grammar
 pub mod Names
 pub mod Marks
+pub mod Texts

@@ -48,7 +48,7 @@ pub struct Parsed {
 }
 
 // How tightly it binds.
-fn level_of(operator: Operator) -> usize
+pub(crate) fn level_of(operator: Operator) -> usize
     ensures { result ≡ level_of operator }
 {
     match operator {
