@@ -9,3 +9,4 @@ pub mod Unique
 pub mod Whole
 pub mod Marks
 pub mod Texts
+pub mod Formed
