@@ -74,23 +74,23 @@ mutual
 
 -- ---- tokens
 
-either : {A : Type 0} (P : A → Type 0) (t : Bool) (x y : A) → (t ≡ true → P x) → (t ≡ false → P y) → P (cond t x y)
+pub either : {A : Type 0} (P : A → Type 0) (t : Bool) (x y : A) → (t ≡ true → P x) → (t ≡ false → P y) → P (cond t x y)
 either P true x y p q = p refl
 either P false x y p q = q refl
 
-bind : {A B : Type 0} (P : Result B Stop → Type 0) (x : Result A Stop) (f : A → Result B Stop) → ((e : Stop) → P (Err e)) → ((a : A) → P (f a)) → P (x >>= f)
+pub bind : {A B : Type 0} (P : Result B Stop → Type 0) (x : Result A Stop) (f : A → Result B Stop) → ((e : Stop) → P (Err e)) → ((a : A) → P (f a)) → P (x >>= f)
 bind P (Ok a) f e h = h a
 bind P (Err u) f e h = e u
 
-bind_with : {A B : Type 0} (Q : Result A Stop → Type 0) (P : Result B Stop → Type 0) (x : Result A Stop) (f : A → Result B Stop) → Q x → ((e : Stop) → P (Err e)) → ((a : A) → Q (Ok a) → P (f a)) → P (x >>= f)
+pub bind_with : {A B : Type 0} (Q : Result A Stop → Type 0) (P : Result B Stop → Type 0) (x : Result A Stop) (f : A → Result B Stop) → Q x → ((e : Stop) → P (Err e)) → ((a : A) → Q (Ok a) → P (f a)) → P (x >>= f)
 bind_with Q P (Ok a) f q e h = h a q
 bind_with Q P (Err u) f q e h = e u
 
-abbrev NumberGood : ℕ → Read ℕ → Type 0
+abbrev pub NumberGood : ℕ → Read ℕ → Type 0
 NumberGood limit (Ok x) = x.0 ≤ limit
 NumberGood limit (Err e) = Unit {0}
 
-number_good : (limit : ℕ) (text : List ℕ) → NumberGood limit (number_at limit text)
+pub number_good : (limit : ℕ) (text : List ℕ) → NumberGood limit (number_at limit text)
 unfolding number_at
 number_good limit [] = tt
 number_good limit (b ∷ bs) =

@@ -10,3 +10,7 @@ pub mod Whole
 pub mod Marks
 pub mod Texts
 pub mod Formed
+pub mod Digits
+pub mod Back
+pub mod Writes
+pub mod ReadsBack

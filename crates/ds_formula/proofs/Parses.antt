@@ -92,7 +92,7 @@ le_cases a b h = elim (cases_lt a b) [
 ]
 
 -- no operator of this level or a tighter one is at the front
-abbrev NoneFrom : ℕ → List ℕ → Type 0
+abbrev pub NoneFrom : ℕ → List ℕ → Type 0
 NoneFrom l text = (o : Operator) (after : List ℕ) → l ≤ level_of o → follow_at text ≡ Ok (Infix o, after) → ⊥
 
 at_end : (l : ℕ) (text : List ℕ) → NoneOf l text → NoneFrom (suc l) text → (o : Operator) (after : List ℕ) → follow_at text ≡ Ok (Infix o, after) → (level_of o ≡ l) ⊎ (suc l ≤ level_of o) → ⊥

@@ -13,4 +13,4 @@ pub mod reading;
 mod references;
 mod sizes;
 mod tokens;
-mod writing;
+pub mod writing;

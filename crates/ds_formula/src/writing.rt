@@ -1,8 +1,10 @@
 //! Writes contents as texts.
 
-ghost use Rattle.std.specs.Prelude.{◌≡◌, ◌++◌, [], IfOk, OnOk, if◌then◌else◌};
+ghost use Rattle.std.specs.Prelude.{◌≡◌, ℕ, List, ◌++◌, [], IfOk, OnOk, if◌then◌else◌};
 ghost use Rattle.std.specs.String.{string_bytes};
-ghost use Rattle.ds_formula.specs.Plain.{formula, plain};
+ghost use Rattle.ds_formula.specs.declared.cells.Shape.{Shape};
+ghost use Rattle.ds_formula.specs.Plain.{Plain, formula, plain};
+ghost use Rattle.ds_formula.specs.Grammar.{Reads, ReadsLong};
 ghost use Rattle.ds_formula.specs.Forms.{level_of};
 ghost use Rattle.ds_formula.specs.Texts.{sign_text, operator_text, precedence, text_of, wrapped, content_text};
 
@@ -113,3 +115,8 @@ impl Content {
         Ok(text)
     }
 }
+
+/// The text of a content that was read reads back as that content, however long it is.
+pub fn reads_back()
+    ensures { (shape : Shape) (text : List ℕ) (content : Plain) → Reads shape text content → ReadsLong shape (content_text content) content }
+{}
