@@ -1,5 +1,5 @@
 -- The tokens of a text that was written are read back.
-use Rattle.std.proofs.Common.{◌≡◌, ◌⊎◌, inl, inr, ℕ, zero, suc, ◌+◌, ◌-◌, ◌*◌, ◌^◌, ◌<◌, ◌≤◌, min, max, pos, Bool, true, false, cond, eqb, leb, ltb, ◌&&◌, List, [], ◌∷◌, ◌++◌, append_assoc, length, drop, Option, Some, None, Result, Ok, Err, refl, sym, ap, subst, ◌∙◌, arith}
+use Rattle.std.proofs.Common.{◌≡◌, ℕ, ◌+◌, ◌-◌, ◌*◌, ◌^◌, ◌<◌, ◌≤◌, min, max, pos, Bool, true, false, cond, eqb, leb, ltb, List, [], ◌∷◌, ◌++◌, length, Option, Some, Ok, Err, refl, sym, ap, ◌∙◌, arith}
 use Rattle.std.proofs.lemmas.Bool.{le-leb}
 use Rattle.std.proofs.lemmas.Bool.Decides.{nat_tests}
 use Rattle.std.specs.Fmt.{decimal}
@@ -13,21 +13,20 @@ use Rattle.ds_formula.specs.declared.content.Operator.{Operator}
 use Rattle.ds_formula.specs.declared.content.Operator.TheVariants.{Multiply, Add, Subtract, Equal, NotEqual, Less, Greater, LessOrEqual, GreaterOrEqual}
 use Rattle.ds_formula.specs.declared.content.Function.{Function}
 use Rattle.ds_formula.specs.declared.content.Function.TheVariants.{Sum, Min, Max, Abs, Mod, Quotient, If}
-use Rattle.ds_formula.specs.declared.tokens.Stop.{Stop}
 use Rattle.ds_formula.specs.declared.tokens.Leaf.{Leaf}
 use Rattle.ds_formula.specs.declared.tokens.Leaf.TheVariants.{Number, Reference, Range}
 use Rattle.ds_formula.specs.declared.tokens.Lead.{Lead}
 use Rattle.ds_formula.specs.declared.tokens.Lead.TheVariants as leads
 use Rattle.ds_formula.specs.declared.tokens.Follow.TheVariants.{Infix, Close, Semicolon, End}
 use Rattle.ds_formula.specs.Cells.{IsInside}
-use Rattle.ds_formula.specs.Bytes.{Read, ◌>>=◌, begins, skipped, number_from, number_at, byte_at, goes_on_as_fraction, unexpected_stop}
-use Rattle.ds_formula.specs.References.{without_dollar, letters_from, letters_at, row_at, cell_of, corner_at, area_of, inside_sheet, both_inside, behind_corner, reference_at}
+use Rattle.ds_formula.specs.Bytes.{Read, ◌>>=◌, begins, skipped, number_from, number_at, byte_at, unexpected_stop}
+use Rattle.ds_formula.specs.References.{without_dollar, letters_from, letters_at, row_at, cell_of, corner_at, area_of, both_inside, behind_corner, reference_at}
 use Rattle.ds_formula.specs.Functions.{name_of}
-use Rattle.ds_formula.specs.Tokens.{name_at, lead_of, lead_at, after_less, after_greater, follow_of, follow_at, found, follow_token, infix_of}
+use Rattle.ds_formula.specs.Tokens.{name_at, lead_of, lead_at, after_less, after_greater, follow_of, follow_at, found, infix_of}
 use Rattle.ds_formula.specs.Names.{cell_text}
 use Rattle.ds_formula.specs.Texts.{sign_text, operator_text}
 use Rattle.ds_formula.proofs.Formed.{IsArea}
-use Rattle.ds_formula.proofs.Digits.{unequal, is_digit, not_skipped, StartsDigit, decimal_starts, number_through, number_stops, number_back, starts_digit, Parts}
+use Rattle.ds_formula.proofs.Digits.{unequal, is_digit, not_skipped, decimal_starts, number_through, number_stops, number_back, starts_digit, Parts}
 
 -- ---- numbers
 

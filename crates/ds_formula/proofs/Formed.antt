@@ -1,5 +1,5 @@
 -- What was read is well formed, and how its ranges stand follows from it.
-use Rattle.std.proofs.Common.{◌≡◌, ◌⊎◌, inl, inr, ℕ, ℤ, pos, ◌+◌, ◌-◌, ◌^◌, ◌<◌, ◌≤◌, min, max, Bool, true, false, cond, leb, eqb, ◌&&◌, List, [], ◌∷◌, take, drop, length, Option, Some, None, Result, Ok, Err, refl, sym, ap, subst, ◌∙◌, arith}
+use Rattle.std.proofs.Common.{◌≡◌, ◌⊎◌, inl, inr, ℕ, ℤ, pos, ◌-◌, ◌^◌, ◌≤◌, Bool, true, false, cond, leb, eqb, ◌&&◌, List, [], ◌∷◌, take, drop, Option, Some, None, Result, Ok, Err, refl, sym, ap, subst, ◌∙◌, arith}
 use Rattle.std.proofs.lemmas.Bool.{leb-true}
 use Rattle.std.specs.Char.{is_ascii_digit, is_ascii_alphabetic}
 use Rattle.ds_formula.specs.declared.cells.Shape.{Shape}
@@ -7,7 +7,7 @@ use Rattle.ds_formula.specs.declared.cells.Cell.{Cell}
 use Rattle.ds_formula.specs.declared.cells.Rect.{Rect}
 use Rattle.ds_formula.specs.declared.content.Sign.TheVariants.{Plus, Minus}
 use Rattle.ds_formula.specs.declared.content.Function.{Function}
-use Rattle.ds_formula.specs.declared.fault.FaultKind.TheVariants.{NotWhole, NumberTooLarge, OutsideSheet}
+use Rattle.ds_formula.specs.declared.fault.FaultKind.TheVariants.{NotWhole, NumberTooLarge}
 use Rattle.ds_formula.specs.declared.ranges.Ranges.{Ranges}
 use Rattle.ds_formula.specs.declared.ranges.Ranges.TheVariants.{Placed, Bare, Misplaced}
 use Rattle.ds_formula.specs.declared.tokens.Stop.{Stop}
@@ -15,16 +15,16 @@ use Rattle.ds_formula.specs.declared.tokens.Leaf.{Leaf}
 use Rattle.ds_formula.specs.declared.tokens.Leaf.TheVariants.{Number, Reference, Range}
 use Rattle.ds_formula.specs.declared.tokens.Lead.{Lead}
 use Rattle.ds_formula.specs.declared.tokens.Lead.TheVariants as leads
-use Rattle.ds_formula.specs.Cells.{IsInside, IsWithin}
-use Rattle.ds_formula.specs.Plain.{Formula, Literal, At, Area, Signed, Joined, Called, Formulas, Nothing, Then, count, Plain, Empty, Constant, Computed}
+use Rattle.ds_formula.specs.Cells.{IsInside}
+use Rattle.ds_formula.specs.Plain.{Formula, Literal, At, Area, Signed, Joined, Called, Formulas, Nothing, Then, count, Plain}
 use Rattle.ds_formula.specs.Refs.{Mentions, SomeMentions, Refers}
 use Rattle.ds_formula.specs.Bytes.{Read, ◌>>=◌, stop_at, unexpected_stop, begins, skipped, number_from, goes_on_as_fraction, number_at, byte_at}
-use Rattle.ds_formula.specs.References.{letters_at, row_at, without_dollar, cell_of, corner_at, area_of, inside_sheet, both_inside, behind_corner, reference_at}
+use Rattle.ds_formula.specs.References.{letters_at, row_at, without_dollar, cell_of, corner_at, inside_sheet, both_inside, behind_corner, reference_at}
 use Rattle.ds_formula.specs.Functions.{takes, takes_ranges, function_named}
 use Rattle.ds_formula.specs.Ranges.{used, first_of, as_argument, misplaced}
 use Rattle.ds_formula.specs.Tokens.{word_length, known, name_at, lead_of, lead_at}
 use Rattle.ds_formula.specs.Forms.{leaf_formula, leaf_ranges, Operand, leaf, sign, group, call, Call, bracketed, Arguments, last, more, Level, tightest, looser, Chain, ends, goes_on}
-use Rattle.ds_formula.specs.Grammar.{Reads, ReadsLong, blank, constant, computed}
+use Rattle.ds_formula.specs.Grammar.{ReadsLong, blank, constant, computed}
 
 -- a range of the sheet, its upper left corner first
 pub record IsArea (s : Shape) (r : Rect) : Type 0 where

@@ -1,5 +1,5 @@
 -- Marks are the cells that are written, and the cells that have a mark ascend.
-use Rattle.std.proofs.Common.{◌≡◌, ◌⊎◌, inl, inr, ℕ, zero, suc, ◌+◌, ◌*◌, ◌/◌, ◌%◌, ◌<◌, ◌≤◌, Bool, true, false, cond, ◌||◌, ◌&&◌, leb, List, [], ◌∷◌, ◌++◌, map, take, length, length-append, get_or, replicate, Decides, refl, sym, ap, subst, ◌∙◌, arith, add-one, Result, Ok, Err, IfOk}
+use Rattle.std.proofs.Common.{◌≡◌, inl, inr, ℕ, zero, suc, ◌+◌, ◌*◌, ◌/◌, ◌<◌, ◌≤◌, Bool, true, false, cond, ◌||◌, leb, List, [], ◌∷◌, ◌++◌, map, take, length, length-append, get_or, replicate, Decides, refl, sym, ap, subst, ◌∙◌, arith, add-one, Result, Ok, Err, IfOk}
 use Rattle.std.proofs.Math.Bool.{or_assoc}
 use Rattle.std.proofs.Math.Seq.{get_or-append_seam}
 use Rattle.std.proofs.lemmas.Bool.{cases_lt, false≢true, leb-true, le-leb}
@@ -17,8 +17,8 @@ use Rattle.ds_formula.specs.declared.content.Tree.{Tree}
 use Rattle.ds_formula.specs.declared.content.Tree.TheVariants.{Call}
 use Rattle.ds_formula.specs.declared.references.TheConstants.{PLACES}
 use Rattle.ds_formula.specs.Cells.{IsWithin}
-use Rattle.ds_formula.specs.Plain.{Formula, Literal, At, Area, Signed, Joined, Called, Formulas, Nothing, Then, listed, formula, Plain, plain, Computed}
-use Rattle.ds_formula.specs.Refs.{Mentions, SomeMentions, Refers, IsPossible, IsBefore, AreRefs}
+use Rattle.ds_formula.specs.Plain.{Formula, Literal, At, Area, Signed, Joined, Called, Formulas, Nothing, Then, listed, formula, plain, Computed}
+use Rattle.ds_formula.specs.Refs.{Mentions, SomeMentions, IsPossible, IsBefore, AreRefs}
 use Rattle.ds_formula.specs.Marks.{cell_by, is_within, mentions, some_mentions, marked_below, MarksBy, Marks}
 use Rattle.ds_formula.proofs.Views.{formula_call}
 

@@ -1,16 +1,16 @@
 -- The text of a content that was read reads back as that content.
-use Rattle.std.proofs.Common.{◌≡◌, ℕ, ℤ, pos, negsuc, neg_ℤ, zero, suc, ◌+◌, ◌-◌, ◌^◌, ◌<◌, ◌≤◌, Bool, true, false, cond, eqb, List, [], ◌∷◌, ◌++◌, length, drop, Option, Some, None, Result, Ok, Err, refl, sym, ap, subst, ◌∙◌, arith}
+use Rattle.std.proofs.Common.{◌≡◌, ℕ, ℤ, pos, negsuc, neg_ℤ, zero, suc, ◌-◌, ◌^◌, ◌<◌, ◌≤◌, Bool, false, cond, eqb, List, [], ◌∷◌, length, drop, Option, Some, None, Result, Ok, Err, refl, sym, ap, subst, ◌∙◌, arith}
 use Rattle.std.proofs.lemmas.List.{append-nil}
 use Rattle.std.specs.Fmt.{decimal, signed_decimal}
 use Rattle.ds_formula.specs.declared.cells.Shape.{Shape}
 use Rattle.ds_formula.specs.declared.tokens.Stop.{Stop}
-use Rattle.ds_formula.specs.Plain.{Formula, Plain, Empty, Constant, Computed}
-use Rattle.ds_formula.specs.Bytes.{Read, ◌>>=◌, begins, unexpected_stop, number_at}
+use Rattle.ds_formula.specs.Plain.{Plain, Constant}
+use Rattle.ds_formula.specs.Bytes.{Read, ◌>>=◌, begins, number_at}
 use Rattle.ds_formula.specs.Grammar.{alone, whole_of, constant_of, behind, without_equals, or_else, expression_behind, expression_of, ReadsLong, blank, constant, computed}
 use Rattle.ds_formula.specs.Texts.{text_of, content_text}
-use Rattle.ds_formula.proofs.Formed.{NumberGood, number_good, bind_with, bind, either, level_good, same_placing}
-use Rattle.ds_formula.proofs.Digits.{unequal, StartsDigit, decimal_starts, number_back, Parts}
-use Rattle.ds_formula.proofs.Back.{Leads, end_back}
+use Rattle.ds_formula.proofs.Formed.{NumberGood, number_good, bind_with, either, level_good, same_placing}
+use Rattle.ds_formula.proofs.Digits.{unequal, decimal_starts, number_back}
+use Rattle.ds_formula.proofs.Back.{end_back}
 use Rattle.ds_formula.proofs.Writes.{text_leads, level_back}
 
 -- ---- constants that were read are in range

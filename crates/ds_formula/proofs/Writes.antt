@@ -1,6 +1,6 @@
 -- A text that was written reads back.
-use Rattle.std.proofs.Common.{◌≡◌, ◌⊎◌, inl, inr, ℕ, ℤ, pos, negsuc, neg_ℤ, zero, suc, ◌+◌, ◌-◌, ◌^◌, ◌<◌, ◌≤◌, Bool, true, false, cond, eqb, ltb, List, [], ◌∷◌, ◌++◌, append_assoc, length, drop, Option, Some, None, Result, Ok, Err, refl, sym, ap, subst, ◌∙◌, arith, add-one}
-use Rattle.std.proofs.lemmas.Bool.{cases_lt, ltb-true}
+use Rattle.std.proofs.Common.{◌≡◌, inl, inr, ℕ, ℤ, zero, suc, ◌+◌, ◌-◌, ◌^◌, ◌<◌, ◌≤◌, Bool, true, false, cond, ltb, List, [], ◌∷◌, ◌++◌, append_assoc, Ok, refl, sym, ap, subst, ◌∙◌, arith, add-one}
+use Rattle.std.proofs.lemmas.Bool.{cases_lt}
 use Rattle.std.proofs.lemmas.Bool.Decides.{nat_tests}
 use Rattle.std.proofs.lemmas.List.{append-nil}
 use Rattle.std.specs.Fmt.{decimal, signed_decimal}
@@ -14,8 +14,6 @@ use Rattle.ds_formula.specs.declared.content.Function.{Function}
 use Rattle.ds_formula.specs.declared.content.Function.TheVariants.{Sum, Min, Max, Abs, Mod, Quotient, If}
 use Rattle.ds_formula.specs.declared.ranges.Ranges.{Ranges}
 use Rattle.ds_formula.specs.declared.ranges.Ranges.TheVariants.{Placed, Bare}
-use Rattle.ds_formula.specs.declared.tokens.Leaf.TheVariants.{Number, Reference, Range}
-use Rattle.ds_formula.specs.declared.tokens.Lead.TheVariants as leads
 use Rattle.ds_formula.specs.declared.tokens.Follow.{Follow}
 use Rattle.ds_formula.specs.declared.tokens.Follow.TheVariants.{Infix, Close, Semicolon, End}
 use Rattle.ds_formula.specs.Plain.{Formula, Literal, At, Area, Signed, Joined, Called, Formulas, Nothing, Then, count}
@@ -24,8 +22,8 @@ use Rattle.ds_formula.specs.Cells.{IsInside}
 use Rattle.ds_formula.specs.References.{area_of}
 use Rattle.ds_formula.specs.Functions.{name_of, takes}
 use Rattle.ds_formula.specs.Ranges.{used, first_of, as_argument}
-use Rattle.ds_formula.specs.Tokens.{lead_at, follow_at}
-use Rattle.ds_formula.specs.Forms.{Operand, leaf, sign, group, call, Call, bracketed, Arguments, last, more, Level, tightest, looser, Chain, ends, goes_on, level_of, NoSemicolon}
+use Rattle.ds_formula.specs.Tokens.{follow_at}
+use Rattle.ds_formula.specs.Forms.{Operand, leaf, sign, group, call, bracketed, Arguments, last, more, Level, tightest, looser, Chain, ends, goes_on, level_of, NoSemicolon}
 use Rattle.ds_formula.specs.Names.{cell_text}
 use Rattle.ds_formula.specs.Texts.{sign_text, operator_text, precedence, in_parentheses, text_of, texts_of, others_of, wrapped}
 use Rattle.ds_formula.proofs.Parses.{NoneFrom, most}

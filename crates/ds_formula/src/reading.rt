@@ -1,6 +1,6 @@
 //! Reads what a cell holds from its text.
 
-ghost use Rattle.std.specs.Prelude.{◌≡◌, ℕ, ℤ, ◌≤◌, ◌<◌, ◌^◌, ◌-◌, ◌↔◌, IsTrue, length, List, Ok, Err, IfOk, IfErr, pos, neg_ℤ, option_map};
+ghost use Rattle.std.specs.Prelude.{◌≡◌, ℕ, ◌≤◌, ◌<◌, ◌^◌, ◌-◌, ◌↔◌, IsTrue, List, IfOk, IfErr, pos, neg_ℤ, option_map};
 ghost use Rattle.ds_formula.specs.declared.cells.Shape.{Shape};
 ghost use Rattle.ds_formula.specs.Bytes.{result_of};
 ghost use Rattle.ds_formula.specs.Ranges.{misplaced};

@@ -1,6 +1,6 @@
 //! The cells written in a content.
 
-ghost use Rattle.std.specs.Prelude.{◌≡◌, ◌<◌, ◌+◌, ◌*◌, false, IfOk, length, replicate, slice_index_or, vec_len};
+ghost use Rattle.std.specs.Prelude.{◌≡◌, false, IfOk, replicate, vec_len};
 ghost use Rattle.ds_formula.specs.Plain.{formula, plain};
 ghost use Rattle.ds_formula.specs.Refs.{AreRefs};
 ghost use Rattle.ds_formula.specs.Marks.{cell_by, is_within, marked_below, Marks, MarksArea};

@@ -1,11 +1,10 @@
 //! Writes contents as texts.
 
-ghost use Rattle.std.specs.Prelude.{◌≡◌, ℕ, List, ◌++◌, [], IfOk, OnOk, if◌then◌else◌};
+ghost use Rattle.std.specs.Prelude.{◌≡◌, ℕ, List, ◌++◌, IfOk, OnOk};
 ghost use Rattle.std.specs.String.{string_bytes};
 ghost use Rattle.ds_formula.specs.declared.cells.Shape.{Shape};
 ghost use Rattle.ds_formula.specs.Plain.{Plain, formula, plain};
 ghost use Rattle.ds_formula.specs.Grammar.{Reads, ReadsLong};
-ghost use Rattle.ds_formula.specs.Forms.{level_of};
 ghost use Rattle.ds_formula.specs.Texts.{sign_text, operator_text, precedence, text_of, wrapped, content_text};
 
 use crate::content::{Content, Operator, Sign, Tree};

@@ -1,4 +1,4 @@
-use Rattle.std.proofs.Common.{arith, ap, sym, subst}
+use Rattle.std.proofs.Common.{arith, sym, subst}
 use Rattle.ds_formula.specs.Plain.{formula}
 use Rattle.ds_formula.specs.Marks.{Marks}
 use Rattle.ds_formula.proofs.Marks.{marks_step, marks_all}
