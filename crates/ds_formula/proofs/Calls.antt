@@ -1,5 +1,5 @@
 -- Calls and their arguments.
-use Rattle.std.proofs.Common.{◌≡◌, ℕ, suc, ◌+◌, ◌<◌, ◌≤◌, Bool, true, false, cond, List, [], ◌∷◌, ◌++◌, map, length, length-append, Result, Ok, Err, refl, sym, ap, subst, ◌∙◌, arith}
+use Rattle.std.proofs.Common.{◌≡◌, ℕ, ◌+◌, ◌<◌, ◌≤◌, Bool, true, false, cond, List, [], ◌∷◌, ◌++◌, map, length, length-append, Ok, Err, refl, sym, ap, subst, ◌∙◌, arith}
 use Rattle.ds_formula.specs.declared.cells.Shape.{Shape}
 use Rattle.ds_formula.specs.declared.content.Function.{Function}
 use Rattle.ds_formula.specs.declared.content.Tree.{Tree}
@@ -17,9 +17,9 @@ use Rattle.ds_formula.specs.Ranges.{first_of, as_argument}
 use Rattle.ds_formula.specs.Tokens.{follow_at}
 use Rattle.ds_formula.specs.Forms.{Arguments, last, more, Level, NoSemicolon, bracketed}
 use Rattle.ds_formula.specs.Forms as forms
-use Rattle.ds_formula.specs.Turns.{Bracket, Call, Due, AnOperand, AnOperator, FirstArgument, ItsBracket, by_bracket, by_follow, by_lead, turn, Turn, Stops, Goes, wrong_arguments, Walk, stay, step, Faulty}
+use Rattle.ds_formula.specs.Turns.{Bracket, Call, Due, AnOperand, AnOperator, FirstArgument, ItsBracket, by_bracket, by_follow, turn, Stops, Goes, wrong_arguments, Walk, stay, step, Faulty}
 use Rattle.ds_formula.specs.Parsing.{Refuses, CallRefuses, ArgumentsRefuse, close_at}
-use Rattle.ds_formula.proofs.Walks.{joined, one, follow_step, bracket_step, first_turn, first_walk, arguments_walk, arguments_open, level_walk}
+use Rattle.ds_formula.proofs.Walks.{joined, follow_step, bracket_step, first_turn, first_walk, arguments_walk, arguments_open, level_walk}
 use Rattle.ds_formula.proofs.Steps.{NoOperator, call_open}
 use Rattle.ds_formula.proofs.Parses.{no_operator}
 

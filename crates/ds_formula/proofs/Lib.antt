@@ -7,3 +7,10 @@ pub mod Parses
 pub mod Calls
 pub mod Unique
 pub mod Whole
+pub mod Marks
+pub mod Texts
+pub mod Formed
+pub mod Digits
+pub mod Back
+pub mod Writes
+pub mod ReadsBack

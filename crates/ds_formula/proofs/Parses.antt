@@ -1,5 +1,5 @@
 -- What the reader of levels has found so far.
-use Rattle.std.proofs.Common.{◌≡◌, ◌⊎◌, inl, inr, ℕ, suc, ◌+◌, ◌<◌, ◌≤◌, List, [], ◌∷◌, length, Result, Ok, Err, refl, sym, ap, subst, ◌∙◌, arith, add-one}
+use Rattle.std.proofs.Common.{◌≡◌, ◌⊎◌, inl, inr, ℕ, suc, ◌+◌, ◌<◌, ◌≤◌, List, [], ◌∷◌, length, Ok, Err, refl, sym, ap, arith, add-one}
 use Rattle.std.proofs.lemmas.Bool.{cases_lt}
 use Rattle.ds_formula.specs.declared.cells.Shape.{Shape}
 use Rattle.ds_formula.specs.declared.content.Operator.{Operator}
@@ -9,14 +9,14 @@ use Rattle.ds_formula.specs.declared.content.Sign.{Sign}
 use Rattle.ds_formula.specs.declared.ranges.Ranges.{Ranges}
 use Rattle.ds_formula.specs.declared.tokens.Stop.{Stop}
 use Rattle.ds_formula.specs.declared.tokens.Lead.TheVariants as leads
-use Rattle.ds_formula.specs.declared.tokens.Follow.TheVariants.{Infix, Close, Semicolon, End}
+use Rattle.ds_formula.specs.declared.tokens.Follow.TheVariants.{Infix}
 use Rattle.ds_formula.specs.declared.parser.Refusal.{Refusal}
 use Rattle.ds_formula.specs.declared.parser.Refusal.TheVariants.{Memory, Stopped}
 use Rattle.ds_formula.specs.Plain.{Formula, Joined}
 use Rattle.ds_formula.specs.Ranges.{used, first_of}
 use Rattle.ds_formula.specs.Tokens.{lead_at, follow_at}
-use Rattle.ds_formula.specs.Forms.{Operand, Level, tightest, looser, Chain, ends, goes_on, NoneOf, level_of, Expression}
-use Rattle.ds_formula.specs.Turns.{Bracket, Group, Due, AnOperand, AnOperator, ItsBracket, by_lead, Turn, Stops, Walk, stay, step, Faulty}
+use Rattle.ds_formula.specs.Forms.{Level, tightest, looser, Chain, ends, goes_on, NoneOf, level_of}
+use Rattle.ds_formula.specs.Turns.{Bracket, Group, Due, AnOperand, AnOperator, ItsBracket, by_lead, Walk, stay}
 use Rattle.ds_formula.specs.Parsing.{RefusesAt, Refuses, CallRefuses, WholeRefuses, close_at, end_at}
 use Rattle.ds_formula.proofs.Walks.{joined, lead_step, follow_step, level_walk}
 use Rattle.ds_formula.proofs.Steps.{NoOperator, group_open, whole_open}
@@ -92,7 +92,7 @@ le_cases a b h = elim (cases_lt a b) [
 ]
 
 -- no operator of this level or a tighter one is at the front
-abbrev NoneFrom : ℕ → List ℕ → Type 0
+abbrev pub NoneFrom : ℕ → List ℕ → Type 0
 NoneFrom l text = (o : Operator) (after : List ℕ) → l ≤ level_of o → follow_at text ≡ Ok (Infix o, after) → ⊥
 
 at_end : (l : ℕ) (text : List ℕ) → NoneOf l text → NoneFrom (suc l) text → (o : Operator) (after : List ℕ) → follow_at text ≡ Ok (Infix o, after) → (level_of o ≡ l) ⊎ (suc l ≤ level_of o) → ⊥

@@ -1,5 +1,5 @@
 -- What the reader's steps have found at the front.
-use Rattle.std.proofs.Common.{◌≡◌, ℕ, Bool, true, false, cond, eqb, List, [], ◌∷◌, Option, Some, None, Result, Ok, Err, refl, sym, ap, subst, ◌∙◌, arith}
+use Rattle.std.proofs.Common.{◌≡◌, ℕ, eqb, List, [], ◌∷◌, Option, Some, None, Result, Ok, Err, refl, sym, ap, subst, ◌∙◌, arith}
 use Rattle.std.proofs.lemmas.Bool.{eqb-true}
 use Rattle.std.proofs.lemmas.Option.{cond_some}
 use Rattle.ds_formula.specs.declared.cells.Shape.{Shape}
@@ -13,7 +13,7 @@ use Rattle.ds_formula.specs.Tokens.{follow_of, follow_token, found, follow_at, l
 use Rattle.ds_formula.specs.declared.tokens.Lead.{Lead}
 use Rattle.ds_formula.specs.Forms.{level_of, NoneOf, NoSemicolon}
 use Rattle.ds_formula.specs.Parsing.{of_level, operator_at, behind_semicolon, semicolon_at, behind_close, close_at, behind_end, end_at}
-use Rattle.ds_formula.specs.Turns.{Bracket, Group, Call, Turn, Stops, by_follow}
+use Rattle.ds_formula.specs.Turns.{Bracket, Group, Call, Stops, by_follow}
 
 operator_case : (l : ℕ) (x : Read Follow) (o : Operator) (rest : List ℕ) → of_level l x ≡ Some (o, rest) → (x ≡ Ok (Infix o, rest)) × (level_of o ≡ l)
 operator_case l (Ok (Infix p, bs)) o rest e =

@@ -1,17 +1,14 @@
 -- At the front of a text stands one form.
-use Rattle.std.proofs.Common.{◌≡◌, ℕ, suc, ◌<◌, List, [], ◌∷◌, Result, Ok, Err, refl, sym, ap, ◌∙◌, arith}
+use Rattle.std.proofs.Common.{◌≡◌, ℕ, List, Result, Ok, sym, ap, ◌∙◌, arith}
 use Rattle.ds_formula.specs.declared.cells.Shape.{Shape}
-use Rattle.ds_formula.specs.declared.content.Operator.{Operator}
 use Rattle.ds_formula.specs.declared.content.Function.{Function}
 use Rattle.ds_formula.specs.declared.ranges.Ranges.{Ranges}
 use Rattle.ds_formula.specs.declared.tokens.Stop.{Stop}
 use Rattle.ds_formula.specs.declared.tokens.Lead.{Lead}
-use Rattle.ds_formula.specs.declared.tokens.Lead.TheVariants.{Leaf, Prefix, Open, Name}
 use Rattle.ds_formula.specs.declared.tokens.Follow.{Follow}
-use Rattle.ds_formula.specs.declared.tokens.Follow.TheVariants.{Infix, Close, Semicolon, End}
-use Rattle.ds_formula.specs.Plain.{Formula, Signed, Joined, Called, Formulas, Nothing, Then}
+use Rattle.ds_formula.specs.Plain.{Formula, Formulas}
 use Rattle.ds_formula.specs.Bytes.{Read, skipped, byte_at}
-use Rattle.ds_formula.specs.Ranges.{used, first_of, as_argument}
+use Rattle.ds_formula.specs.Ranges.{used}
 use Rattle.ds_formula.specs.Tokens.{lead_at, follow_at}
 use Rattle.ds_formula.specs.Forms.{Operand, leaf, sign, group, call, Call, bracketed, Arguments, last, more, Level, tightest, looser, Chain, ends, goes_on, leaf_formula, leaf_ranges}
 

@@ -1,5 +1,5 @@
 -- What a tree is, seen without memory.
-use Rattle.std.proofs.Common.{◌≡◌, ℤ, List, map, sym, ap, ◌∙◌}
+use Rattle.std.proofs.Common.{◌≡◌, map, sym, ap, ◌∙◌}
 use Rattle.std.specs.Global.{Vec, Box}
 use Rattle.ds_formula.specs.declared.content.Sign.{Sign}
 use Rattle.ds_formula.specs.declared.content.Operator.{Operator}

@@ -1,21 +1,19 @@
 -- A form is a walk that leaves open what was open.
-use Rattle.std.proofs.Common.{◌≡◌, ℕ, suc, ◌+◌, Bool, true, false, cond, eqb, List, [], ◌∷◌, Result, Ok, Err, refl, sym, ap, subst, ◌∙◌, arith}
+use Rattle.std.proofs.Common.{◌≡◌, ℕ, ◌+◌, Bool, true, false, cond, eqb, List, [], ◌∷◌, Ok, refl, ap, subst, ◌∙◌, arith}
 use Rattle.std.proofs.lemmas.Bool.{eqb-true}
 use Rattle.ds_formula.specs.declared.cells.Shape.{Shape}
 use Rattle.ds_formula.specs.declared.content.Function.{Function}
-use Rattle.ds_formula.specs.declared.content.Operator.{Operator}
 use Rattle.ds_formula.specs.declared.ranges.Ranges.{Ranges}
 use Rattle.ds_formula.specs.declared.tokens.Lead.{Lead}
-use Rattle.ds_formula.specs.declared.tokens.Lead.TheVariants as leads
 use Rattle.ds_formula.specs.declared.tokens.Follow.{Follow}
-use Rattle.ds_formula.specs.declared.tokens.Follow.TheVariants.{Infix, Close, Semicolon}
+use Rattle.ds_formula.specs.declared.tokens.Follow.TheVariants.{Close}
 use Rattle.ds_formula.specs.Plain.{Formula, Formulas, count}
 use Rattle.ds_formula.specs.Bytes.{begins, skipped, byte_at}
 use Rattle.ds_formula.specs.Functions.{takes}
 use Rattle.ds_formula.specs.Tokens.{lead_at, lead_of, follow_at}
 use Rattle.ds_formula.specs.Forms.{Operand, leaf, sign, group, call, Arguments, last, more, Level, tightest, looser, Chain, ends, goes_on, bracketed}
 use Rattle.ds_formula.specs.Forms as forms
-use Rattle.ds_formula.specs.Turns.{Bracket, Group, Call, Due, AnOperand, FirstArgument, ItsBracket, AnOperator, Turn, Goes, wrong_arguments, by_lead, by_follow, by_bracket, turn, Walk, stay, step}
+use Rattle.ds_formula.specs.Turns.{Bracket, Group, Call, Due, AnOperand, FirstArgument, ItsBracket, AnOperator, Goes, wrong_arguments, by_lead, by_follow, by_bracket, turn, Walk, stay, step}
 
 -- a closing bracket begins no operand
 at_close : (s : Shape) (text : List ℕ) (x : Lead × List ℕ) → lead_of s text ≡ Ok x → begins 41 text ≡ false

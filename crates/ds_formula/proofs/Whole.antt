@@ -1,5 +1,5 @@
 -- A text has one content or one fault.
-use Rattle.std.proofs.Common.{◌≡◌, ℕ, ℤ, ◌<◌, ◌≤◌, List, [], ◌∷◌, length, Option, Some, None, Result, Ok, Err, IfOk, IfErr, inr, refl, sym, ap, subst, ◌∙◌, arith}
+use Rattle.std.proofs.Common.{◌≡◌, ℕ, ℤ, ◌≤◌, List, [], ◌∷◌, length, Option, Some, None, Result, Ok, Err, IfOk, IfErr, inr, refl, sym, ap, subst, ◌∙◌, arith}
 use Rattle.ds_formula.specs.declared.cells.Shape.{Shape}
 use Rattle.ds_formula.specs.declared.content.Content.{Content}
 use Rattle.ds_formula.specs.declared.reading.TheConstants.{TEXT_LIMIT}
@@ -11,9 +11,9 @@ use Rattle.ds_formula.specs.Plain.{Formula, Plain, plain, Empty, Constant, Compu
 use Rattle.ds_formula.specs.Ranges.{misplaced}
 use Rattle.ds_formula.specs.Tokens.{follow_at}
 use Rattle.ds_formula.specs.Forms.{Expression}
-use Rattle.ds_formula.specs.Turns.{Bracket, Due, AnOperand, AnOperator, Turn, Goes, Stops, Ends, by_follow, turn, Walk, stay, step, Faulty}
+use Rattle.ds_formula.specs.Turns.{Bracket, Due, AnOperand, AnOperator, Goes, Stops, Ends, by_follow, turn, Walk, stay, step, Faulty}
 use Rattle.ds_formula.specs.Sizes.{Fits}
-use Rattle.ds_formula.specs.Grammar.{constant_of, expression_of, placed, ReadsLong, blank, constant, computed, Reads, FaultsLong, in_constant, in_formula, range, too_deep, Faults, too_long, within, Answers}
+use Rattle.ds_formula.specs.Grammar.{expression_of, placed, ReadsLong, blank, constant, computed, Reads, FaultsLong, in_constant, in_formula, range, too_deep, Faults, too_long, within, Answers}
 use Rattle.ds_formula.specs.Parsing.{IsAccepted, IsRefused, misplaced_range, too_large}
 use Rattle.ds_formula.proofs.Walks.{level_walk}
 use Rattle.ds_formula.proofs.Unique.{one_level}

@@ -1,5 +1,5 @@
 -- Which expression stands at the front of a text, how its ranges stand, and what is behind it.
-use Rattle.std.specs.Prelude.{◌≡◌, ℕ, suc, ◌<◌, true, List, [], ◌∷◌, Ok}
+use Rattle.std.specs.Prelude.{◌≡◌, ℕ, suc, ◌<◌, true, List, Ok}
 use Rattle.ds_formula.specs.declared.cells.Shape.{Shape}
 use Rattle.ds_formula.specs.declared.content.Sign.{Sign}
 use Rattle.ds_formula.specs.declared.content.Operator.{Operator}

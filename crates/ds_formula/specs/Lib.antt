@@ -13,3 +13,5 @@ pub mod Sizes
 pub mod Parsing
 pub mod Grammar
 pub mod Names
+pub mod Marks
+pub mod Texts

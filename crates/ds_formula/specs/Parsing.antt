@@ -14,7 +14,7 @@ use Rattle.ds_formula.specs.Ranges.{misplaced}
 use Rattle.ds_formula.specs.Sizes.{Fits}
 use Rattle.ds_formula.specs.declared.parser.Refusal.{Refusal}
 use Rattle.ds_formula.specs.declared.parser.Refusal.TheVariants.{Memory, Stopped}
-use Rattle.ds_formula.specs.Bytes.{Read, unexpected_stop, skipped, begins}
+use Rattle.ds_formula.specs.Bytes.{Read, unexpected_stop, skipped}
 use Rattle.ds_formula.specs.Tokens.{follow_at}
 use Rattle.ds_formula.specs.Forms.{level_of}
 use Rattle.ds_formula.specs.Turns.{Bracket, Call, Due, AnOperand, ItsBracket, Faulty}

@@ -1,10 +1,9 @@
 -- References and ranges in their brackets (OpenFormula 5.8, without sheet names).
-use Rattle.std.specs.Prelude.{ℕ, ◌+◌, ◌-◌, ◌*◌, ◌^◌, ◌&&◌, ◌==◌, nat_le, min, max, Option, Some, None, List, [], ◌∷◌, drop, length, Result, Ok, Err, if◌then◌else◌}
+use Rattle.std.specs.Prelude.{ℕ, ◌+◌, ◌-◌, ◌*◌, ◌^◌, ◌&&◌, ◌==◌, nat_le, min, max, Option, Some, None, List, [], ◌∷◌, drop, length, Ok, Err, if◌then◌else◌}
 use Rattle.std.specs.Char.{is_ascii_alphabetic, to_ascii_uppercase}
 use Rattle.ds_formula.specs.declared.cells.Shape.{Shape}
 use Rattle.ds_formula.specs.declared.cells.Cell.{Cell}
 use Rattle.ds_formula.specs.declared.cells.Rect.{Rect}
-use Rattle.ds_formula.specs.declared.tokens.Stop.{Stop}
 use Rattle.ds_formula.specs.declared.tokens.Leaf.{Leaf}
 use Rattle.ds_formula.specs.declared.tokens.Leaf.TheVariants.{Reference, Range}
 use Rattle.ds_formula.specs.declared.fault.FaultKind.TheVariants.{OutsideSheet}

@@ -1,5 +1,6 @@
 -- The cells written in a content: references, and ranges spelled out, those in an unchosen branch of IF included.
-use Rattle.std.specs.Prelude.{◌≡◌, ◌⊎◌}
+use Rattle.std.specs.Prelude.{◌≡◌, ◌⊎◌, ◌<◌, List}
+use Rattle.std.specs.List.{Contains, AllPairs}
 use Rattle.ds_formula.specs.declared.cells.Cell.{Cell}
 use Rattle.ds_formula.specs.Cells.{IsWithin}
 use Rattle.ds_formula.specs.Plain.{Formula, Literal, At, Area, Signed, Joined, Called, Formulas, Nothing, Then, Plain, Empty, Constant, Computed}
@@ -24,3 +25,19 @@ abbrev pub Refers : Plain → Cell → Type 0
 Refers Empty c = ⊥
 Refers (Constant z) c = ⊥
 Refers (Computed f) c = Mentions f c
+
+-- some sheet has the cell
+pub record IsPossible (c : Cell) : Type 0 where
+  pub column : c.column < 26
+  pub row : c.row < 64
+
+-- earlier in reading order: row by row from the left
+abbrev pub IsBefore : Cell → Cell → Type 0
+IsBefore c d = (c.row < d.row) ⊎ ((c.row ≡ d.row) × (c.column < d.column))
+
+-- the cells written in the content that some sheet has, in reading order, none twice
+pub record AreRefs (content : Plain) (cells : List Cell) : Type 0 where
+  pub ascending : AllPairs IsBefore cells
+  pub possible : (c : Cell) → Contains cells c → IsPossible c
+  pub only : (c : Cell) → Contains cells c → Refers content c
+  pub all : (c : Cell) → Refers content c → IsPossible c → Contains cells c

@@ -1,12 +1,11 @@
 -- The tokens of a formula.
-use Rattle.std.specs.Prelude.{ℕ, ◌+◌, ◌-◌, ◌^◌, Bool, ◌||◌, ◌==◌, Option, Some, None, List, [], ◌∷◌, take, drop, length, Result, Ok, Err, if◌then◌else◌, pos}
+use Rattle.std.specs.Prelude.{ℕ, ◌+◌, ◌-◌, ◌^◌, Bool, ◌||◌, ◌==◌, Option, Some, None, List, [], ◌∷◌, take, drop, length, Ok, Err, if◌then◌else◌, pos}
 use Rattle.std.specs.Char.{is_ascii_alphabetic, is_ascii_digit}
 use Rattle.ds_formula.specs.declared.cells.Shape.{Shape}
 use Rattle.ds_formula.specs.declared.content.Sign.TheVariants.{Plus, Minus}
 use Rattle.ds_formula.specs.declared.content.Operator.{Operator}
 use Rattle.ds_formula.specs.declared.content.Operator.TheVariants.{Multiply, Add, Subtract, Equal, NotEqual, Less, Greater, LessOrEqual, GreaterOrEqual}
 use Rattle.ds_formula.specs.declared.content.Function.{Function}
-use Rattle.ds_formula.specs.declared.tokens.Stop.{Stop}
 use Rattle.ds_formula.specs.declared.tokens.Leaf.TheVariants.{Number}
 use Rattle.ds_formula.specs.declared.tokens.Lead.{Lead}
 use Rattle.ds_formula.specs.declared.tokens.Lead.TheVariants.{Leaf, Prefix, Open, Name}

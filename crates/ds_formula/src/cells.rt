@@ -1,6 +1,6 @@
 //! Shapes, cells and ranges of a sheet.
 
-ghost use Rattle.std.specs.Prelude.{◌≡◌, ◌+◌, ◌*◌, ◌<◌, ◌≤◌, ◌↔◌, IsTrue, IsSome, IfSome};
+ghost use Rattle.std.specs.Prelude.{◌≡◌, ◌<◌, ◌≤◌, ◌↔◌, IsTrue, IsSome, IfSome};
 ghost use Rattle.ds_formula.specs.Shapes.{MayHave};
 
 /// How many columns and rows a sheet has: columns from 1 to 26 (A to Z), rows from 1 to 64, and at most 1,024 cells.

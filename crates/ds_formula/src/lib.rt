@@ -10,5 +10,7 @@ mod names;
 mod parser;
 mod ranges;
 pub mod reading;
+mod references;
 mod sizes;
 mod tokens;
+pub mod writing;

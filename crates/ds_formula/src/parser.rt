@@ -1,6 +1,6 @@
 //! Reads the expression of a formula.
 
-ghost use Rattle.std.specs.Prelude.{◌≡◌, ◌≤◌, ◌<◌, List, Some, None, Ok, IfOk, IfErr, IfSome, option_map, length, map};
+ghost use Rattle.std.specs.Prelude.{◌≡◌, ◌≤◌, ◌<◌, IfOk, IfErr, IfSome, option_map, length, map};
 ghost use Rattle.ds_formula.specs.Plain.{formula, listed, Joined, Signed};
 ghost use Rattle.ds_formula.specs.Ranges.{used, first_of};
 ghost use Rattle.ds_formula.specs.Bytes.{result_of};
@@ -48,7 +48,7 @@ pub struct Parsed {
 }
 
 // How tightly it binds.
-fn level_of(operator: Operator) -> usize
+pub(crate) fn level_of(operator: Operator) -> usize
     ensures { result ≡ level_of operator }
 {
     match operator {

@@ -1,13 +1,16 @@
 //! Reads what a cell holds from its text.
 
-ghost use Rattle.std.specs.Prelude.{◌≡◌, ℕ, ℤ, ◌≤◌, ◌<◌, ◌^◌, ◌-◌, ◌↔◌, IsTrue, length, List, Ok, Err, IfOk, IfErr, pos, neg_ℤ, option_map};
+ghost use Rattle.std.specs.Prelude.{◌≡◌, ℕ, ◌≤◌, ◌<◌, ◌^◌, ◌-◌, ◌↔◌, IsTrue, List, IfOk, IfErr, pos, neg_ℤ, option_map};
 ghost use Rattle.ds_formula.specs.declared.cells.Shape.{Shape};
 ghost use Rattle.ds_formula.specs.Bytes.{result_of};
 ghost use Rattle.ds_formula.specs.Ranges.{misplaced};
-ghost use Rattle.ds_formula.specs.Plain.{formula, plain};
+ghost use Rattle.ds_formula.specs.declared.cells.Cell.{Cell};
+ghost use Rattle.ds_formula.specs.Cells.{IsInside};
+ghost use Rattle.ds_formula.specs.Plain.{Plain, formula, plain};
+ghost use Rattle.ds_formula.specs.Refs.{Refers};
 ghost use Rattle.ds_formula.specs.Sizes.{Fits};
 ghost use Rattle.ds_formula.specs.Parsing.{IsAccepted, IsRefused};
-ghost use Rattle.ds_formula.specs.Grammar.{whole_of, constant_of, without_equals, expression_of, placed, Answers, OneAnswer};
+ghost use Rattle.ds_formula.specs.Grammar.{whole_of, constant_of, without_equals, expression_of, placed, Reads, Answers, OneAnswer};
 
 use crate::cells::Shape;
 use crate::content::{Content, Tree};
@@ -173,4 +176,9 @@ fn accepted(text: &[u8], parsed: Parsed) -> Result<Content, TextFault>
 /// A text has one content or one fault, and never both.
 pub fn one_answer()
     ensures { (shape : Shape) (text : List ℕ) → OneAnswer shape text }
+{}
+
+/// Every cell written in a content that was read is one of the sheet.
+pub fn read_is_inside()
+    ensures { (shape : Shape) (text : List ℕ) (content : Plain) (cell : Cell) → Reads shape text content → Refers content cell → IsInside shape cell }
 {}

@@ -1,6 +1,6 @@
 //! The tokens of a formula, read from the front of its bytes.
 
-ghost use Rattle.std.specs.Prelude.{◌≡◌, ℕ, ◌≤◌, ◌<◌, ◌^◌, ◌-◌, min, length, Ok, Err, IfOk, IfSome, option_map, pos};
+ghost use Rattle.std.specs.Prelude.{◌≡◌, ◌≤◌, ◌<◌, ◌^◌, ◌-◌, min, length, IfOk, IfSome};
 ghost use Rattle.ds_formula.specs.Cells.{IsInside};
 ghost use Rattle.ds_formula.specs.Bytes.{begins, unexpected_stop, result_of, number_from, number_at, byte_at, is_space, skipped};
 ghost use Rattle.ds_formula.specs.References.{letters_from, letters_at, row_at, without_dollar, cell_of, corner_at, area_of, reference_at, capped};

@@ -1,7 +1,7 @@
-use Rattle.std.proofs.Common.{rules, ◌≡◌, ◌<◌, ◌≤◌, ◌+◌, ℕ, List, [], ◌∷◌, ◌++◌, map, length, Some, None, Ok, Err, refl, sym, ap, subst, ◌∙◌, arith, true, false, IfOk}
+use Rattle.std.proofs.Common.{rules, sym, ◌∙◌, arith}
 use Rattle.std.proofs.lemmas.Result.{err_from_is_err_and, IfOk-weaker}
 use Rattle.std.proofs.lemmas.List.{map_push}
-use Rattle.ds_formula.specs.Plain.{formula, listed, count}
+use Rattle.ds_formula.specs.Plain.{formula}
 use Rattle.ds_formula.specs.Forms.{Operand, Level, leaf, sign, group, call, tightest}
 use Rattle.ds_formula.proofs.Views.{formula_call}
 use Rattle.ds_formula.proofs.Steps.{operator_here, none_here, semicolon_here, no_semicolon, close_here, lead_as}

@@ -1,4 +1,4 @@
-use Rattle.std.proofs.Common.{◌≡◌, ◌<◌, ℕ, ◌+◌, ◌-◌, ◌*◌, ◌≤◌, length, map}
+use Rattle.std.proofs.Common.{◌+◌, ◌-◌, ◌*◌, length, map}
 use Rattle.ds_formula.specs.Plain.{formula}
 use Rattle.ds_formula.proofs.Parses.{LevelSoFar}
 use Rattle.ds_formula.proofs.Calls.{ArgumentsSoFar}

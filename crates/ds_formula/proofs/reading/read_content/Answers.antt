@@ -1,4 +1,4 @@
-use Rattle.std.proofs.Common.{◌≡◌, sym, inr, arith, Result, Ok, Err}
+use Rattle.std.proofs.Common.{sym, inr, arith}
 use Rattle.ds_formula.specs.Grammar.{constant, in_constant, in_formula, too_long, within}
 use Rattle.ds_formula.specs.Plain.{formula}
 use Rattle.ds_formula.proofs.Whole.{blank_read, formula_answer}

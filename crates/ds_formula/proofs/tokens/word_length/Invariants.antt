@@ -1,4 +1,4 @@
-use Rattle.std.proofs.Common.{◌≡◌, ◌+◌, ◌≤◌, length}
+use Rattle.std.proofs.Common.{◌≡◌, ◌+◌, length}
 use Rattle.ds_formula.specs.Tokens.{word_length}
 use Rattle.ds_formula.proofs.tokens.word_length.Given as goal
 

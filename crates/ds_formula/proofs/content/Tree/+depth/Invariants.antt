@@ -1,4 +1,4 @@
-use Rattle.std.proofs.Common.{◌≡◌, ◌+◌, ◌-◌, ◌^◌, min, map, take}
+use Rattle.std.proofs.Common.{◌≡◌, ◌-◌, ◌^◌, min, map, take}
 use Rattle.ds_formula.specs.Plain.{formula, listed}
 use Rattle.ds_formula.specs.Sizes.{depth_of}
 use Rattle.ds_formula.proofs.content.Tree.+depth.Given as goal

@@ -1,0 +1,42 @@
+-- A mark for each cell that some sheet has, row by row from the left.
+use Rattle.std.specs.Prelude.{◌≡◌, ℕ, zero, suc, ◌/◌, ◌%◌, ◌<◌, Bool, false, ◌&&◌, ◌||◌, nat_le, List, [], ◌∷◌, ◌++◌, length, slice_index_or, if◌then◌else◌}
+use Rattle.ds_formula.specs.declared.cells.Cell.{Cell}
+use Rattle.ds_formula.specs.declared.cells.Rect.{Rect}
+use Rattle.ds_formula.specs.declared.references.TheConstants.{PLACES}
+use Rattle.ds_formula.specs.Plain.{Formula, Literal, At, Area, Signed, Joined, Called, Formulas, Nothing, Then}
+
+abbrev pub cell_by : ℕ → Cell
+cell_by place = record { column = place % 26; row = place / 26 }
+
+abbrev pub is_within : Rect → Cell → Bool
+is_within area cell = nat_le area.first.column cell.column && nat_le cell.column area.last.column && nat_le area.first.row cell.row && nat_le cell.row area.last.row
+
+abbrev mutual
+  -- whether the cell is written in the expression
+  pub mentions : Formula → Cell → Bool
+  mentions (Literal z) c = false
+  mentions (At d) c = is_within (record { first = d; last = d }) c
+  mentions (Area r) c = is_within r c
+  mentions (Signed s f) c = mentions f c
+  mentions (Joined o f g) c = mentions f c || mentions g c
+  mentions (Called f fs) c = some_mentions fs c
+
+  pub some_mentions : Formulas → Cell → Bool
+  some_mentions Nothing c = false
+  some_mentions (Then f fs) c = mentions f c || some_mentions fs c
+
+-- the cells that have a mark, of those below the place
+unfoldable pub marked_below : List Bool → ℕ → List Cell
+marked_below marks zero = []
+marked_below marks (suc n) = marked_below marks n ++ (if slice_index_or marks n false then cell_by n ∷ [] else [])
+
+-- the cells that pass the test have a mark too now
+pub record MarksBy (test : Cell → Bool) (old new : List Bool) : Type 0 where
+  pub same_length : length new ≡ length old
+  pub each : (k : ℕ) → k < PLACES → slice_index_or new k false ≡ (slice_index_or old k false || test (cell_by k))
+
+abbrev pub MarksArea : Rect → List Bool → List Bool → Type 0
+MarksArea area = MarksBy (is_within area)
+
+abbrev pub Marks : Formula → List Bool → List Bool → Type 0
+Marks f = MarksBy (mentions f)
