@@ -9,3 +9,4 @@ pub mod Neighbours
 pub mod Walks
 pub mod FixedPoint
 pub mod Rounds
+pub mod Sameness

@@ -5,6 +5,7 @@ pub mod arithmetic;
 pub mod evaluate;
 pub mod inputs;
 pub mod local;
+pub mod same;
 pub mod scratch;
 pub mod sheet;
 pub mod tally;
