@@ -10,3 +10,4 @@ pub mod Walks
 pub mod FixedPoint
 pub mod Rounds
 pub mod Sameness
+pub mod Tasks

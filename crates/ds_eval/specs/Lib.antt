@@ -8,3 +8,4 @@ pub mod Steps
 pub mod Rounds
 pub mod Sheet
 pub mod Code
+pub mod Tasks

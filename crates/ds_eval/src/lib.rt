@@ -9,4 +9,5 @@ pub mod same;
 pub mod scratch;
 pub mod sheet;
 pub mod tally;
+pub mod task;
 pub mod value;
