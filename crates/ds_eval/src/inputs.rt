@@ -62,6 +62,29 @@ impl Inputs {
         let _ = self.items.push(input);
     }
 
+    /// Equal inputs, in memory of their own.
+    pub fn copy(&self, alloc: Global) -> Result<Inputs, AllocError>
+        ensures { IfOk result (λ inputs. inputs.items ≡ self.now.items) }
+    {
+        Ok(Inputs {
+            items: Vec::from_slice(alloc, &self.items)?,
+        })
+    }
+
+    /// How many inputs there are.
+    pub fn len(&self) -> usize
+        ensures { result ≡ length self.now.items }
+    {
+        self.items.len()
+    }
+
+    /// Whether there are none.
+    pub fn is_empty(&self) -> bool
+        ensures { IsTrue result ↔ (self.now.items ≡ []) }
+    {
+        self.items.is_empty()
+    }
+
     /// The inputs in their order.
     pub fn as_slice(&self) -> &[Input]
         ensures { result.now ≡ self.now.items }

@@ -4,6 +4,7 @@
 pub mod arithmetic;
 pub mod evaluate;
 pub mod inputs;
+pub mod laws;
 pub mod local;
 pub mod same;
 pub mod scratch;
