@@ -11,3 +11,5 @@ pub mod FixedPoint
 pub mod Rounds
 pub mod Sameness
 pub mod Tasks
+pub mod Results
+pub mod Sheets

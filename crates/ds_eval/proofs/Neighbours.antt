@@ -1,5 +1,5 @@
 -- Heights and values rest on the cells of the sheet that are written in a content, and on nothing else.
-use Rattle.std.proofs.Common.{◌≡◌, ◌⊎◌, ℕ, zero, suc, ◌+◌, ◌*◌, ◌<◌, ◌≤◌, min, max, Bool, true, false, leb, ◌==◌, if◌then◌else◌, List, [], ◌∷◌, ◌++◌, map, refl, sym, ap, subst, ◌∙◌, inl, inr, arith}
+use Rattle.std.proofs.Common.{◌≡◌, ℕ, zero, suc, ◌*◌, ◌<◌, ◌≤◌, min, max, Bool, true, false, leb, ◌==◌, if◌then◌else◌, List, [], ◌∷◌, ◌++◌, map, refl, sym, ap, subst, ◌∙◌, inl, inr, arith}
 use Rattle.std.proofs.lemmas.Bool.{cases_lt}
 use Rattle.std.proofs.lemmas.List.{map-append}
 use Rattle.ds_formula.specs.declared.cells.Shape.{Shape}
@@ -12,7 +12,7 @@ use Rattle.ds_eval.specs.declared.value.Value.{Value}
 use Rattle.ds_eval.specs.declared.value.Value.TheVariants.{Blank, Num, Number, Circular}
 use Rattle.ds_eval.specs.declared.inputs.Entry.{Entry}
 use Rattle.ds_eval.specs.Numbers.{with_number, with_numbers, signed, joined}
-use Rattle.ds_eval.specs.Evaluation.{is_inside, look, width, height, cell_of, first_cells, cells_of, stands_for, applied, most_arguments, formula_value, own_values, all_values, content_value}
+use Rattle.ds_eval.specs.Evaluation.{is_inside, width, height, cell_of, first_cells, stands_for, applied, most_arguments, formula_value, own_values, all_values, content_value}
 use Rattle.ds_eval.specs.Local.{above, reference_height, formula_height, formulas_height, content_height, entry_at, local, value_of, height_of}
 use Rattle.ds_eval.proofs.Heights.{above_push}
 use Rattle.ds_eval.proofs.Ranges.{inside_from, inside_is, within_range, number_in}

@@ -3,7 +3,7 @@ use Rattle.std.proofs.Common.{◌≡◌, ℕ, zero, suc, ◌<◌, List, [], ◌�
 use Rattle.ds_formula.specs.declared.content.Function.{Function}
 use Rattle.ds_formula.specs.declared.content.Tree.{Tree}
 use Rattle.ds_formula.specs.declared.content.Tree.TheVariants as trees
-use Rattle.ds_formula.specs.Plain.{Formula, Called, Formulas, Nothing, Then, formula, listed}
+use Rattle.ds_formula.specs.Plain.{Formula, Called, formula, listed}
 use Rattle.std.specs.Global.{Vec}
 use Rattle.ds_eval.proofs.Views.{formula_call}
 

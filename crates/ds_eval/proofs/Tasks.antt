@@ -1,5 +1,5 @@
 -- Tasks with equal parts are equal.
-use Rattle.std.proofs.Common.{◌≡◌, ℕ, List, refl, ap, subst, ◌∙◌}
+use Rattle.std.proofs.Common.{◌≡◌, ℕ, List, ap, subst, ◌∙◌}
 use Rattle.std.proofs.Props.{props}
 use Rattle.ds_formula.specs.Shapes.{MayHave}
 use Rattle.ds_formula.specs.declared.cells.Shape.{Shape}

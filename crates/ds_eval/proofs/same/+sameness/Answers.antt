@@ -1,4 +1,4 @@
-use Rattle.std.proofs.Common.{rules, arith, ◌≡◌, ◌∙◌, sym, ap, List, map, false, true, Bool, length}
+use Rattle.std.proofs.Common.{arith, ◌∙◌, sym, ap, List, map}
 use Rattle.ds_formula.specs.declared.content.Tree.{Tree}
 use Rattle.ds_formula.specs.Plain.{formula}
 use Rattle.ds_eval.proofs.Sameness.{arguments_same, element_same}

@@ -1,4 +1,4 @@
-use Rattle.std.proofs.Common.{rules, arith, ◌≡◌, ◌∙◌, sym}
+use Rattle.std.proofs.Common.{rules, ◌≡◌, ◌∙◌, sym}
 use Rattle.ds_formula.specs.Plain.{plain}
 use Rattle.ds_eval.proofs.Tasks.{task_same, shape_same}
 use Rattle.ds_eval.proofs.task.Task.is.Goals as goal
