@@ -1,11 +1,11 @@
 -- The remainder by size and sign is `a - b * floor(a / b)`.
-use Rattle.std.proofs.Common.{◌≡◌, ◌≢◌, ◌⊎◌, ℕ, zero, suc, ◌+◌, ◌-◌, ◌*◌, ◌/◌, ◌%◌, ◌<◌, ◌≤◌, ℤ, pos, negsuc, ◌-ℤ◌, ◌*ℤ◌, neg_ℤ, Bool, true, false, ◌==◌, if◌then◌else◌, refl, sym, ap, ◌∙◌, inl, inr, arith}
+use Rattle.std.proofs.Common.{◌≡◌, ◌≢◌, ◌⊎◌, ℕ, zero, suc, ◌+◌, ◌-◌, ◌*◌, ◌/◌, ◌%◌, ◌<◌, ℤ, pos, negsuc, ◌-ℤ◌, ◌*ℤ◌, false, refl, ap, ◌∙◌, inl, inr, arith}
 use Rattle.std.proofs.lemmas.Int.{ints}
 use Rattle.std.proofs.lemmas.Bool.{cases_lt}
 use Rattle.std.proofs.lemmas.Bool.Decides.{nat_tests}
 use Rattle.std.proofs.lemmas.Nat.{mod-mul-add}
-use Rattle.ds_eval.specs.Numbers.{floor_div, floor_by}
-use Rattle.ds_eval.specs.Steps.{floor_mod, with_sign, size_of_rest, same, is_negative}
+use Rattle.ds_eval.specs.Numbers.{floor_div}
+use Rattle.ds_eval.specs.Steps.{floor_mod, size_of_rest}
 
 -- what lacks up to the next multiple, by what is left
 next_rest : (n d : ℕ) → 0 < d → ((suc (n % d) < d) × (suc n % d ≡ suc (n % d))) ⊎ ((suc (n % d) ≡ d) × (suc n % d ≡ 0))

@@ -1,18 +1,17 @@
 -- Where each cell's entry is what its neighbours' entries give, all values are those from scratch.
-use Rattle.std.proofs.Common.{◌≡◌, ◌⊎◌, ℕ, zero, suc, ◌+◌, ◌-◌, ◌<◌, ◌≤◌, ◌==◌, min, Bool, true, false, if◌then◌else◌, List, length, refl, sym, ap, subst, ◌∙◌, inl, inr, arith}
+use Rattle.std.proofs.Common.{◌≡◌, ℕ, zero, suc, ◌<◌, ◌≤◌, ◌==◌, min, true, false, List, refl, ap, ◌∙◌, inl, inr, arith}
 use Rattle.std.proofs.lemmas.Bool.{cases_lt}
 use Rattle.std.proofs.lemmas.Bool.Decides.{nat_tests}
 use Rattle.ds_formula.specs.declared.cells.Shape.{Shape}
 use Rattle.ds_formula.specs.declared.cells.Cell.{Cell}
-use Rattle.ds_formula.specs.Cells.{IsInside, index_of, count_of}
+use Rattle.ds_formula.specs.Cells.{IsInside, count_of}
 use Rattle.ds_formula.specs.Plain.{Plain}
-use Rattle.ds_formula.specs.Refs.{Refers}
 use Rattle.ds_eval.specs.declared.value.Value.{Value}
 use Rattle.ds_eval.specs.declared.value.Value.TheVariants.{Circular}
 use Rattle.ds_eval.specs.declared.inputs.Entry.{Entry}
 use Rattle.ds_eval.specs.Evaluation.{content_value}
-use Rattle.ds_eval.specs.Scratch.{Walk, Runs, value, at, IsScratch}
-use Rattle.ds_eval.specs.Local.{content_height, entry_at, local, value_of, height_of, IsLocal, IsShown}
+use Rattle.ds_eval.specs.Scratch.{Walk, value, IsScratch}
+use Rattle.ds_eval.specs.Local.{content_height, entry_at, value_of, height_of, IsLocal, IsShown}
 use Rattle.ds_eval.proofs.Neighbours.{reached, bound, value_on}
 
 -- ---- an entry by its height

@@ -1,6 +1,6 @@
 -- Heights, one cell or one argument at a time.
-use Rattle.std.proofs.Common.{◌≡◌, ◌⊎◌, ℕ, zero, suc, ◌+◌, ◌≤◌, ◌<◌, min, max, List, [], ◌∷◌, ◌++◌, map, length, get_or, take, refl, sym, ap, ◌∙◌, arith}
-use Rattle.std.specs.Global.{Vec, Box}
+use Rattle.std.proofs.Common.{◌≡◌, ℕ, suc, ◌+◌, ◌≤◌, ◌<◌, min, max, List, [], ◌∷◌, ◌++◌, map, length, get_or, take, sym, ap, ◌∙◌, arith}
+use Rattle.std.specs.Global.{Vec}
 use Rattle.std.proofs.lemmas.List.{map-append, take_more, take_all}
 use Rattle.ds_formula.specs.declared.cells.Shape.{Shape}
 use Rattle.ds_formula.specs.declared.cells.Cell.{Cell}
@@ -8,7 +8,7 @@ use Rattle.ds_formula.specs.declared.cells.Rect.{Rect}
 use Rattle.ds_formula.specs.declared.content.Function.{Function}
 use Rattle.ds_formula.specs.declared.content.Tree.{Tree}
 use Rattle.ds_formula.specs.declared.content.Tree.TheVariants as trees
-use Rattle.ds_formula.specs.Plain.{Formula, Called, formula, listed}
+use Rattle.ds_formula.specs.Plain.{Formula, formula, listed}
 use Rattle.ds_eval.specs.Evaluation.{first_cells, cell_of}
 use Rattle.ds_eval.specs.Local.{above, formula_height, formulas_height}
 use Rattle.ds_eval.proofs.Views.{formula_call}

@@ -1,18 +1,19 @@
 -- Heights and values rest on the cells of the sheet that are written in a content, and on nothing else.
-use Rattle.std.proofs.Common.{◌≡◌, ◌⊎◌, ℕ, zero, suc, ◌+◌, ◌*◌, ◌<◌, ◌≤◌, min, max, Bool, true, false, leb, if◌then◌else◌, List, [], ◌∷◌, ◌++◌, map, refl, sym, ap, subst, ◌∙◌, inl, inr, arith}
+use Rattle.std.proofs.Common.{◌≡◌, ℕ, zero, suc, ◌*◌, ◌<◌, ◌≤◌, min, max, Bool, true, false, leb, ◌==◌, if◌then◌else◌, List, [], ◌∷◌, ◌++◌, map, refl, sym, ap, subst, ◌∙◌, inl, inr, arith}
 use Rattle.std.proofs.lemmas.Bool.{cases_lt}
 use Rattle.std.proofs.lemmas.List.{map-append}
 use Rattle.ds_formula.specs.declared.cells.Shape.{Shape}
 use Rattle.ds_formula.specs.declared.cells.Cell.{Cell}
 use Rattle.ds_formula.specs.declared.cells.Rect.{Rect}
-use Rattle.ds_formula.specs.Cells.{IsInside, IsWithin}
+use Rattle.ds_formula.specs.Cells.{IsInside, IsWithin, count_of}
 use Rattle.ds_formula.specs.Plain.{Formula, Literal, At, Area, Signed, Joined, Called, Formulas, Nothing, Then, Plain, Empty, Constant, Computed, count}
 use Rattle.ds_formula.specs.Refs.{Mentions, SomeMentions, Refers}
 use Rattle.ds_eval.specs.declared.value.Value.{Value}
-use Rattle.ds_eval.specs.declared.value.Value.TheVariants.{Blank, Num, Number}
+use Rattle.ds_eval.specs.declared.value.Value.TheVariants.{Blank, Num, Number, Circular}
+use Rattle.ds_eval.specs.declared.inputs.Entry.{Entry}
 use Rattle.ds_eval.specs.Numbers.{with_number, with_numbers, signed, joined}
-use Rattle.ds_eval.specs.Evaluation.{is_inside, look, width, height, cell_of, first_cells, cells_of, stands_for, applied, most_arguments, formula_value, own_values, all_values, content_value}
-use Rattle.ds_eval.specs.Local.{above, reference_height, formula_height, formulas_height, content_height}
+use Rattle.ds_eval.specs.Evaluation.{is_inside, width, height, cell_of, first_cells, stands_for, applied, most_arguments, formula_value, own_values, all_values, content_value}
+use Rattle.ds_eval.specs.Local.{above, reference_height, formula_height, formulas_height, content_height, entry_at, local, value_of, height_of}
 use Rattle.ds_eval.proofs.Heights.{above_push}
 use Rattle.ds_eval.proofs.Ranges.{inside_from, inside_is, within_range, number_in}
 
@@ -150,3 +151,42 @@ module _ (shape : Shape) where
   value_on r s Empty h = refl
   value_on r s (Constant z) h = refl
   value_on r s (Computed f) h = formula_on r s f h
+
+  -- ---- heights again: they rest on the same cells
+
+  bounded_on : (r s : Cell → ℕ) (c : Cell) (b : Bool) → is_inside shape c ≡ b → (IsInside shape c → r c ≡ s c) → (if b then suc (r c) else 0) ≡ (if b then suc (s c) else 0)
+  bounded_on r s c true e h = ap suc (h (inside_from shape c e))
+  bounded_on r s c false e h = refl
+
+  mutual
+    formula_height_on : (r s : Cell → ℕ) (f : Formula) → ((d : Cell) → Mentions f d → IsInside shape d → r d ≡ s d) → formula_height shape r f ≡ formula_height shape s f
+    formula_height_on r s (Literal z) h = refl
+    formula_height_on r s (At c) h = bounded_on r s c (is_inside shape c) refl (h c refl)
+    formula_height_on r s (Area a) h = ap above (range_on r s a (width shape a * height shape a) (omega arith) h)
+    formula_height_on r s (Signed t f) h = formula_height_on r s f h
+    formula_height_on r s (Joined o f g) h =
+        ap (λ (x : ℕ). max x (formula_height shape r g)) (formula_height_on r s f (λ d m. h d (inl m)))
+        ∙ ap (λ (x : ℕ). max (formula_height shape s f) x) (formula_height_on r s g (λ d m. h d (inr m)))
+    formula_height_on r s (Called g fs) h = formulas_height_on r s fs h
+
+    formulas_height_on : (r s : Cell → ℕ) (fs : Formulas) → ((d : Cell) → SomeMentions fs d → IsInside shape d → r d ≡ s d) → formulas_height shape r fs ≡ formulas_height shape s fs
+    formulas_height_on r s Nothing h = refl
+    formulas_height_on r s (Then f fs) h =
+        ap (λ (x : ℕ). max x (formulas_height shape r fs)) (formula_height_on r s f (λ d m. h d (inl m)))
+        ∙ ap (λ (x : ℕ). max (formula_height shape s f) x) (formulas_height_on r s fs (λ d m. h d (inr m)))
+
+  height_on : (r s : Cell → ℕ) (p : Plain) → ((d : Cell) → Refers p d → IsInside shape d → r d ≡ s d) → content_height shape r p ≡ content_height shape s p
+  height_on r s Empty h = refl
+  height_on r s (Constant z) h = refl
+  height_on r s (Computed f) h = formula_height_on r s f h
+
+  entry_on : (p : Plain) (v w : Value) (b : Bool) (n : ℕ) → v ≡ w → (let e : Entry = record { value = if b then Circular else v; height = n } in e) ≡ record { value = if b then Circular else w; height = n }
+  entry_on p v w b n e = ap (λ (x : Value). let y : Entry = record { value = if b then Circular else x; height = n } in y) e
+
+  -- the entry of a cell rests on the entries of the cells of the sheet that are written in it
+  pub local_on : (p : Plain) (es fs : Cell → Entry) → ((d : Cell) → Refers p d → IsInside shape d → es d ≡ fs d) → local shape p es ≡ local shape p fs
+  local_on p es fs h =
+      let n = min (count_of shape) (content_height shape (height_of es) p) in
+      entry_on p (content_value shape (value_of es) p) (content_value shape (value_of fs) p) (n == count_of shape) n
+      (value_on (value_of es) (value_of fs) p (λ d r i. ap (λ (e : Entry). e.value) (h d r i)))
+      ∙ ap (λ (k : ℕ). entry_at shape p fs (min (count_of shape) k)) (height_on (height_of es) (height_of fs) p (λ d r i. ap (λ (e : Entry). e.height) (h d r i)))

@@ -1,5 +1,5 @@
 -- Rounds over all cells, in which each cell is evaluated on what the others show at that moment.
-use Rattle.std.proofs.Common.{◌≡◌, ◌⊎◌, ℕ, zero, suc, ◌+◌, ◌-◌, ◌*◌, ◌/◌, ◌%◌, ◌<◌, ◌≤◌, min, Bool, true, false, List, [], ◌∷◌, ◌++◌, map, length, length-append, get_or, Option, Some, None, slice_get, slice_index_or, slice_set, refl, sym, ap, subst, ◌∙◌, inl, inr, arith, get_or-set_same, get_or-set_other}
+use Rattle.std.proofs.Common.{◌≡◌, ℕ, zero, suc, ◌+◌, ◌*◌, ◌/◌, ◌<◌, ◌≤◌, min, Bool, false, List, [], ◌∷◌, ◌++◌, length, length-append, get_or, slice_get, slice_set, refl, sym, ap, subst, ◌∙◌, inl, inr, arith, get_or-set_same, get_or-set_other}
 use Rattle.std.proofs.lemmas.Bool.{cases_lt, cases_eq}
 use Rattle.std.proofs.lemmas.List.{set-get_or}
 use Rattle.std.proofs.Math.ListN.{length-set, get_or-append}
@@ -10,18 +10,14 @@ use Rattle.ds_formula.specs.declared.cells.Cell.{Cell}
 use Rattle.ds_formula.specs.Cells.{IsInside, index_of, cell_at, count_of}
 use Rattle.ds_formula.specs.declared.content.Content.{Content}
 use Rattle.ds_formula.specs.Plain.{Plain, plain}
-use Rattle.ds_formula.specs.Refs.{Refers}
-use Rattle.ds_eval.specs.declared.value.Value.{Value}
-use Rattle.ds_eval.specs.declared.value.Value.TheVariants.{Circular, Blank}
 use Rattle.ds_eval.specs.declared.inputs.Entry.{Entry}
 use Rattle.ds_eval.specs.declared.inputs.Input.{Input}
 use Rattle.ds_eval.specs.Inputs.{entry_in, entry_at, cell_in, with_entry, no_entry, no_input, IsBefore, IsBehind}
 use Rattle.ds_eval.specs.declared.sheet.Sheet.{Sheet}
 use Rattle.ds_eval.specs.Sheet.{contents_of, plain_or_empty}
-use Rattle.ds_eval.specs.Evaluation.{content_value}
-use Rattle.ds_eval.specs.Scratch.{Walk, Runs, value, at, or_blank, IsScratch}
+use Rattle.ds_eval.specs.Scratch.{Walk, value, at, IsScratch}
 use Rattle.ds_eval.specs.Local.{content_height, local, value_of, height_of, IsLocal, IsShown}
-use Rattle.ds_eval.specs.Rounds.{IsTable, IsSettled, AreSettled, shown, value_of_input}
+use Rattle.ds_eval.specs.Rounds.{IsTable, IsSettled, AreSettled, shown}
 use Rattle.ds_eval.proofs.Cells.{entry_here, cell_with}
 use Rattle.ds_eval.proofs.Ranges.{row_below}
 use Rattle.ds_eval.proofs.Neighbours.{reached, bound, value_on}

@@ -1,12 +1,12 @@
 -- One more value in a tally.
-use Rattle.std.proofs.Common.{◌≡◌, ℕ, zero, suc, ◌+◌, ℤ, pos, ◌+ℤ◌, ◌==◌, if◌then◌else◌, List, [], ◌∷◌, ◌++◌, length, fold, Option, Some, None, refl, sym, ap, subst, ◌∙◌, arith, length-append}
+use Rattle.std.proofs.Common.{◌≡◌, ℕ, suc, ◌+◌, ℤ, pos, ◌+ℤ◌, ◌==◌, if◌then◌else◌, List, [], ◌∷◌, ◌++◌, length, fold, Option, Some, None, refl, sym, ap, subst, ◌∙◌, arith, length-append}
 use Rattle.std.specs.Int.{int_min, int_max}
 use Rattle.std.proofs.lemmas.Bool.Decides.{nat_tests}
 use Rattle.std.proofs.lemmas.List.Sums.{fold_push}
 use Rattle.ds_eval.specs.declared.value.Value.{Value}
 use Rattle.ds_eval.specs.declared.value.Value.TheVariants.{Blank, Number, DivZero, Num, Circular}
 use Rattle.ds_eval.specs.declared.tally.Tally.{Tally}
-use Rattle.ds_eval.specs.Numbers.{numbers, first_error, total, least, greatest}
+use Rattle.ds_eval.specs.Numbers.{numbers, first_error, least, greatest}
 use Rattle.ds_eval.specs.Steps.{smaller, greater, first_or}
 use Rattle.ds_eval.specs.Tally.{IsTally}
 

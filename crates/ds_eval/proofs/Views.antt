@@ -1,5 +1,5 @@
 -- What a formula is, seen without memory.
-use Rattle.std.proofs.Common.{◌≡◌, ℤ, List, map, sym, ap, ◌∙◌}
+use Rattle.std.proofs.Common.{◌≡◌, ℤ, map, sym, ap, ◌∙◌}
 use Rattle.std.specs.Global.{Vec, Box}
 use Rattle.ds_formula.specs.declared.cells.Cell.{Cell}
 use Rattle.ds_formula.specs.declared.cells.Rect.{Rect}

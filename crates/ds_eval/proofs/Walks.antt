@@ -1,5 +1,5 @@
 -- A walk of as many steps as there are cells can be made as long as one likes.
-use Rattle.std.proofs.Common.{◌≡◌, ◌⊎◌, ℕ, zero, suc, ◌+◌, ◌-◌, ◌*◌, ◌<◌, ◌≤◌, ◌==◌, min, max, Bool, true, false, leb, if◌then◌else◌, refl, sym, ap, subst, ◌∙◌, inl, inr, arith}
+use Rattle.std.proofs.Common.{◌≡◌, ◌⊎◌, ℕ, zero, suc, ◌+◌, ◌-◌, ◌<◌, ◌≤◌, Bool, true, false, leb, if◌then◌else◌, refl, sym, ap, subst, ◌∙◌, inl, inr, arith}
 use Rattle.std.proofs.lemmas.Bool.{cases_lt}
 use Rattle.std.proofs.lemmas.Bool.Decides.{nat_tests}
 use Rattle.std.proofs.lemmas.Nat.{mul-add-lt, mod-mul-add, div-mul-add}
@@ -7,7 +7,6 @@ use Rattle.ds_formula.specs.declared.cells.Shape.{Shape}
 use Rattle.ds_formula.specs.declared.cells.Cell.{Cell}
 use Rattle.ds_formula.specs.Cells.{IsInside, index_of, cell_at, count_of}
 use Rattle.ds_formula.specs.Plain.{Plain}
-use Rattle.ds_formula.specs.Refs.{Refers}
 use Rattle.ds_eval.specs.Scratch.{Walk, Runs, WalkLaw}
 use Rattle.ds_eval.specs.Local.{content_height}
 use Rattle.ds_eval.proofs.Cells.{same_cell}
@@ -159,3 +158,10 @@ module _ (shape : Shape) (sheet : Cell → Plain) where
 
   pub walk_law : (c : Cell) → IsInside shape c → WalkLaw shape sheet c
   walk_law c i = record { runs_on = runs_on c i; runs = λ all. all (count_of shape) }
+
+  -- references run for ever from a cell, or they do not
+  pub runs_or_not : (c : Cell) → Runs shape sheet c ⊎ (Runs shape sheet c → ⊥)
+  runs_or_not c = elim (cases_lt (longest (count_of shape) c) (count_of shape)) [
+    | inl l ↦ inr (λ w. let m = walk_longest (count_of shape) c (count_of shape) (omega arith) w in omega arith)
+    | inr l ↦ inl (longest_walk (count_of shape) c (count_of shape) l)
+  ]

@@ -7,3 +7,5 @@ pub mod Tally
 pub mod Steps
 pub mod Rounds
 pub mod Sheet
+pub mod Code
+pub mod Tasks

@@ -1,5 +1,5 @@
 -- Values, and exact arithmetic on them.
-use Rattle.std.specs.Prelude.{ℕ, suc, ◌/◌, ◌^◌, ℤ, pos, negsuc, ◌+ℤ◌, ◌-ℤ◌, ◌*ℤ◌, neg_ℤ, int_div, int_lt, Bool, true, false, not, nat_lt, if◌then◌else◌, codes, List, [], ◌∷◌, ◌++◌, fold, Option, Some, None}
+use Rattle.std.specs.Prelude.{ℕ, suc, ◌/◌, ◌^◌, ℤ, pos, negsuc, ◌+ℤ◌, ◌-ℤ◌, ◌*ℤ◌, neg_ℤ, int_div, int_lt, Bool, not, nat_lt, if◌then◌else◌, codes, List, [], ◌∷◌, fold, Option, Some, None}
 use Rattle.std.specs.Ordering.{int_eq}
 use Rattle.std.specs.Int.{int_min, int_max}
 use Rattle.std.specs.Fmt.{signed_decimal}

@@ -1,5 +1,5 @@
 -- What each cell of a sheet holds.
-use Rattle.std.specs.Prelude.{List, Option, Some, None, slice_get}
+use Rattle.std.specs.Prelude.{Option, Some, None, slice_get}
 use Rattle.ds_formula.specs.declared.cells.Cell.{Cell}
 use Rattle.ds_formula.specs.declared.content.Content.{Content}
 use Rattle.ds_formula.specs.Cells.{index_of}

@@ -45,7 +45,7 @@ pub fn never_blank(value: Value) -> Value
     }
 }
 
-/// A sign before a value (OpenFormula 6.4.14 and 6.4.15).
+/// A sign before a value (OpenFormula 6.4, prefix operators).
 pub fn signed(sign: Sign, value: Value) -> Value
     ensures { result ≡ exact.with_number value (exact.signed sign) }
 {
@@ -75,7 +75,7 @@ fn joined_numbers(operator: Operator, a: i64, b: i64) -> Value
     }
 }
 
-/// An operator between two values (OpenFormula 6.4.2 to 6.4.9): the error of the left one goes first.
+/// An operator between two values (OpenFormula 6.4, infix operators): the error of the left one goes first.
 pub fn joined(operator: Operator, left: Value, right: Value) -> Value
     ensures { result ≡ exact.with_numbers left right (exact.joined operator) }
 {
@@ -86,7 +86,7 @@ pub fn joined(operator: Operator, left: Value, right: Value) -> Value
     }
 }
 
-/// ABS (OpenFormula 6.16.2).
+/// ABS (OpenFormula 6.16).
 pub fn absolute(value: Value) -> Value
     ensures { result ≡ exact.with_number value exact.absolute }
 {
@@ -153,7 +153,7 @@ fn modulo_numbers(a: i64, b: i64) -> Value
     }
 }
 
-/// MOD (OpenFormula 6.16.37): `a - b * floor(a / b)`.
+/// MOD (OpenFormula 6.16): `a - b * floor(a / b)`, and `#DIV/0!` where `b` is 0.
 pub fn modulo(left: Value, right: Value) -> Value
     ensures { result ≡ exact.with_numbers left right exact.modulo }
 {
@@ -174,7 +174,7 @@ fn quotient_numbers(a: i64, b: i64) -> Value
     }
 }
 
-/// QUOTIENT (OpenFormula 6.16.49): `a / b`, cut towards 0.
+/// QUOTIENT (OpenFormula 6.16): `a / b`, cut towards 0, and `#DIV/0!` where `b` is 0.
 pub fn quotient(left: Value, right: Value) -> Value
     ensures { result ≡ exact.with_numbers left right exact.quotient }
 {

@@ -70,7 +70,7 @@ fn with_range(shape: Shape, inputs: &Inputs, area: Rect, tally: Tally) -> Tally
     sum
 }
 
-/// The value of a formula.
+/// The value of a formula (OpenFormula, our profile). It recurses over the formula alone.
 #[cycle(evaluation)]
 pub fn evaluate(tree: &Tree, shape: Shape, inputs: &Inputs) -> Value
     ensures { result ≡ spec.formula_value shape (values_in inputs.now.items) (formula tree.now) }
@@ -88,12 +88,13 @@ pub fn evaluate(tree: &Tree, shape: Shape, inputs: &Inputs) -> Value
     }
 }
 
-/// The value of a function.
+/// The value of a function. A wrong number of arguments, which the reader of formulas never gives, is `#NUM!`.
 #[cycle(evaluation)]
 fn call(function: Function, arguments: &[Tree], shape: Shape, inputs: &Inputs) -> Value
     ensures { result ≡ spec.formula_value shape (values_in inputs.now.items) (Called function (listed (map formula arguments.now))) }
 {
     let count = arguments.len();
+    // no reader gives as many: this bounds the sums
     if count > 255 {
         return Value::Num;
     }
@@ -125,7 +126,7 @@ fn call(function: Function, arguments: &[Tree], shape: Shape, inputs: &Inputs) -
     }
 }
 
-/// IF (OpenFormula 6.15.4): the condition and the chosen branch alone are evaluated.
+/// IF (OpenFormula 6.15): the condition and the chosen branch alone are evaluated.
 #[cycle(evaluation)]
 fn conditional(arguments: &[Tree], shape: Shape, inputs: &Inputs) -> Value
     requires { length arguments.now ≤ 255 }

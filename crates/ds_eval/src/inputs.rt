@@ -42,7 +42,7 @@ impl Model for Inputs {
 }
 
 impl Inputs {
-    /// No inputs, with room for so many.
+    /// No inputs, with room for so many. It fails only where that memory is refused.
     pub fn with_capacity(alloc: Global, count: usize) -> Result<Inputs, AllocError>
         ensures items { IfOk result (λ inputs. inputs.items ≡ []) }
         ensures room { IfOk result (λ inputs. count ≤ inputs.room) }
@@ -62,6 +62,29 @@ impl Inputs {
         let _ = self.items.push(input);
     }
 
+    /// Equal inputs, in memory of their own. It fails only where that is refused.
+    pub fn copy(&self, alloc: Global) -> Result<Inputs, AllocError>
+        ensures { IfOk result (λ inputs. inputs.items ≡ self.now.items) }
+    {
+        Ok(Inputs {
+            items: Vec::from_slice(alloc, &self.items)?,
+        })
+    }
+
+    /// How many inputs there are.
+    pub fn len(&self) -> usize
+        ensures { result ≡ length self.now.items }
+    {
+        self.items.len()
+    }
+
+    /// Whether there are none.
+    pub fn is_empty(&self) -> bool
+        ensures { IsTrue result ↔ (self.now.items ≡ []) }
+    {
+        self.items.is_empty()
+    }
+
     /// The inputs in their order.
     pub fn as_slice(&self) -> &[Input]
         ensures { result.now ≡ self.now.items }
@@ -70,7 +93,7 @@ impl Inputs {
     }
 
     /// Puts another entry in the place of that of the input with this number. Whether it differs.
-    pub fn set(&mut self, place: usize, entry: Entry) -> bool
+    pub(crate) fn set(&mut self, place: usize, entry: Entry) -> bool
         requires { place < length self.old.items }
         ensures after { self.new ≡ record self.old { items = with_entry self.old.items place entry } }
         ensures unchanged { result ≡ false → entry_at self.old.items place ≡ entry }

@@ -1,16 +1,12 @@
 //! The values of a sheet from its contents alone.
 
-ghost use Rattle.std.specs.Prelude.{◌≡◌, ℕ, ◌<◌, suc, List, false, map, IfOk};
-ghost use Rattle.ds_formula.specs.declared.cells.Shape as shapes;
+ghost use Rattle.std.specs.Prelude.{◌≡◌, ℕ, ◌<◌, suc, false, IfOk};
 ghost use Rattle.ds_formula.specs.declared.cells.Cell as cells;
 ghost use Rattle.ds_formula.specs.Cells.{IsInside, count_of};
-ghost use Rattle.ds_formula.specs.Plain.{Plain};
-ghost use Rattle.ds_eval.specs.declared.value.Value as values;
-ghost use Rattle.ds_eval.specs.declared.inputs.Entry as entries;
 ghost use Rattle.ds_eval.specs.Inputs.{entry_in, no_entry};
 ghost use Rattle.ds_eval.specs.Sheet.{contents_of};
-ghost use Rattle.ds_eval.specs.Scratch.{IsScratch, WalkLaw};
-ghost use Rattle.ds_eval.specs.Local.{IsLocal, IsShown};
+ghost use Rattle.ds_eval.specs.Scratch.{IsScratch};
+ghost use Rattle.ds_eval.specs.Local.{IsLocal};
 ghost use Rattle.ds_eval.specs.Rounds.{IsTable, AreSettled, shown};
 
 use crate::inputs::{Entry, Input, Inputs};
@@ -92,13 +88,3 @@ pub fn scratch(alloc: Global, sheet: &Sheet) -> Result<Vec<Value>, AllocError>
     settle(sheet, &mut table);
     values_of(alloc, &table)
 }
-
-/// References that can be followed as often as there are cells can be followed for ever.
-pub fn walk_law()
-    ensures { (shape : shapes.Shape) (sheet : cells.Cell → Plain) (c : cells.Cell) → IsInside shape c → WalkLaw shape sheet c }
-{}
-
-/// Where each cell's entry is what its neighbours' entries give, all values are those from scratch.
-pub fn fixed_point()
-    ensures { (shape : shapes.Shape) (sheet : cells.Cell → Plain) (entries : cells.Cell → entries.Entry) (shown : List values.Value) → IsLocal shape sheet entries → IsShown shape entries shown → IsScratch shape sheet shown }
-{}

@@ -6,6 +6,7 @@ ghost use Rattle.ds_eval.specs.Steps as Steps;
 use crate::value::Value;
 
 /// The numbers among some values, and the first error among them.
+/// The sum is bounded by the count, so that it cannot leave 128 bits.
 #[derive(Clone, Copy, Debug)]
 pub struct Tally {
     count: usize,
@@ -86,7 +87,7 @@ impl Tally {
         }
     }
 
-    /// SUM (OpenFormula 6.16.61): exact, before the range is asked for.
+    /// SUM (OpenFormula 6.16): added exactly before the range is asked for.
     pub fn total(self) -> Value
         ensures { (vs : List values.Value) → IsTally vs self → result ≡ exact.with_all vs (λ ns. exact.in_range (exact.total ns)) }
     {
@@ -99,7 +100,7 @@ impl Tally {
         }
     }
 
-    /// MIN (OpenFormula 6.18.48): 0 of no numbers.
+    /// MIN (OpenFormula 6.18): 0 of no numbers.
     pub fn least(self) -> Value
         ensures { (vs : List values.Value) → IsTally vs self → result ≡ exact.with_all vs (λ ns. Value.Number (exact.least ns)) }
     {
@@ -109,7 +110,7 @@ impl Tally {
         }
     }
 
-    /// MAX (OpenFormula 6.18.45): 0 of no numbers.
+    /// MAX (OpenFormula 6.18): 0 of no numbers.
     pub fn greatest(self) -> Value
         ensures { (vs : List values.Value) → IsTally vs self → result ≡ exact.with_all vs (λ ns. Value.Number (exact.greatest ns)) }
     {

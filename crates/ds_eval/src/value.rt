@@ -2,7 +2,7 @@
 
 use std::fmt;
 
-/// The value of a cell.
+/// The value of a cell. It prints as the exact text that a report shows: a blank prints nothing.
 #[derive(Clone, Copy, Debug, PartialEq, Eq)]
 pub enum Value {
     /// A cell that holds nothing. A formula's value is never blank.

@@ -1,4 +1,4 @@
-use Rattle.std.proofs.Common.{rules, ◌≡◌, ◌∙◌, sym, ap, arith, ◌<◌, ◌≤◌, length, inl, inr, ℕ, List, [], ◌∷◌, Bool, Result, Ok}
+use Rattle.std.proofs.Common.{◌∙◌, sym, ap, arith, inl, inr, ℕ, List, [], ◌∷◌, Bool, Result, Ok}
 use Rattle.ds_formula.specs.declared.content.Function.TheVariants as functions
 use Rattle.ds_eval.specs.declared.value.Value.{Value}
 use Rattle.ds_eval.specs.declared.tally.Tally.{Tally}

@@ -1,4 +1,4 @@
-use Rattle.std.proofs.Common.{◌≡◌, ◌*◌, ◌≤◌, map, take}
+use Rattle.std.proofs.Common.{◌*◌, ◌≤◌, map, take}
 use Rattle.ds_formula.specs.Plain.{formula, listed}
 use Rattle.ds_eval.specs.Evaluation.{all_values}
 use Rattle.ds_eval.specs.Inputs.{values_in}

@@ -1,9 +1,8 @@
-use Rattle.std.proofs.Common.{◌≡◌, ◌∙◌, ◌++◌, ◌∷◌, [], List, map, ap, sym, subst, arith}
+use Rattle.std.proofs.Common.{◌≡◌, ◌∙◌, ◌++◌, ◌∷◌, [], List, map, ap, subst, arith}
 use Rattle.ds_eval.specs.declared.value.Value.{Value}
 use Rattle.ds_eval.specs.Evaluation.{cell_of, first_cells}
-use Rattle.ds_eval.specs.Inputs.{values_in, entry_in}
+use Rattle.ds_eval.specs.Inputs.{values_in}
 use Rattle.ds_eval.specs.Tally.{IsTally}
-use Rattle.ds_formula.specs.declared.cells.Cell.{Cell}
 use Rattle.ds_eval.proofs.Calls.{cells_more}
 use Rattle.ds_eval.specs.declared.inputs.Entry.{Entry}
 use Rattle.ds_eval.proofs.evaluate.with_range.Goals as goal

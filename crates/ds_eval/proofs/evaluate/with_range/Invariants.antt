@@ -1,4 +1,4 @@
-use Rattle.std.proofs.Common.{◌≡◌, ◌+◌, ◌≤◌, List, ◌++◌, map}
+use Rattle.std.proofs.Common.{◌+◌, ◌≤◌, List, ◌++◌, map}
 use Rattle.ds_eval.specs.declared.value.Value.{Value}
 use Rattle.ds_eval.specs.Evaluation.{first_cells}
 use Rattle.ds_eval.specs.Inputs.{values_in}

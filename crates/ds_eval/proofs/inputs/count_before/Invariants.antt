@@ -1,4 +1,4 @@
-use Rattle.std.proofs.Common.{◌≡◌, ℕ, ◌<◌, ◌≤◌, ◌-◌, length}
+use Rattle.std.proofs.Common.{ℕ, ◌<◌, ◌≤◌, ◌-◌, length}
 use Rattle.ds_eval.specs.Inputs.{cell_in, IsBefore}
 use Rattle.ds_eval.proofs.inputs.count_before.Given as goal
 

@@ -1,4 +1,4 @@
-use Rattle.std.proofs.Common.{rules, arith, ◌≡◌, ◌∙◌, ap, sym, max, min, List, length, ◌≤◌, ℕ, map, take}
+use Rattle.std.proofs.Common.{rules, ◌∙◌, ap, min, List, map, take}
 use Rattle.ds_formula.specs.declared.content.Tree.{Tree}
 use Rattle.ds_formula.specs.Cells.{count_of}
 use Rattle.ds_formula.specs.Plain.{formula, listed}

@@ -1,4 +1,4 @@
-use Rattle.std.proofs.Common.{rules, arith, ◌≡◌, ◌∙◌, ap, max, min, suc}
+use Rattle.std.proofs.Common.{rules, ◌∙◌, ap, min, suc}
 use Rattle.ds_formula.specs.declared.cells.Cell.{Cell}
 use Rattle.ds_formula.specs.Cells.{count_of}
 use Rattle.ds_eval.specs.Inputs.{heights_in}

@@ -1,4 +1,4 @@
-use Rattle.std.proofs.Common.{arith, ◌≡◌, subst, ◌∙◌, ℕ}
+use Rattle.std.proofs.Common.{arith, ◌≡◌, subst, ℕ}
 use Rattle.ds_formula.specs.Cells.{count_of}
 use Rattle.ds_eval.proofs.Rounds.{IsBlank, blank_behind, blank_entries}
 use Rattle.ds_eval.proofs.scratch.blank_table.Goals as goal

@@ -1,4 +1,4 @@
-use Rattle.std.proofs.Common.{◌≤◌, length}
+use Rattle.std.proofs.Common.{◌≤◌}
 use Rattle.ds_eval.proofs.Rounds.{IsBlank}
 use Rattle.ds_eval.proofs.scratch.blank_table.Given as goal
 

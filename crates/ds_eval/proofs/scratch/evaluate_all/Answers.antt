@@ -1,5 +1,4 @@
-use Rattle.std.proofs.Common.{arith, rules, ◌≡◌, ◌∙◌, ◌+◌, ◌||◌, Bool, true, false, ap, refl, subst, sym}
-use Rattle.ds_formula.specs.Cells.{count_of}
+use Rattle.std.proofs.Common.{arith, ◌≡◌, ◌∙◌, ◌+◌, ◌||◌, Bool, true, false, ap, refl, subst, sym}
 use Rattle.ds_formula.specs.Plain.{Plain}
 use Rattle.ds_eval.specs.Inputs.{entry_in, PlainInputs}
 use Rattle.ds_eval.specs.Local.{local}

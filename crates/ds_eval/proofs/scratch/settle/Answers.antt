@@ -1,4 +1,4 @@
-use Rattle.std.proofs.Common.{arith, rules, ◌≡◌, subst, ℕ}
+use Rattle.std.proofs.Common.{arith, ◌≡◌, subst, ℕ}
 use Rattle.ds_formula.specs.Cells.{count_of}
 use Rattle.ds_eval.specs.Sheet.{contents_of}
 use Rattle.ds_eval.specs.Rounds.{AreSettled}

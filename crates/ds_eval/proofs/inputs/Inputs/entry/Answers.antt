@@ -1,7 +1,7 @@
-use Rattle.std.proofs.Common.{◌≡◌, rules, arith, sym, refl, ap, ◌∙◌, List, length, ◌<◌, subst, false, slice_index_or}
+use Rattle.std.proofs.Common.{◌≡◌, sym, refl, ap, ◌∙◌, slice_index_or}
 use Rattle.std.proofs.lemmas.List.{get_or_read}
 use Rattle.ds_eval.specs.declared.inputs.Input.{Input}
-use Rattle.ds_eval.specs.Inputs.{entry_in, entry_at, cell_in, no_input, PlainInputs}
+use Rattle.ds_eval.specs.Inputs.{no_input}
 use Rattle.ds_eval.proofs.Cells.{entry_found, entry_nowhere}
 use Rattle.ds_eval.proofs.inputs.Inputs.entry.Goals as goal
 

@@ -1,5 +1,4 @@
-use Rattle.std.proofs.Common.{◌≡◌, ◌∙◌, ◌++◌, ◌∷◌, [], List, ap, sym, subst, arith, rules, ◌<◌, length, vec_len, vec_capacity, Bool, if◌then◌else◌}
-use Rattle.ds_eval.specs.declared.inputs.Input.{Input}
+use Rattle.std.proofs.Common.{◌∙◌, ◌++◌, ◌∷◌, [], ap, sym, subst, arith, ◌<◌, length, vec_len, vec_capacity, Bool, if◌then◌else◌}
 use Rattle.ds_eval.specs.Inputs.{PlainInputs}
 use Rattle.ds_eval.proofs.inputs.Inputs.push.Goals as goal
 

@@ -1,4 +1,4 @@
-use Rattle.std.proofs.Common.{◌≡◌, rules, arith, subst, ap, sym, ◌<◌, length, slice_index_or, slice_set}
+use Rattle.std.proofs.Common.{◌≡◌, subst, sym, ◌<◌, length, slice_index_or, slice_set}
 use Rattle.std.proofs.lemmas.List.{get_or_read}
 use Rattle.ds_eval.specs.declared.inputs.Input.{Input}
 use Rattle.ds_eval.specs.Inputs.{PlainInputs, IsAscending, no_input}

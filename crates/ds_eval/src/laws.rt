@@ -1,0 +1,45 @@
+//! Laws over the definitions alone: functions without other work, whose contracts are the theorems.
+
+ghost use Rattle.std.specs.Prelude.{◌≡◌, ◌≢◌, List};
+ghost use Rattle.ds_formula.specs.declared.cells.Shape as shapes;
+ghost use Rattle.ds_formula.specs.declared.cells.Cell as cells;
+ghost use Rattle.ds_formula.specs.Cells.{IsInside, index_of};
+ghost use Rattle.ds_formula.specs.Plain.{Plain, Formula};
+ghost use Rattle.ds_formula.specs.Refs.{Refers};
+ghost use Rattle.ds_eval.specs.declared.value.Value as values;
+ghost use Rattle.ds_eval.specs.declared.inputs.Entry as entries;
+ghost use Rattle.ds_eval.specs.Scratch.{Runs, at, IsScratch, WalkLaw};
+ghost use Rattle.ds_eval.specs.Evaluation.{formula_value};
+ghost use Rattle.ds_eval.specs.Local.{local, IsLocal, IsShown};
+
+use crate::value::Value;
+
+/// References that can be followed as often as there are cells can be followed for ever.
+pub fn walk_law()
+    ensures { (shape : shapes.Shape) (sheet : cells.Cell → Plain) (c : cells.Cell) → IsInside shape c → WalkLaw shape sheet c }
+{}
+
+/// Where each cell's entry is what its neighbours' entries give, all values are those from scratch.
+pub fn fixed_point()
+    ensures { (shape : shapes.Shape) (sheet : cells.Cell → Plain) (entries : cells.Cell → entries.Entry) (shown : List values.Value) → IsLocal shape sheet entries → IsShown shape entries shown → IsScratch shape sheet shown }
+{}
+
+/// Values from scratch rest on what the cells of the sheet hold, and on nothing beyond it.
+pub fn sheets_law()
+    ensures { (shape : shapes.Shape) (old new : cells.Cell → Plain) (shown : List values.Value) → ((c : cells.Cell) → IsInside shape c → old c ≡ new c) → IsScratch shape old shown → IsScratch shape new shown }
+{}
+
+/// `Err:522` stands only where references can be followed for ever.
+pub fn circular_only()
+    ensures { (shape : shapes.Shape) (sheet : cells.Cell → Plain) (shown : List values.Value) → IsScratch shape sheet shown → (c : cells.Cell) → IsInside shape c → at shown (index_of shape c) ≡ Value.Circular → Runs shape sheet c }
+{}
+
+/// A formula's value is never blank.
+pub fn never_blank()
+    ensures { (shape : shapes.Shape) (read : cells.Cell → values.Value) (f : Formula) → formula_value shape read f ≢ Value.Blank }
+{}
+
+/// A cell's entry rests on the entries of the cells of the sheet that are written in it, and on no other one.
+pub fn neighbours_law()
+    ensures { (shape : shapes.Shape) (content : Plain) (old new : cells.Cell → entries.Entry) → ((d : cells.Cell) → Refers content d → IsInside shape d → old d ≡ new d) → local shape content old ≡ local shape content new }
+{}
