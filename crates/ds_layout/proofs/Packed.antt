@@ -1,12 +1,12 @@
 -- Packed forms read back their parts, as equations of plain values.
 use Rattle.std.proofs.Common.{ℕ, ℤ, ◌≡◌, ◌≢◌, ◌+◌, ◌-◌, ◌*◌, ◌/◌, ◌%◌, ◌^◌, ◌<◌, ◌≤◌, Bool, true, false, Option, Some, None, nat_lt, ◌&&◌, ◌||◌, ◌==◌, List, length, get_or, take, drop, refl, ap, sym, ◌∙◌, subst, arith, suc, zero, inl, inr, pos}
-use Rattle.std.specs.Prelude.{if◌then◌else◌, FitsSigned, nat_le, map}
+use Rattle.std.specs.Prelude.{if◌then◌else◌, bit_or, FitsSigned, nat_le, map}
 use Rattle.std.specs.Int.{w64, cast_signed, cast_unsigned}
 use Rattle.std.specs.List.{range_with_len}
 use Rattle.std.proofs.lemmas.Bool.{cases_lt, ltb-true, ltb-false, lt-ltb, le-ltb, le-leb, leb-true, ne_eqb, eqb-true, eqb-false, false≢true}
 use Rattle.std.proofs.lemmas.List.{get_or_past, ext_get_or, get_or-take, get_or-drop, length-drop, length-take-le}
 use Rattle.std.proofs.lemmas.Int.{to_z-of_z}
-use Rattle.std.proofs.lemmas.Nat.{le_bytes_8}
+use Rattle.std.proofs.lemmas.Nat.{le_bytes_8, or_block, or_comm}
 use Rattle.std.proofs.lemmas.List.FromFn.{length-map-range_with_len, get_or-map-range_with_len}
 use Rattle.ds_layout.specs.declared.place.TheConstants.{RECORDS, TEXT_BYTES}
 use Rattle.ds_layout.specs.declared.head.Head.{Head}
@@ -118,6 +118,63 @@ mark_word-mark_of word =
     let holder : holder_code (holder_of (word / 2 % 16)) ≡ word / 2 % 16 = holder_code-holder_of (word / 2 % 16) in
     let dirty : dirty_bit (word % 2 == 1) ≡ word % 2 = dirty_bit-dirty_of (word % 2) (omega arith) in
     ap (λ (c : ℕ). word / 32 * 32 + c * 2 + dirty_bit (word % 2 == 1)) holder ∙ ap (λ (b : ℕ). word / 32 * 32 + word / 2 % 16 * 2 + b) dirty ∙ (omega arith)
+
+one_added : (d : Bool) → bit_or (dirty_bit d) 1 ≡ 1
+one_added false = refl
+one_added true = refl
+
+bit_fits : (d : Bool) → dirty_bit d < 2 ^ 1
+bit_fits false = omega arith
+bit_fits true = omega arith
+
+-- the bit added to the word makes the mark dirty
+pub mark_word-dirtied : (m : Mark) → mark_word (record m { dirty = true }) ≡ bit_or (mark_word m) 1
+mark_word-dirtied m =
+    let g : ℕ = m.generation in
+    let h : ℕ = holder_code m.holder in
+    let d : Bool = m.dirty in
+    let rest : ℕ = g * 16 + h in
+    let parts : g * 32 + h * 2 + dirty_bit d ≡ rest * 2 ^ 1 + dirty_bit d = omega arith in
+    let none : bit_or rest 0 ≡ rest = or_comm rest 0 in
+    let joined : bit_or (rest * 2 ^ 1 + dirty_bit d) 1 ≡ bit_or rest 0 * 2 ^ 1 + bit_or (dirty_bit d) 1 = or_block 1 rest 0 (dirty_bit d) 1 (bit_fits d) (omega arith) in
+    let one : bit_or (dirty_bit d) 1 ≡ 1 = one_added d in
+    sym (ap (λ (x : ℕ). bit_or x 1) parts ∙ joined ∙ ap (λ (x : ℕ). x * 2 ^ 1 + bit_or (dirty_bit d) 1) none ∙ ap (λ (x : ℕ). rest * 2 ^ 1 + x) one ∙ (omega arith))
+
+pub CanPack-mark_of : (word : ℕ) → word < 2 ^ 64 → marks.CanPack (mark_of word)
+CanPack-mark_of word small =
+    let holder : holder_code (holder_of (word / 2 % 16)) ≡ word / 2 % 16 = holder_code-holder_of (word / 2 % 16) in
+    record { generation = omega arith; holder = subst (λ (n : ℕ). n < 16) (sym holder) (omega arith) }
+
+pub mark_of-or_dirty : (word : ℕ) → word < 2 ^ 64 → mark_of (bit_or word 1) ≡ record (mark_of word) { dirty = true }
+mark_of-or_dirty word small =
+    let m : Mark = mark_of word in
+    let c : marks.CanPack m = CanPack-mark_of word small in
+    let dirty : Mark = record m { dirty = true } in
+    let d : marks.CanPack dirty = record { generation = c.generation; holder = c.holder } in
+    ap (λ (w : ℕ). mark_of (bit_or w 1)) (sym (mark_word-mark_of word)) ∙ ap mark_of (sym (mark_word-dirtied m)) ∙ mark_of-mark_word dirty d
+
+-- a mark's word lies with its generation
+pub mark_word_within : (m : Mark) → marks.CanPack m → (m.generation * 32 ≤ mark_word m) × (mark_word m < (m.generation + 1) * 32)
+mark_word_within m c =
+    let holder : holder_code m.holder < 16 = c.holder in
+    let dirty : dirty_bit m.dirty ≤ 1 = dirty_small m.dirty in
+    (omega arith, omega arith)
+
+pub mark_word_grows : (m k : Mark) → marks.CanPack m → marks.CanPack k → m.generation < k.generation → mark_word m < mark_word k
+mark_word_grows m k c d lt =
+    let a = mark_word_within m c in
+    let b = mark_word_within k d in
+    omega arith
+
+-- a head's word lies with its stamp
+pub head_word_within : (h : Head) → heads.CanPack h → (h.stamp * 65536 ≤ head_word h) × (head_word h < (h.stamp + 1) * 65536)
+head_word_within h c = (omega arith, omega arith)
+
+pub head_word_grows : (h k : Head) → heads.CanPack h → heads.CanPack k → h.stamp < k.stamp → head_word h < head_word k
+head_word_grows h k c d lt =
+    let a = head_word_within h c in
+    let b = head_word_within k d in
+    omega arith
 
 -- announcements
 announced : (number : ℕ) (phase : Phase) → announcement_with number (phase_code phase) ≡ Some (record { number = number; phase = phase })

@@ -36,8 +36,8 @@ impl Phase {
 }
 
 impl Announcement {
-    /// The announcement's word, `(number + 1) * 4 + phase`, with the phases 1 pending, 2 done and 3 not done (our own
-    /// rule). The number is below 256.
+    /// The announcement's word, `(number + 1) * 4 + phase`, with the phases 1 pending, 2 done and 3
+    /// not done (our own rule). The number is below 256.
     pub fn word(self) -> u64
         requires { IsAnnouncement self }
         ensures value { result ≡ announcement_word self }

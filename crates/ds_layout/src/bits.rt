@@ -15,7 +15,8 @@ pub fn bit(number: usize) -> u64
     ensures value { result ≡ bit_of number }
     ensures sets { (word : ℕ) → HasBit (bit_or word result) number }
     ensures keeps { (word other : ℕ) → HasBit word other → HasBit (bit_or word result) other }
-    ensures alone { (word other : ℕ) → other / 64 ≡ number / 64 → other ≢ number → HasBit (bit_or word result) other → HasBit word other }
+    ensures alone { (word other : ℕ) → other / 64 ≡ number / 64 → other ≢ number
+        → HasBit (bit_or word result) other → HasBit word other }
 {
     1u64 << (number % 64)
 }

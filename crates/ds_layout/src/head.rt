@@ -3,7 +3,8 @@
 ghost use Rattle.std.specs.Prelude.{◌≡◌, ℕ, ◌<◌, IfSome};
 ghost use Rattle.ds_layout.specs.Head.{CanPack, IsHead, head_word, head_of};
 
-/// An edit of a cell, by its process and its number there. The stamp counts the edits of the cell, from 1.
+/// An edit of a cell, by its process and its number there. The stamp counts the edits of the cell,
+/// from 1.
 #[derive(Clone, Copy, Debug, PartialEq, Eq)]
 pub struct Head {
     pub stamp: u64,
@@ -14,19 +15,21 @@ pub struct Head {
 impl Head {
     ghost use Rattle.ds_layout.specs.declared.head.Head.{Head};
 
-    /// The head's word, `stamp * 65536 + process * 256 + number` (our own rule): a greater stamp gives a greater word.
-    /// The stamp is below 2^48, the process and the number are below 256.
+    /// The head's word, `stamp * 65536 + process * 256 + number` (our own rule): a greater stamp
+    /// gives a greater word. The stamp is below 2^48, the process and the number are below 256.
     pub fn word(self) -> u64
         requires { CanPack self }
         ensures value { result ≡ head_word self }
-        ensures grows { (other : Head) → CanPack other → other.stamp < self.stamp → head_word other < result }
-        ensures reads_back { (processes : ℕ) → IsHead processes self → head_of processes result ≡ Some self }
+        ensures grows { (other : Head) → CanPack other → other.stamp < self.stamp
+            → head_word other < result }
+        ensures reads_back { (processes : ℕ) → IsHead processes self
+            → head_of processes result ≡ Some self }
     {
         self.stamp * 65536 + self.process as u64 * 256 + self.number as u64
     }
 
-    /// What a head's word says in a sheet with so many processes: `None` where the stamp is 0, as in a cell without
-    /// edits, or the process is not one of the sheet.
+    /// What a head's word says in a sheet with so many processes: `None` where the stamp is 0, as
+    /// in a cell without edits, or the process is not one of the sheet.
     pub fn read(word: u64, processes: usize) -> Option<Head>
         ensures value { result ≡ head_of processes word }
         ensures head { IfSome result (IsHead processes) }

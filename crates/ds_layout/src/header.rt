@@ -13,17 +13,19 @@ pub struct Header {
 }
 
 impl Header {
-    /// The header's word, `cell * 256 + length` (our own rule). The cell is below 2^56, the length below 256.
+    /// The header's word, `cell * 256 + length` (our own rule). The cell is below 2^56, the length
+    /// below 256.
     pub fn word(self) -> u64
         requires { CanPack self }
         ensures value { result ≡ header_word self }
-        ensures reads_back { (cells : ℕ) → IsHeader cells self → header_of cells result ≡ Some self }
+        ensures reads_back { (cells : ℕ) → IsHeader cells self
+            → header_of cells result ≡ Some self }
     {
         self.cell as u64 * 256 + self.length as u64
     }
 
-    /// What a header's word says in a sheet with so many cells: `None` where the cell is none of them or the length is
-    /// more than a text's.
+    /// What a header's word says in a sheet with so many cells: `None` where the cell is none of
+    /// them or the length is more than a text's.
     pub fn read(word: u64, cells: usize) -> Option<Header>
         ensures value { result ≡ header_of cells word }
         ensures header { IfSome result (IsHeader cells) }

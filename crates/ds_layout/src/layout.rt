@@ -196,7 +196,8 @@ impl Layout {
         ensures value { result ≡ number_of self.now place }
         ensures below { result < words_of self.now }
         ensures back { place_of self.now result ≡ place }
-        ensures alone { (other : Place) → IsPlace self.now other → number_of self.now other ≡ result → other ≡ place }
+        ensures alone { (other : Place) → IsPlace self.now other
+            → number_of self.now other ≡ result → other ≡ place }
     {
         self.counted(place)
     }

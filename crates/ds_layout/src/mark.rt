@@ -29,13 +29,15 @@ pub enum State {
 impl Mark {
     ghost use Rattle.ds_layout.specs.declared.mark.Mark.{Mark};
 
-    /// The mark's word, `generation * 32 + holder * 2 + dirty`, where the holder is 0 for nobody, else the process + 1
-    /// (our own rule): a greater generation gives a greater word. The generation is below 2^59, the process below 15.
+    /// The mark's word, `generation * 32 + holder * 2 + dirty`, where the holder is 0 for nobody,
+    /// else the process + 1 (our own rule): a greater generation gives a greater word. The
+    /// generation is below 2^59, the process below 15.
     pub fn word(self) -> u64
         requires { CanPack self }
         ensures value { result ≡ mark_word self }
         ensures reads_back { mark_of result ≡ self }
-        ensures grows { (other : Mark) → CanPack other → other.generation < self.generation → mark_word other < result }
+        ensures grows { (other : Mark) → CanPack other → other.generation < self.generation
+            → mark_word other < result }
     {
         let holder = match self.holder {
             None => 0,
@@ -44,7 +46,8 @@ impl Mark {
         self.generation * 32 + holder * 2 + self.dirty as u64
     }
 
-    /// What a mark's word says. A holder that is no process of the sheet is read as it stands: the cell is held.
+    /// What a mark's word says. A holder that is no process of the sheet is read as it stands: the
+    /// cell is held.
     pub fn read(word: u64) -> Mark
         ensures value { result ≡ mark_of word }
         ensures packs { CanPack result }

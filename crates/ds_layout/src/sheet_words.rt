@@ -30,7 +30,8 @@ impl Model for SheetWords {
 }
 
 impl SheetWords {
-    /// The words of a new sheet: zero on both sides, with empty buffers. An error is a want of memory.
+    /// The words of a new sheet: zero on both sides, with empty buffers. An error is a want of
+    /// memory.
     pub fn new(alloc: Global, layout: Layout) -> Result<SheetWords, AllocError>
         ensures layout { IfOk result (λ s. s.layout ≡ layout) }
         ensures fresh { IfOk result (λ s. IsFresh (memory s)) }
@@ -47,7 +48,8 @@ impl SheetWords {
         self.layout
     }
 
-    /// Both sides of the word at a place. A process reads the cached side alone: the persisted one is what a crash leaves.
+    /// Both sides of the word at a place. A process reads the cached side alone: the persisted one
+    /// is what a crash leaves.
     pub fn word(&self, place: Place) -> Word
         requires { IsPlace self.now.layout place }
         ensures cached { result.cached ≡ (memory self.now).cached place }

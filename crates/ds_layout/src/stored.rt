@@ -18,8 +18,8 @@ pub enum Kind {
     Circular,
 }
 
-/// What a cell shows: the value is 0 where the kind is not `Number`. The height, how far its references go, is below the
-/// number of cells, or equal to it where the kind is `Circular`.
+/// What a cell shows: the value is 0 where the kind is not `Number`. The height, how far its
+/// references go, is below the number of cells, or equal to it where the kind is `Circular`.
 #[derive(Clone, Copy, Debug, PartialEq, Eq)]
 pub struct Stored {
     pub kind: Kind,
@@ -42,7 +42,8 @@ impl Kind {
 }
 
 impl Stored {
-    /// The kind's word, `height * 8 + kind`, with the kinds numbered from 0 in their order (our own rule).
+    /// The kind's word, `height * 8 + kind`, with the kinds numbered from 0 in their order (our own
+    /// rule).
     pub fn kind_word(self) -> u64
         requires { self.height ≤ 1024 }
         ensures { result ≡ kind_word self }
@@ -53,13 +54,15 @@ impl Stored {
     /// The value's word: the number as two's complement.
     pub fn value_word(self) -> u64
         ensures value { result ≡ value_word self }
-        ensures reads_back { (cells : ℕ) → IsStored cells self → stored_of cells result (kind_word self) ≡ self }
+        ensures reads_back { (cells : ℕ) → IsStored cells self
+            → stored_of cells result (kind_word self) ≡ self }
     {
         self.value.cast_unsigned()
     }
 
-    /// What the two words of a cell say in a sheet with so many cells. A kind of 4 or more, or a height of the number of
-    /// cells or more, is read as `Circular` at that height; the value is 0 where the kind is not `Number`.
+    /// What the two words of a cell say in a sheet with so many cells. A kind of 4 or more, or a
+    /// height of the number of cells or more, is read as `Circular` at that height; the value is 0
+    /// where the kind is not `Number`.
     pub fn read(value: u64, kind: u64, cells: usize) -> Stored
         ensures value { result ≡ stored_of cells value kind }
         ensures stored { IsStored cells result }

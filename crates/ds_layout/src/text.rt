@@ -12,8 +12,8 @@ fn byte_or_zero(text: &[u8], at: usize) -> u8
     if at < text.len() { text[at] } else { 0 }
 }
 
-/// The word of a part of a text: bytes `8 * part` to `8 * part + 7`, the first in the lowest eight bits, and 0 past the
-/// end of the text (our own rule).
+/// The word of a part of a text: bytes `8 * part` to `8 * part + 7`, the first in the lowest eight
+/// bits, and 0 past the end of the text (our own rule).
 pub fn part_word(text: &[u8], part: usize) -> u64
     requires { part < TEXT_PARTS }
     ensures value { result ≡ part_word text.now part }

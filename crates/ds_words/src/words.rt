@@ -1,8 +1,8 @@
 //! The words.
 
-ghost use Rattle.std.specs.Prelude.{◌≡◌, ℕ, ◌<◌, ◌≤◌, ◌++◌, ◌∷◌, [], length, drop, map, IfOk, IsTrue, ◌↔◌};
-ghost use Rattle.ds_words.specs.Memory.{SameMemory, StoresAt, OrsAt, SwapsAt, FlushesAt, BacksFirst, EvictsAt, Crashes, StopsAt, Performs};
-ghost use Rattle.ds_words.specs.Words.{WordsValue, memory_of, fresh_words, SameShape, HasWord, HasProcess, HasRoom, HasEntry, CanPerform, word_at, with_word, class_at, buffer_of, with_buffer, crashed};
+ghost use Rattle.std.specs.Prelude.{◌≡◌, ◌<◌, ◌↔◌, ◌∷◌, [], length, drop, map, IfOk, IsTrue};
+ghost use Rattle.ds_words.specs.Memory.{StoresAt, OrsAt, SwapsAt, FlushesAt, BacksFirst, EvictsAt, Crashes, StopsAt, Performs};
+ghost use Rattle.ds_words.specs.Words.{memory_of, fresh_words, SameShape, HasWord, HasProcess, HasRoom, HasEntry, CanPerform, word_at, with_word, class_at, buffer_of, with_buffer, crashed};
 
 use crate::access::{Access, Class, Entry};
 use arrayvec::ArrayVec;
@@ -33,7 +33,11 @@ impl Model for Words {
 
     ghost Value = { WordsValue };
 
-    ghost view = { λ w. record { classes = w.classes.items; words = w.words.items; buffers = map (λ b. b.items) w.buffers.items } };
+    ghost view = { λ w. record {
+      classes = w.classes.items;
+      words = w.words.items;
+      buffers = map (λ b. b.items) w.buffers.items;
+    } };
 
     ghost invariant = { λ w. length w.classes.items ≡ length w.words.items };
 }
@@ -62,7 +66,8 @@ fn lose_buffers(buffers: &mut Vec<ArrayVec<Entry<usize>, BUFFER_ENTRIES>>)
 }
 
 impl Words {
-    /// A word for each class, zero on both sides, and an empty buffer for each process. An error is a want of memory.
+    /// A word for each class, zero on both sides, and an empty buffer for each process. An error is
+    /// a want of memory.
     pub fn new(alloc: Global, classes: Vec<Class>, processes: usize) -> Result<Words, AllocError>
         ensures { IfOk result (λ w. w ≡ fresh_words classes.items processes) }
     {
@@ -125,7 +130,8 @@ impl Words {
         process < self.buffers.len() && self.buffered(process) < BUFFER_ENTRIES
     }
 
-    /// Whether the process may write back: it is there, and its buffer holds an entry, the oldest for a word that is there.
+    /// Whether the process may write back: it is there, and its buffer holds an entry, the oldest
+    /// for a word that is there.
     pub fn has_entry(&self, process: usize) -> bool
         ensures { IsTrue result ↔ HasEntry self.now process }
     {
@@ -154,7 +160,8 @@ impl Words {
         }
     }
 
-    /// Both sides of a word. A process reads the cached side alone: the persisted one is what a crash leaves.
+    /// Both sides of a word. A process reads the cached side alone: the persisted one is what a
+    /// crash leaves.
     #[tactic(auto, unfolding(crate::specs::Words::word_at))]
     pub fn word(&self, number: usize) -> Word
         requires { HasWord self.now number }
@@ -215,10 +222,12 @@ impl Words {
         self.store(number, seen | bits);
     }
 
-    /// Sets the cached side of a word to `value` where it is `expected`, and answers the number that it was.
+    /// Sets the cached side of a word to `value` where it is `expected`, and answers the number
+    /// that it was.
     pub fn swap_if(&mut self, number: usize, expected: u64, value: u64) -> u64
         requires { HasWord self.old number }
-        ensures swaps { SwapsAt number expected value result (memory_of self.old) (memory_of self.new) }
+        ensures swaps { SwapsAt number expected value result
+            (memory_of self.old) (memory_of self.new) }
         ensures shape { SameShape self.old self.new }
     {
         let seen = self.load(number);
@@ -228,12 +237,14 @@ impl Words {
         seen
     }
 
-    /// Takes the cached side of a word into the buffer of a process, behind the entries that are there.
+    /// Takes the cached side of a word into the buffer of a process, behind the entries that are
+    /// there.
     pub fn flush(&mut self, process: usize, number: usize)
         requires word { HasWord self.old number }
         requires process { HasProcess self.old process }
         requires room { HasRoom self.old process }
-        ensures flushes { FlushesAt process number (class_at self.old number) (memory_of self.old) (memory_of self.new) }
+        ensures flushes { FlushesAt process number (class_at self.old number)
+            (memory_of self.old) (memory_of self.new) }
         ensures shape { SameShape self.old self.new }
     {
         let class = self.class(number);
@@ -257,7 +268,8 @@ impl Words {
         buffer.remove(0)
     }
 
-    /// Writes the oldest entry of the buffer of a process to the persisted side of its word, where it is newer.
+    /// Writes the oldest entry of the buffer of a process to the persisted side of its word, where
+    /// it is newer.
     pub fn back(&mut self, process: usize)
         requires { HasEntry self.old process }
         ensures back { BacksFirst process (memory_of self.old) (memory_of self.new) }
@@ -313,7 +325,8 @@ impl Words {
     /// Performs the access for a process, and answers the number that it saw: 0 where it saw none.
     pub fn perform(&mut self, process: usize, access: Access<usize>) -> u64
         requires { CanPerform self.old process access }
-        ensures performs { Performs (class_at self.old) access process (memory_of self.old) (memory_of self.new) result }
+        ensures performs { Performs (class_at self.old) access process
+            (memory_of self.old) (memory_of self.new) result }
         ensures shape { SameShape self.old self.new }
     {
         match access {
