@@ -1,6 +1,6 @@
 -- What a new sheet holds, and what a written cell changes.
-use Rattle.std.proofs.Common.{◌≡◌, ◌≢◌, ◌⊎◌, ℕ, zero, suc, ◌+◌, ◌*◌, ◌<◌, ◌≤◌, Bool, true, false, ◌&&◌, cond, List, [], ◌∷◌, ◌++◌, length, get_or, set, slice_get, Option, Some, None, refl, ap, sym, ◌∙◌, subst, inl, inr, arith, replicate, vec_len}
-use Rattle.std.specs.Prelude.{slice_index, nat_eq}
+use Rattle.std.proofs.Common.{◌≡◌, ◌≢◌, ℕ, zero, suc, ◌+◌, ◌*◌, ◌<◌, ◌≤◌, Bool, true, false, ◌&&◌, cond, List, [], ◌∷◌, ◌++◌, length, get_or, set, slice_get, refl, ap, sym, ◌∙◌, subst, inl, inr, arith, replicate}
+use Rattle.std.specs.Prelude.{nat_eq}
 use Rattle.std.proofs.Math.Nat.{mul-le-mul_right}
 use Rattle.std.proofs.lemmas.Bool.{cases_lt, cases_eq, eq-eqb, eqb-true}
 use Rattle.std.proofs.lemmas.List.{get_or-set_other, get_or-set_same, get_or-replicate}
@@ -14,7 +14,7 @@ use Rattle.ds_formula.specs.Grammar.{Reads, blank}
 use Rattle.std.proofs.Common.{lit≤}
 use Rattle.ds_eval.specs.Sheet.{plain_or_empty}
 use Rattle.ds_core.specs.declared.edit.CountedEdit.{CountedEdit}
-use Rattle.ds_core.specs.Ledger.{edits_of, same_cell, text_after, last_text, IsFold}
+use Rattle.ds_core.specs.Ledger.{edits_of, same_cell, last_text, IsFold}
 use Rattle.ds_core.proofs.LedgerLemmas.{edits_of-own, edits_of-other, text_after-last}
 
 -- an empty text is blank

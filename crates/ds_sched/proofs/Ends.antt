@@ -1,10 +1,8 @@
 -- How a script ends, from how its lines ran.
-use Rattle.std.proofs.Common.{◌≡◌, ◌≢◌, ◌⊎◌, ℕ, suc, ◌+◌, ◌<◌, ◌≤◌, Bool, true, false, List, [], ◌++◌, length, take, Option, Some, None, Result, Ok, Err, refl, sym, ap, subst, ◌∙◌, inl, inr, arith, lit≤}
-use Rattle.std.specs.Io.KnownBytes.{Consumes, Appends, Keeps}
+use Rattle.std.proofs.Common.{◌≡◌, ◌≢◌, ℕ, suc, ◌+◌, Bool, true, false, List, [], ◌++◌, length, take, Option, Result, Ok, Err, refl, sym, ap, subst, inl, inr, lit≤}
+use Rattle.std.specs.Io.KnownBytes.{Appends}
 use Rattle.ds_formula.specs.declared.cells.Shape.{Shape}
-use Rattle.ds_core.specs.PlainSheet.{PlainSheet, fresh}
-use Rattle.ds_sched.specs.declared.ending.ScriptFault.{ScriptFault}
-use Rattle.ds_sched.specs.declared.ending.ScriptFault.TheVariants.{LineTooLong}
+use Rattle.ds_core.specs.PlainSheet.{fresh}
 use Rattle.ds_sched.specs.declared.ending.ScriptEnd.{ScriptEnd}
 use Rattle.ds_sched.specs.declared.ending.ScriptEnd.TheVariants as ends
 use Rattle.ds_sched.specs.declared.input.InputEnd.{InputEnd}
@@ -14,10 +12,10 @@ use Rattle.ds_sched.specs.declared.script.Stop.TheVariants as stops
 use Rattle.ds_sched.specs.declared.script.Break.{Break}
 use Rattle.ds_sched.specs.declared.script.Break.TheVariants as breaks
 use Rattle.ds_sched.specs.Input.{EndsWith, Within}
-use Rattle.ds_sched.specs.Lines.{AtFront, NoLine, ALine, LongLine, next_of}
-use Rattle.ds_sched.specs.Script.{Progress, after, IsFirst, Asks, Carried, begins, skips, obeys, Finishes, FaultAt, Breaks, Partly, Outcome}
+use Rattle.ds_sched.specs.Lines.{AtFront, ALine, next_of}
+use Rattle.ds_sched.specs.Script.{Progress, after, IsFirst, Carried, begins, skips, obeys, Finishes, FaultAt, Breaks, Partly, Outcome}
 use Rattle.ds_sched.specs.Running.{progress_of, Obeyed, Stopped, break_of, Ran, ending_of}
-use Rattle.ds_sched.proofs.Known.{Appends-none, Appends-both, Appends-Keeps}
+use Rattle.ds_sched.proofs.Known.{Appends-both}
 
 -- ---- the first sheet
 

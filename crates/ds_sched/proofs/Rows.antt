@@ -1,5 +1,5 @@
 -- The records of a report, one after another.
-use Rattle.std.proofs.Common.{◌≡◌, ℕ, suc, ◌+◌, ◌*◌, ◌-◌, ◌<◌, List, ◌++◌, take, drop, map, refl, sym, ap, ◌∙◌, append_assoc, arith, drop-drop}
+use Rattle.std.proofs.Common.{◌≡◌, ℕ, suc, ◌+◌, ◌*◌, ◌-◌, ◌<◌, List, ◌++◌, take, drop, map, sym, ap, ◌∙◌, append_assoc, arith, drop-drop}
 use Rattle.csv.specs.Writing.{row_text, default_writer}
 use Rattle.ds_eval.specs.declared.value.Value.{Value}
 use Rattle.ds_eval.specs.Numbers.{value_text}

@@ -1,8 +1,7 @@
 -- What carrying lines out leaves.
-use Rattle.std.specs.Prelude.{◌≡◌, ◌⊎◌, ℕ, Bool, true, List, [], Option, Some, None, Result, Ok, Err}
-use Rattle.std.specs.Io.KnownBytes.{Appends, Keeps}
+use Rattle.std.specs.Prelude.{◌≡◌, ◌⊎◌, ℕ, Bool, true, List, Option, Some, None, Result, Ok, Err}
+use Rattle.std.specs.Io.KnownBytes.{Appends}
 use Rattle.ds_core.specs.PlainSheet.{PlainSheet}
-use Rattle.ds_sched.specs.declared.ending.ScriptFault.{ScriptFault}
 use Rattle.ds_sched.specs.declared.ending.ScriptEnd.{ScriptEnd}
 use Rattle.ds_sched.specs.declared.ending.ScriptEnd.TheVariants as ends
 use Rattle.ds_sched.specs.declared.script.Stop.{Stop}

@@ -1,6 +1,5 @@
 -- What a script does: its lines in order, the sheet after each, and the answers to them (our own rules).
-use Rattle.std.specs.Prelude.{◌≡◌, ◌≢◌, ℕ, suc, ◌+◌, ◌<◌, ◌≤◌, Bool, true, false, List, [], ◌++◌, length, take, Option, Some, None, Ok, Err}
-use Rattle.std.specs.Io.KnownBytes.{Consumes, Appends}
+use Rattle.std.specs.Prelude.{◌≡◌, ℕ, suc, ◌+◌, ◌<◌, ◌≤◌, Bool, true, false, List, [], ◌++◌, length, take, Option, Some, None, Ok, Err}
 use Rattle.ds_formula.specs.declared.cells.Shape.{Shape}
 use Rattle.ds_core.specs.PlainSheet.{PlainSheet, fresh}
 use Rattle.ds_sched.specs.declared.ending.ScriptFault.{ScriptFault}

@@ -1,4 +1,4 @@
-use Rattle.std.proofs.Common.{◌≡◌, List, ℕ, refl, subst, sym, ◌∙◌}
+use Rattle.std.proofs.Common.{refl, subst, sym}
 use Rattle.ds_sched.specs.declared.command.Command.{Command}
 use Rattle.ds_sched.specs.Commands.{command_view}
 use Rattle.ds_sched.specs.Answers.{Answers}

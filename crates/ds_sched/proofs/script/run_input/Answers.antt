@@ -1,6 +1,5 @@
-use Rattle.std.proofs.Common.{◌≡◌, ◌≢◌, ◌+◌, ◌≤◌, ◌<◌, ◌^◌, ℕ, List, [], Option, length, take, refl, arith, subst, sym, ap, ◌∙◌, Bool, true, false, length-take}
+use Rattle.std.proofs.Common.{◌≡◌, ◌+◌, ◌≤◌, ℕ, List, length, take, arith, subst, sym, ap, ◌∙◌, Bool, true, false, length-take}
 use Rattle.std.proofs.lemmas.List.{take_all}
-use Rattle.std.specs.Io.KnownBytes.{Appends}
 use Rattle.ds_sched.specs.Streams.{writer_of, write_failed}
 use Rattle.ds_sched.specs.declared.input.InputEnd.{InputEnd}
 use Rattle.ds_sched.specs.declared.input.InputEnd.TheVariants as inputs
@@ -8,7 +7,6 @@ use Rattle.ds_sched.specs.declared.ending.ScriptEnd.{ScriptEnd}
 use Rattle.ds_sched.specs.declared.ending.ScriptEnd.TheVariants as ends
 use Rattle.ds_sched.specs.Input.{Within}
 use Rattle.ds_sched.specs.Script.{Outcome, Finishes}
-use Rattle.ds_sched.specs.Running.{Ran, ending_of}
 use Rattle.ds_sched.proofs.Ends.{outcome_of}
 use Rattle.ds_sched.proofs.script.run_input.Goals as goal
 

@@ -1,11 +1,9 @@
-use Rattle.std.proofs.Common.{◌≡◌, ◌+◌, ◌≤◌, ◌<◌, ℕ, suc, List, [], Option, length, refl, arith, subst, sym, false, add-one, Result, Err}
-use Rattle.std.specs.Io.KnownBytes.{Appends}
-use Rattle.ds_core.specs.PlainSheet.{PlainSheet, fresh}
+use Rattle.std.proofs.Common.{◌≡◌, [], refl, arith, subst, sym, false, add-one, Err}
 use Rattle.ds_sched.specs.Streams.{writer_of, write_failed}
 use Rattle.ds_sched.specs.declared.ending.ScriptFault.TheVariants.{LineTooLong}
 use Rattle.ds_sched.specs.declared.script.Break.{Break}
-use Rattle.ds_sched.specs.Lines.{AtFront, NoLine, ALine, LongLine, next_of}
-use Rattle.ds_sched.specs.Script.{Progress, Carried, begins, FaultAt}
+use Rattle.ds_sched.specs.Lines.{AtFront, ALine, next_of}
+use Rattle.ds_sched.specs.Script.{begins, FaultAt}
 use Rattle.ds_sched.specs.Running.{progress_of, Ran}
 use Rattle.ds_sched.proofs.Known.{Appends-none}
 use Rattle.ds_sched.proofs.LinesLemmas.{next_shorter}

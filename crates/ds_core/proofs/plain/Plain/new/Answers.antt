@@ -1,4 +1,4 @@
-use Rattle.std.proofs.Common.{◌≡◌, ℕ, ◌<◌, get_or, replicate, length, arith, ap, ◌∙◌, refl, [], List}
+use Rattle.std.proofs.Common.{◌≡◌, ℕ, ◌<◌, get_or, arith, refl, []}
 use Rattle.ds_core.proofs.SheetLemmas.{no_edits, no_numbers}
 use Rattle.ds_core.proofs.plain.Plain.new.Goals as goal
 

@@ -1,13 +1,13 @@
-use Rattle.std.proofs.Common.{rules, ◌≡◌, ◌≢◌, ℕ, ◌<◌, ◌≤◌, ◌+◌, List, [], ◌∷◌, ◌++◌, get_or, set, length, arith, ap, ◌∙◌, sym, refl, subst, vec_len}
+use Rattle.std.proofs.Common.{◌≡◌, ◌≢◌, ℕ, ◌<◌, ◌≤◌, List, [], ◌∷◌, ◌++◌, get_or, set, length, arith, ap, ◌∙◌, sym, subst, vec_len}
 use Rattle.std.proofs.lemmas.Grind.{get_or_default_zero}
 use Rattle.ds_formula.specs.declared.cells.Shape.{Shape}
 use Rattle.ds_formula.specs.declared.cells.Cell.{Cell}
 use Rattle.ds_formula.specs.declared.content.Content.{Content}
-use Rattle.ds_formula.specs.Cells.{index_of, count_of, IsInside}
+use Rattle.ds_formula.specs.Cells.{index_of, IsInside}
 use Rattle.ds_formula.specs.Plain.{plain}
 use Rattle.ds_formula.specs.Grammar.{Reads}
 use Rattle.ds_core.specs.declared.edit.CountedEdit.{CountedEdit}
-use Rattle.ds_core.specs.Ledger.{IsFold, edits_of, last_text}
+use Rattle.ds_core.specs.Ledger.{edits_of, last_text}
 use Rattle.ds_core.specs.PlainSheet.{PlainSheet}
 use Rattle.ds_core.proofs.SheetLemmas.{fold_more, numbers_more, room_more, held_at}
 use Rattle.ds_core.proofs.plain.Plain.set.Goals as goal
@@ -55,21 +55,21 @@ invariant_of-self-2 c =
     let contents : List Content = c.self.inside.sheet.contents.items in
     let below = own_below c in
     let put : c.put.new.contents.items ≡ set contents (index_of shape c.args.cell) c.in_ok-content.content =
-          c.put.ensures.items ∙ ap (λ (i : ℕ). set contents i c.in_ok-content.content) c.index-index.ensures.value in
+    c.put.ensures.items ∙ ap (λ (i : ℕ). set contents i c.in_ok-content.content) c.index-index.ensures.value in
     record {
       few = c.self.invariant.few;
       numbers = λ p h.
-      let n = numbers_more old (made c) c.self.inside.numbers.items c.index-number.result.now (own_edits c) below
-            (λ q l. c.self.invariant.numbers q (omega (arith, c.self.inside.numbers.ok.0, l))) p (omega (arith, c.self.inside.numbers.ok.0, h)) in
-      n ∙ sym (ap (edits_of p) items);
+          let n = numbers_more old (made c) c.self.inside.numbers.items c.index-number.result.now (own_edits c) below
+          (λ q l. c.self.invariant.numbers q (omega (arith, c.self.inside.numbers.ok.0, l))) p (omega (arith, c.self.inside.numbers.ok.0, h)) in
+          n ∙ sym (ap (edits_of p) items);
       room = λ p h.
-      room_more c.self.inside.numbers.items c.args.process c.index-number.result.now (own_room c) below
-      (λ q l. c.self.invariant.room q (omega (arith, c.self.inside.numbers.ok.0, l))) p (omega (arith, c.self.inside.numbers.ok.0, h));
+          room_more c.self.inside.numbers.items c.args.process c.index-number.result.now (own_room c) below
+          (λ q l. c.self.invariant.room q (omega (arith, c.self.inside.numbers.ok.0, l))) p (omega (arith, c.self.inside.numbers.ok.0, h));
       fold = λ cell inside.
-      let more = fold_more shape old (made c) contents c.in_ok-content.content
-            (omega (arith, c.self.inside.sheet.whole, c.self.inside.sheet.contents.ok.0)) (omega (arith, c.index-index.ensures.value, c.index-index.ensures.below)) (own_inside c) (own_read c) c.self.invariant.fold cell inside in
-      subst (λ (es : List CountedEdit). Reads shape (last_text es cell) (held_at c.put.new.contents.items (index_of shape cell))) (sym items)
-      (subst (λ (xs : List Content). Reads shape (last_text (old ++ made c ∷ []) cell) (held_at xs (index_of shape cell))) (sym put) more);
+          let more = fold_more shape old (made c) contents c.in_ok-content.content
+          (omega (arith, c.self.inside.sheet.whole, c.self.inside.sheet.contents.ok.0)) (omega (arith, c.index-index.ensures.value, c.index-index.ensures.below)) (own_inside c) (own_read c) c.self.invariant.fold cell inside in
+          subst (λ (es : List CountedEdit). Reads shape (last_text es cell) (held_at c.put.new.contents.items (index_of shape cell))) (sym items)
+          (subst (λ (xs : List Content). Reads shape (last_text (old ++ made c ∷ []) cell) (held_at xs (index_of shape cell))) (sym put) more);
     }
 
 pub returns-clause-done : goal.returns-clause-done
