@@ -52,7 +52,7 @@ abbrev pub chosen : Value → Value → Value → Value
 chosen condition then_value else_value = with_number condition (λ z. if int_eq z (pos 0) then else_value else then_value)
 
 -- a function, by the values that its arguments stand for and by their own ones
--- (the reader gives no wrong number of arguments: that is #NUM! here)
+-- (the reader gives no wrong number of arguments: that is #NUM! here, and SUM, MIN and MAX of none are 0)
 abbrev pub applied : Function → List Value → List Value → Value
 applied functions.Sum all own = with_all all (λ ns. in_range (total ns))
 applied functions.Min all own = with_all all (λ ns. Number (least ns))

@@ -88,7 +88,8 @@ pub fn evaluate(tree: &Tree, shape: Shape, inputs: &Inputs) -> Value
     }
 }
 
-/// The value of a function. A wrong number of arguments, which the reader of formulas never gives, is `#NUM!`.
+/// The value of a function. What the reader of formulas never gives has some value all the same: a wrong number of
+/// arguments of ABS, MOD, QUOTIENT or IF is `#NUM!`, and SUM, MIN and MAX of none are 0.
 #[cycle(evaluation)]
 fn call(function: Function, arguments: &[Tree], shape: Shape, inputs: &Inputs) -> Value
     ensures { result ≡ spec.formula_value shape (values_in inputs.now.items) (Called function (listed (map formula arguments.now))) }
