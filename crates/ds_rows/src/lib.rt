@@ -6,6 +6,8 @@ mod endings;
 #[cfg(test)]
 mod large;
 #[cfg(test)]
+mod random;
+#[cfg(test)]
 mod refusals;
 #[cfg(test)]
 mod rows;
