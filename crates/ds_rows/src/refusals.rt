@@ -1,48 +1,18 @@
 use crate::running::expect_answers;
 
 // A text that is set in A1, and its refusal.
-const REFUSED: [(&str, &str); 41] = [
+const REFUSED: [(&str, &str); 8] = [
     ("=1.5", "NotWhole 2"),
     ("=[.C1]", "OutsideSheet 1"),
+    (
+        "0000000000000000000000000000000000000000000000000000000000000000000000000000000000000000000000000000000000000000000000000",
+        "TooLong 120",
+    ),
     ("=1+", "Unfinished 3"),
     ("=[.A1:.A2]", "RangeNotAllowed 1"),
     ("=SUM()", "WrongArguments 1"),
     ("=PI(1)", "UnknownFunction 1"),
-    ("=", "Unfinished 1"),
-    ("-", "Unfinished 1"),
-    ("of:", "BadToken 0"),
-    ("1 ", "BadToken 1"),
-    ("1.5", "NotWhole 1"),
-    ("=1 2", "BadToken 3"),
-    ("=1e5", "NotWhole 2"),
-    ("=.5", "BadToken 1"),
-    ("=9223372036854775808", "NumberTooLarge 1"),
-    ("=[A1]", "BadToken 2"),
-    ("=[.A0]", "BadToken 4"),
-    ("=[.A1", "Unfinished 5"),
-    ("=[.A3]", "OutsideSheet 1"),
-    ("=SUM(1;;2)", "BadToken 7"),
-    ("=SUM((1;2))", "BadToken 7"),
-    ("=IF(1)", "WrongArguments 1"),
-    ("=SUM 1", "BadToken 5"),
-    ("=A1", "UnknownFunction 1"),
-    ("=1)", "BadToken 2"),
-    ("=SUM([.A1:.B2]+1)", "RangeNotAllowed 5"),
     ("=1,5", "BadToken 2"),
-    ("=ABS([.A1:.A2])", "RangeNotAllowed 5"),
-    ("9223372036854775808", "NumberTooLarge 0"),
-    ("-9223372036854775809", "NumberTooLarge 1"),
-    ("=9223372036854775808.5", "NotWhole 20"),
-    ("=[.A1]+[.A9:.B1]+", "OutsideSheet 7"),
-    ("=[.A1:.A9", "Unfinished 9"),
-    ("=[.AA1]", "OutsideSheet 1"),
-    ("OF:=1", "BadToken 0"),
-    ("=MOD(1;2;3)", "WrongArguments 1"),
-    ("=1<>>2", "BadToken 4"),
-    ("=< 2", "BadToken 1"),
-    ("===1", "BadToken 2"),
-    ("=QUOTIENT(1;2)+SUM(", "Unfinished 19"),
-    ("=[.A1:.A2]+1.5", "NotWhole 12"),
 ];
 
 #[test]
@@ -56,7 +26,7 @@ fn refusals(rt: HostRuntime) -> std::io::Result<()> {
 }
 
 // A text that is accepted in A1, and its value.
-const ACCEPTED: [(&str, &str); 23] = [
+const ACCEPTED: [(&str, &str); 26] = [
     ("=SUM(([.A2:.B2]))", "0"),
     ("=--1", "1"),
     ("=2-3-4", "-5"),
@@ -81,6 +51,12 @@ const ACCEPTED: [(&str, &str); 23] = [
         "=SUM(9223372036854775807;9223372036854775807;-9223372036854775807)",
         "9223372036854775807",
     ),
+    (
+        "=SUM(9223372036854775807;1;1;1;1;1;1;1;1;1;1;1;1;1;1;1;-1;-1;-1;-1;-1;-1;-1;-1;-1;-1;-1;-1;-1;-1;-1)",
+        "9223372036854775807",
+    ),
+    ("=MOD(9223372036854775807;-10)", "-3"),
+    ("=QUOTIENT(9223372036854775807;-1)", "-9223372036854775807"),
     ("=MOD(1;0)+(9223372036854775807+1)", "#DIV/0!"),
     ("=(9223372036854775807+1)+MOD(1;0)", "#NUM!"),
 ];

@@ -3,7 +3,7 @@ use crate::running::expect_answers;
 const SETTLED: &str = "settle 0\nreport 0\n";
 
 // Cells that are set, and the report of them: two columns and two rows unless the script says otherwise.
-const REPORTS: [(&str, &str); 16] = [
+const REPORTS: [(&str, &str); 17] = [
     ("set 0 A1 =1+2\n", "0 0 done\nclean\nsettled\n3,\n,\n"),
     (
         "set 0 A1 =[.A2]+1\nset 0 A2 4\n",
@@ -56,6 +56,10 @@ const REPORTS: [(&str, &str); 16] = [
     (
         "set 0 A1 -9223372036854775808\nset 0 B1 =MOD([.A1];-1)\nset 0 A2 =QUOTIENT([.A1];-1)\nset 0 B2 =-[.A1]\n",
         "0 0 done\n0 1 done\n0 2 done\n0 3 done\nclean\nsettled\n-9223372036854775808,0\n#NUM!,#NUM!\n",
+    ),
+    (
+        "set 0 A1 -9223372036854775808\nset 0 B1 =MOD([.A1];10)\nset 0 A2 =QUOTIENT([.A1];10)\nset 0 B2 =MOD([.A1];-10)\n",
+        "0 0 done\n0 1 done\n0 2 done\n0 3 done\nclean\nsettled\n-9223372036854775808,2\n-922337203685477580,-8\n",
     ),
     (
         "sheet 3 2 1\nset 0 A1 =MOD(1;0)\nset 0 B1 =9223372036854775807+1\nset 0 A2 =SUM([.A1:.B1])\nset 0 B2 =MAX([.B1];[.A1])\n",

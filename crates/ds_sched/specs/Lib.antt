@@ -7,3 +7,4 @@ pub mod Answers
 pub mod Csv
 pub mod Script
 pub mod Running
+pub mod Endings

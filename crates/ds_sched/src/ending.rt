@@ -16,6 +16,11 @@ pub enum ScriptFault {
 }
 
 impl fmt::Display for ScriptFault {
+    ghost use Rattle.std.specs.Prelude.{Some};
+    ghost use Rattle.ds_sched.specs.Endings.{name_of_fault};
+
+    ghost output = { λ fault. Some (name_of_fault fault) };
+
     fn fmt<W: fmt::Write>(&self, f: &mut fmt::Formatter<W>) -> fmt::Result {
         f.write_str(match self {
             ScriptFault::UnknownCommand => "unknown command",
@@ -44,6 +49,11 @@ pub enum ScriptEnd {
 }
 
 impl fmt::Display for ScriptEnd {
+    ghost use Rattle.std.specs.Prelude.{Some};
+    ghost use Rattle.ds_sched.specs.Endings.{end_text};
+
+    ghost output = { λ end. Some (end_text end) };
+
     fn fmt<W: fmt::Write>(&self, f: &mut fmt::Formatter<W>) -> fmt::Result {
         match self {
             ScriptEnd::Ended => f.write_str("ended"),
