@@ -1,5 +1,5 @@
 -- Packed forms read back their parts, as equations of plain values.
-use Rattle.std.proofs.Common.{ℕ, ℤ, ◌≡◌, ◌≢◌, ◌+◌, ◌-◌, ◌*◌, ◌/◌, ◌%◌, ◌^◌, ◌<◌, ◌≤◌, Bool, true, false, Option, Some, None, nat_lt, ◌&&◌, ◌||◌, ◌==◌, List, length, get_or, take, drop, refl, ap, sym, ◌∙◌, subst, arith, suc, zero, inl, inr, pos}
+use Rattle.std.proofs.Common.{ℕ, ℤ, ◌≡◌, ◌≢◌, ◌+◌, ◌-◌, ◌*◌, ◌/◌, ◌%◌, ◌^◌, ◌<◌, ◌≤◌, Bool, true, false, cond, Option, Some, None, nat_lt, ◌&&◌, ◌||◌, ◌==◌, List, length, get_or, take, drop, refl, ap, sym, ◌∙◌, subst, arith, suc, zero, inl, inr, pos}
 use Rattle.std.specs.Prelude.{if◌then◌else◌, bit_or, FitsSigned, nat_le, map}
 use Rattle.std.specs.Int.{w64, cast_signed, cast_unsigned}
 use Rattle.std.specs.List.{range_with_len}
@@ -21,7 +21,7 @@ use Rattle.ds_layout.specs.declared.header.Header.{Header}
 use Rattle.ds_layout.specs.Head as heads
 use Rattle.ds_layout.specs.Head.{IsHead, head_word, head_of}
 use Rattle.ds_layout.specs.Mark as marks
-use Rattle.ds_layout.specs.Mark.{mark_word, mark_of, holder_code, holder_of, dirty_bit}
+use Rattle.ds_layout.specs.Mark.{mark_word, parts_of, present, mark_of, holder_code, holder_of, dirty_bit}
 use Rattle.ds_layout.specs.Stored.{Goes, IsStored, kind_word, value_word, stored_of, stored_by, kind_code}
 use Rattle.ds_layout.specs.Announcement.{IsAnnouncement, announcement_word, announcement_of, announcement_with, phase_code}
 use Rattle.ds_layout.specs.Header as headers
@@ -98,9 +98,9 @@ dirty_bit-dirty_of (suc (suc n)) h = absurd (omega arith)
 mark_with : ℕ → Option ℕ → Bool → Mark
 mark_with generation holder dirty = record { generation = generation; holder = holder; dirty = dirty }
 
-pub mark_of-mark_word : (m : Mark) → marks.CanPack m → mark_of (mark_word m) ≡ m
+pub parts_of-mark_word : (m : Mark) → marks.CanPack m → parts_of (mark_word m) ≡ m
 unfolding mark_with
-mark_of-mark_word m c =
+parts_of-mark_word m c =
     let code : ℕ = holder_code m.holder in
     let bit : ℕ = dirty_bit m.dirty in
     let small : bit ≤ 1 = dirty_small m.dirty in
@@ -113,8 +113,8 @@ mark_of-mark_word m c =
     ∙ ap (λ h. mark_with m.generation h (word % 2 == 1)) (ap holder_of holder ∙ holder_of-holder_code m.holder)
     ∙ ap (λ d. mark_with m.generation m.holder d) (ap (λ (n : ℕ). n == 1) dirty ∙ dirty_of-dirty_bit m.dirty)
 
-pub mark_word-mark_of : (word : ℕ) → mark_word (mark_of word) ≡ word
-mark_word-mark_of word =
+pub mark_word-parts_of : (word : ℕ) → mark_word (parts_of word) ≡ word
+mark_word-parts_of word =
     let holder : holder_code (holder_of (word / 2 % 16)) ≡ word / 2 % 16 = holder_code-holder_of (word / 2 % 16) in
     let dirty : dirty_bit (word % 2 == 1) ≡ word % 2 = dirty_bit-dirty_of (word % 2) (omega arith) in
     ap (λ (c : ℕ). word / 32 * 32 + c * 2 + dirty_bit (word % 2 == 1)) holder ∙ ap (λ (b : ℕ). word / 32 * 32 + word / 2 % 16 * 2 + b) dirty ∙ (omega arith)
@@ -140,18 +140,57 @@ mark_word-dirtied m =
     let one : bit_or (dirty_bit d) 1 ≡ 1 = one_added d in
     sym (ap (λ (x : ℕ). bit_or x 1) parts ∙ joined ∙ ap (λ (x : ℕ). x * 2 ^ 1 + bit_or (dirty_bit d) 1) none ∙ ap (λ (x : ℕ). rest * 2 ^ 1 + x) one ∙ (omega arith))
 
-pub CanPack-mark_of : (word : ℕ) → word < 2 ^ 64 → marks.CanPack (mark_of word)
-CanPack-mark_of word small =
+pub CanPack-parts_of : (word : ℕ) → word < 2 ^ 64 → marks.CanPack (parts_of word)
+CanPack-parts_of word small =
     let holder : holder_code (holder_of (word / 2 % 16)) ≡ word / 2 % 16 = holder_code-holder_of (word / 2 % 16) in
     record { generation = omega arith; holder = subst (λ (n : ℕ). n < 16) (sym holder) (omega arith) }
 
-pub mark_of-or_dirty : (word : ℕ) → word < 2 ^ 64 → mark_of (bit_or word 1) ≡ record (mark_of word) { dirty = true }
-mark_of-or_dirty word small =
-    let m : Mark = mark_of word in
-    let c : marks.CanPack m = CanPack-mark_of word small in
+pub parts_of-or_dirty : (word : ℕ) → word < 2 ^ 64 → parts_of (bit_or word 1) ≡ record (parts_of word) { dirty = true }
+parts_of-or_dirty word small =
+    let m : Mark = parts_of word in
+    let c : marks.CanPack m = CanPack-parts_of word small in
     let dirty : Mark = record m { dirty = true } in
     let d : marks.CanPack dirty = record { generation = c.generation; holder = c.holder } in
-    ap (λ (w : ℕ). mark_of (bit_or w 1)) (sym (mark_word-mark_of word)) ∙ ap mark_of (sym (mark_word-dirtied m)) ∙ mark_of-mark_word dirty d
+    ap (λ (w : ℕ). parts_of (bit_or w 1)) (sym (mark_word-parts_of word)) ∙ ap parts_of (sym (mark_word-dirtied m)) ∙ parts_of-mark_word dirty d
+
+-- a process of the sheet is there
+present-within : (processes : ℕ) (holder : Option ℕ) → holder_code holder ≤ processes → present processes holder ≡ holder
+present-within processes None h = refl
+present-within processes (Some process) h = ap (λ (b : Bool). cond b (Some process) None) (lt-ltb process processes (omega (arith, h)))
+
+absent-within : (processes : ℕ) (holder : Option ℕ) → holder_code (present processes holder) ≤ processes
+absent-within processes None = omega arith
+absent-within processes (Some process) = by_test (nat_lt process processes) (ltb-true process processes)
+  where
+    by_test : (b : Bool) → (b ≡ true → process < processes) → holder_code (cond b (Some process) None) ≤ processes
+    by_test true below = let b : process < processes = below refl in omega arith
+    by_test false below = omega arith
+
+seen_in : ℕ → Mark → Mark
+seen_in processes m = mark_with m.generation (present processes m.holder) m.dirty
+
+pub mark_of-mark_word : (processes : ℕ) (m : Mark) → marks.CanPack m → holder_code m.holder ≤ processes → mark_of processes (mark_word m) ≡ m
+unfolding mark_with seen_in
+mark_of-mark_word processes m c h =
+    ap (seen_in processes) (parts_of-mark_word m c) ∙ ap (λ (o : Option ℕ). mark_with m.generation o m.dirty) (present-within processes m.holder h)
+
+pub mark_word-mark_of : (processes word : ℕ) → word / 2 % 16 ≤ processes → mark_word (mark_of processes word) ≡ word
+mark_word-mark_of processes word h =
+    let code : holder_code (holder_of (word / 2 % 16)) ≡ word / 2 % 16 = holder_code-holder_of (word / 2 % 16) in
+    ap (λ (o : Option ℕ). word / 32 * 32 + holder_code o * 2 + dirty_bit (word % 2 == 1)) (present-within processes (holder_of (word / 2 % 16)) (omega (arith, code, h)))
+    ∙ mark_word-parts_of word
+
+pub CanPack-mark_of : (processes word : ℕ) → processes < 16 → word < 2 ^ 64 → marks.CanPack (mark_of processes word)
+CanPack-mark_of processes word few small =
+    let within = absent-within processes (holder_of (word / 2 % 16)) in
+    record { generation = omega arith; holder = omega (arith, within, few) }
+
+pub holder-mark_of : (processes word : ℕ) → holder_code (mark_of processes word).holder ≤ processes
+holder-mark_of processes word = absent-within processes (holder_of (word / 2 % 16))
+
+pub mark_of-or_dirty : (processes word : ℕ) → word < 2 ^ 64 → mark_of processes (bit_or word 1) ≡ record (mark_of processes word) { dirty = true }
+unfolding mark_with seen_in
+mark_of-or_dirty processes word small = ap (seen_in processes) (parts_of-or_dirty word small)
 
 -- a mark's word lies with its generation
 pub mark_word_within : (m : Mark) → marks.CanPack m → (m.generation * 32 ≤ mark_word m) × (mark_word m < (m.generation + 1) * 32)

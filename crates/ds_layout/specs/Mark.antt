@@ -1,5 +1,5 @@
 -- The mark of a cell.
-use Rattle.std.specs.Prelude.{ℕ, ◌+◌, ◌-◌, ◌*◌, ◌/◌, ◌%◌, ◌^◌, ◌<◌, ◌==◌, Option, Some, None, Bool, true, false, if◌then◌else◌}
+use Rattle.std.specs.Prelude.{ℕ, ◌+◌, ◌-◌, ◌*◌, ◌/◌, ◌%◌, ◌^◌, ◌<◌, ◌==◌, nat_lt, Option, Some, None, Bool, true, false, if◌then◌else◌}
 use Rattle.ds_layout.specs.declared.mark.Mark.{Mark}
 use Rattle.ds_layout.specs.declared.mark.State.{State}
 use Rattle.ds_layout.specs.declared.mark.State.TheVariants.{Clean, Marked, Held}
@@ -25,10 +25,24 @@ mark_word mark = mark.generation * 32 + holder_code mark.holder * 2 + dirty_bit 
 abbrev pub holder_of : ℕ → Option ℕ
 holder_of code = if code == 0 then None else Some (code - 1)
 
-abbrev pub mark_of : ℕ → Mark
-mark_of word = record {
+-- the parts of a word, whatever they are
+abbrev pub parts_of : ℕ → Mark
+parts_of word = record {
   generation = word / 32;
   holder = holder_of (word / 2 % 16);
+  dirty = word % 2 == 1;
+}
+
+-- a process that is none of the sheet's is nobody
+abbrev pub present : ℕ → Option ℕ → Option ℕ
+present processes None = None
+present processes (Some process) = if nat_lt process processes then Some process else None
+
+-- what a mark's word says in a sheet with so many processes
+abbrev pub mark_of : ℕ → ℕ → Mark
+mark_of processes word = record {
+  generation = word / 32;
+  holder = present processes (holder_of (word / 2 % 16));
   dirty = word % 2 == 1;
 }
 

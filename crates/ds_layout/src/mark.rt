@@ -1,7 +1,7 @@
 //! The mark of a cell: whether it is clean, marked or held.
 
-ghost use Rattle.std.specs.Prelude.{◌≡◌, ◌<◌, true, bit_or};
-ghost use Rattle.ds_layout.specs.Mark.{CanPack, mark_word, mark_of, state_of};
+ghost use Rattle.std.specs.Prelude.{◌≡◌, ◌<◌, ◌≤◌, ◌/◌, ◌%◌, ℕ, true, bit_or};
+ghost use Rattle.ds_layout.specs.Mark.{CanPack, holder_code, mark_word, mark_of, state_of};
 
 /// The bit of a mark's word that makes the cell dirty.
 pub const DIRTY: u64 = 1;
@@ -35,7 +35,8 @@ impl Mark {
     pub fn word(self) -> u64
         requires { CanPack self }
         ensures value { result ≡ mark_word self }
-        ensures reads_back { mark_of result ≡ self }
+        ensures reads_back { (processes : ℕ) → holder_code self.holder ≤ processes
+            → mark_of processes result ≡ self }
         ensures grows { (other : Mark) → CanPack other → other.generation < self.generation
             → mark_word other < result }
     {
@@ -46,17 +47,22 @@ impl Mark {
         self.generation * 32 + holder * 2 + self.dirty as u64
     }
 
-    /// What a mark's word says. A holder that is no process of the sheet is read as it stands: the
-    /// cell is held.
-    pub fn read(word: u64) -> Mark
-        ensures value { result ≡ mark_of word }
-        ensures packs { CanPack result }
-        ensures word { mark_word result ≡ word }
+    /// What a mark's word says in a sheet with so many processes: a holder that is none of them is
+    /// read as nobody.
+    pub fn read(word: u64, processes: usize) -> Mark
+        ensures value { result ≡ mark_of processes word }
+        ensures packs { processes < 16 → CanPack result }
+        ensures holder { holder_code result.holder ≤ processes }
+        ensures word { word / 2 % 16 ≤ processes → mark_word result ≡ word }
     {
         let holder = (word / 2 % 16) as usize;
         Mark {
             generation: word / 32,
-            holder: if holder == 0 { None } else { Some(holder - 1) },
+            holder: if holder == 0 || holder > processes {
+                None
+            } else {
+                Some(holder - 1)
+            },
             dirty: word % 2 == 1,
         }
     }

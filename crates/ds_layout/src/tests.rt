@@ -67,9 +67,11 @@ fn words(rt: HostRuntime) {
         (64, State::Clean),
     ];
     for (word, state) in marks {
-        assert_eq!(rt; Mark::read(word).state(), state);
-        assert_eq!(rt; Mark::read(word).word(), word);
+        assert_eq!(rt; Mark::read(word, 2).state(), state);
+        assert_eq!(rt; Mark::read(word, 2).word(), word);
     }
+    assert_eq!(rt; Mark::read(39, 2).state(), State::Marked);
+    assert_eq!(rt; Mark::read(38, 2).state(), State::Clean);
     let announcements = [
         (5, Some(Phase::Pending)),
         (6, Some(Phase::Done)),
