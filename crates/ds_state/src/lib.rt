@@ -1,0 +1,6 @@
+//! What the processes of a sheet are doing, and what is true of a sheet while they do it.
+#![tactic(auto)]
+
+pub mod edit;
+pub mod situation;
+pub mod stage;
