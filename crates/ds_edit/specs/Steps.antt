@@ -1,5 +1,5 @@
 -- The steps of an edit: what each stage does to the memory, and what comes then.
-use Rattle.std.specs.Prelude.{ℕ, ◌+◌, ◌-◌, ◌*◌, ◌/◌, ◌==◌, min, nat_lt, if◌then◌else◌, List, length, slice_index_or, Option, Some, None}
+use Rattle.std.specs.Prelude.{ℕ, ◌<◌, ◌+◌, ◌-◌, ◌*◌, ◌/◌, ◌==◌, min, nat_lt, if◌then◌else◌, List, length, slice_index_or, Option, Some, None}
 use Rattle.ds_words.specs.declared.access.Access.{Access}
 use Rattle.ds_words.specs.declared.access.Access.TheVariants.{Nothing, Load, Store, Or, SwapIf, Flush, Back}
 use Rattle.ds_layout.specs.declared.place.Place.{Place}
@@ -167,3 +167,8 @@ rank_in parts refs (Answer how) = 1
 
 abbrev pub rank : PlainEdit → Stage → ℕ
 rank e stage = rank_in (text_parts e.text) (length e.refs) stage
+
+-- fewer steps are left after a step, but for the answer's, which is the last
+abbrev pub Falls : PlainEdit → Stage → Stage → Type 0
+Falls e (Answer how) after = Unit {0}
+Falls e stage after = rank e after < rank e stage

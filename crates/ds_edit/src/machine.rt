@@ -1,10 +1,10 @@
 //! The edit's machine: the access of each stage, and the stage that follows it.
 
-ghost use Rattle.std.specs.Prelude.{◌≡◌, ◌+◌, ◌*◌, ◌<◌, ◌≤◌, length};
-ghost use Rattle.ds_state.specs.Edits.{text_parts, IsStage};
+ghost use Rattle.std.specs.Prelude.{◌≡◌, ℕ, ◌+◌, ◌*◌, ◌<◌, ◌≤◌, length};
+ghost use Rattle.ds_state.specs.Edits.{PlainEdit, IsEdit, text_parts};
 ghost use Rattle.ds_layout.specs.Head.{head_of};
 ghost use Rattle.ds_layout.specs.Header.{header_word};
-ghost use Rattle.ds_edit.specs.Steps.{access_at, next_at, got_at, head_after, announced, phase_of, index_place, done_place, header_place, text_place, store_from, flush_from, back_from, index_from, help_from, swung_from, rank};
+ghost use Rattle.ds_edit.specs.Steps.{access_at, next_at, got_at, head_after, announced, phase_of, index_place, done_place, header_place, text_place, store_from, flush_from, back_from, index_from, help_from, swung_from, rank, Falls};
 
 use ds_layout::announcement::{Announcement, Phase};
 use ds_layout::bits;
@@ -218,8 +218,18 @@ fn next(call: &EditCall, word: u64) -> Stage
 
 /// The edit goes on with the word that its access answered, whatever that is. At its answer it
 /// stays.
+#[tactic(auto, using(crate::proofs::Stays::got_stays))]
 pub fn got(call: &mut EditCall, word: u64)
     ensures { call.new ≡ got_at call.old word }
 {
     call.stage = next(call, word);
 }
+
+/// Each step of an edit leaves fewer steps, until the answer's, which is the last; and an edit with r
+/// references has at most 3r + 67 of them.
+#[tactic(auto, using(crate::proofs::Stays::each_falls, crate::proofs::Stays::each_few))]
+pub fn steps_are_few()
+    ensures falls { (e : PlainEdit) (word : ℕ) → IsEdit e
+        → Falls e e.stage (next_at e e.stage word) }
+    ensures few { (e : PlainEdit) → IsEdit e → rank e e.stage ≤ 67 + 3 * length e.refs }
+{}
