@@ -85,10 +85,8 @@ fn phase_of(outcome: Outcome) -> Phase
 fn announced(call: &EditCall, phase: Phase) -> u64
     ensures { result ≡ announced call.now phase }
 {
-    let announcement = Announcement {
-        number: call.number,
-        phase,
-    };
+    let number = call.number;
+    let announcement = Announcement { number, phase };
     announcement.word()
 }
 

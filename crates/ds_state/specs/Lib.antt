@@ -1,2 +1,4 @@
 pub mod Stages
 pub mod Edits
+pub mod World
+pub mod Sound
