@@ -2,5 +2,6 @@
 #![tactic(auto)]
 
 pub mod edit;
+pub mod laws;
 pub mod situation;
 pub mod stage;
