@@ -1,15 +1,14 @@
 -- The machine stays within its edit, and its rank falls.
-use Rattle.std.proofs.Common.{ℕ, ◌≡◌, ◌+◌, ◌-◌, ◌*◌, ◌/◌, ◌^◌, ◌<◌, ◌≤◌, Bool, true, false, nat_lt, ◌==◌, Option, Some, None, length, arith, refl, ap, sym}
-use Rattle.std.proofs.lemmas.Bool.{ltb-true, ltb-false, eqb-true, eqb-false}
+use Rattle.std.proofs.Common.{ℕ, ◌≡◌, ◌+◌, ◌*◌, ◌^◌, ◌<◌, ◌≤◌, Bool, true, false, nat_lt, ◌==◌, Option, Some, None, length, arith, refl}
+use Rattle.std.proofs.lemmas.Bool.{ltb-true, eqb-false}
 use Rattle.std.specs.Prelude.{if◌then◌else◌}
 use Rattle.ds_layout.specs.declared.head.Head.{Head}
-use Rattle.ds_layout.specs.Head.{IsHead, head_of, head_word}
+use Rattle.ds_layout.specs.Head.{head_of}
 use Rattle.ds_layout.proofs.Packed.{IsHead-head_of}
 use Rattle.ds_state.specs.Edits.{PlainEdit, text_parts, IsStage, IsEdit}
 use Rattle.ds_state.specs.declared.stage.Stage.{Stage}
-use Rattle.ds_state.specs.declared.stage.Outcome.TheVariants as outcome
 use Rattle.ds_state.specs.declared.stage.Stage.TheVariants.{StoreHeader, StoreText, FlushHeader, FlushText, BackRecord, StorePending, FlushPending, BackPending, OrIndex, FlushIndex, BackIndex, LoadHead, FlushNoted, BackNoted, OrDone, FlushDone, BackDone, Swap, FlushOwn, BackOwn, OrMark, FlushMark, BackMark, StoreOutcome, FlushOutcome, BackOutcome, Answer}
-use Rattle.ds_edit.specs.Steps.{next_at, got_at, head_after, store_from, flush_from, back_from, index_from, help_from, swung_from, rank, Falls}
+use Rattle.ds_edit.specs.Steps.{next_at, got_at, help_from, rank, Falls}
 
 -- what holds of both branches holds of a test
 branches : (P : Stage → Type 0) (b : Bool) (x y : Stage) → (b ≡ true → P x) → (b ≡ false → P y) → P (if b then x else y)

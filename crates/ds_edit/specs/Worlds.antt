@@ -6,9 +6,9 @@ use Rattle.ds_layout.specs.Sheet.{PerformsAt}
 use Rattle.ds_state.specs.Edits.{PlainEdit}
 use Rattle.ds_state.specs.World.{Edit, edit_of, Issue, World}
 use Rattle.ds_state.specs.declared.stage.Stage.{Stage}
-use Rattle.ds_state.specs.declared.stage.Stage.TheVariants.{StoreHeader, StoreText, FlushHeader, FlushText, BackRecord, StorePending, FlushPending, BackPending, OrIndex, FlushIndex, BackIndex, LoadHead, FlushNoted, BackNoted, OrDone, FlushDone, BackDone, Swap, FlushOwn, BackOwn, OrMark, FlushMark, BackMark, StoreOutcome, FlushOutcome, BackOutcome, Answer}
+use Rattle.ds_state.specs.declared.stage.Stage.TheVariants.{StoreHeader, Swap, Answer}
 use Rattle.ds_state.specs.declared.situation.Situation.{Situation}
-use Rattle.ds_state.specs.declared.situation.Situation.TheVariants.{Idle, Stopped, Editing}
+use Rattle.ds_state.specs.declared.situation.Situation.TheVariants.{Idle, Editing}
 use Rattle.ds_edit.specs.Steps.{access_at, got_at}
 
 -- what the process does after the step: its answer ends the edit

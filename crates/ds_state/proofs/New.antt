@@ -1,22 +1,18 @@
 -- A new sheet is sound.
-use Rattle.std.proofs.Common.{ℕ, ◌≡◌, ◌≢◌, ◌+◌, ◌*◌, ◌/◌, ◌<◌, ◌≤◌, ◌⊎◌, inl, inr, List, [], ◌∷◌, ◌++◌, length, refl, ap, sym, ◌∙◌, subst, arith, ◌%◌}
-use Rattle.std.specs.Prelude.{All, Contains, None, Some}
+use Rattle.std.proofs.Common.{ℕ, ◌≡◌, ◌<◌, inl, List, [], refl, ap, sym, ◌∙◌, subst, arith, ◌%◌}
+use Rattle.std.specs.Prelude.{All, Contains}
 use Rattle.std.specs.Int.{bit_at}
 use Rattle.std.proofs.lemmas.Nat.Bits.{bit_at-zero}
 use Rattle.std.proofs.lemmas.List.Elements.{All-nil, All-contains}
 use Rattle.ds_words.specs.declared.access.Class.{Class}
 use Rattle.ds_words.specs.declared.access.Class.TheVariants.{Stamped, Bit, Owned}
-use Rattle.ds_layout.specs.declared.place.TheConstants.{RECORDS}
-use Rattle.ds_layout.specs.declared.place.Place.{Place}
 use Rattle.ds_layout.specs.declared.place.Place.TheVariants as place
-use Rattle.ds_layout.specs.declared.announcement.Phase.TheVariants as phase
-use Rattle.ds_layout.specs.Places.{class_of, IsPlace}
-use Rattle.ds_layout.specs.Bits.{HasBit, IsSubset}
+use Rattle.ds_layout.specs.Places.{class_of}
+use Rattle.ds_layout.specs.Bits.{HasBit}
 use Rattle.ds_state.specs.World.{Edit, World, of_cell, head_after_all}
 use Rattle.ds_state.specs.Fresh.{IsNew}
-use Rattle.ds_state.specs.Sound.{IsSound, HeadFits, DoneFits, AnnouncesKept, CallFits, IdleFits, IsNoNewer, IsWritten, IsIndexed, IsOfSheet, Increasing, announcement, done_place, TellsDone, TellsKept, IsOvertaken}
+use Rattle.ds_state.specs.Sound.{IsSound, CallFits, IsNoNewer, IsWritten, IsIndexed, IsOfSheet, Increasing, done_place}
 use Rattle.ds_state.specs.declared.situation.Situation.{Situation}
-use Rattle.ds_state.specs.declared.situation.Situation.TheVariants.{Idle}
 
 no_head : (cell : ℕ) (edits : List Edit) → edits ≡ [] → head_after_all (of_cell cell edits) ≡ 0
 unfolding head_after_all of_cell

@@ -3,7 +3,7 @@ use Rattle.std.specs.Prelude.{ℕ, ◌+◌, ◌/◌, ◌<◌, ◌≤◌, List, l
 use Rattle.ds_layout.specs.declared.place.TheConstants.{RECORDS, TEXT_BYTES}
 use Rattle.ds_layout.specs.Head.{IsHead}
 use Rattle.ds_state.specs.declared.stage.Stage.{Stage}
-use Rattle.ds_state.specs.declared.stage.Stage.TheVariants.{StoreHeader, StoreText, FlushHeader, FlushText, BackRecord, StorePending, FlushPending, BackPending, OrIndex, FlushIndex, BackIndex, LoadHead, FlushNoted, BackNoted, OrDone, FlushDone, BackDone, Swap, FlushOwn, BackOwn, OrMark, FlushMark, BackMark, StoreOutcome, FlushOutcome, BackOutcome, Answer}
+use Rattle.ds_state.specs.declared.stage.Stage.TheVariants.{StoreText, FlushText, BackRecord, OrIndex, FlushIndex, BackIndex, FlushNoted, BackNoted, OrDone, FlushDone, BackDone}
 
 pub record PlainEdit : Type 0 where
   pub process : ℕ

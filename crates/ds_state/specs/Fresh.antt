@@ -2,7 +2,6 @@
 use Rattle.std.specs.Prelude.{ℕ, ◌≡◌, [], None}
 use Rattle.ds_words.specs.Memory.{IsFresh}
 use Rattle.ds_state.specs.World.{World}
-use Rattle.ds_state.specs.declared.situation.Situation.{Situation}
 use Rattle.ds_state.specs.declared.situation.Situation.TheVariants.{Idle}
 
 -- all words are zero, and each process is idle and begins with its edit 0

@@ -1,7 +1,7 @@
 -- What a process may count on while another one steps.
 use Rattle.std.specs.Prelude.{ℕ, ◌≡◌, ◌≢◌, ◌≤◌, ◌⊎◌, ◌++◌, List, All}
 use Rattle.ds_layout.specs.declared.place.Place.{Place}
-use Rattle.ds_layout.specs.declared.place.Place.TheVariants.{Version, Head, Mark, Value, Kind, Index, Announce, Header, Text, Done}
+use Rattle.ds_layout.specs.declared.place.Place.TheVariants.{Head, Mark, Index, Announce, Header, Text, Done}
 use Rattle.ds_layout.specs.Bits.{IsSubset}
 use Rattle.ds_state.specs.World.{Edit, World}
 

@@ -1,10 +1,9 @@
 -- When a world is sound: what its words, its edits and its calls have to do with one another.
-use Rattle.std.specs.Prelude.{ℕ, ◌≡◌, ◌≢◌, ◌<◌, ◌≤◌, ◌+◌, ◌-◌, ◌/◌, ◌⊎◌, List, [], ◌∷◌, ◌++◌, length, take, drop, map, Option, Some, None, Contains, All, slice_index_or}
+use Rattle.std.specs.Prelude.{ℕ, ◌≡◌, ◌<◌, ◌≤◌, ◌+◌, ◌-◌, ◌/◌, ◌⊎◌, List, [], ◌∷◌, ◌++◌, length, take, drop, map, Some, None, Contains, All, slice_index_or}
 use Rattle.std.specs.List.{range_with_len}
 use Rattle.ds_words.specs.declared.access.Class.{Class}
 use Rattle.ds_words.specs.declared.access.Class.TheVariants.{Stamped, Bit, Owned}
 use Rattle.ds_words.specs.declared.access.Entry.{Entry}
-use Rattle.ds_words.specs.Memory.{Memory}
 use Rattle.ds_formula.specs.Cells.{index_of}
 use Rattle.ds_formula.specs.declared.cells.Cell.{Cell}
 use Rattle.ds_formula.specs.declared.cells.Shape.{Shape}

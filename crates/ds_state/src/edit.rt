@@ -32,24 +32,24 @@ impl Model for EditCall {
     ghost Value = { PlainEdit };
 
     ghost view = { λ a. record {
-        process = a.process;
-        number = a.number;
-        cell = a.cell;
-        text = a.text.items;
-        refs = a.refs.items;
-        cells = a.cells;
-        processes = a.processes;
-        stage = a.stage;
+      process = a.process;
+      number = a.number;
+      cell = a.cell;
+      text = a.text.items;
+      refs = a.refs.items;
+      cells = a.cells;
+      processes = a.processes;
+      stage = a.stage;
     } };
 
     ghost invariant = { λ a. IsEdit (record {
-        process = a.process;
-        number = a.number;
-        cell = a.cell;
-        text = a.text.items;
-        refs = a.refs.items;
-        cells = a.cells;
-        processes = a.processes;
-        stage = a.stage;
+      process = a.process;
+      number = a.number;
+      cell = a.cell;
+      text = a.text.items;
+      refs = a.refs.items;
+      cells = a.cells;
+      processes = a.processes;
+      stage = a.stage;
     }) };
 }

@@ -125,7 +125,9 @@ impl Stage {
             Stage::StoreHeader | Stage::StoreText(_) => None,
             Stage::FlushHeader | Stage::FlushText(_) | Stage::BackRecord(_) => None,
             Stage::StorePending | Stage::FlushPending | Stage::BackPending => Some(Point::Written),
-            Stage::OrIndex(_) | Stage::FlushIndex(_) | Stage::BackIndex(_) => Some(Point::Announced),
+            Stage::OrIndex(_) | Stage::FlushIndex(_) | Stage::BackIndex(_) => Some(
+                Point::Announced,
+            ),
             Stage::LoadHead | Stage::FlushNoted(_) | Stage::BackNoted(_) => Some(Point::Indexed),
             Stage::OrDone(_) | Stage::FlushDone(_) | Stage::BackDone(_) => Some(Point::Indexed),
             Stage::Swap(_) => Some(Point::Helped),
