@@ -1,0 +1,174 @@
+-- The steps of an edit: what each stage does to the memory, and what comes then.
+use Rattle.std.specs.Prelude.{ℕ, ◌<◌, ◌+◌, ◌-◌, ◌*◌, ◌/◌, ◌==◌, min, nat_lt, if◌then◌else◌, length, slice_index_or, Option, Some, None}
+use Rattle.ds_words.specs.declared.access.Access.{Access}
+use Rattle.ds_words.specs.declared.access.Access.TheVariants.{Nothing, Load, Store, Or, SwapIf, Flush, Back}
+use Rattle.ds_layout.specs.declared.place.Place.{Place}
+use Rattle.ds_layout.specs.declared.place.Place.TheVariants as place
+use Rattle.ds_layout.specs.declared.mark.TheConstants.{DIRTY}
+use Rattle.ds_layout.specs.declared.head.Head.{Head}
+use Rattle.ds_layout.specs.declared.announcement.Phase.{Phase}
+use Rattle.ds_layout.specs.declared.announcement.Phase.TheVariants as phase
+use Rattle.ds_layout.specs.Head.{head_word, head_of}
+use Rattle.ds_layout.specs.Header.{header_word}
+use Rattle.ds_layout.specs.Text.{part_word}
+use Rattle.ds_layout.specs.Announcement.{announcement_word}
+use Rattle.ds_layout.specs.Bits.{bit_of}
+use Rattle.ds_state.specs.Edits.{PlainEdit, text_parts}
+use Rattle.ds_state.specs.declared.stage.Outcome.{Outcome}
+use Rattle.ds_state.specs.declared.stage.Outcome.TheVariants as outcome
+use Rattle.ds_state.specs.declared.stage.Stage.{Stage}
+use Rattle.ds_state.specs.declared.stage.Stage.TheVariants.{StoreHeader, StoreText, FlushHeader, FlushText, BackRecord, StorePending, FlushPending, BackPending, OrIndex, FlushIndex, BackIndex, LoadHead, FlushNoted, BackNoted, OrDone, FlushDone, BackDone, Swap, FlushOwn, BackOwn, OrMark, FlushMark, BackMark, StoreOutcome, FlushOutcome, BackOutcome, Answer}
+use Rattle.ds_edit.specs.declared.machine.TheConstants.{LAST_STAMP}
+
+-- the words of the edit's record, and its own part of the index row of a reference
+abbrev pub header_place : PlainEdit → Place
+header_place e = place.Header e.process e.number
+
+abbrev pub text_place : PlainEdit → ℕ → Place
+text_place e part = place.Text e.process e.number part
+
+abbrev pub index_place : PlainEdit → ℕ → Place
+index_place e i = place.Index (slice_index_or e.refs i 0) (e.cell / 64)
+
+-- the done bits of which one is the head's edit's
+abbrev pub done_place : Head → Place
+done_place head = place.Done head.process (head.number / 64)
+
+-- the head that follows this one, by the edit; the last stamp is followed by itself
+abbrev pub head_after : PlainEdit → ℕ → ℕ
+head_after e noted = head_word (record { stamp = min (noted / 65536 + 1) LAST_STAMP; process = e.process; number = e.number })
+
+abbrev pub phase_of : Outcome → Phase
+phase_of outcome.Done = phase.Done
+phase_of (outcome.Overtaken noted seen) = phase.NotDone
+
+-- the announcement of the edit in this phase
+abbrev pub announced : PlainEdit → Phase → ℕ
+announced e p = announcement_word (record { number = e.number; phase = p })
+
+-- the access of a stage
+abbrev pub access_at : PlainEdit → Stage → Access Place
+access_at e StoreHeader = Store (header_place e) (header_word (record { cell = e.cell; length = length e.text }))
+access_at e (StoreText part) = Store (text_place e part) (part_word e.text part)
+access_at e FlushHeader = Flush (header_place e)
+access_at e (FlushText part) = Flush (text_place e part)
+access_at e (BackRecord left) = Back
+access_at e StorePending = Store (place.Announce e.process) (announced e phase.Pending)
+access_at e FlushPending = Flush (place.Announce e.process)
+access_at e BackPending = Back
+access_at e (OrIndex i) = Or (index_place e i) (bit_of e.cell)
+access_at e (FlushIndex i) = Flush (index_place e i)
+access_at e (BackIndex i) = Back
+access_at e LoadHead = Load (place.Head e.cell)
+access_at e (FlushNoted head) = Flush (place.Head e.cell)
+access_at e (BackNoted head) = Back
+access_at e (OrDone head) = Or (done_place head) (bit_of head.number)
+access_at e (FlushDone head) = Flush (done_place head)
+access_at e (BackDone head) = Back
+access_at e (Swap noted) = SwapIf (place.Head e.cell) noted (head_after e noted)
+access_at e (FlushOwn own) = Flush (place.Head e.cell)
+access_at e (BackOwn own) = Back
+access_at e (OrMark own) = Or (place.Mark e.cell) DIRTY
+access_at e (FlushMark own) = Flush (place.Mark e.cell)
+access_at e (BackMark own) = Back
+access_at e (StoreOutcome how) = Store (place.Announce e.process) (announced e (phase_of how))
+access_at e (FlushOutcome how) = Flush (place.Announce e.process)
+access_at e (BackOutcome how) = Back
+access_at e (Answer how) = Nothing
+
+-- the parts of the text one by one, then the header's flush
+abbrev pub store_from : PlainEdit → ℕ → Stage
+store_from e part = if nat_lt part (text_parts e.text) then StoreText part else FlushHeader
+
+-- the parts one by one, then each entry back
+abbrev pub flush_from : PlainEdit → ℕ → Stage
+flush_from e part = if nat_lt part (text_parts e.text) then FlushText part else BackRecord (text_parts e.text)
+
+-- the entries that are left, then the announcement
+abbrev pub back_from : ℕ → Stage
+back_from left = if left == 0 then StorePending else BackRecord (left - 1)
+
+-- the references one by one, then the head
+abbrev pub index_from : PlainEdit → ℕ → Stage
+index_from e i = if nat_lt i (length e.refs) then OrIndex i else LoadHead
+
+-- the edit that is found is helped; where there is none, its place is taken at once
+abbrev pub help_from : ℕ → Option Head → Stage
+help_from noted None = Swap noted
+help_from noted (Some head) = FlushNoted head
+
+-- where the head is the noted one, it is the edit's own now; else the edit does not count
+abbrev pub swung_from : PlainEdit → ℕ → ℕ → Stage
+swung_from e noted seen = if seen == noted then FlushOwn (head_after e noted) else StoreOutcome (outcome.Overtaken noted seen)
+
+-- the stage after a stage whose access answered the word; an answer is the last one
+abbrev pub next_at : PlainEdit → Stage → ℕ → Stage
+next_at e StoreHeader word = store_from e 0
+next_at e (StoreText part) word = store_from e (part + 1)
+next_at e FlushHeader word = flush_from e 0
+next_at e (FlushText part) word = flush_from e (part + 1)
+next_at e (BackRecord left) word = back_from left
+next_at e StorePending word = FlushPending
+next_at e FlushPending word = BackPending
+next_at e BackPending word = index_from e 0
+next_at e (OrIndex i) word = FlushIndex i
+next_at e (FlushIndex i) word = BackIndex i
+next_at e (BackIndex i) word = index_from e (i + 1)
+next_at e LoadHead word = help_from word (head_of e.processes word)
+next_at e (FlushNoted head) word = BackNoted head
+next_at e (BackNoted head) word = OrDone head
+next_at e (OrDone head) word = FlushDone head
+next_at e (FlushDone head) word = BackDone head
+next_at e (BackDone head) word = Swap (head_word head)
+next_at e (Swap noted) word = swung_from e noted word
+next_at e (FlushOwn own) word = BackOwn own
+next_at e (BackOwn own) word = OrMark own
+next_at e (OrMark own) word = FlushMark own
+next_at e (FlushMark own) word = BackMark own
+next_at e (BackMark own) word = StoreOutcome outcome.Done
+next_at e (StoreOutcome how) word = FlushOutcome how
+next_at e (FlushOutcome how) word = BackOutcome how
+next_at e (BackOutcome how) word = Answer how
+next_at e (Answer how) word = Answer how
+
+-- the edit after it
+abbrev pub got_at : PlainEdit → ℕ → PlainEdit
+got_at e word = record e { stage = next_at e e.stage word }
+
+-- how many steps are left at most, the answer's among them
+abbrev pub rank_in : ℕ → ℕ → Stage → ℕ
+rank_in parts refs StoreHeader = 22 + 3 * refs + 3 * parts
+rank_in parts refs (StoreText part) = 21 + 3 * refs + 3 * parts - part
+rank_in parts refs FlushHeader = 21 + 3 * refs + 2 * parts
+rank_in parts refs (FlushText part) = 20 + 3 * refs + 2 * parts - part
+rank_in parts refs (BackRecord left) = 20 + 3 * refs + left
+rank_in parts refs StorePending = 19 + 3 * refs
+rank_in parts refs FlushPending = 18 + 3 * refs
+rank_in parts refs BackPending = 17 + 3 * refs
+rank_in parts refs (OrIndex i) = 16 + 3 * refs - 3 * i
+rank_in parts refs (FlushIndex i) = 15 + 3 * refs - 3 * i
+rank_in parts refs (BackIndex i) = 14 + 3 * refs - 3 * i
+rank_in parts refs LoadHead = 16
+rank_in parts refs (FlushNoted head) = 15
+rank_in parts refs (BackNoted head) = 14
+rank_in parts refs (OrDone head) = 13
+rank_in parts refs (FlushDone head) = 12
+rank_in parts refs (BackDone head) = 11
+rank_in parts refs (Swap noted) = 10
+rank_in parts refs (FlushOwn own) = 9
+rank_in parts refs (BackOwn own) = 8
+rank_in parts refs (OrMark own) = 7
+rank_in parts refs (FlushMark own) = 6
+rank_in parts refs (BackMark own) = 5
+rank_in parts refs (StoreOutcome how) = 4
+rank_in parts refs (FlushOutcome how) = 3
+rank_in parts refs (BackOutcome how) = 2
+rank_in parts refs (Answer how) = 1
+
+abbrev pub rank : PlainEdit → Stage → ℕ
+rank e stage = rank_in (text_parts e.text) (length e.refs) stage
+
+-- fewer steps are left after a step, but for the answer's, which is the last
+abbrev pub Falls : PlainEdit → Stage → Stage → Type 0
+Falls e (Answer how) after = Unit {0}
+Falls e stage after = rank e after < rank e stage

@@ -1,0 +1,4 @@
+//! The steps of an edit.
+#![tactic(auto)]
+
+pub mod machine;

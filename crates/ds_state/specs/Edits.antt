@@ -1,0 +1,49 @@
+-- An edit under way, without where it lies in memory.
+use Rattle.std.specs.Prelude.{ℕ, ◌+◌, ◌/◌, ◌<◌, ◌≤◌, List, length, All}
+use Rattle.ds_layout.specs.declared.place.TheConstants.{RECORDS, TEXT_BYTES}
+use Rattle.ds_layout.specs.Head.{IsHead}
+use Rattle.ds_state.specs.declared.stage.Stage.{Stage}
+use Rattle.ds_state.specs.declared.stage.Stage.TheVariants.{StoreText, FlushText, BackRecord, OrIndex, FlushIndex, BackIndex, FlushNoted, BackNoted, OrDone, FlushDone, BackDone}
+
+pub record PlainEdit : Type 0 where
+  pub process : ℕ
+  pub number : ℕ
+  pub cell : ℕ
+  pub text : List ℕ
+  pub refs : List ℕ
+  pub cells : ℕ
+  pub processes : ℕ
+  pub stage : Stage
+
+-- how many words a text needs
+abbrev pub text_parts : List ℕ → ℕ
+text_parts text = (length text + 7) / 8
+
+-- the numbers in a stage are those of parts, references and heads of the sheet
+abbrev pub IsStageOf : ℕ → ℕ → ℕ → Stage → Type 0
+IsStageOf parts refs processes (StoreText part) = part < parts
+IsStageOf parts refs processes (FlushText part) = part < parts
+IsStageOf parts refs processes (BackRecord left) = left ≤ parts
+IsStageOf parts refs processes (OrIndex i) = i < refs
+IsStageOf parts refs processes (FlushIndex i) = i < refs
+IsStageOf parts refs processes (BackIndex i) = i < refs
+IsStageOf parts refs processes (FlushNoted head) = IsHead processes head
+IsStageOf parts refs processes (BackNoted head) = IsHead processes head
+IsStageOf parts refs processes (OrDone head) = IsHead processes head
+IsStageOf parts refs processes (FlushDone head) = IsHead processes head
+IsStageOf parts refs processes (BackDone head) = IsHead processes head
+IsStageOf parts refs processes _ = Unit {0}
+
+abbrev pub IsStage : PlainEdit → Stage → Type 0
+IsStage e stage = IsStageOf (text_parts e.text) (length e.refs) e.processes stage
+
+-- its process, cell, text and references are those of a sheet
+pub record IsEdit (e : PlainEdit) : Type 0 where
+  pub process : e.process < e.processes
+  pub processes : e.processes ≤ 8
+  pub number : e.number < RECORDS
+  pub cell : e.cell < e.cells
+  pub cells : e.cells ≤ 1024
+  pub text : length e.text ≤ TEXT_BYTES
+  pub refs : All (λ r. r < e.cells) e.refs
+  pub stage : IsStage e e.stage

@@ -1,0 +1,7 @@
+//! What the processes of a sheet are doing, and what is true of a sheet while they do it.
+#![tactic(auto)]
+
+pub mod edit;
+pub mod laws;
+pub mod situation;
+pub mod stage;

@@ -1,0 +1,14 @@
+//! What a process is doing.
+
+use crate::edit::EditCall;
+
+/// What a process is doing.
+#[derive(Debug, Drop)]
+pub enum Situation {
+    /// In no call, with the number of its next edit.
+    Idle(usize),
+    /// It has stopped, and takes no steps.
+    Stopped,
+    /// It edits a cell.
+    Editing(EditCall),
+}
