@@ -4,6 +4,9 @@ ghost use Rattle.std.specs.Prelude.{◌≡◌, ℕ, ◌+◌, ◌*◌, ◌<◌, �
 ghost use Rattle.ds_state.specs.Edits.{PlainEdit, IsEdit, text_parts};
 ghost use Rattle.ds_layout.specs.Head.{head_of};
 ghost use Rattle.ds_layout.specs.Header.{header_word};
+ghost use Rattle.ds_layout.specs.declared.layout.Layout.{Layout};
+ghost use Rattle.ds_layout.specs.Sheet.{NamesPlace};
+ghost use Rattle.ds_edit.specs.Sheets.{IsSheetOf};
 ghost use Rattle.ds_edit.specs.Steps.{access_at, next_at, got_at, head_after, announced, phase_of, index_place, done_place, header_place, text_place, store_from, flush_from, back_from, index_from, help_from, swung_from, rank, Falls};
 
 use ds_layout::announcement::{Announcement, Phase};
@@ -230,4 +233,10 @@ pub fn steps_are_few()
     ensures falls { (e : PlainEdit) (word : ℕ) → IsEdit e
         → Falls e e.stage (next_at e e.stage word) }
     ensures few { (e : PlainEdit) → IsEdit e → rank e e.stage ≤ 67 + 3 * length e.refs }
+{}
+
+/// Each access of an edit names a place of its sheet.
+pub fn accesses_are_of_the_sheet()
+    ensures { (layout : Layout) (e : PlainEdit) → IsSheetOf layout e → IsEdit e
+        → NamesPlace layout (access_at e e.stage) }
 {}
