@@ -1,152 +1,187 @@
 use ds_formula::cells::{Cell, Shape};
-use ds_formula::fault::FaultKind::{
-    self, BadToken, NotWhole, NumberTooLarge, OutsideSheet, RangeNotAllowed, TooDeep, TooLong,
-    Unfinished, UnknownFunction, WrongArguments,
-};
-use ds_formula::fault::TextFault;
+use ds_formula::fault::{FaultKind, TextFault};
 use ds_formula::reading::read_content;
 use std::fmt::Write;
+use std::process::Abort;
 use std::test::Fail;
 
-// Texts on a sheet of two columns and two rows, each with its fault and offset, or accepted.
-const READ: [(&str, Option<(FaultKind, usize)>); 96] = [
-    ("=", Some((Unfinished, 1))),
-    ("-", Some((Unfinished, 1))),
-    ("of:", Some((BadToken, 0))),
-    ("1 ", Some((BadToken, 1))),
-    ("1.5", Some((NotWhole, 1))),
-    ("=1 2", Some((BadToken, 3))),
-    ("=1e5", Some((NotWhole, 2))),
-    ("=.5", Some((BadToken, 1))),
-    ("=9223372036854775808", Some((NumberTooLarge, 1))),
-    ("=[A1]", Some((BadToken, 2))),
-    ("=[.A0]", Some((BadToken, 4))),
-    ("=[.A1", Some((Unfinished, 5))),
-    ("=[.A3]", Some((OutsideSheet, 1))),
-    ("=SUM(1;;2)", Some((BadToken, 7))),
-    ("=SUM((1;2))", Some((BadToken, 7))),
-    ("=IF(1)", Some((WrongArguments, 1))),
-    ("=SUM 1", Some((BadToken, 5))),
-    ("=A1", Some((UnknownFunction, 1))),
-    ("=1)", Some((BadToken, 2))),
-    ("=SUM(([.A1:.B2]))", None),
-    ("=SUM([.A1:.B2]+1)", Some((RangeNotAllowed, 5))),
-    ("=--1", None),
-    ("=2-3-4", None),
-    ("=1<2=1", None),
-    ("=-2*3+4>=-2", None),
-    ("= 1 + 2", None),
-    ("+007", None),
-    ("=1.5", Some((NotWhole, 2))),
-    ("=[.C1]", Some((OutsideSheet, 1))),
-    ("=1+", Some((Unfinished, 3))),
-    ("=[.A1:.A2]", Some((RangeNotAllowed, 1))),
-    ("=SUM()", Some((WrongArguments, 1))),
-    ("=PI(1)", Some((UnknownFunction, 1))),
-    ("", None),
-    ("of:=sum([.$A$1:.A2])", None),
-    ("==SUM([.A2:.A1])", None),
-    ("=IF(0;MOD(1;0))", None),
-    ("=QUOTIENT(1;0)+(9223372036854775807+1)", None),
-    ("=1+1+1+1+1+1+1+1+1+1+1+1+1+1+1+1", None),
-    ("=1+1+1+1+1+1+1+1+1+1+1+1+1+1+1+1+1", Some((TooDeep, 0))),
-    ("=1+ ", Some((Unfinished, 4))),
-    ("=1 ", None),
-    ("= =1", Some((BadToken, 2))),
-    ("===1", Some((BadToken, 2))),
-    ("OF:=1", Some((BadToken, 0))),
-    ("-9223372036854775808", None),
-    ("-9223372036854775809", Some((NumberTooLarge, 1))),
-    ("=99999999999999999999.5", Some((NotWhole, 21))),
-    ("=ABS([.A1:.A2])", Some((RangeNotAllowed, 5))),
-    ("=[.a1]", None),
-    ("=[.AA1]", Some((OutsideSheet, 1))),
-    ("=[.A1:.C1", Some((Unfinished, 9))),
-    ("=[.A1 ]", Some((BadToken, 5))),
-    ("=Sum ( 1 ; 2 )", None),
-    ("=SUM(", Some((Unfinished, 5))),
-    ("=SUM", Some((Unfinished, 4))),
-    ("=SUM( )", Some((WrongArguments, 1))),
-    ("=(1", Some((Unfinished, 3))),
-    ("=1<>2", None),
-    ("=1< >2", Some((BadToken, 4))),
-    ("=\t1\r\n", None),
-    ("x", Some((BadToken, 0))),
-    ("99999999999999999999", Some((NumberTooLarge, 0))),
-    ("=1.5+2", Some((NotWhole, 2))),
-    ("=1+2.", Some((NotWhole, 4))),
-    ("=1+99999999999999999999+1", Some((NumberTooLarge, 3))),
-    ("=1+99999999999999999999", Some((NumberTooLarge, 3))),
-    ("=x", Some((UnknownFunction, 1))),
-    ("=1+x(2)+3", Some((UnknownFunction, 3))),
-    ("=1+x", Some((UnknownFunction, 3))),
-    ("=IF(1)+1", Some((WrongArguments, 1))),
-    ("=1+MOD(1)+1", Some((WrongArguments, 3))),
-    ("=1+ABS()", Some((WrongArguments, 3))),
-    ("=[.C1]+1", Some((OutsideSheet, 1))),
-    ("=1+[.C1]+1", Some((OutsideSheet, 3))),
-    ("=1+[.C1]", Some((OutsideSheet, 3))),
-    ("=[.A1:.A2]+1", Some((RangeNotAllowed, 1))),
-    ("=1+[.A1:.A2]+1", Some((RangeNotAllowed, 3))),
-    ("=1+[.A1:.A2]", Some((RangeNotAllowed, 3))),
-    ("=ABS([.A1:.A2])+[.A1:.A2]", Some((RangeNotAllowed, 5))),
+// Texts on a sheet of two columns and two rows, each with its fault and offset, or with nothing where it is accepted.
+const FIRST: [(&str, &str); 24] = [
+    ("=", "Unfinished 1"),
+    ("-", "Unfinished 1"),
+    ("of:", "BadToken 0"),
+    ("1 ", "BadToken 1"),
+    ("1.5", "NotWhole 1"),
+    ("=1 2", "BadToken 3"),
+    ("=1e5", "NotWhole 2"),
+    ("=.5", "BadToken 1"),
+    ("=9223372036854775808", "NumberTooLarge 1"),
+    ("=[A1]", "BadToken 2"),
+    ("=[.A0]", "BadToken 4"),
+    ("=[.A1", "Unfinished 5"),
+    ("=[.A3]", "OutsideSheet 1"),
+    ("=SUM(1;;2)", "BadToken 7"),
+    ("=SUM((1;2))", "BadToken 7"),
+    ("=IF(1)", "WrongArguments 1"),
+    ("=SUM 1", "BadToken 5"),
+    ("=A1", "UnknownFunction 1"),
+    ("=1)", "BadToken 2"),
+    ("=SUM(([.A1:.B2]))", ""),
+    ("=SUM([.A1:.B2]+1)", "RangeNotAllowed 5"),
+    ("=--1", ""),
+    ("=2-3-4", ""),
+    ("=1<2=1", ""),
+];
+
+const SECOND: [(&str, &str); 24] = [
+    ("=-2*3+4>=-2", ""),
+    ("= 1 + 2", ""),
+    ("+007", ""),
+    ("=1.5", "NotWhole 2"),
+    ("=[.C1]", "OutsideSheet 1"),
+    ("=1+", "Unfinished 3"),
+    ("=[.A1:.A2]", "RangeNotAllowed 1"),
+    ("=SUM()", "WrongArguments 1"),
+    ("=PI(1)", "UnknownFunction 1"),
+    ("", ""),
+    ("of:=sum([.$A$1:.A2])", ""),
+    ("==SUM([.A2:.A1])", ""),
+    ("=IF(0;MOD(1;0))", ""),
+    ("=QUOTIENT(1;0)+(9223372036854775807+1)", ""),
+    ("=1+1+1+1+1+1+1+1+1+1+1+1+1+1+1+1", ""),
+    ("=1+1+1+1+1+1+1+1+1+1+1+1+1+1+1+1+1", "TooDeep 0"),
+    ("=1+ ", "Unfinished 4"),
+    ("=1 ", ""),
+    ("= =1", "BadToken 2"),
+    ("===1", "BadToken 2"),
+    ("OF:=1", "BadToken 0"),
+    ("-9223372036854775808", ""),
+    ("-9223372036854775809", "NumberTooLarge 1"),
+    ("=99999999999999999999.5", "NotWhole 21"),
+];
+
+const THIRD: [(&str, &str); 24] = [
+    ("=ABS([.A1:.A2])", "RangeNotAllowed 5"),
+    ("=[.a1]", ""),
+    ("=[.AA1]", "OutsideSheet 1"),
+    ("=[.A1:.C1", "Unfinished 9"),
+    ("=[.A1 ]", "BadToken 5"),
+    ("=Sum ( 1 ; 2 )", ""),
+    ("=SUM(", "Unfinished 5"),
+    ("=SUM", "Unfinished 4"),
+    ("=SUM( )", "WrongArguments 1"),
+    ("=(1", "Unfinished 3"),
+    ("=1<>2", ""),
+    ("=1< >2", "BadToken 4"),
+    ("=\t1\r\n", ""),
+    ("x", "BadToken 0"),
+    ("99999999999999999999", "NumberTooLarge 0"),
+    ("=1.5+2", "NotWhole 2"),
+    ("=1+2.", "NotWhole 4"),
+    ("=1+99999999999999999999+1", "NumberTooLarge 3"),
+    ("=1+99999999999999999999", "NumberTooLarge 3"),
+    ("=x", "UnknownFunction 1"),
+    ("=1+x(2)+3", "UnknownFunction 3"),
+    ("=1+x", "UnknownFunction 3"),
+    ("=IF(1)+1", "WrongArguments 1"),
+    ("=1+MOD(1)+1", "WrongArguments 3"),
+];
+
+const FOURTH: [(&str, &str); 24] = [
+    ("=1+ABS()", "WrongArguments 3"),
+    ("=[.C1]+1", "OutsideSheet 1"),
+    ("=1+[.C1]+1", "OutsideSheet 3"),
+    ("=1+[.C1]", "OutsideSheet 3"),
+    ("=[.A1:.A2]+1", "RangeNotAllowed 1"),
+    ("=1+[.A1:.A2]+1", "RangeNotAllowed 3"),
+    ("=1+[.A1:.A2]", "RangeNotAllowed 3"),
+    ("=ABS([.A1:.A2])+[.A1:.A2]", "RangeNotAllowed 5"),
     (
         "=1+1+1+1+1+1+1+1+1+1+1+1+1+1+1+1+1+[.A1:.A2]",
-        Some((RangeNotAllowed, 35)),
+        "RangeNotAllowed 35",
     ),
     (
         "=(((((((((((((((((((((((((((((((((((((((((((((((((((((((((((1)))))))))))))))))))))))))))))))))))))))))))))))))))))))))))",
-        None,
+        "",
     ),
     (
         "=(((((((((((((((((((((((((((((((((((((((((((((((((((((((((((((((((((((((((((((((((((((((((((((((((((((((((((((((((((((((",
-        Some((Unfinished, 120)),
+        "Unfinished 120",
     ),
     (
         "=-----------------------------------------------------------------------------------------------------------------------",
-        Some((Unfinished, 120)),
+        "Unfinished 120",
     ),
     (
         "=----------------------------------------------------------------------------------------------------------------------1",
-        Some((TooDeep, 0)),
+        "TooDeep 0",
     ),
-    ("=---------------1", None),
-    ("=----------------1", Some((TooDeep, 0))),
+    ("=---------------1", ""),
+    ("=----------------1", "TooDeep 0"),
     (
         "=SUM(1;-1;-1;-1;-1;-1;-1;-1;-1;-1;-1;-1;-1;-1;-1;-1;-1;-1;-1;-1;-1;-1;-1;-1;-1;-1;-1;-1;-1;-1;-1;-1)",
-        None,
+        "",
     ),
     (
         "=SUM(1;-1;-1;-1;-1;-1;-1;-1;-1;-1;-1;-1;-1;-1;-1;-1;-1;-1;-1;-1;-1;-1;-1;-1;-1;-1;-1;-1;-1;-1;-1;-1;1)",
-        Some((TooDeep, 0)),
+        "TooDeep 0",
     ),
     (
         "=99999999999999999999999999999999999999999999999999999999999999999999999999999999999999999999999999999999999999999999999",
-        Some((NumberTooLarge, 1)),
+        "NumberTooLarge 1",
     ),
     (
         "9999999999999999999999999999999999999999999999999999999999999999999999999999999999999999999999999999999999999999999999999",
-        Some((TooLong, 120)),
+        "TooLong 120",
     ),
     (
         "xxxxxxxxxxxxxxxxxxxxxxxxxxxxxxxxxxxxxxxxxxxxxxxxxxxxxxxxxxxxxxxxxxxxxxxxxxxxxxxxxxxxxxxxxxxxxxxxxxxxxxxxxxxxxxxxxxxxxxxxx",
-        Some((TooLong, 120)),
+        "TooLong 120",
     ),
-    ("=SUM([.A1:.B2];(([.B2:.A1])))", None),
-    ("=IF(1;[.A1:.A2])", Some((RangeNotAllowed, 6))),
-    ("=-[.A1:.A2]", Some((RangeNotAllowed, 2))),
-    ("=SUM(-[.A1:.A2])", Some((RangeNotAllowed, 6))),
+    ("=SUM([.A1:.B2];(([.B2:.A1])))", ""),
+    ("=IF(1;[.A1:.A2])", "RangeNotAllowed 6"),
+    ("=-[.A1:.A2]", "RangeNotAllowed 2"),
+    ("=SUM(-[.A1:.A2])", "RangeNotAllowed 6"),
 ];
 
-#[test]
-fn read_texts(rt: HostRuntime) -> Result<(), Fail> {
+fn expect_read(rt: &(impl Abort + AllocGlobal), text: &str, want: &str) -> Result<(), Fail> {
     let shape = Shape::new(2, 2).ok_or("shape")?;
-    for (text, want) in READ {
-        let got = match read_content(rt.alloc(), &shape, text.as_bytes()) {
-            Ok(_) => None,
-            Err(fault) => Some((fault.kind, fault.offset)),
-        };
-        assert!(rt; got == want, "at {text}");
+    let mut got = String::new(rt.alloc());
+    if let Err(fault) = read_content(rt.alloc(), &shape, text.as_bytes()) {
+        write!(got, "{fault}")?;
+    }
+    assert!(rt; got.as_str() == want, "at {text}");
+    Ok(())
+}
+
+#[test]
+fn first_texts(rt: HostRuntime) -> Result<(), Fail> {
+    for (text, want) in FIRST {
+        expect_read(&rt, text, want)?;
+    }
+    Ok(())
+}
+
+#[test]
+fn second_texts(rt: HostRuntime) -> Result<(), Fail> {
+    for (text, want) in SECOND {
+        expect_read(&rt, text, want)?;
+    }
+    Ok(())
+}
+
+#[test]
+fn third_texts(rt: HostRuntime) -> Result<(), Fail> {
+    for (text, want) in THIRD {
+        expect_read(&rt, text, want)?;
+    }
+    Ok(())
+}
+
+#[test]
+fn fourth_texts(rt: HostRuntime) -> Result<(), Fail> {
+    for (text, want) in FOURTH {
+        expect_read(&rt, text, want)?;
     }
     Ok(())
 }
@@ -200,7 +235,7 @@ fn names(rt: HostRuntime) -> Result<(), Fail> {
         assert_eq!(rt; shape.named(text.as_bytes()), None, "at {text}");
     }
     let fault = TextFault {
-        kind: NotWhole,
+        kind: FaultKind::NotWhole,
         offset: 2,
     };
     let mut shown = String::new(rt.alloc());
