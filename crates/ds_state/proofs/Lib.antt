@@ -1,1 +1,6 @@
 pub mod New
+pub mod Heads
+pub mod Stable
+pub mod Frames
+pub mod Sides
+pub mod Counting

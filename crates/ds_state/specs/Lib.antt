@@ -1,6 +1,9 @@
 pub mod Stages
 pub mod Edits
 pub mod World
+pub mod Known
+pub mod Calls
+pub mod Words
 pub mod Sound
 pub mod Rely
 pub mod Fresh

@@ -12,15 +12,12 @@ IsOwnedBy q (Header p number) = p ≡ q
 IsOwnedBy q (Text p number part) = p ≡ q
 IsOwnedBy q _ = ⊥
 
--- the situation, the issue and the buffer stay; owned words keep their cached side, and their persisted side at most
--- catches up; stamped words only grow, bits only come, and the edits that count are others' and come behind
-pub record Rely (q : ℕ) (old new : World) : Type 0 where
+-- but for one word: q's own words keep their cached side, and their persisted side at most catches up; stamped words
+-- only grow, bits only come, and the edits that come to count are others' and come behind
+pub record Grows (q : ℕ) (but : Place) (old new : World) : Type 0 where
   pub layout : new.layout ≡ old.layout
-  pub situation : new.situation q ≡ old.situation q
-  pub pending : new.pending q ≡ old.pending q
-  pub buffer : new.memory.buffer q ≡ old.memory.buffer q
-  pub owned_cached : (r : Place) → IsOwnedBy q r → new.memory.cached r ≡ old.memory.cached r
-  pub owned_persisted : (r : Place) → IsOwnedBy q r → (new.memory.persisted r ≡ old.memory.persisted r) ⊎ (new.memory.persisted r ≡ old.memory.cached r)
+  pub owned_cached : (r : Place) → IsOwnedBy q r → r ≢ but → new.memory.cached r ≡ old.memory.cached r
+  pub owned_persisted : (r : Place) → IsOwnedBy q r → r ≢ but → (new.memory.persisted r ≡ old.memory.persisted r) ⊎ (new.memory.persisted r ≡ old.memory.cached r)
   pub heads_cached : (cell : ℕ) → old.memory.cached (Head cell) ≤ new.memory.cached (Head cell)
   pub heads_persisted : (cell : ℕ) → old.memory.persisted (Head cell) ≤ new.memory.persisted (Head cell)
   pub marks_cached : (cell : ℕ) → old.memory.cached (Mark cell) ≤ new.memory.cached (Mark cell)
@@ -31,3 +28,10 @@ pub record Rely (q : ℕ) (old new : World) : Type 0 where
   pub added : List Edit
   pub counted : new.counted ≡ old.counted ++ added
   pub foreign : All (λ e. e.process ≢ q) added
+
+-- also the situation, the issue and the buffer stay, and no word of q's is left out
+pub record Rely (q : ℕ) (old new : World) : Type 0 where
+  pub situation : new.situation q ≡ old.situation q
+  pub pending : new.pending q ≡ old.pending q
+  pub buffer : new.memory.buffer q ≡ old.memory.buffer q
+  pub grows : (but : Place) → Grows q but old new

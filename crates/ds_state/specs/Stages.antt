@@ -45,9 +45,9 @@ point_at (FlushOutcome outcome) = Some Marked
 point_at (BackOutcome outcome) = Some Marked
 point_at (Answer outcome) = Some Answered
 
-abbrev pub IsBehind : Point → Option Point → Type 0
-IsBehind point None = ⊥
-IsBehind point (Some last) = order point ≤ order last
+abbrev pub IsPassed : Point → Option Point → Type 0
+IsPassed point None = ⊥
+IsPassed point (Some last) = order point ≤ order last
 
 abbrev pub HasReached : Stage → Point → Type 0
-HasReached stage point = IsBehind point (point_at stage)
+HasReached stage point = IsPassed point (point_at stage)

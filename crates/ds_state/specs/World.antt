@@ -1,13 +1,16 @@
 -- A sheet and its processes, without where they lie in memory.
-use Rattle.std.specs.Prelude.{ℕ, ◌+◌, ◌-◌, ◌==◌, ◌&&◌, List, [], ◌∷◌, filter, take, Option, if◌then◌else◌, Bool}
+use Rattle.std.specs.Prelude.{ℕ, ◌≡◌, ◌+◌, ◌-◌, ◌/◌, ◌==◌, ◌&&◌, List, [], ◌∷◌, ◌++◌, length, filter, take, Option, if◌then◌else◌, Bool, zero, suc}
 use Rattle.ds_words.specs.Memory.{Memory}
 use Rattle.ds_layout.specs.declared.place.Place.{Place}
+use Rattle.ds_layout.specs.declared.place.Place.TheVariants as place
 use Rattle.ds_layout.specs.declared.layout.Layout.{Layout}
 use Rattle.ds_layout.specs.declared.announcement.Phase.{Phase}
 use Rattle.ds_layout.specs.declared.announcement.Phase.TheVariants as phase
 use Rattle.ds_layout.specs.Announcement.{announcement_word}
 use Rattle.ds_layout.specs.Head.{head_word}
-use Rattle.ds_state.specs.Edits.{PlainEdit}
+use Rattle.ds_layout.specs.Header.{header_word}
+use Rattle.ds_layout.specs.Text.{part_word}
+use Rattle.ds_state.specs.Edits.{PlainEdit, text_parts}
 use Rattle.ds_state.specs.declared.situation.Situation.{Situation}
 
 -- what an edit is to whoever asked for it
@@ -34,6 +37,25 @@ pub record World : Type 0 where
   pub counted : List Edit
   pub pending : ℕ → Option Issue
 
+-- the words of an edit's record: the header, then the parts of its text
+abbrev pub record_place : ℕ → ℕ → ℕ → Place
+record_place process number zero = place.Header process number
+record_place process number (suc part) = place.Text process number part
+
+abbrev pub record_word : Edit → ℕ → ℕ
+record_word e zero = header_word (record { cell = e.cell; length = length e.text })
+record_word e (suc part) = part_word e.text part
+
+abbrev pub record_size : Edit → ℕ
+record_size e = text_parts e.text + 1
+
+-- the word of an index row that has the cell's bit, and the word of a process's done bits that has the edit's
+abbrev pub index_place : ℕ → ℕ → Place
+index_place row cell = place.Index row (cell / 64)
+
+abbrev pub done_place : ℕ → ℕ → Place
+done_place process number = place.Done process (number / 64)
+
 -- the edits of one cell
 unfoldable pub of_cell : ℕ → List Edit → List Edit
 of_cell cell edits = filter (λ e. e.cell == cell) edits
@@ -50,9 +72,20 @@ head_from stamp head (e ∷ es) = head_from (stamp + 1) (head_by (stamp + 1) e) 
 unfoldable pub head_after_all : List Edit → ℕ
 head_after_all es = head_from 0 0 es
 
--- the head of the cell when so many edits counted
-abbrev pub head_when : World → ℕ → ℕ → ℕ
-head_when w cell count = head_after_all (of_cell cell (take count w.counted))
+-- the edits of the cell when so many edits counted
+abbrev pub of_cell_when : World → ℕ → ℕ → List Edit
+of_cell_when w cell count = of_cell cell (take count w.counted)
+
+-- the word is the head that the edit gave its cell, which has these edits
+pub record IsHeadBy (es : List Edit) (word : ℕ) (e : Edit) : Type 0 where
+  pub before : List Edit
+  pub after : List Edit
+  pub parts : es ≡ before ++ e ∷ after
+  pub is : word ≡ head_by (length before + 1) e
+
+-- an announcement of an edit
+abbrev pub announcement : ℕ → Phase → ℕ
+announcement number p = announcement_word (record { number = number; phase = p })
 
 -- how the process's edit of this number ended, where it did
 abbrev pub is_edit_of : ℕ → ℕ → Edit → Bool
@@ -64,5 +97,5 @@ phase_among (e ∷ es) process number = if is_edit_of process number e then phas
 
 -- what the process announces before its edit of this number: how the one before ended, 0 before the first
 abbrev pub last_announcement : List Edit → ℕ → ℕ → ℕ
-last_announcement edits process number =
-    if number == 0 then 0 else announcement_word (record { number = number - 1; phase = phase_among edits process (number - 1) })
+last_announcement edits process zero = 0
+last_announcement edits process (suc before) = announcement before (phase_among edits process before)

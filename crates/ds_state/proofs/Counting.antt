@@ -1,0 +1,238 @@
+-- A step by which an edit comes to count.
+use Rattle.std.proofs.Common.{ℕ, ◌≡◌, ◌≢◌, ◌<◌, ◌≤◌, ◌+◌, ◌/◌, ◌⊎◌, List, [], ◌∷◌, ◌++◌, refl, ap, sym, ◌∙◌, subst, arith, append_assoc, inl, inr, Some, None, zero, suc, length, get_or}
+use Rattle.std.specs.Prelude.{All, Option, Contains}
+use Rattle.std.proofs.lemmas.Bool.{cases_eq}
+use Rattle.std.proofs.lemmas.List.{append-nil}
+use Rattle.std.proofs.lemmas.List.Elements.{All-nil, All-push, All-head, All-tail, Contains-append_cases, Contains-append_left}
+use Rattle.ds_words.specs.Memory.{StoresAt}
+use Rattle.ds_layout.specs.declared.place.Place.{Place}
+use Rattle.ds_layout.specs.declared.place.Place.TheVariants.{Version, Head, Mark, Value, Kind, Index, Announce, Header, Text, Done}
+use Rattle.ds_layout.specs.Bits.{HasBit, IsSubset}
+use Rattle.ds_layout.proofs.OrBits.{IsSubset-same}
+use Rattle.ds_layout.proofs.PlaceCases.{place_cases}
+use Rattle.ds_state.specs.World.{Edit, Issue, World, record_place, record_word, record_size, index_place, done_place, of_cell, head_after_all, IsHeadBy}
+use Rattle.ds_state.specs.Known.{AreBelow, IsSafe, IsDone}
+use Rattle.ds_state.specs.Calls.{Owes, CallFits}
+use Rattle.ds_state.specs.Words.{IsOnItsWay, RefersTo, IsKept, WordFits}
+use Rattle.ds_state.specs.Sound.{IsSound, IsOfSheet, Increasing}
+use Rattle.ds_state.specs.Rely.{IsOwnedBy, Grows, Rely}
+use Rattle.ds_state.specs.declared.situation.Situation.{Situation}
+use Rattle.ds_state.proofs.Heads.{of_cell-append, of_cell-own, of_cell-other, cell_of-middle, parts_cases}
+use Rattle.ds_state.proofs.Stable.{safe_stable, call_stable}
+use Rattle.ds_state.proofs.Frames.{KeepsOwing}
+
+-- the edit's head takes its cell's place, and the edit counts
+pub record Counts (e : Edit) (issue : Issue) (old new : World) : Type 0 where
+  pub layout : new.layout ≡ old.layout
+  pub counted : new.counted ≡ old.counted ++ e ∷ []
+  pub memory : StoresAt (Head e.cell) (head_after_all (of_cell e.cell new.counted)) old.memory new.memory
+  pub situations : (q : ℕ) → q ≢ e.process → new.situation q ≡ old.situation q
+  pub pendings : (q : ℕ) → q ≢ e.process → new.pending q ≡ old.pending q
+  pub pending : new.pending e.process ≡ Some issue
+  pub same : issue.edit ≡ e
+  pub owes : Owes (new.situation e.process) (head_after_all (of_cell e.cell new.counted))
+
+-- what has to stand before
+pub record MayCount (w : World) (e : Edit) : Type 0 where
+  pub of_sheet : IsOfSheet w e
+  pub below : AreBelow w e.process e.number
+  pub written : (k : ℕ) → k < record_size e → (w.memory.cached (record_place e.process e.number k) ≡ record_word e k) × (w.memory.persisted (record_place e.process e.number k) ≡ record_word e k)
+  pub indexed : (row : ℕ) → RefersTo w.layout.shape e.text row → HasBit (w.memory.cached (index_place row e.cell)) e.cell × HasBit (w.memory.persisted (index_place row e.cell)) e.cell
+  pub back : w.memory.persisted (Head e.cell) ≡ head_after_all (of_cell e.cell w.counted)
+  pub grows : w.memory.cached (Head e.cell) ≤ head_after_all (of_cell e.cell (w.counted ++ e ∷ []))
+  pub done : (before : List Edit) (by : Edit) → of_cell e.cell w.counted ≡ before ++ by ∷ [] → IsDone w by.process by.number
+  pub owes_nothing : (head : ℕ) → Owes (w.situation e.process) head → ⊥
+
+increasing_push : (edits : List Edit) (e : Edit) → Increasing edits → All (λ f. f.process ≡ e.process → f.number < e.number) edits → Increasing (edits ++ e ∷ [])
+increasing_push [] e h below = (All-nil (λ (f : Edit). f.process ≡ e.process → e.number < f.number), tt)
+increasing_push (x ∷ es) e h below =
+    let first : (x.process ≡ e.process → x.number < e.number) = All-head (λ (f : Edit). f.process ≡ e.process → f.number < e.number) x es below in (
+      All-push (λ (f : Edit). f.process ≡ x.process → x.number < f.number) es e h.0 (λ same. first (sym same)),
+      increasing_push es e h.1 (All-tail (λ (f : Edit). f.process ≡ e.process → f.number < e.number) x es below),
+    )
+
+subset_of : (a b : ℕ) → b ≡ a → IsSubset a b
+subset_of a b e = subst (λ (x : ℕ). IsSubset a x) (sym e) (IsSubset-same a)
+
+contains_one : (e f : Edit) → Contains (e ∷ []) f → f ≡ e
+contains_one e f (zero, lt, is) = sym is
+contains_one e f (suc k, lt, is) = absurd (omega arith)
+
+module _ (e : Edit) (issue : Issue) (old new : World) (c : Counts e issue old new) (may : MayCount old e) where
+  cells : (cell : ℕ) → of_cell cell new.counted ≡ of_cell cell old.counted ++ of_cell cell (e ∷ [])
+  cells cell = ap (λ es. of_cell cell es) c.counted ∙ of_cell-append cell old.counted (e ∷ [])
+
+  own_cell : of_cell e.cell new.counted ≡ of_cell e.cell old.counted ++ e ∷ []
+  own_cell = cells e.cell ∙ ap (λ es. of_cell e.cell old.counted ++ es) (of_cell-own e)
+
+  other_cell : (cell : ℕ) → e.cell ≢ cell → of_cell cell new.counted ≡ of_cell cell old.counted
+  other_cell cell ne = cells cell ∙ ap (λ es. of_cell cell old.counted ++ es) (of_cell-other cell e ne) ∙ append-nil (of_cell cell old.counted)
+
+  -- for another process
+  grows_other : (q : ℕ) (but : Place) → q ≢ e.process → Grows q but old new
+  grows_other q but ne = record {
+    layout = c.layout;
+    owned_cached = λ r o apart. c.memory.elsewhere r (λ is. not_head q r o is);
+    owned_persisted = λ r o apart. inl (c.memory.persisted r);
+    heads_cached = λ cell. elim (cases_eq cell e.cell) [
+      | inl eq ↦ (
+          let now = c.memory.there in
+          let g = may.grows in
+          let all = ap (λ es. head_after_all (of_cell e.cell es)) c.counted in
+          rw eq (omega arith))
+      | inr ne' ↦ (let same = c.memory.elsewhere (Head cell) (λ is. ne' cc) in omega arith)
+    ];
+    heads_persisted = λ cell. let same = c.memory.persisted (Head cell) in omega arith;
+    marks_cached = λ cell. let same = c.memory.elsewhere (Mark cell) (λ is. cc) in omega arith;
+    index_cached = λ row part. subset_of _ _ (c.memory.elsewhere (Index row part) (λ is. cc));
+    index_persisted = λ row part. subset_of _ _ (c.memory.persisted (Index row part));
+    done_cached = λ x part. subset_of _ _ (c.memory.elsewhere (Done x part) (λ is. cc));
+    done_persisted = λ x part. subset_of _ _ (c.memory.persisted (Done x part));
+    added = e ∷ [];
+    counted = c.counted;
+    foreign = All-push (λ (f : Edit). f.process ≢ q) [] e (All-nil (λ (f : Edit). f.process ≢ q)) (λ same. ne (sym same));
+  }
+    where
+      not_head : (q : ℕ) (r : Place) → IsOwnedBy q r → r ≡ Head e.cell → ⊥
+      not_head q r o is = subst (λ (x : Place). IsOwnedBy q x) is o
+
+  rely_other : (q : ℕ) → q ≢ e.process → Rely q old new
+  rely_other q ne = record {
+    situation = c.situations q ne;
+    pending = c.pendings q ne;
+    buffer = c.memory.buffer q;
+    grows = λ but. grows_other q but ne;
+  }
+
+  another : suc e.process ≢ e.process
+  another same = absurd (omega arith)
+
+  kept_counts : (q n : ℕ) → IsKept old q n → IsKept new q n
+  kept_counts q n h = record {
+    edit = h.edit;
+    process_is = h.process_is;
+    number_is = h.number_is;
+    safe = safe_stable (suc e.process) Version old new (grows_other (suc e.process) Version another) h.edit h.safe;
+  }
+
+  counted_cases : (P : Edit → Type 0) → P e → ((f : Edit) → Contains old.counted f → P f) → (f : Edit) → Contains new.counted f → P f
+  counted_cases P mine others f there =
+      elim (Contains-append_cases old.counted (e ∷ []) f (subst (λ (es : List Edit). Contains es f) c.counted there)) [
+        | inl before ↦ others f before
+        | inr last ↦ subst P (sym (contains_one e f last)) mine
+      ]
+
+  -- the edit that is overtaken by it, or one that was before
+  overtaken_cases : (cell : ℕ) (before : List Edit) (f next : Edit) (after : List Edit) → of_cell cell new.counted ≡ before ++ f ∷ next ∷ after
+      → IsDone old f.process f.number ⊎ ((rest : List Edit) × (of_cell cell old.counted ≡ before ++ f ∷ next ∷ rest))
+  overtaken_cases cell before f next after parts = elim (cases_eq e.cell cell) [
+    | inr ne ↦ inr (after, sym (other_cell cell ne) ∙ parts)
+    | inl eq ↦ (
+        let es : List Edit = of_cell e.cell old.counted in
+        let split : es ++ e ∷ [] ≡ (before ++ f ∷ []) ++ next ∷ after = sym own_cell ∙ ap (λ x. of_cell x new.counted) eq ∙ parts ∙ sym (append_assoc before (f ∷ []) (next ∷ after)) in
+        elim (parts_cases es e (before ++ f ∷ []) next after split) [
+          | inl last ↦ inl (may.done before f last.0)
+          | inr rest ↦ inr (rest.0, ap (λ x. of_cell x old.counted) (sym eq) ∙ rest.1 ∙ append_assoc before (f ∷ []) (next ∷ rest.0))
+        ])
+  ]
+
+  word_counts : (r : Place) → r ≢ Head e.cell → WordFits old r (old.memory.cached r) (old.memory.persisted r) → WordFits new r (old.memory.cached r) (old.memory.persisted r)
+  word_counts Version ne h = tt
+  word_counts (Head cell) ne h =
+      let apart : e.cell ≢ cell = (λ eq. ne (ap (λ x. Head x) (sym eq))) in
+      let same = other_cell cell apart in
+      record {
+        last = h.last ∙ ap head_after_all (sym same);
+        sides = elim h.sides [
+          | inl eq ↦ inl eq
+          | inr b ↦ inr (
+              let its : b.last.cell ≡ cell = cell_of-middle cell old.counted b.before b.last [] b.parts in
+              let other : b.last.process ≢ e.process = (λ eq. may.owes_nothing _ (subst (λ (q : ℕ). Owes (old.situation q) (head_after_all (of_cell cell old.counted))) eq b.owes)) in
+              record {
+                before = b.before;
+                last = b.last;
+                parts = same ∙ b.parts;
+                is = b.is;
+                issue = b.issue;
+                pending = c.pendings b.last.process other ∙ b.pending;
+                same = b.same;
+                owes = subst (λ (es : List Edit). Owes (new.situation b.last.process) (head_after_all es)) (sym same) (rw (c.situations b.last.process other) b.owes);
+              })
+        ];
+      }
+  word_counts (Mark cell) ne h = h
+  word_counts (Value cell) ne h = tt
+  word_counts (Kind cell) ne h = tt
+  word_counts (Index row part) ne h = record {
+    sides = h.sides;
+    counted = counted_cases
+      (λ f. f.cell / 64 ≡ part → RefersTo new.layout.shape f.text row → HasBit (old.memory.cached (Index row part)) f.cell × HasBit (old.memory.persisted (Index row part)) f.cell)
+      (λ its refers. subst (λ (x : ℕ). HasBit (old.memory.cached (Index row x)) e.cell × HasBit (old.memory.persisted (Index row x)) e.cell) its (may.indexed row (rw (sym c.layout) refers)))
+      (λ f there its refers. h.counted f there its (rw (sym c.layout) refers));
+  }
+  word_counts (Announce q) ne h = record {
+    on_cached = λ n small is. kept_counts q n (h.on_cached n small is);
+    on_persisted = λ n small is. kept_counts q n (h.on_persisted n small is);
+  }
+  word_counts (Header q n) ne h = counted_cases
+    (λ f. f.process ≡ q → f.number ≡ n → 0 < record_size f → (old.memory.cached (Header q n) ≡ record_word f zero) × (old.memory.persisted (Header q n) ≡ record_word f zero))
+    (λ i j k. subst (λ (x : ℕ). (old.memory.cached (Header x n) ≡ record_word e zero) × (old.memory.persisted (Header x n) ≡ record_word e zero)) i
+        (subst (λ (x : ℕ). (old.memory.cached (Header e.process x) ≡ record_word e zero) × (old.memory.persisted (Header e.process x) ≡ record_word e zero)) j (may.written zero k)))
+    h
+  word_counts (Text q n part) ne h = counted_cases
+    (λ f. f.process ≡ q → f.number ≡ n → suc part < record_size f → (old.memory.cached (Text q n part) ≡ record_word f (suc part)) × (old.memory.persisted (Text q n part) ≡ record_word f (suc part)))
+    (λ i j k. subst (λ (x : ℕ). (old.memory.cached (Text x n part) ≡ record_word e (suc part)) × (old.memory.persisted (Text x n part) ≡ record_word e (suc part))) i
+        (subst (λ (x : ℕ). (old.memory.cached (Text e.process x part) ≡ record_word e (suc part)) × (old.memory.persisted (Text e.process x part) ≡ record_word e (suc part))) j (may.written (suc part) k)))
+    h
+  word_counts (Done q part) ne h = record {
+    sides = h.sides;
+    overtaken = λ n its o. elim (overtaken_cases o.edit.cell o.before o.edit o.next o.after o.parts) [
+      | inl done ↦ (
+          let there : HasBit (old.memory.persisted (done_place q n)) n = subst (λ (x : ℕ). HasBit (old.memory.persisted (done_place x n)) n) o.process_is (subst (λ (x : ℕ). HasBit (old.memory.persisted (done_place o.edit.process x)) x) o.number_is done) in
+          subst (λ (x : ℕ). HasBit (old.memory.persisted (Done q x)) n) its there)
+      | inr rest ↦ h.overtaken n its (record {
+        edit = o.edit;
+        process_is = o.process_is;
+        number_is = o.number_is;
+        before = o.before;
+        next = o.next;
+        after = rest.0;
+        parts = rest.1;
+      })
+    ];
+    told = λ n small its has. kept_counts q n (h.told n small its has);
+  }
+
+  -- its cell's head is on its way
+  head_counts : WordFits new (Head e.cell) (new.memory.cached (Head e.cell)) (new.memory.persisted (Head e.cell))
+  head_counts = record {
+    last = c.memory.there;
+    sides = inr (record {
+      before = of_cell e.cell old.counted;
+      last = e;
+      parts = own_cell;
+      is = c.memory.persisted (Head e.cell) ∙ may.back;
+      issue = issue;
+      pending = c.pending;
+      same = c.same;
+      owes = c.owes;
+    });
+  }
+
+  pub counts_sound : IsSound old → CallFits new e.process (new.situation e.process) → IsSound new
+  counts_sound s mine = record {
+    words = λ r. elim (place_cases r (Head e.cell)) [
+      | inl eq ↦ subst (λ (x : Place). WordFits new x (new.memory.cached x) (new.memory.persisted x)) (sym eq) head_counts
+      | inr ne ↦ subst (λ (x : ℕ). WordFits new r x (new.memory.persisted r)) (sym (c.memory.elsewhere r ne))
+          (subst (λ (x : ℕ). WordFits new r (old.memory.cached r) x) (sym (c.memory.persisted r)) (word_counts r ne (s.words r)))
+    ];
+    calls = λ q l. elim (cases_eq q e.process) [
+      | inl eq ↦ subst (λ (x : ℕ). CallFits new x (new.situation x)) (sym eq) mine
+      | inr ne ↦ rw (c.situations q ne) (call_stable old new q (old.situation q) (rely_other q ne) (s.calls q (rw (sym c.layout) l)))
+    ];
+    of_sheet = subst (λ (es : List Edit). All (λ f. IsOfSheet new f) es) (sym c.counted) (All-push (λ (f : Edit). IsOfSheet new f) old.counted e (λ k d l. sheet (get_or old.counted k d) (s.of_sheet k d l)) (sheet e may.of_sheet));
+    increasing = rw c.counted (increasing_push old.counted e s.increasing may.below);
+  }
+    where
+      sheet : (f : Edit) → IsOfSheet old f → IsOfSheet new f
+      sheet f h = record { process = rw c.layout h.process; number = h.number; cell = rw c.layout h.cell }

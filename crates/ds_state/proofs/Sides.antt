@@ -1,0 +1,124 @@
+-- What the sides of a word may become: by a write-back, an eviction, or bits that are added.
+use Rattle.std.proofs.Common.{ℕ, ◌≡◌, ◌≢◌, ◌<◌, ◌≤◌, ◌/◌, ◌⊎◌, List, refl, ap, sym, ◌∙◌, subst, arith, inl, inr, zero, suc, max}
+use Rattle.std.specs.Prelude.{All, bit_or}
+use Rattle.std.proofs.lemmas.Bool.{cases_eq}
+use Rattle.ds_words.specs.Memory.{newer}
+use Rattle.ds_layout.specs.Places.{class_of}
+use Rattle.ds_layout.specs.declared.place.Place.{Place}
+use Rattle.ds_layout.specs.declared.place.Place.TheVariants.{Version, Head, Mark, Value, Kind, Index, Announce, Header, Text, Done}
+use Rattle.ds_layout.specs.Bits.{HasBit, IsSubset, bit_of}
+use Rattle.ds_layout.proofs.OrBits.{IsSubset-same, IsSubset-both, IsSubset-or_left, IsSubset-or_both, HasBit-subset, HasBit-or_other}
+use Rattle.ds_state.specs.World.{Edit, World, of_cell, IsHeadBy}
+use Rattle.ds_state.specs.Words.{IsKept, WordFits}
+use Rattle.ds_state.proofs.Heads.{Small, small_of_cell, persisted_most, written_back}
+use Rattle.ds_state.proofs.Frames.{MovesWord}
+
+-- what the persisted side v may become beside the cached side c
+abbrev pub IsBetween : Place → ℕ → ℕ → ℕ → Type 0
+IsBetween Version c v v' = Unit {0}
+IsBetween (Head cell) c v v' = (v' ≡ v) ⊎ (v' ≡ c)
+IsBetween (Mark cell) c v v' = v' ≤ c
+IsBetween (Value cell) c v v' = Unit {0}
+IsBetween (Kind cell) c v v' = Unit {0}
+IsBetween (Index row part) c v v' = IsSubset v v' × IsSubset v' c
+IsBetween (Announce q) c v v' = (v' ≡ v) ⊎ (v' ≡ c)
+IsBetween (Header q n) c v v' = (v' ≡ v) ⊎ (v' ≡ c)
+IsBetween (Text q n part) c v v' = (v' ≡ v) ⊎ (v' ≡ c)
+IsBetween (Done q part) c v v' = IsSubset v v' × IsSubset v' c
+
+-- the value of a buffer's entry that may be written back
+abbrev pub EntryFits : World → Place → ℕ → ℕ → Type 0
+EntryFits w Version c value = Unit {0}
+EntryFits w (Head cell) c value = (e : Edit) × IsHeadBy (of_cell cell w.counted) value e
+EntryFits w (Mark cell) c value = value ≤ c
+EntryFits w (Value cell) c value = Unit {0}
+EntryFits w (Kind cell) c value = Unit {0}
+EntryFits w (Index row part) c value = IsSubset value c
+EntryFits w (Announce q) c value = value ≡ c
+EntryFits w (Header q n) c value = value ≡ c
+EntryFits w (Text q n part) c value = value ≡ c
+EntryFits w (Done q part) c value = IsSubset value c
+
+module _ (w : World) (small : Small w.counted) where
+  -- a write-back
+  pub newer_between : (r : Place) (c v value : ℕ) → WordFits w r c v → EntryFits w r c value → IsBetween r c v (newer (class_of r) v value)
+  newer_between Version c v value h e = tt
+  newer_between (Head cell) c v value h e = written_back w (of_cell cell w.counted) c v value e.0 (small_of_cell cell w.counted small) h.last h.sides e.1
+  newer_between (Mark cell) c v value h e = omega arith
+  newer_between (Value cell) c v value h e = tt
+  newer_between (Kind cell) c v value h e = tt
+  newer_between (Index row part) c v value h e = (IsSubset-or_left v value, IsSubset-or_both v value c h.sides e)
+  newer_between (Announce q) c v value h e = inr e
+  newer_between (Header q n) c v value h e = inr e
+  newer_between (Text q n part) c v value h e = inr e
+  newer_between (Done q part) c v value h e = (IsSubset-or_left v value, IsSubset-or_both v value c h.sides e)
+
+  -- an eviction
+  pub cached_between : (r : Place) (c v : ℕ) → WordFits w r c v → IsBetween r c v c
+  cached_between Version c v h = tt
+  cached_between (Head cell) c v h = inr refl
+  cached_between (Mark cell) c v h = omega arith
+  cached_between (Value cell) c v h = tt
+  cached_between (Kind cell) c v h = tt
+  cached_between (Index row part) c v h = (h.sides, IsSubset-same c)
+  cached_between (Announce q) c v h = inr refl
+  cached_between (Header q n) c v h = inr refl
+  cached_between (Text q n part) c v h = inr refl
+  cached_between (Done q part) c v h = (h.sides, IsSubset-same c)
+
+  pub between_moves : (p : ℕ) (r : Place) (c v v' : ℕ) → WordFits w r c v → IsBetween r c v v' → MovesWord p r c v c v'
+  between_moves p Version c v v' h b = tt
+  between_moves p (Head cell) c v v' h b =
+      let m = persisted_most w (of_cell cell w.counted) c v (small_of_cell cell w.counted small) h.last h.sides in
+      elim b [ inl same ↦ (omega arith, omega arith) | inr now ↦ (omega arith, omega arith) ]
+  between_moves p (Mark cell) c v v' h b = omega arith
+  between_moves p (Value cell) c v v' h b = tt
+  between_moves p (Kind cell) c v v' h b = tt
+  between_moves p (Index row part) c v v' h b = (IsSubset-same c, b.0)
+  between_moves p (Announce q) c v v' h b = inr (refl, b)
+  between_moves p (Header q n) c v v' h b = inr (refl, b)
+  between_moves p (Text q n part) c v v' h b = inr (refl, b)
+  between_moves p (Done q part) c v v' h b = (IsSubset-same c, b.0)
+
+pub between_fits : (w : World) (r : Place) (c v v' : ℕ) → WordFits w r c v → IsBetween r c v v' → WordFits w r c v'
+between_fits w Version c v v' h b = tt
+between_fits w (Head cell) c v v' h b = elim b [
+  | inl same ↦ rw same h
+  | inr now ↦ record { last = h.last; sides = inl now }
+]
+between_fits w (Mark cell) c v v' h b = b
+between_fits w (Value cell) c v v' h b = tt
+between_fits w (Kind cell) c v v' h b = tt
+between_fits w (Index row part) c v v' h b = record {
+  sides = b.1;
+  counted = λ e there its refers. let both = h.counted e there its refers in (both.0, HasBit-subset v v' e.cell b.0 both.1);
+}
+between_fits w (Announce q) c v v' h b = record {
+  on_cached = h.on_cached;
+  on_persisted = λ n small is. elim b [ inl same ↦ h.on_persisted n small (sym same ∙ is) | inr now ↦ h.on_cached n small (sym now ∙ is) ];
+}
+between_fits w (Header q n) c v v' h b = λ e there i j k. let both = h e there i j k in (both.0, elim b [ inl same ↦ same ∙ both.1 | inr now ↦ now ∙ both.0 ])
+between_fits w (Text q n part) c v v' h b = λ e there i j k. let both = h e there i j k in (both.0, elim b [ inl same ↦ same ∙ both.1 | inr now ↦ now ∙ both.0 ])
+between_fits w (Done q part) c v v' h b = record {
+  sides = b.1;
+  overtaken = λ n its o. HasBit-subset v v' n b.0 (h.overtaken n its o);
+  told = h.told;
+}
+
+-- bits that are added to an index row
+pub row_or_fits : (w : World) (row part c v bits : ℕ) → WordFits w (Index row part) c v → WordFits w (Index row part) (bit_or c bits) v
+row_or_fits w row part c v bits h = record {
+  sides = IsSubset-both v c (bit_or c bits) h.sides (IsSubset-or_left c bits);
+  counted = λ e there its refers. let both = h.counted e there its refers in (HasBit-subset c (bit_or c bits) e.cell (IsSubset-or_left c bits) both.0, both.1);
+}
+
+-- the done bit of an edit that no crash takes
+pub done_or_fits : (w : World) (p n c v : ℕ) → IsKept w p n → WordFits w (Done p (n / 64)) c v → WordFits w (Done p (n / 64)) (bit_or c (bit_of n)) v
+done_or_fits w p n c v kept h = record {
+  sides = IsSubset-both v c (bit_or c (bit_of n)) h.sides (IsSubset-or_left c (bit_of n));
+  overtaken = h.overtaken;
+  told = λ k small its has. elim (cases_eq k n) [
+    | inl same ↦ subst (λ (x : ℕ). IsKept w p x) (sym same) kept
+    | inr other ↦ h.told k small its (HasBit-or_other c n k its other has)
+  ];
+}

@@ -1,0 +1,127 @@
+-- What each process knows, and what its buffer holds.
+use Rattle.std.specs.Prelude.{ℕ, ◌≡◌, ◌<◌, ◌≤◌, ◌+◌, ◌-◌, List, [], ◌∷◌, length, map, Some, None, Contains, slice_index_or}
+use Rattle.std.specs.List.{range_with_len}
+use Rattle.ds_words.specs.declared.access.Entry.{Entry}
+use Rattle.ds_formula.specs.Cells.{index_of}
+use Rattle.ds_formula.specs.declared.cells.Cell.{Cell}
+use Rattle.ds_formula.specs.declared.cells.Shape.{Shape}
+use Rattle.ds_formula.specs.Plain.{Plain}
+use Rattle.ds_formula.specs.Refs.{Refers}
+use Rattle.ds_formula.specs.Grammar.{Reads}
+use Rattle.ds_layout.specs.declared.place.TheConstants.{RECORDS}
+use Rattle.ds_layout.specs.declared.place.Place.{Place}
+use Rattle.ds_layout.specs.declared.place.Place.TheVariants as place
+use Rattle.ds_layout.specs.declared.layout.Layout.{Layout}
+use Rattle.ds_layout.specs.Places.{class_of, cells_of}
+use Rattle.ds_layout.specs.Head.{head_word}
+use Rattle.ds_layout.specs.Bits.{HasBit, IsSubset}
+use Rattle.ds_state.specs.Edits.{PlainEdit, IsEdit, text_parts}
+use Rattle.ds_state.specs.World.{Edit, edit_of, World, record_place, record_word, index_place, done_place, of_cell, IsHeadBy, last_announcement}
+use Rattle.ds_state.specs.Known.{Announced, pending, ended, word_of, AreBelow, known_at, Knowing}
+use Rattle.ds_state.specs.declared.stage.Stage.{Stage}
+use Rattle.ds_state.specs.declared.stage.Stage.TheVariants.{FlushText, BackRecord, BackPending, BackIndex, BackNoted, BackDone, FlushOwn, BackOwn, BackMark, BackOutcome}
+use Rattle.ds_state.specs.declared.situation.Situation.{Situation}
+use Rattle.ds_state.specs.declared.situation.Situation.TheVariants.{Idle, Stopped, Editing}
+
+-- what an edit's buffer holds: nothing; so many words of its record from this one on; its announcement; bits of the row
+-- of a reference, its cell's among them; done bits, this edit's among them; a head of its cell, this one or a later one;
+-- its cell's mark
+pub data Held : Type 0 where
+  empty : Held
+  record_words : ℕ → ℕ → Held
+  announcing_word : Announced → Held
+  row_bits : ℕ → Held
+  done_bits : ℕ → ℕ → Held
+  head_from : ℕ → Held
+  mark : Held
+
+-- what it holds at a stage of an edit with so many parts of its text and these references
+abbrev pub held_at : ℕ → List ℕ → Stage → Held
+held_at parts refs (FlushText part) = record_words 0 (part + 1)
+held_at parts refs (BackRecord left) = record_words (parts - left) (left + 1)
+held_at parts refs BackPending = announcing_word pending
+held_at parts refs (BackIndex i) = row_bits (slice_index_or refs i 0)
+held_at parts refs (BackNoted head) = head_from (head_word head)
+held_at parts refs (BackDone head) = done_bits head.process head.number
+held_at parts refs (BackOwn own) = head_from own
+held_at parts refs (BackMark own) = mark
+held_at parts refs (BackOutcome how) = announcing_word (ended how)
+held_at parts refs _ = empty
+
+abbrev pub entry : Place → ℕ → Entry Place
+entry r value = record { place = r; class = class_of r; value = value }
+
+abbrev pub record_entry : Edit → ℕ → Entry Place
+record_entry e k = entry (record_place e.process e.number k) (record_word e k)
+
+-- one entry, with a value that is one of these
+pub record HasOne (w : World) (p : ℕ) (r : Place) (Is : ℕ → Type 0) : Type 0 where
+  pub value : ℕ
+  pub alone : w.memory.buffer p ≡ entry r value ∷ []
+  pub is : Is value
+
+-- bits that the cached side has, this one among them
+pub record IsBits (w : World) (r : Place) (number value : ℕ) : Type 0 where
+  pub has : HasBit value number
+  pub subset : IsSubset value (w.memory.cached r)
+
+-- a head of the cell, this one or a later one
+pub record IsHeadFrom (w : World) (cell least value : ℕ) : Type 0 where
+  pub enough : least ≤ value
+  pub by : Edit
+  pub head : IsHeadBy (of_cell cell w.counted) value by
+
+abbrev pub Holds : World → Edit → Held → Type 0
+Holds w e empty = w.memory.buffer e.process ≡ []
+Holds w e (record_words first count) = w.memory.buffer e.process ≡ map (record_entry e) (range_with_len first count)
+Holds w e (announcing_word a) = w.memory.buffer e.process ≡ entry (place.Announce e.process) (word_of w e a) ∷ []
+Holds w e (row_bits row) = HasOne w e.process (index_place row e.cell) (IsBits w (index_place row e.cell) e.cell)
+Holds w e (done_bits process number) = HasOne w e.process (done_place process number) (IsBits w (done_place process number) number)
+Holds w e (head_from least) = HasOne w e.process (place.Head e.cell) (IsHeadFrom w e.cell least)
+Holds w e mark = HasOne w e.process (place.Mark e.cell) (λ value. value ≤ w.memory.cached (place.Mark e.cell))
+
+-- the sheet has as many cells and processes as the edit says
+pub record IsSheetOf (layout : Layout) (e : PlainEdit) : Type 0 where
+  pub cells : cells_of layout ≡ e.cells
+  pub processes : layout.processes ≡ e.processes
+
+-- each cell that the text refers to is one of the references
+pub record HasRefs (shape : Shape) (e : PlainEdit) : Type 0 where
+  pub content : Plain
+  pub reads : Reads shape e.text content
+  pub all : (c : Cell) → Refers content c → Contains e.refs (index_of shape c)
+
+pub record EditFits (w : World) (p : ℕ) (e : PlainEdit) : Type 0 where
+  pub mine : e.process ≡ p
+  pub is : IsEdit e
+  pub sheet : IsSheetOf w.layout e
+  pub refs : HasRefs w.layout.shape e
+  pub since : ℕ
+  pub pending : w.pending p ≡ Some (record { edit = edit_of e; since = since })
+  pub issued : since ≤ length w.counted
+  pub knows : Knowing w (edit_of e) e.refs since (known_at (text_parts e.text) (length e.refs) e.stage)
+  pub buffer : Holds w (edit_of e) (held_at (text_parts e.text) e.refs e.stage)
+
+pub record IdleFits (w : World) (p next : ℕ) : Type 0 where
+  pub number : next ≤ RECORDS
+  pub pending : w.pending p ≡ None
+  pub buffer : w.memory.buffer p ≡ []
+  pub below : AreBelow w p next
+  pub cached : w.memory.cached (place.Announce p) ≡ last_announcement w.counted p next
+  pub persisted : w.memory.persisted (place.Announce p) ≡ last_announcement w.counted p next
+
+abbrev pub CallFits : World → ℕ → Situation → Type 0
+CallFits w p (Idle next) = IdleFits w p next
+CallFits w p Stopped = w.memory.buffer p ≡ []
+CallFits w p (Editing e) = EditFits w p e
+
+-- the process has still to persist this head
+abbrev pub OwesAt : Stage → ℕ → Type 0
+OwesAt (FlushOwn own) head = own ≡ head
+OwesAt (BackOwn own) head = own ≡ head
+OwesAt _ head = ⊥
+
+abbrev pub Owes : Situation → ℕ → Type 0
+Owes (Idle next) head = ⊥
+Owes Stopped head = Unit {0}
+Owes (Editing e) head = OwesAt e.stage head

@@ -1,0 +1,219 @@
+-- What an edit knows at each of its stages.
+use Rattle.std.specs.Prelude.{ℕ, ◌≡◌, ◌<◌, ◌≤◌, ◌+◌, ◌-◌, ◌⊎◌, List, [], ◌∷◌, ◌++◌, length, Option, Some, None, All, slice_index_or}
+use Rattle.ds_layout.specs.declared.place.Place.{Place}
+use Rattle.ds_layout.specs.declared.place.Place.TheVariants as place
+use Rattle.ds_layout.specs.declared.head.Head.{Head}
+use Rattle.ds_layout.specs.declared.announcement.Phase.{Phase}
+use Rattle.ds_layout.specs.declared.announcement.Phase.TheVariants as phase
+use Rattle.ds_layout.specs.Head.{head_word}
+use Rattle.ds_layout.specs.Bits.{HasBit}
+use Rattle.ds_state.specs.Edits.{PlainEdit}
+use Rattle.ds_state.specs.World.{Edit, World, record_place, record_word, index_place, done_place, of_cell, of_cell_when, head_after_all, IsHeadBy, announcement, last_announcement}
+use Rattle.ds_state.specs.declared.stage.Outcome.{Outcome}
+use Rattle.ds_state.specs.declared.stage.Outcome.TheVariants.{Done, Overtaken}
+use Rattle.ds_state.specs.declared.stage.Stage.{Stage}
+use Rattle.ds_state.specs.declared.stage.Stage.TheVariants.{StoreHeader, StoreText, FlushHeader, FlushText, BackRecord, StorePending, FlushPending, BackPending, OrIndex, FlushIndex, BackIndex, LoadHead, FlushNoted, BackNoted, OrDone, FlushDone, BackDone, Swap, FlushOwn, BackOwn, OrMark, FlushMark, BackMark, StoreOutcome, FlushOutcome, BackOutcome, Answer}
+
+-- whether the edit counts: it does not; it does, and this is its head; it does, and no crash takes it
+pub data Standing : Type 0 where
+  outside : Standing
+  inside : ℕ → Standing
+  safe : Standing
+
+-- what the edit announces: how the one before it ended, itself, or how it ended
+pub data Announced : Type 0 where
+  last : Announced
+  pending : Announced
+  ended : Outcome → Announced
+
+-- what it knows of its cell's head: nothing; the head that it noted; that this head or a later one is persisted; that
+-- also the done bit of the head's edit is set; that the bit is persisted; which two heads it met
+pub data Noted : Type 0 where
+  nothing : Noted
+  head_noted : Head → Noted
+  head_back : Head → Noted
+  bit_set : Head → Noted
+  bit_back : ℕ → Noted
+  came_late : ℕ → ℕ → Noted
+
+-- so many words of its record are stored, and so many are persisted; on its announcement's cached side stands `now`,
+-- on the persisted side that or `before`; its cell stands in the index rows of so many of its references, and on the
+-- cached side in that of one more
+pub record Known : Type 0 where
+  pub standing : Standing
+  pub stored : ℕ
+  pub back : ℕ
+  pub before : Announced
+  pub now : Announced
+  pub indexed : ℕ
+  pub ored : Option ℕ
+  pub head : Noted
+
+-- the record is being written
+abbrev pub writing : ℕ → ℕ → Known
+writing stored back = record { standing = outside; stored = stored; back = back; before = last; now = last; indexed = 0; ored = None; head = nothing }
+
+-- it is written, of so many parts; the edit is being announced
+abbrev pub announcing : ℕ → Known
+announcing parts = record { standing = outside; stored = parts + 1; back = parts + 1; before = last; now = pending; indexed = 0; ored = None; head = nothing }
+
+-- it is announced, and is being indexed
+abbrev pub indexing : ℕ → ℕ → Option ℕ → Known
+indexing parts i ored = record { standing = outside; stored = parts + 1; back = parts + 1; before = pending; now = pending; indexed = i; ored = ored; head = nothing }
+
+-- it is indexed, and takes its place
+abbrev pub placing : ℕ → ℕ → Standing → Noted → Known
+placing parts refs standing head = record { standing = standing; stored = parts + 1; back = parts + 1; before = pending; now = pending; indexed = refs; ored = None; head = head }
+
+abbrev pub standing_after : Outcome → Standing
+standing_after Done = safe
+standing_after (Overtaken noted seen) = outside
+
+abbrev pub noted_after : Outcome → Noted
+noted_after Done = nothing
+noted_after (Overtaken noted seen) = came_late noted seen
+
+-- it has ended
+abbrev pub ending : ℕ → ℕ → Outcome → Announced → Announced → Known
+ending parts refs how before now = record { standing = standing_after how; stored = parts + 1; back = parts + 1; before = before; now = now; indexed = refs; ored = None; head = noted_after how }
+
+-- what is known at a stage of an edit with so many parts of its text and so many references
+abbrev pub known_at : ℕ → ℕ → Stage → Known
+known_at parts refs StoreHeader = writing 0 0
+known_at parts refs (StoreText part) = writing (part + 1) 0
+known_at parts refs FlushHeader = writing (parts + 1) 0
+known_at parts refs (FlushText part) = writing (parts + 1) 0
+known_at parts refs (BackRecord left) = writing (parts + 1) (parts - left)
+known_at parts refs StorePending = writing (parts + 1) (parts + 1)
+known_at parts refs FlushPending = announcing parts
+known_at parts refs BackPending = announcing parts
+known_at parts refs (OrIndex i) = indexing parts i None
+known_at parts refs (FlushIndex i) = indexing parts i (Some i)
+known_at parts refs (BackIndex i) = indexing parts i (Some i)
+known_at parts refs LoadHead = placing parts refs outside nothing
+known_at parts refs (FlushNoted head) = placing parts refs outside (head_noted head)
+known_at parts refs (BackNoted head) = placing parts refs outside (head_noted head)
+known_at parts refs (OrDone head) = placing parts refs outside (head_back head)
+known_at parts refs (FlushDone head) = placing parts refs outside (bit_set head)
+known_at parts refs (BackDone head) = placing parts refs outside (bit_set head)
+known_at parts refs (Swap head) = placing parts refs outside (bit_back head)
+known_at parts refs (FlushOwn own) = placing parts refs (inside own) nothing
+known_at parts refs (BackOwn own) = placing parts refs (inside own) nothing
+known_at parts refs (OrMark own) = placing parts refs safe nothing
+known_at parts refs (FlushMark own) = placing parts refs safe nothing
+known_at parts refs (BackMark own) = placing parts refs safe nothing
+known_at parts refs (StoreOutcome how) = ending parts refs how pending pending
+known_at parts refs (FlushOutcome how) = ending parts refs how pending (ended how)
+known_at parts refs (BackOutcome how) = ending parts refs how pending (ended how)
+known_at parts refs (Answer how) = ending parts refs how (ended how) (ended how)
+
+-- the process's counted edits have lower numbers than this
+abbrev pub AreBelow : World → ℕ → ℕ → Type 0
+AreBelow w process number = All (λ f. f.process ≡ process → f.number < number) w.counted
+
+-- the edit counts, and this is its head
+pub record IsIn (w : World) (e : Edit) (own : ℕ) : Type 0 where
+  pub below : AreBelow w e.process (e.number + 1)
+  pub head : IsHeadBy (of_cell e.cell w.counted) own e
+
+-- an edit that no crash takes: its head or a later one is persisted
+pub record IsSafe (w : World) (e : Edit) : Type 0 where
+  pub own : ℕ
+  pub head : IsHeadBy (of_cell e.cell w.counted) own e
+  pub persisted : own ≤ w.memory.persisted (place.Head e.cell)
+
+pub record IsSafelyIn (w : World) (e : Edit) : Type 0 where
+  pub below : AreBelow w e.process (e.number + 1)
+  pub safe : IsSafe w e
+
+abbrev pub StandsAs : World → Edit → Standing → Type 0
+StandsAs w e outside = AreBelow w e.process e.number
+StandsAs w e (inside own) = IsIn w e own
+StandsAs w e safe = IsSafelyIn w e
+
+-- the first so many words of its record are stored, and the first so many are persisted
+pub record IsRecorded (w : World) (e : Edit) (stored back : ℕ) : Type 0 where
+  pub cached : (k : ℕ) → k < stored → w.memory.cached (record_place e.process e.number k) ≡ record_word e k
+  pub persisted : (k : ℕ) → k < back → w.memory.persisted (record_place e.process e.number k) ≡ record_word e k
+  pub fewer : back ≤ stored
+
+abbrev pub phase_of : Outcome → Phase
+phase_of Done = phase.Done
+phase_of (Overtaken noted seen) = phase.NotDone
+
+abbrev pub word_of : World → Edit → Announced → ℕ
+word_of w e last = last_announcement w.counted e.process e.number
+word_of w e pending = announcement e.number phase.Pending
+word_of w e (ended how) = announcement e.number (phase_of how)
+
+pub record IsAnnounced (w : World) (e : Edit) (before now : Announced) : Type 0 where
+  pub cached : w.memory.cached (place.Announce e.process) ≡ word_of w e now
+  pub persisted : (w.memory.persisted (place.Announce e.process) ≡ word_of w e before) ⊎ (w.memory.persisted (place.Announce e.process) ≡ word_of w e now)
+
+-- the word of the index row of a reference that has the edit's bit
+abbrev pub row_of : Edit → List ℕ → ℕ → Place
+row_of e refs i = index_place (slice_index_or refs i 0) e.cell
+
+-- the edit's cell stands in the rows of its first so many references, on both sides
+pub record IsIndexedTo (w : World) (e : Edit) (refs : List ℕ) (count : ℕ) : Type 0 where
+  pub cached : (i : ℕ) → i < count → HasBit (w.memory.cached (row_of e refs i)) e.cell
+  pub persisted : (i : ℕ) → i < count → HasBit (w.memory.persisted (row_of e refs i)) e.cell
+
+abbrev pub IsOred : World → Edit → List ℕ → Option ℕ → Type 0
+IsOred w e refs None = Unit {0}
+IsOred w e refs (Some i) = HasBit (w.memory.cached (row_of e refs i)) e.cell
+
+abbrev pub IsDone : World → ℕ → ℕ → Type 0
+IsDone w process number = HasBit (w.memory.persisted (done_place process number)) number
+
+-- so many edits counted when the edit noted its cell's head, no fewer than at its issue
+pub record IsWhen (w : World) (since count : ℕ) : Type 0 where
+  pub late : since ≤ count
+  pub there : count ≤ length w.counted
+
+-- the head that it noted was that of the last edit of its cell then
+pub record IsNoted (w : World) (e : Edit) (since : ℕ) (head : Head) : Type 0 where
+  pub count : ℕ
+  pub when : IsWhen w since count
+  pub before : List Edit
+  pub by : Edit
+  pub parts : of_cell_when w e.cell count ≡ before ++ by ∷ []
+  pub process : head.process ≡ by.process
+  pub number : head.number ≡ by.number
+  pub word : head_word head ≡ head_after_all (before ++ by ∷ [])
+
+-- what it noted was its cell's head, whose edit, where it is one, has its done bit persisted
+pub record IsHelped (w : World) (e : Edit) (since head : ℕ) : Type 0 where
+  pub count : ℕ
+  pub when : IsWhen w since count
+  pub is : head ≡ head_after_all (of_cell_when w e.cell count)
+  pub done : (before : List Edit) (by : Edit) → of_cell_when w e.cell count ≡ before ++ by ∷ [] → IsDone w by.process by.number
+
+-- what it noted was its cell's head, and what it met then is a later one
+pub record IsLate (w : World) (e : Edit) (since noted seen : ℕ) : Type 0 where
+  pub count : ℕ
+  pub when : IsWhen w since count
+  pub is : noted ≡ head_after_all (of_cell_when w e.cell count)
+  pub greater : noted < seen
+  pub by : Edit
+  pub head : IsHeadBy (of_cell e.cell w.counted) seen by
+
+abbrev pub IsBack : World → Edit → Head → Type 0
+IsBack w e head = head_word head ≤ w.memory.persisted (place.Head e.cell)
+
+abbrev pub Knows : World → Edit → ℕ → Noted → Type 0
+Knows w e since nothing = Unit {0}
+Knows w e since (head_noted head) = IsNoted w e since head
+Knows w e since (head_back head) = IsNoted w e since head × IsBack w e head
+Knows w e since (bit_set head) = IsNoted w e since head × IsBack w e head × HasBit (w.memory.cached (done_place head.process head.number)) head.number
+Knows w e since (bit_back head) = IsHelped w e since head
+Knows w e since (came_late noted seen) = IsLate w e since noted seen
+
+-- all that an edit knows
+pub record Knowing (w : World) (e : Edit) (refs : List ℕ) (since : ℕ) (k : Known) : Type 0 where
+  pub standing : StandsAs w e k.standing
+  pub recorded : IsRecorded w e k.stored k.back
+  pub announced : IsAnnounced w e k.before k.now
+  pub indexed : IsIndexedTo w e refs k.indexed
+  pub ored : IsOred w e refs k.ored
+  pub head : Knows w e since k.head

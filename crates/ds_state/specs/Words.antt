@@ -1,0 +1,92 @@
+-- What the two sides of each word have to do with the edits that count.
+use Rattle.std.specs.Prelude.{ℕ, ◌≡◌, ◌<◌, ◌≤◌, ◌+◌, ◌/◌, ◌⊎◌, List, [], ◌∷◌, ◌++◌, Some, Contains, zero, suc}
+use Rattle.ds_formula.specs.Cells.{index_of}
+use Rattle.ds_formula.specs.declared.cells.Cell.{Cell}
+use Rattle.ds_formula.specs.declared.cells.Shape.{Shape}
+use Rattle.ds_formula.specs.Plain.{Plain}
+use Rattle.ds_formula.specs.Refs.{Refers}
+use Rattle.ds_formula.specs.Grammar.{Reads}
+use Rattle.ds_layout.specs.declared.place.TheConstants.{RECORDS}
+use Rattle.ds_layout.specs.declared.place.Place.{Place}
+use Rattle.ds_layout.specs.declared.place.Place.TheVariants.{Version, Head, Mark, Value, Kind, Index, Announce, Header, Text, Done}
+use Rattle.ds_layout.specs.declared.announcement.Phase.TheVariants as phase
+use Rattle.ds_layout.specs.Bits.{HasBit, IsSubset}
+use Rattle.ds_state.specs.World.{Edit, Issue, World, record_word, record_size, of_cell, head_after_all, announcement}
+use Rattle.ds_state.specs.Known.{IsSafe}
+use Rattle.ds_state.specs.Calls.{Owes}
+
+-- the persisted head is the one before the cached one, whose edit is on its way back
+pub record IsOnItsWay (w : World) (es : List Edit) (persisted : ℕ) : Type 0 where
+  pub before : List Edit
+  pub last : Edit
+  pub parts : es ≡ before ++ last ∷ []
+  pub is : persisted ≡ head_after_all before
+  pub issue : Issue
+  pub pending : w.pending last.process ≡ Some issue
+  pub same : issue.edit ≡ last
+  pub owes : Owes (w.situation last.process) (head_after_all es)
+
+-- the cached head is that of its cell's last edit
+pub record HeadFits (w : World) (cell cached persisted : ℕ) : Type 0 where
+  pub last : cached ≡ head_after_all (of_cell cell w.counted)
+  pub sides : (persisted ≡ cached) ⊎ IsOnItsWay w (of_cell cell w.counted) persisted
+
+-- the text refers to the cell with this number
+pub record RefersTo (shape : Shape) (text : List ℕ) (row : ℕ) : Type 0 where
+  pub content : Plain
+  pub cell : Cell
+  pub reads : Reads shape text content
+  pub refers : Refers content cell
+  pub is : index_of shape cell ≡ row
+
+-- each counted edit that refers to the cell has its own cell's bit in the row
+pub record IndexFits (w : World) (row part cached persisted : ℕ) : Type 0 where
+  pub sides : IsSubset persisted cached
+  pub counted : (e : Edit) → Contains w.counted e → e.cell / 64 ≡ part → RefersTo w.layout.shape e.text row
+      → HasBit cached e.cell × HasBit persisted e.cell
+
+-- the edit of this process and number is one that no crash takes
+pub record IsKept (w : World) (process number : ℕ) : Type 0 where
+  pub edit : Edit
+  pub process_is : edit.process ≡ process
+  pub number_is : edit.number ≡ number
+  pub safe : IsSafe w edit
+
+-- an announced Done is kept
+pub record AnnounceFits (w : World) (process cached persisted : ℕ) : Type 0 where
+  pub on_cached : (n : ℕ) → n < RECORDS → cached ≡ announcement n phase.Done → IsKept w process n
+  pub on_persisted : (n : ℕ) → n < RECORDS → persisted ≡ announcement n phase.Done → IsKept w process n
+
+-- each word of a counted edit's record stands on both sides
+abbrev pub RecordFits : World → ℕ → ℕ → ℕ → ℕ → ℕ → Type 0
+RecordFits w process number k cached persisted = (e : Edit) → Contains w.counted e → e.process ≡ process → e.number ≡ number → k < record_size e
+    → (cached ≡ record_word e k) × (persisted ≡ record_word e k)
+
+-- the edit of this process and number counts, and is not its cell's last
+pub record IsOvertaken (w : World) (process number : ℕ) : Type 0 where
+  pub edit : Edit
+  pub process_is : edit.process ≡ process
+  pub number_is : edit.number ≡ number
+  pub before : List Edit
+  pub next : Edit
+  pub after : List Edit
+  pub parts : of_cell edit.cell w.counted ≡ before ++ edit ∷ next ∷ after
+
+-- an overtaken edit has its bit persisted, and a bit tells that its edit is kept
+pub record DoneFits (w : World) (process part cached persisted : ℕ) : Type 0 where
+  pub sides : IsSubset persisted cached
+  pub overtaken : (n : ℕ) → n / 64 ≡ part → IsOvertaken w process n → HasBit persisted n
+  pub told : (n : ℕ) → n < RECORDS → n / 64 ≡ part → HasBit cached n → IsKept w process n
+
+-- a word, its cached side and its persisted side
+abbrev pub WordFits : World → Place → ℕ → ℕ → Type 0
+WordFits w Version cached persisted = Unit {0}
+WordFits w (Head cell) cached persisted = HeadFits w cell cached persisted
+WordFits w (Mark cell) cached persisted = persisted ≤ cached
+WordFits w (Value cell) cached persisted = Unit {0}
+WordFits w (Kind cell) cached persisted = Unit {0}
+WordFits w (Index row part) cached persisted = IndexFits w row part cached persisted
+WordFits w (Announce process) cached persisted = AnnounceFits w process cached persisted
+WordFits w (Header process number) cached persisted = RecordFits w process number zero cached persisted
+WordFits w (Text process number part) cached persisted = RecordFits w process number (suc part) cached persisted
+WordFits w (Done process part) cached persisted = DoneFits w process part cached persisted
