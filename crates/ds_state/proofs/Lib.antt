@@ -5,3 +5,4 @@ pub mod Frames
 pub mod Sides
 pub mod Counting
 pub mod Few
+pub mod Accesses
