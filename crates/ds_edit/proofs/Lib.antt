@@ -1,2 +1,4 @@
 pub mod Stays
 pub mod Named
+pub mod Turns
+pub mod Recording

@@ -177,13 +177,13 @@ Grows_at p q but old new same g = subst (λ (x : ℕ). Grows x but old new) same
 pub sheet_stable : (old new : World) (e : PlainEdit) → new.layout ≡ old.layout → IsSheetOf old.layout e → IsSheetOf new.layout e
 sheet_stable old new e same h = rw same h
 
-pub refs_stable : (old new : World) (e : PlainEdit) → new.layout ≡ old.layout → HasRefs old.layout.shape e → HasRefs new.layout.shape e
+pub refs_stable : (old new : World) (e : PlainEdit) → new.layout ≡ old.layout → HasRefs old.layout.shape e.text e.refs → HasRefs new.layout.shape e.text e.refs
 refs_stable old new e same h = rw same h
 
 -- no word of a process is the version's
-record_apart : (p n k : ℕ) → record_place p n k ≢ Version
-record_apart p n zero = λ same. cc
-record_apart p n (suc k) = λ same. cc
+pub record_no_version : (p n k : ℕ) → record_place p n k ≢ Version
+record_no_version p n zero = λ same. cc
+record_no_version p n (suc k) = λ same. cc
 
 -- what a call knows stays while another process steps
 pub call_stable : (old new : World) (q : ℕ) (s : Situation) → Rely q old new → CallFits old q s → CallFits new q s
@@ -213,6 +213,6 @@ call_stable old new q (Editing e) r h =
       since = h.since;
       pending = r.pending ∙ h.pending;
       issued = omega arith;
-      knows = knowing_stable Version old new (edit_of e) g (record_apart e.process e.number) (λ same. cc) e.refs h.since (known_at (text_parts e.text) (length e.refs) e.stage) h.knows;
+      knows = knowing_stable Version old new (edit_of e) g (record_no_version e.process e.number) (λ same. cc) e.refs h.since (known_at (text_parts e.text) (length e.refs) e.stage) h.knows;
       buffer = holds_stable Version old new (edit_of e) g (ap new.memory.buffer h.mine ∙ r.buffer ∙ ap old.memory.buffer (sym h.mine)) (held_at (text_parts e.text) e.refs e.stage) h.buffer;
     }
