@@ -2,3 +2,5 @@ pub mod Stays
 pub mod Named
 pub mod Turns
 pub mod Recording
+pub mod Sorts
+pub mod Announcing
