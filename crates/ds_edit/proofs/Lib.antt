@@ -4,3 +4,4 @@ pub mod Turns
 pub mod Recording
 pub mod Sorts
 pub mod Announcing
+pub mod Placing

@@ -6,3 +6,4 @@ pub mod Sides
 pub mod Counting
 pub mod Few
 pub mod Accesses
+pub mod Noted

@@ -141,6 +141,7 @@ module _ (but : Place) (old new : World) (e : Edit) (g : Grows e.process but old
     count = h.count;
     when = is_when_stable since h.count h.when;
     is = h.is ∙ ap head_after_all (sym (when_stable e.process but old new g e.cell h.count h.when.there));
+    back = at_most h.back (g.heads_persisted e.cell);
     done = λ before by parts. done_stable e.process but old new g by.process by.number (h.done before by (sym (when_stable e.process but old new g e.cell h.count h.when.there) ∙ parts));
   }
   head_stable since (came_late noted seen) h = record {
