@@ -5,3 +5,4 @@ pub mod Recording
 pub mod Sorts
 pub mod Announcing
 pub mod Placing
+pub mod Taking
