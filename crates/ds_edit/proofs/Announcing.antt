@@ -12,7 +12,7 @@ use Rattle.ds_state.specs.World.{Edit, edit_of, World, record_place, announcemen
 use Rattle.ds_state.specs.Known.{Known, Announced, last, pending, ended, safe, outside, nothing, indexing, word_of, known_at, Knowing, IsAnnounced, StandsAs, standing_after}
 use Rattle.ds_state.specs.Calls.{entry, Holds, announcing_word, EditFits, Owes, OwesAt}
 use Rattle.ds_state.specs.Words.{IsKept, WordFits}
-use Rattle.ds_state.specs.Rely.{Grows}
+use Rattle.ds_state.specs.Rely.{Grows, Keeps}
 use Rattle.ds_state.specs.Sound.{IsSound}
 use Rattle.ds_state.specs.declared.stage.Outcome.{Outcome}
 use Rattle.ds_state.specs.declared.stage.Outcome.TheVariants as outcome
@@ -53,7 +53,7 @@ module _ (e : PlainEdit) (s : Stage) (word : ℕ) (old new : World) (sound : IsS
       → value ≡ word_of new (edit_of e) a
       → (StandsAs new (edit_of e) k.standing → (n : ℕ) → value ≡ announcement n phase.Done → IsKept new e.process n)
       → StoresAt (Announce e.process) value old.memory new.memory
-      → (new.memory.buffer e.process ≡ old.memory.buffer e.process → Holds_on new e (next_at e s word)) → IsSound new
+      → (new.memory.buffer e.process ≡ old.memory.buffer e.process → Holds_on new e (next_at e s word)) → Keeps e.process old new
   announces k value a knows both advance is tells m held =
       let place : Place = Announce e.process in
       let E : Edit = edit_of e in

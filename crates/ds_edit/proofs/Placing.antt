@@ -18,6 +18,7 @@ use Rattle.ds_state.specs.World.{Edit, edit_of, Issue, World, record_place, done
 use Rattle.ds_state.specs.Known.{Known, placing, outside, nothing, head_noted, head_back, bit_set, bit_back, came_late, Knowing, Knows, IsWhen, IsNoted, IsHelped, IsLate, IsBack, IsSafe, IsDone, known_at}
 use Rattle.ds_state.specs.Calls.{entry, Holds, HasOne, IsHeadFrom, IsBits, EditFits, CallFits, Owes, OwesAt}
 use Rattle.ds_state.specs.Words.{IsKept, WordFits}
+use Rattle.ds_state.specs.Rely.{Keeps}
 use Rattle.ds_state.specs.Sound.{IsSound}
 use Rattle.ds_state.specs.declared.stage.Outcome.{Outcome}
 use Rattle.ds_state.specs.declared.stage.Outcome.TheVariants as outcome
@@ -92,7 +93,7 @@ module _ (e : PlainEdit) (word : ℕ) (old new : World) (sound : IsSound old) wh
       let few = of_cell_few old sound e.cell in
       omega arith
 
-  pub step_load_head : old.situation e.process ≡ Editing (on e LoadHead) → (fits : EditFits old e.process (on e LoadHead)) → StepsAt e LoadHead word old new → IsSound new
+  pub step_load_head : old.situation e.process ≡ Editing (on e LoadHead) → (fits : EditFits old e.process (on e LoadHead)) → StepsAt e LoadHead word old new → Keeps e.process old new
   step_load_head at fits t =
       let m : SameMemory old.memory new.memory = t.memory.1 in
       let seen : word ≡ head_after_all es = t.memory.0 ∙ cached_is in
@@ -138,7 +139,7 @@ module _ (e : PlainEdit) (word : ℕ) (old new : World) (sound : IsSound old) wh
       holds_help None h = h
       holds_help (Some head) h = h
 
-  pub step_flush_noted : (head : Head) → old.situation e.process ≡ Editing (on e (FlushNoted head)) → (fits : EditFits old e.process (on e (FlushNoted head))) → StepsAt e (FlushNoted head) word old new → IsSound new
+  pub step_flush_noted : (head : Head) → old.situation e.process ≡ Editing (on e (FlushNoted head)) → (fits : EditFits old e.process (on e (FlushNoted head))) → StepsAt e (FlushNoted head) word old new → Keeps e.process old new
   step_flush_noted head at fits t =
       let m : FlushesAt e.process (place.Head e.cell) (class_of (place.Head e.cell)) old.memory new.memory = t.memory.1 in
       let noted : IsNoted old E fits.since head = fits.knows.head in
@@ -156,14 +157,14 @@ module _ (e : PlainEdit) (word : ℕ) (old new : World) (sound : IsSound old) wh
         };
       })
 
-  pub step_back_noted : (head : Head) → old.situation e.process ≡ Editing (on e (BackNoted head)) → (fits : EditFits old e.process (on e (BackNoted head))) → StepsAt e (BackNoted head) word old new → IsSound new
+  pub step_back_noted : (head : Head) → old.situation e.process ≡ Editing (on e (BackNoted head)) → (fits : EditFits old e.process (on e (BackNoted head))) → StepsAt e (BackNoted head) word old new → Keeps e.process old new
   step_back_noted head at fits t =
       let one : HasOne old e.process (place.Head e.cell) (IsHeadFrom old e.cell (head_word head)) = fits.buffer in
       backs e (BackNoted head) word old new sound at fits t (record { goes_on = refl; counts = refl; pends = λ i. refl }) (rw t.memory.0 (omega arith)) (λ h o. absurd o) (place.Head e.cell) one.value one.alone (one.is.by, one.is.head) (λ o. absurd o) t.memory.1
       (λ known now. knows_head new e fits.since (head_noted head) (head_back head) known (known.head, (let enough = one.is.enough in omega arith)))
       (λ empty. empty)
 
-  pub step_or_done : (head : Head) → old.situation e.process ≡ Editing (on e (OrDone head)) → (fits : EditFits old e.process (on e (OrDone head))) → StepsAt e (OrDone head) word old new → IsSound new
+  pub step_or_done : (head : Head) → old.situation e.process ≡ Editing (on e (OrDone head)) → (fits : EditFits old e.process (on e (OrDone head))) → StepsAt e (OrDone head) word old new → Keeps e.process old new
   step_or_done head at fits t =
       let noted : IsNoted old E fits.since head = fits.knows.head.0 in
       let by : IsHeadBy es (head_word head) noted.by = noted_by old E fits.since head noted in
@@ -189,7 +190,7 @@ module _ (e : PlainEdit) (word : ℕ) (old new : World) (sound : IsSound old) wh
       (λ known now. knows_head new e fits.since (head_back head) (bit_set head) known (known.head.0, known.head.1, rw now (HasBit-or_bit (old.memory.cached there) head.number)))
       (λ same. same ∙ fits.buffer)
 
-  pub step_flush_done : (head : Head) → old.situation e.process ≡ Editing (on e (FlushDone head)) → (fits : EditFits old e.process (on e (FlushDone head))) → StepsAt e (FlushDone head) word old new → IsSound new
+  pub step_flush_done : (head : Head) → old.situation e.process ≡ Editing (on e (FlushDone head)) → (fits : EditFits old e.process (on e (FlushDone head))) → StepsAt e (FlushDone head) word old new → Keeps e.process old new
   step_flush_done head at fits t =
       let there : Place = done_place head.process head.number in
       let m : FlushesAt e.process there (class_of there) old.memory new.memory = t.memory.1 in
@@ -201,7 +202,7 @@ module _ (e : PlainEdit) (word : ℕ) (old new : World) (sound : IsSound old) wh
         is = record { has = fits.knows.head.2; subset = subst (λ (c : ℕ). IsSubset (old.memory.cached there) c) (sym (m.cached there)) (IsSubset-same (old.memory.cached there)) };
       })
 
-  pub step_back_done : (head : Head) → old.situation e.process ≡ Editing (on e (BackDone head)) → (fits : EditFits old e.process (on e (BackDone head))) → StepsAt e (BackDone head) word old new → IsSound new
+  pub step_back_done : (head : Head) → old.situation e.process ≡ Editing (on e (BackDone head)) → (fits : EditFits old e.process (on e (BackDone head))) → StepsAt e (BackDone head) word old new → Keeps e.process old new
   step_back_done head at fits t =
       let there : Place = done_place head.process head.number in
       let one : HasOne old e.process there (IsBits old there head.number) = fits.buffer in
@@ -223,7 +224,7 @@ module _ (e : PlainEdit) (word : ℕ) (old new : World) (sound : IsSound old) wh
 
   -- another head came between
   pub step_swap_lost : (noted : ℕ) → old.situation e.process ≡ Editing (on e (Swap noted)) → (fits : EditFits old e.process (on e (Swap noted))) → StepsAt e (Swap noted) word old new
-      → word ≡ old.memory.cached (place.Head e.cell) → word ≢ noted → SameMemory old.memory new.memory → IsSound new
+      → word ≡ old.memory.cached (place.Head e.cell) → word ≢ noted → SameMemory old.memory new.memory → Keeps e.process old new
   step_swap_lost noted at fits t seen ne m =
       let f : word == noted ≡ false = elim (eqb_tells word noted) [ inl same ↦ absurd (ne same.1) | inr differs ↦ differs.0 ] in
       let plain : IsPlainStep e (Swap noted) word = record { goes_on = refl; counts = rw f refl; pends = λ i. refl } in

@@ -14,7 +14,7 @@ use Rattle.ds_state.specs.World.{Edit, edit_of, World, record_place, record_word
 use Rattle.ds_state.specs.Known.{writing, outside, last, AreBelow, IsRecorded, Knowing}
 use Rattle.ds_state.specs.Calls.{record_words, record_entry, entry, Holds, EditFits, CallFits, OwesAt}
 use Rattle.ds_state.specs.Words.{WordFits}
-use Rattle.ds_state.specs.Rely.{IsOwnedBy, Grows}
+use Rattle.ds_state.specs.Rely.{IsOwnedBy, Grows, Keeps}
 use Rattle.ds_state.specs.Sound.{IsSound}
 use Rattle.ds_state.specs.declared.stage.Stage.{Stage}
 use Rattle.ds_state.specs.declared.stage.Stage.TheVariants.{StoreHeader, StoreText, FlushHeader, FlushText, BackRecord, StorePending}
@@ -69,7 +69,7 @@ module _ (e : PlainEdit) (s : Stage) (word : ℕ) (old new : World) (sound : IsS
   pub stores : (k k' : ℕ) → k' ≡ k → k ≤ text_parts e.text → next_at e s word ≡ store_from e k'
       → Knowing old (edit_of e) e.refs fits.since (writing k 0) → old.memory.buffer e.process ≡ []
       → StoresAt (record_place e.process e.number k) (record_word (edit_of e) k) old.memory new.memory
-      → IsSound new
+      → Keeps e.process old new
   stores k k' same most next knows holds m =
       let place : Place = record_place e.process e.number k in
       let tn : Turn e.process old new = turn e s word old new t plain.counts in
@@ -104,7 +104,7 @@ module _ (e : PlainEdit) (s : Stage) (word : ℕ) (old new : World) (sound : IsS
   pub flushes : (k k' : ℕ) → k' ≡ k → k ≤ text_parts e.text → next_at e s word ≡ flush_from e k'
       → Knowing old (edit_of e) e.refs fits.since (writing (suc (text_parts e.text)) 0) → Holds old (edit_of e) (record_words 0 k)
       → FlushesAt e.process (record_place e.process e.number k) (class_of (record_place e.process e.number k)) old.memory new.memory
-      → IsSound new
+      → Keeps e.process old new
   flushes k k' same most next knows holds m =
       let place : Place = record_place e.process e.number k in
       let E : Edit = edit_of e in
@@ -136,7 +136,7 @@ module _ (e : PlainEdit) (s : Stage) (word : ℕ) (old new : World) (sound : IsS
   pub backs : (left k : ℕ) → left ≤ text_parts e.text → k ≡ text_parts e.text - left → next_at e s word ≡ back_from left
       → Knowing old (edit_of e) e.refs fits.since (writing (suc (text_parts e.text)) k) → Holds old (edit_of e) (record_words k (suc left))
       → WritesBack e.process (record_entry (edit_of e) k) (map (record_entry (edit_of e)) (range_with_len (k + 1) left)) old.memory new.memory
-      → IsSound new
+      → Keeps e.process old new
   backs left k most is next knows holds m =
       let parts : ℕ = text_parts e.text in
       let place : Place = record_place e.process e.number k in

@@ -10,7 +10,7 @@ use Rattle.ds_state.specs.World.{Edit, edit_of, World, record_place}
 use Rattle.ds_state.specs.Known.{known_at, Knowing}
 use Rattle.ds_state.specs.Calls.{entry, EditFits, Owes, OwesAt}
 use Rattle.ds_state.specs.Words.{WordFits}
-use Rattle.ds_state.specs.Rely.{IsOwnedBy, Grows}
+use Rattle.ds_state.specs.Rely.{IsOwnedBy, Grows, Keeps}
 use Rattle.ds_state.specs.Sound.{IsSound}
 use Rattle.ds_state.specs.declared.stage.Stage.{Stage}
 use Rattle.ds_state.specs.declared.situation.Situation.TheVariants.{Editing}
@@ -40,7 +40,7 @@ module _ (e : PlainEdit) (s : Stage) (word : ℕ) (old new : World) (sound : IsS
 
   -- nothing is changed
   pub loads : SameMemory old.memory new.memory
-      → (Known_on new e fits.since s → Known_on new e fits.since (next_at e s word)) → Holds_on new e (next_at e s word) → IsSound new
+      → (Known_on new e fits.since s → Known_on new e fits.since (next_at e s word)) → Holds_on new e (next_at e s word) → Keeps e.process old new
   loads m advance held =
       let moves : Moves e.process Version old new = same_moves e.process old new tn m in
       let g : Grows e.process Version old new = grows_own e.process Version old new moves in
@@ -50,7 +50,7 @@ module _ (e : PlainEdit) (s : Stage) (word : ℕ) (old new : World) (sound : IsS
   -- a word is flushed
   pub flushes : (place : Place) → FlushesAt e.process place (class_of place) old.memory new.memory → old.memory.buffer e.process ≡ []
       → (Known_on new e fits.since s → Known_on new e fits.since (next_at e s word))
-      → (new.memory.buffer e.process ≡ entry place (old.memory.cached place) ∷ [] → Holds_on new e (next_at e s word)) → IsSound new
+      → (new.memory.buffer e.process ≡ entry place (old.memory.cached place) ∷ [] → Holds_on new e (next_at e s word)) → Keeps e.process old new
   flushes place m none advance held =
       let moves : Moves e.process Version old new = flush_moves e.process old new tn place (class_of place) m in
       let g : Grows e.process Version old new = grows_own e.process Version old new moves in
@@ -63,7 +63,7 @@ module _ (e : PlainEdit) (s : Stage) (word : ℕ) (old new : World) (sound : IsS
       → (IsOwnedBy e.process place → newer (class_of place) (old.memory.persisted place) value ≡ old.memory.cached place)
       → BacksFirst e.process old.memory new.memory
       → (Known_on new e fits.since s → new.memory.persisted place ≡ newer (class_of place) (old.memory.persisted place) value → Known_on new e fits.since (next_at e s word))
-      → (new.memory.buffer e.process ≡ [] → Holds_on new e (next_at e s word)) → IsSound new
+      → (new.memory.buffer e.process ≡ [] → Holds_on new e (next_at e s word)) → Keeps e.process old new
   backs place value holds fitting caught first advance held =
       let m : WritesBack e.process (entry place value) [] old.memory new.memory = back_first (entry place value) [] holds first in
       let now : ℕ = newer (class_of place) (old.memory.persisted place) value in
@@ -80,7 +80,7 @@ module _ (e : PlainEdit) (s : Stage) (word : ℕ) (old new : World) (sound : IsS
       → (Moves e.process place old new → WordFits new place (bit_or (old.memory.cached place) bits) (old.memory.persisted place))
       → OrsAt place bits old.memory new.memory
       → (Known_on new e fits.since s → new.memory.cached place ≡ bit_or (old.memory.cached place) bits → Known_on new e fits.since (next_at e s word))
-      → (new.memory.buffer e.process ≡ old.memory.buffer e.process → Holds_on new e (next_at e s word)) → IsSound new
+      → (new.memory.buffer e.process ≡ old.memory.buffer e.process → Holds_on new e (next_at e s word)) → Keeps e.process old new
   ors place bits apart apart' moved word_fits m advance held =
       let moves : Moves e.process place old new = store_moves e.process old new tn place (bit_or (old.memory.cached place) bits) moved m in
       let g : Grows e.process place old new = grows_own e.process place old new moves in

@@ -18,6 +18,7 @@ use Rattle.ds_state.specs.World.{Edit, edit_of, Issue, World, record_place, reco
 use Rattle.ds_state.specs.Known.{placing, inside, safe, nothing, AreBelow, IsIn, IsHelped, Knowing, IsDone, row_of}
 use Rattle.ds_state.specs.Calls.{entry, Holds, HasOne, IsHeadFrom, EditFits, CallFits, Owes, OwesAt, HasRefs}
 use Rattle.ds_state.specs.Words.{RefersTo, IsOnItsWay, WordFits}
+use Rattle.ds_state.specs.Rely.{Keeps}
 use Rattle.ds_state.specs.Sound.{IsSound, IsOfSheet}
 use Rattle.ds_state.specs.declared.stage.Stage.{Stage}
 use Rattle.ds_state.specs.declared.stage.Stage.TheVariants.{Swap, FlushOwn, BackOwn, OrMark, FlushMark, BackMark}
@@ -118,7 +119,7 @@ module _ (e : PlainEdit) (word : ℕ) (old new : World) (sound : IsSound old) wh
 
     -- the edit comes to count
     pub step_swap_won : old.situation e.process ≡ Editing (on e (Swap noted)) → StepsAt e (Swap noted) word old new → word ≡ noted
-        → StoresAt (place.Head e.cell) (head_after e noted) old.memory new.memory → IsSound new
+        → StoresAt (place.Head e.cell) (head_after e noted) old.memory new.memory → Keeps e.process old new
     step_swap_won at t same m =
         let own : ℕ = head_after e noted in
         let b : word == noted ≡ true = eq-eqb word noted same in
@@ -184,7 +185,7 @@ module _ (e : PlainEdit) (word : ℕ) (old new : World) (sound : IsSound old) wh
           buffer = m.buffer e.process ∙ fits.buffer;
         }))
 
-  pub step_flush_own : (own : ℕ) → old.situation e.process ≡ Editing (on e (FlushOwn own)) → (fits : EditFits old e.process (on e (FlushOwn own))) → StepsAt e (FlushOwn own) word old new → IsSound new
+  pub step_flush_own : (own : ℕ) → old.situation e.process ≡ Editing (on e (FlushOwn own)) → (fits : EditFits old e.process (on e (FlushOwn own))) → StepsAt e (FlushOwn own) word old new → Keeps e.process old new
   step_flush_own own at fits t =
       let m : FlushesAt e.process (place.Head e.cell) (class_of (place.Head e.cell)) old.memory new.memory = t.memory.1 in
       let counted : new.counted ≡ old.counted = (turn e (FlushOwn own) word old new t refl).counted in
@@ -202,7 +203,7 @@ module _ (e : PlainEdit) (word : ℕ) (old new : World) (sound : IsSound old) wh
         };
       })
 
-  pub step_or_mark : (own : ℕ) → old.situation e.process ≡ Editing (on e (OrMark own)) → (fits : EditFits old e.process (on e (OrMark own))) → StepsAt e (OrMark own) word old new → IsSound new
+  pub step_or_mark : (own : ℕ) → old.situation e.process ≡ Editing (on e (OrMark own)) → (fits : EditFits old e.process (on e (OrMark own))) → StepsAt e (OrMark own) word old new → Keeps e.process old new
   step_or_mark own at fits t =
       let there : Place = place.Mark e.cell in
       let le : old.memory.cached there ≤ bit_or (old.memory.cached there) DIRTY = le_or_l (old.memory.cached there) DIRTY in
@@ -212,7 +213,7 @@ module _ (e : PlainEdit) (word : ℕ) (old new : World) (sound : IsSound old) wh
       (λ known now. known)
       (λ same. same ∙ fits.buffer)
 
-  pub step_flush_mark : (own : ℕ) → old.situation e.process ≡ Editing (on e (FlushMark own)) → (fits : EditFits old e.process (on e (FlushMark own))) → StepsAt e (FlushMark own) word old new → IsSound new
+  pub step_flush_mark : (own : ℕ) → old.situation e.process ≡ Editing (on e (FlushMark own)) → (fits : EditFits old e.process (on e (FlushMark own))) → StepsAt e (FlushMark own) word old new → Keeps e.process old new
   step_flush_mark own at fits t =
       let there : Place = place.Mark e.cell in
       let m : FlushesAt e.process there (class_of there) old.memory new.memory = t.memory.1 in
@@ -220,7 +221,7 @@ module _ (e : PlainEdit) (word : ℕ) (old new : World) (sound : IsSound old) wh
       (λ known. known)
       (λ alone. record { value = old.memory.cached there; alone = alone; is = (let c = m.cached there in omega arith) })
 
-  pub step_back_mark : (own : ℕ) → old.situation e.process ≡ Editing (on e (BackMark own)) → (fits : EditFits old e.process (on e (BackMark own))) → StepsAt e (BackMark own) word old new → IsSound new
+  pub step_back_mark : (own : ℕ) → old.situation e.process ≡ Editing (on e (BackMark own)) → (fits : EditFits old e.process (on e (BackMark own))) → StepsAt e (BackMark own) word old new → Keeps e.process old new
   step_back_mark own at fits t =
       let there : Place = place.Mark e.cell in
       let one : HasOne old e.process there (λ value. value ≤ old.memory.cached there) = fits.buffer in
@@ -229,7 +230,7 @@ module _ (e : PlainEdit) (word : ℕ) (old new : World) (sound : IsSound old) wh
       (λ empty. empty)
 
   -- its head, or a later one, is persisted: the edit no longer owes it
-  pub step_back_own : (own : ℕ) → old.situation e.process ≡ Editing (on e (BackOwn own)) → (fits : EditFits old e.process (on e (BackOwn own))) → StepsAt e (BackOwn own) word old new → IsSound new
+  pub step_back_own : (own : ℕ) → old.situation e.process ≡ Editing (on e (BackOwn own)) → (fits : EditFits old e.process (on e (BackOwn own))) → StepsAt e (BackOwn own) word old new → Keeps e.process old new
   step_back_own own at fits t =
       let there : Place = place.Head e.cell in
       let c : ℕ = old.memory.cached there in

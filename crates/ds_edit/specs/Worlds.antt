@@ -1,7 +1,6 @@
 -- The events of edits, from world to world.
 use Rattle.std.specs.Prelude.{ℕ, ◌≡◌, ◌≢◌, ◌+◌, ◌==◌, ◌++◌, if◌then◌else◌, List, [], ◌∷◌, length, Option, Some, None}
-use Rattle.ds_words.specs.Memory.{SameMemory, EvictsAt}
-use Rattle.ds_layout.specs.declared.place.Place.{Place}
+use Rattle.ds_words.specs.Memory.{SameMemory}
 use Rattle.ds_layout.specs.Sheet.{PerformsAt}
 use Rattle.ds_state.specs.Edits.{PlainEdit}
 use Rattle.ds_state.specs.World.{Edit, edit_of, Issue, World}
@@ -49,11 +48,3 @@ pub record Begins (e : PlainEdit) (old new : World) : Type 0 where
   pub counted : new.counted ≡ old.counted
   pub pending : new.pending e.process ≡ Some (record { edit = edit_of e; since = length old.counted })
   pub others_pending : (q : ℕ) → q ≢ e.process → new.pending q ≡ old.pending q
-
--- a word is evicted, and nothing else happens
-pub record Evicts (place : Place) (old new : World) : Type 0 where
-  pub layout : new.layout ≡ old.layout
-  pub memory : EvictsAt place old.memory new.memory
-  pub situation : (q : ℕ) → new.situation q ≡ old.situation q
-  pub counted : new.counted ≡ old.counted
-  pub pending : (q : ℕ) → new.pending q ≡ old.pending q

@@ -15,7 +15,7 @@ use Rattle.ds_state.specs.Known.{AreBelow, IsSafe, IsDone}
 use Rattle.ds_state.specs.Calls.{Owes, CallFits}
 use Rattle.ds_state.specs.Words.{IsOnItsWay, RefersTo, IsKept, WordFits}
 use Rattle.ds_state.specs.Sound.{IsSound, IsOfSheet, Increasing}
-use Rattle.ds_state.specs.Rely.{IsOwnedBy, Grows, Rely}
+use Rattle.ds_state.specs.Rely.{IsOwnedBy, Grows, Rely, Keeps}
 use Rattle.ds_state.specs.declared.situation.Situation.{Situation}
 use Rattle.ds_state.proofs.Heads.{of_cell-append, of_cell-own, of_cell-other, cell_of-middle, parts_cases}
 use Rattle.ds_state.proofs.Stable.{safe_stable, call_stable}
@@ -219,8 +219,8 @@ module _ (e : Edit) (issue : Issue) (old new : World) (c : Counts e issue old ne
     });
   }
 
-  pub counts_sound : IsSound old → CallFits new e.process (new.situation e.process) → IsSound new
-  counts_sound s mine = record {
+  pub counts_sound : IsSound old → CallFits new e.process (new.situation e.process) → Keeps e.process old new
+  counts_sound s mine = record { others = rely_other; sound = record {
     words = λ r. elim (place_cases r (Head e.cell)) [
       | inl eq ↦ subst (λ (x : Place). WordFits new x (new.memory.cached x) (new.memory.persisted x)) (sym eq) head_counts
       | inr ne ↦ subst (λ (x : ℕ). WordFits new r x (new.memory.persisted r)) (sym (c.memory.elsewhere r ne))
@@ -232,7 +232,7 @@ module _ (e : Edit) (issue : Issue) (old new : World) (c : Counts e issue old ne
     ];
     of_sheet = subst (λ (es : List Edit). All (λ f. IsOfSheet new f) es) (sym c.counted) (All-push (λ (f : Edit). IsOfSheet new f) old.counted e (λ k d l. sheet (get_or old.counted k d) (s.of_sheet k d l)) (sheet e may.of_sheet));
     increasing = rw c.counted (increasing_push old.counted e s.increasing may.below);
-  }
+  } }
     where
       sheet : (f : Edit) → IsOfSheet old f → IsOfSheet new f
       sheet f h = record { process = rw c.layout h.process; number = h.number; cell = rw c.layout h.cell }

@@ -14,7 +14,7 @@ use Rattle.ds_state.specs.Known.{IsSafe}
 use Rattle.ds_state.specs.Calls.{Owes, CallFits}
 use Rattle.ds_state.specs.Words.{IsOnItsWay, HeadFits, IndexFits, RefersTo, IsKept, AnnounceFits, RecordFits, IsOvertaken, DoneFits, WordFits}
 use Rattle.ds_state.specs.Sound.{IsSound, IsOfSheet, Increasing}
-use Rattle.ds_state.specs.Rely.{IsOwnedBy, Grows, Rely}
+use Rattle.ds_state.specs.Rely.{IsOwnedBy, Grows, Rely, Keeps}
 use Rattle.ds_state.specs.declared.situation.Situation.{Situation}
 use Rattle.ds_state.proofs.Heads.{Small, small_counted, small_of_cell, cell_of-middle, persisted_most}
 use Rattle.ds_state.proofs.Stable.{safe_stable, call_stable}
@@ -197,8 +197,8 @@ module _ (p : ℕ) (place : Place) (old new : World) (m : Moves p place old new)
   pub moves_sound : IsSound old → ((cell : ℕ) → Head cell ≢ place → KeepsOwing old new cell)
       → WordFits new place (new.memory.cached place) (new.memory.persisted place)
       → (p < new.layout.processes → CallFits new p (new.situation p))
-      → IsSound new
-  moves_sound s keeps here mine = record {
+      → Keeps p old new
+  moves_sound s keeps here mine = record { others = rely_other; sound = record {
     words = λ r. elim (place_cases r place) [
       | inl eq ↦ subst (λ (x : Place). WordFits new x (new.memory.cached x) (new.memory.persisted x)) (sym eq) here
       | inr ne ↦ subst (λ (c : ℕ). WordFits new r c (new.memory.persisted r)) (sym (m.cached r ne))
@@ -211,4 +211,4 @@ module _ (p : ℕ) (place : Place) (old new : World) (m : Moves p place old new)
     ];
     of_sheet = rw (m.counted) (λ k d l. let h = s.of_sheet k d l in record { process = rw m.layout h.process; number = h.number; cell = rw m.layout h.cell });
     increasing = rw m.counted s.increasing;
-  }
+  } }
