@@ -6,3 +6,5 @@ pub mod Sorts
 pub mod Announcing
 pub mod Placing
 pub mod Taking
+pub mod Answering
+pub mod Sound

@@ -74,6 +74,9 @@ head_now w sound e least by h =
       }
     ]
 
+ends : (xs : List Edit) (word : ℕ) (before : List Edit) (by : Edit) → xs ≡ before ++ by ∷ [] → word ≡ head_after_all xs → IsHeadBy xs word by
+ends xs word before by parts is = record { before = before; after = []; parts = parts; is = is ∙ ap head_after_all parts ∙ head_push before by }
+
 module _ (e : PlainEdit) (word : ℕ) (old new : World) (sound : IsSound old) where
   abbrev E : Edit
   E = edit_of e
@@ -250,8 +253,7 @@ module _ (e : PlainEdit) (word : ℕ) (old new : World) (sound : IsSound old) wh
             is = h.is;
             greater = greater;
             by = last.1;
-            head = subst (λ (x : ℕ). IsHeadBy (of_cell e.cell new.counted) x last.1) (sym now)
-                (subst (λ (xs : List Edit). IsHeadBy xs (head_after_all xs) last.1) (sym last.2) (by_last last.0 last.1));
+            head = ends (of_cell e.cell new.counted) word last.0 last.1 last.2 now;
           } in
           record {
             standing = known.standing;
