@@ -8,3 +8,4 @@ pub mod Placing
 pub mod Taking
 pub mod Answering
 pub mod Sound
+pub mod Truth

@@ -29,10 +29,10 @@ in_rest : (es : List Edit) (cell : ℕ) (x e : Edit) (before after : List Edit)
 in_rest es cell x e [] after again ne parts = absurd (ne (cc))
 in_rest es cell x e (b ∷ before) after again ne parts = again before (cc)
 
-kept : (cell : ℕ) (x : Edit) (es : List Edit) → (x.cell == cell) ≡ true → filter (λ (f : Edit). f.cell == cell) (x ∷ es) ≡ x ∷ filter (λ (f : Edit). f.cell == cell) es
+pub kept : (cell : ℕ) (x : Edit) (es : List Edit) → (x.cell == cell) ≡ true → filter (λ (f : Edit). f.cell == cell) (x ∷ es) ≡ x ∷ filter (λ (f : Edit). f.cell == cell) es
 kept cell x es t = rw t refl
 
-dropped : (cell : ℕ) (x : Edit) (es : List Edit) → (x.cell == cell) ≡ false → filter (λ (f : Edit). f.cell == cell) (x ∷ es) ≡ filter (λ (f : Edit). f.cell == cell) es
+pub dropped : (cell : ℕ) (x : Edit) (es : List Edit) → (x.cell == cell) ≡ false → filter (λ (f : Edit). f.cell == cell) (x ∷ es) ≡ filter (λ (f : Edit). f.cell == cell) es
 dropped cell x es t = rw t refl
 
 later : (es : List Edit) (cell : ℕ) (x e : Edit) (before after : List Edit)
