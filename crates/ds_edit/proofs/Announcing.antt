@@ -1,16 +1,14 @@
 -- The steps by which an edit announces itself, or how it ended.
-use Rattle.std.proofs.Common.{ℕ, ◌≡◌, ◌≢◌, ◌<◌, ◌≤◌, ◌^◌, ◌⊎◌, nat_lt, List, [], ◌∷◌, ◌++◌, refl, ap, sym, ◌∙◌, subst, arith, inl, inr, zero, suc, length, None}
+use Rattle.std.proofs.Common.{ℕ, ◌≡◌, ◌≢◌, ◌<◌, ◌≤◌, ◌^◌, nat_lt, [], refl, ap, sym, ◌∙◌, subst, arith, inl, inr, zero, suc, length, None}
 use Rattle.std.proofs.lemmas.Bool.{ltb-false}
-use Rattle.ds_words.specs.Memory.{StoresAt, FlushesAt, BacksFirst}
-use Rattle.ds_layout.specs.declared.place.TheConstants.{RECORDS}
-use Rattle.ds_layout.specs.Places.{class_of}
+use Rattle.ds_words.specs.Memory.{StoresAt}
 use Rattle.ds_layout.specs.declared.place.Place.{Place}
-use Rattle.ds_layout.specs.declared.place.Place.TheVariants.{Version, Announce}
+use Rattle.ds_layout.specs.declared.place.Place.TheVariants.{Announce}
 use Rattle.ds_layout.specs.declared.announcement.Phase.TheVariants as phase
 use Rattle.ds_state.specs.Edits.{PlainEdit, text_parts}
 use Rattle.ds_state.specs.World.{Edit, edit_of, World, record_place, announcement}
-use Rattle.ds_state.specs.Known.{Known, Announced, last, pending, ended, safe, outside, nothing, indexing, word_of, known_at, Knowing, IsAnnounced, StandsAs, standing_after}
-use Rattle.ds_state.specs.Calls.{entry, Holds, announcing_word, EditFits, Owes, OwesAt}
+use Rattle.ds_state.specs.Known.{Known, Announced, ended, indexing, word_of, Knowing, IsAnnounced, StandsAs, standing_after}
+use Rattle.ds_state.specs.Calls.{EditFits, OwesAt}
 use Rattle.ds_state.specs.Words.{IsKept, WordFits}
 use Rattle.ds_state.specs.Rely.{Grows, Keeps}
 use Rattle.ds_state.specs.Sound.{IsSound}
@@ -20,10 +18,10 @@ use Rattle.ds_state.specs.declared.stage.Stage.{Stage}
 use Rattle.ds_state.specs.declared.stage.Stage.TheVariants.{OrIndex, LoadHead}
 use Rattle.ds_state.specs.declared.situation.Situation.TheVariants.{Editing}
 use Rattle.ds_state.proofs.Stable.{standing_stable, recorded_stable, word_stable, indexed_stable, ored_stable, head_stable}
-use Rattle.ds_state.proofs.Frames.{Moves, KeepsOwing, grows_own, word_bears, moves_sound}
+use Rattle.ds_state.proofs.Frames.{Moves, grows_own, word_bears, moves_sound}
 use Rattle.ds_state.proofs.Accesses.{Turn, store_moves}
 use Rattle.ds_edit.specs.Steps.{next_at, index_from}
-use Rattle.ds_edit.specs.Worlds.{StepsAt, after}
+use Rattle.ds_edit.specs.Worlds.{StepsAt}
 use Rattle.ds_edit.proofs.Stays.{branches}
 use Rattle.ds_edit.proofs.Turns.{on, Known_on, Holds_on, IsPlainStep, turn, owing, fits_next}
 
@@ -46,7 +44,6 @@ on_both w e before now h is = record { cached = h.cached; persisted = inl is }
 module _ (e : PlainEdit) (s : Stage) (word : ℕ) (old new : World) (sound : IsSound old)
     (at : old.situation e.process ≡ Editing (on e s)) (fits : EditFits old e.process (on e s))
     (t : StepsAt e s word old new) (plain : IsPlainStep e s word) (small : word < 2 ^ 64) (owes : (head : ℕ) → OwesAt s head → ⊥) where
-
   -- an announcement is stored, where both sides agreed
   pub announces : (k : Known) (value : ℕ) (a : Announced) → Knowing old (edit_of e) e.refs fits.since k → k.before ≡ k.now
       → (Knowing new (edit_of e) e.refs fits.since (record k { now = a }) → Known_on new e fits.since (next_at e s word))
@@ -87,8 +84,8 @@ pub index_next : (w : World) (e : PlainEdit) (since i : ℕ) → i ≤ length e.
 index_next w e since i most h = branches (λ x. Known_on w e since x) (nat_lt i (length e.refs)) (OrIndex i) LoadHead
     (λ b. h)
     (λ b. let l = ltb-false i (length e.refs) b in
-        let all : i ≡ length e.refs = omega arith in
-        subst (λ (x : ℕ). Knowing w (edit_of e) e.refs since (indexing (text_parts e.text) x None)) all h)
+    let all : i ≡ length e.refs = omega arith in
+    subst (λ (x : ℕ). Knowing w (edit_of e) e.refs since (indexing (text_parts e.text) x None)) all h)
 
 pub index_holds : (w : World) (e : PlainEdit) (i : ℕ) → w.memory.buffer e.process ≡ [] → Holds_on w e (index_from e i)
 index_holds w e i h = branches (λ x. Holds_on w e x) (nat_lt i (length e.refs)) (OrIndex i) LoadHead (λ b. h) (λ b. h)

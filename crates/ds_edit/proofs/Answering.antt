@@ -1,25 +1,21 @@
 -- The answer of an edit, and its beginning.
-use Rattle.std.proofs.Common.{ℕ, ◌≡◌, ◌≢◌, ◌<◌, ◌≤◌, ◌+◌, ◌⊎◌, List, [], ◌∷◌, ◌++◌, refl, ap, sym, ◌∙◌, subst, arith, inl, inr, zero, suc, length, drop, Some, None}
-use Rattle.std.specs.Prelude.{All, Contains}
-use Rattle.std.proofs.lemmas.List.{append-nil}
+use Rattle.std.proofs.Common.{ℕ, ◌≡◌, ◌<◌, ◌+◌, List, refl, ap, sym, ◌∙◌, subst, arith, inl, inr, suc, length}
 use Rattle.std.proofs.lemmas.List.Elements.{All-weaker}
 use Rattle.ds_words.specs.Memory.{SameMemory}
-use Rattle.ds_layout.specs.declared.place.TheConstants.{RECORDS}
 use Rattle.ds_layout.specs.declared.place.Place.TheVariants as place
 use Rattle.ds_layout.specs.declared.announcement.Phase.{Phase}
-use Rattle.ds_layout.specs.declared.announcement.Phase.TheVariants as phase
 use Rattle.ds_state.specs.Edits.{PlainEdit, IsEdit, text_parts}
 use Rattle.ds_state.specs.World.{Edit, edit_of, World, of_cell, head_after_all, phase_among, last_announcement, announcement}
-use Rattle.ds_state.specs.Known.{AreBelow, Knowing, StandsAs, standing_after, phase_of, word_of, ended, last, known_at, writing}
-use Rattle.ds_state.specs.Calls.{EditFits, IdleFits, CallFits, Owes, OwesAt, IsSheetOf, HasRefs, held_at, Holds}
+use Rattle.ds_state.specs.Known.{AreBelow, Knowing, StandsAs, standing_after, phase_of, word_of, ended, known_at, writing}
+use Rattle.ds_state.specs.Calls.{EditFits, IdleFits, CallFits, Owes, IsSheetOf, HasRefs, held_at, Holds}
 use Rattle.ds_state.specs.Sound.{IsSound}
 use Rattle.ds_state.specs.Rely.{Keeps}
 use Rattle.ds_state.specs.declared.stage.Outcome.{Outcome}
 use Rattle.ds_state.specs.declared.stage.Outcome.TheVariants as outcome
 use Rattle.ds_state.specs.declared.stage.Stage.{Stage}
-use Rattle.ds_state.specs.declared.stage.Stage.TheVariants.{StoreHeader, Answer}
+use Rattle.ds_state.specs.declared.stage.Stage.TheVariants.{Answer}
 use Rattle.ds_state.specs.declared.situation.Situation.{Situation}
-use Rattle.ds_state.specs.declared.situation.Situation.TheVariants.{Idle, Editing}
+use Rattle.ds_state.specs.declared.situation.Situation.TheVariants.{Editing}
 use Rattle.ds_state.proofs.Outcomes.{among, not_among}
 use Rattle.ds_state.proofs.Frames.{Moves, KeepsOwing, keeps_owing}
 use Rattle.ds_state.proofs.Accesses.{Turn, same_moves, quiet_sound}

@@ -1,11 +1,8 @@
 -- The steps by which an edit notes its cell's head, helps its edit, and takes its place.
-use Rattle.std.proofs.Common.{ℕ, ◌≡◌, ◌≢◌, ◌<◌, ◌≤◌, ◌+◌, ◌*◌, ◌/◌, ◌^◌, ◌⊎◌, ◌==◌, Bool, true, false, List, [], ◌∷◌, ◌++◌, refl, ap, sym, ◌∙◌, subst, arith, inl, inr, zero, suc, length, length-append, append_assoc, Some, None, get_or, max}
-use Rattle.std.specs.Prelude.{All, Contains, Option, bit_or, if◌then◌else◌, slice_index_or}
-use Rattle.std.proofs.lemmas.Bool.{cases_eq, eq-eqb}
+use Rattle.std.proofs.Common.{ℕ, ◌≡◌, ◌≢◌, ◌<◌, ◌≤◌, ◌+◌, ◌/◌, ◌^◌, ◌==◌, false, List, [], ◌∷◌, ◌++◌, refl, ap, sym, ◌∙◌, subst, arith, inl, inr, zero, suc, length, length-append, Some, None}
+use Rattle.std.specs.Prelude.{Option, bit_or}
 use Rattle.std.proofs.lemmas.Bool.Decides.{eqb_tells}
-use Rattle.std.proofs.lemmas.List.Elements.{All-push, All-weaker}
-use Rattle.std.proofs.lemmas.Nat.{le_or_l}
-use Rattle.ds_words.specs.Memory.{SameMemory, StoresAt, OrsAt, FlushesAt, WritesBack, BacksFirst, newer}
+use Rattle.ds_words.specs.Memory.{SameMemory, FlushesAt}
 use Rattle.ds_layout.specs.Places.{class_of}
 use Rattle.ds_layout.specs.declared.place.Place.{Place}
 use Rattle.ds_layout.specs.declared.place.Place.TheVariants as place
@@ -14,25 +11,23 @@ use Rattle.ds_layout.specs.Head.{head_word, head_of}
 use Rattle.ds_layout.specs.Bits.{HasBit, IsSubset, bit_of}
 use Rattle.ds_layout.proofs.OrBits.{HasBit-or_bit, HasBit-subset, IsSubset-same, IsSubset-or_left, IsSubset-or_right}
 use Rattle.ds_state.specs.Edits.{PlainEdit, text_parts}
-use Rattle.ds_state.specs.World.{Edit, edit_of, Issue, World, record_place, done_place, of_cell, of_cell_when, head_after_all, head_by, IsHeadBy}
-use Rattle.ds_state.specs.Known.{Known, placing, outside, nothing, head_noted, head_back, bit_set, bit_back, came_late, Knowing, Knows, IsWhen, IsNoted, IsHelped, IsLate, IsBack, IsSafe, IsDone, known_at}
-use Rattle.ds_state.specs.Calls.{entry, Holds, HasOne, IsHeadFrom, IsBits, EditFits, CallFits, Owes, OwesAt}
-use Rattle.ds_state.specs.Words.{IsKept, WordFits}
+use Rattle.ds_state.specs.World.{Edit, edit_of, World, record_place, done_place, of_cell, of_cell_when, head_after_all, IsHeadBy}
+use Rattle.ds_state.specs.Known.{placing, outside, nothing, head_noted, head_back, bit_set, bit_back, Knowing, Knows, IsWhen, IsNoted, IsHelped, IsLate, IsDone}
+use Rattle.ds_state.specs.Calls.{HasOne, IsHeadFrom, IsBits, EditFits}
+use Rattle.ds_state.specs.Words.{IsKept}
 use Rattle.ds_state.specs.Rely.{Keeps}
 use Rattle.ds_state.specs.Sound.{IsSound}
-use Rattle.ds_state.specs.declared.stage.Outcome.{Outcome}
 use Rattle.ds_state.specs.declared.stage.Outcome.TheVariants as outcome
 use Rattle.ds_state.specs.declared.stage.Stage.{Stage}
 use Rattle.ds_state.specs.declared.stage.Stage.TheVariants.{LoadHead, FlushNoted, BackNoted, OrDone, FlushDone, BackDone, Swap, StoreOutcome}
-use Rattle.ds_state.specs.declared.situation.Situation.{Situation}
 use Rattle.ds_state.specs.declared.situation.Situation.TheVariants.{Editing}
-use Rattle.ds_state.proofs.Heads.{Small, small_counted, small_of_cell, cell_of-middle, by_most, by_last, head_push, head_low, head_high}
+use Rattle.ds_state.proofs.Heads.{Small, small_counted, small_of_cell, cell_of-middle, by_most, by_last, head_push, head_high}
 use Rattle.ds_state.proofs.Few.{of_cell_few}
-use Rattle.ds_state.proofs.Noted.{last_cases, last_same, when_now, when_rest, noted_by, when_most, when_same, head_reads}
-use Rattle.ds_state.proofs.Frames.{Moves, word_bears, kept_stable}
+use Rattle.ds_state.proofs.Noted.{last_cases, last_same, when_now, when_rest, noted_by, when_most, head_reads}
+use Rattle.ds_state.proofs.Frames.{word_bears, kept_stable}
 use Rattle.ds_state.proofs.Sides.{done_or_fits}
 use Rattle.ds_edit.specs.Steps.{next_at, help_from}
-use Rattle.ds_edit.specs.Worlds.{StepsAt, after}
+use Rattle.ds_edit.specs.Worlds.{StepsAt}
 use Rattle.ds_edit.proofs.Turns.{on, Known_on, Holds_on, IsPlainStep, turn}
 use Rattle.ds_edit.proofs.Sorts.{loads, flushes, backs, ors}
 
@@ -188,7 +183,7 @@ module _ (e : PlainEdit) (word : ℕ) (old new : World) (sound : IsSound old) wh
       (record_no_done e.process e.number head.process (head.number / 64)) (λ same. cc)
       (IsSubset-or_left (old.memory.cached there) (bit_of head.number), IsSubset-same (old.memory.persisted there))
       (λ moves. done_or_fits new head.process head.number (old.memory.cached there) (old.memory.persisted there) (kept_stable e.process there old new moves head.process head.number kept)
-          (word_bears e.process there old new moves there (old.memory.cached there) (old.memory.persisted there) (λ cell is. cc) (sound.words there)))
+      (word_bears e.process there old new moves there (old.memory.cached there) (old.memory.persisted there) (λ cell is. cc) (sound.words there)))
       t.memory.1
       (λ known now. knows_head new e fits.since (head_back head) (bit_set head) known (known.head.0, known.head.1, rw now (HasBit-or_bit (old.memory.cached there) head.number)))
       (λ same. same ∙ fits.buffer)
@@ -211,18 +206,18 @@ module _ (e : PlainEdit) (word : ℕ) (old new : World) (sound : IsSound old) wh
       let one : HasOne old e.process there (IsBits old there head.number) = fits.buffer in
       backs e (BackDone head) word old new sound at fits t (record { goes_on = refl; counts = refl; pends = λ i. refl }) (rw t.memory.0 (omega arith)) (λ h o. absurd o) there one.value one.alone one.is.subset (λ o. absurd o) t.memory.1
       (λ known now. knows_head new e fits.since (bit_set head) (bit_back (head_word head)) known (
-          let noted : IsNoted new E fits.since head = known.head.0 in
-          let has : HasBit (new.memory.persisted there) head.number = rw now (HasBit-subset one.value (bit_or (old.memory.persisted there) one.value) head.number (IsSubset-or_right (old.memory.persisted there) one.value) one.is.has) in
-          record {
-            count = noted.count;
-            when = noted.when;
-            is = noted.word ∙ ap head_after_all (sym noted.parts);
-            back = known.head.1;
-            done = λ before by parts. (
-                let same : by ≡ noted.by = last_same noted.before noted.by before by (sym noted.parts ∙ parts) in
-                let its : IsDone new noted.by.process noted.by.number = subst (λ (n : ℕ). IsDone new noted.by.process n) noted.number (subst (λ (p : ℕ). IsDone new p head.number) noted.process has) in
-                subst (λ (x : Edit). IsDone new x.process x.number) (sym same) its);
-          }))
+      let noted : IsNoted new E fits.since head = known.head.0 in
+      let has : HasBit (new.memory.persisted there) head.number = rw now (HasBit-subset one.value (bit_or (old.memory.persisted there) one.value) head.number (IsSubset-or_right (old.memory.persisted there) one.value) one.is.has) in
+      record {
+        count = noted.count;
+        when = noted.when;
+        is = noted.word ∙ ap head_after_all (sym noted.parts);
+        back = known.head.1;
+        done = λ before by parts. (
+            let same : by ≡ noted.by = last_same noted.before noted.by before by (sym noted.parts ∙ parts) in
+            let its : IsDone new noted.by.process noted.by.number = subst (λ (n : ℕ). IsDone new noted.by.process n) noted.number (subst (λ (p : ℕ). IsDone new p head.number) noted.process has) in
+            subst (λ (x : Edit). IsDone new x.process x.number) (sym same) its);
+      }))
       (λ empty. empty)
 
   -- another head came between
@@ -235,32 +230,32 @@ module _ (e : PlainEdit) (word : ℕ) (old new : World) (sound : IsSound old) wh
       let counted : new.counted ≡ old.counted = (turn e (Swap noted) word old new t plain.counts).counted in
       loads e (Swap noted) word old new sound at fits t plain (rw (seen ∙ cached_is) head_small) (λ head o. absurd o) m
       (λ known. subst (λ (x : Stage). Known_on new e fits.since x) (sym next) (
-          let h : IsHelped new E fits.since noted = known.head in
-          let now : word ≡ head_after_all (of_cell e.cell new.counted) = seen ∙ cached_is ∙ ap (λ xs. head_after_all (of_cell e.cell xs)) (sym counted) in
-          let rest = when_rest new e.cell h.count in
-          let small : Small (of_cell e.cell new.counted) = subst (λ (xs : List Edit). Small (of_cell e.cell xs)) (sym counted) small_es in
-          let le = when_most (of_cell_when new e.cell h.count) _ (subst (λ (xs : List Edit). Small xs) rest small) in
-          let all = ap head_after_all rest in
-          let is = h.is in
-          let greater : noted < word = omega arith in
-          let last : (before : List Edit) × (by : Edit) × (of_cell e.cell new.counted ≡ before ++ by ∷ []) = elim (last_cases (of_cell e.cell new.counted)) [
-            | inl none ↦ absurd (let z = no_head (of_cell e.cell new.counted) none in omega arith)
-            | inr found ↦ found
-          ] in
-          let late : IsLate new E fits.since noted word = record {
-            count = h.count;
-            when = h.when;
-            is = h.is;
-            greater = greater;
-            by = last.1;
-            head = ends (of_cell e.cell new.counted) word last.0 last.1 last.2 now;
-          } in
-          record {
-            standing = known.standing;
-            recorded = known.recorded;
-            announced = known.announced;
-            indexed = known.indexed;
-            ored = known.ored;
-            head = late;
-          }))
+      let h : IsHelped new E fits.since noted = known.head in
+      let now : word ≡ head_after_all (of_cell e.cell new.counted) = seen ∙ cached_is ∙ ap (λ xs. head_after_all (of_cell e.cell xs)) (sym counted) in
+      let rest = when_rest new e.cell h.count in
+      let small : Small (of_cell e.cell new.counted) = subst (λ (xs : List Edit). Small (of_cell e.cell xs)) (sym counted) small_es in
+      let le = when_most (of_cell_when new e.cell h.count) _ (subst (λ (xs : List Edit). Small xs) rest small) in
+      let all = ap head_after_all rest in
+      let is = h.is in
+      let greater : noted < word = omega arith in
+      let last : (before : List Edit) × (by : Edit) × (of_cell e.cell new.counted ≡ before ++ by ∷ []) = elim (last_cases (of_cell e.cell new.counted)) [
+        | inl none ↦ absurd (let z = no_head (of_cell e.cell new.counted) none in omega arith)
+        | inr found ↦ found
+      ] in
+      let late : IsLate new E fits.since noted word = record {
+        count = h.count;
+        when = h.when;
+        is = h.is;
+        greater = greater;
+        by = last.1;
+        head = ends (of_cell e.cell new.counted) word last.0 last.1 last.2 now;
+      } in
+      record {
+        standing = known.standing;
+        recorded = known.recorded;
+        announced = known.announced;
+        indexed = known.indexed;
+        ored = known.ored;
+        head = late;
+      }))
       (subst (λ (x : Stage). Holds_on new e x) (sym next) (m.buffer e.process ∙ fits.buffer))

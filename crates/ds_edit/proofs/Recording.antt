@@ -1,32 +1,31 @@
 -- The steps by which an edit writes its record.
-use Rattle.std.proofs.Common.{ℕ, ◌≡◌, ◌≢◌, ◌<◌, ◌≤◌, ◌+◌, ◌-◌, ◌^◌, ◌⊎◌, Bool, true, false, ◌==◌, nat_lt, List, [], ◌∷◌, ◌++◌, refl, ap, sym, ◌∙◌, subst, arith, inl, inr, zero, suc, length, map, Some, None}
-use Rattle.std.specs.Prelude.{All, Contains, if◌then◌else◌}
+use Rattle.std.proofs.Common.{ℕ, ◌≡◌, ◌≢◌, ◌<◌, ◌≤◌, ◌+◌, ◌-◌, ◌^◌, ◌==◌, nat_lt, [], ◌∷◌, ◌++◌, refl, ap, sym, ◌∙◌, subst, arith, inl, inr, zero, suc, map}
 use Rattle.std.specs.List.{range_with_len}
-use Rattle.std.proofs.lemmas.Bool.{cases_eq, ltb-true, ltb-false, eqb-true, eqb-false}
+use Rattle.std.proofs.lemmas.Bool.{cases_eq, ltb-false, eqb-true, eqb-false}
 use Rattle.std.proofs.lemmas.List.Elements.{All-contains}
 use Rattle.std.proofs.lemmas.List.FromFn.{map-range_with_len_more}
 use Rattle.ds_words.specs.Memory.{StoresAt, FlushesAt, WritesBack, newer}
 use Rattle.ds_layout.specs.Places.{class_of}
 use Rattle.ds_layout.specs.declared.place.Place.{Place}
-use Rattle.ds_layout.specs.declared.place.Place.TheVariants.{Version, Head, Announce, Header, Text}
+use Rattle.ds_layout.specs.declared.place.Place.TheVariants.{Version, Head, Announce}
 use Rattle.ds_state.specs.Edits.{PlainEdit, text_parts}
 use Rattle.ds_state.specs.World.{Edit, edit_of, World, record_place, record_word}
-use Rattle.ds_state.specs.Known.{writing, outside, last, AreBelow, IsRecorded, Knowing}
-use Rattle.ds_state.specs.Calls.{record_words, record_entry, entry, Holds, EditFits, CallFits, OwesAt}
+use Rattle.ds_state.specs.Known.{writing, outside, last, AreBelow, Knowing}
+use Rattle.ds_state.specs.Calls.{record_words, record_entry, entry, Holds, EditFits, OwesAt}
 use Rattle.ds_state.specs.Words.{WordFits}
-use Rattle.ds_state.specs.Rely.{IsOwnedBy, Grows, Keeps}
+use Rattle.ds_state.specs.Rely.{Grows, Keeps}
 use Rattle.ds_state.specs.Sound.{IsSound}
 use Rattle.ds_state.specs.declared.stage.Stage.{Stage}
-use Rattle.ds_state.specs.declared.stage.Stage.TheVariants.{StoreHeader, StoreText, FlushHeader, FlushText, BackRecord, StorePending}
+use Rattle.ds_state.specs.declared.stage.Stage.TheVariants.{StoreText, FlushHeader, FlushText, BackRecord, StorePending}
 use Rattle.ds_state.specs.declared.situation.Situation.TheVariants.{Editing}
-use Rattle.ds_state.proofs.Stable.{standing_stable, announced_stable, indexed_stable, knowing_stable, record_owned, record_no_version, below_stable}
-use Rattle.ds_state.proofs.Frames.{CatchesUp, MovesWord, Moves, KeepsOwing, grows_own, moves_sound}
+use Rattle.ds_state.proofs.Stable.{standing_stable, announced_stable, indexed_stable, knowing_stable, record_owned, record_no_version}
+use Rattle.ds_state.proofs.Frames.{MovesWord, Moves, KeepsOwing, grows_own, moves_sound}
 use Rattle.ds_state.proofs.Sides.{IsBetween}
-use Rattle.ds_state.proofs.Accesses.{Turn, store_moves, flush_moves, quiet_sound, Backs, written_backs, back_moves, back_grows, back_sound}
+use Rattle.ds_state.proofs.Accesses.{Turn, store_moves, flush_moves, quiet_sound, Backs, back_grows, back_sound}
 use Rattle.ds_edit.specs.Steps.{next_at, store_from, flush_from, back_from}
 use Rattle.ds_edit.specs.Worlds.{StepsAt}
 use Rattle.ds_edit.proofs.Stays.{branches}
-use Rattle.ds_edit.proofs.Turns.{on, Known_on, Holds_on, IsPlainStep, turn, owing, fits_next, back_first}
+use Rattle.ds_edit.proofs.Turns.{on, Known_on, Holds_on, IsPlainStep, turn, owing, fits_next}
 
 record_apart : (p n j k : ℕ) → j ≢ k → record_place p n j ≢ record_place p n k
 record_apart p n zero zero ne = absurd (ne refl)
@@ -58,7 +57,6 @@ owned_class p n (suc k) v value = refl
 module _ (e : PlainEdit) (s : Stage) (word : ℕ) (old new : World) (sound : IsSound old)
     (at : old.situation e.process ≡ Editing (on e s)) (fits : EditFits old e.process (on e s))
     (t : StepsAt e s word old new) (plain : IsPlainStep e s word) (none : word ≡ 0) (owes : (head : ℕ) → OwesAt s head → ⊥) where
-
   small : word < 2 ^ 64
   small = rw none (omega arith)
 
@@ -91,11 +89,11 @@ module _ (e : PlainEdit) (s : Stage) (word : ℕ) (old new : World) (sound : IsS
         head = tt;
       } in
       let known : Known_on new e fits.since (next_at e s word) = subst (λ (x : Stage). Known_on new e fits.since x) (sym next)
-          (branches (λ x. Known_on new e fits.since x) (nat_lt k' (text_parts e.text)) (StoreText k') FlushHeader
-          (λ b. subst (λ (x : ℕ). Knowing new (edit_of e) e.refs fits.since (writing (suc x) 0)) (sym same) after)
-          (λ b. subst (λ (x : ℕ). Knowing new (edit_of e) e.refs fits.since (writing (suc x) 0)) (let l = ltb-false k' (text_parts e.text) b in omega arith) after)) in
+      (branches (λ x. Known_on new e fits.since x) (nat_lt k' (text_parts e.text)) (StoreText k') FlushHeader
+      (λ b. subst (λ (x : ℕ). Knowing new (edit_of e) e.refs fits.since (writing (suc x) 0)) (sym same) after)
+      (λ b. subst (λ (x : ℕ). Knowing new (edit_of e) e.refs fits.since (writing (suc x) 0)) (let l = ltb-false k' (text_parts e.text) b in omega arith) after)) in
       let held : Holds_on new e (next_at e s word) = subst (λ (x : Stage). Holds_on new e x) (sym next)
-          (branches (λ x. Holds_on new e x) (nat_lt k' (text_parts e.text)) (StoreText k') FlushHeader (λ b. m.buffer e.process ∙ holds) (λ b. m.buffer e.process ∙ holds)) in
+      (branches (λ x. Holds_on new e x) (nat_lt k' (text_parts e.text)) (StoreText k') FlushHeader (λ b. m.buffer e.process ∙ holds) (λ b. m.buffer e.process ∙ holds)) in
       moves_sound e.process place old new moves sound (λ cell ne. keeps cell)
       (unrecorded new e.process e.number k _ _ after.standing)
       (λ l. fits_next e s word old new t fits plain small known held)
@@ -112,24 +110,24 @@ module _ (e : PlainEdit) (s : Stage) (word : ℕ) (old new : World) (sound : IsS
       let moves : Moves e.process Version old new = flush_moves e.process old new tn place (class_of place) m in
       let g : Grows e.process Version old new = grows_own e.process Version old new moves in
       let after : Knowing new E e.refs fits.since (writing (suc (text_parts e.text)) 0) =
-          knowing_stable Version old new E g (record_no_version e.process e.number) (λ same. cc) e.refs fits.since (writing (suc (text_parts e.text)) 0) knows in
+      knowing_stable Version old new E g (record_no_version e.process e.number) (λ same. cc) e.refs fits.since (writing (suc (text_parts e.text)) 0) knows in
       let more : k + 1 ≡ suc k = omega arith in
       let one : entry place (old.memory.cached place) ≡ record_entry E k = ap (λ (v : ℕ). entry place v) (knows.recorded.cached k (omega arith)) in
       let buffer : new.memory.buffer e.process ≡ map (record_entry E) (range_with_len 0 (suc k)) =
-          m.mine ∙ ap (λ xs. xs ++ entry place (old.memory.cached place) ∷ []) holds ∙ ap (λ x. map (record_entry E) (range_with_len 0 k) ++ x ∷ []) one
-          ∙ sym (map-range_with_len_more (record_entry E) 0 k k (omega arith)) ∙ ap (λ (n : ℕ). map (record_entry E) (range_with_len 0 n)) more in
+      m.mine ∙ ap (λ xs. xs ++ entry place (old.memory.cached place) ∷ []) holds ∙ ap (λ x. map (record_entry E) (range_with_len 0 k) ++ x ∷ []) one
+      ∙ sym (map-range_with_len_more (record_entry E) 0 k k (omega arith)) ∙ ap (λ (n : ℕ). map (record_entry E) (range_with_len 0 n)) more in
       let known : Known_on new e fits.since (next_at e s word) = subst (λ (x : Stage). Known_on new e fits.since x) (sym next)
-          (branches (λ x. Known_on new e fits.since x) (nat_lt k' (text_parts e.text)) (FlushText k') (BackRecord (text_parts e.text))
-          (λ b. after)
-          (λ b. subst (λ (x : ℕ). Knowing new E e.refs fits.since (writing (suc (text_parts e.text)) x)) (omega arith) after)) in
+      (branches (λ x. Known_on new e fits.since x) (nat_lt k' (text_parts e.text)) (FlushText k') (BackRecord (text_parts e.text))
+      (λ b. after)
+      (λ b. subst (λ (x : ℕ). Knowing new E e.refs fits.since (writing (suc (text_parts e.text)) x)) (omega arith) after)) in
       let held : Holds_on new e (next_at e s word) = subst (λ (x : Stage). Holds_on new e x) (sym next)
-          (branches (λ x. Holds_on new e x) (nat_lt k' (text_parts e.text)) (FlushText k') (BackRecord (text_parts e.text))
-          (λ b. subst (λ (x : ℕ). Holds new E (record_words 0 (suc x))) (sym same) buffer)
-          (λ b. let l = ltb-false k' (text_parts e.text) b in
-              let first : 0 ≡ text_parts e.text - text_parts e.text = omega arith in
-              let all : k ≡ text_parts e.text = omega arith in
-              subst (λ (x : ℕ). Holds new E (record_words x (suc (text_parts e.text)))) first
-              (subst (λ (x : ℕ). Holds new E (record_words 0 (suc x))) all buffer))) in
+      (branches (λ x. Holds_on new e x) (nat_lt k' (text_parts e.text)) (FlushText k') (BackRecord (text_parts e.text))
+      (λ b. subst (λ (x : ℕ). Holds new E (record_words 0 (suc x))) (sym same) buffer)
+      (λ b. let l = ltb-false k' (text_parts e.text) b in
+      let first : 0 ≡ text_parts e.text - text_parts e.text = omega arith in
+      let all : k ≡ text_parts e.text = omega arith in
+      subst (λ (x : ℕ). Holds new E (record_words x (suc (text_parts e.text)))) first
+      (subst (λ (x : ℕ). Holds new E (record_words 0 (suc x))) all buffer))) in
       quiet_sound e.process old new tn sound moves keeps (λ l. fits_next e s word old new t fits plain small known held)
 
   -- it is written back, with so many behind it
@@ -149,7 +147,7 @@ module _ (e : PlainEdit) (s : Stage) (word : ℕ) (old new : World) (sound : IsS
       let between : IsBetween place (old.memory.cached place) (old.memory.persisted place) value = between_own k _ _ _ (sym there) in
       let g : Grows e.process Version old new = back_grows e.process old new tn sound place value b between (λ o. (m.cached place, inr (now ∙ sym there))) in
       let kept : Knowing new E e.refs fits.since (writing (suc parts) k) =
-          knowing_stable Version old new E g (record_no_version e.process e.number) (λ same. cc) e.refs fits.since (writing (suc parts) k) knows in
+      knowing_stable Version old new E g (record_no_version e.process e.number) (λ same. cc) e.refs fits.since (writing (suc parts) k) knows in
       let after : Knowing new E e.refs fits.since (writing (suc parts) (suc k)) = record {
         standing = kept.standing;
         recorded = record {
@@ -163,15 +161,15 @@ module _ (e : PlainEdit) (s : Stage) (word : ℕ) (old new : World) (sound : IsS
         head = kept.head;
       } in
       let known : Known_on new e fits.since (next_at e s word) = subst (λ (x : Stage). Known_on new e fits.since x) (sym next)
-          (branches (λ x. Known_on new e fits.since x) (left == 0) StorePending (BackRecord (left - 1))
-          (λ z. let l : left ≡ 0 = eqb-true left 0 z in subst (λ (x : ℕ). Knowing new E e.refs fits.since (writing (suc parts) x)) (omega arith) after)
-          (λ z. let l = eqb-false left 0 z in subst (λ (x : ℕ). Knowing new E e.refs fits.since (writing (suc parts) x)) (omega arith) after)) in
+      (branches (λ x. Known_on new e fits.since x) (left == 0) StorePending (BackRecord (left - 1))
+      (λ z. let l : left ≡ 0 = eqb-true left 0 z in subst (λ (x : ℕ). Knowing new E e.refs fits.since (writing (suc parts) x)) (omega arith) after)
+      (λ z. let l = eqb-false left 0 z in subst (λ (x : ℕ). Knowing new E e.refs fits.since (writing (suc parts) x)) (omega arith) after)) in
       let held : Holds_on new e (next_at e s word) = subst (λ (x : Stage). Holds_on new e x) (sym next)
-          (branches (λ x. Holds_on new e x) (left == 0) StorePending (BackRecord (left - 1))
-          (λ z. let l : left ≡ 0 = eqb-true left 0 z in m.mine ∙ ap (λ n. map (record_entry E) (range_with_len (k + 1) n)) l)
-          (λ z. let l = eqb-false left 0 z in
-              subst (λ (x : ℕ). Holds new E (record_words x (suc (left - 1)))) (omega arith)
-              (let again : left ≡ suc (left - 1) = omega arith in m.mine ∙ ap (λ (n : ℕ). map (record_entry E) (range_with_len (k + 1) n)) again))) in
+      (branches (λ x. Holds_on new e x) (left == 0) StorePending (BackRecord (left - 1))
+      (λ z. let l : left ≡ 0 = eqb-true left 0 z in m.mine ∙ ap (λ n. map (record_entry E) (range_with_len (k + 1) n)) l)
+      (λ z. let l = eqb-false left 0 z in
+      subst (λ (x : ℕ). Holds new E (record_words x (suc (left - 1)))) (omega arith)
+      (let again : left ≡ suc (left - 1) = omega arith in m.mine ∙ ap (λ (n : ℕ). map (record_entry E) (range_with_len (k + 1) n)) again))) in
       back_sound e.process old new tn sound place value b between keeps (λ l. fits_next e s word old new t fits plain small known held)
     where
       between_own : (k c v value : ℕ) → value ≡ c → IsBetween (record_place e.process e.number k) c v value

@@ -1,18 +1,18 @@
 -- Each step of an edit keeps a world sound.
-use Rattle.std.proofs.Common.{ℕ, ◌≡◌, ◌≢◌, ◌<◌, ◌≤◌, ◌+◌, ◌-◌, ◌^◌, ◌⊎◌, ◌/◌, List, [], ◌∷◌, refl, ap, sym, ◌∙◌, subst, arith, inl, inr, zero, suc, map, length, None, Some}
+use Rattle.std.proofs.Common.{ℕ, ◌≡◌, ◌≢◌, ◌<◌, ◌+◌, ◌-◌, ◌/◌, [], ◌∷◌, refl, ap, sym, ◌∙◌, subst, arith, inl, inr, zero, suc, map, length}
 use Rattle.std.specs.Prelude.{bit_or, slice_index_or}
 use Rattle.std.specs.List.{range_with_len}
 use Rattle.std.proofs.lemmas.Bool.{cases_eq}
-use Rattle.ds_words.specs.Memory.{FlushesAt, newer, SwapsAt}
+use Rattle.ds_words.specs.Memory.{FlushesAt}
 use Rattle.ds_layout.specs.Places.{class_of}
 use Rattle.ds_layout.specs.declared.place.Place.{Place}
 use Rattle.ds_layout.specs.declared.place.Place.TheVariants as place
-use Rattle.ds_layout.specs.Bits.{HasBit, IsSubset, bit_of}
+use Rattle.ds_layout.specs.Bits.{IsSubset, bit_of}
 use Rattle.ds_layout.proofs.OrBits.{HasBit-or_bit, HasBit-subset, IsSubset-same, IsSubset-or_left, IsSubset-or_right}
 use Rattle.ds_state.specs.Edits.{PlainEdit, text_parts}
 use Rattle.ds_state.specs.World.{Edit, edit_of, World, record_place, index_place}
-use Rattle.ds_state.specs.Known.{indexing, announcing, ended, pending, word_of, Knowing, known_at, standing_after, ending}
-use Rattle.ds_state.specs.Calls.{entry, record_entry, HasOne, IsBits, EditFits, CallFits, OwesAt, Owes}
+use Rattle.ds_state.specs.Known.{ended, pending, word_of, known_at}
+use Rattle.ds_state.specs.Calls.{entry, record_entry, HasOne, IsBits, EditFits, CallFits}
 use Rattle.ds_state.specs.Rely.{Keeps}
 use Rattle.ds_state.specs.Sound.{IsSound}
 use Rattle.ds_state.specs.declared.stage.Outcome.{Outcome}
@@ -23,7 +23,7 @@ use Rattle.ds_state.specs.declared.situation.Situation.TheVariants.{Editing}
 use Rattle.ds_state.proofs.Frames.{word_bears}
 use Rattle.ds_state.proofs.Sides.{row_or_fits}
 use Rattle.ds_edit.specs.Worlds.{StepsAt, Steps}
-use Rattle.ds_edit.proofs.Turns.{on, Known_on, Holds_on, IsPlainStep, turn, back_first}
+use Rattle.ds_edit.proofs.Turns.{on, back_first}
 use Rattle.ds_edit.proofs.Sorts.{flushes, backs, ors}
 use Rattle.ds_edit.proofs.Recording as recording
 use Rattle.ds_edit.proofs.Announcing.{announces, on_both, pending_tells, ended_tells, index_next, index_holds}
@@ -107,7 +107,7 @@ module _ (e : PlainEdit) (word : ℕ) (old new : World) (sound : IsSound old) wh
       there (bit_of e.cell) (record_no_row e.process e.number (slice_index_or e.refs i 0) (e.cell / 64)) (λ same. cc)
       (IsSubset-or_left (old.memory.cached there) (bit_of e.cell), IsSubset-same (old.memory.persisted there))
       (λ moves. row_or_fits new (slice_index_or e.refs i 0) (e.cell / 64) (old.memory.cached there) (old.memory.persisted there) (bit_of e.cell)
-          (word_bears e.process there old new moves there (old.memory.cached there) (old.memory.persisted there) (λ cell is. cc) (sound.words there)))
+      (word_bears e.process there old new moves there (old.memory.cached there) (old.memory.persisted there) (λ cell is. cc) (sound.words there)))
       t.memory.1
       (λ known now. record {
         standing = known.standing;

@@ -1,41 +1,40 @@
 -- The steps by which an edit takes its place, keeps it, and marks its cell.
-use Rattle.std.proofs.Common.{ℕ, ◌≡◌, ◌≢◌, ◌<◌, ◌≤◌, ◌+◌, ◌*◌, ◌/◌, ◌^◌, ◌⊎◌, ◌==◌, Bool, true, false, List, [], ◌∷◌, ◌++◌, refl, ap, sym, ◌∙◌, subst, arith, inl, inr, zero, suc, length, length-append, Some, None, get_or, max, min}
+use Rattle.std.proofs.Common.{ℕ, ◌≡◌, ◌≢◌, ◌<◌, ◌≤◌, ◌+◌, ◌/◌, ◌==◌, true, List, [], ◌∷◌, ◌++◌, refl, ap, sym, ◌∙◌, subst, arith, inl, inr, zero, suc, length, length-append, Some, max, min}
 use Rattle.std.specs.Prelude.{All, Contains, bit_or, slice_index_or}
 use Rattle.std.proofs.lemmas.Bool.{cases_eq, eq-eqb}
 use Rattle.std.proofs.lemmas.Nat.{le_or_l}
 use Rattle.std.proofs.lemmas.Grind.{get_or_default_zero}
 use Rattle.std.proofs.lemmas.List.Elements.{All-push, All-weaker}
-use Rattle.ds_words.specs.Memory.{StoresAt, FlushesAt, WritesBack, newer}
+use Rattle.ds_words.specs.Memory.{StoresAt, FlushesAt, WritesBack}
 use Rattle.ds_formula.proofs.Whole.{only_content}
-use Rattle.ds_layout.specs.Places.{class_of, cells_of}
+use Rattle.ds_layout.specs.Places.{class_of}
 use Rattle.ds_layout.specs.declared.place.Place.{Place}
 use Rattle.ds_layout.specs.declared.place.Place.TheVariants as place
 use Rattle.ds_layout.specs.declared.mark.TheConstants.{DIRTY}
 use Rattle.ds_layout.specs.Head.{head_word}
 use Rattle.ds_layout.specs.Bits.{HasBit}
 use Rattle.ds_state.specs.Edits.{PlainEdit, text_parts}
-use Rattle.ds_state.specs.World.{Edit, edit_of, Issue, World, record_place, record_word, record_size, index_place, of_cell, of_cell_when, head_after_all, head_by, IsHeadBy}
-use Rattle.ds_state.specs.Known.{placing, inside, safe, nothing, AreBelow, IsIn, IsHelped, Knowing, IsDone, row_of}
-use Rattle.ds_state.specs.Calls.{entry, Holds, HasOne, IsHeadFrom, EditFits, CallFits, Owes, OwesAt, HasRefs}
-use Rattle.ds_state.specs.Words.{RefersTo, IsOnItsWay, WordFits}
+use Rattle.ds_state.specs.World.{Edit, edit_of, Issue, World, record_place, index_place, of_cell, of_cell_when, head_after_all, IsHeadBy}
+use Rattle.ds_state.specs.Known.{placing, inside, nothing, AreBelow, IsIn, IsHelped, row_of}
+use Rattle.ds_state.specs.Calls.{entry, HasOne, IsHeadFrom, EditFits, Owes, HasRefs}
+use Rattle.ds_state.specs.Words.{RefersTo, WordFits}
 use Rattle.ds_state.specs.Rely.{Keeps}
-use Rattle.ds_state.specs.Sound.{IsSound, IsOfSheet}
-use Rattle.ds_state.specs.declared.stage.Stage.{Stage}
+use Rattle.ds_state.specs.Sound.{IsSound}
 use Rattle.ds_state.specs.declared.stage.Stage.TheVariants.{Swap, FlushOwn, BackOwn, OrMark, FlushMark, BackMark}
 use Rattle.ds_state.specs.declared.situation.Situation.{Situation}
 use Rattle.ds_state.specs.declared.situation.Situation.TheVariants.{Editing}
-use Rattle.ds_state.proofs.Heads.{Small, small_counted, small_of_cell, of_cell-append, of_cell-own, cell_of-middle, by_most, by_last, head_push, head_low, head_high, head_grows, persisted_most, written_back}
+use Rattle.ds_state.proofs.Heads.{Small, small_counted, small_of_cell, of_cell-append, of_cell-own, by_most, by_last, head_push, head_low, head_high, persisted_most}
 use Rattle.ds_state.proofs.Few.{of_cell_few}
 use Rattle.ds_state.proofs.Noted.{when_rest, when_same}
 use Rattle.ds_state.proofs.Stable.{knowing_stable, record_no_version}
-use Rattle.ds_state.proofs.Frames.{Moves, KeepsOwing, keeps_owing, word_bears, moves_sound, grows_own}
-use Rattle.ds_state.proofs.Sides.{IsBetween, newer_between, between_fits}
+use Rattle.ds_state.proofs.Frames.{Moves, KeepsOwing, keeps_owing, moves_sound}
+use Rattle.ds_state.proofs.Sides.{IsBetween, newer_between}
 use Rattle.ds_state.proofs.Accesses.{Turn, Backs, written_backs, back_moves, back_grows}
 use Rattle.ds_state.proofs.Counting.{Counts, MayCount, counts_sound}
-use Rattle.ds_edit.specs.Steps.{next_at, head_after}
-use Rattle.ds_edit.specs.Worlds.{StepsAt, after, counted_at}
+use Rattle.ds_edit.specs.Steps.{head_after}
+use Rattle.ds_edit.specs.Worlds.{StepsAt}
 use Rattle.ds_edit.specs.declared.machine.TheConstants.{LAST_STAMP}
-use Rattle.ds_edit.proofs.Turns.{on, Known_on, Holds_on, IsPlainStep, turn, owing, fits_next, back_first}
+use Rattle.ds_edit.proofs.Turns.{on, Known_on, IsPlainStep, turn, fits_next, back_first}
 use Rattle.ds_edit.proofs.Sorts.{flushes, backs, ors}
 use Rattle.ds_edit.proofs.Placing.{head_now}
 
@@ -84,9 +83,10 @@ module _ (e : PlainEdit) (word : ℕ) (old new : World) (sound : IsSound old) wh
         let refs : HasRefs old.layout.shape e.text e.refs = fits.refs in
         let same : refers.content ≡ refs.content = only_content old.layout.shape e.text refers.content refs.content refers.reads refs.reads in
         let there : Contains e.refs row = subst (λ (x : ℕ). Contains e.refs x) refers.is (refs.all refers.cell (rw (sym same) refers.refers)) in
-        let at : slice_index_or e.refs there.0 0 ≡ row = sym (get_or_default_zero e.refs there.0 row there.1) ∙ there.2 in
-        ( subst (λ (x : ℕ). HasBit (old.memory.cached (index_place x e.cell)) e.cell) at (fits.knows.indexed.cached there.0 there.1)
-        , subst (λ (x : ℕ). HasBit (old.memory.persisted (index_place x e.cell)) e.cell) at (fits.knows.indexed.persisted there.0 there.1))
+        let at : slice_index_or e.refs there.0 0 ≡ row = sym (get_or_default_zero e.refs there.0 row there.1) ∙ there.2 in (
+          subst (λ (x : ℕ). HasBit (old.memory.cached (index_place x e.cell)) e.cell) at (fits.knows.indexed.cached there.0 there.1),
+          subst (λ (x : ℕ). HasBit (old.memory.persisted (index_place x e.cell)) e.cell) at (fits.knows.indexed.persisted there.0 there.1),
+        )
 
     may_count : old.situation e.process ≡ Editing (on e (Swap noted)) → MayCount old E
     may_count at =
@@ -140,9 +140,9 @@ module _ (e : PlainEdit) (word : ℕ) (old new : World) (sound : IsSound old) wh
           owes = rw there own_is;
         } in
         let below : AreBelow new e.process (e.number + 1) = subst (λ (xs : List Edit). All (λ f. f.process ≡ e.process → f.number < e.number + 1) xs) (sym counted)
-            (All-push (λ (f : Edit). f.process ≡ e.process → f.number < e.number + 1) old.counted E
-            (All-weaker (λ (f : Edit). f.process ≡ e.process → f.number < e.number) (λ (f : Edit). f.process ≡ e.process → f.number < e.number + 1) (λ f h k. let l = h k in omega arith) old.counted fits.knows.standing)
-            (λ k. omega arith)) in
+        (All-push (λ (f : Edit). f.process ≡ e.process → f.number < e.number + 1) old.counted E
+        (All-weaker (λ (f : Edit). f.process ≡ e.process → f.number < e.number) (λ (f : Edit). f.process ≡ e.process → f.number < e.number + 1) (λ f h k. let l = h k in omega arith) old.counted fits.knows.standing)
+        (λ k. omega arith)) in
         let knows : Known_on new e fits.since (FlushOwn own) = record {
           standing = record {
             below = below;
@@ -260,9 +260,9 @@ module _ (e : PlainEdit) (word : ℕ) (old new : World) (sound : IsSound old) wh
       let most : own ≤ c = let l = by_most es own E small_es (fits.knows.standing).head in let is = cached_is in omega arith in
       let value_most : one.value ≤ c = let l = by_most es one.value one.is.by small_es one.is.head in let is = cached_is in omega arith in
       let keeps_other : (cell : ℕ) → place.Head cell ≢ there → KeepsOwing old new cell = λ cell ne. keeps_owing e.process old new cell t.others t.others_pending (λ issue its is owes.
-          let same : Some (record { edit = E; since = fits.since }) ≡ Some issue = sym fits.pending ∙ is in
-          let edit : issue ≡ record { edit = E; since = fits.since } = cc in
-          absurd (ne (ap (λ (x : ℕ). place.Head x) (sym its ∙ ap (λ (x : Issue). x.edit.cell) edit)))) in
+      let same : Some (record { edit = E; since = fits.since }) ≡ Some issue = sym fits.pending ∙ is in
+      let edit : issue ≡ record { edit = E; since = fits.since } = cc in
+      absurd (ne (ap (λ (x : ℕ). place.Head x) (sym its ∙ ap (λ (x : Issue). x.edit.cell) edit)))) in
       let fitting : WordFits new there (new.memory.cached there) (new.memory.persisted there) = record {
         last = m.cached there ∙ cached_is ∙ ap (λ xs. head_after_all (of_cell e.cell xs)) (sym tn.counted);
         sides = elim (sound.words there).sides [

@@ -1,15 +1,14 @@
 -- The answer of an edit is true.
-use Rattle.std.proofs.Common.{ℕ, ◌≡◌, ◌≢◌, ◌<◌, ◌≤◌, ◌+◌, ◌-◌, ◌⊎◌, ◌==◌, List, [], ◌∷◌, ◌++◌, refl, ap, sym, ◌∙◌, subst, arith, append_assoc, inl, inr, zero, suc, length, length-append, drop, take, Some, None}
-use Rattle.std.specs.Prelude.{All, Contains, Option, filter}
+use Rattle.std.proofs.Common.{ℕ, ◌≡◌, ◌<◌, ◌≤◌, ◌+◌, ◌⊎◌, List, [], ◌∷◌, ◌++◌, refl, ap, sym, ◌∙◌, subst, arith, inl, inr, zero, suc, length, length-append, drop}
+use Rattle.std.specs.Prelude.{Contains}
 use Rattle.std.proofs.lemmas.Bool.Decides.{eqb_tells}
-use Rattle.std.proofs.lemmas.List.{take-append-drop}
 use Rattle.std.proofs.lemmas.List.Elements.{All-contains, Contains-append_right}
 use Rattle.ds_layout.specs.declared.head.Head.{Head}
-use Rattle.ds_layout.specs.Head.{head_of, head_word, IsHead}
+use Rattle.ds_layout.specs.Head.{head_of, IsHead}
 use Rattle.ds_layout.proofs.Packed.{head_of-head_word}
 use Rattle.ds_state.specs.Edits.{PlainEdit, text_parts}
-use Rattle.ds_state.specs.World.{Edit, edit_of, World, of_cell, of_cell_when, head_after_all, head_by, IsHeadBy}
-use Rattle.ds_state.specs.Known.{IsLate, IsSafelyIn, AreBelow, known_at, Knowing}
+use Rattle.ds_state.specs.World.{Edit, edit_of, World, of_cell, of_cell_when, IsHeadBy}
+use Rattle.ds_state.specs.Known.{IsLate, known_at, Knowing}
 use Rattle.ds_state.specs.Calls.{EditFits, CallFits}
 use Rattle.ds_state.specs.Sound.{IsSound, IsOfSheet}
 use Rattle.ds_state.specs.declared.stage.Outcome.{Outcome}
@@ -80,7 +79,7 @@ module _ (w : World) (sound : IsSound w) (e : Edit) (since : ℕ) where
       let after_when : Contains (drop h.count w.counted) h.by = elim (in_either when (of_cell e.cell (drop h.count w.counted)) at.before h.by at.after (sym rest ∙ at.parts)) [
         | inl early ↦ absurd (
             let le = by_most when seen h.by (small_before when (of_cell e.cell (drop h.count w.counted)) (subst (λ (xs : List Edit). Small xs) rest small))
-                (record { before = at.before; after = early.0; parts = early.1; is = at.is }) in
+            (record { before = at.before; after = early.0; parts = early.1; is = at.is }) in
             let is = h.is in
             let greater = h.greater in
             omega arith)
@@ -112,9 +111,10 @@ module _ (w : World) (sound : IsSound w) (e : Edit) (since : ℕ) where
   true_of outcome.Done refs parts count h =
       let at = h.standing.safe.head in
       from_cell e.cell w.counted e (subst (λ (xs : List Edit). Contains xs e) (sym at.parts) (contains_at at.before e at.after))
-  true_of (outcome.Overtaken noted seen) refs parts count h =
-      ((λ there. let l = All-contains (λ (f : Edit). f.process ≡ e.process → f.number < e.number) w.counted e h.standing there refl in omega arith),
-      overtakes noted seen h.head)
+  true_of (outcome.Overtaken noted seen) refs parts count h = (
+    (λ there. let l = All-contains (λ (f : Edit). f.process ≡ e.process → f.number < e.number) w.counted e h.standing there refl in omega arith),
+    overtakes noted seen h.head,
+  )
 
 pub answer_true : (e : PlainEdit) (how : Outcome) (w : World) → IsSound w → e.process < w.layout.processes → e.stage ≡ Answer how → w.situation e.process ≡ Editing e → IsTrueAnswer w (edit_of e) how
 answer_true e how w sound low first at =

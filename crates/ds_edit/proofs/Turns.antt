@@ -1,16 +1,14 @@
 -- What each step of an edit has in common.
-use Rattle.std.proofs.Common.{ℕ, ◌≡◌, ◌≢◌, ◌<◌, ◌≤◌, ◌^◌, ◌⊎◌, List, [], ◌∷◌, ◌++◌, refl, ap, sym, ◌∙◌, subst, arith, inl, inr, zero, suc, length, Some, None}
+use Rattle.std.proofs.Common.{ℕ, ◌≡◌, ◌<◌, ◌^◌, List, [], ◌∷◌, ◌++◌, refl, ap, sym, ◌∙◌, subst, arith, length}
 use Rattle.std.specs.Prelude.{Option}
 use Rattle.std.proofs.lemmas.List.{append-nil}
-use Rattle.ds_words.specs.declared.access.Class.{Class}
 use Rattle.ds_words.specs.declared.access.Entry.{Entry}
 use Rattle.ds_words.specs.Memory.{Memory, WritesBack, BacksFirst}
 use Rattle.ds_layout.specs.declared.place.Place.{Place}
-use Rattle.ds_state.specs.Edits.{PlainEdit, IsEdit, IsStage, text_parts}
-use Rattle.ds_state.specs.World.{Edit, edit_of, Issue, World, of_cell, head_after_all}
-use Rattle.ds_state.specs.Known.{Known, known_at, Knowing}
+use Rattle.ds_state.specs.Edits.{PlainEdit, text_parts}
+use Rattle.ds_state.specs.World.{edit_of, Issue, World, of_cell, head_after_all}
+use Rattle.ds_state.specs.Known.{known_at, Knowing}
 use Rattle.ds_state.specs.Calls.{held_at, Holds, EditFits, CallFits, Owes, OwesAt}
-use Rattle.ds_state.specs.Sound.{IsSound}
 use Rattle.ds_state.specs.declared.stage.Stage.{Stage}
 use Rattle.ds_state.specs.declared.situation.Situation.{Situation}
 use Rattle.ds_state.specs.declared.situation.Situation.TheVariants.{Editing}

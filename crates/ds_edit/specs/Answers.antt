@@ -1,5 +1,5 @@
 -- What the answer of an edit says of the list of those that count.
-use Rattle.std.specs.Prelude.{ℕ, ◌≡◌, List, Option, Some, Contains, drop}
+use Rattle.std.specs.Prelude.{ℕ, ◌≡◌, Some, Contains, drop}
 use Rattle.ds_layout.specs.declared.head.Head.{Head}
 use Rattle.ds_layout.specs.Head.{head_of}
 use Rattle.ds_state.specs.World.{Edit, World}

@@ -1,16 +1,16 @@
 -- The head that an edit noted, and the cell's head later.
-use Rattle.std.proofs.Common.{ℕ, ◌≡◌, ◌≢◌, ◌<◌, ◌≤◌, ◌+◌, ◌⊎◌, List, [], ◌∷◌, ◌++◌, refl, ap, sym, ◌∙◌, subst, arith, append_assoc, length, length-append, inl, inr, take, drop, get_or, zero, suc, Some}
-use Rattle.std.specs.Prelude.{All, filter, ◌==◌}
+use Rattle.std.proofs.Common.{ℕ, ◌≡◌, ◌≤◌, ◌+◌, ◌⊎◌, List, [], ◌∷◌, ◌++◌, refl, ap, sym, ◌∙◌, subst, arith, length, length-append, inl, inr, take, drop, get_or, Some}
+use Rattle.std.specs.Prelude.{All, ◌==◌}
 use Rattle.std.proofs.Math.Seq.{get_or-append_seam, take-length}
 use Rattle.std.proofs.lemmas.List.{take-append-drop, append-nil}
 use Rattle.std.proofs.lemmas.List.Elements.{All-filter}
 use Rattle.ds_layout.specs.declared.head.Head.{Head}
 use Rattle.ds_layout.specs.Head.{head_word, head_of, IsHead}
 use Rattle.ds_layout.proofs.Packed.{head_of-head_word}
-use Rattle.ds_state.specs.World.{Edit, World, of_cell, of_cell_when, head_after_all, head_by, IsHeadBy}
+use Rattle.ds_state.specs.World.{Edit, World, of_cell, of_cell_when, head_after_all, IsHeadBy}
 use Rattle.ds_state.specs.Known.{IsNoted}
 use Rattle.ds_state.specs.Sound.{IsSound, IsOfSheet}
-use Rattle.ds_state.proofs.Heads.{Small, IsSmall, IsSmall-of_sheet, small_counted, small_of_cell, small_before, of_cell-append, head_push, head_grows, by_append, by_last, parts_cases}
+use Rattle.ds_state.proofs.Heads.{Small, of_cell-append, head_push, head_grows, by_append, by_last, parts_cases}
 use Rattle.ds_state.proofs.Few.{of_cell_few}
 
 -- a list is empty, or has a last element

@@ -1,15 +1,10 @@
 -- How an edit ended, by the list of those that count.
-use Rattle.std.proofs.Common.{ℕ, ◌≡◌, ◌≢◌, ◌<◌, ◌≤◌, ◌+◌, ◌⊎◌, ◌==◌, List, [], ◌∷◌, ◌++◌, refl, ap, sym, ◌∙◌, subst, arith, inl, inr, zero, suc, length, drop, true, false}
-use Rattle.std.specs.Prelude.{All, Contains, filter, ◌&&◌}
-use Rattle.std.proofs.lemmas.Bool.{cases_eq, eq-eqb}
+use Rattle.std.proofs.Common.{ℕ, ◌≡◌, ◌≢◌, ◌<◌, ◌==◌, List, [], ◌∷◌, ◌++◌, refl, ap, sym, ◌∙◌, arith, inl, inr, true, false}
+use Rattle.std.specs.Prelude.{All, filter}
 use Rattle.std.proofs.lemmas.Bool.Decides.{eqb_tells}
-use Rattle.std.proofs.lemmas.List.Elements.{All-head, All-tail, Contains-append_cases, Contains-append_left, Contains-append_right}
+use Rattle.std.proofs.lemmas.List.Elements.{All-head, All-tail}
 use Rattle.ds_layout.specs.declared.announcement.Phase.TheVariants as phase
-use Rattle.ds_state.specs.World.{Edit, World, of_cell, of_cell_when, head_after_all, IsHeadBy, phase_among}
-use Rattle.ds_state.specs.Known.{IsLate}
-use Rattle.ds_state.proofs.Heads.{Small, small_counted, small_of_cell, small_before, by_most}
-use Rattle.ds_state.proofs.Noted.{when_rest}
-use Rattle.ds_state.specs.Sound.{IsSound}
+use Rattle.ds_state.specs.World.{Edit, of_cell, phase_among}
 
 pub not_among : (es : List Edit) (p n : ℕ) → All (λ e. e.process ≡ p → e.number < n) es → phase_among es p n ≡ phase.NotDone
 not_among [] p n h = refl

@@ -1,19 +1,17 @@
 -- What a call knows stays while words only grow.
-use Rattle.std.proofs.Common.{ℕ, ◌≡◌, ◌≢◌, ◌<◌, ◌≤◌, ◌+◌, ◌⊎◌, List, [], ◌∷◌, ◌++◌, refl, ap, sym, ◌∙◌, subst, arith, append_assoc, length, length-append, inl, inr, Some, None, zero, suc, take, true, false, get_or}
-use Rattle.std.specs.Prelude.{All, ◌==◌, ◌&&◌, Option, if◌then◌else◌}
+use Rattle.std.proofs.Common.{ℕ, ◌≡◌, ◌≢◌, ◌<◌, ◌≤◌, ◌+◌, List, [], ◌∷◌, ◌++◌, refl, ap, sym, ◌∙◌, subst, arith, length, length-append, inl, inr, Some, None, zero, suc, take}
+use Rattle.std.specs.Prelude.{All, Option, if◌then◌else◌}
 use Rattle.std.proofs.lemmas.List.{take-append-le}
-use Rattle.std.proofs.lemmas.Bool.{eqb-true, eq-eqb}
 use Rattle.std.proofs.lemmas.Bool.Decides.{eqb_tells}
 use Rattle.std.proofs.lemmas.List.Elements.{All-append, All-weaker, All-same, All-head, All-tail}
 use Rattle.ds_layout.specs.declared.place.Place.{Place}
-use Rattle.ds_layout.specs.declared.place.Place.TheVariants.{Version, Head, Mark, Index, Announce, Header, Text, Done}
+use Rattle.ds_layout.specs.declared.place.Place.TheVariants.{Version, Announce}
 use Rattle.ds_layout.specs.declared.announcement.Phase.TheVariants as phase
-use Rattle.ds_layout.specs.Bits.{HasBit}
 use Rattle.ds_layout.proofs.OrBits.{HasBit-subset, IsSubset-both}
 use Rattle.ds_state.specs.Edits.{PlainEdit, text_parts}
-use Rattle.ds_state.specs.World.{Edit, edit_of, World, record_place, record_word, index_place, done_place, of_cell, of_cell_when, head_after_all, IsHeadBy, phase_among, is_edit_of, last_announcement, announcement}
-use Rattle.ds_state.specs.Known.{Standing, outside, inside, safe, Announced, last, pending, ended, Noted, nothing, head_noted, head_back, bit_set, bit_back, came_late, Known, known_at, AreBelow, IsIn, IsSafe, IsSafelyIn, StandsAs, IsRecorded, word_of, IsAnnounced, row_of, IsIndexedTo, IsOred, IsDone, IsWhen, IsNoted, IsHelped, IsLate, Knows, Knowing}
-use Rattle.ds_state.specs.Calls.{Held, empty, record_words, announcing_word, row_bits, done_bits, head_from, mark, held_at, entry, Holds, HasOne, IsBits, IsHeadFrom, EditFits, IdleFits, CallFits, IsSheetOf, HasRefs}
+use Rattle.ds_state.specs.World.{Edit, edit_of, World, record_place, done_place, of_cell, of_cell_when, head_after_all, IsHeadBy, phase_among, is_edit_of, last_announcement, announcement}
+use Rattle.ds_state.specs.Known.{Standing, outside, inside, safe, Announced, last, pending, ended, Noted, nothing, head_noted, head_back, bit_set, bit_back, came_late, Known, known_at, AreBelow, IsSafe, StandsAs, IsRecorded, word_of, IsAnnounced, row_of, IsIndexedTo, IsOred, IsDone, IsWhen, IsNoted, Knows, Knowing}
+use Rattle.ds_state.specs.Calls.{Held, empty, record_words, announcing_word, row_bits, done_bits, head_from, mark, held_at, entry, Holds, CallFits, IsSheetOf, HasRefs}
 use Rattle.ds_state.specs.Rely.{IsOwnedBy, Grows, Rely}
 use Rattle.ds_state.specs.declared.situation.Situation.{Situation}
 use Rattle.ds_state.specs.declared.situation.Situation.TheVariants.{Idle, Stopped, Editing}
@@ -135,8 +133,11 @@ module _ (but : Place) (old new : World) (e : Edit) (g : Grows e.process but old
   head_stable since nothing h = tt
   head_stable since (head_noted head) h = noted_stable since head h
   head_stable since (head_back head) (h, b) = (noted_stable since head h, at_most b (g.heads_persisted e.cell))
-  head_stable since (bit_set head) (h, b, c) = (noted_stable since head h, at_most b (g.heads_persisted e.cell),
-    HasBit-subset (old.memory.cached (done_place head.process head.number)) (new.memory.cached (done_place head.process head.number)) head.number (g.done_cached _ _) c)
+  head_stable since (bit_set head) (h, b, c) = (
+    noted_stable since head h,
+    at_most b (g.heads_persisted e.cell),
+    HasBit-subset (old.memory.cached (done_place head.process head.number)) (new.memory.cached (done_place head.process head.number)) head.number (g.done_cached _ _) c,
+  )
   head_stable since (bit_back head) h = record {
     count = h.count;
     when = is_when_stable since h.count h.when;

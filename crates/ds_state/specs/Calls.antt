@@ -1,5 +1,5 @@
 -- What each process knows, and what its buffer holds.
-use Rattle.std.specs.Prelude.{ℕ, ◌≡◌, ◌<◌, ◌≤◌, ◌+◌, ◌-◌, List, [], ◌∷◌, length, map, Some, None, Contains, slice_index_or, suc}
+use Rattle.std.specs.Prelude.{ℕ, ◌≡◌, ◌≤◌, ◌-◌, List, [], ◌∷◌, length, map, Some, None, Contains, slice_index_or, suc}
 use Rattle.std.specs.List.{range_with_len}
 use Rattle.ds_words.specs.declared.access.Entry.{Entry}
 use Rattle.ds_formula.specs.Cells.{index_of}

@@ -7,7 +7,6 @@ use Rattle.ds_layout.specs.declared.announcement.Phase.{Phase}
 use Rattle.ds_layout.specs.declared.announcement.Phase.TheVariants as phase
 use Rattle.ds_layout.specs.Head.{head_word}
 use Rattle.ds_layout.specs.Bits.{HasBit}
-use Rattle.ds_state.specs.Edits.{PlainEdit}
 use Rattle.ds_state.specs.World.{Edit, World, record_place, record_word, index_place, done_place, of_cell, of_cell_when, head_after_all, IsHeadBy, announcement, last_announcement}
 use Rattle.ds_state.specs.declared.stage.Outcome.{Outcome}
 use Rattle.ds_state.specs.declared.stage.Outcome.TheVariants.{Done, Overtaken}
