@@ -4,3 +4,4 @@ pub mod Stable
 pub mod Frames
 pub mod Sides
 pub mod Counting
+pub mod Padded

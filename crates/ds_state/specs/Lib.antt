@@ -7,3 +7,4 @@ pub mod Words
 pub mod Sound
 pub mod Rely
 pub mod Fresh
+pub mod Text

@@ -5,3 +5,4 @@ pub mod edit;
 pub mod laws;
 pub mod situation;
 pub mod stage;
+pub mod text;
