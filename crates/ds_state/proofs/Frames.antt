@@ -105,7 +105,7 @@ module _ (p : ℕ) (place : Place) (old new : World) (m : Moves p place old new)
   owned_catches q ne (Index x n) own = absurd own
   owned_catches q ne (Done x n) own = absurd own
 
-  grows_by : (q : ℕ) (but : Place)
+  pub grows_by : (q : ℕ) (but : Place)
       → ((r : Place) → IsOwnedBy q r → r ≢ but → CatchesUp (old.memory.cached r) (old.memory.persisted r) (new.memory.cached r) (new.memory.persisted r))
       → Grows q but old new
   grows_by q but own = record {

@@ -5,3 +5,5 @@ pub mod Frames
 pub mod Sides
 pub mod Counting
 pub mod Padded
+pub mod Few
+pub mod Accesses

@@ -1,5 +1,5 @@
 -- What each process knows, and what its buffer holds.
-use Rattle.std.specs.Prelude.{ℕ, ◌≡◌, ◌<◌, ◌≤◌, ◌+◌, ◌-◌, List, [], ◌∷◌, length, map, Some, None, Contains, slice_index_or}
+use Rattle.std.specs.Prelude.{ℕ, ◌≡◌, ◌<◌, ◌≤◌, ◌+◌, ◌-◌, List, [], ◌∷◌, length, map, Some, None, Contains, slice_index_or, suc}
 use Rattle.std.specs.List.{range_with_len}
 use Rattle.ds_words.specs.declared.access.Entry.{Entry}
 use Rattle.ds_formula.specs.Cells.{index_of}
@@ -37,8 +37,8 @@ pub data Held : Type 0 where
 
 -- what it holds at a stage of an edit with so many parts of its text and these references
 abbrev pub held_at : ℕ → List ℕ → Stage → Held
-held_at parts refs (FlushText part) = record_words 0 (part + 1)
-held_at parts refs (BackRecord left) = record_words (parts - left) (left + 1)
+held_at parts refs (FlushText part) = record_words 0 (suc part)
+held_at parts refs (BackRecord left) = record_words (parts - left) (suc left)
 held_at parts refs BackPending = announcing_word pending
 held_at parts refs (BackIndex i) = row_bits (slice_index_or refs i 0)
 held_at parts refs (BackNoted head) = head_from (head_word head)

@@ -1,5 +1,5 @@
 -- What an edit knows at each of its stages.
-use Rattle.std.specs.Prelude.{ℕ, ◌≡◌, ◌<◌, ◌≤◌, ◌+◌, ◌-◌, ◌⊎◌, List, [], ◌∷◌, ◌++◌, length, Option, Some, None, All, slice_index_or}
+use Rattle.std.specs.Prelude.{ℕ, ◌≡◌, ◌<◌, ◌≤◌, ◌+◌, ◌-◌, ◌⊎◌, List, [], ◌∷◌, ◌++◌, length, Option, Some, None, All, slice_index_or, suc}
 use Rattle.ds_layout.specs.declared.place.Place.{Place}
 use Rattle.ds_layout.specs.declared.place.Place.TheVariants as place
 use Rattle.ds_layout.specs.declared.head.Head.{Head}
@@ -55,15 +55,15 @@ writing stored back = record { standing = outside; stored = stored; back = back;
 
 -- it is written, of so many parts; the edit is being announced
 abbrev pub announcing : ℕ → Known
-announcing parts = record { standing = outside; stored = parts + 1; back = parts + 1; before = last; now = pending; indexed = 0; ored = None; head = nothing }
+announcing parts = record { standing = outside; stored = suc parts; back = suc parts; before = last; now = pending; indexed = 0; ored = None; head = nothing }
 
 -- it is announced, and is being indexed
 abbrev pub indexing : ℕ → ℕ → Option ℕ → Known
-indexing parts i ored = record { standing = outside; stored = parts + 1; back = parts + 1; before = pending; now = pending; indexed = i; ored = ored; head = nothing }
+indexing parts i ored = record { standing = outside; stored = suc parts; back = suc parts; before = pending; now = pending; indexed = i; ored = ored; head = nothing }
 
 -- it is indexed, and takes its place
 abbrev pub placing : ℕ → ℕ → Standing → Noted → Known
-placing parts refs standing head = record { standing = standing; stored = parts + 1; back = parts + 1; before = pending; now = pending; indexed = refs; ored = None; head = head }
+placing parts refs standing head = record { standing = standing; stored = suc parts; back = suc parts; before = pending; now = pending; indexed = refs; ored = None; head = head }
 
 abbrev pub standing_after : Outcome → Standing
 standing_after Done = safe
@@ -75,16 +75,16 @@ noted_after (Overtaken noted seen) = came_late noted seen
 
 -- it has ended
 abbrev pub ending : ℕ → ℕ → Outcome → Announced → Announced → Known
-ending parts refs how before now = record { standing = standing_after how; stored = parts + 1; back = parts + 1; before = before; now = now; indexed = refs; ored = None; head = noted_after how }
+ending parts refs how before now = record { standing = standing_after how; stored = suc parts; back = suc parts; before = before; now = now; indexed = refs; ored = None; head = noted_after how }
 
 -- what is known at a stage of an edit with so many parts of its text and so many references
 abbrev pub known_at : ℕ → ℕ → Stage → Known
 known_at parts refs StoreHeader = writing 0 0
-known_at parts refs (StoreText part) = writing (part + 1) 0
-known_at parts refs FlushHeader = writing (parts + 1) 0
-known_at parts refs (FlushText part) = writing (parts + 1) 0
-known_at parts refs (BackRecord left) = writing (parts + 1) (parts - left)
-known_at parts refs StorePending = writing (parts + 1) (parts + 1)
+known_at parts refs (StoreText part) = writing (suc part) 0
+known_at parts refs FlushHeader = writing (suc parts) 0
+known_at parts refs (FlushText part) = writing (suc parts) 0
+known_at parts refs (BackRecord left) = writing (suc parts) (parts - left)
+known_at parts refs StorePending = writing (suc parts) (suc parts)
 known_at parts refs FlushPending = announcing parts
 known_at parts refs BackPending = announcing parts
 known_at parts refs (OrIndex i) = indexing parts i None
