@@ -3,6 +3,7 @@
 
 pub mod edit;
 pub mod laws;
+pub mod ledger;
 pub mod situation;
 pub mod stage;
 pub mod text;
