@@ -7,3 +7,4 @@ pub mod Counting
 pub mod Padded
 pub mod Few
 pub mod Accesses
+pub mod Made

@@ -8,3 +8,5 @@ pub mod Sound
 pub mod Rely
 pub mod Fresh
 pub mod Text
+pub mod Value
+pub mod Shown

@@ -7,3 +7,4 @@ pub mod ledger;
 pub mod situation;
 pub mod stage;
 pub mod text;
+pub mod world;
