@@ -8,3 +8,4 @@ pub mod Padded
 pub mod Few
 pub mod Accesses
 pub mod Made
+pub mod ReadBack
