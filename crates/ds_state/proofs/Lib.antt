@@ -9,3 +9,5 @@ pub mod Few
 pub mod Accesses
 pub mod Made
 pub mod ReadBack
+pub mod LastText
+pub mod Quiet

@@ -1,14 +1,14 @@
 -- A world that is made anew is good.
-use Rattle.std.proofs.Common.{ℕ, ◌≡◌, ◌≤◌, ◌+◌, ◌*◌, ◌++◌, List, [], ◌∷◌, length, get_or, replicate, refl, ap, sym, ◌∙◌, subst, zero, suc, Option, None}
+use Rattle.std.proofs.Common.{ℕ, ◌≡◌, ◌≤◌, ◌+◌, ◌*◌, ◌++◌, [], ◌∷◌, get_or, replicate, refl, sym, ◌∙◌, subst, zero, suc, Option, None}
 use Rattle.std.proofs.lemmas.List.{length-replicate, replicate_more}
 use Rattle.std.proofs.lemmas.List.Elements.{All-nil}
 use Rattle.ds_words.specs.Memory.{IsFresh}
 use Rattle.ds_layout.specs.declared.place.TheConstants.{RECORDS}
 use Rattle.ds_layout.specs.Sheet.{SheetValue, memory}
 use Rattle.ds_state.specs.Text.{IsText}
-use Rattle.ds_state.specs.World.{Edit, Issue, World}
+use Rattle.ds_state.specs.World.{Edit, Issue}
 use Rattle.ds_state.specs.Fresh.{IsNew}
-use Rattle.ds_state.specs.Value.{WorldValue, world_of, IsGood, IsKept}
+use Rattle.ds_state.specs.Value.{WorldValue, world_of, IsKept}
 use Rattle.ds_state.specs.declared.situation.Situation.{Situation}
 use Rattle.ds_state.specs.declared.situation.Situation.TheVariants.{Idle}
 use Rattle.ds_state.proofs.New.{new_sound}

@@ -1,25 +1,19 @@
 //! A sheet and its processes.
 
-ghost use Rattle.std.specs.Prelude.{◌≡◌, ◌<◌, ◌≤◌, ◌↔◌, ℕ, IsTrue, IfOk, All, None, replicate};
+ghost use Rattle.std.specs.Prelude.{◌≡◌, ◌<◌, ◌≤◌, ◌↔◌, IsTrue, IfOk, All, None, replicate};
 ghost use Rattle.ds_formula.specs.Cells.{IsInside};
-ghost use Rattle.ds_layout.specs.declared.mark.State.{State};
-ghost use Rattle.ds_layout.specs.Places.{cells_of};
-ghost use Rattle.ds_layout.specs.Mark.{mark_of, state_of};
-ghost use Rattle.ds_layout.specs.Sheet.{memory};
 
 use crate::ledger::{Edit, Issue};
+use crate::shown;
 use crate::situation::Situation;
 use crate::stage::Point;
 use ds_eval::value::Value;
 use ds_formula::cells::{Cell, Shape};
 use ds_layout::head::Head;
-use ds_layout::header::Header;
 use ds_layout::layout::{Layout, MAX_PROCESSES};
-use ds_layout::mark::{Mark, State};
+use ds_layout::mark::Mark;
 use ds_layout::place::{Place, RECORDS};
 use ds_layout::sheet_words::SheetWords;
-use ds_layout::stored::{Kind, Stored};
-use ds_layout::text::part_bytes;
 use std::alloc::{AllocError, Global};
 use std::marker::Model;
 
@@ -73,6 +67,12 @@ fn idle(alloc: Global, processes: usize) -> Result<Vec<Situation>, AllocError>
     Ok(situations)
 }
 
+fn all_answered(pending: &[Option<Issue>]) -> bool
+    ensures { IsTrue result ↔ All (λ issue. issue ≡ None) pending.now }
+{
+    pending.iter().all(|issue| issue.is_none())
+}
+
 impl World {
     ghost use Rattle.ds_state.specs.Value.{world_of};
     ghost use Rattle.ds_state.specs.Fresh.{IsNew};
@@ -107,6 +107,44 @@ impl World {
         ensures { IsSound (world_of self.now) }
     {
         let _words = &self.words;
+    }
+
+    /// Whether each edit is answered, and no cell's mark is dirty or held.
+    pub fn is_quiet(&self) -> bool
+        ensures { IsTrue result ↔ IsQuiet (world_of self.now) }
+    {
+        all_answered(&self.pending) && shown::are_clean(&self.words)
+    }
+
+    /// The mark of a cell, as processes see it.
+    pub fn mark_of(&self, cell: Cell) -> Mark
+        requires { IsInside self.now.sheet.layout.shape cell }
+        ensures { result ≡ mark_in (world_of self.now) cell }
+    {
+        shown::mark(&self.words, self.words.layout().shape.index(cell))
+    }
+
+    /// The value of a cell, as processes see it.
+    pub fn value_of(&self, cell: Cell) -> Value
+        requires { IsInside self.now.sheet.layout.shape cell }
+        ensures { result ≡ value_in (world_of self.now) cell }
+    {
+        shown::value(&self.words, self.words.layout().shape.index(cell))
+    }
+
+    /// The text of a cell: as the last of its edits that count was handed in, and empty where none
+    /// counts. It is read from the words that processes see, and from nothing else. An error is a
+    /// want of memory.
+    pub fn text_of(&self, alloc: Global, cell: Cell) -> Result<Vec<u8>, AllocError>
+        requires { IsInside self.now.sheet.layout.shape cell }
+        ensures { IfOk result (λ v. v.items ≡ text_in (world_of self.now) cell) }
+    {
+        let layout = self.words.layout();
+        let word = self.words.load(Place::Head(layout.shape.index(cell)));
+        match Head::read(word, layout.processes) {
+            Some(head) => shown::text(&self.words, alloc, head.process, head.number),
+            None => Ok(Vec::new(alloc)),
+        }
     }
 
     /// The last point that the edit of a process has behind it: none where it has no edit, or where

@@ -1,4 +1,4 @@
-use Rattle.std.proofs.Common.{ℕ, ◌≡◌, ◌<◌, ◌*◌, ◌/◌, ◌++◌, List, length, take, ap, sym, ◌∙◌, arith, ◌-◌, min}
+use Rattle.std.proofs.Common.{◌≡◌, ◌*◌, ◌++◌, length, take, ap, sym, ◌∙◌, arith, ◌-◌, min}
 use Rattle.ds_layout.specs.Text.{part_word}
 use Rattle.ds_state.proofs.ReadBack.{next_part}
 use Rattle.ds_state.proofs.shown.parts.Goals as goal

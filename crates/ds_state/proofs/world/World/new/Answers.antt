@@ -1,9 +1,6 @@
-use Rattle.std.proofs.Common.{◌≡◌, ◌*◌, ◌≤◌, List, [], ap, sym, ◌∙◌, subst, arith, rules, Option, None, length, refl}
+use Rattle.std.proofs.Common.{◌≡◌, [], ap, rules, None}
 use Rattle.std.specs.Prelude.{replicate}
 use Rattle.ds_layout.specs.declared.layout.Layout.{Layout}
-use Rattle.ds_state.specs.World.{Edit, Issue}
-use Rattle.ds_state.specs.Value.{WorldValue, world_of, IsKept}
-use Rattle.ds_state.specs.Fresh.{IsNew}
 use Rattle.ds_state.specs.declared.situation.Situation.TheVariants.{Idle}
 use Rattle.ds_state.proofs.Made.{made_new, made_kept}
 use Rattle.ds_state.proofs.world.World.new.Goals as goal
