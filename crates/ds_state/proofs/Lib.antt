@@ -4,7 +4,12 @@ pub mod Stable
 pub mod Frames
 pub mod Sides
 pub mod Counting
+pub mod Padded
 pub mod Few
 pub mod Accesses
 pub mod Noted
 pub mod Outcomes
+pub mod Made
+pub mod ReadBack
+pub mod LastText
+pub mod Quiet

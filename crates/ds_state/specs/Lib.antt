@@ -8,3 +8,6 @@ pub mod Sound
 pub mod Rely
 pub mod Fresh
 pub mod Events
+pub mod Text
+pub mod Value
+pub mod Shown

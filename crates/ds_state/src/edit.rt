@@ -3,6 +3,7 @@
 ghost use Rattle.std.specs.Prelude.{◌≡◌, ◌+◌, ◌/◌, length};
 
 use crate::stage::Stage;
+use crate::text::Text;
 use std::marker::Model;
 
 /// An edit of a cell, with all that its steps need.
@@ -14,8 +15,8 @@ pub struct EditCall {
     pub number: usize,
     /// The cell, by its number.
     pub cell: usize,
-    /// What the cell is to hold, at most 120 bytes.
-    pub text: Vec<u8>,
+    /// What the cell is to hold.
+    pub text: Text,
     /// The cells that the text refers to, by their numbers.
     pub refs: Vec<usize>,
     /// How many cells the sheet has.
@@ -35,7 +36,7 @@ impl Model for EditCall {
       process = a.process;
       number = a.number;
       cell = a.cell;
-      text = a.text.items;
+      text = a.text;
       refs = a.refs.items;
       cells = a.cells;
       processes = a.processes;
@@ -46,7 +47,7 @@ impl Model for EditCall {
       process = a.process;
       number = a.number;
       cell = a.cell;
-      text = a.text.items;
+      text = a.text;
       refs = a.refs.items;
       cells = a.cells;
       processes = a.processes;

@@ -3,5 +3,9 @@
 
 pub mod edit;
 pub mod laws;
+pub mod ledger;
+pub mod shown;
 pub mod situation;
 pub mod stage;
+pub mod text;
+pub mod world;

@@ -1,0 +1,45 @@
+-- A world that is made anew is good.
+use Rattle.std.proofs.Common.{ℕ, ◌≡◌, ◌≤◌, ◌+◌, ◌*◌, ◌++◌, [], ◌∷◌, get_or, replicate, refl, sym, ◌∙◌, subst, zero, suc, Option, None}
+use Rattle.std.proofs.lemmas.List.{length-replicate, replicate_more}
+use Rattle.std.proofs.lemmas.List.Elements.{All-nil}
+use Rattle.ds_words.specs.Memory.{IsFresh}
+use Rattle.ds_layout.specs.declared.place.TheConstants.{RECORDS}
+use Rattle.ds_layout.specs.Sheet.{SheetValue, memory}
+use Rattle.ds_state.specs.Text.{IsText}
+use Rattle.ds_state.specs.World.{Edit, Issue}
+use Rattle.ds_state.specs.Fresh.{IsNew}
+use Rattle.ds_state.specs.Value.{WorldValue, world_of, IsKept}
+use Rattle.ds_state.specs.declared.situation.Situation.{Situation}
+use Rattle.ds_state.specs.declared.situation.Situation.TheVariants.{Idle}
+use Rattle.ds_state.proofs.New.{new_sound}
+
+pub one_more : (n : ℕ) (s : Situation) → replicate n s ++ s ∷ [] ≡ replicate (n + 1) s
+one_more n s = replicate_more n s
+
+all_same : {X : Type 0} (n q : ℕ) (x : X) → get_or (replicate n x) q x ≡ x
+all_same zero q x = refl
+all_same (suc n) zero x = refl
+all_same (suc n) (suc q) x = all_same n q x
+
+-- of these parts
+abbrev pub made : SheetValue → ℕ → WorldValue
+made sheet processes = record { sheet = sheet; situations = replicate processes (Idle 0); counted = []; pending = replicate processes None; done = 0 }
+
+pub made_new : (sheet : SheetValue) (processes : ℕ) → IsFresh (memory sheet) → IsNew (world_of (made sheet processes))
+made_new sheet processes fresh = record {
+  memory = fresh;
+  situation = λ p. all_same processes p (Idle 0);
+  counted = refl;
+  pending = λ p. all_same {X = Option Issue} processes p None;
+}
+
+pub made_kept : (sheet : SheetValue) (processes room : ℕ) → IsFresh (memory sheet) → sheet.layout.processes ≡ processes → processes * RECORDS ≤ room → IsKept (made sheet processes) room
+made_kept sheet processes room fresh same enough = record {
+  good = record {
+    sound = new_sound (world_of (made sheet processes)) (made_new sheet processes fresh);
+    situations = length-replicate processes (Idle 0) ∙ sym same;
+    pending = length-replicate {A = Option Issue} processes None ∙ sym same;
+    texts = All-nil (λ (e : Edit). IsText e.text);
+  };
+  reserved = subst (λ (n : ℕ). n * RECORDS ≤ room) (sym same) enough;
+}

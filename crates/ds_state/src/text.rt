@@ -1,0 +1,69 @@
+//! The text of an edit.
+
+ghost use Rattle.std.specs.Prelude.{◌≡◌, ◌≤◌, ◌↔◌, length, IsTrue, IsSome, IfSome, []};
+ghost use Rattle.ds_layout.specs.declared.place.TheConstants.{TEXT_BYTES};
+ghost use Rattle.ds_state.specs.Text.{IsText};
+
+use ds_layout::place::TEXT_BYTES;
+use std::marker::Model;
+
+/// The bytes of an edit's text, at most 120, in place: a copy takes no memory.
+#[derive(Clone, Copy, Debug)]
+pub struct Text {
+    bytes: [u8; TEXT_BYTES],
+    len: usize,
+}
+
+impl Model for Text {
+    ghost use Rattle.std.specs.Prelude.{List, ℕ, length, take, ◌++◌};
+    ghost use Rattle.ds_state.specs.Text.{IsPadded, padding, padded_bytes, padded_len};
+
+    ghost Value = { List ℕ };
+
+    ghost view = { λ t. take t.len t.bytes };
+
+    ghost invariant = { λ t. IsPadded t.bytes t.len };
+
+    ghost inverse = { λ v. record { bytes = v ++ padding (length v); len = length v } };
+
+    ghost inverse_ok = { λ t h i. record { bytes = padded_bytes t.bytes t.len h i; len = padded_len t.bytes t.len h i } };
+}
+
+impl Text {
+    /// The text of these bytes; `None` where they are more than 120.
+    pub fn new(bytes: &[u8]) -> Option<Text>
+        ensures short { IsSome result ↔ (length bytes.now ≤ TEXT_BYTES) }
+        ensures same { IfSome result (λ text. text ≡ bytes.now) }
+    {
+        let len = bytes.len();
+        if len > TEXT_BYTES {
+            return None;
+        }
+        let mut padded = [0; TEXT_BYTES];
+        padded[..len].copy_from_slice(bytes);
+        Some(Text { bytes: padded, len })
+    }
+
+    /// The bytes.
+    pub fn as_slice(&self) -> &[u8]
+        ensures same { result.now ≡ self.now }
+        ensures text { IsText self.now }
+    {
+        &self.bytes[..self.len]
+    }
+
+    /// How many bytes it has, at most 120.
+    pub fn len(&self) -> usize
+        ensures value { result ≡ length self.now }
+        ensures at_most { result ≤ TEXT_BYTES }
+    {
+        self.len
+    }
+
+    /// Whether it has no bytes.
+    pub fn is_empty(&self) -> bool
+        ensures { IsTrue result ↔ (self.now ≡ []) }
+    {
+        self.len == 0
+    }
+}

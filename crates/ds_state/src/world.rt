@@ -1,0 +1,161 @@
+//! A sheet and its processes.
+
+ghost use Rattle.std.specs.Prelude.{◌≡◌, ◌<◌, ◌≤◌, ◌↔◌, IsTrue, IfOk, All, None, replicate};
+ghost use Rattle.ds_formula.specs.Cells.{IsInside};
+
+use crate::ledger::{Edit, Issue};
+use crate::shown;
+use crate::situation::Situation;
+use crate::stage::Point;
+use ds_eval::value::Value;
+use ds_formula::cells::{Cell, Shape};
+use ds_layout::head::Head;
+use ds_layout::layout::{Layout, MAX_PROCESSES};
+use ds_layout::mark::Mark;
+use ds_layout::place::{Place, RECORDS};
+use ds_layout::sheet_words::SheetWords;
+use std::alloc::{AllocError, Global};
+use std::marker::Model;
+
+/// A sheet and its processes. It is sound at each moment.
+#[derive(Drop)]
+pub struct World {
+    /// The words of the sheet.
+    pub words: SheetWords,
+    /// What each process does.
+    pub situations: Vec<Situation>,
+    /// The edits that count, in their order. It has room for all that can come.
+    pub counted: Vec<Edit>,
+    /// The edit of each process that is not answered.
+    pub pending: Vec<Option<Issue>>,
+    /// How many edits were answered Done.
+    pub done: u64,
+}
+
+impl Model for World {
+    ghost use Rattle.std.specs.Prelude.{vec_capacity};
+    ghost use Rattle.ds_state.specs.Value.{WorldValue, IsKept};
+
+    ghost Value = { WorldValue };
+
+    ghost view = { λ w. record {
+      sheet = w.words;
+      situations = w.situations.items;
+      counted = w.counted.items;
+      pending = w.pending.items;
+      done = w.done;
+    } };
+
+    ghost invariant = { λ w. IsKept (record {
+      sheet = w.words;
+      situations = w.situations.items;
+      counted = w.counted.items;
+      pending = w.pending.items;
+      done = w.done;
+    }) (vec_capacity w.counted) };
+}
+
+#[tactic(auto, using(crate::proofs::Made::one_more))]
+/// As many idle processes, each before its edit 0.
+fn idle(alloc: Global, processes: usize) -> Result<Vec<Situation>, AllocError>
+    ensures { IfOk result (λ v. v.items ≡ replicate processes (Situation.Idle 0)) }
+{
+    let mut situations = Vec::with_capacity(alloc, processes)?;
+    for _ in 0..processes {
+        situations.push(Situation::Idle(0))?;
+    }
+    Ok(situations)
+}
+
+fn all_answered(pending: &[Option<Issue>]) -> bool
+    ensures { IsTrue result ↔ All (λ issue. issue ≡ None) pending.now }
+{
+    pending.iter().all(|issue| issue.is_none())
+}
+
+impl World {
+    ghost use Rattle.ds_state.specs.Value.{world_of};
+    ghost use Rattle.ds_state.specs.Fresh.{IsNew};
+    ghost use Rattle.ds_state.specs.Sound.{IsSound};
+    ghost use Rattle.ds_state.specs.Shown.{mark_in, value_in, point_of, text_in, IsQuiet};
+
+    /// A new sheet of this shape, for 1 to 8 processes. An error is a want of memory.
+    pub fn new(alloc: Global, shape: Shape, processes: usize) -> Result<World, AllocError>
+        requires some { 1 ≤ processes }
+        requires limited { processes ≤ MAX_PROCESSES }
+        ensures new { IfOk result (λ w. IsNew (world_of w)) }
+        ensures shape { IfOk result (λ w. w.sheet.layout.shape ≡ shape) }
+        ensures processes { IfOk result (λ w. w.sheet.layout.processes ≡ processes) }
+        ensures done { IfOk result (λ w. w.done ≡ 0) }
+    {
+        let layout = Layout { shape, processes };
+        let words = SheetWords::new(alloc, layout)?;
+        let situations = idle(alloc, processes)?;
+        let counted = Vec::with_capacity(alloc, processes * RECORDS)?;
+        let pending = vec![in alloc; None; processes]?;
+        Ok(World {
+            words,
+            situations,
+            counted,
+            pending,
+            done: 0,
+        })
+    }
+
+    /// It is sound.
+    pub fn is_sound(&self)
+        ensures { IsSound (world_of self.now) }
+    {
+        let _words = &self.words;
+    }
+
+    /// Whether each edit is answered, and no cell's mark is dirty or held.
+    pub fn is_quiet(&self) -> bool
+        ensures { IsTrue result ↔ IsQuiet (world_of self.now) }
+    {
+        all_answered(&self.pending) && shown::are_clean(&self.words)
+    }
+
+    /// The mark of a cell, as processes see it.
+    pub fn mark_of(&self, cell: Cell) -> Mark
+        requires { IsInside self.now.sheet.layout.shape cell }
+        ensures { result ≡ mark_in (world_of self.now) cell }
+    {
+        shown::mark(&self.words, self.words.layout().shape.index(cell))
+    }
+
+    /// The value of a cell, as processes see it.
+    pub fn value_of(&self, cell: Cell) -> Value
+        requires { IsInside self.now.sheet.layout.shape cell }
+        ensures { result ≡ value_in (world_of self.now) cell }
+    {
+        shown::value(&self.words, self.words.layout().shape.index(cell))
+    }
+
+    /// The text of a cell: as the last of its edits that count was handed in, and empty where none
+    /// counts. It is read from the words that processes see, and from nothing else. An error is a
+    /// want of memory.
+    pub fn text_of(&self, alloc: Global, cell: Cell) -> Result<Vec<u8>, AllocError>
+        requires { IsInside self.now.sheet.layout.shape cell }
+        ensures { IfOk result (λ v. v.items ≡ text_in (world_of self.now) cell) }
+    {
+        let layout = self.words.layout();
+        let word = self.words.load(Place::Head(layout.shape.index(cell)));
+        match Head::read(word, layout.processes) {
+            Some(head) => shown::text(&self.words, alloc, head.process, head.number),
+            None => Ok(Vec::new(alloc)),
+        }
+    }
+
+    /// The last point that the edit of a process has behind it: none where it has no edit, or where
+    /// the edit still writes its record.
+    pub fn point_of(&self, process: usize) -> Option<Point>
+        requires { process < self.now.sheet.layout.processes }
+        ensures { result ≡ point_of ((world_of self.now).situation process) }
+    {
+        match &self.situations[process] {
+            Situation::Editing(call) => call.stage.point(),
+            Situation::Idle(_) | Situation::Stopped => None,
+        }
+    }
+}
