@@ -9,3 +9,4 @@ pub mod Taking
 pub mod Answering
 pub mod Sound
 pub mod Truth
+pub mod Possible

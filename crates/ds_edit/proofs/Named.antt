@@ -10,7 +10,7 @@ use Rattle.ds_state.specs.declared.stage.Stage.TheVariants.{StoreHeader, StoreTe
 use Rattle.ds_edit.specs.Steps.{access_at}
 use Rattle.ds_state.specs.Calls.{IsSheetOf}
 
-index_place : (layout : Layout) (e : PlainEdit) (i : ℕ) → IsSheetOf layout e → IsEdit e → i < length e.refs
+pub index_place : (layout : Layout) (e : PlainEdit) (i : ℕ) → IsSheetOf layout e → IsEdit e → i < length e.refs
     → (slice_index_or e.refs i 0 < cells_of layout) × (e.cell / 64 < parts_of layout)
 index_place layout e i s is l =
     let r : slice_index_or e.refs i 0 < e.cells = All-get_or (λ r. r < e.cells) e.refs i 0 l is.refs in

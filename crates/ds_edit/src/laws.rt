@@ -11,6 +11,8 @@ ghost use Rattle.ds_state.specs.declared.stage.Stage.TheVariants.{Answer};
 ghost use Rattle.ds_state.specs.declared.situation.Situation.TheVariants.{Editing};
 ghost use Rattle.ds_edit.specs.Worlds.{Steps, Begins};
 ghost use Rattle.ds_edit.specs.Answers.{IsTrueAnswer};
+ghost use Rattle.ds_edit.specs.Steps.{access_at};
+ghost use Rattle.ds_layout.specs.Sheet.{CanPerform};
 
 /// Each step of an edit, whatever the word that its access answers, leaves a sound sheet sound, and
 /// leaves each other process what it may count on.
@@ -36,4 +38,13 @@ pub fn answers_are_true()
     ensures { (e : PlainEdit) (how : Outcome) (w : World) → IsSound w
         → e.process < w.layout.processes → e.stage ≡ Answer how
         → w.situation e.process ≡ Editing e → IsTrueAnswer w (edit_of e) how }
+{}
+
+/// The access of an edit of a sound sheet can be performed: it names a place of the sheet, and the
+/// buffer has room for what is flushed, and an entry where one is written back.
+#[tactic(auto, using(crate::proofs::Possible::can_perform))]
+pub fn accesses_are_possible()
+    ensures { (e : PlainEdit) (w : World) → IsSound w
+        → e.process < w.layout.processes → w.situation e.process ≡ Editing e
+        → CanPerform w.layout w.memory e.process (access_at e e.stage) }
 {}
