@@ -2,5 +2,8 @@
 #![tactic(auto)]
 
 pub mod edit;
+pub mod event;
 pub mod refusal;
+pub mod reply;
 pub mod sheet;
+pub mod step;

@@ -32,11 +32,11 @@ Holds_on w e s = Holds w (edit_of e) (held_at (text_parts e.text) e.refs s)
 -- a step before the answer, by which nothing comes to count
 pub record IsPlainStep (e : PlainEdit) (s : Stage) (word : ℕ) : Type 0 where
   pub goes_on : after e s word ≡ Editing (on e (next_at e s word))
-  pub counts : counted_at e s word ≡ []
+  pub counts : counted_at (edit_of e) s word ≡ []
   pub pends : (issue : Option Issue) → pending_at issue s ≡ issue
 
 module _ (e : PlainEdit) (s : Stage) (word : ℕ) (old new : World) (t : StepsAt e s word old new) where
-  pub turn : counted_at e s word ≡ [] → Turn e.process old new
+  pub turn : counted_at (edit_of e) s word ≡ [] → Turn e.process old new
   turn none = record {
     layout = t.layout;
     counted = t.counted ∙ ap (λ es. old.counted ++ es) none ∙ append-nil old.counted;

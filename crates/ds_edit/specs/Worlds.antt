@@ -16,8 +16,8 @@ after e (Answer how) word = Idle (e.number + 1)
 after e stage word = Editing (record e { stage = next_at e stage word })
 
 -- what counts by the step: the edit, where its swap finds the head that it noted
-abbrev pub counted_at : PlainEdit → Stage → ℕ → List Edit
-counted_at e (Swap noted) word = if word == noted then edit_of e ∷ [] else []
+abbrev pub counted_at : Edit → Stage → ℕ → List Edit
+counted_at e (Swap noted) word = if word == noted then e ∷ [] else []
 counted_at e stage word = []
 
 abbrev pub pending_at : Option Issue → Stage → Option Issue
@@ -30,7 +30,7 @@ pub record StepsAt (e : PlainEdit) (stage : Stage) (word : ℕ) (old new : World
   pub memory : PerformsAt (access_at e stage) e.process old.memory new.memory word
   pub situation : new.situation e.process ≡ after e stage word
   pub others : (q : ℕ) → q ≢ e.process → new.situation q ≡ old.situation q
-  pub counted : new.counted ≡ old.counted ++ counted_at e stage word
+  pub counted : new.counted ≡ old.counted ++ counted_at (edit_of e) stage word
   pub pending : new.pending e.process ≡ pending_at (old.pending e.process) stage
   pub others_pending : (q : ℕ) → q ≢ e.process → new.pending q ≡ old.pending q
 

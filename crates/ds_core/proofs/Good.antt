@@ -1,0 +1,184 @@
+-- Steps and evictions keep a world good.
+use Rattle.std.proofs.Common.{ℕ, ◌≡◌, ◌≢◌, ◌<◌, ◌≤◌, ◌+◌, ◌*◌, ◌⊎◌, List, [], ◌∷◌, ◌++◌, refl, ap, sym, ◌∙◌, subst, arith, length, length-append, get_or, set, inl, inr, Bool, true, false, ◌==◌}
+use Rattle.std.specs.Prelude.{All, Some, None, Option, if◌then◌else◌}
+use Rattle.std.proofs.Math.ListN.{length-set}
+use Rattle.std.proofs.lemmas.Bool.{eq-eqb}
+use Rattle.std.proofs.lemmas.List.{get_or-set_same, get_or-set_other, get_or_default, append-nil}
+use Rattle.std.proofs.lemmas.List.Elements.{All-push}
+use Rattle.ds_words.specs.declared.access.Access.{Access}
+use Rattle.ds_words.specs.Memory.{EvictsAt}
+use Rattle.ds_layout.specs.declared.layout.Layout.{Layout}
+use Rattle.ds_layout.specs.declared.place.TheConstants.{RECORDS}
+use Rattle.ds_layout.specs.declared.place.Place.{Place}
+use Rattle.ds_layout.specs.Sheet.{SheetValue, memory, CanPerform, PerformsAt}
+use Rattle.ds_state.specs.Edits.{PlainEdit}
+use Rattle.ds_state.specs.Text.{IsText}
+use Rattle.ds_state.specs.World.{Edit, Issue, World, edit_of}
+use Rattle.ds_state.specs.Value.{WorldValue, world_of, IsGood, IsKept}
+use Rattle.ds_state.specs.Calls.{CallFits, EditFits}
+use Rattle.ds_state.specs.Events.{Evicts}
+use Rattle.ds_state.specs.Sound.{IsSound}
+use Rattle.ds_state.specs.declared.stage.Outcome.{Outcome}
+use Rattle.ds_state.specs.declared.stage.Stage.{Stage}
+use Rattle.ds_state.specs.declared.stage.Stage.TheVariants.{Swap}
+use Rattle.ds_state.specs.declared.situation.Situation.{Situation}
+use Rattle.ds_state.specs.declared.situation.Situation.TheVariants.{Idle, Editing}
+use Rattle.ds_state.proofs.Accesses.{evict_sound}
+use Rattle.ds_state.proofs.Few.{counted_few}
+use Rattle.ds_edit.specs.Steps.{access_at}
+use Rattle.ds_edit.specs.Worlds.{Steps, after, counted_at, pending_at}
+use Rattle.ds_edit.proofs.Sound.{step_sound}
+use Rattle.ds_edit.proofs.Possible.{can_perform}
+use Rattle.ds_core.specs.Steps.{reply_at, reply_with, outcome_at, done_at, StepsBy, StepTakes, EvictsWord}
+use Rattle.ds_core.specs.declared.reply.Reply.{Reply}
+
+-- the process's edit
+pub record IsEditing (v : WorldValue) (p : ℕ) (e : PlainEdit) : Type 0 where
+  pub there : p < length v.situations
+  pub is : (world_of v).situation p ≡ Editing e
+
+pub editing_from : (v : WorldValue) (p : ℕ) (e : PlainEdit) (read : Situation) → p < length v.situations → read ≡ get_or v.situations p read → read ≡ Editing e → IsEditing v p e
+editing_from v p e read lt is here = record { there = lt; is = get_or_default v.situations p (Idle 0) read lt ∙ sym is ∙ here }
+
+-- what comes to count at a stage is nothing, or the edit
+counted_cases : (e : Edit) (s : Stage) (word : ℕ) → (counted_at e s word ≡ []) ⊎ (counted_at e s word ≡ e ∷ [])
+counted_cases e (Swap noted) word = won (word == noted)
+  where
+    won : (b : Bool) → ((if b then e ∷ [] else []) ≡ []) ⊎ ((if b then e ∷ [] else []) ≡ e ∷ [])
+    won true = inr refl
+    won false = inl refl
+counted_cases e _ word = inl refl
+
+counted_texts : (es : List Edit) → All (λ (x : Edit). IsText x.text) es → (e : Edit) → IsText e.text → (word : ℕ) (s : Stage) → All (λ (x : Edit). IsText x.text) (es ++ counted_at e s word)
+counted_texts es all e is word s = elim (counted_cases e s word) [
+  | inl none ↦ rw none (rw (append-nil es) all)
+  | inr one ↦ rw one (All-push (λ (x : Edit). IsText x.text) es e all is)
+]
+
+module _ (v : WorldValue) (g : IsGood v) (p : ℕ) (e : PlainEdit) (at : IsEditing v p e) where
+  pub low : p < v.sheet.layout.processes
+  low = let t = at.there in let s = g.situations in omega arith
+
+  fits : EditFits (world_of v) p e
+  fits = subst (λ (x : Situation). CallFits (world_of v) p x) at.is (g.sound.calls p low)
+
+  pub mine : e.process ≡ p
+  mine = fits.mine
+
+  here : (world_of v).situation e.process ≡ Editing e
+  here = ap (λ q. (world_of v).situation q) mine ∙ at.is
+
+  low_own : e.process < v.sheet.layout.processes
+  low_own = rw mine low
+
+  -- its access can be performed
+  pub perform_at : CanPerform v.sheet.layout (memory v.sheet) p (access_at e e.stage)
+  perform_at = subst (λ (q : ℕ). CanPerform v.sheet.layout (memory v.sheet) q (access_at e e.stage)) mine (can_perform e (world_of v) g.sound low_own here)
+
+  pub pending_there : p < length v.pending
+  pending_there = let l = low in let s = g.pending in omega arith
+
+  pub processes_are : e.processes ≡ v.sheet.layout.processes
+  processes_are = sym fits.sheet.processes
+
+  module _ (word : ℕ) (sheet : SheetValue) (layout : sheet.layout ≡ v.sheet.layout) (performs : PerformsAt (access_at e e.stage) p (memory v.sheet) (memory sheet) word) where
+    -- the world after the step
+    pub next : WorldValue
+    next = record {
+      sheet = sheet;
+      situations = set v.situations p (after e e.stage word);
+      counted = v.counted ++ counted_at (edit_of e) e.stage word;
+      pending = set v.pending p (pending_at (get_or v.pending p None) e.stage);
+      done = done_at v.done e.stage;
+    }
+
+    pub steps : Steps e word (world_of v) (world_of next)
+    unfolding next
+    steps = record {
+      layout = layout;
+      memory = subst (λ (q : ℕ). PerformsAt (access_at e e.stage) q (memory v.sheet) (memory sheet) word) (sym mine) performs;
+      situation = ap (λ q. get_or (set v.situations p (after e e.stage word)) q (Idle 0)) mine ∙ get_or-set_same v.situations p (after e e.stage word) (Idle 0) at.there;
+      others = λ q ne. get_or-set_other v.situations p q (after e e.stage word) (Idle 0) (λ same. ne (same ∙ sym mine));
+      counted = refl;
+      pending = ap (λ q. get_or (set v.pending p (pending_at (get_or v.pending p None) e.stage)) q None) mine ∙ get_or-set_same v.pending p (pending_at (get_or v.pending p None) e.stage) None pending_there
+          ∙ ap (λ q. pending_at (get_or v.pending q None) e.stage) (sym mine);
+      others_pending = λ q ne. get_or-set_other v.pending p q (pending_at (get_or v.pending p None) e.stage) None (λ same. ne (same ∙ sym mine));
+    }
+
+    next_sound : IsSound (world_of next)
+    next_sound = (step_sound e word (world_of v) (world_of next) g.sound low_own here steps).sound
+
+    -- what comes to count is a text
+    texts_after : IsText e.text → All (λ (x : Edit). IsText x.text) (v.counted ++ counted_at (edit_of e) e.stage word)
+    texts_after is = counted_texts v.counted g.texts (edit_of e) is word e.stage
+
+    pub next_kept : (room more : ℕ) → v.sheet.layout.processes * RECORDS ≤ room → room ≤ more → IsText e.text → IsKept next more
+    unfolding next
+    next_kept room more reserved larger text = record {
+      good = record {
+        sound = next_sound;
+        situations = length-set v.situations p (after e e.stage word) ∙ g.situations ∙ ap (λ (l : Layout). l.processes) (sym layout);
+        pending = length-set v.pending p (pending_at (get_or v.pending p None) e.stage) ∙ g.pending ∙ ap (λ (l : Layout). l.processes) (sym layout);
+        texts = texts_after text;
+      };
+      reserved = (let same = ap (λ (l : Layout). l.processes) layout in omega arith);
+    }
+
+    -- an edit that comes to count finds room
+    pub next_room : (room noted : ℕ) → v.sheet.layout.processes * RECORDS ≤ room → e.stage ≡ Swap noted → word ≡ noted → length v.counted < room
+    unfolding next
+    next_room room noted reserved is same =
+        let few : length (v.counted ++ counted_at (edit_of e) e.stage word) ≤ 256 * sheet.layout.processes = counted_few (world_of next) next_sound in
+        let one : counted_at (edit_of e) e.stage word ≡ edit_of e ∷ [] = ap (λ s. counted_at (edit_of e) s word) is ∙ counted_won noted same in
+        let l = ap length one in
+        let p = ap (λ (x : Layout). x.processes) layout in
+        omega (arith, length-append v.counted (counted_at (edit_of e) e.stage word))
+      where
+        counted_won : (noted : ℕ) → word ≡ noted → counted_at (edit_of e) (Swap noted) word ≡ edit_of e ∷ []
+        counted_won noted same = rw (eq-eqb word noted same) refl
+
+    step_reply : (how : Option Outcome) → StepsBy v p (reply_with v.sheet.layout.processes e.number how) next → StepTakes v p (reply_with v.sheet.layout.processes e.number how) next
+    step_reply None h = h
+    step_reply (Some how) h = h
+
+    pub next_takes : StepTakes v p (reply_at v.sheet.layout.processes e.number e.stage) next
+    unfolding next
+    next_takes = step_reply (outcome_at e.stage) (record {
+      there = low;
+      edit = e;
+      mine = mine;
+      at = at.is;
+      word = word;
+      steps = steps;
+      is = refl;
+      done = refl;
+    })
+
+    -- a world of these parts is that world
+    pub next_is : (situation : Situation) (counted : List Edit) (open_issue : Option Issue) (done : ℕ)
+        → situation ≡ after e e.stage word → counted ≡ v.counted ++ counted_at (edit_of e) e.stage word
+        → open_issue ≡ pending_at (get_or v.pending p None) e.stage → done ≡ done_at v.done e.stage
+        → (let w : WorldValue = record { sheet = sheet; situations = set v.situations p situation; counted = counted; pending = set v.pending p open_issue; done = done } in w) ≡ next
+    unfolding next
+    next_is situation counted open_issue done a b c d =
+        let made : Situation → List Edit → Option Issue → ℕ → WorldValue = λ s es i n. record { sheet = sheet; situations = set v.situations p s; counted = es; pending = set v.pending p i; done = n } in
+        ap (λ s. made s counted open_issue done) a
+        ∙ ap (λ es. made (after e e.stage word) es open_issue done) b
+        ∙ ap (λ i. made (after e e.stage word) (v.counted ++ counted_at (edit_of e) e.stage word) i done) c
+        ∙ ap (λ n. made (after e e.stage word) (v.counted ++ counted_at (edit_of e) e.stage word) (pending_at (get_or v.pending p None) e.stage) n) d
+
+-- an eviction
+pub evict_kept : (v : WorldValue) (sheet : SheetValue) (place : Place) (room : ℕ) → IsKept v room → sheet.layout ≡ v.sheet.layout → EvictsAt place (memory v.sheet) (memory sheet)
+    → IsKept (record v { sheet = sheet }) room × Evicts place (world_of v) (world_of (record v { sheet = sheet }))
+evict_kept v sheet place room k layout m =
+    let e : Evicts place (world_of v) (world_of (record v { sheet = sheet })) = record { layout = layout; memory = m; situation = λ q. refl; counted = refl; pending = λ q. refl } in
+    let same = ap (λ (l : Layout). l.processes) layout in
+    (record {
+      good = record {
+        sound = (evict_sound place (world_of v) (world_of (record v { sheet = sheet })) k.good.sound e).0;
+        situations = k.good.situations ∙ sym same;
+        pending = k.good.pending ∙ sym same;
+        texts = k.good.texts;
+      };
+      reserved = (let r = k.reserved in omega arith);
+    }, e)

@@ -1,0 +1,87 @@
+-- A step of a process, and an eviction, from world to world.
+use Rattle.std.specs.Prelude.{ℕ, ◌≡◌, ◌<◌, ◌+◌, ◌-◌, ◌^◌, min, Option, Some, None}
+use Rattle.ds_layout.specs.declared.head.Head.{Head}
+use Rattle.ds_layout.specs.declared.place.Place.{Place}
+use Rattle.ds_layout.specs.Head.{head_of}
+use Rattle.ds_layout.specs.Places.{IsPlace}
+use Rattle.ds_state.specs.Edits.{PlainEdit}
+use Rattle.ds_state.specs.World.{World}
+use Rattle.ds_state.specs.Value.{WorldValue, world_of}
+use Rattle.ds_state.specs.Events.{Evicts}
+use Rattle.ds_state.specs.declared.stage.Outcome.{Outcome}
+use Rattle.ds_state.specs.declared.stage.Outcome.TheVariants as outcome
+use Rattle.ds_state.specs.declared.stage.Stage.{Stage}
+use Rattle.ds_state.specs.declared.stage.Stage.TheVariants as stage
+use Rattle.ds_state.specs.declared.situation.Situation.TheVariants.{Editing}
+use Rattle.ds_edit.specs.Worlds as edits
+use Rattle.ds_core.specs.declared.reply.Other.{Other}
+use Rattle.ds_core.specs.declared.reply.Answer.{Answer}
+use Rattle.ds_core.specs.declared.reply.Answer.TheVariants.{Done, Overtaken}
+use Rattle.ds_core.specs.declared.reply.Reply.{Reply}
+use Rattle.ds_core.specs.declared.reply.Reply.TheVariants.{Stepped, Answered, Evicted, NotEnabled}
+
+-- the edit of a head; a word that is no head has none
+abbrev pub other_of : Option Head → Other
+other_of None = record { process = 0; number = 0 }
+other_of (Some head) = record { process = head.process; number = head.number }
+
+-- the answer of the edit with this number
+abbrev pub answer_of : ℕ → ℕ → Outcome → Answer
+answer_of processes number outcome.Done = Done number
+answer_of processes number (outcome.Overtaken noted seen) = Overtaken number (other_of (head_of processes seen))
+
+-- how the edit ended, where its last step is due
+abbrev pub outcome_at : Stage → Option Outcome
+outcome_at (stage.Answer how) = Some how
+outcome_at _ = None
+
+-- what a step answers
+abbrev pub reply_with : ℕ → ℕ → Option Outcome → Reply
+reply_with processes number None = Stepped
+reply_with processes number (Some how) = Answered (answer_of processes number how)
+
+abbrev pub reply_at : ℕ → ℕ → Stage → Reply
+reply_at processes number s = reply_with processes number (outcome_at s)
+
+-- how many edits were answered Done after it; the last number is followed by itself
+abbrev pub done_with : ℕ → Option Outcome → ℕ
+done_with done (Some outcome.Done) = min (done + 1) (2 ^ 64 - 1)
+done_with done _ = done
+
+abbrev pub done_at : ℕ → Stage → ℕ
+done_at done s = done_with done (outcome_at s)
+
+-- the process makes a step of its edit
+pub record StepsBy (old : WorldValue) (p : ℕ) (reply : Reply) (new : WorldValue) : Type 0 where
+  pub there : p < old.sheet.layout.processes
+  pub edit : PlainEdit
+  pub mine : edit.process ≡ p
+  pub at : (world_of old).situation p ≡ Editing edit
+  pub word : ℕ
+  pub steps : edits.Steps edit word (world_of old) (world_of new)
+  pub is : reply ≡ reply_at old.sheet.layout.processes edit.number edit.stage
+  pub done : new.done ≡ done_at old.done edit.stage
+
+-- the process has no edit under way
+pub record CanNotStep (old : WorldValue) (p : ℕ) (new : WorldValue) : Type 0 where
+  pub same : new ≡ old
+  pub none : (edit : PlainEdit) → p < old.sheet.layout.processes → (world_of old).situation p ≡ Editing edit → ⊥
+
+abbrev pub StepTakes : WorldValue → ℕ → Reply → WorldValue → Type 0
+StepTakes old p NotEnabled new = CanNotStep old p new
+StepTakes old p reply new = StepsBy old p reply new
+
+-- the word is evicted
+pub record EvictsWord (old : WorldValue) (place : Place) (new : WorldValue) : Type 0 where
+  pub evicts : Evicts place (world_of old) (world_of new)
+  pub done : new.done ≡ old.done
+
+-- the sheet has no such word
+pub record CanNotEvict (old : WorldValue) (place : Place) (new : WorldValue) : Type 0 where
+  pub same : new ≡ old
+  pub none : IsPlace old.sheet.layout place → ⊥
+
+abbrev pub EvictTakes : WorldValue → Place → Reply → WorldValue → Type 0
+EvictTakes old place Evicted new = EvictsWord old place new
+EvictTakes old place NotEnabled new = CanNotEvict old place new
+EvictTakes old place _ new = ⊥

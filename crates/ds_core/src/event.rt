@@ -1,0 +1,46 @@
+//! What happens to a world.
+
+use ds_formula::cells::Cell;
+use ds_layout::place::Place;
+use std::marker::Model;
+
+/// An edit that is asked for.
+#[derive(Debug, Drop)]
+pub struct Request {
+    /// The process that is to run it.
+    pub process: usize,
+    /// The cell.
+    pub cell: Cell,
+    /// What the cell is to hold.
+    pub text: Vec<u8>,
+}
+
+impl Model for Request {
+    ghost use Rattle.ds_core.specs.Requests.{PlainRequest};
+
+    ghost Value = { PlainRequest };
+
+    ghost view = { λ r. record { process = r.process; cell = r.cell; text = r.text.items } };
+}
+
+/// What happens to a world. Events of work, reports, recoveries, stops and crashes can not happen
+/// yet.
+#[derive(Debug, Drop)]
+pub enum Event {
+    /// A process begins an edit.
+    BeginEdit(Request),
+    /// A process begins to work on a cell.
+    BeginWork(usize, Cell),
+    /// A process begins a report.
+    BeginShow(usize),
+    /// A process begins to recover.
+    BeginRecover(usize),
+    /// A process makes the next step of its call.
+    Step(usize),
+    /// A word is evicted: its cached side is persisted.
+    Evict(Place),
+    /// A process stops: it loses its call and its buffer.
+    Stop(usize),
+    /// All that is not persisted is lost, and each process stops.
+    Crash,
+}

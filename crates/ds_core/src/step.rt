@@ -1,0 +1,143 @@
+//! A step of a process, and an eviction.
+
+ghost use Rattle.std.specs.Prelude.{◌≡◌, ◌<◌, ◌≤◌, ◌++◌, ℕ, IfSome, IfNone, length, vec_capacity};
+ghost use Rattle.ds_state.specs.Edits.{PlainEdit};
+ghost use Rattle.ds_state.specs.declared.stage.Stage.TheVariants.{Swap};
+ghost use Rattle.ds_state.specs.declared.situation.Situation.TheVariants.{Editing};
+ghost use Rattle.ds_layout.specs.Head.{head_of};
+ghost use Rattle.ds_edit.specs.Worlds.{after, counted_at, pending_at};
+ghost use Rattle.ds_core.specs.Steps.{other_of, answer_of, reply_at, done_at, StepTakes, EvictTakes};
+
+use crate::reply::{Answer, Other, Reply};
+use ds_edit::machine::{got, want};
+use ds_layout::head::Head;
+use ds_layout::place::Place;
+use ds_state::edit::EditCall;
+use ds_state::ledger::{Edit, Issue};
+use ds_state::situation::Situation;
+use ds_state::stage::{Outcome, Stage};
+use ds_state::world::World;
+
+// The edit of a process, where it is in one.
+fn call_of(situation: &Situation) -> Option<&EditCall>
+    ensures some { IfSome result (λ call. situation.now ≡ Editing call.now) }
+    ensures none { IfNone result ((e : PlainEdit) → situation.now ≡ Editing e → ⊥) }
+{
+    match situation {
+        Situation::Editing(call) => Some(call),
+        Situation::Idle(_) | Situation::Stopped => None,
+    }
+}
+
+// The process goes on with the word that its access answered.
+fn go_on(situation: &mut Situation, word: u64)
+    ensures { (e : PlainEdit) → situation.old ≡ Editing e → situation.new ≡ after e e.stage word }
+{
+    if let Situation::Editing(call) = situation {
+        match call.stage {
+            Stage::Answer(_) => {
+                let number = call.number;
+                *situation = Situation::Idle(number + 1);
+            }
+            _ => got(call, word),
+        }
+    }
+}
+
+// The edit counts, where its swap found the head that it had noted.
+fn count(counted: &mut Vec<Edit>, edit: Edit, stage: Stage, word: u64)
+    requires { (noted : ℕ) → stage ≡ Swap noted → word ≡ noted → length counted.old.items < vec_capacity counted.old }
+    ensures items { counted.new.items ≡ counted.old.items ++ counted_at edit stage word }
+    ensures capacity { vec_capacity counted.old ≤ vec_capacity counted.new }
+{
+    if let Stage::Swap(noted) = stage {
+        if word == noted {
+            let _ = counted.push(edit);
+        }
+    }
+}
+
+// The edit is answered, where this was its last step.
+fn close(pending: &mut Option<Issue>, stage: Stage)
+    ensures { pending.new ≡ pending_at pending.old stage }
+{
+    if let Stage::Answer(_) = stage {
+        *pending = None;
+    }
+}
+
+// One more edit was answered Done, where it was.
+fn done_after(done: u64, stage: Stage) -> u64
+    ensures { result ≡ done_at done stage }
+{
+    match stage {
+        Stage::Answer(Outcome::Done) => done.saturating_add(1),
+        _ => done,
+    }
+}
+
+fn other_at(seen: u64, processes: usize) -> Other
+    ensures { result ≡ other_of (head_of processes seen) }
+{
+    match Head::read(seen, processes) {
+        Some(head) => Other {
+            process: head.process,
+            number: head.number,
+        },
+        None => Other {
+            process: 0,
+            number: 0,
+        },
+    }
+}
+
+fn answer(processes: usize, number: usize, how: Outcome) -> Answer
+    ensures { result ≡ answer_of processes number how }
+{
+    match how {
+        Outcome::Done => Answer::Done(number),
+        Outcome::Overtaken(_, seen) => Answer::Overtaken(number, other_at(seen, processes)),
+    }
+}
+
+fn reply(processes: usize, number: usize, stage: Stage) -> Reply
+    ensures { result ≡ reply_at processes number stage }
+{
+    match stage {
+        Stage::Answer(how) => Reply::Answered(answer(processes, number, how)),
+        _ => Reply::Stepped,
+    }
+}
+
+/// A process makes the next step of its edit. Where it has none, or the sheet has no such process,
+/// the step can not happen and nothing changes.
+pub fn step(world: &mut World, process: usize) -> Reply
+    ensures { StepTakes world.old process result world.new }
+{
+    if process >= world.situations.len() {
+        return Reply::NotEnabled;
+    }
+    let Some(call) = call_of(&world.situations[process]) else {
+        return Reply::NotEnabled;
+    };
+    let (edit, stage, access) = (Edit::of(call), call.stage, want(call));
+    let processes = call.processes;
+    let word = world.words.perform(process, access);
+    go_on(&mut world.situations[process], word);
+    count(&mut world.counted, edit, stage, word);
+    close(&mut world.pending[process], stage);
+    world.done = done_after(world.done, stage);
+    reply(processes, edit.number, stage)
+}
+
+/// A word is evicted: its cached side is persisted. Where the sheet has no such word, nothing
+/// changes.
+pub fn evict(world: &mut World, place: Place) -> Reply
+    ensures { EvictTakes world.old place result world.new }
+{
+    if !world.words.layout().contains(place) {
+        return Reply::NotEnabled;
+    }
+    world.words.evict(place);
+    Reply::Evicted
+}
