@@ -1,6 +1,6 @@
--- What a plain sheet keeps beside its edits.
+-- What a sheet of counted edits keeps beside them.
 use Rattle.std.specs.Prelude.{◌≡◌, ℕ, ◌<◌, ◌≤◌, vec_len, slice_index}
-use Rattle.ds_core.specs.declared.plain.Plain.TheInside.{Inside}
+use Rattle.ds_core.specs.declared.sheet.CountedSheet.TheInside.{Inside}
 use Rattle.ds_core.specs.Ledger.{edits_of, IsFold}
 use Rattle.ds_eval.specs.Sheet.{contents_of}
 

@@ -21,7 +21,7 @@ impl Model for Text {
 }
 
 impl Text {
-    /// A text of its own with these bytes.
+    /// A text of its own with these bytes. An error is a want of memory: nothing has changed.
     pub fn from_slice(alloc: Global, bytes: &[u8]) -> Result<Text, AllocError>
         ensures { IfOk result (λ t. t ≡ bytes.now) }
     {
@@ -48,11 +48,15 @@ impl From<Vec<u8>> for Text {
     }
 }
 
-/// An edit that counts: who made it, its number among that process's edits, from 0, its cell and its text.
+/// An edit that counts.
 #[derive(Drop)]
 pub struct CountedEdit {
+    /// The process that made it, from 0.
     pub process: usize,
+    /// Its number among the edits of that process that count, from 0 to 255.
     pub number: usize,
+    /// The cell whose text it set.
     pub cell: Cell,
+    /// The text.
     pub text: Text,
 }

@@ -2,5 +2,5 @@
 #![tactic(auto)]
 
 pub mod edit;
-pub mod plain;
 pub mod refusal;
+pub mod sheet;

@@ -1,4 +1,4 @@
-//! Why a begin is refused.
+//! Why an edit or a report is refused.
 
 ghost use Rattle.std.specs.Prelude.{◌≡◌};
 ghost use Rattle.ds_core.specs.declared.refusal.Refusal.TheVariants.{NoMemory};
@@ -7,14 +7,15 @@ ghost use Rattle.ds_core.specs.Refusals.{refusal_of};
 use ds_formula::fault::{FaultKind, TextFault};
 use std::alloc::{AllocError, AllocFailed};
 
-/// Why an edit is refused. After a refusal the sheet is as it was.
+/// Why an edit is refused, or a report for want of memory. After a refusal the sheet is as it was. Each cause has a
+/// code, the number that a script prints behind `refused`.
 #[derive(Clone, Copy, Debug, PartialEq, Eq)]
 pub enum Refusal {
-    /// Number 1: the text has no content, but this fault.
+    /// The text has no content, but this fault. The code that scripts print is 1.
     Text(TextFault),
-    /// Number 4: the process has spent its 256 records.
+    /// The process has spent its 256 records. The code that scripts print is 4.
     RecordsFull,
-    /// Number 5: an allocation failed.
+    /// An allocation failed. The code that scripts print is 5.
     NoMemory,
 }
 

@@ -1,2 +1,12 @@
 pub mod Stays
 pub mod Named
+pub mod Turns
+pub mod Recording
+pub mod Sorts
+pub mod Announcing
+pub mod Placing
+pub mod Taking
+pub mod Answering
+pub mod Sound
+pub mod Truth
+pub mod Possible

@@ -8,9 +8,9 @@ use Rattle.ds_state.specs.Edits.{PlainEdit, IsEdit, IsStage}
 use Rattle.ds_state.specs.declared.stage.Stage.{Stage}
 use Rattle.ds_state.specs.declared.stage.Stage.TheVariants.{StoreHeader, StoreText, FlushHeader, FlushText, BackRecord, StorePending, FlushPending, BackPending, OrIndex, FlushIndex, BackIndex, LoadHead, FlushNoted, BackNoted, OrDone, FlushDone, BackDone, Swap, FlushOwn, BackOwn, OrMark, FlushMark, BackMark, StoreOutcome, FlushOutcome, BackOutcome, Answer}
 use Rattle.ds_edit.specs.Steps.{access_at}
-use Rattle.ds_edit.specs.Sheets.{IsSheetOf}
+use Rattle.ds_state.specs.Calls.{IsSheetOf}
 
-index_place : (layout : Layout) (e : PlainEdit) (i : ℕ) → IsSheetOf layout e → IsEdit e → i < length e.refs
+pub index_place : (layout : Layout) (e : PlainEdit) (i : ℕ) → IsSheetOf layout e → IsEdit e → i < length e.refs
     → (slice_index_or e.refs i 0 < cells_of layout) × (e.cell / 64 < parts_of layout)
 index_place layout e i s is l =
     let r : slice_index_or e.refs i 0 < e.cells = All-get_or (λ r. r < e.cells) e.refs i 0 l is.refs in

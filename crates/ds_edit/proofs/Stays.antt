@@ -11,11 +11,11 @@ use Rattle.ds_state.specs.declared.stage.Stage.TheVariants.{StoreHeader, StoreTe
 use Rattle.ds_edit.specs.Steps.{next_at, got_at, help_from, rank, Falls}
 
 -- what holds of both branches holds of a test
-branches : (P : Stage → Type 0) (b : Bool) (x y : Stage) → (b ≡ true → P x) → (b ≡ false → P y) → P (if b then x else y)
+pub branches : (P : Stage → Type 0) (b : Bool) (x y : Stage) → (b ≡ true → P x) → (b ≡ false → P y) → P (if b then x else y)
 branches P true x y h k = h refl
 branches P false x y h k = k refl
 
-helped : (P : Stage → Type 0) (noted : ℕ) (found : Option Head) → P (Swap noted) → ((head : Head) → found ≡ Some head → P (FlushNoted head)) → P (help_from noted found)
+pub helped : (P : Stage → Type 0) (noted : ℕ) (found : Option Head) → P (Swap noted) → ((head : Head) → found ≡ Some head → P (FlushNoted head)) → P (help_from noted found)
 helped P noted None h k = h
 helped P noted (Some head) h k = k head refl
 

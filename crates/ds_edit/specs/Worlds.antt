@@ -1,7 +1,6 @@
 -- The events of edits, from world to world.
 use Rattle.std.specs.Prelude.{ℕ, ◌≡◌, ◌≢◌, ◌+◌, ◌==◌, ◌++◌, if◌then◌else◌, List, [], ◌∷◌, length, Option, Some, None}
-use Rattle.ds_words.specs.Memory.{SameMemory, EvictsAt}
-use Rattle.ds_layout.specs.declared.place.Place.{Place}
+use Rattle.ds_words.specs.Memory.{SameMemory}
 use Rattle.ds_layout.specs.Sheet.{PerformsAt}
 use Rattle.ds_state.specs.Edits.{PlainEdit}
 use Rattle.ds_state.specs.World.{Edit, edit_of, Issue, World}
@@ -9,12 +8,12 @@ use Rattle.ds_state.specs.declared.stage.Stage.{Stage}
 use Rattle.ds_state.specs.declared.stage.Stage.TheVariants.{StoreHeader, Swap, Answer}
 use Rattle.ds_state.specs.declared.situation.Situation.{Situation}
 use Rattle.ds_state.specs.declared.situation.Situation.TheVariants.{Idle, Editing}
-use Rattle.ds_edit.specs.Steps.{access_at, got_at}
+use Rattle.ds_edit.specs.Steps.{access_at, next_at}
 
 -- what the process does after the step: its answer ends the edit
 abbrev pub after : PlainEdit → Stage → ℕ → Situation
 after e (Answer how) word = Idle (e.number + 1)
-after e stage word = Editing (got_at e word)
+after e stage word = Editing (record e { stage = next_at e stage word })
 
 -- what counts by the step: the edit, where its swap finds the head that it noted
 abbrev pub counted_at : PlainEdit → Stage → ℕ → List Edit
@@ -25,15 +24,18 @@ abbrev pub pending_at : Option Issue → Stage → Option Issue
 pending_at issue (Answer how) = None
 pending_at issue stage = issue
 
--- one step of the edit, whose access answered the word
-pub record Steps (e : PlainEdit) (word : ℕ) (old new : World) : Type 0 where
+-- one step of the edit at a stage, whose access answered the word
+pub record StepsAt (e : PlainEdit) (stage : Stage) (word : ℕ) (old new : World) : Type 0 where
   pub layout : new.layout ≡ old.layout
-  pub memory : PerformsAt (access_at e e.stage) e.process old.memory new.memory word
-  pub situation : new.situation e.process ≡ after e e.stage word
+  pub memory : PerformsAt (access_at e stage) e.process old.memory new.memory word
+  pub situation : new.situation e.process ≡ after e stage word
   pub others : (q : ℕ) → q ≢ e.process → new.situation q ≡ old.situation q
-  pub counted : new.counted ≡ old.counted ++ counted_at e e.stage word
-  pub pending : new.pending e.process ≡ pending_at (old.pending e.process) e.stage
+  pub counted : new.counted ≡ old.counted ++ counted_at e stage word
+  pub pending : new.pending e.process ≡ pending_at (old.pending e.process) stage
   pub others_pending : (q : ℕ) → q ≢ e.process → new.pending q ≡ old.pending q
+
+abbrev pub Steps : PlainEdit → ℕ → World → World → Type 0
+Steps e word old new = StepsAt e e.stage word old new
 
 -- an edit begins: it is issued, and no word changes
 pub record Begins (e : PlainEdit) (old new : World) : Type 0 where
@@ -46,11 +48,3 @@ pub record Begins (e : PlainEdit) (old new : World) : Type 0 where
   pub counted : new.counted ≡ old.counted
   pub pending : new.pending e.process ≡ Some (record { edit = edit_of e; since = length old.counted })
   pub others_pending : (q : ℕ) → q ≢ e.process → new.pending q ≡ old.pending q
-
--- a word is evicted, and nothing else happens
-pub record Evicts (place : Place) (old new : World) : Type 0 where
-  pub layout : new.layout ≡ old.layout
-  pub memory : EvictsAt place old.memory new.memory
-  pub situation : (q : ℕ) → new.situation q ≡ old.situation q
-  pub counted : new.counted ≡ old.counted
-  pub pending : (q : ℕ) → new.pending q ≡ old.pending q

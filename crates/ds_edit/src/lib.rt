@@ -1,4 +1,5 @@
 //! The steps of an edit.
 #![tactic(auto)]
 
+pub mod laws;
 pub mod machine;

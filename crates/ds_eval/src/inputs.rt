@@ -11,6 +11,7 @@ use std::marker::Model;
 /// What a cell shows: its value, and how far references lead from it.
 #[derive(Clone, Copy, Debug, PartialEq, Eq)]
 pub struct Entry {
+    /// The value.
     pub value: Value,
     /// The length of the longest walk along references that begins at the cell, at most the number of cells.
     pub height: usize,
@@ -19,7 +20,9 @@ pub struct Entry {
 /// A cell that a content refers to, with its entry.
 #[derive(Clone, Copy, Debug, PartialEq, Eq)]
 pub struct Input {
+    /// The cell.
     pub cell: Cell,
+    /// What the cell shows.
     pub entry: Entry,
 }
 

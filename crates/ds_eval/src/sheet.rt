@@ -9,7 +9,9 @@ use ds_formula::content::Content;
 /// A shape, and a content for each of its cells, row by row from the left.
 #[derive(Debug, Drop)]
 pub struct Sheet {
+    /// How many columns and rows there are.
     pub shape: Shape,
+    /// What each cell holds, row by row from the left.
     pub contents: Vec<Content>,
     ghost whole: { length contents.items ≡ count_of shape },
 }

@@ -17,9 +17,11 @@ use std::marker::Model;
 pub struct Task {
     /// The process whose work waits for the value.
     pub process: usize,
+    /// The cell.
     pub cell: Cell,
     /// The generation of the mark under which the work holds the cell.
     pub generation: u64,
+    /// The shape of the sheet.
     pub shape: Shape,
     /// What the cell holds.
     pub content: Content,

@@ -6,7 +6,9 @@ ghost use Rattle.ds_formula.specs.Shapes.{MayHave};
 /// How many columns and rows a sheet has: columns from 1 to 26 (A to Z), rows from 1 to 64, and at most 1,024 cells.
 #[derive(Clone, Copy, Debug, PartialEq, Eq)]
 pub struct Shape {
+    /// How many columns, from 1 to 26.
     pub columns: usize,
+    /// How many rows, from 1 to 64.
     pub rows: usize,
     ghost within: { MayHave columns rows },
 }
@@ -14,14 +16,18 @@ pub struct Shape {
 /// A cell of a sheet, by its column and its row, each from 0: `A1` is column 0 of row 0.
 #[derive(Clone, Copy, Debug, PartialEq, Eq)]
 pub struct Cell {
+    /// The column, from 0: `A` is 0.
     pub column: usize,
+    /// The row, from 0: the row that is written `1` is 0.
     pub row: usize,
 }
 
 /// The cells between two corners, both included: the upper left one first.
 #[derive(Clone, Copy, Debug, PartialEq, Eq)]
 pub struct Rect {
+    /// The upper left corner.
     pub first: Cell,
+    /// The lower right corner.
     pub last: Cell,
 }
 

@@ -33,32 +33,50 @@ pub enum Tree {
 /// A prefix operator (OpenFormula 6.4.14 and 6.4.15).
 #[derive(Clone, Copy, Debug, PartialEq, Eq)]
 pub enum Sign {
+    /// `+`: the operand as a number.
     Plus,
+    /// `-`: the operand with the other sign.
     Minus,
 }
 
 /// An infix operator (OpenFormula 6.4.2 to 6.4.9).
 #[derive(Clone, Copy, Debug, PartialEq, Eq)]
 pub enum Operator {
+    /// `*`.
     Multiply,
+    /// `+`.
     Add,
+    /// `-`.
     Subtract,
+    /// `=`.
     Equal,
+    /// `<>`.
     NotEqual,
+    /// `<`.
     Less,
+    /// `>`.
     Greater,
+    /// `<=`.
     LessOrEqual,
+    /// `>=`.
     GreaterOrEqual,
 }
 
-/// A function of OpenFormula: SUM, MIN, MAX, ABS, MOD, QUOTIENT or IF.
+/// A function of OpenFormula.
 #[derive(Clone, Copy, Debug, PartialEq, Eq)]
 pub enum Function {
+    /// `SUM`: the sum of its numbers.
     Sum,
+    /// `MIN`: the least of its numbers.
     Min,
+    /// `MAX`: the greatest of its numbers.
     Max,
+    /// `ABS`: the absolute value.
     Abs,
+    /// `MOD`: the remainder, with the sign of the divisor.
     Mod,
+    /// `QUOTIENT`: the whole part of a division.
     Quotient,
+    /// `IF`: one of two branches, by a condition.
     If,
 }

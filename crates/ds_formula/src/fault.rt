@@ -32,6 +32,8 @@ pub enum FaultKind {
 /// A fault and the byte that it stands at, from 0.
 #[derive(Clone, Copy, Debug, PartialEq, Eq)]
 pub struct TextFault {
+    /// What is wrong.
     pub kind: FaultKind,
+    /// How many bytes of the text stand before it.
     pub offset: usize,
 }

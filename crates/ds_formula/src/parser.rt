@@ -20,7 +20,9 @@ use std::alloc::{AllocFailed, Global};
 /// Why a text gave no expression.
 #[derive(Debug, Drop)]
 pub enum Refusal {
+    /// An allocation failed.
     Memory,
+    /// The text goes wrong here.
     Stopped(Stop),
 }
 
@@ -43,7 +45,9 @@ impl<T: Drop> From<AllocFailed<T>> for Refusal {
 /// An expression, and how its ranges stand.
 #[derive(Debug, Drop)]
 pub struct Parsed {
+    /// The expression.
     pub tree: Tree,
+    /// How its ranges stand.
     pub ranges: Ranges,
 }
 

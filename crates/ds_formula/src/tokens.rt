@@ -13,14 +13,18 @@ use crate::fault::FaultKind;
 /// A fault, and how many bytes are left from the one that it stands at.
 #[derive(Clone, Copy, Debug, PartialEq, Eq)]
 pub struct Stop {
+    /// What is wrong.
     pub kind: FaultKind,
+    /// How many bytes are left from the fault on.
     pub left: usize,
 }
 
 /// An operand of one token.
 #[derive(Clone, Copy, Debug, PartialEq, Eq)]
 pub enum Leaf {
+    /// A number.
     Number(i64),
+    /// A reference to one cell.
     Reference(Cell),
     /// A range, and how many bytes are left from its bracket on.
     Range(Rect, usize),
@@ -29,8 +33,11 @@ pub enum Leaf {
 /// A token that may stand where an operand is due.
 #[derive(Clone, Copy, Debug, PartialEq, Eq)]
 pub enum Lead {
+    /// An operand of one token.
     Leaf(Leaf),
+    /// A sign before an operand.
     Prefix(Sign),
+    /// `(`.
     Open,
     /// A function's name, and how many bytes are left from it on.
     Name(Function, usize),
@@ -39,8 +46,11 @@ pub enum Lead {
 /// A token that may stand behind an operand.
 #[derive(Clone, Copy, Debug, PartialEq, Eq)]
 pub enum Follow {
+    /// An operator between two operands.
     Infix(Operator),
+    /// `)`.
     Close,
+    /// `;`.
     Semicolon,
     /// The end of the text.
     End,

@@ -19,7 +19,9 @@ pub enum Phase {
 /// An edit of a process, by its number, and how far it is.
 #[derive(Clone, Copy, Debug, PartialEq, Eq)]
 pub struct Announcement {
+    /// The edit's number among those of its process, from 0 to 255.
     pub number: usize,
+    /// How far the edit is.
     pub phase: Phase,
 }
 

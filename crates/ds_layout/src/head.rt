@@ -7,8 +7,11 @@ ghost use Rattle.ds_layout.specs.Head.{CanPack, IsHead, head_word, head_of};
 /// from 1.
 #[derive(Clone, Copy, Debug, PartialEq, Eq)]
 pub struct Head {
+    /// How many edits of the cell there are up to this one, itself included: from 1.
     pub stamp: u64,
+    /// The process that made the edit, from 0.
     pub process: usize,
+    /// The edit's number among those of its process, from 0 to 255.
     pub number: usize,
 }
 

@@ -8,7 +8,9 @@ use crate::place::TEXT_BYTES;
 /// The cell of an edit, by its number, and the length of its text in bytes.
 #[derive(Clone, Copy, Debug, PartialEq, Eq)]
 pub struct Header {
+    /// The cell's number, row by row from the left, from 0.
     pub cell: usize,
+    /// How many bytes the text has, at most 120.
     pub length: usize,
 }
 

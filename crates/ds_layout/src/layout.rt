@@ -13,7 +13,9 @@ pub const MAX_PROCESSES: usize = 8;
 /// What fixes the words of a sheet: its shape, and how many processes it has, from 1 to 8.
 #[derive(Clone, Copy, Debug, PartialEq, Eq)]
 pub struct Layout {
+    /// The shape of the sheet.
     pub shape: Shape,
+    /// How many processes there are, from 1 to 8.
     pub processes: usize,
     ghost some: { 1 ≤ processes },
     ghost limited: { processes ≤ 8 },

@@ -9,9 +9,11 @@ pub const DIRTY: u64 = 1;
 /// A mark: the generation grows with each change of the holder, and `dirty` asks for a new value.
 #[derive(Clone, Copy, Debug, PartialEq, Eq)]
 pub struct Mark {
+    /// How often the holder changed, from 0.
     pub generation: u64,
     /// The process that works on the cell.
     pub holder: Option<usize>,
+    /// Whether the cell is due for a new value.
     pub dirty: bool,
 }
 

@@ -22,8 +22,11 @@ pub enum Kind {
 /// references go, is below the number of cells, or equal to it where the kind is `Circular`.
 #[derive(Clone, Copy, Debug, PartialEq, Eq)]
 pub struct Stored {
+    /// What kind of value it is.
     pub kind: Kind,
+    /// How far references lead from the cell: the length of the longest walk along them.
     pub height: usize,
+    /// The number, or 0 where the kind is another.
     pub value: i64,
 }
 

@@ -1,4 +1,4 @@
-// Fifty sheets drawn at random, evaluated once more by rounds in which a plain evaluator in 128 bits reads the row before.
+// Fifty sheets drawn at random, each cell evaluated once more by plain recursion over its references, in 128 bits.
 
 use ds_eval::scratch::scratch;
 use ds_eval::sheet::Sheet;
@@ -7,6 +7,9 @@ use ds_formula::cells::{Cell, Rect, Shape};
 use ds_formula::content::{Content, Function, Operator, Sign, Tree};
 use std::alloc::{AllocError, Global};
 use std::test::Fail;
+
+// How many cells a sheet has: three columns of four rows.
+const CELLS: usize = 12;
 
 // A number below the bound, and the next state of the generator.
 fn draw(state: &mut u64, bound: u64) -> u64 {
@@ -133,14 +136,22 @@ fn draw_content(alloc: Global, state: &mut u64) -> Result<Content, AllocError> {
     }
 }
 
-// ---- the plain evaluator
+// ---- a formula from the values of the cells that it reads
 
 fn place(cell: Cell) -> usize {
     cell.row.wrapping_mul(3).wrapping_add(cell.column)
 }
 
-fn read(row: &[Value], cell: Cell) -> Value {
-    row.get(place(cell)).copied().unwrap_or(Value::Blank)
+// The cell with this number.
+fn cell_at(k: usize) -> Cell {
+    Cell {
+        column: k % 3,
+        row: k / 3,
+    }
+}
+
+fn read(values: &[Value], cell: Cell) -> Value {
+    values.get(place(cell)).copied().unwrap_or(Value::Blank)
 }
 
 fn fit(number: i128) -> Value {
@@ -229,14 +240,11 @@ impl Tally {
         }
     }
 
-    fn add_all(&mut self, area: Rect, row: &[Value]) {
-        for k in 0..12usize {
-            let cell = Cell {
-                column: k % 3,
-                row: k / 3,
-            };
+    fn add_all(&mut self, area: Rect, values: &[Value]) {
+        for k in 0..CELLS {
+            let cell = cell_at(k);
             if is_within(area, cell) {
-                self.add(read(row, cell));
+                self.add(read(values, cell));
             }
         }
     }
@@ -276,63 +284,57 @@ fn called(function: Function, values: [Value; 3], tally: &Tally) -> Value {
     }
 }
 
-fn slow(tree: &Tree, row: &[Value]) -> Value {
+// A formula's value from the values of the cells.
+fn formula_value(tree: &Tree, values: &[Value]) -> Value {
     match tree {
         Tree::Number(number) => Value::Number(*number),
-        Tree::Reference(cell) => match plain(read(row, *cell)) {
+        Tree::Reference(cell) => match plain(read(values, *cell)) {
             Ok(number) => fit(number),
             Err(error) => error,
         },
         Tree::Range(_) => Value::Num,
-        Tree::Prefix(_, operand) => match plain(slow(operand, row)) {
+        Tree::Prefix(_, operand) => match plain(formula_value(operand, values)) {
             Ok(number) => fit(number.wrapping_neg()),
             Err(error) => error,
         },
-        Tree::Binary(operator, left, right) => match both(slow(left, row), slow(right, row)) {
-            Ok((a, b)) => compute(*operator, a, b),
-            Err(error) => error,
-        },
+        Tree::Binary(operator, left, right) => {
+            match both(formula_value(left, values), formula_value(right, values)) {
+                Ok((a, b)) => compute(*operator, a, b),
+                Err(error) => error,
+            }
+        }
         Tree::Call(function, arguments) => {
-            let mut values = [Value::Blank; 3];
+            let mut first_values = [Value::Blank; 3];
             let mut tally = Tally::new();
             for (i, argument) in arguments.iter().enumerate() {
-                let value = slow(argument, row);
+                let value = formula_value(argument, values);
                 if i < 3 {
-                    values[i] = value;
+                    first_values[i] = value;
                 }
                 match argument {
-                    Tree::Reference(cell) => tally.add(read(row, *cell)),
-                    Tree::Range(area) => tally.add_all(*area, row),
+                    Tree::Reference(cell) => tally.add(read(values, *cell)),
+                    Tree::Range(area) => tally.add_all(*area, values),
                     _ => tally.add(value),
                 }
             }
-            called(*function, values, &tally)
+            called(*function, first_values, &tally)
         }
     }
 }
 
-// Whether a marked cell is written in the formula.
-fn marked(tree: &Tree, marks: &[bool]) -> bool {
+// ---- a cell by recursion over its references
+
+// Whether the cell is written in the formula.
+fn refers(tree: &Tree, cell: Cell) -> bool {
     match tree {
         Tree::Number(_) => false,
-        Tree::Reference(cell) => marks.get(place(*cell)).copied().unwrap_or(false),
-        Tree::Range(area) => {
-            for k in 0..12usize {
-                let cell = Cell {
-                    column: k % 3,
-                    row: k / 3,
-                };
-                if is_within(*area, cell) && marks.get(k).copied().unwrap_or(false) {
-                    return true;
-                }
-            }
-            false
-        }
-        Tree::Prefix(_, operand) => marked(operand, marks),
-        Tree::Binary(_, left, right) => marked(left, marks) || marked(right, marks),
+        Tree::Reference(written) => place(*written) == place(cell),
+        Tree::Range(area) => is_within(*area, cell),
+        Tree::Prefix(_, operand) => refers(operand, cell),
+        Tree::Binary(_, left, right) => refers(left, cell) || refers(right, cell),
         Tree::Call(_, arguments) => {
             for argument in arguments {
-                if marked(argument, marks) {
+                if refers(argument, cell) {
                     return true;
                 }
             }
@@ -341,33 +343,55 @@ fn marked(tree: &Tree, marks: &[bool]) -> bool {
     }
 }
 
-// One round: each cell's value and mark from those of the round before.
-fn round(content: &Content, row: &[Value], marks: &[bool]) -> (Value, bool) {
-    match content {
-        Content::Blank => (Value::Blank, false),
-        Content::Number(number) => (Value::Number(*number), false),
-        Content::Formula(tree) => (slow(tree, row), marked(tree, marks)),
+// Whether a walk of so many steps begins at the cell with this number.
+fn begins_walk(contents: &[Content], steps: usize, k: usize) -> bool {
+    if steps == 0 {
+        return true;
+    }
+    let Some(Content::Formula(tree)) = contents.get(k) else {
+        return false;
+    };
+    for next in 0..CELLS {
+        if refers(tree, cell_at(next)) && begins_walk(contents, steps - 1, next) {
+            return true;
+        }
+    }
+    false
+}
+
+// The value of the cell with this number where references are followed for so many steps.
+fn value_after(contents: &[Content], steps: usize, k: usize) -> Value {
+    let tree = match contents.get(k) {
+        None | Some(Content::Blank) => return Value::Blank,
+        Some(Content::Number(number)) => return Value::Number(*number),
+        Some(Content::Formula(tree)) => tree,
+    };
+    if steps == 0 {
+        return Value::Blank;
+    }
+    let mut values = [Value::Blank; CELLS];
+    for next in 0..CELLS {
+        if refers(tree, cell_at(next)) {
+            values[next] = value_after(contents, steps - 1, next);
+        }
+    }
+    formula_value(tree, &values)
+}
+
+// Err:522 just where a walk of as many steps as there are cells begins, else the value after that many steps. A cell
+// where no such walk begins reads only cells of its kind, and those have no circle: so each recursion is short.
+fn value_of(contents: &[Content], k: usize) -> Value {
+    if begins_walk(contents, CELLS, k) {
+        Value::Circular
+    } else {
+        value_after(contents, CELLS, k)
     }
 }
 
-// The values where references are followed as often as there are cells.
-fn slow_values(alloc: Global, contents: &[Content]) -> Result<Vec<Value>, AllocError> {
-    let mut row = Vec::new(alloc);
-    let mut marks = vec![in alloc; true; contents.len()]?;
-    for _ in 0..12usize {
-        let mut next_row = Vec::new(alloc);
-        let mut next_marks = Vec::new(alloc);
-        for content in contents {
-            let (value, mark) = round(content, &row, &marks);
-            next_row.push(value)?;
-            next_marks.push(mark)?;
-        }
-        row = next_row;
-        marks = next_marks;
-    }
+fn values_of(alloc: Global, contents: &[Content]) -> Result<Vec<Value>, AllocError> {
     let mut values = Vec::new(alloc);
-    for (value, mark) in row.iter().zip(marks.iter()) {
-        values.push(if *mark { Value::Circular } else { *value })?;
+    for k in 0..contents.len() {
+        values.push(value_of(contents, k))?;
     }
     Ok(values)
 }
@@ -396,10 +420,10 @@ fn fifty_sheets(rt: HostRuntime) -> Result<(), Fail> {
     let mut circular = 0usize;
     for _ in 0..50usize {
         let mut contents = Vec::new(alloc);
-        for _ in 0..12usize {
+        for _ in 0..CELLS {
             contents.push(draw_content(alloc, &mut state)?)?;
         }
-        let expected = slow_values(alloc, &contents)?;
+        let expected = values_of(alloc, &contents)?;
         if contents.len() == shape.count() {
             let values = scratch(alloc, &Sheet::new(shape, contents))?;
             assert!(rt; values.as_slice() == expected.as_slice());

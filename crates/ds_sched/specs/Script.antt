@@ -71,10 +71,6 @@ pub record Partly (whole : Bool) (script out : List ℕ) : Type 0 where
   pub rest : List ℕ
   pub carried : Carried whole script lines progress out rest
 
--- the bytes that were read hold this much of a script: all of it, or its front up to the limit or up to a failed read
-abbrev pub IsScript : ℕ → List ℕ → Bool → List ℕ → Type 0
-IsScript limit bytes whole script = script ≡ take limit bytes
-
 -- what was read, what was written, and how the script ended
 abbrev pub Outcome : ℕ → List ℕ → List ℕ → ScriptEnd → Type 0
 Outcome limit bytes out ends.Ended = (length bytes ≤ limit) × Finishes true bytes out

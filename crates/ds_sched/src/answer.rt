@@ -14,14 +14,14 @@ use ds_eval::value::Value;
 use ds_formula::cells::Shape;
 use std::alloc::{AllocError, Global};
 
-/// `P NUMBER done`.
+/// `P NUMBER done`. An error is a want of memory.
 pub fn done_line(alloc: Global, process: usize, number: usize) -> Result<String, AllocError>
     ensures { IfOk result (λ line. string_bytes line ≡ done_text process number) }
 {
     format!(in alloc; "{process} {number} done\n")
 }
 
-/// `P refused CODE NAME`, with code 1 `P refused 1 FAULT OFFSET`.
+/// `P refused CODE NAME`, with code 1 `P refused 1 FAULT OFFSET`. An error is a want of memory.
 pub fn refused_line(alloc: Global, process: usize, refusal: Refusal) -> Result<String, AllocError>
     ensures { IfOk result (λ line. string_bytes line ≡ refused_text process refusal) }
 {
@@ -56,7 +56,7 @@ fn add_record(writer: &mut Writer<Vec<u8>>, row: &ByteRecord) -> Result<(), Allo
     }
 }
 
-/// `settled`, and the values as CSV, a record a row.
+/// `settled`, and the values as CSV, a record a row. An error is a want of memory.
 pub fn settled_lines(alloc: Global, shape: &Shape, values: &[Value]) -> Result<Vec<u8>, AllocError>
     requires { length values.now ≡ count_of shape.now }
     ensures { IfOk result (λ text. text.items ≡ settled_text shape.now values.now) }

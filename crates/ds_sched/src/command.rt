@@ -13,9 +13,13 @@ use ds_formula::cells::{Cell, Shape};
 /// The first word of a line.
 #[derive(Clone, Copy, Debug, PartialEq, Eq)]
 pub enum Verb {
+    /// `sheet`.
     Sheet,
+    /// `set`.
     Set,
+    /// `settle`.
     Settle,
+    /// `report`.
     Report,
 }
 
@@ -171,7 +175,7 @@ fn is_skipped(line: &[u8]) -> bool
 }
 
 /// The command of a line, for a sheet of this shape and this many processes; `None` for an empty line or a comment.
-/// `begun` says that a command was carried out before.
+/// `begun` says that a command was carried out before. An error is the fault of the line.
 pub fn read_command<'a>(
     line: &'a [u8],
     begun: bool,

@@ -23,7 +23,9 @@ pub enum InputEnd {
 /// What was read, and why reading stopped.
 #[derive(Drop)]
 pub struct Input {
+    /// The bytes, at most one more than the limit.
     pub bytes: Vec<u8>,
+    /// Why reading stopped.
     pub end: InputEnd,
 }
 

@@ -20,8 +20,8 @@ use crate::ending::{ScriptEnd, ScriptFault};
 use crate::input::{Input, InputEnd, read_input};
 use crate::line::{NextLine, next_line};
 use crate::streams::{Reading, Writing};
-use ds_core::plain::Plain;
 use ds_core::refusal::Refusal;
+use ds_core::sheet::CountedSheet;
 use ds_formula::cells::{Cell, Shape};
 use std::alloc::{AllocError, Global};
 use std::io::{Read, Write};
@@ -32,7 +32,7 @@ pub const SCRIPT_LIMIT: usize = 1_048_576;
 // The answer to `set`.
 fn edit(
     alloc: Global,
-    sheet: &mut Plain,
+    sheet: &mut CountedSheet,
     process: usize,
     cell: Cell,
     text: &[u8],
@@ -49,7 +49,7 @@ fn edit(
 }
 
 // The answer to `report`.
-fn report(alloc: Global, sheet: &Plain, process: usize) -> Result<Vec<u8>, AllocError>
+fn report(alloc: Global, sheet: &CountedSheet, process: usize) -> Result<Vec<u8>, AllocError>
     ensures { IfOk result (λ answer. Reported sheet.now answer.items ⊎ (answer.items ≡ refused_text process NoMemory)) }
 {
     match sheet.values(alloc) {
@@ -59,13 +59,17 @@ fn report(alloc: Global, sheet: &Plain, process: usize) -> Result<Vec<u8>, Alloc
 }
 
 // Carries a command out, and gives its answer.
-fn carry_out(alloc: Global, sheet: &mut Plain, command: Command<'_>) -> Result<Vec<u8>, AllocError>
+fn carry_out(
+    alloc: Global,
+    sheet: &mut CountedSheet,
+    command: Command<'_>,
+) -> Result<Vec<u8>, AllocError>
     requires { Fits sheet.old.shape sheet.old.processes command }
     ensures { IfOk result (λ answer. Answers sheet.old (command_view command.entry) answer.items sheet.new) }
 {
     match command {
         Command::Sheet(shape, processes) => {
-            *sheet = Plain::new(alloc, shape, processes)?;
+            *sheet = CountedSheet::new(alloc, shape, processes)?;
             Ok(Vec::new(alloc))
         }
         Command::Set(process, cell, text) => edit(alloc, sheet, process, cell, text),
@@ -103,7 +107,7 @@ fn obey<W: Write>(
     alloc: Global,
     line: &[u8],
     begun: bool,
-    sheet: &mut Plain,
+    sheet: &mut CountedSheet,
     writer: &mut Writing<W>,
 ) -> Result<bool, Stop>
     ensures obeyed { IfOk result (λ now. Obeyed (progress_of begun sheet.old) line.now (progress_of now sheet.new) (W.contents (writer_of writer.old)) (W.contents (writer_of writer.new))) }
@@ -153,7 +157,7 @@ fn run_lines<W: Write>(
         columns: 2,
         rows: 2,
     };
-    let Ok(mut sheet) = Plain::new(alloc, shape, 2) else {
+    let Ok(mut sheet) = CountedSheet::new(alloc, shape, 2) else {
         return Err(Break::NoMemory);
     };
     let mut begun = false;

@@ -1,22 +1,21 @@
 -- Each kind of access keeps a world sound.
-use Rattle.std.proofs.Common.{ℕ, ◌≡◌, ◌≢◌, ◌<◌, ◌≤◌, ◌⊎◌, List, [], ◌∷◌, ◌++◌, refl, ap, sym, ◌∙◌, subst, arith, inl, inr, zero, suc}
-use Rattle.std.specs.Prelude.{All, Option, Contains, bit_or}
-use Rattle.std.proofs.lemmas.Bool.{cases_eq}
+use Rattle.std.proofs.Common.{ℕ, ◌≡◌, ◌≢◌, ◌<◌, List, ap, sym, ◌∙◌, subst, arith, inl, inr}
 use Rattle.ds_words.specs.declared.access.Class.{Class}
 use Rattle.ds_words.specs.declared.access.Entry.{Entry}
-use Rattle.ds_words.specs.Memory.{Memory, SameMemory, StoresAt, FlushesAt, WritesBack, EvictsAt, newer}
+use Rattle.ds_words.specs.Memory.{SameMemory, StoresAt, FlushesAt, WritesBack, EvictsAt, newer}
 use Rattle.ds_layout.specs.Places.{class_of}
 use Rattle.ds_layout.specs.declared.place.Place.{Place}
-use Rattle.ds_layout.specs.declared.place.Place.TheVariants.{Version, Head, Mark, Value, Kind, Index, Announce, Header, Text, Done}
+use Rattle.ds_layout.specs.declared.place.Place.TheVariants.{Version}
 use Rattle.ds_layout.proofs.PlaceCases.{place_cases}
-use Rattle.ds_state.specs.World.{Edit, Issue, World}
+use Rattle.ds_state.specs.World.{World}
 use Rattle.ds_state.specs.Calls.{CallFits, entry}
 use Rattle.ds_state.specs.Words.{WordFits}
 use Rattle.ds_state.specs.Sound.{IsSound}
-use Rattle.ds_state.specs.Rely.{IsOwnedBy, Grows}
-use Rattle.ds_state.proofs.Heads.{Small, small_counted}
+use Rattle.ds_state.specs.Events.{Evicts}
+use Rattle.ds_state.specs.Rely.{IsOwnedBy, Grows, Keeps, Rely}
+use Rattle.ds_state.proofs.Heads.{small_counted}
 use Rattle.ds_state.proofs.Frames.{CatchesUp, MovesWord, Moves, KeepsOwing, grows_by, word_bears, moves_sound}
-use Rattle.ds_state.proofs.Sides.{IsBetween, EntryFits, newer_between, cached_between, between_moves, between_fits}
+use Rattle.ds_state.proofs.Sides.{IsBetween, cached_between, between_moves, between_fits}
 
 -- the process's turn, but for what its access does: no edit comes to count, and the others do nothing
 pub record Turn (p : ℕ) (old new : World) : Type 0 where
@@ -107,8 +106,20 @@ module _ (p : ℕ) (old new : World) (t : Turn p old new) where
         (between_fits new place (old.memory.cached place) (old.memory.persisted place) value
         (word_bears p place old new back_moves place (old.memory.cached place) (old.memory.persisted place) (λ cell is. keeps cell) (s.words place)) between))
 
-    pub back_sound : ((cell : ℕ) → KeepsOwing old new cell) → (p < new.layout.processes → CallFits new p (new.situation p)) → IsSound new
+    pub back_sound : ((cell : ℕ) → KeepsOwing old new cell) → (p < new.layout.processes → CallFits new p (new.situation p)) → Keeps p old new
     back_sound keeps mine = moves_sound p place old new back_moves s (λ cell ne. keeps cell) (back_word keeps) mine
 
-  pub quiet_sound : IsSound old → Moves p Version old new → ((cell : ℕ) → KeepsOwing old new cell) → (p < new.layout.processes → CallFits new p (new.situation p)) → IsSound new
+  pub quiet_sound : IsSound old → Moves p Version old new → ((cell : ℕ) → KeepsOwing old new cell) → (p < new.layout.processes → CallFits new p (new.situation p)) → Keeps p old new
   quiet_sound s m keeps mine = moves_sound p Version old new m s (λ cell ne. keeps cell) tt mine
+
+-- an eviction, which is nobody's
+pub evict_sound : (place : Place) (old new : World) → IsSound old → Evicts place old new → IsSound new × ((q : ℕ) → q < old.layout.processes → Rely q old new)
+evict_sound place old new s v =
+    let p : ℕ = old.layout.processes in
+    let t : Turn p old new = record { layout = v.layout; counted = v.counted; situations = λ q ne. v.situation q; pendings = λ q ne. v.pending q } in
+    let b : Backs p old new t place (old.memory.cached place) = evicted_backs p old new t place v.memory in
+    let between : IsBetween place (old.memory.cached place) (old.memory.persisted place) (old.memory.cached place) =
+    cached_between old (small_counted old s.of_sheet) place (old.memory.cached place) (old.memory.persisted place) (s.words place) in
+    let keeps : (cell : ℕ) → KeepsOwing old new cell = λ cell e issue its is same owes. (v.pending e.process ∙ is, rw (v.situation e.process) owes) in
+    let k : Keeps p old new = back_sound p old new t s place (old.memory.cached place) b between keeps (λ l. absurd (let same = ap (λ (x : _). x.processes) v.layout in omega arith)) in
+    (k.sound, λ q l. k.others q (λ same. omega arith))

@@ -1,25 +1,23 @@
 -- A step by which an edit comes to count.
-use Rattle.std.proofs.Common.{ℕ, ◌≡◌, ◌≢◌, ◌<◌, ◌≤◌, ◌+◌, ◌/◌, ◌⊎◌, List, [], ◌∷◌, ◌++◌, refl, ap, sym, ◌∙◌, subst, arith, append_assoc, inl, inr, Some, None, zero, suc, length, get_or}
-use Rattle.std.specs.Prelude.{All, Option, Contains}
+use Rattle.std.proofs.Common.{ℕ, ◌≡◌, ◌≢◌, ◌<◌, ◌≤◌, ◌/◌, ◌⊎◌, List, [], ◌∷◌, ◌++◌, ap, sym, ◌∙◌, subst, arith, append_assoc, inl, inr, Some, zero, suc, get_or}
+use Rattle.std.specs.Prelude.{All, Contains}
 use Rattle.std.proofs.lemmas.Bool.{cases_eq}
 use Rattle.std.proofs.lemmas.List.{append-nil}
-use Rattle.std.proofs.lemmas.List.Elements.{All-nil, All-push, All-head, All-tail, Contains-append_cases, Contains-append_left}
+use Rattle.std.proofs.lemmas.List.Elements.{All-nil, All-push, All-head, All-tail, Contains-append_cases}
 use Rattle.ds_words.specs.Memory.{StoresAt}
 use Rattle.ds_layout.specs.declared.place.Place.{Place}
 use Rattle.ds_layout.specs.declared.place.Place.TheVariants.{Version, Head, Mark, Value, Kind, Index, Announce, Header, Text, Done}
 use Rattle.ds_layout.specs.Bits.{HasBit, IsSubset}
 use Rattle.ds_layout.proofs.OrBits.{IsSubset-same}
 use Rattle.ds_layout.proofs.PlaceCases.{place_cases}
-use Rattle.ds_state.specs.World.{Edit, Issue, World, record_place, record_word, record_size, index_place, done_place, of_cell, head_after_all, IsHeadBy}
-use Rattle.ds_state.specs.Known.{AreBelow, IsSafe, IsDone}
+use Rattle.ds_state.specs.World.{Edit, Issue, World, record_place, record_word, record_size, index_place, done_place, of_cell, head_after_all}
+use Rattle.ds_state.specs.Known.{AreBelow, IsDone}
 use Rattle.ds_state.specs.Calls.{Owes, CallFits}
-use Rattle.ds_state.specs.Words.{IsOnItsWay, RefersTo, IsKept, WordFits}
+use Rattle.ds_state.specs.Words.{RefersTo, IsKept, WordFits}
 use Rattle.ds_state.specs.Sound.{IsSound, IsOfSheet, Increasing}
-use Rattle.ds_state.specs.Rely.{IsOwnedBy, Grows, Rely}
-use Rattle.ds_state.specs.declared.situation.Situation.{Situation}
+use Rattle.ds_state.specs.Rely.{IsOwnedBy, Grows, Rely, Keeps}
 use Rattle.ds_state.proofs.Heads.{of_cell-append, of_cell-own, of_cell-other, cell_of-middle, parts_cases}
 use Rattle.ds_state.proofs.Stable.{safe_stable, call_stable}
-use Rattle.ds_state.proofs.Frames.{KeepsOwing}
 
 -- the edit's head takes its cell's place, and the edit counts
 pub record Counts (e : Edit) (issue : Issue) (old new : World) : Type 0 where
@@ -166,24 +164,24 @@ module _ (e : Edit) (issue : Issue) (old new : World) (c : Counts e issue old ne
   word_counts (Index row part) ne h = record {
     sides = h.sides;
     counted = counted_cases
-      (λ f. f.cell / 64 ≡ part → RefersTo new.layout.shape f.text row → HasBit (old.memory.cached (Index row part)) f.cell × HasBit (old.memory.persisted (Index row part)) f.cell)
-      (λ its refers. subst (λ (x : ℕ). HasBit (old.memory.cached (Index row x)) e.cell × HasBit (old.memory.persisted (Index row x)) e.cell) its (may.indexed row (rw (sym c.layout) refers)))
-      (λ f there its refers. h.counted f there its (rw (sym c.layout) refers));
+        (λ f. f.cell / 64 ≡ part → RefersTo new.layout.shape f.text row → HasBit (old.memory.cached (Index row part)) f.cell × HasBit (old.memory.persisted (Index row part)) f.cell)
+        (λ its refers. subst (λ (x : ℕ). HasBit (old.memory.cached (Index row x)) e.cell × HasBit (old.memory.persisted (Index row x)) e.cell) its (may.indexed row (rw (sym c.layout) refers)))
+        (λ f there its refers. h.counted f there its (rw (sym c.layout) refers));
   }
   word_counts (Announce q) ne h = record {
     on_cached = λ n small is. kept_counts q n (h.on_cached n small is);
     on_persisted = λ n small is. kept_counts q n (h.on_persisted n small is);
   }
   word_counts (Header q n) ne h = counted_cases
-    (λ f. f.process ≡ q → f.number ≡ n → 0 < record_size f → (old.memory.cached (Header q n) ≡ record_word f zero) × (old.memory.persisted (Header q n) ≡ record_word f zero))
-    (λ i j k. subst (λ (x : ℕ). (old.memory.cached (Header x n) ≡ record_word e zero) × (old.memory.persisted (Header x n) ≡ record_word e zero)) i
-        (subst (λ (x : ℕ). (old.memory.cached (Header e.process x) ≡ record_word e zero) × (old.memory.persisted (Header e.process x) ≡ record_word e zero)) j (may.written zero k)))
-    h
+      (λ f. f.process ≡ q → f.number ≡ n → 0 < record_size f → (old.memory.cached (Header q n) ≡ record_word f zero) × (old.memory.persisted (Header q n) ≡ record_word f zero))
+      (λ i j k. subst (λ (x : ℕ). (old.memory.cached (Header x n) ≡ record_word e zero) × (old.memory.persisted (Header x n) ≡ record_word e zero)) i
+      (subst (λ (x : ℕ). (old.memory.cached (Header e.process x) ≡ record_word e zero) × (old.memory.persisted (Header e.process x) ≡ record_word e zero)) j (may.written zero k)))
+      h
   word_counts (Text q n part) ne h = counted_cases
-    (λ f. f.process ≡ q → f.number ≡ n → suc part < record_size f → (old.memory.cached (Text q n part) ≡ record_word f (suc part)) × (old.memory.persisted (Text q n part) ≡ record_word f (suc part)))
-    (λ i j k. subst (λ (x : ℕ). (old.memory.cached (Text x n part) ≡ record_word e (suc part)) × (old.memory.persisted (Text x n part) ≡ record_word e (suc part))) i
-        (subst (λ (x : ℕ). (old.memory.cached (Text e.process x part) ≡ record_word e (suc part)) × (old.memory.persisted (Text e.process x part) ≡ record_word e (suc part))) j (may.written (suc part) k)))
-    h
+      (λ f. f.process ≡ q → f.number ≡ n → suc part < record_size f → (old.memory.cached (Text q n part) ≡ record_word f (suc part)) × (old.memory.persisted (Text q n part) ≡ record_word f (suc part)))
+      (λ i j k. subst (λ (x : ℕ). (old.memory.cached (Text x n part) ≡ record_word e (suc part)) × (old.memory.persisted (Text x n part) ≡ record_word e (suc part))) i
+      (subst (λ (x : ℕ). (old.memory.cached (Text e.process x part) ≡ record_word e (suc part)) × (old.memory.persisted (Text e.process x part) ≡ record_word e (suc part))) j (may.written (suc part) k)))
+      h
   word_counts (Done q part) ne h = record {
     sides = h.sides;
     overtaken = λ n its o. elim (overtaken_cases o.edit.cell o.before o.edit o.next o.after o.parts) [
@@ -219,19 +217,22 @@ module _ (e : Edit) (issue : Issue) (old new : World) (c : Counts e issue old ne
     });
   }
 
-  pub counts_sound : IsSound old → CallFits new e.process (new.situation e.process) → IsSound new
+  pub counts_sound : IsSound old → CallFits new e.process (new.situation e.process) → Keeps e.process old new
   counts_sound s mine = record {
-    words = λ r. elim (place_cases r (Head e.cell)) [
-      | inl eq ↦ subst (λ (x : Place). WordFits new x (new.memory.cached x) (new.memory.persisted x)) (sym eq) head_counts
-      | inr ne ↦ subst (λ (x : ℕ). WordFits new r x (new.memory.persisted r)) (sym (c.memory.elsewhere r ne))
-          (subst (λ (x : ℕ). WordFits new r (old.memory.cached r) x) (sym (c.memory.persisted r)) (word_counts r ne (s.words r)))
-    ];
-    calls = λ q l. elim (cases_eq q e.process) [
-      | inl eq ↦ subst (λ (x : ℕ). CallFits new x (new.situation x)) (sym eq) mine
-      | inr ne ↦ rw (c.situations q ne) (call_stable old new q (old.situation q) (rely_other q ne) (s.calls q (rw (sym c.layout) l)))
-    ];
-    of_sheet = subst (λ (es : List Edit). All (λ f. IsOfSheet new f) es) (sym c.counted) (All-push (λ (f : Edit). IsOfSheet new f) old.counted e (λ k d l. sheet (get_or old.counted k d) (s.of_sheet k d l)) (sheet e may.of_sheet));
-    increasing = rw c.counted (increasing_push old.counted e s.increasing may.below);
+    others = rely_other;
+    sound = record {
+      words = λ r. elim (place_cases r (Head e.cell)) [
+        | inl eq ↦ subst (λ (x : Place). WordFits new x (new.memory.cached x) (new.memory.persisted x)) (sym eq) head_counts
+        | inr ne ↦ subst (λ (x : ℕ). WordFits new r x (new.memory.persisted r)) (sym (c.memory.elsewhere r ne))
+            (subst (λ (x : ℕ). WordFits new r (old.memory.cached r) x) (sym (c.memory.persisted r)) (word_counts r ne (s.words r)))
+      ];
+      calls = λ q l. elim (cases_eq q e.process) [
+        | inl eq ↦ subst (λ (x : ℕ). CallFits new x (new.situation x)) (sym eq) mine
+        | inr ne ↦ rw (c.situations q ne) (call_stable old new q (old.situation q) (rely_other q ne) (s.calls q (rw (sym c.layout) l)))
+      ];
+      of_sheet = subst (λ (es : List Edit). All (λ f. IsOfSheet new f) es) (sym c.counted) (All-push (λ (f : Edit). IsOfSheet new f) old.counted e (λ k d l. sheet (get_or old.counted k d) (s.of_sheet k d l)) (sheet e may.of_sheet));
+      increasing = rw c.counted (increasing_push old.counted e s.increasing may.below);
+    };
   }
     where
       sheet : (f : Edit) → IsOfSheet old f → IsOfSheet new f

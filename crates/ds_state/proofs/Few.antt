@@ -1,11 +1,10 @@
 -- How many edits can count: as many as there are records.
-use Rattle.std.proofs.Common.{ℕ, ◌≡◌, ◌≢◌, ◌<◌, ◌≤◌, ◌+◌, ◌*◌, ◌⊎◌, List, [], ◌∷◌, refl, ap, sym, ◌∙◌, arith, inl, inr, zero, suc, length, true, false}
+use Rattle.std.proofs.Common.{ℕ, ◌≡◌, ◌<◌, ◌≤◌, ◌+◌, ◌*◌, List, [], ◌∷◌, sym, ◌∙◌, arith, inl, inr, zero, suc, length}
 use Rattle.std.specs.Prelude.{All, ◌==◌, if◌then◌else◌, filter}
-use Rattle.std.proofs.lemmas.Bool.{eqb-true, eq-eqb}
 use Rattle.std.proofs.lemmas.Bool.Decides.{eqb_tells}
 use Rattle.std.proofs.lemmas.List.Elements.{All-head, All-tail, All-weaker}
 use Rattle.ds_state.specs.World.{Edit, World, of_cell}
-use Rattle.ds_state.specs.Sound.{IsSound, IsOfSheet, Increasing}
+use Rattle.ds_state.specs.Sound.{IsSound, Increasing}
 use Rattle.ds_state.proofs.Heads.{IsSmall, Small, small_counted}
 
 -- the edits of one process, and of the first so many
@@ -27,7 +26,7 @@ own_few p m (e ∷ es) i s l le =
           let low : m ≤ e.number = All-head (λ (f : Edit). f.process ≡ p → m ≤ f.number) e es l mine.1 in
           let high : e.number < 256 = (All-head (λ f. IsSmall f) e es s).number in
           let rest : own p es + (e.number + 1) ≤ 256 = own_few p (e.number + 1) es i.1 small
-              (All-weaker (λ (f : Edit). f.process ≡ e.process → e.number < f.number) (λ (f : Edit). f.process ≡ p → e.number + 1 ≤ f.number) (λ f h is. let g = h (is ∙ sym mine.1) in omega arith) es i.0) (omega arith) in
+          (All-weaker (λ (f : Edit). f.process ≡ e.process → e.number < f.number) (λ (f : Edit). f.process ≡ p → e.number + 1 ≤ f.number) (λ f h is. let g = h (is ∙ sym mine.1) in omega arith) es i.0) (omega arith) in
           rw mine.0 (omega arith))
       | inr other ↦ (let rest = own_few p m es i.1 small tail le in rw other.0 (omega arith))
     ]

@@ -1,22 +1,19 @@
 -- What a step leaves as it was.
-use Rattle.std.proofs.Common.{ℕ, ◌≡◌, ◌≢◌, ◌<◌, ◌≤◌, ◌/◌, ◌⊎◌, List, [], ◌∷◌, ◌++◌, refl, ap, sym, ◌∙◌, subst, arith, inl, inr, Some, None, zero, suc, max}
-use Rattle.std.specs.Prelude.{All, Option, Contains}
+use Rattle.std.proofs.Common.{ℕ, ◌≡◌, ◌≢◌, ◌<◌, ◌≤◌, ◌⊎◌, List, [], refl, ap, sym, ◌∙◌, subst, arith, inl, inr, Some}
 use Rattle.std.proofs.lemmas.Bool.{cases_eq}
 use Rattle.std.proofs.lemmas.List.{append-nil}
 use Rattle.std.proofs.lemmas.List.Elements.{All-nil}
 use Rattle.ds_layout.specs.declared.place.Place.{Place}
 use Rattle.ds_layout.specs.declared.place.Place.TheVariants.{Version, Head, Mark, Value, Kind, Index, Announce, Header, Text, Done}
-use Rattle.ds_layout.specs.Bits.{HasBit, IsSubset}
-use Rattle.ds_layout.proofs.OrBits.{IsSubset-same, IsSubset-both, HasBit-subset}
+use Rattle.ds_layout.specs.Bits.{IsSubset}
+use Rattle.ds_layout.proofs.OrBits.{IsSubset-same}
 use Rattle.ds_layout.proofs.PlaceCases.{place_cases}
-use Rattle.ds_state.specs.World.{Edit, Issue, World, record_word, record_size, of_cell, head_after_all, IsHeadBy}
-use Rattle.ds_state.specs.Known.{IsSafe}
+use Rattle.ds_state.specs.World.{Edit, Issue, World, of_cell, head_after_all}
 use Rattle.ds_state.specs.Calls.{Owes, CallFits}
-use Rattle.ds_state.specs.Words.{IsOnItsWay, HeadFits, IndexFits, RefersTo, IsKept, AnnounceFits, RecordFits, IsOvertaken, DoneFits, WordFits}
-use Rattle.ds_state.specs.Sound.{IsSound, IsOfSheet, Increasing}
-use Rattle.ds_state.specs.Rely.{IsOwnedBy, Grows, Rely}
-use Rattle.ds_state.specs.declared.situation.Situation.{Situation}
-use Rattle.ds_state.proofs.Heads.{Small, small_counted, small_of_cell, cell_of-middle, persisted_most}
+use Rattle.ds_state.specs.Words.{IsKept, WordFits}
+use Rattle.ds_state.specs.Sound.{IsSound}
+use Rattle.ds_state.specs.Rely.{IsOwnedBy, Grows, Rely, Keeps}
+use Rattle.ds_state.proofs.Heads.{cell_of-middle}
 use Rattle.ds_state.proofs.Stable.{safe_stable, call_stable}
 
 -- the cached side stays, and the persisted side stays or becomes the cached one
@@ -75,7 +72,7 @@ KeepsOwing old new cell = (e : Edit) (issue : Issue) → e.cell ≡ cell → old
 pub keeps_owing : (p : ℕ) (old new : World) (cell : ℕ)
     → ((q : ℕ) → q ≢ p → new.situation q ≡ old.situation q) → ((q : ℕ) → q ≢ p → new.pending q ≡ old.pending q)
     → ((issue : Issue) → issue.edit.cell ≡ cell → old.pending p ≡ Some issue → Owes (old.situation p) (head_after_all (of_cell cell old.counted))
-        → (new.pending p ≡ Some issue) × Owes (new.situation p) (head_after_all (of_cell cell old.counted)))
+    → (new.pending p ≡ Some issue) × Owes (new.situation p) (head_after_all (of_cell cell old.counted)))
     → KeepsOwing old new cell
 keeps_owing p old new cell others others' mine e issue its is same owes =
     elim (cases_eq e.process p) [
@@ -197,18 +194,21 @@ module _ (p : ℕ) (place : Place) (old new : World) (m : Moves p place old new)
   pub moves_sound : IsSound old → ((cell : ℕ) → Head cell ≢ place → KeepsOwing old new cell)
       → WordFits new place (new.memory.cached place) (new.memory.persisted place)
       → (p < new.layout.processes → CallFits new p (new.situation p))
-      → IsSound new
+      → Keeps p old new
   moves_sound s keeps here mine = record {
-    words = λ r. elim (place_cases r place) [
-      | inl eq ↦ subst (λ (x : Place). WordFits new x (new.memory.cached x) (new.memory.persisted x)) (sym eq) here
-      | inr ne ↦ subst (λ (c : ℕ). WordFits new r c (new.memory.persisted r)) (sym (m.cached r ne))
-          (subst (λ (v : ℕ). WordFits new r (old.memory.cached r) v) (sym (m.persisted r ne))
-          (word_bears r (old.memory.cached r) (old.memory.persisted r) (λ cell is. keeps cell (λ at. ne (is ∙ at))) (s.words r)))
-    ];
-    calls = λ q l. elim (cases_eq q p) [
-      | inl eq ↦ subst (λ (x : ℕ). CallFits new x (new.situation x)) (sym eq) (mine (rw (sym eq) l))
-      | inr ne ↦ rw (m.situations q ne) (call_stable old new q (old.situation q) (rely_other q ne) (s.calls q (rw (sym m.layout) l)))
-    ];
-    of_sheet = rw (m.counted) (λ k d l. let h = s.of_sheet k d l in record { process = rw m.layout h.process; number = h.number; cell = rw m.layout h.cell });
-    increasing = rw m.counted s.increasing;
+    others = rely_other;
+    sound = record {
+      words = λ r. elim (place_cases r place) [
+        | inl eq ↦ subst (λ (x : Place). WordFits new x (new.memory.cached x) (new.memory.persisted x)) (sym eq) here
+        | inr ne ↦ subst (λ (c : ℕ). WordFits new r c (new.memory.persisted r)) (sym (m.cached r ne))
+            (subst (λ (v : ℕ). WordFits new r (old.memory.cached r) v) (sym (m.persisted r ne))
+            (word_bears r (old.memory.cached r) (old.memory.persisted r) (λ cell is. keeps cell (λ at. ne (is ∙ at))) (s.words r)))
+      ];
+      calls = λ q l. elim (cases_eq q p) [
+        | inl eq ↦ subst (λ (x : ℕ). CallFits new x (new.situation x)) (sym eq) (mine (rw (sym eq) l))
+        | inr ne ↦ rw (m.situations q ne) (call_stable old new q (old.situation q) (rely_other q ne) (s.calls q (rw (sym m.layout) l)))
+      ];
+      of_sheet = rw (m.counted) (λ k d l. let h = s.of_sheet k d l in record { process = rw m.layout h.process; number = h.number; cell = rw m.layout h.cell });
+      increasing = rw m.counted s.increasing;
+    };
   }

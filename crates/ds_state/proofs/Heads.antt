@@ -1,11 +1,10 @@
 -- How the numbers of heads grow.
 use Rattle.std.proofs.Common.{ℕ, ◌≡◌, ◌≢◌, ◌<◌, ◌≤◌, ◌+◌, ◌*◌, ◌⊎◌, List, [], ◌∷◌, ◌++◌, refl, ap, sym, ◌∙◌, subst, arith, append_assoc, length, inl, inr, length-append, max, get_or}
-use Rattle.std.specs.Prelude.{All, filter, ◌==◌, true, zero, suc}
+use Rattle.std.specs.Prelude.{All, ◌==◌, true, zero, suc}
 use Rattle.std.proofs.Math.Seq.{get_or-append_seam}
 use Rattle.std.proofs.lemmas.Bool.{eqb-true, eq-eqb}
 use Rattle.std.proofs.lemmas.Bool.Decides.{eqb_tells}
 use Rattle.std.proofs.lemmas.List.Elements.{All-head, All-tail, All-filter, filter-append, filter_passes}
-use Rattle.ds_layout.specs.declared.place.TheConstants.{RECORDS}
 use Rattle.ds_state.specs.World.{Edit, World, of_cell, head_after_all, head_from, head_by, IsHeadBy}
 use Rattle.ds_state.specs.Words.{IsOnItsWay}
 use Rattle.ds_state.specs.Sound.{IsOfSheet}

@@ -7,6 +7,8 @@ pub mod Counting
 pub mod Padded
 pub mod Few
 pub mod Accesses
+pub mod Noted
+pub mod Outcomes
 pub mod Made
 pub mod ReadBack
 pub mod LastText

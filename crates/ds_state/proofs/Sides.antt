@@ -1,12 +1,12 @@
 -- What the sides of a word may become: by a write-back, an eviction, or bits that are added.
-use Rattle.std.proofs.Common.{ℕ, ◌≡◌, ◌≢◌, ◌<◌, ◌≤◌, ◌/◌, ◌⊎◌, List, refl, ap, sym, ◌∙◌, subst, arith, inl, inr, zero, suc, max}
-use Rattle.std.specs.Prelude.{All, bit_or}
+use Rattle.std.proofs.Common.{ℕ, ◌≡◌, ◌≤◌, ◌/◌, ◌⊎◌, refl, sym, ◌∙◌, subst, arith, inl, inr}
+use Rattle.std.specs.Prelude.{bit_or}
 use Rattle.std.proofs.lemmas.Bool.{cases_eq}
 use Rattle.ds_words.specs.Memory.{newer}
 use Rattle.ds_layout.specs.Places.{class_of}
 use Rattle.ds_layout.specs.declared.place.Place.{Place}
 use Rattle.ds_layout.specs.declared.place.Place.TheVariants.{Version, Head, Mark, Value, Kind, Index, Announce, Header, Text, Done}
-use Rattle.ds_layout.specs.Bits.{HasBit, IsSubset, bit_of}
+use Rattle.ds_layout.specs.Bits.{IsSubset, bit_of}
 use Rattle.ds_layout.proofs.OrBits.{IsSubset-same, IsSubset-both, IsSubset-or_left, IsSubset-or_both, HasBit-subset, HasBit-or_other}
 use Rattle.ds_state.specs.World.{Edit, World, of_cell, IsHeadBy}
 use Rattle.ds_state.specs.Words.{IsKept, WordFits}

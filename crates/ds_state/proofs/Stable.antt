@@ -1,19 +1,17 @@
 -- What a call knows stays while words only grow.
-use Rattle.std.proofs.Common.{ℕ, ◌≡◌, ◌≢◌, ◌<◌, ◌≤◌, ◌+◌, ◌⊎◌, List, [], ◌∷◌, ◌++◌, refl, ap, sym, ◌∙◌, subst, arith, append_assoc, length, length-append, inl, inr, Some, None, zero, suc, take, true, false, get_or}
-use Rattle.std.specs.Prelude.{All, ◌==◌, ◌&&◌, Option, if◌then◌else◌}
+use Rattle.std.proofs.Common.{ℕ, ◌≡◌, ◌≢◌, ◌<◌, ◌≤◌, ◌+◌, List, [], ◌∷◌, ◌++◌, refl, ap, sym, ◌∙◌, subst, arith, length, length-append, inl, inr, Some, None, zero, suc, take}
+use Rattle.std.specs.Prelude.{All, Option, if◌then◌else◌}
 use Rattle.std.proofs.lemmas.List.{take-append-le}
-use Rattle.std.proofs.lemmas.Bool.{eqb-true, eq-eqb}
 use Rattle.std.proofs.lemmas.Bool.Decides.{eqb_tells}
 use Rattle.std.proofs.lemmas.List.Elements.{All-append, All-weaker, All-same, All-head, All-tail}
 use Rattle.ds_layout.specs.declared.place.Place.{Place}
-use Rattle.ds_layout.specs.declared.place.Place.TheVariants.{Version, Head, Mark, Index, Announce, Header, Text, Done}
+use Rattle.ds_layout.specs.declared.place.Place.TheVariants.{Version, Announce}
 use Rattle.ds_layout.specs.declared.announcement.Phase.TheVariants as phase
-use Rattle.ds_layout.specs.Bits.{HasBit}
 use Rattle.ds_layout.proofs.OrBits.{HasBit-subset, IsSubset-both}
 use Rattle.ds_state.specs.Edits.{PlainEdit, text_parts}
-use Rattle.ds_state.specs.World.{Edit, edit_of, World, record_place, record_word, index_place, done_place, of_cell, of_cell_when, head_after_all, IsHeadBy, phase_among, is_edit_of, last_announcement, announcement}
-use Rattle.ds_state.specs.Known.{Standing, outside, inside, safe, Announced, last, pending, ended, Noted, nothing, head_noted, head_back, bit_set, bit_back, came_late, Known, known_at, AreBelow, IsIn, IsSafe, IsSafelyIn, StandsAs, IsRecorded, word_of, IsAnnounced, row_of, IsIndexedTo, IsOred, IsDone, IsWhen, IsNoted, IsHelped, IsLate, Knows, Knowing}
-use Rattle.ds_state.specs.Calls.{Held, empty, record_words, announcing_word, row_bits, done_bits, head_from, mark, held_at, entry, Holds, HasOne, IsBits, IsHeadFrom, EditFits, IdleFits, CallFits, IsSheetOf, HasRefs}
+use Rattle.ds_state.specs.World.{Edit, edit_of, World, record_place, done_place, of_cell, of_cell_when, head_after_all, IsHeadBy, phase_among, is_edit_of, last_announcement, announcement}
+use Rattle.ds_state.specs.Known.{Standing, outside, inside, safe, Announced, last, pending, ended, Noted, nothing, head_noted, head_back, bit_set, bit_back, came_late, Known, known_at, AreBelow, IsSafe, StandsAs, IsRecorded, word_of, IsAnnounced, row_of, IsIndexedTo, IsOred, IsDone, IsWhen, IsNoted, Knows, Knowing}
+use Rattle.ds_state.specs.Calls.{Held, empty, record_words, announcing_word, row_bits, done_bits, head_from, mark, held_at, entry, Holds, CallFits, IsSheetOf, HasRefs}
 use Rattle.ds_state.specs.Rely.{IsOwnedBy, Grows, Rely}
 use Rattle.ds_state.specs.declared.situation.Situation.{Situation}
 use Rattle.ds_state.specs.declared.situation.Situation.TheVariants.{Idle, Stopped, Editing}
@@ -135,12 +133,16 @@ module _ (but : Place) (old new : World) (e : Edit) (g : Grows e.process but old
   head_stable since nothing h = tt
   head_stable since (head_noted head) h = noted_stable since head h
   head_stable since (head_back head) (h, b) = (noted_stable since head h, at_most b (g.heads_persisted e.cell))
-  head_stable since (bit_set head) (h, b, c) = (noted_stable since head h, at_most b (g.heads_persisted e.cell),
-    HasBit-subset (old.memory.cached (done_place head.process head.number)) (new.memory.cached (done_place head.process head.number)) head.number (g.done_cached _ _) c)
+  head_stable since (bit_set head) (h, b, c) = (
+    noted_stable since head h,
+    at_most b (g.heads_persisted e.cell),
+    HasBit-subset (old.memory.cached (done_place head.process head.number)) (new.memory.cached (done_place head.process head.number)) head.number (g.done_cached _ _) c,
+  )
   head_stable since (bit_back head) h = record {
     count = h.count;
     when = is_when_stable since h.count h.when;
     is = h.is ∙ ap head_after_all (sym (when_stable e.process but old new g e.cell h.count h.when.there));
+    back = at_most h.back (g.heads_persisted e.cell);
     done = λ before by parts. done_stable e.process but old new g by.process by.number (h.done before by (sym (when_stable e.process but old new g e.cell h.count h.when.there) ∙ parts));
   }
   head_stable since (came_late noted seen) h = record {
@@ -177,13 +179,13 @@ Grows_at p q but old new same g = subst (λ (x : ℕ). Grows x but old new) same
 pub sheet_stable : (old new : World) (e : PlainEdit) → new.layout ≡ old.layout → IsSheetOf old.layout e → IsSheetOf new.layout e
 sheet_stable old new e same h = rw same h
 
-pub refs_stable : (old new : World) (e : PlainEdit) → new.layout ≡ old.layout → HasRefs old.layout.shape e → HasRefs new.layout.shape e
+pub refs_stable : (old new : World) (e : PlainEdit) → new.layout ≡ old.layout → HasRefs old.layout.shape e.text e.refs → HasRefs new.layout.shape e.text e.refs
 refs_stable old new e same h = rw same h
 
 -- no word of a process is the version's
-record_apart : (p n k : ℕ) → record_place p n k ≢ Version
-record_apart p n zero = λ same. cc
-record_apart p n (suc k) = λ same. cc
+pub record_no_version : (p n k : ℕ) → record_place p n k ≢ Version
+record_no_version p n zero = λ same. cc
+record_no_version p n (suc k) = λ same. cc
 
 -- what a call knows stays while another process steps
 pub call_stable : (old new : World) (q : ℕ) (s : Situation) → Rely q old new → CallFits old q s → CallFits new q s
@@ -213,6 +215,6 @@ call_stable old new q (Editing e) r h =
       since = h.since;
       pending = r.pending ∙ h.pending;
       issued = omega arith;
-      knows = knowing_stable Version old new (edit_of e) g (record_apart e.process e.number) (λ same. cc) e.refs h.since (known_at (text_parts e.text) (length e.refs) e.stage) h.knows;
+      knows = knowing_stable Version old new (edit_of e) g (record_no_version e.process e.number) (λ same. cc) e.refs h.since (known_at (text_parts e.text) (length e.refs) e.stage) h.knows;
       buffer = holds_stable Version old new (edit_of e) g (ap new.memory.buffer h.mine ∙ r.buffer ∙ ap old.memory.buffer (sym h.mine)) (held_at (text_parts e.text) e.refs e.stage) h.buffer;
     }

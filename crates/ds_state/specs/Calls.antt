@@ -1,5 +1,5 @@
 -- What each process knows, and what its buffer holds.
-use Rattle.std.specs.Prelude.{ℕ, ◌≡◌, ◌<◌, ◌≤◌, ◌+◌, ◌-◌, List, [], ◌∷◌, length, map, Some, None, Contains, slice_index_or, suc}
+use Rattle.std.specs.Prelude.{ℕ, ◌≡◌, ◌≤◌, ◌-◌, List, [], ◌∷◌, length, map, Some, None, Contains, slice_index_or, suc}
 use Rattle.std.specs.List.{range_with_len}
 use Rattle.ds_words.specs.declared.access.Entry.{Entry}
 use Rattle.ds_formula.specs.Cells.{index_of}
@@ -86,16 +86,16 @@ pub record IsSheetOf (layout : Layout) (e : PlainEdit) : Type 0 where
   pub processes : layout.processes ≡ e.processes
 
 -- each cell that the text refers to is one of the references
-pub record HasRefs (shape : Shape) (e : PlainEdit) : Type 0 where
+pub record HasRefs (shape : Shape) (text refs : List ℕ) : Type 0 where
   pub content : Plain
-  pub reads : Reads shape e.text content
-  pub all : (c : Cell) → Refers content c → Contains e.refs (index_of shape c)
+  pub reads : Reads shape text content
+  pub all : (c : Cell) → Refers content c → Contains refs (index_of shape c)
 
 pub record EditFits (w : World) (p : ℕ) (e : PlainEdit) : Type 0 where
   pub mine : e.process ≡ p
   pub is : IsEdit e
   pub sheet : IsSheetOf w.layout e
-  pub refs : HasRefs w.layout.shape e
+  pub refs : HasRefs w.layout.shape e.text e.refs
   pub since : ℕ
   pub pending : w.pending p ≡ Some (record { edit = edit_of e; since = since })
   pub issued : since ≤ length w.counted

@@ -7,7 +7,6 @@ use Rattle.ds_layout.specs.declared.announcement.Phase.{Phase}
 use Rattle.ds_layout.specs.declared.announcement.Phase.TheVariants as phase
 use Rattle.ds_layout.specs.Head.{head_word}
 use Rattle.ds_layout.specs.Bits.{HasBit}
-use Rattle.ds_state.specs.Edits.{PlainEdit}
 use Rattle.ds_state.specs.World.{Edit, World, record_place, record_word, index_place, done_place, of_cell, of_cell_when, head_after_all, IsHeadBy, announcement, last_announcement}
 use Rattle.ds_state.specs.declared.stage.Outcome.{Outcome}
 use Rattle.ds_state.specs.declared.stage.Outcome.TheVariants.{Done, Overtaken}
@@ -182,11 +181,13 @@ pub record IsNoted (w : World) (e : Edit) (since : ℕ) (head : Head) : Type 0 w
   pub number : head.number ≡ by.number
   pub word : head_word head ≡ head_after_all (before ++ by ∷ [])
 
--- what it noted was its cell's head, whose edit, where it is one, has its done bit persisted
+-- what it noted was its cell's head, which is persisted, or a later one; its edit, where it is one, has its done bit
+-- persisted
 pub record IsHelped (w : World) (e : Edit) (since head : ℕ) : Type 0 where
   pub count : ℕ
   pub when : IsWhen w since count
   pub is : head ≡ head_after_all (of_cell_when w e.cell count)
+  pub back : head ≤ w.memory.persisted (place.Head e.cell)
   pub done : (before : List Edit) (by : Edit) → of_cell_when w e.cell count ≡ before ++ by ∷ [] → IsDone w by.process by.number
 
 -- what it noted was its cell's head, and what it met then is a later one

@@ -7,6 +7,7 @@ pub mod Words
 pub mod Sound
 pub mod Rely
 pub mod Fresh
+pub mod Events
 pub mod Text
 pub mod Value
 pub mod Shown

@@ -4,6 +4,7 @@ use Rattle.ds_layout.specs.declared.place.Place.{Place}
 use Rattle.ds_layout.specs.declared.place.Place.TheVariants.{Head, Mark, Index, Announce, Header, Text, Done}
 use Rattle.ds_layout.specs.Bits.{IsSubset}
 use Rattle.ds_state.specs.World.{Edit, World}
+use Rattle.ds_state.specs.Sound.{IsSound}
 
 -- whose word it is, where it is one process's alone
 abbrev pub IsOwnedBy : ℕ → Place → Type 0
@@ -35,3 +36,8 @@ pub record Rely (q : ℕ) (old new : World) : Type 0 where
   pub pending : new.pending q ≡ old.pending q
   pub buffer : new.memory.buffer q ≡ old.memory.buffer q
   pub grows : (but : Place) → Grows q but old new
+
+-- the process leaves the world sound, and each other process may count on what it counts on
+pub record Keeps (p : ℕ) (old new : World) : Type 0 where
+  pub sound : IsSound new
+  pub others : (q : ℕ) → q ≢ p → Rely q old new

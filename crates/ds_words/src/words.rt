@@ -15,7 +15,9 @@ pub const BUFFER_ENTRIES: usize = 16;
 /// The two sides of a word.
 #[derive(Clone, Copy, Debug, PartialEq, Eq)]
 pub struct Word {
+    /// The cached side, which a crash loses.
     pub cached: u64,
+    /// The persisted side, which stays.
     pub persisted: u64,
 }
 

@@ -20,13 +20,13 @@ pub const RECORDS: usize = 256;
 
 /// A sheet whose edits count at once, in the order in which they are made.
 #[derive(Drop)]
-pub struct Plain {
+pub struct CountedSheet {
     sheet: Sheet,
     numbers: Vec<usize>,
     edits: Vec<CountedEdit>,
 }
 
-impl Model for Plain {
+impl Model for CountedSheet {
     ghost use Rattle.std.specs.Prelude.{vec_len};
     ghost use Rattle.ds_core.specs.PlainSheet.{PlainSheet};
 
@@ -48,9 +48,10 @@ fn put(contents: &mut Vec<Content>, index: usize, content: Content)
     contents[index] = content;
 }
 
-impl Plain {
-    /// A sheet of this shape, each cell of it blank, for this many processes.
-    pub fn new(alloc: Global, shape: Shape, processes: usize) -> Result<Plain, AllocError>
+impl CountedSheet {
+    /// A sheet of this shape, each cell of it blank, for this many processes. An error is a want of memory: nothing
+    /// has changed.
+    pub fn new(alloc: Global, shape: Shape, processes: usize) -> Result<CountedSheet, AllocError>
         requires { processes ≤ 8 }
         ensures { IfOk result (λ p. p ≡ fresh shape processes) }
     {
@@ -59,7 +60,7 @@ impl Plain {
             contents.push(Content::Blank)?;
         }
         let numbers = vec![in alloc; 0usize; processes]?;
-        Ok(Plain {
+        Ok(CountedSheet {
             sheet: Sheet { shape, contents },
             numbers,
             edits: Vec::new(alloc),
@@ -81,10 +82,10 @@ impl Plain {
         self.numbers.len()
     }
 
-    /// Sets the text of a cell, and answers the edit's number among those of the process.
+    /// Sets the text of a cell, and answers the edit's number among those of the process, from 0 to 255.
     ///
-    /// The refusals are tried in this order: the text's fault, `RecordsFull`, `NoMemory`; want of memory while the
-    /// text is read comes in place of its fault.
+    /// A refusal leaves the sheet as it was. The refusals are tried in this order: the text's fault, `RecordsFull`,
+    /// `NoMemory`; want of memory while the text is read comes in place of its fault.
     pub fn set(
         &mut self,
         alloc: Global,
@@ -116,7 +117,7 @@ impl Plain {
         Ok(number)
     }
 
-    /// The values of all cells, row by row from the left.
+    /// The values of all cells, row by row from the left. An error is a want of memory: nothing has changed.
     pub fn values(&self, alloc: Global) -> Result<Vec<Value>, AllocError>
         ensures { IfOk result (λ values. Shows self.now values.items) }
     {

@@ -10,7 +10,7 @@ use Rattle.ds_core.specs.declared.edit.CountedEdit.{CountedEdit}
 use Rattle.ds_core.specs.Ledger.{edits_of, last_text}
 use Rattle.ds_core.specs.PlainSheet.{PlainSheet}
 use Rattle.ds_core.proofs.SheetLemmas.{fold_more, numbers_more, room_more, held_at}
-use Rattle.ds_core.proofs.plain.Plain.set.Goals as goal
+use Rattle.ds_core.proofs.sheet.CountedSheet.set.Goals as goal
 
 -- the process has a number, below the last
 own_below : (c : goal.After-self-2-1) → c.args.process < length c.self.inside.numbers.items

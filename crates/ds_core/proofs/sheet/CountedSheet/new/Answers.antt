@@ -1,6 +1,6 @@
 use Rattle.std.proofs.Common.{◌≡◌, ℕ, ◌<◌, get_or, arith, refl, []}
 use Rattle.ds_core.proofs.SheetLemmas.{no_edits, no_numbers}
-use Rattle.ds_core.proofs.plain.Plain.new.Goals as goal
+use Rattle.ds_core.proofs.sheet.CountedSheet.new.Goals as goal
 
 pub invariant_of-result-2 : goal.invariant_of-result-2
 invariant_of-result-2 c =

@@ -1,0 +1,91 @@
+-- The steps by which an edit announces itself, or how it ended.
+use Rattle.std.proofs.Common.{ℕ, ◌≡◌, ◌≢◌, ◌<◌, ◌≤◌, ◌^◌, nat_lt, [], refl, ap, sym, ◌∙◌, subst, arith, inl, inr, zero, suc, length, None}
+use Rattle.std.proofs.lemmas.Bool.{ltb-false}
+use Rattle.ds_words.specs.Memory.{StoresAt}
+use Rattle.ds_layout.specs.declared.place.Place.{Place}
+use Rattle.ds_layout.specs.declared.place.Place.TheVariants.{Announce}
+use Rattle.ds_layout.specs.declared.announcement.Phase.TheVariants as phase
+use Rattle.ds_state.specs.Edits.{PlainEdit, text_parts}
+use Rattle.ds_state.specs.World.{Edit, edit_of, World, record_place, announcement}
+use Rattle.ds_state.specs.Known.{Known, Announced, ended, indexing, word_of, Knowing, IsAnnounced, StandsAs, standing_after}
+use Rattle.ds_state.specs.Calls.{EditFits, OwesAt}
+use Rattle.ds_state.specs.Words.{IsKept, WordFits}
+use Rattle.ds_state.specs.Rely.{Grows, Keeps}
+use Rattle.ds_state.specs.Sound.{IsSound}
+use Rattle.ds_state.specs.declared.stage.Outcome.{Outcome}
+use Rattle.ds_state.specs.declared.stage.Outcome.TheVariants as outcome
+use Rattle.ds_state.specs.declared.stage.Stage.{Stage}
+use Rattle.ds_state.specs.declared.stage.Stage.TheVariants.{OrIndex, LoadHead}
+use Rattle.ds_state.specs.declared.situation.Situation.TheVariants.{Editing}
+use Rattle.ds_state.proofs.Stable.{standing_stable, recorded_stable, word_stable, indexed_stable, ored_stable, head_stable}
+use Rattle.ds_state.proofs.Frames.{Moves, grows_own, word_bears, moves_sound}
+use Rattle.ds_state.proofs.Accesses.{Turn, store_moves}
+use Rattle.ds_edit.specs.Steps.{next_at, index_from}
+use Rattle.ds_edit.specs.Worlds.{StepsAt}
+use Rattle.ds_edit.proofs.Stays.{branches}
+use Rattle.ds_edit.proofs.Turns.{on, Known_on, Holds_on, IsPlainStep, turn, owing, fits_next}
+
+record_announce : (p n k : ℕ) → record_place p n k ≢ Announce p
+record_announce p n zero = λ same. cc
+record_announce p n (suc k) = λ same. cc
+
+-- a pending announcement tells no Done, and an ended one tells it of its own edit alone
+pub pending_tells : (w : World) (p m n : ℕ) → announcement m phase.Pending ≡ announcement n phase.Done → IsKept w p n
+pending_tells w p m n is = absurd (omega arith)
+
+pub ended_tells : (w : World) (e : Edit) (how : Outcome) (n : ℕ) → StandsAs w e (standing_after how) → word_of w e (ended how) ≡ announcement n phase.Done → IsKept w e.process n
+ended_tells w e outcome.Done n stands is = record { edit = e; process_is = refl; number_is = omega arith; safe = stands.safe }
+ended_tells w e (outcome.Overtaken noted seen) n stands is = absurd (omega arith)
+
+-- on both sides
+pub on_both : (w : World) (e : Edit) (before now : Announced) → IsAnnounced w e before now → w.memory.persisted (Announce e.process) ≡ word_of w e now → IsAnnounced w e now now
+on_both w e before now h is = record { cached = h.cached; persisted = inl is }
+
+module _ (e : PlainEdit) (s : Stage) (word : ℕ) (old new : World) (sound : IsSound old)
+    (at : old.situation e.process ≡ Editing (on e s)) (fits : EditFits old e.process (on e s))
+    (t : StepsAt e s word old new) (plain : IsPlainStep e s word) (small : word < 2 ^ 64) (owes : (head : ℕ) → OwesAt s head → ⊥) where
+  -- an announcement is stored, where both sides agreed
+  pub announces : (k : Known) (value : ℕ) (a : Announced) → Knowing old (edit_of e) e.refs fits.since k → k.before ≡ k.now
+      → (Knowing new (edit_of e) e.refs fits.since (record k { now = a }) → Known_on new e fits.since (next_at e s word))
+      → value ≡ word_of new (edit_of e) a
+      → (StandsAs new (edit_of e) k.standing → (n : ℕ) → value ≡ announcement n phase.Done → IsKept new e.process n)
+      → StoresAt (Announce e.process) value old.memory new.memory
+      → (new.memory.buffer e.process ≡ old.memory.buffer e.process → Holds_on new e (next_at e s word)) → Keeps e.process old new
+  announces k value a knows both advance is tells m held =
+      let place : Place = Announce e.process in
+      let E : Edit = edit_of e in
+      let tn : Turn e.process old new = turn e s word old new t plain.counts in
+      let moves : Moves e.process place old new = store_moves e.process old new tn place value (inl refl) m in
+      let g : Grows e.process place old new = grows_own e.process place old new moves in
+      let stands : StandsAs new E k.standing = standing_stable place old new E g k.standing knows.standing in
+      let before : old.memory.persisted place ≡ word_of old E k.before = elim knows.announced.persisted [ inl b ↦ b | inr n ↦ n ∙ ap (λ (x : Announced). word_of old E x) (sym both) ] in
+      let after : Knowing new E e.refs fits.since (record k { now = a }) = record {
+        standing = stands;
+        recorded = recorded_stable place old new E g (record_announce e.process e.number) k.stored k.back knows.recorded;
+        announced = record {
+          cached = m.there ∙ is;
+          persisted = inl (m.persisted place ∙ before ∙ sym (word_stable place old new E g k.before));
+        };
+        indexed = indexed_stable place old new E g e.refs k.indexed knows.indexed;
+        ored = ored_stable place old new E g e.refs k.ored knows.ored;
+        head = head_stable place old new E g fits.since k.head knows.head;
+      } in
+      let bears = word_bears e.process place old new moves place (old.memory.cached place) (old.memory.persisted place) (λ cell same. cc) (sound.words place) in
+      let told : WordFits new place (new.memory.cached place) (new.memory.persisted place) = record {
+        on_cached = λ n low here. tells stands n (sym m.there ∙ here);
+        on_persisted = λ n low here. bears.on_persisted n low (sym (m.persisted place) ∙ here);
+      } in
+      moves_sound e.process place old new moves sound (λ cell ne. owing e s word old new t at (λ head o. absurd (owes head o)) cell)
+      told
+      (λ l. fits_next e s word old new t fits plain small (advance after) (held (m.buffer e.process)))
+
+-- the references that are left, or the head
+pub index_next : (w : World) (e : PlainEdit) (since i : ℕ) → i ≤ length e.refs → Knowing w (edit_of e) e.refs since (indexing (text_parts e.text) i None) → Known_on w e since (index_from e i)
+index_next w e since i most h = branches (λ x. Known_on w e since x) (nat_lt i (length e.refs)) (OrIndex i) LoadHead
+    (λ b. h)
+    (λ b. let l = ltb-false i (length e.refs) b in
+    let all : i ≡ length e.refs = omega arith in
+    subst (λ (x : ℕ). Knowing w (edit_of e) e.refs since (indexing (text_parts e.text) x None)) all h)
+
+pub index_holds : (w : World) (e : PlainEdit) (i : ℕ) → w.memory.buffer e.process ≡ [] → Holds_on w e (index_from e i)
+index_holds w e i h = branches (λ x. Holds_on w e x) (nat_lt i (length e.refs)) (OrIndex i) LoadHead (λ b. h) (λ b. h)

@@ -1,0 +1,177 @@
+-- The steps by which an edit writes its record.
+use Rattle.std.proofs.Common.{ℕ, ◌≡◌, ◌≢◌, ◌<◌, ◌≤◌, ◌+◌, ◌-◌, ◌^◌, ◌==◌, nat_lt, [], ◌∷◌, ◌++◌, refl, ap, sym, ◌∙◌, subst, arith, inl, inr, zero, suc, map}
+use Rattle.std.specs.List.{range_with_len}
+use Rattle.std.proofs.lemmas.Bool.{cases_eq, ltb-false, eqb-true, eqb-false}
+use Rattle.std.proofs.lemmas.List.Elements.{All-contains}
+use Rattle.std.proofs.lemmas.List.FromFn.{map-range_with_len_more}
+use Rattle.ds_words.specs.Memory.{StoresAt, FlushesAt, WritesBack, newer}
+use Rattle.ds_layout.specs.Places.{class_of}
+use Rattle.ds_layout.specs.declared.place.Place.{Place}
+use Rattle.ds_layout.specs.declared.place.Place.TheVariants.{Version, Head, Announce}
+use Rattle.ds_state.specs.Edits.{PlainEdit, text_parts}
+use Rattle.ds_state.specs.World.{Edit, edit_of, World, record_place, record_word}
+use Rattle.ds_state.specs.Known.{writing, outside, last, AreBelow, Knowing}
+use Rattle.ds_state.specs.Calls.{record_words, record_entry, entry, Holds, EditFits, OwesAt}
+use Rattle.ds_state.specs.Words.{WordFits}
+use Rattle.ds_state.specs.Rely.{Grows, Keeps}
+use Rattle.ds_state.specs.Sound.{IsSound}
+use Rattle.ds_state.specs.declared.stage.Stage.{Stage}
+use Rattle.ds_state.specs.declared.stage.Stage.TheVariants.{StoreText, FlushHeader, FlushText, BackRecord, StorePending}
+use Rattle.ds_state.specs.declared.situation.Situation.TheVariants.{Editing}
+use Rattle.ds_state.proofs.Stable.{standing_stable, announced_stable, indexed_stable, knowing_stable, record_owned, record_no_version}
+use Rattle.ds_state.proofs.Frames.{MovesWord, Moves, KeepsOwing, grows_own, moves_sound}
+use Rattle.ds_state.proofs.Sides.{IsBetween}
+use Rattle.ds_state.proofs.Accesses.{Turn, store_moves, flush_moves, quiet_sound, Backs, back_grows, back_sound}
+use Rattle.ds_edit.specs.Steps.{next_at, store_from, flush_from, back_from}
+use Rattle.ds_edit.specs.Worlds.{StepsAt}
+use Rattle.ds_edit.proofs.Stays.{branches}
+use Rattle.ds_edit.proofs.Turns.{on, Known_on, Holds_on, IsPlainStep, turn, owing, fits_next}
+
+record_apart : (p n j k : ℕ) → j ≢ k → record_place p n j ≢ record_place p n k
+record_apart p n zero zero ne = absurd (ne refl)
+record_apart p n zero (suc k) ne = λ same. cc
+record_apart p n (suc j) zero ne = λ same. cc
+record_apart p n (suc j) (suc k) ne = λ same. ne (let e : j ≡ k = cc in ap (λ x. suc x) e)
+
+announce_apart : (p n k : ℕ) → Announce p ≢ record_place p n k
+announce_apart p n zero = λ same. cc
+announce_apart p n (suc k) = λ same. cc
+
+owned_moves : (p n k c v c' v' : ℕ) → MovesWord p (record_place p n k) c v c' v'
+owned_moves p n zero c v c' v' = inl refl
+owned_moves p n (suc k) c v c' v' = inl refl
+
+no_head : (p n k cell : ℕ) → Head cell ≢ record_place p n k
+no_head p n zero cell = λ same. cc
+no_head p n (suc k) cell = λ same. cc
+
+-- the record of an edit that does not count
+unrecorded : (w : World) (p n k c v : ℕ) → AreBelow w p n → WordFits w (record_place p n k) c v
+unrecorded w p n zero c v below = λ f there i j l. let h = All-contains (λ (f : Edit). f.process ≡ p → f.number < n) w.counted f below there i in absurd (omega arith)
+unrecorded w p n (suc k) c v below = λ f there i j l. let h = All-contains (λ (f : Edit). f.process ≡ p → f.number < n) w.counted f below there i in absurd (omega arith)
+
+owned_class : (p n k v value : ℕ) → newer (class_of (record_place p n k)) v value ≡ value
+owned_class p n zero v value = refl
+owned_class p n (suc k) v value = refl
+
+module _ (e : PlainEdit) (s : Stage) (word : ℕ) (old new : World) (sound : IsSound old)
+    (at : old.situation e.process ≡ Editing (on e s)) (fits : EditFits old e.process (on e s))
+    (t : StepsAt e s word old new) (plain : IsPlainStep e s word) (none : word ≡ 0) (owes : (head : ℕ) → OwesAt s head → ⊥) where
+  small : word < 2 ^ 64
+  small = rw none (omega arith)
+
+  keeps : (cell : ℕ) → KeepsOwing old new cell
+  keeps = owing e s word old new t at (λ head o. absurd (owes head o))
+
+  -- the word with this number of the record is stored
+  pub stores : (k k' : ℕ) → k' ≡ k → k ≤ text_parts e.text → next_at e s word ≡ store_from e k'
+      → Knowing old (edit_of e) e.refs fits.since (writing k 0) → old.memory.buffer e.process ≡ []
+      → StoresAt (record_place e.process e.number k) (record_word (edit_of e) k) old.memory new.memory
+      → Keeps e.process old new
+  stores k k' same most next knows holds m =
+      let place : Place = record_place e.process e.number k in
+      let tn : Turn e.process old new = turn e s word old new t plain.counts in
+      let moves : Moves e.process place old new = store_moves e.process old new tn place (record_word (edit_of e) k) (owned_moves e.process e.number k _ _ _ _) m in
+      let g : Grows e.process place old new = grows_own e.process place old new moves in
+      let after : Knowing new (edit_of e) e.refs fits.since (writing (suc k) 0) = record {
+        standing = standing_stable place old new (edit_of e) g outside knows.standing;
+        recorded = record {
+          cached = λ j l. elim (cases_eq j k) [
+            | inl is ↦ rw is m.there
+            | inr ne ↦ g.owned_cached (record_place e.process e.number j) (record_owned e.process e.number j) (record_apart e.process e.number j k ne) ∙ knows.recorded.cached j (omega arith)
+          ];
+          persisted = λ j l. absurd (omega arith);
+          fewer = omega arith;
+        };
+        announced = announced_stable place old new (edit_of e) g (announce_apart e.process e.number k) last last knows.announced;
+        indexed = indexed_stable place old new (edit_of e) g e.refs 0 knows.indexed;
+        ored = tt;
+        head = tt;
+      } in
+      let known : Known_on new e fits.since (next_at e s word) = subst (λ (x : Stage). Known_on new e fits.since x) (sym next)
+      (branches (λ x. Known_on new e fits.since x) (nat_lt k' (text_parts e.text)) (StoreText k') FlushHeader
+      (λ b. subst (λ (x : ℕ). Knowing new (edit_of e) e.refs fits.since (writing (suc x) 0)) (sym same) after)
+      (λ b. subst (λ (x : ℕ). Knowing new (edit_of e) e.refs fits.since (writing (suc x) 0)) (let l = ltb-false k' (text_parts e.text) b in omega arith) after)) in
+      let held : Holds_on new e (next_at e s word) = subst (λ (x : Stage). Holds_on new e x) (sym next)
+      (branches (λ x. Holds_on new e x) (nat_lt k' (text_parts e.text)) (StoreText k') FlushHeader (λ b. m.buffer e.process ∙ holds) (λ b. m.buffer e.process ∙ holds)) in
+      moves_sound e.process place old new moves sound (λ cell ne. keeps cell)
+      (unrecorded new e.process e.number k _ _ after.standing)
+      (λ l. fits_next e s word old new t fits plain small known held)
+
+  -- it is flushed
+  pub flushes : (k k' : ℕ) → k' ≡ k → k ≤ text_parts e.text → next_at e s word ≡ flush_from e k'
+      → Knowing old (edit_of e) e.refs fits.since (writing (suc (text_parts e.text)) 0) → Holds old (edit_of e) (record_words 0 k)
+      → FlushesAt e.process (record_place e.process e.number k) (class_of (record_place e.process e.number k)) old.memory new.memory
+      → Keeps e.process old new
+  flushes k k' same most next knows holds m =
+      let place : Place = record_place e.process e.number k in
+      let E : Edit = edit_of e in
+      let tn : Turn e.process old new = turn e s word old new t plain.counts in
+      let moves : Moves e.process Version old new = flush_moves e.process old new tn place (class_of place) m in
+      let g : Grows e.process Version old new = grows_own e.process Version old new moves in
+      let after : Knowing new E e.refs fits.since (writing (suc (text_parts e.text)) 0) =
+      knowing_stable Version old new E g (record_no_version e.process e.number) (λ same. cc) e.refs fits.since (writing (suc (text_parts e.text)) 0) knows in
+      let more : k + 1 ≡ suc k = omega arith in
+      let one : entry place (old.memory.cached place) ≡ record_entry E k = ap (λ (v : ℕ). entry place v) (knows.recorded.cached k (omega arith)) in
+      let buffer : new.memory.buffer e.process ≡ map (record_entry E) (range_with_len 0 (suc k)) =
+      m.mine ∙ ap (λ xs. xs ++ entry place (old.memory.cached place) ∷ []) holds ∙ ap (λ x. map (record_entry E) (range_with_len 0 k) ++ x ∷ []) one
+      ∙ sym (map-range_with_len_more (record_entry E) 0 k k (omega arith)) ∙ ap (λ (n : ℕ). map (record_entry E) (range_with_len 0 n)) more in
+      let known : Known_on new e fits.since (next_at e s word) = subst (λ (x : Stage). Known_on new e fits.since x) (sym next)
+      (branches (λ x. Known_on new e fits.since x) (nat_lt k' (text_parts e.text)) (FlushText k') (BackRecord (text_parts e.text))
+      (λ b. after)
+      (λ b. subst (λ (x : ℕ). Knowing new E e.refs fits.since (writing (suc (text_parts e.text)) x)) (omega arith) after)) in
+      let held : Holds_on new e (next_at e s word) = subst (λ (x : Stage). Holds_on new e x) (sym next)
+      (branches (λ x. Holds_on new e x) (nat_lt k' (text_parts e.text)) (FlushText k') (BackRecord (text_parts e.text))
+      (λ b. subst (λ (x : ℕ). Holds new E (record_words 0 (suc x))) (sym same) buffer)
+      (λ b. let l = ltb-false k' (text_parts e.text) b in
+      let first : 0 ≡ text_parts e.text - text_parts e.text = omega arith in
+      let all : k ≡ text_parts e.text = omega arith in
+      subst (λ (x : ℕ). Holds new E (record_words x (suc (text_parts e.text)))) first
+      (subst (λ (x : ℕ). Holds new E (record_words 0 (suc x))) all buffer))) in
+      quiet_sound e.process old new tn sound moves keeps (λ l. fits_next e s word old new t fits plain small known held)
+
+  -- it is written back, with so many behind it
+  pub backs : (left k : ℕ) → left ≤ text_parts e.text → k ≡ text_parts e.text - left → next_at e s word ≡ back_from left
+      → Knowing old (edit_of e) e.refs fits.since (writing (suc (text_parts e.text)) k) → Holds old (edit_of e) (record_words k (suc left))
+      → WritesBack e.process (record_entry (edit_of e) k) (map (record_entry (edit_of e)) (range_with_len (k + 1) left)) old.memory new.memory
+      → Keeps e.process old new
+  backs left k most is next knows holds m =
+      let parts : ℕ = text_parts e.text in
+      let place : Place = record_place e.process e.number k in
+      let E : Edit = edit_of e in
+      let tn : Turn e.process old new = turn e s word old new t plain.counts in
+      let value : ℕ = record_word E k in
+      let there : old.memory.cached place ≡ value = knows.recorded.cached k (omega arith) in
+      let now : new.memory.persisted place ≡ value = m.there ∙ owned_class e.process e.number k _ _ in
+      let b : Backs e.process old new tn place value = record { cached = m.cached; there = now; elsewhere = m.elsewhere; buffers = m.others } in
+      let between : IsBetween place (old.memory.cached place) (old.memory.persisted place) value = between_own k _ _ _ (sym there) in
+      let g : Grows e.process Version old new = back_grows e.process old new tn sound place value b between (λ o. (m.cached place, inr (now ∙ sym there))) in
+      let kept : Knowing new E e.refs fits.since (writing (suc parts) k) =
+      knowing_stable Version old new E g (record_no_version e.process e.number) (λ same. cc) e.refs fits.since (writing (suc parts) k) knows in
+      let after : Knowing new E e.refs fits.since (writing (suc parts) (suc k)) = record {
+        standing = kept.standing;
+        recorded = record {
+          cached = kept.recorded.cached;
+          persisted = λ j l. elim (cases_eq j k) [ inl same ↦ rw same now | inr ne ↦ kept.recorded.persisted j (omega arith) ];
+          fewer = omega arith;
+        };
+        announced = kept.announced;
+        indexed = kept.indexed;
+        ored = kept.ored;
+        head = kept.head;
+      } in
+      let known : Known_on new e fits.since (next_at e s word) = subst (λ (x : Stage). Known_on new e fits.since x) (sym next)
+      (branches (λ x. Known_on new e fits.since x) (left == 0) StorePending (BackRecord (left - 1))
+      (λ z. let l : left ≡ 0 = eqb-true left 0 z in subst (λ (x : ℕ). Knowing new E e.refs fits.since (writing (suc parts) x)) (omega arith) after)
+      (λ z. let l = eqb-false left 0 z in subst (λ (x : ℕ). Knowing new E e.refs fits.since (writing (suc parts) x)) (omega arith) after)) in
+      let held : Holds_on new e (next_at e s word) = subst (λ (x : Stage). Holds_on new e x) (sym next)
+      (branches (λ x. Holds_on new e x) (left == 0) StorePending (BackRecord (left - 1))
+      (λ z. let l : left ≡ 0 = eqb-true left 0 z in m.mine ∙ ap (λ n. map (record_entry E) (range_with_len (k + 1) n)) l)
+      (λ z. let l = eqb-false left 0 z in
+      subst (λ (x : ℕ). Holds new E (record_words x (suc (left - 1)))) (omega arith)
+      (let again : left ≡ suc (left - 1) = omega arith in m.mine ∙ ap (λ (n : ℕ). map (record_entry E) (range_with_len (k + 1) n)) again))) in
+      back_sound e.process old new tn sound place value b between keeps (λ l. fits_next e s word old new t fits plain small known held)
+    where
+      between_own : (k c v value : ℕ) → value ≡ c → IsBetween (record_place e.process e.number k) c v value
+      between_own zero c v value is = inr is
+      between_own (suc k) c v value is = inr is

@@ -1,0 +1,294 @@
+-- The steps by which an edit takes its place, keeps it, and marks its cell.
+use Rattle.std.proofs.Common.{ℕ, ◌≡◌, ◌≢◌, ◌<◌, ◌≤◌, ◌+◌, ◌/◌, ◌==◌, true, List, [], ◌∷◌, ◌++◌, refl, ap, sym, ◌∙◌, subst, arith, inl, inr, zero, suc, length, length-append, Some, max, min}
+use Rattle.std.specs.Prelude.{All, Contains, bit_or, slice_index_or}
+use Rattle.std.proofs.lemmas.Bool.{cases_eq, eq-eqb}
+use Rattle.std.proofs.lemmas.Nat.{le_or_l}
+use Rattle.std.proofs.lemmas.Grind.{get_or_default_zero}
+use Rattle.std.proofs.lemmas.List.Elements.{All-push, All-weaker}
+use Rattle.ds_words.specs.Memory.{StoresAt, FlushesAt, WritesBack}
+use Rattle.ds_formula.proofs.Whole.{only_content}
+use Rattle.ds_layout.specs.Places.{class_of}
+use Rattle.ds_layout.specs.declared.place.Place.{Place}
+use Rattle.ds_layout.specs.declared.place.Place.TheVariants as place
+use Rattle.ds_layout.specs.declared.mark.TheConstants.{DIRTY}
+use Rattle.ds_layout.specs.Head.{head_word}
+use Rattle.ds_layout.specs.Bits.{HasBit}
+use Rattle.ds_state.specs.Edits.{PlainEdit, text_parts}
+use Rattle.ds_state.specs.World.{Edit, edit_of, Issue, World, record_place, index_place, of_cell, of_cell_when, head_after_all, IsHeadBy}
+use Rattle.ds_state.specs.Known.{placing, inside, nothing, AreBelow, IsIn, IsHelped, row_of}
+use Rattle.ds_state.specs.Calls.{entry, HasOne, IsHeadFrom, EditFits, Owes, HasRefs}
+use Rattle.ds_state.specs.Words.{RefersTo, WordFits}
+use Rattle.ds_state.specs.Rely.{Keeps}
+use Rattle.ds_state.specs.Sound.{IsSound}
+use Rattle.ds_state.specs.declared.stage.Stage.TheVariants.{Swap, FlushOwn, BackOwn, OrMark, FlushMark, BackMark}
+use Rattle.ds_state.specs.declared.situation.Situation.{Situation}
+use Rattle.ds_state.specs.declared.situation.Situation.TheVariants.{Editing}
+use Rattle.ds_state.proofs.Heads.{Small, small_counted, small_of_cell, of_cell-append, of_cell-own, by_most, by_last, head_push, head_low, head_high, persisted_most}
+use Rattle.ds_state.proofs.Few.{of_cell_few}
+use Rattle.ds_state.proofs.Noted.{when_rest, when_same}
+use Rattle.ds_state.proofs.Stable.{knowing_stable, record_no_version}
+use Rattle.ds_state.proofs.Frames.{Moves, KeepsOwing, keeps_owing, moves_sound}
+use Rattle.ds_state.proofs.Sides.{IsBetween, newer_between}
+use Rattle.ds_state.proofs.Accesses.{Turn, Backs, written_backs, back_moves, back_grows}
+use Rattle.ds_state.proofs.Counting.{Counts, MayCount, counts_sound}
+use Rattle.ds_edit.specs.Steps.{head_after}
+use Rattle.ds_edit.specs.Worlds.{StepsAt}
+use Rattle.ds_edit.specs.declared.machine.TheConstants.{LAST_STAMP}
+use Rattle.ds_edit.proofs.Turns.{on, Known_on, IsPlainStep, turn, fits_next, back_first}
+use Rattle.ds_edit.proofs.Sorts.{flushes, backs, ors}
+use Rattle.ds_edit.proofs.Placing.{head_now}
+
+record_no_head : (p n cell k : ℕ) → record_place p n k ≢ place.Head cell
+record_no_head p n cell zero = λ same. cc
+record_no_head p n cell (suc k) = λ same. cc
+
+record_no_mark : (p n cell k : ℕ) → record_place p n k ≢ place.Mark cell
+record_no_mark p n cell zero = λ same. cc
+record_no_mark p n cell (suc k) = λ same. cc
+
+module _ (e : PlainEdit) (word : ℕ) (old new : World) (sound : IsSound old) where
+  abbrev E : Edit
+  E = edit_of e
+
+  abbrev es : List Edit
+  es = of_cell e.cell old.counted
+
+  cached_is : old.memory.cached (place.Head e.cell) ≡ head_after_all es
+  cached_is = (sound.words (place.Head e.cell)).last
+
+  small_es : Small es
+  small_es = small_of_cell e.cell old.counted (small_counted old sound.of_sheet)
+
+  -- the head that follows the cell's head
+  next_head : (noted : ℕ) → noted ≡ head_after_all es → head_after e noted ≡ head_after_all (es ++ E ∷ [])
+  next_head noted is =
+      let low = head_low es small_es in
+      let high = head_high es small_es in
+      let few = of_cell_few old sound e.cell in
+      let stamp : min (noted / 65536 + 1) LAST_STAMP ≡ length es + 1 = omega arith in
+      ap (λ (n : ℕ). head_word (record { stamp = n; process = e.process; number = e.number })) stamp ∙ sym (head_push es E)
+
+  module _ (noted : ℕ) (fits : EditFits old e.process (on e (Swap noted))) (is : noted ≡ head_after_all es) where
+    helped : IsHelped old E fits.since noted
+    helped = fits.knows.head
+
+    all_then : es ≡ of_cell_when old e.cell helped.count
+    all_then =
+        let rest = when_rest old e.cell helped.count in
+        rest ∙ when_same (of_cell_when old e.cell helped.count) _ (subst (λ (xs : List Edit). Small xs) rest small_es) (sym helped.is ∙ is ∙ ap head_after_all rest)
+
+    -- both sides of the index rows of its references
+    found : (row : ℕ) → RefersTo old.layout.shape e.text row → HasBit (old.memory.cached (index_place row e.cell)) e.cell × HasBit (old.memory.persisted (index_place row e.cell)) e.cell
+    found row refers =
+        let refs : HasRefs old.layout.shape e.text e.refs = fits.refs in
+        let same : refers.content ≡ refs.content = only_content old.layout.shape e.text refers.content refs.content refers.reads refs.reads in
+        let there : Contains e.refs row = subst (λ (x : ℕ). Contains e.refs x) refers.is (refs.all refers.cell (rw (sym same) refers.refers)) in
+        let at : slice_index_or e.refs there.0 0 ≡ row = sym (get_or_default_zero e.refs there.0 row there.1) ∙ there.2 in (
+          subst (λ (x : ℕ). HasBit (old.memory.cached (index_place x e.cell)) e.cell) at (fits.knows.indexed.cached there.0 there.1),
+          subst (λ (x : ℕ). HasBit (old.memory.persisted (index_place x e.cell)) e.cell) at (fits.knows.indexed.persisted there.0 there.1),
+        )
+
+    may_count : old.situation e.process ≡ Editing (on e (Swap noted)) → MayCount old E
+    may_count at =
+        let h = sound.words (place.Head e.cell) in
+        let most = persisted_most old es (old.memory.cached (place.Head e.cell)) (old.memory.persisted (place.Head e.cell)) small_es h.last h.sides in
+        let back = helped.back in
+        let c = cached_is in
+        let next = next_head noted is in
+        record {
+          of_sheet = record { process = rw fits.sheet.processes fits.is.process; number = fits.is.number; cell = rw fits.sheet.cells fits.is.cell };
+          below = fits.knows.standing;
+          written = λ k l. (fits.knows.recorded.cached k (omega arith), fits.knows.recorded.persisted k (omega arith));
+          indexed = found;
+          back = omega arith;
+          grows = (let g = grown in omega arith);
+          done = λ before by parts. helped.done before by (sym all_then ∙ parts);
+          owes_nothing = λ head owes. subst (λ (x : Situation). Owes x head) at owes;
+        }
+      where
+        all : of_cell e.cell (old.counted ++ E ∷ []) ≡ es ++ E ∷ []
+        all = of_cell-append e.cell old.counted (E ∷ []) ∙ ap (λ xs. es ++ xs) (of_cell-own E)
+
+        grown : head_after_all es ≤ head_after_all (of_cell e.cell (old.counted ++ E ∷ []))
+        grown =
+            let low = head_high es small_es in
+            let push = head_push es E in
+            let few = of_cell_few old sound e.cell in
+            let same = ap head_after_all all in
+            omega arith
+
+    -- the edit comes to count
+    pub step_swap_won : old.situation e.process ≡ Editing (on e (Swap noted)) → StepsAt e (Swap noted) word old new → word ≡ noted
+        → StoresAt (place.Head e.cell) (head_after e noted) old.memory new.memory → Keeps e.process old new
+    step_swap_won at t same m =
+        let own : ℕ = head_after e noted in
+        let b : word == noted ≡ true = eq-eqb word noted same in
+        let counted : new.counted ≡ old.counted ++ E ∷ [] = t.counted ∙ rw b refl in
+        let there : new.situation e.process ≡ Editing (on e (FlushOwn own)) = t.situation ∙ rw b refl in
+        let mine : of_cell e.cell new.counted ≡ es ++ E ∷ [] = ap (λ xs. of_cell e.cell xs) counted ∙ of_cell-append e.cell old.counted (E ∷ []) ∙ ap (λ xs. es ++ xs) (of_cell-own E) in
+        let own_is : own ≡ head_after_all (of_cell e.cell new.counted) = next_head noted is ∙ ap head_after_all (sym mine) in
+        let issue : Issue = record { edit = E; since = fits.since } in
+        let pends : new.pending e.process ≡ Some issue = t.pending ∙ fits.pending in
+        let counts : Counts E issue old new = record {
+          layout = t.layout;
+          counted = counted;
+          memory = subst (λ (x : ℕ). StoresAt (place.Head e.cell) x old.memory new.memory) own_is m;
+          situations = t.others;
+          pendings = t.others_pending;
+          pending = pends;
+          same = refl;
+          owes = rw there own_is;
+        } in
+        let below : AreBelow new e.process (e.number + 1) = subst (λ (xs : List Edit). All (λ f. f.process ≡ e.process → f.number < e.number + 1) xs) (sym counted)
+        (All-push (λ (f : Edit). f.process ≡ e.process → f.number < e.number + 1) old.counted E
+        (All-weaker (λ (f : Edit). f.process ≡ e.process → f.number < e.number) (λ (f : Edit). f.process ≡ e.process → f.number < e.number + 1) (λ f h k. let l = h k in omega arith) old.counted fits.knows.standing)
+        (λ k. omega arith)) in
+        let knows : Known_on new e fits.since (FlushOwn own) = record {
+          standing = record {
+            below = below;
+            head = subst (λ (xs : List Edit). IsHeadBy xs own E) (sym mine) (subst (λ (x : ℕ). IsHeadBy (es ++ E ∷ []) x E) (sym (next_head noted is)) (by_last es E));
+          };
+          recorded = record {
+            cached = λ k l. m.elsewhere (record_place e.process e.number k) (record_no_head e.process e.number e.cell k) ∙ fits.knows.recorded.cached k l;
+            persisted = λ k l. m.persisted (record_place e.process e.number k) ∙ fits.knows.recorded.persisted k l;
+            fewer = fits.knows.recorded.fewer;
+          };
+          announced = record {
+            cached = m.elsewhere (place.Announce e.process) (λ same'. cc) ∙ fits.knows.announced.cached;
+            persisted = rw (m.persisted (place.Announce e.process)) fits.knows.announced.persisted;
+          };
+          indexed = record {
+            cached = λ i l. rw (m.elsewhere (row_of E e.refs i) (λ same'. cc)) (fits.knows.indexed.cached i l);
+            persisted = λ i l. rw (m.persisted (row_of E e.refs i)) (fits.knows.indexed.persisted i l);
+          };
+          ored = tt;
+          head = tt;
+        } in
+        counts_sound E issue old new counts (may_count at) sound (rw there (record {
+          mine = refl;
+          is = record {
+            process = fits.is.process;
+            processes = fits.is.processes;
+            number = fits.is.number;
+            cell = fits.is.cell;
+            cells = fits.is.cells;
+            text = fits.is.text;
+            refs = fits.is.refs;
+            stage = tt;
+          };
+          sheet = record { cells = rw t.layout fits.sheet.cells; processes = rw t.layout fits.sheet.processes };
+          refs = rw t.layout fits.refs;
+          since = fits.since;
+          pending = pends;
+          issued = (let l = ap length counted in let i = fits.issued in omega (arith, length-append old.counted (E ∷ [])));
+          knows = knows;
+          buffer = m.buffer e.process ∙ fits.buffer;
+        }))
+
+  pub step_flush_own : (own : ℕ) → old.situation e.process ≡ Editing (on e (FlushOwn own)) → (fits : EditFits old e.process (on e (FlushOwn own))) → StepsAt e (FlushOwn own) word old new → Keeps e.process old new
+  step_flush_own own at fits t =
+      let m : FlushesAt e.process (place.Head e.cell) (class_of (place.Head e.cell)) old.memory new.memory = t.memory.1 in
+      let counted : new.counted ≡ old.counted = (turn e (FlushOwn own) word old new t refl).counted in
+      let stands : IsIn old E own = fits.knows.standing in
+      let from : IsHeadFrom old e.cell own (old.memory.cached (place.Head e.cell)) = head_now old sound E own E stands.head in
+      flushes e (FlushOwn own) word old new sound at fits t (record { goes_on = refl; counts = refl; pends = λ i. refl }) (rw t.memory.0 (omega arith)) (λ head o. (t.pending, o)) (place.Head e.cell) m fits.buffer
+      (λ known. known)
+      (λ alone. record {
+        value = old.memory.cached (place.Head e.cell);
+        alone = alone;
+        is = record {
+          enough = from.enough;
+          by = from.by;
+          head = subst (λ (xs : List Edit). IsHeadBy (of_cell e.cell xs) (old.memory.cached (place.Head e.cell)) from.by) (sym counted) from.head;
+        };
+      })
+
+  pub step_or_mark : (own : ℕ) → old.situation e.process ≡ Editing (on e (OrMark own)) → (fits : EditFits old e.process (on e (OrMark own))) → StepsAt e (OrMark own) word old new → Keeps e.process old new
+  step_or_mark own at fits t =
+      let there : Place = place.Mark e.cell in
+      let le : old.memory.cached there ≤ bit_or (old.memory.cached there) DIRTY = le_or_l (old.memory.cached there) DIRTY in
+      let side : old.memory.persisted there ≤ old.memory.cached there = sound.words there in
+      ors e (OrMark own) word old new sound at fits t (record { goes_on = refl; counts = refl; pends = λ i. refl }) (rw t.memory.0 (omega arith)) (λ head o. absurd o) there DIRTY
+      (record_no_mark e.process e.number e.cell) (λ same. cc) le (λ moves. omega arith) t.memory.1
+      (λ known now. known)
+      (λ same. same ∙ fits.buffer)
+
+  pub step_flush_mark : (own : ℕ) → old.situation e.process ≡ Editing (on e (FlushMark own)) → (fits : EditFits old e.process (on e (FlushMark own))) → StepsAt e (FlushMark own) word old new → Keeps e.process old new
+  step_flush_mark own at fits t =
+      let there : Place = place.Mark e.cell in
+      let m : FlushesAt e.process there (class_of there) old.memory new.memory = t.memory.1 in
+      flushes e (FlushMark own) word old new sound at fits t (record { goes_on = refl; counts = refl; pends = λ i. refl }) (rw t.memory.0 (omega arith)) (λ head o. absurd o) there m fits.buffer
+      (λ known. known)
+      (λ alone. record { value = old.memory.cached there; alone = alone; is = (let c = m.cached there in omega arith) })
+
+  pub step_back_mark : (own : ℕ) → old.situation e.process ≡ Editing (on e (BackMark own)) → (fits : EditFits old e.process (on e (BackMark own))) → StepsAt e (BackMark own) word old new → Keeps e.process old new
+  step_back_mark own at fits t =
+      let there : Place = place.Mark e.cell in
+      let one : HasOne old e.process there (λ value. value ≤ old.memory.cached there) = fits.buffer in
+      backs e (BackMark own) word old new sound at fits t (record { goes_on = refl; counts = refl; pends = λ i. refl }) (rw t.memory.0 (omega arith)) (λ head o. absurd o) there one.value one.alone one.is (λ o. absurd o) t.memory.1
+      (λ known now. known)
+      (λ empty. empty)
+
+  -- its head, or a later one, is persisted: the edit no longer owes it
+  pub step_back_own : (own : ℕ) → old.situation e.process ≡ Editing (on e (BackOwn own)) → (fits : EditFits old e.process (on e (BackOwn own))) → StepsAt e (BackOwn own) word old new → Keeps e.process old new
+  step_back_own own at fits t =
+      let there : Place = place.Head e.cell in
+      let c : ℕ = old.memory.cached there in
+      let v : ℕ = old.memory.persisted there in
+      let one : HasOne old e.process there (IsHeadFrom old e.cell own) = fits.buffer in
+      let plain : IsPlainStep e (BackOwn own) word = record { goes_on = refl; counts = refl; pends = λ i. refl } in
+      let tn : Turn e.process old new = turn e (BackOwn own) word old new t refl in
+      let m : WritesBack e.process (entry there one.value) [] old.memory new.memory = back_first (entry there one.value) [] one.alone t.memory.1 in
+      let b : Backs e.process old new tn there (max v one.value) = written_backs e.process old new tn there one.value [] m in
+      let between : IsBetween there c v (max v one.value) = newer_between old (small_counted old sound.of_sheet) there c v one.value (sound.words there) (one.is.by, one.is.head) in
+      let moves : Moves e.process there old new = back_moves e.process old new tn sound there (max v one.value) b between in
+      let g = back_grows e.process old new tn sound there (max v one.value) b between (λ o. absurd o) in
+      let known : Known_on new e fits.since (BackOwn own) = knowing_stable place.Version old new E g (record_no_version e.process e.number) (λ same. cc) e.refs fits.since (placing (text_parts e.text) (length e.refs) (inside own) nothing) fits.knows in
+      let enough = one.is.enough in
+      let now : new.memory.persisted there ≡ max v one.value = m.there in
+      let knows : Known_on new e fits.since (OrMark own) = record {
+        standing = record {
+          below = known.standing.below;
+          safe = record { own = own; head = known.standing.head; persisted = omega arith };
+        };
+        recorded = known.recorded;
+        announced = known.announced;
+        indexed = known.indexed;
+        ored = tt;
+        head = tt;
+      } in
+      let most : own ≤ c = let l = by_most es own E small_es (fits.knows.standing).head in let is = cached_is in omega arith in
+      let value_most : one.value ≤ c = let l = by_most es one.value one.is.by small_es one.is.head in let is = cached_is in omega arith in
+      let keeps_other : (cell : ℕ) → place.Head cell ≢ there → KeepsOwing old new cell = λ cell ne. keeps_owing e.process old new cell t.others t.others_pending (λ issue its is owes.
+      let same : Some (record { edit = E; since = fits.since }) ≡ Some issue = sym fits.pending ∙ is in
+      let edit : issue ≡ record { edit = E; since = fits.since } = cc in
+      absurd (ne (ap (λ (x : ℕ). place.Head x) (sym its ∙ ap (λ (x : Issue). x.edit.cell) edit)))) in
+      let fitting : WordFits new there (new.memory.cached there) (new.memory.persisted there) = record {
+        last = m.cached there ∙ cached_is ∙ ap (λ xs. head_after_all (of_cell e.cell xs)) (sym tn.counted);
+        sides = elim (sound.words there).sides [
+          | inl same ↦ inl (let k = m.cached there in omega arith)
+          | inr w ↦ elim (cases_eq w.last.process e.process) [
+            | inl mine ↦ inl (
+                let owed : own ≡ head_after_all es = subst (λ (x : Situation). Owes x (head_after_all es)) at (subst (λ (q : ℕ). Owes (old.situation q) (head_after_all es)) mine w.owes) in
+                let is = cached_is in
+                let p = persisted_most old es c v small_es cached_is (inr w) in
+                let k = m.cached there in
+                omega arith)
+            | inr other ↦ elim between [
+              | inl stays ↦ inr (record {
+                before = w.before;
+                last = w.last;
+                parts = ap (λ xs. of_cell e.cell xs) tn.counted ∙ w.parts;
+                is = now ∙ stays ∙ w.is;
+                issue = w.issue;
+                pending = t.others_pending w.last.process other ∙ w.pending;
+                same = w.same;
+                owes = subst (λ (xs : List Edit). Owes (new.situation w.last.process) (head_after_all (of_cell e.cell xs))) (sym tn.counted) (rw (t.others w.last.process other) w.owes);
+              })
+              | inr all ↦ inl (now ∙ all ∙ sym (m.cached there))
+            ]
+          ]
+        ];
+      } in
+      moves_sound e.process there old new moves sound keeps_other fitting
+      (λ l. fits_next e (BackOwn own) word old new t fits plain (rw t.memory.0 (omega arith)) knows m.mine)

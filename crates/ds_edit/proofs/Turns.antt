@@ -1,0 +1,86 @@
+-- What each step of an edit has in common.
+use Rattle.std.proofs.Common.{ℕ, ◌≡◌, ◌<◌, ◌^◌, List, [], ◌∷◌, ◌++◌, refl, ap, sym, ◌∙◌, subst, arith, length}
+use Rattle.std.specs.Prelude.{Option}
+use Rattle.std.proofs.lemmas.List.{append-nil}
+use Rattle.ds_words.specs.declared.access.Entry.{Entry}
+use Rattle.ds_words.specs.Memory.{Memory, WritesBack, BacksFirst}
+use Rattle.ds_layout.specs.declared.place.Place.{Place}
+use Rattle.ds_state.specs.Edits.{PlainEdit, text_parts}
+use Rattle.ds_state.specs.World.{edit_of, Issue, World, of_cell, head_after_all}
+use Rattle.ds_state.specs.Known.{known_at, Knowing}
+use Rattle.ds_state.specs.Calls.{held_at, Holds, EditFits, CallFits, Owes, OwesAt}
+use Rattle.ds_state.specs.declared.stage.Stage.{Stage}
+use Rattle.ds_state.specs.declared.situation.Situation.{Situation}
+use Rattle.ds_state.specs.declared.situation.Situation.TheVariants.{Editing}
+use Rattle.ds_state.proofs.Frames.{KeepsOwing, keeps_owing}
+use Rattle.ds_state.proofs.Accesses.{Turn}
+use Rattle.ds_edit.specs.Steps.{next_at}
+use Rattle.ds_edit.specs.Worlds.{StepsAt, counted_at, pending_at, after}
+use Rattle.ds_edit.proofs.Stays.{stays}
+
+-- the edit at a stage
+abbrev pub on : PlainEdit → Stage → PlainEdit
+on e s = record e { stage = s }
+
+-- what is known of it at a stage, and what its buffer holds
+abbrev pub Known_on : World → PlainEdit → ℕ → Stage → Type 0
+Known_on w e since s = Knowing w (edit_of e) e.refs since (known_at (text_parts e.text) (length e.refs) s)
+
+abbrev pub Holds_on : World → PlainEdit → Stage → Type 0
+Holds_on w e s = Holds w (edit_of e) (held_at (text_parts e.text) e.refs s)
+
+-- a step before the answer, by which nothing comes to count
+pub record IsPlainStep (e : PlainEdit) (s : Stage) (word : ℕ) : Type 0 where
+  pub goes_on : after e s word ≡ Editing (on e (next_at e s word))
+  pub counts : counted_at e s word ≡ []
+  pub pends : (issue : Option Issue) → pending_at issue s ≡ issue
+
+module _ (e : PlainEdit) (s : Stage) (word : ℕ) (old new : World) (t : StepsAt e s word old new) where
+  pub turn : counted_at e s word ≡ [] → Turn e.process old new
+  turn none = record {
+    layout = t.layout;
+    counted = t.counted ∙ ap (λ es. old.counted ++ es) none ∙ append-nil old.counted;
+    situations = t.others;
+    pendings = t.others_pending;
+  }
+
+  -- who owes a head, owes it still
+  pub owing : old.situation e.process ≡ Editing (on e s)
+      → ((head : ℕ) → OwesAt s head → (new.pending e.process ≡ old.pending e.process) × Owes (after e s word) head)
+      → (cell : ℕ) → KeepsOwing old new cell
+  owing at mine cell = keeps_owing e.process old new cell t.others t.others_pending (λ issue its is owes.
+      let k = mine (head_after_all (of_cell cell old.counted)) (subst (λ (x : Situation). Owes x (head_after_all (of_cell cell old.counted))) at owes) in
+      (k.0 ∙ is, rw t.situation k.1))
+
+  -- what fits the next stage, where that is known and held
+  pub fits_next : (fits : EditFits old e.process (on e s)) → IsPlainStep e s word → word < 2 ^ 64
+      → Known_on new e fits.since (next_at e s word) → Holds_on new e (next_at e s word)
+      → CallFits new e.process (new.situation e.process)
+  fits_next fits plain small knows holds = subst (λ (x : Situation). CallFits new e.process x) (sym (t.situation ∙ plain.goes_on)) (record {
+    mine = refl;
+    is = record {
+      process = fits.is.process;
+      processes = fits.is.processes;
+      number = fits.is.number;
+      cell = fits.is.cell;
+      cells = fits.is.cells;
+      text = fits.is.text;
+      refs = fits.is.refs;
+      stage = stays e s word small fits.is.stage;
+    };
+    sheet = record { cells = rw t.layout fits.sheet.cells; processes = rw t.layout fits.sheet.processes };
+    refs = rw t.layout fits.refs;
+    since = fits.since;
+    pending = t.pending ∙ plain.pends (old.pending e.process) ∙ fits.pending;
+    issued = (let l = ap length (turn plain.counts).counted in let i = fits.issued in omega arith);
+    knows = knows;
+    buffer = holds;
+  })
+
+-- the entry that is written back is the oldest
+pub back_first : {p : ℕ} {old new : Memory Place} (x : Entry Place) (xs : List (Entry Place)) → old.buffer p ≡ x ∷ xs → BacksFirst p old new → WritesBack p x xs old new
+back_first {p} {old} {new} x xs holds (entry, rest, m) =
+    let both : x ∷ xs ≡ entry ∷ rest = sym holds ∙ m.oldest in
+    let a : entry ≡ x = cc in
+    let b : rest ≡ xs = cc in
+    subst (λ (r : List (Entry Place)). WritesBack p x r old new) b (subst (λ (y : Entry Place). WritesBack p y rest old new) a m)

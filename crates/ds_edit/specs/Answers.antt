@@ -1,0 +1,28 @@
+-- What the answer of an edit says of the list of those that count.
+use Rattle.std.specs.Prelude.{ℕ, ◌≡◌, Some, Contains, drop}
+use Rattle.ds_layout.specs.declared.head.Head.{Head}
+use Rattle.ds_layout.specs.Head.{head_of}
+use Rattle.ds_state.specs.World.{Edit, World}
+use Rattle.ds_state.specs.declared.stage.Outcome.{Outcome}
+use Rattle.ds_state.specs.declared.stage.Outcome.TheVariants.{Done, Overtaken}
+
+-- the word is the head of another edit of the cell, which came to count since then
+pub record Overtakes (w : World) (e : Edit) (since word : ℕ) : Type 0 where
+  pub by : Edit
+  pub counted : Contains (drop since w.counted) by
+  pub cell : by.cell ≡ e.cell
+  pub head : Head
+  pub reads : head_of w.layout.processes word ≡ Some head
+  pub process : head.process ≡ by.process
+  pub number : head.number ≡ by.number
+
+-- Done: it counts; Overtaken: it does not, and the head that it met is of an edit that came to count since its issue
+abbrev pub IsTrueOf : World → Edit → ℕ → Outcome → Type 0
+IsTrueOf w e since Done = Contains w.counted e
+IsTrueOf w e since (Overtaken noted seen) = (Contains w.counted e → ⊥) × Overtakes w e since seen
+
+-- so since its issue
+pub record IsTrueAnswer (w : World) (e : Edit) (how : Outcome) : Type 0 where
+  pub since : ℕ
+  pub issued : w.pending e.process ≡ Some (record { edit = e; since = since })
+  pub holds : IsTrueOf w e since how

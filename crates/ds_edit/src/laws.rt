@@ -1,0 +1,50 @@
+//! What is true of each edit, as functions that do nothing.
+
+ghost use Rattle.std.specs.Prelude.{◌≡◌, ◌<◌, ℕ};
+ghost use Rattle.ds_state.specs.Edits.{PlainEdit, IsEdit};
+ghost use Rattle.ds_state.specs.World.{World, edit_of};
+ghost use Rattle.ds_state.specs.Sound.{IsSound};
+ghost use Rattle.ds_state.specs.Rely.{Keeps};
+ghost use Rattle.ds_state.specs.Calls.{IsSheetOf, HasRefs};
+ghost use Rattle.ds_state.specs.declared.stage.Outcome.{Outcome};
+ghost use Rattle.ds_state.specs.declared.stage.Stage.TheVariants.{Answer};
+ghost use Rattle.ds_state.specs.declared.situation.Situation.TheVariants.{Editing};
+ghost use Rattle.ds_edit.specs.Worlds.{Steps, Begins};
+ghost use Rattle.ds_edit.specs.Answers.{IsTrueAnswer};
+ghost use Rattle.ds_edit.specs.Steps.{access_at};
+ghost use Rattle.ds_layout.specs.Sheet.{CanPerform};
+
+/// Each step of an edit, whatever the word that its access answers, leaves a sound sheet sound, and
+/// leaves each other process what it may count on.
+#[tactic(auto, using(crate::proofs::Sound::step_sound))]
+pub fn steps_keep_soundness()
+    ensures { (e : PlainEdit) (word : ℕ) (old new : World) → IsSound old
+        → e.process < old.layout.processes → old.situation e.process ≡ Editing e
+        → Steps e word old new → Keeps e.process old new }
+{}
+
+/// The beginning of an edit of the sheet does the same.
+#[tactic(auto, using(crate::proofs::Answering::begin_sound))]
+pub fn begins_keep_soundness()
+    ensures { (e : PlainEdit) (old new : World) → IsSound old
+        → IsEdit e → IsSheetOf old.layout e → HasRefs old.layout.shape e.text e.refs
+        → Begins e old new → Keeps e.process old new }
+{}
+
+/// An edit that answers Done counts; one that answers Overtaken does not, and the head that it met
+/// is that of an edit of its cell which came to count since it was issued.
+#[tactic(auto, using(crate::proofs::Truth::answer_true))]
+pub fn answers_are_true()
+    ensures { (e : PlainEdit) (how : Outcome) (w : World) → IsSound w
+        → e.process < w.layout.processes → e.stage ≡ Answer how
+        → w.situation e.process ≡ Editing e → IsTrueAnswer w (edit_of e) how }
+{}
+
+/// The access of an edit of a sound sheet can be performed: it names a place of the sheet, and the
+/// buffer has room for what is flushed, and an entry where one is written back.
+#[tactic(auto, using(crate::proofs::Possible::can_perform))]
+pub fn accesses_are_possible()
+    ensures { (e : PlainEdit) (w : World) → IsSound w
+        → e.process < w.layout.processes → w.situation e.process ≡ Editing e
+        → CanPerform w.layout w.memory e.process (access_at e e.stage) }
+{}
