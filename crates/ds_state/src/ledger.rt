@@ -30,12 +30,15 @@ impl Model for Edit {
 }
 
 impl Edit {
+    ghost use Rattle.ds_state.specs.Text.{IsText};
     ghost use Rattle.ds_state.specs.World.{edit_of};
 
     /// What the edit under way is to whoever asked for it.
     pub fn of(call: &EditCall) -> Edit
-        ensures { result ≡ edit_of call.now }
+        ensures value { result ≡ edit_of call.now }
+        ensures text { IsText result.text }
     {
+        call.text.is_text();
         Edit {
             process: call.process,
             number: call.number,
