@@ -7,5 +7,7 @@ pub mod ledger;
 pub mod shown;
 pub mod situation;
 pub mod stage;
+#[cfg(test)]
+mod tests;
 pub mod text;
 pub mod world;

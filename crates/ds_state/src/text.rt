@@ -44,10 +44,16 @@ impl Text {
         Some(Text { bytes: padded, len })
     }
 
+    /// It is a text: at most 120 bytes.
+    pub fn is_text(&self)
+        ensures { IsText self.now }
+    {
+        let _bytes = &self.bytes;
+    }
+
     /// The bytes.
     pub fn as_slice(&self) -> &[u8]
-        ensures same { result.now ≡ self.now }
-        ensures text { IsText self.now }
+        ensures { result.now ≡ self.now }
     {
         &self.bytes[..self.len]
     }

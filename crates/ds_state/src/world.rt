@@ -55,8 +55,8 @@ impl Model for World {
     }) (vec_capacity w.counted) };
 }
 
-#[tactic(auto, using(crate::proofs::Made::one_more))]
 /// As many idle processes, each before its edit 0.
+#[tactic(auto, using(crate::proofs::Made::one_more))]
 fn idle(alloc: Global, processes: usize) -> Result<Vec<Situation>, AllocError>
     ensures { IfOk result (λ v. v.items ≡ replicate processes (Situation.Idle 0)) }
 {
