@@ -1,4 +1,3 @@
 pub mod Ledger
 pub mod PlainSheet
-pub mod Refusals
 pub mod Kept

@@ -2,5 +2,4 @@
 #![tactic(auto)]
 
 pub mod edit;
-pub mod refusal;
 pub mod sheet;
