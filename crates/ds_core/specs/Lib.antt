@@ -1,6 +1,5 @@
 pub mod Ledger
 pub mod PlainSheet
-pub mod Refusals
 pub mod Kept
 pub mod Requests
 pub mod Steps

@@ -7,8 +7,8 @@ use Rattle.ds_formula.specs.Grammar.{Reads, Faults}
 use Rattle.ds_eval.specs.declared.value.Value.{Value}
 use Rattle.ds_eval.specs.Scratch.{IsScratch}
 use Rattle.ds_core.specs.declared.edit.CountedEdit.{CountedEdit}
-use Rattle.ds_core.specs.declared.refusal.Refusal.{Refusal}
-use Rattle.ds_core.specs.declared.refusal.Refusal.TheVariants.{Text, RecordsFull, NoMemory}
+use Rattle.ds_state.specs.declared.refusal.Refusal.{Refusal}
+use Rattle.ds_state.specs.declared.refusal.Refusal.TheVariants.{Text, Busy, Stopped, RecordsFull, NoMemory}
 use Rattle.ds_core.specs.Ledger.{edits_of, IsFold}
 
 -- the shape, how many processes there are, and the counted edits in order
@@ -25,9 +25,11 @@ pub record Counts (old new : PlainSheet) (process number : ℕ) (cell : Cell) (t
   pub read : Reads old.shape text content
   pub added : new ≡ record old { edits = old.edits ++ record { process = process; number = number; cell = cell; text = text } ∷ [] }
 
--- why an edit is refused
+-- why an edit is refused: no process is ever in a call, or stopped
 abbrev pub Refuses : PlainSheet → ℕ → List ℕ → Refusal → Type 0
 Refuses sheet process text (Text fault) = Faults sheet.shape text fault
+Refuses sheet process text Busy = ⊥
+Refuses sheet process text Stopped = ⊥
 Refuses sheet process text RecordsFull = edits_of process sheet.edits ≡ 256
 Refuses sheet process text NoMemory = Unit {0}
 

@@ -1,9 +1,8 @@
-//! The sheet's edits, counted in one list, and the values that they give.
+//! What the processes of a sheet do, event by event; and the sheet whose edits count at once.
 #![tactic(auto)]
 
 pub mod edit;
 pub mod event;
-pub mod refusal;
 pub mod reply;
 pub mod sheet;
 pub mod step;

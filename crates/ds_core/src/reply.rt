@@ -1,6 +1,6 @@
 //! What a world answers to an event.
 
-use crate::refusal::Refusal;
+use ds_state::refusal::Refusal;
 
 /// An edit of another process.
 #[derive(Clone, Copy, Debug, PartialEq, Eq)]

@@ -5,18 +5,16 @@ ghost use Rattle.ds_formula.specs.Cells.{IsInside};
 ghost use Rattle.ds_core.specs.PlainSheet.{Counts, Refuses, Shows, fresh};
 
 use crate::edit::{CountedEdit, Text};
-use crate::refusal::Refusal;
 use ds_eval::scratch::scratch;
 use ds_eval::sheet::Sheet;
 use ds_eval::value::Value;
 use ds_formula::cells::{Cell, Shape};
 use ds_formula::content::Content;
 use ds_formula::reading::read_content;
+use ds_layout::place::RECORDS;
+use ds_state::refusal::Refusal;
 use std::alloc::{AllocError, Global};
 use std::marker::Model;
-
-/// How many edits a process makes for good: their numbers run from 0 to 255.
-pub const RECORDS: usize = 256;
 
 /// A sheet whose edits count at once, in the order in which they are made.
 #[derive(Drop)]

@@ -7,8 +7,8 @@ use Rattle.ds_formula.specs.declared.cells.Cell.{Cell}
 use Rattle.ds_formula.specs.Names.{fault_text}
 use Rattle.ds_eval.specs.declared.value.Value.{Value}
 use Rattle.ds_eval.specs.Numbers.{value_text}
-use Rattle.ds_core.specs.declared.refusal.Refusal.{Refusal}
-use Rattle.ds_core.specs.declared.refusal.Refusal.TheVariants.{Text, RecordsFull, NoMemory}
+use Rattle.ds_state.specs.declared.refusal.Refusal.{Refusal}
+use Rattle.ds_state.specs.declared.refusal.Refusal.TheVariants.{Text, Busy, Stopped, RecordsFull, NoMemory}
 use Rattle.ds_core.specs.PlainSheet.{PlainSheet, Counts, Refuses, Shows, fresh}
 use Rattle.ds_sched.specs.Commands.{Order, Make, Edit, Settle, Report}
 
@@ -18,6 +18,8 @@ done_text process number = decimal process ++ (codes " " ++ (decimal number ++ c
 
 abbrev pub refusal_text : Refusal → List ℕ
 refusal_text (Text fault) = codes "1 " ++ fault_text fault
+refusal_text Busy = codes "2 Busy"
+refusal_text Stopped = codes "3 Stopped"
 refusal_text RecordsFull = codes "4 RecordsFull"
 refusal_text NoMemory = codes "5 NoMemory"
 

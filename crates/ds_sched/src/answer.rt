@@ -9,9 +9,9 @@ ghost use Rattle.ds_eval.specs.Numbers.{value_text};
 ghost use Rattle.ds_sched.specs.Answers.{done_text, refused_text, settled_text};
 
 use csv::{ByteRecord, Writer, WriterBuilder};
-use ds_core::refusal::Refusal;
 use ds_eval::value::Value;
 use ds_formula::cells::Shape;
+use ds_state::refusal::Refusal;
 use std::alloc::{AllocError, Global};
 
 /// `P NUMBER done`. An error is a want of memory.
@@ -27,6 +27,8 @@ pub fn refused_line(alloc: Global, process: usize, refusal: Refusal) -> Result<S
 {
     match refusal {
         Refusal::Text(fault) => format!(in alloc; "{process} refused 1 {fault}\n"),
+        Refusal::Busy => format!(in alloc; "{process} refused 2 Busy\n"),
+        Refusal::Stopped => format!(in alloc; "{process} refused 3 Stopped\n"),
         Refusal::RecordsFull => format!(in alloc; "{process} refused 4 RecordsFull\n"),
         Refusal::NoMemory => format!(in alloc; "{process} refused 5 NoMemory\n"),
     }

@@ -11,7 +11,7 @@ ghost use Rattle.ds_sched.specs.Script.{Outcome};
 ghost use Rattle.ds_sched.specs.Input.{Within};
 ghost use Rattle.ds_sched.specs.declared.input.InputEnd.TheVariants as inputs;
 ghost use Rattle.ds_sched.specs.Running.{progress_of, Obeyed, Stopped, Ran, break_of, ending_of};
-ghost use Rattle.ds_core.specs.declared.refusal.Refusal.TheVariants.{NoMemory};
+ghost use Rattle.ds_state.specs.declared.refusal.Refusal.TheVariants.{NoMemory};
 ghost use Rattle.ds_sched.specs.declared.script.Stop.TheVariants as stops;
 
 use crate::answer::{done_line, refused_line, settled_lines};
@@ -20,9 +20,9 @@ use crate::ending::{ScriptEnd, ScriptFault};
 use crate::input::{Input, InputEnd, read_input};
 use crate::line::{NextLine, next_line};
 use crate::streams::{Reading, Writing};
-use ds_core::refusal::Refusal;
 use ds_core::sheet::CountedSheet;
 use ds_formula::cells::{Cell, Shape};
+use ds_state::refusal::Refusal;
 use std::alloc::{AllocError, Global};
 use std::io::{Read, Write};
 

@@ -11,3 +11,4 @@ pub mod Events
 pub mod Text
 pub mod Value
 pub mod Shown
+pub mod Refusals

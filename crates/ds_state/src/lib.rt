@@ -4,6 +4,7 @@
 pub mod edit;
 pub mod laws;
 pub mod ledger;
+pub mod refusal;
 pub mod shown;
 pub mod situation;
 pub mod stage;

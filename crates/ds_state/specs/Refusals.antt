@@ -2,8 +2,8 @@
 use Rattle.ds_formula.specs.declared.fault.TextFault.{TextFault}
 use Rattle.ds_formula.specs.declared.fault.FaultKind.{FaultKind}
 use Rattle.ds_formula.specs.declared.fault.FaultKind.TheVariants as kinds
-use Rattle.ds_core.specs.declared.refusal.Refusal.{Refusal}
-use Rattle.ds_core.specs.declared.refusal.Refusal.TheVariants.{Text, NoMemory}
+use Rattle.ds_state.specs.declared.refusal.Refusal.{Refusal}
+use Rattle.ds_state.specs.declared.refusal.Refusal.TheVariants.{Text, NoMemory}
 
 abbrev pub refusal_by : FaultKind → TextFault → Refusal
 refusal_by kinds.NoMemory fault = NoMemory

@@ -1,18 +1,22 @@
-//! Why an edit or a report is refused.
+//! Why a call is refused.
 
 ghost use Rattle.std.specs.Prelude.{◌≡◌};
-ghost use Rattle.ds_core.specs.declared.refusal.Refusal.TheVariants.{NoMemory};
-ghost use Rattle.ds_core.specs.Refusals.{refusal_of};
+ghost use Rattle.ds_state.specs.declared.refusal.Refusal.TheVariants.{NoMemory};
+ghost use Rattle.ds_state.specs.Refusals.{refusal_of};
 
 use ds_formula::fault::{FaultKind, TextFault};
 use std::alloc::{AllocError, AllocFailed};
 
-/// Why an edit is refused, or a report for want of memory. After a refusal the sheet is as it was. Each cause has a
-/// code, the number that a script prints behind `refused`.
+/// Why a call is refused. After a refusal the sheet and its processes are as they were. Each cause
+/// has a code, the number that a script prints behind `refused`.
 #[derive(Clone, Copy, Debug, PartialEq, Eq)]
 pub enum Refusal {
     /// The text has no content, but this fault. The code that scripts print is 1.
     Text(TextFault),
+    /// The process is in a call. The code that scripts print is 2.
+    Busy,
+    /// The process is stopped. The code that scripts print is 3.
+    Stopped,
     /// The process has spent its 256 records. The code that scripts print is 4.
     RecordsFull,
     /// An allocation failed. The code that scripts print is 5.
