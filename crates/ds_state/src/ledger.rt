@@ -30,7 +30,6 @@ impl Model for Edit {
 }
 
 impl Edit {
-    ghost use Rattle.ds_state.specs.Text.{IsText};
     ghost use Rattle.ds_state.specs.World.{edit_of};
     ghost use Rattle.ds_state.specs.Text.{IsText};
 

@@ -58,13 +58,6 @@ impl Text {
         &self.bytes[..self.len]
     }
 
-    /// It is a text: at most 120 bytes.
-    pub fn is_text(&self)
-        ensures { IsText self.now }
-    {
-        let _bytes = self.as_slice();
-    }
-
     /// How many bytes it has, at most 120.
     pub fn len(&self) -> usize
         ensures value { result ≡ length self.now }
