@@ -41,7 +41,7 @@ pub editing_from : (v : WorldValue) (p : ℕ) (e : PlainEdit) (read : Situation)
 editing_from v p e read lt is here = record { there = lt; is = get_or_default v.situations p (Idle 0) read lt ∙ sym is ∙ here }
 
 -- what comes to count at a stage is nothing, or the edit
-counted_cases : (e : Edit) (s : Stage) (word : ℕ) → (counted_at e s word ≡ []) ⊎ (counted_at e s word ≡ e ∷ [])
+pub counted_cases : (e : Edit) (s : Stage) (word : ℕ) → (counted_at e s word ≡ []) ⊎ (counted_at e s word ≡ e ∷ [])
 counted_cases e (Swap noted) word = won (word == noted)
   where
     won : (b : Bool) → ((if b then e ∷ [] else []) ≡ []) ⊎ ((if b then e ∷ [] else []) ≡ e ∷ [])

@@ -1,3 +1,4 @@
 pub mod LedgerLemmas
 pub mod SheetLemmas
 pub mod Good
+pub mod Moves

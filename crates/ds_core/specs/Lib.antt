@@ -3,3 +3,5 @@ pub mod PlainSheet
 pub mod Kept
 pub mod Requests
 pub mod Steps
+pub mod Takes
+pub mod Traces

@@ -68,8 +68,10 @@ pub record CanNotStep (old : WorldValue) (p : ℕ) (new : WorldValue) : Type 0 w
   pub none : (edit : PlainEdit) → p < old.sheet.layout.processes → (world_of old).situation p ≡ Editing edit → ⊥
 
 abbrev pub StepTakes : WorldValue → ℕ → Reply → WorldValue → Type 0
+StepTakes old p Stepped new = StepsBy old p Stepped new
+StepTakes old p (Answered answer) new = StepsBy old p (Answered answer) new
 StepTakes old p NotEnabled new = CanNotStep old p new
-StepTakes old p reply new = StepsBy old p reply new
+StepTakes old p _ new = ⊥
 
 -- the word is evicted
 pub record EvictsWord (old : WorldValue) (place : Place) (new : WorldValue) : Type 0 where

@@ -1,0 +1,207 @@
+-- What each event does to the ledger.
+use Rattle.std.proofs.Common.{ℕ, ◌≡◌, ◌≢◌, ◌<◌, ◌≤◌, ◌+◌, ◌⊎◌, List, [], ◌∷◌, ◌++◌, refl, ap, sym, ◌∙◌, subst, arith, inl, inr, zero, suc, length, Some, None}
+use Rattle.std.specs.Prelude.{All, Option, Contains, drop}
+use Rattle.std.proofs.lemmas.Bool.{cases_eq}
+use Rattle.std.proofs.lemmas.List.{append-nil}
+use Rattle.std.proofs.lemmas.List.Elements.{All-contains, All-head, All-tail, Contains-append_cases, Contains-append_left}
+use Rattle.ds_layout.specs.declared.head.Head.{Head}
+use Rattle.ds_layout.specs.Head.{head_of}
+use Rattle.ds_state.specs.Edits.{PlainEdit, text_parts}
+use Rattle.ds_state.specs.World.{Edit, Issue, World, edit_of}
+use Rattle.ds_state.specs.Known.{AreBelow, Knowing, known_at}
+use Rattle.ds_state.specs.Value.{WorldValue, world_of, IsGood}
+use Rattle.ds_state.specs.Calls.{CallFits, EditFits, IdleFits}
+use Rattle.ds_state.specs.Sound.{IsSound, Increasing}
+use Rattle.ds_state.specs.declared.stage.Outcome.{Outcome}
+use Rattle.ds_state.specs.declared.stage.Outcome.TheVariants as outcome
+use Rattle.ds_state.specs.declared.stage.Stage.{Stage}
+use Rattle.ds_state.specs.declared.stage.Stage.TheVariants.{Swap, Answer}
+use Rattle.ds_state.specs.declared.situation.Situation.{Situation}
+use Rattle.ds_state.specs.declared.situation.Situation.TheVariants.{Editing}
+use Rattle.ds_edit.specs.Worlds.{Steps, Begins, counted_at, pending_at}
+use Rattle.ds_edit.specs.Answers.{IsTrueAnswer, IsTrueOf}
+use Rattle.ds_edit.specs.Begun.{IsBegun}
+use Rattle.ds_edit.proofs.Truth.{answer_true}
+use Rattle.ds_core.specs.Requests.{PlainRequest}
+use Rattle.ds_core.specs.Steps.{answer_of, other_of, outcome_at, reply_with, StepsBy}
+use Rattle.ds_core.specs.Takes.{Takes, EditBegins, Fits, WorldRun}
+use Rattle.ds_core.specs.Traces.{Stays, Issues, Counts, Closes, IsOvertakenBy, LedgerMoves, StandsOnce, LedgerRun}
+use Rattle.ds_core.specs.declared.event.Event.{Event}
+use Rattle.ds_core.specs.declared.event.Event.TheVariants.{BeginEdit, BeginWork, BeginShow, BeginRecover, Step, Evict, Stop, Crash}
+use Rattle.ds_core.specs.declared.reply.Answer.{Answer as ReplyAnswer}
+use Rattle.ds_core.specs.declared.reply.Reply.{Reply}
+use Rattle.ds_core.specs.declared.reply.Reply.TheVariants.{Begun, Refused, Stepped, Answered, Evicted, NotEnabled}
+use Rattle.ds_core.proofs.Good.{counted_cases}
+
+-- which stage a step's outcome tells
+answers_at : (s : Stage) (how : Outcome) → outcome_at s ≡ Some how → s ≡ Answer how
+answers_at (Answer how') how is = let same : how' ≡ how = cc in ap (λ h. Answer h) same
+answers_at _ how is = absurd (cc)
+
+goes_on_at : (s : Stage) (issue : Option Issue) → outcome_at s ≡ None → pending_at issue s ≡ issue
+goes_on_at (Answer how) issue is = absurd (cc)
+goes_on_at _ issue is = refl
+
+counts_at : (e : Edit) (s : Stage) (word : ℕ) → counted_at e s word ≡ e ∷ [] → (noted : ℕ) × (s ≡ Swap noted)
+counts_at e (Swap noted) word is = (noted, refl)
+counts_at e _ word is = absurd (cc)
+
+same_stays : (old new : WorldValue) → new ≡ old → Stays (world_of old) (world_of new)
+same_stays old new same = subst (λ (v : WorldValue). Stays (world_of old) (world_of v)) (sym same) (record { counted = refl; pending = λ q. refl })
+
+not_below : (w : World) (e : Edit) → AreBelow w e.process e.number → Contains w.counted e → ⊥
+not_below w e below there = let l = All-contains (λ (f : Edit). f.process ≡ e.process → f.number < e.number) w.counted e below there refl in omega arith
+
+same_since : (a b : Issue) → Some a ≡ Some b → a.since ≡ b.since
+same_since a b same = let one : a ≡ b = cc in ap (λ (i : Issue). i.since) one
+
+-- an edit begins
+begins_move : (old new : World) → IsSound old → (process cell : ℕ) (text : List ℕ) (number : ℕ) → IsBegun old process cell text number new
+    → Issues old (record { process = process; number = number; cell = cell; text = text }) new
+begins_move old new sound process cell text number h =
+    let e : PlainEdit = h.edit in
+    let b : Begins e old new = h.begins in
+    let low : e.process < old.layout.processes = rw h.sheet.processes h.is.process in
+    let idle : IdleFits old e.process e.number = subst (λ (x : Situation). CallFits old e.process x) b.idle (sound.calls e.process low) in
+    let i : Issues old (edit_of e) new = record {
+      none = idle.pending;
+      issued = b.pending;
+      others = b.others_pending;
+      fresh = not_below old (edit_of e) idle.below;
+      counted = b.counted;
+    } in
+    subst (λ (x : Edit). Issues old x new) h.asked i
+
+module _ (old new : WorldValue) (g : IsGood old) (p : ℕ) (reply : Reply) (h : StepsBy old p reply new) where
+  w : World
+  w = world_of old
+
+  abbrev E : Edit
+  E = edit_of h.edit
+
+  low : h.edit.process < old.sheet.layout.processes
+  low = rw h.mine h.there
+
+  here : (world_of old).situation h.edit.process ≡ Editing h.edit
+  here = ap (λ q. (world_of old).situation q) h.mine ∙ h.at
+
+  fits : EditFits (world_of old) h.edit.process h.edit
+  fits = subst (λ (x : Situation). CallFits (world_of old) h.edit.process x) here (g.sound.calls h.edit.process low)
+
+  open_here : (world_of old).pending p ≡ Some (record { edit = E; since = fits.since })
+  open_here = ap (λ q. (world_of old).pending q) (sym h.mine) ∙ fits.pending
+
+  pending_there : (q : ℕ) → outcome_at h.edit.stage ≡ None → (world_of new).pending q ≡ (world_of old).pending q
+  pending_there q goes = elim (cases_eq q h.edit.process) [
+    | inl same ↦ rw same (h.steps.pending ∙ goes_on_at h.edit.stage _ goes)
+    | inr other ↦ h.steps.others_pending q other
+  ]
+
+  steps_on : outcome_at h.edit.stage ≡ None → Stays (world_of old) (world_of new) ⊎ Counts (world_of old) p (world_of new)
+  steps_on goes = elim (counted_cases E h.edit.stage h.word) [
+    | inl none ↦ inl (record {
+      counted = h.steps.counted ∙ ap (λ es. old.counted ++ es) none ∙ append-nil old.counted;
+      pending = λ q. pending_there q goes;
+    })
+    | inr one ↦ inr (
+        let swaps = counts_at E h.edit.stage h.word one in
+        let knows : Knowing (world_of old) E h.edit.refs fits.since (known_at (text_parts h.edit.text) (length h.edit.refs) (Swap swaps.0)) =
+            subst (λ (s : Stage). Knowing (world_of old) E h.edit.refs fits.since (known_at (text_parts h.edit.text) (length h.edit.refs) s)) swaps.1 fits.knows in
+        record {
+          issue = record { edit = E; since = fits.since };
+          open_is = open_here;
+          mine = h.mine;
+          not_yet = not_below (world_of old) E knows.standing;
+          counted = h.steps.counted ∙ ap (λ es. old.counted ++ es) one;
+          pending = λ q. pending_there q goes;
+        })
+  ]
+
+  closes : (how : Outcome) (Is : Issue → Type 0) → h.edit.stage ≡ Answer how → Is (record { edit = E; since = fits.since }) → Closes (world_of old) p h.edit.number Is (world_of new)
+  closes how Is at is = record {
+    issue = record { edit = E; since = fits.since };
+    open_is = open_here;
+    number_is = refl;
+    is = is;
+    closed = ap (λ q. (world_of new).pending q) (sym h.mine) ∙ h.steps.pending ∙ ap (λ s. pending_at ((world_of old).pending h.edit.process) s) at;
+    others = λ q ne. h.steps.others_pending q (λ same. ne (same ∙ h.mine));
+    counted = h.steps.counted ∙ ap (λ s. old.counted ++ counted_at E s h.word) at ∙ append-nil old.counted;
+  }
+
+  true_here : (how : Outcome) → h.edit.stage ≡ Answer how → IsTrueOf (world_of old) E fits.since how
+  true_here how at =
+      let t : IsTrueAnswer (world_of old) E how = answer_true h.edit how (world_of old) g.sound low at here in
+      let since : t.since ≡ fits.since = same_since (record { edit = E; since = t.since }) (record { edit = E; since = fits.since }) (sym t.issued ∙ fits.pending) in
+      subst (λ (n : ℕ). IsTrueOf (world_of old) E n how) since t.holds
+
+  answers : (how : Outcome) → h.edit.stage ≡ Answer how → LedgerMoves (world_of old) (Step p) (Answered (answer_of old.sheet.layout.processes h.edit.number how)) (world_of new)
+  answers outcome.Done at = closes outcome.Done _ at (true_here outcome.Done at)
+  answers (outcome.Overtaken noted seen) at =
+      let t = true_here (outcome.Overtaken noted seen) at in
+      let found : other_of (head_of old.sheet.layout.processes seen) ≡ record { process = t.1.head.process; number = t.1.head.number } = ap other_of t.1.reads in
+      closes (outcome.Overtaken noted seen) _ at (record {
+        out = t.0;
+        by = t.1.by;
+        since = t.1.counted;
+        cell = t.1.cell;
+        process = sym t.1.process ∙ ap (λ o. o.process) (sym found);
+        number = sym t.1.number ∙ ap (λ o. o.number) (sym found);
+      })
+
+  pub step_moves : LedgerMoves (world_of old) (Step p) reply (world_of new)
+  step_moves = by_outcome (outcome_at h.edit.stage) refl
+    where
+      by_outcome : (o : Option Outcome) → outcome_at h.edit.stage ≡ o → LedgerMoves (world_of old) (Step p) reply (world_of new)
+      by_outcome None is = subst (λ (r : Reply). LedgerMoves (world_of old) (Step p) r (world_of new)) (sym (h.is ∙ ap (λ o. reply_with old.sheet.layout.processes h.edit.number o) is)) (steps_on is)
+      by_outcome (Some how) is = subst (λ (r : Reply). LedgerMoves (world_of old) (Step p) r (world_of new)) (sym (h.is ∙ ap (λ o. reply_with old.sheet.layout.processes h.edit.number o) is)) (answers how (answers_at h.edit.stage how is))
+
+-- any event
+pub moves : (old new : WorldValue) → IsGood old → (event : Event) (reply : Reply) → Takes old event reply new → LedgerMoves (world_of old) event reply (world_of new)
+moves old new g (BeginEdit r) (Begun number) h = begins_move (world_of old) (world_of new) g.sound r.process _ r.text number h.begun
+moves old new g (BeginEdit r) (Refused why) h = same_stays old new h.same
+moves old new g (BeginEdit r) NotEnabled h = same_stays old new h.same
+moves old new g (BeginEdit r) _ h = absurd h
+moves old new g (Step p) Stepped h = step_moves old new g p Stepped h
+moves old new g (Step p) (Answered answer) h = step_moves old new g p (Answered answer) h
+moves old new g (Step p) NotEnabled h = same_stays old new h.same
+moves old new g (Step p) _ h = absurd h
+moves old new g (Evict place) Evicted h = record { counted = h.evicts.counted; pending = h.evicts.pending }
+moves old new g (Evict place) NotEnabled h = same_stays old new h.same
+moves old new g (Evict place) _ h = absurd h
+moves old new g (BeginWork p cell) reply h = same_stays old new h.1
+moves old new g (BeginShow p) reply h = same_stays old new h.1
+moves old new g (BeginRecover p) reply h = same_stays old new h.1
+moves old new g (Stop p) reply h = same_stays old new h.1
+moves old new g Crash reply h = same_stays old new h.1
+
+-- no edit stands twice
+all_cons : (P : Edit → Type 0) (x : Edit) (xs : List Edit) → P x → All P xs → All P (x ∷ xs)
+all_cons P x xs h t zero d l = h
+all_cons P x xs h t (suc k) d l = t k d (omega arith)
+
+at_middle : (before : List Edit) (e : Edit) (after : List Edit) → Contains (before ++ e ∷ after) e
+at_middle [] e after = (zero, omega arith, refl)
+at_middle (x ∷ before) e after = let rest = at_middle before e after in (suc rest.0, (let l = rest.1 in omega arith), rest.2)
+
+in_order : (before : List Edit) (e : Edit) (after : List Edit) → Increasing (before ++ e ∷ after)
+    → All (λ f. f.process ≡ e.process → f.number < e.number) before × All (λ f. f.process ≡ e.process → e.number < f.number) after
+in_order [] e after h = ((λ k d l. absurd (omega arith)), h.0)
+in_order (x ∷ before) e after h =
+    let rest = in_order before e after h.1 in
+    let here : x.process ≡ e.process → x.number < e.number = λ same. All-contains (λ (f : Edit). f.process ≡ x.process → x.number < f.number) (before ++ e ∷ after) e h.0 (at_middle before e after) (sym same) in
+    (all_cons (λ (f : Edit). f.process ≡ e.process → f.number < e.number) x before here rest.0, rest.1)
+
+pub stands_once : (es : List Edit) → Increasing es → StandsOnce es
+stands_once es h before e after parts =
+    let o = in_order before e after (subst Increasing parts h) in
+    ((λ there. let l = All-contains (λ (f : Edit). f.process ≡ e.process → f.number < e.number) before e o.0 there refl in omega arith),
+    (λ there. let l = All-contains (λ (f : Edit). f.process ≡ e.process → e.number < f.number) after e o.1 there refl in omega arith))
+
+-- a run of worlds is a run of ledgers
+pub ledger_runs : (old : WorldValue) (events : List Event) (replies : List Reply) (new : WorldValue) → IsGood old → WorldRun old events replies new → LedgerRun (world_of old) events replies (world_of new)
+ledger_runs old [] [] new g run = (stands_once old.counted g.sound.increasing, same_stays old new run)
+ledger_runs old (event ∷ events) (reply ∷ replies) new g run =
+    (stands_once old.counted g.sound.increasing,
+    (world_of run.0, moves old run.0 g event reply run.1.takes, ledger_runs run.0 events replies new run.1.good run.2))
+ledger_runs old [] (reply ∷ replies) new g run = absurd run
+ledger_runs old (event ∷ events) [] new g run = absurd run

@@ -1,0 +1,60 @@
+-- What each event does to a world, and what is answered.
+use Rattle.std.specs.Prelude.{ℕ, ◌≡◌, ◌<◌, List, [], ◌∷◌}
+use Rattle.ds_formula.specs.Cells.{IsInside, index_of}
+use Rattle.ds_layout.specs.declared.place.Place.{Place}
+use Rattle.ds_state.specs.Value.{WorldValue, world_of, IsGood}
+use Rattle.ds_edit.specs.Begun.{IsBegun, Refuses}
+use Rattle.ds_state.specs.declared.refusal.Refusal.{Refusal}
+use Rattle.ds_core.specs.Requests.{PlainRequest}
+use Rattle.ds_core.specs.Steps.{StepTakes, EvictTakes}
+use Rattle.ds_core.specs.declared.event.Event.{Event}
+use Rattle.ds_core.specs.declared.event.Event.TheVariants.{BeginEdit, Step, Evict}
+use Rattle.ds_core.specs.declared.reply.Reply.{Reply}
+use Rattle.ds_core.specs.declared.reply.Reply.TheVariants.{Begun, Refused, NotEnabled}
+
+-- the sheet has the process and the cell
+pub record IsOfWorld (v : WorldValue) (r : PlainRequest) : Type 0 where
+  pub process : r.process < v.sheet.layout.processes
+  pub cell : IsInside v.sheet.layout.shape r.cell
+
+-- an edit begins
+pub record EditBegins (old : WorldValue) (r : PlainRequest) (number : ℕ) (new : WorldValue) : Type 0 where
+  pub named : IsOfWorld old r
+  pub begun : IsBegun (world_of old) r.process (index_of old.sheet.layout.shape r.cell) r.text number (world_of new)
+  pub done : new.done ≡ old.done
+
+-- it is refused
+pub record EditRefused (old : WorldValue) (r : PlainRequest) (why : Refusal) (new : WorldValue) : Type 0 where
+  pub named : IsOfWorld old r
+  pub holds : Refuses (world_of old) r.process r.text why
+  pub same : new ≡ old
+
+-- the sheet has no such process, or no such cell
+pub record CanNotBegin (old : WorldValue) (r : PlainRequest) (new : WorldValue) : Type 0 where
+  pub unnamed : IsOfWorld old r → ⊥
+  pub same : new ≡ old
+
+abbrev pub BeginTakes : WorldValue → PlainRequest → Reply → WorldValue → Type 0
+BeginTakes old r (Begun number) new = EditBegins old r number new
+BeginTakes old r (Refused why) new = EditRefused old r why new
+BeginTakes old r NotEnabled new = CanNotBegin old r new
+BeginTakes old r _ new = ⊥
+
+-- one event, from world to world; an event that can not happen yet changes nothing
+abbrev pub Takes : WorldValue → Event → Reply → WorldValue → Type 0
+Takes old (BeginEdit r) reply new = BeginTakes old r reply new
+Takes old (Step p) reply new = StepTakes old p reply new
+Takes old (Evict place) reply new = EvictTakes old place reply new
+Takes old event reply new = (reply ≡ NotEnabled) × (new ≡ old)
+
+-- so between good worlds
+pub record Fits (old : WorldValue) (event : Event) (reply : Reply) (new : WorldValue) : Type 0 where
+  pub takes : Takes old event reply new
+  pub good : IsGood new
+
+-- a run: each event with its reply, from world to world
+abbrev pub WorldRun : WorldValue → List Event → List Reply → WorldValue → Type 0
+WorldRun old [] [] new = new ≡ old
+WorldRun old (event ∷ events) (reply ∷ replies) new = (mid : WorldValue) × Fits old event reply mid × WorldRun mid events replies new
+WorldRun old [] (reply ∷ replies) new = ⊥
+WorldRun old (event ∷ events) [] new = ⊥
