@@ -2,3 +2,4 @@ pub mod LedgerLemmas
 pub mod SheetLemmas
 pub mod Good
 pub mod Moves
+pub mod Order

@@ -9,7 +9,7 @@ use Rattle.ds_layout.specs.Head.{head_of}
 use Rattle.ds_state.specs.Edits.{PlainEdit, text_parts}
 use Rattle.ds_state.specs.World.{Edit, Issue, World, edit_of}
 use Rattle.ds_state.specs.Known.{AreBelow, Knowing, known_at}
-use Rattle.ds_state.specs.Value.{WorldValue, world_of, IsGood}
+use Rattle.ds_state.specs.Value.{WorldValue, world_of}
 use Rattle.ds_state.specs.Calls.{CallFits, EditFits, IdleFits}
 use Rattle.ds_state.specs.Sound.{IsSound, Increasing}
 use Rattle.ds_state.specs.declared.stage.Outcome.{Outcome}
@@ -72,7 +72,7 @@ begins_move old new sound process cell text number h =
     } in
     subst (λ (x : Edit). Issues old x new) h.asked i
 
-module _ (old new : WorldValue) (g : IsGood old) (p : ℕ) (reply : Reply) (h : StepsBy old p reply new) where
+module _ (old new : WorldValue) (g : IsSound (world_of old)) (p : ℕ) (reply : Reply) (h : StepsBy old p reply new) where
   w : World
   w = world_of old
 
@@ -86,7 +86,7 @@ module _ (old new : WorldValue) (g : IsGood old) (p : ℕ) (reply : Reply) (h : 
   here = ap (λ q. (world_of old).situation q) h.mine ∙ h.at
 
   fits : EditFits (world_of old) h.edit.process h.edit
-  fits = subst (λ (x : Situation). CallFits (world_of old) h.edit.process x) here (g.sound.calls h.edit.process low)
+  fits = subst (λ (x : Situation). CallFits (world_of old) h.edit.process x) here (g.calls h.edit.process low)
 
   open_here : (world_of old).pending p ≡ Some (record { edit = E; since = fits.since })
   open_here = ap (λ q. (world_of old).pending q) (sym h.mine) ∙ fits.pending
@@ -130,7 +130,7 @@ module _ (old new : WorldValue) (g : IsGood old) (p : ℕ) (reply : Reply) (h : 
 
   true_here : (how : Outcome) → h.edit.stage ≡ Answer how → IsTrueOf (world_of old) E fits.since how
   true_here how at =
-      let t : IsTrueAnswer (world_of old) E how = answer_true h.edit how (world_of old) g.sound low at here in
+      let t : IsTrueAnswer (world_of old) E how = answer_true h.edit how (world_of old) g low at here in
       let since : t.since ≡ fits.since = same_since (record { edit = E; since = t.since }) (record { edit = E; since = fits.since }) (sym t.issued ∙ fits.pending) in
       subst (λ (n : ℕ). IsTrueOf (world_of old) E n how) since t.holds
 
@@ -156,8 +156,8 @@ module _ (old new : WorldValue) (g : IsGood old) (p : ℕ) (reply : Reply) (h : 
       by_outcome (Some how) is = subst (λ (r : Reply). LedgerMoves (world_of old) (Step p) r (world_of new)) (sym (h.is ∙ ap (λ o. reply_with old.sheet.layout.processes h.edit.number o) is)) (answers how (answers_at h.edit.stage how is))
 
 -- any event
-pub moves : (old new : WorldValue) → IsGood old → (event : Event) (reply : Reply) → Takes old event reply new → LedgerMoves (world_of old) event reply (world_of new)
-moves old new g (BeginEdit r) (Begun number) h = begins_move (world_of old) (world_of new) g.sound r.process _ r.text number h.begun
+pub moves : (old new : WorldValue) → IsSound (world_of old) → (event : Event) (reply : Reply) → Takes old event reply new → LedgerMoves (world_of old) event reply (world_of new)
+moves old new g (BeginEdit r) (Begun number) h = begins_move (world_of old) (world_of new) g r.process _ r.text number h.begun
 moves old new g (BeginEdit r) (Refused why) h = same_stays old new h.same
 moves old new g (BeginEdit r) NotEnabled h = same_stays old new h.same
 moves old new g (BeginEdit r) _ h = absurd h
@@ -198,10 +198,10 @@ stands_once es h before e after parts =
     (λ there. let l = All-contains (λ (f : Edit). f.process ≡ e.process → e.number < f.number) after e o.1 there refl in omega arith))
 
 -- a run of worlds is a run of ledgers
-pub ledger_runs : (old : WorldValue) (events : List Event) (replies : List Reply) (new : WorldValue) → IsGood old → WorldRun old events replies new → LedgerRun (world_of old) events replies (world_of new)
-ledger_runs old [] [] new g run = (stands_once old.counted g.sound.increasing, same_stays old new run)
+pub ledger_runs : (old : WorldValue) (events : List Event) (replies : List Reply) (new : WorldValue) → IsSound (world_of old) → WorldRun old events replies new → LedgerRun (world_of old) events replies (world_of new)
+ledger_runs old [] [] new g run = (stands_once old.counted g.increasing, same_stays old new run)
 ledger_runs old (event ∷ events) (reply ∷ replies) new g run =
-    (stands_once old.counted g.sound.increasing,
-    (world_of run.0, moves old run.0 g event reply run.1.takes, ledger_runs run.0 events replies new run.1.good run.2))
+    (stands_once old.counted g.increasing,
+    (world_of run.0, moves old run.0 g event reply run.1.takes, ledger_runs run.0 events replies new run.1.sound run.2))
 ledger_runs old [] (reply ∷ replies) new g run = absurd run
 ledger_runs old (event ∷ events) [] new g run = absurd run

@@ -2,7 +2,8 @@
 use Rattle.std.specs.Prelude.{ℕ, ◌≡◌, ◌<◌, List, [], ◌∷◌}
 use Rattle.ds_formula.specs.Cells.{IsInside, index_of}
 use Rattle.ds_layout.specs.declared.place.Place.{Place}
-use Rattle.ds_state.specs.Value.{WorldValue, world_of, IsGood}
+use Rattle.ds_state.specs.Value.{WorldValue, world_of}
+use Rattle.ds_state.specs.Sound.{IsSound}
 use Rattle.ds_edit.specs.Begun.{IsBegun, Refuses}
 use Rattle.ds_state.specs.declared.refusal.Refusal.{Refusal}
 use Rattle.ds_core.specs.Requests.{PlainRequest}
@@ -47,10 +48,10 @@ Takes old (Step p) reply new = StepTakes old p reply new
 Takes old (Evict place) reply new = EvictTakes old place reply new
 Takes old event reply new = (reply ≡ NotEnabled) × (new ≡ old)
 
--- so between good worlds
+-- so between sound worlds
 pub record Fits (old : WorldValue) (event : Event) (reply : Reply) (new : WorldValue) : Type 0 where
   pub takes : Takes old event reply new
-  pub good : IsGood new
+  pub sound : IsSound (world_of new)
 
 -- a run: each event with its reply, from world to world
 abbrev pub WorldRun : WorldValue → List Event → List Reply → WorldValue → Type 0

@@ -70,3 +70,30 @@ LedgerRun old [] [] new = StandsOnce old.counted × Stays old new
 LedgerRun old (event ∷ events) (reply ∷ replies) new = StandsOnce old.counted × ((mid : World) × LedgerMoves old event reply mid × LedgerRun mid events replies new)
 LedgerRun old [] (reply ∷ replies) new = ⊥
 LedgerRun old (event ∷ events) [] new = ⊥
+
+-- the first edit stands before the second one
+pub record StandsBefore (es : List Edit) (e f : Edit) : Type 0 where
+  pub before : List Edit
+  pub after : List Edit
+  pub parts : es ≡ before ++ after
+  pub first : Contains before e
+  pub second : Contains after f
+
+-- an edit is answered Done, later another one is issued, and the run goes on
+pub record DoneThenIssued : Type 0 where
+  pub process : ℕ
+  pub number : ℕ
+  pub start : World
+  pub answered : World
+  pub done : Closes start process number (λ issue. Contains start.counted issue.edit) answered
+  pub events : List Event
+  pub replies : List Reply
+  pub asked : World
+  pub between : LedgerRun answered events replies asked
+  pub second : Edit
+  pub issued : World
+  pub issue : Issues asked second issued
+  pub later_events : List Event
+  pub later_replies : List Reply
+  pub last : World
+  pub after : LedgerRun issued later_events later_replies last

@@ -48,11 +48,11 @@ fn go_on(situation: &mut Situation, word: u64)
 fn count(counted: &mut Vec<Edit>, edit: Edit, stage: Stage, word: u64)
     requires { (noted : ℕ) → stage ≡ Swap noted → word ≡ noted → length counted.old.items < vec_capacity counted.old }
     ensures items { counted.new.items ≡ counted.old.items ++ counted_at edit stage word }
-    ensures capacity { vec_capacity counted.old ≤ vec_capacity counted.new }
+    ensures capacity { vec_capacity counted.new ≡ vec_capacity counted.old }
 {
     if let Stage::Swap(noted) = stage {
         if word == noted {
-            let _ = counted.push(edit);
+            counted.push_reserved(edit);
         }
     }
 }

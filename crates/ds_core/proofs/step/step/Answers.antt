@@ -48,7 +48,7 @@ invariant_of-world c =
     let done : c.done_after-world-inside.result ≡ done_at v.done e.stage = c.done_after-world-inside.ensures ∙ ap (λ (s : Stage). done_at v.done s) stage in
     let text : IsText e.text = subst (λ (x : Edit). IsText x.text) c.of-edit.ensures.value c.of-edit.ensures.text in
     subst (λ (w : WorldValue). IsKept w (vec_capacity c.count.new.counted)) (sym (next_is v c.world.invariant.good p e at word c.perform-word.new.self c.perform-word.ensures.layout performs c.go_on.new.situation c.count.new.counted.items c.close.new.pending c.done_after-world-inside.result situation counted pending done))
-    (next_kept v c.world.invariant.good p e at word c.perform-word.new.self c.perform-word.ensures.layout performs _ _ c.world.invariant.reserved c.count.ensures.capacity text)
+    (next_kept v c.world.invariant.good p e at word c.perform-word.new.self c.perform-word.ensures.layout performs _ _ c.world.invariant.reserved (omega arith) text)
 
 pub returns : goal.returns
 returns c =
