@@ -3,3 +3,4 @@ pub mod SheetLemmas
 pub mod Good
 pub mod Moves
 pub mod Order
+pub mod Bound

@@ -5,3 +5,4 @@ pub mod Requests
 pub mod Steps
 pub mod Takes
 pub mod Traces
+pub mod Own

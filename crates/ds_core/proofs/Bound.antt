@@ -1,0 +1,130 @@
+-- How many steps an edit takes.
+use Rattle.std.proofs.Common.{ℕ, ◌≡◌, ◌≢◌, ◌<◌, ◌≤◌, ◌+◌, ◌*◌, ◌⊎◌, ◌==◌, List, [], ◌∷◌, refl, ap, sym, ◌∙◌, subst, arith, inl, inr, length, Some, None, true, false}
+use Rattle.std.specs.Prelude.{Option, if◌then◌else◌}
+use Rattle.std.proofs.lemmas.Bool.{cases_eq}
+use Rattle.std.proofs.lemmas.Bool.Decides.{eqb_tells}
+use Rattle.ds_state.specs.Edits.{PlainEdit, IsEdit}
+use Rattle.ds_state.specs.World.{World}
+use Rattle.ds_state.specs.Value.{WorldValue, world_of}
+use Rattle.ds_state.specs.Calls.{CallFits, EditFits}
+use Rattle.ds_state.specs.Sound.{IsSound}
+use Rattle.ds_state.specs.declared.stage.Outcome.{Outcome}
+use Rattle.ds_state.specs.declared.stage.Stage.{Stage}
+use Rattle.ds_state.specs.declared.stage.Stage.TheVariants.{Answer}
+use Rattle.ds_state.specs.declared.situation.Situation.{Situation}
+use Rattle.ds_state.specs.declared.situation.Situation.TheVariants.{Idle, Editing}
+use Rattle.ds_edit.specs.Steps.{rank, next_at, Falls}
+use Rattle.ds_edit.specs.Worlds.{after}
+use Rattle.ds_edit.proofs.Stays.{each_falls}
+use Rattle.ds_core.specs.Requests.{PlainRequest}
+use Rattle.ds_core.specs.Steps.{outcome_at, reply_with, StepsBy}
+use Rattle.ds_core.specs.Takes.{Takes, Fits, WorldRun}
+use Rattle.ds_core.specs.Own.{own_step, own_steps, IsUnanswered, AreUnanswered, GoesOn}
+use Rattle.ds_core.specs.declared.event.Event.{Event}
+use Rattle.ds_core.specs.declared.event.Event.TheVariants.{BeginEdit, BeginWork, BeginShow, BeginRecover, Step, Evict, Stop, Crash}
+use Rattle.ds_core.specs.declared.reply.Reply.{Reply}
+use Rattle.ds_core.specs.declared.reply.Reply.TheVariants.{Begun, Refused, Stepped, Answered, Evicted, NotEnabled}
+
+unanswered_at : (processes number : ℕ) (o : Option Outcome) → Stepped ≡ reply_with processes number o → o ≡ None
+unanswered_at processes number None is = refl
+unanswered_at processes number (Some how) is = absurd (cc)
+
+pub after_on : (e : PlainEdit) (s : Stage) (word : ℕ) → outcome_at s ≡ None → after e s word ≡ Editing (record e { stage = next_at e s word })
+after_on e (Answer how) word is = absurd (cc)
+after_on e _ word is = refl
+
+falls_on : (e : PlainEdit) (s x : Stage) → outcome_at s ≡ None → Falls e s x → rank e x < rank e s
+falls_on e (Answer how) x is h = absurd (cc)
+falls_on e _ x is h = h
+
+pub editing_same : (s : Situation) (e f : PlainEdit) → s ≡ Editing e → s ≡ Editing f → e ≡ f
+editing_same s e f a b = let one : Editing e ≡ Editing f = sym a ∙ b in cc
+
+abbrev pub Later : ℕ → PlainEdit → ℕ → WorldValue → Type 0
+Later p e steps new = (e' : PlainEdit) × ((world_of new).situation p ≡ Editing e') × GoesOn e steps e'
+
+still : (p : ℕ) (e : PlainEdit) (new : WorldValue) → (world_of new).situation p ≡ Editing e → Later p e 0 new
+still p e new at = (e, at, record { text = refl; refs = refl; fewer = omega arith })
+
+unchanged : (p : ℕ) (e : PlainEdit) (old new : WorldValue) → (world_of old).situation p ≡ Editing e → new ≡ old → Later p e 0 new
+unchanged p e old new at same = still p e new (ap (λ (v : WorldValue). (world_of v).situation p) same ∙ at)
+
+another : (p q : ℕ) (e : PlainEdit) (old new : WorldValue) (reply : Reply) → (world_of old).situation p ≡ Editing e → q ≢ p → StepsBy old q reply new → Later p e 0 new
+another p q e old new reply at ne h = still p e new (h.steps.others p (λ same. ne (sym h.mine ∙ sym same)) ∙ at)
+
+not_own : (p q : ℕ) → q ≢ p → (q == p) ≡ false
+not_own p q ne = elim (eqb_tells q p) [ inl same ↦ absurd (ne same.1) | inr differs ↦ differs.0 ]
+
+module _ (p : ℕ) (e : PlainEdit) (old new : WorldValue) (sound : IsSound (world_of old)) (low : p < old.sheet.layout.processes) (at : (world_of old).situation p ≡ Editing e) where
+  own : StepsBy old p Stepped new → Later p e 1 new
+  own h =
+      let one : h.edit ≡ e = editing_same ((world_of old).situation p) h.edit e h.at at in
+      let fits : EditFits (world_of old) p e = subst (λ (x : Situation). CallFits (world_of old) p x) at (sound.calls p low) in
+      let fits' : IsEdit h.edit = subst (λ (x : PlainEdit). IsEdit x) (sym one) fits.is in
+      let goes : outcome_at h.edit.stage ≡ None = unanswered_at old.sheet.layout.processes h.edit.number (outcome_at h.edit.stage) h.is in
+      let fall : rank h.edit (next_at h.edit h.edit.stage h.word) < rank h.edit h.edit.stage = falls_on h.edit h.edit.stage _ goes (each_falls h.edit h.word fits') in
+      ( record h.edit { stage = next_at h.edit h.edit.stage h.word }
+      , ap (λ q. (world_of new).situation q) (sym h.mine) ∙ h.steps.situation ∙ after_on h.edit h.edit.stage h.word goes
+      , subst (λ (x : PlainEdit). GoesOn x 1 (record h.edit { stage = next_at h.edit h.edit.stage h.word })) one
+          (record { text = refl; refs = refl; fewer = omega arith }))
+
+  by_step : (q : ℕ) → StepsBy old q Stepped new → Later p e (if q == p then 1 else 0) new
+  by_step q h = elim (eqb_tells q p) [
+    | inl same ↦ rw same.0 (own (subst (λ (x : ℕ). StepsBy old x Stepped new) same.1 h))
+    | inr other ↦ rw other.0 (another p q e old new Stepped at other.1 h)
+  ]
+
+  pub one_event : (event : Event) (reply : Reply) → Takes old event reply new → IsUnanswered p event reply → Later p e (own_step p event reply) new
+  one_event (BeginEdit r) (Begun number) h u = elim (cases_eq p h.begun.edit.process) [
+    | inl same ↦ absurd (let none : Idle h.begun.edit.number ≡ Editing e = sym (ap (λ q. (world_of old).situation q) same ∙ h.begun.begins.idle) ∙ at in cc)
+    | inr other ↦ still p e new (h.begun.begins.others p other ∙ at)
+  ]
+  one_event (BeginEdit r) (Refused why) h u = unchanged p e old new at h.same
+  one_event (BeginEdit r) NotEnabled h u = unchanged p e old new at h.same
+  one_event (BeginEdit r) _ h u = absurd h
+  one_event (Step q) Stepped h u = by_step q h
+  one_event (Step q) (Answered answer) h u = subst (λ b. Later p e (if b then 1 else 0) new) (sym (not_own p q u)) (another p q e old new (Answered answer) at u h)
+  one_event (Step q) NotEnabled h u = unchanged p e old new at h.same
+  one_event (Step q) _ h u = absurd h
+  one_event (Evict place) Evicted h u = still p e new (h.evicts.situation p ∙ at)
+  one_event (Evict place) NotEnabled h u = unchanged p e old new at h.same
+  one_event (Evict place) _ h u = absurd h
+  one_event (BeginWork q cell) reply h u = unchanged p e old new at h.1
+  one_event (BeginShow q) reply h u = unchanged p e old new at h.1
+  one_event (BeginRecover q) reply h u = unchanged p e old new at h.1
+  one_event (Stop q) reply h u = unchanged p e old new at h.1
+  one_event Crash reply h u = unchanged p e old new at h.1
+
+-- the sheet keeps its layout
+pub same_layout : (old new : WorldValue) (event : Event) (reply : Reply) → Takes old event reply new → new.sheet.layout ≡ old.sheet.layout
+same_layout old new (BeginEdit r) (Begun number) h = h.begun.begins.layout
+same_layout old new (BeginEdit r) (Refused why) h = ap (λ (v : WorldValue). v.sheet.layout) h.same
+same_layout old new (BeginEdit r) NotEnabled h = ap (λ (v : WorldValue). v.sheet.layout) h.same
+same_layout old new (BeginEdit r) _ h = absurd h
+same_layout old new (Step q) Stepped h = h.steps.layout
+same_layout old new (Step q) (Answered answer) h = h.steps.layout
+same_layout old new (Step q) NotEnabled h = ap (λ (v : WorldValue). v.sheet.layout) h.same
+same_layout old new (Step q) _ h = absurd h
+same_layout old new (Evict place) Evicted h = h.evicts.layout
+same_layout old new (Evict place) NotEnabled h = ap (λ (v : WorldValue). v.sheet.layout) h.same
+same_layout old new (Evict place) _ h = absurd h
+same_layout old new (BeginWork q cell) reply h = ap (λ (v : WorldValue). v.sheet.layout) h.1
+same_layout old new (BeginShow q) reply h = ap (λ (v : WorldValue). v.sheet.layout) h.1
+same_layout old new (BeginRecover q) reply h = ap (λ (v : WorldValue). v.sheet.layout) h.1
+same_layout old new (Stop q) reply h = ap (λ (v : WorldValue). v.sheet.layout) h.1
+same_layout old new Crash reply h = ap (λ (v : WorldValue). v.sheet.layout) h.1
+
+goes_further : (a b c : PlainEdit) (m n : ℕ) → GoesOn a m b → GoesOn b n c → GoesOn a (m + n) c
+goes_further a b c m n h k = let x = h.fewer in let y = k.fewer in record { text = k.text ∙ h.text; refs = k.refs ∙ h.refs; fewer = omega arith }
+
+-- an edit that is not answered goes on through a run
+pub goes_through : (events : List Event) (replies : List Reply) (old new : WorldValue) (p : ℕ) (e : PlainEdit) → IsSound (world_of old) → p < old.sheet.layout.processes
+    → (world_of old).situation p ≡ Editing e → WorldRun old events replies new → AreUnanswered p events replies → Later p e (own_steps p events replies) new
+goes_through [] [] old new p e sound low at run u = unchanged p e old new at run
+goes_through (event ∷ events) (reply ∷ replies) old new p e sound low at run u =
+    let first : Later p e (own_step p event reply) run.0 = one_event p e old run.0 sound low at event reply run.1.takes u.0 in
+    let layout = same_layout old run.0 event reply run.1.takes in
+    let rest = goes_through events replies run.0 new p first.0 run.1.sound (rw layout low) first.1 run.2 u.1 in
+    (rest.0, rest.1, goes_further e first.0 rest.0 (own_step p event reply) (own_steps p events replies) first.2 rest.2)
+goes_through [] (reply ∷ replies) old new p e sound low at run u = absurd run
+goes_through (event ∷ events) [] old new p e sound low at run u = absurd run

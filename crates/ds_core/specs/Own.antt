@@ -1,0 +1,33 @@
+-- How many steps a process makes in a run.
+use Rattle.std.specs.Prelude.{ℕ, ◌≡◌, ◌≤◌, ◌+◌, ◌==◌, List, [], ◌∷◌, if◌then◌else◌}
+use Rattle.ds_state.specs.Edits.{PlainEdit}
+use Rattle.ds_edit.specs.Steps.{rank}
+use Rattle.ds_core.specs.declared.event.Event.{Event}
+use Rattle.ds_core.specs.declared.event.Event.TheVariants.{Step}
+use Rattle.ds_core.specs.declared.reply.Reply.{Reply}
+use Rattle.ds_core.specs.declared.reply.Reply.TheVariants.{Stepped, Answered}
+
+-- one for a step of the process, 0 for another event and for a step that can not happen
+abbrev pub own_step : ℕ → Event → Reply → ℕ
+own_step p (Step q) Stepped = if q == p then 1 else 0
+own_step p (Step q) (Answered answer) = if q == p then 1 else 0
+own_step p event reply = 0
+
+abbrev pub own_steps : ℕ → List Event → List Reply → ℕ
+own_steps p (event ∷ events) (reply ∷ replies) = own_step p event reply + own_steps p events replies
+own_steps p events replies = 0
+
+-- the process is not answered
+abbrev pub IsUnanswered : ℕ → Event → Reply → Type 0
+IsUnanswered p (Step q) (Answered answer) = q ≡ p → ⊥
+IsUnanswered p event reply = Unit {0}
+
+abbrev pub AreUnanswered : ℕ → List Event → List Reply → Type 0
+AreUnanswered p (event ∷ events) (reply ∷ replies) = IsUnanswered p event reply × AreUnanswered p events replies
+AreUnanswered p events replies = Unit {0}
+
+-- the edit is the same one, so many steps later at least
+pub record GoesOn (old : PlainEdit) (steps : ℕ) (new : PlainEdit) : Type 0 where
+  pub text : new.text ≡ old.text
+  pub refs : new.refs ≡ old.refs
+  pub fewer : steps + rank new new.stage ≤ rank old old.stage
