@@ -7,5 +7,6 @@ pub mod Announcing
 pub mod Placing
 pub mod Taking
 pub mod Answering
+pub mod Beginning
 pub mod Sound
 pub mod Truth
