@@ -7,6 +7,7 @@ pub mod Announcing
 pub mod Placing
 pub mod Taking
 pub mod Answering
+pub mod Beginning
 pub mod Sound
 pub mod Truth
 pub mod Possible

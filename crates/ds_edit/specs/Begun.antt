@@ -7,6 +7,7 @@ use Rattle.ds_formula.specs.Plain.{Plain}
 use Rattle.ds_formula.specs.Refs.{AreRefs}
 use Rattle.ds_formula.specs.Grammar.{Reads, Faults}
 use Rattle.ds_layout.specs.declared.place.TheConstants.{RECORDS}
+use Rattle.ds_layout.specs.declared.layout.Layout.{Layout}
 use Rattle.ds_state.specs.Edits.{PlainEdit, IsEdit}
 use Rattle.ds_state.specs.World.{edit_of, World}
 use Rattle.ds_state.specs.Calls.{IsSheetOf, HasRefs}
@@ -34,24 +35,37 @@ pub record RefersTo (shape : Shape) (text refs : List ℕ) : Type 0 where
   pub reads : Reads shape text content
   pub numbers : AreNumbers shape content refs
 
--- the process begins its edit of this number, of the cell to the text; its references are the cells of the text
+-- the process's edit of this number, of the cell to the text: its references are the cells of the text
+pub record IsAskedFor (layout : Layout) (process cell : ℕ) (text : List ℕ) (number : ℕ) (e : PlainEdit) : Type 0 where
+  pub asked : edit_of e ≡ record { process = process; number = number; cell = cell; text = text }
+  pub is : IsEdit e
+  pub sheet : IsSheetOf layout e
+  pub refs : HasRefs layout.shape e.text e.refs
+  pub only : RefersTo layout.shape text e.refs
+
+-- the process begins that edit
 pub record IsBegun (old : World) (process cell : ℕ) (text : List ℕ) (number : ℕ) (new : World) : Type 0 where
   pub edit : PlainEdit
-  pub asked : edit_of edit ≡ record { process = process; number = number; cell = cell; text = text }
-  pub is : IsEdit edit
-  pub sheet : IsSheetOf old.layout edit
-  pub refs : HasRefs old.layout.shape edit.text edit.refs
-  pub only : RefersTo old.layout.shape text edit.refs
+  pub asked : IsAskedFor old.layout process cell text number edit
   pub begins : Begins edit old new
 
 -- the process is idle, with this as the number of its next edit
 abbrev pub IsIdle : World → ℕ → ℕ → Type 0
 IsIdle w process number = w.situation process ≡ Idle number
 
--- why a process may not begin an edit to the text
+-- why an idle process may not begin its edit of this number, to the text
+abbrev pub RefusesIdle : Shape → ℕ → List ℕ → Refusal → Type 0
+RefusesIdle shape number text refusal.Busy = ⊥
+RefusesIdle shape number text refusal.Stopped = ⊥
+RefusesIdle shape number text (refusal.Text fault) = Faults shape text fault
+RefusesIdle shape number text refusal.RecordsFull = (number ≡ RECORDS) × ((content : Plain) × Reads shape text content)
+RefusesIdle shape number text refusal.NoMemory = Unit {0}
+
+-- why a process may not begin an edit to the text: by its situation
+abbrev pub RefusesIn : Shape → List ℕ → Situation → Refusal → Type 0
+RefusesIn shape text (Idle number) r = RefusesIdle shape number text r
+RefusesIn shape text Stopped r = r ≡ refusal.Stopped
+RefusesIn shape text (Editing e) r = r ≡ refusal.Busy
+
 abbrev pub Refuses : World → ℕ → List ℕ → Refusal → Type 0
-Refuses w process text refusal.Busy = (e : PlainEdit) × w.situation process ≡ Editing e
-Refuses w process text refusal.Stopped = w.situation process ≡ Stopped
-Refuses w process text (refusal.Text fault) = (number : ℕ) × IsIdle w process number × Faults w.layout.shape text fault
-Refuses w process text refusal.RecordsFull = IsIdle w process RECORDS × ((content : Plain) × Reads w.layout.shape text content)
-Refuses w process text refusal.NoMemory = (number : ℕ) × IsIdle w process number
+Refuses w process text r = RefusesIn w.layout.shape text (w.situation process) r

@@ -102,7 +102,10 @@ pub fn want(call: &EditCall) -> Access<Place>
     let announce = Place::Announce(call.process);
     match call.stage {
         Stage::StoreHeader => Access::Store(header(call), header_word(call)),
-        Stage::StoreText(part) => Access::Store(text(call, part), part_word(call.text.as_slice(), part)),
+        Stage::StoreText(part) => Access::Store(
+            text(call, part),
+            part_word(call.text.as_slice(), part),
+        ),
         Stage::FlushHeader => Access::Flush(header(call)),
         Stage::FlushText(part) => Access::Flush(text(call, part)),
         Stage::StorePending => Access::Store(announce, announced(call, Phase::Pending)),

@@ -1,0 +1,146 @@
+-- What an edit that begins makes of a world, and the references that it has.
+use Rattle.std.proofs.Common.{ℕ, ◌≡◌, ◌≢◌, ◌<◌, ◌≤◌, ◌*◌, List, length, get_or, set, map, refl, ap, sym, ◌∙◌, subst, arith, Some, None, suc, Ok, Err}
+use Rattle.std.specs.Prelude.{All, Contains, Result, IfErr, IsErrAnd}
+use Rattle.std.proofs.lemmas.List.{get_or-set_same, get_or-set_other, get_or-map, get_or_default, length-map, length-set}
+use Rattle.std.proofs.Math.Nat.{mul-le-mul_right}
+use Rattle.std.proofs.lemmas.List.Elements.{All-map, Contains-get_or}
+use Rattle.ds_formula.specs.declared.cells.Shape.{Shape}
+use Rattle.ds_formula.specs.declared.cells.Cell.{Cell}
+use Rattle.ds_formula.specs.Cells.{IsInside, index_of, count_of}
+use Rattle.ds_formula.specs.Refs.{IsPossible}
+use Rattle.ds_formula.proofs.Formed.{read_inside}
+use Rattle.ds_layout.specs.declared.layout.Layout.{Layout}
+use Rattle.ds_layout.specs.Places.{cells_of}
+use Rattle.ds_layout.specs.declared.place.TheConstants.{RECORDS}
+use Rattle.ds_state.specs.Edits.{PlainEdit, IsEdit}
+use Rattle.ds_state.specs.World.{edit_of, World}
+use Rattle.ds_state.specs.Calls.{IsSheetOf, HasRefs}
+use Rattle.ds_state.specs.Value.{WorldValue, world_of, IsGood, IsKept}
+use Rattle.ds_state.specs.declared.refusal.Refusal.{Refusal}
+use Rattle.ds_state.specs.declared.refusal.Refusal.TheVariants as refusal
+use Rattle.ds_state.specs.declared.stage.Stage.TheVariants.{StoreHeader}
+use Rattle.ds_state.specs.declared.situation.Situation.{Situation}
+use Rattle.ds_state.specs.declared.situation.Situation.TheVariants.{Idle, Stopped, Editing}
+use Rattle.ds_edit.specs.Worlds.{Begins}
+use Rattle.ds_edit.specs.Begun.{next_of, RefersTo, IsAskedFor, IsIdle, Refuses}
+use Rattle.ds_edit.proofs.Answering.{begin_sound}
+
+-- the world in which the edit is issued
+abbrev pub issued : WorldValue → PlainEdit → WorldValue
+issued v e = record v {
+  situations = set v.situations e.process (Editing e);
+  pending = set v.pending e.process (Some (record { edit = edit_of e; since = length v.counted }));
+}
+
+module _ (v : WorldValue) (e : PlainEdit) (room : ℕ) (kept : IsKept v room) (is : IsEdit e) (sheet : IsSheetOf v.sheet.layout e) (idle : IsIdle (world_of v) e.process e.number) (first : e.stage ≡ StoreHeader) where
+  has_situation : e.process < length v.situations
+  has_situation = let s = kept.good.situations in let p = sheet.processes in let l = is.process in omega arith
+
+  has_pending : e.process < length v.pending
+  has_pending = let s = kept.good.pending in let p = sheet.processes in let l = is.process in omega arith
+
+  pub issued_begins : Begins e (world_of v) (world_of (issued v e))
+  issued_begins = record {
+    layout = refl;
+    memory = record { cached = λ r. refl; persisted = λ r. refl; buffer = λ q. refl };
+    idle = idle;
+    first = first;
+    situation = get_or-set_same v.situations e.process (Editing e) (Idle 0) has_situation;
+    others = λ q ne. get_or-set_other v.situations e.process q (Editing e) (Idle 0) ne;
+    counted = refl;
+    pending = get_or-set_same v.pending e.process (Some (record { edit = edit_of e; since = length v.counted })) None has_pending;
+    others_pending = λ q ne. get_or-set_other v.pending e.process q (Some (record { edit = edit_of e; since = length v.counted })) None ne;
+  }
+
+  pub issued_kept : HasRefs v.sheet.layout.shape e.text e.refs → IsKept (issued v e) room
+  issued_kept refs = record {
+    good = record {
+      sound = (begin_sound e (world_of v) (world_of (issued v e)) kept.good.sound is sheet refs issued_begins).sound;
+      situations = length-set v.situations e.process (Editing e) ∙ kept.good.situations;
+      pending = length-set v.pending e.process (Some (record { edit = edit_of e; since = length v.counted })) ∙ kept.good.pending;
+      texts = kept.good.texts;
+    };
+    reserved = kept.reserved;
+  }
+
+-- the values of a list are those of its elements
+Contains-map : {X Y : Type 0} (f : X → Y) (xs : List X) (x : X) → Contains xs x → Contains (map f xs) (f x)
+Contains-map f xs x has =
+    let long = length-map xs f in
+    let lt = has.1 in
+    (has.0, omega arith, get_or-map f xs has.0 x (f x) lt ∙ ap f has.2)
+
+is_possible : (shape : Shape) (cell : Cell) → IsInside shape cell → IsPossible cell
+is_possible shape cell inside =
+    let columns = shape.within.columns_to_z in
+    let rows = shape.within.rows_to_64 in
+    let column = inside.column in
+    let row = inside.row in
+    record { column = omega arith; row = omega arith }
+
+index_below : (shape : Shape) (cell : Cell) → IsInside shape cell → index_of shape cell < count_of shape
+index_below shape cell inside =
+    let column = inside.column in
+    let whole : suc cell.row * shape.columns ≤ shape.rows * shape.columns = mul-le-mul_right shape.columns inside.row in
+    omega arith
+
+-- the numbers of the cells of a text are those of all its cells, and numbers of the sheet
+pub refers_all : (shape : Shape) (text refs : List ℕ) → RefersTo shape text refs → HasRefs shape text refs
+refers_all shape text refs to = record {
+  content = to.content;
+  reads = to.reads;
+  all = λ c refers. subst (λ (xs : List ℕ). Contains xs (index_of shape c)) (sym to.numbers.numbers)
+      (Contains-map (index_of shape) to.numbers.cells c (to.numbers.written.all c refers (is_possible shape c (read_inside shape text to.content c to.reads.reads refers))));
+}
+
+pub refers_below : (shape : Shape) (text refs : List ℕ) → RefersTo shape text refs → All (λ r. r < count_of shape) refs
+refers_below shape text refs to = subst (λ (xs : List ℕ). All (λ r. r < count_of shape) xs) (sym to.numbers.numbers)
+    (All-map (λ r. r < count_of shape) (index_of shape) to.numbers.cells (λ k d lt. index_below shape (get_or to.numbers.cells k d)
+    (read_inside shape text to.content (get_or to.numbers.cells k d) to.reads.reads (to.numbers.written.only (get_or to.numbers.cells k d) (Contains-get_or to.numbers.cells k d lt)))))
+
+-- the situation that was read is the process's
+pub situation_at : (v : WorldValue) (process : ℕ) (read : Situation) → IsGood v → process < v.sheet.layout.processes → read ≡ get_or v.situations process read → (world_of v).situation process ≡ read
+situation_at v process read good low is = get_or_default v.situations process (Idle 0) read (let s = good.situations in omega arith) ∙ sym is
+
+-- why a process in another situation may not begin an edit
+pub refuses_of : (w : World) (process : ℕ) (text : List ℕ) (s : Situation) (r : Refusal) → w.situation process ≡ s → Err r ≡ next_of s → Refuses w process text r
+refuses_of w process text (Idle m) r at is = absurd (cc)
+refuses_of w process text Stopped r at is = rw at (let same : r ≡ refusal.Stopped = cc in same)
+refuses_of w process text (Editing e) r at is = rw at (let same : r ≡ refusal.Busy = cc in same)
+
+-- the error that is handed on
+pub handed_on : {X : Type 0} (r : Result X Refusal) (given : Refusal) (P : Refusal → Type 0) → IsErrAnd r (λ x. x ≡ given) → P given → IfErr r P
+handed_on (Ok x) given P is h = tt
+handed_on (Err x) given P is h = subst P (sym is) h
+
+-- the edit of these parts
+abbrev pub prepared : Layout → ℕ → ℕ → ℕ → List ℕ → List ℕ → ℕ → PlainEdit
+prepared layout process number cell text refs cells = record {
+  process = process;
+  number = number;
+  cell = cell;
+  text = text;
+  refs = refs;
+  cells = cells;
+  processes = layout.processes;
+  stage = StoreHeader;
+}
+
+pub prepared_asked : (layout : Layout) (process number cell place cells : ℕ) (text own refs : List ℕ) → own ≡ text → RefersTo layout.shape text refs → process < layout.processes → number ≤ RECORDS → number ≢ RECORDS
+    → place ≡ cell → place < cells_of layout → cells ≡ cells_of layout → IsAskedFor layout process cell text number (prepared layout process number place own refs cells)
+prepared_asked layout process number cell place cells text own refs same to low few room at below is = record {
+  asked = rw (same, at) refl;
+  is = record {
+    process = low;
+    processes = layout.limited;
+    number = omega arith;
+    cell = omega arith;
+    cells = (let most = layout.shape.within.cells_to_1024 in omega arith);
+    text = rw same to.reads.short;
+    refs = rw is (refers_below layout.shape text refs to);
+    stage = tt;
+  };
+  sheet = record { cells = sym is; processes = refl };
+  refs = rw same (refers_all layout.shape text refs to);
+  only = to;
+}

@@ -1,0 +1,155 @@
+//! The beginning of an edit.
+
+ghost use Rattle.std.specs.Prelude.{◌≡◌, ◌≢◌, ◌<◌, ◌≤◌, IfOk, IfErr, OnOk, OnErr, vec_len, slice_set, List};
+ghost use Rattle.ds_formula.specs.Cells.{IsInside, index_of};
+ghost use Rattle.ds_formula.specs.declared.cells.Cell.{Cell};
+ghost use Rattle.ds_formula.specs.Plain.{plain};
+ghost use Rattle.ds_formula.specs.Refs.{Refers};
+ghost use Rattle.ds_formula.specs.Grammar.{Reads};
+ghost use Rattle.ds_layout.specs.declared.place.TheConstants.{RECORDS};
+ghost use Rattle.ds_state.specs.Value.{world_of};
+ghost use Rattle.ds_state.specs.Calls.{IsSheetOf, HasRefs};
+ghost use Rattle.ds_state.specs.Edits.{IsEdit};
+ghost use Rattle.ds_state.specs.declared.stage.Stage.TheVariants.{StoreHeader};
+ghost use Rattle.ds_edit.specs.Worlds.{Begins};
+ghost use Rattle.ds_edit.specs.Begun.{next_of, AreNumbers, RefersTo, IsAskedFor, IsBegun, IsIdle, RefusesIdle, Refuses};
+
+use ds_formula::cells::{Cell, Shape};
+use ds_formula::content::Content;
+use ds_formula::reading::read_content;
+use ds_layout::layout::Layout;
+use ds_layout::place::RECORDS;
+use ds_state::edit::EditCall;
+use ds_state::ledger::{Edit, Issue};
+use ds_state::refusal::Refusal;
+use ds_state::situation::Situation;
+use ds_state::stage::Stage;
+use ds_state::text::Text;
+use ds_state::world::World;
+use std::alloc::{AllocError, Global};
+
+// The number of the edit that the process may begin.
+fn next(situation: &Situation) -> Result<usize, Refusal>
+    ensures { result ≡ next_of situation.now }
+{
+    match situation {
+        Situation::Idle(number) => Ok(*number),
+        Situation::Stopped => Err(Refusal::Stopped),
+        Situation::Editing(_) => Err(Refusal::Busy),
+    }
+}
+
+// The numbers of the cells written in a content.
+fn numbers(alloc: Global, shape: &Shape, content: &Content) -> Result<Vec<usize>, AllocError>
+    requires { (cell : Cell) → Refers (plain content.now) cell → IsInside shape.now cell }
+    ensures { IfOk result (λ v. AreNumbers shape.now (plain content.now) v.items) }
+{
+    let cells = content.refs(alloc)?;
+    let mut numbers = Vec::new(alloc);
+    for cell in &cells {
+        numbers.push(shape.index(*cell))?;
+    }
+    Ok(numbers)
+}
+
+// The references of an idle process's edit of this number, to the text.
+fn references(
+    alloc: Global,
+    shape: &Shape,
+    number: usize,
+    text: &[u8],
+) -> Result<Vec<usize>, Refusal>
+    ensures text { IfOk result (λ v. RefersTo shape.now text.now v.items) }
+    ensures number { OnOk result (number ≢ RECORDS) }
+    ensures refused { IfErr result (λ refusal. RefusesIdle shape.now number text.now refusal) }
+{
+    let content = read_content(alloc, shape, text)?;
+    if number == RECORDS {
+        return Err(Refusal::RecordsFull);
+    }
+    Ok(numbers(alloc, shape, &content)?)
+}
+
+// The process's edit of this number, of the cell to the text, before its first step.
+fn prepared(
+    alloc: Global,
+    layout: &Layout,
+    process: usize,
+    number: usize,
+    cell: Cell,
+    text: &[u8],
+) -> Result<EditCall, Refusal>
+    requires process { process < layout.now.processes }
+    requires number { number ≤ RECORDS }
+    requires cell { IsInside layout.now.shape cell }
+    ensures asked { IfOk result (λ e. IsAskedFor layout.now process (index_of layout.now.shape cell) text.now number e) }
+    ensures first { IfOk result (λ e. e.stage ≡ StoreHeader) }
+    ensures refused { IfErr result (λ refusal. RefusesIdle layout.now.shape number text.now refusal) }
+{
+    let refs = references(alloc, &layout.shape, number, text)?;
+    Ok(EditCall {
+        process,
+        number,
+        cell: layout.shape.index(cell),
+        text: Text::new(text).unwrap(),
+        refs,
+        cells: layout.cells(),
+        processes: layout.processes,
+        stage: Stage::StoreHeader,
+    })
+}
+
+// Puts a process into a situation.
+fn put(situations: &mut Vec<Situation>, process: usize, situation: Situation)
+    requires { process < vec_len situations.old }
+    ensures items { situations.new.items ≡ slice_set situations.old.items process situation }
+    ensures count { vec_len situations.new ≡ vec_len situations.old }
+{
+    situations[process] = situation;
+}
+
+// Begins an edit of the sheet.
+fn issue(world: &mut World, call: EditCall)
+    requires idle { IsIdle (world_of world.old) call.process call.number }
+    requires sheet { IsSheetOf world.old.sheet.layout call }
+    requires refs { HasRefs world.old.sheet.layout.shape call.text call.refs }
+    requires first { call.stage ≡ StoreHeader }
+    ensures begins { Begins call (world_of world.old) (world_of world.new) }
+    ensures sheet { world.new.sheet ≡ world.old.sheet }
+    ensures done { world.new.done ≡ world.old.done }
+{
+    let process = call.process;
+    let edit = Edit::of(&call);
+    let since = world.counted.len();
+    world.pending[process] = Some(Issue { edit, since });
+    put(&mut world.situations, process, Situation::Editing(call));
+}
+
+/// Begins an edit of a cell by an idle process, and answers its number, from 0 to 255. Nothing is
+/// stored yet: the edit's steps do that.
+///
+/// The refusals are tried in this order, and each leaves the world as it was: `Busy` where the
+/// process is in a call, `Stopped` where it is stopped, `Text` with the first fault of the text,
+/// `RecordsFull` where the process has begun 256 edits, `NoMemory` where an allocation failed, also
+/// while the text is read.
+pub fn begin(
+    alloc: Global,
+    world: &mut World,
+    process: usize,
+    cell: Cell,
+    text: &[u8],
+) -> Result<usize, Refusal>
+    requires process { process < world.old.sheet.layout.processes }
+    requires cell { IsInside world.old.sheet.layout.shape cell }
+    ensures begun { IfOk result (λ number. IsBegun (world_of world.old) process (index_of world.old.sheet.layout.shape cell) text.now number (world_of world.new)) }
+    ensures refused { IfErr result (λ refusal. Refuses (world_of world.old) process text.now refusal) }
+    ensures unchanged { OnErr result (world.new ≡ world.old) }
+    ensures sheet { world.new.sheet ≡ world.old.sheet }
+    ensures done { world.new.done ≡ world.old.done }
+{
+    let number = next(&world.situations[process])?;
+    let layout = world.words.layout();
+    let call = prepared(alloc, &layout, process, number, cell, text)?;
+    issue(world, call);
+    Ok(number)
+}
