@@ -61,7 +61,7 @@ begins_move : (old new : World) → IsSound old → (process cell : ℕ) (text :
 begins_move old new sound process cell text number h =
     let e : PlainEdit = h.edit in
     let b : Begins e old new = h.begins in
-    let low : e.process < old.layout.processes = rw h.sheet.processes h.is.process in
+    let low : e.process < old.layout.processes = rw h.asked.sheet.processes h.asked.is.process in
     let idle : IdleFits old e.process e.number = subst (λ (x : Situation). CallFits old e.process x) b.idle (sound.calls e.process low) in
     let i : Issues old (edit_of e) new = record {
       none = idle.pending;
@@ -70,7 +70,7 @@ begins_move old new sound process cell text number h =
       fresh = not_below old (edit_of e) idle.below;
       counted = b.counted;
     } in
-    subst (λ (x : Edit). Issues old x new) h.asked i
+    subst (λ (x : Edit). Issues old x new) h.asked.asked i
 
 module _ (old new : WorldValue) (g : IsSound (world_of old)) (p : ℕ) (reply : Reply) (h : StepsBy old p reply new) where
   w : World

@@ -6,3 +6,4 @@ pub mod event;
 pub mod reply;
 pub mod sheet;
 pub mod step;
+pub mod take;

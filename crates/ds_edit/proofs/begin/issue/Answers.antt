@@ -15,5 +15,5 @@ invariant_of-world c =
     let sheet : IsSheetOf v.sheet.layout e = subst (λ (x : WorldValue). IsSheetOf x.sheet.layout e) (sym c.world.view_is) c.requires.sheet in
     let refs : HasRefs v.sheet.layout.shape e.text e.refs = subst (λ (x : WorldValue). HasRefs x.sheet.layout.shape e.text e.refs) (sym c.world.view_is) c.requires.refs in
     let idle : IsIdle (world_of v) e.process e.number = subst (λ (x : WorldValue). IsIdle (world_of x) e.process e.number) (sym c.world.view_is) c.requires.idle in
-    rw (c.put.ensures.items, c.of-edit.ensures, c.len-since.ensures, process, long)
+    rw (c.put.ensures.items, c.of-edit.ensures.value, c.len-since.ensures, process, long)
     (issued_kept v e _ c.world.invariant (subst (λ (x : PlainEdit). IsEdit x) c.call.view_is c.call.invariant) sheet idle c.requires.first refs)

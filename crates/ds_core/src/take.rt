@@ -1,0 +1,67 @@
+//! One event, and a list of events.
+
+ghost use Rattle.std.specs.Prelude.{◌≡◌, IfOk, OnErr};
+ghost use Rattle.ds_core.specs.Takes.{BeginTakes, Takes, Fits, WorldRun};
+
+use crate::event::{Event, Request};
+use crate::reply::Reply;
+use crate::step::{evict, step};
+use ds_edit::begin::begin;
+use ds_state::world::World;
+use std::alloc::{AllocError, Global};
+
+// An edit begins, or is refused.
+fn begin_edit(alloc: Global, world: &mut World, request: &Request) -> Reply
+    ensures { BeginTakes world.old request.now result world.new }
+{
+    let layout = world.words.layout();
+    if request.process >= layout.processes || !layout.shape.contains(request.cell) {
+        return Reply::NotEnabled;
+    }
+    match begin(alloc, world, request.process, request.cell, &request.text) {
+        Ok(number) => Reply::Begun(number),
+        Err(refusal) => Reply::Refused(refusal),
+    }
+}
+
+fn happen(alloc: Global, world: &mut World, event: &Event) -> Reply
+    ensures { Takes world.old event.now result world.new }
+{
+    match event {
+        Event::BeginEdit(request) => begin_edit(alloc, world, request),
+        Event::Step(process) => step(world, *process),
+        Event::Evict(place) => evict(world, *place),
+        Event::BeginWork(_, _) | Event::BeginShow(_) | Event::BeginRecover(_) => Reply::NotEnabled,
+        Event::Stop(_) | Event::Crash => Reply::NotEnabled,
+    }
+}
+
+/// What happens to a world by one event, and its answer. The world is sound before and after.
+///
+/// Memory is taken by beginnings alone; where it is refused, the answer is the refusal `NoMemory`
+/// and the world is unchanged.
+pub fn take(alloc: Global, world: &mut World, event: &Event) -> Reply
+    ensures { Fits world.old event.now result world.new }
+{
+    let reply = happen(alloc, world, event);
+    world.is_sound();
+    reply
+}
+
+/// Events one after the other, whether they can happen or not, and the answer to each. Room for the
+/// answers is taken first: an error is a want of memory, and the world is unchanged.
+pub fn run(
+    alloc: Global,
+    world: &mut World,
+    events: &[Event],
+) -> Result<Vec<Reply>, AllocError>
+    ensures run { IfOk result (λ replies. WorldRun world.old events.now replies.items world.new) }
+    ensures unchanged { OnErr result (world.new ≡ world.old) }
+{
+    let mut replies = Vec::with_capacity(alloc, events.len())?;
+    for event in events {
+        let reply = take(alloc, world, event);
+        replies.push_reserved(reply);
+    }
+    Ok(replies)
+}
