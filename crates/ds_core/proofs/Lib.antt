@@ -4,3 +4,4 @@ pub mod Good
 pub mod Moves
 pub mod Order
 pub mod Bound
+pub mod Runs
