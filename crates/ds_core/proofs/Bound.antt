@@ -15,7 +15,7 @@ use Rattle.ds_state.specs.declared.situation.Situation.{Situation}
 use Rattle.ds_state.specs.declared.situation.Situation.TheVariants.{Idle, Editing}
 use Rattle.ds_edit.specs.Steps.{rank, next_at, Falls}
 use Rattle.ds_edit.specs.Worlds.{after}
-use Rattle.ds_edit.proofs.Stays.{each_falls}
+use Rattle.ds_edit.proofs.Stays.{each_falls, each_few, each_some}
 use Rattle.ds_core.specs.Requests.{PlainRequest}
 use Rattle.ds_core.specs.Steps.{outcome_at, reply_with, StepsBy}
 use Rattle.ds_core.specs.Takes.{Takes, Fits, WorldRun}
@@ -25,7 +25,7 @@ use Rattle.ds_core.specs.declared.event.Event.TheVariants.{BeginEdit, BeginWork,
 use Rattle.ds_core.specs.declared.reply.Reply.{Reply}
 use Rattle.ds_core.specs.declared.reply.Reply.TheVariants.{Begun, Refused, Stepped, Answered, Evicted, NotEnabled}
 
-unanswered_at : (processes number : ℕ) (o : Option Outcome) → Stepped ≡ reply_with processes number o → o ≡ None
+pub unanswered_at : (processes number : ℕ) (o : Option Outcome) → Stepped ≡ reply_with processes number o → o ≡ None
 unanswered_at processes number None is = refl
 unanswered_at processes number (Some how) is = absurd (cc)
 
@@ -128,3 +128,29 @@ goes_through (event ∷ events) (reply ∷ replies) old new p e sound low at run
     (rest.0, rest.1, goes_further e first.0 rest.0 (own_step p event reply) (own_steps p events replies) first.2 rest.2)
 goes_through [] (reply ∷ replies) old new p e sound low at run u = absurd run
 goes_through (event ∷ events) [] old new p e sound low at run u = absurd run
+
+
+run_sound : (events : List Event) (replies : List Reply) (old new : WorldValue) → IsSound (world_of old) → WorldRun old events replies new → IsSound (world_of new)
+run_sound [] [] old new sound run = subst (λ (v : WorldValue). IsSound (world_of v)) (sym run) sound
+run_sound (event ∷ events) (reply ∷ replies) old new sound run = run_sound events replies run.0 new run.1.sound run.2
+run_sound [] (reply ∷ replies) old new sound run = absurd run
+run_sound (event ∷ events) [] old new sound run = absurd run
+
+run_layout : (events : List Event) (replies : List Reply) (old new : WorldValue) → WorldRun old events replies new → new.sheet.layout ≡ old.sheet.layout
+run_layout [] [] old new run = ap (λ (v : WorldValue). v.sheet.layout) run
+run_layout (event ∷ events) (reply ∷ replies) old new run = run_layout events replies run.0 new run.2 ∙ same_layout old run.0 event reply run.1.takes
+run_layout [] (reply ∷ replies) old new run = absurd run
+run_layout (event ∷ events) [] old new run = absurd run
+
+pub few_own : (old : WorldValue) (events : List Event) (replies : List Reply) (new : WorldValue) (p : ℕ) (e : PlainEdit) → IsSound (world_of old) → p < old.sheet.layout.processes
+    → (world_of old).situation p ≡ Editing e → WorldRun old events replies new → AreUnanswered p events replies → own_steps p events replies < 67 + 3 * length e.refs
+few_own old events replies new p e sound low at run u =
+    let later = goes_through events replies old new p e sound low at run u in
+    let fits : EditFits (world_of old) p e = subst (λ (x : Situation). CallFits (world_of old) p x) at (sound.calls p low) in
+    let few = each_few e fits.is in
+    let less = later.2.fewer in
+    let sound' = run_sound events replies old new sound run in
+    let layout = run_layout events replies old new run in
+    let fits' : EditFits (world_of new) p later.0 = subst (λ (x : Situation). CallFits (world_of new) p x) later.1 (sound'.calls p (rw layout low)) in
+    let some = each_some later.0 fits'.is in
+    omega arith

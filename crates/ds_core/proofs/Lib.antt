@@ -5,3 +5,4 @@ pub mod Moves
 pub mod Order
 pub mod Bound
 pub mod Runs
+pub mod Solo

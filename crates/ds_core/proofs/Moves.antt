@@ -34,7 +34,7 @@ use Rattle.ds_core.specs.declared.reply.Reply.TheVariants.{Begun, Refused, Stepp
 use Rattle.ds_core.proofs.Good.{counted_cases}
 
 -- which stage a step's outcome tells
-answers_at : (s : Stage) (how : Outcome) → outcome_at s ≡ Some how → s ≡ Answer how
+pub answers_at : (s : Stage) (how : Outcome) → outcome_at s ≡ Some how → s ≡ Answer how
 answers_at (Answer how') how is = let same : how' ≡ how = cc in ap (λ h. Answer h) same
 answers_at _ how is = absurd (cc)
 

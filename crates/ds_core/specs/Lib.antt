@@ -6,3 +6,4 @@ pub mod Steps
 pub mod Takes
 pub mod Traces
 pub mod Own
+pub mod Solo

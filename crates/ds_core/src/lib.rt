@@ -3,6 +3,7 @@
 
 pub mod edit;
 pub mod event;
+pub mod laws;
 pub mod reply;
 pub mod sheet;
 pub mod step;

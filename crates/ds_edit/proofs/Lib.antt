@@ -11,3 +11,4 @@ pub mod Beginning
 pub mod Sound
 pub mod Truth
 pub mod Possible
+pub mod Alone

@@ -124,9 +124,42 @@ few e t (FlushOutcome how) s = omega arith
 few e t (BackOutcome how) s = omega arith
 few e t (Answer how) s = omega arith
 
+-- and at least one step is left
+some : (e : PlainEdit) → (stage : Stage) → IsStage e stage → 0 < rank e stage
+some e StoreHeader s = omega arith
+some e (StoreText part) s = omega arith
+some e FlushHeader s = omega arith
+some e (FlushText part) s = omega arith
+some e (BackRecord left) s = omega arith
+some e StorePending s = omega arith
+some e FlushPending s = omega arith
+some e BackPending s = omega arith
+some e (OrIndex i) s = omega arith
+some e (FlushIndex i) s = omega arith
+some e (BackIndex i) s = omega arith
+some e LoadHead s = omega arith
+some e (FlushNoted head) s = omega arith
+some e (BackNoted head) s = omega arith
+some e (OrDone head) s = omega arith
+some e (FlushDone head) s = omega arith
+some e (BackDone head) s = omega arith
+some e (Swap noted) s = omega arith
+some e (FlushOwn own) s = omega arith
+some e (BackOwn own) s = omega arith
+some e (OrMark own) s = omega arith
+some e (FlushMark own) s = omega arith
+some e (BackMark own) s = omega arith
+some e (StoreOutcome how) s = omega arith
+some e (FlushOutcome how) s = omega arith
+some e (BackOutcome how) s = omega arith
+some e (Answer how) s = omega arith
+
 -- for an edit of a sheet
 pub each_falls : (e : PlainEdit) (word : ℕ) → IsEdit e → Falls e e.stage (next_at e e.stage word)
 each_falls e word is = falls e e.stage word is.stage
 
 pub each_few : (e : PlainEdit) → IsEdit e → rank e e.stage ≤ 67 + 3 * length e.refs
 each_few e is = few e is.text e.stage is.stage
+
+pub each_some : (e : PlainEdit) → IsEdit e → 0 < rank e e.stage
+each_some e is = some e e.stage is.stage

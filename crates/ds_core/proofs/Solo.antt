@@ -1,0 +1,116 @@
+-- An edit that is alone is done.
+use Rattle.std.proofs.Common.{ℕ, ◌≡◌, ◌+◌, List, [], ◌∷◌, refl, ap, sym, ◌∙◌, subst, Some, None}
+use Rattle.std.specs.Prelude.{Option}
+use Rattle.ds_layout.specs.declared.place.Place.TheVariants as place
+use Rattle.ds_layout.specs.Head.{head_word}
+use Rattle.ds_state.specs.Edits.{PlainEdit}
+use Rattle.ds_state.specs.World.{World}
+use Rattle.ds_state.specs.Value.{WorldValue, world_of}
+use Rattle.ds_state.specs.Sound.{IsSound}
+use Rattle.ds_state.specs.declared.stage.Outcome.{Outcome}
+use Rattle.ds_state.specs.declared.stage.Outcome.TheVariants as outcome
+use Rattle.ds_state.specs.declared.stage.Stage.{Stage}
+use Rattle.ds_state.specs.declared.stage.Stage.TheVariants.{StoreHeader, FlushNoted, BackNoted, OrDone, FlushDone, BackDone, Swap, StoreOutcome, FlushOutcome, BackOutcome, Answer}
+use Rattle.ds_state.specs.declared.situation.Situation.{Situation}
+use Rattle.ds_state.specs.declared.situation.Situation.TheVariants.{Idle, Editing}
+use Rattle.ds_edit.specs.Steps.{next_at}
+use Rattle.ds_edit.specs.Worlds.{after}
+use Rattle.ds_edit.specs.Alone.{IsAloneAt}
+use Rattle.ds_edit.proofs.Alone.{alone}
+use Rattle.ds_core.specs.Steps.{outcome_at, reply_with, answer_of, StepsBy}
+use Rattle.ds_core.specs.Takes.{Takes, WorldRun}
+use Rattle.ds_core.specs.Solo.{IsSoloEvent, IsSolo, IsDoneOnly, AreDoneOnly}
+use Rattle.ds_core.specs.declared.event.Event.{Event}
+use Rattle.ds_core.specs.declared.event.Event.TheVariants.{BeginEdit, BeginWork, BeginShow, BeginRecover, Step, Evict, Stop, Crash}
+use Rattle.ds_core.specs.declared.reply.Answer.{Answer as ReplyAnswer}
+use Rattle.ds_core.specs.declared.reply.Answer.TheVariants.{Done}
+use Rattle.ds_core.specs.declared.reply.Reply.{Reply}
+use Rattle.ds_core.specs.declared.reply.Reply.TheVariants.{Begun, Refused, Stepped, Answered, Evicted, NotEnabled}
+use Rattle.ds_core.proofs.Moves.{answers_at}
+use Rattle.ds_core.proofs.Bound.{unanswered_at, after_on, editing_same, same_layout}
+
+alone_same : (w w' : World) (cell : ℕ) (s : Stage) → w'.memory.cached (place.Head cell) ≡ w.memory.cached (place.Head cell) → IsAloneAt w cell s → IsAloneAt w' cell s
+alone_same w w' cell (FlushNoted head) same h = h ∙ sym same
+alone_same w w' cell (BackNoted head) same h = h ∙ sym same
+alone_same w w' cell (OrDone head) same h = h ∙ sym same
+alone_same w w' cell (FlushDone head) same h = h ∙ sym same
+alone_same w w' cell (BackDone head) same h = h ∙ sym same
+alone_same w w' cell (Swap noted) same h = h ∙ sym same
+alone_same w w' cell (StoreOutcome how) same h = h
+alone_same w w' cell (FlushOutcome how) same h = h
+alone_same w w' cell (BackOutcome how) same h = h
+alone_same w w' cell (Answer how) same h = h
+alone_same w w' cell _ same h = tt
+
+-- the process's edit, where it is in one, has this number and is alone
+abbrev pub IsAlone : WorldValue → ℕ → ℕ → Type 0
+IsAlone v p number = (e : PlainEdit) → (world_of v).situation p ≡ Editing e → (e.number ≡ number) × IsAloneAt (world_of v) e.cell e.stage
+
+some_outcome : (processes number : ℕ) (a : ReplyAnswer) (o : Option Outcome) → Answered a ≡ reply_with processes number o → (how : Outcome) × (o ≡ Some how) × (a ≡ answer_of processes number how)
+some_outcome processes number a None is = absurd (cc)
+some_outcome processes number a (Some how) is = (how, refl, cc)
+
+after_answer : (e : PlainEdit) (s : Stage) (how : Outcome) (word : ℕ) → s ≡ Answer how → after e s word ≡ Idle (e.number + 1)
+after_answer e s how word is = ap (λ x. after e x word) is
+
+module _ (old new : WorldValue) (sound : IsSound (world_of old)) (p number : ℕ) (a : IsAlone old p number) where
+  situation_now : (h : PlainEdit) (q : ℕ) → h.process ≡ q → q ≡ p → (s : Situation) → (world_of new).situation h.process ≡ s → (world_of new).situation p ≡ s
+  situation_now h q mine same s is = ap (λ x. (world_of new).situation x) (sym (mine ∙ same)) ∙ is
+
+  stepped : (q : ℕ) → q ≡ p → StepsBy old q Stepped new → IsAlone new p number
+  stepped q same h e' is =
+      let at : (world_of old).situation p ≡ Editing h.edit = ap (λ x. (world_of old).situation x) (sym same) ∙ h.at in
+      let goes : outcome_at h.edit.stage ≡ None = unanswered_at old.sheet.layout.processes h.edit.number (outcome_at h.edit.stage) h.is in
+      let next : PlainEdit = record h.edit { stage = next_at h.edit h.edit.stage h.word } in
+      let one : next ≡ e' = editing_same ((world_of new).situation p) next e' (situation_now h.edit q h.mine same (Editing next) (h.steps.situation ∙ after_on h.edit h.edit.stage h.word goes)) is in
+      let before = a h.edit at in
+      subst (λ (x : PlainEdit). (x.number ≡ number) × IsAloneAt (world_of new) x.cell x.stage) one
+      (before.0, alone h.edit h.word (world_of old) (world_of new) sound h.edit.stage h.steps.memory before.1)
+
+  answered : (q : ℕ) (answer : ReplyAnswer) → q ≡ p → StepsBy old q (Answered answer) new → (answer ≡ Done number) × IsAlone new p number
+  answered q answer same h =
+      let at : (world_of old).situation p ≡ Editing h.edit = ap (λ x. (world_of old).situation x) (sym same) ∙ h.at in
+      let found = some_outcome old.sheet.layout.processes h.edit.number answer (outcome_at h.edit.stage) h.is in
+      let last : h.edit.stage ≡ Answer found.0 = answers_at h.edit.stage found.0 found.1 in
+      let before = a h.edit at in
+      let done : found.0 ≡ outcome.Done = subst (λ (s : Stage). IsAloneAt (world_of old) h.edit.cell s) last before.1 in
+      ( found.2 ∙ ap (λ how. answer_of old.sheet.layout.processes h.edit.number how) done ∙ ap (λ n. Done n) before.0
+      , (λ e' is. absurd (
+          let now : (world_of new).situation p ≡ Idle (h.edit.number + 1) = situation_now h.edit q h.mine same _ (h.steps.situation ∙ after_answer h.edit h.edit.stage found.0 h.word last) in
+          let bad : Idle (h.edit.number + 1) ≡ Editing e' = sym now ∙ is in
+          cc)))
+
+  unchanged : new ≡ old → IsAlone new p number
+  unchanged same = subst (λ (v : WorldValue). IsAlone v p number) (sym same) a
+
+  pub one_event : (event : Event) (reply : Reply) → Takes old event reply new → IsSoloEvent p event → IsDoneOnly number reply × IsAlone new p number
+  one_event (Step q) Stepped h same = (tt, stepped q same h)
+  one_event (Step q) (Answered answer) h same = answered q answer same h
+  one_event (Step q) NotEnabled h same = (tt, unchanged h.same)
+  one_event (Step q) _ h same = absurd h
+  one_event (Evict r) Evicted h solo = (tt, (λ e is. let before = a e (sym (h.evicts.situation p) ∙ is) in (before.0, alone_same (world_of old) (world_of new) e.cell e.stage (h.evicts.memory.cached (place.Head e.cell)) before.1)))
+  one_event (Evict r) NotEnabled h solo = (tt, unchanged h.same)
+  one_event (Evict r) _ h solo = absurd h
+  one_event (BeginEdit r) reply h solo = absurd solo
+  one_event (BeginWork q cell) reply h solo = absurd solo
+  one_event (BeginShow q) reply h solo = absurd solo
+  one_event (BeginRecover q) reply h solo = absurd solo
+  one_event (Stop q) reply h solo = absurd solo
+  one_event Crash reply h solo = absurd solo
+
+pub solo_run : (events : List Event) (replies : List Reply) (old new : WorldValue) (p number : ℕ) → IsSound (world_of old) → IsAlone old p number → WorldRun old events replies new → IsSolo p events → AreDoneOnly number replies
+solo_run [] [] old new p number sound a run solo = tt
+solo_run (event ∷ events) (reply ∷ replies) old new p number sound a run solo =
+    let first = one_event old run.0 sound p number a event reply run.1.takes solo.0 in
+    (first.0, solo_run events replies run.0 new p number run.1.sound first.1 run.2 solo.1)
+solo_run [] (reply ∷ replies) old new p number sound a run solo = absurd run
+solo_run (event ∷ events) [] old new p number sound a run solo = absurd run
+
+pub solo_done : (old : WorldValue) (events : List Event) (replies : List Reply) (new : WorldValue) (p : ℕ) (e : PlainEdit) → IsSound (world_of old)
+    → (world_of old).situation p ≡ Editing e → e.stage ≡ StoreHeader → WorldRun old events replies new → IsSolo p events → AreDoneOnly e.number replies
+solo_done old events replies new p e sound at first run solo = solo_run events replies old new p e.number sound starts run solo
+  where
+    starts : IsAlone old p e.number
+    starts e' is =
+        let one : e ≡ e' = editing_same ((world_of old).situation p) e e' at is in
+        subst (λ (x : PlainEdit). (x.number ≡ e.number) × IsAloneAt (world_of old) x.cell x.stage) one (refl, subst (λ (s : Stage). IsAloneAt (world_of old) e.cell s) (sym first) tt)

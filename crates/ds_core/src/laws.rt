@@ -1,0 +1,55 @@
+//! What is true of each run, as functions that do nothing. `run` gives the run that they speak of.
+
+ghost use Rattle.std.specs.Prelude.{◌≡◌, ◌<◌, ◌≤◌, ◌+◌, ◌*◌, ℕ, List, length, Contains};
+ghost use Rattle.ds_state.specs.Edits.{PlainEdit};
+ghost use Rattle.ds_state.specs.Value.{WorldValue, world_of};
+ghost use Rattle.ds_state.specs.Sound.{IsSound};
+ghost use Rattle.ds_state.specs.declared.stage.Stage.TheVariants.{StoreHeader};
+ghost use Rattle.ds_state.specs.declared.situation.Situation.TheVariants.{Editing};
+ghost use Rattle.ds_core.specs.declared.event.Event.{Event};
+ghost use Rattle.ds_core.specs.declared.reply.Reply.{Reply};
+ghost use Rattle.ds_core.specs.Takes.{WorldRun};
+ghost use Rattle.ds_core.specs.Traces.{LedgerRun, DoneThenIssued, StandsBefore};
+ghost use Rattle.ds_core.specs.Own.{own_steps, AreUnanswered};
+ghost use Rattle.ds_core.specs.Solo.{IsSolo, AreDoneOnly};
+
+/// For each list of events, those that can happen and those that can not: one list of edits that
+/// count exists at each moment, in which no edit stands twice, and each event moves it as it says.
+/// An edit that is begun is issued and does not count; a step leaves the list, or lets its process's
+/// edit count, which did not; Done is answered only of an edit that counts, and Overtaken only of
+/// one that does not, while the edit that it names is of the same cell and came to count since the
+/// issue. Detectable execution (Friedman, Herlihy, Marathe, Petrank, PPoPP 2018), without crashes.
+#[tactic(auto, using(crate::proofs::Moves::ledger_runs))]
+pub fn runs_move_the_ledger()
+    ensures { (old : WorldValue) (events : List Event) (replies : List Reply) (new : WorldValue)
+        → IsSound (world_of old) → WorldRun old events replies new
+        → LedgerRun (world_of old) events replies (world_of new) }
+{}
+
+/// An edit that is answered Done before another one is issued stands before it, where that one comes
+/// to count.
+#[tactic(auto, using(crate::proofs::Order::done_before))]
+pub fn done_stands_before()
+    ensures { (h : DoneThenIssued) → Contains h.last.counted h.second
+        → StandsBefore h.last.counted h.done.issue.edit h.second }
+{}
+
+/// From its beginning until it is answered, an edit with r references makes fewer than 3r + 67 steps
+/// of its own, and one more that answers, whatever the other processes do between them.
+#[tactic(auto, using(crate::proofs::Bound::few_own))]
+pub fn own_steps_are_few()
+    ensures { (old : WorldValue) (events : List Event) (replies : List Reply) (new : WorldValue)
+        (p : ℕ) (e : PlainEdit) → IsSound (world_of old) → p < old.sheet.layout.processes
+        → (world_of old).situation p ≡ Editing e → WorldRun old events replies new
+        → AreUnanswered p events replies
+        → own_steps p events replies < 67 + 3 * length e.refs }
+{}
+
+/// An edit that is alone from its beginning on, but for evictions, is done.
+#[tactic(auto, using(crate::proofs::Solo::solo_done))]
+pub fn solo_edits_are_done()
+    ensures { (old : WorldValue) (events : List Event) (replies : List Reply) (new : WorldValue)
+        (p : ℕ) (e : PlainEdit) → IsSound (world_of old)
+        → (world_of old).situation p ≡ Editing e → e.stage ≡ StoreHeader
+        → WorldRun old events replies new → IsSolo p events → AreDoneOnly e.number replies }
+{}
