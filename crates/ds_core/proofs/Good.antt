@@ -14,7 +14,7 @@ use Rattle.ds_layout.specs.Sheet.{SheetValue, memory, CanPerform, PerformsAt}
 use Rattle.ds_state.specs.Edits.{PlainEdit}
 use Rattle.ds_state.specs.Text.{IsText}
 use Rattle.ds_state.specs.World.{Edit, Issue, World, edit_of}
-use Rattle.ds_state.specs.Value.{WorldValue, world_of, IsGood, IsKept}
+use Rattle.ds_state.specs.Value.{WorldValue, world_of, IsGood, IsReserved}
 use Rattle.ds_state.specs.Calls.{CallFits, EditFits}
 use Rattle.ds_state.specs.Events.{Evicts}
 use Rattle.ds_state.specs.Sound.{IsSound}
@@ -84,7 +84,7 @@ module _ (v : WorldValue) (g : IsGood v) (p : ℕ) (e : PlainEdit) (at : IsEditi
   module _ (word : ℕ) (sheet : SheetValue) (layout : sheet.layout ≡ v.sheet.layout) (performs : PerformsAt (access_at e e.stage) p (memory v.sheet) (memory sheet) word) where
     -- the world after the step
     pub next : WorldValue
-    next = record {
+    next = record v {
       sheet = sheet;
       situations = set v.situations p (after e e.stage word);
       counted = v.counted ++ counted_at (edit_of e) e.stage word;
@@ -112,7 +112,7 @@ module _ (v : WorldValue) (g : IsGood v) (p : ℕ) (e : PlainEdit) (at : IsEditi
     texts_after : IsText e.text → All (λ (x : Edit). IsText x.text) (v.counted ++ counted_at (edit_of e) e.stage word)
     texts_after is = counted_texts v.counted g.texts (edit_of e) is word e.stage
 
-    pub next_kept : (room more : ℕ) → v.sheet.layout.processes * RECORDS ≤ room → room ≤ more → IsText e.text → IsKept next more
+    pub next_kept : (room more : ℕ) → v.sheet.layout.processes * RECORDS ≤ room → room ≤ more → IsText e.text → IsReserved next more
     unfolding next
     next_kept room more reserved larger text = record {
       good = record {
@@ -120,6 +120,7 @@ module _ (v : WorldValue) (g : IsGood v) (p : ℕ) (e : PlainEdit) (at : IsEditi
         situations = length-set v.situations p (after e e.stage word) ∙ g.situations ∙ ap (λ (l : Layout). l.processes) (sym layout);
         pending = length-set v.pending p (pending_at (get_or v.pending p None) e.stage) ∙ g.pending ∙ ap (λ (l : Layout). l.processes) (sym layout);
         texts = texts_after text;
+        reports = rw layout g.reports;
       };
       reserved = (let same = ap (λ (l : Layout). l.processes) layout in omega arith);
     }
@@ -152,24 +153,25 @@ module _ (v : WorldValue) (g : IsGood v) (p : ℕ) (e : PlainEdit) (at : IsEditi
       steps = steps;
       is = refl;
       done = refl;
+      reports = record { settled = refl; reports = refl };
     })
 
     -- a world of these parts is that world
     pub next_is : (situation : Situation) (counted : List Edit) (open_issue : Option Issue) (done : ℕ)
         → situation ≡ after e e.stage word → counted ≡ v.counted ++ counted_at (edit_of e) e.stage word
         → open_issue ≡ pending_at (get_or v.pending p None) e.stage → done ≡ done_at v.done e.stage
-        → (let w : WorldValue = record { sheet = sheet; situations = set v.situations p situation; counted = counted; pending = set v.pending p open_issue; done = done } in w) ≡ next
+        → (let w : WorldValue = record v { sheet = sheet; situations = set v.situations p situation; counted = counted; pending = set v.pending p open_issue; done = done } in w) ≡ next
     unfolding next
     next_is situation counted open_issue done a b c d =
-        let made : Situation → List Edit → Option Issue → ℕ → WorldValue = λ s es i n. record { sheet = sheet; situations = set v.situations p s; counted = es; pending = set v.pending p i; done = n } in
+        let made : Situation → List Edit → Option Issue → ℕ → WorldValue = λ s es i n. record v { sheet = sheet; situations = set v.situations p s; counted = es; pending = set v.pending p i; done = n } in
         ap (λ s. made s counted open_issue done) a
         ∙ ap (λ es. made (after e e.stage word) es open_issue done) b
         ∙ ap (λ i. made (after e e.stage word) (v.counted ++ counted_at (edit_of e) e.stage word) i done) c
         ∙ ap (λ n. made (after e e.stage word) (v.counted ++ counted_at (edit_of e) e.stage word) (pending_at (get_or v.pending p None) e.stage) n) d
 
 -- an eviction
-pub evict_kept : (v : WorldValue) (sheet : SheetValue) (place : Place) (room : ℕ) → IsKept v room → sheet.layout ≡ v.sheet.layout → EvictsAt place (memory v.sheet) (memory sheet)
-    → IsKept (record v { sheet = sheet }) room × Evicts place (world_of v) (world_of (record v { sheet = sheet }))
+pub evict_kept : (v : WorldValue) (sheet : SheetValue) (place : Place) (room : ℕ) → IsReserved v room → sheet.layout ≡ v.sheet.layout → EvictsAt place (memory v.sheet) (memory sheet)
+    → IsReserved (record v { sheet = sheet }) room × Evicts place (world_of v) (world_of (record v { sheet = sheet }))
 evict_kept v sheet place room k layout m =
     let e : Evicts place (world_of v) (world_of (record v { sheet = sheet })) = record { layout = layout; memory = m; situation = λ q. refl; counted = refl; pending = λ q. refl } in
     let same = ap (λ (l : Layout). l.processes) layout in
@@ -179,6 +181,7 @@ evict_kept v sheet place room k layout m =
         situations = k.good.situations ∙ sym same;
         pending = k.good.pending ∙ sym same;
         texts = k.good.texts;
+        reports = rw layout k.good.reports;
       };
       reserved = (let r = k.reserved in omega arith);
     }, e)

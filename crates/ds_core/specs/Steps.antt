@@ -51,6 +51,11 @@ done_with done _ = done
 abbrev pub done_at : ℕ → Stage → ℕ
 done_at done s = done_with done (outcome_at s)
 
+-- no report is answered
+pub record SameReports (old new : WorldValue) : Type 0 where
+  pub settled : new.settled ≡ old.settled
+  pub reports : new.reports ≡ old.reports
+
 -- the process makes a step of its edit
 pub record StepsBy (old : WorldValue) (p : ℕ) (reply : Reply) (new : WorldValue) : Type 0 where
   pub there : p < old.sheet.layout.processes
@@ -61,6 +66,7 @@ pub record StepsBy (old : WorldValue) (p : ℕ) (reply : Reply) (new : WorldValu
   pub steps : edits.Steps edit word (world_of old) (world_of new)
   pub is : reply ≡ reply_at old.sheet.layout.processes edit.number edit.stage
   pub done : new.done ≡ done_at old.done edit.stage
+  pub reports : SameReports old new
 
 -- the process has no edit under way
 pub record CanNotStep (old : WorldValue) (p : ℕ) (new : WorldValue) : Type 0 where
@@ -77,6 +83,7 @@ StepTakes old p _ new = ⊥
 pub record EvictsWord (old : WorldValue) (place : Place) (new : WorldValue) : Type 0 where
   pub evicts : Evicts place (world_of old) (world_of new)
   pub done : new.done ≡ old.done
+  pub reports : SameReports old new
 
 -- the sheet has no such word
 pub record CanNotEvict (old : WorldValue) (place : Place) (new : WorldValue) : Type 0 where

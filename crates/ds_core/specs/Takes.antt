@@ -7,7 +7,7 @@ use Rattle.ds_state.specs.Sound.{IsSound}
 use Rattle.ds_edit.specs.Begun.{IsBegun, Refuses}
 use Rattle.ds_state.specs.declared.refusal.Refusal.{Refusal}
 use Rattle.ds_core.specs.Requests.{PlainRequest}
-use Rattle.ds_core.specs.Steps.{StepTakes, EvictTakes}
+use Rattle.ds_core.specs.Steps.{SameReports, StepTakes, EvictTakes}
 use Rattle.ds_core.specs.declared.event.Event.{Event}
 use Rattle.ds_core.specs.declared.event.Event.TheVariants.{BeginEdit, Step, Evict}
 use Rattle.ds_core.specs.declared.reply.Reply.{Reply}
@@ -23,6 +23,7 @@ pub record EditBegins (old : WorldValue) (r : PlainRequest) (number : ℕ) (new 
   pub named : IsOfWorld old r
   pub begun : IsBegun (world_of old) r.process (index_of old.sheet.layout.shape r.cell) r.text number (world_of new)
   pub done : new.done ≡ old.done
+  pub reports : SameReports old new
 
 -- it is refused
 pub record EditRefused (old : WorldValue) (r : PlainRequest) (why : Refusal) (new : WorldValue) : Type 0 where

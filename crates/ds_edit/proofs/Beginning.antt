@@ -15,7 +15,7 @@ use Rattle.ds_layout.specs.declared.place.TheConstants.{RECORDS}
 use Rattle.ds_state.specs.Edits.{PlainEdit, IsEdit}
 use Rattle.ds_state.specs.World.{edit_of, World}
 use Rattle.ds_state.specs.Calls.{IsSheetOf, HasRefs}
-use Rattle.ds_state.specs.Value.{WorldValue, world_of, IsGood, IsKept}
+use Rattle.ds_state.specs.Value.{WorldValue, world_of, IsGood, IsReserved}
 use Rattle.ds_state.specs.declared.refusal.Refusal.{Refusal}
 use Rattle.ds_state.specs.declared.refusal.Refusal.TheVariants as refusal
 use Rattle.ds_state.specs.declared.stage.Stage.TheVariants.{StoreHeader}
@@ -32,7 +32,7 @@ issued v e = record v {
   pending = set v.pending e.process (Some (record { edit = edit_of e; since = length v.counted }));
 }
 
-module _ (v : WorldValue) (e : PlainEdit) (room : ℕ) (kept : IsKept v room) (is : IsEdit e) (sheet : IsSheetOf v.sheet.layout e) (idle : IsIdle (world_of v) e.process e.number) (first : e.stage ≡ StoreHeader) where
+module _ (v : WorldValue) (e : PlainEdit) (room : ℕ) (kept : IsReserved v room) (is : IsEdit e) (sheet : IsSheetOf v.sheet.layout e) (idle : IsIdle (world_of v) e.process e.number) (first : e.stage ≡ StoreHeader) where
   has_situation : e.process < length v.situations
   has_situation = let s = kept.good.situations in let p = sheet.processes in let l = is.process in omega arith
 
@@ -52,13 +52,14 @@ module _ (v : WorldValue) (e : PlainEdit) (room : ℕ) (kept : IsKept v room) (i
     others_pending = λ q ne. get_or-set_other v.pending e.process q (Some (record { edit = edit_of e; since = length v.counted })) None ne;
   }
 
-  pub issued_kept : HasRefs v.sheet.layout.shape e.text e.refs → IsKept (issued v e) room
+  pub issued_kept : HasRefs v.sheet.layout.shape e.text e.refs → IsReserved (issued v e) room
   issued_kept refs = record {
     good = record {
       sound = (begin_sound e (world_of v) (world_of (issued v e)) kept.good.sound is sheet refs issued_begins).sound;
       situations = length-set v.situations e.process (Editing e) ∙ kept.good.situations;
       pending = length-set v.pending e.process (Some (record { edit = edit_of e; since = length v.counted })) ∙ kept.good.pending;
       texts = kept.good.texts;
+      reports = kept.good.reports;
     };
     reserved = kept.reserved;
   }

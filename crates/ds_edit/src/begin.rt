@@ -117,6 +117,8 @@ fn issue(world: &mut World, call: EditCall)
     ensures begins { Begins call (world_of world.old) (world_of world.new) }
     ensures sheet { world.new.sheet ≡ world.old.sheet }
     ensures done { world.new.done ≡ world.old.done }
+    ensures settled { world.new.settled ≡ world.old.settled }
+    ensures reports { world.new.reports ≡ world.old.reports }
 {
     let process = call.process;
     let edit = Edit::of(&call);
@@ -146,6 +148,8 @@ pub fn begin(
     ensures unchanged { OnErr result (world.new ≡ world.old) }
     ensures sheet { world.new.sheet ≡ world.old.sheet }
     ensures done { world.new.done ≡ world.old.done }
+    ensures settled { world.new.settled ≡ world.old.settled }
+    ensures reports { world.new.reports ≡ world.old.reports }
 {
     let number = next(&world.situations[process])?;
     let layout = world.words.layout();

@@ -13,3 +13,4 @@ pub mod Made
 pub mod ReadBack
 pub mod LastText
 pub mod Quiet
+pub mod ReportRooms

@@ -1,14 +1,17 @@
 -- A world that is made anew is good.
-use Rattle.std.proofs.Common.{ℕ, ◌≡◌, ◌≤◌, ◌+◌, ◌*◌, ◌++◌, [], ◌∷◌, get_or, replicate, refl, sym, ◌∙◌, subst, zero, suc, Option, None}
+use Rattle.std.proofs.Common.{ℕ, ◌≡◌, ◌≤◌, ◌+◌, ◌*◌, ◌++◌, List, [], ◌∷◌, get_or, replicate, refl, sym, ◌∙◌, subst, zero, suc, Option, None}
 use Rattle.std.proofs.lemmas.List.{length-replicate, replicate_more}
 use Rattle.std.proofs.lemmas.List.Elements.{All-nil}
 use Rattle.ds_words.specs.Memory.{IsFresh}
 use Rattle.ds_layout.specs.declared.place.TheConstants.{RECORDS}
 use Rattle.ds_layout.specs.Sheet.{SheetValue, memory}
+use Rattle.ds_eval.specs.declared.value.Value.{Value}
+use Rattle.ds_layout.specs.Places.{cells_of}
 use Rattle.ds_state.specs.Text.{IsText}
+use Rattle.ds_state.specs.Reports.{no_reports}
 use Rattle.ds_state.specs.World.{Edit, Issue}
 use Rattle.ds_state.specs.Fresh.{IsNew}
-use Rattle.ds_state.specs.Value.{WorldValue, world_of, IsKept}
+use Rattle.ds_state.specs.Value.{WorldValue, world_of, IsReserved}
 use Rattle.ds_state.specs.declared.situation.Situation.{Situation}
 use Rattle.ds_state.specs.declared.situation.Situation.TheVariants.{Idle}
 use Rattle.ds_state.proofs.New.{new_sound}
@@ -23,7 +26,7 @@ all_same (suc n) (suc q) x = all_same n q x
 
 -- of these parts
 abbrev pub made : SheetValue → ℕ → WorldValue
-made sheet processes = record { sheet = sheet; situations = replicate processes (Idle 0); counted = []; pending = replicate processes None; done = 0 }
+made sheet processes = record { sheet = sheet; situations = replicate processes (Idle 0); counted = []; pending = replicate processes None; done = 0; settled = 0; reports = no_reports processes (cells_of sheet.layout) }
 
 pub made_new : (sheet : SheetValue) (processes : ℕ) → IsFresh (memory sheet) → IsNew (world_of (made sheet processes))
 made_new sheet processes fresh = record {
@@ -33,13 +36,14 @@ made_new sheet processes fresh = record {
   pending = λ p. all_same {X = Option Issue} processes p None;
 }
 
-pub made_kept : (sheet : SheetValue) (processes room : ℕ) → IsFresh (memory sheet) → sheet.layout.processes ≡ processes → processes * RECORDS ≤ room → IsKept (made sheet processes) room
+pub made_kept : (sheet : SheetValue) (processes room : ℕ) → IsFresh (memory sheet) → sheet.layout.processes ≡ processes → processes * RECORDS ≤ room → IsReserved (made sheet processes) room
 made_kept sheet processes room fresh same enough = record {
   good = record {
     sound = new_sound (world_of (made sheet processes)) (made_new sheet processes fresh);
     situations = length-replicate processes (Idle 0) ∙ sym same;
     pending = length-replicate {A = Option Issue} processes None ∙ sym same;
     texts = All-nil (λ (e : Edit). IsText e.text);
+    reports = record { cells = refl; processes = length-replicate {A = List Value} processes [] ∙ sym same };
   };
   reserved = subst (λ (n : ℕ). n * RECORDS ≤ room) (sym same) enough;
 }

@@ -12,3 +12,4 @@ pub mod Text
 pub mod Value
 pub mod Shown
 pub mod Refusals
+pub mod Reports

@@ -5,6 +5,7 @@ pub mod edit;
 pub mod laws;
 pub mod ledger;
 pub mod refusal;
+pub mod reports;
 pub mod shown;
 pub mod situation;
 pub mod stage;

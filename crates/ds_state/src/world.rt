@@ -1,9 +1,10 @@
 //! A sheet and its processes.
 
 ghost use Rattle.std.specs.Prelude.{◌≡◌, ◌<◌, ◌≤◌, ◌↔◌, IsTrue, IfOk, All, None, replicate};
-ghost use Rattle.ds_formula.specs.Cells.{IsInside};
+ghost use Rattle.ds_formula.specs.Cells.{IsInside, count_of};
 
 use crate::ledger::{Edit, Issue};
+use crate::reports::Reports;
 use crate::shown;
 use crate::situation::Situation;
 use crate::stage::Point;
@@ -30,11 +31,15 @@ pub struct World {
     pub pending: Vec<Option<Issue>>,
     /// How many edits were answered Done.
     pub done: u64,
+    /// How many reports were answered Settled.
+    pub settled: u64,
+    /// The values of each process's last report that was answered Settled.
+    pub reports: Reports,
 }
 
 impl Model for World {
     ghost use Rattle.std.specs.Prelude.{vec_capacity};
-    ghost use Rattle.ds_state.specs.Value.{WorldValue, IsKept};
+    ghost use Rattle.ds_state.specs.Value.{WorldValue, IsReserved};
 
     ghost Value = { WorldValue };
 
@@ -44,14 +49,18 @@ impl Model for World {
       counted = w.counted.items;
       pending = w.pending.items;
       done = w.done;
+      settled = w.settled;
+      reports = w.reports;
     } };
 
-    ghost invariant = { λ w. IsKept (record {
+    ghost invariant = { λ w. IsReserved (record {
       sheet = w.words;
       situations = w.situations.items;
       counted = w.counted.items;
       pending = w.pending.items;
       done = w.done;
+      settled = w.settled;
+      reports = w.reports;
     }) (vec_capacity w.counted) };
 }
 
@@ -76,6 +85,7 @@ fn all_answered(pending: &[Option<Issue>]) -> bool
 impl World {
     ghost use Rattle.ds_state.specs.Value.{world_of};
     ghost use Rattle.ds_state.specs.Fresh.{IsNew};
+    ghost use Rattle.ds_state.specs.Reports.{no_reports};
     ghost use Rattle.ds_state.specs.Sound.{IsSound};
     ghost use Rattle.ds_state.specs.Shown.{mark_in, value_in, point_of, text_in, IsQuiet};
 
@@ -87,18 +97,23 @@ impl World {
         ensures shape { IfOk result (λ w. w.sheet.layout.shape ≡ shape) }
         ensures processes { IfOk result (λ w. w.sheet.layout.processes ≡ processes) }
         ensures done { IfOk result (λ w. w.done ≡ 0) }
+        ensures settled { IfOk result (λ w. w.settled ≡ 0) }
+        ensures reports { IfOk result (λ w. w.reports ≡ no_reports processes (count_of shape)) }
     {
         let layout = Layout { shape, processes };
         let words = SheetWords::new(alloc, layout)?;
         let situations = idle(alloc, processes)?;
         let counted = Vec::with_capacity(alloc, processes * RECORDS)?;
         let pending = vec![in alloc; None; processes]?;
+        let reports = Reports::new(alloc, processes, shape.count())?;
         Ok(World {
             words,
             situations,
             counted,
             pending,
             done: 0,
+            settled: 0,
+            reports,
         })
     }
 

@@ -4,7 +4,7 @@ use Rattle.std.proofs.lemmas.List.{get_or_default}
 use Rattle.ds_layout.specs.declared.place.TheConstants.{RECORDS}
 use Rattle.ds_layout.specs.Sheet.{CanPerform, PerformsAt, memory, SheetValue}
 use Rattle.ds_state.specs.Edits.{PlainEdit}
-use Rattle.ds_state.specs.Value.{WorldValue, IsKept}
+use Rattle.ds_state.specs.Value.{WorldValue, IsReserved}
 use Rattle.ds_state.specs.World.{Edit, Issue, edit_of}
 use Rattle.ds_state.specs.Text.{IsText}
 use Rattle.ds_state.specs.declared.stage.Stage.{Stage}
@@ -18,14 +18,14 @@ use Rattle.ds_core.proofs.step.step.Goals as goal
 
 pub perform-word-requires : goal.perform-word-requires
 perform-word-requires c =
-    let v : WorldValue = record { sheet = c.world.inside.words; situations = c.world.inside.situations.items; counted = c.world.inside.counted.items; pending = c.world.inside.pending.items; done = c.world.inside.done } in
+    let v : WorldValue = record { sheet = c.world.inside.words; situations = c.world.inside.situations.items; counted = c.world.inside.counted.items; pending = c.world.inside.pending.items; done = c.world.inside.done; settled = c.world.inside.settled; reports = c.world.inside.reports } in
     let e : PlainEdit = c.in-Some.call.now in
     let at : IsEditing v c.args.process e = editing_from v c.args.process e c.index.result.now (omega arith) c.index.ensures c.in-Some.ensures.some in
     rw c.want-access.ensures (perform_at v c.world.invariant.good c.args.process e at)
 
 pub count-requires : goal.count-requires
 count-requires c =
-    let v : WorldValue = record { sheet = c.world.inside.words; situations = c.world.inside.situations.items; counted = c.world.inside.counted.items; pending = c.world.inside.pending.items; done = c.world.inside.done } in
+    let v : WorldValue = record { sheet = c.world.inside.words; situations = c.world.inside.situations.items; counted = c.world.inside.counted.items; pending = c.world.inside.pending.items; done = c.world.inside.done; settled = c.world.inside.settled; reports = c.world.inside.reports } in
     let e : PlainEdit = c.in-Some.call.now in
     let at : IsEditing v c.args.process e = editing_from v c.args.process e c.index.result.now (omega arith) c.index.ensures c.in-Some.ensures.some in
     let performs : PerformsAt (access_at e e.stage) c.args.process (memory v.sheet) (memory c.perform-word.new.self) c.perform-word.result = rw (sym c.want-access.ensures) c.perform-word.ensures.performs in
@@ -34,7 +34,7 @@ count-requires c =
 
 pub invariant_of-world : goal.invariant_of-world
 invariant_of-world c =
-    let v : WorldValue = record { sheet = c.world.inside.words; situations = c.world.inside.situations.items; counted = c.world.inside.counted.items; pending = c.world.inside.pending.items; done = c.world.inside.done } in
+    let v : WorldValue = record { sheet = c.world.inside.words; situations = c.world.inside.situations.items; counted = c.world.inside.counted.items; pending = c.world.inside.pending.items; done = c.world.inside.done; settled = c.world.inside.settled; reports = c.world.inside.reports } in
     let p : ℕ = c.args.process in
     let e : PlainEdit = c.in-Some.call.now in
     let word : ℕ = c.perform-word.result in
@@ -47,12 +47,12 @@ invariant_of-world c =
     let pending : c.close.new.pending ≡ pending_at (get_or v.pending p None) e.stage = c.close.ensures ∙ ap (λ (i : Option Issue). pending_at i c.call.inside.stage) (c.index_mut-2.ensures.value ∙ get_or_default v.pending p c.index_mut-2.result.now None there) ∙ ap (λ (s : Stage). pending_at (get_or v.pending p None) s) stage in
     let done : c.done_after-world-inside.result ≡ done_at v.done e.stage = c.done_after-world-inside.ensures ∙ ap (λ (s : Stage). done_at v.done s) stage in
     let text : IsText e.text = subst (λ (x : Edit). IsText x.text) c.of-edit.ensures.value c.of-edit.ensures.text in
-    subst (λ (w : WorldValue). IsKept w (vec_capacity c.count.new.counted)) (sym (next_is v c.world.invariant.good p e at word c.perform-word.new.self c.perform-word.ensures.layout performs c.go_on.new.situation c.count.new.counted.items c.close.new.pending c.done_after-world-inside.result situation counted pending done))
+    subst (λ (w : WorldValue). IsReserved w (vec_capacity c.count.new.counted)) (sym (next_is v c.world.invariant.good p e at word c.perform-word.new.self c.perform-word.ensures.layout performs c.go_on.new.situation c.count.new.counted.items c.close.new.pending c.done_after-world-inside.result situation counted pending done))
     (next_kept v c.world.invariant.good p e at word c.perform-word.new.self c.perform-word.ensures.layout performs _ _ c.world.invariant.reserved (omega arith) text)
 
 pub returns : goal.returns
 returns c =
-    let v : WorldValue = record { sheet = c.world.inside.words; situations = c.world.inside.situations.items; counted = c.world.inside.counted.items; pending = c.world.inside.pending.items; done = c.world.inside.done } in
+    let v : WorldValue = record { sheet = c.world.inside.words; situations = c.world.inside.situations.items; counted = c.world.inside.counted.items; pending = c.world.inside.pending.items; done = c.world.inside.done; settled = c.world.inside.settled; reports = c.world.inside.reports } in
     let p : ℕ = c.args.process in
     let e : PlainEdit = c.in-Some.call.now in
     let word : ℕ = c.perform-word.result in

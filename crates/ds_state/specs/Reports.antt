@@ -1,0 +1,15 @@
+-- The last settled report of each process.
+use Rattle.std.specs.Prelude.{ℕ, ◌≤◌, List, [], All, replicate}
+use Rattle.ds_eval.specs.declared.value.Value.{Value}
+
+-- how many cells each report has room for, and the values of each process's last one
+pub record PlainReports : Type 0 where
+  pub cells : ℕ
+  pub values : List (List Value)
+
+-- each has room for all cells
+abbrev pub HaveRoom : ℕ → List ℕ → Type 0
+HaveRoom cells rooms = All (λ room. cells ≤ room) rooms
+
+abbrev pub no_reports : ℕ → ℕ → PlainReports
+no_reports processes cells = record { cells = cells; values = replicate processes [] }
