@@ -4,6 +4,8 @@
 #[cfg(test)]
 mod contents;
 #[cfg(test)]
+mod drawn;
+#[cfg(test)]
 mod endings;
 #[cfg(test)]
 mod large;
@@ -15,3 +17,7 @@ mod refusals;
 mod rows;
 #[cfg(test)]
 mod running;
+#[cfg(test)]
+mod runs;
+#[cfg(test)]
+mod worlds;
