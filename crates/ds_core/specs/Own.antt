@@ -13,6 +13,7 @@ own_step p (Step q) Stepped = if q == p then 1 else 0
 own_step p (Step q) (Answered answer) = if q == p then 1 else 0
 own_step p event reply = 0
 
+-- in a run
 abbrev pub own_steps : ℕ → List Event → List Reply → ℕ
 own_steps p (event ∷ events) (reply ∷ replies) = own_step p event reply + own_steps p events replies
 own_steps p events replies = 0
@@ -22,6 +23,7 @@ abbrev pub IsUnanswered : ℕ → Event → Reply → Type 0
 IsUnanswered p (Step q) (Answered answer) = q ≡ p → ⊥
 IsUnanswered p event reply = Unit {0}
 
+-- in a run
 abbrev pub AreUnanswered : ℕ → List Event → List Reply → Type 0
 AreUnanswered p (event ∷ events) (reply ∷ replies) = IsUnanswered p event reply × AreUnanswered p events replies
 AreUnanswered p events replies = Unit {0}

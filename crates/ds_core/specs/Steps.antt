@@ -73,6 +73,7 @@ pub record CanNotStep (old : WorldValue) (p : ℕ) (new : WorldValue) : Type 0 w
   pub same : new ≡ old
   pub none : (edit : PlainEdit) → p < old.sheet.layout.processes → (world_of old).situation p ≡ Editing edit → ⊥
 
+-- a step of the process, and its answer
 abbrev pub StepTakes : WorldValue → ℕ → Reply → WorldValue → Type 0
 StepTakes old p Stepped new = StepsBy old p Stepped new
 StepTakes old p (Answered answer) new = StepsBy old p (Answered answer) new
@@ -90,6 +91,7 @@ pub record CanNotEvict (old : WorldValue) (place : Place) (new : WorldValue) : T
   pub same : new ≡ old
   pub none : IsPlace old.sheet.layout place → ⊥
 
+-- an eviction, and its answer
 abbrev pub EvictTakes : WorldValue → Place → Reply → WorldValue → Type 0
 EvictTakes old place Evicted new = EvictsWord old place new
 EvictTakes old place NotEnabled new = CanNotEvict old place new

@@ -36,6 +36,7 @@ pub record CanNotBegin (old : WorldValue) (r : PlainRequest) (new : WorldValue) 
   pub unnamed : IsOfWorld old r → ⊥
   pub same : new ≡ old
 
+-- the beginning of an edit, and its answer
 abbrev pub BeginTakes : WorldValue → PlainRequest → Reply → WorldValue → Type 0
 BeginTakes old r (Begun number) new = EditBegins old r number new
 BeginTakes old r (Refused why) new = EditRefused old r why new

@@ -14,6 +14,7 @@ use Rattle.ds_layout.specs.Text.{part_word}
 use Rattle.ds_layout.specs.Announcement.{announcement_word}
 use Rattle.ds_layout.specs.Bits.{bit_of}
 use Rattle.ds_state.specs.Edits.{PlainEdit, text_parts}
+use Rattle.ds_state.specs.Known.{phase_of}
 use Rattle.ds_state.specs.declared.stage.Outcome.{Outcome}
 use Rattle.ds_state.specs.declared.stage.Outcome.TheVariants as outcome
 use Rattle.ds_state.specs.declared.stage.Stage.{Stage}
@@ -37,10 +38,6 @@ done_place head = place.Done head.process (head.number / 64)
 -- the head that follows this one, by the edit; the last stamp is followed by itself
 abbrev pub head_after : PlainEdit → ℕ → ℕ
 head_after e noted = head_word (record { stamp = min (noted / 65536 + 1) LAST_STAMP; process = e.process; number = e.number })
-
-abbrev pub phase_of : Outcome → Phase
-phase_of outcome.Done = phase.Done
-phase_of (outcome.Overtaken noted seen) = phase.NotDone
 
 -- the announcement of the edit in this phase
 abbrev pub announced : PlainEdit → Phase → ℕ

@@ -48,9 +48,11 @@ held_at parts refs (BackMark own) = mark
 held_at parts refs (BackOutcome how) = announcing_word (ended how)
 held_at parts refs _ = empty
 
+-- an entry of a buffer
 abbrev pub entry : Place → ℕ → Entry Place
 entry r value = record { place = r; class = class_of r; value = value }
 
+-- that of a word of the edit's record
 abbrev pub record_entry : Edit → ℕ → Entry Place
 record_entry e k = entry (record_place e.process e.number k) (record_word e k)
 
@@ -71,6 +73,7 @@ pub record IsHeadFrom (w : World) (cell least value : ℕ) : Type 0 where
   pub by : Edit
   pub head : IsHeadBy (of_cell cell w.counted) value by
 
+-- the process's buffer holds just this
 abbrev pub Holds : World → Edit → Held → Type 0
 Holds w e empty = w.memory.buffer e.process ≡ []
 Holds w e (record_words first count) = w.memory.buffer e.process ≡ map (record_entry e) (range_with_len first count)
@@ -91,6 +94,7 @@ pub record HasRefs (shape : Shape) (text refs : List ℕ) : Type 0 where
   pub reads : Reads shape text content
   pub all : (c : Cell) → Refers content c → Contains refs (index_of shape c)
 
+-- an edit of the sheet, which is not answered, knows what its stage says, and its buffer holds that
 pub record EditFits (w : World) (p : ℕ) (e : PlainEdit) : Type 0 where
   pub mine : e.process ≡ p
   pub is : IsEdit e
@@ -102,6 +106,7 @@ pub record EditFits (w : World) (p : ℕ) (e : PlainEdit) : Type 0 where
   pub knows : Knowing w (edit_of e) e.refs since (known_at (text_parts e.text) (length e.refs) e.stage)
   pub buffer : Holds w (edit_of e) (held_at (text_parts e.text) e.refs e.stage)
 
+-- an idle process has no edit that is not answered, nothing in its buffer, and announces how its last edit ended
 pub record IdleFits (w : World) (p next : ℕ) : Type 0 where
   pub number : next ≤ RECORDS
   pub pending : w.pending p ≡ None
@@ -110,6 +115,7 @@ pub record IdleFits (w : World) (p next : ℕ) : Type 0 where
   pub cached : w.memory.cached (place.Announce p) ≡ last_announcement w.counted p next
   pub persisted : w.memory.persisted (place.Announce p) ≡ last_announcement w.counted p next
 
+-- what the process does fits the world
 abbrev pub CallFits : World → ℕ → Situation → Type 0
 CallFits w p (Idle next) = IdleFits w p next
 CallFits w p Stopped = w.memory.buffer p ≡ []
@@ -121,6 +127,7 @@ OwesAt (FlushOwn own) head = own ≡ head
 OwesAt (BackOwn own) head = own ≡ head
 OwesAt _ head = ⊥
 
+-- so for what it does; a stopped process may owe any head
 abbrev pub Owes : Situation → ℕ → Type 0
 Owes (Idle next) head = ⊥
 Owes Stopped head = Unit {0}

@@ -5,6 +5,7 @@ use Rattle.ds_layout.specs.Head.{IsHead}
 use Rattle.ds_state.specs.declared.stage.Stage.{Stage}
 use Rattle.ds_state.specs.declared.stage.Stage.TheVariants.{StoreText, FlushText, BackRecord, OrIndex, FlushIndex, BackIndex, FlushNoted, BackNoted, OrDone, FlushDone, BackDone}
 
+-- its process, number, cell and text; the cells that the text refers to; how many cells and processes the sheet has
 pub record PlainEdit : Type 0 where
   pub process : ℕ
   pub number : ℕ

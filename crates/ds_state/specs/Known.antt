@@ -64,6 +64,7 @@ indexing parts i ored = record { standing = outside; stored = suc parts; back = 
 abbrev pub placing : ℕ → ℕ → Standing → Noted → Known
 placing parts refs standing head = record { standing = standing; stored = suc parts; back = suc parts; before = pending; now = pending; indexed = refs; ored = None; head = head }
 
+-- what is known of an edit that has ended so
 abbrev pub standing_after : Outcome → Standing
 standing_after Done = safe
 standing_after (Overtaken noted seen) = outside
@@ -121,10 +122,12 @@ pub record IsSafe (w : World) (e : Edit) : Type 0 where
   pub head : IsHeadBy (of_cell e.cell w.counted) own e
   pub persisted : own ≤ w.memory.persisted (place.Head e.cell)
 
+-- so, and it is its process's last one that counts
 pub record IsSafelyIn (w : World) (e : Edit) : Type 0 where
   pub below : AreBelow w e.process (e.number + 1)
   pub safe : IsSafe w e
 
+-- whether it counts is as this says
 abbrev pub StandsAs : World → Edit → Standing → Type 0
 StandsAs w e outside = AreBelow w e.process e.number
 StandsAs w e (inside own) = IsIn w e own
@@ -136,15 +139,18 @@ pub record IsRecorded (w : World) (e : Edit) (stored back : ℕ) : Type 0 where
   pub persisted : (k : ℕ) → k < back → w.memory.persisted (record_place e.process e.number k) ≡ record_word e k
   pub fewer : back ≤ stored
 
+-- how an ended edit is announced
 abbrev pub phase_of : Outcome → Phase
 phase_of Done = phase.Done
 phase_of (Overtaken noted seen) = phase.NotDone
 
+-- the word of an announcement
 abbrev pub word_of : World → Edit → Announced → ℕ
 word_of w e last = last_announcement w.counted e.process e.number
 word_of w e pending = announcement e.number phase.Pending
 word_of w e (ended how) = announcement e.number (phase_of how)
 
+-- its process announces `now`, and on the persisted side that or `before`
 pub record IsAnnounced (w : World) (e : Edit) (before now : Announced) : Type 0 where
   pub cached : w.memory.cached (place.Announce e.process) ≡ word_of w e now
   pub persisted : (w.memory.persisted (place.Announce e.process) ≡ word_of w e before) ⊎ (w.memory.persisted (place.Announce e.process) ≡ word_of w e now)
@@ -158,10 +164,12 @@ pub record IsIndexedTo (w : World) (e : Edit) (refs : List ℕ) (count : ℕ) : 
   pub cached : (i : ℕ) → i < count → HasBit (w.memory.cached (row_of e refs i)) e.cell
   pub persisted : (i : ℕ) → i < count → HasBit (w.memory.persisted (row_of e refs i)) e.cell
 
+-- on the cached side also in the row of this reference, where there is one
 abbrev pub IsOred : World → Edit → List ℕ → Option ℕ → Type 0
 IsOred w e refs None = Unit {0}
 IsOred w e refs (Some i) = HasBit (w.memory.cached (row_of e refs i)) e.cell
 
+-- the edit of this process and number has its done bit persisted
 abbrev pub IsDone : World → ℕ → ℕ → Type 0
 IsDone w process number = HasBit (w.memory.persisted (done_place process number)) number
 
@@ -199,9 +207,11 @@ pub record IsLate (w : World) (e : Edit) (since noted seen : ℕ) : Type 0 where
   pub by : Edit
   pub head : IsHeadBy (of_cell e.cell w.counted) seen by
 
+-- this head of its cell, or a later one, is persisted
 abbrev pub IsBack : World → Edit → Head → Type 0
 IsBack w e head = head_word head ≤ w.memory.persisted (place.Head e.cell)
 
+-- what it knows of its cell's head is as this says
 abbrev pub Knows : World → Edit → ℕ → Noted → Type 0
 Knows w e since nothing = Unit {0}
 Knows w e since (head_noted head) = IsNoted w e since head

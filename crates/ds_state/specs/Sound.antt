@@ -7,6 +7,7 @@ use Rattle.ds_state.specs.World.{Edit, World}
 use Rattle.ds_state.specs.Words.{WordFits}
 use Rattle.ds_state.specs.Calls.{CallFits}
 
+-- an edit of the sheet: of one of its processes, with a record, and of one of its cells
 pub record IsOfSheet (w : World) (e : Edit) : Type 0 where
   pub process : e.process < w.layout.processes
   pub number : e.number < RECORDS
@@ -17,6 +18,7 @@ abbrev pub Increasing : List Edit → Type 0
 Increasing [] = Unit {0}
 Increasing (e ∷ es) = All (λ f. f.process ≡ e.process → e.number < f.number) es × Increasing es
 
+-- each word fits, each process's call fits, and the list of edits is one of the sheet, in order
 pub record IsSound (w : World) : Type 0 where
   pub words : (r : Place) → WordFits w r (w.memory.cached r) (w.memory.persisted r)
   pub calls : (p : ℕ) → p < w.layout.processes → CallFits w p (w.situation p)

@@ -20,6 +20,7 @@ pub record Edit : Type 0 where
   pub cell : ℕ
   pub text : List ℕ
 
+-- so of an edit under way
 abbrev pub edit_of : PlainEdit → Edit
 edit_of e = record { process = e.process; number = e.number; cell = e.cell; text = e.text }
 
@@ -64,6 +65,7 @@ of_cell cell edits = filter (λ e. e.cell == cell) edits
 abbrev pub head_by : ℕ → Edit → ℕ
 head_by stamp e = head_word (record { stamp = stamp; process = e.process; number = e.number })
 
+-- the head after these edits, where so many came before and left this one
 abbrev pub head_from : ℕ → ℕ → List Edit → ℕ
 head_from stamp head [] = head
 head_from stamp head (e ∷ es) = head_from (stamp + 1) (head_by (stamp + 1) e) es
