@@ -1,4 +1,4 @@
-//! Worked examples, end to end: each a script and what it answers, as tables.
+//! Worked examples, end to end: scripts and what they answer, as tables, and runs of events on a small sheet.
 #![tactic(auto)]
 
 #[cfg(test)]

@@ -102,7 +102,12 @@ fn evicted_in_mid_run(rt: HostRuntime) -> Result<(), Fail> {
     expect_reply(&rt, &mut world, Event::Step(0), Reply::Stepped)?;
     expect_point(&rt, &world, 0, Some(Point::Swung));
     expect_word(&rt, &world, Place::Head(0), 65536, 0);
-    expect_reply(&rt, &mut world, Event::Evict(Place::Head(0)), Reply::Evicted)?;
+    expect_reply(
+        &rt,
+        &mut world,
+        Event::Evict(Place::Head(0)),
+        Reply::Evicted,
+    )?;
     expect_word(&rt, &world, Place::Head(0), 65536, 65536);
     let mut rest = Play::new(rt.alloc());
     rest.steps(0, 9, DONE)?;
@@ -117,7 +122,8 @@ fn fault(kind: FaultKind, offset: usize) -> Reply {
 }
 
 // 121 digits.
-const LONG: &str = "1111111111111111111111111111111111111111111111111111111111111111111111111111111111111111111111111111111111111111111111111";
+const LONG: &str =
+    "1111111111111111111111111111111111111111111111111111111111111111111111111111111111111111111111111111111111111111111111111";
 
 #[test]
 fn refused(rt: HostRuntime) -> Result<(), Fail> {
@@ -218,7 +224,12 @@ fn not_enabled(rt: HostRuntime) -> Result<(), Fail> {
     let mut world = small(rt.alloc())?;
     expect_not_enabled(&rt, &mut world)?;
     expect_unchanged(&rt, &mut world, Event::Step(0), Reply::NotEnabled)?;
-    expect_reply(&rt, &mut world, begin(rt.alloc(), 0, A1, "1")?, Reply::Begun(0))?;
+    expect_reply(
+        &rt,
+        &mut world,
+        begin(rt.alloc(), 0, A1, "1")?,
+        Reply::Begun(0),
+    )?;
     for step in 0..20usize {
         expect_not_enabled(&rt, &mut world)?;
         let wanted = if step < 19 { Reply::Stepped } else { DONE };

@@ -14,8 +14,11 @@ use std::process::Abort;
 use std::test::Fail;
 
 pub const A1: Cell = Cell { column: 0, row: 0 };
+
 pub const B1: Cell = Cell { column: 1, row: 0 };
+
 pub const A2: Cell = Cell { column: 0, row: 1 };
+
 pub const B2: Cell = Cell { column: 1, row: 1 };
 
 /// The sheet, new.
@@ -81,7 +84,11 @@ impl Play {
     }
 
     /// The events happen, and the replies are those.
-    pub fn run(&self, rt: &(impl Abort + AllocGlobal), world: &mut World) -> Result<(), AllocError> {
+    pub fn run(
+        &self,
+        rt: &(impl Abort + AllocGlobal),
+        world: &mut World,
+    ) -> Result<(), AllocError> {
         let replies = run(rt.alloc(), world, &self.events)?;
         assert_eq!(rt; replies.as_slice(), self.wanted.as_slice());
         Ok(())
