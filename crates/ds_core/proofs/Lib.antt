@@ -6,3 +6,4 @@ pub mod Order
 pub mod Bound
 pub mod Runs
 pub mod Solo
+pub mod Spent

@@ -46,11 +46,11 @@ alone_same w w' cell _ same h = tt
 abbrev pub IsAlone : WorldValue → ℕ → ℕ → Type 0
 IsAlone v p number = (e : PlainEdit) → (world_of v).situation p ≡ Editing e → (e.number ≡ number) × IsAloneAt (world_of v) e.cell e.stage
 
-some_outcome : (processes number : ℕ) (a : ReplyAnswer) (o : Option Outcome) → Answered a ≡ reply_with processes number o → (how : Outcome) × (o ≡ Some how) × (a ≡ answer_of processes number how)
+pub some_outcome : (processes number : ℕ) (a : ReplyAnswer) (o : Option Outcome) → Answered a ≡ reply_with processes number o → (how : Outcome) × (o ≡ Some how) × (a ≡ answer_of processes number how)
 some_outcome processes number a None is = absurd (cc)
 some_outcome processes number a (Some how) is = (how, refl, cc)
 
-after_answer : (e : PlainEdit) (s : Stage) (how : Outcome) (word : ℕ) → s ≡ Answer how → after e s word ≡ Idle (e.number + 1)
+pub after_answer : (e : PlainEdit) (s : Stage) (how : Outcome) (word : ℕ) → s ≡ Answer how → after e s word ≡ Idle (e.number + 1)
 after_answer e s how word is = ap (λ x. after e x word) is
 
 module _ (old new : WorldValue) (sound : IsSound (world_of old)) (p number : ℕ) (a : IsAlone old p number) where

@@ -7,3 +7,4 @@ pub mod Takes
 pub mod Traces
 pub mod Own
 pub mod Solo
+pub mod Spent

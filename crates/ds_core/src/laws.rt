@@ -2,15 +2,21 @@
 
 ghost use Rattle.std.specs.Prelude.{◌≡◌, ◌<◌, ◌≤◌, ◌+◌, ◌*◌, ℕ, List, length, Contains};
 ghost use Rattle.ds_state.specs.Edits.{PlainEdit};
+ghost use Rattle.ds_state.specs.World.{Edit, World};
 ghost use Rattle.ds_state.specs.Value.{WorldValue, world_of};
 ghost use Rattle.ds_state.specs.Sound.{IsSound};
 ghost use Rattle.ds_state.specs.declared.stage.Stage.TheVariants.{StoreHeader};
 ghost use Rattle.ds_state.specs.declared.situation.Situation.TheVariants.{Editing};
 ghost use Rattle.ds_core.specs.declared.event.Event.{Event};
+ghost use Rattle.ds_core.specs.declared.event.Event.TheVariants.{Step};
+ghost use Rattle.ds_core.specs.declared.reply.Other.{Other};
+ghost use Rattle.ds_core.specs.declared.reply.Answer.TheVariants.{Overtaken};
+ghost use Rattle.ds_core.specs.declared.reply.Reply.TheVariants.{Answered};
 ghost use Rattle.ds_core.specs.declared.reply.Reply.{Reply};
-ghost use Rattle.ds_core.specs.Takes.{WorldRun};
+ghost use Rattle.ds_core.specs.Takes.{Takes, WorldRun};
 ghost use Rattle.ds_core.specs.Traces.{LedgerRun, DoneThenIssued, StandsBefore};
 ghost use Rattle.ds_core.specs.Own.{own_steps, AreUnanswered};
+ghost use Rattle.ds_core.specs.Spent.{IsOut};
 ghost use Rattle.ds_core.specs.Solo.{IsSolo, AreDoneOnly};
 
 /// For each list of events, those that can happen and those that can not: one list of edits that
@@ -24,6 +30,20 @@ pub fn runs_move_the_ledger()
     ensures { (old : WorldValue) (events : List Event) (replies : List Reply) (new : WorldValue)
         → IsSound (world_of old) → WorldRun old events replies new
         → LedgerRun (world_of old) events replies (world_of new) }
+{}
+
+/// An edit that counts goes on counting: one that was answered Done stands in the list for good.
+pub fn counted_edits_stay()
+    ensures { (old : World) (events : List Event) (replies : List Reply) (new : World) (e : Edit)
+        → LedgerRun old events replies new → Contains old.counted e → Contains new.counted e }
+{}
+
+/// An edit that is answered Overtaken does not count then and never will: its number is spent.
+pub fn overtaken_edits_stay_out()
+    ensures { (old mid new : WorldValue) (events : List Event) (replies : List Reply)
+        (p number : ℕ) (other : Other) → IsSound (world_of old)
+        → Takes old (Step p) (Answered (Overtaken number other)) mid
+        → WorldRun mid events replies new → IsOut (world_of new) p number }
 {}
 
 /// An edit that is answered Done before another one is issued stands before it, where that one comes

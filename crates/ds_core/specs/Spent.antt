@@ -1,0 +1,15 @@
+-- Numbers of edits that are spent.
+use Rattle.std.specs.Prelude.{ℕ, ◌≡◌, Contains}
+use Rattle.ds_state.specs.World.{Edit, World}
+use Rattle.ds_state.specs.declared.situation.Situation.{Situation}
+use Rattle.ds_state.specs.declared.situation.Situation.TheVariants.{Idle, Stopped, Editing}
+
+-- the number of the process's edit, or of its next one
+abbrev pub number_in : Situation → ℕ
+number_in (Idle next) = next
+number_in Stopped = 0
+number_in (Editing e) = e.number
+
+-- no edit of the process with this number counts
+abbrev pub IsOut : World → ℕ → ℕ → Type 0
+IsOut w p number = (e : Edit) → Contains w.counted e → e.process ≡ p → e.number ≡ number → ⊥
