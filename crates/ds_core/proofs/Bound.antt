@@ -1,10 +1,9 @@
 -- How many steps an edit takes.
-use Rattle.std.proofs.Common.{ℕ, ◌≡◌, ◌≢◌, ◌<◌, ◌≤◌, ◌+◌, ◌*◌, ◌⊎◌, ◌==◌, List, [], ◌∷◌, refl, ap, sym, ◌∙◌, subst, arith, inl, inr, length, Some, None, true, false}
+use Rattle.std.proofs.Common.{ℕ, ◌≡◌, ◌≢◌, ◌<◌, ◌+◌, ◌*◌, ◌==◌, List, [], ◌∷◌, refl, ap, sym, ◌∙◌, subst, arith, inl, inr, length, Some, None, false}
 use Rattle.std.specs.Prelude.{Option, if◌then◌else◌}
 use Rattle.std.proofs.lemmas.Bool.{cases_eq}
 use Rattle.std.proofs.lemmas.Bool.Decides.{eqb_tells}
 use Rattle.ds_state.specs.Edits.{PlainEdit, IsEdit}
-use Rattle.ds_state.specs.World.{World}
 use Rattle.ds_state.specs.Value.{WorldValue, world_of}
 use Rattle.ds_state.specs.Calls.{CallFits, EditFits}
 use Rattle.ds_state.specs.Sound.{IsSound}
@@ -16,9 +15,8 @@ use Rattle.ds_state.specs.declared.situation.Situation.TheVariants.{Idle, Editin
 use Rattle.ds_edit.specs.Steps.{rank, next_at, Falls}
 use Rattle.ds_edit.specs.Worlds.{after}
 use Rattle.ds_edit.proofs.Stays.{each_falls, each_few, each_some}
-use Rattle.ds_core.specs.Requests.{PlainRequest}
 use Rattle.ds_core.specs.Steps.{outcome_at, reply_with, StepsBy}
-use Rattle.ds_core.specs.Takes.{Takes, Fits, WorldRun}
+use Rattle.ds_core.specs.Takes.{Takes, WorldRun}
 use Rattle.ds_core.specs.Own.{own_step, own_steps, IsUnanswered, AreUnanswered, GoesOn}
 use Rattle.ds_core.specs.declared.event.Event.{Event}
 use Rattle.ds_core.specs.declared.event.Event.TheVariants.{BeginEdit, BeginWork, BeginShow, BeginRecover, Step, Evict, Stop, Crash}
@@ -62,11 +60,12 @@ module _ (p : ℕ) (e : PlainEdit) (old new : WorldValue) (sound : IsSound (worl
       let fits : EditFits (world_of old) p e = subst (λ (x : Situation). CallFits (world_of old) p x) at (sound.calls p low) in
       let fits' : IsEdit h.edit = subst (λ (x : PlainEdit). IsEdit x) (sym one) fits.is in
       let goes : outcome_at h.edit.stage ≡ None = unanswered_at old.sheet.layout.processes h.edit.number (outcome_at h.edit.stage) h.is in
-      let fall : rank h.edit (next_at h.edit h.edit.stage h.word) < rank h.edit h.edit.stage = falls_on h.edit h.edit.stage _ goes (each_falls h.edit h.word fits') in
-      ( record h.edit { stage = next_at h.edit h.edit.stage h.word }
-      , ap (λ q. (world_of new).situation q) (sym h.mine) ∙ h.steps.situation ∙ after_on h.edit h.edit.stage h.word goes
-      , subst (λ (x : PlainEdit). GoesOn x 1 (record h.edit { stage = next_at h.edit h.edit.stage h.word })) one
-          (record { text = refl; refs = refl; fewer = omega arith }))
+      let fall : rank h.edit (next_at h.edit h.edit.stage h.word) < rank h.edit h.edit.stage = falls_on h.edit h.edit.stage _ goes (each_falls h.edit h.word fits') in (
+        record h.edit { stage = next_at h.edit h.edit.stage h.word },
+        ap (λ q. (world_of new).situation q) (sym h.mine) ∙ h.steps.situation ∙ after_on h.edit h.edit.stage h.word goes,
+        subst (λ (x : PlainEdit). GoesOn x 1 (record h.edit { stage = next_at h.edit h.edit.stage h.word })) one
+            (record { text = refl; refs = refl; fewer = omega arith }),
+      )
 
   by_step : (q : ℕ) → StepsBy old q Stepped new → Later p e (if q == p then 1 else 0) new
   by_step q h = elim (eqb_tells q p) [
@@ -128,7 +127,6 @@ goes_through (event ∷ events) (reply ∷ replies) old new p e sound low at run
     (rest.0, rest.1, goes_further e first.0 rest.0 (own_step p event reply) (own_steps p events replies) first.2 rest.2)
 goes_through [] (reply ∷ replies) old new p e sound low at run u = absurd run
 goes_through (event ∷ events) [] old new p e sound low at run u = absurd run
-
 
 run_sound : (events : List Event) (replies : List Reply) (old new : WorldValue) → IsSound (world_of old) → WorldRun old events replies new → IsSound (world_of new)
 run_sound [] [] old new sound run = subst (λ (v : WorldValue). IsSound (world_of v)) (sym run) sound

@@ -1,11 +1,10 @@
 -- Steps and evictions keep a world good.
-use Rattle.std.proofs.Common.{ℕ, ◌≡◌, ◌≢◌, ◌<◌, ◌≤◌, ◌+◌, ◌*◌, ◌⊎◌, List, [], ◌∷◌, ◌++◌, refl, ap, sym, ◌∙◌, subst, arith, length, length-append, get_or, set, inl, inr, Bool, true, false, ◌==◌}
+use Rattle.std.proofs.Common.{ℕ, ◌≡◌, ◌<◌, ◌≤◌, ◌*◌, ◌⊎◌, List, [], ◌∷◌, ◌++◌, refl, ap, sym, ◌∙◌, subst, arith, length, length-append, get_or, set, inl, inr, Bool, true, false, ◌==◌}
 use Rattle.std.specs.Prelude.{All, Some, None, Option, if◌then◌else◌}
 use Rattle.std.proofs.Math.ListN.{length-set}
 use Rattle.std.proofs.lemmas.Bool.{eq-eqb}
 use Rattle.std.proofs.lemmas.List.{get_or-set_same, get_or-set_other, get_or_default, append-nil}
 use Rattle.std.proofs.lemmas.List.Elements.{All-push}
-use Rattle.ds_words.specs.declared.access.Access.{Access}
 use Rattle.ds_words.specs.Memory.{EvictsAt}
 use Rattle.ds_layout.specs.declared.layout.Layout.{Layout}
 use Rattle.ds_layout.specs.declared.place.TheConstants.{RECORDS}
@@ -13,7 +12,7 @@ use Rattle.ds_layout.specs.declared.place.Place.{Place}
 use Rattle.ds_layout.specs.Sheet.{SheetValue, memory, CanPerform, PerformsAt}
 use Rattle.ds_state.specs.Edits.{PlainEdit}
 use Rattle.ds_state.specs.Text.{IsText}
-use Rattle.ds_state.specs.World.{Edit, Issue, World, edit_of}
+use Rattle.ds_state.specs.World.{Edit, Issue, edit_of}
 use Rattle.ds_state.specs.Value.{WorldValue, world_of, IsGood, IsReserved}
 use Rattle.ds_state.specs.Calls.{CallFits, EditFits}
 use Rattle.ds_state.specs.Events.{Evicts}
@@ -29,8 +28,7 @@ use Rattle.ds_edit.specs.Steps.{access_at}
 use Rattle.ds_edit.specs.Worlds.{Steps, after, counted_at, pending_at}
 use Rattle.ds_edit.proofs.Sound.{step_sound}
 use Rattle.ds_edit.proofs.Possible.{can_perform}
-use Rattle.ds_core.specs.Steps.{reply_at, reply_with, outcome_at, done_at, StepsBy, StepTakes, EvictsWord}
-use Rattle.ds_core.specs.declared.reply.Reply.{Reply}
+use Rattle.ds_core.specs.Steps.{reply_at, reply_with, outcome_at, done_at, StepsBy, StepTakes}
 
 -- the process's edit
 pub record IsEditing (v : WorldValue) (p : ℕ) (e : PlainEdit) : Type 0 where
@@ -174,14 +172,16 @@ pub evict_kept : (v : WorldValue) (sheet : SheetValue) (place : Place) (room : �
     → IsReserved (record v { sheet = sheet }) room × Evicts place (world_of v) (world_of (record v { sheet = sheet }))
 evict_kept v sheet place room k layout m =
     let e : Evicts place (world_of v) (world_of (record v { sheet = sheet })) = record { layout = layout; memory = m; situation = λ q. refl; counted = refl; pending = λ q. refl } in
-    let same = ap (λ (l : Layout). l.processes) layout in
-    (record {
-      good = record {
-        sound = (evict_sound place (world_of v) (world_of (record v { sheet = sheet })) k.good.sound e).0;
-        situations = k.good.situations ∙ sym same;
-        pending = k.good.pending ∙ sym same;
-        texts = k.good.texts;
-        reports = rw layout k.good.reports;
-      };
-      reserved = (let r = k.reserved in omega arith);
-    }, e)
+    let same = ap (λ (l : Layout). l.processes) layout in (
+      record {
+        good = record {
+          sound = (evict_sound place (world_of v) (world_of (record v { sheet = sheet })) k.good.sound e).0;
+          situations = k.good.situations ∙ sym same;
+          pending = k.good.pending ∙ sym same;
+          texts = k.good.texts;
+          reports = rw layout k.good.reports;
+        };
+        reserved = (let r = k.reserved in omega arith);
+      },
+      e,
+    )

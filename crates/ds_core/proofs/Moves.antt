@@ -1,10 +1,9 @@
 -- What each event does to the ledger.
-use Rattle.std.proofs.Common.{ℕ, ◌≡◌, ◌≢◌, ◌<◌, ◌≤◌, ◌+◌, ◌⊎◌, List, [], ◌∷◌, ◌++◌, refl, ap, sym, ◌∙◌, subst, arith, inl, inr, zero, suc, length, Some, None}
-use Rattle.std.specs.Prelude.{All, Option, Contains, drop}
+use Rattle.std.proofs.Common.{ℕ, ◌≡◌, ◌<◌, ◌⊎◌, List, [], ◌∷◌, ◌++◌, refl, ap, sym, ◌∙◌, subst, arith, inl, inr, zero, suc, length, Some, None}
+use Rattle.std.specs.Prelude.{All, Option, Contains}
 use Rattle.std.proofs.lemmas.Bool.{cases_eq}
 use Rattle.std.proofs.lemmas.List.{append-nil}
-use Rattle.std.proofs.lemmas.List.Elements.{All-contains, All-head, All-tail, Contains-append_cases, Contains-append_left}
-use Rattle.ds_layout.specs.declared.head.Head.{Head}
+use Rattle.std.proofs.lemmas.List.Elements.{All-contains}
 use Rattle.ds_layout.specs.Head.{head_of}
 use Rattle.ds_state.specs.Edits.{PlainEdit, text_parts}
 use Rattle.ds_state.specs.World.{Edit, Issue, World, edit_of}
@@ -18,17 +17,15 @@ use Rattle.ds_state.specs.declared.stage.Stage.{Stage}
 use Rattle.ds_state.specs.declared.stage.Stage.TheVariants.{Swap, Answer}
 use Rattle.ds_state.specs.declared.situation.Situation.{Situation}
 use Rattle.ds_state.specs.declared.situation.Situation.TheVariants.{Editing}
-use Rattle.ds_edit.specs.Worlds.{Steps, Begins, counted_at, pending_at}
+use Rattle.ds_edit.specs.Worlds.{Begins, counted_at, pending_at}
 use Rattle.ds_edit.specs.Answers.{IsTrueAnswer, IsTrueOf}
 use Rattle.ds_edit.specs.Begun.{IsBegun}
 use Rattle.ds_edit.proofs.Truth.{answer_true}
-use Rattle.ds_core.specs.Requests.{PlainRequest}
 use Rattle.ds_core.specs.Steps.{answer_of, other_of, outcome_at, reply_with, StepsBy}
-use Rattle.ds_core.specs.Takes.{Takes, EditBegins, Fits, WorldRun}
-use Rattle.ds_core.specs.Traces.{Stays, Issues, Counts, Closes, IsOvertakenBy, LedgerMoves, StandsOnce, LedgerRun}
+use Rattle.ds_core.specs.Takes.{Takes, WorldRun}
+use Rattle.ds_core.specs.Traces.{Stays, Issues, Counts, Closes, LedgerMoves, StandsOnce, LedgerRun}
 use Rattle.ds_core.specs.declared.event.Event.{Event}
 use Rattle.ds_core.specs.declared.event.Event.TheVariants.{BeginEdit, BeginWork, BeginShow, BeginRecover, Step, Evict, Stop, Crash}
-use Rattle.ds_core.specs.declared.reply.Answer.{Answer as ReplyAnswer}
 use Rattle.ds_core.specs.declared.reply.Reply.{Reply}
 use Rattle.ds_core.specs.declared.reply.Reply.TheVariants.{Begun, Refused, Stepped, Answered, Evicted, NotEnabled}
 use Rattle.ds_core.proofs.Good.{counted_cases}
@@ -106,7 +103,7 @@ module _ (old new : WorldValue) (g : IsSound (world_of old)) (p : ℕ) (reply : 
     | inr one ↦ inr (
         let swaps = counts_at E h.edit.stage h.word one in
         let knows : Knowing (world_of old) E h.edit.refs fits.since (known_at (text_parts h.edit.text) (length h.edit.refs) (Swap swaps.0)) =
-            subst (λ (s : Stage). Knowing (world_of old) E h.edit.refs fits.since (known_at (text_parts h.edit.text) (length h.edit.refs) s)) swaps.1 fits.knows in
+        subst (λ (s : Stage). Knowing (world_of old) E h.edit.refs fits.since (known_at (text_parts h.edit.text) (length h.edit.refs) s)) swaps.1 fits.knows in
         record {
           issue = record { edit = E; since = fits.since };
           open_is = open_here;
@@ -193,15 +190,17 @@ in_order (x ∷ before) e after h =
 
 pub stands_once : (es : List Edit) → Increasing es → StandsOnce es
 stands_once es h before e after parts =
-    let o = in_order before e after (subst Increasing parts h) in
-    ((λ there. let l = All-contains (λ (f : Edit). f.process ≡ e.process → f.number < e.number) before e o.0 there refl in omega arith),
-    (λ there. let l = All-contains (λ (f : Edit). f.process ≡ e.process → e.number < f.number) after e o.1 there refl in omega arith))
+    let o = in_order before e after (subst Increasing parts h) in (
+      (λ there. let l = All-contains (λ (f : Edit). f.process ≡ e.process → f.number < e.number) before e o.0 there refl in omega arith),
+      (λ there. let l = All-contains (λ (f : Edit). f.process ≡ e.process → e.number < f.number) after e o.1 there refl in omega arith),
+    )
 
 -- a run of worlds is a run of ledgers
 pub ledger_runs : (old : WorldValue) (events : List Event) (replies : List Reply) (new : WorldValue) → IsSound (world_of old) → WorldRun old events replies new → LedgerRun (world_of old) events replies (world_of new)
 ledger_runs old [] [] new g run = (stands_once old.counted g.increasing, same_stays old new run)
-ledger_runs old (event ∷ events) (reply ∷ replies) new g run =
-    (stands_once old.counted g.increasing,
-    (world_of run.0, moves old run.0 g event reply run.1.takes, ledger_runs run.0 events replies new run.1.sound run.2))
+ledger_runs old (event ∷ events) (reply ∷ replies) new g run = (
+  stands_once old.counted g.increasing,
+  (world_of run.0, moves old run.0 g event reply run.1.takes, ledger_runs run.0 events replies new run.1.sound run.2),
+)
 ledger_runs old [] (reply ∷ replies) new g run = absurd run
 ledger_runs old (event ∷ events) [] new g run = absurd run

@@ -1,17 +1,15 @@
 -- The order of the edits that count.
-use Rattle.std.proofs.Common.{ℕ, ◌≡◌, ◌≢◌, ◌⊎◌, List, [], ◌∷◌, ◌++◌, refl, ap, sym, ◌∙◌, subst, append_assoc, inl, inr}
+use Rattle.std.proofs.Common.{◌≡◌, List, [], ◌∷◌, ◌++◌, ap, sym, ◌∙◌, subst, append_assoc, inl, inr}
 use Rattle.std.specs.Prelude.{Contains}
 use Rattle.std.proofs.lemmas.List.{append-nil}
 use Rattle.std.proofs.lemmas.List.Elements.{Contains-append_cases, Contains-append_left}
-use Rattle.ds_formula.specs.Cells.{index_of}
-use Rattle.ds_state.specs.World.{Edit, Issue, World}
-use Rattle.ds_core.specs.Requests.{PlainRequest}
-use Rattle.ds_core.specs.Traces.{Stays, Closes, LedgerMoves, LedgerRun, StandsBefore, DoneThenIssued}
+use Rattle.ds_state.specs.World.{Edit, World}
+use Rattle.ds_core.specs.Traces.{LedgerMoves, LedgerRun, StandsBefore, DoneThenIssued}
 use Rattle.ds_core.specs.declared.event.Event.{Event}
 use Rattle.ds_core.specs.declared.event.Event.TheVariants.{BeginEdit, BeginWork, BeginShow, BeginRecover, Step, Evict, Stop, Crash}
 use Rattle.ds_core.specs.declared.reply.Answer.TheVariants.{Done, Overtaken}
 use Rattle.ds_core.specs.declared.reply.Reply.{Reply}
-use Rattle.ds_core.specs.declared.reply.Reply.TheVariants.{Begun, Refused, Stepped, Answered, Evicted, NotEnabled}
+use Rattle.ds_core.specs.declared.reply.Reply.TheVariants.{Begun, Stepped, Answered}
 
 abbrev Grown : World → World → Type 0
 Grown old new = (added : List Edit) × (new.counted ≡ old.counted ++ added)

@@ -1,5 +1,5 @@
 -- A run with one more event.
-use Rattle.std.proofs.Common.{ℕ, ◌≡◌, ◌<◌, ◌+◌, List, [], ◌∷◌, ◌++◌, refl, ap, sym, ◌∙◌, subst, arith, take, length, get_or, zero, suc}
+use Rattle.std.proofs.Common.{ℕ, ◌≡◌, ◌<◌, ◌+◌, List, [], ◌∷◌, ◌++◌, refl, ap, sym, ◌∙◌, subst, take, length, get_or}
 use Rattle.std.proofs.lemmas.List.{take_more}
 use Rattle.ds_state.specs.Value.{WorldValue}
 use Rattle.ds_core.specs.Takes.{Fits, WorldRun}

@@ -2,7 +2,6 @@
 use Rattle.std.proofs.Common.{ℕ, ◌≡◌, ◌+◌, List, [], ◌∷◌, refl, ap, sym, ◌∙◌, subst, Some, None}
 use Rattle.std.specs.Prelude.{Option}
 use Rattle.ds_layout.specs.declared.place.Place.TheVariants as place
-use Rattle.ds_layout.specs.Head.{head_word}
 use Rattle.ds_state.specs.Edits.{PlainEdit}
 use Rattle.ds_state.specs.World.{World}
 use Rattle.ds_state.specs.Value.{WorldValue, world_of}
@@ -25,9 +24,9 @@ use Rattle.ds_core.specs.declared.event.Event.TheVariants.{BeginEdit, BeginWork,
 use Rattle.ds_core.specs.declared.reply.Answer.{Answer as ReplyAnswer}
 use Rattle.ds_core.specs.declared.reply.Answer.TheVariants.{Done}
 use Rattle.ds_core.specs.declared.reply.Reply.{Reply}
-use Rattle.ds_core.specs.declared.reply.Reply.TheVariants.{Begun, Refused, Stepped, Answered, Evicted, NotEnabled}
+use Rattle.ds_core.specs.declared.reply.Reply.TheVariants.{Stepped, Answered, Evicted, NotEnabled}
 use Rattle.ds_core.proofs.Moves.{answers_at}
-use Rattle.ds_core.proofs.Bound.{unanswered_at, after_on, editing_same, same_layout}
+use Rattle.ds_core.proofs.Bound.{unanswered_at, after_on, editing_same}
 
 alone_same : (w w' : World) (cell : ℕ) (s : Stage) → w'.memory.cached (place.Head cell) ≡ w.memory.cached (place.Head cell) → IsAloneAt w cell s → IsAloneAt w' cell s
 alone_same w w' cell (FlushNoted head) same h = h ∙ sym same
@@ -73,12 +72,13 @@ module _ (old new : WorldValue) (sound : IsSound (world_of old)) (p number : ℕ
       let found = some_outcome old.sheet.layout.processes h.edit.number answer (outcome_at h.edit.stage) h.is in
       let last : h.edit.stage ≡ Answer found.0 = answers_at h.edit.stage found.0 found.1 in
       let before = a h.edit at in
-      let done : found.0 ≡ outcome.Done = subst (λ (s : Stage). IsAloneAt (world_of old) h.edit.cell s) last before.1 in
-      ( found.2 ∙ ap (λ how. answer_of old.sheet.layout.processes h.edit.number how) done ∙ ap (λ n. Done n) before.0
-      , (λ e' is. absurd (
-          let now : (world_of new).situation p ≡ Idle (h.edit.number + 1) = situation_now h.edit q h.mine same _ (h.steps.situation ∙ after_answer h.edit h.edit.stage found.0 h.word last) in
-          let bad : Idle (h.edit.number + 1) ≡ Editing e' = sym now ∙ is in
-          cc)))
+      let done : found.0 ≡ outcome.Done = subst (λ (s : Stage). IsAloneAt (world_of old) h.edit.cell s) last before.1 in (
+        found.2 ∙ ap (λ how. answer_of old.sheet.layout.processes h.edit.number how) done ∙ ap (λ n. Done n) before.0,
+        (λ e' is. absurd (
+            let now : (world_of new).situation p ≡ Idle (h.edit.number + 1) = situation_now h.edit q h.mine same _ (h.steps.situation ∙ after_answer h.edit h.edit.stage found.0 h.word last) in
+            let bad : Idle (h.edit.number + 1) ≡ Editing e' = sym now ∙ is in
+            cc)),
+      )
 
   unchanged : new ≡ old → IsAlone new p number
   unchanged same = subst (λ (v : WorldValue). IsAlone v p number) (sym same) a

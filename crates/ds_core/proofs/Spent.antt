@@ -1,6 +1,6 @@
 -- An edit that was answered Overtaken never counts.
-use Rattle.std.proofs.Common.{ℕ, ◌≡◌, ◌≢◌, ◌<◌, ◌≤◌, ◌+◌, ◌⊎◌, List, [], ◌∷◌, ◌++◌, refl, ap, sym, ◌∙◌, subst, arith, inl, inr, zero, suc, length, Some, None}
-use Rattle.std.specs.Prelude.{All, Option, Contains}
+use Rattle.std.proofs.Common.{ℕ, ◌≡◌, ◌<◌, ◌≤◌, ◌+◌, List, [], ◌∷◌, ◌++◌, refl, ap, sym, ◌∙◌, subst, arith, inl, inr, zero, suc, length}
+use Rattle.std.specs.Prelude.{Contains}
 use Rattle.std.proofs.lemmas.Bool.{cases_eq}
 use Rattle.std.proofs.lemmas.List.{append-nil}
 use Rattle.std.proofs.lemmas.List.Elements.{All-contains, Contains-append_cases, Contains-append_left}
@@ -17,14 +17,14 @@ use Rattle.ds_state.specs.declared.stage.Stage.TheVariants.{Answer}
 use Rattle.ds_state.specs.declared.situation.Situation.{Situation}
 use Rattle.ds_state.specs.declared.situation.Situation.TheVariants.{Idle, Editing}
 use Rattle.ds_edit.specs.Worlds.{after, counted_at}
-use Rattle.ds_core.specs.Steps.{answer_of, other_of, outcome_at, StepsBy}
+use Rattle.ds_core.specs.Steps.{answer_of, outcome_at, StepsBy}
 use Rattle.ds_core.specs.Takes.{Takes, WorldRun}
 use Rattle.ds_core.specs.Traces.{LedgerRun}
 use Rattle.ds_core.specs.Spent.{number_in, IsOut}
 use Rattle.ds_core.specs.declared.event.Event.{Event}
 use Rattle.ds_core.specs.declared.event.Event.TheVariants.{BeginEdit, BeginWork, BeginShow, BeginRecover, Step, Evict, Stop, Crash}
 use Rattle.ds_core.specs.declared.reply.Other.{Other}
-use Rattle.ds_core.specs.declared.reply.Answer.TheVariants.{Done, Overtaken}
+use Rattle.ds_core.specs.declared.reply.Answer.TheVariants.{Overtaken}
 use Rattle.ds_core.specs.declared.reply.Reply.{Reply}
 use Rattle.ds_core.specs.declared.reply.Reply.TheVariants.{Begun, Refused, Stepped, Answered, Evicted, NotEnabled}
 use Rattle.ds_core.proofs.Good.{counted_cases}
@@ -118,15 +118,16 @@ overtaken_out old mid p n other sound h =
     let here : (world_of old).situation h.edit.process ≡ Editing h.edit = ap (λ q. (world_of old).situation q) h.mine ∙ h.at in
     let fits : EditFits (world_of old) h.edit.process h.edit = subst (λ (x : Situation). CallFits (world_of old) h.edit.process x) here (sound.calls h.edit.process low) in
     let knows : Knowing (world_of old) (edit_of h.edit) h.edit.refs fits.since (known_at (text_parts h.edit.text) (length h.edit.refs) (Answer (outcome.Overtaken how.1.0 how.1.1))) =
-        subst (λ (s : Stage). Knowing (world_of old) (edit_of h.edit) h.edit.refs fits.since (known_at (text_parts h.edit.text) (length h.edit.refs) s)) stage fits.knows in
+    subst (λ (s : Stage). Knowing (world_of old) (edit_of h.edit) h.edit.refs fits.since (known_at (text_parts h.edit.text) (length h.edit.refs) s)) stage fits.knows in
     let below : AreBelow (world_of old) h.edit.process h.edit.number = knows.standing in
     let now : (world_of mid).situation p ≡ Idle (h.edit.number + 1) = ap (λ x. (world_of mid).situation x) (sym h.mine) ∙ h.steps.situation ∙ after_answer h.edit h.edit.stage found.0 h.word last in
     let number : n ≡ h.edit.number = how.0 in
-    let counted : mid.counted ≡ old.counted = h.steps.counted ∙ ap (λ s. old.counted ++ counted_at (edit_of h.edit) s h.word) last ∙ append-nil old.counted in
-    ( rw now (omega arith)
-    , (λ e there its is.
-        let l = All-contains (λ (f : Edit). f.process ≡ h.edit.process → f.number < h.edit.number) old.counted e below (subst (λ (es : List Edit). Contains es e) counted there) (its ∙ sym h.mine) in
-        omega arith))
+    let counted : mid.counted ≡ old.counted = h.steps.counted ∙ ap (λ s. old.counted ++ counted_at (edit_of h.edit) s h.word) last ∙ append-nil old.counted in (
+      rw now (omega arith),
+      (λ e there its is.
+          let l = All-contains (λ (f : Edit). f.process ≡ h.edit.process → f.number < h.edit.number) old.counted e below (subst (λ (es : List Edit). Contains es e) counted there) (its ∙ sym h.mine) in
+          omega arith),
+    )
 
 pub overtaken_never : (old mid new : WorldValue) (events : List Event) (replies : List Reply) (p n : ℕ) (other : Other) → IsSound (world_of old) → Takes old (Step p) (Answered (Overtaken n other)) mid
     → WorldRun mid events replies new → IsOut (world_of new) p n

@@ -1,5 +1,5 @@
 -- How many steps a process makes in a run.
-use Rattle.std.specs.Prelude.{ℕ, ◌≡◌, ◌≤◌, ◌+◌, ◌==◌, List, [], ◌∷◌, if◌then◌else◌}
+use Rattle.std.specs.Prelude.{ℕ, ◌≡◌, ◌≤◌, ◌+◌, ◌==◌, List, ◌∷◌, if◌then◌else◌}
 use Rattle.ds_state.specs.Edits.{PlainEdit}
 use Rattle.ds_edit.specs.Steps.{rank}
 use Rattle.ds_core.specs.declared.event.Event.{Event}

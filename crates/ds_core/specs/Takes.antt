@@ -1,7 +1,6 @@
 -- What each event does to a world, and what is answered.
 use Rattle.std.specs.Prelude.{ℕ, ◌≡◌, ◌<◌, List, [], ◌∷◌}
 use Rattle.ds_formula.specs.Cells.{IsInside, index_of}
-use Rattle.ds_layout.specs.declared.place.Place.{Place}
 use Rattle.ds_state.specs.Value.{WorldValue, world_of}
 use Rattle.ds_state.specs.Sound.{IsSound}
 use Rattle.ds_edit.specs.Begun.{IsBegun, Refuses}

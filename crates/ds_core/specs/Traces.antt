@@ -1,14 +1,13 @@
 -- The list of the edits that count, and the edits that are not answered, event by event.
-use Rattle.std.specs.Prelude.{ℕ, ◌≡◌, ◌≢◌, ◌⊎◌, ◌++◌, List, [], ◌∷◌, length, drop, Option, Some, None, Contains}
+use Rattle.std.specs.Prelude.{ℕ, ◌≡◌, ◌≢◌, ◌⊎◌, ◌++◌, List, [], ◌∷◌, length, drop, Some, None, Contains}
 use Rattle.ds_formula.specs.Cells.{index_of}
 use Rattle.ds_state.specs.World.{Edit, Issue, World}
-use Rattle.ds_core.specs.Requests.{PlainRequest}
 use Rattle.ds_core.specs.declared.event.Event.{Event}
 use Rattle.ds_core.specs.declared.event.Event.TheVariants.{BeginEdit, Step}
 use Rattle.ds_core.specs.declared.reply.Other.{Other}
 use Rattle.ds_core.specs.declared.reply.Answer.TheVariants.{Done, Overtaken}
 use Rattle.ds_core.specs.declared.reply.Reply.{Reply}
-use Rattle.ds_core.specs.declared.reply.Reply.TheVariants.{Begun, Refused, Stepped, Answered, Evicted, NotEnabled}
+use Rattle.ds_core.specs.declared.reply.Reply.TheVariants.{Begun, Stepped, Answered}
 
 -- nothing
 pub record Stays (old new : World) : Type 0 where

@@ -50,11 +50,7 @@ pub fn take(alloc: Global, world: &mut World, event: &Event) -> Reply
 
 /// Events one after the other, whether they can happen or not, and the answer to each. Room for the
 /// answers is taken first: an error is a want of memory, and the world is unchanged.
-pub fn run(
-    alloc: Global,
-    world: &mut World,
-    events: &[Event],
-) -> Result<Vec<Reply>, AllocError>
+pub fn run(alloc: Global, world: &mut World, events: &[Event]) -> Result<Vec<Reply>, AllocError>
     ensures run { IfOk result (λ replies. WorldRun world.old events.now replies.items world.new) }
     ensures unchanged { OnErr result (world.new ≡ world.old) }
 {

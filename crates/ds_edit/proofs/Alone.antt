@@ -1,13 +1,12 @@
 -- An edit that is alone goes on so.
-use Rattle.std.proofs.Common.{ℕ, ◌≡◌, ◌≢◌, ◌<◌, ◌≤◌, ◌+◌, ◌*◌, ◌^◌, ◌⊎◌, ◌==◌, nat_lt, refl, ap, sym, ◌∙◌, subst, arith, inl, inr, zero, suc, length, Some, None}
+use Rattle.std.proofs.Common.{ℕ, ◌≡◌, ◌<◌, ◌+◌, ◌^◌, ◌==◌, nat_lt, refl, sym, ◌∙◌, arith, length, Some, None}
 use Rattle.std.specs.Prelude.{Option}
 use Rattle.std.proofs.lemmas.Bool.{eq-eqb}
 use Rattle.ds_words.proofs.Frames.{cached_kept, Changes}
 use Rattle.ds_layout.specs.Places.{class_of}
-use Rattle.ds_layout.specs.declared.place.Place.{Place}
 use Rattle.ds_layout.specs.declared.place.Place.TheVariants as place
 use Rattle.ds_layout.specs.declared.head.Head.{Head}
-use Rattle.ds_layout.specs.Head.{head_word, head_of}
+use Rattle.ds_layout.specs.Head.{head_of}
 use Rattle.ds_layout.specs.Sheet.{PerformsAt}
 use Rattle.ds_layout.proofs.Packed.{IsHead-head_of}
 use Rattle.ds_state.specs.Edits.{PlainEdit, text_parts}

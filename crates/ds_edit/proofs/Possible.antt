@@ -1,20 +1,19 @@
 -- Each access of an edit can be performed: its buffer has room, or an entry.
-use Rattle.std.proofs.Common.{ℕ, ◌≡◌, ◌<◌, ◌≤◌, ◌+◌, ◌-◌, ◌/◌, List, [], ◌∷◌, refl, ap, sym, ◌∙◌, subst, arith, zero, suc, length, map}
+use Rattle.std.proofs.Common.{ℕ, ◌≡◌, ◌<◌, ◌≤◌, ◌+◌, ◌-◌, [], ◌∷◌, ap, ◌∙◌, subst, arith, zero, suc, length, map}
 use Rattle.std.specs.Prelude.{slice_index_or}
 use Rattle.std.specs.List.{range_with_len}
 use Rattle.std.proofs.lemmas.List.FromFn.{length-map-range_with_len}
-use Rattle.ds_words.specs.declared.access.Entry.{Entry}
 use Rattle.ds_words.specs.declared.words.TheConstants.{BUFFER_ENTRIES}
 use Rattle.ds_layout.specs.declared.place.TheConstants.{RECORDS, TEXT_PARTS}
 use Rattle.ds_layout.specs.declared.place.Place.{Place}
 use Rattle.ds_layout.specs.declared.place.Place.TheVariants as place
 use Rattle.ds_layout.specs.declared.layout.Layout.{Layout}
-use Rattle.ds_layout.specs.Places.{IsPlace, cells_of, parts_of}
+use Rattle.ds_layout.specs.Places.{IsPlace}
 use Rattle.ds_layout.specs.Sheet.{CanPerform, HasBuffer, HasEntry}
 use Rattle.ds_state.specs.Edits.{PlainEdit, text_parts}
 use Rattle.ds_state.specs.World.{edit_of, World, record_place, index_place, done_place}
 use Rattle.ds_state.specs.Known.{word_of, pending, ended}
-use Rattle.ds_state.specs.Calls.{EditFits, CallFits, entry, record_entry, HasOne}
+use Rattle.ds_state.specs.Calls.{EditFits, CallFits, entry, record_entry}
 use Rattle.ds_state.specs.Sound.{IsSound}
 use Rattle.ds_state.specs.declared.stage.Stage.{Stage}
 use Rattle.ds_state.specs.declared.stage.Stage.TheVariants.{StoreHeader, StoreText, FlushHeader, FlushText, BackRecord, StorePending, FlushPending, BackPending, OrIndex, FlushIndex, BackIndex, LoadHead, FlushNoted, BackNoted, OrDone, FlushDone, BackDone, Swap, FlushOwn, BackOwn, OrMark, FlushMark, BackMark, StoreOutcome, FlushOutcome, BackOutcome, Answer}
@@ -46,13 +45,15 @@ module _ (e : PlainEdit) (w : World) (low : e.process < w.layout.processes) wher
       (low, omega arith)
   buffered (BackRecord left) f =
       let k : ℕ = text_parts e.text - left in
-      let t = f.is.text in
-      (low, record {
-        entry = record_entry (edit_of e) k;
-        rest = map (record_entry (edit_of e)) (range_with_len (k + 1) left);
-        oldest = f.buffer;
-        there = record_is_place w.layout e.process e.number k low f.is.number (omega arith);
-      })
+      let t = f.is.text in (
+        low,
+        record {
+          entry = record_entry (edit_of e) k;
+          rest = map (record_entry (edit_of e)) (range_with_len (k + 1) left);
+          oldest = f.buffer;
+          there = record_is_place w.layout e.process e.number k low f.is.number (omega arith);
+        },
+      )
   buffered StorePending f = tt
   buffered FlushPending f = room f.buffer
   buffered BackPending f = one (place.Announce e.process) (word_of w (edit_of e) pending) f.buffer low

@@ -1,19 +1,17 @@
-use Rattle.std.proofs.Common.{ℕ, ◌≡◌, ◌<◌, ◌≤◌, ◌++◌, List, arith, ap, sym, ◌∙◌, subst, get_or, set}
+use Rattle.std.proofs.Common.{ℕ, ◌≡◌, ◌<◌, ◌++◌, arith, ap, sym, ◌∙◌, subst, get_or}
 use Rattle.std.specs.Prelude.{Option, None, vec_capacity}
 use Rattle.std.proofs.lemmas.List.{get_or_default}
-use Rattle.ds_layout.specs.declared.place.TheConstants.{RECORDS}
-use Rattle.ds_layout.specs.Sheet.{CanPerform, PerformsAt, memory, SheetValue}
+use Rattle.ds_layout.specs.Sheet.{PerformsAt, memory}
 use Rattle.ds_state.specs.Edits.{PlainEdit}
 use Rattle.ds_state.specs.Value.{WorldValue, IsReserved}
 use Rattle.ds_state.specs.World.{Edit, Issue, edit_of}
 use Rattle.ds_state.specs.Text.{IsText}
 use Rattle.ds_state.specs.declared.stage.Stage.{Stage}
-use Rattle.ds_state.specs.declared.situation.Situation.{Situation}
 use Rattle.ds_state.specs.declared.situation.Situation.TheVariants.{Idle}
 use Rattle.ds_edit.specs.Steps.{access_at}
 use Rattle.ds_edit.specs.Worlds.{after, counted_at, pending_at}
 use Rattle.ds_core.specs.Steps.{StepTakes, reply_at, done_at}
-use Rattle.ds_core.proofs.Good.{IsEditing, editing_from, perform_at, next, next_is, next_kept, next_room, next_takes, pending_there, processes_are}
+use Rattle.ds_core.proofs.Good.{IsEditing, editing_from, perform_at, next_is, next_kept, next_room, next_takes, pending_there, processes_are}
 use Rattle.ds_core.proofs.step.step.Goals as goal
 
 pub perform-word-requires : goal.perform-word-requires
@@ -30,7 +28,7 @@ count-requires c =
     let at : IsEditing v c.args.process e = editing_from v c.args.process e c.index.result.now (omega arith) c.index.ensures c.in-Some.ensures.some in
     let performs : PerformsAt (access_at e e.stage) c.args.process (memory v.sheet) (memory c.perform-word.new.self) c.perform-word.result = rw (sym c.want-access.ensures) c.perform-word.ensures.performs in
     λ noted is same. next_room v c.world.invariant.good c.args.process e at c.perform-word.result c.perform-word.new.self c.perform-word.ensures.layout performs
-        _ noted c.world.invariant.reserved (sym (ap (λ (x : PlainEdit). x.stage) c.call.view_is) ∙ is) same
+    _ noted c.world.invariant.reserved (sym (ap (λ (x : PlainEdit). x.stage) c.call.view_is) ∙ is) same
 
 pub invariant_of-world : goal.invariant_of-world
 invariant_of-world c =

@@ -1,5 +1,4 @@
-use Rattle.std.proofs.Common.{◌≡◌, ◌≤◌, ◌+◌, ℕ, arith, ap, ◌∙◌, take, length, subst, sym}
-use Rattle.std.specs.Vec.{vec_len, vec_capacity}
+use Rattle.std.proofs.Common.{◌+◌, arith, ap, ◌∙◌}
 use Rattle.ds_core.proofs.Runs.{run_next}
 use Rattle.ds_core.proofs.take.run.Goals as goal
 

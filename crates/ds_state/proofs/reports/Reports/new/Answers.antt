@@ -1,4 +1,4 @@
-use Rattle.std.proofs.Common.{ℕ, ◌≡◌, ◌≤◌, List, [], refl, sym, ap, ◌∙◌, arith, map, replicate}
+use Rattle.std.proofs.Common.{ℕ, ◌≡◌, ◌≤◌, List, [], refl, ap, ◌∙◌, arith, replicate}
 use Rattle.std.specs.Vec.{vec_capacity}
 use Rattle.std.proofs.lemmas.List.Elements.{All-nil}
 use Rattle.ds_eval.specs.declared.value.Value.{Value}
@@ -12,7 +12,7 @@ loop-init c = rw c.in_ok-values.ensures.items (refl, All-nil (λ (k : ℕ). c.ar
 pub loop-preserved : goal.loop-preserved
 loop-preserved c =
     one_more (λ v. v.items) (λ v. vec_capacity v) c.loop.values.items c.push.new.self.items c.in_ok-with_capacity.field-0 c.loop.counter c.args.cells
-        c.in_ok-push.ensures.items c.loop.invariant.0 c.loop.invariant.1 c.in_ok-with_capacity.ensures.items c.in_ok-with_capacity.ensures.capacity
+    c.in_ok-push.ensures.items c.loop.invariant.0 c.loop.invariant.1 c.in_ok-with_capacity.ensures.items c.in_ok-with_capacity.ensures.capacity
 
 pub invariant_of-result : goal.invariant_of-result
 invariant_of-result c = c.loop.invariant.1

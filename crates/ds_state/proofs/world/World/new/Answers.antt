@@ -13,7 +13,7 @@ invariant_of-result c =
     let p : c.in_ok-pending.pending.items ≡ replicate c.args.processes None = c.in_ok-pending.ensures.items_if_clones_equal (λ y e. search rules) in
     let n : c.in_ok-counted.counted.items ≡ [] = c.in_ok-counted.ensures.items in
     let r : c.in_ok-reports.reports ≡ no_reports c.args.processes (cells_of c.in_ok-words.words.layout) =
-        c.in_ok-reports.ensures ∙ ap (λ (n : ℕ). no_reports c.args.processes n) c.count.ensures.value ∙ ap (λ (l : Layout). no_reports c.args.processes (cells_of l)) (sym c.in_ok-words.ensures.layout) in
+    c.in_ok-reports.ensures ∙ ap (λ (n : ℕ). no_reports c.args.processes n) c.count.ensures.value ∙ ap (λ (l : Layout). no_reports c.args.processes (cells_of l)) (sym c.in_ok-words.ensures.layout) in
     rw (s, p, n, r) (made_kept c.in_ok-words.words c.args.processes _ c.in_ok-words.ensures.fresh (ap (λ (l : Layout). l.processes) c.in_ok-words.ensures.layout) c.in_ok-counted.ensures.capacity)
 
 pub returns-clause-new : goal.returns-clause-new
