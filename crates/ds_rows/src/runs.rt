@@ -2,7 +2,7 @@
 
 use crate::worlds::{
     A1, A2, B1, Play, begin, expect_point, expect_reply, expect_text, expect_unchanged,
-    expect_word, small,
+    expect_word, small, stop_idle,
 };
 use ds_core::event::Event;
 use ds_core::reply::{Answer, Other, Reply};
@@ -147,6 +147,20 @@ fn refused(rt: HostRuntime) -> Result<(), Fail> {
     for (text, wanted) in texts {
         expect_unchanged(&rt, &mut world, begin(alloc, 0, A1, text)?, wanted)?;
     }
+    Ok(())
+}
+
+#[test]
+fn refused_where_it_is_stopped(rt: HostRuntime) -> Result<(), Fail> {
+    let alloc = rt.alloc();
+    let mut world = small(alloc)?;
+    stop_idle(&mut world, 1);
+    for text in ["1", "=1.5", LONG] {
+        let stopped = Reply::Refused(Refusal::Stopped);
+        expect_unchanged(&rt, &mut world, begin(alloc, 1, A2, text)?, stopped)?;
+    }
+    expect_unchanged(&rt, &mut world, Event::Step(1), Reply::NotEnabled)?;
+    expect_reply(&rt, &mut world, begin(alloc, 0, A1, "1")?, Reply::Begun(0))?;
     Ok(())
 }
 

@@ -27,6 +27,13 @@ pub fn small(alloc: Global) -> Result<World, Fail> {
     Ok(World::new(alloc, shape, 2)?)
 }
 
+/// Stops a process that is idle. No event does so yet.
+pub fn stop_idle(world: &mut World, process: usize) {
+    if let Some(Situation::Idle(_)) = world.situations.get(process) {
+        world.situations[process] = Situation::Stopped;
+    }
+}
+
 /// An edit is asked for.
 pub fn begin(alloc: Global, process: usize, cell: Cell, text: &str) -> Result<Event, AllocError> {
     let text = Vec::from_slice(alloc, text.as_bytes())?;
