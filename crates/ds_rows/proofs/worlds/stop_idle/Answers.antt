@@ -14,5 +14,5 @@ invariant_of-world c =
     let all : c.deref.result.now ≡ v.situations = c.deref.ensures.value in
     let lt : c.args.process < length v.situations = ltb-true c.args.process (length v.situations) (sym (found.0 ∙ ap (λ (xs : List Situation). nat_lt c.args.process (length xs)) all)) in
     let idle : get_or v.situations c.args.process (Idle 0) ≡ Idle c.in-Some-Idle.field-0-0 =
-        get_or_default v.situations c.args.process (Idle 0) c.in-Some-Idle.field-0.now lt ∙ sym (found.1 ∙ ap (λ (xs : List Situation). get_or xs c.args.process c.in-Some-Idle.field-0.now) all) ∙ c.in-Some-Idle.field-0-is in
+    get_or_default v.situations c.args.process (Idle 0) c.in-Some-Idle.field-0.now lt ∙ sym (found.1 ∙ ap (λ (xs : List Situation). get_or xs c.args.process c.in-Some-Idle.field-0.now) all) ∙ c.in-Some-Idle.field-0-is in
     stop_reserved v c.args.process c.in-Some-Idle.field-0-0 _ c.world.invariant lt idle
