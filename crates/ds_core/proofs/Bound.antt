@@ -15,11 +15,12 @@ use Rattle.ds_state.specs.declared.situation.Situation.TheVariants.{Idle, Editin
 use Rattle.ds_edit.specs.Steps.{rank, next_at, Falls}
 use Rattle.ds_edit.specs.Worlds.{after}
 use Rattle.ds_edit.proofs.Stays.{each_falls, each_few, each_some}
-use Rattle.ds_core.specs.Steps.{outcome_at, reply_with, StepsBy}
+use Rattle.ds_core.specs.Steps.{reply_with, StepsBy}
+use Rattle.ds_edit.specs.Endings.{outcome_at}
 use Rattle.ds_core.specs.Takes.{Takes, WorldRun}
 use Rattle.ds_core.specs.Own.{own_step, own_steps, IsUnanswered, AreUnanswered, GoesOn}
 use Rattle.ds_core.specs.declared.event.Event.{Event}
-use Rattle.ds_core.specs.declared.event.Event.TheVariants.{BeginEdit, BeginWork, BeginShow, BeginRecover, Step, Evict, Stop, Crash}
+use Rattle.ds_core.specs.declared.event.Event.TheVariants.{BeginEdit, BeginWork, BeginShow, BeginRecover, Step, Offer, Evict, Stop, Crash}
 use Rattle.ds_core.specs.declared.reply.Reply.{Reply}
 use Rattle.ds_core.specs.declared.reply.Reply.TheVariants.{Begun, Refused, Stepped, Answered, Evicted, NotEnabled}
 
@@ -91,6 +92,7 @@ module _ (p : ℕ) (e : PlainEdit) (old new : WorldValue) (sound : IsSound (worl
   one_event (BeginWork q cell) reply h u = unchanged p e old new at h.1
   one_event (BeginShow q) reply h u = unchanged p e old new at h.1
   one_event (BeginRecover q) reply h u = unchanged p e old new at h.1
+  one_event (Offer value) reply h u = unchanged p e old new at h.1
   one_event (Stop q) reply h u = unchanged p e old new at h.1
   one_event Crash reply h u = unchanged p e old new at h.1
 
@@ -110,6 +112,7 @@ same_layout old new (Evict place) _ h = absurd h
 same_layout old new (BeginWork q cell) reply h = ap (λ (v : WorldValue). v.sheet.layout) h.1
 same_layout old new (BeginShow q) reply h = ap (λ (v : WorldValue). v.sheet.layout) h.1
 same_layout old new (BeginRecover q) reply h = ap (λ (v : WorldValue). v.sheet.layout) h.1
+same_layout old new (Offer value) reply h = ap (λ (v : WorldValue). v.sheet.layout) h.1
 same_layout old new (Stop q) reply h = ap (λ (v : WorldValue). v.sheet.layout) h.1
 same_layout old new Crash reply h = ap (λ (v : WorldValue). v.sheet.layout) h.1
 

@@ -1,34 +1,40 @@
 -- Steps and evictions keep a world good.
 use Rattle.std.proofs.Common.{ℕ, ◌≡◌, ◌<◌, ◌≤◌, ◌*◌, ◌⊎◌, List, [], ◌∷◌, ◌++◌, refl, ap, sym, ◌∙◌, subst, arith, length, length-append, get_or, set, inl, inr, Bool, true, false, ◌==◌}
-use Rattle.std.specs.Prelude.{All, Some, None, Option, if◌then◌else◌}
+use Rattle.std.specs.Prelude.{Contains, Some, None, Option, if◌then◌else◌}
 use Rattle.std.proofs.Math.ListN.{length-set}
-use Rattle.std.proofs.lemmas.Bool.{eq-eqb}
+use Rattle.std.proofs.lemmas.Bool.{eq-eqb, cases_eq}
 use Rattle.std.proofs.lemmas.List.{get_or-set_same, get_or-set_other, get_or_default, append-nil}
-use Rattle.std.proofs.lemmas.List.Elements.{All-push}
+use Rattle.std.proofs.lemmas.List.Elements.{Contains-append_left}
 use Rattle.ds_words.specs.Memory.{EvictsAt}
 use Rattle.ds_layout.specs.declared.layout.Layout.{Layout}
 use Rattle.ds_layout.specs.declared.place.TheConstants.{RECORDS}
 use Rattle.ds_layout.specs.declared.place.Place.{Place}
 use Rattle.ds_layout.specs.Sheet.{SheetValue, memory, CanPerform, PerformsAt}
 use Rattle.ds_state.specs.Edits.{PlainEdit}
-use Rattle.ds_state.specs.Text.{IsText}
 use Rattle.ds_state.specs.World.{Edit, Issue, edit_of}
 use Rattle.ds_state.specs.Value.{WorldValue, world_of, IsGood, IsReserved}
 use Rattle.ds_state.specs.Calls.{CallFits, EditFits}
 use Rattle.ds_state.specs.Events.{Evicts}
 use Rattle.ds_state.specs.Sound.{IsSound}
 use Rattle.ds_state.specs.declared.stage.Outcome.{Outcome}
+use Rattle.ds_state.specs.declared.stage.Outcome.TheVariants as outcome
+use Rattle.ds_state.specs.Dones.{HasAnswered}
+use Rattle.ds_state.proofs.Dones.{still_answered, one_answered}
+use Rattle.ds_edit.specs.Answers.{IsTrueAnswer}
+use Rattle.ds_edit.proofs.Truth.{answer_true}
 use Rattle.ds_state.specs.declared.stage.Stage.{Stage}
-use Rattle.ds_state.specs.declared.stage.Stage.TheVariants.{Swap}
+use Rattle.ds_state.specs.declared.stage.Stage.TheVariants.{Swap, Answer}
 use Rattle.ds_state.specs.declared.situation.Situation.{Situation}
 use Rattle.ds_state.specs.declared.situation.Situation.TheVariants.{Idle, Editing}
 use Rattle.ds_state.proofs.Accesses.{evict_sound}
+use Rattle.ds_state.proofs.Buffers.{buffered}
 use Rattle.ds_state.proofs.Few.{counted_few}
 use Rattle.ds_edit.specs.Steps.{access_at}
 use Rattle.ds_edit.specs.Worlds.{Steps, after, counted_at, pending_at}
 use Rattle.ds_edit.proofs.Sound.{step_sound}
 use Rattle.ds_edit.proofs.Possible.{can_perform}
-use Rattle.ds_core.specs.Steps.{reply_at, reply_with, outcome_at, done_at, StepsBy, StepTakes}
+use Rattle.ds_core.specs.Steps.{reply_at, reply_with, done_at, done_with, StepsBy, StepTakes}
+use Rattle.ds_edit.specs.Endings.{outcome_at}
 
 -- the process's edit
 pub record IsEditing (v : WorldValue) (p : ℕ) (e : PlainEdit) : Type 0 where
@@ -47,11 +53,14 @@ counted_cases e (Swap noted) word = won (word == noted)
     won false = inl refl
 counted_cases e _ word = inl refl
 
-counted_texts : (es : List Edit) → All (λ (x : Edit). IsText x.text) es → (e : Edit) → IsText e.text → (word : ℕ) (s : Stage) → All (λ (x : Edit). IsText x.text) (es ++ counted_at e s word)
-counted_texts es all e is word s = elim (counted_cases e s word) [
-  | inl none ↦ rw none (rw (append-nil es) all)
-  | inr one ↦ rw one (All-push (λ (x : Edit). IsText x.text) es e all is)
-]
+-- which stage a step's outcome tells
+pub answers_at : (s : Stage) (how : Outcome) → outcome_at s ≡ Some how → s ≡ Answer how
+answers_at (Answer how') how is = let same : how' ≡ how = cc in ap (λ h. Answer h) same
+answers_at _ how is = absurd (cc)
+
+pub goes_on_at : (s : Stage) (issue : Option Issue) → outcome_at s ≡ None → pending_at issue s ≡ issue
+goes_on_at (Answer how) issue is = absurd (cc)
+goes_on_at _ issue is = refl
 
 module _ (v : WorldValue) (g : IsGood v) (p : ℕ) (e : PlainEdit) (at : IsEditing v p e) where
   pub low : p < v.sheet.layout.processes
@@ -106,19 +115,48 @@ module _ (v : WorldValue) (g : IsGood v) (p : ℕ) (e : PlainEdit) (at : IsEditi
     next_sound : IsSound (world_of next)
     next_sound = (step_sound e word (world_of v) (world_of next) g.sound low_own here steps).sound
 
-    -- what comes to count is a text
-    texts_after : IsText e.text → All (λ (x : Edit). IsText x.text) (v.counted ++ counted_at (edit_of e) e.stage word)
-    texts_after is = counted_texts v.counted g.texts (edit_of e) is word e.stage
-
-    pub next_kept : (room more : ℕ) → v.sheet.layout.processes * RECORDS ≤ room → room ≤ more → IsText e.text → IsReserved next more
+    -- what was answered Done counts, and is answered for good
+    grown : (f : Edit) → Contains v.counted f → Contains (world_of next).counted f
     unfolding next
-    next_kept room more reserved larger text = record {
+    grown f there = Contains-append_left v.counted (counted_at (edit_of e) e.stage word) f there
+
+    open_own : (world_of v).pending e.process ≡ Some (record { edit = edit_of e; since = fits.since })
+    open_own = ap (λ q. (world_of v).pending q) mine ∙ fits.pending
+
+    goes_on : outcome_at e.stage ≡ None → (f : Edit) (issue : Issue) → Contains v.counted f → (world_of next).pending f.process ≡ Some issue → issue.edit ≡ f → (world_of v).pending f.process ≡ Some issue
+    goes_on none f issue there now is = elim (cases_eq f.process e.process) [
+      | inl same ↦ ap (λ q. (world_of v).pending q) same ∙ sym (ap (λ q. (world_of next).pending q) same ∙ steps.pending ∙ goes_on_at e.stage _ none) ∙ now
+      | inr other ↦ sym (steps.others_pending f.process other) ∙ now
+    ]
+
+    closed : (how : Outcome) → e.stage ≡ Answer how → (world_of next).pending e.process ≡ None
+    closed how last = steps.pending ∙ ap (λ s. pending_at ((world_of v).pending e.process) s) last
+
+    answered_on : (how : Outcome) → e.stage ≡ Answer how → (f : Edit) (issue : Issue) → Contains v.counted f → (world_of next).pending f.process ≡ Some issue → issue.edit ≡ f → (world_of v).pending f.process ≡ Some issue
+    answered_on how last f issue there now is = elim (cases_eq f.process e.process) [
+      | inl same ↦ (let bad : Some issue ≡ None = sym now ∙ ap (λ q. (world_of next).pending q) same ∙ closed how last in absurd (cc))
+      | inr other ↦ sym (steps.others_pending f.process other) ∙ now
+    ]
+
+    by_answer : (how : Outcome) → e.stage ≡ Answer how → HasAnswered (world_of next).counted (world_of next).pending (done_with v.done (Some how))
+    by_answer outcome.Done last =
+        let t : IsTrueAnswer (world_of v) (edit_of e) outcome.Done = answer_true e outcome.Done (world_of v) g.sound low_own last here in
+        one_answered v.counted (world_of next).counted (world_of v).pending (world_of next).pending v.done (edit_of e) fits.since grown (answered_on outcome.Done last) open_own (closed outcome.Done last) t.holds g.answered
+    by_answer (outcome.Overtaken noted seen) last = still_answered v.counted (world_of next).counted (world_of v).pending (world_of next).pending v.done grown (answered_on (outcome.Overtaken noted seen) last) g.answered
+
+    by_outcome : (o : Option Outcome) → outcome_at e.stage ≡ o → HasAnswered (world_of next).counted (world_of next).pending (done_with v.done o)
+    by_outcome None is = still_answered v.counted (world_of next).counted (world_of v).pending (world_of next).pending v.done grown (goes_on is) g.answered
+    by_outcome (Some how) is = by_answer how (answers_at e.stage how is)
+
+    pub next_kept : (room more : ℕ) → v.sheet.layout.processes * RECORDS ≤ room → room ≤ more → IsReserved next more
+    unfolding next
+    next_kept room more reserved larger = record {
       good = record {
         sound = next_sound;
         situations = length-set v.situations p (after e e.stage word) ∙ g.situations ∙ ap (λ (l : Layout). l.processes) (sym layout);
         pending = length-set v.pending p (pending_at (get_or v.pending p None) e.stage) ∙ g.pending ∙ ap (λ (l : Layout). l.processes) (sym layout);
-        texts = texts_after text;
         reports = rw layout g.reports;
+        answered = by_outcome (outcome_at e.stage) refl;
       };
       reserved = (let same = ap (λ (l : Layout). l.processes) layout in omega arith);
     }
@@ -175,11 +213,11 @@ evict_kept v sheet place room k layout m =
     let same = ap (λ (l : Layout). l.processes) layout in (
       record {
         good = record {
-          sound = (evict_sound place (world_of v) (world_of (record v { sheet = sheet })) k.good.sound e).0;
+          sound = (evict_sound place (world_of v) (world_of (record v { sheet = sheet })) k.good.sound (buffered (world_of v) k.good.sound) e).0;
           situations = k.good.situations ∙ sym same;
           pending = k.good.pending ∙ sym same;
-          texts = k.good.texts;
           reports = rw layout k.good.reports;
+          answered = k.good.answered;
         };
         reserved = (let r = k.reserved in omega arith);
       },

@@ -4,6 +4,17 @@ pub mod Good
 pub mod Moves
 pub mod Order
 pub mod Bound
+pub mod Counts
 pub mod Runs
 pub mod Solo
 pub mod Spent
+pub mod Moved
+pub mod Closing
+pub mod Acknowledged
+pub mod Examples
+pub mod Carry
+pub mod Today
+pub mod Texts
+pub mod Crash
+pub mod Alone
+pub mod QuietValues

@@ -21,25 +21,17 @@ use Rattle.ds_edit.specs.Worlds.{Begins, counted_at, pending_at}
 use Rattle.ds_edit.specs.Answers.{IsTrueAnswer, IsTrueOf}
 use Rattle.ds_edit.specs.Begun.{IsBegun}
 use Rattle.ds_edit.proofs.Truth.{answer_true}
-use Rattle.ds_core.specs.Steps.{answer_of, other_of, outcome_at, reply_with, StepsBy}
+use Rattle.ds_core.specs.Steps.{reply_with, StepsBy}
+use Rattle.ds_edit.specs.Endings.{answer_of, other_of, outcome_at}
 use Rattle.ds_core.specs.Takes.{Takes, WorldRun}
 use Rattle.ds_core.specs.Traces.{Stays, Issues, Counts, Closes, LedgerMoves, StandsOnce, LedgerRun}
 use Rattle.ds_core.specs.declared.event.Event.{Event}
-use Rattle.ds_core.specs.declared.event.Event.TheVariants.{BeginEdit, BeginWork, BeginShow, BeginRecover, Step, Evict, Stop, Crash}
+use Rattle.ds_core.specs.declared.event.Event.TheVariants.{BeginEdit, BeginWork, BeginShow, BeginRecover, Step, Offer, Evict, Stop, Crash}
 use Rattle.ds_core.specs.declared.reply.Reply.{Reply}
 use Rattle.ds_core.specs.declared.reply.Reply.TheVariants.{Begun, Refused, Stepped, Answered, Evicted, NotEnabled}
-use Rattle.ds_core.proofs.Good.{counted_cases}
+use Rattle.ds_core.proofs.Good.{counted_cases, answers_at, goes_on_at}
 
--- which stage a step's outcome tells
-pub answers_at : (s : Stage) (how : Outcome) → outcome_at s ≡ Some how → s ≡ Answer how
-answers_at (Answer how') how is = let same : how' ≡ how = cc in ap (λ h. Answer h) same
-answers_at _ how is = absurd (cc)
-
-goes_on_at : (s : Stage) (issue : Option Issue) → outcome_at s ≡ None → pending_at issue s ≡ issue
-goes_on_at (Answer how) issue is = absurd (cc)
-goes_on_at _ issue is = refl
-
-counts_at : (e : Edit) (s : Stage) (word : ℕ) → counted_at e s word ≡ e ∷ [] → (noted : ℕ) × (s ≡ Swap noted)
+pub counts_at : (e : Edit) (s : Stage) (word : ℕ) → counted_at e s word ≡ e ∷ [] → (noted : ℕ) × (s ≡ Swap noted)
 counts_at e (Swap noted) word is = (noted, refl)
 counts_at e _ word is = absurd (cc)
 
@@ -168,6 +160,7 @@ moves old new g (Evict place) _ h = absurd h
 moves old new g (BeginWork p cell) reply h = same_stays old new h.1
 moves old new g (BeginShow p) reply h = same_stays old new h.1
 moves old new g (BeginRecover p) reply h = same_stays old new h.1
+moves old new g (Offer value) reply h = same_stays old new h.1
 moves old new g (Stop p) reply h = same_stays old new h.1
 moves old new g Crash reply h = same_stays old new h.1
 

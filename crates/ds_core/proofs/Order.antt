@@ -6,8 +6,8 @@ use Rattle.std.proofs.lemmas.List.Elements.{Contains-append_cases, Contains-appe
 use Rattle.ds_state.specs.World.{Edit, World}
 use Rattle.ds_core.specs.Traces.{LedgerMoves, LedgerRun, StandsBefore, DoneThenIssued}
 use Rattle.ds_core.specs.declared.event.Event.{Event}
-use Rattle.ds_core.specs.declared.event.Event.TheVariants.{BeginEdit, BeginWork, BeginShow, BeginRecover, Step, Evict, Stop, Crash}
-use Rattle.ds_core.specs.declared.reply.Answer.TheVariants.{Done, Overtaken}
+use Rattle.ds_core.specs.declared.event.Event.TheVariants.{BeginEdit, BeginWork, BeginShow, BeginRecover, Step, Offer, Evict, Stop, Crash}
+use Rattle.ds_edit.specs.declared.answer.Answer.TheVariants.{Done, Overtaken}
 use Rattle.ds_core.specs.declared.reply.Reply.{Reply}
 use Rattle.ds_core.specs.declared.reply.Reply.TheVariants.{Begun, Stepped, Answered}
 
@@ -30,6 +30,7 @@ move_grown old new (Evict place) reply h = same_grown old new h.counted
 move_grown old new (BeginWork p cell) reply h = same_grown old new h.counted
 move_grown old new (BeginShow p) reply h = same_grown old new h.counted
 move_grown old new (BeginRecover p) reply h = same_grown old new h.counted
+move_grown old new (Offer value) reply h = same_grown old new h.counted
 move_grown old new (Stop p) reply h = same_grown old new h.counted
 move_grown old new Crash reply h = same_grown old new h.counted
 

@@ -16,16 +16,17 @@ use Rattle.ds_edit.specs.Steps.{next_at}
 use Rattle.ds_edit.specs.Worlds.{after}
 use Rattle.ds_edit.specs.Alone.{IsAloneAt}
 use Rattle.ds_edit.proofs.Alone.{alone}
-use Rattle.ds_core.specs.Steps.{outcome_at, reply_with, answer_of, StepsBy}
+use Rattle.ds_core.specs.Steps.{reply_with, StepsBy}
+use Rattle.ds_edit.specs.Endings.{outcome_at, answer_of}
 use Rattle.ds_core.specs.Takes.{Takes, WorldRun}
 use Rattle.ds_core.specs.Solo.{IsSoloEvent, IsSolo, IsDoneOnly, AreDoneOnly}
 use Rattle.ds_core.specs.declared.event.Event.{Event}
-use Rattle.ds_core.specs.declared.event.Event.TheVariants.{BeginEdit, BeginWork, BeginShow, BeginRecover, Step, Evict, Stop, Crash}
-use Rattle.ds_core.specs.declared.reply.Answer.{Answer as ReplyAnswer}
-use Rattle.ds_core.specs.declared.reply.Answer.TheVariants.{Done}
+use Rattle.ds_core.specs.declared.event.Event.TheVariants.{BeginEdit, BeginWork, BeginShow, BeginRecover, Step, Offer, Evict, Stop, Crash}
+use Rattle.ds_edit.specs.declared.answer.Answer.{Answer as ReplyAnswer}
+use Rattle.ds_edit.specs.declared.answer.Answer.TheVariants.{Done}
 use Rattle.ds_core.specs.declared.reply.Reply.{Reply}
 use Rattle.ds_core.specs.declared.reply.Reply.TheVariants.{Stepped, Answered, Evicted, NotEnabled}
-use Rattle.ds_core.proofs.Moves.{answers_at}
+use Rattle.ds_core.proofs.Good.{answers_at}
 use Rattle.ds_core.proofs.Bound.{unanswered_at, after_on, editing_same}
 
 alone_same : (w w' : World) (cell : ℕ) (s : Stage) → w'.memory.cached (place.Head cell) ≡ w.memory.cached (place.Head cell) → IsAloneAt w cell s → IsAloneAt w' cell s
@@ -95,6 +96,7 @@ module _ (old new : WorldValue) (sound : IsSound (world_of old)) (p number : ℕ
   one_event (BeginWork q cell) reply h solo = absurd solo
   one_event (BeginShow q) reply h solo = absurd solo
   one_event (BeginRecover q) reply h solo = absurd solo
+  one_event (Offer value) reply h solo = absurd solo
   one_event (Stop q) reply h solo = absurd solo
   one_event Crash reply h solo = absurd solo
 

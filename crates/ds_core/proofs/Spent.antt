@@ -15,70 +15,67 @@ use Rattle.ds_state.specs.declared.stage.Outcome.TheVariants as outcome
 use Rattle.ds_state.specs.declared.stage.Stage.{Stage}
 use Rattle.ds_state.specs.declared.stage.Stage.TheVariants.{Answer}
 use Rattle.ds_state.specs.declared.situation.Situation.{Situation}
-use Rattle.ds_state.specs.declared.situation.Situation.TheVariants.{Idle, Editing}
-use Rattle.ds_edit.specs.Worlds.{after, counted_at}
-use Rattle.ds_core.specs.Steps.{answer_of, outcome_at, StepsBy}
+use Rattle.ds_state.specs.declared.situation.Situation.TheVariants.{Editing}
+use Rattle.ds_edit.specs.Worlds.{counted_at}
+use Rattle.ds_core.specs.Steps.{StepsBy}
+use Rattle.ds_edit.specs.Endings.{answer_of, outcome_at}
 use Rattle.ds_core.specs.Takes.{Takes, WorldRun}
 use Rattle.ds_core.specs.Traces.{LedgerRun}
-use Rattle.ds_core.specs.Spent.{number_in, IsOut}
+use Rattle.ds_core.specs.Spent.{IsOut}
+use Rattle.ds_state.specs.Spent.{IsSpent}
+use Rattle.ds_state.specs.Rely.{Keeps}
+use Rattle.ds_state.proofs.Spent.{spent_grown, spent_stays, spent_evicted, swap_unspent, answer_spent}
+use Rattle.ds_layout.specs.declared.place.Place.TheVariants.{Announce}
+use Rattle.ds_edit.proofs.Sound.{step_sound}
 use Rattle.ds_core.specs.declared.event.Event.{Event}
-use Rattle.ds_core.specs.declared.event.Event.TheVariants.{BeginEdit, BeginWork, BeginShow, BeginRecover, Step, Evict, Stop, Crash}
-use Rattle.ds_core.specs.declared.reply.Other.{Other}
-use Rattle.ds_core.specs.declared.reply.Answer.TheVariants.{Overtaken}
+use Rattle.ds_core.specs.declared.event.Event.TheVariants.{BeginEdit, BeginWork, BeginShow, BeginRecover, Step, Offer, Evict, Stop, Crash}
+use Rattle.ds_edit.specs.declared.answer.Other.{Other}
+use Rattle.ds_edit.specs.declared.answer.Answer.TheVariants.{Overtaken}
 use Rattle.ds_core.specs.declared.reply.Reply.{Reply}
 use Rattle.ds_core.specs.declared.reply.Reply.TheVariants.{Begun, Refused, Stepped, Answered, Evicted, NotEnabled}
-use Rattle.ds_core.proofs.Good.{counted_cases}
-use Rattle.ds_core.proofs.Moves.{answers_at}
-use Rattle.ds_core.proofs.Solo.{some_outcome, after_answer}
+use Rattle.ds_core.proofs.Good.{counted_cases, answers_at}
+use Rattle.ds_core.proofs.Moves.{counts_at}
+use Rattle.ds_core.proofs.Solo.{some_outcome}
 use Rattle.ds_core.proofs.Order.{run_grown}
-
--- numbers only grow
-grows_after : (e : PlainEdit) (s : Stage) (word : ℕ) → e.number ≤ number_in (after e s word)
-grows_after e (Answer how) word = omega arith
-grows_after e _ word = omega arith
 
 contains_one : (e f : Edit) → Contains (e ∷ []) f → f ≡ e
 contains_one e f (zero, lt, is) = sym is
 contains_one e f (suc k, lt, is) = absurd (omega arith)
 
-module _ (old new : WorldValue) (p n : ℕ) (spent : n < number_in ((world_of old).situation p)) (out : IsOut (world_of old) p n) where
+module _ (old new : WorldValue) (sound : IsSound (world_of old)) (p n : ℕ) (spent : IsSpent (world_of old) p n) (out : IsOut (world_of old) p n) where
   abbrev Stays : Type 0
-  Stays = (n < number_in ((world_of new).situation p)) × IsOut (world_of new) p n
+  Stays = IsSpent (world_of new) p n × IsOut (world_of new) p n
 
   unchanged : new ≡ old → Stays
-  unchanged same = subst (λ (v : WorldValue). (n < number_in ((world_of v).situation p)) × IsOut (world_of v) p n) (sym same) (spent, out)
+  unchanged same = subst (λ (v : WorldValue). IsSpent (world_of v) p n × IsOut (world_of v) p n) (sym same) (spent, out)
 
-  same_list : (world_of new).situation p ≡ (world_of old).situation p → new.counted ≡ old.counted → Stays
-  same_list same counted = (rw same spent, λ e there. out e (subst (λ (es : List Edit). Contains es e) counted there))
+  same_list : new.counted ≡ old.counted → IsOut (world_of new) p n
+  same_list counted = λ e there. out e (subst (λ (es : List Edit). Contains es e) counted there)
 
   by_step : (q : ℕ) (reply : Reply) → StepsBy old q reply new → Stays
   by_step q reply h =
-      let mine : p ≡ h.edit.process → n < h.edit.number = λ same. subst (λ (s : Situation). n < number_in s) (ap (λ x. (world_of old).situation x) (same ∙ h.mine) ∙ h.at) spent in
-      let number : n < number_in ((world_of new).situation p) = elim (cases_eq p h.edit.process) [
-        | inl same ↦ (let g = grows_after h.edit h.edit.stage h.word in let m = mine same in subst (λ (s : Situation). n < number_in s) (sym (ap (λ x. (world_of new).situation x) same ∙ h.steps.situation)) (omega arith))
-        | inr other ↦ rw (h.steps.others p other) spent
-      ] in
+      let low : h.edit.process < old.sheet.layout.processes = rw h.mine h.there in
+      let here : (world_of old).situation h.edit.process ≡ Editing h.edit = ap (λ x. (world_of old).situation x) h.mine ∙ h.at in
+      let kept : Keeps h.edit.process (world_of old) (world_of new) = step_sound h.edit h.word (world_of old) (world_of new) sound low here h.steps in
       let stays : IsOut (world_of new) p n = λ e there its is. elim (Contains-append_cases old.counted (counted_at (edit_of h.edit) h.edit.stage h.word) e (subst (λ (es : List Edit). Contains es e) h.steps.counted there)) [
         | inl before ↦ out e before its is
         | inr now ↦ elim (counted_cases (edit_of h.edit) h.edit.stage h.word) [
           | inl none ↦ (let c : Contains [] e = subst (λ (es : List Edit). Contains es e) none now in let l = c.1 in omega arith)
           | inr one ↦ (
               let same : e ≡ edit_of h.edit = contains_one (edit_of h.edit) e (subst (λ (es : List Edit). Contains es e) one now) in
-              let m = mine (sym its ∙ ap (λ (x : Edit). x.process) same) in
+              let swaps = counts_at (edit_of h.edit) h.edit.stage h.word one in
+              let mine : p ≡ h.edit.process = sym its ∙ ap (λ (x : Edit). x.process) same in
+              let less : n < h.edit.number = swap_unspent (world_of old) h.edit sound low here swaps.0 n swaps.1 (subst (λ (x : ℕ). IsSpent (world_of old) x n) mine spent) in
               let k : e.number ≡ h.edit.number = ap (λ (x : Edit). x.number) same in
               omega arith)
         ]
       ] in
-      (number, stays)
+      (spent_stays h.edit.process (world_of old) (world_of new) kept p n spent, stays)
 
   pub one_event : (event : Event) (reply : Reply) → Takes old event reply new → Stays
-  one_event (BeginEdit r) (Begun number) h = elim (cases_eq p h.begun.edit.process) [
-    | inl same ↦ (
-        let was : (world_of old).situation p ≡ Idle h.begun.edit.number = ap (λ x. (world_of old).situation x) same ∙ h.begun.begins.idle in
-        let now : (world_of new).situation p ≡ Editing h.begun.edit = ap (λ x. (world_of new).situation x) same ∙ h.begun.begins.situation in
-        (rw now (subst (λ (s : Situation). n < number_in s) was spent), λ e there. out e (subst (λ (es : List Edit). Contains es e) h.begun.begins.counted there)))
-    | inr other ↦ same_list (h.begun.begins.others p other) h.begun.begins.counted
-  ]
+  one_event (BeginEdit r) (Begun number) h =
+      let same = h.begun.begins.memory.persisted (Announce p) in
+      (spent_grown (world_of old) (world_of new) p n (omega (arith, same)) spent, same_list h.begun.begins.counted)
   one_event (BeginEdit r) (Refused why) h = unchanged h.same
   one_event (BeginEdit r) NotEnabled h = unchanged h.same
   one_event (BeginEdit r) _ h = absurd h
@@ -86,29 +83,31 @@ module _ (old new : WorldValue) (p n : ℕ) (spent : n < number_in ((world_of ol
   one_event (Step q) (Answered answer) h = by_step q (Answered answer) h
   one_event (Step q) NotEnabled h = unchanged h.same
   one_event (Step q) _ h = absurd h
-  one_event (Evict place) Evicted h = same_list (h.evicts.situation p) h.evicts.counted
+  one_event (Evict place) Evicted h = (spent_evicted place (world_of old) (world_of new) sound h.evicts p n spent, same_list h.evicts.counted)
   one_event (Evict place) NotEnabled h = unchanged h.same
   one_event (Evict place) _ h = absurd h
   one_event (BeginWork q cell) reply h = unchanged h.1
   one_event (BeginShow q) reply h = unchanged h.1
   one_event (BeginRecover q) reply h = unchanged h.1
+  one_event (Offer value) reply h = unchanged h.1
   one_event (Stop q) reply h = unchanged h.1
   one_event Crash reply h = unchanged h.1
 
-pub stays_out : (events : List Event) (replies : List Reply) (old new : WorldValue) (p n : ℕ) → n < number_in ((world_of old).situation p) → IsOut (world_of old) p n → WorldRun old events replies new → IsOut (world_of new) p n
-stays_out [] [] old new p n spent out run = subst (λ (v : WorldValue). IsOut (world_of v) p n) (sym run) out
-stays_out (event ∷ events) (reply ∷ replies) old new p n spent out run =
-    let first = one_event old run.0 p n spent out event reply run.1.takes in
-    stays_out events replies run.0 new p n first.0 first.1 run.2
-stays_out [] (reply ∷ replies) old new p n spent out run = absurd run
-stays_out (event ∷ events) [] old new p n spent out run = absurd run
+pub stays_out : (events : List Event) (replies : List Reply) (old new : WorldValue) (p n : ℕ) → IsSound (world_of old) → IsSpent (world_of old) p n → IsOut (world_of old) p n → WorldRun old events replies new
+    → IsSpent (world_of new) p n × IsOut (world_of new) p n
+stays_out [] [] old new p n sound spent out run = unchanged old new sound p n spent out run
+stays_out (event ∷ events) (reply ∷ replies) old new p n sound spent out run =
+    let first = one_event old run.0 sound p n spent out event reply run.1.takes in
+    stays_out events replies run.0 new p n run.1.sound first.0 first.1 run.2
+stays_out [] (reply ∷ replies) old new p n sound spent out run = absurd run
+stays_out (event ∷ events) [] old new p n sound spent out run = absurd run
 
 -- what answers Overtaken is an edit that was overtaken
 overtaken_how : (processes number n : ℕ) (other : Other) (how : Outcome) → Overtaken n other ≡ answer_of processes number how → (n ≡ number) × ((noted : ℕ) × (seen : ℕ) × (how ≡ outcome.Overtaken noted seen))
 overtaken_how processes number n other outcome.Done is = absurd (cc)
 overtaken_how processes number n other (outcome.Overtaken noted seen) is = (cc, (noted, seen, refl))
 
-pub overtaken_out : (old mid : WorldValue) (p n : ℕ) (other : Other) → IsSound (world_of old) → StepsBy old p (Answered (Overtaken n other)) mid → (n < number_in ((world_of mid).situation p)) × IsOut (world_of mid) p n
+pub overtaken_out : (old mid : WorldValue) (p n : ℕ) (other : Other) → IsSound (world_of old) → StepsBy old p (Answered (Overtaken n other)) mid → IsSpent (world_of mid) p n × IsOut (world_of mid) p n
 overtaken_out old mid p n other sound h =
     let found = some_outcome old.sheet.layout.processes h.edit.number (Overtaken n other) (outcome_at h.edit.stage) h.is in
     let last : h.edit.stage ≡ Answer found.0 = answers_at h.edit.stage found.0 found.1 in
@@ -120,20 +119,23 @@ overtaken_out old mid p n other sound h =
     let knows : Knowing (world_of old) (edit_of h.edit) h.edit.refs fits.since (known_at (text_parts h.edit.text) (length h.edit.refs) (Answer (outcome.Overtaken how.1.0 how.1.1))) =
     subst (λ (s : Stage). Knowing (world_of old) (edit_of h.edit) h.edit.refs fits.since (known_at (text_parts h.edit.text) (length h.edit.refs) s)) stage fits.knows in
     let below : AreBelow (world_of old) h.edit.process h.edit.number = knows.standing in
-    let now : (world_of mid).situation p ≡ Idle (h.edit.number + 1) = ap (λ x. (world_of mid).situation x) (sym h.mine) ∙ h.steps.situation ∙ after_answer h.edit h.edit.stage found.0 h.word last in
+    let kept : Keeps h.edit.process (world_of old) (world_of mid) = step_sound h.edit h.word (world_of old) (world_of mid) sound low here h.steps in
+    let spent : IsSpent (world_of old) h.edit.process h.edit.number = answer_spent (world_of old) h.edit sound low here found.0 last in
     let number : n ≡ h.edit.number = how.0 in
     let counted : mid.counted ≡ old.counted = h.steps.counted ∙ ap (λ s. old.counted ++ counted_at (edit_of h.edit) s h.word) last ∙ append-nil old.counted in (
-      rw now (omega arith),
+      spent_stays h.edit.process (world_of old) (world_of mid) kept p n (rw (number, sym h.mine) spent),
       (λ e there its is.
           let l = All-contains (λ (f : Edit). f.process ≡ h.edit.process → f.number < h.edit.number) old.counted e below (subst (λ (es : List Edit). Contains es e) counted there) (its ∙ sym h.mine) in
           omega arith),
     )
 
 pub overtaken_never : (old mid new : WorldValue) (events : List Event) (replies : List Reply) (p n : ℕ) (other : Other) → IsSound (world_of old) → Takes old (Step p) (Answered (Overtaken n other)) mid
-    → WorldRun mid events replies new → IsOut (world_of new) p n
+    → WorldRun mid events replies new → IsSpent (world_of new) p n × IsOut (world_of new) p n
 overtaken_never old mid new events replies p n other sound takes run =
     let o = overtaken_out old mid p n other sound takes in
-    stays_out events replies mid new p n o.0 o.1 run
+    let kept : Keeps p (world_of old) (world_of mid) = subst (λ (q : ℕ). Keeps q (world_of old) (world_of mid)) takes.mine
+    (step_sound takes.edit takes.word (world_of old) (world_of mid) sound (rw takes.mine takes.there) (ap (λ q. (world_of old).situation q) takes.mine ∙ takes.at) takes.steps) in
+    stays_out events replies mid new p n kept.sound o.0 o.1 run
 
 -- what counts goes on counting
 pub counted_stays : (old : World) (events : List Event) (replies : List Reply) (new : World) (e : Edit) → LedgerRun old events replies new → Contains old.counted e → Contains new.counted e

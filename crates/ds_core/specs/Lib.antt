@@ -4,7 +4,11 @@ pub mod Kept
 pub mod Requests
 pub mod Steps
 pub mod Takes
+pub mod Counts
 pub mod Traces
 pub mod Own
 pub mod Solo
 pub mod Spent
+pub mod Moments
+pub mod LedgerSteps
+pub mod Headline

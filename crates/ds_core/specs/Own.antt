@@ -1,6 +1,9 @@
 -- How many steps a process makes in a run.
 use Rattle.std.specs.Prelude.{ℕ, ◌≡◌, ◌≤◌, ◌+◌, ◌==◌, List, ◌∷◌, if◌then◌else◌}
 use Rattle.ds_state.specs.Edits.{PlainEdit}
+use Rattle.ds_state.specs.Value.{WorldValue, world_of}
+use Rattle.ds_state.specs.declared.situation.Situation.{Situation}
+use Rattle.ds_state.specs.declared.situation.Situation.TheVariants.{Editing}
 use Rattle.ds_edit.specs.Steps.{rank}
 use Rattle.ds_core.specs.declared.event.Event.{Event}
 use Rattle.ds_core.specs.declared.event.Event.TheVariants.{Step}
@@ -33,3 +36,11 @@ pub record GoesOn (old : PlainEdit) (steps : ℕ) (new : PlainEdit) : Type 0 whe
   pub text : new.text ≡ old.text
   pub refs : new.refs ≡ old.refs
   pub fewer : steps + rank new new.stage ≤ rank old old.stage
+
+-- how many steps the call has left, and one more that answers: at most so many, and 0 outside a call
+abbrev pub left_in : Situation → ℕ
+left_in (Editing e) = rank e e.stage
+left_in situation = 0
+
+abbrev pub steps_left : ℕ → WorldValue → ℕ
+steps_left p v = left_in ((world_of v).situation p)

@@ -1,14 +1,17 @@
--- Numbers of edits that are spent.
+-- Numbers of edits that do not count.
 use Rattle.std.specs.Prelude.{ℕ, ◌≡◌, Contains}
 use Rattle.ds_state.specs.World.{Edit, World}
 use Rattle.ds_state.specs.declared.situation.Situation.{Situation}
-use Rattle.ds_state.specs.declared.situation.Situation.TheVariants.{Idle, Stopped, Editing}
+use Rattle.ds_state.specs.declared.situation.Situation.TheVariants.{Idle, Stopped, Editing, Working, Recovering, Showing}
 
 -- the number of the process's edit, or of its next one
 abbrev pub number_in : Situation → ℕ
 number_in (Idle next) = next
 number_in Stopped = 0
 number_in (Editing e) = e.number
+number_in (Working e) = e.next
+number_in (Recovering e) = 0
+number_in (Showing e) = e.next
 
 -- no edit of the process with this number counts
 abbrev pub IsOut : World → ℕ → ℕ → Type 0

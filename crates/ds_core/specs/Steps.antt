@@ -1,8 +1,6 @@
 -- A step of a process, and an eviction, from world to world.
-use Rattle.std.specs.Prelude.{ℕ, ◌≡◌, ◌<◌, ◌+◌, ◌-◌, ◌^◌, min, Option, Some, None}
-use Rattle.ds_layout.specs.declared.head.Head.{Head}
+use Rattle.std.specs.Prelude.{ℕ, ◌≡◌, ◌<◌, ◌+◌, Option, Some, None}
 use Rattle.ds_layout.specs.declared.place.Place.{Place}
-use Rattle.ds_layout.specs.Head.{head_of}
 use Rattle.ds_layout.specs.Places.{IsPlace}
 use Rattle.ds_state.specs.Edits.{PlainEdit}
 use Rattle.ds_state.specs.Value.{WorldValue, world_of}
@@ -10,29 +8,11 @@ use Rattle.ds_state.specs.Events.{Evicts}
 use Rattle.ds_state.specs.declared.stage.Outcome.{Outcome}
 use Rattle.ds_state.specs.declared.stage.Outcome.TheVariants as outcome
 use Rattle.ds_state.specs.declared.stage.Stage.{Stage}
-use Rattle.ds_state.specs.declared.stage.Stage.TheVariants as stage
 use Rattle.ds_state.specs.declared.situation.Situation.TheVariants.{Editing}
 use Rattle.ds_edit.specs.Worlds as edits
-use Rattle.ds_core.specs.declared.reply.Other.{Other}
-use Rattle.ds_core.specs.declared.reply.Answer.{Answer}
-use Rattle.ds_core.specs.declared.reply.Answer.TheVariants.{Done, Overtaken}
+use Rattle.ds_edit.specs.Endings.{answer_of, outcome_at}
 use Rattle.ds_core.specs.declared.reply.Reply.{Reply}
 use Rattle.ds_core.specs.declared.reply.Reply.TheVariants.{Stepped, Answered, Evicted, NotEnabled}
-
--- the edit of a head; a word that is no head has none
-abbrev pub other_of : Option Head → Other
-other_of None = record { process = 0; number = 0 }
-other_of (Some head) = record { process = head.process; number = head.number }
-
--- the answer of the edit with this number
-abbrev pub answer_of : ℕ → ℕ → Outcome → Answer
-answer_of processes number outcome.Done = Done number
-answer_of processes number (outcome.Overtaken noted seen) = Overtaken number (other_of (head_of processes seen))
-
--- how the edit ended, where its last step is due
-abbrev pub outcome_at : Stage → Option Outcome
-outcome_at (stage.Answer how) = Some how
-outcome_at _ = None
 
 -- what a step answers
 abbrev pub reply_with : ℕ → ℕ → Option Outcome → Reply
@@ -42,9 +22,9 @@ reply_with processes number (Some how) = Answered (answer_of processes number ho
 abbrev pub reply_at : ℕ → ℕ → Stage → Reply
 reply_at processes number s = reply_with processes number (outcome_at s)
 
--- how many edits were answered Done after it; the last number is followed by itself
+-- how many edits were answered Done after it
 abbrev pub done_with : ℕ → Option Outcome → ℕ
-done_with done (Some outcome.Done) = min (done + 1) (2 ^ 64 - 1)
+done_with done (Some outcome.Done) = done + 1
 done_with done _ = done
 
 abbrev pub done_at : ℕ → Stage → ℕ

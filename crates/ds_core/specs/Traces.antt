@@ -4,8 +4,8 @@ use Rattle.ds_formula.specs.Cells.{index_of}
 use Rattle.ds_state.specs.World.{Edit, Issue, World}
 use Rattle.ds_core.specs.declared.event.Event.{Event}
 use Rattle.ds_core.specs.declared.event.Event.TheVariants.{BeginEdit, Step}
-use Rattle.ds_core.specs.declared.reply.Other.{Other}
-use Rattle.ds_core.specs.declared.reply.Answer.TheVariants.{Done, Overtaken}
+use Rattle.ds_edit.specs.declared.answer.Other.{Other}
+use Rattle.ds_edit.specs.declared.answer.Answer.TheVariants.{Done, Overtaken}
 use Rattle.ds_core.specs.declared.reply.Reply.{Reply}
 use Rattle.ds_core.specs.declared.reply.Reply.TheVariants.{Begun, Stepped, Answered}
 

@@ -1,5 +1,6 @@
 //! What happens to a world.
 
+use ds_eval::task::Evaluated;
 use ds_formula::cells::Cell;
 use ds_layout::place::Place;
 use std::marker::Model;
@@ -23,8 +24,8 @@ impl Model for Request {
     ghost view = { λ r. record { process = r.process; cell = r.cell; text = r.text.items } };
 }
 
-/// What happens to a world. Events of work, reports, recoveries, stops and crashes can not happen
-/// yet.
+/// What happens to a world. Events of work, offers, reports, recoveries, stops and crashes can not
+/// happen yet.
 #[derive(Debug, Drop)]
 pub enum Event {
     /// A process begins an edit.
@@ -37,6 +38,8 @@ pub enum Event {
     BeginRecover(usize),
     /// A process makes the next step of its call.
     Step(usize),
+    /// An evaluated task is offered to the work that waits for it.
+    Offer(Evaluated),
     /// A word is evicted: its cached side is persisted.
     Evict(Place),
     /// A process stops: it loses its call and its buffer.

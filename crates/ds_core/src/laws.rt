@@ -9,13 +9,15 @@ ghost use Rattle.ds_state.specs.declared.stage.Stage.TheVariants.{StoreHeader};
 ghost use Rattle.ds_state.specs.declared.situation.Situation.TheVariants.{Editing};
 ghost use Rattle.ds_core.specs.declared.event.Event.{Event};
 ghost use Rattle.ds_core.specs.declared.event.Event.TheVariants.{Step};
-ghost use Rattle.ds_core.specs.declared.reply.Other.{Other};
-ghost use Rattle.ds_core.specs.declared.reply.Answer.TheVariants.{Overtaken};
+ghost use Rattle.ds_edit.specs.declared.answer.Other.{Other};
+ghost use Rattle.ds_edit.specs.declared.answer.Answer.TheVariants.{Done, Overtaken};
 ghost use Rattle.ds_core.specs.declared.reply.Reply.TheVariants.{Answered};
 ghost use Rattle.ds_core.specs.declared.reply.Reply.{Reply};
 ghost use Rattle.ds_core.specs.Takes.{Takes, WorldRun};
 ghost use Rattle.ds_core.specs.Traces.{LedgerRun, DoneThenIssued, StandsBefore};
+ghost use Rattle.ds_core.specs.Headline.{Happens, RunFits, Headline, IsAcknowledged};
 ghost use Rattle.ds_core.specs.Own.{own_steps, AreUnanswered};
+ghost use Rattle.ds_state.specs.Spent.{IsSpent};
 ghost use Rattle.ds_core.specs.Spent.{IsOut};
 ghost use Rattle.ds_core.specs.Solo.{IsSolo, AreDoneOnly};
 
@@ -38,12 +40,14 @@ pub fn counted_edits_stay()
         → LedgerRun old events replies new → Contains old.counted e → Contains new.counted e }
 {}
 
-/// An edit that is answered Overtaken does not count then and never will: its number is spent.
+/// An edit that is answered Overtaken does not count then and never will: its number is spent, and
+/// stays so.
 pub fn overtaken_edits_stay_out()
     ensures { (old mid new : WorldValue) (events : List Event) (replies : List Reply)
         (p number : ℕ) (other : Other) → IsSound (world_of old)
         → Takes old (Step p) (Answered (Overtaken number other)) mid
-        → WorldRun mid events replies new → IsOut (world_of new) p number }
+        → WorldRun mid events replies new
+        → IsSpent (world_of new) p number × IsOut (world_of new) p number }
 {}
 
 /// An edit that is answered Done before another one is issued stands before it, where that one comes
@@ -72,4 +76,34 @@ pub fn solo_edits_are_done()
         (p : ℕ) (e : PlainEdit) → IsSound (world_of old)
         → (world_of old).situation p ≡ Editing e → e.stage ≡ StoreHeader
         → WorldRun old events replies new → IsSolo p events → AreDoneOnly e.number replies }
+{}
+
+/// A run that fits has the headline: an edit, once closed, stays in the list of those that count or
+/// stays out, through stops and crashes, and stands before each edit that is begun later.
+#[tactic(auto, using(crate::proofs::Closing::headline))]
+pub fn fitting_runs_have_the_headline()
+    ensures { (old : WorldValue) (events : List Event) (replies : List Reply) (new : WorldValue)
+        → RunFits old events replies new → Headline old events replies new }
+{}
+
+/// An edit that was answered Done stands in the last list exactly once, with the cell and the text
+/// of its request.
+#[tactic(auto, using(crate::proofs::Acknowledged::acknowledged_once))]
+pub fn acknowledged_edits_stand_once()
+    ensures { (old : WorldValue) (events : List Event) (replies : List Reply) (new : WorldValue)
+        (k p number : ℕ) → Headline old events replies new
+        → Happens events replies k (Step p) (Answered (Done number))
+        → IsAcknowledged old events replies k p number new.counted }
+{}
+
+/// An edit that is alone from its beginning on, but for evictions, and makes as many steps as an edit
+/// can need, is answered, and the answer is Done.
+#[tactic(auto, using(crate::proofs::Alone::solo_answered))]
+pub fn solo_edits_are_answered()
+    ensures { (old : WorldValue) (events : List Event) (replies : List Reply) (new : WorldValue)
+        (p : ℕ) (e : PlainEdit) → IsSound (world_of old) → p < old.sheet.layout.processes
+        → (world_of old).situation p ≡ Editing e → e.stage ≡ StoreHeader
+        → WorldRun old events replies new → IsSolo p events
+        → 67 + 3 * length e.refs ≤ own_steps p events replies
+        → (k : ℕ) × Happens events replies k (Step p) (Answered (Done e.number)) }
 {}

@@ -4,13 +4,12 @@ ghost use Rattle.std.specs.Prelude.{◌≡◌, ◌<◌, ◌≤◌, ◌++◌, ℕ
 ghost use Rattle.ds_state.specs.Edits.{PlainEdit};
 ghost use Rattle.ds_state.specs.declared.stage.Stage.TheVariants.{Swap};
 ghost use Rattle.ds_state.specs.declared.situation.Situation.TheVariants.{Editing};
-ghost use Rattle.ds_layout.specs.Head.{head_of};
 ghost use Rattle.ds_edit.specs.Worlds.{after, counted_at, pending_at};
-ghost use Rattle.ds_core.specs.Steps.{other_of, answer_of, reply_at, done_at, StepTakes, EvictTakes};
+ghost use Rattle.ds_core.specs.Steps.{reply_at, done_at, StepTakes, EvictTakes};
 
-use crate::reply::{Answer, Other, Reply};
+use crate::reply::Reply;
+use ds_edit::answer::Answer;
 use ds_edit::machine::{got, want};
-use ds_layout::head::Head;
 use ds_layout::place::Place;
 use ds_state::edit::EditCall;
 use ds_state::ledger::{Edit, Issue};
@@ -26,6 +25,7 @@ fn call_of(situation: &Situation) -> Option<&EditCall>
     match situation {
         Situation::Editing(call) => Some(call),
         Situation::Idle(_) | Situation::Stopped => None,
+        Situation::Working(_) | Situation::Recovering(_) | Situation::Showing(_) => None,
     }
 }
 
@@ -68,35 +68,12 @@ fn close(pending: &mut Option<Issue>, stage: Stage)
 
 // One more edit was answered Done, where it was.
 fn done_after(done: u64, stage: Stage) -> u64
+    requires { done ≤ 2048 }
     ensures { result ≡ done_at done stage }
 {
     match stage {
-        Stage::Answer(Outcome::Done) => done.saturating_add(1),
+        Stage::Answer(Outcome::Done) => done + 1,
         _ => done,
-    }
-}
-
-fn other_at(seen: u64, processes: usize) -> Other
-    ensures { result ≡ other_of (head_of processes seen) }
-{
-    match Head::read(seen, processes) {
-        Some(head) => Other {
-            process: head.process,
-            number: head.number,
-        },
-        None => Other {
-            process: 0,
-            number: 0,
-        },
-    }
-}
-
-fn answer(processes: usize, number: usize, how: Outcome) -> Answer
-    ensures { result ≡ answer_of processes number how }
-{
-    match how {
-        Outcome::Done => Answer::Done(number),
-        Outcome::Overtaken(_, seen) => Answer::Overtaken(number, other_at(seen, processes)),
     }
 }
 
@@ -104,7 +81,7 @@ fn reply(processes: usize, number: usize, stage: Stage) -> Reply
     ensures { result ≡ reply_at processes number stage }
 {
     match stage {
-        Stage::Answer(how) => Reply::Answered(answer(processes, number, how)),
+        Stage::Answer(how) => Reply::Answered(Answer::of(processes, number, how)),
         _ => Reply::Stepped,
     }
 }

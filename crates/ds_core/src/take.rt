@@ -1,6 +1,10 @@
 //! One event, and a list of events.
 
-ghost use Rattle.std.specs.Prelude.{◌≡◌, IfOk, OnErr};
+ghost use Rattle.std.specs.Prelude.{◌≡◌, ◌<◌, ◌+◌, ℕ, IfOk, OnErr};
+ghost use Rattle.ds_core.specs.declared.event.Event.TheVariants.{Step};
+ghost use Rattle.ds_core.specs.declared.reply.Reply.TheVariants.{Stepped};
+ghost use Rattle.ds_core.specs.Counts.{IsReplyTo, done_of, settled_of};
+ghost use Rattle.ds_core.specs.Own.{steps_left};
 ghost use Rattle.ds_core.specs.Takes.{BeginTakes, Takes, Fits, WorldRun};
 
 use crate::event::{Event, Request};
@@ -32,17 +36,25 @@ fn happen(alloc: Global, world: &mut World, event: &Event) -> Reply
         Event::Step(process) => step(world, *process),
         Event::Evict(place) => evict(world, *place),
         Event::BeginWork(_, _) | Event::BeginShow(_) | Event::BeginRecover(_) => Reply::NotEnabled,
-        Event::Stop(_) | Event::Crash => Reply::NotEnabled,
+        Event::Offer(_) | Event::Stop(_) | Event::Crash => Reply::NotEnabled,
     }
 }
 
 /// What happens to a world by one event, and its answer. The world is sound before and after.
 ///
 /// Memory is taken by beginnings alone; where it is refused, the answer is the refusal `NoMemory`
-/// and the world is unchanged.
+/// and the world is unchanged. The clauses beside `fits` name no other world: what is answered alone
+/// says how much each count grows, and a step of a call that is not answered leaves fewer of them.
 pub fn take(alloc: Global, world: &mut World, event: &Event) -> Reply
-    ensures { Fits world.old event.now result world.new }
+    ensures fits { Fits world.old event.now result world.new }
+    ensures reply { IsReplyTo event.now result }
+    ensures done { world.new.done ≡ world.old.done + done_of result }
+    ensures settled { world.new.settled ≡ world.old.settled + settled_of result }
+    ensures reports { world.new.reports ≡ world.old.reports }
+    ensures fewer { (p : ℕ) → event.now ≡ Step p → result ≡ Stepped
+        → steps_left p world.new < steps_left p world.old }
 {
+    world.is_sound();
     let reply = happen(alloc, world, event);
     world.is_sound();
     reply

@@ -1,14 +1,22 @@
 -- The steps by which an edit announces itself, or how it ended.
-use Rattle.std.proofs.Common.{ℕ, ◌≡◌, ◌≢◌, ◌<◌, ◌≤◌, ◌^◌, nat_lt, [], refl, ap, sym, ◌∙◌, subst, arith, inl, inr, zero, suc, length, None}
+use Rattle.std.proofs.Common.{List, ℕ, ◌≡◌, ◌≢◌, ◌<◌, ◌≤◌, ◌^◌, nat_lt, [], refl, ap, sym, ◌∙◌, subst, arith, le_refl, inl, inr, zero, suc, length, None}
 use Rattle.std.proofs.lemmas.Bool.{ltb-false}
 use Rattle.ds_words.specs.Memory.{StoresAt}
 use Rattle.ds_layout.specs.declared.place.Place.{Place}
-use Rattle.ds_layout.specs.declared.place.Place.TheVariants.{Announce}
+use Rattle.ds_layout.specs.declared.place.Place.TheVariants.{Head, Mark, Announce}
 use Rattle.ds_layout.specs.declared.announcement.Phase.TheVariants as phase
 use Rattle.ds_state.specs.Edits.{PlainEdit, text_parts}
-use Rattle.ds_state.specs.World.{Edit, edit_of, World, record_place, announcement}
-use Rattle.ds_state.specs.Known.{Known, Announced, ended, indexing, word_of, Knowing, IsAnnounced, StandsAs, standing_after}
-use Rattle.ds_state.specs.Calls.{EditFits, OwesAt}
+use Rattle.ds_state.specs.World.{Edit, edit_of, World, record_place, announcement, last_announcement, phase_among}
+use Rattle.ds_layout.specs.declared.announcement.Phase.{Phase}
+use Rattle.ds_state.specs.Known.{Known, Announced, last, pending, ended, indexing, word_of, Knowing, IsAnnounced, StandsAs, standing_after}
+use Rattle.ds_state.specs.Calls.{EditFits}
+use Rattle.std.specs.Prelude.{Contains}
+use Rattle.ds_words.specs.declared.access.Entry.{Entry}
+use Rattle.ds_state.specs.Owing.{entry, HoldsNone, IsHeldBy, SplitsAt, EditOwes}
+use Rattle.ds_state.proofs.Buffers.{buffered}
+use Rattle.ds_state.proofs.Bearing.{Mine, MyMarks, no_new_marks, stored_marks, text_same}
+use Rattle.ds_state.proofs.EditSteps.{edit_mine}
+use Rattle.ds_state.proofs.EditFrame.{Framed, edit_keeps, edit_framed, flush_any}
 use Rattle.ds_state.specs.Words.{IsKept, WordFits}
 use Rattle.ds_state.specs.Rely.{Grows, Keeps}
 use Rattle.ds_state.specs.Sound.{IsSound}
@@ -18,12 +26,12 @@ use Rattle.ds_state.specs.declared.stage.Stage.{Stage}
 use Rattle.ds_state.specs.declared.stage.Stage.TheVariants.{OrIndex, LoadHead}
 use Rattle.ds_state.specs.declared.situation.Situation.TheVariants.{Editing}
 use Rattle.ds_state.proofs.Stable.{standing_stable, recorded_stable, word_stable, indexed_stable, ored_stable, head_stable}
-use Rattle.ds_state.proofs.Frames.{Moves, grows_own, word_bears, moves_sound}
+use Rattle.ds_state.proofs.Frames.{Moves, KeepsOwing, grows_own, word_bears, moves_sound}
 use Rattle.ds_state.proofs.Accesses.{Turn, store_moves}
 use Rattle.ds_edit.specs.Steps.{next_at, index_from}
 use Rattle.ds_edit.specs.Worlds.{StepsAt}
 use Rattle.ds_edit.proofs.Stays.{branches}
-use Rattle.ds_edit.proofs.Turns.{on, Known_on, Holds_on, IsPlainStep, turn, owing, fits_next}
+use Rattle.ds_edit.proofs.Turns.{on, Known_on, Holds_on, IsPlainStep, turn, goes, stays_open, fits_next}
 
 record_announce : (p n k : ℕ) → record_place p n k ≢ Announce p
 record_announce p n zero = λ same. cc
@@ -37,26 +45,62 @@ pub ended_tells : (w : World) (e : Edit) (how : Outcome) (n : ℕ) → StandsAs 
 ended_tells w e outcome.Done n stands is = record { edit = e; process_is = refl; number_is = omega arith; safe = stands.safe }
 ended_tells w e (outcome.Overtaken noted seen) n stands is = absurd (omega arith)
 
+-- announcements grow
+last_low : (es : List Edit) (p n : ℕ) → last_announcement es p n ≤ announcement n phase.Pending
+last_low es p zero = omega arith
+last_low es p (suc n) = low (phase_among es p n)
+  where
+    low : (f : Phase) → announcement n f ≤ announcement (suc n) phase.Pending
+    low phase.Pending = omega arith
+    low phase.Done = omega arith
+    low phase.NotDone = omega arith
+
+pub last_less : (w : World) (e : PlainEdit) → w.memory.cached (Announce e.process) ≡ word_of w (edit_of e) last → w.memory.cached (Announce e.process) ≤ announcement e.number phase.Pending
+last_less w e is = let l = last_low w.counted e.process e.number in omega arith
+
+pub ended_more : (w : World) (e : Edit) (how : Outcome) → w.memory.cached (Announce e.process) ≡ word_of w e pending → w.memory.cached (Announce e.process) ≤ word_of w e (ended how)
+ended_more w e outcome.Done is = omega arith
+ended_more w e (outcome.Overtaken a b) is = omega arith
+
 -- on both sides
 pub on_both : (w : World) (e : Edit) (before now : Announced) → IsAnnounced w e before now → w.memory.persisted (Announce e.process) ≡ word_of w e now → IsAnnounced w e now now
 on_both w e before now h is = record { cached = h.cached; persisted = inl is }
 
 module _ (e : PlainEdit) (s : Stage) (word : ℕ) (old new : World) (sound : IsSound old)
     (at : old.situation e.process ≡ Editing (on e s)) (fits : EditFits old e.process (on e s))
-    (t : StepsAt e s word old new) (plain : IsPlainStep e s word) (small : word < 2 ^ 64) (owes : (head : ℕ) → OwesAt s head → ⊥) where
+    (t : StepsAt e s word old new) (plain : IsPlainStep e s word) (small : word < 2 ^ 64) (owes : (head : ℕ) → SplitsAt s head → ⊥) (calm : (x : ℕ) → EditOwes old.memory e.process e.cell s x → ⊥) where
+  went : new.situation e.process ≡ Editing (on e (next_at e s word))
+  went = goes e s word old new t plain
+
+  tk : Turn e.process old new
+  tk = turn e s word old new t plain.counts
+
+  module _ (place : Place) (moves : Moves e.process place old new) where
+    keeps_at : (cell : ℕ) → KeepsOwing old new cell
+    keeps_at = edit_keeps e.process e s (next_at e s word) place old new moves tk.counted at went sound (buffered old sound) (stays_open e s word old new t plain) (λ head o. absurd (owes head o))
+
+    my : ((c : ℕ) → new.memory.cached (Head c) ≡ old.memory.cached (Head c)) → ((c : ℕ) → place ≡ Head c → ⊥) → Mine e.process place old new moves
+    my cached away = edit_mine e.process e s (next_at e s word) place old new moves at went fits.holds_none (λ x k o. absurd (calm x o)) cached (λ c is. absurd (away c is))
+
+    framed : Mine e.process place old new moves → MyMarks e.process place old new moves → Framed old new
+    framed m marks = edit_framed e.process e s (next_at e s word) place old new moves tk.counted at went sound (buffered old sound) m marks
+
+  unheld : ((r : ℕ) → new.memory.cached (Mark r) ≡ old.memory.cached (Mark r)) → HoldsNone new e.process
+  unheld same r by = fits.holds_none r (subst (λ (x : ℕ). IsHeldBy e.process x) (same r) by)
+
   -- an announcement is stored, where both sides agreed
   pub announces : (k : Known) (value : ℕ) (a : Announced) → Knowing old (edit_of e) e.refs fits.since k → k.before ≡ k.now
       → (Knowing new (edit_of e) e.refs fits.since (record k { now = a }) → Known_on new e fits.since (next_at e s word))
       → value ≡ word_of new (edit_of e) a
       → (StandsAs new (edit_of e) k.standing → (n : ℕ) → value ≡ announcement n phase.Done → IsKept new e.process n)
-      → StoresAt (Announce e.process) value old.memory new.memory
+      → old.memory.cached (Announce e.process) ≤ value → StoresAt (Announce e.process) value old.memory new.memory
       → (new.memory.buffer e.process ≡ old.memory.buffer e.process → Holds_on new e (next_at e s word)) → Keeps e.process old new
-  announces k value a knows both advance is tells m held =
+  announces k value a knows both advance is tells more m held =
       let place : Place = Announce e.process in
       let E : Edit = edit_of e in
       let tn : Turn e.process old new = turn e s word old new t plain.counts in
-      let moves : Moves e.process place old new = store_moves e.process old new tn place value (inl refl) m in
-      let g : Grows e.process place old new = grows_own e.process place old new moves in
+      let moves : Moves e.process place old new = store_moves e.process old new tn place value (more, le_refl _, inl refl) m in
+      let g : Grows e.process place old new = grows_own e.process place old new moves tn.counted in
       let stands : StandsAs new E k.standing = standing_stable place old new E g k.standing knows.standing in
       let before : old.memory.persisted place ≡ word_of old E k.before = elim knows.announced.persisted [ inl b ↦ b | inr n ↦ n ∙ ap (λ (x : Announced). word_of old E x) (sym both) ] in
       let after : Knowing new E e.refs fits.since (record k { now = a }) = record {
@@ -70,14 +114,17 @@ module _ (e : PlainEdit) (s : Stage) (word : ℕ) (old new : World) (sound : IsS
         ored = ored_stable place old new E g e.refs k.ored knows.ored;
         head = head_stable place old new E g fits.since k.head knows.head;
       } in
-      let bears = word_bears e.process place old new moves place (old.memory.cached place) (old.memory.persisted place) (λ cell same. cc) (sound.words place) in
+      let bears = word_bears e.process place old new moves tn.counted place (old.memory.cached place) (old.memory.persisted place) (λ cell same. cc) (λ cell is a. elim is [ inl x ↦ cc | inr x ↦ cc ]) (sound.words place) in
+      let mine : Mine e.process place old new moves = my place moves (λ c. m.elsewhere (Head c) (λ x. cc)) (λ c x. cc) in
+      let f : Framed old new = framed place moves mine (stored_marks e.process place old new moves (λ c x. cc) m.persisted m.buffer) in
       let told : WordFits new place (new.memory.cached place) (new.memory.persisted place) = record {
+        sides = (let l = (sound.words place).sides in let c = m.there in let p = m.persisted place in omega arith);
         on_cached = λ n low here. tells stands n (sym m.there ∙ here);
         on_persisted = λ n low here. bears.on_persisted n low (sym (m.persisted place) ∙ here);
       } in
-      moves_sound e.process place old new moves sound (λ cell ne. owing e s word old new t at (λ head o. absurd (owes head o)) cell)
+      moves_sound e.process place old new moves tn.counted sound f.bears f.stand f.apart (λ cell ne. keeps_at place moves cell)
       told
-      (λ l. fits_next e s word old new t fits plain small (advance after) (held (m.buffer e.process)))
+      (λ l. fits_next e s word old new t fits plain small (unheld (λ r. m.elsewhere (Mark r) (λ x. cc))) (advance after) (held (m.buffer e.process)))
 
 -- the references that are left, or the head
 pub index_next : (w : World) (e : PlainEdit) (since i : ℕ) → i ≤ length e.refs → Knowing w (edit_of e) e.refs since (indexing (text_parts e.text) i None) → Known_on w e since (index_from e i)

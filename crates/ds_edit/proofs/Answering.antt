@@ -7,7 +7,7 @@ use Rattle.ds_layout.specs.declared.announcement.Phase.{Phase}
 use Rattle.ds_state.specs.Edits.{PlainEdit, IsEdit, text_parts}
 use Rattle.ds_state.specs.World.{Edit, edit_of, World, of_cell, head_after_all, phase_among, last_announcement, announcement}
 use Rattle.ds_state.specs.Known.{AreBelow, Knowing, StandsAs, standing_after, phase_of, word_of, ended, known_at, writing}
-use Rattle.ds_state.specs.Calls.{EditFits, IdleFits, CallFits, Owes, IsSheetOf, HasRefs, held_at, Holds}
+use Rattle.ds_state.specs.Calls.{EditFits, IdleFits, CallFits, IsSheetOf, HasRefs, held_at, Holds}
 use Rattle.ds_state.specs.Sound.{IsSound}
 use Rattle.ds_state.specs.Rely.{Keeps}
 use Rattle.ds_state.specs.declared.stage.Outcome.{Outcome}
@@ -17,10 +17,14 @@ use Rattle.ds_state.specs.declared.stage.Stage.TheVariants.{Answer}
 use Rattle.ds_state.specs.declared.situation.Situation.{Situation}
 use Rattle.ds_state.specs.declared.situation.Situation.TheVariants.{Editing}
 use Rattle.ds_state.proofs.Outcomes.{among, not_among}
-use Rattle.ds_state.proofs.Frames.{Moves, KeepsOwing, keeps_owing}
+use Rattle.ds_state.specs.Owing.{IsHeldBy, Owes, Excuses, Parts, Splits}
+use Rattle.ds_state.specs.declared.situation.Situation.TheVariants.{Idle}
+use Rattle.ds_state.proofs.Buffers.{buffered}
+use Rattle.ds_state.proofs.EditFrame.{Framed, silent_framed, silent_keeps}
+use Rattle.ds_state.proofs.Frames.{Moves, KeepsOwing}
 use Rattle.ds_state.proofs.Accesses.{Turn, same_moves, quiet_sound}
 use Rattle.ds_edit.specs.Worlds.{StepsAt, Begins}
-use Rattle.ds_edit.proofs.Turns.{on, turn, owing}
+use Rattle.ds_edit.proofs.Turns.{on, turn}
 
 -- how the edit ended stands in the list
 ended_as : (w : World) (e : Edit) (how : Outcome) → StandsAs w e (standing_after how) → phase_among w.counted e.process e.number ≡ phase_of how
@@ -47,9 +51,15 @@ step_answer e word old new sound how at fits t =
     let stands : StandsAs old E (standing_after how) = fits.knows.standing in
     let next : last_announcement old.counted e.process (e.number + 1) ≡ word_of old E (ended how) = last_after old.counted e.process e.number (phase_of how) (ended_as old E how stands) in
     let persisted : old.memory.persisted (place.Announce e.process) ≡ word_of old E (ended how) = elim fits.knows.announced.persisted [ inl is ↦ is | inr is ↦ is ] in
-    quiet_sound e.process old new tn sound moves (owing e (Answer how) word old new t at (λ head o. absurd o))
+    let owes : (r c x : ℕ) → Owes old.memory e.process (old.situation e.process) r c x → ⊥ = λ r c x o. subst (λ (s : Situation). Owes old.memory e.process s r c x) at o in
+    let excuses : (c x : ℕ) → Excuses old e.process (old.situation e.process) c x → ⊥ = λ c x o. (subst (λ (s : Situation). Excuses old e.process s c x) at o).1 in
+    let parts : (r : ℕ) → Parts (old.situation e.process) r → ⊥ = λ r o. subst (λ (s : Situation). Parts s r) at o in
+    let splits : (c head : ℕ) → Splits old e.process (old.situation e.process) c head → ⊥ = λ c head o. (subst (λ (s : Situation). Splits old e.process s c head) at o).1 in
+    let f : Framed old new = silent_framed e.process old new moves tn.counted sound (buffered old sound) owes excuses parts splits m.buffer in
+    quiet_sound e.process old new tn sound moves f.bears f.stand f.apart (silent_keeps e.process old new moves tn.counted sound (buffered old sound) owes excuses parts splits m.buffer)
     (λ l. subst (λ (x : Situation). CallFits new e.process x) (sym t.situation) (record {
       number = (let n = fits.is.number in omega arith);
+      holds_none = λ r by. fits.holds_none r (subst (λ (x : ℕ). IsHeldBy e.process x) (m.cached (place.Mark r)) by);
       pending = t.pending;
       buffer = m.buffer e.process ∙ fits.buffer;
       below = rw tn.counted (ended_below old E how stands);
@@ -65,7 +75,12 @@ begin_sound e old new sound is sheet refs b =
     let moves : Moves e.process place.Version old new = same_moves e.process old new tn b.memory in
     let low : e.process < old.layout.processes = rw sheet.processes is.process in
     let idle : IdleFits old e.process e.number = subst (λ (x : Situation). CallFits old e.process x) b.idle (sound.calls e.process low) in
-    let keeps : (cell : ℕ) → KeepsOwing old new cell = λ cell. keeps_owing e.process old new cell b.others b.others_pending (λ issue its pends owes. absurd (subst (λ (x : Situation). Owes x (head_after_all (of_cell cell old.counted))) b.idle owes)) in
+    let owes : (r c x : ℕ) → Owes old.memory e.process (old.situation e.process) r c x → ⊥ = λ r c x o. subst (λ (s : Situation). Owes old.memory e.process s r c x) b.idle o in
+    let excuses : (c x : ℕ) → Excuses old e.process (old.situation e.process) c x → ⊥ = λ c x o. subst (λ (s : Situation). Excuses old e.process s c x) b.idle o in
+    let parts : (r : ℕ) → Parts (old.situation e.process) r → ⊥ = λ r o. subst (λ (s : Situation). Parts s r) b.idle o in
+    let splits : (c head : ℕ) → Splits old e.process (old.situation e.process) c head → ⊥ = λ c head o. subst (λ (s : Situation). Splits old e.process s c head) b.idle o in
+    let f : Framed old new = silent_framed e.process old new moves tn.counted sound (buffered old sound) owes excuses parts splits b.memory.buffer in
+    let keeps : (cell : ℕ) → KeepsOwing old new cell = silent_keeps e.process old new moves tn.counted sound (buffered old sound) owes excuses parts splits b.memory.buffer in
     let knows : Knowing new E e.refs (length old.counted) (writing 0 0) = record {
       standing = rw b.counted idle.below;
       recorded = record { cached = λ k l. absurd (omega arith); persisted = λ k l. absurd (omega arith); fewer = omega arith };
@@ -77,7 +92,7 @@ begin_sound e old new sound is sheet refs b =
       ored = tt;
       head = tt;
     } in
-    quiet_sound e.process old new tn sound moves keeps (λ l. subst (λ (x : Situation). CallFits new e.process x) (sym b.situation) (record {
+    quiet_sound e.process old new tn sound moves f.bears f.stand f.apart keeps (λ l. subst (λ (x : Situation). CallFits new e.process x) (sym b.situation) (record {
       mine = refl;
       is = is;
       sheet = record { cells = rw b.layout sheet.cells; processes = rw b.layout sheet.processes };
@@ -85,6 +100,7 @@ begin_sound e old new sound is sheet refs b =
       since = length old.counted;
       pending = b.pending;
       issued = (let same = ap length b.counted in omega arith);
+      holds_none = λ r by. idle.holds_none r (subst (λ (x : ℕ). IsHeldBy e.process x) (b.memory.cached (place.Mark r)) by);
       knows = subst (λ (x : Stage). Knowing new E e.refs (length old.counted) (known_at (text_parts e.text) (length e.refs) x)) (sym b.first) knows;
       buffer = subst (λ (x : Stage). Holds new E (held_at (text_parts e.text) e.refs x)) (sym b.first) (b.memory.buffer e.process ∙ idle.buffer);
     }))

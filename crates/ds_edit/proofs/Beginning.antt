@@ -1,9 +1,9 @@
 -- What an edit that begins makes of a world, and the references that it has.
-use Rattle.std.proofs.Common.{ℕ, ◌≡◌, ◌≢◌, ◌<◌, ◌≤◌, ◌*◌, List, length, get_or, set, map, refl, ap, sym, ◌∙◌, subst, arith, Some, None, suc, Ok, Err}
+use Rattle.std.proofs.Common.{ℕ, ◌≡◌, ◌≢◌, ◌<◌, ◌≤◌, ◌*◌, List, length, get_or, set, map, refl, ap, sym, ◌∙◌, subst, arith, inl, inr, Some, None, suc, Ok, Err}
 use Rattle.std.specs.Prelude.{All, Contains, Result, IfErr, IsErrAnd}
 use Rattle.std.proofs.lemmas.List.{get_or-set_same, get_or-set_other, get_or-map, get_or_default, length-map, length-set}
 use Rattle.std.proofs.Math.Nat.{mul-le-mul_right}
-use Rattle.std.proofs.lemmas.List.Elements.{All-map, Contains-get_or}
+use Rattle.std.proofs.lemmas.List.Elements.{All-map, All-contains, Contains-get_or}
 use Rattle.ds_formula.specs.declared.cells.Shape.{Shape}
 use Rattle.ds_formula.specs.declared.cells.Cell.{Cell}
 use Rattle.ds_formula.specs.Cells.{IsInside, index_of, count_of}
@@ -13,14 +13,18 @@ use Rattle.ds_layout.specs.declared.layout.Layout.{Layout}
 use Rattle.ds_layout.specs.Places.{cells_of}
 use Rattle.ds_layout.specs.declared.place.TheConstants.{RECORDS}
 use Rattle.ds_state.specs.Edits.{PlainEdit, IsEdit}
-use Rattle.ds_state.specs.World.{edit_of, World}
-use Rattle.ds_state.specs.Calls.{IsSheetOf, HasRefs}
+use Rattle.ds_state.specs.Text.{IsText}
+use Rattle.ds_state.specs.World.{Edit, Issue, edit_of, World}
+use Rattle.ds_state.specs.Dones.{HasAnswered}
+use Rattle.ds_state.proofs.Dones.{still_answered}
+use Rattle.std.proofs.lemmas.Bool.{cases_eq}
+use Rattle.ds_state.specs.Calls.{CallFits, IdleFits, IsSheetOf, HasRefs}
 use Rattle.ds_state.specs.Value.{WorldValue, world_of, IsGood, IsReserved}
 use Rattle.ds_state.specs.declared.refusal.Refusal.{Refusal}
 use Rattle.ds_state.specs.declared.refusal.Refusal.TheVariants as refusal
 use Rattle.ds_state.specs.declared.stage.Stage.TheVariants.{StoreHeader}
 use Rattle.ds_state.specs.declared.situation.Situation.{Situation}
-use Rattle.ds_state.specs.declared.situation.Situation.TheVariants.{Idle, Stopped, Editing}
+use Rattle.ds_state.specs.declared.situation.Situation.TheVariants.{Idle, Stopped, Editing, Working, Recovering, Showing}
 use Rattle.ds_edit.specs.Worlds.{Begins}
 use Rattle.ds_edit.specs.Begun.{next_of, RefersTo, IsAskedFor, IsIdle, Refuses}
 use Rattle.ds_edit.proofs.Answering.{begin_sound}
@@ -52,14 +56,36 @@ module _ (v : WorldValue) (e : PlainEdit) (room : ℕ) (kept : IsReserved v room
     others_pending = λ q ne. get_or-set_other v.pending e.process q (Some (record { edit = edit_of e; since = length v.counted })) None ne;
   }
 
+  low : e.process < v.sheet.layout.processes
+  low = rw sheet.processes is.process
+
+  was_idle : IdleFits (world_of v) e.process e.number
+  was_idle = subst (λ (x : Situation). CallFits (world_of v) e.process x) idle (kept.good.sound.calls e.process low)
+
+  -- the edit does not count, so it is none that was answered
+  issued_open : (f : Edit) (issue : Issue) → Contains v.counted f → (world_of (issued v e)).pending f.process ≡ Some issue → issue.edit ≡ f → (world_of v).pending f.process ≡ Some issue
+  issued_open f issue there at is = elim (cases_eq f.process e.process) [
+    | inl mine ↦ (
+        let now : Some issue ≡ Some (record { edit = edit_of e; since = length v.counted }) = sym at ∙ ap (λ q. (world_of (issued v e)).pending q) mine ∙ issued_begins.pending in
+        let one : issue ≡ record { edit = edit_of e; since = length v.counted } = cc in
+        let same : f ≡ edit_of e = sym is ∙ ap (λ (i : Issue). i.edit) one in
+        let l = All-contains (λ (x : Edit). x.process ≡ e.process → x.number < e.number) v.counted f was_idle.below there mine in
+        let k = ap (λ (x : Edit). x.number) same in
+        absurd (omega (arith, l, k)))
+    | inr other ↦ sym (issued_begins.others_pending f.process other) ∙ at
+  ]
+
+  issued_answered : HasAnswered v.counted (world_of (issued v e)).pending v.done
+  issued_answered = still_answered v.counted v.counted (world_of v).pending (world_of (issued v e)).pending v.done (λ f there. there) issued_open kept.good.answered
+
   pub issued_kept : HasRefs v.sheet.layout.shape e.text e.refs → IsReserved (issued v e) room
   issued_kept refs = record {
     good = record {
       sound = (begin_sound e (world_of v) (world_of (issued v e)) kept.good.sound is sheet refs issued_begins).sound;
       situations = length-set v.situations e.process (Editing e) ∙ kept.good.situations;
       pending = length-set v.pending e.process (Some (record { edit = edit_of e; since = length v.counted })) ∙ kept.good.pending;
-      texts = kept.good.texts;
       reports = kept.good.reports;
+      answered = issued_answered;
     };
     reserved = kept.reserved;
   }
@@ -108,6 +134,9 @@ pub refuses_of : (w : World) (process : ℕ) (text : List ℕ) (s : Situation) (
 refuses_of w process text (Idle m) r at is = absurd (cc)
 refuses_of w process text Stopped r at is = rw at (let same : r ≡ refusal.Stopped = cc in same)
 refuses_of w process text (Editing e) r at is = rw at (let same : r ≡ refusal.Busy = cc in same)
+refuses_of w process text (Working e) r at is = rw at (let same : r ≡ refusal.Busy = cc in same)
+refuses_of w process text (Recovering e) r at is = rw at (let same : r ≡ refusal.Busy = cc in same)
+refuses_of w process text (Showing e) r at is = rw at (let same : r ≡ refusal.Busy = cc in same)
 
 -- the error that is handed on
 pub handed_on : {X : Type 0} (r : Result X Refusal) (given : Refusal) (P : Refusal → Type 0) → IsErrAnd r (λ x. x ≡ given) → P given → IfErr r P
@@ -127,9 +156,9 @@ prepared layout process number cell text refs cells = record {
   stage = StoreHeader;
 }
 
-pub prepared_asked : (layout : Layout) (process number cell place cells : ℕ) (text own refs : List ℕ) → own ≡ text → RefersTo layout.shape text refs → process < layout.processes → number ≤ RECORDS → number ≢ RECORDS
+pub prepared_asked : (layout : Layout) (process number cell place cells : ℕ) (text own refs : List ℕ) → own ≡ text → IsText own → RefersTo layout.shape text refs → process < layout.processes → number ≤ RECORDS → number ≢ RECORDS
     → place ≡ cell → place < cells_of layout → cells ≡ cells_of layout → IsAskedFor layout process cell text number (prepared layout process number place own refs cells)
-prepared_asked layout process number cell place cells text own refs same to low few room at below is = record {
+prepared_asked layout process number cell place cells text own refs same texts to low few room at below is = record {
   asked = rw (same, at) refl;
   is = record {
     process = low;
@@ -137,7 +166,7 @@ prepared_asked layout process number cell place cells text own refs same to low 
     number = omega arith;
     cell = omega arith;
     cells = (let most = layout.shape.within.cells_to_1024 in omega arith);
-    text = rw same to.reads.short;
+    text = texts;
     refs = rw is (refers_below layout.shape text refs to);
     stage = tt;
   };

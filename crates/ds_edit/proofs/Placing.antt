@@ -101,7 +101,7 @@ module _ (e : PlainEdit) (word : ℕ) (old new : World) (sound : IsSound old) wh
       let processes : old.layout.processes ≡ e.processes = fits.sheet.processes in
       let when : IsWhen new fits.since (length new.counted) = record { late = (let i = fits.issued in let l = ap length counted in omega arith); there = omega arith } in
       let all : of_cell_when new e.cell (length new.counted) ≡ es = when_now new e.cell ∙ ap (λ xs. of_cell e.cell xs) counted in
-      loads e LoadHead word old new sound at fits t plain (rw seen head_small) (λ head o. absurd o) m
+      loads e LoadHead word old new sound at fits t plain (rw seen head_small) (λ head o. absurd o) (λ x k o. absurd o) m
       (λ known. elim (last_cases es) [
         | inl none ↦ (
             let z : word ≡ 0 = seen ∙ no_head es none in
@@ -143,7 +143,7 @@ module _ (e : PlainEdit) (word : ℕ) (old new : World) (sound : IsSound old) wh
       let noted : IsNoted old E fits.since head = fits.knows.head in
       let counted : new.counted ≡ old.counted = (turn e (FlushNoted head) word old new t refl).counted in
       let from : IsHeadFrom old e.cell (head_word head) (old.memory.cached (place.Head e.cell)) = head_now old sound E (head_word head) noted.by (noted_by old E fits.since head noted) in
-      flushes e (FlushNoted head) word old new sound at fits t (record { goes_on = refl; counts = refl; pends = λ i. refl }) (rw t.memory.0 (omega arith)) (λ h o. absurd o) (place.Head e.cell) m fits.buffer
+      flushes e (FlushNoted head) word old new sound at fits t (record { goes_on = refl; counts = refl; pends = λ i. refl }) (rw t.memory.0 (omega arith)) (λ h o. absurd o) (λ x k o. absurd o) (place.Head e.cell) m fits.buffer
       (λ known. known)
       (λ alone. record {
         value = old.memory.cached (place.Head e.cell);
@@ -158,7 +158,7 @@ module _ (e : PlainEdit) (word : ℕ) (old new : World) (sound : IsSound old) wh
   pub step_back_noted : (head : Head) → old.situation e.process ≡ Editing (on e (BackNoted head)) → (fits : EditFits old e.process (on e (BackNoted head))) → StepsAt e (BackNoted head) word old new → Keeps e.process old new
   step_back_noted head at fits t =
       let one : HasOne old e.process (place.Head e.cell) (IsHeadFrom old e.cell (head_word head)) = fits.buffer in
-      backs e (BackNoted head) word old new sound at fits t (record { goes_on = refl; counts = refl; pends = λ i. refl }) (rw t.memory.0 (omega arith)) (λ h o. absurd o) (place.Head e.cell) one.value one.alone (one.is.by, one.is.head) (λ o. absurd o) t.memory.1
+      backs e (BackNoted head) word old new sound at fits t (record { goes_on = refl; counts = refl; pends = λ i. refl }) (rw t.memory.0 (omega arith)) (λ h o. absurd o) (λ x k o. absurd o) (place.Head e.cell) one.value one.alone (one.is.by, one.is.head) (λ o. absurd o) t.memory.1
       (λ known now. knows_head new e fits.since (head_noted head) (head_back head) known (known.head, (let enough = one.is.enough in omega arith)))
       (λ empty. empty)
 
@@ -179,11 +179,12 @@ module _ (e : PlainEdit) (word : ℕ) (old new : World) (sound : IsSound old) wh
         };
       } in
       let there : Place = done_place head.process head.number in
-      ors e (OrDone head) word old new sound at fits t (record { goes_on = refl; counts = refl; pends = λ i. refl }) (rw t.memory.0 (omega arith)) (λ h o. absurd o) there (bit_of head.number)
+      ors e (OrDone head) word old new sound at fits t (record { goes_on = refl; counts = refl; pends = λ i. refl }) (rw t.memory.0 (omega arith)) (λ h o. absurd o) (λ x k o. absurd o) there (bit_of head.number)
       (record_no_done e.process e.number head.process (head.number / 64)) (λ same. cc)
       (IsSubset-or_left (old.memory.cached there) (bit_of head.number), IsSubset-same (old.memory.persisted there))
-      (λ moves. done_or_fits new head.process head.number (old.memory.cached there) (old.memory.persisted there) (kept_stable e.process there old new moves head.process head.number kept)
-      (word_bears e.process there old new moves there (old.memory.cached there) (old.memory.persisted there) (λ cell is. cc) (sound.words there)))
+      (λ moves. done_or_fits new head.process head.number (old.memory.cached there) (old.memory.persisted there) (kept_stable e.process there old new moves (turn e _ word old new t refl).counted head.process head.number kept)
+      (word_bears e.process there old new moves (turn e _ word old new t refl).counted there (old.memory.cached there) (old.memory.persisted there) (λ cell is. cc) (λ cell is a. elim is [ inl x ↦ cc | inr x ↦ cc ]) (sound.words there)))
+      (λ c is. cc) (λ c is k. cc) (λ c is k. cc)
       t.memory.1
       (λ known now. knows_head new e fits.since (head_back head) (bit_set head) known (known.head.0, known.head.1, rw now (HasBit-or_bit (old.memory.cached there) head.number)))
       (λ same. same ∙ fits.buffer)
@@ -192,7 +193,7 @@ module _ (e : PlainEdit) (word : ℕ) (old new : World) (sound : IsSound old) wh
   step_flush_done head at fits t =
       let there : Place = done_place head.process head.number in
       let m : FlushesAt e.process there (class_of there) old.memory new.memory = t.memory.1 in
-      flushes e (FlushDone head) word old new sound at fits t (record { goes_on = refl; counts = refl; pends = λ i. refl }) (rw t.memory.0 (omega arith)) (λ h o. absurd o) there m fits.buffer
+      flushes e (FlushDone head) word old new sound at fits t (record { goes_on = refl; counts = refl; pends = λ i. refl }) (rw t.memory.0 (omega arith)) (λ h o. absurd o) (λ x k o. absurd o) there m fits.buffer
       (λ known. known)
       (λ alone. record {
         value = old.memory.cached there;
@@ -204,7 +205,7 @@ module _ (e : PlainEdit) (word : ℕ) (old new : World) (sound : IsSound old) wh
   step_back_done head at fits t =
       let there : Place = done_place head.process head.number in
       let one : HasOne old e.process there (IsBits old there head.number) = fits.buffer in
-      backs e (BackDone head) word old new sound at fits t (record { goes_on = refl; counts = refl; pends = λ i. refl }) (rw t.memory.0 (omega arith)) (λ h o. absurd o) there one.value one.alone one.is.subset (λ o. absurd o) t.memory.1
+      backs e (BackDone head) word old new sound at fits t (record { goes_on = refl; counts = refl; pends = λ i. refl }) (rw t.memory.0 (omega arith)) (λ h o. absurd o) (λ x k o. absurd o) there one.value one.alone one.is.subset (λ o. absurd o) t.memory.1
       (λ known now. knows_head new e fits.since (bit_set head) (bit_back (head_word head)) known (
       let noted : IsNoted new E fits.since head = known.head.0 in
       let has : HasBit (new.memory.persisted there) head.number = rw now (HasBit-subset one.value (bit_or (old.memory.persisted there) one.value) head.number (IsSubset-or_right (old.memory.persisted there) one.value) one.is.has) in
@@ -228,7 +229,7 @@ module _ (e : PlainEdit) (word : ℕ) (old new : World) (sound : IsSound old) wh
       let plain : IsPlainStep e (Swap noted) word = record { goes_on = refl; counts = rw f refl; pends = λ i. refl } in
       let next : next_at e (Swap noted) word ≡ StoreOutcome (outcome.Overtaken noted word) = rw f refl in
       let counted : new.counted ≡ old.counted = (turn e (Swap noted) word old new t plain.counts).counted in
-      loads e (Swap noted) word old new sound at fits t plain (rw (seen ∙ cached_is) head_small) (λ head o. absurd o) m
+      loads e (Swap noted) word old new sound at fits t plain (rw (seen ∙ cached_is) head_small) (λ head o. absurd o) (λ x k o. absurd o) m
       (λ known. subst (λ (x : Stage). Known_on new e fits.since x) (sym next) (
       let h : IsHelped new E fits.since noted = known.head in
       let now : word ≡ head_after_all (of_cell e.cell new.counted) = seen ∙ cached_is ∙ ap (λ xs. head_after_all (of_cell e.cell xs)) (sym counted) in

@@ -13,7 +13,8 @@ use Rattle.ds_layout.specs.Sheet.{CanPerform, HasBuffer, HasEntry}
 use Rattle.ds_state.specs.Edits.{PlainEdit, text_parts}
 use Rattle.ds_state.specs.World.{edit_of, World, record_place, index_place, done_place}
 use Rattle.ds_state.specs.Known.{word_of, pending, ended}
-use Rattle.ds_state.specs.Calls.{EditFits, CallFits, entry, record_entry}
+use Rattle.ds_state.specs.Owing.{entry}
+use Rattle.ds_state.specs.Calls.{EditFits, CallFits, record_entry}
 use Rattle.ds_state.specs.Sound.{IsSound}
 use Rattle.ds_state.specs.declared.stage.Stage.{Stage}
 use Rattle.ds_state.specs.declared.stage.Stage.TheVariants.{StoreHeader, StoreText, FlushHeader, FlushText, BackRecord, StorePending, FlushPending, BackPending, OrIndex, FlushIndex, BackIndex, LoadHead, FlushNoted, BackNoted, OrDone, FlushDone, BackDone, Swap, FlushOwn, BackOwn, OrMark, FlushMark, BackMark, StoreOutcome, FlushOutcome, BackOutcome, Answer}
@@ -41,11 +42,11 @@ module _ (e : PlainEdit) (w : World) (low : e.process < w.layout.processes) wher
   buffered (FlushText part) f =
       let l : length (w.memory.buffer e.process) ≡ suc part = ap length f.buffer ∙ length-map-range_with_len (record_entry (edit_of e)) 0 (suc part) in
       let p : part < text_parts e.text = f.is.stage in
-      let t = f.is.text in
+      let t = f.is.text.short in
       (low, omega arith)
   buffered (BackRecord left) f =
       let k : ℕ = text_parts e.text - left in
-      let t = f.is.text in (
+      let t = f.is.text.short in (
         low,
         record {
           entry = record_entry (edit_of e) k;

@@ -1,31 +1,39 @@
 -- The steps by which an edit writes its record.
-use Rattle.std.proofs.Common.{ℕ, ◌≡◌, ◌≢◌, ◌<◌, ◌≤◌, ◌+◌, ◌-◌, ◌^◌, ◌==◌, nat_lt, [], ◌∷◌, ◌++◌, refl, ap, sym, ◌∙◌, subst, arith, inl, inr, zero, suc, map}
+use Rattle.std.proofs.Common.{List, ℕ, ◌≡◌, ◌≢◌, ◌<◌, ◌≤◌, ◌+◌, ◌-◌, ◌^◌, ◌==◌, nat_lt, [], ◌∷◌, ◌++◌, refl, ap, sym, ◌∙◌, subst, arith, inl, inr, zero, suc, map}
 use Rattle.std.specs.List.{range_with_len}
 use Rattle.std.proofs.lemmas.Bool.{cases_eq, ltb-false, eqb-true, eqb-false}
 use Rattle.std.proofs.lemmas.List.Elements.{All-contains}
 use Rattle.std.proofs.lemmas.List.FromFn.{map-range_with_len_more}
-use Rattle.ds_words.specs.Memory.{StoresAt, FlushesAt, WritesBack, newer}
+use Rattle.ds_words.specs.Memory.{Memory, StoresAt, FlushesAt, WritesBack, newer}
 use Rattle.ds_layout.specs.Places.{class_of}
 use Rattle.ds_layout.specs.declared.place.Place.{Place}
-use Rattle.ds_layout.specs.declared.place.Place.TheVariants.{Version, Head, Announce}
+use Rattle.ds_layout.specs.declared.place.Place.TheVariants.{Version, Head, Mark, Announce}
 use Rattle.ds_state.specs.Edits.{PlainEdit, text_parts}
 use Rattle.ds_state.specs.World.{Edit, edit_of, World, record_place, record_word}
 use Rattle.ds_state.specs.Known.{writing, outside, last, AreBelow, Knowing}
-use Rattle.ds_state.specs.Calls.{record_words, record_entry, entry, Holds, EditFits, OwesAt}
+use Rattle.ds_state.specs.Calls.{record_words, record_entry, Holds, EditFits}
+use Rattle.std.specs.Prelude.{Contains}
+use Rattle.ds_words.specs.declared.access.Entry.{Entry}
+use Rattle.ds_state.specs.Owing.{entry, HoldsNone, IsHeldBy, SplitsAt, EditOwes}
+use Rattle.ds_state.proofs.Buffers.{buffered}
+use Rattle.ds_state.proofs.Bearing.{Mine, MyMarks, no_new_marks, stored_marks, text_same}
+use Rattle.ds_state.proofs.EditSteps.{edit_mine}
+use Rattle.ds_state.proofs.EditFrame.{Framed, edit_keeps, edit_framed, flush_any}
 use Rattle.ds_state.specs.Words.{WordFits}
 use Rattle.ds_state.specs.Rely.{Grows, Keeps}
 use Rattle.ds_state.specs.Sound.{IsSound}
 use Rattle.ds_state.specs.declared.stage.Stage.{Stage}
 use Rattle.ds_state.specs.declared.stage.Stage.TheVariants.{StoreText, FlushHeader, FlushText, BackRecord, StorePending}
 use Rattle.ds_state.specs.declared.situation.Situation.TheVariants.{Editing}
-use Rattle.ds_state.proofs.Stable.{standing_stable, announced_stable, indexed_stable, knowing_stable, record_owned, record_no_version}
+use Rattle.ds_state.proofs.Stable.{standing_stable, announced_stable, indexed_stable, knowing_stable, record_no_version}
+use Rattle.ds_state.proofs.Lasting.{record_owned}
 use Rattle.ds_state.proofs.Frames.{MovesWord, Moves, KeepsOwing, grows_own, moves_sound}
 use Rattle.ds_state.proofs.Sides.{IsBetween}
-use Rattle.ds_state.proofs.Accesses.{Turn, store_moves, flush_moves, quiet_sound, Backs, back_grows, back_sound}
+use Rattle.ds_state.proofs.Accesses.{Turn, store_moves, flush_moves, quiet_sound, Backs, back_moves, back_grows, back_sound}
 use Rattle.ds_edit.specs.Steps.{next_at, store_from, flush_from, back_from}
 use Rattle.ds_edit.specs.Worlds.{StepsAt}
 use Rattle.ds_edit.proofs.Stays.{branches}
-use Rattle.ds_edit.proofs.Turns.{on, Known_on, Holds_on, IsPlainStep, turn, owing, fits_next}
+use Rattle.ds_edit.proofs.Turns.{on, Known_on, Holds_on, IsPlainStep, turn, goes, stays_open, fits_next}
 
 record_apart : (p n j k : ℕ) → j ≢ k → record_place p n j ≢ record_place p n k
 record_apart p n zero zero ne = absurd (ne refl)
@@ -37,9 +45,13 @@ announce_apart : (p n k : ℕ) → Announce p ≢ record_place p n k
 announce_apart p n zero = λ same. cc
 announce_apart p n (suc k) = λ same. cc
 
-owned_moves : (p n k c v c' v' : ℕ) → MovesWord p (record_place p n k) c v c' v'
-owned_moves p n zero c v c' v' = inl refl
-owned_moves p n (suc k) c v c' v' = inl refl
+owned_moves : (m : Memory Place) (p n k c v c' v' : ℕ) → MovesWord m p (record_place p n k) c v c' v'
+owned_moves m p n zero c v c' v' = inl refl
+owned_moves m p n (suc k) c v c' v' = inl refl
+
+no_mark : (p n k cell : ℕ) → record_place p n k ≢ Mark cell
+no_mark p n zero cell = λ same. cc
+no_mark p n (suc k) cell = λ same. cc
 
 no_head : (p n k cell : ℕ) → Head cell ≢ record_place p n k
 no_head p n zero cell = λ same. cc
@@ -56,12 +68,28 @@ owned_class p n (suc k) v value = refl
 
 module _ (e : PlainEdit) (s : Stage) (word : ℕ) (old new : World) (sound : IsSound old)
     (at : old.situation e.process ≡ Editing (on e s)) (fits : EditFits old e.process (on e s))
-    (t : StepsAt e s word old new) (plain : IsPlainStep e s word) (none : word ≡ 0) (owes : (head : ℕ) → OwesAt s head → ⊥) where
+    (t : StepsAt e s word old new) (plain : IsPlainStep e s word) (none : word ≡ 0) (owes : (head : ℕ) → SplitsAt s head → ⊥) (calm : (x : ℕ) → EditOwes old.memory e.process e.cell s x → ⊥) where
+  went : new.situation e.process ≡ Editing (on e (next_at e s word))
+  went = goes e s word old new t plain
+
+  tk : Turn e.process old new
+  tk = turn e s word old new t plain.counts
+
+  module _ (place : Place) (moves : Moves e.process place old new) where
+    keeps_at : (cell : ℕ) → KeepsOwing old new cell
+    keeps_at = edit_keeps e.process e s (next_at e s word) place old new moves tk.counted at went sound (buffered old sound) (stays_open e s word old new t plain) (λ head o. absurd (owes head o))
+
+    my : ((c : ℕ) → new.memory.cached (Head c) ≡ old.memory.cached (Head c)) → ((c : ℕ) → place ≡ Head c → ⊥) → Mine e.process place old new moves
+    my cached away = edit_mine e.process e s (next_at e s word) place old new moves at went fits.holds_none (λ x k o. absurd (calm x o)) cached (λ c is. absurd (away c is))
+
+    framed : Mine e.process place old new moves → MyMarks e.process place old new moves → Framed old new
+    framed m marks = edit_framed e.process e s (next_at e s word) place old new moves tk.counted at went sound (buffered old sound) m marks
+
+  unheld : ((r : ℕ) → new.memory.cached (Mark r) ≡ old.memory.cached (Mark r)) → HoldsNone new e.process
+  unheld same r by = fits.holds_none r (subst (λ (x : ℕ). IsHeldBy e.process x) (same r) by)
+
   small : word < 2 ^ 64
   small = rw none (omega arith)
-
-  keeps : (cell : ℕ) → KeepsOwing old new cell
-  keeps = owing e s word old new t at (λ head o. absurd (owes head o))
 
   -- the word with this number of the record is stored
   pub stores : (k k' : ℕ) → k' ≡ k → k ≤ text_parts e.text → next_at e s word ≡ store_from e k'
@@ -71,14 +99,14 @@ module _ (e : PlainEdit) (s : Stage) (word : ℕ) (old new : World) (sound : IsS
   stores k k' same most next knows holds m =
       let place : Place = record_place e.process e.number k in
       let tn : Turn e.process old new = turn e s word old new t plain.counts in
-      let moves : Moves e.process place old new = store_moves e.process old new tn place (record_word (edit_of e) k) (owned_moves e.process e.number k _ _ _ _) m in
-      let g : Grows e.process place old new = grows_own e.process place old new moves in
+      let moves : Moves e.process place old new = store_moves e.process old new tn place (record_word (edit_of e) k) (owned_moves old.memory e.process e.number k _ _ _ _) m in
+      let g : Grows e.process place old new = grows_own e.process place old new moves tn.counted in
       let after : Knowing new (edit_of e) e.refs fits.since (writing (suc k) 0) = record {
         standing = standing_stable place old new (edit_of e) g outside knows.standing;
         recorded = record {
           cached = λ j l. elim (cases_eq j k) [
             | inl is ↦ rw is m.there
-            | inr ne ↦ g.owned_cached (record_place e.process e.number j) (record_owned e.process e.number j) (record_apart e.process e.number j k ne) ∙ knows.recorded.cached j (omega arith)
+            | inr ne ↦ g.owned_cached (record_place e.process e.number j) (record_owned old.memory e.process e.number j) (record_apart e.process e.number j k ne) ∙ knows.recorded.cached j (omega arith)
           ];
           persisted = λ j l. absurd (omega arith);
           fewer = omega arith;
@@ -94,9 +122,11 @@ module _ (e : PlainEdit) (s : Stage) (word : ℕ) (old new : World) (sound : IsS
       (λ b. subst (λ (x : ℕ). Knowing new (edit_of e) e.refs fits.since (writing (suc x) 0)) (let l = ltb-false k' (text_parts e.text) b in omega arith) after)) in
       let held : Holds_on new e (next_at e s word) = subst (λ (x : Stage). Holds_on new e x) (sym next)
       (branches (λ x. Holds_on new e x) (nat_lt k' (text_parts e.text)) (StoreText k') FlushHeader (λ b. m.buffer e.process ∙ holds) (λ b. m.buffer e.process ∙ holds)) in
-      moves_sound e.process place old new moves sound (λ cell ne. keeps cell)
+      let f : Framed old new = framed place moves (my place moves (λ c. m.elsewhere (Head c) (no_head e.process e.number k c)) (λ c x. no_head e.process e.number k c (sym x)))
+      (stored_marks e.process place old new moves (λ c x. absurd (no_mark e.process e.number k c x)) m.persisted m.buffer) in
+      moves_sound e.process place old new moves tn.counted sound f.bears f.stand f.apart (λ cell ne. keeps_at place moves cell)
       (unrecorded new e.process e.number k _ _ after.standing)
-      (λ l. fits_next e s word old new t fits plain small known held)
+      (λ l. fits_next e s word old new t fits plain small (unheld (λ r. m.elsewhere (Mark r) (λ x. no_mark e.process e.number k r (sym x)))) known held)
 
   -- it is flushed
   pub flushes : (k k' : ℕ) → k' ≡ k → k ≤ text_parts e.text → next_at e s word ≡ flush_from e k'
@@ -108,7 +138,7 @@ module _ (e : PlainEdit) (s : Stage) (word : ℕ) (old new : World) (sound : IsS
       let E : Edit = edit_of e in
       let tn : Turn e.process old new = turn e s word old new t plain.counts in
       let moves : Moves e.process Version old new = flush_moves e.process old new tn place (class_of place) m in
-      let g : Grows e.process Version old new = grows_own e.process Version old new moves in
+      let g : Grows e.process Version old new = grows_own e.process Version old new moves tn.counted in
       let after : Knowing new E e.refs fits.since (writing (suc (text_parts e.text)) 0) =
       knowing_stable Version old new E g (record_no_version e.process e.number) (λ same. cc) e.refs fits.since (writing (suc (text_parts e.text)) 0) knows in
       let more : k + 1 ≡ suc k = omega arith in
@@ -128,7 +158,9 @@ module _ (e : PlainEdit) (s : Stage) (word : ℕ) (old new : World) (sound : IsS
       let all : k ≡ text_parts e.text = omega arith in
       subst (λ (x : ℕ). Holds new E (record_words x (suc (text_parts e.text)))) first
       (subst (λ (x : ℕ). Holds new E (record_words 0 (suc x))) all buffer))) in
-      quiet_sound e.process old new tn sound moves keeps (λ l. fits_next e s word old new t fits plain small known held)
+      let mine : Mine e.process Version old new moves = my Version moves (λ c. m.cached (Head c)) (λ c x. cc) in
+      let f : Framed old new = framed Version moves mine (flush_any e.process old new moves sound (buffered old sound) mine (text_same old new moves.layout tn.counted) place m) in
+      quiet_sound e.process old new tn sound moves f.bears f.stand f.apart (keeps_at Version moves) (λ l. fits_next e s word old new t fits plain small (unheld (λ r. m.cached (Mark r))) known held)
 
   -- it is written back, with so many behind it
   pub backs : (left k : ℕ) → left ≤ text_parts e.text → k ≡ text_parts e.text - left → next_at e s word ≡ back_from left
@@ -144,8 +176,8 @@ module _ (e : PlainEdit) (s : Stage) (word : ℕ) (old new : World) (sound : IsS
       let there : old.memory.cached place ≡ value = knows.recorded.cached k (omega arith) in
       let now : new.memory.persisted place ≡ value = m.there ∙ owned_class e.process e.number k _ _ in
       let b : Backs e.process old new tn place value = record { cached = m.cached; there = now; elsewhere = m.elsewhere; buffers = m.others } in
-      let between : IsBetween place (old.memory.cached place) (old.memory.persisted place) value = between_own k _ _ _ (sym there) in
-      let g : Grows e.process Version old new = back_grows e.process old new tn sound place value b between (λ o. (m.cached place, inr (now ∙ sym there))) in
+      let between : IsBetween old.layout place (old.memory.cached place) (old.memory.persisted place) value = between_own k _ _ _ (sym there) in
+      let g : Grows e.process Version old new = back_grows e.process old new tn sound place value b between (λ o. (m.cached place, inr (now ∙ sym there))) (λ c x. absurd (no_mark e.process e.number k c (sym x))) in
       let kept : Knowing new E e.refs fits.since (writing (suc parts) k) =
       knowing_stable Version old new E g (record_no_version e.process e.number) (λ same. cc) e.refs fits.since (writing (suc parts) k) knows in
       let after : Knowing new E e.refs fits.since (writing (suc parts) (suc k)) = record {
@@ -170,8 +202,21 @@ module _ (e : PlainEdit) (s : Stage) (word : ℕ) (old new : World) (sound : IsS
       (λ z. let l = eqb-false left 0 z in
       subst (λ (x : ℕ). Holds new E (record_words x (suc (left - 1)))) (omega arith)
       (let again : left ≡ suc (left - 1) = omega arith in m.mine ∙ ap (λ (n : ℕ). map (record_entry E) (range_with_len (k + 1) n)) again))) in
-      back_sound e.process old new tn sound place value b between keeps (λ l. fits_next e s word old new t fits plain small known held)
+      let moves : Moves e.process place old new = back_moves e.process old new tn sound place value b between in
+      let f : Framed old new = framed place moves (my place moves (λ c. m.cached (Head c)) (λ c x. no_head e.process e.number k c (sym x)))
+      (no_new_marks e.process place old new moves (λ c x. no_mark e.process e.number k c x) was_there) in
+      back_sound e.process old new tn sound place value b between f.bears f.stand f.apart (keeps_at place moves) (λ l. fits_next e s word old new t fits plain small (unheld (λ r. m.cached (Mark r))) known held)
     where
-      between_own : (k c v value : ℕ) → value ≡ c → IsBetween (record_place e.process e.number k) c v value
+      between_own : (k c v value : ℕ) → value ≡ c → IsBetween old.layout (record_place e.process e.number k) c v value
       between_own zero c v value is = inr is
       between_own (suc k) c v value is = inr is
+
+      was_there : (c x q : ℕ) → Contains (new.memory.buffer q) (entry (Mark c) x) → Contains (old.memory.buffer q) (entry (Mark c) x)
+      was_there c x q h = elim (cases_eq q e.process) [
+        | inr ne ↦ subst (λ (xs : List (Entry Place)). Contains xs (entry (Mark c) x)) (m.others q ne) h
+        | inl eq ↦ subst (λ (r : ℕ). Contains (old.memory.buffer r) (entry (Mark c) x)) (sym eq)
+            (subst (λ (xs : List (Entry Place)). Contains xs (entry (Mark c) x)) (sym m.oldest) (behind _ _ _ (subst (λ (xs : List (Entry Place)). Contains xs (entry (Mark c) x)) (ap new.memory.buffer eq ∙ m.mine) h)))
+      ]
+        where
+          behind : (y z : Entry Place) (ys : List (Entry Place)) → Contains ys z → Contains (y ∷ ys) z
+          behind y z ys (i, l, is) = (suc i, omega arith, is)

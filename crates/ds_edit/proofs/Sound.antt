@@ -12,7 +12,8 @@ use Rattle.ds_layout.proofs.OrBits.{HasBit-or_bit, HasBit-subset, IsSubset-same,
 use Rattle.ds_state.specs.Edits.{PlainEdit, text_parts}
 use Rattle.ds_state.specs.World.{Edit, edit_of, World, record_place, index_place}
 use Rattle.ds_state.specs.Known.{ended, pending, word_of, known_at}
-use Rattle.ds_state.specs.Calls.{entry, record_entry, HasOne, IsBits, EditFits, CallFits}
+use Rattle.ds_state.specs.Owing.{entry}
+use Rattle.ds_state.specs.Calls.{record_entry, HasOne, IsBits, EditFits, CallFits}
 use Rattle.ds_state.specs.Rely.{Keeps}
 use Rattle.ds_state.specs.Sound.{IsSound}
 use Rattle.ds_state.specs.declared.stage.Outcome.{Outcome}
@@ -23,10 +24,10 @@ use Rattle.ds_state.specs.declared.situation.Situation.TheVariants.{Editing}
 use Rattle.ds_state.proofs.Frames.{word_bears}
 use Rattle.ds_state.proofs.Sides.{row_or_fits}
 use Rattle.ds_edit.specs.Worlds.{StepsAt, Steps}
-use Rattle.ds_edit.proofs.Turns.{on, back_first}
+use Rattle.ds_edit.proofs.Turns.{turn, on, back_first}
 use Rattle.ds_edit.proofs.Sorts.{flushes, backs, ors}
 use Rattle.ds_edit.proofs.Recording as recording
-use Rattle.ds_edit.proofs.Announcing.{announces, on_both, pending_tells, ended_tells, index_next, index_holds}
+use Rattle.ds_edit.proofs.Announcing.{last_less, ended_more, announces, on_both, pending_tells, ended_tells, index_next, index_holds}
 use Rattle.ds_edit.proofs.Placing.{step_load_head, step_flush_noted, step_back_noted, step_or_done, step_flush_done, step_back_done, step_swap_lost}
 use Rattle.ds_edit.proofs.Taking.{step_swap_won, step_flush_own, step_back_own, step_or_mark, step_flush_mark, step_back_mark}
 use Rattle.ds_edit.proofs.Answering.{step_answer}
@@ -45,49 +46,49 @@ module _ (e : PlainEdit) (word : ℕ) (old new : World) (sound : IsSound old) wh
   -- the record
   store_header : AtStage StoreHeader
   store_header at fits t =
-      recording.stores e StoreHeader word old new sound at fits t (record { goes_on = refl; counts = refl; pends = λ i. refl }) t.memory.0 (λ h o. o)
+      recording.stores e StoreHeader word old new sound at fits t (record { goes_on = refl; counts = refl; pends = λ i. refl }) t.memory.0 (λ h o. o) (λ x o. o)
       0 0 refl (omega arith) refl fits.knows fits.buffer t.memory.1
 
   store_text : (part : ℕ) → AtStage (StoreText part)
   store_text part at fits t =
       let l = fits.is.stage in
-      recording.stores e (StoreText part) word old new sound at fits t (record { goes_on = refl; counts = refl; pends = λ i. refl }) t.memory.0 (λ h o. o)
+      recording.stores e (StoreText part) word old new sound at fits t (record { goes_on = refl; counts = refl; pends = λ i. refl }) t.memory.0 (λ h o. o) (λ x o. o)
       (suc part) (part + 1) (omega arith) (omega arith) refl fits.knows fits.buffer t.memory.1
 
   flush_header : AtStage FlushHeader
   flush_header at fits t =
-      recording.flushes e FlushHeader word old new sound at fits t (record { goes_on = refl; counts = refl; pends = λ i. refl }) t.memory.0 (λ h o. o)
+      recording.flushes e FlushHeader word old new sound at fits t (record { goes_on = refl; counts = refl; pends = λ i. refl }) t.memory.0 (λ h o. o) (λ x o. o)
       0 0 refl (omega arith) refl fits.knows fits.buffer t.memory.1
 
   flush_text : (part : ℕ) → AtStage (FlushText part)
   flush_text part at fits t =
       let l = fits.is.stage in
-      recording.flushes e (FlushText part) word old new sound at fits t (record { goes_on = refl; counts = refl; pends = λ i. refl }) t.memory.0 (λ h o. o)
+      recording.flushes e (FlushText part) word old new sound at fits t (record { goes_on = refl; counts = refl; pends = λ i. refl }) t.memory.0 (λ h o. o) (λ x o. o)
       (suc part) (part + 1) (omega arith) (omega arith) refl fits.knows fits.buffer t.memory.1
 
   back_record : (left : ℕ) → AtStage (BackRecord left)
   back_record left at fits t =
       let k : ℕ = text_parts e.text - left in
-      recording.backs e (BackRecord left) word old new sound at fits t (record { goes_on = refl; counts = refl; pends = λ i. refl }) t.memory.0 (λ h o. o)
+      recording.backs e (BackRecord left) word old new sound at fits t (record { goes_on = refl; counts = refl; pends = λ i. refl }) t.memory.0 (λ h o. o) (λ x o. o)
       left k fits.is.stage refl refl fits.knows fits.buffer
       (back_first (record_entry E k) (map (record_entry E) (range_with_len (k + 1) left)) fits.buffer t.memory.1)
 
   -- the announcement
   store_pending : AtStage StorePending
   store_pending at fits t =
-      announces e StorePending word old new sound at fits t (record { goes_on = refl; counts = refl; pends = λ i. refl }) (rw t.memory.0 (omega arith)) (λ h o. o)
+      announces e StorePending word old new sound at fits t (record { goes_on = refl; counts = refl; pends = λ i. refl }) (rw t.memory.0 (omega arith)) (λ h o. o) (λ x o. o)
       (known_at (text_parts e.text) (length e.refs) StorePending) (word_of new E pending) pending fits.knows refl (λ known. known) refl
-      (λ stands n is. pending_tells new e.process e.number n is) t.memory.1 (λ same. same ∙ fits.buffer)
+      (λ stands n is. pending_tells new e.process e.number n is) (last_less old e fits.knows.announced.cached) t.memory.1 (λ same. same ∙ fits.buffer)
 
   flush_pending : AtStage FlushPending
   flush_pending at fits t =
-      flushes e FlushPending word old new sound at fits t (record { goes_on = refl; counts = refl; pends = λ i. refl }) (rw t.memory.0 (omega arith)) (λ h o. absurd o)
+      flushes e FlushPending word old new sound at fits t (record { goes_on = refl; counts = refl; pends = λ i. refl }) (rw t.memory.0 (omega arith)) (λ h o. absurd o) (λ x k o. absurd o)
       (place.Announce e.process) t.memory.1 fits.buffer (λ known. known)
       (λ alone. alone ∙ ap (λ (v : ℕ). entry (place.Announce e.process) v ∷ []) fits.knows.announced.cached)
 
   back_pending : AtStage BackPending
   back_pending at fits t =
-      backs e BackPending word old new sound at fits t (record { goes_on = refl; counts = refl; pends = λ i. refl }) (rw t.memory.0 (omega arith)) (λ h o. absurd o)
+      backs e BackPending word old new sound at fits t (record { goes_on = refl; counts = refl; pends = λ i. refl }) (rw t.memory.0 (omega arith)) (λ h o. absurd o) (λ x k o. absurd o)
       (place.Announce e.process) (word_of old E pending) fits.buffer (sym fits.knows.announced.cached) (λ o. sym fits.knows.announced.cached) t.memory.1
       (λ known now. index_next new e fits.since 0 (omega arith) (record {
         standing = known.standing;
@@ -103,11 +104,12 @@ module _ (e : PlainEdit) (word : ℕ) (old new : World) (sound : IsSound old) wh
   or_index : (i : ℕ) → AtStage (OrIndex i)
   or_index i at fits t =
       let there : Place = index_place (slice_index_or e.refs i 0) e.cell in
-      ors e (OrIndex i) word old new sound at fits t (record { goes_on = refl; counts = refl; pends = λ i. refl }) (rw t.memory.0 (omega arith)) (λ h o. absurd o)
+      ors e (OrIndex i) word old new sound at fits t (record { goes_on = refl; counts = refl; pends = λ i. refl }) (rw t.memory.0 (omega arith)) (λ h o. absurd o) (λ x k o. absurd o)
       there (bit_of e.cell) (record_no_row e.process e.number (slice_index_or e.refs i 0) (e.cell / 64)) (λ same. cc)
       (IsSubset-or_left (old.memory.cached there) (bit_of e.cell), IsSubset-same (old.memory.persisted there))
       (λ moves. row_or_fits new (slice_index_or e.refs i 0) (e.cell / 64) (old.memory.cached there) (old.memory.persisted there) (bit_of e.cell)
-      (word_bears e.process there old new moves there (old.memory.cached there) (old.memory.persisted there) (λ cell is. cc) (sound.words there)))
+      (word_bears e.process there old new moves (turn e _ word old new t refl).counted there (old.memory.cached there) (old.memory.persisted there) (λ cell is. cc) (λ cell is a. elim is [ inl x ↦ cc | inr x ↦ cc ]) (sound.words there)))
+      (λ c is. cc) (λ c is k. cc) (λ c is k. cc)
       t.memory.1
       (λ known now. record {
         standing = known.standing;
@@ -123,7 +125,7 @@ module _ (e : PlainEdit) (word : ℕ) (old new : World) (sound : IsSound old) wh
   flush_index i at fits t =
       let there : Place = index_place (slice_index_or e.refs i 0) e.cell in
       let m : FlushesAt e.process there (class_of there) old.memory new.memory = t.memory.1 in
-      flushes e (FlushIndex i) word old new sound at fits t (record { goes_on = refl; counts = refl; pends = λ i. refl }) (rw t.memory.0 (omega arith)) (λ h o. absurd o)
+      flushes e (FlushIndex i) word old new sound at fits t (record { goes_on = refl; counts = refl; pends = λ i. refl }) (rw t.memory.0 (omega arith)) (λ h o. absurd o) (λ x k o. absurd o)
       there m fits.buffer (λ known. known)
       (λ alone. record {
         value = old.memory.cached there;
@@ -135,7 +137,7 @@ module _ (e : PlainEdit) (word : ℕ) (old new : World) (sound : IsSound old) wh
   back_index i at fits t =
       let there : Place = index_place (slice_index_or e.refs i 0) e.cell in
       let one : HasOne old e.process there (IsBits old there e.cell) = fits.buffer in
-      backs e (BackIndex i) word old new sound at fits t (record { goes_on = refl; counts = refl; pends = λ i. refl }) (rw t.memory.0 (omega arith)) (λ h o. absurd o)
+      backs e (BackIndex i) word old new sound at fits t (record { goes_on = refl; counts = refl; pends = λ i. refl }) (rw t.memory.0 (omega arith)) (λ h o. absurd o) (λ x k o. absurd o)
       there one.value one.alone one.is.subset (λ o. absurd o) t.memory.1
       (λ known now. index_next new e fits.since (i + 1) (let l = fits.is.stage in omega arith) (record {
         standing = known.standing;
@@ -165,19 +167,19 @@ module _ (e : PlainEdit) (word : ℕ) (old new : World) (sound : IsSound old) wh
   -- how it ended
   store_outcome : (how : Outcome) → AtStage (StoreOutcome how)
   store_outcome how at fits t =
-      announces e (StoreOutcome how) word old new sound at fits t (record { goes_on = refl; counts = refl; pends = λ i. refl }) (rw t.memory.0 (omega arith)) (λ h o. o)
+      announces e (StoreOutcome how) word old new sound at fits t (record { goes_on = refl; counts = refl; pends = λ i. refl }) (rw t.memory.0 (omega arith)) (λ h o. o) (λ x o. o)
       (known_at (text_parts e.text) (length e.refs) (StoreOutcome how)) (word_of new E (ended how)) (ended how) fits.knows refl (λ known. known) refl
-      (λ stands n is. ended_tells new E how n stands is) t.memory.1 (λ same. same ∙ fits.buffer)
+      (λ stands n is. ended_tells new E how n stands is) (ended_more old E how fits.knows.announced.cached) t.memory.1 (λ same. same ∙ fits.buffer)
 
   flush_outcome : (how : Outcome) → AtStage (FlushOutcome how)
   flush_outcome how at fits t =
-      flushes e (FlushOutcome how) word old new sound at fits t (record { goes_on = refl; counts = refl; pends = λ i. refl }) (rw t.memory.0 (omega arith)) (λ h o. absurd o)
+      flushes e (FlushOutcome how) word old new sound at fits t (record { goes_on = refl; counts = refl; pends = λ i. refl }) (rw t.memory.0 (omega arith)) (λ h o. absurd o) (λ x k o. absurd o)
       (place.Announce e.process) t.memory.1 fits.buffer (λ known. known)
       (λ alone. alone ∙ ap (λ (v : ℕ). entry (place.Announce e.process) v ∷ []) fits.knows.announced.cached)
 
   back_outcome : (how : Outcome) → AtStage (BackOutcome how)
   back_outcome how at fits t =
-      backs e (BackOutcome how) word old new sound at fits t (record { goes_on = refl; counts = refl; pends = λ i. refl }) (rw t.memory.0 (omega arith)) (λ h o. absurd o)
+      backs e (BackOutcome how) word old new sound at fits t (record { goes_on = refl; counts = refl; pends = λ i. refl }) (rw t.memory.0 (omega arith)) (λ h o. absurd o) (λ x k o. absurd o)
       (place.Announce e.process) (word_of old E (ended how)) fits.buffer (sym fits.knows.announced.cached) (λ o. sym fits.knows.announced.cached) t.memory.1
       (λ known now. record {
         standing = known.standing;

@@ -159,7 +159,7 @@ pub each_falls : (e : PlainEdit) (word : ℕ) → IsEdit e → Falls e e.stage (
 each_falls e word is = falls e e.stage word is.stage
 
 pub each_few : (e : PlainEdit) → IsEdit e → rank e e.stage ≤ 67 + 3 * length e.refs
-each_few e is = few e is.text e.stage is.stage
+each_few e is = few e is.text.short e.stage is.stage
 
 pub each_some : (e : PlainEdit) → IsEdit e → 0 < rank e e.stage
 each_some e is = some e e.stage is.stage

@@ -1,5 +1,5 @@
 -- The steps by which an edit takes its place, keeps it, and marks its cell.
-use Rattle.std.proofs.Common.{ℕ, ◌≡◌, ◌≢◌, ◌<◌, ◌≤◌, ◌+◌, ◌/◌, ◌==◌, true, List, [], ◌∷◌, ◌++◌, refl, ap, sym, ◌∙◌, subst, arith, inl, inr, zero, suc, length, length-append, Some, max, min}
+use Rattle.std.proofs.Common.{ℕ, ◌≡◌, ◌≢◌, ◌<◌, ◌≤◌, ◌+◌, ◌*◌, ◌/◌, ◌%◌, ◌==◌, true, List, [], ◌∷◌, ◌++◌, refl, ap, sym, ◌∙◌, subst, arith, inl, inr, zero, suc, length, length-append, Some, max, min}
 use Rattle.std.specs.Prelude.{All, Contains, bit_or, slice_index_or}
 use Rattle.std.proofs.lemmas.Bool.{cases_eq, eq-eqb}
 use Rattle.std.proofs.lemmas.Nat.{le_or_l}
@@ -16,7 +16,8 @@ use Rattle.ds_layout.specs.Bits.{HasBit}
 use Rattle.ds_state.specs.Edits.{PlainEdit, text_parts}
 use Rattle.ds_state.specs.World.{Edit, edit_of, Issue, World, record_place, index_place, of_cell, of_cell_when, head_after_all, IsHeadBy}
 use Rattle.ds_state.specs.Known.{placing, inside, nothing, AreBelow, IsIn, IsHelped, row_of}
-use Rattle.ds_state.specs.Calls.{entry, HasOne, IsHeadFrom, EditFits, Owes, HasRefs}
+use Rattle.ds_state.specs.Owing.{entry}
+use Rattle.ds_state.specs.Calls.{HasOne, IsHeadFrom, EditFits, HasRefs}
 use Rattle.ds_state.specs.Words.{RefersTo, WordFits}
 use Rattle.ds_state.specs.Rely.{Keeps}
 use Rattle.ds_state.specs.Sound.{IsSound}
@@ -27,14 +28,21 @@ use Rattle.ds_state.proofs.Heads.{Small, small_counted, small_of_cell, of_cell-a
 use Rattle.ds_state.proofs.Few.{of_cell_few}
 use Rattle.ds_state.proofs.Noted.{when_rest, when_same}
 use Rattle.ds_state.proofs.Stable.{knowing_stable, record_no_version}
-use Rattle.ds_state.proofs.Frames.{Moves, KeepsOwing, keeps_owing, moves_sound}
+use Rattle.ds_state.specs.Owing.{IsHeldBy, IsMark, Owes, Excuses, Splits}
+use Rattle.ds_state.specs.declared.stage.Outcome.TheVariants as outcome
+use Rattle.ds_state.proofs.Buffers.{buffered}
+use Rattle.ds_state.proofs.Dirty.{or_dirty, or_moves, or_mark_fits}
+use Rattle.ds_state.proofs.Bearing.{Mine, text_same, splits_last, marks_grow, pends_last}
+use Rattle.ds_state.proofs.EditSteps.{edit_mine, or_mark_passes, flush_mark_passes, back_mark_passes}
+use Rattle.ds_state.proofs.EditFrame.{Framed, edit_framed, back_any}
+use Rattle.ds_state.proofs.Frames.{Moves, KeepsOwing, word_bears, moves_sound}
 use Rattle.ds_state.proofs.Sides.{IsBetween, newer_between}
-use Rattle.ds_state.proofs.Accesses.{Turn, Backs, written_backs, back_moves, back_grows}
+use Rattle.ds_state.proofs.Accesses.{Turn, store_moves, Backs, written_backs, back_moves, back_grows}
 use Rattle.ds_state.proofs.Counting.{Counts, MayCount, counts_sound}
 use Rattle.ds_edit.specs.Steps.{head_after}
 use Rattle.ds_edit.specs.Worlds.{StepsAt}
 use Rattle.ds_edit.specs.declared.machine.TheConstants.{LAST_STAMP}
-use Rattle.ds_edit.proofs.Turns.{on, Known_on, IsPlainStep, turn, fits_next, back_first}
+use Rattle.ds_edit.proofs.Turns.{on, Known_on, IsPlainStep, turn, goes, fits_next, back_first}
 use Rattle.ds_edit.proofs.Sorts.{flushes, backs, ors}
 use Rattle.ds_edit.proofs.Placing.{head_now}
 
@@ -96,14 +104,16 @@ module _ (e : PlainEdit) (word : ℕ) (old new : World) (sound : IsSound old) wh
         let c = cached_is in
         let next = next_head noted is in
         record {
-          of_sheet = record { process = rw fits.sheet.processes fits.is.process; number = fits.is.number; cell = rw fits.sheet.cells fits.is.cell };
+          of_sheet = record { process = rw fits.sheet.processes fits.is.process; number = fits.is.number; cell = rw fits.sheet.cells fits.is.cell; text = fits.is.text };
           below = fits.knows.standing;
           written = λ k l. (fits.knows.recorded.cached k (omega arith), fits.knows.recorded.persisted k (omega arith));
           indexed = found;
           back = omega arith;
           grows = (let g = grown in omega arith);
           done = λ before by parts. helped.done before by (sym all_then ∙ parts);
-          owes_nothing = λ head owes. subst (λ (x : Situation). Owes x head) at owes;
+          owes_nothing = λ r c x o. subst (λ (s : Situation). Owes old.memory e.process s r c x) at o;
+          excuses_nothing = λ c x o. (subst (λ (s : Situation). Excuses old e.process s c x) at o).1;
+          splits_nothing = λ c head o. (subst (λ (s : Situation). Splits old e.process s c head) at o).1;
         }
       where
         all : of_cell e.cell (old.counted ++ E ∷ []) ≡ es ++ E ∷ []
@@ -137,7 +147,7 @@ module _ (e : PlainEdit) (word : ℕ) (old new : World) (sound : IsSound old) wh
           pendings = t.others_pending;
           pending = pends;
           same = refl;
-          owes = rw there own_is;
+          owes = subst (λ (s : Situation). Splits new e.process s e.cell (head_after_all (of_cell e.cell new.counted))) (sym there) (refl, own_is);
         } in
         let below : AreBelow new e.process (e.number + 1) = subst (λ (xs : List Edit). All (λ f. f.process ≡ e.process → f.number < e.number + 1) xs) (sym counted)
         (All-push (λ (f : Edit). f.process ≡ e.process → f.number < e.number + 1) old.counted E
@@ -164,7 +174,7 @@ module _ (e : PlainEdit) (word : ℕ) (old new : World) (sound : IsSound old) wh
           ored = tt;
           head = tt;
         } in
-        counts_sound E issue old new counts (may_count at) sound (rw there (record {
+        counts_sound E issue old new counts (may_count at) sound (buffered old sound) (rw there (record {
           mine = refl;
           is = record {
             process = fits.is.process;
@@ -181,6 +191,7 @@ module _ (e : PlainEdit) (word : ℕ) (old new : World) (sound : IsSound old) wh
           since = fits.since;
           pending = pends;
           issued = (let l = ap length counted in let i = fits.issued in omega (arith, length-append old.counted (E ∷ [])));
+          holds_none = λ r by. fits.holds_none r (subst (λ (x : ℕ). IsHeldBy e.process x) (m.elsewhere (place.Mark r) (λ same'. cc)) by);
           knows = knows;
           buffer = m.buffer e.process ∙ fits.buffer;
         }))
@@ -191,7 +202,7 @@ module _ (e : PlainEdit) (word : ℕ) (old new : World) (sound : IsSound old) wh
       let counted : new.counted ≡ old.counted = (turn e (FlushOwn own) word old new t refl).counted in
       let stands : IsIn old E own = fits.knows.standing in
       let from : IsHeadFrom old e.cell own (old.memory.cached (place.Head e.cell)) = head_now old sound E own E stands.head in
-      flushes e (FlushOwn own) word old new sound at fits t (record { goes_on = refl; counts = refl; pends = λ i. refl }) (rw t.memory.0 (omega arith)) (λ head o. (t.pending, o)) (place.Head e.cell) m fits.buffer
+      flushes e (FlushOwn own) word old new sound at fits t (record { goes_on = refl; counts = refl; pends = λ i. refl }) (rw t.memory.0 (omega arith)) (λ head o. o) (λ x k o. tt) (place.Head e.cell) m fits.buffer
       (λ known. known)
       (λ alone. record {
         value = old.memory.cached (place.Head e.cell);
@@ -206,10 +217,19 @@ module _ (e : PlainEdit) (word : ℕ) (old new : World) (sound : IsSound old) wh
   pub step_or_mark : (own : ℕ) → old.situation e.process ≡ Editing (on e (OrMark own)) → (fits : EditFits old e.process (on e (OrMark own))) → StepsAt e (OrMark own) word old new → Keeps e.process old new
   step_or_mark own at fits t =
       let there : Place = place.Mark e.cell in
-      let le : old.memory.cached there ≤ bit_or (old.memory.cached there) DIRTY = le_or_l (old.memory.cached there) DIRTY in
-      let side : old.memory.persisted there ≤ old.memory.cached there = sound.words there in
-      ors e (OrMark own) word old new sound at fits t (record { goes_on = refl; counts = refl; pends = λ i. refl }) (rw t.memory.0 (omega arith)) (λ head o. absurd o) there DIRTY
-      (record_no_mark e.process e.number e.cell) (λ same. cc) le (λ moves. omega arith) t.memory.1
+      let tn : Turn e.process old new = turn e (OrMark own) word old new t refl in
+      let c : ℕ = old.memory.cached there in
+      let v : ℕ = old.memory.persisted there in
+      let is : bit_or c DIRTY ≡ c / 2 * 2 + 1 = or_dirty c in
+      let odd : bit_or c DIRTY % 2 ≡ 1 = omega arith in
+      let moves : Moves e.process there old new = store_moves e.process old new tn there (bit_or c DIRTY) (or_moves e.process c v) t.memory.1 in
+      ors e (OrMark own) word old new sound at fits t (record { goes_on = refl; counts = refl; pends = λ i. refl }) (rw t.memory.0 (omega arith)) (λ head o. absurd o)
+      (λ x k o. or_mark_passes e.process e own (bit_or c DIRTY) old new sound (buffered old sound) odd t.memory.1 moves x k o) there DIRTY
+      (record_no_mark e.process e.number e.cell) (λ same. cc) (or_moves e.process c v)
+      (λ moves'. or_mark_fits new e.cell c v (word_bears e.process there old new moves tn.counted there c v (λ cell is. cc) (λ cell is a. elim is [ inl x ↦ cc | inr x ↦ cc ]) (sound.words there)))
+      (λ d is'. cc) (λ d is' clean. (let o = odd in omega arith))
+      (λ d is' by. fits.holds_none e.cell (let k = is in omega arith))
+      t.memory.1
       (λ known now. known)
       (λ same. same ∙ fits.buffer)
 
@@ -217,17 +237,28 @@ module _ (e : PlainEdit) (word : ℕ) (old new : World) (sound : IsSound old) wh
   step_flush_mark own at fits t =
       let there : Place = place.Mark e.cell in
       let m : FlushesAt e.process there (class_of there) old.memory new.memory = t.memory.1 in
-      flushes e (FlushMark own) word old new sound at fits t (record { goes_on = refl; counts = refl; pends = λ i. refl }) (rw t.memory.0 (omega arith)) (λ head o. absurd o) there m fits.buffer
+      flushes e (FlushMark own) word old new sound at fits t (record { goes_on = refl; counts = refl; pends = λ i. refl }) (rw t.memory.0 (omega arith)) (λ head o. absurd o)
+      (λ x k o. flush_mark_passes e.process e own old new (m.mine ∙ ap (λ xs. xs ++ entry there (old.memory.cached there) ∷ []) fits.buffer) x k o) there m fits.buffer
       (λ known. known)
-      (λ alone. record { value = old.memory.cached there; alone = alone; is = (let c = m.cached there in omega arith) })
+      (λ alone. record { value = old.memory.cached there; alone = alone; is = ((let c = m.cached there in omega arith), λ q by. rw t.layout ((sound.words there).holder q by)) })
 
   pub step_back_mark : (own : ℕ) → old.situation e.process ≡ Editing (on e (BackMark own)) → (fits : EditFits old e.process (on e (BackMark own))) → StepsAt e (BackMark own) word old new → Keeps e.process old new
   step_back_mark own at fits t =
       let there : Place = place.Mark e.cell in
-      let one : HasOne old e.process there (λ value. value ≤ old.memory.cached there) = fits.buffer in
-      backs e (BackMark own) word old new sound at fits t (record { goes_on = refl; counts = refl; pends = λ i. refl }) (rw t.memory.0 (omega arith)) (λ head o. absurd o) there one.value one.alone one.is (λ o. absurd o) t.memory.1
+      let one : HasOne old e.process there (λ value. (value ≤ old.memory.cached there) × IsMark old.layout e.cell value) = fits.buffer in
+      let m : WritesBack e.process (entry there one.value) [] old.memory new.memory = back_first (entry there one.value) [] one.alone t.memory.1 in
+      let now : new.memory.persisted there ≡ max (old.memory.persisted there) one.value = m.there in
+      let c = m.cached there in
+      let most = one.is.0 in
+      let behind = (sound.words there).behind in
+      backs e (BackMark own) word old new sound at fits t (record { goes_on = refl; counts = refl; pends = λ i. refl }) (rw t.memory.0 (omega arith)) (λ head o. absurd o)
+      (λ x k o. back_mark_passes e.process e own one.value outcome.Done old new one.alone (omega arith) (omega arith) x k o) there one.value one.alone one.is (λ o. absurd o) t.memory.1
       (λ known now. known)
       (λ empty. empty)
+
+  others_split : Moves e.process (place.Head e.cell) old new → ((q : ℕ) → q ≢ e.process → new.situation q ≡ old.situation q) → (q : ℕ) → q ≢ e.process → (c head : ℕ) → Splits old q (old.situation q) c head → Splits new q (new.situation q) c head
+  others_split moves others q ne c head o = subst (λ (x : Situation). Splits new q x c head) (sym (others q ne))
+      (splits_last old new q (λ d. marks_grow e.process (place.Head e.cell) old new moves d) (moves.buffers q ne) (λ d k. pends_last e.process (place.Head e.cell) old new moves q d ne k) (old.situation q) c head o)
 
   -- its head, or a later one, is persisted: the edit no longer owes it
   pub step_back_own : (own : ℕ) → old.situation e.process ≡ Editing (on e (BackOwn own)) → (fits : EditFits old e.process (on e (BackOwn own))) → StepsAt e (BackOwn own) word old new → Keeps e.process old new
@@ -240,9 +271,9 @@ module _ (e : PlainEdit) (word : ℕ) (old new : World) (sound : IsSound old) wh
       let tn : Turn e.process old new = turn e (BackOwn own) word old new t refl in
       let m : WritesBack e.process (entry there one.value) [] old.memory new.memory = back_first (entry there one.value) [] one.alone t.memory.1 in
       let b : Backs e.process old new tn there (max v one.value) = written_backs e.process old new tn there one.value [] m in
-      let between : IsBetween there c v (max v one.value) = newer_between old (small_counted old sound.of_sheet) there c v one.value (sound.words there) (one.is.by, one.is.head) in
+      let between : IsBetween old.layout there c v (max v one.value) = newer_between old (small_counted old sound.of_sheet) there c v one.value (sound.words there) (one.is.by, one.is.head) in
       let moves : Moves e.process there old new = back_moves e.process old new tn sound there (max v one.value) b between in
-      let g = back_grows e.process old new tn sound there (max v one.value) b between (λ o. absurd o) in
+      let g = back_grows e.process old new tn sound there (max v one.value) b between (λ o. absurd o) (λ cell is. cc) in
       let known : Known_on new e fits.since (BackOwn own) = knowing_stable place.Version old new E g (record_no_version e.process e.number) (λ same. cc) e.refs fits.since (placing (text_parts e.text) (length e.refs) (inside own) nothing) fits.knows in
       let enough = one.is.enough in
       let now : new.memory.persisted there ≡ max v one.value = m.there in
@@ -259,17 +290,25 @@ module _ (e : PlainEdit) (word : ℕ) (old new : World) (sound : IsSound old) wh
       } in
       let most : own ≤ c = let l = by_most es own E small_es (fits.knows.standing).head in let is = cached_is in omega arith in
       let value_most : one.value ≤ c = let l = by_most es one.value one.is.by small_es one.is.head in let is = cached_is in omega arith in
-      let keeps_other : (cell : ℕ) → place.Head cell ≢ there → KeepsOwing old new cell = λ cell ne. keeps_owing e.process old new cell t.others t.others_pending (λ issue its is owes.
-      let same : Some (record { edit = E; since = fits.since }) ≡ Some issue = sym fits.pending ∙ is in
-      let edit : issue ≡ record { edit = E; since = fits.since } = cc in
-      absurd (ne (ap (λ (x : ℕ). place.Head x) (sym its ∙ ap (λ (x : Issue). x.edit.cell) edit)))) in
+      let went : new.situation e.process ≡ Editing (on e (OrMark own)) = goes e (BackOwn own) word old new t plain in
+      let keeps_other : (cell : ℕ) → place.Head cell ≢ there → KeepsOwing old new cell = λ cell ne f issue its is was_same before last_of owes. elim (cases_eq f.process e.process) [
+        | inr other ↦ (t.others_pending f.process other ∙ is, others_split moves t.others f.process other f.cell _ owes)
+        | inl mine ↦ absurd (
+            let k : Splits old e.process (Editing (on e (BackOwn own))) f.cell (head_after_all (of_cell cell old.counted)) =
+            subst (λ (x : Situation). Splits old e.process x f.cell (head_after_all (of_cell cell old.counted))) at (subst (λ (q : ℕ). Splits old q (old.situation q) f.cell (head_after_all (of_cell cell old.counted))) mine owes) in
+            ne (ap (λ (x : ℕ). place.Head x) (sym its ∙ sym k.0)))
+      ] in
+      let my : Mine e.process there old new moves = edit_mine e.process e (BackOwn own) (OrMark own) there old new moves at went fits.holds_none (λ x k o. tt) (λ d. m.cached (place.Head d))
+      (λ d is. inr (λ x. (let same : e.cell ≡ d = cc in record { process = e.process; inside = rw (t.layout, fits.sheet.processes) fits.is.process; still = subst (λ (y : Situation). Excuses new e.process y d x) (sym went) (same, tt) }))) in
+      let fr : Framed old new = edit_framed e.process e (BackOwn own) (OrMark own) there old new moves tn.counted at went sound (buffered old sound) my
+      (back_any e.process there one.value old new moves sound (buffered old sound) my (text_same old new moves.layout tn.counted) (rw fits.sheet.processes fits.is.process) m) in
       let fitting : WordFits new there (new.memory.cached there) (new.memory.persisted there) = record {
         last = m.cached there ∙ cached_is ∙ ap (λ xs. head_after_all (of_cell e.cell xs)) (sym tn.counted);
         sides = elim (sound.words there).sides [
           | inl same ↦ inl (let k = m.cached there in omega arith)
           | inr w ↦ elim (cases_eq w.last.process e.process) [
             | inl mine ↦ inl (
-                let owed : own ≡ head_after_all es = subst (λ (x : Situation). Owes x (head_after_all es)) at (subst (λ (q : ℕ). Owes (old.situation q) (head_after_all es)) mine w.owes) in
+                let owed : own ≡ head_after_all es = (subst (λ (x : Situation). Splits old e.process x w.last.cell (head_after_all es)) at (subst (λ (q : ℕ). Splits old q (old.situation q) w.last.cell (head_after_all es)) mine w.owes)).1 in
                 let is = cached_is in
                 let p = persisted_most old es c v small_es cached_is (inr w) in
                 let k = m.cached there in
@@ -283,12 +322,12 @@ module _ (e : PlainEdit) (word : ℕ) (old new : World) (sound : IsSound old) wh
                 issue = w.issue;
                 pending = t.others_pending w.last.process other ∙ w.pending;
                 same = w.same;
-                owes = subst (λ (xs : List Edit). Owes (new.situation w.last.process) (head_after_all (of_cell e.cell xs))) (sym tn.counted) (rw (t.others w.last.process other) w.owes);
+                owes = subst (λ (xs : List Edit). Splits new w.last.process (new.situation w.last.process) w.last.cell (head_after_all (of_cell e.cell xs))) (sym tn.counted) (others_split moves t.others w.last.process other w.last.cell _ w.owes);
               })
               | inr all ↦ inl (now ∙ all ∙ sym (m.cached there))
             ]
           ]
         ];
       } in
-      moves_sound e.process there old new moves sound keeps_other fitting
-      (λ l. fits_next e (BackOwn own) word old new t fits plain (rw t.memory.0 (omega arith)) knows m.mine)
+      moves_sound e.process there old new moves tn.counted sound fr.bears fr.stand fr.apart keeps_other fitting
+      (λ l. fits_next e (BackOwn own) word old new t fits plain (rw t.memory.0 (omega arith)) (λ r by. fits.holds_none r (subst (λ (x : ℕ). IsHeldBy e.process x) (m.cached (place.Mark r)) by)) knows m.mine)

@@ -8,11 +8,11 @@ use Rattle.ds_layout.specs.declared.place.Place.{Place}
 use Rattle.ds_state.specs.Edits.{PlainEdit, text_parts}
 use Rattle.ds_state.specs.World.{edit_of, Issue, World, of_cell, head_after_all}
 use Rattle.ds_state.specs.Known.{known_at, Knowing}
-use Rattle.ds_state.specs.Calls.{held_at, Holds, EditFits, CallFits, Owes, OwesAt}
+use Rattle.ds_state.specs.Calls.{held_at, Holds, EditFits, CallFits}
+use Rattle.ds_state.specs.Owing.{HoldsNone}
 use Rattle.ds_state.specs.declared.stage.Stage.{Stage}
 use Rattle.ds_state.specs.declared.situation.Situation.{Situation}
 use Rattle.ds_state.specs.declared.situation.Situation.TheVariants.{Editing}
-use Rattle.ds_state.proofs.Frames.{KeepsOwing, keeps_owing}
 use Rattle.ds_state.proofs.Accesses.{Turn}
 use Rattle.ds_edit.specs.Steps.{next_at}
 use Rattle.ds_edit.specs.Worlds.{StepsAt, counted_at, pending_at, after}
@@ -44,19 +44,17 @@ module _ (e : PlainEdit) (s : Stage) (word : ℕ) (old new : World) (t : StepsAt
     pendings = t.others_pending;
   }
 
-  -- who owes a head, owes it still
-  pub owing : old.situation e.process ≡ Editing (on e s)
-      → ((head : ℕ) → OwesAt s head → (new.pending e.process ≡ old.pending e.process) × Owes (after e s word) head)
-      → (cell : ℕ) → KeepsOwing old new cell
-  owing at mine cell = keeps_owing e.process old new cell t.others t.others_pending (λ issue its is owes.
-      let k = mine (head_after_all (of_cell cell old.counted)) (subst (λ (x : Situation). Owes x (head_after_all (of_cell cell old.counted))) at owes) in
-      (k.0 ∙ is, rw t.situation k.1))
+  pub goes : IsPlainStep e s word → new.situation e.process ≡ Editing (on e (next_at e s word))
+  goes plain = t.situation ∙ plain.goes_on
+
+  pub stays_open : IsPlainStep e s word → new.pending e.process ≡ old.pending e.process
+  stays_open plain = t.pending ∙ plain.pends (old.pending e.process)
 
   -- what fits the next stage, where that is known and held
-  pub fits_next : (fits : EditFits old e.process (on e s)) → IsPlainStep e s word → word < 2 ^ 64
+  pub fits_next : (fits : EditFits old e.process (on e s)) → IsPlainStep e s word → word < 2 ^ 64 → HoldsNone new e.process
       → Known_on new e fits.since (next_at e s word) → Holds_on new e (next_at e s word)
       → CallFits new e.process (new.situation e.process)
-  fits_next fits plain small knows holds = subst (λ (x : Situation). CallFits new e.process x) (sym (t.situation ∙ plain.goes_on)) (record {
+  fits_next fits plain small free knows holds = subst (λ (x : Situation). CallFits new e.process x) (sym (t.situation ∙ plain.goes_on)) (record {
     mine = refl;
     is = record {
       process = fits.is.process;
@@ -73,6 +71,7 @@ module _ (e : PlainEdit) (s : Stage) (word : ℕ) (old new : World) (t : StepsAt
     since = fits.since;
     pending = t.pending ∙ plain.pends (old.pending e.process) ∙ fits.pending;
     issued = (let l = ap length (turn plain.counts).counted in let i = fits.issued in omega arith);
+    holds_none = free;
     knows = knows;
     buffer = holds;
   })

@@ -14,7 +14,7 @@ use Rattle.ds_state.specs.Calls.{IsSheetOf, HasRefs}
 use Rattle.ds_state.specs.declared.refusal.Refusal.{Refusal}
 use Rattle.ds_state.specs.declared.refusal.Refusal.TheVariants as refusal
 use Rattle.ds_state.specs.declared.situation.Situation.{Situation}
-use Rattle.ds_state.specs.declared.situation.Situation.TheVariants.{Idle, Stopped, Editing}
+use Rattle.ds_state.specs.declared.situation.Situation.TheVariants.{Idle, Stopped, Editing, Working, Recovering, Showing}
 use Rattle.ds_edit.specs.Worlds.{Begins}
 
 -- the number of the edit that the process may begin
@@ -22,6 +22,9 @@ abbrev pub next_of : Situation → Result ℕ Refusal
 next_of (Idle number) = Ok number
 next_of Stopped = Err refusal.Stopped
 next_of (Editing e) = Err refusal.Busy
+next_of (Working e) = Err refusal.Busy
+next_of (Recovering e) = Err refusal.Busy
+next_of (Showing e) = Err refusal.Busy
 
 -- these are the numbers of the cells written in the content, in reading order
 pub record AreNumbers (shape : Shape) (content : Plain) (refs : List ℕ) : Type 0 where
@@ -66,6 +69,9 @@ abbrev pub RefusesIn : Shape → List ℕ → Situation → Refusal → Type 0
 RefusesIn shape text (Idle number) r = RefusesIdle shape number text r
 RefusesIn shape text Stopped r = r ≡ refusal.Stopped
 RefusesIn shape text (Editing e) r = r ≡ refusal.Busy
+RefusesIn shape text (Working e) r = r ≡ refusal.Busy
+RefusesIn shape text (Recovering e) r = r ≡ refusal.Busy
+RefusesIn shape text (Showing e) r = r ≡ refusal.Busy
 
 abbrev pub Refuses : World → ℕ → List ℕ → Refusal → Type 0
 Refuses w process text r = RefusesIn w.layout.shape text (w.situation process) r

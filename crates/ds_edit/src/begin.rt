@@ -35,6 +35,7 @@ fn next(situation: &Situation) -> Result<usize, Refusal>
     match situation {
         Situation::Idle(number) => Ok(*number),
         Situation::Stopped => Err(Refusal::Stopped),
+        Situation::Working(_) | Situation::Recovering(_) | Situation::Showing(_) => Err(Refusal::Busy),
         Situation::Editing(_) => Err(Refusal::Busy),
     }
 }
@@ -52,14 +53,15 @@ fn numbers(alloc: Global, shape: &Shape, content: &Content) -> Result<Vec<usize>
     Ok(numbers)
 }
 
-// The references of an idle process's edit of this number, to the text.
+// The content of the text of an idle process's edit of this number, and the cells written in it.
 fn references(
     alloc: Global,
     shape: &Shape,
     number: usize,
     text: &[u8],
-) -> Result<Vec<usize>, Refusal>
-    ensures text { IfOk result (λ v. RefersTo shape.now text.now v.items) }
+) -> Result<(Content, Vec<usize>), Refusal>
+    ensures reads { IfOk result (λ r. Reads shape.now text.now (plain r.0)) }
+    ensures text { IfOk result (λ r. RefersTo shape.now text.now r.1.items) }
     ensures number { OnOk result (number ≢ RECORDS) }
     ensures refused { IfErr result (λ refusal. RefusesIdle shape.now number text.now refusal) }
 {
@@ -67,36 +69,42 @@ fn references(
     if number == RECORDS {
         return Err(Refusal::RecordsFull);
     }
-    Ok(numbers(alloc, shape, &content)?)
+    let refs = numbers(alloc, shape, &content)?;
+    Ok((content, refs))
 }
 
-// The process's edit of this number, of the cell to the text, before its first step.
-fn prepared(
+/// The process's edit of this number, of the cell to the text, before its first step, and the
+/// content of the text.
+pub fn prepared(
     alloc: Global,
     layout: &Layout,
     process: usize,
     number: usize,
     cell: Cell,
     text: &[u8],
-) -> Result<EditCall, Refusal>
+) -> Result<(EditCall, Content), Refusal>
     requires process { process < layout.now.processes }
     requires number { number ≤ RECORDS }
     requires cell { IsInside layout.now.shape cell }
-    ensures asked { IfOk result (λ e. IsAskedFor layout.now process (index_of layout.now.shape cell) text.now number e) }
-    ensures first { IfOk result (λ e. e.stage ≡ StoreHeader) }
+    ensures asked { IfOk result (λ r. IsAskedFor layout.now process (index_of layout.now.shape cell) text.now number r.0) }
+    ensures first { IfOk result (λ r. r.0.stage ≡ StoreHeader) }
+    ensures reads { IfOk result (λ r. Reads layout.now.shape text.now (plain r.1)) }
     ensures refused { IfErr result (λ refusal. RefusesIdle layout.now.shape number text.now refusal) }
 {
-    let refs = references(alloc, &layout.shape, number, text)?;
-    Ok(EditCall {
+    let (content, refs) = references(alloc, &layout.shape, number, text)?;
+    let text = Text::new(text).unwrap();
+    text.is_text();
+    let call = EditCall {
         process,
         number,
         cell: layout.shape.index(cell),
-        text: Text::new(text).unwrap(),
+        text,
         refs,
         cells: layout.cells(),
         processes: layout.processes,
         stage: Stage::StoreHeader,
-    })
+    };
+    Ok((call, content))
 }
 
 // Puts a process into a situation.
@@ -153,7 +161,7 @@ pub fn begin(
 {
     let number = next(&world.situations[process])?;
     let layout = world.words.layout();
-    let call = prepared(alloc, &layout, process, number, cell, text)?;
+    let (call, _content) = prepared(alloc, &layout, process, number, cell, text)?;
     issue(world, call);
     Ok(number)
 }

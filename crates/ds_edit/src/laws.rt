@@ -24,7 +24,6 @@ pub fn steps_keep_soundness()
 {}
 
 /// The beginning of an edit of the sheet does the same.
-#[tactic(auto, using(crate::proofs::Answering::begin_sound))]
 pub fn begins_keep_soundness()
     ensures { (e : PlainEdit) (old new : World) → IsSound old
         → IsEdit e → IsSheetOf old.layout e → HasRefs old.layout.shape e.text e.refs

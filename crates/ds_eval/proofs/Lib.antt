@@ -13,3 +13,4 @@ pub mod Sameness
 pub mod Tasks
 pub mod Results
 pub mod Sheets
+pub mod Showable

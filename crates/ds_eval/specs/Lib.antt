@@ -9,3 +9,4 @@ pub mod Rounds
 pub mod Sheet
 pub mod Code
 pub mod Tasks
+pub mod Showable

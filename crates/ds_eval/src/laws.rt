@@ -1,16 +1,18 @@
 //! Laws over the definitions alone: functions without other work, whose contracts are the theorems.
 
-ghost use Rattle.std.specs.Prelude.{◌≡◌, ◌≢◌, List};
+ghost use Rattle.std.specs.Prelude.{◌≡◌, ◌≢◌, ℕ, List};
 ghost use Rattle.ds_formula.specs.declared.cells.Shape as shapes;
 ghost use Rattle.ds_formula.specs.declared.cells.Cell as cells;
 ghost use Rattle.ds_formula.specs.Cells.{IsInside, index_of};
 ghost use Rattle.ds_formula.specs.Plain.{Plain, Formula};
 ghost use Rattle.ds_formula.specs.Refs.{Refers};
+ghost use Rattle.ds_formula.specs.Grammar.{Reads};
 ghost use Rattle.ds_eval.specs.declared.value.Value as values;
 ghost use Rattle.ds_eval.specs.declared.inputs.Entry as entries;
 ghost use Rattle.ds_eval.specs.Scratch.{Runs, at, IsScratch, WalkLaw};
 ghost use Rattle.ds_eval.specs.Evaluation.{formula_value};
 ghost use Rattle.ds_eval.specs.Local.{local, IsLocal, IsShown};
+ghost use Rattle.ds_eval.specs.Showable.{CanShow};
 
 use crate::value::Value;
 
@@ -42,4 +44,9 @@ pub fn never_blank()
 /// A cell's entry rests on the entries of the cells of the sheet that are written in it, and on no other one.
 pub fn neighbours_law()
     ensures { (shape : shapes.Shape) (content : Plain) (old new : cells.Cell → entries.Entry) → ((d : cells.Cell) → Refers content d → IsInside shape d → old d ≡ new d) → local shape content old ≡ local shape content new }
+{}
+
+/// A cell can show the entry of a content that was read, where it can be shown what the cells that are written in it have.
+pub fn shown_law()
+    ensures { (shape : shapes.Shape) (text : List ℕ) (content : Plain) (entries : cells.Cell → entries.Entry) → Reads shape text content → ((d : cells.Cell) → Refers content d → IsInside shape d → CanShow shape (entries d)) → CanShow shape (local shape content entries) }
 {}

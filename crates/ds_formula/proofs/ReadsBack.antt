@@ -28,7 +28,7 @@ unfolding whole_of
 whole_good limit text = bind_with (NumberGood limit) (WholeGood limit) (number_at limit text) (λ x. alone x.0 x.1) (number_good limit text) (λ _. tt) (λ x h. alone_good limit x.0 x.1 h)
 
 -- from -2^63 to 2^63 - 1
-abbrev InRange : ℤ → Type 0
+abbrev pub InRange : ℤ → Type 0
 InRange (pos n) = n ≤ 2 ^ 63 - 1
 InRange (negsuc n) = n ≤ 2 ^ 63 - 1
 
@@ -58,7 +58,7 @@ constant_good text =
     (λ _. bind_with (WholeGood (2 ^ 63 - 1)) ConstantGood (whole_of (2 ^ 63 - 1) (drop 1 text)) positive (whole_good (2 ^ 63 - 1) (drop 1 text)) (λ _. tt) (λ n h. h))
     (λ _. bind_with (WholeGood (2 ^ 63 - 1)) ConstantGood (whole_of (2 ^ 63 - 1) text) positive (whole_good (2 ^ 63 - 1) text) (λ _. tt) (λ n h. h)))
 
-constant_range : (text : List ℕ) (z : ℤ) → constant_of text ≡ Ok z → InRange z
+pub constant_range : (text : List ℕ) (z : ℤ) → constant_of text ≡ Ok z → InRange z
 constant_range text z e = subst (λ (x : Result ℤ Stop). ConstantGood x) e (constant_good text)
 
 -- ---- constants read back

@@ -2,7 +2,8 @@
 
 use crate::worlds::{A1, A2, B1, B2, begin, expect_text, small};
 use ds_core::event::Event;
-use ds_core::reply::{Answer, Reply};
+use ds_core::reply::Reply;
+use ds_edit::answer::Answer;
 use ds_core::take::run;
 use ds_formula::cells::Cell;
 use ds_layout::place::Place;
@@ -111,6 +112,7 @@ impl Answers {
         match answer {
             Answer::Done(_) => self.done = self.done.wrapping_add(1),
             Answer::Overtaken(_, _) => self.overtaken = self.overtaken.wrapping_add(1),
+            _ => {}
         }
     }
 }
@@ -125,6 +127,7 @@ fn expect_counted(rt: &impl Abort, world: &World, process: usize, answer: Answer
             assert_eq!(rt; times_counted(world, process, number), 0);
             assert_eq!(rt; times_counted(world, other.process, other.number), 1);
         }
+        _ => {}
     }
 }
 

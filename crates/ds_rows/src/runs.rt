@@ -5,7 +5,8 @@ use crate::worlds::{
     expect_word, small, stop_idle,
 };
 use ds_core::event::Event;
-use ds_core::reply::{Answer, Other, Reply};
+use ds_core::reply::Reply;
+use ds_edit::answer::{Answer, Other};
 use ds_formula::cells::Cell;
 use ds_formula::fault::{FaultKind, TextFault};
 use ds_layout::place::Place;

@@ -149,12 +149,14 @@ pub fn expect_point(rt: &impl Abort, world: &World, process: usize, wanted: Opti
     }
 }
 
-/// What a process does: its edit's number, or its next one's, and its stage.
+/// What a process does: its edit's number, or its next one's, and its stage; another call has none
+/// yet.
 #[derive(Clone, Copy, Debug, PartialEq, Eq)]
 enum Doing {
     Idle(usize),
     Stopped,
     Editing(usize, Stage),
+    Another,
 }
 
 impl Doing {
@@ -163,6 +165,9 @@ impl Doing {
             Situation::Idle(number) => Doing::Idle(*number),
             Situation::Stopped => Doing::Stopped,
             Situation::Editing(call) => Doing::Editing(call.number, call.stage),
+            Situation::Working(_) | Situation::Recovering(_) | Situation::Showing(_) => {
+                Doing::Another
+            }
         }
     }
 }

@@ -68,8 +68,8 @@ fn number(limit: usize, word: &[u8]) -> Option<usize>
     }
 }
 
-// A number that is the next word, and what is behind it.
-fn numbered<'a>(limit: usize, rest: Option<&'a [u8]>) -> Option<(usize, Option<&'a [u8]>)>
+/// A number below the limit that is the next word, and what is behind it.
+pub fn numbered<'a>(limit: usize, rest: Option<&'a [u8]>) -> Option<(usize, Option<&'a [u8]>)>
     requires { limit ≤ 1024 }
     ensures value { option_map field_view result ≡ number_field limit (option_map (λ r. r.now) rest.entry) }
     ensures below { IfSome result (λ x. x.0 < limit) }
@@ -78,8 +78,8 @@ fn numbered<'a>(limit: usize, rest: Option<&'a [u8]>) -> Option<(usize, Option<&
     Some((number(limit, first)?, rest))
 }
 
-// A cell that is the next word, and what is behind it.
-fn named<'a>(shape: &Shape, rest: Option<&'a [u8]>) -> Option<(Cell, Option<&'a [u8]>)>
+/// A cell that is the next word, and what is behind it.
+pub fn named<'a>(shape: &Shape, rest: Option<&'a [u8]>) -> Option<(Cell, Option<&'a [u8]>)>
     ensures value { option_map field_view result ≡ cell_field shape.now (option_map (λ r. r.now) rest.entry) }
     ensures inside { IfSome result (λ x. IsInside shape.now x.0) }
 {
@@ -168,7 +168,8 @@ fn fields<'a>(
     }
 }
 
-fn is_skipped(line: &[u8]) -> bool
+/// Whether the line is empty or a comment.
+pub fn is_skipped(line: &[u8]) -> bool
     ensures { result ≡ is_skipped line.now }
 {
     matches!(line, [] | [b'#', ..])

@@ -1,6 +1,6 @@
 //! Readers and writers that remember whether a call of theirs failed.
 
-ghost use Rattle.std.specs.Prelude.{◌≡◌, ◌+◌, ◌≤◌, false, true, OnOk, OnErr, IfOk, min, ◌^◌, length};
+ghost use Rattle.std.specs.Prelude.{◌≡◌, ◌+◌, ◌-◌, ◌==◌, ◌≤◌, false, true, OnOk, OnErr, IfOk, min, ◌^◌, length};
 ghost use Rattle.std.specs.Io.{ReadsAtMost};
 ghost use Rattle.std.specs.Io.KnownBytes.{ReadConsumes, Appends, Keeps};
 
@@ -39,11 +39,12 @@ impl<R: Read> Reading<R> {
     pub fn read(&mut self, buffer: &mut [u8]) -> io::Result<usize>
         ensures bound { ReadsAtMost result buffer.new }
         ensures bytes { ReadConsumes (R.remaining (reader_of self.old)) (R.remaining (reader_of self.new)) result buffer.new }
-        ensures given { IfOk result (λ n. bytes_given self.new ≤ bytes_given self.old + n) }
+        ensures given { IfOk result (λ n. bytes_given self.new ≡ min (bytes_given self.old + n) (2 ^ 64 - 1)) }
         ensures none_given { OnErr result (bytes_given self.new ≡ bytes_given self.old) }
         ensures failed { OnErr result (read_failed self.new ≡ true) }
         ensures not_failed { OnOk result (read_failed self.new ≡ read_failed self.old) }
-        ensures ended { IfOk result (λ n. n ≡ 0 → has_ended self.new ≡ true) }
+        ensures ended { IfOk result (λ n. has_ended self.new ≡ (n == 0)) }
+        ensures not_ended { OnErr result (has_ended self.new ≡ has_ended self.old) }
     {
         match self.reader.read(buffer) {
             Ok(count) => {

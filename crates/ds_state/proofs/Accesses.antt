@@ -1,20 +1,27 @@
 -- Each kind of access keeps a world sound.
-use Rattle.std.proofs.Common.{ℕ, ◌≡◌, ◌≢◌, ◌<◌, List, ap, sym, ◌∙◌, subst, arith, inl, inr}
+use Rattle.std.proofs.Common.{ℕ, ◌≡◌, ◌≢◌, ◌<◌, ◌⊎◌, List, refl, ap, sym, ◌∙◌, subst, arith, inl, inr}
 use Rattle.ds_words.specs.declared.access.Class.{Class}
 use Rattle.ds_words.specs.declared.access.Entry.{Entry}
 use Rattle.ds_words.specs.Memory.{SameMemory, StoresAt, FlushesAt, WritesBack, EvictsAt, newer}
+use Rattle.ds_layout.specs.declared.layout.Layout.{Layout}
 use Rattle.ds_layout.specs.Places.{class_of}
 use Rattle.ds_layout.specs.declared.place.Place.{Place}
-use Rattle.ds_layout.specs.declared.place.Place.TheVariants.{Version}
+use Rattle.ds_layout.specs.declared.place.Place.TheVariants.{Version, Head, Mark, Value, Kind, Index, Announce, Header, Text, Done}
 use Rattle.ds_layout.proofs.PlaceCases.{place_cases}
-use Rattle.ds_state.specs.World.{World}
-use Rattle.ds_state.specs.Calls.{CallFits, entry}
+use Rattle.std.specs.Prelude.{Contains}
+use Rattle.ds_state.specs.World.{World, of_cell, head_after_all}
+use Rattle.ds_state.specs.Owing.{entry}
+use Rattle.ds_state.specs.Calls.{CallFits}
 use Rattle.ds_state.specs.Words.{WordFits}
 use Rattle.ds_state.specs.Sound.{IsSound}
 use Rattle.ds_state.specs.Events.{Evicts}
-use Rattle.ds_state.specs.Rely.{IsOwnedBy, Grows, Keeps, Rely}
+use Rattle.ds_state.specs.Owing.{IsHeldBy, IsApart, IsPending, Excuses, IsExcused, Splits}
+use Rattle.ds_state.specs.declared.situation.Situation.{Situation}
+use Rattle.ds_state.specs.Standing.{AllStand}
+use Rattle.ds_state.specs.Rely.{IsOwnedBy, KeepsHold, Grows, Bears, Keeps, Rely}
 use Rattle.ds_state.proofs.Heads.{small_counted}
-use Rattle.ds_state.proofs.Frames.{CatchesUp, MovesWord, Moves, KeepsOwing, grows_by, word_bears, moves_sound}
+use Rattle.ds_state.proofs.Bearing.{Buffered, Mine, MyMarks, bears, all_stand, apart_lasts, excused_lasts, on_its_way_excuses, backed_marks, no_new_marks, text_same, splits_last, marks_grow}
+use Rattle.ds_state.proofs.Frames.{CatchesUp, MovesWord, Moves, stays_hold, KeepsApart, KeepsOwing, grows_by, word_bears, moves_sound}
 use Rattle.ds_state.proofs.Sides.{IsBetween, cached_between, between_moves, between_fits}
 
 -- the process's turn, but for what its access does: no edit comes to count, and the others do nothing
@@ -28,7 +35,6 @@ module _ (p : ℕ) (old new : World) (t : Turn p old new) where
   pub same_moves : SameMemory old.memory new.memory → Moves p Version old new
   same_moves m = record {
     layout = t.layout;
-    counted = t.counted;
     cached = λ r ne. m.cached r;
     persisted = λ r ne. m.persisted r;
     here = tt;
@@ -40,7 +46,6 @@ module _ (p : ℕ) (old new : World) (t : Turn p old new) where
   pub flush_moves : (place : Place) (class : Class) → FlushesAt p place class old.memory new.memory → Moves p Version old new
   flush_moves place class m = record {
     layout = t.layout;
-    counted = t.counted;
     cached = λ r ne. m.cached r;
     persisted = λ r ne. m.persisted r;
     here = tt;
@@ -49,15 +54,14 @@ module _ (p : ℕ) (old new : World) (t : Turn p old new) where
     pendings = t.pendings;
   }
 
-  pub store_moves : (place : Place) (value : ℕ) → MovesWord p place (old.memory.cached place) (old.memory.persisted place) value (old.memory.persisted place)
+  pub store_moves : (place : Place) (value : ℕ) → MovesWord old.memory p place (old.memory.cached place) (old.memory.persisted place) value (old.memory.persisted place)
       → StoresAt place value old.memory new.memory → Moves p place old new
   store_moves place value moves m = record {
     layout = t.layout;
-    counted = t.counted;
     cached = m.elsewhere;
     persisted = λ r ne. m.persisted r;
-    here = subst (λ (c : ℕ). MovesWord p place (old.memory.cached place) (old.memory.persisted place) c (new.memory.persisted place)) (sym m.there)
-        (subst (λ (v : ℕ). MovesWord p place (old.memory.cached place) (old.memory.persisted place) value v) (sym (m.persisted place)) moves);
+    here = subst (λ (c : ℕ). MovesWord old.memory p place (old.memory.cached place) (old.memory.persisted place) c (new.memory.persisted place)) (sym m.there)
+        (subst (λ (v : ℕ). MovesWord old.memory p place (old.memory.cached place) (old.memory.persisted place) value v) (sym (m.persisted place)) moves);
     buffers = λ q ne. m.buffer q;
     situations = t.situations;
     pendings = t.pendings;
@@ -78,48 +82,129 @@ module _ (p : ℕ) (old new : World) (t : Turn p old new) where
   evicted_backs place m = record { cached = m.cached; there = m.there; elsewhere = m.elsewhere; buffers = λ q ne. m.buffer q }
 
   module _ (s : IsSound old) (place : Place) (value : ℕ) (b : Backs place value)
-      (between : IsBetween place (old.memory.cached place) (old.memory.persisted place) value) where
+      (between : IsBetween old.layout place (old.memory.cached place) (old.memory.persisted place) value) where
     pub back_moves : Moves p place old new
     back_moves = record {
       layout = t.layout;
-      counted = t.counted;
-      cached = λ r ne. b.cached r;
+        cached = λ r ne. b.cached r;
       persisted = b.elsewhere;
-      here = subst (λ (c : ℕ). MovesWord p place (old.memory.cached place) (old.memory.persisted place) c (new.memory.persisted place)) (sym (b.cached place))
-          (subst (λ (v : ℕ). MovesWord p place (old.memory.cached place) (old.memory.persisted place) (old.memory.cached place) v) (sym b.there)
-          (between_moves old (small_counted old s.of_sheet) p place (old.memory.cached place) (old.memory.persisted place) value (s.words place) between));
+      here = subst (λ (c : ℕ). MovesWord old.memory p place (old.memory.cached place) (old.memory.persisted place) c (new.memory.persisted place)) (sym (b.cached place))
+          (subst (λ (v : ℕ). MovesWord old.memory p place (old.memory.cached place) (old.memory.persisted place) (old.memory.cached place) v) (sym b.there)
+          (between_moves old (small_counted old s.of_sheet) old.memory p place (old.memory.cached place) (old.memory.persisted place) value (s.words place) between));
       buffers = b.buffers;
       situations = t.situations;
       pendings = t.pendings;
     }
 
     -- p's own words, the word itself among them, catch up at most
-    pub back_grows : (IsOwnedBy p place → CatchesUp (old.memory.cached place) (old.memory.persisted place) (new.memory.cached place) (new.memory.persisted place)) → Grows p Version old new
-    back_grows caught = grows_by p place old new back_moves p Version (λ r o ne. elim (place_cases r place) [
-      | inl eq ↦ subst (λ (x : Place). CatchesUp (old.memory.cached x) (old.memory.persisted x) (new.memory.cached x) (new.memory.persisted x)) (sym eq) (caught (subst (λ (x : Place). IsOwnedBy p x) eq o))
+    pub back_grows : (IsOwnedBy old.memory p place → CatchesUp (old.memory.cached place) (old.memory.persisted place) (new.memory.cached place) (new.memory.persisted place)) → ((cell : ℕ) → Mark cell ≡ place → KeepsHold p (old.memory.cached (Mark cell)) (old.memory.persisted (Mark cell)) (new.memory.cached (Mark cell)) (new.memory.persisted (Mark cell))) → Grows p Version old new
+    back_grows caught hold = grows_by p place old new back_moves t.counted p Version (λ r o ne. elim (place_cases r place) [
+      | inl eq ↦ subst (λ (x : Place). CatchesUp (old.memory.cached x) (old.memory.persisted x) (new.memory.cached x) (new.memory.persisted x)) (sym eq) (caught (subst (λ (x : Place). IsOwnedBy old.memory p x) eq o))
       | inr apart ↦ (b.cached r, inl (b.elsewhere r apart))
-    ])
+    ]) (λ cell ne. elim (place_cases (Mark cell) place) [ inl at ↦ hold cell at | inr apart ↦ stays_hold p _ _ _ _ (b.cached (Mark cell)) (b.elsewhere (Mark cell) apart) ])
 
-    pub back_word : ((cell : ℕ) → KeepsOwing old new cell) → WordFits new place (new.memory.cached place) (new.memory.persisted place)
-    back_word keeps = subst (λ (c : ℕ). WordFits new place c (new.memory.persisted place)) (sym (b.cached place))
-        (subst (λ (v : ℕ). WordFits new place (old.memory.cached place) v) (sym b.there)
-        (between_fits new place (old.memory.cached place) (old.memory.persisted place) value
-        (word_bears p place old new back_moves place (old.memory.cached place) (old.memory.persisted place) (λ cell is. keeps cell) (s.words place)) between))
+    word_back : ((cell : ℕ) → KeepsOwing old new cell) → KeepsApart old new → (r : Place) → r ≡ place → IsBetween new.layout r (old.memory.cached r) (old.memory.persisted r) value → WordFits new r (old.memory.cached r) value
+    word_back keeps apart (Value cell) at bt = elim (s.words (Value cell)) [
+      | inl same ↦ inl (elim bt [ inl v ↦ v ∙ same | inr c ↦ c ])
+      | inr a ↦ elim (apart cell a) [
+        | inl still ↦ inr still
+        | inr agree ↦ inl (sym (subst (λ (x : Place). new.memory.persisted x ≡ value) (sym at) b.there) ∙ agree.0 ∙ b.cached (Value cell))
+      ]
+    ]
+    word_back keeps apart (Kind cell) at bt = elim (s.words (Kind cell)) [
+      | inl same ↦ inl (elim bt [ inl v ↦ v ∙ same | inr c ↦ c ])
+      | inr a ↦ elim (apart cell a) [
+        | inl still ↦ inr still
+        | inr agree ↦ inl (sym (subst (λ (x : Place). new.memory.persisted x ≡ value) (sym at) b.there) ∙ agree.1 ∙ b.cached (Kind cell))
+      ]
+    ]
+    word_back keeps apart r at bt = between_fits new r (old.memory.cached r) (old.memory.persisted r) value
+        (word_bears p place old new back_moves t.counted r (old.memory.cached r) (old.memory.persisted r) (λ cell is. keeps cell) (λ cell is a. elim is [ inl e ↦ cc | inr e ↦ cc ]) (s.words r)) bt
 
-    pub back_sound : ((cell : ℕ) → KeepsOwing old new cell) → (p < new.layout.processes → CallFits new p (new.situation p)) → Keeps p old new
-    back_sound keeps mine = moves_sound p place old new back_moves s (λ cell ne. keeps cell) (back_word keeps) mine
+    pub back_word : ((cell : ℕ) → KeepsOwing old new cell) → KeepsApart old new → WordFits new place (new.memory.cached place) (new.memory.persisted place)
+    back_word keeps apart = subst (λ (c : ℕ). WordFits new place c (new.memory.persisted place)) (sym (b.cached place))
+        (subst (λ (v : ℕ). WordFits new place (old.memory.cached place) v) (sym b.there) (word_back keeps apart place refl (subst (λ (l : Layout). IsBetween l place (old.memory.cached place) (old.memory.persisted place) value) (sym t.layout) between)))
 
-  pub quiet_sound : IsSound old → Moves p Version old new → ((cell : ℕ) → KeepsOwing old new cell) → (p < new.layout.processes → CallFits new p (new.situation p)) → Keeps p old new
-  quiet_sound s m keeps mine = moves_sound p Version old new m s (λ cell ne. keeps cell) tt mine
+    pub back_sound : Bears old new → AllStand new → KeepsApart old new → ((cell : ℕ) → KeepsOwing old new cell) → (p < new.layout.processes → CallFits new p (new.situation p)) → Keeps p old new
+    back_sound bears stand apart keeps mine = moves_sound p place old new back_moves t.counted s bears stand apart (λ cell ne. keeps cell) (back_word keeps apart) mine
+
+  pub quiet_sound : IsSound old → Moves p Version old new → Bears old new → AllStand new → KeepsApart old new → ((cell : ℕ) → KeepsOwing old new cell) → (p < new.layout.processes → CallFits new p (new.situation p)) → Keeps p old new
+  quiet_sound s m bears stand apart keeps mine = moves_sound p Version old new m t.counted s bears stand apart (λ cell ne. keeps cell) tt mine
 
 -- an eviction, which is nobody's
-pub evict_sound : (place : Place) (old new : World) → IsSound old → Evicts place old new → IsSound new × ((q : ℕ) → q < old.layout.processes → Rely q old new)
-evict_sound place old new s v =
-    let p : ℕ = old.layout.processes in
-    let t : Turn p old new = record { layout = v.layout; counted = v.counted; situations = λ q ne. v.situation q; pendings = λ q ne. v.pending q } in
-    let b : Backs p old new t place (old.memory.cached place) = evicted_backs p old new t place v.memory in
-    let between : IsBetween place (old.memory.cached place) (old.memory.persisted place) (old.memory.cached place) =
-    cached_between old (small_counted old s.of_sheet) place (old.memory.cached place) (old.memory.persisted place) (s.words place) in
-    let keeps : (cell : ℕ) → KeepsOwing old new cell = λ cell e issue its is same owes. (v.pending e.process ∙ is, rw (v.situation e.process) owes) in
-    let k : Keeps p old new = back_sound p old new t s place (old.memory.cached place) b between keeps (λ l. absurd (let same = ap (λ (x : _). x.processes) v.layout in omega arith)) in
-    (k.sound, λ q l. k.others q (λ same. omega arith))
+module _ (place : Place) (old new : World) (s : IsSound old) (buffered : Buffered old) (v : Evicts place old new) where
+  abbrev nobody : ℕ
+  nobody = old.layout.processes
+
+  abbrev t : Turn nobody old new
+  t = record { layout = v.layout; counted = v.counted; situations = λ q ne. v.situation q; pendings = λ q ne. v.pending q }
+
+  evicted : Backs nobody old new t place (old.memory.cached place)
+  evicted = evicted_backs nobody old new t place v.memory
+
+  between : IsBetween old.layout place (old.memory.cached place) (old.memory.persisted place) (old.memory.cached place)
+  between = cached_between old (small_counted old s.of_sheet) place (old.memory.cached place) (old.memory.persisted place) (s.words place)
+
+  moves : Moves nobody place old new
+  moves = back_moves nobody old new t s place (old.memory.cached place) evicted between
+
+  -- a mark has no holder that the sheet has not
+  not_held : (r : ℕ) → IsHeldBy nobody (old.memory.cached (Mark r)) → ⊥
+  not_held r by = let l = ((s.words (Mark r)).holder nobody by).0 in omega arith
+
+  head_back : (c : ℕ) → place ≡ Head c → (new.memory.persisted (Head c) ≡ old.memory.persisted (Head c)) ⊎ ((x : ℕ) → IsExcused new c x)
+  head_back c at =
+      let now : new.memory.persisted (Head c) ≡ old.memory.cached (Head c) = subst (λ (y : Place). new.memory.persisted y ≡ old.memory.cached y) at v.memory.there in
+      elim (s.words (Head c)).sides [
+        | inl same ↦ inl (now ∙ sym same)
+        | inr b ↦ inr (λ x. let o : IsExcused old c x = on_its_way_excuses old c (old.memory.persisted (Head c)) x s b in
+          excused_lasts nobody place old new moves c x o (λ eq. let l = o.inside in omega arith))
+      ]
+
+  evict_mine : Mine nobody place old new moves
+  evict_mine = record {
+    owes = λ r c x bit matters held o. absurd (not_held r held.by);
+    excuses = λ l c x matters o. absurd (omega arith);
+    stored = λ r at by. absurd (not_held r by);
+    holds = λ r at by. absurd (not_held r by);
+    cached_heads = λ c at. inl (v.memory.cached (Head c));
+    persisted_heads = head_back;
+  }
+
+  evict_marks : MyMarks nobody place old new moves
+  evict_marks = marks_at place refl
+    where
+      in_buffer : (c x q : ℕ) → Contains (new.memory.buffer q) (entry (Mark c) x) → Contains (old.memory.buffer q) (entry (Mark c) x)
+      in_buffer c x q h = subst (λ (xs : List (Entry Place)). Contains xs (entry (Mark c) x)) (v.memory.buffer q) h
+
+      marks_at : (r : Place) → r ≡ place → MyMarks nobody place old new moves
+      marks_at (Mark d) at = backed_marks nobody place old new moves s buffered evict_mine (text_same old new v.layout v.counted) d (old.memory.cached (Mark d)) (sym at)
+          (subst (λ (y : Place). new.memory.persisted y ≡ old.memory.cached y) (sym at) v.memory.there) (inr refl) v.memory.cached in_buffer
+      marks_at r at = no_new_marks nobody place old new moves (λ c is. let both : r ≡ Mark c = at ∙ is in cc) in_buffer
+
+  keeps_apart : KeepsApart old new
+  keeps_apart = λ cell a. inl (apart_lasts nobody place old new moves cell a (λ eq. not_held cell (subst (λ (q : ℕ). IsHeldBy q (old.memory.cached (Mark cell))) eq a.held.by)))
+
+  keeps_owing : (cell : ℕ) → KeepsOwing old new cell
+  keeps_owing cell e issue its is same before last_of owes = (v.pending e.process ∙ is,
+      subst (λ (x : Situation). Splits new e.process x e.cell (head_after_all (of_cell cell old.counted))) (sym (v.situation e.process))
+      (splits_last old new e.process (λ c. marks_grow nobody place old new moves c) (v.memory.buffer e.process) (λ c k. pends e.process c k) (old.situation e.process) e.cell _ owes))
+    where
+      pends : (h c : ℕ) → IsPending old h c → IsPending new h c
+      pends h c k = record {
+        issue = k.issue;
+        issued = v.pending h ∙ k.issued;
+        cell = k.cell;
+        cached = v.memory.cached (Announce h) ∙ k.cached;
+        persisted = elim (place_cases (Announce h) place) [
+          | inl eq ↦ subst (λ (y : Place). new.memory.persisted y ≡ old.memory.cached y) (sym eq) v.memory.there ∙ k.cached
+          | inr ne ↦ v.memory.elsewhere (Announce h) ne ∙ k.persisted
+        ];
+      }
+
+  pub evict_sound : IsSound new × ((q : ℕ) → q < old.layout.processes → Rely q old new)
+  evict_sound =
+      let k : Keeps nobody old new = back_sound nobody old new t s place (old.memory.cached place) evicted between
+          (bears nobody place old new moves s evict_mine) (all_stand nobody place old new moves s buffered evict_mine (text_same old new v.layout v.counted) evict_marks) keeps_apart keeps_owing
+          (λ l. absurd (let same = ap (λ (x : _). x.processes) v.layout in omega arith)) in
+      (k.sound, λ q l. k.others q (λ same. omega arith))

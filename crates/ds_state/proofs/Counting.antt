@@ -12,12 +12,20 @@ use Rattle.ds_layout.proofs.OrBits.{IsSubset-same}
 use Rattle.ds_layout.proofs.PlaceCases.{place_cases}
 use Rattle.ds_state.specs.World.{Edit, Issue, World, record_place, record_word, record_size, index_place, done_place, of_cell, head_after_all}
 use Rattle.ds_state.specs.Known.{AreBelow, IsDone}
-use Rattle.ds_state.specs.Calls.{Owes, CallFits}
+use Rattle.ds_state.specs.Owing.{Owes, Excuses, Splits, Parts, IsApart, IsExcused}
+use Rattle.ds_state.specs.Standing.{HasContent, AllStand}
+use Rattle.ds_state.specs.Calls.{CallFits}
 use Rattle.ds_state.specs.Words.{RefersTo, IsKept, WordFits}
 use Rattle.ds_state.specs.Sound.{IsSound, IsOfSheet, Increasing}
 use Rattle.ds_state.specs.Rely.{IsOwnedBy, Grows, Rely, Keeps}
-use Rattle.ds_state.proofs.Heads.{of_cell-append, of_cell-own, of_cell-other, cell_of-middle, parts_cases}
-use Rattle.ds_state.proofs.Stable.{safe_stable, call_stable}
+use Rattle.ds_words.specs.declared.access.Entry.{Entry}
+use Rattle.ds_state.specs.Owing.{entry}
+use Rattle.ds_state.specs.declared.situation.Situation.{Situation}
+use Rattle.ds_state.proofs.Frames.{Moves, each_moved, stays_hold}
+use Rattle.ds_state.proofs.Bearing.{Buffered, Mine, bears, all_stand, no_new_marks, parts_owe, splits_excuse, splits_last, marks_grow, pends_last, apart_lasts}
+use Rattle.ds_state.proofs.Heads.{by_append, of_cell-append, of_cell-own, of_cell-other, cell_of-middle, parts_cases}
+use Rattle.ds_state.proofs.Lasting.{safe_stable}
+use Rattle.ds_state.proofs.Stable.{call_stable}
 
 -- the edit's head takes its cell's place, and the edit counts
 pub record Counts (e : Edit) (issue : Issue) (old new : World) : Type 0 where
@@ -28,7 +36,7 @@ pub record Counts (e : Edit) (issue : Issue) (old new : World) : Type 0 where
   pub pendings : (q : ℕ) → q ≢ e.process → new.pending q ≡ old.pending q
   pub pending : new.pending e.process ≡ Some issue
   pub same : issue.edit ≡ e
-  pub owes : Owes (new.situation e.process) (head_after_all (of_cell e.cell new.counted))
+  pub owes : Splits new e.process (new.situation e.process) e.cell (head_after_all (of_cell e.cell new.counted))
 
 -- what has to stand before
 pub record MayCount (w : World) (e : Edit) : Type 0 where
@@ -39,7 +47,9 @@ pub record MayCount (w : World) (e : Edit) : Type 0 where
   pub back : w.memory.persisted (Head e.cell) ≡ head_after_all (of_cell e.cell w.counted)
   pub grows : w.memory.cached (Head e.cell) ≤ head_after_all (of_cell e.cell (w.counted ++ e ∷ []))
   pub done : (before : List Edit) (by : Edit) → of_cell e.cell w.counted ≡ before ++ by ∷ [] → IsDone w by.process by.number
-  pub owes_nothing : (head : ℕ) → Owes (w.situation e.process) head → ⊥
+  pub owes_nothing : (r c x : ℕ) → Owes w.memory e.process (w.situation e.process) r c x → ⊥
+  pub excuses_nothing : (c x : ℕ) → Excuses w e.process (w.situation e.process) c x → ⊥
+  pub splits_nothing : (c head : ℕ) → Splits w e.process (w.situation e.process) c head → ⊥
 
 increasing_push : (edits : List Edit) (e : Edit) → Increasing edits → All (λ f. f.process ≡ e.process → f.number < e.number) edits → Increasing (edits ++ e ∷ [])
 increasing_push [] e h below = (All-nil (λ (f : Edit). f.process ≡ e.process → e.number < f.number), tt)
@@ -66,22 +76,63 @@ module _ (e : Edit) (issue : Issue) (old new : World) (c : Counts e issue old ne
   other_cell : (cell : ℕ) → e.cell ≢ cell → of_cell cell new.counted ≡ of_cell cell old.counted
   other_cell cell ne = cells cell ∙ ap (λ es. of_cell cell old.counted ++ es) (of_cell-other cell e ne) ∙ append-nil (of_cell cell old.counted)
 
+  head_grows : old.memory.cached (Head e.cell) ≤ new.memory.cached (Head e.cell)
+  head_grows =
+      let now = c.memory.there in
+      let g = may.grows in
+      let all = ap (λ es. head_after_all (of_cell e.cell es)) c.counted in
+      omega arith
+
+  pub moves : Moves e.process (Head e.cell) old new
+  moves = record {
+    layout = c.layout;
+    cached = c.memory.elsewhere;
+    persisted = λ r ne. c.memory.persisted r;
+    here = (head_grows, (let same = c.memory.persisted (Head e.cell) in omega arith));
+    buffers = λ q ne. c.memory.buffer q;
+    situations = c.situations;
+    pendings = c.pendings;
+  }
+
+  excused_now : (x : ℕ) → IsExcused new e.cell x
+  excused_now x = record {
+    process = e.process;
+    inside = rw c.layout may.of_sheet.process;
+    still = splits_excuse new e.process (new.situation e.process) e.cell _ x c.owes;
+  }
+
+  mine : Mine e.process (Head e.cell) old new moves
+  mine = record {
+    owes = λ r d x bit matters held o. absurd (may.owes_nothing r d x o);
+    excuses = λ l d x matters o. absurd (may.excuses_nothing d x o);
+    stored = λ r at. absurd (elim at [ inl is ↦ cc | inr is ↦ cc ]);
+    holds = λ r at. absurd (elim at [ inl is ↦ cc | inr is ↦ cc ]);
+    cached_heads = λ d at. inr (λ x. let same : e.cell ≡ d = cc in subst (λ (y : ℕ). IsExcused new y x) same (excused_now x));
+    persisted_heads = λ d at. inl (c.memory.persisted (Head d));
+  }
+
+  text : (d head : ℕ) (content : _) → HasContent old d head content → HasContent new d head content
+  text d head content (inl none) = inl none
+  text d head content (inr h) = inr (record {
+    by = h.by;
+    gave = rw (cells d) (by_append (of_cell d old.counted) (of_cell d (e ∷ [])) head h.by h.gave);
+    reads = rw c.layout h.reads;
+  })
+
   -- for another process
   grows_other : (q : ℕ) (but : Place) → q ≢ e.process → Grows q but old new
   grows_other q but ne = record {
     layout = c.layout;
     owned_cached = λ r o apart. c.memory.elsewhere r (λ is. not_head q r o is);
     owned_persisted = λ r o apart. inl (c.memory.persisted r);
-    heads_cached = λ cell. elim (cases_eq cell e.cell) [
-      | inl eq ↦ (
-          let now = c.memory.there in
-          let g = may.grows in
-          let all = ap (λ es. head_after_all (of_cell e.cell es)) c.counted in
-          rw eq (omega arith))
-      | inr ne' ↦ (let same = c.memory.elsewhere (Head cell) (λ is. ne' cc) in omega arith)
-    ];
+    heads_cached = λ cell. (each_moved e.process (Head e.cell) old new moves (Head cell)).0;
     heads_persisted = λ cell. let same = c.memory.persisted (Head cell) in omega arith;
     marks_cached = λ cell. let same = c.memory.elsewhere (Mark cell) (λ is. cc) in omega arith;
+    marks_persisted = λ cell. let same = c.memory.persisted (Mark cell) in omega arith;
+    holds = λ cell apart. stays_hold q _ _ _ _ (c.memory.elsewhere (Mark cell) (λ is. cc)) (c.memory.persisted (Mark cell));
+    announces_cached = λ x. let same = c.memory.elsewhere (Announce x) (λ is. cc) in omega arith;
+    announces_persisted = λ x. let same = c.memory.persisted (Announce x) in omega arith;
+    values = λ cell clean. (c.memory.elsewhere (Value cell) (λ is. cc), c.memory.elsewhere (Kind cell) (λ is. cc));
     index_cached = λ row part. subset_of _ _ (c.memory.elsewhere (Index row part) (λ is. cc));
     index_persisted = λ row part. subset_of _ _ (c.memory.persisted (Index row part));
     done_cached = λ x part. subset_of _ _ (c.memory.elsewhere (Done x part) (λ is. cc));
@@ -91,11 +142,12 @@ module _ (e : Edit) (issue : Issue) (old new : World) (c : Counts e issue old ne
     foreign = All-push (λ (f : Edit). f.process ≢ q) [] e (All-nil (λ (f : Edit). f.process ≢ q)) (λ same. ne (sym same));
   }
     where
-      not_head : (q : ℕ) (r : Place) → IsOwnedBy q r → r ≡ Head e.cell → ⊥
-      not_head q r o is = subst (λ (x : Place). IsOwnedBy q x) is o
+      not_head : (q : ℕ) (r : Place) → IsOwnedBy old.memory q r → r ≡ Head e.cell → ⊥
+      not_head q r o is = subst (λ (x : Place). IsOwnedBy old.memory q x) is o
 
-  rely_other : (q : ℕ) → q ≢ e.process → Rely q old new
-  rely_other q ne = record {
+  rely_other : IsSound old → (q : ℕ) → q ≢ e.process → Rely q old new
+  rely_other s q ne = record {
+    bears = bears e.process (Head e.cell) old new moves s mine;
     situation = c.situations q ne;
     pending = c.pendings q ne;
     buffer = c.memory.buffer q;
@@ -134,6 +186,12 @@ module _ (e : Edit) (issue : Issue) (old new : World) (c : Counts e issue old ne
         ])
   ]
 
+  apart : (cell : ℕ) → IsApart old cell → IsApart new cell
+  apart cell a = elim (cases_eq a.holder e.process) [
+    | inr ne ↦ apart_lasts e.process (Head e.cell) old new moves cell a ne
+    | inl eq ↦ absurd (may.owes_nothing cell 0 0 (parts_owe old.memory e.process (old.situation e.process) cell 0 0 (subst (λ (q : ℕ). Parts (old.situation q) cell) eq a.still)))
+  ]
+
   word_counts : (r : Place) → r ≢ Head e.cell → WordFits old r (old.memory.cached r) (old.memory.persisted r) → WordFits new r (old.memory.cached r) (old.memory.persisted r)
   word_counts Version ne h = tt
   word_counts (Head cell) ne h =
@@ -145,7 +203,7 @@ module _ (e : Edit) (issue : Issue) (old new : World) (c : Counts e issue old ne
           | inl eq ↦ inl eq
           | inr b ↦ inr (
               let its : b.last.cell ≡ cell = cell_of-middle cell old.counted b.before b.last [] b.parts in
-              let other : b.last.process ≢ e.process = (λ eq. may.owes_nothing _ (subst (λ (q : ℕ). Owes (old.situation q) (head_after_all (of_cell cell old.counted))) eq b.owes)) in
+              let other : b.last.process ≢ e.process = (λ eq. may.splits_nothing _ _ (subst (λ (q : ℕ). Splits old q (old.situation q) b.last.cell (head_after_all (of_cell cell old.counted))) eq b.owes)) in
               record {
                 before = b.before;
                 last = b.last;
@@ -154,13 +212,15 @@ module _ (e : Edit) (issue : Issue) (old new : World) (c : Counts e issue old ne
                 issue = b.issue;
                 pending = c.pendings b.last.process other ∙ b.pending;
                 same = b.same;
-                owes = subst (λ (es : List Edit). Owes (new.situation b.last.process) (head_after_all es)) (sym same) (rw (c.situations b.last.process other) b.owes);
+                owes = subst (λ (es : List Edit). Splits new b.last.process (new.situation b.last.process) b.last.cell (head_after_all es)) (sym same)
+                    (subst (λ (x : Situation). Splits new b.last.process x b.last.cell (head_after_all (of_cell cell old.counted))) (sym (c.situations b.last.process other))
+                    (splits_last old new b.last.process (λ d. marks_grow e.process (Head e.cell) old new moves d) (c.memory.buffer b.last.process) (λ d k. pends_last e.process (Head e.cell) old new moves b.last.process d other k) (old.situation b.last.process) b.last.cell _ b.owes));
               })
         ];
       }
-  word_counts (Mark cell) ne h = h
-  word_counts (Value cell) ne h = tt
-  word_counts (Kind cell) ne h = tt
+  word_counts (Mark cell) ne h = record { behind = h.behind; few = h.few; holder = λ q by. rw c.layout (h.holder q by); persisted_holder = λ q by. rw c.layout (h.persisted_holder q by) }
+  word_counts (Value cell) ne h = elim h [ inl same ↦ inl same | inr a ↦ inr (apart cell a) ]
+  word_counts (Kind cell) ne h = elim h [ inl same ↦ inl same | inr a ↦ inr (apart cell a) ]
   word_counts (Index row part) ne h = record {
     sides = h.sides;
     counted = counted_cases
@@ -169,6 +229,7 @@ module _ (e : Edit) (issue : Issue) (old new : World) (c : Counts e issue old ne
         (λ f there its refers. h.counted f there its (rw (sym c.layout) refers));
   }
   word_counts (Announce q) ne h = record {
+    sides = h.sides;
     on_cached = λ n small is. kept_counts q n (h.on_cached n small is);
     on_persisted = λ n small is. kept_counts q n (h.on_persisted n small is);
   }
@@ -217,18 +278,20 @@ module _ (e : Edit) (issue : Issue) (old new : World) (c : Counts e issue old ne
     });
   }
 
-  pub counts_sound : IsSound old → CallFits new e.process (new.situation e.process) → Keeps e.process old new
-  counts_sound s mine = record {
-    others = rely_other;
+  pub counts_sound : IsSound old → Buffered old → CallFits new e.process (new.situation e.process) → Keeps e.process old new
+  counts_sound s buffered fits = record {
+    others = rely_other s;
     sound = record {
+      stand = all_stand e.process (Head e.cell) old new moves s buffered mine text
+          (no_new_marks e.process (Head e.cell) old new moves (λ d is. cc) (λ d x q h. subst (λ (xs : List (Entry Place)). Contains xs (entry (Mark d) x)) (c.memory.buffer q) h));
       words = λ r. elim (place_cases r (Head e.cell)) [
         | inl eq ↦ subst (λ (x : Place). WordFits new x (new.memory.cached x) (new.memory.persisted x)) (sym eq) head_counts
         | inr ne ↦ subst (λ (x : ℕ). WordFits new r x (new.memory.persisted r)) (sym (c.memory.elsewhere r ne))
             (subst (λ (x : ℕ). WordFits new r (old.memory.cached r) x) (sym (c.memory.persisted r)) (word_counts r ne (s.words r)))
       ];
       calls = λ q l. elim (cases_eq q e.process) [
-        | inl eq ↦ subst (λ (x : ℕ). CallFits new x (new.situation x)) (sym eq) mine
-        | inr ne ↦ rw (c.situations q ne) (call_stable old new q (old.situation q) (rely_other q ne) (s.calls q (rw (sym c.layout) l)))
+        | inl eq ↦ subst (λ (x : ℕ). CallFits new x (new.situation x)) (sym eq) fits
+        | inr ne ↦ rw (c.situations q ne) (call_stable old new q (old.situation q) (rely_other s q ne) (s.calls q (rw (sym c.layout) l)))
       ];
       of_sheet = subst (λ (es : List Edit). All (λ f. IsOfSheet new f) es) (sym c.counted) (All-push (λ (f : Edit). IsOfSheet new f) old.counted e (λ k d l. sheet (get_or old.counted k d) (s.of_sheet k d l)) (sheet e may.of_sheet));
       increasing = rw c.counted (increasing_push old.counted e s.increasing may.below);
@@ -236,4 +299,4 @@ module _ (e : Edit) (issue : Issue) (old new : World) (c : Counts e issue old ne
   }
     where
       sheet : (f : Edit) → IsOfSheet old f → IsOfSheet new f
-      sheet f h = record { process = rw c.layout h.process; number = h.number; cell = rw c.layout h.cell }
+      sheet f h = record { process = rw c.layout h.process; number = h.number; cell = rw c.layout h.cell; text = h.text }

@@ -1,24 +1,19 @@
 -- The record that a cell's head names is that of its last edit.
 use Rattle.std.proofs.Common.{ℕ, ◌≡◌, ◌<◌, ◌≤◌, ◌+◌, ◌⊎◌, List, [], ◌∷◌, ◌++◌, length, length-append, refl, ap, sym, ◌∙◌, subst, arith, inl, inr, zero, suc, get_or}
-use Rattle.std.specs.Prelude.{All, Contains, Some, None, ◌==◌}
+use Rattle.std.specs.Prelude.{All, Contains, Option, Some, None, ◌==◌}
 use Rattle.std.proofs.Math.Seq.{get_or-append_seam}
 use Rattle.std.proofs.lemmas.List.{get_or_default}
 use Rattle.std.proofs.lemmas.List.Elements.{All-filter}
-use Rattle.ds_formula.specs.Cells.{index_of}
-use Rattle.ds_formula.specs.declared.cells.Cell.{Cell}
 use Rattle.ds_layout.specs.declared.head.Head as declared
-use Rattle.ds_layout.specs.declared.layout.Layout.{Layout}
-use Rattle.ds_layout.specs.Sheet.{memory}
 use Rattle.ds_layout.specs.declared.place.Place.TheVariants as place
 use Rattle.ds_layout.specs.Places.{cells_of}
 use Rattle.ds_layout.specs.Head.{head_of}
 use Rattle.ds_layout.proofs.Packed.{head_of-head_word}
-use Rattle.ds_state.specs.Text.{IsText}
 use Rattle.ds_state.specs.World.{Edit, World, record_place, record_word, record_size, of_cell, head_after_all}
 use Rattle.ds_state.specs.Sound.{IsSound, IsOfSheet}
-use Rattle.ds_state.specs.Value.{WorldValue, world_of, IsGood}
-use Rattle.ds_state.specs.Shown.{last_text, text_in, HasRecord}
+use Rattle.ds_state.specs.Shown.{last_text, named_at, text_at, HasRecord}
 use Rattle.ds_state.proofs.Heads.{head_push}
+use Rattle.ds_state.proofs.ReadBack.{record_read}
 use Rattle.ds_state.proofs.Few.{of_cell_few}
 
 last_push : (before : List Edit) (e : Edit) → last_text (before ++ e ∷ []) ≡ e.text
@@ -36,28 +31,27 @@ last_cases (x ∷ es) = elim (last_cases es) [
 -- what is known of each edit that counts
 record Stands (w : World) (e : Edit) : Type 0 where
   of_sheet : IsOfSheet w e
-  text : IsText e.text
   words : (k : ℕ) → k < record_size e → w.memory.cached (record_place e.process e.number k) ≡ record_word e k
 
 words_stand : (w : World) (e : Edit) → IsSound w → Contains w.counted e → (k : ℕ) → k < record_size e → w.memory.cached (record_place e.process e.number k) ≡ record_word e k
 words_stand w e s there zero lt = (s.words (place.Header e.process e.number) e there refl refl lt).0
 words_stand w e s there (suc part) lt = (s.words (place.Text e.process e.number part) e there refl refl lt).0
 
-all_stand : (w : World) → IsSound w → All (λ e. IsText e.text) w.counted → All (λ e. Stands w e) w.counted
-all_stand w s texts = λ k d lt.
+all_stand : (w : World) → IsSound w → All (λ e. Stands w e) w.counted
+all_stand w s = λ k d lt.
     let e : Edit = get_or w.counted k d in
-    record { of_sheet = s.of_sheet k d lt; text = texts k d lt; words = words_stand w e s (k, lt, get_or_default w.counted k e d lt) }
+    record { of_sheet = s.of_sheet k d lt; words = words_stand w e s (k, lt, get_or_default w.counted k e d lt) }
 
-last_stands : (w : World) (cell : ℕ) (before : List Edit) (e : Edit) → IsSound w → All (λ e. IsText e.text) w.counted → of_cell cell w.counted ≡ before ++ e ∷ [] → Stands w e
+last_stands : (w : World) (cell : ℕ) (before : List Edit) (e : Edit) → IsSound w → of_cell cell w.counted ≡ before ++ e ∷ [] → Stands w e
 unfolding of_cell
-last_stands w cell before e s texts parts =
-    let all : All (λ f. Stands w f) (before ++ e ∷ []) = subst (λ (es : List Edit). All (λ f. Stands w f) es) parts (All-filter (λ f. f.cell == cell) (λ f. Stands w f) w.counted (all_stand w s texts)) in
+last_stands w cell before e s parts =
+    let all : All (λ f. Stands w f) (before ++ e ∷ []) = subst (λ (es : List Edit). All (λ f. Stands w f) es) parts (All-filter (λ f. f.cell == cell) (λ f. Stands w f) w.counted (all_stand w s)) in
     subst (λ (f : Edit). Stands w f) (get_or-append_seam before e [] e) (all (length before) e (omega (arith, length-append before (e ∷ []))))
 
 record_stands : (w : World) (e : Edit) → Stands w e → HasRecord w.memory e.process e.number e.cell e.text
 record_stands w e h = record {
   header = h.words 0 (omega arith);
-  parts = record { is = h.text; each = λ part lt. h.words (suc part) (omega arith) };
+  parts = record { is = h.of_sheet.text; each = λ part lt. h.words (suc part) (omega arith) };
 }
 
 no_head : (processes : ℕ) → head_of processes (head_after_all []) ≡ None
@@ -82,11 +76,11 @@ head_back w cell before e s h parts =
     })
 
 -- without a head the cell has no edit
-pub text_without_head : (w : World) (cell : ℕ) → IsSound w → All (λ e. IsText e.text) w.counted → head_of w.layout.processes (w.memory.cached (place.Head cell)) ≡ None
+pub text_without_head : (w : World) (cell : ℕ) → IsSound w → head_of w.layout.processes (w.memory.cached (place.Head cell)) ≡ None
     → last_text (of_cell cell w.counted) ≡ []
-text_without_head w cell s texts none = elim (last_cases (of_cell cell w.counted)) [
+text_without_head w cell s none = elim (last_cases (of_cell cell w.counted)) [
   | inl empty ↦ ap last_text empty
-  | inr b ↦ (let some = head_back w cell b.0 b.1 s (last_stands w cell b.0 b.1 s texts b.2) b.2 in absurd (cc))
+  | inr b ↦ (let some = head_back w cell b.0 b.1 s (last_stands w cell b.0 b.1 s b.2) b.2 in absurd (cc))
 ]
 
 -- an edit whose text the record has
@@ -96,13 +90,13 @@ pub record HasText (w : World) (process number : ℕ) (text : List ℕ) : Type 0
   pub stands : HasRecord w.memory process number cell text
 
 -- with one, the record that it names has the text of its last edit
-pub text_at_head : (w : World) (cell : ℕ) (head : declared.Head) → IsSound w → All (λ e. IsText e.text) w.counted → head_of w.layout.processes (w.memory.cached (place.Head cell)) ≡ Some head
+pub text_at_head : (w : World) (cell : ℕ) (head : declared.Head) → IsSound w → head_of w.layout.processes (w.memory.cached (place.Head cell)) ≡ Some head
     → HasText w head.process head.number (last_text (of_cell cell w.counted))
-text_at_head w cell head s texts some = elim (last_cases (of_cell cell w.counted)) [
+text_at_head w cell head s some = elim (last_cases (of_cell cell w.counted)) [
   | inl empty ↦ (let none : head_of w.layout.processes (w.memory.cached (place.Head cell)) ≡ None = ap (λ word. head_of w.layout.processes word) ((s.words (place.Head cell)).last ∙ ap head_after_all empty) ∙ no_head w.layout.processes in absurd (cc))
   | inr b ↦ (
       let e : Edit = b.1 in
-      let h : Stands w e = last_stands w cell b.0 e s texts b.2 in
+      let h : Stands w e = last_stands w cell b.0 e s b.2 in
       let found = head_back w cell b.0 e s h b.2 in
       let process : head.process ≡ e.process = cc in
       let number : head.number ≡ e.number = cc in
@@ -114,20 +108,10 @@ text_at_head w cell head s texts some = elim (last_cases (of_cell cell w.counted
       })
 ]
 
--- as it is found: the layout, the cell's number and the word of its head
-module _ (v : WorldValue) (g : IsGood v) (cell : Cell) (layout : Layout) (at word : ℕ) (l : layout ≡ v.sheet.layout) (a : at ≡ index_of layout.shape cell) (w : word ≡ (memory v.sheet).cached (place.Head at)) where
-  number : ℕ
-  number = index_of v.sheet.layout.shape cell
+-- what processes see of a cell's text is that of its last edit
+by_head : (w : World) (cell : ℕ) → IsSound w → (found : Option declared.Head) → head_of w.layout.processes (w.memory.cached (place.Head cell)) ≡ found → named_at w.layout w.memory found ≡ last_text (of_cell cell w.counted)
+by_head w cell s None is = sym (text_without_head w cell s is)
+by_head w cell s (Some head) is = let h = text_at_head w cell head s is in record_read w.layout w.memory head.process head.number h.cell (last_text (of_cell cell w.counted)) h.within h.stands
 
-  found : head_of v.sheet.layout.processes ((memory v.sheet).cached (place.Head number)) ≡ head_of layout.processes word
-  unfolding number
-  found = ap (λ (n : ℕ). head_of v.sheet.layout.processes ((memory v.sheet).cached (place.Head n))) (sym (a ∙ ap (λ (x : Layout). index_of x.shape cell) l))
-      ∙ ap (λ (n : ℕ). head_of v.sheet.layout.processes n) (sym w) ∙ ap (λ (x : Layout). head_of x.processes word) (sym l)
-
-  pub text_found : (head : declared.Head) → head_of layout.processes word ≡ Some head → HasText (world_of v) head.process head.number (text_in (world_of v) cell)
-  unfolding number
-  text_found head is = text_at_head (world_of v) number head g.sound g.texts (found ∙ is)
-
-  pub text_not_found : head_of layout.processes word ≡ None → text_in (world_of v) cell ≡ []
-  unfolding number
-  text_not_found is = text_without_head (world_of v) number g.sound g.texts (found ∙ is)
+pub text_right : (w : World) (cell : ℕ) → IsSound w → text_at w.layout w.memory cell ≡ last_text (of_cell cell w.counted)
+text_right w cell s = by_head w cell s (head_of w.layout.processes (w.memory.cached (place.Head cell))) refl

@@ -1,5 +1,5 @@
 -- A world that is made anew is good.
-use Rattle.std.proofs.Common.{ℕ, ◌≡◌, ◌≤◌, ◌+◌, ◌*◌, ◌++◌, List, [], ◌∷◌, get_or, replicate, refl, sym, ◌∙◌, subst, zero, suc, Option, None}
+use Rattle.std.proofs.Common.{ℕ, ◌≡◌, ◌≤◌, ◌+◌, ◌*◌, ◌++◌, List, [], ◌∷◌, get_or, replicate, refl, sym, ◌∙◌, subst, arith, zero, suc, Option, None}
 use Rattle.std.proofs.lemmas.List.{length-replicate, replicate_more}
 use Rattle.std.proofs.lemmas.List.Elements.{All-nil}
 use Rattle.ds_words.specs.Memory.{IsFresh}
@@ -42,7 +42,7 @@ made_kept sheet processes room fresh same enough = record {
     sound = new_sound (world_of (made sheet processes)) (made_new sheet processes fresh);
     situations = length-replicate processes (Idle 0) ∙ sym same;
     pending = length-replicate {A = Option Issue} processes None ∙ sym same;
-    texts = All-nil (λ (e : Edit). IsText e.text);
+    answered = record { closed = []; as_many = refl; once = tt; count = λ e inside. inside; answered = λ e issue inside at is. absurd (let l = inside.1 in omega arith) };
     reports = record { cells = refl; processes = length-replicate {A = List Value} processes [] ∙ sym same };
   };
   reserved = subst (λ (n : ℕ). n * RECORDS ≤ room) (sym same) enough;

@@ -4,6 +4,18 @@ use Rattle.std.specs.Prelude.{All, Contains}
 use Rattle.std.specs.Int.{bit_at}
 use Rattle.std.proofs.lemmas.Nat.Bits.{bit_at-zero}
 use Rattle.std.proofs.lemmas.List.Elements.{All-nil, All-contains}
+use Rattle.std.specs.Prelude.{Bool, false, if◌then◌else◌, min, ◌==◌}
+use Rattle.std.proofs.Common.{◌≤◌, inr}
+use Rattle.std.proofs.Math.Nat.{le-mul_of_pos_right}
+use Rattle.std.proofs.lemmas.Bool.Decides.{eqb_tells}
+use Rattle.ds_formula.specs.declared.cells.Shape.{Shape}
+use Rattle.ds_formula.specs.declared.cells.Cell.{Cell}
+use Rattle.ds_formula.specs.Cells.{count_of}
+use Rattle.ds_formula.specs.Plain.{Empty}
+use Rattle.ds_eval.specs.declared.value.Value.TheVariants as values
+use Rattle.ds_eval.specs.declared.inputs.Entry as entries
+use Rattle.ds_eval.specs.Local.{local, entry_at}
+use Rattle.ds_state.specs.Standing.{value_for, word_for, AllStand}
 use Rattle.ds_layout.specs.declared.place.Place.{Place}
 use Rattle.ds_layout.specs.declared.place.Place.TheVariants.{Version, Head, Mark, Value, Kind, Index, Announce, Header, Text, Done}
 use Rattle.ds_layout.specs.Bits.{HasBit, IsSubset}
@@ -40,11 +52,11 @@ nothing_counts w e z h = All-contains (λ f. ⊥) w.counted e (none_in (λ f. �
 new_word : (w : World) → w.counted ≡ [] → (r : Place) (c p : ℕ) → c ≡ 0 → p ≡ 0 → WordFits w r c p
 new_word w z Version c p a b = tt
 new_word w z (Head cell) c p a b = record { last = a ∙ sym (no_head cell w.counted z); sides = inl (b ∙ sym a) }
-new_word w z (Mark cell) c p a b = omega arith
-new_word w z (Value cell) c p a b = tt
-new_word w z (Kind cell) c p a b = tt
+new_word w z (Mark cell) c p a b = record { behind = omega arith; few = omega arith; holder = λ q by. absurd (omega arith); persisted_holder = λ q by. absurd (omega arith) }
+new_word w z (Value cell) c p a b = inl (b ∙ sym a)
+new_word w z (Kind cell) c p a b = inl (b ∙ sym a)
 new_word w z (Index row part) c p a b = record { sides = no_bits p c b; counted = λ e h k r. absurd (nothing_counts w e z h) }
-new_word w z (Announce q) c p a b = record { on_cached = λ n small is. absurd (omega arith); on_persisted = λ n small is. absurd (omega arith) }
+new_word w z (Announce q) c p a b = record { sides = omega arith; on_cached = λ n small is. absurd (omega arith); on_persisted = λ n small is. absurd (omega arith) }
 new_word w z (Header q n) c p a b = λ e h i j k. absurd (nothing_counts w e z h)
 new_word w z (Text q n part) c p a b = λ e h i j k. absurd (nothing_counts w e z h)
 new_word w z (Done q part) c p a b = record {
@@ -53,13 +65,35 @@ new_word w z (Done q part) c p a b = record {
   told = λ n small e has. absurd (no_bit c n a has);
 }
 
+-- an empty content has the entry of two zero words
+empty_entry : (shape : Shape) (u : Cell → entries.Entry) → local shape Empty u ≡ record { value = values.Blank; height = 0 }
+empty_entry shape u =
+    let n : ℕ = count_of shape in
+    let some : 1 ≤ n = (let a = shape.within.some_columns in let b = le-mul_of_pos_right shape.columns (shape.within.some_rows) in omega arith) in
+    let z : min n 0 ≡ 0 = omega arith in
+    let f : 0 == n ≡ false = elim (eqb_tells 0 n) [ inl same ↦ absurd (let e = same.1 in omega arith) | inr differ ↦ differ.0 ] in
+    ap (λ (h : ℕ). entry_at shape Empty u h) z ∙ ap (λ (b : Bool). record { value = if b then values.Circular else values.Blank; height = 0 }) f
+
+new_stands : (w : World) → IsNew w → AllStand w
+new_stands w is =
+    let fresh = is.memory in
+    let u : Cell → entries.Entry = (λ d. record { value = values.Blank; height = 0 }) in
+    let value : value_for (local w.layout.shape Empty u) ≡ 0 = ap (λ (e : entries.Entry). value_for e) (empty_entry w.layout.shape u) in
+    let kind : word_for (local w.layout.shape Empty u) ≡ 0 = ap (λ (e : entries.Entry). word_for e) (empty_entry w.layout.shape u) in
+    record {
+      on_cached = λ c clean. inr (record { content = Empty; has = inl (fresh.cached (Head c), refl); inputs = u; on_value = fresh.cached (Value c) ∙ sym value; on_kind = fresh.cached (Kind c) ∙ sym kind; near = λ d refers inside. absurd refers });
+      on_persisted = λ c x clean d. inr (record { content = Empty; has = inl (fresh.persisted (Head c), refl); inputs = u; on_value = fresh.persisted (Value c) ∙ sym value; on_kind = fresh.persisted (Kind c) ∙ sym kind; near = λ d refers inside. absurd refers });
+    }
+
 pub new_sound : (w : World) → IsNew w → IsSound w
 new_sound w is =
     let fresh = is.memory in
     record {
+      stand = new_stands w is;
       words = λ r. new_word w is.counted r (w.memory.cached r) (w.memory.persisted r) (fresh.cached r) (fresh.persisted r);
       calls = λ p l. subst (λ (s : Situation). CallFits w p s) (sym (is.situation p)) (record {
         number = omega arith;
+        holds_none = λ r by. absurd (let z = fresh.cached (Mark r) in omega arith);
         pending = is.pending p;
         buffer = fresh.buffer p;
         below = none_in (λ f. f.process ≡ p → f.number < 0) w.counted is.counted;

@@ -4,69 +4,26 @@ use Rattle.std.specs.Prelude.{All, Option, if◌then◌else◌}
 use Rattle.std.proofs.lemmas.List.{take-append-le}
 use Rattle.std.proofs.lemmas.Bool.Decides.{eqb_tells}
 use Rattle.std.proofs.lemmas.List.Elements.{All-append, All-weaker, All-same, All-head, All-tail}
+use Rattle.ds_words.specs.Memory.{Memory}
 use Rattle.ds_layout.specs.declared.place.Place.{Place}
 use Rattle.ds_layout.specs.declared.place.Place.TheVariants.{Version, Announce}
 use Rattle.ds_layout.specs.declared.announcement.Phase.TheVariants as phase
 use Rattle.ds_layout.proofs.OrBits.{HasBit-subset, IsSubset-both}
 use Rattle.ds_state.specs.Edits.{PlainEdit, text_parts}
-use Rattle.ds_state.specs.World.{Edit, edit_of, World, record_place, done_place, of_cell, of_cell_when, head_after_all, IsHeadBy, phase_among, is_edit_of, last_announcement, announcement}
+use Rattle.ds_state.specs.World.{Edit, Issue, edit_of, World, record_size, record_place, done_place, of_cell, of_cell_when, head_after_all, IsHeadBy, phase_among, is_edit_of, last_announcement, announcement}
 use Rattle.ds_state.specs.Known.{Standing, outside, inside, safe, Announced, last, pending, ended, Noted, nothing, head_noted, head_back, bit_set, bit_back, came_late, Known, known_at, AreBelow, IsSafe, StandsAs, IsRecorded, word_of, IsAnnounced, row_of, IsIndexedTo, IsOred, IsDone, IsWhen, IsNoted, Knows, Knowing}
-use Rattle.ds_state.specs.Calls.{Held, empty, record_words, announcing_word, row_bits, done_bits, head_from, mark, held_at, entry, Holds, CallFits, IsSheetOf, HasRefs}
+use Rattle.ds_state.specs.Owing.{entry}
+use Rattle.ds_state.specs.Calls.{Held, empty, record_words, announcing_word, row_bits, done_bits, head_from, mark, held_at, Holds, CallFits, IsSheetOf, HasRefs, DoubtFits, IsInDoubt, IsWritten}
+use Rattle.ds_state.specs.KnownWork.{IsAtRest}
 use Rattle.ds_state.specs.Rely.{IsOwnedBy, Grows, Rely}
 use Rattle.ds_state.specs.declared.situation.Situation.{Situation}
-use Rattle.ds_state.specs.declared.situation.Situation.TheVariants.{Idle, Stopped, Editing}
+use Rattle.ds_state.specs.declared.situation.Situation.TheVariants.{Idle, Stopped, Editing, Working, Recovering, Showing}
 use Rattle.ds_state.proofs.Heads.{of_cell-append, by_append}
-
-at_most : {a b c : ℕ} → a ≤ b → b ≤ c → a ≤ c
-at_most h k = omega arith
-
--- edits of others tell nothing of a process's own
-phase_append : (xs ys : List Edit) (p n : ℕ) → All (λ e. e.process ≢ p) ys → phase_among (xs ++ ys) p n ≡ phase_among xs p n
-phase_append [] [] p n h = refl
-phase_append [] (y ∷ ys) p n h =
-    let other : y.process ≢ p = All-head (λ (e : Edit). e.process ≢ p) y ys h in
-    elim (eqb_tells y.process p) [
-      | inl same ↦ absurd (other same.1)
-      | inr differs ↦ rw differs.0 (phase_append [] ys p n (All-tail (λ (e : Edit). e.process ≢ p) y ys h))
-    ]
-phase_append (x ∷ xs) ys p n h = ap (λ rest. if is_edit_of p n x then phase.Done else rest) (phase_append xs ys p n h)
-
-pub last_append : (xs ys : List Edit) (p n : ℕ) → All (λ e. e.process ≢ p) ys → last_announcement (xs ++ ys) p n ≡ last_announcement xs p n
-last_append xs ys p zero h = refl
-last_append xs ys p (suc n) h = ap (λ f. announcement n f) (phase_append xs ys p n h)
-
--- a record's word is its process's own
-pub record_owned : (p n k : ℕ) → IsOwnedBy p (record_place p n k)
-record_owned p n zero = refl
-record_owned p n (suc k) = refl
-
-module _ (q : ℕ) (but : Place) (old new : World) (g : Grows q but old new) where
-  pub below_stable : (n : ℕ) → AreBelow old q n → AreBelow new q n
-  below_stable n h = All-same (λ e. e.process ≡ q → e.number < n) new.counted (old.counted ++ g.added) g.counted
-      (All-append (λ e. e.process ≡ q → e.number < n) old.counted g.added h
-      (All-weaker (λ e. e.process ≢ q) (λ e. e.process ≡ q → e.number < n) (λ e h k. absurd (h k)) g.added g.foreign))
-
-  pub by_stable : (cell word : ℕ) (e : Edit) → IsHeadBy (of_cell cell old.counted) word e → IsHeadBy (of_cell cell new.counted) word e
-  by_stable cell word e h = rw (g.counted, of_cell-append) (by_append (of_cell cell old.counted) (of_cell cell g.added) word e h)
-
-  pub last_stable : (n : ℕ) → last_announcement new.counted q n ≡ last_announcement old.counted q n
-  last_stable n = ap (λ es. last_announcement es q n) g.counted ∙ last_append old.counted g.added q n g.foreign
-
-  pub when_stable : (cell count : ℕ) → count ≤ length old.counted → of_cell_when new cell count ≡ of_cell_when old cell count
-  when_stable cell count l = ap (λ es. of_cell cell (take count es)) g.counted ∙ ap (λ es. of_cell cell es) (take-append-le count old.counted g.added l)
-
-  pub longer : length old.counted ≤ length new.counted
-  longer = let l = ap length g.counted in omega (arith, length-append old.counted g.added)
-
-  pub safe_stable : (e : Edit) → IsSafe old e → IsSafe new e
-  safe_stable e h = record {
-    own = h.own;
-    head = by_stable e.cell h.own e h.head;
-    persisted = at_most h.persisted (g.heads_persisted e.cell);
-  }
-
-  pub done_stable : (p n : ℕ) → IsDone old p n → IsDone new p n
-  done_stable p n h = HasBit-subset (old.memory.persisted (done_place p n)) (new.memory.persisted (done_place p n)) n (g.done_persisted p _) h
+use Rattle.ds_state.proofs.Lasting.{at_most, last_append, record_owned, below_stable, by_stable, last_stable, when_stable, longer, safe_stable, done_stable}
+use Rattle.ds_state.specs.KnownRecovery.{freed_at, resolved_at, recovery_held}
+use Rattle.ds_state.proofs.StableRecovery.{freed_stable, resolved_stable, held_stable, own_words}
+use Rattle.ds_state.proofs.StableWork.{work_stable}
+use Rattle.ds_state.proofs.StableShow.{show_stable}
 
 module _ (but : Place) (old new : World) (e : Edit) (g : Grows e.process but old new) where
   pub standing_stable : (s : Standing) → StandsAs old e s → StandsAs new e s
@@ -82,8 +39,8 @@ module _ (but : Place) (old new : World) (e : Edit) (g : Grows e.process but old
 
   pub recorded_stable : ((k : ℕ) → record_place e.process e.number k ≢ but) → (stored back : ℕ) → IsRecorded old e stored back → IsRecorded new e stored back
   recorded_stable apart stored back h = record {
-    cached = λ k l. g.owned_cached (record_place e.process e.number k) (record_owned e.process e.number k) (apart k) ∙ h.cached k l;
-    persisted = λ k l. elim (g.owned_persisted (record_place e.process e.number k) (record_owned e.process e.number k) (apart k)) [
+    cached = λ k l. g.owned_cached (record_place e.process e.number k) (record_owned old.memory e.process e.number k) (apart k) ∙ h.cached k l;
+    persisted = λ k l. elim (g.owned_persisted (record_place e.process e.number k) (record_owned old.memory e.process e.number k) (apart k)) [
       | inl same ↦ same ∙ h.persisted k l
       | inr now ↦ (let f = h.fewer in now ∙ h.cached k (omega arith))
     ];
@@ -171,7 +128,7 @@ module _ (but : Place) (old new : World) (e : Edit) (g : Grows e.process but old
   holds_stable same (row_bits row) h = record { value = h.value; alone = same ∙ h.alone; is = record { has = h.is.has; subset = IsSubset-both _ _ _ h.is.subset (g.index_cached _ _) } }
   holds_stable same (done_bits p n) h = record { value = h.value; alone = same ∙ h.alone; is = record { has = h.is.has; subset = IsSubset-both _ _ _ h.is.subset (g.done_cached _ _) } }
   holds_stable same (head_from least) h = record { value = h.value; alone = same ∙ h.alone; is = record { enough = h.is.enough; by = h.is.by; head = by_stable e.process but old new g e.cell h.value h.is.by h.is.head } }
-  holds_stable same mark h = record { value = h.value; alone = same ∙ h.alone; is = at_most h.is (g.marks_cached e.cell) }
+  holds_stable same mark h = record { value = h.value; alone = same ∙ h.alone; is = (at_most h.is.0 (g.marks_cached e.cell), λ q by. rw g.layout (h.is.1 q by)) }
 
 Grows_at : (p q : ℕ) (but : Place) (old new : World) → p ≡ q → Grows p but old new → Grows q but old new
 Grows_at p q but old new same g = subst (λ (x : ℕ). Grows x but old new) same g
@@ -187,12 +144,77 @@ pub record_no_version : (p n k : ℕ) → record_place p n k ≢ Version
 record_no_version p n zero = λ same. cc
 record_no_version p n (suc k) = λ same. cc
 
+pub written_stable : (but : Place) (old new : World) (e : Edit) → Grows e.process but old new → ((k : ℕ) → record_place e.process e.number k ≢ but) → (a : Announced) → IsWritten old e a → IsWritten new e a
+written_stable but old new e g apart last h = tt
+written_stable but old new e g apart pending h = recorded_stable but old new e g apart (record_size e) (record_size e) h
+written_stable but old new e g apart (ended how) h = recorded_stable but old new e g apart (record_size e) (record_size e) h
+
+-- how a process's last edit ended, or is in doubt, stays where its announcement and its records do
+pub doubt_grows : (but : Place) (old new : World) (q : ℕ) → Grows q but old new → new.pending q ≡ old.pending q → Announce q ≢ but → ((n k : ℕ) → record_place q n k ≢ but)
+    → (o : Option Issue) → DoubtFits old q o → DoubtFits new q o
+doubt_grows but old new q g pends announce record' None h = record { next = h.next; rest = rest_at h.next h.rest }
+  where
+    rest_at : (next : ℕ) → IsAtRest old q next → IsAtRest new q next
+    rest_at next k = record {
+      number = k.number;
+      pending = pends ∙ k.pending;
+      below = below_stable q but old new g next k.below;
+      cached = g.owned_cached (Announce q) refl announce ∙ k.cached ∙ sym (last_stable q but old new g next);
+      persisted = elim (g.owned_persisted (Announce q) refl announce) [
+        | inl same ↦ same ∙ k.persisted ∙ sym (last_stable q but old new g next)
+        | inr caught ↦ caught ∙ k.cached ∙ sym (last_stable q but old new g next)
+      ];
+    }
+doubt_grows but old new q g' pends announce record' (Some issue) h =
+    let e : Edit = issue.edit in
+    let g : Grows e.process but old new = Grows_at q e.process but old new (sym h.mine) g' in
+    let apart : (k : ℕ) → record_place e.process e.number k ≢ but = subst (λ (x : ℕ). (k : ℕ) → record_place x e.number k ≢ but) (sym h.mine) (record' e.number) in
+    let cached' : new.memory.cached (Announce q) ≡ word_of new e h.now = g'.owned_cached (Announce q) refl announce ∙ h.cached ∙ sym (word_stable but old new e g h.now) in
+    elim (g'.owned_persisted (Announce q) refl announce) [
+      | inl same ↦ record {
+        mine = h.mine;
+        number = h.number;
+        cell = rw g'.layout h.cell;
+        text = h.text;
+        standing = h.standing;
+        stands = standing_stable but old new e g h.standing h.stands;
+        before = h.before;
+        now = h.now;
+        cached = cached';
+        persisted = same ∙ h.persisted ∙ sym (word_stable but old new e g h.before);
+        said = h.said;
+        said_before = h.said_before;
+        order = h.order;
+        written = written_stable but old new e g apart h.now h.written;
+      }
+      | inr caught ↦ record {
+        mine = h.mine;
+        number = h.number;
+        cell = rw g'.layout h.cell;
+        text = h.text;
+        standing = h.standing;
+        stands = standing_stable but old new e g h.standing h.stands;
+        before = h.now;
+        now = h.now;
+        cached = cached';
+        persisted = caught ∙ h.cached ∙ sym (word_stable but old new e g h.now);
+        said = h.said;
+        said_before = h.said;
+        order = omega arith;
+        written = written_stable but old new e g apart h.now h.written;
+      }
+    ]
+
+doubt_stable : (old new : World) (q : ℕ) → Rely q old new → (o : Option Issue) → DoubtFits old q o → DoubtFits new q o
+doubt_stable old new q r o h = doubt_grows Version old new q (r.grows Version) r.pending (λ same. cc) (λ n k. record_no_version q n k) o h
+
 -- what a call knows stays while another process steps
 pub call_stable : (old new : World) (q : ℕ) (s : Situation) → Rely q old new → CallFits old q s → CallFits new q s
 call_stable old new q (Idle next) r h =
     let g = r.grows Version in
     record {
       number = h.number;
+      holds_none = λ x by. h.holds_none x ((g.holds x (λ same. cc)).came by);
       pending = r.pending ∙ h.pending;
       buffer = r.buffer ∙ h.buffer;
       below = below_stable q Version old new g next h.below;
@@ -202,7 +224,7 @@ call_stable old new q (Idle next) r h =
         | inr caught ↦ caught ∙ h.cached ∙ sym (last_stable q Version old new g next)
       ];
     }
-call_stable old new q Stopped r h = r.buffer ∙ h
+call_stable old new q Stopped r h = record { buffer = r.buffer ∙ h.buffer; doubt = subst (λ (o : Option Issue). DoubtFits new q o) (sym r.pending) (doubt_stable old new q r (old.pending q) h.doubt) }
 call_stable old new q (Editing e) r h =
     let g : Grows e.process Version old new = Grows_at q e.process Version old new (sym h.mine) (r.grows Version) in
     let l = longer e.process Version old new g in
@@ -215,6 +237,23 @@ call_stable old new q (Editing e) r h =
       since = h.since;
       pending = r.pending ∙ h.pending;
       issued = omega arith;
+      holds_none = λ x by. h.holds_none x ((g.holds x (λ same. cc)).came by);
       knows = knowing_stable Version old new (edit_of e) g (record_no_version e.process e.number) (λ same. cc) e.refs h.since (known_at (text_parts e.text) (length e.refs) e.stage) h.knows;
       buffer = holds_stable Version old new (edit_of e) g (ap new.memory.buffer h.mine ∙ r.buffer ∙ ap old.memory.buffer (sym h.mine)) (held_at (text_parts e.text) e.refs e.stage) h.buffer;
     }
+call_stable old new q (Working e) r h = work_stable old new q e r h
+call_stable old new q (Recovering e) r h =
+    let g : Grows e.process Version old new = Grows_at q e.process Version old new (sym h.mine) (r.grows Version) in
+    let pends : new.pending e.process ≡ old.pending e.process = ap new.pending h.mine ∙ r.pending ∙ ap old.pending (sym h.mine) in
+    record {
+      mine = h.mine;
+      cells = rw g.layout h.cells;
+      processes = rw g.layout h.processes;
+      doubt = subst (λ (o : Option Issue). DoubtFits new q o) (sym r.pending) (doubt_stable old new q r (old.pending q) h.doubt);
+      freed = freed_stable old new e.process g e.mark (freed_at e.stage) h.freed;
+      resolved = resolved_stable old new e.process g pends e.announcement e.cell (resolved_at e.stage) h.resolved;
+      buffer = held_stable old new e.process g pends (ap new.memory.buffer h.mine ∙ r.buffer ∙ ap old.memory.buffer (sym h.mine)) e.announcement e.cell (recovery_held e.cell e.stage)
+          (own_words old e.process e.mark e.cell e.stage h.freed) h.buffer;
+      row = h.row;
+    }
+call_stable old new q (Showing e) r h = show_stable old new q e r h

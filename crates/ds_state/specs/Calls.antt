@@ -1,5 +1,5 @@
 -- What each process knows, and what its buffer holds.
-use Rattle.std.specs.Prelude.{ℕ, ◌≡◌, ◌≤◌, ◌-◌, List, [], ◌∷◌, length, map, Some, None, Contains, slice_index_or, suc}
+use Rattle.std.specs.Prelude.{ℕ, ◌≡◌, ◌<◌, ◌≤◌, ◌-◌, List, [], ◌∷◌, length, map, Option, Some, None, Contains, slice_index_or, suc}
 use Rattle.std.specs.List.{range_with_len}
 use Rattle.ds_words.specs.declared.access.Entry.{Entry}
 use Rattle.ds_formula.specs.Cells.{index_of}
@@ -8,7 +8,7 @@ use Rattle.ds_formula.specs.declared.cells.Shape.{Shape}
 use Rattle.ds_formula.specs.Plain.{Plain}
 use Rattle.ds_formula.specs.Refs.{Refers}
 use Rattle.ds_formula.specs.Grammar.{Reads}
-use Rattle.ds_layout.specs.declared.place.TheConstants.{RECORDS}
+use Rattle.ds_layout.specs.declared.place.TheConstants.{RECORDS, TEXT_BYTES}
 use Rattle.ds_layout.specs.declared.place.Place.{Place}
 use Rattle.ds_layout.specs.declared.place.Place.TheVariants as place
 use Rattle.ds_layout.specs.declared.layout.Layout.{Layout}
@@ -16,12 +16,18 @@ use Rattle.ds_layout.specs.Places.{class_of, cells_of}
 use Rattle.ds_layout.specs.Head.{head_word}
 use Rattle.ds_layout.specs.Bits.{HasBit, IsSubset}
 use Rattle.ds_state.specs.Edits.{PlainEdit, IsEdit, text_parts}
-use Rattle.ds_state.specs.World.{Edit, edit_of, World, record_place, record_word, index_place, done_place, of_cell, IsHeadBy, last_announcement}
-use Rattle.ds_state.specs.Known.{Announced, pending, ended, word_of, AreBelow, known_at, Knowing}
+use Rattle.ds_state.specs.World.{Edit, Issue, edit_of, World, record_place, record_word, record_size, index_place, done_place, of_cell, IsHeadBy, last_announcement}
+use Rattle.ds_state.specs.Known.{Standing, outside, inside, safe, Announced, last, pending, ended, word_of, AreBelow, StandsAs, IsRecorded, known_at, Knowing}
+use Rattle.ds_state.specs.Owing.{entry, IsMark, HoldsNone}
+use Rattle.ds_state.specs.declared.stage.Outcome.TheVariants.{Done, Overtaken}
+use Rattle.ds_state.specs.KnownWork.{IsAtRest, WorkFits}
+use Rattle.ds_state.specs.KnownShow.{ShowFits}
+use Rattle.ds_state.specs.Works.{PlainRecovery}
+use Rattle.ds_state.specs.KnownRecovery.{FreedFits, freed_at, ResolvedFits, resolved_at, RecoveryHolds, recovery_held, RowCounts}
 use Rattle.ds_state.specs.declared.stage.Stage.{Stage}
 use Rattle.ds_state.specs.declared.stage.Stage.TheVariants.{FlushText, BackRecord, BackPending, BackIndex, BackNoted, BackDone, FlushOwn, BackOwn, BackMark, BackOutcome}
 use Rattle.ds_state.specs.declared.situation.Situation.{Situation}
-use Rattle.ds_state.specs.declared.situation.Situation.TheVariants.{Idle, Stopped, Editing}
+use Rattle.ds_state.specs.declared.situation.Situation.TheVariants.{Idle, Stopped, Editing, Working, Recovering, Showing}
 
 -- what an edit's buffer holds: nothing; so many words of its record from this one on; its announcement; bits of the row
 -- of a reference, its cell's among them; done bits, this edit's among them; a head of its cell, this one or a later one;
@@ -47,10 +53,6 @@ held_at parts refs (BackOwn own) = head_from own
 held_at parts refs (BackMark own) = mark
 held_at parts refs (BackOutcome how) = announcing_word (ended how)
 held_at parts refs _ = empty
-
--- an entry of a buffer
-abbrev pub entry : Place → ℕ → Entry Place
-entry r value = record { place = r; class = class_of r; value = value }
 
 -- that of a word of the edit's record
 abbrev pub record_entry : Edit → ℕ → Entry Place
@@ -81,7 +83,7 @@ Holds w e (announcing_word a) = w.memory.buffer e.process ≡ entry (place.Annou
 Holds w e (row_bits row) = HasOne w e.process (index_place row e.cell) (IsBits w (index_place row e.cell) e.cell)
 Holds w e (done_bits process number) = HasOne w e.process (done_place process number) (IsBits w (done_place process number) number)
 Holds w e (head_from least) = HasOne w e.process (place.Head e.cell) (IsHeadFrom w e.cell least)
-Holds w e mark = HasOne w e.process (place.Mark e.cell) (λ value. value ≤ w.memory.cached (place.Mark e.cell))
+Holds w e mark = HasOne w e.process (place.Mark e.cell) (λ value. (value ≤ w.memory.cached (place.Mark e.cell)) × IsMark w.layout e.cell value)
 
 -- the sheet has as many cells and processes as the edit says
 pub record IsSheetOf (layout : Layout) (e : PlainEdit) : Type 0 where
@@ -103,32 +105,88 @@ pub record EditFits (w : World) (p : ℕ) (e : PlainEdit) : Type 0 where
   pub since : ℕ
   pub pending : w.pending p ≡ Some (record { edit = edit_of e; since = since })
   pub issued : since ≤ length w.counted
+  pub holds_none : HoldsNone w e.process
   pub knows : Knowing w (edit_of e) e.refs since (known_at (text_parts e.text) (length e.refs) e.stage)
   pub buffer : Holds w (edit_of e) (held_at (text_parts e.text) e.refs e.stage)
 
 -- an idle process has no edit that is not answered, nothing in its buffer, and announces how its last edit ended
 pub record IdleFits (w : World) (p next : ℕ) : Type 0 where
   pub number : next ≤ RECORDS
+  pub holds_none : HoldsNone w p
   pub pending : w.pending p ≡ None
   pub buffer : w.memory.buffer p ≡ []
   pub below : AreBelow w p next
   pub cached : w.memory.cached (place.Announce p) ≡ last_announcement w.counted p next
   pub persisted : w.memory.persisted (place.Announce p) ≡ last_announcement w.counted p next
 
+-- what an edit in doubt may announce, on either side: how the one before it ended, where it does not count; that it is
+-- pending; how it ended, where that is settled
+abbrev pub MaySay : Standing → Announced → Type 0
+MaySay outside last = Unit {0}
+MaySay outside pending = Unit {0}
+MaySay outside (ended (Overtaken noted seen)) = Unit {0}
+MaySay (inside own) pending = Unit {0}
+MaySay safe pending = Unit {0}
+MaySay safe (ended Done) = Unit {0}
+MaySay _ _ = ⊥
+
+abbrev pub rank : Announced → ℕ
+rank last = 0
+rank pending = 1
+rank (ended how) = 2
+
+-- once it is announced, its record stands
+abbrev pub IsWritten : World → Edit → Announced → Type 0
+IsWritten w e last = Unit {0}
+IsWritten w e _ = IsRecorded w e (record_size e) (record_size e)
+
+-- an edit that its process left, when it stopped
+pub record IsInDoubt (w : World) (p : ℕ) (issue : Issue) : Type 0 where
+  pub mine : issue.edit.process ≡ p
+  pub number : issue.edit.number < RECORDS
+  pub cell : issue.edit.cell < cells_of w.layout
+  pub text : length issue.edit.text ≤ TEXT_BYTES
+  pub standing : Standing
+  pub stands : StandsAs w issue.edit standing
+  pub before : Announced
+  pub now : Announced
+  pub cached : w.memory.cached (place.Announce p) ≡ word_of w issue.edit now
+  pub persisted : w.memory.persisted (place.Announce p) ≡ word_of w issue.edit before
+  pub said : MaySay standing now
+  pub said_before : MaySay standing before
+  pub order : rank before ≤ rank now
+  pub written : IsWritten w issue.edit now
+
+-- a stopped process in no edit announces how its last one ended
+pub record IsThrough (w : World) (p : ℕ) : Type 0 where
+  pub next : ℕ
+  pub rest : IsAtRest w p next
+
+abbrev pub DoubtFits : World → ℕ → Option Issue → Type 0
+DoubtFits w p None = IsThrough w p
+DoubtFits w p (Some issue) = IsInDoubt w p issue
+
+-- a stopped process has an empty buffer; its edit, where it has one, is in doubt
+pub record StoppedFits (w : World) (p : ℕ) : Type 0 where
+  pub buffer : w.memory.buffer p ≡ []
+  pub doubt : DoubtFits w p (w.pending p)
+
+-- a recovery: its edit is in doubt throughout; it gives its cells back, then it settles that edit
+pub record RecoveryFits (w : World) (p : ℕ) (e : PlainRecovery) : Type 0 where
+  pub mine : e.process ≡ p
+  pub cells : cells_of w.layout ≡ e.cells
+  pub processes : w.layout.processes ≡ e.processes
+  pub doubt : DoubtFits w p (w.pending p)
+  pub freed : FreedFits w e.process e.mark (freed_at e.stage)
+  pub resolved : ResolvedFits w e.process e.announcement e.cell (resolved_at e.stage)
+  pub buffer : RecoveryHolds w e.process e.announcement e.cell (recovery_held e.cell e.stage)
+  pub row : RowCounts e.row e.stage
+
 -- what the process does fits the world
 abbrev pub CallFits : World → ℕ → Situation → Type 0
 CallFits w p (Idle next) = IdleFits w p next
-CallFits w p Stopped = w.memory.buffer p ≡ []
+CallFits w p Stopped = StoppedFits w p
 CallFits w p (Editing e) = EditFits w p e
-
--- the process has still to persist this head
-abbrev pub OwesAt : Stage → ℕ → Type 0
-OwesAt (FlushOwn own) head = own ≡ head
-OwesAt (BackOwn own) head = own ≡ head
-OwesAt _ head = ⊥
-
--- so for what it does; a stopped process may owe any head
-abbrev pub Owes : Situation → ℕ → Type 0
-Owes (Idle next) head = ⊥
-Owes Stopped head = Unit {0}
-Owes (Editing e) head = OwesAt e.stage head
+CallFits w p (Working e) = WorkFits w p e
+CallFits w p (Recovering e) = RecoveryFits w p e
+CallFits w p (Showing e) = ShowFits w p e

@@ -1,7 +1,8 @@
 -- An edit under way, without where it lies in memory.
 use Rattle.std.specs.Prelude.{ℕ, ◌+◌, ◌/◌, ◌<◌, ◌≤◌, List, length, All}
-use Rattle.ds_layout.specs.declared.place.TheConstants.{RECORDS, TEXT_BYTES}
+use Rattle.ds_layout.specs.declared.place.TheConstants.{RECORDS}
 use Rattle.ds_layout.specs.Head.{IsHead}
+use Rattle.ds_state.specs.Text.{IsText}
 use Rattle.ds_state.specs.declared.stage.Stage.{Stage}
 use Rattle.ds_state.specs.declared.stage.Stage.TheVariants.{StoreText, FlushText, BackRecord, OrIndex, FlushIndex, BackIndex, FlushNoted, BackNoted, OrDone, FlushDone, BackDone}
 
@@ -45,6 +46,6 @@ pub record IsEdit (e : PlainEdit) : Type 0 where
   pub number : e.number < RECORDS
   pub cell : e.cell < e.cells
   pub cells : e.cells ≤ 1024
-  pub text : length e.text ≤ TEXT_BYTES
+  pub text : IsText e.text
   pub refs : All (λ r. r < e.cells) e.refs
   pub stage : IsStage e e.stage

@@ -1,5 +1,5 @@
 -- What a world shows.
-use Rattle.std.specs.Prelude.{ℕ, ℤ, ◌≡◌, ◌<◌, List, [], ◌∷◌, length, Option, None}
+use Rattle.std.specs.Prelude.{ℕ, ℤ, ◌≡◌, ◌<◌, ◌+◌, ◌-◌, ◌*◌, ◌/◌, ◌++◌, List, [], ◌∷◌, length, take, min, Option, Some, None, zero, suc}
 use Rattle.ds_formula.specs.Cells.{index_of}
 use Rattle.ds_formula.specs.declared.cells.Cell.{Cell}
 use Rattle.ds_eval.specs.declared.value.Value.{Value}
@@ -16,15 +16,18 @@ use Rattle.ds_layout.specs.declared.stored.Stored.{Stored}
 use Rattle.ds_layout.specs.Places.{cells_of}
 use Rattle.ds_layout.specs.Mark.{mark_of, state_of}
 use Rattle.ds_layout.specs.Stored.{stored_of}
-use Rattle.ds_layout.specs.Header.{header_word}
-use Rattle.ds_layout.specs.Text.{part_word}
+use Rattle.ds_layout.specs.declared.head.Head.{Head}
+use Rattle.ds_layout.specs.declared.header.Header.{Header}
+use Rattle.ds_layout.specs.Head.{head_of}
+use Rattle.ds_layout.specs.Header.{header_word, header_of}
+use Rattle.ds_layout.specs.Text.{part_word, bytes_of}
 use Rattle.ds_state.specs.Edits.{text_parts}
 use Rattle.ds_state.specs.Stages.{point_at}
 use Rattle.ds_state.specs.Text.{IsText}
-use Rattle.ds_state.specs.World.{Edit, World, of_cell}
+use Rattle.ds_state.specs.World.{Edit, World}
 use Rattle.ds_state.specs.declared.stage.Point.{Point}
 use Rattle.ds_state.specs.declared.situation.Situation.{Situation}
-use Rattle.ds_state.specs.declared.situation.Situation.TheVariants.{Idle, Stopped, Editing}
+use Rattle.ds_state.specs.declared.situation.Situation.TheVariants.{Idle, Stopped, Editing, Working, Recovering, Showing}
 
 -- the mark of the cell with this number, as processes see it
 abbrev pub mark_at : Layout → Memory Place → ℕ → Mark
@@ -56,6 +59,9 @@ abbrev pub point_of : Situation → Option Point
 point_of (Idle next) = None
 point_of Stopped = None
 point_of (Editing e) = point_at e.stage
+point_of (Working e) = None
+point_of (Recovering e) = None
+point_of (Showing e) = None
 
 -- no cell's mark is dirty or held
 abbrev pub AllClean : Layout → Memory Place → Type 0
@@ -72,9 +78,31 @@ last_text [] = []
 last_text (e ∷ []) = e.text
 last_text (e ∷ f ∷ es) = last_text (f ∷ es)
 
--- the text of the cell's last edit that counts
+-- the first so many parts of a record's text of so many bytes, as processes see them
+abbrev pub parts_at : Memory Place → ℕ → ℕ → ℕ → ℕ → List ℕ
+parts_at memory process number count zero = []
+parts_at memory process number count (suc part) =
+    parts_at memory process number count part ++ take (min (count - 8 * part) 8) (bytes_of (memory.cached (place.Text process number part)))
+
+-- the text that a record's header gives it; a word that is no header of the sheet gives none
+abbrev pub headed_at : Memory Place → ℕ → ℕ → Option Header → List ℕ
+headed_at memory process number None = []
+headed_at memory process number (Some header) = parts_at memory process number header.length ((header.length + 7) / 8)
+
+abbrev pub record_at : Layout → Memory Place → ℕ → ℕ → List ℕ
+record_at layout memory process number = headed_at memory process number (header_of (cells_of layout) (memory.cached (place.Header process number)))
+
+-- the text of the record that a head names; a word that is no head of the sheet names none
+abbrev pub named_at : Layout → Memory Place → Option Head → List ℕ
+named_at layout memory None = []
+named_at layout memory (Some head) = record_at layout memory head.process head.number
+
+-- the text of the cell with this number, as processes see it
+abbrev pub text_at : Layout → Memory Place → ℕ → List ℕ
+text_at layout memory cell = named_at layout memory (head_of layout.processes (memory.cached (place.Head cell)))
+
 abbrev pub text_in : World → Cell → List ℕ
-text_in w cell = last_text (of_cell (index_of w.layout.shape cell) w.counted)
+text_in w cell = text_at w.layout w.memory (index_of w.layout.shape cell)
 
 -- the parts of the text stand in the words of a record
 pub record HasParts (memory : Memory Place) (process number : ℕ) (text : List ℕ) : Type 0 where

@@ -3,15 +3,18 @@ use Rattle.std.specs.Prelude.{ℕ, ◌≡◌, ◌<◌, List, [], ◌∷◌, All}
 use Rattle.ds_layout.specs.declared.place.TheConstants.{RECORDS}
 use Rattle.ds_layout.specs.declared.place.Place.{Place}
 use Rattle.ds_layout.specs.Places.{cells_of}
+use Rattle.ds_state.specs.Text.{IsText}
 use Rattle.ds_state.specs.World.{Edit, World}
 use Rattle.ds_state.specs.Words.{WordFits}
 use Rattle.ds_state.specs.Calls.{CallFits}
+use Rattle.ds_state.specs.Standing.{AllStand}
 
 -- an edit of the sheet: of one of its processes, with a record, and of one of its cells
 pub record IsOfSheet (w : World) (e : Edit) : Type 0 where
   pub process : e.process < w.layout.processes
   pub number : e.number < RECORDS
   pub cell : e.cell < cells_of w.layout
+  pub text : IsText e.text
 
 -- the numbers of one process grow along the list, so that no edit stands twice
 abbrev pub Increasing : List Edit → Type 0
@@ -22,5 +25,6 @@ Increasing (e ∷ es) = All (λ f. f.process ≡ e.process → e.number < f.numb
 pub record IsSound (w : World) : Type 0 where
   pub words : (r : Place) → WordFits w r (w.memory.cached r) (w.memory.persisted r)
   pub calls : (p : ℕ) → p < w.layout.processes → CallFits w p (w.situation p)
+  pub stand : AllStand w
   pub of_sheet : All (λ e. IsOfSheet w e) w.counted
   pub increasing : Increasing w.counted

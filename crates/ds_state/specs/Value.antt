@@ -1,13 +1,13 @@
 -- The plain value of a world, and the world that it stands for.
-use Rattle.std.specs.Prelude.{ℕ, ◌≡◌, ◌≤◌, ◌*◌, List, length, slice_index_or, Option, None, All}
+use Rattle.std.specs.Prelude.{ℕ, ◌≡◌, ◌≤◌, ◌*◌, List, length, slice_index_or, Option, None}
 use Rattle.ds_layout.specs.declared.place.TheConstants.{RECORDS}
 use Rattle.ds_layout.specs.Sheet.{SheetValue, memory}
 use Rattle.ds_layout.specs.declared.layout.Layout.{Layout}
 use Rattle.ds_layout.specs.Places.{cells_of}
-use Rattle.ds_state.specs.Text.{IsText}
 use Rattle.ds_state.specs.Reports.{PlainReports}
 use Rattle.ds_state.specs.World.{Edit, Issue, World}
 use Rattle.ds_state.specs.Sound.{IsSound}
+use Rattle.ds_state.specs.Dones.{HasAnswered}
 use Rattle.ds_state.specs.declared.situation.Situation.{Situation}
 use Rattle.ds_state.specs.declared.situation.Situation.TheVariants.{Idle}
 
@@ -37,13 +37,14 @@ pub record AreReportsOf (layout : Layout) (r : PlainReports) : Type 0 where
   pub cells : r.cells ≡ cells_of layout
   pub processes : length r.values ≡ layout.processes
 
--- it is sound, each process has a situation, a place for its edit and one for its report, and what counts are texts
+-- it is sound, each process has a situation, a place for its edit and one for its report, and as many edits that count
+-- are answered as were answered Done
 pub record IsGood (v : WorldValue) : Type 0 where
   pub sound : IsSound (world_of v)
   pub situations : length v.situations ≡ v.sheet.layout.processes
   pub pending : length v.pending ≡ v.sheet.layout.processes
-  pub texts : All (λ e. IsText e.text) v.counted
   pub reports : AreReportsOf v.sheet.layout v.reports
+  pub answered : HasAnswered (world_of v).counted (world_of v).pending v.done
 
 -- also each edit that its processes can number has a place among those that count
 pub record IsReserved (v : WorldValue) (room : ℕ) : Type 0 where

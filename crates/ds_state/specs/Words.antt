@@ -13,7 +13,7 @@ use Rattle.ds_layout.specs.declared.announcement.Phase.TheVariants as phase
 use Rattle.ds_layout.specs.Bits.{HasBit, IsSubset}
 use Rattle.ds_state.specs.World.{Edit, Issue, World, record_word, record_size, of_cell, head_after_all, announcement}
 use Rattle.ds_state.specs.Known.{IsSafe}
-use Rattle.ds_state.specs.Calls.{Owes}
+use Rattle.ds_state.specs.Owing.{MOST, IsMark, IsApart, Splits}
 
 -- the persisted head is the one before the cached one, whose edit is on its way back
 pub record IsOnItsWay (w : World) (es : List Edit) (persisted : ℕ) : Type 0 where
@@ -24,7 +24,7 @@ pub record IsOnItsWay (w : World) (es : List Edit) (persisted : ℕ) : Type 0 wh
   pub issue : Issue
   pub pending : w.pending last.process ≡ Some issue
   pub same : issue.edit ≡ last
-  pub owes : Owes (w.situation last.process) (head_after_all es)
+  pub owes : Splits w last.process (w.situation last.process) last.cell (head_after_all es)
 
 -- the cached head is that of its cell's last edit
 pub record HeadFits (w : World) (cell cached persisted : ℕ) : Type 0 where
@@ -52,8 +52,9 @@ pub record IsKept (w : World) (process number : ℕ) : Type 0 where
   pub number_is : edit.number ≡ number
   pub safe : IsSafe w edit
 
--- an announced Done is kept
+-- the persisted announcement is no later one, and an announced Done is kept
 pub record AnnounceFits (w : World) (process cached persisted : ℕ) : Type 0 where
+  pub sides : persisted ≤ cached
   pub on_cached : (n : ℕ) → n < RECORDS → cached ≡ announcement n phase.Done → IsKept w process n
   pub on_persisted : (n : ℕ) → n < RECORDS → persisted ≡ announcement n phase.Done → IsKept w process n
 
@@ -78,13 +79,20 @@ pub record DoneFits (w : World) (process part cached persisted : ℕ) : Type 0 w
   pub overtaken : (n : ℕ) → n / 64 ≡ part → IsOvertaken w process n → HasBit persisted n
   pub told : (n : ℕ) → n < RECORDS → n / 64 ≡ part → HasBit cached n → IsKept w process n
 
+-- a mark is no newer on its persisted side, and its holder is a process of the sheet
+pub record MarkFits (w : World) (cell cached persisted : ℕ) : Type 0 where
+  pub behind : persisted ≤ cached
+  pub few : cached / 32 ≤ MOST
+  pub holder : IsMark w.layout cell cached
+  pub persisted_holder : IsMark w.layout cell persisted
+
 -- a word, its cached side and its persisted side
 abbrev pub WordFits : World → Place → ℕ → ℕ → Type 0
 WordFits w Version cached persisted = Unit {0}
 WordFits w (Head cell) cached persisted = HeadFits w cell cached persisted
-WordFits w (Mark cell) cached persisted = persisted ≤ cached
-WordFits w (Value cell) cached persisted = Unit {0}
-WordFits w (Kind cell) cached persisted = Unit {0}
+WordFits w (Mark cell) cached persisted = MarkFits w cell cached persisted
+WordFits w (Value cell) cached persisted = (persisted ≡ cached) ⊎ IsApart w cell
+WordFits w (Kind cell) cached persisted = (persisted ≡ cached) ⊎ IsApart w cell
 WordFits w (Index row part) cached persisted = IndexFits w row part cached persisted
 WordFits w (Announce process) cached persisted = AnnounceFits w process cached persisted
 WordFits w (Header process number) cached persisted = RecordFits w process number zero cached persisted

@@ -1,15 +1,41 @@
 //! What is true of each world, as functions that do nothing.
 
-ghost use Rattle.std.specs.Prelude.{ℕ, ◌<◌, ◌≤◌, ◌*◌, length};
+ghost use Rattle.std.specs.Prelude.{ℕ, ◌≡◌, ◌<◌, ◌≤◌, ◌+◌, ◌*◌, List, length};
 ghost use Rattle.ds_layout.specs.declared.place.Place.{Place};
 ghost use Rattle.ds_layout.specs.declared.place.TheConstants.{RECORDS};
-ghost use Rattle.ds_state.specs.World.{World};
+ghost use Rattle.ds_state.specs.World.{World, of_cell};
+ghost use Rattle.ds_state.specs.Shown.{last_text, text_at};
+ghost use Rattle.ds_state.specs.Value.{WorldValue, IsGood};
 ghost use Rattle.ds_state.specs.Fresh.{IsNew};
 ghost use Rattle.ds_state.specs.Events.{Evicts};
 ghost use Rattle.ds_state.specs.Sound.{IsSound};
-ghost use Rattle.ds_state.specs.Rely.{Rely};
+ghost use Rattle.ds_state.specs.Rely.{Rely, Keeps};
+ghost use Rattle.ds_state.specs.Spent.{IsSpent};
+ghost use Rattle.ds_state.specs.Edits.{PlainEdit};
+ghost use Rattle.ds_state.specs.declared.stage.Outcome.{Outcome};
+ghost use Rattle.ds_state.specs.declared.stage.Stage.TheVariants.{Swap, Answer};
+ghost use Rattle.ds_state.specs.declared.situation.Situation.TheVariants.{Editing};
+ghost use Rattle.ds_state.specs.Crashes.{CrashesTo, StopsIn};
 ghost use Rattle.ds_state.specs.Calls.{CallFits};
+ghost use Rattle.ds_state.specs.Calm.{IsCalm, IsLocalAt};
 ghost use Rattle.ds_state.specs.declared.situation.Situation.{Situation};
+ghost use Rattle.ds_state.specs.declared.situation.Situation.TheVariants.{Working, Showing};
+ghost use Rattle.ds_state.specs.declared.work.WorkStage.{WorkStage};
+ghost use Rattle.ds_state.specs.declared.work.WorkStage.TheVariants as works;
+ghost use Rattle.ds_state.specs.Works.{PlainWork, PlainShow};
+ghost use Rattle.ds_state.specs.WorkSteps.{at, HasTexts, BeginsWork, StepsAt, ReadsAt, LacksAt, OffersAt, access_at};
+ghost use Rattle.ds_layout.specs.Sheet.{CanPerform};
+ghost use Rattle.ds_eval.specs.declared.inputs.Entry as entries;
+ghost use Rattle.ds_eval.specs.declared.inputs.Input.{Input};
+ghost use Rattle.ds_formula.specs.Plain.{Plain};
+ghost use Rattle.ds_state.specs.KnownShow.{IsShow, AreScratch};
+ghost use Rattle.ds_state.specs.ShowSteps as shows;
+ghost use Rattle.ds_state.specs.ShowRuns.{Call, IsTrueReport};
+ghost use Rattle.ds_state.specs.ShowSolo.{SoloCall, values_shown};
+ghost use Rattle.ds_state.specs.Shown.{IsQuiet};
+ghost use Rattle.ds_state.specs.declared.work.ShowEnd.{ShowEnd};
+ghost use Rattle.ds_state.specs.declared.work.ShowEnd.TheVariants.{Settled};
+ghost use Rattle.ds_state.specs.declared.work.ShowStage.TheVariants as reports;
 
 /// A new sheet is sound.
 pub fn new_is_sound()
@@ -33,4 +59,150 @@ pub fn calls_are_stable()
 #[tactic(auto, using(crate::proofs::Few::counted_few))]
 pub fn few_edits_count()
     ensures { (w : World) → IsSound w → length w.counted ≤ RECORDS * w.layout.processes }
+{}
+
+/// The text of a cell, as processes see it, is that of the last of its edits that count, and empty
+/// where none counts.
+#[tactic(auto, using(crate::proofs::LastText::text_right))]
+pub fn texts_are_of_last_edits()
+    ensures { (w : World) (cell : ℕ) → IsSound w
+        → text_at w.layout w.memory cell ≡ last_text (of_cell cell w.counted) }
+{}
+
+/// No more edits were answered Done than count.
+#[tactic(auto, using(crate::proofs::Dones::few_dones))]
+pub fn few_edits_are_done()
+    ensures { (v : WorldValue) → IsGood v → v.done ≤ length v.counted }
+{}
+
+/// A crash leaves a sound sheet sound, with the edits whose heads are persisted.
+pub fn crashes_keep_soundness()
+    ensures { (old new : World) → IsSound old → CrashesTo old new → IsSound new }
+{}
+
+/// A stop leaves a sound sheet sound, and leaves each other process what it may count on.
+pub fn stops_keep_soundness()
+    ensures { (p : ℕ) (old new : World) → IsSound old → p < old.layout.processes → StopsIn p old new → Keeps p old new }
+{}
+
+/// Whatever happens, a number that is spent stays so: a step, a beginning and a stop of a process,
+/// an eviction, a crash.
+pub fn spent_numbers_stay()
+    ensures kept { (p : ℕ) (old new : World) → Keeps p old new
+        → (q n : ℕ) → IsSpent old q n → IsSpent new q n }
+    ensures evicted { (place : Place) (old new : World) → IsSound old → Evicts place old new
+        → (q n : ℕ) → IsSpent old q n → IsSpent new q n }
+    ensures crashed { (old new : World) → CrashesTo old new
+        → (q n : ℕ) → IsSpent old q n → IsSpent new q n }
+{}
+
+/// An edit that may come to count with its next step has no spent number, and one that is answered
+/// with its next step has.
+pub fn spent_numbers_do_not_count()
+    ensures swap { (w : World) (e : PlainEdit) (head n : ℕ) → IsSound w
+        → e.process < w.layout.processes → w.situation e.process ≡ Editing e → e.stage ≡ Swap head
+        → IsSpent w e.process n → n < e.number }
+    ensures answer { (w : World) (e : PlainEdit) (how : Outcome) → IsSound w
+        → e.process < w.layout.processes → w.situation e.process ≡ Editing e → e.stage ≡ Answer how
+        → IsSpent w e.process e.number }
+{}
+
+/// Where every mark is clean and every edit is answered, each cell shows what its content gives of what the others show.
+#[tactic(auto, using(crate::proofs::QuietRight::quiet_right))]
+pub fn calm_sheets_are_right()
+    ensures { (w : World) → IsSound w → IsCalm w → (cell : ℕ) → IsLocalAt w cell }
+{}
+
+/// Each step of work leaves a sound sheet sound, and leaves each other process what it may count on.
+#[tactic(auto, using(crate::proofs::EachWork::work_steps_keep))]
+pub fn work_steps_keep_soundness()
+    ensures { (e : PlainWork) (stage : WorkStage) (word : ℕ) (old new : World) → IsSound old → HasTexts old → e.process < old.layout.processes
+        → old.situation e.process ≡ Working (at e stage) → StepsAt e stage word old new → Keeps e.process old new }
+{}
+
+/// So does the step that reads the content.
+pub fn reads_keep_soundness()
+    ensures { (e : PlainWork) (content : Plain) (inputs : List Input) (old new : World) → IsSound old → e.process < old.layout.processes
+        → old.situation e.process ≡ Working (at e works.Read) → ReadsAt e content inputs old new → Keeps e.process old new }
+{}
+
+/// So does giving up for want of memory.
+pub fn lacks_keep_soundness()
+    ensures { (e : PlainWork) (old new : World) → IsSound old → e.process < old.layout.processes
+        → old.situation e.process ≡ Working (at e works.Read) → LacksAt e old new → Keeps e.process old new }
+{}
+
+/// So does the offer of the entry that the inputs give.
+pub fn offers_keep_soundness()
+    ensures { (e : PlainWork) (entry : entries.Entry) (old new : World) → IsSound old → e.process < old.layout.processes
+        → old.situation e.process ≡ Working (at e works.Wait) → OffersAt e entry old new → Keeps e.process old new }
+{}
+
+/// So does the beginning of work, by an idle process.
+pub fn begins_of_work_keep_soundness()
+    ensures { (next : ℕ) (e : PlainWork) (old new : World) → IsSound old → e.process < old.layout.processes → BeginsWork next e old new → Keeps e.process old new }
+{}
+
+/// Each step of a report, whatever the word that its access answers, leaves a sound sheet sound, and
+/// leaves each other process what it may count on.
+#[tactic(auto, using(crate::proofs::ShowLaws::steps))]
+pub fn show_steps_keep_soundness()
+    ensures { (e : PlainShow) (word : ℕ) (old new : World) → IsSound old
+        → e.process < old.layout.processes → old.situation e.process ≡ Showing e
+        → shows.Steps e word old new → Keeps e.process old new }
+{}
+
+/// The beginning of a report does the same.
+pub fn show_begins_keep_soundness()
+    ensures { (p next : ℕ) (old new : World) → IsSound old → p < old.layout.processes
+        → shows.Begins p next old new → Keeps p old new }
+{}
+
+/// The access of a report of a sound sheet can be performed.
+#[tactic(auto, using(crate::proofs::ShowLaws::accesses))]
+pub fn show_accesses_are_possible()
+    ensures { (e : PlainShow) (w : World) → IsSound w → e.process < w.layout.processes
+        → w.situation e.process ≡ Showing e
+        → CanPerform w.layout w.memory e.process (shows.access_at e.stage) }
+{}
+
+/// Each step of a report leaves fewer steps, until the answer's, which is the last; and it has at
+/// most two for each process, four for each cell, and the answer's.
+#[tactic(auto, using(crate::proofs::ShowLaws::each_falls, crate::proofs::ShowLaws::each_few))]
+pub fn show_steps_are_few()
+    ensures falls { (e : PlainShow) (word : ℕ) → IsShow e
+        → shows.Falls e e.stage (shows.next_at e e.stage word) }
+    ensures few { (e : PlainShow) → shows.rank e ≤ 2 * e.processes + 4 * e.cells + 1 }
+{}
+
+/// What a report answers is true of the worlds of its call. A settled one: at one of them nothing was
+/// announced as pending, every mark was clean, and its values are those from scratch of the edits that
+/// counted then, a front of those that count now. Another one: its place held its word at one of them,
+/// and that is bad, or was another one earlier in the call.
+#[tactic(auto, using(crate::proofs::ShowRuns::answer_true))]
+pub fn reports_are_true()
+    ensures { (p : ℕ) → (now : World) (past : List World) → Call p now past
+        → (e : PlainShow) (end : ShowEnd) → now.situation p ≡ Showing e → e.stage ≡ reports.Answer end
+        → IsTrueReport now past e end }
+{}
+
+/// A report that began in a quiet world and is alone is settled.
+#[tactic(auto, using(crate::proofs::ShowSolo::solo_settles))]
+pub fn solo_reports_are_settled()
+    ensures { (p : ℕ) → (now : World) (past : List World) → SoloCall p now past
+        → (e : PlainShow) (end : ShowEnd) → now.situation p ≡ Showing e → e.stage ≡ reports.Answer end
+        → end ≡ Settled }
+{}
+
+/// A quiet sheet shows the values of the edits that count, from scratch.
+#[tactic(auto, using(crate::proofs::QuietShown::quiet_shows))]
+pub fn quiet_sheets_are_right()
+    ensures { (w : World) → IsSound w → IsQuiet w
+        → AreScratch w.layout.shape w.counted (values_shown w) }
+{}
+
+/// Each access of work can be performed.
+pub fn work_accesses_are_possible()
+    ensures { (w : World) (e : PlainWork) → IsSound w → HasTexts w → e.process < w.layout.processes → (stage : WorkStage)
+        → w.situation e.process ≡ Working (at e stage) → CanPerform w.layout w.memory e.process (access_at w.layout.shape e stage) }
 {}

@@ -12,4 +12,5 @@ pub mod stage;
 #[cfg(test)]
 mod tests;
 pub mod text;
+pub mod work;
 pub mod world;

@@ -1,13 +1,15 @@
 //! What the words of a sheet show, read from what processes see alone.
 
-ghost use Rattle.std.specs.Prelude.{◌≡◌, ◌<◌, ◌≤◌, ◌↔◌, ℕ, List, length, IsTrue, IfOk};
+ghost use Rattle.std.specs.Prelude.{◌≡◌, ◌<◌, ◌≤◌, ◌↔◌, ℕ, List, length, IsTrue, IfOk, ◌+◌, ◌/◌};
 ghost use Rattle.ds_layout.specs.declared.place.TheConstants.{RECORDS, TEXT_BYTES};
 ghost use Rattle.ds_layout.specs.Places.{cells_of};
 ghost use Rattle.ds_layout.specs.Sheet.{memory};
-ghost use Rattle.ds_state.specs.Shown.{mark_at, shown_of, value_at, AllClean, HasParts, HasRecord};
+ghost use Rattle.ds_state.specs.Shown.{mark_at, shown_of, value_at, AllClean, parts_at, record_at, text_at};
 
 use ds_eval::value::Value;
+use ds_layout::head::Head;
 use ds_layout::header::Header;
+use ds_layout::layout::Layout;
 use ds_layout::mark::{Mark, State};
 use ds_layout::place::Place;
 use ds_layout::sheet_words::SheetWords;
@@ -15,18 +17,53 @@ use ds_layout::stored::{Kind, Stored};
 use ds_layout::text::part_bytes;
 use std::alloc::{AllocError, Global};
 
+/// The words of a sheet, as they can be read by their places.
+pub trait SheetReader {
+    ghost use Rattle.ds_words.specs.Memory.{Memory};
+    ghost use Rattle.ds_layout.specs.declared.place.Place.{Place};
+    ghost use Rattle.ds_layout.specs.declared.layout.Layout.{Layout};
+    ghost use Rattle.ds_layout.specs.Places.{IsPlace};
+
+    // What fixes the words, and what they are.
+    ghost sheet: { Self → Layout };
+    ghost seen: { Self → Memory Place };
+
+    /// What fixes the words.
+    fn layout(&self) -> Layout
+        ensures { result ≡ sheet self.now };
+
+    /// The cached side of the word at a place.
+    fn load(&self, place: Place) -> u64
+        requires { IsPlace (sheet self.now) place }
+        ensures { result ≡ (seen self.now).cached place };
+}
+
+impl SheetReader for SheetWords {
+    ghost sheet = { λ s. s.layout };
+
+    ghost seen = { λ s. memory s };
+
+    fn layout(&self) -> Layout {
+        SheetWords::layout(self)
+    }
+
+    fn load(&self, place: Place) -> u64 {
+        SheetWords::load(self, place)
+    }
+}
+
 /// The mark of the cell with this number.
-pub fn mark(words: &SheetWords, cell: usize) -> Mark
-    requires { cell < cells_of words.now.layout }
-    ensures { result ≡ mark_at words.now.layout (memory words.now) cell }
+pub fn mark<W: SheetReader>(words: &W, cell: usize) -> Mark
+    requires { cell < cells_of (W.sheet words.now) }
+    ensures { result ≡ mark_at (W.sheet words.now) (W.seen words.now) cell }
 {
     let word = words.load(Place::Mark(cell));
     Mark::read(word, words.layout().processes)
 }
 
 /// Whether no cell's mark is dirty or held.
-pub fn are_clean(words: &SheetWords) -> bool
-    ensures { IsTrue result ↔ AllClean words.now.layout (memory words.now) }
+pub fn are_clean<W: SheetReader>(words: &W) -> bool
+    ensures { IsTrue result ↔ AllClean (W.sheet words.now) (W.seen words.now) }
 {
     for cell in 0..words.layout().cells() {
         if mark(words, cell).state() != State::Clean {
@@ -49,28 +86,27 @@ fn shown(stored: Stored) -> Value
 }
 
 /// The value of the cell with this number.
-pub fn value(words: &SheetWords, cell: usize) -> Value
-    requires { cell < cells_of words.now.layout }
-    ensures { result ≡ value_at words.now.layout (memory words.now) cell }
+pub fn value<W: SheetReader>(words: &W, cell: usize) -> Value
+    requires { cell < cells_of (W.sheet words.now) }
+    ensures { result ≡ value_at (W.sheet words.now) (W.seen words.now) cell }
 {
     let value = words.load(Place::Value(cell));
     let kind = words.load(Place::Kind(cell));
     shown(Stored::read(value, kind, words.layout().cells()))
 }
 
-/// The parts of a record's text, which has so many bytes.
-fn parts(
-    words: &SheetWords,
+/// The parts of a record's text, of so many bytes.
+fn parts<W: SheetReader>(
+    words: &W,
     alloc: Global,
     process: usize,
     number: usize,
     count: usize,
 ) -> Result<Vec<u8>, AllocError>
-    requires process { process < words.now.layout.processes }
+    requires process { process < (W.sheet words.now).processes }
     requires number { number < RECORDS }
     requires count { count ≤ TEXT_BYTES }
-    ensures { IfOk result (λ v. (text : List ℕ) → length text ≡ count
-        → HasParts (memory words.now) process number text → v.items ≡ text) }
+    ensures { IfOk result (λ v. v.items ≡ parts_at (W.seen words.now) process number count ((count + 7) / 8)) }
 {
     let mut bytes = Vec::with_capacity(alloc, count)?;
     for part in 0..count.div_ceil(8) {
@@ -81,22 +117,35 @@ fn parts(
     Ok(bytes)
 }
 
-/// The text of the edit whose record this process has at this number. Where the header is none of
-/// the sheet's, the text is empty. An error is a want of memory.
-pub fn text(
-    words: &SheetWords,
+/// The text of the record that this process has at this number: as many bytes as its header says.
+/// Where the header is none of the sheet's, no part is read and the text is empty. An error is a
+/// want of memory.
+pub fn record_text<W: SheetReader>(
+    words: &W,
     alloc: Global,
     process: usize,
     number: usize,
 ) -> Result<Vec<u8>, AllocError>
-    requires process { process < words.now.layout.processes }
+    requires process { process < (W.sheet words.now).processes }
     requires number { number < RECORDS }
-    ensures { IfOk result (λ v. (cell : ℕ) (text : List ℕ) → cell < cells_of words.now.layout
-        → HasRecord (memory words.now) process number cell text → v.items ≡ text) }
+    ensures { IfOk result (λ v. v.items ≡ record_at (W.sheet words.now) (W.seen words.now) process number) }
 {
     let word = words.load(Place::Header(process, number));
     match Header::read(word, words.layout().cells()) {
         Some(header) => parts(words, alloc, process, number, header.length),
+        None => Ok(Vec::new(alloc)),
+    }
+}
+
+/// The text of the cell with this number: that of the record that its head names, and empty where
+/// its word is no head. An error is a want of memory.
+pub fn text<W: SheetReader>(words: &W, alloc: Global, cell: usize) -> Result<Vec<u8>, AllocError>
+    requires { cell < cells_of (W.sheet words.now) }
+    ensures { IfOk result (λ v. v.items ≡ text_at (W.sheet words.now) (W.seen words.now) cell) }
+{
+    let word = words.load(Place::Head(cell));
+    match Head::read(word, words.layout().processes) {
+        Some(head) => record_text(words, alloc, head.process, head.number),
         None => Ok(Vec::new(alloc)),
     }
 }

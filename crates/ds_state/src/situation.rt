@@ -1,6 +1,7 @@
 //! What a process is doing.
 
 use crate::edit::EditCall;
+use crate::work::{RecoverCall, ShowCall, WorkCall};
 
 /// What a process is doing.
 #[derive(Debug, Drop)]
@@ -11,4 +12,10 @@ pub enum Situation {
     Stopped,
     /// It edits a cell.
     Editing(EditCall),
+    /// It works on a cell.
+    Working(WorkCall),
+    /// It recovers.
+    Recovering(RecoverCall),
+    /// It reports.
+    Showing(ShowCall),
 }

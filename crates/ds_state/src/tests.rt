@@ -61,7 +61,7 @@ fn record(rt: HostRuntime) -> Result<(), Fail> {
         store(&mut words, Place::Text(1, 7, 0), part_word(text, 0));
         store(&mut words, Place::Text(1, 7, 1), part_word(text, 1));
         if words.layout().processes == 2 {
-            let read = shown::text(&words, rt.alloc(), 1, 7)?;
+            let read = shown::record_text(&words, rt.alloc(), 1, 7)?;
             assert_eq!(rt; read.as_slice(), text);
         }
     }

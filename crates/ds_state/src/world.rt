@@ -10,10 +10,9 @@ use crate::situation::Situation;
 use crate::stage::Point;
 use ds_eval::value::Value;
 use ds_formula::cells::{Cell, Shape};
-use ds_layout::head::Head;
 use ds_layout::layout::{Layout, MAX_PROCESSES};
 use ds_layout::mark::Mark;
-use ds_layout::place::{Place, RECORDS};
+use ds_layout::place::RECORDS;
 use ds_layout::sheet_words::SheetWords;
 use std::alloc::{AllocError, Global};
 use std::marker::Model;
@@ -40,8 +39,12 @@ pub struct World {
 impl Model for World {
     ghost use Rattle.std.specs.Prelude.{vec_capacity};
     ghost use Rattle.ds_state.specs.Value.{WorldValue, IsReserved};
+    ghost use Rattle.ds_eval.specs.Code.{plain_code};
+    ghost use Rattle.std.specs.Coded.{codes};
 
     ghost Value = { WorldValue };
+
+    ghost coded = { Prim.hlevel (codes, plain_code) };
 
     ghost view = { λ w. record {
       sheet = w.words;
@@ -147,19 +150,14 @@ impl World {
         shown::value(&self.words, self.words.layout().shape.index(cell))
     }
 
-    /// The text of a cell: as the last of its edits that count was handed in, and empty where none
-    /// counts. It is read from the words that processes see, and from nothing else. An error is a
+    /// The text of a cell, as processes see it: `laws::texts_are_of_last_edits` says that it is as the
+    /// last of the cell's edits that count was handed in, and empty where none counts. An error is a
     /// want of memory.
     pub fn text_of(&self, alloc: Global, cell: Cell) -> Result<Vec<u8>, AllocError>
         requires { IsInside self.now.sheet.layout.shape cell }
         ensures { IfOk result (λ v. v.items ≡ text_in (world_of self.now) cell) }
     {
-        let layout = self.words.layout();
-        let word = self.words.load(Place::Head(layout.shape.index(cell)));
-        match Head::read(word, layout.processes) {
-            Some(head) => shown::text(&self.words, alloc, head.process, head.number),
-            None => Ok(Vec::new(alloc)),
-        }
+        shown::text(&self.words, alloc, self.words.layout().shape.index(cell))
     }
 
     /// The last point that the edit of a process has behind it: none where it has no edit, or where
@@ -171,6 +169,7 @@ impl World {
         match &self.situations[process] {
             Situation::Editing(call) => call.stage.point(),
             Situation::Idle(_) | Situation::Stopped => None,
+            Situation::Working(_) | Situation::Recovering(_) | Situation::Showing(_) => None,
         }
     }
 }

@@ -5,13 +5,13 @@ use Rattle.ds_layout.specs.Sheet.{PerformsAt, memory}
 use Rattle.ds_state.specs.Edits.{PlainEdit}
 use Rattle.ds_state.specs.Value.{WorldValue, IsReserved}
 use Rattle.ds_state.specs.World.{Edit, Issue, edit_of}
-use Rattle.ds_state.specs.Text.{IsText}
 use Rattle.ds_state.specs.declared.stage.Stage.{Stage}
 use Rattle.ds_state.specs.declared.situation.Situation.TheVariants.{Idle}
 use Rattle.ds_edit.specs.Steps.{access_at}
 use Rattle.ds_edit.specs.Worlds.{after, counted_at, pending_at}
 use Rattle.ds_core.specs.Steps.{StepTakes, reply_at, done_at}
 use Rattle.ds_core.proofs.Good.{IsEditing, editing_from, perform_at, next_is, next_kept, next_room, next_takes, pending_there, processes_are}
+use Rattle.ds_state.proofs.Dones.{few_done}
 use Rattle.ds_core.proofs.step.step.Goals as goal
 
 pub perform-word-requires : goal.perform-word-requires
@@ -30,6 +30,11 @@ count-requires c =
     λ noted is same. next_room v c.world.invariant.good c.args.process e at c.perform-word.result c.perform-word.new.self c.perform-word.ensures.layout performs
     _ noted c.world.invariant.reserved (sym (ap (λ (x : PlainEdit). x.stage) c.call.view_is) ∙ is) same
 
+pub done_after-world-inside-requires : goal.done_after-world-inside-requires
+done_after-world-inside-requires c =
+    let v : WorldValue = record { sheet = c.world.inside.words; situations = c.world.inside.situations.items; counted = c.world.inside.counted.items; pending = c.world.inside.pending.items; done = c.world.inside.done; settled = c.world.inside.settled; reports = c.world.inside.reports } in
+    few_done v c.world.invariant.good
+
 pub invariant_of-world : goal.invariant_of-world
 invariant_of-world c =
     let v : WorldValue = record { sheet = c.world.inside.words; situations = c.world.inside.situations.items; counted = c.world.inside.counted.items; pending = c.world.inside.pending.items; done = c.world.inside.done; settled = c.world.inside.settled; reports = c.world.inside.reports } in
@@ -44,9 +49,8 @@ invariant_of-world c =
     let counted : c.count.new.counted.items ≡ v.counted ++ counted_at (edit_of e) e.stage word = c.count.ensures.items ∙ ap (λ (x : Edit). v.counted ++ counted_at x c.call.inside.stage word) c.of-edit.ensures.value ∙ ap (λ (s : Stage). v.counted ++ counted_at (edit_of e) s word) stage in
     let pending : c.close.new.pending ≡ pending_at (get_or v.pending p None) e.stage = c.close.ensures ∙ ap (λ (i : Option Issue). pending_at i c.call.inside.stage) (c.index_mut-2.ensures.value ∙ get_or_default v.pending p c.index_mut-2.result.now None there) ∙ ap (λ (s : Stage). pending_at (get_or v.pending p None) s) stage in
     let done : c.done_after-world-inside.result ≡ done_at v.done e.stage = c.done_after-world-inside.ensures ∙ ap (λ (s : Stage). done_at v.done s) stage in
-    let text : IsText e.text = subst (λ (x : Edit). IsText x.text) c.of-edit.ensures.value c.of-edit.ensures.text in
     subst (λ (w : WorldValue). IsReserved w (vec_capacity c.count.new.counted)) (sym (next_is v c.world.invariant.good p e at word c.perform-word.new.self c.perform-word.ensures.layout performs c.go_on.new.situation c.count.new.counted.items c.close.new.pending c.done_after-world-inside.result situation counted pending done))
-    (next_kept v c.world.invariant.good p e at word c.perform-word.new.self c.perform-word.ensures.layout performs _ _ c.world.invariant.reserved (omega arith) text)
+    (next_kept v c.world.invariant.good p e at word c.perform-word.new.self c.perform-word.ensures.layout performs _ _ c.world.invariant.reserved (omega arith))
 
 pub returns : goal.returns
 returns c =

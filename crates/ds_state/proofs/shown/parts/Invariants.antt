@@ -1,7 +1,6 @@
-use Rattle.std.proofs.Common.{ℕ, ◌≡◌, ◌*◌, List, length, take}
-use Rattle.ds_layout.specs.Sheet.{memory}
-use Rattle.ds_state.specs.Shown.{HasParts}
+use Rattle.std.proofs.Common.{◌≡◌}
+use Rattle.ds_state.specs.Shown.{parts_at}
 use Rattle.ds_state.proofs.shown.parts.Given as goal
 
 abbrev pub invariant-loop-part : goal.invariant-loop-part
-invariant-loop-part l = (text : List ℕ) → length text ≡ l.count → HasParts (memory l.words) l.process l.number text → l.bytes.items ≡ take (8 * l.part) text
+invariant-loop-part g l = l.bytes.items ≡ parts_at (g.W.SheetReader.seen l.words) l.process l.number l.count l.part

@@ -1,0 +1,164 @@
+-- What every event of a run does to the ledger, in one record; and what follows for edits that are closed.
+use Rattle.std.proofs.Common.{ℕ, ◌≡◌, ◌≢◌, ◌⊎◌, [], ◌∷◌, ◌++◌, refl, ap, sym, ◌∙◌, subst, inl, inr, Bool, true, false, Some, None}
+use Rattle.std.specs.Prelude.{Option, Contains, filter, if◌then◌else◌}
+use Rattle.std.proofs.lemmas.Bool.Decides.{eqb_tells}
+use Rattle.ds_formula.specs.declared.cells.Shape.{Shape}
+use Rattle.ds_state.specs.World.{Edit}
+use Rattle.ds_core.specs.Moments.{Placed, Open, Closed, Ledger}
+use Rattle.ds_core.specs.Headline.{IsIssueOf}
+use Rattle.ds_core.specs.LedgerSteps.{put, in_doubt, Issues, Counts, Closes, Forgets, Loses, AnswerMoves, LedgerMoves}
+use Rattle.ds_core.specs.declared.event.Event.{Event}
+use Rattle.ds_core.specs.declared.event.Event.TheVariants.{BeginEdit, BeginWork, BeginShow, BeginRecover, Step, Offer, Evict, Stop, Crash}
+use Rattle.ds_edit.specs.declared.answer.Answer.{Answer}
+use Rattle.ds_edit.specs.declared.answer.Answer.TheVariants.{Done, Overtaken, NotDirty, Missed, Worn, Published, Again, NoMemory, Last, Nothing, Settled, Unsettled}
+use Rattle.ds_core.specs.declared.reply.Reply.{Reply}
+use Rattle.ds_core.specs.declared.reply.Reply.TheVariants.{Begun, Entered, Refused, Stepped, Answered, WrongTask, Evicted, Stopped, Crashed, NotEnabled}
+
+abbrev pub IsFresh : ℕ → (Edit → Type 0) → ℕ → Open → Type 0
+IsFresh k I q o = (o.it.place ≡ k) × (o.it.edit.process ≡ q) × I o.it.edit
+
+pub record WasOpen (old : Ledger) (q : ℕ) (now : Open) : Type 0 where
+  pub o : Open
+  pub was : old.opens q ≡ Some o
+  pub same : now.it ≡ o.it
+
+abbrev pub NoneGone : Ledger → Ledger → Type 0
+NoneGone old new = (q : ℕ) (o : Open) → old.opens q ≡ Some o → new.opens q ≡ None → ⊥
+
+pub record Pushes (old new : Ledger) : Type 0 where
+  pub p : ℕ
+  pub o : Open
+  pub was : old.opens p ≡ Some o
+  pub is : new.counted ≡ old.counted ++ o.it ∷ []
+  pub keeps : NoneGone old new
+
+pub record Filters (old new : Ledger) : Type 0 where
+  pub stays : Placed → Bool
+  pub lost_open : (e : Placed) → Contains old.counted e → stays e ≡ false → (o : Open) × (old.opens e.edit.process ≡ Some o) × (o.it ≡ e)
+  pub is : new.counted ≡ filter stays old.counted
+  pub keeps : NoneGone old new
+
+pub record Moved (k : ℕ) (I : Edit → Type 0) (old new : Ledger) : Type 0 where
+  pub opens : (q : ℕ) (o : Open) → new.opens q ≡ Some o → IsFresh k I q o ⊎ WasOpen old q o
+  pub counted : (new.counted ≡ old.counted) ⊎ (Pushes old new ⊎ Filters old new)
+
+put_cases : {A : Type 0} (f : ℕ → Option A) (p : ℕ) (x : Option A) (q : ℕ) (r : Option A) → put f p x q ≡ r → ((q ≡ p) × (x ≡ r)) ⊎ ((q ≢ p) × (f q ≡ r))
+put_cases f p x q r h = elim (eqb_tells q p) [
+  | inl same ↦ inl (same.1, subst (λ b. (if b then x else f q) ≡ r) same.0 h)
+  | inr other ↦ inr (other.1, subst (λ b. (if b then x else f q) ≡ r) other.0 h)
+]
+
+was_open : (old : Ledger) (q : ℕ) (o : Open) → old.opens q ≡ Some o → WasOpen old q o
+was_open old q o h = record { o = o; was = h; same = refl }
+
+doubted : (old : Ledger) (q : ℕ) (o : Open) (x : Option Open) → old.opens q ≡ x → in_doubt x ≡ Some o → WasOpen old q o
+doubted old q o None was h = absurd (cc)
+doubted old q o (Some y) was h = let same : record y { doubt = true } ≡ o = cc in record { o = y; was = was; same = sym (ap (λ (z : Open). z.it) same) }
+
+doubt_keeps : (x : Option Open) (o : Open) → x ≡ Some o → in_doubt x ≡ None → ⊥
+doubt_keeps None o a b = absurd (cc)
+doubt_keeps (Some y) o a b = absurd (cc)
+
+none_some : (x : Option Open) (o : Open) → x ≡ None → x ≡ Some o → ⊥
+none_some x o a b = let e : None ≡ Some o = sym a ∙ b in cc
+
+same_moved : (k : ℕ) (I : Edit → Type 0) (old new : Ledger) → new ≡ old → Moved k I old new
+same_moved k I old new h = subst (λ (l : Ledger). Moved k I old l) (sym h) (record { opens = λ q o is. inr (was_open old q o is); counted = inl refl })
+
+issues_moved : (k : ℕ) (I : Edit → Type 0) (old : Ledger) (edit : Edit) (new : Ledger) → I edit → Issues k old edit new → Moved k I old new
+issues_moved k I old edit new i h = subst (λ (l : Ledger). Moved k I old l) (sym h.is) (record {
+  opens = λ q o is. elim (put_cases old.opens edit.process _ q (Some o) is) [
+    | inl here ↦ inl (
+        let one : record { it = record { place = k; edit = edit }; before = old.counted; doubt = false } ≡ o = let s = here.1 in cc in
+        (sym (ap (λ (x : Open). x.it.place) one), sym (ap (λ (x : Open). x.it.edit.process) one) ∙ sym here.0, subst I (ap (λ (x : Open). x.it.edit) one) i))
+    | inr there ↦ inr (was_open old q o there.1)
+  ];
+  counted = inl refl;
+})
+
+counts_moved : (k : ℕ) (I : Edit → Type 0) (old : Ledger) (p : ℕ) (new : Ledger) → Counts old p new → Moved k I old new
+counts_moved k I old p new h = subst (λ (l : Ledger). Moved k I old l) (sym h.is) (record {
+  opens = λ q o is. inr (was_open old q o is);
+  counted = inr (inl (record { p = p; o = h.open_edit; was = h.was; is = refl; keeps = λ q o was gone. none_some (old.opens q) o gone was }));
+})
+
+gone_moved : (k : ℕ) (I : Edit → Type 0) (old : Ledger) (p : ℕ) (told : ℕ → Option Closed) → Moved k I old (record old { opens = put old.opens p None; told = told })
+gone_moved k I old p told = record {
+  opens = λ q o is. elim (put_cases old.opens p None q (Some o) is) [ inl here ↦ absurd (let s = here.1 in cc) | inr there ↦ inr (was_open old q o there.1) ];
+  counted = inl refl;
+}
+
+closes_moved : (k : ℕ) (I : Edit → Type 0) (old : Ledger) (p number : ℕ) (doubt counts : Bool) (And : Open → Type 0) (new : Ledger) → Closes old p number doubt counts And new → Moved k I old new
+closes_moved k I old p number doubt counts And new h = subst (λ (l : Ledger). Moved k I old l) (sym h.is) (gone_moved k I old p _)
+
+forgets_moved : (k : ℕ) (I : Edit → Type 0) (old : Ledger) (p : ℕ) (answer : Answer) (new : Ledger) → Forgets old p answer new → Moved k I old new
+forgets_moved k I old p answer new h = subst (λ (l : Ledger). Moved k I old l) (sym h.is) (gone_moved k I old p old.told)
+
+stop_moved : (k : ℕ) (I : Edit → Type 0) (old : Ledger) (p : ℕ) (new : Ledger) → new ≡ record old { opens = put old.opens p (in_doubt (old.opens p)) } → Moved k I old new
+stop_moved k I old p new h = subst (λ (l : Ledger). Moved k I old l) (sym h) (record {
+  opens = λ q o is. elim (put_cases old.opens p (in_doubt (old.opens p)) q (Some o) is) [
+    | inl here ↦ inr (doubted old q o (old.opens q) refl (ap (λ x. in_doubt (old.opens x)) here.0 ∙ here.1))
+    | inr there ↦ inr (was_open old q o there.1)
+  ];
+  counted = inl refl;
+})
+
+loses_moved : (k : ℕ) (I : Edit → Type 0) (old new : Ledger) → Loses old new → Moved k I old new
+loses_moved k I old new h = subst (λ (l : Ledger). Moved k I old l) (sym h.is) (record {
+  opens = λ q o is. inr (doubted old q o (old.opens q) refl is);
+  counted = inr (inr (record { stays = h.stays; lost_open = h.lost_open; is = refl; keeps = λ q o was gone. doubt_keeps (old.opens q) o was gone }));
+})
+
+answer_moved : (k : ℕ) (I : Edit → Type 0) (old : Ledger) (p : ℕ) (answer : Answer) (new : Ledger) → AnswerMoves old p answer new → Moved k I old new
+answer_moved k I old p (Done number) new h = closes_moved k I old p number _ _ _ new h
+answer_moved k I old p (Overtaken number other) new h = closes_moved k I old p number _ _ _ new h
+answer_moved k I old p (Last told) new (inl h) = closes_moved k I old p told.number _ _ _ new h
+answer_moved k I old p (Last told) new (inr (inl h)) = forgets_moved k I old p _ new h
+answer_moved k I old p (Last told) new (inr (inr h)) = same_moved k I old new h.is
+answer_moved k I old p Nothing new (inl h) = forgets_moved k I old p _ new h
+answer_moved k I old p Nothing new (inr h) = same_moved k I old new h.is
+answer_moved k I old p NotDirty new h = same_moved k I old new h
+answer_moved k I old p Missed new h = same_moved k I old new h
+answer_moved k I old p Worn new h = same_moved k I old new h
+answer_moved k I old p (Published changed) new h = same_moved k I old new h
+answer_moved k I old p Again new h = same_moved k I old new h
+answer_moved k I old p NoMemory new h = same_moved k I old new h
+answer_moved k I old p Settled new h = same_moved k I old new h
+answer_moved k I old p (Unsettled place word) new h = same_moved k I old new h
+
+-- every event moves the ledger so
+pub moved : (k : ℕ) (shape : Shape) (old : Ledger) (event : Event) (reply : Reply) (new : Ledger) → LedgerMoves k shape old event reply new → Moved k (IsIssueOf shape event reply) old new
+moved k shape old (BeginEdit r) (Begun number) new h = issues_moved k _ old _ new refl h
+moved k shape old (BeginEdit r) (Refused why) new h = same_moved k _ old new h
+moved k shape old (BeginEdit r) NotEnabled new h = same_moved k _ old new h
+moved k shape old (BeginEdit r) _ new h = absurd h
+moved k shape old (BeginWork p cell) Entered new h = same_moved k _ old new h
+moved k shape old (BeginWork p cell) (Refused why) new h = same_moved k _ old new h
+moved k shape old (BeginWork p cell) NotEnabled new h = same_moved k _ old new h
+moved k shape old (BeginWork p cell) _ new h = absurd h
+moved k shape old (BeginShow p) Entered new h = same_moved k _ old new h
+moved k shape old (BeginShow p) (Refused why) new h = same_moved k _ old new h
+moved k shape old (BeginShow p) NotEnabled new h = same_moved k _ old new h
+moved k shape old (BeginShow p) _ new h = absurd h
+moved k shape old (BeginRecover p) Entered new h = same_moved k _ old new h
+moved k shape old (BeginRecover p) (Refused why) new h = same_moved k _ old new h
+moved k shape old (BeginRecover p) NotEnabled new h = same_moved k _ old new h
+moved k shape old (BeginRecover p) _ new h = absurd h
+moved k shape old (Step p) Stepped new (inl h) = same_moved k _ old new h
+moved k shape old (Step p) Stepped new (inr h) = counts_moved k _ old p new h
+moved k shape old (Step p) (Answered answer) new h = answer_moved k _ old p answer new h
+moved k shape old (Step p) NotEnabled new h = same_moved k _ old new h
+moved k shape old (Step p) _ new h = absurd h
+moved k shape old (Offer value) Stepped new h = same_moved k _ old new h
+moved k shape old (Offer value) WrongTask new h = same_moved k _ old new h
+moved k shape old (Offer value) NotEnabled new h = same_moved k _ old new h
+moved k shape old (Offer value) _ new h = absurd h
+moved k shape old (Evict word) Evicted new h = same_moved k _ old new h
+moved k shape old (Evict word) NotEnabled new h = same_moved k _ old new h
+moved k shape old (Evict word) _ new h = absurd h
+moved k shape old (Stop p) Stopped new h = stop_moved k _ old p new h
+moved k shape old (Stop p) NotEnabled new h = same_moved k _ old new h
+moved k shape old (Stop p) _ new h = absurd h
+moved k shape old Crash Crashed new h = loses_moved k _ old new h
+moved k shape old Crash NotEnabled new h = same_moved k _ old new h
+moved k shape old Crash _ new h = absurd h

@@ -1,0 +1,144 @@
+-- The headline, over every run.
+use Rattle.std.specs.Prelude.{ℕ, ◌≡◌, ◌≢◌, ◌<◌, ◌≤◌, ◌+◌, ◌⊎◌, ◌↔◌, ◌++◌, List, [], ◌∷◌, length, slice_get, slice_index_or, Some, None, Contains, filter}
+use Rattle.ds_formula.specs.declared.cells.Shape.{Shape}
+use Rattle.ds_formula.specs.Cells.{index_of}
+use Rattle.ds_eval.specs.declared.value.Value.{Value}
+use Rattle.ds_layout.specs.declared.place.Place.{Place}
+use Rattle.ds_layout.specs.declared.place.Place.TheVariants as place
+use Rattle.ds_layout.specs.declared.mark.State.TheVariants.{Clean}
+use Rattle.ds_layout.specs.declared.announcement.Phase.TheVariants as phase
+use Rattle.ds_layout.specs.Places.{cells_of}
+use Rattle.ds_layout.specs.Mark.{mark_of, state_of}
+use Rattle.ds_layout.specs.Announcement.{announcement_word}
+use Rattle.ds_state.specs.World.{Edit, World, is_edit_of}
+use Rattle.ds_state.specs.Shown.{AllClean}
+use Rattle.ds_state.specs.Value.{WorldValue, world_of}
+use Rattle.ds_core.specs.Takes.{Takes}
+use Rattle.ds_core.specs.Moments.{Placed, Open, empty_ledger, edits_in, AreOf, Moment, MomentFits}
+use Rattle.ds_core.specs.Requests.{PlainRequest}
+use Rattle.ds_core.specs.LedgerSteps.{WordsMove, LedgerMoves}
+use Rattle.ds_core.specs.declared.event.Event.{Event}
+use Rattle.ds_core.specs.declared.event.Event.TheVariants.{BeginEdit, BeginShow, Step}
+use Rattle.ds_edit.specs.declared.answer.Answer.TheVariants.{Settled, Unsettled}
+use Rattle.ds_core.specs.declared.reply.Reply.{Reply}
+use Rattle.ds_core.specs.declared.reply.Reply.TheVariants.{Begun, Entered, Answered}
+
+-- the event at this place among the events, and its reply
+pub record Happens (events : List Event) (replies : List Reply) (k : ℕ) (event : Event) (reply : Reply) : Type 0 where
+  pub event_is : slice_get events k ≡ Some event
+  pub reply_is : slice_get replies k ≡ Some reply
+
+-- the event with its reply is the begin of this edit
+abbrev pub IsIssueOf : Shape → Event → Reply → Edit → Type 0
+IsIssueOf shape (BeginEdit r) (Begun number) edit = edit ≡ record { process = r.process; number = number; cell = index_of shape r.cell; text = r.text }
+IsIssueOf shape event reply edit = ⊥
+
+-- ---- reports
+
+-- the process's last report that began before this place began at that one: a moment of the call is behind the begin and
+-- not behind the place
+pub record IsCall (events : List Event) (replies : List Reply) (p start k : ℕ) : Type 0 where
+  pub begins : Happens events replies start (BeginShow p) Entered
+  pub earlier : start < k
+  pub last : (j : ℕ) → start < j → j < k → Happens events replies j (BeginShow p) Entered → ⊥
+
+-- the word announces an edit that is pending
+abbrev pub IsPendingWord : ℕ → Type 0
+IsPendingWord word = (n : ℕ) × (word ≡ announcement_word (record { number = n; phase = phase.Pending }))
+
+-- no announcement is pending, and every cell is clean
+pub record IsStill (w : World) : Type 0 where
+  pub calm : (q : ℕ) → q < w.layout.processes → IsPendingWord (w.memory.cached (place.Announce q)) → ⊥
+  pub clean : AllClean w.layout w.memory
+
+-- at a moment of the call all is still, and the values are those of the edits that count then
+pub record SettledFits (moment : ℕ → Moment) (start k : ℕ) (values : List Value) : Type 0 where
+  pub at : ℕ
+  pub later : start < at
+  pub until : at ≤ k
+  pub still : IsStill (world_of (moment at).world)
+  pub right : AreOf (moment at).world.sheet.layout.shape (edits_in (moment at).ledger) values
+
+-- the place is a mark or an announcement of the sheet, and its word one that is not at rest
+abbrev pub IsUnrest : World → Place → ℕ → Type 0
+IsUnrest w (place.Mark c) word = (c < cells_of w.layout) × (state_of (mark_of w.layout.processes word) ≢ Clean)
+IsUnrest w (place.Announce q) word = (q < w.layout.processes) × IsPendingWord word
+IsUnrest w r word = ⊥
+
+abbrev pub IsWatched : World → Place → Type 0
+IsWatched w (place.Mark c) = c < cells_of w.layout
+IsWatched w (place.Announce q) = q < w.layout.processes
+IsWatched w r = ⊥
+
+-- at a moment of the call the place held the word, which is not at rest, or not the one that it held earlier in the call
+pub record UnsettledFits (moment : ℕ → Moment) (start k : ℕ) (r : Place) (word : ℕ) : Type 0 where
+  pub at : ℕ
+  pub later : start < at
+  pub until : at ≤ k
+  pub watched : IsWatched (world_of (moment at).world) r
+  pub held : (world_of (moment at).world).memory.cached r ≡ word
+  pub why : IsUnrest (world_of (moment at).world) r word
+      ⊎ ((earlier : ℕ) × (start < earlier) × (earlier ≤ at) × ((world_of (moment earlier).world).memory.cached r ≢ word))
+
+-- the values of the process's last settled report, which the world keeps
+abbrev pub kept_values : WorldValue → ℕ → List Value
+kept_values v p = slice_index_or v.reports.values p []
+
+-- ---- the run
+
+-- the worlds are those that the processes' steps lead through, from the new world to the last one; a ledger exists at each
+-- moment such that each event moves words and ledger as it may, each moment fits, and so does each report
+pub record RunFits (old : WorldValue) (events : List Event) (replies : List Reply) (new : WorldValue) : Type 0 where
+  pub moment : ℕ → Moment
+  pub first : moment 0 ≡ record { world = old; ledger = empty_ledger }
+  pub last : (moment (length events)).world ≡ new
+  pub answered : length replies ≡ length events
+  pub layout : (k : ℕ) → k ≤ length events → (moment k).world.sheet.layout ≡ old.sheet.layout
+  pub takes : (k : ℕ) (event : Event) (reply : Reply) → Happens events replies k event reply
+      → Takes (moment k).world event reply (moment (k + 1)).world
+  pub words : (k : ℕ) (event : Event) (reply : Reply) → Happens events replies k event reply
+      → WordsMove (world_of (moment k).world).memory event reply (world_of (moment (k + 1)).world).memory
+  pub ledger : (k : ℕ) (event : Event) (reply : Reply) → Happens events replies k event reply
+      → LedgerMoves k old.sheet.layout.shape (moment k).ledger event reply (moment (k + 1)).ledger
+  pub fits : (k : ℕ) → k ≤ length events → MomentFits (moment k)
+  pub settled : (k p : ℕ) → Happens events replies k (Step p) (Answered Settled)
+      → (start : ℕ) × IsCall events replies p start k × SettledFits moment start k (kept_values (moment (k + 1)).world p)
+  pub unsettled : (k p : ℕ) (r : Place) (word : ℕ) → Happens events replies k (Step p) (Answered (Unsettled r word))
+      → (start : ℕ) × IsCall events replies p start k × UnsettledFits moment start k r word
+
+-- the first edit stands before the second one in the list
+pub record Precedes (es : List Placed) (e f : Placed) : Type 0 where
+  pub before : List Placed
+  pub after : List Placed
+  pub parts : es ≡ before ++ after
+  pub first : Contains before e
+  pub second : Contains after f
+
+-- the process's open edit is closed by the event at this place
+pub record IsClosed (moment : ℕ → Moment) (k p : ℕ) (e : Placed) : Type 0 where
+  pub open_edit : Open
+  pub was : (moment k).ledger.opens p ≡ Some open_edit
+  pub is : open_edit.it ≡ e
+  pub gone : (moment (k + 1)).ledger.opens p ≡ None
+
+-- the run fits; an edit, once closed, stays in the list of counted edits or stays out; and one that was closed before
+-- another was begun stands before it, wherever both stand
+pub record Headline (old : WorldValue) (events : List Event) (replies : List Reply) (new : WorldValue) : Type 0 where
+  pub run : RunFits old events replies new
+  pub closed : (k p : ℕ) (e : Placed) → k < length events → IsClosed run.moment k p e
+      → (j : ℕ) → k < j → j ≤ length events → Contains (run.moment j).ledger.counted e ↔ Contains (run.moment k).ledger.counted e
+  pub order : (k p : ℕ) (e f : Placed) → k < length events → IsClosed run.moment k p e → k < f.place
+      → (j : ℕ) → j ≤ length events → Contains (run.moment j).ledger.counted e → Contains (run.moment j).ledger.counted f
+      → Precedes (run.moment j).ledger.counted e f
+
+-- ---- what a caller is told
+
+-- of the process and this number the list has just one edit, with the cell and text of a request whose begin before this
+-- place was answered with this number
+pub record IsAcknowledged (old : WorldValue) (events : List Event) (replies : List Reply) (k p number : ℕ) (edits : List Edit) : Type 0 where
+  pub request : PlainRequest
+  pub start : ℕ
+  pub earlier : start < k
+  pub begun : Happens events replies start (BeginEdit request) (Begun number)
+  pub mine : request.process ≡ p
+  pub once : filter (is_edit_of p number) edits ≡ record { process = p; number = number; cell = index_of old.sheet.layout.shape request.cell; text = request.text } ∷ []

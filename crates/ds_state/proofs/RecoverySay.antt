@@ -1,0 +1,187 @@
+-- A recovery says how its edit in doubt ended.
+use Rattle.std.proofs.Common.{ℕ, ◌≡◌, ◌≢◌, ◌<◌, ◌≤◌, ◌+◌, ◌-◌, ◌*◌, ◌/◌, ◌%◌, ◌⊎◌, List, [], ◌∷◌, ◌++◌, refl, ap, sym, ◌∙◌, subst, arith, inl, inr, Some, None, true, false, zero, suc}
+use Rattle.std.specs.Prelude.{Option, Bool}
+use Rattle.ds_words.specs.Memory.{StoresAt}
+use Rattle.ds_layout.specs.declared.place.TheConstants.{RECORDS}
+use Rattle.ds_layout.specs.declared.place.Place.TheVariants.{Version, Head, Mark, Value, Kind, Announce, Header}
+use Rattle.ds_layout.specs.declared.announcement.Phase.TheVariants as phase
+use Rattle.ds_state.specs.Works.{PlainRecovery}
+use Rattle.ds_state.specs.World.{Edit, Issue, World, of_cell, record_size, record_place, announcement}
+use Rattle.ds_state.specs.Known.{Standing, outside, inside, safe, Announced, last, pending, ended, word_of, AreBelow, IsSafelyIn, StandsAs, IsRecorded}
+use Rattle.ds_state.specs.declared.stage.Outcome.{Outcome}
+use Rattle.ds_state.specs.declared.stage.Outcome.TheVariants as outcome
+use Rattle.ds_state.specs.Owing.{IsHeldBy}
+use Rattle.ds_state.specs.Calls.{CallFits, MaySay, rank, IsWritten, IsInDoubt, DoubtFits, RecoveryFits}
+use Rattle.ds_state.specs.KnownRecovery.{phase_for, IsOpenAnd, SettledAs}
+use Rattle.ds_state.specs.Words.{WordFits, IsKept}
+use Rattle.ds_state.specs.Rely.{Grows, Keeps}
+use Rattle.ds_state.specs.Sound.{IsSound}
+use Rattle.ds_state.specs.RecoverySteps.{StepsAt, at, number_of}
+use Rattle.ds_state.specs.declared.work.RecoverStage.{RecoverStage}
+use Rattle.ds_state.specs.declared.work.RecoverStage.TheVariants.{StoreOutcome, FlushOutcome}
+use Rattle.ds_state.specs.declared.situation.Situation.{Situation}
+use Rattle.ds_state.specs.declared.situation.Situation.TheVariants.{Recovering}
+use Rattle.ds_state.proofs.Found.{gave_counts}
+use Rattle.ds_state.proofs.Stable.{standing_stable, word_stable, recorded_stable}
+use Rattle.ds_state.proofs.Frames.{MovesWord, Moves, grows_own, moves_sound, kept_stable}
+use Rattle.ds_state.proofs.Bearing.{Mine, MyMarks, bears, all_stand, text_same, stored_marks}
+use Rattle.ds_state.proofs.Buffers.{buffered}
+use Rattle.ds_state.proofs.Accesses.{Turn, store_moves}
+use Rattle.ds_state.proofs.RecoveryFrame.{on, Passes, turn_of, recovery_mine, recovery_apart, recovery_keeps, recovery_fits}
+use Rattle.ds_state.proofs.RecoveryDoubt.{IsDoubted, pending_open, not_below}
+
+record_no_announce : (p n k q : ℕ) → record_place p n k ≢ Announce q
+record_no_announce p n zero q = λ same. cc
+record_no_announce p n (suc k) q = λ same. cc
+
+-- how an edit is resolved, as its process announces it
+abbrev pub outcome_for : Bool → Outcome
+outcome_for true = outcome.Done
+outcome_for false = outcome.Overtaken 0 0
+
+abbrev pub standing_for : Bool → Standing
+standing_for true = safe
+standing_for false = outside
+
+ended_word : (w : World) (f : Edit) (how : Bool) → announcement f.number (phase_for how) ≡ word_of w f (ended (outcome_for how))
+ended_word w f true = refl
+ended_word w f false = refl
+
+may_end : (how : Bool) → MaySay (standing_for how) (ended (outcome_for how))
+may_end true = tt
+may_end false = tt
+
+stands_for : (w : World) (f : Edit) (how : Bool) → SettledAs w f how → StandsAs w f (standing_for how)
+stands_for w f true h = h
+stands_for w f false h = h
+
+written_pending : (w : World) (f : Edit) (a : Announced) → a ≡ pending → IsWritten w f a → IsRecorded w f (record_size f) (record_size f)
+written_pending w f last same h = absurd (let k : last ≡ pending = same in cc)
+written_pending w f pending same h = h
+written_pending w f (ended how) same h = h
+
+-- what was said before is still so
+said_before : (w : World) (f : Edit) (s : Standing) (b : Announced) (how : Bool) → StandsAs w f s → MaySay s b → rank b ≤ 1 → SettledAs w f how → MaySay (standing_for how) b
+said_before w f s last false stands said order settled = tt
+said_before w f s pending false stands said order settled = tt
+said_before w f s pending true stands said order settled = tt
+said_before w f s (ended how') how stands said order settled = absurd (omega arith)
+said_before w f outside last true stands said order settled = absurd (not_below w f f (gave_counts w f.cell settled.safe.own f settled.safe.head) refl refl stands)
+said_before w f (inside own) last true stands said order settled = absurd said
+said_before w f safe last true stands said order settled = absurd said
+
+module _ (e : PlainRecovery) (how : Bool) (word : ℕ) (old new : World) (sound : IsSound old) (real : e.process < old.layout.processes)
+    (was : old.situation e.process ≡ Recovering (at e (StoreOutcome how))) (fits : RecoveryFits old e.process (at e (StoreOutcome how))) (t : StepsAt e (StoreOutcome how) word old new) where
+  abbrev p : ℕ
+  p = e.process
+
+  abbrev said_word : ℕ
+  said_word = announcement (number_of e) (phase_for how)
+
+  store : StoresAt (Announce p) said_word old.memory new.memory
+  store = t.memory.1
+
+  tn : Turn p old new
+  tn = turn_of e (StoreOutcome how) word old new t
+
+  abbrev h : IsOpenAnd old p e.announcement e.cell (λ f. SettledAs old f how)
+  h = fits.resolved
+
+  abbrev f : Edit
+  f = h.issue.edit
+
+  number_is : number_of e ≡ f.number
+  number_is = let w = h.it.is in omega arith
+
+  more : (b : Bool) → announcement f.number phase.Pending ≤ announcement (number_of e) (phase_for b)
+  more true = let n = number_is in omega arith
+  more false = let n = number_is in omega arith
+
+  moved : MovesWord old.memory p (Announce p) (old.memory.cached (Announce p)) (old.memory.persisted (Announce p)) said_word (old.memory.persisted (Announce p))
+  moved = ((let c = h.it.cached in let w = h.it.is in let m = more how in omega arith), omega arith, inl refl)
+
+  moves : Moves p (Announce p) old new
+  moves = store_moves p old new tn (Announce p) said_word moved store
+
+  passes : Passes p e.row (StoreOutcome how) e.row (FlushOutcome how) old new
+  passes = record {
+    owes = λ r d x bit matters k o. absurd o;
+    excuses = λ d x matters k o. absurd o;
+    parts = λ r k o. absurd o;
+    splits = λ f before last_of issue issued same k o. absurd o;
+  }
+
+  no_value : (r : ℕ) → (Announce p ≡ Value r) ⊎ (Announce p ≡ Kind r) → ⊥
+  no_value r is = elim is [ inl x ↦ cc | inr x ↦ cc ]
+
+  went : new.situation p ≡ Recovering (on e e.mark e.row said_word e.cell (FlushOutcome how))
+  went = t.situation
+
+  my : Mine p (Announce p) old new moves
+  my = recovery_mine e e.mark e.row said_word e.cell (StoreOutcome how) (FlushOutcome how) old new was went (Announce p) moves passes (λ r is. absurd (no_value r is)) (λ r is. absurd (no_value r is))
+      (λ d. store.elsewhere (Head d) (λ x. cc)) (λ d is. cc)
+
+  marks : MyMarks p (Announce p) old new moves
+  marks = stored_marks p (Announce p) old new moves (λ d is. cc) store.persisted store.buffer
+
+  tells : (b : Bool) → SettledAs old f b → (n : ℕ) → announcement (number_of e) (phase_for b) ≡ announcement n phase.Done → IsKept old p n
+  tells true k n is = record { edit = f; process_is = h.it.process; number_is = (let m = number_is in omega arith); safe = k.safe }
+  tells false k n is = absurd (omega arith)
+
+  word_fits : WordFits new (Announce p) (new.memory.cached (Announce p)) (new.memory.persisted (Announce p))
+  word_fits = record {
+    sides = (let s = (sound.words (Announce p)).sides in let l = moved.0 in let a = store.there in let b = store.persisted (Announce p) in omega arith);
+    on_cached = λ n few is. kept_stable p (Announce p) old new moves tn.counted p n (tells how h.and n (sym store.there ∙ is));
+    on_persisted = λ n few is. kept_stable p (Announce p) old new moves tn.counted p n ((sound.words (Announce p)).on_persisted n few (sym (store.persisted (Announce p)) ∙ is));
+  }
+
+  g : Grows p (Announce p) old new
+  g = grows_own p (Announce p) old new moves tn.counted
+
+  gf : Grows f.process (Announce p) old new
+  gf = subst (λ (q : ℕ). Grows q (Announce p) old new) (sym h.it.process) g
+
+  doubted : IsDoubted old p f.number (old.pending p)
+  doubted = pending_open old p f.number (old.pending p) fits.doubt (h.it.cached ∙ h.it.is)
+
+  mine_is : doubted.issue ≡ h.issue
+  mine_is = let both : Some doubted.issue ≡ Some h.issue = sym doubted.issued ∙ h.it.issued in cc
+
+  abbrev D : Type 0
+  D = (d : IsInDoubt old p h.issue) × (d.now ≡ pending)
+
+  doubt : D
+  doubt = subst (λ (i : Issue). (d : IsInDoubt old p i) × (d.now ≡ pending)) mine_is (doubted.doubt, doubted.now)
+
+  few_before : rank doubt.0.before ≤ 1
+  few_before = let o = doubt.0.order in let n = ap rank doubt.1 in omega arith
+
+  in_doubt : IsInDoubt new p h.issue
+  in_doubt = record {
+    mine = doubt.0.mine;
+    number = doubt.0.number;
+    cell = rw tn.layout doubt.0.cell;
+    text = doubt.0.text;
+    standing = standing_for how;
+    stands = standing_stable (Announce p) old new f gf (standing_for how) (stands_for old f how h.and);
+    before = doubt.0.before;
+    now = ended (outcome_for how);
+    cached = store.there ∙ ap (λ (n : ℕ). announcement n (phase_for how)) number_is ∙ ended_word new f how;
+    persisted = store.persisted (Announce p) ∙ doubt.0.persisted ∙ sym (word_stable (Announce p) old new f gf doubt.0.before);
+    said = may_end how;
+    said_before = said_before old f doubt.0.standing doubt.0.before how doubt.0.stands doubt.0.said_before few_before h.and;
+    order = (let l = few_before in omega arith);
+    written = recorded_stable (Announce p) old new f gf (λ k. record_no_announce f.process f.number k p) (record_size f) (record_size f) (written_pending old f doubt.0.now doubt.1 doubt.0.written);
+  }
+
+  pub step_store_outcome : Keeps p old new
+  step_store_outcome = moves_sound p (Announce p) old new moves tn.counted sound (bears p (Announce p) old new moves sound my)
+      (all_stand p (Announce p) old new moves sound (buffered old sound) my (text_same old new moves.layout tn.counted) marks)
+      (recovery_apart e e.mark e.row said_word e.cell (StoreOutcome how) (FlushOutcome how) old new was went (Announce p) moves passes)
+      (λ d ne. recovery_keeps e e.mark e.row said_word e.cell (StoreOutcome how) (FlushOutcome how) old new was went (Announce p) moves passes t.pending d) word_fits
+      (λ l. subst (λ (s : Situation). CallFits new p s) (sym went)
+      (recovery_fits e e.mark e.row said_word e.cell (StoreOutcome how) (FlushOutcome how) old new was went fits tn.layout t.pending
+      (subst (λ (o : Option Issue). DoubtFits new p o) (sym h.it.issued) in_doubt)
+      (λ r by. fits.freed r (subst (λ (x : ℕ). IsHeldBy p x) (store.elsewhere (Mark r) (λ x. cc)) by))
+      (store.there, record { number = number_of e; few = (let n = number_is in let k = h.it.number in omega arith); is = refl })
+      (store.buffer p ∙ fits.buffer) tt))

@@ -1,0 +1,212 @@
+-- What a recovery knows at each of its stages, and what its buffer holds.
+use Rattle.std.specs.Prelude.{ℕ, ◌≡◌, ◌≢◌, ◌<◌, ◌≤◌, ◌+◌, ◌*◌, ◌/◌, ◌⊎◌, List, [], ◌∷◌, ◌++◌, length, Option, Some, None, Bool, true, false}
+use Rattle.ds_layout.specs.declared.place.TheConstants.{RECORDS}
+use Rattle.ds_layout.specs.declared.place.Place.TheVariants as place
+use Rattle.ds_layout.specs.declared.announcement.Phase.{Phase}
+use Rattle.ds_layout.specs.declared.announcement.Phase.TheVariants as phase
+use Rattle.ds_layout.specs.Places.{cells_of}
+use Rattle.ds_layout.specs.Bits.{HasBit}
+use Rattle.ds_state.specs.Works.{PlainRecovery}
+use Rattle.ds_state.specs.World.{Edit, Issue, World, announcement, done_place, last_announcement}
+use Rattle.ds_words.specs.declared.access.Entry.{Entry}
+use Rattle.ds_layout.specs.declared.place.Place.{Place}
+use Rattle.ds_state.specs.World.{of_cell, IsHeadBy}
+use Rattle.ds_state.specs.declared.work.Spread.{Spread}
+use Rattle.ds_state.specs.declared.work.Spread.TheVariants.{LoadRow, BackTold}
+use Rattle.ds_state.specs.Known.{AreBelow, IsIn, IsSafelyIn}
+use Rattle.ds_state.specs.Owing.{entry, IsHeldBy, HoldsNone, turn}
+use Rattle.ds_state.specs.KnownWork.{HasMark}
+use Rattle.ds_state.specs.declared.work.RecoverStage.{RecoverStage}
+use Rattle.ds_state.specs.declared.work.RecoverStage.TheVariants.{LoadMark, FlushValue, FlushKind, BackValue, BackKind, Telling, Give, GiveDirty, FlushGiven, BackGiven, LoadAnnounce, LoadHeader, LoadHead, FlushHead, BackHead, LoadDone, OrMark, FlushMark, BackMark, StoreOutcome, FlushOutcome, BackOutcome, Answer}
+
+-- the cells: so many are looked at, and this one is held, with so much of its words persisted; it is so, and was marked
+-- since it was looked at
+pub data Freed : Type 0 where
+  before : ℕ → Freed
+  holding : ℕ → Freed
+  value_back : ℕ → Freed
+  both_back : ℕ → Freed
+  outrun : ℕ → Freed
+  all_free : Freed
+
+abbrev pub freed_at : RecoverStage → Freed
+freed_at (LoadMark cell) = before cell
+freed_at (FlushValue cell) = holding cell
+freed_at (FlushKind cell) = holding cell
+freed_at (BackValue cell) = holding cell
+freed_at (BackKind cell) = value_back cell
+freed_at (Telling cell spread) = both_back cell
+freed_at (Give cell) = both_back cell
+freed_at (GiveDirty cell) = outrun cell
+freed_at (FlushGiven cell) = before (cell + 1)
+freed_at (BackGiven cell) = before (cell + 1)
+freed_at _ = all_free
+
+-- the cells below this one are not held by the process
+abbrev pub HoldsFrom : World → ℕ → ℕ → Type 0
+HoldsFrom w p cell = (r : ℕ) → r < cell → IsHeldBy p (w.memory.cached (place.Mark r)) → ⊥
+
+-- it holds the cell, by the mark that it saw
+pub record Holding (w : World) (p mark cell : ℕ) : Type 0 where
+  pub below : HoldsFrom w p cell
+  pub by : IsHeldBy p mark
+  pub stands : turn (w.memory.cached (place.Mark cell)) ≡ turn mark
+  pub seen : mark ≤ w.memory.cached (place.Mark cell)
+
+abbrev pub ValueAgrees : World → ℕ → Type 0
+ValueAgrees w cell = w.memory.persisted (place.Value cell) ≡ w.memory.cached (place.Value cell)
+
+abbrev pub KindAgrees : World → ℕ → Type 0
+KindAgrees w cell = w.memory.persisted (place.Kind cell) ≡ w.memory.cached (place.Kind cell)
+
+-- the mark with dirty set
+abbrev pub marked : ℕ → ℕ
+marked mark = mark / 2 * 2 + 1
+
+abbrev pub FreedFits : World → ℕ → ℕ → Freed → Type 0
+FreedFits w p mark (before cell) = HoldsFrom w p cell
+FreedFits w p mark (holding cell) = Holding w p mark cell
+FreedFits w p mark (value_back cell) = Holding w p mark cell × ValueAgrees w cell
+FreedFits w p mark (both_back cell) = Holding w p mark cell × ValueAgrees w cell × KindAgrees w cell
+FreedFits w p mark (outrun cell) = Holding w p mark cell × ValueAgrees w cell × KindAgrees w cell × (w.memory.cached (place.Mark cell) ≡ marked mark)
+FreedFits w p mark all_free = HoldsNone w p
+
+-- its edit in doubt: nothing is noted; the announcement is; it is pending, and of this cell; it counts; it does not, or is
+-- overtaken; it is settled; that is said on the cached side; on both sides, or nothing was ever announced
+pub data Resolved : Type 0 where
+  unknown : Resolved
+  noted : Resolved
+  doubted : Resolved
+  is_head : Resolved
+  not_head : Resolved
+  settled : Bool → Resolved
+  said : Bool → Resolved
+  over : Option Bool → Resolved
+
+abbrev pub resolved_at : RecoverStage → Resolved
+resolved_at LoadHeader = noted
+resolved_at LoadHead = doubted
+resolved_at FlushHead = is_head
+resolved_at BackHead = is_head
+resolved_at LoadDone = not_head
+resolved_at (OrMark how) = settled how
+resolved_at (FlushMark how) = settled how
+resolved_at (BackMark how) = settled how
+resolved_at (StoreOutcome how) = settled how
+resolved_at (FlushOutcome how) = said how
+resolved_at (BackOutcome how) = said how
+resolved_at (Answer how) = over how
+resolved_at _ = unknown
+
+-- how an edit is announced that ended so
+abbrev pub phase_for : Bool → Phase
+phase_for true = phase.Done
+phase_for false = phase.NotDone
+
+-- the announcement tells this outcome
+pub record Tells (word : ℕ) (how : Bool) : Type 0 where
+  pub number : ℕ
+  pub few : number < RECORDS
+  pub is : word ≡ announcement number (phase_for how)
+
+-- settled: it counts for good, or it does not count
+abbrev pub SettledAs : World → Edit → Bool → Type 0
+SettledAs w e true = IsSafelyIn w e
+SettledAs w e false = AreBelow w e.process e.number
+
+-- the edit counts, and is not its cell's last
+pub record IsPassed (w : World) (e : Edit) : Type 0 where
+  pub before : List Edit
+  pub next : Edit
+  pub after : List Edit
+  pub parts : of_cell e.cell w.counted ≡ before ++ e ∷ next ∷ after
+
+-- the edit in doubt, which is announced as pending by the word
+pub record IsOpen (w : World) (p word : ℕ) (issue : Issue) : Type 0 where
+  pub issued : w.pending p ≡ Some issue
+  pub process : issue.edit.process ≡ p
+  pub number : issue.edit.number < RECORDS
+  pub is : word ≡ announcement issue.edit.number phase.Pending
+  pub cached : w.memory.cached (place.Announce p) ≡ word
+
+pub record IsOpenAnd (w : World) (p word own : ℕ) (P : Edit → Type 0) : Type 0 where
+  pub issue : Issue
+  pub it : IsOpen w p word issue
+  pub own_is : issue.edit.cell ≡ own
+  pub and : P issue.edit
+
+abbrev pub ResolvedFits : World → ℕ → ℕ → ℕ → Resolved → Type 0
+ResolvedFits w p word cell unknown = Unit {0}
+ResolvedFits w p word cell noted = w.memory.cached (place.Announce p) ≡ word
+ResolvedFits w p word cell doubted = IsOpenAnd w p word cell (λ f. Unit {0})
+ResolvedFits w p word cell is_head = IsOpenAnd w p word cell (λ f. (own : ℕ) × IsIn w f own)
+ResolvedFits w p word cell not_head = IsOpenAnd w p word cell (λ f. AreBelow w f.process f.number ⊎ (IsPassed w f × AreBelow w f.process (f.number + 1)))
+ResolvedFits w p word cell (settled how) = IsOpenAnd w p word cell (λ f. SettledAs w f how)
+ResolvedFits w p word cell (said how) = (w.memory.cached (place.Announce p) ≡ word) × Tells word how
+ResolvedFits w p word cell (over (Some how)) = (w.memory.cached (place.Announce p) ≡ word) × (w.memory.persisted (place.Announce p) ≡ word) × Tells word how
+ResolvedFits w p word cell (over None) = (w.memory.cached (place.Announce p) ≡ word) × (w.memory.persisted (place.Announce p) ≡ word) × (word ≡ 0)
+
+-- what its buffer holds: the words of the cell that it frees; marks; a head; its announcement
+pub data RecoveryHeld : Type 0 where
+  empty : RecoveryHeld
+  the_value : ℕ → RecoveryHeld
+  both_words : ℕ → RecoveryHeld
+  the_kind : ℕ → RecoveryHeld
+  a_mark : ℕ → RecoveryHeld
+  a_head : RecoveryHeld
+  the_outcome : RecoveryHeld
+
+abbrev pub spread_held : Spread → RecoveryHeld
+spread_held (BackTold d) = a_mark d
+spread_held _ = empty
+
+abbrev pub recovery_held : ℕ → RecoverStage → RecoveryHeld
+recovery_held c (FlushKind cell) = the_value cell
+recovery_held c (BackValue cell) = both_words cell
+recovery_held c (BackKind cell) = the_kind cell
+recovery_held c (Telling cell spread) = spread_held spread
+recovery_held c (BackGiven cell) = a_mark cell
+recovery_held c BackHead = a_head
+recovery_held c (BackMark how) = a_mark c
+recovery_held c (BackOutcome how) = the_outcome
+recovery_held c _ = empty
+
+abbrev pub value_now : World → ℕ → Entry Place
+value_now w cell = entry (place.Value cell) (w.memory.cached (place.Value cell))
+
+abbrev pub kind_now : World → ℕ → Entry Place
+kind_now w cell = entry (place.Kind cell) (w.memory.cached (place.Kind cell))
+
+-- a head of the cell, that of the edit in doubt or a later one
+pub record HasHead (w : World) (p cell : ℕ) : Type 0 where
+  pub value : ℕ
+  pub alone : w.memory.buffer p ≡ entry (place.Head cell) value ∷ []
+  pub by : Edit
+  pub gave : IsHeadBy (of_cell cell w.counted) value by
+  pub issue : Issue
+  pub issued : w.pending p ≡ Some issue
+  pub own : ℕ
+  pub head : IsHeadBy (of_cell cell w.counted) own issue.edit
+  pub enough : own ≤ value
+
+abbrev pub RecoveryHolds : World → ℕ → ℕ → ℕ → RecoveryHeld → Type 0
+RecoveryHolds w p word c empty = w.memory.buffer p ≡ []
+RecoveryHolds w p word c (the_value cell) = w.memory.buffer p ≡ value_now w cell ∷ []
+RecoveryHolds w p word c (both_words cell) = w.memory.buffer p ≡ value_now w cell ∷ kind_now w cell ∷ []
+RecoveryHolds w p word c (the_kind cell) = w.memory.buffer p ≡ kind_now w cell ∷ []
+RecoveryHolds w p word c (a_mark cell) = HasMark w p cell
+RecoveryHolds w p word c a_head = HasHead w p c
+RecoveryHolds w p word c the_outcome = w.memory.buffer p ≡ entry (place.Announce p) word ∷ []
+
+-- the parts of the row that were loaded, and the cell that is looked at
+abbrev pub SpreadCounts : List ℕ → Spread → Type 0
+SpreadCounts row (LoadRow part) = length row ≡ part
+SpreadCounts row _ = Unit {0}
+
+abbrev pub RowCounts : List ℕ → RecoverStage → Type 0
+RowCounts row (FlushValue cell) = length row ≡ 0
+RowCounts row (FlushKind cell) = length row ≡ 0
+RowCounts row (BackValue cell) = length row ≡ 0
+RowCounts row (BackKind cell) = length row ≡ 0
+RowCounts row (Telling cell spread) = SpreadCounts row spread
+RowCounts row _ = Unit {0}

@@ -1,0 +1,184 @@
+-- What a report knows at each of its stages: what it noted, and the moment that it speaks of.
+use Rattle.std.specs.Prelude.{ℕ, ◌≡◌, ◌≢◌, ◌<◌, ◌≤◌, ◌+◌, ◌⊎◌, List, [], ◌++◌, length, map, Bool, true, false, Option, Some, None, slice_index_or}
+use Rattle.std.specs.List.{range_with_len}
+use Rattle.ds_formula.specs.Cells.{IsInside, index_of, count_of}
+use Rattle.ds_formula.specs.declared.cells.Cell.{Cell}
+use Rattle.ds_formula.specs.declared.cells.Shape.{Shape}
+use Rattle.ds_formula.specs.Plain.{Plain}
+use Rattle.ds_formula.specs.Grammar.{Reads}
+use Rattle.ds_eval.specs.declared.value.Value.{Value}
+use Rattle.ds_eval.specs.Scratch.{IsScratch}
+use Rattle.ds_layout.specs.declared.announcement.Announcement.{Announcement}
+use Rattle.ds_layout.specs.declared.announcement.Phase.{Phase}
+use Rattle.ds_layout.specs.declared.announcement.Phase.TheVariants as phase
+use Rattle.ds_layout.specs.declared.place.Place.TheVariants as place
+use Rattle.ds_layout.specs.declared.layout.Layout.{Layout}
+use Rattle.ds_layout.specs.Announcement.{announcement_of}
+use Rattle.ds_layout.specs.Places.{cells_of}
+use Rattle.ds_state.specs.Works.{PlainShow}
+use Rattle.ds_state.specs.World.{Edit, World, of_cell}
+use Rattle.ds_state.specs.Shown.{last_text}
+use Rattle.ds_state.specs.Owing.{IsClean, IsHeldBy}
+use Rattle.ds_state.specs.Standing.{shown_entry}
+use Rattle.ds_state.specs.KnownWork.{IsAtRest}
+use Rattle.ds_state.specs.declared.work.ShowEnd.TheVariants.{Settled, AtMark, AtAnnounce}
+use Rattle.ds_state.specs.declared.work.ShowStage.{ShowStage}
+use Rattle.ds_state.specs.declared.work.ShowStage.TheVariants.{LoadAnnounce, LoadMark, LoadValue, LoadKind, AgainMark, AgainAnnounce, Answer}
+
+abbrev pub noted : List ℕ → ℕ → ℕ
+noted words i = slice_index_or words i 0
+
+-- whether a word announces an edit as pending
+abbrev pub is_pending_phase : Phase → Bool
+is_pending_phase phase.Pending = true
+is_pending_phase phase.Done = false
+is_pending_phase phase.NotDone = false
+
+abbrev pub pends : Option Announcement → Bool
+pends None = false
+pends (Some a) = is_pending_phase a.phase
+
+abbrev pub IsPendingWord : ℕ → Type 0
+IsPendingWord word = pends (announcement_of word) ≡ true
+
+-- the words of one moment, and the edits that counted then
+pub record Moment : Type 0 where
+  pub marks : ℕ → ℕ
+  pub announced : ℕ → ℕ
+  pub value : ℕ → ℕ
+  pub kind : ℕ → ℕ
+  pub edits : List Edit
+
+abbrev pub moment_of : World → Moment
+moment_of w = record {
+  marks = λ c. w.memory.cached (place.Mark c);
+  announced = λ q. w.memory.cached (place.Announce q);
+  value = λ c. w.memory.cached (place.Value c);
+  kind = λ c. w.memory.cached (place.Kind c);
+  edits = w.counted;
+}
+
+-- the sheet that the edits give: each cell has the content of the text of its last edit, which is empty without one
+pub record IsSheet (shape : Shape) (edits : List Edit) (sheet : Cell → Plain) : Type 0 where
+  pub each : (c : Cell) → IsInside shape c → Reads shape (last_text (of_cell (index_of shape c) edits)) (sheet c)
+
+-- what the words of so many cells show
+abbrev pub values_of : ℕ → (ℕ → ℕ) → (ℕ → ℕ) → List Value
+values_of cells value kind = map (λ c. (shown_entry cells (value c) (kind c)).value) (range_with_len 0 cells)
+
+-- these are the values of the sheet of these edits, from scratch
+pub record AreScratch (shape : Shape) (edits : List Edit) (values : List Value) : Type 0 where
+  pub sheet : Cell → Plain
+  pub is : IsSheet shape edits sheet
+  pub scratch : IsScratch shape sheet values
+
+-- so of the moment
+abbrev pub IsRight : Shape → Moment → Type 0
+IsRight shape m = AreScratch shape m.edits (values_of (count_of shape) m.value m.kind)
+
+-- every mark is clean, and nothing is announced as pending
+pub record IsStill (layout : Layout) (m : Moment) : Type 0 where
+  pub clean : (c : ℕ) → c < cells_of layout → IsClean (m.marks c)
+  pub settled : (q : ℕ) → q < layout.processes → IsPendingWord (m.announced q) → ⊥
+
+-- the moment, between what was noted at first and now
+pub record HasMoment (w : World) (qs ms vs ks : List ℕ) (m : Moment) : Type 0 where
+  pub marks_to : (c : ℕ) → m.marks c ≤ w.memory.cached (place.Mark c)
+  pub announced_to : (q : ℕ) → m.announced q ≤ w.memory.cached (place.Announce q)
+  pub marks_from : (c : ℕ) → c < length ms → noted ms c ≤ m.marks c
+  pub announced_from : (q : ℕ) → q < length qs → noted qs q ≤ m.announced q
+  pub values : (c : ℕ) → c < length vs → m.marks c ≡ noted ms c → m.value c ≡ noted vs c
+  pub kinds : (c : ℕ) → c < length ks → m.marks c ≡ noted ms c → m.kind c ≡ noted ks c
+  pub more : List Edit
+  pub counted : w.counted ≡ m.edits ++ more
+  pub right : IsStill w.layout m → IsRight w.layout.shape m
+
+-- what was noted so far: no word is older now; marks were clean, announcements not pending; values stand while marks do
+pub record HasNoted (w : World) (qs ms vs ks : List ℕ) : Type 0 where
+  pub announcements : (q : ℕ) → q < length qs → noted qs q ≤ w.memory.cached (place.Announce q)
+  pub marks : (c : ℕ) → c < length ms → noted ms c ≤ w.memory.cached (place.Mark c)
+  pub clean : (c : ℕ) → c < length ms → IsClean (noted ms c)
+  pub calm : (q : ℕ) → q < length qs → IsPendingWord (noted qs q) → ⊥
+  pub values : (c : ℕ) → c < length vs → w.memory.cached (place.Mark c) ≡ noted ms c → w.memory.cached (place.Value c) ≡ noted vs c
+  pub kinds : (c : ℕ) → c < length ks → w.memory.cached (place.Mark c) ≡ noted ms c → w.memory.cached (place.Kind c) ≡ noted ks c
+  pub fewer : (length ks ≤ length vs) × (length vs ≤ length ms)
+
+-- so many marks and announcements that it saw again were the same at that moment
+pub record SawAgain (w : World) (qs ms vs ks : List ℕ) (m : Moment) (again_marks again : ℕ) : Type 0 where
+  pub moment : HasMoment w qs ms vs ks m
+  pub mark : (c : ℕ) → c < again_marks → m.marks c ≡ noted ms c
+  pub announcement : (q : ℕ) → q < again → m.announced q ≡ noted qs q
+
+-- a word that it saw at a cell's mark: it was not clean, or not the noted one
+pub record IsOffMark (w : World) (ms : List ℕ) (c word : ℕ) : Type 0 where
+  pub had : word ≤ w.memory.cached (place.Mark c)
+  pub off : (IsClean word → ⊥) ⊎ ((c < length ms) × (word ≢ noted ms c))
+
+-- and at a process's announcement
+pub record IsOffAnnounce (w : World) (qs : List ℕ) (q word : ℕ) : Type 0 where
+  pub had : word ≤ w.memory.cached (place.Announce q)
+  pub off : IsPendingWord word ⊎ ((q < length qs) × (word ≢ noted qs q))
+
+-- how far it is: no moment yet; so many marks and announcements seen again; the word that ended it
+pub data Seen : Type 0 where
+  first : Seen
+  middle : ℕ → ℕ → Seen
+  off_mark : ℕ → ℕ → Seen
+  off_announce : ℕ → ℕ → Seen
+
+abbrev pub seen_at : ℕ → ℕ → ShowStage → Seen
+seen_at cells processes (LoadAnnounce i) = first
+seen_at cells processes (LoadMark i) = first
+seen_at cells processes (LoadValue i) = first
+seen_at cells processes (LoadKind i) = first
+seen_at cells processes (AgainMark i) = middle i 0
+seen_at cells processes (AgainAnnounce i) = middle cells i
+seen_at cells processes (Answer Settled) = middle cells processes
+seen_at cells processes (Answer (AtMark c word)) = off_mark c word
+seen_at cells processes (Answer (AtAnnounce q word)) = off_announce q word
+
+-- with this moment, where there is one
+abbrev pub SeenFits : World → List ℕ → List ℕ → List ℕ → List ℕ → Moment → Seen → Type 0
+SeenFits w qs ms vs ks m first = Unit {0}
+SeenFits w qs ms vs ks m (middle again_marks again) = SawAgain w qs ms vs ks m again_marks again
+SeenFits w qs ms vs ks m (off_mark c word) = IsOffMark w ms c word
+SeenFits w qs ms vs ks m (off_announce q word) = IsOffAnnounce w qs q word
+
+-- how many announcements, marks, values and kinds are noted
+pub record HaveNoted (qs ms vs ks : List ℕ) (q m v k : ℕ) : Type 0 where
+  pub announcements : length qs ≡ q
+  pub marks : length ms ≡ m
+  pub values : length vs ≡ v
+  pub kinds : length ks ≡ k
+
+-- what its lists have at a stage, and that the stage is one of the sheet
+abbrev pub IsStage : PlainShow → ShowStage → Type 0
+IsStage e (LoadAnnounce i) = (i < e.processes) × HaveNoted e.announcements e.marks e.values e.kinds i 0 0 0
+IsStage e (LoadMark i) = (i < e.cells) × HaveNoted e.announcements e.marks e.values e.kinds e.processes i 0 0
+IsStage e (LoadValue i) = (i < e.cells) × HaveNoted e.announcements e.marks e.values e.kinds e.processes e.cells i i
+IsStage e (LoadKind i) = (i < e.cells) × HaveNoted e.announcements e.marks e.values e.kinds e.processes e.cells (i + 1) i
+IsStage e (AgainMark i) = (i < e.cells) × HaveNoted e.announcements e.marks e.values e.kinds e.processes e.cells e.cells e.cells
+IsStage e (AgainAnnounce i) = (i < e.processes) × HaveNoted e.announcements e.marks e.values e.kinds e.processes e.cells e.cells e.cells
+IsStage e (Answer Settled) = HaveNoted e.announcements e.marks e.values e.kinds e.processes e.cells e.cells e.cells
+IsStage e (Answer (AtMark c word)) = c < e.cells
+IsStage e (Answer (AtAnnounce q word)) = q < e.processes
+
+pub record IsShow (e : PlainShow) : Type 0 where
+  pub cells : 0 < e.cells
+  pub processes : 0 < e.processes
+  pub stage : IsStage e e.stage
+
+-- a report of the sheet, of which this is the moment
+pub record ShowFitsAt (w : World) (p : ℕ) (e : PlainShow) (m : Moment) : Type 0 where
+  pub mine : e.process ≡ p
+  pub is : IsShow e
+  pub cells : cells_of w.layout ≡ e.cells
+  pub processes : w.layout.processes ≡ e.processes
+  pub rest : IsAtRest w e.process e.next
+  pub holds_none : (r : ℕ) → IsHeldBy e.process (w.memory.cached (place.Mark r)) → ⊥
+  pub buffer : w.memory.buffer e.process ≡ []
+  pub noted : HasNoted w e.announcements e.marks e.values e.kinds
+  pub seen : SeenFits w e.announcements e.marks e.values e.kinds m (seen_at e.cells e.processes e.stage)
+
+abbrev pub ShowFits : World → ℕ → PlainShow → Type 0
+ShowFits w p e = (m : Moment) × ShowFitsAt w p e m

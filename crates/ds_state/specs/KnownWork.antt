@@ -1,0 +1,308 @@
+-- What work knows at each of its stages, and what its buffer holds.
+use Rattle.std.specs.Prelude.{ℕ, ◌≡◌, ◌<◌, ◌≤◌, ◌+◌, ◌*◌, ◌/◌, ◌^◌, ◌⊎◌, List, [], ◌∷◌, ◌++◌, length, take, Bool, true, false, Contains, slice_index_or, None}
+use Rattle.ds_words.specs.Memory.{Memory}
+use Rattle.ds_words.specs.declared.access.Entry.{Entry}
+use Rattle.ds_formula.specs.Cells.{IsInside, index_of}
+use Rattle.ds_formula.specs.declared.cells.Cell.{Cell}
+use Rattle.ds_formula.specs.Plain.{Plain}
+use Rattle.ds_formula.specs.Refs.{Refers}
+use Rattle.ds_eval.specs.declared.inputs.Entry as entries
+use Rattle.ds_eval.specs.declared.inputs.Input.{Input}
+use Rattle.ds_eval.specs.Inputs.{entry_in, cell_in, entry_at, IsAscending}
+use Rattle.ds_eval.specs.Local.{local}
+use Rattle.ds_layout.specs.declared.place.TheConstants.{RECORDS}
+use Rattle.ds_layout.specs.declared.place.Place.{Place}
+use Rattle.ds_layout.specs.declared.place.Place.TheVariants as place
+use Rattle.ds_layout.specs.Places.{cells_of}
+use Rattle.ds_state.specs.Works.{PlainWork}
+use Rattle.ds_state.specs.World.{Edit, World, of_cell, IsHeadBy, last_announcement}
+use Rattle.ds_state.specs.Known.{AreBelow}
+use Rattle.ds_state.specs.Owing.{entry, turn, IsEven, IsHeldBy, CellOwes, IsExcused, IsIndexed, IsMark, HoldsNone}
+use Rattle.ds_state.specs.Standing.{HasContent, cached_side, entry_on, value_for, word_for}
+use Rattle.ds_state.specs.declared.work.WorkStage.{WorkStage}
+use Rattle.ds_state.specs.declared.work.WorkStage.TheVariants.{LoadMark, Claim, FlushClaim, BackClaim, LoadHead, LoadHeader, LoadText, Read, LoadValue, LoadKind, LoadOwnValue, LoadOwnKind, Wait, StoreValue, StoreKind, FlushValue, FlushKind, BackValue, BackKind, Telling, Clear, ClearDirty, Give, GiveDirty, FlushCleared, BackCleared, Answer}
+use Rattle.ds_state.specs.declared.work.Spread.TheVariants.{LoadRow, OrTold, FlushTold, BackTold}
+
+-- the cell's mark: it holds none; it saw this one, which nobody held; it holds the cell on the cached side; on both sides
+pub data Hold : Type 0 where
+  free : Hold
+  seen : Hold
+  claimed : Hold
+  held : Hold
+  -- also it saw that the mark came to be dirty
+  outrun : Hold
+
+-- what it noted: nothing; the head; so many parts of its text; the content; the first so many references, and the value
+-- of one more
+pub data Loaded : Type 0 where
+  nothing : Loaded
+  the_head : Loaded
+  some_text : ℕ → Loaded
+  whole_text : Loaded
+  the_content : Loaded
+  some_inputs : ℕ → Loaded
+  one_value : ℕ → ℕ → Loaded
+
+-- the cell's own words: nothing; what it loaded; what it stored; what is written back
+pub data Own : Type 0 where
+  unseen : Own
+  value_seen : Own
+  both_seen : Own
+  value_stored : Own
+  both_stored : Own
+  value_back : Own
+  settled : Own
+
+pub record WorkKnown : Type 0 where
+  pub hold : Hold
+  pub loaded : Loaded
+  pub own : Own
+  pub evaluated : Bool
+
+abbrev pub before : Hold → WorkKnown
+before hold = record { hold = hold; loaded = nothing; own = unseen; evaluated = false }
+
+abbrev pub loading : Loaded → Own → WorkKnown
+loading loaded own = record { hold = held; loaded = loaded; own = own; evaluated = false }
+
+-- all is loaded, of so many references, and evaluated
+abbrev pub storing : ℕ → Own → WorkKnown
+storing refs own = record { hold = held; loaded = some_inputs refs; own = own; evaluated = true }
+
+-- what is known at a stage, with so many references
+abbrev pub work_known : ℕ → WorkStage → WorkKnown
+work_known refs LoadMark = before free
+work_known refs Claim = before seen
+work_known refs FlushClaim = before claimed
+work_known refs BackClaim = before claimed
+work_known refs LoadHead = before held
+work_known refs LoadHeader = loading the_head unseen
+work_known refs (LoadText part) = loading (some_text part) unseen
+work_known refs Read = loading whole_text unseen
+work_known refs (LoadValue i) = loading (some_inputs i) unseen
+work_known refs (LoadKind i value) = loading (one_value i value) unseen
+work_known refs LoadOwnValue = loading (some_inputs refs) unseen
+work_known refs LoadOwnKind = loading (some_inputs refs) value_seen
+work_known refs Wait = loading (some_inputs refs) both_seen
+work_known refs StoreValue = storing refs both_seen
+work_known refs StoreKind = storing refs value_stored
+work_known refs FlushValue = storing refs both_stored
+work_known refs FlushKind = storing refs both_stored
+work_known refs BackValue = storing refs both_stored
+work_known refs BackKind = storing refs value_back
+work_known refs (Telling spread) = storing refs settled
+work_known refs (Clear changed) = storing refs settled
+work_known refs ClearDirty = before outrun
+work_known refs Give = before held
+work_known refs GiveDirty = before outrun
+work_known refs (FlushCleared end) = before free
+work_known refs (BackCleared end) = before free
+work_known refs (Answer end) = before free
+
+-- the process holds the cell, by this claim, and no other one
+pub record Claims (w : World) (process cell mark : ℕ) : Type 0 where
+  pub even : IsEven mark
+  pub by : IsHeldBy process mark
+  pub cached : turn (w.memory.cached (place.Mark cell)) ≡ turn mark
+  pub alone : (r : ℕ) → IsHeldBy process (w.memory.cached (place.Mark r)) → r ≡ cell
+
+abbrev pub HasClaimed : World → PlainWork → Type 0
+HasClaimed w e = Claims w e.process e.cell e.mark
+
+-- on both sides
+pub record ClaimsBoth (w : World) (process cell mark : ℕ) : Type 0 where
+  pub claim : Claims w process cell mark
+  pub persisted : turn (w.memory.persisted (place.Mark cell)) ≡ turn mark
+
+abbrev pub HasHeld : World → PlainWork → Type 0
+HasHeld w e = ClaimsBoth w e.process e.cell e.mark
+
+abbrev pub HoldFits : World → PlainWork → Hold → Type 0
+HoldFits w e free = HoldsNone w e.process
+HoldFits w e seen = HoldsNone w e.process × (e.mark ≤ w.memory.cached (place.Mark e.cell)) × ((q : ℕ) → IsHeldBy q e.mark → ⊥) × (e.mark / 32 ≤ 2 ^ 58)
+HoldFits w e claimed = HasClaimed w e
+HoldFits w e held = HasHeld w e
+HoldFits w e outrun = HasHeld w e × (w.memory.cached (place.Mark e.cell) ≡ e.mark + 1)
+
+-- so while the cell was not marked again
+abbrev pub WhileMarked : World → ℕ → ℕ → Type 0 → Type 0
+WhileMarked w cell mark P = w.memory.cached (place.Mark cell) ≡ mark → P
+
+abbrev pub WhileEven : World → PlainWork → Type 0 → Type 0
+WhileEven w e P = WhileMarked w e.cell e.mark P
+
+-- the head is still the cell's, unless somebody owes the cell
+abbrev pub HeadStands : World → PlainWork → Type 0
+HeadStands w e = WhileEven w e ((w.memory.cached (place.Head e.cell) ≡ e.head) ⊎ IsExcused w e.cell e.mark)
+
+-- the head is an edit's that counts, and its text begins as noted
+pub record ReadsPart (w : World) (cell head count : ℕ) (noted : List ℕ) (parts : ℕ) : Type 0 where
+  pub by : Edit
+  pub gave : IsHeadBy (of_cell cell w.counted) head by
+  pub size : count ≡ length by.text
+  pub start : noted ≡ take (8 * parts) by.text
+
+abbrev pub HasRead : World → PlainWork → ℕ → Type 0
+HasRead w e parts = ReadsPart w e.cell e.head e.length e.text parts
+
+-- the head is an edit's, whose text is noted
+pub record ReadsWhole (w : World) (cell head : ℕ) (noted : List ℕ) : Type 0 where
+  pub by : Edit
+  pub gave : IsHeadBy (of_cell cell w.counted) head by
+  pub text : noted ≡ by.text
+
+abbrev pub HasWhole : World → PlainWork → Type 0
+HasWhole w e = ReadsWhole w e.cell e.head e.text
+
+-- the head is an edit's that counts
+abbrev pub IsHeadOf : World → PlainWork → Type 0
+IsHeadOf w e = (by : Edit) × IsHeadBy (of_cell e.cell w.counted) e.head by
+
+abbrev pub row_of : World → List Input → ℕ → ℕ
+row_of w inputs j = index_of w.layout.shape (cell_in inputs j)
+
+abbrev pub input_row : World → PlainWork → ℕ → ℕ
+input_row w e j = row_of w e.inputs j
+
+-- the reference's row has the cell, and what was noted of it stands, unless it owes the cell
+pub record EntryStands (w : World) (cell mark : ℕ) (inputs : List Input) (j : ℕ) : Type 0 where
+  pub indexed : IsIndexed w (row_of w inputs j) cell
+  pub stands : WhileMarked w cell mark ((entry_at inputs j ≡ entry_on w.layout (cached_side w.memory) (row_of w inputs j)) ⊎ CellOwes w (row_of w inputs j) cell mark)
+
+abbrev pub InputStands : World → PlainWork → ℕ → Type 0
+InputStands w e j = EntryStands w e.cell e.mark e.inputs j
+
+pub record WordStands (w : World) (cell mark : ℕ) (inputs : List Input) (j value : ℕ) : Type 0 where
+  pub indexed : IsIndexed w (row_of w inputs j) cell
+  pub stands : WhileMarked w cell mark ((value ≡ w.memory.cached (place.Value (row_of w inputs j))) ⊎ CellOwes w (row_of w inputs j) cell mark)
+
+abbrev pub ValueStands : World → PlainWork → ℕ → ℕ → Type 0
+ValueStands w e j value = WordStands w e.cell e.mark e.inputs j value
+
+-- the content, its references among the inputs, and the first so many of these
+pub record Gathers (w : World) (cell mark top : ℕ) (holds : Plain) (inputs : List Input) (count : ℕ) : Type 0 where
+  pub head : WhileMarked w cell mark ((w.memory.cached (place.Head cell) ≡ top) ⊎ IsExcused w cell mark)
+  pub content : HasContent w cell top holds
+  pub ascending : IsAscending inputs
+  pub found : (d : Cell) → Refers holds d → IsInside w.layout.shape d → (j : ℕ) × (j < length inputs) × (cell_in inputs j ≡ d)
+  pub rows : (j : ℕ) → j < length inputs → IsIndexed w (row_of w inputs j) cell
+  pub each : (j : ℕ) → j < count → EntryStands w cell mark inputs j
+
+abbrev pub HasInputs : World → PlainWork → ℕ → Type 0
+HasInputs w e count = Gathers w e.cell e.mark e.head e.content e.inputs count
+
+abbrev pub LoadedFits : World → PlainWork → Loaded → Type 0
+LoadedFits w e nothing = Unit {0}
+LoadedFits w e the_head = HeadStands w e × IsHeadOf w e
+LoadedFits w e (some_text parts) = HeadStands w e × HasRead w e parts
+LoadedFits w e whole_text = HeadStands w e × (((e.head ≡ 0) × (e.text ≡ [])) ⊎ HasWhole w e)
+LoadedFits w e the_content = HasInputs w e 0
+LoadedFits w e (some_inputs count) = HasInputs w e count
+LoadedFits w e (one_value count value) = HasInputs w e count × ValueStands w e count value
+
+-- the sides of the cell's own words
+abbrev pub on : (Place → ℕ) → PlainWork → Place → ℕ
+on side e r = side r
+
+abbrev pub CachedAre : World → PlainWork → ℕ → ℕ → Type 0
+CachedAre w e v k = (w.memory.cached (place.Value e.cell) ≡ v) × (w.memory.cached (place.Kind e.cell) ≡ k)
+
+abbrev pub OwnFits : World → PlainWork → Own → Type 0
+OwnFits w e unseen = Unit {0}
+OwnFits w e value_seen = w.memory.cached (place.Value e.cell) ≡ e.value
+OwnFits w e both_seen = CachedAre w e e.value e.kind
+OwnFits w e value_stored = w.memory.cached (place.Value e.cell) ≡ value_for e.entry
+OwnFits w e both_stored = CachedAre w e (value_for e.entry) (word_for e.entry)
+OwnFits w e value_back = CachedAre w e (value_for e.entry) (word_for e.entry) × (w.memory.persisted (place.Value e.cell) ≡ value_for e.entry)
+OwnFits w e settled = CachedAre w e (value_for e.entry) (word_for e.entry)
+    × (w.memory.persisted (place.Value e.cell) ≡ value_for e.entry) × (w.memory.persisted (place.Kind e.cell) ≡ word_for e.entry)
+
+-- the entry is what the inputs give
+abbrev pub EntryIs : World → PlainWork → Bool → Type 0
+EntryIs w e false = Unit {0}
+EntryIs w e true = e.entry ≡ local w.layout.shape e.content (entry_in e.inputs)
+
+-- all that work knows
+pub record WorkKnows (w : World) (e : PlainWork) (k : WorkKnown) : Type 0 where
+  pub hold : HoldFits w e k.hold
+  pub loaded : LoadedFits w e k.loaded
+  pub own : OwnFits w e k.own
+  pub evaluated : EntryIs w e k.evaluated
+
+-- what its buffer holds: nothing; its claim; a mark of this cell; its cell's own words
+pub data WorkHeld : Type 0 where
+  empty : WorkHeld
+  claim : WorkHeld
+  a_mark : ℕ → WorkHeld
+  the_value : WorkHeld
+  both_words : WorkHeld
+  the_kind : WorkHeld
+
+abbrev pub work_held : PlainWork → WorkStage → WorkHeld
+work_held e BackClaim = claim
+work_held e FlushKind = the_value
+work_held e BackValue = both_words
+work_held e BackKind = the_kind
+work_held e (Telling (BackTold d)) = a_mark d
+work_held e (BackCleared end) = a_mark e.cell
+work_held e _ = empty
+
+-- one entry, with a mark that the cell has had
+pub record HasMark (w : World) (p cell : ℕ) : Type 0 where
+  pub value : ℕ
+  pub alone : w.memory.buffer p ≡ entry (place.Mark cell) value ∷ []
+  pub had : value ≤ w.memory.cached (place.Mark cell)
+  pub is : IsMark w.layout cell value
+
+pub record BuffersClaim (w : World) (process cell mark : ℕ) : Type 0 where
+  pub value : ℕ
+  pub alone : w.memory.buffer process ≡ entry (place.Mark cell) value ∷ []
+  pub had : value ≤ w.memory.cached (place.Mark cell)
+  pub claims : turn value ≡ turn mark
+
+abbrev pub HasClaim : World → PlainWork → Type 0
+HasClaim w e = BuffersClaim w e.process e.cell e.mark
+
+abbrev pub value_entry : PlainWork → Entry Place
+value_entry e = entry (place.Value e.cell) (value_for e.entry)
+
+abbrev pub kind_entry : PlainWork → Entry Place
+kind_entry e = entry (place.Kind e.cell) (word_for e.entry)
+
+abbrev pub WorkHolds : World → PlainWork → WorkHeld → Type 0
+WorkHolds w e empty = w.memory.buffer e.process ≡ []
+WorkHolds w e claim = HasClaim w e
+WorkHolds w e (a_mark cell) = HasMark w e.process cell
+WorkHolds w e the_value = w.memory.buffer e.process ≡ value_entry e ∷ []
+WorkHolds w e both_words = w.memory.buffer e.process ≡ value_entry e ∷ kind_entry e ∷ []
+WorkHolds w e the_kind = w.memory.buffer e.process ≡ kind_entry e ∷ []
+
+-- a process in no edit: none is open, and it announces how its last one ended
+pub record IsAtRest (w : World) (p next : ℕ) : Type 0 where
+  pub number : next ≤ RECORDS
+  pub pending : w.pending p ≡ None
+  pub below : AreBelow w p next
+  pub cached : w.memory.cached (place.Announce p) ≡ last_announcement w.counted p next
+  pub persisted : w.memory.persisted (place.Announce p) ≡ last_announcement w.counted p next
+
+-- the part of a text that is looked at is one of the text, the reference one of the references, the part of the row is
+-- one of the row, and so many are loaded, and the cell that is told is one of the sheet
+abbrev pub StageFits : PlainWork → WorkStage → Type 0
+StageFits e (LoadText part) = 8 * part < e.length
+StageFits e (LoadValue i) = i < length e.inputs
+StageFits e (LoadKind i value) = i < length e.inputs
+StageFits e (Telling (LoadRow part)) = (length e.row ≡ part) × (part < (e.cells + 63) / 64)
+StageFits e (Telling (OrTold d)) = d < e.cells
+StageFits e (Telling (FlushTold d)) = d < e.cells
+StageFits e (Telling (BackTold d)) = d < e.cells
+StageFits e _ = Unit {0}
+
+pub record WorkFits (w : World) (p : ℕ) (e : PlainWork) : Type 0 where
+  pub mine : e.process ≡ p
+  pub cells : cells_of w.layout ≡ e.cells
+  pub processes : w.layout.processes ≡ e.processes
+  pub cell : e.cell < e.cells
+  pub rest : IsAtRest w e.process e.next
+  pub knows : WorkKnows w e (work_known (length e.inputs) e.stage)
+  pub buffer : WorkHolds w e (work_held e e.stage)
+  pub at : StageFits e e.stage

@@ -1,0 +1,221 @@
+-- Who owes whom a mark, whose sides may differ, and why.
+use Rattle.std.specs.Prelude.{ℕ, ◌≡◌, ◌≢◌, ◌<◌, ◌≤◌, ◌+◌, ◌*◌, ◌/◌, ◌%◌, ◌^◌, ◌⊎◌, List, [], ◌∷◌, Some, slice_index_or}
+use Rattle.ds_words.specs.Memory.{Memory}
+use Rattle.ds_words.specs.declared.access.Entry.{Entry}
+use Rattle.ds_layout.specs.declared.place.Place.{Place}
+use Rattle.ds_layout.specs.declared.place.Place.TheVariants as place
+use Rattle.ds_layout.specs.declared.layout.Layout.{Layout}
+use Rattle.ds_layout.specs.declared.announcement.Phase.TheVariants as phase
+use Rattle.ds_layout.specs.Places.{class_of, cells_of}
+use Rattle.ds_layout.specs.Bits.{HasBit}
+use Rattle.ds_state.specs.World.{Edit, Issue, World, announcement, index_place}
+use Rattle.ds_state.specs.declared.stage.Stage.{Stage}
+use Rattle.ds_state.specs.declared.stage.Stage.TheVariants as edits
+use Rattle.ds_state.specs.declared.work.Spread.{Spread}
+use Rattle.ds_state.specs.declared.work.Spread.TheVariants.{LoadRow, OrTold, FlushTold, BackTold}
+use Rattle.ds_state.specs.declared.work.WorkStage.{WorkStage}
+use Rattle.ds_state.specs.declared.work.WorkStage.TheVariants as works
+use Rattle.ds_state.specs.declared.work.RecoverStage.{RecoverStage}
+use Rattle.ds_state.specs.declared.work.RecoverStage.TheVariants as recoveries
+use Rattle.ds_state.specs.declared.situation.Situation.{Situation}
+use Rattle.ds_state.specs.declared.situation.Situation.TheVariants.{Idle, Stopped, Editing, Working, Recovering, Showing}
+
+-- A mark is generation * 32 + holder * 2 + dirty, where holder 0 is nobody and q + 1 is process q. Its turn is its
+-- generation with its holder.
+abbrev pub turn : ℕ → ℕ
+turn mark = mark / 2
+
+abbrev pub IsClean : ℕ → Type 0
+IsClean mark = mark % 32 ≡ 0
+
+-- clean, or held and not marked since
+abbrev pub IsEven : ℕ → Type 0
+IsEven mark = mark % 2 ≡ 0
+
+abbrev pub IsHeldBy : ℕ → ℕ → Type 0
+IsHeldBy q mark = mark / 2 % 16 ≡ q + 1
+
+-- an entry of a buffer
+abbrev pub entry : Place → ℕ → Entry Place
+entry r value = record { place = r; class = class_of r; value = value }
+
+-- both sides of the mark of r are of one turn of q
+pub record IsHeld (m : Memory Place) (q r : ℕ) : Type 0 where
+  pub by : IsHeldBy q (m.cached (place.Mark r))
+  pub same : turn (m.persisted (place.Mark r)) ≡ turn (m.cached (place.Mark r))
+
+-- the cell's bit stands in the parts of a row that were loaded
+abbrev pub StandsIn : List ℕ → ℕ → Type 0
+StandsIn row c = HasBit (slice_index_or row (c / 64) 0) c
+
+-- the process's buffer has a mark of the cell, a greater one
+pub record IsBelowBuffered (m : Memory Place) (p c x : ℕ) : Type 0 where
+  pub value : ℕ
+  pub alone : m.buffer p ≡ entry (place.Mark c) value ∷ []
+  pub below : x < value
+
+-- who tells the dependents of a cell has still to tell c above x
+abbrev pub SpreadOwes : Memory Place → ℕ → List ℕ → Spread → ℕ → ℕ → Type 0
+SpreadOwes m p row (LoadRow part) c x = (part ≤ c / 64) ⊎ StandsIn row c
+SpreadOwes m p row (OrTold d) c x = StandsIn row c × (d ≤ c)
+SpreadOwes m p row (FlushTold d) c x = StandsIn row c × ((d < c) ⊎ ((d ≡ c) × (x < m.cached (place.Mark c))))
+SpreadOwes m p row (BackTold d) c x = StandsIn row c × ((d < c) ⊎ ((d ≡ c) × IsBelowBuffered m p c x))
+
+abbrev pub WorkOwes : Memory Place → ℕ → List ℕ → WorkStage → ℕ → ℕ → Type 0
+WorkOwes m p row works.StoreKind c x = Unit {0}
+WorkOwes m p row works.FlushValue c x = Unit {0}
+WorkOwes m p row works.FlushKind c x = Unit {0}
+WorkOwes m p row works.BackValue c x = Unit {0}
+WorkOwes m p row works.BackKind c x = Unit {0}
+WorkOwes m p row (works.Telling spread) c x = SpreadOwes m p row spread c x
+WorkOwes m p row _ c x = ⊥
+
+abbrev pub RecoveryOwes : Memory Place → ℕ → List ℕ → RecoverStage → ℕ → ℕ → ℕ → Type 0
+RecoveryOwes m p row (recoveries.LoadMark cell) r c x = Unit {0}
+RecoveryOwes m p row (recoveries.FlushValue cell) r c x = Unit {0}
+RecoveryOwes m p row (recoveries.FlushKind cell) r c x = Unit {0}
+RecoveryOwes m p row (recoveries.BackValue cell) r c x = Unit {0}
+RecoveryOwes m p row (recoveries.BackKind cell) r c x = Unit {0}
+RecoveryOwes m p row (recoveries.Telling cell spread) r c x = (cell ≢ r) ⊎ SpreadOwes m p row spread c x
+RecoveryOwes m p row (recoveries.Give cell) r c x = cell ≢ r
+RecoveryOwes m p row (recoveries.GiveDirty cell) r c x = cell ≢ r
+RecoveryOwes m p row (recoveries.FlushGiven cell) r c x = cell ≢ r
+RecoveryOwes m p row (recoveries.BackGiven cell) r c x = cell ≢ r
+RecoveryOwes m p row _ r c x = ⊥
+
+-- a holder of r in this situation owes c above x
+abbrev pub Owes : Memory Place → ℕ → Situation → ℕ → ℕ → ℕ → Type 0
+Owes m p (Idle next) r c x = ⊥
+Owes m p Stopped r c x = Unit {0}
+Owes m p (Editing e) r c x = ⊥
+Owes m p (Working e) r c x = (e.cell ≡ r) × WorkOwes m p e.row e.stage c x
+Owes m p (Recovering e) r c x = RecoveryOwes m p e.row e.stage r c x
+Owes m p (Showing e) r c x = ⊥
+
+-- a holder at this stage may have the sides of its cell differ
+abbrev pub WorkParts : WorkStage → Type 0
+WorkParts works.StoreKind = Unit {0}
+WorkParts works.FlushValue = Unit {0}
+WorkParts works.FlushKind = Unit {0}
+WorkParts works.BackValue = Unit {0}
+WorkParts works.BackKind = Unit {0}
+WorkParts _ = ⊥
+
+abbrev pub RecoveryParts : RecoverStage → ℕ → Type 0
+RecoveryParts (recoveries.LoadMark cell) r = Unit {0}
+RecoveryParts (recoveries.FlushValue cell) r = Unit {0}
+RecoveryParts (recoveries.FlushKind cell) r = Unit {0}
+RecoveryParts (recoveries.BackValue cell) r = Unit {0}
+RecoveryParts (recoveries.BackKind cell) r = Unit {0}
+RecoveryParts (recoveries.Telling cell spread) r = cell ≢ r
+RecoveryParts (recoveries.Give cell) r = cell ≢ r
+RecoveryParts (recoveries.GiveDirty cell) r = cell ≢ r
+RecoveryParts (recoveries.FlushGiven cell) r = cell ≢ r
+RecoveryParts (recoveries.BackGiven cell) r = cell ≢ r
+RecoveryParts _ r = ⊥
+
+abbrev pub Parts : Situation → ℕ → Type 0
+Parts (Idle next) r = ⊥
+Parts Stopped r = Unit {0}
+Parts (Editing e) r = ⊥
+Parts (Working e) r = (e.cell ≡ r) × WorkParts e.stage
+Parts (Recovering e) r = RecoveryParts e.stage r
+Parts (Showing e) r = ⊥
+
+-- some process holds r on both sides and owes c above x
+pub record CellOwes (w : World) (r c x : ℕ) : Type 0 where
+  pub holder : ℕ
+  pub held : IsHeld w.memory holder r
+  pub still : Owes w.memory holder (w.situation holder) r c x
+
+-- the sides of the words of r may differ
+pub record IsApart (w : World) (r : ℕ) : Type 0 where
+  pub holder : ℕ
+  pub held : IsHeld w.memory holder r
+  pub still : Parts (w.situation holder) r
+
+-- both sides announce that the process's edit, of this cell, is pending
+pub record IsPending (w : World) (p c : ℕ) : Type 0 where
+  pub issue : Issue
+  pub issued : w.pending p ≡ Some issue
+  pub cell : issue.edit.cell ≡ c
+  pub cached : w.memory.cached (place.Announce p) ≡ announcement issue.edit.number phase.Pending
+  pub persisted : w.memory.persisted (place.Announce p) ≡ announcement issue.edit.number phase.Pending
+
+-- an edit of the cell at this stage owes it a mark above x: from its swap on
+abbrev pub EditOwes : Memory Place → ℕ → ℕ → Stage → ℕ → Type 0
+EditOwes m p c (edits.FlushOwn own) x = Unit {0}
+EditOwes m p c (edits.BackOwn own) x = Unit {0}
+EditOwes m p c (edits.OrMark own) x = Unit {0}
+EditOwes m p c (edits.FlushMark own) x = x < m.cached (place.Mark c)
+EditOwes m p c (edits.BackMark own) x = IsBelowBuffered m p c x
+EditOwes m p c _ x = ⊥
+
+-- a recovery at this stage still owes the cell of its edit in doubt a mark above x
+abbrev pub RecoveryExcuses : Memory Place → ℕ → ℕ → RecoverStage → ℕ → Type 0
+RecoveryExcuses m p c (recoveries.FlushMark how) x = x < m.cached (place.Mark c)
+RecoveryExcuses m p c (recoveries.BackMark how) x = IsBelowBuffered m p c x
+RecoveryExcuses m p c (recoveries.StoreOutcome how) x = ⊥
+RecoveryExcuses m p c (recoveries.FlushOutcome how) x = ⊥
+RecoveryExcuses m p c (recoveries.BackOutcome how) x = ⊥
+RecoveryExcuses m p c (recoveries.Answer how) x = ⊥
+RecoveryExcuses m p c _ x = Unit {0}
+
+-- the process owes the cell of its edit a mark above x
+abbrev pub Excuses : World → ℕ → Situation → ℕ → ℕ → Type 0
+Excuses w p (Idle next) c x = ⊥
+Excuses w p Stopped c x = IsPending w p c
+Excuses w p (Editing e) c x = (e.cell ≡ c) × EditOwes w.memory p c e.stage x
+Excuses w p (Working e) c x = ⊥
+Excuses w p (Recovering e) c x = IsPending w p c × RecoveryExcuses w.memory p c e.stage x
+Excuses w p (Showing e) c x = ⊥
+
+-- some process does
+pub record IsExcused (w : World) (c x : ℕ) : Type 0 where
+  pub process : ℕ
+  pub inside : process < w.layout.processes
+  pub still : Excuses w process (w.situation process) c x
+
+-- the process may have the sides of its cell's head differ, this one being the cached one
+abbrev pub SplitsAt : Stage → ℕ → Type 0
+SplitsAt (edits.FlushOwn own) head = own ≡ head
+SplitsAt (edits.BackOwn own) head = own ≡ head
+SplitsAt _ head = ⊥
+
+abbrev pub RecoverySplits : RecoverStage → Type 0
+RecoverySplits (recoveries.LoadDone) = ⊥
+RecoverySplits (recoveries.OrMark how) = ⊥
+RecoverySplits (recoveries.FlushMark how) = ⊥
+RecoverySplits (recoveries.BackMark how) = ⊥
+RecoverySplits (recoveries.StoreOutcome how) = ⊥
+RecoverySplits (recoveries.FlushOutcome how) = ⊥
+RecoverySplits (recoveries.BackOutcome how) = ⊥
+RecoverySplits (recoveries.Answer how) = ⊥
+RecoverySplits _ = Unit {0}
+
+abbrev pub Splits : World → ℕ → Situation → ℕ → ℕ → Type 0
+Splits w p (Idle next) c head = ⊥
+Splits w p Stopped c head = IsPending w p c
+Splits w p (Editing e) c head = (e.cell ≡ c) × SplitsAt e.stage head
+Splits w p (Working e) c head = ⊥
+Splits w p (Recovering e) c head = IsPending w p c × RecoverySplits e.stage
+Splits w p (Showing e) c head = ⊥
+
+-- two cells of the sheet; the row of r has the bit of c on the cached side
+abbrev pub IsIndexed : World → ℕ → ℕ → Type 0
+IsIndexed w r c = (r < cells_of w.layout) × (c < cells_of w.layout) × HasBit (w.memory.cached (index_place r c)) c
+
+-- the greatest generation of a mark that is held, and of any mark
+abbrev pub HELD_MOST : ℕ
+HELD_MOST = 2 ^ 58 + 1
+
+abbrev pub MOST : ℕ
+MOST = 2 ^ 58 + 2
+
+-- the mark's holder, where it has one, is a process of the sheet, the cell is one of the sheet, and one more generation fits
+abbrev pub IsMark : Layout → ℕ → ℕ → Type 0
+IsMark layout cell mark = (q : ℕ) → IsHeldBy q mark → (q < layout.processes) × (cell < cells_of layout) × (mark / 32 ≤ HELD_MOST)
+
+-- the process holds no cell
+abbrev pub HoldsNone : World → ℕ → Type 0
+HoldsNone w p = (r : ℕ) → IsHeldBy p (w.memory.cached (place.Mark r)) → ⊥

@@ -1,0 +1,231 @@
+-- The steps of a recovery: what each stage does to the memory, and what comes then. (In the project: crate ds_recover, specs/Steps.)
+use Rattle.std.specs.Prelude.{ℕ, ◌≡◌, ◌≢◌, ◌<◌, ◌≤◌, ◌⊎◌, ◌+◌, ◌-◌, ◌*◌, ◌/◌, ◌%◌, ◌==◌, nat_lt, if◌then◌else◌, List, [], ◌∷◌, ◌++◌, length, Option, Some, None, Bool, true, false, zero, suc}
+use Rattle.std.specs.Int.{bit_at}
+use Rattle.ds_words.specs.Memory.{SameMemory}
+use Rattle.ds_words.specs.declared.access.Access.{Access}
+use Rattle.ds_words.specs.declared.access.Access.TheVariants as acts
+use Rattle.ds_layout.specs.declared.place.Place.{Place}
+use Rattle.ds_layout.specs.declared.place.Place.TheVariants as place
+use Rattle.ds_layout.specs.declared.announcement.Phase.{Phase}
+use Rattle.ds_layout.specs.declared.announcement.Phase.TheVariants as phase
+use Rattle.ds_layout.specs.declared.announcement.Announcement.{Announcement}
+use Rattle.ds_layout.specs.declared.head.Head.{Head}
+use Rattle.ds_layout.specs.declared.header.Header.{Header}
+use Rattle.ds_layout.specs.declared.mark.TheConstants.{DIRTY}
+use Rattle.ds_layout.specs.Announcement.{announcement_of}
+use Rattle.ds_layout.specs.Head.{head_of}
+use Rattle.ds_layout.specs.Header.{header_of}
+use Rattle.ds_layout.specs.Sheet.{PerformsAt}
+use Rattle.ds_state.specs.Works.{PlainRecovery}
+use Rattle.ds_state.specs.World.{Edit, Issue, World, announcement, done_place}
+use Rattle.ds_state.specs.Known.{AreBelow, IsSafelyIn}
+use Rattle.ds_state.specs.KnownRecovery.{marked, phase_for}
+use Rattle.ds_state.specs.WorkSteps.{let_go, told_from}
+use Rattle.ds_state.specs.declared.situation.Situation.{Situation}
+use Rattle.ds_state.specs.declared.situation.Situation.TheVariants.{Idle, Recovering}
+use Rattle.ds_state.specs.declared.work.Spread.{Spread}
+use Rattle.ds_state.specs.declared.work.Spread.TheVariants.{LoadRow, OrTold, FlushTold, BackTold}
+use Rattle.ds_state.specs.declared.work.RecoverStage.{RecoverStage}
+use Rattle.ds_state.specs.declared.work.RecoverStage.TheVariants.{LoadMark, FlushValue, FlushKind, BackValue, BackKind, Telling, Give, GiveDirty, FlushGiven, BackGiven, LoadAnnounce, LoadHeader, LoadHead, FlushHead, BackHead, LoadDone, OrMark, FlushMark, BackMark, StoreOutcome, FlushOutcome, BackOutcome, Answer}
+
+abbrev pub parts_of : PlainRecovery → ℕ
+parts_of e = (e.cells + 63) / 64
+
+-- the number of the edit that it saw announced
+abbrev pub number_of : PlainRecovery → ℕ
+number_of e = e.announcement / 4 - 1
+
+abbrev pub spread_access : ℕ → Spread → Access Place
+spread_access cell (LoadRow part) = acts.Load (place.Index cell part)
+spread_access cell (OrTold d) = acts.Or (place.Mark d) DIRTY
+spread_access cell (FlushTold d) = acts.Flush (place.Mark d)
+spread_access cell (BackTold d) = acts.Back
+
+-- the access of a stage
+abbrev pub access_at : PlainRecovery → RecoverStage → Access Place
+access_at e (LoadMark cell) = acts.Load (place.Mark cell)
+access_at e (FlushValue cell) = acts.Flush (place.Value cell)
+access_at e (FlushKind cell) = acts.Flush (place.Kind cell)
+access_at e (BackValue cell) = acts.Back
+access_at e (BackKind cell) = acts.Back
+access_at e (Telling cell spread) = spread_access cell spread
+access_at e (Give cell) = acts.SwapIf (place.Mark cell) e.mark (let_go e.mark + 1)
+access_at e (GiveDirty cell) = acts.SwapIf (place.Mark cell) (marked e.mark) (let_go e.mark + 1)
+access_at e (FlushGiven cell) = acts.Flush (place.Mark cell)
+access_at e (BackGiven cell) = acts.Back
+access_at e LoadAnnounce = acts.Load (place.Announce e.process)
+access_at e LoadHeader = acts.Load (place.Header e.process (number_of e))
+access_at e LoadHead = acts.Load (place.Head e.cell)
+access_at e FlushHead = acts.Flush (place.Head e.cell)
+access_at e BackHead = acts.Back
+access_at e LoadDone = acts.Load (done_place e.process (number_of e))
+access_at e (OrMark how) = acts.Or (place.Mark e.cell) DIRTY
+access_at e (FlushMark how) = acts.Flush (place.Mark e.cell)
+access_at e (BackMark how) = acts.Back
+access_at e (StoreOutcome how) = acts.Store (place.Announce e.process) (announcement (number_of e) (phase_for how))
+access_at e (FlushOutcome how) = acts.Flush (place.Announce e.process)
+access_at e (BackOutcome how) = acts.Back
+access_at e (Answer how) = acts.Nothing
+
+abbrev pub at : PlainRecovery → RecoverStage → PlainRecovery
+at e stage = record e { stage = stage }
+
+-- the stage that looks at this cell, where there is one more
+abbrev pub looks_from : ℕ → ℕ → RecoverStage
+looks_from cells cell = if nat_lt cell cells then LoadMark cell else LoadAnnounce
+
+-- a cell is let be, or given back
+abbrev pub holds_from : PlainRecovery → ℕ → ℕ → PlainRecovery
+holds_from e cell word =
+    if word / 2 % 16 == e.process + 1
+    then record e { mark = word; row = []; stage = FlushValue cell }
+    else at e (looks_from e.cells (cell + 1))
+
+abbrev pub told : ℕ → Option ℕ → RecoverStage
+told cell None = Give cell
+told cell (Some d) = Telling cell (OrTold d)
+
+abbrev pub tell_from : List ℕ → ℕ → ℕ → ℕ → RecoverStage
+tell_from row cells cell d = told cell (told_from row (cells - d) d)
+
+abbrev pub row_from : List ℕ → ℕ → ℕ → ℕ → RecoverStage
+row_from row cells cell part = if nat_lt part ((cells + 63) / 64) then Telling cell (LoadRow part) else tell_from row cells cell 0
+
+abbrev pub spread_next : PlainRecovery → ℕ → Spread → ℕ → PlainRecovery
+spread_next e cell (LoadRow part) word = record e { row = e.row ++ word ∷ []; stage = row_from (e.row ++ word ∷ []) e.cells cell (part + 1) }
+spread_next e cell (OrTold d) word = at e (Telling cell (FlushTold d))
+spread_next e cell (FlushTold d) word = at e (Telling cell (BackTold d))
+spread_next e cell (BackTold d) word = at e (tell_from e.row e.cells cell (d + 1))
+
+-- what the announcement lets it do
+abbrev pub announced_from : PlainRecovery → ℕ → Option Announcement → PlainRecovery
+announced_from e word None = record e { announcement = word; stage = Answer None }
+announced_from e word (Some a) = record e { announcement = word; stage = LoadHeader }
+
+abbrev pub phase_from : Phase → RecoverStage
+phase_from phase.Pending = LoadHead
+phase_from phase.Done = FlushOutcome true
+phase_from phase.NotDone = FlushOutcome false
+
+abbrev pub resolves_from : Option Announcement → RecoverStage
+resolves_from None = Answer None
+resolves_from (Some a) = phase_from a.phase
+
+abbrev pub cell_from : Option Header → ℕ
+cell_from None = 0
+cell_from (Some h) = h.cell
+
+-- the head shows the edit, or it doesn't
+abbrev pub is_shown : ℕ → ℕ → Option Head → Bool
+is_shown p n None = false
+is_shown p n (Some h) = if h.process == p then h.number == n else false
+
+-- the recovery after a stage whose access answered the word
+abbrev pub next_at : PlainRecovery → RecoverStage → ℕ → PlainRecovery
+next_at e (LoadMark cell) word = holds_from e cell word
+next_at e (FlushValue cell) word = at e (FlushKind cell)
+next_at e (FlushKind cell) word = at e (BackValue cell)
+next_at e (BackValue cell) word = at e (BackKind cell)
+next_at e (BackKind cell) word = at e (Telling cell (LoadRow 0))
+next_at e (Telling cell spread) word = spread_next e cell spread word
+next_at e (Give cell) word = if word == e.mark then at e (FlushGiven cell) else at e (GiveDirty cell)
+next_at e (GiveDirty cell) word = at e (FlushGiven cell)
+next_at e (FlushGiven cell) word = at e (BackGiven cell)
+next_at e (BackGiven cell) word = at e (looks_from e.cells (cell + 1))
+next_at e LoadAnnounce word = announced_from e word (announcement_of word)
+next_at e LoadHeader word = record e { cell = cell_from (header_of e.cells word); stage = resolves_from (announcement_of e.announcement) }
+next_at e LoadHead word = if is_shown e.process (number_of e) (head_of e.processes word) then at e FlushHead else at e LoadDone
+next_at e FlushHead word = at e BackHead
+next_at e BackHead word = at e (OrMark true)
+next_at e LoadDone word = if bit_at word (number_of e % 64) == 1 then at e (OrMark true) else at e (OrMark false)
+next_at e (OrMark how) word = at e (FlushMark how)
+next_at e (FlushMark how) word = at e (BackMark how)
+next_at e (BackMark how) word = at e (StoreOutcome how)
+next_at e (StoreOutcome how) word = record e { announcement = announcement (number_of e) (phase_for how); stage = FlushOutcome how }
+next_at e (FlushOutcome how) word = at e (BackOutcome how)
+next_at e (BackOutcome how) word = at e (Answer (Some how))
+next_at e (Answer how) word = e
+
+-- the number of the process's next edit, after its answer
+abbrev pub next_number : ℕ → Option Bool → ℕ
+next_number word None = 0
+next_number word (Some how) = word / 4
+
+-- what the process does after the step: its answer ends the call
+abbrev pub after : PlainRecovery → RecoverStage → ℕ → Situation
+after e (Answer how) word = Idle (next_number e.announcement how)
+after e stage word = Recovering (next_at e stage word)
+
+-- its answer resolves the edit in doubt
+abbrev pub pending_at : Option Issue → RecoverStage → Option Issue
+pending_at issue (Answer how) = None
+pending_at issue stage = issue
+
+-- one step of the recovery at a stage, whose access answered the word: no edit comes to count
+pub record StepsAt (e : PlainRecovery) (stage : RecoverStage) (word : ℕ) (old new : World) : Type 0 where
+  pub layout : new.layout ≡ old.layout
+  pub memory : PerformsAt (access_at e stage) e.process old.memory new.memory word
+  pub situation : new.situation e.process ≡ after e stage word
+  pub others : (q : ℕ) → q ≢ e.process → new.situation q ≡ old.situation q
+  pub counted : new.counted ≡ old.counted
+  pub pending : new.pending e.process ≡ pending_at (old.pending e.process) stage
+  pub others_pending : (q : ℕ) → q ≢ e.process → new.pending q ≡ old.pending q
+
+-- a recovery begins, of a process that is stopped or idle
+pub record BeginsRecovery (e : PlainRecovery) (old new : World) : Type 0 where
+  pub layout : new.layout ≡ old.layout
+  pub memory : SameMemory old.memory new.memory
+  pub situation : new.situation e.process ≡ Recovering (at e (LoadMark 0))
+  pub others : (q : ℕ) → q ≢ e.process → new.situation q ≡ old.situation q
+  pub counted : new.counted ≡ old.counted
+  pub pending : (q : ℕ) → new.pending q ≡ old.pending q
+
+-- what a recovery answers
+pub data RecoveryEnd : Type 0 where
+  Nothing : RecoveryEnd
+  Last : ℕ → ℕ → Bool → RecoveryEnd
+
+abbrev pub end_of : PlainRecovery → Option Bool → RecoveryEnd
+end_of e None = Nothing
+end_of e (Some how) = Last (number_of e) e.cell how
+
+-- steps that are left at most, the answer's among them: within a cell, then of the cells that are left
+abbrev pub spread_rank : ℕ → Spread → ℕ
+spread_rank cells (LoadRow part) = 6 + 3 * cells + ((cells + 63) / 64 - part)
+spread_rank cells (OrTold d) = 6 + 3 * (cells - d)
+spread_rank cells (FlushTold d) = 5 + 3 * (cells - d)
+spread_rank cells (BackTold d) = 4 + 3 * (cells - d)
+
+abbrev pub cells_rank : ℕ → ℕ → ℕ
+cells_rank cells cell = (cells - cell) * (3 * cells + 30) + 20
+
+abbrev pub rank : ℕ → RecoverStage → ℕ
+rank cells (LoadMark cell) = cells_rank cells cell
+rank cells (FlushValue cell) = cells_rank cells (cell + 1) + 3 * cells + 29
+rank cells (FlushKind cell) = cells_rank cells (cell + 1) + 3 * cells + 28
+rank cells (BackValue cell) = cells_rank cells (cell + 1) + 3 * cells + 27
+rank cells (BackKind cell) = cells_rank cells (cell + 1) + 3 * cells + 26
+rank cells (Telling cell spread) = cells_rank cells (cell + 1) + spread_rank cells spread
+rank cells (Give cell) = cells_rank cells (cell + 1) + 4
+rank cells (GiveDirty cell) = cells_rank cells (cell + 1) + 3
+rank cells (FlushGiven cell) = cells_rank cells (cell + 1) + 2
+rank cells (BackGiven cell) = cells_rank cells (cell + 1) + 1
+rank cells LoadAnnounce = 15
+rank cells LoadHeader = 14
+rank cells LoadHead = 13
+rank cells FlushHead = 12
+rank cells BackHead = 11
+rank cells LoadDone = 11
+rank cells (OrMark how) = 8
+rank cells (FlushMark how) = 7
+rank cells (BackMark how) = 6
+rank cells (StoreOutcome how) = 5
+rank cells (FlushOutcome how) = 4
+rank cells (BackOutcome how) = 3
+rank cells (Answer how) = 1
+
+-- what the answer says of an edit in doubt: with its number and Done it counts for good; else it does not count
+abbrev pub ResolvesAs : World → Edit → RecoveryEnd → Type 0
+ResolvesAs w f Nothing = AreBelow w f.process f.number
+ResolvesAs w f (Last n cell true) = ((n ≡ f.number) × IsSafelyIn w f) ⊎ ((n < f.number) × AreBelow w f.process f.number)
+ResolvesAs w f (Last n cell false) = (n ≤ f.number) × AreBelow w f.process f.number

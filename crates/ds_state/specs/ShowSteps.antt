@@ -1,0 +1,155 @@
+-- The steps of a report: what each stage loads, and what comes then. (In the project: crate ds_show, specs/Steps.)
+use Rattle.std.specs.Prelude.{ℕ, ◌≡◌, ◌≢◌, ◌<◌, ◌+◌, ◌-◌, ◌*◌, ◌==◌, nat_lt, if◌then◌else◌, Bool, true, false, List, [], ◌∷◌, ◌++◌}
+use Rattle.ds_words.specs.Memory.{SameMemory}
+use Rattle.ds_words.specs.declared.access.Access.{Access}
+use Rattle.ds_words.specs.declared.access.Access.TheVariants as acts
+use Rattle.ds_eval.specs.declared.value.Value.{Value}
+use Rattle.ds_layout.specs.declared.place.Place.{Place}
+use Rattle.ds_layout.specs.declared.place.Place.TheVariants as place
+use Rattle.ds_layout.specs.declared.mark.State.{State}
+use Rattle.ds_layout.specs.declared.mark.State.TheVariants.{Clean, Marked, Held}
+use Rattle.ds_layout.specs.Announcement.{announcement_of}
+use Rattle.ds_layout.specs.Mark.{mark_of, state_of}
+use Rattle.ds_layout.specs.Places.{cells_of}
+use Rattle.ds_layout.specs.Sheet.{PerformsAt}
+use Rattle.ds_state.specs.Works.{PlainShow}
+use Rattle.ds_state.specs.World.{World}
+use Rattle.ds_state.specs.KnownShow.{noted, pends, values_of}
+use Rattle.ds_state.specs.declared.situation.Situation.{Situation}
+use Rattle.ds_state.specs.declared.situation.Situation.TheVariants.{Idle, Showing}
+use Rattle.ds_state.specs.declared.work.ShowEnd.TheVariants.{Settled, AtMark, AtAnnounce}
+use Rattle.ds_state.specs.declared.work.ShowStage.{ShowStage}
+use Rattle.ds_state.specs.declared.work.ShowStage.TheVariants.{LoadAnnounce, LoadMark, LoadValue, LoadKind, AgainMark, AgainAnnounce, Answer}
+
+-- the access of a stage
+abbrev pub access_at : ShowStage → Access Place
+access_at (LoadAnnounce i) = acts.Load (place.Announce i)
+access_at (LoadMark i) = acts.Load (place.Mark i)
+access_at (LoadValue i) = acts.Load (place.Value i)
+access_at (LoadKind i) = acts.Load (place.Kind i)
+access_at (AgainMark i) = acts.Load (place.Mark i)
+access_at (AgainAnnounce i) = acts.Load (place.Announce i)
+access_at (Answer end) = acts.Nothing
+
+-- whether a mark's word is clean, as it is read in a sheet with so many processes
+abbrev pub is_clean : State → Bool
+is_clean Clean = true
+is_clean Marked = false
+is_clean (Held p) = false
+
+abbrev pub reads_clean : ℕ → ℕ → Bool
+reads_clean processes word = is_clean (state_of (mark_of processes word))
+
+abbrev pub reads_pending : ℕ → Bool
+reads_pending word = pends (announcement_of word)
+
+abbrev pub at : PlainShow → ShowStage → PlainShow
+at e stage = record e { stage = stage }
+
+-- the words of one kind one by one, then the next kind
+abbrev pub announce_from : PlainShow → ℕ → PlainShow
+announce_from e i = if nat_lt i e.processes then at e (LoadAnnounce i) else at e (LoadMark 0)
+
+abbrev pub mark_from : PlainShow → ℕ → PlainShow
+mark_from e i = if nat_lt i e.cells then at e (LoadMark i) else at e (LoadValue 0)
+
+abbrev pub value_from : PlainShow → ℕ → PlainShow
+value_from e i = if nat_lt i e.cells then at e (LoadValue i) else at e (AgainMark 0)
+
+abbrev pub again_mark_from : PlainShow → ℕ → PlainShow
+again_mark_from e i = if nat_lt i e.cells then at e (AgainMark i) else at e (AgainAnnounce 0)
+
+abbrev pub again_announce_from : PlainShow → ℕ → PlainShow
+again_announce_from e i = if nat_lt i e.processes then at e (AgainAnnounce i) else at e (Answer Settled)
+
+abbrev pub off_mark : PlainShow → ℕ → ℕ → PlainShow
+off_mark e c word = at e (Answer (AtMark c word))
+
+abbrev pub off_announce : PlainShow → ℕ → ℕ → PlainShow
+off_announce e q word = at e (Answer (AtAnnounce q word))
+
+-- with one more word noted
+abbrev pub with_announcement : PlainShow → ℕ → PlainShow
+with_announcement e word = record e { announcements = e.announcements ++ word ∷ [] }
+
+abbrev pub with_mark : PlainShow → ℕ → PlainShow
+with_mark e word = record e { marks = e.marks ++ word ∷ [] }
+
+abbrev pub with_value : PlainShow → ℕ → PlainShow
+with_value e word = record e { values = e.values ++ word ∷ [] }
+
+abbrev pub with_kind : PlainShow → ℕ → PlainShow
+with_kind e word = record e { kinds = e.kinds ++ word ∷ [] }
+
+-- the report after a stage whose access answered the word
+abbrev pub next_at : PlainShow → ShowStage → ℕ → PlainShow
+next_at e (LoadAnnounce i) word = if reads_pending word then off_announce e i word else announce_from (with_announcement e word) (i + 1)
+next_at e (LoadMark i) word = if reads_clean e.processes word then mark_from (with_mark e word) (i + 1) else off_mark e i word
+next_at e (LoadValue i) word = at (with_value e word) (LoadKind i)
+next_at e (LoadKind i) word = value_from (with_kind e word) (i + 1)
+next_at e (AgainMark i) word = if word == noted e.marks i then again_mark_from e (i + 1) else off_mark e i word
+next_at e (AgainAnnounce i) word = if word == noted e.announcements i then again_announce_from e (i + 1) else off_announce e i word
+next_at e (Answer end) word = e
+
+-- what the process does after the step: its answer ends the call
+abbrev pub after : PlainShow → ShowStage → ℕ → Situation
+after e (Answer end) word = Idle e.next
+after e stage word = Showing (next_at e stage word)
+
+-- the values of a settled report
+abbrev pub answered : PlainShow → List Value
+answered e = values_of e.cells (noted e.values) (noted e.kinds)
+
+-- one step of the report at a stage, whose access answered the word: no edit comes to count
+pub record StepsAt (e : PlainShow) (stage : ShowStage) (word : ℕ) (old new : World) : Type 0 where
+  pub layout : new.layout ≡ old.layout
+  pub memory : PerformsAt (access_at stage) e.process old.memory new.memory word
+  pub situation : new.situation e.process ≡ after e stage word
+  pub others : (q : ℕ) → q ≢ e.process → new.situation q ≡ old.situation q
+  pub counted : new.counted ≡ old.counted
+  pub pending : (q : ℕ) → new.pending q ≡ old.pending q
+
+abbrev pub Steps : PlainShow → ℕ → World → World → Type 0
+Steps e word old new = StepsAt e e.stage word old new
+
+-- a report of the sheet, before its first step
+abbrev pub fresh : ℕ → ℕ → ℕ → ℕ → PlainShow
+fresh process next cells processes = record {
+  process = process;
+  next = next;
+  cells = cells;
+  processes = processes;
+  announcements = [];
+  marks = [];
+  values = [];
+  kinds = [];
+  stage = LoadAnnounce 0;
+}
+
+-- a report begins, and no word changes
+pub record Begins (p next : ℕ) (old new : World) : Type 0 where
+  pub layout : new.layout ≡ old.layout
+  pub memory : SameMemory old.memory new.memory
+  pub idle : old.situation p ≡ Idle next
+  pub situation : new.situation p ≡ Showing (fresh p next (cells_of old.layout) old.layout.processes)
+  pub others : (q : ℕ) → q ≢ p → new.situation q ≡ old.situation q
+  pub counted : new.counted ≡ old.counted
+  pub pending : (q : ℕ) → new.pending q ≡ old.pending q
+
+-- how many steps are left at most, the answer's among them
+abbrev pub rank_in : ℕ → ℕ → ShowStage → ℕ
+rank_in processes cells (LoadAnnounce i) = 1 + 2 * processes + 4 * cells - i
+rank_in processes cells (LoadMark i) = 1 + processes + 4 * cells - i
+rank_in processes cells (LoadValue i) = 1 + processes + 3 * cells - 2 * i
+rank_in processes cells (LoadKind i) = processes + 3 * cells - 2 * i
+rank_in processes cells (AgainMark i) = 1 + processes + cells - i
+rank_in processes cells (AgainAnnounce i) = 1 + processes - i
+rank_in processes cells (Answer end) = 1
+
+abbrev pub rank : PlainShow → ℕ
+rank e = rank_in e.processes e.cells e.stage
+
+-- fewer steps are left after a step, but for the answer's, which is the last
+abbrev pub Falls : PlainShow → ShowStage → PlainShow → Type 0
+Falls e (Answer end) after = Unit {0}
+Falls e stage after = rank after < rank (at e stage)

@@ -1,0 +1,118 @@
+-- What a clean mark says: the cell's words are what its content gives, or somebody owes.
+use Rattle.std.specs.Prelude.{ℕ, ℤ, pos, ◌≡◌, ◌<◌, ◌≤◌, ◌⊎◌, List, [], ◌∷◌, Contains}
+use Rattle.ds_words.specs.Memory.{Memory}
+use Rattle.ds_formula.specs.Cells.{IsInside, index_of}
+use Rattle.ds_formula.specs.declared.cells.Cell.{Cell}
+use Rattle.ds_formula.specs.declared.cells.Shape.{Shape}
+use Rattle.ds_formula.specs.Plain.{Plain, Empty}
+use Rattle.ds_formula.specs.Refs.{Refers}
+use Rattle.ds_formula.specs.Grammar.{Reads}
+use Rattle.ds_eval.specs.declared.value.Value.{Value}
+use Rattle.ds_eval.specs.declared.value.Value.TheVariants as value
+use Rattle.ds_eval.specs.declared.inputs.Entry as entries
+use Rattle.ds_eval.specs.Local.{local}
+use Rattle.ds_layout.specs.declared.place.Place.{Place}
+use Rattle.ds_layout.specs.declared.place.Place.TheVariants as place
+use Rattle.ds_layout.specs.declared.layout.Layout.{Layout}
+use Rattle.ds_layout.specs.declared.stored.Kind.{Kind}
+use Rattle.ds_layout.specs.declared.stored.Kind.TheVariants as kind
+use Rattle.ds_layout.specs.declared.stored.Stored.{Stored}
+use Rattle.ds_layout.specs.Places.{cells_of}
+use Rattle.ds_layout.specs.Stored.{stored_of, value_word, kind_word}
+use Rattle.ds_state.specs.World.{Edit, World, of_cell, IsHeadBy}
+use Rattle.ds_state.specs.Owing.{entry, turn, IsClean, IsEven, CellOwes, IsExcused}
+
+-- what a kind shows, with its number
+abbrev pub shown : Kind → ℤ → Value
+shown kind.Blank number = value.Blank
+shown kind.Number number = value.Number number
+shown kind.DivZero number = value.DivZero
+shown kind.Num number = value.Num
+shown kind.Circular number = value.Circular
+
+abbrev pub shown_of : Stored → Value
+shown_of stored = shown stored.kind stored.value
+
+-- the entry that two words show, and the words of an entry
+abbrev pub shown_entry : ℕ → ℕ → ℕ → entries.Entry
+shown_entry cells v k = record { value = shown_of (stored_of cells v k); height = (stored_of cells v k).height }
+
+abbrev pub kind_for : Value → Kind
+kind_for value.Blank = kind.Blank
+kind_for (value.Number z) = kind.Number
+kind_for value.DivZero = kind.DivZero
+kind_for value.Num = kind.Num
+kind_for value.Circular = kind.Circular
+
+abbrev pub number_for : Value → ℤ
+number_for (value.Number z) = z
+number_for _ = pos 0
+
+abbrev pub stored_for : entries.Entry → Stored
+stored_for e = record { kind = kind_for e.value; height = e.height; value = number_for e.value }
+
+abbrev pub value_for : entries.Entry → ℕ
+value_for e = value_word (stored_for e)
+
+abbrev pub word_for : entries.Entry → ℕ
+word_for e = kind_word (stored_for e)
+
+-- one side of the words of the cells
+pub record Side : Type 0 where
+  pub value : ℕ → ℕ
+  pub kind : ℕ → ℕ
+  pub head : ℕ → ℕ
+
+abbrev pub cached_side : Memory Place → Side
+cached_side m = record { value = λ c. m.cached (place.Value c); kind = λ c. m.cached (place.Kind c); head = λ c. m.cached (place.Head c) }
+
+abbrev pub persisted_side : Memory Place → Side
+persisted_side m = record { value = λ c. m.persisted (place.Value c); kind = λ c. m.persisted (place.Kind c); head = λ c. m.persisted (place.Head c) }
+
+abbrev pub entry_on : Layout → Side → ℕ → entries.Entry
+entry_on layout side c = shown_entry (cells_of layout) (side.value c) (side.kind c)
+
+-- the content of the edit that gave the cell this head
+pub record HasText (w : World) (cell head : ℕ) (content : Plain) : Type 0 where
+  pub by : Edit
+  pub gave : IsHeadBy (of_cell cell w.counted) head by
+  pub reads : Reads w.layout.shape by.text content
+
+abbrev pub HasContent : World → ℕ → ℕ → Plain → Type 0
+HasContent w cell head content = ((head ≡ 0) × (content ≡ Empty)) ⊎ HasText w cell head content
+
+-- u has what the content refers to, but for what owes c above x
+abbrev pub Inputs : World → Side → Plain → ℕ → ℕ → (Cell → entries.Entry) → Type 0
+Inputs w side content c x u = (d : Cell) → Refers content d → IsInside w.layout.shape d
+    → (u d ≡ entry_on w.layout side (index_of w.layout.shape d)) ⊎ CellOwes w (index_of w.layout.shape d) c x
+
+-- the words of c are what its content gives
+pub record Reasons (w : World) (side : Side) (c x : ℕ) : Type 0 where
+  pub content : Plain
+  pub has : HasContent w c (side.head c) content
+  pub inputs : Cell → entries.Entry
+  pub on_value : side.value c ≡ value_for (local w.layout.shape content inputs)
+  pub on_kind : side.kind c ≡ word_for (local w.layout.shape content inputs)
+  pub near : Inputs w side content c x inputs
+
+abbrev pub Stands : World → Side → ℕ → ℕ → Type 0
+Stands w side c x = IsExcused w c x ⊎ Reasons w side c x
+
+-- a mark of c that is on its way, and no older than the persisted one
+pub record IsBuffered (w : World) (c x : ℕ) : Type 0 where
+  pub by : ℕ
+  pub process : by < w.layout.processes
+  pub there : Contains (w.memory.buffer by) (entry (place.Mark c) x)
+  pub no_older : w.memory.persisted (place.Mark c) ≤ x
+
+abbrev pub IsDurable : World → ℕ → ℕ → Type 0
+IsDurable w c x = (x ≡ w.memory.persisted (place.Mark c)) ⊎ IsBuffered w c x
+
+-- a mark of c above which nobody may stop to owe
+abbrev pub Matters : World → ℕ → ℕ → Type 0
+Matters w c x = IsEven x × ((x ≡ w.memory.cached (place.Mark c)) ⊎ IsDurable w c x)
+
+-- each clean mark stands, on its side
+pub record AllStand (w : World) : Type 0 where
+  pub on_cached : (c : ℕ) → IsClean (w.memory.cached (place.Mark c)) → Stands w (cached_side w.memory) c (w.memory.cached (place.Mark c))
+  pub on_persisted : (c x : ℕ) → IsClean x → IsDurable w c x → Stands w (persisted_side w.memory) c x
