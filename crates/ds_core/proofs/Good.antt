@@ -29,6 +29,8 @@ use Rattle.ds_state.specs.declared.situation.Situation.TheVariants.{Idle, Editin
 use Rattle.ds_state.proofs.Accesses.{evict_sound}
 use Rattle.ds_state.proofs.Buffers.{buffered}
 use Rattle.ds_state.proofs.Few.{counted_few}
+use Rattle.ds_state.proofs.Underway.{no_more}
+use Rattle.ds_state.specs.Underway.{reports_in}
 use Rattle.ds_edit.specs.Steps.{access_at}
 use Rattle.ds_edit.specs.Worlds.{Steps, after, counted_at, pending_at}
 use Rattle.ds_edit.proofs.Sound.{step_sound}
@@ -52,6 +54,11 @@ counted_cases e (Swap noted) word = won (word == noted)
     won true = inr refl
     won false = inl refl
 counted_cases e _ word = inl refl
+
+-- an edit goes on to no report
+no_report : (e : PlainEdit) (s : Stage) (word : ℕ) → reports_in (after e s word) ≡ 0
+no_report e (Answer how) word = refl
+no_report e _ word = refl
 
 -- which stage a step's outcome tells
 pub answers_at : (s : Stage) (how : Outcome) → outcome_at s ≡ Some how → s ≡ Answer how
@@ -157,6 +164,7 @@ module _ (v : WorldValue) (g : IsGood v) (p : ℕ) (e : PlainEdit) (at : IsEditi
         pending = length-set v.pending p (pending_at (get_or v.pending p None) e.stage) ∙ g.pending ∙ ap (λ (l : Layout). l.processes) (sym layout);
         reports = rw layout g.reports;
         answered = by_outcome (outcome_at e.stage) refl;
+        counts = no_more v.situations p (after e e.stage word) v.settled _ at.there (no_report e e.stage word) g.counts;
       };
       reserved = (let same = ap (λ (l : Layout). l.processes) layout in omega arith);
     }
@@ -218,6 +226,7 @@ evict_kept v sheet place room k layout m =
           pending = k.good.pending ∙ sym same;
           reports = rw layout k.good.reports;
           answered = k.good.answered;
+          counts = k.good.counts;
         };
         reserved = (let r = k.reserved in omega arith);
       },

@@ -17,6 +17,7 @@ use Rattle.ds_state.specs.Text.{IsText}
 use Rattle.ds_state.specs.World.{Edit, Issue, edit_of, World}
 use Rattle.ds_state.specs.Dones.{HasAnswered}
 use Rattle.ds_state.proofs.Dones.{still_answered}
+use Rattle.ds_state.proofs.Underway.{no_more}
 use Rattle.std.proofs.lemmas.Bool.{cases_eq}
 use Rattle.ds_state.specs.Calls.{CallFits, IdleFits, IsSheetOf, HasRefs}
 use Rattle.ds_state.specs.Value.{WorldValue, world_of, IsGood, IsReserved}
@@ -86,6 +87,7 @@ module _ (v : WorldValue) (e : PlainEdit) (room : ℕ) (kept : IsReserved v room
       pending = length-set v.pending e.process (Some (record { edit = edit_of e; since = length v.counted })) ∙ kept.good.pending;
       reports = kept.good.reports;
       answered = issued_answered;
+      counts = no_more v.situations e.process (Editing e) v.settled _ has_situation refl kept.good.counts;
     };
     reserved = kept.reserved;
   }

@@ -9,6 +9,7 @@ use Rattle.ds_state.specs.declared.situation.Situation.{Situation}
 use Rattle.ds_state.specs.declared.situation.Situation.TheVariants.{Idle, Stopped}
 use Rattle.ds_state.specs.Crashes.{StopsIn}
 use Rattle.ds_state.proofs.Stopping.{stop_keeps}
+use Rattle.ds_state.proofs.Underway.{no_more}
 
 abbrev pub stopped : WorldValue → ℕ → WorldValue
 stopped v p = record v { situations = set v.situations p Stopped }
@@ -37,6 +38,7 @@ stop_reserved v p n room k lt idle =
         pending = k.good.pending;
         reports = k.good.reports;
         answered = k.good.answered;
+        counts = no_more v.situations p Stopped v.settled _ lt refl k.good.counts;
       };
       reserved = k.reserved;
     }

@@ -2,20 +2,22 @@
 use Rattle.std.proofs.Common.{ℕ, ◌≡◌, ◌<◌, ◌≤◌, ◌+◌, ◌*◌, ◌==◌, refl, ap, sym, ◌∙◌, subst, arith, true, false, nat_lt}
 use Rattle.std.specs.Prelude.{Bool, if◌then◌else◌}
 use Rattle.std.proofs.lemmas.Bool.{ltb-true}
-use Rattle.ds_words.specs.Memory.{SameMemory}
+use Rattle.ds_words.specs.Memory.{Memory, SameMemory}
 use Rattle.ds_formula.specs.Cells.{count_of}
 use Rattle.ds_formula.specs.declared.cells.Cell.{Cell}
 use Rattle.ds_formula.specs.declared.cells.Shape.{Shape}
 use Rattle.ds_eval.proofs.Walks.{index_below}
+use Rattle.ds_layout.specs.declared.place.Place.{Place}
 use Rattle.ds_layout.specs.declared.place.Place.TheVariants.{Version}
 use Rattle.ds_layout.specs.declared.layout.Layout.{Layout}
 use Rattle.ds_layout.specs.Places.{cells_of}
-use Rattle.ds_layout.specs.Sheet.{PerformsAt, CanPerform}
+use Rattle.ds_layout.specs.Sheet.{PerformsAt, CanPerform, NamesPlace, HasBuffer}
 use Rattle.ds_state.specs.Works.{PlainShow}
 use Rattle.ds_state.specs.World.{World}
 use Rattle.ds_state.specs.Owing.{Owes, Parts, Splits, Excuses}
 use Rattle.ds_state.specs.KnownWork.{IsAtRest}
-use Rattle.ds_state.specs.KnownShow.{noted, reads_clean, reads_pending, Moment, moment_of, IsStage, ShowFitsAt, ShowFits}
+use Rattle.ds_state.specs.KnownShow.{noted, reads_clean, reads_pending, Moment, moment_of, ShowFitsAt, ShowFits}
+use Rattle.ds_state.specs.ShowStages.{IsStage}
 use Rattle.ds_show.specs.ShowSteps.{access_at, next_at, after, StepsAt, Begins, fresh, rank, Falls, at}
 use Rattle.ds_state.specs.Calls.{CallFits, IdleFits}
 use Rattle.ds_state.specs.Rely.{Grows, Keeps}
@@ -196,14 +198,24 @@ few e (AgainAnnounce i) = omega arith
 few e (Answer end) = omega arith
 
 -- each access names a word of the sheet
+pub named : (layout : Layout) (e : PlainShow) → cells_of layout ≡ e.cells → layout.processes ≡ e.processes → (s : ShowStage) → IsStage e s → NamesPlace layout (access_at s)
+named layout e cells processes (LoadAnnounce i) h = rw processes h.0
+named layout e cells processes (LoadMark i) h = rw cells h.0
+named layout e cells processes (LoadValue i) h = rw cells h.0
+named layout e cells processes (LoadKind i) h = rw cells h.0
+named layout e cells processes (AgainMark i) h = rw cells h.0
+named layout e cells processes (AgainAnnounce i) h = rw processes h.0
+named layout e cells processes (Answer end) h = tt
+
+-- and needs no buffer
+no_buffer : (layout : Layout) (memory : Memory Place) (p : ℕ) (s : ShowStage) → HasBuffer layout memory p (access_at s)
+no_buffer layout memory p (LoadAnnounce i) = tt
+no_buffer layout memory p (LoadMark i) = tt
+no_buffer layout memory p (LoadValue i) = tt
+no_buffer layout memory p (LoadKind i) = tt
+no_buffer layout memory p (AgainMark i) = tt
+no_buffer layout memory p (AgainAnnounce i) = tt
+no_buffer layout memory p (Answer end) = tt
+
 pub possible : (w : World) (p : ℕ) (e : PlainShow) (m : Moment) → ShowFitsAt w p e m → CanPerform w.layout w.memory p (access_at e.stage)
-possible w p e m fits = at_stage e.stage fits.is.stage
-  where
-    at_stage : (s : ShowStage) → IsStage e s → CanPerform w.layout w.memory p (access_at s)
-    at_stage (LoadAnnounce i) h = (rw fits.processes h.0, tt)
-    at_stage (LoadMark i) h = (rw fits.cells h.0, tt)
-    at_stage (LoadValue i) h = (rw fits.cells h.0, tt)
-    at_stage (LoadKind i) h = (rw fits.cells h.0, tt)
-    at_stage (AgainMark i) h = (rw fits.cells h.0, tt)
-    at_stage (AgainAnnounce i) h = (rw fits.processes h.0, tt)
-    at_stage (Answer end) h = (tt, tt)
+possible w p e m fits = (named w.layout e fits.cells fits.processes e.stage fits.is.stage, no_buffer w.layout w.memory p e.stage)

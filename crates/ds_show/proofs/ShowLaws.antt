@@ -1,15 +1,19 @@
 -- The laws of reports, at a report's own stage.
 use Rattle.std.proofs.Common.{ℕ, ◌≡◌, ◌<◌, ◌≤◌, ◌+◌, ◌*◌, subst}
-use Rattle.ds_layout.specs.Sheet.{CanPerform}
+use Rattle.ds_layout.specs.declared.layout.Layout.{Layout}
+use Rattle.ds_layout.specs.Places.{cells_of}
+use Rattle.ds_layout.specs.Sheet.{CanPerform, NamesPlace}
 use Rattle.ds_state.specs.Works.{PlainShow}
 use Rattle.ds_state.specs.World.{World}
-use Rattle.ds_state.specs.KnownShow.{IsShow, ShowFits}
+use Rattle.ds_state.specs.KnownShow.{ShowFits}
+use Rattle.ds_state.specs.ShowStages.{IsShow}
 use Rattle.ds_show.specs.ShowSteps.{access_at, next_at, Begins, Steps, Falls, rank}
 use Rattle.ds_state.specs.Calls.{CallFits}
 use Rattle.ds_state.specs.Rely.{Keeps}
 use Rattle.ds_state.specs.Sound.{IsSound}
 use Rattle.ds_state.specs.declared.situation.Situation.{Situation}
 use Rattle.ds_state.specs.declared.situation.Situation.TheVariants.{Showing}
+use Rattle.ds_show.proofs.ShowKeeps as keeps
 use Rattle.ds_show.proofs.ShowKeeps.{step_keeps, begin_keeps, falls, few, possible}
 
 fits_of : (e : PlainShow) (w : World) → IsSound w → e.process < w.layout.processes → w.situation e.process ≡ Showing e → ShowFits w e.process e
@@ -20,6 +24,9 @@ steps e word old new sound real is t = step_keeps e e.stage word old new sound i
 
 pub accesses : (e : PlainShow) (w : World) → IsSound w → e.process < w.layout.processes → w.situation e.process ≡ Showing e → CanPerform w.layout w.memory e.process (access_at e.stage)
 accesses e w sound real is = let f = fits_of e w sound real is in possible w e.process e f.0 f.1
+
+pub named : (layout : Layout) (e : PlainShow) → cells_of layout ≡ e.cells → layout.processes ≡ e.processes → IsShow e → NamesPlace layout (access_at e.stage)
+named layout e cells processes is = keeps.named layout e cells processes e.stage is.stage
 
 pub each_falls : (e : PlainShow) (word : ℕ) → IsShow e → Falls e e.stage (next_at e e.stage word)
 each_falls e word is = falls e e.stage word is.stage

@@ -9,7 +9,8 @@ use Rattle.ds_layout.specs.declared.place.Place.TheVariants.{Version, Mark, Anno
 use Rattle.ds_state.specs.Works.{PlainShow}
 use Rattle.ds_state.specs.World.{Edit, World}
 use Rattle.ds_state.specs.Owing.{IsClean}
-use Rattle.ds_state.specs.KnownShow.{noted, reads_pending, reads_clean, IsPendingWord, Moment, moment_of, IsStage, ShowFitsAt}
+use Rattle.ds_state.specs.KnownShow.{noted, reads_pending, reads_clean, IsPendingWord, Moment, moment_of, ShowFitsAt}
+use Rattle.ds_state.specs.ShowStages.{IsStage}
 use Rattle.ds_layout.specs.Places.{cells_of}
 use Rattle.ds_show.specs.ShowSteps.{fresh, next_at, after}
 use Rattle.ds_show.specs.ShowRuns.{Call, IsOf, AreInTurn, WasOff, IsTrueReport}

@@ -7,7 +7,8 @@ use Rattle.ds_layout.specs.Places.{cells_of}
 use Rattle.ds_state.specs.Works.{PlainShow}
 use Rattle.ds_state.specs.World.{World}
 use Rattle.ds_state.specs.Owing.{IsClean}
-use Rattle.ds_state.specs.KnownShow.{noted, reads_clean, reads_pending, IsPendingWord, moment_of, IsStill, IsStage}
+use Rattle.ds_state.specs.KnownShow.{noted, reads_clean, reads_pending, IsPendingWord, moment_of, IsStill}
+use Rattle.ds_state.specs.ShowStages.{IsStage}
 use Rattle.ds_show.specs.ShowSteps.{fresh, next_at}
 use Rattle.ds_show.specs.ShowRuns.{Call}
 use Rattle.ds_show.specs.ShowSolo.{SoloCall}

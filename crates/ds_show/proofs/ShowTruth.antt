@@ -7,7 +7,8 @@ use Rattle.ds_state.specs.Works.{PlainShow}
 use Rattle.ds_state.specs.World.{Edit, World}
 use Rattle.ds_state.specs.Owing.{IsClean}
 use Rattle.ds_state.specs.Standing.{shown_entry}
-use Rattle.ds_state.specs.KnownShow.{noted, IsPendingWord, Moment, values_of, AreScratch, IsStill, IsRight, SawAgain, seen_at, SeenFits, IsStage, HaveNoted, ShowFitsAt}
+use Rattle.ds_state.specs.KnownShow.{noted, IsPendingWord, Moment, values_of, AreScratch, IsStill, IsRight, SawAgain, seen_at, SeenFits, ShowFitsAt}
+use Rattle.ds_state.specs.ShowStages.{IsStage, HaveNoted}
 use Rattle.ds_show.specs.ShowSteps.{answered}
 use Rattle.ds_state.proofs.QuietShown.{same_map}
 use Rattle.ds_state.specs.declared.work.ShowEnd.TheVariants.{Settled}

@@ -1,3 +1,5 @@
 pub mod ShowSteps
+pub mod ShowBegun
+pub mod ShowTakes
 pub mod ShowRuns
 pub mod ShowSolo

@@ -13,6 +13,8 @@ use Rattle.ds_state.specs.World.{World}
 use Rattle.ds_state.specs.KnownShow.{noted, reads_clean, reads_pending, values_of}
 use Rattle.ds_state.specs.declared.situation.Situation.{Situation}
 use Rattle.ds_state.specs.declared.situation.Situation.TheVariants.{Idle, Showing}
+use Rattle.ds_show.specs.declared.machine.Effect.{Effect}
+use Rattle.ds_show.specs.declared.machine.Effect.TheVariants.{GoesOn, Answers}
 use Rattle.ds_state.specs.declared.work.ShowEnd.TheVariants.{Settled, AtMark, AtAnnounce}
 use Rattle.ds_state.specs.declared.work.ShowStage.{ShowStage}
 use Rattle.ds_state.specs.declared.work.ShowStage.TheVariants.{LoadAnnounce, LoadMark, LoadValue, LoadKind, AgainMark, AgainAnnounce, Answer}
@@ -31,6 +33,22 @@ abbrev pub at : PlainShow → ShowStage → PlainShow
 at e stage = record e { stage = stage }
 
 -- the words of one kind one by one, then the next kind
+abbrev pub announce_stage : ℕ → ℕ → ShowStage
+announce_stage processes i = if nat_lt i processes then LoadAnnounce i else LoadMark 0
+
+abbrev pub mark_stage : ℕ → ℕ → ShowStage
+mark_stage cells i = if nat_lt i cells then LoadMark i else LoadValue 0
+
+abbrev pub value_stage : ℕ → ℕ → ShowStage
+value_stage cells i = if nat_lt i cells then LoadValue i else AgainMark 0
+
+abbrev pub again_mark_stage : ℕ → ℕ → ShowStage
+again_mark_stage cells i = if nat_lt i cells then AgainMark i else AgainAnnounce 0
+
+abbrev pub again_announce_stage : ℕ → ℕ → ShowStage
+again_announce_stage processes i = if nat_lt i processes then AgainAnnounce i else Answer Settled
+
+-- the report at that stage
 abbrev pub announce_from : PlainShow → ℕ → PlainShow
 announce_from e i = if nat_lt i e.processes then at e (LoadAnnounce i) else at e (LoadMark 0)
 
@@ -74,6 +92,14 @@ next_at e (LoadKind i) word = value_from (with_kind e word) (i + 1)
 next_at e (AgainMark i) word = if word == noted e.marks i then again_mark_from e (i + 1) else off_mark e i word
 next_at e (AgainAnnounce i) word = if word == noted e.announcements i then again_announce_from e (i + 1) else off_announce e i word
 next_at e (Answer end) word = e
+
+abbrev pub got_at : PlainShow → ℕ → PlainShow
+got_at e word = next_at e e.stage word
+
+-- what a step at a stage does to the report
+abbrev pub effect_at : ShowStage → Effect
+effect_at (Answer end) = Answers end
+effect_at _ = GoesOn
 
 -- what the process does after the step: its answer ends the call
 abbrev pub after : PlainShow → ShowStage → ℕ → Situation

@@ -1,12 +1,14 @@
 //! What is true of each report, as functions that do nothing.
 
 ghost use Rattle.std.specs.Prelude.{ℕ, ◌≡◌, ◌<◌, ◌≤◌, ◌+◌, ◌*◌, List};
-ghost use Rattle.ds_layout.specs.Sheet.{CanPerform};
+ghost use Rattle.ds_layout.specs.declared.layout.Layout.{Layout};
+ghost use Rattle.ds_layout.specs.Places.{cells_of};
+ghost use Rattle.ds_layout.specs.Sheet.{CanPerform, NamesPlace};
 ghost use Rattle.ds_state.specs.World.{World};
 ghost use Rattle.ds_state.specs.Sound.{IsSound};
 ghost use Rattle.ds_state.specs.Rely.{Keeps};
 ghost use Rattle.ds_state.specs.Works.{PlainShow};
-ghost use Rattle.ds_state.specs.KnownShow.{IsShow};
+ghost use Rattle.ds_state.specs.ShowStages.{IsShow};
 ghost use Rattle.ds_state.specs.declared.work.ShowEnd.{ShowEnd};
 ghost use Rattle.ds_state.specs.declared.work.ShowEnd.TheVariants.{Settled};
 ghost use Rattle.ds_state.specs.declared.work.ShowStage.TheVariants.{Answer};
@@ -28,6 +30,13 @@ pub fn steps_keep_soundness()
 pub fn begins_keep_soundness()
     ensures { (p next : ℕ) (old new : World) → IsSound old → p < old.layout.processes
         → Begins p next old new → Keeps p old new }
+{}
+
+/// Each access of a report names a place of its sheet.
+#[tactic(auto, using(crate::proofs::ShowLaws::named))]
+pub fn accesses_are_of_the_sheet()
+    ensures { (layout : Layout) (e : PlainShow) → cells_of layout ≡ e.cells → layout.processes ≡ e.processes
+        → IsShow e → NamesPlace layout (access_at e.stage) }
 {}
 
 /// The access of a report of a sound sheet can be performed.

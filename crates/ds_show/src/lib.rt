@@ -1,4 +1,7 @@
-//! A report: its steps, and what they are proved to do.
+//! A report: its beginning, its steps, and what they are proved to do.
 #![tactic(auto)]
 
+pub mod begin;
 pub mod laws;
+pub mod machine;
+pub mod step;

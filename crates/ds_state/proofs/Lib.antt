@@ -47,6 +47,7 @@ pub mod EachWork
 pub mod WorkNamed
 pub mod Accesses
 pub mod Noted
+pub mod Underway
 pub mod Spent
 pub mod Outcomes
 pub mod Dones

@@ -15,6 +15,7 @@ use Rattle.ds_state.specs.Value.{WorldValue, world_of, IsReserved}
 use Rattle.ds_state.specs.declared.situation.Situation.{Situation}
 use Rattle.ds_state.specs.declared.situation.Situation.TheVariants.{Idle}
 use Rattle.ds_state.proofs.New.{new_sound}
+use Rattle.ds_state.proofs.Underway.{none_idle}
 
 pub one_more : (n : ℕ) (s : Situation) → replicate n s ++ s ∷ [] ≡ replicate (n + 1) s
 one_more n s = replicate_more n s
@@ -44,6 +45,7 @@ made_kept sheet processes room fresh same enough = record {
     pending = length-replicate {A = Option Issue} processes None ∙ sym same;
     answered = record { closed = []; as_many = refl; once = tt; count = λ e inside. inside; answered = λ e issue inside at is. absurd (let l = inside.1 in omega arith) };
     reports = record { cells = refl; processes = length-replicate {A = List Value} processes [] ∙ sym same };
+    counts = (let none = none_idle processes 0 in omega arith);
   };
   reserved = subst (λ (n : ℕ). n * RECORDS ≤ room) (sym same) enough;
 }

@@ -66,7 +66,8 @@ pub same_map : (f g : ℕ → values.Value) (a n : ℕ) → ((i : ℕ) → a ≤
 same_map f g a zero h = refl
 same_map f g a (suc n) h = ap (λ (x : values.Value). x ∷ map f (range_with_len (a + 1) n)) (h a (omega arith) (omega arith)) ∙ ap (λ (xs : List values.Value). g a ∷ xs) (same_map f g (a + 1) n (λ i l k. h i (omega arith) (omega arith)))
 
-shown_same : (k : Kind) (z : ℤ) → standing.shown k z ≡ shows.shown k z
+-- what a kind shows is said alike of a world and of an entry
+pub shown_same : (k : Kind) (z : ℤ) → standing.shown k z ≡ shows.shown k z
 shown_same kinds.Blank z = refl
 shown_same kinds.Number z = refl
 shown_same kinds.DivZero z = refl

@@ -19,6 +19,7 @@ use Rattle.ds_layout.specs.Announcement.{announcement_of}
 use Rattle.ds_layout.specs.Mark.{mark_of, state_of}
 use Rattle.ds_layout.specs.Places.{cells_of}
 use Rattle.ds_state.specs.Works.{PlainShow}
+use Rattle.ds_state.specs.ShowStages.{IsShow}
 use Rattle.ds_state.specs.World.{Edit, World, of_cell}
 use Rattle.ds_state.specs.Shown.{last_text}
 use Rattle.ds_state.specs.Owing.{IsClean, IsHeldBy}
@@ -158,30 +159,6 @@ SeenFits w qs ms vs ks m first = Unit {0}
 SeenFits w qs ms vs ks m (middle again_marks again) = SawAgain w qs ms vs ks m again_marks again
 SeenFits w qs ms vs ks m (off_mark c word) = IsOffMark w ms c word
 SeenFits w qs ms vs ks m (off_announce q word) = IsOffAnnounce w qs q word
-
--- how many announcements, marks, values and kinds are noted
-pub record HaveNoted (qs ms vs ks : List ℕ) (q m v k : ℕ) : Type 0 where
-  pub announcements : length qs ≡ q
-  pub marks : length ms ≡ m
-  pub values : length vs ≡ v
-  pub kinds : length ks ≡ k
-
--- what its lists have at a stage, and that the stage is one of the sheet
-abbrev pub IsStage : PlainShow → ShowStage → Type 0
-IsStage e (LoadAnnounce i) = (i < e.processes) × HaveNoted e.announcements e.marks e.values e.kinds i 0 0 0
-IsStage e (LoadMark i) = (i < e.cells) × HaveNoted e.announcements e.marks e.values e.kinds e.processes i 0 0
-IsStage e (LoadValue i) = (i < e.cells) × HaveNoted e.announcements e.marks e.values e.kinds e.processes e.cells i i
-IsStage e (LoadKind i) = (i < e.cells) × HaveNoted e.announcements e.marks e.values e.kinds e.processes e.cells (i + 1) i
-IsStage e (AgainMark i) = (i < e.cells) × HaveNoted e.announcements e.marks e.values e.kinds e.processes e.cells e.cells e.cells
-IsStage e (AgainAnnounce i) = (i < e.processes) × HaveNoted e.announcements e.marks e.values e.kinds e.processes e.cells e.cells e.cells
-IsStage e (Answer Settled) = HaveNoted e.announcements e.marks e.values e.kinds e.processes e.cells e.cells e.cells
-IsStage e (Answer (AtMark c word)) = c < e.cells
-IsStage e (Answer (AtAnnounce q word)) = q < e.processes
-
-pub record IsShow (e : PlainShow) : Type 0 where
-  pub cells : 0 < e.cells
-  pub processes : 0 < e.processes
-  pub stage : IsStage e e.stage
 
 -- a report of the sheet, of which this is the moment
 pub record ShowFitsAt (w : World) (p : ℕ) (e : PlainShow) (m : Moment) : Type 0 where

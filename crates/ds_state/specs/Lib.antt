@@ -1,6 +1,8 @@
 pub mod Stages
 pub mod Edits
 pub mod Works
+pub mod ShowStages
+pub mod Underway
 pub mod World
 pub mod Owing
 pub mod Standing

@@ -1,5 +1,5 @@
 -- The plain value of a world, and the world that it stands for.
-use Rattle.std.specs.Prelude.{ℕ, ◌≡◌, ◌≤◌, ◌*◌, List, length, slice_index_or, Option, None}
+use Rattle.std.specs.Prelude.{ℕ, ◌≡◌, ◌≤◌, ◌+◌, ◌*◌, List, length, slice_index_or, Option, None}
 use Rattle.ds_layout.specs.declared.place.TheConstants.{RECORDS}
 use Rattle.ds_layout.specs.Sheet.{SheetValue, memory}
 use Rattle.ds_layout.specs.declared.layout.Layout.{Layout}
@@ -8,6 +8,8 @@ use Rattle.ds_state.specs.Reports.{PlainReports}
 use Rattle.ds_state.specs.World.{Edit, Issue, World}
 use Rattle.ds_state.specs.Sound.{IsSound}
 use Rattle.ds_state.specs.Dones.{HasAnswered}
+use Rattle.ds_state.specs.Underway.{reports_under_way}
+use Rattle.ds_state.specs.declared.reports.TheConstants.{SETTLED_MOST}
 use Rattle.ds_state.specs.declared.situation.Situation.{Situation}
 use Rattle.ds_state.specs.declared.situation.Situation.TheVariants.{Idle}
 
@@ -37,14 +39,19 @@ pub record AreReportsOf (layout : Layout) (r : PlainReports) : Type 0 where
   pub cells : r.cells ≡ cells_of layout
   pub processes : length r.values ≡ layout.processes
 
--- it is sound, each process has a situation, a place for its edit and one for its report, and as many edits that count
--- are answered as were answered Done
+-- the reports that are under way can be counted, too, when they are settled
+abbrev pub HasCountsLeft : List Situation → ℕ → Type 0
+HasCountsLeft situations settled = settled + reports_under_way situations ≤ SETTLED_MOST
+
+-- it is sound, each process has a situation, a place for its edit and one for its report, as many edits that count are
+-- answered as were answered Done, and each report under way can be counted
 pub record IsGood (v : WorldValue) : Type 0 where
   pub sound : IsSound (world_of v)
   pub situations : length v.situations ≡ v.sheet.layout.processes
   pub pending : length v.pending ≡ v.sheet.layout.processes
   pub reports : AreReportsOf v.sheet.layout v.reports
   pub answered : HasAnswered (world_of v).counted (world_of v).pending v.done
+  pub counts : HasCountsLeft v.situations v.settled
 
 -- also each edit that its processes can number has a place among those that count
 pub record IsReserved (v : WorldValue) (room : ℕ) : Type 0 where

@@ -17,7 +17,8 @@ pub enum Refusal {
     Busy,
     /// The process is stopped. The code that scripts print is 3.
     Stopped,
-    /// The process has spent its 256 records. The code that scripts print is 4.
+    /// The process has spent its 256 records; of a report: so many were answered Settled that no more
+    /// can be counted. The code that scripts print is 4.
     RecordsFull,
     /// An allocation failed. The code that scripts print is 5.
     NoMemory,

@@ -1,10 +1,16 @@
 //! The last settled report of each process.
 
 ghost use Rattle.std.specs.Prelude.{◌≡◌, ◌<◌, ◌≤◌, IfOk, All, [], length, replicate, slice_index_or, vec_capacity};
+ghost use Rattle.ds_state.specs.KnownShow.{values_of, noted};
 
+use crate::shown;
 use ds_eval::value::Value;
+use ds_layout::stored::Stored;
 use std::alloc::{AllocError, Global};
 use std::marker::Model;
+
+/// How many reports can be counted as answered Settled: as many as a count of 64 bits holds.
+pub const SETTLED_MOST: u64 = u64::MAX;
 
 /// The values of each process's last report that was answered Settled: none at first. Each has room
 /// for the values of all cells, so that a report takes no memory when it is answered.
@@ -25,8 +31,23 @@ impl Model for Reports {
     ghost invariant = { λ r. HaveRoom r.cells (map (λ v. vec_capacity v) r.values.items) };
 }
 
+// The values that these words of cells show, one pair of words for each, in room that is reserved.
+fn fill(report: &mut Vec<Value>, cells: usize, values: &[u64], kinds: &[u64])
+    requires room { cells ≤ vec_capacity report.old }
+    requires values { length values.now ≡ cells }
+    requires kinds { length kinds.now ≡ cells }
+    ensures items { report.new.items ≡ values_of cells (noted values.now) (noted kinds.now) }
+    ensures capacity { vec_capacity report.new ≡ vec_capacity report.old }
+{
+    report.clear();
+    for cell in 0..cells {
+        let stored = Stored::read(values[cell], kinds[cell], cells);
+        report.push_reserved(shown::shown(stored));
+    }
+}
+
 impl Reports {
-    ghost use Rattle.ds_state.specs.Reports.{no_reports};
+    ghost use Rattle.ds_state.specs.Reports.{no_reports, with_report};
 
     /// No report of any of so many processes, with room for so many cells each. An error is a want
     /// of memory.
@@ -38,6 +59,17 @@ impl Reports {
             values.push(Vec::with_capacity(alloc, cells)?)?;
         }
         Ok(Reports { cells, values })
+    }
+
+    /// Keeps the values that these words show, cell by cell, as those of a process's last settled
+    /// report, in place of the one before. No memory is taken.
+    pub fn keep(&mut self, process: usize, values: &[u64], kinds: &[u64])
+        requires process { process < length self.old.values }
+        requires values { length values.now ≡ self.old.cells }
+        requires kinds { length kinds.now ≡ self.old.cells }
+        ensures { self.new ≡ with_report self.old process (values_of self.old.cells (noted values.now) (noted kinds.now)) }
+    {
+        fill(&mut self.values[process], self.cells, values, kinds);
     }
 
     /// The values of a process's last settled report, row by row from the left; none where it has

@@ -73,7 +73,8 @@ pub fn are_clean<W: SheetReader>(words: &W) -> bool
     true
 }
 
-fn shown(stored: Stored) -> Value
+/// What the words of a cell show, as they were read.
+pub fn shown(stored: Stored) -> Value
     ensures { result ≡ shown_of stored }
 {
     match stored.kind {

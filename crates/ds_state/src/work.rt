@@ -282,7 +282,7 @@ pub enum ShowStage {
     Answer(ShowEnd),
 }
 
-/// A report under way.
+/// A report under way. It has room for all that it notes, and its stage is one of its sheet.
 #[derive(Debug, Drop)]
 pub struct ShowCall {
     /// The process that runs it.
@@ -306,7 +306,9 @@ pub struct ShowCall {
 }
 
 impl Model for ShowCall {
+    ghost use Rattle.std.specs.Prelude.{vec_capacity};
     ghost use Rattle.ds_state.specs.Works.{PlainShow};
+    ghost use Rattle.ds_state.specs.ShowStages.{IsReady};
 
     ghost Value = { PlainShow };
 
@@ -321,4 +323,16 @@ impl Model for ShowCall {
       kinds = a.kinds.items;
       stage = a.stage;
     } };
+
+    ghost invariant = { λ a. IsReady (record {
+      process = a.process;
+      next = a.next;
+      cells = a.cells;
+      processes = a.processes;
+      announcements = a.announcements.items;
+      marks = a.marks.items;
+      values = a.values.items;
+      kinds = a.kinds.items;
+      stage = a.stage;
+    }) (vec_capacity a.announcements) (vec_capacity a.marks) (vec_capacity a.values) (vec_capacity a.kinds) };
 }

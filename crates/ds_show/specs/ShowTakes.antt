@@ -1,0 +1,42 @@
+-- What a step of a report makes of a world, with what the world counts and keeps of reports.
+use Rattle.std.specs.Prelude.{ℕ, ◌≡◌, ◌<◌, ◌+◌, Option, Some, None}
+use Rattle.ds_state.specs.Works.{PlainShow}
+use Rattle.ds_state.specs.Value.{WorldValue, world_of}
+use Rattle.ds_state.specs.Reports.{PlainReports, with_report}
+use Rattle.ds_state.specs.declared.work.ShowEnd.TheVariants.{Settled}
+use Rattle.ds_state.specs.declared.situation.Situation.TheVariants.{Showing}
+use Rattle.ds_show.specs.declared.machine.Effect.{Effect}
+use Rattle.ds_show.specs.declared.machine.Effect.TheVariants.{Answers}
+use Rattle.ds_show.specs.ShowSteps.{Steps, answered, effect_at}
+
+-- how many reports are answered Settled by it
+abbrev pub settled_by : Effect → ℕ
+settled_by (Answers Settled) = 1
+settled_by _ = 0
+
+-- the values of a settled report are the process's last ones
+abbrev pub reports_by : PlainReports → PlainShow → Effect → PlainReports
+reports_by r e (Answers Settled) = with_report r e.process (answered e)
+reports_by r e _ = r
+
+-- the process makes a step of its report
+pub record StepsBy (old : WorldValue) (p : ℕ) (what : Effect) (new : WorldValue) : Type 0 where
+  pub there : p < old.sheet.layout.processes
+  pub show : PlainShow
+  pub mine : show.process ≡ p
+  pub at : (world_of old).situation p ≡ Showing show
+  pub word : ℕ
+  pub steps : Steps show word (world_of old) (world_of new)
+  pub is : what ≡ effect_at show.stage
+  pub done : new.done ≡ old.done
+  pub settled : new.settled ≡ old.settled + settled_by what
+  pub reports : new.reports ≡ reports_by old.reports show what
+
+-- the process has no report under way, or the sheet has no such process
+pub record CanNotStep (old : WorldValue) (p : ℕ) (new : WorldValue) : Type 0 where
+  pub same : new ≡ old
+  pub none : (show : PlainShow) → p < old.sheet.layout.processes → (world_of old).situation p ≡ Showing show → ⊥
+
+abbrev pub StepTakes : WorldValue → ℕ → Option Effect → WorldValue → Type 0
+StepTakes old p None new = CanNotStep old p new
+StepTakes old p (Some what) new = StepsBy old p what new
