@@ -1,5 +1,5 @@
 -- A crash, and a stop, from world to world.
-use Rattle.std.specs.Prelude.{ℕ, ◌≡◌, ◌≢◌, ◌+◌, ◌*◌, ◌%◌, ◌==◌, ◌&&◌, Bool, true, false, List, filter, if◌then◌else◌}
+use Rattle.std.specs.Prelude.{ℕ, ◌≡◌, ◌≢◌, ◌<◌, ◌+◌, ◌*◌, ◌%◌, ◌==◌, ◌&&◌, Bool, true, false, List, filter, if◌then◌else◌}
 use Rattle.ds_words.specs.Memory.{Memory, Crashes, StopsAt}
 use Rattle.ds_layout.specs.declared.place.Place.{Place}
 use Rattle.ds_layout.specs.declared.place.Place.TheVariants as place
@@ -18,7 +18,7 @@ survivors m edits = filter (λ e. if is_lost m e then false else true) edits
 pub record CrashesTo (old new : World) : Type 0 where
   pub layout : new.layout ≡ old.layout
   pub memory : Crashes old.memory new.memory
-  pub situation : (q : ℕ) → new.situation q ≡ Stopped
+  pub situation : (q : ℕ) → q < old.layout.processes → new.situation q ≡ Stopped
   pub counted : new.counted ≡ survivors old.memory old.counted
   pub pending : (q : ℕ) → new.pending q ≡ old.pending q
 
