@@ -17,7 +17,7 @@ pub mod Spent
 pub mod Fresh
 pub mod Events
 pub mod Crashes
-pub mod WorkSteps
+pub mod Telling
 pub mod ShowSteps
 pub mod ShowRuns
 pub mod ShowSolo

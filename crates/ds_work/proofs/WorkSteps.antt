@@ -14,6 +14,7 @@ use Rattle.ds_layout.specs.declared.place.Place.{Place}
 use Rattle.ds_layout.specs.Bits.{HasBit}
 use Rattle.ds_layout.specs.declared.place.Place.TheVariants.{Mark, Value, Kind, Head, Index}
 use Rattle.ds_layout.specs.declared.layout.Layout.{Layout}
+use Rattle.ds_state.specs.Telling.{let_go}
 use Rattle.ds_state.specs.Works.{PlainWork}
 use Rattle.ds_state.specs.World.{World}
 use Rattle.ds_state.specs.Owing.{entry, turn, IsClean, IsEven, IsHeldBy, IsHeld, IsBelowBuffered, SpreadOwes, WorkOwes, RecoveryOwes, Owes, CellOwes, EditOwes, RecoveryExcuses, Excuses, IsExcused, IsIndexed}
@@ -31,11 +32,8 @@ use Rattle.ds_state.specs.declared.work.RecoverStage.TheVariants as recoveries
 use Rattle.ds_state.specs.declared.situation.Situation.{Situation}
 use Rattle.ds_state.specs.declared.situation.Situation.TheVariants.{Idle, Stopped, Editing, Working, Recovering, Showing}
 use Rattle.ds_state.proofs.Frames.{Moves, each_moved, one_holder, clean_free}
+use Rattle.ds_state.proofs.Telling.{durable_same, matters_most, odd_above}
 use Rattle.ds_state.proofs.Bearing.{Buffered, Mine, MyMarks, text_same, stored_marks, all_stand, durable_most, durable_least, cell_owes_lasts, excused_lasts}
-
--- the mark that follows a held one
-abbrev pub let_go : ℕ → ℕ
-let_go mark = (mark / 32 + 1) * 32
 
 abbrev pub on : PlainWork → WorkStage → PlainWork
 on e s = record e { stage = s }
@@ -111,17 +109,6 @@ module _ (w : World) (h : ℕ) (c x y : ℕ) (is : x ≡ w.memory.cached (Mark c
 no_place : (a c : ℕ) → ((Mark a ≡ Value c) ⊎ (Mark a ≡ Kind c)) → ⊥
 no_place a c (inl e) = cc
 no_place a c (inr e) = cc
-
--- a store changes no durable mark
-pub durable_same : (old new : World) (c x : ℕ) → new.layout ≡ old.layout → new.memory.persisted (Mark c) ≡ old.memory.persisted (Mark c) → ((q : ℕ) → new.memory.buffer q ≡ old.memory.buffer q)
-    → IsDurable new c x → IsDurable old c x
-durable_same old new c x layout same buffers (inl is) = inl (is ∙ same)
-durable_same old new c x layout same buffers (inr d) = inr (record {
-  by = d.by;
-  process = (let l = ap (λ (y : Layout). y.processes) layout in let k = d.process in omega arith);
-  there = subst (λ (b : List (Entry Place)). Contains b (entry (Mark c) x)) (buffers d.by) d.there;
-  no_older = (let k = d.no_older in omega arith);
-})
 
 -- the clear: what was noted becomes what the clean mark says
 module _ (p : ℕ) (e : PlainWork) (changed : Bool) (old new : World) (sound : IsSound old) (buffered : Buffered old)
@@ -292,24 +279,12 @@ module _ (p : ℕ) (cell n : ℕ) (old new : World) (store : StoresAt (Mark cell
   pub mark_marks : MyMarks p (Mark cell) old new moves
   mark_marks = stored_marks p (Mark cell) old new moves (λ c at clean. absurd (let same : cell ≡ c = cc in unclean (subst (λ (x : ℕ). IsClean x) (ap (λ (y : ℕ). new.memory.cached (Mark y)) (sym same) ∙ store.there) clean))) store.persisted store.buffer
 
--- what matters is no greater than the cached mark
-pub matters_most : (p cell n : ℕ) (old new : World) → (store : StoresAt (Mark cell) n old.memory new.memory) → (moves : Moves p (Mark cell) old new)
-    → IsSound old → Buffered old → (c x : ℕ) → Matters new c x → x ≤ new.memory.cached (Mark c)
-matters_most p cell n old new store moves sound buffered c x (even, inl is) = omega arith
-matters_most p cell n old new store moves sound buffered c x (even, inr d) =
-    let most = durable_most old c x sound buffered (durable_same old new c x moves.layout (store.persisted (Mark c)) store.buffer d) in
-    let grows = (each_moved p (Mark cell) old new moves (Mark c)).cached in
-    omega arith
-
 -- the claim: nothing is owed yet
 pub claim_mine : (p : ℕ) (e e' : PlainWork) (n : ℕ) (old new : World) → old.situation p ≡ Working (on e works.Claim) → IsHeldBy p n
     → (store : StoresAt (Mark e.cell) n old.memory new.memory) → (moves : Moves p (Mark e.cell) old new) → Mine p (Mark e.cell) old new moves
 claim_mine p e e' n old new was by store moves = mark_mine p e.cell n old new store moves (λ clean. clean_free n p clean by)
     (λ r c x bit matters held o. absurd (subst (λ (t : Situation). Owes old.memory p t r c x) was o).1)
     (λ l c x matters o. absurd (subst (λ (t : Situation). Excuses old p t c x) was o))
-
-pub odd_above : (x n : ℕ) → x % 2 ≡ 0 → n % 2 ≡ 1 → x ≤ n → x < n
-odd_above x n a b c = omega arith
 
 -- the `or` that tells a cell: every mark of it that matters is below
 module _ (p : ℕ) (e : PlainWork) (d n : ℕ) (old new : World) (sound : IsSound old) (buffered : Buffered old)
@@ -333,10 +308,13 @@ module _ (p : ℕ) (e : PlainWork) (d n : ℕ) (old new : World) (sound : IsSoun
       let k : Owes old.memory p (Working (on e (works.Telling (OrTold d)))) r c x = subst (λ (t : Situation). Owes old.memory p t r c x) was o in
       let now : (d < c) ⊎ ((d ≡ c) × (x < new.memory.cached (Mark c))) = elim (cases_eq d c) [
         | inr ne ↦ inl (let l = k.1.1 in omega arith)
-        | inl eq ↦ inr (eq, (
-            let most = matters_most p d n old new store moves sound buffered c x matters in
-            let there : new.memory.cached (Mark c) ≡ n = ap (λ (y : ℕ). new.memory.cached (Mark y)) (sym eq) ∙ store.there in
-            odd_above x (new.memory.cached (Mark c)) matters.0 (omega arith) most))
+        | inl eq ↦ inr (
+          eq,
+          (
+              let most = matters_most p d n old new store moves sound buffered c x matters in
+              let there : new.memory.cached (Mark c) ≡ n = ap (λ (y : ℕ). new.memory.cached (Mark y)) (sym eq) ∙ store.there in
+              odd_above x (new.memory.cached (Mark c)) matters.0 (omega arith) most),
+        )
       ] in
       record { holder = p; held = holds_new r held; still = subst (λ (t : Situation). Owes new.memory p t r c x) (sym is) (k.0, (k.1.0, now)) }
 
@@ -365,60 +343,3 @@ module _ (p : ℕ) (e e' : PlainWork) (spread spread' : Spread) (place : Place) 
     cached_heads = λ c at. absurd (no_head c at);
     persisted_heads = λ c at. absurd (no_head c at);
   }
-
--- a part of the row is loaded: a cell whose bit is not there is owed nothing
-pub row_passes : (p : ℕ) (row : List ℕ) (cell part word : ℕ) (old new : World) → length row ≡ part → word ≡ old.memory.cached (Index cell part)
-    → (c x : ℕ) → IsIndexed old cell c → SpreadOwes old.memory p row (LoadRow part) c x → SpreadOwes new.memory p (row ++ word ∷ []) (LoadRow (part + 1)) c x
-row_passes p row cell part word old new size seen c x bit o = elim (cases_eq (c / 64) part) [
-  | inl here ↦ inr (rw (here, slice_push row part word size) (subst (λ (y : ℕ). HasBit y c) (ap (λ (y : ℕ). old.memory.cached (Index cell y)) here ∙ sym seen) bit.2))
-  | inr ne ↦ elim o [
-    | inl later ↦ inl (omega arith)
-    | inr there ↦ elim (lt_or (c / 64) part) [
-      | inl before ↦ inr (rw (slice_front row (c / 64) word (omega arith)) there)
-      | inr after ↦ inl (omega arith)
-    ]
-  ]
-]
-  where
-    slice_push : (xs : List ℕ) (k v : ℕ) → length xs ≡ k → slice_index_or (xs ++ v ∷ []) k 0 ≡ v
-    slice_push [] zero v size = refl
-    slice_push [] (suc k) v size = absurd (omega arith)
-    slice_push (y ∷ xs) zero v size = absurd (omega arith)
-    slice_push (y ∷ xs) (suc k) v size = slice_push xs k v (omega arith)
-
-    slice_front : (xs : List ℕ) (k v : ℕ) → k < length xs → slice_index_or (xs ++ v ∷ []) k 0 ≡ slice_index_or xs k 0
-    slice_front [] k v lt = absurd (omega arith)
-    slice_front (y ∷ xs) zero v lt = refl
-    slice_front (y ∷ xs) (suc k) v lt = slice_front xs k v (omega arith)
-
-    lt_or : (a b : ℕ) → (a < b) ⊎ (b ≤ a)
-    lt_or a b = grind arith
-
--- it is flushed: a mark below the buffered one is below the cached one
-pub flush_passes : (p : ℕ) (row : List ℕ) (d : ℕ) (old new : World) → new.memory.buffer p ≡ entry (Mark d) (old.memory.cached (Mark d)) ∷ []
-    → (c x : ℕ) → SpreadOwes old.memory p row (FlushTold d) c x → SpreadOwes new.memory p row (BackTold d) c x
-flush_passes p row d old new alone c x (bit, inl lt) = (bit, inl lt)
-flush_passes p row d old new alone c x (bit, inr o) = (bit, inr (o.0, record {
-  value = old.memory.cached (Mark d);
-  alone = alone ∙ ap (λ (y : ℕ). entry (Mark y) (old.memory.cached (Mark d)) ∷ []) o.0;
-  below = (let e = ap (λ (y : ℕ). old.memory.cached (Mark y)) o.0 in let l = o.1 in omega arith);
-}))
-
--- it is written back: nothing below that matters any more
-pub back_passes : (p : ℕ) (row : List ℕ) (d d' v : ℕ) (old new : World) → old.memory.buffer p ≡ entry (Mark d) v ∷ [] → v ≤ new.memory.persisted (Mark d) → new.memory.persisted (Mark d) ≤ new.memory.cached (Mark d)
-    → ((c : ℕ) → d < c → HasBit (slice_index_or row (c / 64) 0) c → d' ≤ c)
-    → (c x : ℕ) → Matters new c x → SpreadOwes old.memory p row (BackTold d) c x → SpreadOwes new.memory p row (OrTold d') c x
-back_passes p row d d' v old new alone enough behind next c x matters (bit, inl lt) = (bit, next c lt bit)
-back_passes p row d d' v old new alone enough behind next c x matters (bit, inr o) = absurd (gone o.0 o.1)
-  where
-    gone : d ≡ c → IsBelowBuffered old.memory p c x → ⊥
-    gone at k =
-        let both : entry (Mark d) v ∷ [] ≡ entry (Mark c) k.value ∷ [] = sym alone ∙ k.alone in
-        let value : v ≡ k.value = ap (λ (y : Entry Place). y.value) (let one : entry (Mark d) v ≡ entry (Mark c) k.value = cc in one) in
-        let l = k.below in
-        let p1 = ap (λ (y : ℕ). new.memory.persisted (Mark y)) at in
-        let c1 = ap (λ (y : ℕ). new.memory.cached (Mark y)) at in
-        elim matters.1 [
-          | inl is ↦ omega arith
-          | inr durable ↦ (let least = durable_least new c x durable in omega arith)
-        ]

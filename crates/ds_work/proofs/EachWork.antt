@@ -10,7 +10,7 @@ use Rattle.ds_state.specs.Works.{PlainWork}
 use Rattle.ds_state.specs.World.{Edit, World}
 use Rattle.ds_state.specs.Calls.{CallFits}
 use Rattle.ds_state.specs.KnownWork.{WorkFits}
-use Rattle.ds_state.specs.WorkSteps.{at, HasTexts, StepsAt, BeginsWork, ReadsAt, LacksAt, OffersAt}
+use Rattle.ds_work.specs.WorkSteps.{at, StepsAt, BeginsWork, ReadsAt, LacksAt, OffersAt}
 use Rattle.ds_state.specs.Rely.{Keeps}
 use Rattle.ds_state.specs.Sound.{IsSound}
 use Rattle.ds_state.specs.declared.work.WorkStage.{WorkStage}
@@ -18,35 +18,35 @@ use Rattle.ds_state.specs.declared.work.WorkStage.TheVariants.{LoadMark, Claim, 
 use Rattle.ds_state.specs.declared.work.Spread.TheVariants.{LoadRow, OrTold, FlushTold, BackTold}
 use Rattle.ds_state.specs.declared.situation.Situation.{Situation}
 use Rattle.ds_state.specs.declared.situation.Situation.TheVariants.{Working}
-use Rattle.ds_state.proofs.WorkClaims.{load_mark, claim, flush_claim, back_claim}
-use Rattle.ds_state.proofs.WorkLoads.{load_head, load_header, load_text, read, load_value, load_kind}
-use Rattle.ds_state.proofs.WorkOwn.{load_own_value, load_own_kind, wait, store_value, store_kind, flush_value, flush_kind, back_value, back_kind}
-use Rattle.ds_state.proofs.WorkTells.{load_row, or_told, flush_told, back_told}
-use Rattle.ds_state.proofs.WorkEnds.{clear, clear_dirty, give, give_dirty, flush_cleared, back_cleared, answer}
-use Rattle.ds_state.proofs.WholeSteps.{begin_work_keeps}
-use Rattle.ds_state.proofs.WorkRead.{read_keeps, lacks_keeps, offers_keep}
+use Rattle.ds_work.proofs.WorkClaims.{load_mark, claim, flush_claim, back_claim}
+use Rattle.ds_work.proofs.WorkLoads.{load_head, load_header, load_text, load_value, load_kind}
+use Rattle.ds_work.proofs.WorkOwn.{load_own_value, load_own_kind, store_value, store_kind, flush_value, flush_kind, back_value, back_kind}
+use Rattle.ds_work.proofs.WorkTells.{load_row, or_told, flush_told, back_told}
+use Rattle.ds_work.proofs.WorkEnds.{clear, clear_dirty, give, give_dirty, flush_cleared, back_cleared, answer}
+use Rattle.ds_work.proofs.WholeSteps.{begin_work_keeps}
+use Rattle.ds_work.proofs.WorkRead.{read_keeps, lacks_keeps, offers_keep}
 
 pub fits_at : (e : PlainWork) (s : WorkStage) (w : World) → IsSound w → e.process < w.layout.processes → w.situation e.process ≡ Working (at e s) → WorkFits w e.process (at e s)
 fits_at e s w sound real was = subst (λ (x : Situation). CallFits w e.process x) was (sound.calls e.process real)
 
-pub text_of : (w : World) → HasTexts w → (by : Edit) → Contains w.counted by → IsText by.text
-text_of w texts by (k, l, is) = subst (λ (e : Edit). IsText e.text) is (texts k by l)
+pub text_of : (w : World) → IsSound w → (by : Edit) → Contains w.counted by → IsText by.text
+text_of w sound by (k, l, is) = subst (λ (e : Edit). IsText e.text) is (sound.of_sheet k by l).text
 
-module _ (e : PlainWork) (word : ℕ) (old new : World) (sound : IsSound old) (texts : HasTexts old) (real : e.process < old.layout.processes) where
+module _ (e : PlainWork) (word : ℕ) (old new : World) (sound : IsSound old) (real : e.process < old.layout.processes) where
   each : (s : WorkStage) → old.situation e.process ≡ Working (at e s) → WorkFits old e.process (at e s) → StepsAt e s word old new → Keeps e.process old new
   each LoadMark was fits t = load_mark e word old new sound real fits was t
   each Claim was fits t = claim e word old new sound real fits was t
   each FlushClaim was fits t = flush_claim e word old new sound real fits was t
   each BackClaim was fits t = back_claim e word old new sound real fits was t
   each LoadHead was fits t = load_head e word old new sound real fits was t
-  each LoadHeader was fits t = load_header e word old new sound real (text_of old texts) fits was t
-  each (LoadText part) was fits t = load_text e word old new sound real (text_of old texts) part fits was t
-  each Read was fits t = read e word old new sound real fits was t
+  each LoadHeader was fits t = load_header e word old new sound real (text_of old sound) fits was t
+  each (LoadText part) was fits t = load_text e word old new sound real (text_of old sound) part fits was t
+  each Read was fits t = absurd t.plain
   each (LoadValue i) was fits t = load_value e word old new sound real i fits was t
   each (LoadKind i value) was fits t = load_kind e word old new sound real i value fits was t
   each LoadOwnValue was fits t = load_own_value e word old new sound real fits was t
   each LoadOwnKind was fits t = load_own_kind e word old new sound real fits was t
-  each Wait was fits t = wait e word old new sound real fits was t
+  each Wait was fits t = absurd t.plain
   each StoreValue was fits t = store_value e word old new sound real fits was t
   each StoreKind was fits t = store_kind e word old new sound real fits was t
   each FlushValue was fits t = flush_value e word old new sound real fits was t
@@ -65,9 +65,9 @@ module _ (e : PlainWork) (word : ℕ) (old new : World) (sound : IsSound old) (t
   each (BackCleared end) was fits t = back_cleared e word old new sound real end fits was t
   each (Answer end) was fits t = answer e word old new sound real end fits was t
 
-pub work_steps_keep : (e : PlainWork) (stage : WorkStage) (word : ℕ) (old new : World) → IsSound old → HasTexts old → e.process < old.layout.processes
+pub work_steps_keep : (e : PlainWork) (stage : WorkStage) (word : ℕ) (old new : World) → IsSound old → e.process < old.layout.processes
     → old.situation e.process ≡ Working (at e stage) → StepsAt e stage word old new → Keeps e.process old new
-work_steps_keep e stage word old new sound texts real was t = each e word old new sound texts real stage was (fits_at e stage old sound real was) t
+work_steps_keep e stage word old new sound real was t = each e word old new sound real stage was (fits_at e stage old sound real was) t
 
 pub reads_keep : (e : PlainWork) (content : Plain) (inputs : List Input) (old new : World) → IsSound old → e.process < old.layout.processes
     → old.situation e.process ≡ Working (at e Read) → ReadsAt e content inputs old new → Keeps e.process old new

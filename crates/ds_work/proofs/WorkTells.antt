@@ -14,7 +14,8 @@ use Rattle.ds_state.specs.Works.{PlainWork}
 use Rattle.ds_state.specs.World.{World}
 use Rattle.ds_state.specs.Owing.{entry, IsHeld, IsIndexed, StandsIn, SpreadOwes}
 use Rattle.ds_state.specs.KnownWork.{WorkFits, work_known}
-use Rattle.ds_state.specs.WorkSteps.{StepsAt, told_from, told, tell_from}
+use Rattle.ds_state.specs.Telling.{told_from}
+use Rattle.ds_work.specs.WorkSteps.{StepsAt, told, tell_from}
 use Rattle.ds_state.specs.Rely.{IsOwnedBy, KeepsHold, Grows, Keeps}
 use Rattle.ds_state.specs.Sound.{IsSound}
 use Rattle.ds_state.specs.declared.work.WorkStage.{WorkStage}
@@ -26,27 +27,10 @@ use Rattle.ds_state.proofs.Dirty.{or_dirty, or_moves, or_mark_fits}
 use Rattle.ds_state.proofs.Buffers.{buffered}
 use Rattle.ds_state.proofs.Accesses.{Turn}
 use Rattle.ds_state.proofs.StableWork.{knows_stable, held_or_none}
-use Rattle.ds_state.proofs.WorkSteps.{on, mark_marks, told_mine, row_passes, flush_passes, back_passes}
-use Rattle.ds_state.proofs.WorkClaims.{back_first}
-use Rattle.ds_state.proofs.WorkFrame as frame
-
--- the first cell that is told
-ToldFits : List ℕ → ℕ → ℕ → Option ℕ → Type 0
-ToldFits row n d (Some k) = (d ≤ k) × (k < d + n) × ((c : ℕ) → d ≤ c → StandsIn row c → k ≤ c)
-ToldFits row n d None = (c : ℕ) → d ≤ c → c < d + n → StandsIn row c → ⊥
-
-first_told : (row : List ℕ) (n d : ℕ) → ToldFits row n d (told_from row n d)
-unfolding ToldFits
-first_told row zero d = λ c l m h. omega arith
-first_told row (suc n) d = go (bit_at (slice_index_or row (d / 64) 0) (d % 64) == 1) (eqb-false (bit_at (slice_index_or row (d / 64) 0) (d % 64)) 1) (told_from row n (d + 1)) (first_told row n (d + 1))
-  where
-    go : (b : Bool) → (b ≡ false → bit_at (slice_index_or row (d / 64) 0) (d % 64) ≡ 1 → ⊥) → (o : Option ℕ) → ToldFits row n (d + 1) o → ToldFits row (suc n) d (if b then Some d else o)
-    go true unset o h = (omega arith, omega arith, λ c l s. l)
-    go false unset (Some k) h = (let l = h.0 in omega arith, let l = h.1 in omega arith, λ c l s. elim (cases_eq c d) [ inl eq ↦ absurd (unset refl (subst (λ (y : ℕ). StandsIn row y) eq s)) | inr ne ↦ h.2 c (omega arith) s ])
-    go false unset None h = λ c l m s. elim (cases_eq c d) [ inl eq ↦ unset refl (subst (λ (y : ℕ). StandsIn row y) eq s) | inr ne ↦ h c (omega arith) (omega arith) s ]
-
-or_hold : (q c v : ℕ) → KeepsHold q c v (bit_or c DIRTY) v
-or_hold q c v = let is = or_dirty c in record { cached = λ h. omega arith; persisted = λ h k. k; came = λ h. omega arith }
+use Rattle.ds_state.proofs.Telling.{ToldFits, first_told, or_hold, row_passes, flush_passes, back_passes}
+use Rattle.ds_work.proofs.WorkSteps.{on, mark_marks, told_mine}
+use Rattle.ds_work.proofs.WorkClaims.{back_first}
+use Rattle.ds_work.proofs.WorkFrame as frame
 
 module _ (e : PlainWork) (word : ℕ) (old new : World) (sound : IsSound old) (real : e.process < old.layout.processes) where
   turn_of : (s : WorkStage) → StepsAt e s word old new → Turn e.process old new
@@ -56,7 +40,6 @@ module _ (e : PlainWork) (word : ℕ) (old new : World) (sound : IsSound old) (r
   indexed_below same c bit = let l = bit.1 in omega arith
 
   pub load_row : (part : ℕ) → WorkFits old e.process (on e (works.Telling (LoadRow part))) → old.situation e.process ≡ Working (on e (works.Telling (LoadRow part))) → StepsAt e (works.Telling (LoadRow part)) word old new → Keeps e.process old new
-  unfolding ToldFits
   load_row part fits was t = go (nat_lt (part + 1) ((e.cells + 63) / 64)) refl
     where
       pushed : (xs : List ℕ) (v : ℕ) → length (xs ++ v ∷ []) ≡ length xs + 1
@@ -133,7 +116,6 @@ module _ (e : PlainWork) (word : ℕ) (old new : World) (sound : IsSound old) (r
   max_most a b c p q = omega arith
 
   pub back_told : (d : ℕ) → WorkFits old e.process (on e (works.Telling (BackTold d))) → old.situation e.process ≡ Working (on e (works.Telling (BackTold d))) → StepsAt e (works.Telling (BackTold d)) word old new → Keeps e.process old new
-  unfolding ToldFits
   back_told d fits was t = tells (told_from e.row (e.cells - (d + 1)) (d + 1)) (first_told e.row (e.cells - (d + 1)) (d + 1)) t.situation
     where
       m : WritesBack e.process (entry (Mark d) fits.buffer.value) [] old.memory new.memory

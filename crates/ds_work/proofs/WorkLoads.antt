@@ -25,7 +25,7 @@ use Rattle.ds_state.specs.World.{Edit, World, of_cell, head_after_all, IsHeadBy}
 use Rattle.ds_state.specs.Owing.{IsIndexed, CellOwes}
 use Rattle.ds_state.specs.Standing.{cached_side, entry_on, shown_entry}
 use Rattle.ds_state.specs.KnownWork.{WorkFits, ReadsPart, EntryStands, WordStands, Gathers, row_of}
-use Rattle.ds_state.specs.WorkSteps.{StepsAt, head_from, header_from, text_from}
+use Rattle.ds_work.specs.WorkSteps.{StepsAt, head_from, header_from, text_from}
 use Rattle.ds_state.specs.Rely.{Keeps}
 use Rattle.ds_state.specs.Sound.{IsSound, IsOfSheet}
 use Rattle.ds_state.specs.declared.work.WorkStage.{WorkStage}
@@ -36,8 +36,8 @@ use Rattle.ds_state.proofs.Heads.{by_last}
 use Rattle.ds_state.proofs.Noted.{last_cases, head_reads, of_sheet_middle}
 use Rattle.ds_state.proofs.Found.{gave_counts}
 use Rattle.ds_state.proofs.ReadBack.{next_part}
-use Rattle.ds_state.proofs.WorkSteps.{on}
-use Rattle.ds_state.proofs.WorkFrame as frame
+use Rattle.ds_work.proofs.WorkSteps.{on}
+use Rattle.ds_work.proofs.WorkFrame as frame
 
 nothing_head : head_after_all [] ≡ 0
 unfolding head_after_all
@@ -185,10 +185,6 @@ module _ (e : PlainWork) (word : ℕ) (old new : World) (sound : IsSound old) (r
             (turn_of _ t) (t.pending e.process) fits tt t.memory.1
             (λ c x bit matters o. absurd o) (λ o. absurd o)
             (λ k. record { hold = k.hold; loaded = (k.loaded.0, inr (record { by = by; gave = rw t.counted gave; text = text ∙ take_all (8 * (part + 1)) by.text (omega arith) })); own = tt; evaluated = tt }) (λ h. h)
-
-  pub read : WorkFits old e.process (on e works.Read) → old.situation e.process ≡ Working (on e works.Read) → StepsAt e works.Read word old new → Keeps e.process old new
-  read fits was t = frame.loads e works.Read (on e works.Read) old new sound real was t.situation (turn_of _ t) (t.pending e.process) fits tt t.memory.1
-      (λ c x bit matters o. absurd o) (λ o. absurd o) (λ k. k) (λ h. h)
 
   -- ---- what the references show
 

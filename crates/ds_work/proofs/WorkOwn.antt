@@ -14,7 +14,7 @@ use Rattle.ds_state.specs.World.{World}
 use Rattle.ds_state.specs.Owing.{entry, IsHeld, IsApart, Parts}
 use Rattle.ds_state.specs.Standing.{value_for, word_for}
 use Rattle.ds_state.specs.KnownWork.{StageFits, WorkFits, value_entry, kind_entry}
-use Rattle.ds_state.specs.WorkSteps.{StepsAt, offered}
+use Rattle.ds_work.specs.WorkSteps.{StepsAt, offered}
 use Rattle.ds_state.specs.Rely.{Keeps}
 use Rattle.ds_state.specs.Sound.{IsSound}
 use Rattle.ds_state.specs.declared.work.WorkStage.{WorkStage}
@@ -26,10 +26,10 @@ use Rattle.ds_state.proofs.Frames.{one_holder}
 use Rattle.ds_state.proofs.Accesses.{Turn}
 use Rattle.ds_state.proofs.Bearing.{stored_marks}
 use Rattle.ds_state.proofs.StableWork.{held_stable, inputs_stable}
-use Rattle.ds_state.proofs.WorkSteps.{on, held_both, store_kind_mine}
-use Rattle.ds_state.proofs.WholeSteps.{store_keeps}
-use Rattle.ds_state.proofs.WorkClaims.{back_first}
-use Rattle.ds_state.proofs.WorkFrame as frame
+use Rattle.ds_work.proofs.WorkSteps.{on, held_both, store_kind_mine}
+use Rattle.ds_work.proofs.WholeSteps.{store_keeps}
+use Rattle.ds_work.proofs.WorkClaims.{back_first}
+use Rattle.ds_work.proofs.WorkFrame as frame
 
 own_value : (a c : ℕ) → (Value a ≡ Value c) ⊎ (Value a ≡ Kind c) → a ≡ c
 own_value a c (inl e) = cc
@@ -54,10 +54,6 @@ module _ (e : PlainWork) (word : ℕ) (old new : World) (sound : IsSound old) (r
   load_own_kind fits was t = frame.loads e works.LoadOwnKind (record e { kind = word; stage = works.Wait }) old new sound real was t.situation (turn_of _ t) (t.pending e.process) fits tt t.memory.1
       (λ c x bit matters o. absurd o) (λ o. absurd o)
       (λ k. record { hold = k.hold; loaded = k.loaded; own = (k.own, t.memory.1.cached (Kind e.cell) ∙ sym t.memory.0); evaluated = tt }) (λ h. h)
-
-  pub wait : WorkFits old e.process (on e works.Wait) → old.situation e.process ≡ Working (on e works.Wait) → StepsAt e works.Wait word old new → Keeps e.process old new
-  wait fits was t = frame.loads e works.Wait (on e works.Wait) old new sound real was t.situation (turn_of _ t) (t.pending e.process) fits tt t.memory.1
-      (λ c x bit matters o. absurd o) (λ o. absurd o) (λ k. k) (λ h. h)
 
   -- ---- the stores
 

@@ -12,7 +12,7 @@ use Rattle.ds_state.specs.World.{Edit, World, of_cell, IsHeadBy}
 use Rattle.ds_state.specs.Owing.{entry}
 use Rattle.ds_state.specs.Calls.{CallFits}
 use Rattle.ds_state.specs.KnownWork.{WorkFits, ReadsPart, value_entry, kind_entry}
-use Rattle.ds_state.specs.WorkSteps.{at, access_at, HasTexts}
+use Rattle.ds_work.specs.WorkSteps.{at, access_at}
 use Rattle.ds_state.specs.Sound.{IsSound, IsOfSheet}
 use Rattle.ds_state.specs.declared.work.WorkStage.{WorkStage}
 use Rattle.ds_state.specs.declared.work.WorkStage.TheVariants.{LoadMark, Claim, FlushClaim, BackClaim, LoadHead, LoadHeader, LoadText, Read, LoadValue, LoadKind, LoadOwnValue, LoadOwnKind, Wait, StoreValue, StoreKind, FlushValue, FlushKind, BackValue, BackKind, Telling, Clear, ClearDirty, Give, GiveDirty, FlushCleared, BackCleared, Answer}
@@ -21,9 +21,9 @@ use Rattle.ds_state.specs.declared.situation.Situation.{Situation}
 use Rattle.ds_state.specs.declared.situation.Situation.TheVariants.{Working}
 use Rattle.ds_state.proofs.Found.{gave_counts}
 use Rattle.ds_state.proofs.Noted.{of_sheet_middle}
-use Rattle.ds_state.proofs.EachWork.{text_of, fits_at}
+use Rattle.ds_work.proofs.EachWork.{text_of, fits_at}
 
-module _ (w : World) (e : PlainWork) (sound : IsSound w) (texts : HasTexts w) (real : e.process < w.layout.processes) where
+module _ (w : World) (e : PlainWork) (sound : IsSound w) (real : e.process < w.layout.processes) where
   inside : (s : WorkStage) → WorkFits w e.process (at e s) → e.cell < cells_of w.layout
   inside s fits = rw fits.cells fits.cell
 
@@ -52,7 +52,7 @@ module _ (w : World) (e : PlainWork) (sound : IsSound w) (texts : HasTexts w) (r
   named (LoadText part) fits =
       let r : ReadsPart w e.cell e.head e.length e.text part = fits.knows.loaded.1 in
       let h = header r.by r.gave in
-      let text : IsText r.by.text = text_of w texts r.by (gave_counts w e.cell e.head r.by r.gave) in
+      let text : IsText r.by.text = text_of w sound r.by (gave_counts w e.cell e.head r.by r.gave) in
       let short = text.short in
       let size = r.size in
       let within = fits.at in

@@ -26,22 +26,25 @@ use Rattle.ds_state.proofs.Lasting.{below_stable, last_stable}
 use Rattle.ds_state.specs.KnownWork.{HasHeld, HasInputs}
 use Rattle.ds_state.specs.Standing.{value_for}
 use Rattle.ds_state.proofs.Bearing.{text_same, stored_marks}
-use Rattle.ds_state.proofs.WorkSteps.{held_both}
+use Rattle.ds_work.proofs.WorkSteps.{held_both}
 use Rattle.ds_state.proofs.StableWork.{rest_stable, held_stable, inputs_stable}
 use Rattle.ds_state.proofs.Frames.{MovesWord, Moves, KeepsOwing, KeepsApart, grows_own, moves_sound, one_holder}
 use Rattle.ds_state.proofs.Bearing.{Buffered, bears, all_stand, splits_last, pends_last, marks_grow, apart_lasts}
 use Rattle.ds_state.proofs.Accesses.{Turn, store_moves, same_moves, quiet_sound}
 use Rattle.ds_state.proofs.Buffers.{buffered}
-use Rattle.ds_state.proofs.WorkSteps.{on, let_go, clear_mine, clear_stands, store_value_mine, store_marks}
+use Rattle.ds_state.specs.Telling.{let_go}
+use Rattle.ds_work.proofs.WorkSteps.{on, clear_mine, clear_stands, store_value_mine, store_marks}
 
 -- who works owes no head
 module _ (p : ℕ) (e : PlainWork) (place : Place) (old new : World) (moves : Moves p place old new) (was : old.situation p ≡ Working e) where
   pub keeps_heads : (cell : ℕ) → KeepsOwing old new cell
   keeps_heads cell f issue its is same before last_of owes = elim (cases_eq f.process p) [
     | inl eq ↦ absurd (none (subst (λ (s : Situation). Splits old p s f.cell (head_after_all (of_cell cell old.counted))) was (subst (λ (q : ℕ). Splits old q (old.situation q) f.cell (head_after_all (of_cell cell old.counted))) eq owes)))
-    | inr ne ↦ (moves.pendings f.process ne ∙ is,
+    | inr ne ↦ (
+      moves.pendings f.process ne ∙ is,
       subst (λ (s : Situation). Splits new f.process s f.cell (head_after_all (of_cell cell old.counted))) (sym (moves.situations f.process ne))
-      (splits_last old new f.process (λ c. marks_grow p place old new moves c) (moves.buffers f.process ne) (λ c k. pends_last p place old new moves f.process c ne k) (old.situation f.process) f.cell _ owes))
+          (splits_last old new f.process (λ c. marks_grow p place old new moves c) (moves.buffers f.process ne) (λ c k. pends_last p place old new moves f.process c ne k) (old.situation f.process) f.cell _ owes),
+    )
   ]
     where
       none : Splits old p (Working e) f.cell (head_after_all (of_cell cell old.counted)) → ⊥

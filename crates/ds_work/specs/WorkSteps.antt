@@ -1,4 +1,4 @@
--- The steps of work: what each stage does to the memory, and what comes then. (In the project: crate ds_work, specs/Steps.)
+-- The steps of work: what each stage does to the memory, and what comes then.
 use Rattle.std.specs.Prelude.{ℕ, ◌≡◌, ◌≢◌, ◌<◌, ◌+◌, ◌-◌, ◌*◌, ◌/◌, ◌%◌, ◌==◌, ◌&&◌, ◌^◌, nat_lt, if◌then◌else◌, List, [], ◌∷◌, ◌++◌, length, take, slice_index_or, Option, Some, None, Bool, true, false, zero, suc, map, All}
 use Rattle.std.specs.Int.{bit_at}
 use Rattle.ds_words.specs.Memory.{SameMemory}
@@ -28,8 +28,8 @@ use Rattle.ds_layout.specs.Mark.{mark_of, state_of}
 use Rattle.ds_layout.specs.Text.{bytes_of}
 use Rattle.ds_layout.specs.Sheet.{PerformsAt}
 use Rattle.ds_layout.specs.Places.{cells_of}
+use Rattle.ds_state.specs.Telling.{let_go, told_from}
 use Rattle.ds_state.specs.Works.{PlainWork}
-use Rattle.ds_state.specs.Text.{IsText}
 use Rattle.ds_state.specs.Standing.{shown_entry, value_for, word_for}
 use Rattle.ds_state.specs.World.{Edit, Issue, World}
 use Rattle.ds_state.specs.declared.situation.Situation.{Situation}
@@ -41,12 +41,9 @@ use Rattle.ds_state.specs.declared.work.WorkEnd.TheVariants.{NotDirty, Missed, W
 use Rattle.ds_state.specs.declared.work.WorkStage.{WorkStage}
 use Rattle.ds_state.specs.declared.work.WorkStage.TheVariants.{LoadMark, Claim, FlushClaim, BackClaim, LoadHead, LoadHeader, LoadText, Read, LoadValue, LoadKind, LoadOwnValue, LoadOwnKind, Wait, StoreValue, StoreKind, FlushValue, FlushKind, BackValue, BackKind, Telling, Clear, ClearDirty, Give, GiveDirty, FlushCleared, BackCleared, Answer}
 
--- the mark of a claim of a mark that is not held, and the marks that let a claim go
+-- the mark of a claim of a mark that is not held
 abbrev pub claim_of : ℕ → ℕ → ℕ
 claim_of process mark = (mark / 32 + 1) * 32 + (process + 1) * 2
-
-abbrev pub let_go : ℕ → ℕ
-let_go mark = (mark / 32 + 1) * 32
 
 abbrev pub parts_of : PlainWork → ℕ
 parts_of e = (e.cells + 63) / 64
@@ -57,11 +54,6 @@ text_parts e = (e.length + 7) / 8
 -- the cell of the input with this number
 abbrev pub input_place : Shape → PlainWork → ℕ → ℕ
 input_place shape e i = index_of shape (cell_in e.inputs i)
-
--- the first cell from this one on whose bit stands in the row, among so many
-abbrev pub told_from : List ℕ → ℕ → ℕ → Option ℕ
-told_from row zero d = None
-told_from row (suc more) d = if bit_at (slice_index_or row (d / 64) 0) (d % 64) == 1 then Some d else told_from row more (d + 1)
 
 abbrev pub spread_access : PlainWork → Spread → Access Place
 spread_access e (LoadRow part) = acts.Load (place.Index e.cell part)
@@ -138,7 +130,7 @@ spread_next e (OrTold d) word = at e (Telling (FlushTold d))
 spread_next e (FlushTold d) word = at e (Telling (BackTold d))
 spread_next e (BackTold d) word = tell_from e (d + 1)
 
--- the work after a stage whose access answered the word; reading and waiting end by what they are given
+-- the work after a stage whose access answered the word; reading and waiting end by what they are given, and stay till then
 abbrev pub next_at : PlainWork → WorkStage → ℕ → PlainWork
 next_at e LoadMark word = claims_from e word (state_of (mark_of e.processes word))
 next_at e Claim word = if word == e.mark then record e { mark = claim_of e.process e.mark; stage = FlushClaim } else at e (Answer Missed)
@@ -187,12 +179,15 @@ abbrev pub after : PlainWork → WorkStage → ℕ → Situation
 after e (Answer end) word = Idle e.next
 after e stage word = Working (next_at e stage word)
 
--- each edit that counts has a text that can be stored
-abbrev pub HasTexts : World → Type 0
-HasTexts w = All (λ e. IsText e.text) w.counted
+-- a stage that ends by its access alone: reading the content also takes memory, and waiting ends by an offer
+abbrev pub IsPlainStep : WorkStage → Type 0
+IsPlainStep Read = ⊥
+IsPlainStep Wait = ⊥
+IsPlainStep _ = Unit {0}
 
--- one step of the work at a stage, whose access answered the word: no edit comes to count
+-- one step of the work at such a stage, whose access answered the word: no edit comes to count
 pub record StepsAt (e : PlainWork) (stage : WorkStage) (word : ℕ) (old new : World) : Type 0 where
+  pub plain : IsPlainStep stage
   pub layout : new.layout ≡ old.layout
   pub memory : PerformsAt (access_at old.layout.shape e stage) e.process old.memory new.memory word
   pub situation : new.situation e.process ≡ after e stage word

@@ -14,7 +14,7 @@ use Rattle.ds_state.specs.Works.{PlainWork}
 use Rattle.ds_state.specs.World.{World}
 use Rattle.ds_state.specs.Owing.{entry, turn, IsHeldBy, IsHeld, IsMark}
 use Rattle.ds_state.specs.KnownWork.{BuffersClaim, WorkFits}
-use Rattle.ds_state.specs.WorkSteps.{claim_of, StepsAt, claims_from}
+use Rattle.ds_work.specs.WorkSteps.{claim_of, StepsAt, claims_from}
 use Rattle.ds_state.specs.Words.{MarkFits}
 use Rattle.ds_state.specs.Rely.{Keeps}
 use Rattle.ds_state.specs.Sound.{IsSound}
@@ -25,8 +25,8 @@ use Rattle.ds_state.specs.declared.work.WorkStage.TheVariants as works
 use Rattle.ds_state.specs.declared.situation.Situation.TheVariants.{Working}
 use Rattle.ds_state.proofs.Frames.{MovesMark, clean_free}
 use Rattle.ds_state.proofs.Accesses.{Turn}
-use Rattle.ds_state.proofs.WorkSteps.{on, mark_marks, claim_mine}
-use Rattle.ds_state.proofs.WorkFrame as frame
+use Rattle.ds_work.proofs.WorkSteps.{on, mark_marks, claim_mine}
+use Rattle.ds_work.proofs.WorkFrame as frame
 
 pub back_first : {p : ℕ} {old new : Memory Place} (x : Entry Place) (xs : List (Entry Place)) → old.buffer p ≡ x ∷ xs → BacksFirst p old new → WritesBack p x xs old new
 back_first {p} {old} {new} x xs holds (entry, rest, m) =

@@ -12,7 +12,8 @@ use Rattle.ds_state.specs.World.{World}
 use Rattle.ds_state.specs.Owing.{entry, IsHeldBy, HoldsNone, WorkOwes, WorkParts, Owes, Parts, Splits, Excuses}
 use Rattle.ds_state.specs.Calls.{CallFits}
 use Rattle.ds_state.specs.KnownWork.{ClaimsBoth, HasMark, WorkFits, IsAtRest}
-use Rattle.ds_state.specs.WorkSteps.{StepsAt, let_go}
+use Rattle.ds_state.specs.Telling.{let_go}
+use Rattle.ds_work.specs.WorkSteps.{StepsAt}
 use Rattle.ds_state.specs.Words.{MarkFits}
 use Rattle.ds_state.specs.Rely.{Grows, Keeps}
 use Rattle.ds_state.specs.Sound.{IsSound}
@@ -28,10 +29,10 @@ use Rattle.ds_state.proofs.Bearing.{Mine}
 use Rattle.ds_state.proofs.Accesses.{Turn, same_moves, quiet_sound}
 use Rattle.ds_state.proofs.EditFrame.{Framed, silent_framed, silent_keeps}
 use Rattle.ds_state.proofs.StableWork.{rest_stable}
-use Rattle.ds_state.proofs.WorkSteps.{on, mark_mine, mark_marks}
-use Rattle.ds_state.proofs.WholeSteps.{clear_keeps}
-use Rattle.ds_state.proofs.WorkClaims.{back_first}
-use Rattle.ds_state.proofs.WorkFrame as frame
+use Rattle.ds_work.proofs.WorkSteps.{on, mark_mine, mark_marks}
+use Rattle.ds_work.proofs.WholeSteps.{clear_keeps}
+use Rattle.ds_work.proofs.WorkClaims.{back_first}
+use Rattle.ds_work.proofs.WorkFrame as frame
 
 -- a held cell is let go, dirty
 module _ (e : PlainWork) (s : WorkStage) (end : WorkEnd) (old new : World) (sound : IsSound old) (real : e.process < old.layout.processes)
@@ -72,10 +73,10 @@ module _ (e : PlainWork) (s : WorkStage) (end : WorkEnd) (old new : World) (soun
       (λ moves. record {
         behind = (let b = old_fits.behind in let c = held.claim.cached in omega arith);
         few = (
-          let by = held.claim.by in
-          let c = held.claim.cached in
-          let top = (old_fits.holder e.process (omega (arith, by, c))).2 in
-          omega (arith, top, c));
+            let by = held.claim.by in
+            let c = held.claim.cached in
+            let top = (old_fits.holder e.process (omega (arith, by, c))).2 in
+            omega (arith, top, c));
         holder = λ q h. absurd (free q h);
         persisted_holder = λ q h. rw tn.layout (old_fits.persisted_holder q h);
       })

@@ -27,8 +27,8 @@ use Rattle.ds_state.proofs.Sides.{EntryFits, IsBetween, newer_between}
 use Rattle.ds_state.proofs.Bearing.{Mine, MyMarks, bears, all_stand, text_same, no_new_marks, apart_lasts}
 use Rattle.ds_state.proofs.EditFrame.{Framed, flush_any, back_any}
 use Rattle.ds_state.proofs.Accesses.{Turn, same_moves, flush_moves, store_moves, quiet_sound, Backs, written_backs, back_moves, back_grows, back_sound}
-use Rattle.ds_state.proofs.WorkSteps.{on}
-use Rattle.ds_state.proofs.WholeSteps.{keeps_heads}
+use Rattle.ds_work.proofs.WorkSteps.{on}
+use Rattle.ds_work.proofs.WholeSteps.{keeps_heads}
 
 -- f, as the same process's work on the same cell
 abbrev pub kin : PlainWork → PlainWork → PlainWork

@@ -14,16 +14,16 @@ use Rattle.ds_state.specs.World.{World, index_place}
 use Rattle.ds_state.specs.Owing.{IsIndexed}
 use Rattle.ds_state.specs.Standing.{HasContent}
 use Rattle.ds_state.specs.KnownWork.{WorkFits, ReadsWhole, Gathers, row_of}
-use Rattle.ds_state.specs.WorkSteps.{Turns, ReadsAt, LacksAt, OffersAt}
+use Rattle.ds_work.specs.WorkSteps.{Turns, ReadsAt, LacksAt, OffersAt}
 use Rattle.ds_state.specs.Rely.{Keeps}
 use Rattle.ds_state.specs.Sound.{IsSound}
 use Rattle.ds_state.specs.declared.work.WorkStage.TheVariants as works
 use Rattle.ds_state.specs.declared.situation.Situation.TheVariants.{Working}
 use Rattle.ds_state.proofs.Accesses.{Turn}
 use Rattle.ds_state.proofs.Found.{refs_indexed}
-use Rattle.ds_state.proofs.WorkSteps.{on}
-use Rattle.ds_state.proofs.WorkOwn.{offer_keeps}
-use Rattle.ds_state.proofs.WorkFrame as frame
+use Rattle.ds_work.proofs.WorkSteps.{on}
+use Rattle.ds_work.proofs.WorkOwn.{offer_keeps}
+use Rattle.ds_work.proofs.WorkFrame as frame
 
 module _ (e : PlainWork) (old new : World) (sound : IsSound old) (real : e.process < old.layout.processes) where
   turns : (f : PlainWork) → Turns e f old new → Turn e.process old new
