@@ -46,12 +46,7 @@ pub mod LastText
 pub mod Quiet
 pub mod Shows
 pub mod QuietRight
+pub mod CleanRead
 pub mod StillRight
-pub mod ShowSteps
-pub mod ShowKeeps
-pub mod ShowTruth
-pub mod ShowRuns
-pub mod ShowSolo
-pub mod ShowLaws
 pub mod QuietShown
 pub mod ReportRooms

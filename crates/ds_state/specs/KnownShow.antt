@@ -13,7 +13,10 @@ use Rattle.ds_layout.specs.declared.announcement.Phase.{Phase}
 use Rattle.ds_layout.specs.declared.announcement.Phase.TheVariants as phase
 use Rattle.ds_layout.specs.declared.place.Place.TheVariants as place
 use Rattle.ds_layout.specs.declared.layout.Layout.{Layout}
+use Rattle.ds_layout.specs.declared.mark.State.{State}
+use Rattle.ds_layout.specs.declared.mark.State.TheVariants.{Clean, Marked, Held}
 use Rattle.ds_layout.specs.Announcement.{announcement_of}
+use Rattle.ds_layout.specs.Mark.{mark_of, state_of}
 use Rattle.ds_layout.specs.Places.{cells_of}
 use Rattle.ds_state.specs.Works.{PlainShow}
 use Rattle.ds_state.specs.World.{Edit, World, of_cell}
@@ -38,8 +41,20 @@ abbrev pub pends : Option Announcement → Bool
 pends None = false
 pends (Some a) = is_pending_phase a.phase
 
+abbrev pub reads_pending : ℕ → Bool
+reads_pending word = pends (announcement_of word)
+
 abbrev pub IsPendingWord : ℕ → Type 0
-IsPendingWord word = pends (announcement_of word) ≡ true
+IsPendingWord word = reads_pending word ≡ true
+
+-- whether a mark's word is clean, as it is read in a sheet with so many processes
+abbrev pub is_clean : State → Bool
+is_clean Clean = true
+is_clean Marked = false
+is_clean (Held p) = false
+
+abbrev pub reads_clean : ℕ → ℕ → Bool
+reads_clean processes word = is_clean (state_of (mark_of processes word))
 
 -- the words of one moment, and the edits that counted then
 pub record Moment : Type 0 where

@@ -18,9 +18,6 @@ pub mod Fresh
 pub mod Events
 pub mod Crashes
 pub mod Telling
-pub mod ShowSteps
-pub mod ShowRuns
-pub mod ShowSolo
 pub mod RecoverySteps
 pub mod Text
 pub mod Dones

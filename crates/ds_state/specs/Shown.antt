@@ -1,5 +1,6 @@
 -- What a world shows.
-use Rattle.std.specs.Prelude.{ℕ, ℤ, ◌≡◌, ◌<◌, ◌+◌, ◌-◌, ◌*◌, ◌/◌, ◌++◌, List, [], ◌∷◌, length, take, min, Option, Some, None, zero, suc}
+use Rattle.std.specs.Prelude.{ℕ, ℤ, ◌≡◌, ◌<◌, ◌+◌, ◌-◌, ◌*◌, ◌/◌, ◌++◌, List, [], ◌∷◌, length, map, take, min, Option, Some, None, zero, suc}
+use Rattle.std.specs.List.{range_with_len}
 use Rattle.ds_formula.specs.Cells.{index_of}
 use Rattle.ds_formula.specs.declared.cells.Cell.{Cell}
 use Rattle.ds_eval.specs.declared.value.Value.{Value}
@@ -53,6 +54,10 @@ value_at layout memory cell = shown_of (stored_of (cells_of layout) (memory.cach
 
 abbrev pub value_in : World → Cell → Value
 value_in w cell = value_at w.layout w.memory (index_of w.layout.shape cell)
+
+-- what the cells show, by their numbers
+abbrev pub values_shown : World → List Value
+values_shown w = map (λ c. value_at w.layout w.memory c) (range_with_len 0 (cells_of w.layout))
 
 -- the last point that its edit has behind it, where it has one
 abbrev pub point_of : Situation → Option Point

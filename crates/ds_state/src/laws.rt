@@ -4,7 +4,8 @@ ghost use Rattle.std.specs.Prelude.{ℕ, ◌≡◌, ◌<◌, ◌≤◌, ◌+◌,
 ghost use Rattle.ds_layout.specs.declared.place.Place.{Place};
 ghost use Rattle.ds_layout.specs.declared.place.TheConstants.{RECORDS};
 ghost use Rattle.ds_state.specs.World.{World, of_cell};
-ghost use Rattle.ds_state.specs.Shown.{last_text, text_at};
+ghost use Rattle.ds_state.specs.Shown.{last_text, text_at, IsQuiet, values_shown};
+ghost use Rattle.ds_state.specs.KnownShow.{AreScratch};
 ghost use Rattle.ds_state.specs.Value.{WorldValue, IsGood};
 ghost use Rattle.ds_state.specs.Fresh.{IsNew};
 ghost use Rattle.ds_state.specs.Events.{Evicts};
@@ -19,17 +20,6 @@ ghost use Rattle.ds_state.specs.Crashes.{CrashesTo, StopsIn};
 ghost use Rattle.ds_state.specs.Calls.{CallFits};
 ghost use Rattle.ds_state.specs.Calm.{IsCalm, IsLocalAt};
 ghost use Rattle.ds_state.specs.declared.situation.Situation.{Situation};
-ghost use Rattle.ds_state.specs.declared.situation.Situation.TheVariants.{Showing};
-ghost use Rattle.ds_state.specs.Works.{PlainShow};
-ghost use Rattle.ds_layout.specs.Sheet.{CanPerform};
-ghost use Rattle.ds_state.specs.KnownShow.{IsShow, AreScratch};
-ghost use Rattle.ds_state.specs.ShowSteps as shows;
-ghost use Rattle.ds_state.specs.ShowRuns.{Call, IsTrueReport};
-ghost use Rattle.ds_state.specs.ShowSolo.{SoloCall, values_shown};
-ghost use Rattle.ds_state.specs.Shown.{IsQuiet};
-ghost use Rattle.ds_state.specs.declared.work.ShowEnd.{ShowEnd};
-ghost use Rattle.ds_state.specs.declared.work.ShowEnd.TheVariants.{Settled};
-ghost use Rattle.ds_state.specs.declared.work.ShowStage.TheVariants as reports;
 
 /// A new sheet is sound.
 pub fn new_is_sound()
@@ -105,57 +95,6 @@ pub fn spent_numbers_do_not_count()
 #[tactic(auto, using(crate::proofs::QuietRight::quiet_right))]
 pub fn calm_sheets_are_right()
     ensures { (w : World) → IsSound w → IsCalm w → (cell : ℕ) → IsLocalAt w cell }
-{}
-
-/// Each step of a report, whatever the word that its access answers, leaves a sound sheet sound, and
-/// leaves each other process what it may count on.
-#[tactic(auto, using(crate::proofs::ShowLaws::steps))]
-pub fn show_steps_keep_soundness()
-    ensures { (e : PlainShow) (word : ℕ) (old new : World) → IsSound old
-        → e.process < old.layout.processes → old.situation e.process ≡ Showing e
-        → shows.Steps e word old new → Keeps e.process old new }
-{}
-
-/// The beginning of a report does the same.
-pub fn show_begins_keep_soundness()
-    ensures { (p next : ℕ) (old new : World) → IsSound old → p < old.layout.processes
-        → shows.Begins p next old new → Keeps p old new }
-{}
-
-/// The access of a report of a sound sheet can be performed.
-#[tactic(auto, using(crate::proofs::ShowLaws::accesses))]
-pub fn show_accesses_are_possible()
-    ensures { (e : PlainShow) (w : World) → IsSound w → e.process < w.layout.processes
-        → w.situation e.process ≡ Showing e
-        → CanPerform w.layout w.memory e.process (shows.access_at e.stage) }
-{}
-
-/// Each step of a report leaves fewer steps, until the answer's, which is the last; and it has at
-/// most two for each process, four for each cell, and the answer's.
-#[tactic(auto, using(crate::proofs::ShowLaws::each_falls, crate::proofs::ShowLaws::each_few))]
-pub fn show_steps_are_few()
-    ensures falls { (e : PlainShow) (word : ℕ) → IsShow e
-        → shows.Falls e e.stage (shows.next_at e e.stage word) }
-    ensures few { (e : PlainShow) → shows.rank e ≤ 2 * e.processes + 4 * e.cells + 1 }
-{}
-
-/// What a report answers is true of the worlds of its call. A settled one: at one of them nothing was
-/// announced as pending, every mark was clean, and its values are those from scratch of the edits that
-/// counted then, a front of those that count now. Another one: its place held its word at one of them,
-/// and that is bad, or was another one earlier in the call.
-#[tactic(auto, using(crate::proofs::ShowRuns::answer_true))]
-pub fn reports_are_true()
-    ensures { (p : ℕ) → (now : World) (past : List World) → Call p now past
-        → (e : PlainShow) (end : ShowEnd) → now.situation p ≡ Showing e → e.stage ≡ reports.Answer end
-        → IsTrueReport now past e end }
-{}
-
-/// A report that began in a quiet world and is alone is settled.
-#[tactic(auto, using(crate::proofs::ShowSolo::solo_settles))]
-pub fn solo_reports_are_settled()
-    ensures { (p : ℕ) → (now : World) (past : List World) → SoloCall p now past
-        → (e : PlainShow) (end : ShowEnd) → now.situation p ≡ Showing e → e.stage ≡ reports.Answer end
-        → end ≡ Settled }
 {}
 
 /// A quiet sheet shows the values of the edits that count, from scratch.

@@ -4,13 +4,13 @@ use Rattle.ds_layout.specs.Sheet.{CanPerform}
 use Rattle.ds_state.specs.Works.{PlainShow}
 use Rattle.ds_state.specs.World.{World}
 use Rattle.ds_state.specs.KnownShow.{IsShow, ShowFits}
-use Rattle.ds_state.specs.ShowSteps.{access_at, next_at, Begins, Steps, Falls, rank}
+use Rattle.ds_show.specs.ShowSteps.{access_at, next_at, Begins, Steps, Falls, rank}
 use Rattle.ds_state.specs.Calls.{CallFits}
 use Rattle.ds_state.specs.Rely.{Keeps}
 use Rattle.ds_state.specs.Sound.{IsSound}
 use Rattle.ds_state.specs.declared.situation.Situation.{Situation}
 use Rattle.ds_state.specs.declared.situation.Situation.TheVariants.{Showing}
-use Rattle.ds_state.proofs.ShowKeeps.{step_keeps, begin_keeps, falls, few, possible}
+use Rattle.ds_show.proofs.ShowKeeps.{step_keeps, begin_keeps, falls, few, possible}
 
 fits_of : (e : PlainShow) (w : World) → IsSound w → e.process < w.layout.processes → w.situation e.process ≡ Showing e → ShowFits w e.process e
 fits_of e w sound real is = subst (λ (s : Situation). CallFits w e.process s) is (sound.calls e.process real)

@@ -15,8 +15,8 @@ use Rattle.ds_state.specs.Works.{PlainShow}
 use Rattle.ds_state.specs.World.{World}
 use Rattle.ds_state.specs.Owing.{Owes, Parts, Splits, Excuses}
 use Rattle.ds_state.specs.KnownWork.{IsAtRest}
-use Rattle.ds_state.specs.KnownShow.{noted, Moment, moment_of, IsStage, ShowFitsAt, ShowFits}
-use Rattle.ds_state.specs.ShowSteps.{access_at, next_at, after, StepsAt, Begins, fresh, rank, Falls, at, reads_clean, reads_pending}
+use Rattle.ds_state.specs.KnownShow.{noted, reads_clean, reads_pending, Moment, moment_of, IsStage, ShowFitsAt, ShowFits}
+use Rattle.ds_show.specs.ShowSteps.{access_at, next_at, after, StepsAt, Begins, fresh, rank, Falls, at}
 use Rattle.ds_state.specs.Calls.{CallFits, IdleFits}
 use Rattle.ds_state.specs.Rely.{Grows, Keeps}
 use Rattle.ds_state.specs.Sound.{IsSound}
@@ -29,7 +29,7 @@ use Rattle.ds_state.proofs.Buffers.{buffered}
 use Rattle.ds_state.proofs.Accesses.{Turn, same_moves, quiet_sound}
 use Rattle.ds_state.proofs.EditFrame.{Framed, silent_framed, silent_keeps}
 use Rattle.ds_state.proofs.StableShow.{show_goes, rest_same}
-use Rattle.ds_state.proofs.ShowSteps.{Sees, moment_after, on, advance, branches}
+use Rattle.ds_show.proofs.ShowSteps.{Sees, moment_after, on, advance, branches}
 
 -- no access of a report changes a word
 pub touches_nothing : (s : ShowStage) (p word : ℕ) (old new : World) → PerformsAt (access_at s) p old.memory new.memory word → SameMemory old.memory new.memory

@@ -1,19 +1,19 @@
 -- What a report knows after each of its loads.
-use Rattle.std.proofs.Common.{ℕ, ◌≡◌, ◌<◌, ◌≤◌, ◌+◌, ◌/◌, ◌%◌, ◌==◌, List, [], ◌∷◌, ◌++◌, refl, ap, sym, ◌∙◌, subst, arith, length, length-append, Some, None, ◌-◌, inl, inr, zero, suc, true, false, nat_lt}
-use Rattle.std.specs.Prelude.{Bool, Option, if◌then◌else◌}
-use Rattle.std.proofs.lemmas.Bool.{ltb-true, ltb-false, eqb-true, eqb-false, cases_eq, false≢true, ne_eqb, lt-ltb}
+use Rattle.std.proofs.Common.{ℕ, ◌≡◌, ◌<◌, ◌≤◌, ◌+◌, ◌==◌, List, [], ◌∷◌, ◌++◌, refl, ap, sym, ◌∙◌, subst, arith, length, length-append, inl, inr, zero, suc, true, false, nat_lt}
+use Rattle.std.specs.Prelude.{Bool, if◌then◌else◌}
+use Rattle.std.proofs.lemmas.Bool.{ltb-true, ltb-false, eqb-true, eqb-false, cases_eq, false≢true}
 use Rattle.std.proofs.lemmas.List.{append-nil}
 use Rattle.ds_layout.specs.declared.place.Place.TheVariants.{Mark, Value, Kind, Announce}
-use Rattle.ds_layout.specs.Mark.{state_by, holder_of, present}
 use Rattle.ds_state.specs.Works.{PlainShow}
 use Rattle.ds_state.specs.World.{World}
 use Rattle.ds_state.specs.Owing.{IsClean, IsMark}
-use Rattle.ds_state.specs.KnownShow.{noted, IsPendingWord, Moment, moment_of, HasNoted, SawAgain, seen_at, SeenFits, IsStage, ShowFitsAt}
-use Rattle.ds_state.specs.ShowSteps.{is_clean, reads_clean, reads_pending, next_at}
+use Rattle.ds_state.specs.KnownShow.{noted, reads_clean, reads_pending, IsPendingWord, Moment, moment_of, HasNoted, SawAgain, seen_at, SeenFits, IsStage, ShowFitsAt}
+use Rattle.ds_show.specs.ShowSteps.{next_at}
 use Rattle.ds_state.specs.Sound.{IsSound}
 use Rattle.ds_state.specs.declared.work.ShowEnd.TheVariants.{Settled, AtMark, AtAnnounce}
 use Rattle.ds_state.specs.declared.work.ShowStage.{ShowStage}
 use Rattle.ds_state.specs.declared.work.ShowStage.TheVariants.{LoadAnnounce, LoadMark, LoadValue, LoadKind, AgainMark, AgainAnnounce, Answer}
+use Rattle.ds_state.proofs.CleanRead.{clean_read, dirty_read}
 use Rattle.ds_state.proofs.StillRight.{still_right}
 
 -- ---- lists with one more
@@ -40,39 +40,6 @@ each_push P xs x h k i l = elim (cases_eq i (length xs)) [
   | inl is ↦ subst (λ (j : ℕ). P j (noted (xs ++ x ∷ []) j)) (sym is) (subst (λ (y : ℕ). P (length xs) y) (sym (noted_last xs x)) k)
   | inr ne ↦ (let m = longer xs x in let small : i < length xs = omega arith in subst (λ (y : ℕ). P i y) (sym (noted_left xs (x ∷ []) i small)) (h i small))
 ]
-
--- ---- a mark that reads as clean is clean, and no other
-
-none_clean : (dirty : Bool) → is_clean (state_by None dirty) ≡ true → dirty ≡ false
-none_clean false is = refl
-none_clean true is = absurd (false≢true is)
-
-some_code : (code : ℕ) → holder_of (suc code) ≡ Some code
-some_code code = rw (ne_eqb (suc code) 0 (λ same. omega arith)) (ap Some (let same : suc code - 1 ≡ code = omega arith in same))
-
-held_not : (processes q : ℕ) (dirty : Bool) → q < processes → is_clean (state_by (present processes (Some q)) dirty) ≡ false
-held_not processes q dirty l = rw (lt-ltb q processes l) refl
-
-read_code : (processes code : ℕ) (dirty : Bool) → ((q : ℕ) → code ≡ q + 1 → q < processes) → is_clean (state_by (present processes (holder_of code)) dirty) ≡ true → (code ≡ 0) × (dirty ≡ false)
-read_code processes zero dirty h is = (refl, none_clean dirty is)
-read_code processes (suc code) dirty h is = absurd (false≢true (
-    sym (ap (λ (o : Option ℕ). is_clean (state_by (present processes o) dirty)) (some_code code) ∙ held_not processes code dirty (h code (omega arith))) ∙ is))
-
-pub clean_read : (w : World) (c word : ℕ) → IsMark w.layout c word → reads_clean w.layout.processes word ≡ true → IsClean word
-clean_read w c word mark is =
-    let r = read_code w.layout.processes (word / 2 % 16) (word % 2 == 1) (λ q by. (mark q by).0) is in
-    let a = r.0 in
-    let b = eqb-false (word % 2) 1 r.1 in
-    omega arith
-
-pub clean_reads : (processes word : ℕ) → IsClean word → reads_clean processes word ≡ true
-clean_reads processes word clean =
-    let a : word / 2 % 16 ≡ 0 = omega arith in
-    ap (λ (code : ℕ). is_clean (state_by (present processes (holder_of code)) (word % 2 == 1))) a
-    ∙ ap (λ (b : Bool). is_clean (state_by None b)) (ne_eqb (word % 2) 1 (λ same. omega arith))
-
-pub dirty_read : (processes word : ℕ) → reads_clean processes word ≡ false → IsClean word → ⊥
-dirty_read processes word is clean = false≢true (sym is ∙ clean_reads processes word clean)
 
 -- ---- what is noted, with one more word
 

@@ -1,71 +1,28 @@
 -- A report of a quiet world that is alone is settled.
-use Rattle.std.proofs.Common.{ℕ, ◌≡◌, ◌<◌, ◌≤◌, ◌+◌, ◌==◌, ◌⊎◌, List, [], ◌∷◌, ◌++◌, refl, ap, sym, ◌∙◌, subst, arith, length, inl, inr, zero, suc, true, false, nat_lt, Some, None}
-use Rattle.std.specs.Prelude.{Bool, Option, if◌then◌else◌}
+use Rattle.std.proofs.Common.{ℕ, ◌≡◌, ◌<◌, ◌+◌, ◌==◌, List, [], ◌∷◌, ◌++◌, refl, ap, sym, ◌∙◌, subst, arith, length, inl, inr, nat_lt}
 use Rattle.std.proofs.lemmas.Bool.{false≢true, eq-eqb}
-use Rattle.ds_layout.specs.declared.announcement.Phase.TheVariants as phase
-use Rattle.ds_layout.specs.declared.announcement.Phase.{Phase}
-use Rattle.ds_layout.specs.declared.place.TheConstants.{RECORDS}
 use Rattle.ds_layout.specs.declared.place.Place.{Place}
 use Rattle.ds_layout.specs.declared.place.Place.TheVariants.{Version, Mark, Announce}
-use Rattle.ds_layout.specs.Announcement.{announcement_of}
 use Rattle.ds_layout.specs.Places.{cells_of}
-use Rattle.ds_layout.proofs.Packed.{announcement_of-announcement_word}
 use Rattle.ds_state.specs.Works.{PlainShow}
-use Rattle.ds_state.specs.World.{Edit, Issue, edit_of, World, phase_among, is_edit_of, last_announcement, announcement}
+use Rattle.ds_state.specs.World.{World}
 use Rattle.ds_state.specs.Owing.{IsClean}
-use Rattle.ds_state.specs.Shown.{IsQuiet}
-use Rattle.ds_state.specs.Calls.{CallFits, DoubtFits}
-use Rattle.ds_state.specs.KnownShow.{noted, pends, IsPendingWord, moment_of, IsStill, IsStage}
-use Rattle.ds_state.specs.ShowSteps.{fresh, next_at, reads_pending, reads_clean, is_clean}
-use Rattle.ds_state.specs.ShowRuns.{Call}
-use Rattle.ds_state.specs.ShowSolo.{SoloCall}
-use Rattle.ds_state.specs.Sound.{IsSound}
+use Rattle.ds_state.specs.KnownShow.{noted, reads_clean, reads_pending, IsPendingWord, moment_of, IsStill, IsStage}
+use Rattle.ds_show.specs.ShowSteps.{fresh, next_at}
+use Rattle.ds_show.specs.ShowRuns.{Call}
+use Rattle.ds_show.specs.ShowSolo.{SoloCall}
 use Rattle.ds_state.specs.declared.work.ShowEnd.{ShowEnd}
 use Rattle.ds_state.specs.declared.work.ShowEnd.TheVariants.{Settled}
 use Rattle.ds_state.specs.declared.work.ShowStage.{ShowStage}
 use Rattle.ds_state.specs.declared.work.ShowStage.TheVariants.{LoadAnnounce, LoadMark, LoadValue, LoadKind, AgainMark, AgainAnnounce, Answer}
-use Rattle.ds_state.specs.declared.situation.Situation.{Situation}
-use Rattle.ds_state.specs.declared.situation.Situation.TheVariants.{Idle, Stopped, Editing, Working, Recovering, Showing}
-use Rattle.ds_state.proofs.ShowSteps.{Sees, on, branches, each_push, clean_read, clean_reads}
-use Rattle.ds_state.proofs.ShowKeeps.{sees_word, touches_nothing}
-use Rattle.ds_state.proofs.ShowRuns.{told, goes_to, showing_inj}
+use Rattle.ds_state.specs.declared.situation.Situation.TheVariants.{Showing}
+use Rattle.ds_state.proofs.CleanRead.{clean_reads}
+use Rattle.ds_state.proofs.QuietShown.{quiet_still}
+use Rattle.ds_show.proofs.ShowSteps.{Sees, on, branches, each_push}
+use Rattle.ds_show.proofs.ShowKeeps.{sees_word, touches_nothing}
+use Rattle.ds_show.proofs.ShowRuns.{told, goes_to, showing_inj}
 
--- ---- a quiet world is still
-
-by_test : (b : Bool) (f : Phase) → (f ≡ phase.Done) ⊎ (f ≡ phase.NotDone) → ((if b then phase.Done else f) ≡ phase.Done) ⊎ ((if b then phase.Done else f) ≡ phase.NotDone)
-by_test true f h = inl refl
-by_test false f h = h
-
-ended : (es : List Edit) (p n : ℕ) → (phase_among es p n ≡ phase.Done) ⊎ (phase_among es p n ≡ phase.NotDone)
-ended [] p n = inr refl
-ended (e ∷ es) p n = by_test (is_edit_of p n e) (phase_among es p n) (ended es p n)
-
-not_pending : (es : List Edit) (p n : ℕ) → n ≤ RECORDS → IsPendingWord (last_announcement es p n) → ⊥
-not_pending es p zero l is = false≢true is
-not_pending es p (suc n) l is = elim (ended es p n) [
-  | inl d ↦ false≢true (sym (reads phase.Done refl d) ∙ is)
-  | inr d ↦ false≢true (sym (reads phase.NotDone refl d) ∙ is)
-]
-  where
-    reads : (f : Phase) → pends (Some (record { number = n; phase = f })) ≡ false → phase_among es p n ≡ f → pends (announcement_of (announcement n (phase_among es p n))) ≡ false
-    reads f over same = ap (λ (x : Phase). pends (announcement_of (announcement n x))) same ∙ ap pends (announcement_of-announcement_word (record { number = n; phase = f }) (omega arith)) ∙ over
-
-says : (w : World) (p : ℕ) (s : Situation) → w.pending p ≡ None → CallFits w p s → (next : ℕ) × (next ≤ RECORDS) × (w.memory.cached (Announce p) ≡ last_announcement w.counted p next)
-says w p (Idle next) none h = (next, h.number, h.cached)
-says w p Stopped none h = let t = subst (λ (o : Option Issue). DoubtFits w p o) none h.doubt in (t.next, t.rest.number, t.rest.cached)
-says w p (Editing e) none h = absurd (let e : None ≡ Some (record { edit = edit_of e; since = h.since }) = sym none ∙ h.pending in cc)
-says w p (Working e) none h = (e.next, h.rest.number, subst (λ (q : ℕ). w.memory.cached (Announce q) ≡ last_announcement w.counted q e.next) h.mine h.rest.cached)
-says w p (Recovering e) none h = let t = subst (λ (o : Option Issue). DoubtFits w p o) none h.doubt in (t.next, t.rest.number, t.rest.cached)
-says w p (Showing e) none h = (e.next, h.1.rest.number, subst (λ (q : ℕ). w.memory.cached (Announce q) ≡ last_announcement w.counted q e.next) h.1.mine h.1.rest.cached)
-
-pub quiet_still : (w : World) → IsSound w → IsQuiet w → IsStill w.layout (moment_of w)
-quiet_still w sound quiet = record {
-  clean = λ c l. clean_read w c (w.memory.cached (Mark c)) (sound.words (Mark c)).holder (ap is_clean (quiet.clean c l));
-  settled = λ q l is. (let k = says w q (w.situation q) (quiet.answered q l) (sound.calls q l) in not_pending w.counted q k.0 k.1 (subst (λ (x : ℕ). IsPendingWord x) k.2 is));
-}
-
--- ---- every word that it noted is still there, so it sees each again
-
+-- every word that it noted is still there, so it sees each again
 abbrev IsNotOff : ShowStage → Type 0
 IsNotOff (Answer end) = end ≡ Settled
 IsNotOff _ = Unit {0}

@@ -1,20 +1,16 @@
--- The steps of a report: what each stage loads, and what comes then. (In the project: crate ds_show, specs/Steps.)
-use Rattle.std.specs.Prelude.{ℕ, ◌≡◌, ◌≢◌, ◌<◌, ◌+◌, ◌-◌, ◌*◌, ◌==◌, nat_lt, if◌then◌else◌, Bool, true, false, List, [], ◌∷◌, ◌++◌}
+-- The steps of a report: what each stage loads, and what comes then.
+use Rattle.std.specs.Prelude.{ℕ, ◌≡◌, ◌≢◌, ◌<◌, ◌+◌, ◌-◌, ◌*◌, ◌==◌, nat_lt, if◌then◌else◌, List, [], ◌∷◌, ◌++◌}
 use Rattle.ds_words.specs.Memory.{SameMemory}
 use Rattle.ds_words.specs.declared.access.Access.{Access}
 use Rattle.ds_words.specs.declared.access.Access.TheVariants as acts
 use Rattle.ds_eval.specs.declared.value.Value.{Value}
 use Rattle.ds_layout.specs.declared.place.Place.{Place}
 use Rattle.ds_layout.specs.declared.place.Place.TheVariants as place
-use Rattle.ds_layout.specs.declared.mark.State.{State}
-use Rattle.ds_layout.specs.declared.mark.State.TheVariants.{Clean, Marked, Held}
-use Rattle.ds_layout.specs.Announcement.{announcement_of}
-use Rattle.ds_layout.specs.Mark.{mark_of, state_of}
 use Rattle.ds_layout.specs.Places.{cells_of}
 use Rattle.ds_layout.specs.Sheet.{PerformsAt}
 use Rattle.ds_state.specs.Works.{PlainShow}
 use Rattle.ds_state.specs.World.{World}
-use Rattle.ds_state.specs.KnownShow.{noted, pends, values_of}
+use Rattle.ds_state.specs.KnownShow.{noted, reads_clean, reads_pending, values_of}
 use Rattle.ds_state.specs.declared.situation.Situation.{Situation}
 use Rattle.ds_state.specs.declared.situation.Situation.TheVariants.{Idle, Showing}
 use Rattle.ds_state.specs.declared.work.ShowEnd.TheVariants.{Settled, AtMark, AtAnnounce}
@@ -30,18 +26,6 @@ access_at (LoadKind i) = acts.Load (place.Kind i)
 access_at (AgainMark i) = acts.Load (place.Mark i)
 access_at (AgainAnnounce i) = acts.Load (place.Announce i)
 access_at (Answer end) = acts.Nothing
-
--- whether a mark's word is clean, as it is read in a sheet with so many processes
-abbrev pub is_clean : State → Bool
-is_clean Clean = true
-is_clean Marked = false
-is_clean (Held p) = false
-
-abbrev pub reads_clean : ℕ → ℕ → Bool
-reads_clean processes word = is_clean (state_of (mark_of processes word))
-
-abbrev pub reads_pending : ℕ → Bool
-reads_pending word = pends (announcement_of word)
 
 abbrev pub at : PlainShow → ShowStage → PlainShow
 at e stage = record e { stage = stage }

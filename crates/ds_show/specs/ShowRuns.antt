@@ -1,4 +1,4 @@
--- What the answer of a report says of the worlds of its call. (In the project: crate ds_core, beside the runs.)
+-- What the answer of a report says of the worlds of its call.
 use Rattle.std.specs.Prelude.{ℕ, ◌≡◌, ◌≢◌, ◌<◌, ◌⊎◌, ◌++◌, List, [], ◌∷◌}
 use Rattle.ds_eval.specs.declared.value.Value.{Value}
 use Rattle.ds_layout.specs.declared.place.Place.{Place}
@@ -7,7 +7,7 @@ use Rattle.ds_state.specs.Works.{PlainShow}
 use Rattle.ds_state.specs.World.{Edit, World}
 use Rattle.ds_state.specs.Owing.{IsClean}
 use Rattle.ds_state.specs.KnownShow.{IsPendingWord, moment_of, AreScratch, IsStill}
-use Rattle.ds_state.specs.ShowSteps.{Steps, Begins, answered}
+use Rattle.ds_show.specs.ShowSteps.{Steps, Begins, answered}
 use Rattle.ds_state.specs.Rely.{Rely}
 use Rattle.ds_state.specs.Sound.{IsSound}
 use Rattle.ds_state.specs.declared.work.ShowEnd.{ShowEnd}

@@ -9,10 +9,10 @@ use Rattle.ds_layout.specs.declared.place.Place.TheVariants.{Version, Mark, Anno
 use Rattle.ds_state.specs.Works.{PlainShow}
 use Rattle.ds_state.specs.World.{Edit, World}
 use Rattle.ds_state.specs.Owing.{IsClean}
-use Rattle.ds_state.specs.KnownShow.{noted, IsPendingWord, Moment, moment_of, IsStage, ShowFitsAt}
+use Rattle.ds_state.specs.KnownShow.{noted, reads_pending, reads_clean, IsPendingWord, Moment, moment_of, IsStage, ShowFitsAt}
 use Rattle.ds_layout.specs.Places.{cells_of}
-use Rattle.ds_state.specs.ShowSteps.{fresh, next_at, after, reads_pending, reads_clean}
-use Rattle.ds_state.specs.ShowRuns.{Call, IsOf, AreInTurn, WasOff, IsTrueReport}
+use Rattle.ds_show.specs.ShowSteps.{fresh, next_at, after}
+use Rattle.ds_show.specs.ShowRuns.{Call, IsOf, AreInTurn, WasOff, IsTrueReport}
 use Rattle.ds_state.specs.Rely.{Grows, Rely}
 use Rattle.ds_state.specs.declared.work.ShowEnd.{ShowEnd}
 use Rattle.ds_state.specs.declared.work.ShowEnd.TheVariants.{Settled, AtMark, AtAnnounce}
@@ -21,9 +21,10 @@ use Rattle.ds_state.specs.declared.work.ShowStage.TheVariants.{LoadAnnounce, Loa
 use Rattle.ds_state.specs.declared.situation.Situation.{Situation}
 use Rattle.ds_state.specs.declared.situation.Situation.TheVariants.{Showing}
 use Rattle.ds_state.proofs.StableShow.{show_goes}
-use Rattle.ds_state.proofs.ShowSteps.{Sees, moment_after, on, branches, each_push, dirty_read}
-use Rattle.ds_state.proofs.ShowKeeps.{sees_word, known_next, begin_known}
-use Rattle.ds_state.proofs.ShowTruth.{IsSettled, settled_true}
+use Rattle.ds_show.proofs.ShowSteps.{Sees, moment_after, on, branches, each_push}
+use Rattle.ds_state.proofs.CleanRead.{dirty_read}
+use Rattle.ds_show.proofs.ShowKeeps.{sees_word, known_next, begin_known}
+use Rattle.ds_show.proofs.ShowTruth.{IsSettled, settled_true}
 
 -- a world of the call at which the place held the word
 pub record HadIn (now : World) (past : List World) (place : Place) (word : ℕ) : Type 0 where

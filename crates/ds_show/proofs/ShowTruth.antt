@@ -1,6 +1,5 @@
 -- What the answer of a report says is true of its moment, and of the worlds of its call.
-use Rattle.std.proofs.Common.{ℕ, ◌≡◌, ◌<◌, ◌≤◌, ◌+◌, List, ◌∷◌, ◌++◌, refl, ap, sym, ◌∙◌, subst, arith, zero, suc, map}
-use Rattle.std.specs.List.{range_with_len}
+use Rattle.std.proofs.Common.{ℕ, ◌≡◌, List, ◌++◌, ap, sym, ◌∙◌, subst, arith}
 use Rattle.ds_eval.specs.declared.value.Value as values
 use Rattle.ds_eval.specs.Scratch.{IsScratch}
 use Rattle.ds_layout.specs.Places.{cells_of}
@@ -9,14 +8,11 @@ use Rattle.ds_state.specs.World.{Edit, World}
 use Rattle.ds_state.specs.Owing.{IsClean}
 use Rattle.ds_state.specs.Standing.{shown_entry}
 use Rattle.ds_state.specs.KnownShow.{noted, IsPendingWord, Moment, values_of, AreScratch, IsStill, IsRight, SawAgain, seen_at, SeenFits, IsStage, HaveNoted, ShowFitsAt}
-use Rattle.ds_state.specs.ShowSteps.{answered}
+use Rattle.ds_show.specs.ShowSteps.{answered}
+use Rattle.ds_state.proofs.QuietShown.{same_map}
 use Rattle.ds_state.specs.declared.work.ShowEnd.TheVariants.{Settled}
 use Rattle.ds_state.specs.declared.work.ShowStage.{ShowStage}
 use Rattle.ds_state.specs.declared.work.ShowStage.TheVariants.{Answer}
-
-pub same_map : (f g : ℕ → values.Value) (a n : ℕ) → ((i : ℕ) → a ≤ i → i < a + n → f i ≡ g i) → map f (range_with_len a n) ≡ map g (range_with_len a n)
-same_map f g a zero h = refl
-same_map f g a (suc n) h = ap (λ (x : values.Value). x ∷ map f (range_with_len (a + 1) n)) (h a (omega arith) (omega arith)) ∙ ap (λ (xs : List values.Value). g a ∷ xs) (same_map f g (a + 1) n (λ i l k. h i (omega arith) (omega arith)))
 
 -- a settled answer, of its moment
 pub record IsSettled (w : World) (e : PlainShow) (m : Moment) : Type 0 where

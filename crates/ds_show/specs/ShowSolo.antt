@@ -1,18 +1,11 @@
--- A quiet world, and a report that is alone in it. (The call: in the project in ds_core, beside the runs.)
-use Rattle.std.specs.Prelude.{ℕ, ◌≡◌, ◌⊎◌, List, [], ◌∷◌, map}
-use Rattle.std.specs.List.{range_with_len}
-use Rattle.ds_eval.specs.declared.value.Value.{Value}
-use Rattle.ds_layout.specs.Places.{cells_of}
+-- A quiet world, and a report that is alone in it.
+use Rattle.std.specs.Prelude.{ℕ, ◌≡◌, ◌⊎◌, List, [], ◌∷◌}
 use Rattle.ds_layout.specs.declared.place.Place.{Place}
 use Rattle.ds_state.specs.World.{World}
-use Rattle.ds_state.specs.Shown.{IsQuiet, value_at}
+use Rattle.ds_state.specs.Shown.{IsQuiet}
 use Rattle.ds_state.specs.Rely.{Rely}
 use Rattle.ds_state.specs.Sound.{IsSound}
-use Rattle.ds_state.specs.ShowRuns.{OwnStep, HasBegun}
-
--- what the cells show, by their numbers
-abbrev pub values_shown : World → List Value
-values_shown w = map (λ c. value_at w.layout w.memory c) (range_with_len 0 (cells_of w.layout))
+use Rattle.ds_show.specs.ShowRuns.{OwnStep, HasBegun}
 
 -- an eviction, an offer: what processes see stays
 pub record ShowsSame (p : ℕ) (old new : World) : Type 0 where

@@ -1,0 +1,3 @@
+pub mod ShowSteps
+pub mod ShowRuns
+pub mod ShowSolo

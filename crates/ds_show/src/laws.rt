@@ -1,0 +1,67 @@
+//! What is true of each report, as functions that do nothing.
+
+ghost use Rattle.std.specs.Prelude.{ℕ, ◌≡◌, ◌<◌, ◌≤◌, ◌+◌, ◌*◌, List};
+ghost use Rattle.ds_layout.specs.Sheet.{CanPerform};
+ghost use Rattle.ds_state.specs.World.{World};
+ghost use Rattle.ds_state.specs.Sound.{IsSound};
+ghost use Rattle.ds_state.specs.Rely.{Keeps};
+ghost use Rattle.ds_state.specs.Works.{PlainShow};
+ghost use Rattle.ds_state.specs.KnownShow.{IsShow};
+ghost use Rattle.ds_state.specs.declared.work.ShowEnd.{ShowEnd};
+ghost use Rattle.ds_state.specs.declared.work.ShowEnd.TheVariants.{Settled};
+ghost use Rattle.ds_state.specs.declared.work.ShowStage.TheVariants.{Answer};
+ghost use Rattle.ds_state.specs.declared.situation.Situation.TheVariants.{Showing};
+ghost use Rattle.ds_show.specs.ShowSteps.{Steps, Begins, access_at, next_at, rank, Falls};
+ghost use Rattle.ds_show.specs.ShowRuns.{Call, IsTrueReport};
+ghost use Rattle.ds_show.specs.ShowSolo.{SoloCall};
+
+/// Each step of a report, whatever the word that its access answers, leaves a sound sheet sound, and
+/// leaves each other process what it may count on.
+#[tactic(auto, using(crate::proofs::ShowLaws::steps))]
+pub fn steps_keep_soundness()
+    ensures { (e : PlainShow) (word : ℕ) (old new : World) → IsSound old
+        → e.process < old.layout.processes → old.situation e.process ≡ Showing e
+        → Steps e word old new → Keeps e.process old new }
+{}
+
+/// The beginning of a report does the same.
+pub fn begins_keep_soundness()
+    ensures { (p next : ℕ) (old new : World) → IsSound old → p < old.layout.processes
+        → Begins p next old new → Keeps p old new }
+{}
+
+/// The access of a report of a sound sheet can be performed.
+#[tactic(auto, using(crate::proofs::ShowLaws::accesses))]
+pub fn accesses_are_possible()
+    ensures { (e : PlainShow) (w : World) → IsSound w → e.process < w.layout.processes
+        → w.situation e.process ≡ Showing e
+        → CanPerform w.layout w.memory e.process (access_at e.stage) }
+{}
+
+/// Each step of a report leaves fewer steps, until the answer's, which is the last; and it has at
+/// most two for each process, four for each cell, and the answer's.
+#[tactic(auto, using(crate::proofs::ShowLaws::each_falls, crate::proofs::ShowLaws::each_few))]
+pub fn steps_are_few()
+    ensures falls { (e : PlainShow) (word : ℕ) → IsShow e
+        → Falls e e.stage (next_at e e.stage word) }
+    ensures few { (e : PlainShow) → rank e ≤ 2 * e.processes + 4 * e.cells + 1 }
+{}
+
+/// What a report answers is true of the worlds of its call. A settled one: at one of them nothing was
+/// announced as pending, every mark was clean, and its values are those from scratch of the edits that
+/// counted then, a front of those that count now. Another one: its place held its word at one of them,
+/// and that is bad, or was another one earlier in the call.
+#[tactic(auto, using(crate::proofs::ShowRuns::answer_true))]
+pub fn reports_are_true()
+    ensures { (p : ℕ) → (now : World) (past : List World) → Call p now past
+        → (e : PlainShow) (end : ShowEnd) → now.situation p ≡ Showing e → e.stage ≡ Answer end
+        → IsTrueReport now past e end }
+{}
+
+/// A report that began in a quiet world and is alone is settled.
+#[tactic(auto, using(crate::proofs::ShowSolo::solo_settles))]
+pub fn solo_reports_are_settled()
+    ensures { (p : ℕ) → (now : World) (past : List World) → SoloCall p now past
+        → (e : PlainShow) (end : ShowEnd) → now.situation p ≡ Showing e → e.stage ≡ Answer end
+        → end ≡ Settled }
+{}

@@ -1,0 +1,4 @@
+//! A report: its steps, and what they are proved to do.
+#![tactic(auto)]
+
+pub mod laws;
