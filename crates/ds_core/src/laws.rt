@@ -58,7 +58,6 @@ pub fn solo_edits_are_done()
 /// scratch. An edit, once answered, stays in the list or stays out, through stops and crashes, and
 /// stands before each edit that is begun later. Detectable execution (Friedman, Herlihy, Marathe,
 /// Petrank, PPoPP 2018).
-#[tactic(auto, using(crate::proofs::EachRun::runs_have_headline))]
 pub fn runs_have_the_headline()
     ensures { (old : WorldValue) (events : List Event) (replies : List Reply) (new : WorldValue)
         → IsNew (world_of old) → IsGood old → (run : WorldRun old events replies new)
