@@ -9,7 +9,7 @@ use Rattle.ds_state.specs.declared.stage.Stage.TheVariants.{StoreHeader}
 use Rattle.ds_state.specs.declared.situation.Situation.TheVariants.{Editing}
 use Rattle.ds_core.specs.Takes.{WorldRun}
 use Rattle.ds_core.specs.Own.{own_steps, IsUnanswered, AreUnanswered}
-use Rattle.ds_core.specs.Solo.{IsSolo, IsDoneOnly, AreDoneOnly}
+use Rattle.ds_core.specs.Solo.{IsSoloEvent, IsSolo, IsDoneOnly, AreDoneOnly}
 use Rattle.ds_core.specs.Headline.{Happens}
 use Rattle.ds_core.specs.declared.event.Event.{Event}
 use Rattle.ds_core.specs.declared.event.Event.TheVariants.{BeginEdit, BeginWork, BeginShow, BeginRecover, Step, Offer, Evict, Stop, Crash}
@@ -25,31 +25,31 @@ record IsAnswered (p : ℕ) (event : Event) (reply : Reply) : Type 0 where
   event_is : event ≡ Step p
   reply_is : reply ≡ Answered answer
 
-one : (p : ℕ) (event : Event) (reply : Reply) → IsUnanswered p event reply ⊎ IsAnswered p event reply
-one p (Step q) (Answered a) = elim (eqb_tells q p) [
+one : (p : ℕ) (event : Event) (reply : Reply) → IsSoloEvent p event → IsUnanswered p event reply ⊎ IsAnswered p event reply
+one p (Step q) (Answered a) solo = elim (eqb_tells q p) [
   | inl same ↦ inr (record { answer = a; event_is = ap (λ i. Step i) same.1; reply_is = refl })
   | inr other ↦ inl other.1
 ]
-one p (Step q) _ = inl tt
-one p (BeginEdit r) reply = inl tt
-one p (BeginWork q cell) reply = inl tt
-one p (BeginShow q) reply = inl tt
-one p (BeginRecover q) reply = inl tt
-one p (Offer value) reply = inl tt
-one p (Evict word) reply = inl tt
-one p (Stop q) reply = inl tt
-one p Crash reply = inl tt
+one p (Step q) _ solo = inl tt
+one p (BeginEdit r) reply solo = absurd solo
+one p (BeginWork q cell) reply solo = absurd solo
+one p (BeginShow q) reply solo = absurd solo
+one p (BeginRecover q) reply solo = absurd solo
+one p (Offer value) reply solo = absurd solo
+one p (Evict word) reply solo = inl tt
+one p (Stop q) reply solo = absurd solo
+one p Crash reply solo = absurd solo
 
 record FindsAnswer (p : ℕ) (events : List Event) (replies : List Reply) : Type 0 where
   k : ℕ
   answer : Answer
   happens : Happens events replies k (Step p) (Answered answer)
 
-first_answer : (p : ℕ) (events : List Event) (replies : List Reply) → AreUnanswered p events replies ⊎ FindsAnswer p events replies
-first_answer p [] replies = inl tt
-first_answer p (event ∷ events) [] = inl tt
-first_answer p (event ∷ events) (reply ∷ replies) = elim (one p event reply) [
-  | inl no_answer ↦ elim (first_answer p events replies) [
+first_answer : (p : ℕ) (events : List Event) (replies : List Reply) → IsSolo p events → AreUnanswered p events replies ⊎ FindsAnswer p events replies
+first_answer p [] replies solo = inl tt
+first_answer p (event ∷ events) [] solo = inl tt
+first_answer p (event ∷ events) (reply ∷ replies) solo = elim (one p event reply solo.0) [
+  | inl no_answer ↦ elim (first_answer p events replies solo.1) [
     | inl rest ↦ inl (no_answer, rest)
     | inr f ↦ inr (record { k = suc f.k; answer = f.answer; happens = record { event_is = f.happens.event_is; reply_is = f.happens.reply_is } })
   ]
@@ -64,7 +64,7 @@ done_there number (reply ∷ replies) (suc k) answer all is = done_there number 
 pub solo_answered : (old : WorldValue) (events : List Event) (replies : List Reply) (new : WorldValue) (p : ℕ) (e : PlainEdit) → IsSound (world_of old) → p < old.sheet.layout.processes
     → (world_of old).situation p ≡ Editing e → e.stage ≡ StoreHeader → WorldRun old events replies new → IsSolo p events → 67 + 3 * length e.refs ≤ own_steps p events replies
     → (k : ℕ) × Happens events replies k (Step p) (Answered (Done e.number))
-solo_answered old events replies new p e sound low at first run solo enough = elim (first_answer p events replies) [
+solo_answered old events replies new p e sound low at first run solo enough = elim (first_answer p events replies solo) [
   | inl never ↦ absurd (let few = few_own old events replies new p e sound low at run never in omega arith)
   | inr f ↦ (f.k, subst (λ (a : Answer). Happens events replies f.k (Step p) (Answered a)) (done_there e.number replies f.k f.answer (solo_done old events replies new p e sound at first run solo) f.happens.reply_is) f.happens)
 ]

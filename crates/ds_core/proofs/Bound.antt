@@ -22,7 +22,7 @@ use Rattle.ds_core.specs.Own.{own_step, own_steps, IsUnanswered, AreUnanswered, 
 use Rattle.ds_core.specs.declared.event.Event.{Event}
 use Rattle.ds_core.specs.declared.event.Event.TheVariants.{BeginEdit, BeginWork, BeginShow, BeginRecover, Step, Offer, Evict, Stop, Crash}
 use Rattle.ds_core.specs.declared.reply.Reply.{Reply}
-use Rattle.ds_core.specs.declared.reply.Reply.TheVariants.{Begun, Refused, Stepped, Answered, Evicted, NotEnabled}
+use Rattle.ds_core.specs.declared.reply.Reply.TheVariants.{Begun, Refused, Stepped, Answered, Evicted, Stopped, Crashed, NotEnabled}
 
 pub unanswered_at : (processes number : ℕ) (o : Option Outcome) → Stepped ≡ reply_with processes number o → o ≡ None
 unanswered_at processes number None is = refl
@@ -93,8 +93,10 @@ module _ (p : ℕ) (e : PlainEdit) (old new : WorldValue) (sound : IsSound (worl
   one_event (BeginShow q) reply h u = unchanged p e old new at h.1
   one_event (BeginRecover q) reply h u = unchanged p e old new at h.1
   one_event (Offer value) reply h u = unchanged p e old new at h.1
-  one_event (Stop q) reply h u = unchanged p e old new at h.1
-  one_event Crash reply h u = unchanged p e old new at h.1
+  one_event (Stop q) Stopped h u = still p e new (h.stops.others p (λ same. u (sym same)) ∙ at)
+  one_event (Stop q) NotEnabled h u = unchanged p e old new at h.same
+  one_event (Stop q) _ h u = absurd h
+  one_event Crash reply h u = absurd u
 
 -- the sheet keeps its layout
 pub same_layout : (old new : WorldValue) (event : Event) (reply : Reply) → Takes old event reply new → new.sheet.layout ≡ old.sheet.layout
@@ -113,8 +115,11 @@ same_layout old new (BeginWork q cell) reply h = ap (λ (v : WorldValue). v.shee
 same_layout old new (BeginShow q) reply h = ap (λ (v : WorldValue). v.sheet.layout) h.1
 same_layout old new (BeginRecover q) reply h = ap (λ (v : WorldValue). v.sheet.layout) h.1
 same_layout old new (Offer value) reply h = ap (λ (v : WorldValue). v.sheet.layout) h.1
-same_layout old new (Stop q) reply h = ap (λ (v : WorldValue). v.sheet.layout) h.1
-same_layout old new Crash reply h = ap (λ (v : WorldValue). v.sheet.layout) h.1
+same_layout old new (Stop q) Stopped h = h.stops.layout
+same_layout old new (Stop q) NotEnabled h = ap (λ (v : WorldValue). v.sheet.layout) h.same
+same_layout old new (Stop q) _ h = absurd h
+same_layout old new Crash Crashed h = h.crashes.layout
+same_layout old new Crash _ h = absurd h
 
 goes_further : (a b c : PlainEdit) (m n : ℕ) → GoesOn a m b → GoesOn b n c → GoesOn a (m + n) c
 goes_further a b c m n h k = let x = h.fewer in let y = k.fewer in record { text = k.text ∙ h.text; refs = k.refs ∙ h.refs; fewer = omega arith }
@@ -126,14 +131,14 @@ goes_through [] [] old new p e sound low at run u = unchanged p e old new at run
 goes_through (event ∷ events) (reply ∷ replies) old new p e sound low at run u =
     let first : Later p e (own_step p event reply) run.0 = one_event p e old run.0 sound low at event reply run.1.takes u.0 in
     let layout = same_layout old run.0 event reply run.1.takes in
-    let rest = goes_through events replies run.0 new p first.0 run.1.sound (rw layout low) first.1 run.2 u.1 in
+    let rest = goes_through events replies run.0 new p first.0 run.1.good.sound (rw layout low) first.1 run.2 u.1 in
     (rest.0, rest.1, goes_further e first.0 rest.0 (own_step p event reply) (own_steps p events replies) first.2 rest.2)
 goes_through [] (reply ∷ replies) old new p e sound low at run u = absurd run
 goes_through (event ∷ events) [] old new p e sound low at run u = absurd run
 
 run_sound : (events : List Event) (replies : List Reply) (old new : WorldValue) → IsSound (world_of old) → WorldRun old events replies new → IsSound (world_of new)
 run_sound [] [] old new sound run = subst (λ (v : WorldValue). IsSound (world_of v)) (sym run) sound
-run_sound (event ∷ events) (reply ∷ replies) old new sound run = run_sound events replies run.0 new run.1.sound run.2
+run_sound (event ∷ events) (reply ∷ replies) old new sound run = run_sound events replies run.0 new run.1.good.sound run.2
 run_sound [] (reply ∷ replies) old new sound run = absurd run
 run_sound (event ∷ events) [] old new sound run = absurd run
 

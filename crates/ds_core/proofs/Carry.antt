@@ -35,7 +35,7 @@ pub record RunOn (place : ℕ) (shape : Shape) (ledger : Ledger) (old : WorldVal
   pub steps : (i : ℕ) (event : Event) (reply : Reply) → Happens events replies i event reply → StepFits (place + i) shape (moment i) event reply (moment (i + 1))
   pub fits : (i : ℕ) → i ≤ length events → MomentFits (moment i)
 
-pub nothing_on : (place : ℕ) (shape : Shape) (ledger : Ledger) (old new : WorldValue) → new ≡ old → MomentFits (record { world = old; ledger = ledger }) → RunOn place shape ledger old [] [] new
+unfoldable pub nothing_on : (place : ℕ) (shape : Shape) (ledger : Ledger) (old new : WorldValue) → new ≡ old → MomentFits (record { world = old; ledger = ledger }) → RunOn place shape ledger old [] [] new
 nothing_on place shape ledger old new same fits = record {
   moment = λ i. record { world = old; ledger = ledger };
   first = refl;
@@ -57,11 +57,11 @@ module _ (place : ℕ) (shape : Shape) (ledger : Ledger) (old : WorldValue) (eve
   abbrev moments : ℕ → Moment
   moments = shifted start rest.moment
 
-  layouts_on : (i : ℕ) → i ≤ length (event ∷ events) → (moments i).world.sheet.layout ≡ old.sheet.layout
+  pub layouts_on : (i : ℕ) → i ≤ length (event ∷ events) → (moments i).world.sheet.layout ≡ old.sheet.layout
   layouts_on zero lt = refl
   layouts_on (suc i) lt = rest.layouts i (omega arith) ∙ step.layout
 
-  fits_on : (i : ℕ) → i ≤ length (event ∷ events) → MomentFits (moments i)
+  pub fits_on : (i : ℕ) → i ≤ length (event ∷ events) → MomentFits (moments i)
   fits_on zero lt = fits
   fits_on (suc i) lt = rest.fits i (omega arith)
 
@@ -74,7 +74,7 @@ module _ (place : ℕ) (shape : Shape) (ledger : Ledger) (old : WorldValue) (eve
   one_reply : (x y : Reply) → Some x ≡ Some y → x ≡ y
   one_reply x y is = cc
 
-  steps_on : (i : ℕ) (e : Event) (r : Reply) → Happens (event ∷ events) (reply ∷ replies) i e r → StepFits (place + i) shape (moments i) e r (moments (i + 1))
+  pub steps_on : (i : ℕ) (e : Event) (r : Reply) → Happens (event ∷ events) (reply ∷ replies) i e r → StepFits (place + i) shape (moments i) e r (moments (i + 1))
   steps_on zero e r happens =
       let here : place ≡ place + 0 = omega arith in
       subst (λ n. StepFits n shape start e r (moments 1)) here
@@ -87,7 +87,7 @@ module _ (place : ℕ) (shape : Shape) (ledger : Ledger) (old : WorldValue) (eve
       (subst (λ n. StepFits (place + 1 + i) shape (rest.moment i) e r (moments n)) after
           (rest.steps i e r (record { event_is = happens.event_is; reply_is = happens.reply_is })))
 
-  pub event_on : RunOn place shape ledger old (event ∷ events) (reply ∷ replies) new
+  unfoldable pub event_on : RunOn place shape ledger old (event ∷ events) (reply ∷ replies) new
   event_on = record {
     moment = moments;
     first = refl;
@@ -99,11 +99,11 @@ module _ (place : ℕ) (shape : Shape) (ledger : Ledger) (old : WorldValue) (eve
   }
 
 module _ (old : WorldValue) (events : List Event) (replies : List Reply) (new : WorldValue) (run : RunOn 0 old.sheet.layout.shape empty_ledger old events replies new) where
-  at_place : (k : ℕ) (event : Event) (reply : Reply) → Happens events replies k event reply → StepFits k old.sheet.layout.shape (run.moment k) event reply (run.moment (k + 1))
+  pub at_place : (k : ℕ) (event : Event) (reply : Reply) → Happens events replies k event reply → StepFits k old.sheet.layout.shape (run.moment k) event reply (run.moment (k + 1))
   at_place k event reply happens = let same : 0 + k ≡ k = omega arith in subst (λ n. StepFits n old.sheet.layout.shape (run.moment k) event reply (run.moment (k + 1))) same (run.steps k event reply happens)
 
   -- from the empty ledger on, a run without reports fits
-  pub fits_all : RunFits old events replies new
+  unfoldable pub fits_all : RunFits old events replies new
   fits_all = record {
     moment = run.moment;
     first = run.first;

@@ -249,7 +249,7 @@ module _ (old : WorldValue) (events : List Event) (replies : List Reply) (new : 
       | inr here ↦ (let same : k ≡ j = omega arith in subst (λ (i : ℕ). IsAway (i + 1) (at (i + 1)) e) same now.away)
     ])
 
-    stays : (j : ℕ) → k < j → j ≤ length events → Contains (at j).counted e ↔ Contains (at k).counted e
+    pub stays : (j : ℕ) → k < j → j ≤ length events → Contains (at j).counted e ↔ Contains (at k).counted e
     stays zero later within = absurd (omega arith)
     stays (suc j) later within = up (λ i. Contains (at i).counted e ↔ Contains (at k).counted e) j (elim (cases_lt k j) [
       | inl before ↦ (
@@ -259,7 +259,7 @@ module _ (old : WorldValue) (events : List Event) (replies : List Reply) (new : 
       | inr here ↦ (let same : k ≡ j = omega arith in subst (λ (i : ℕ). Contains (at (i + 1)).counted e ↔ Contains (at k).counted e) same now.same)
     ])
 
-    order : (f : Placed) → k < f.place → (j : ℕ) → j ≤ length events → Contains (at j).counted e → Contains (at j).counted f → Precedes (at j).counted e f
+    pub order : (f : Placed) → k < f.place → (j : ℕ) → j ≤ length events → Contains (at j).counted e → Contains (at j).counted f → Precedes (at j).counted e f
     order f later zero within e_there f_there = absurd (let l = (orderly 0 within).places f f_there in omega arith)
     order f later (suc j) within e_there f_there = elim (cases_lt k j) [
       | inl before ↦ up (λ i. Contains (at i).counted e → Contains (at i).counted f → Precedes (at i).counted e f) j
@@ -268,7 +268,7 @@ module _ (old : WorldValue) (events : List Event) (replies : List Reply) (new : 
     ]
 
   -- a run that fits has the headline
-  pub headline : Headline old events replies new
+  unfoldable pub headline : Headline old events replies new
   headline = record {
     run = run;
     closed = λ k p e lt closed j later within. stays k p e lt closed j later within;

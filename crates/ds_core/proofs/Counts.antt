@@ -15,7 +15,7 @@ use Rattle.ds_core.specs.Counts.{done_of, settled_of, IsReplyTo}
 use Rattle.ds_core.specs.declared.event.Event.{Event}
 use Rattle.ds_core.specs.declared.event.Event.TheVariants.{BeginEdit, BeginWork, BeginShow, BeginRecover, Step, Offer, Evict, Stop, Crash}
 use Rattle.ds_core.specs.declared.reply.Reply.{Reply}
-use Rattle.ds_core.specs.declared.reply.Reply.TheVariants.{Begun, Refused, Stepped, Answered, Evicted, NotEnabled}
+use Rattle.ds_core.specs.declared.reply.Reply.TheVariants.{Begun, Refused, Stepped, Answered, Evicted, Stopped, Crashed, NotEnabled}
 use Rattle.ds_core.proofs.Bound.{Later, one_event}
 
 -- what an event with this answer adds
@@ -57,9 +57,12 @@ adds old new (Evict place) _ h = absurd h
 adds old new (BeginWork p cell) reply h = subst (λ (r : Reply). Adds old (BeginWork p cell) r new) (sym h.0) (unchanged old new (BeginWork p cell) NotEnabled tt refl h.1)
 adds old new (BeginShow p) reply h = subst (λ (r : Reply). Adds old (BeginShow p) r new) (sym h.0) (unchanged old new (BeginShow p) NotEnabled tt refl h.1)
 adds old new (BeginRecover p) reply h = subst (λ (r : Reply). Adds old (BeginRecover p) r new) (sym h.0) (unchanged old new (BeginRecover p) NotEnabled tt refl h.1)
-adds old new (Stop p) reply h = subst (λ (r : Reply). Adds old (Stop p) r new) (sym h.0) (unchanged old new (Stop p) NotEnabled tt refl h.1)
+adds old new (Stop p) Stopped h = record { reply_is = tt; done = none old new h.done; reports = h.reports }
+adds old new (Stop p) NotEnabled h = unchanged old new (Stop p) NotEnabled tt refl h.same
+adds old new (Stop p) _ h = absurd h
 adds old new (Offer ev) reply h = subst (λ (r : Reply). Adds old (Offer ev) r new) (sym h.0) (unchanged old new (Offer ev) NotEnabled tt refl h.1)
-adds old new Crash reply h = subst (λ (r : Reply). Adds old Crash r new) (sym h.0) (unchanged old new Crash NotEnabled tt refl h.1)
+adds old new Crash Crashed h = record { reply_is = tt; done = none old new h.done; reports = h.reports }
+adds old new Crash _ h = absurd h
 
 self_eq : (p : ℕ) → (p == p) ≡ true
 self_eq p = elim (eqb_tells p p) [ inl same ↦ same.0 | inr other ↦ absurd (other.1 refl) ]

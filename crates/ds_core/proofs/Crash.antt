@@ -38,10 +38,10 @@ in_cell : (es : List Edit) (e : Edit) → Contains es e → Contains (of_cell e.
 unfolding of_cell
 in_cell es e there = to_filter (λ (f : Edit). f.cell == e.cell) es e there (eq-eqb e.cell e.cell refl)
 
-record IsOpenEdit (w : World) (e : Edit) : Type 0 where
-  issue : Issue
-  issued : w.pending e.process ≡ Some issue
-  same : issue.edit ≡ e
+pub record IsOpenEdit (w : World) (e : Edit) : Type 0 where
+  pub issue : Issue
+  pub issued : w.pending e.process ≡ Some issue
+  pub same : issue.edit ≡ e
 
 module _ (w : World) (sound : IsSound w) (e : Edit) (there : Contains w.counted e) where
   on_its_way : LostHead w.memory e → IsOnItsWay w (of_cell e.cell w.counted) (w.memory.persisted (Head e.cell)) → IsOpenEdit w e
@@ -65,7 +65,7 @@ module _ (w : World) (sound : IsSound w) (e : Edit) (there : Contains w.counted 
       ] in
       record { issue = b.issue; issued = ap (λ q. w.pending q) (sym process) ∙ b.pending; same = b.same ∙ one }
 
-  lost_open : keep w.memory e ≡ false → IsOpenEdit w e
+  pub lost_open : keep w.memory e ≡ false → IsOpenEdit w e
   lost_open lost = elim (sound.words (Head e.cell)).sides [
     | inl same ↦ absurd ((lost_head w.memory e lost).differ (sym same))
     | inr b ↦ on_its_way (lost_head w.memory e lost) b

@@ -1,8 +1,8 @@
 pub mod LedgerLemmas
 pub mod SheetLemmas
 pub mod Good
+pub mod Traces
 pub mod Moves
-pub mod Order
 pub mod Bound
 pub mod Counts
 pub mod Runs
@@ -13,8 +13,10 @@ pub mod Closing
 pub mod Acknowledged
 pub mod Examples
 pub mod Carry
-pub mod Today
-pub mod Texts
+pub mod Ledgers
 pub mod Crash
+pub mod Lost
+pub mod Stopped
 pub mod Alone
-pub mod QuietValues
+pub mod EachEvent
+pub mod EachRun

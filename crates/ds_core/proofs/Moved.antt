@@ -160,5 +160,4 @@ moved k shape old (Stop p) Stopped new h = stop_moved k _ old p new h
 moved k shape old (Stop p) NotEnabled new h = same_moved k _ old new h
 moved k shape old (Stop p) _ new h = absurd h
 moved k shape old Crash Crashed new h = loses_moved k _ old new h
-moved k shape old Crash NotEnabled new h = same_moved k _ old new h
 moved k shape old Crash _ new h = absurd h

@@ -24,7 +24,7 @@ use Rattle.ds_edit.proofs.Truth.{answer_true}
 use Rattle.ds_core.specs.Steps.{reply_with, StepsBy}
 use Rattle.ds_edit.specs.Endings.{answer_of, other_of, outcome_at}
 use Rattle.ds_core.specs.Takes.{Takes, WorldRun}
-use Rattle.ds_core.specs.Traces.{Stays, Issues, Counts, Closes, LedgerMoves, StandsOnce, LedgerRun}
+use Rattle.ds_core.proofs.Traces.{Stays, Issues, Counts, Closes, StepMoves}
 use Rattle.ds_core.specs.declared.event.Event.{Event}
 use Rattle.ds_core.specs.declared.event.Event.TheVariants.{BeginEdit, BeginWork, BeginShow, BeginRecover, Step, Offer, Evict, Stop, Crash}
 use Rattle.ds_core.specs.declared.reply.Reply.{Reply}
@@ -35,7 +35,7 @@ pub counts_at : (e : Edit) (s : Stage) (word : ℕ) → counted_at e s word ≡ 
 counts_at e (Swap noted) word is = (noted, refl)
 counts_at e _ word is = absurd (cc)
 
-same_stays : (old new : WorldValue) → new ≡ old → Stays (world_of old) (world_of new)
+pub same_stays : (old new : WorldValue) → new ≡ old → Stays (world_of old) (world_of new)
 same_stays old new same = subst (λ (v : WorldValue). Stays (world_of old) (world_of v)) (sym same) (record { counted = refl; pending = λ q. refl })
 
 not_below : (w : World) (e : Edit) → AreBelow w e.process e.number → Contains w.counted e → ⊥
@@ -45,7 +45,7 @@ same_since : (a b : Issue) → Some a ≡ Some b → a.since ≡ b.since
 same_since a b same = let one : a ≡ b = cc in ap (λ (i : Issue). i.since) one
 
 -- an edit begins
-begins_move : (old new : World) → IsSound old → (process cell : ℕ) (text : List ℕ) (number : ℕ) → IsBegun old process cell text number new
+pub begins_move : (old new : World) → IsSound old → (process cell : ℕ) (text : List ℕ) (number : ℕ) → IsBegun old process cell text number new
     → Issues old (record { process = process; number = number; cell = cell; text = text }) new
 begins_move old new sound process cell text number h =
     let e : PlainEdit = h.edit in
@@ -123,7 +123,7 @@ module _ (old new : WorldValue) (g : IsSound (world_of old)) (p : ℕ) (reply : 
       let since : t.since ≡ fits.since = same_since (record { edit = E; since = t.since }) (record { edit = E; since = fits.since }) (sym t.issued ∙ fits.pending) in
       subst (λ (n : ℕ). IsTrueOf (world_of old) E n how) since t.holds
 
-  answers : (how : Outcome) → h.edit.stage ≡ Answer how → LedgerMoves (world_of old) (Step p) (Answered (answer_of old.sheet.layout.processes h.edit.number how)) (world_of new)
+  answers : (how : Outcome) → h.edit.stage ≡ Answer how → StepMoves (world_of old) p (Answered (answer_of old.sheet.layout.processes h.edit.number how)) (world_of new)
   answers outcome.Done at = closes outcome.Done _ at (true_here outcome.Done at)
   answers (outcome.Overtaken noted seen) at =
       let t = true_here (outcome.Overtaken noted seen) at in
@@ -137,63 +137,9 @@ module _ (old new : WorldValue) (g : IsSound (world_of old)) (p : ℕ) (reply : 
         number = sym t.1.number ∙ ap (λ o. o.number) (sym found);
       })
 
-  pub step_moves : LedgerMoves (world_of old) (Step p) reply (world_of new)
+  pub step_moves : StepMoves (world_of old) p reply (world_of new)
   step_moves = by_outcome (outcome_at h.edit.stage) refl
     where
-      by_outcome : (o : Option Outcome) → outcome_at h.edit.stage ≡ o → LedgerMoves (world_of old) (Step p) reply (world_of new)
-      by_outcome None is = subst (λ (r : Reply). LedgerMoves (world_of old) (Step p) r (world_of new)) (sym (h.is ∙ ap (λ o. reply_with old.sheet.layout.processes h.edit.number o) is)) (steps_on is)
-      by_outcome (Some how) is = subst (λ (r : Reply). LedgerMoves (world_of old) (Step p) r (world_of new)) (sym (h.is ∙ ap (λ o. reply_with old.sheet.layout.processes h.edit.number o) is)) (answers how (answers_at h.edit.stage how is))
-
--- any event
-pub moves : (old new : WorldValue) → IsSound (world_of old) → (event : Event) (reply : Reply) → Takes old event reply new → LedgerMoves (world_of old) event reply (world_of new)
-moves old new g (BeginEdit r) (Begun number) h = begins_move (world_of old) (world_of new) g r.process _ r.text number h.begun
-moves old new g (BeginEdit r) (Refused why) h = same_stays old new h.same
-moves old new g (BeginEdit r) NotEnabled h = same_stays old new h.same
-moves old new g (BeginEdit r) _ h = absurd h
-moves old new g (Step p) Stepped h = step_moves old new g p Stepped h
-moves old new g (Step p) (Answered answer) h = step_moves old new g p (Answered answer) h
-moves old new g (Step p) NotEnabled h = same_stays old new h.same
-moves old new g (Step p) _ h = absurd h
-moves old new g (Evict place) Evicted h = record { counted = h.evicts.counted; pending = h.evicts.pending }
-moves old new g (Evict place) NotEnabled h = same_stays old new h.same
-moves old new g (Evict place) _ h = absurd h
-moves old new g (BeginWork p cell) reply h = same_stays old new h.1
-moves old new g (BeginShow p) reply h = same_stays old new h.1
-moves old new g (BeginRecover p) reply h = same_stays old new h.1
-moves old new g (Offer value) reply h = same_stays old new h.1
-moves old new g (Stop p) reply h = same_stays old new h.1
-moves old new g Crash reply h = same_stays old new h.1
-
--- no edit stands twice
-all_cons : (P : Edit → Type 0) (x : Edit) (xs : List Edit) → P x → All P xs → All P (x ∷ xs)
-all_cons P x xs h t zero d l = h
-all_cons P x xs h t (suc k) d l = t k d (omega arith)
-
-at_middle : (before : List Edit) (e : Edit) (after : List Edit) → Contains (before ++ e ∷ after) e
-at_middle [] e after = (zero, omega arith, refl)
-at_middle (x ∷ before) e after = let rest = at_middle before e after in (suc rest.0, (let l = rest.1 in omega arith), rest.2)
-
-in_order : (before : List Edit) (e : Edit) (after : List Edit) → Increasing (before ++ e ∷ after)
-    → All (λ f. f.process ≡ e.process → f.number < e.number) before × All (λ f. f.process ≡ e.process → e.number < f.number) after
-in_order [] e after h = ((λ k d l. absurd (omega arith)), h.0)
-in_order (x ∷ before) e after h =
-    let rest = in_order before e after h.1 in
-    let here : x.process ≡ e.process → x.number < e.number = λ same. All-contains (λ (f : Edit). f.process ≡ x.process → x.number < f.number) (before ++ e ∷ after) e h.0 (at_middle before e after) (sym same) in
-    (all_cons (λ (f : Edit). f.process ≡ e.process → f.number < e.number) x before here rest.0, rest.1)
-
-pub stands_once : (es : List Edit) → Increasing es → StandsOnce es
-stands_once es h before e after parts =
-    let o = in_order before e after (subst Increasing parts h) in (
-      (λ there. let l = All-contains (λ (f : Edit). f.process ≡ e.process → f.number < e.number) before e o.0 there refl in omega arith),
-      (λ there. let l = All-contains (λ (f : Edit). f.process ≡ e.process → e.number < f.number) after e o.1 there refl in omega arith),
-    )
-
--- a run of worlds is a run of ledgers
-pub ledger_runs : (old : WorldValue) (events : List Event) (replies : List Reply) (new : WorldValue) → IsSound (world_of old) → WorldRun old events replies new → LedgerRun (world_of old) events replies (world_of new)
-ledger_runs old [] [] new g run = (stands_once old.counted g.increasing, same_stays old new run)
-ledger_runs old (event ∷ events) (reply ∷ replies) new g run = (
-  stands_once old.counted g.increasing,
-  (world_of run.0, moves old run.0 g event reply run.1.takes, ledger_runs run.0 events replies new run.1.sound run.2),
-)
-ledger_runs old [] (reply ∷ replies) new g run = absurd run
-ledger_runs old (event ∷ events) [] new g run = absurd run
+      by_outcome : (o : Option Outcome) → outcome_at h.edit.stage ≡ o → StepMoves (world_of old) p reply (world_of new)
+      by_outcome None is = subst (λ (r : Reply). StepMoves (world_of old) p r (world_of new)) (sym (h.is ∙ ap (λ o. reply_with old.sheet.layout.processes h.edit.number o) is)) (steps_on is)
+      by_outcome (Some how) is = subst (λ (r : Reply). StepMoves (world_of old) p r (world_of new)) (sym (h.is ∙ ap (λ o. reply_with old.sheet.layout.processes h.edit.number o) is)) (answers how (answers_at h.edit.stage how is))

@@ -104,7 +104,7 @@ pub solo_run : (events : List Event) (replies : List Reply) (old new : WorldValu
 solo_run [] [] old new p number sound a run solo = tt
 solo_run (event ∷ events) (reply ∷ replies) old new p number sound a run solo =
     let first = one_event old run.0 sound p number a event reply run.1.takes solo.0 in
-    (first.0, solo_run events replies run.0 new p number run.1.sound first.1 run.2 solo.1)
+    (first.0, solo_run events replies run.0 new p number run.1.good.sound first.1 run.2 solo.1)
 solo_run [] (reply ∷ replies) old new p number sound a run solo = absurd run
 solo_run (event ∷ events) [] old new p number sound a run solo = absurd run
 

@@ -20,11 +20,12 @@ use Rattle.ds_edit.specs.Worlds.{counted_at}
 use Rattle.ds_core.specs.Steps.{StepsBy}
 use Rattle.ds_edit.specs.Endings.{answer_of, outcome_at}
 use Rattle.ds_core.specs.Takes.{Takes, WorldRun}
-use Rattle.ds_core.specs.Traces.{LedgerRun}
 use Rattle.ds_core.specs.Spent.{IsOut}
 use Rattle.ds_state.specs.Spent.{IsSpent}
 use Rattle.ds_state.specs.Rely.{Keeps}
-use Rattle.ds_state.proofs.Spent.{spent_grown, spent_stays, spent_evicted, swap_unspent, answer_spent}
+use Rattle.ds_state.proofs.Spent.{spent_grown, spent_stays, spent_evicted, spent_crashed, swap_unspent, answer_spent}
+use Rattle.ds_state.proofs.Stopping.{stop_keeps}
+use Rattle.ds_state.proofs.Crashed.{was_counted}
 use Rattle.ds_layout.specs.declared.place.Place.TheVariants.{Announce}
 use Rattle.ds_edit.proofs.Sound.{step_sound}
 use Rattle.ds_core.specs.declared.event.Event.{Event}
@@ -32,11 +33,10 @@ use Rattle.ds_core.specs.declared.event.Event.TheVariants.{BeginEdit, BeginWork,
 use Rattle.ds_edit.specs.declared.answer.Other.{Other}
 use Rattle.ds_edit.specs.declared.answer.Answer.TheVariants.{Overtaken}
 use Rattle.ds_core.specs.declared.reply.Reply.{Reply}
-use Rattle.ds_core.specs.declared.reply.Reply.TheVariants.{Begun, Refused, Stepped, Answered, Evicted, NotEnabled}
+use Rattle.ds_core.specs.declared.reply.Reply.TheVariants.{Begun, Refused, Stepped, Answered, Evicted, Stopped, Crashed, NotEnabled}
 use Rattle.ds_core.proofs.Good.{counted_cases, answers_at}
 use Rattle.ds_core.proofs.Moves.{counts_at}
 use Rattle.ds_core.proofs.Solo.{some_outcome}
-use Rattle.ds_core.proofs.Order.{run_grown}
 
 contains_one : (e f : Edit) → Contains (e ∷ []) f → f ≡ e
 contains_one e f (zero, lt, is) = sym is
@@ -90,15 +90,18 @@ module _ (old new : WorldValue) (sound : IsSound (world_of old)) (p n : ℕ) (sp
   one_event (BeginShow q) reply h = unchanged h.1
   one_event (BeginRecover q) reply h = unchanged h.1
   one_event (Offer value) reply h = unchanged h.1
-  one_event (Stop q) reply h = unchanged h.1
-  one_event Crash reply h = unchanged h.1
+  one_event (Stop q) Stopped h = (spent_stays q (world_of old) (world_of new) (stop_keeps q (world_of old) (world_of new) sound h.there h.stops) p n spent, same_list h.stops.counted)
+  one_event (Stop q) NotEnabled h = unchanged h.same
+  one_event (Stop q) _ h = absurd h
+  one_event Crash Crashed h = (spent_crashed (world_of old) (world_of new) h.crashes p n spent, λ e there. out e (was_counted (world_of old) (world_of new) sound h.crashes e there))
+  one_event Crash _ h = absurd h
 
 pub stays_out : (events : List Event) (replies : List Reply) (old new : WorldValue) (p n : ℕ) → IsSound (world_of old) → IsSpent (world_of old) p n → IsOut (world_of old) p n → WorldRun old events replies new
     → IsSpent (world_of new) p n × IsOut (world_of new) p n
 stays_out [] [] old new p n sound spent out run = unchanged old new sound p n spent out run
 stays_out (event ∷ events) (reply ∷ replies) old new p n sound spent out run =
     let first = one_event old run.0 sound p n spent out event reply run.1.takes in
-    stays_out events replies run.0 new p n run.1.sound first.0 first.1 run.2
+    stays_out events replies run.0 new p n run.1.good.sound first.0 first.1 run.2
 stays_out [] (reply ∷ replies) old new p n sound spent out run = absurd run
 stays_out (event ∷ events) [] old new p n sound spent out run = absurd run
 
@@ -136,9 +139,3 @@ overtaken_never old mid new events replies p n other sound takes run =
     let kept : Keeps p (world_of old) (world_of mid) = subst (λ (q : ℕ). Keeps q (world_of old) (world_of mid)) takes.mine
     (step_sound takes.edit takes.word (world_of old) (world_of mid) sound (rw takes.mine takes.there) (ap (λ q. (world_of old).situation q) takes.mine ∙ takes.at) takes.steps) in
     stays_out events replies mid new p n kept.sound o.0 o.1 run
-
--- what counts goes on counting
-pub counted_stays : (old : World) (events : List Event) (replies : List Reply) (new : World) (e : Edit) → LedgerRun old events replies new → Contains old.counted e → Contains new.counted e
-counted_stays old events replies new e run there =
-    let grown = run_grown old events replies new run in
-    subst (λ (es : List Edit). Contains es e) (sym grown.1) (Contains-append_left old.counted grown.0 e there)

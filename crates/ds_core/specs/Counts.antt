@@ -2,9 +2,9 @@
 use Rattle.std.specs.Prelude.{ℕ}
 use Rattle.ds_edit.specs.declared.answer.Answer.TheVariants.{Done}
 use Rattle.ds_core.specs.declared.event.Event.{Event}
-use Rattle.ds_core.specs.declared.event.Event.TheVariants.{BeginEdit, Step, Evict}
+use Rattle.ds_core.specs.declared.event.Event.TheVariants.{BeginEdit, Step, Evict, Stop, Crash}
 use Rattle.ds_core.specs.declared.reply.Reply.{Reply}
-use Rattle.ds_core.specs.declared.reply.Reply.TheVariants.{Begun, Refused, Stepped, Answered, Evicted, NotEnabled}
+use Rattle.ds_core.specs.declared.reply.Reply.TheVariants.{Begun, Refused, Stepped, Answered, Evicted, Stopped, Crashed, NotEnabled}
 
 -- the event may be answered so
 abbrev pub IsReplyTo : Event → Reply → Type 0
@@ -13,6 +13,9 @@ IsReplyTo (BeginEdit r) (Refused why) = Unit {0}
 IsReplyTo (Step p) Stepped = Unit {0}
 IsReplyTo (Step p) (Answered answer) = Unit {0}
 IsReplyTo (Evict place) Evicted = Unit {0}
+IsReplyTo (Stop p) Stopped = Unit {0}
+IsReplyTo Crash Crashed = Unit {0}
+IsReplyTo Crash reply = ⊥
 IsReplyTo event NotEnabled = Unit {0}
 IsReplyTo event reply = ⊥
 

@@ -5,16 +5,13 @@ use Rattle.ds_formula.specs.Cells.{index_of}
 use Rattle.ds_eval.specs.declared.value.Value.{Value}
 use Rattle.ds_layout.specs.declared.place.Place.{Place}
 use Rattle.ds_layout.specs.declared.place.Place.TheVariants as place
-use Rattle.ds_layout.specs.declared.mark.State.TheVariants.{Clean}
-use Rattle.ds_layout.specs.declared.announcement.Phase.TheVariants as phase
 use Rattle.ds_layout.specs.Places.{cells_of}
-use Rattle.ds_layout.specs.Mark.{mark_of, state_of}
-use Rattle.ds_layout.specs.Announcement.{announcement_word}
 use Rattle.ds_state.specs.World.{Edit, World, is_edit_of}
-use Rattle.ds_state.specs.Shown.{AllClean}
+use Rattle.ds_state.specs.Owing.{IsClean}
+use Rattle.ds_state.specs.KnownShow.{IsStill, IsPendingWord, AreScratch, moment_of}
 use Rattle.ds_state.specs.Value.{WorldValue, world_of}
-use Rattle.ds_core.specs.Takes.{Takes}
-use Rattle.ds_core.specs.Moments.{Placed, Open, empty_ledger, edits_in, AreOf, Moment, MomentFits}
+use Rattle.ds_core.specs.Takes.{Takes, WorldRun, world_at}
+use Rattle.ds_core.specs.Moments.{Placed, Open, empty_ledger, edits_in, Moment, MomentFits}
 use Rattle.ds_core.specs.Requests.{PlainRequest}
 use Rattle.ds_core.specs.LedgerSteps.{WordsMove, LedgerMoves}
 use Rattle.ds_core.specs.declared.event.Event.{Event}
@@ -42,26 +39,17 @@ pub record IsCall (events : List Event) (replies : List Reply) (p start k : ℕ)
   pub earlier : start < k
   pub last : (j : ℕ) → start < j → j < k → Happens events replies j (BeginShow p) Entered → ⊥
 
--- the word announces an edit that is pending
-abbrev pub IsPendingWord : ℕ → Type 0
-IsPendingWord word = (n : ℕ) × (word ≡ announcement_word (record { number = n; phase = phase.Pending }))
-
--- no announcement is pending, and every cell is clean
-pub record IsStill (w : World) : Type 0 where
-  pub calm : (q : ℕ) → q < w.layout.processes → IsPendingWord (w.memory.cached (place.Announce q)) → ⊥
-  pub clean : AllClean w.layout w.memory
-
 -- at a moment of the call all is still, and the values are those of the edits that count then
 pub record SettledFits (moment : ℕ → Moment) (start k : ℕ) (values : List Value) : Type 0 where
   pub at : ℕ
   pub later : start < at
   pub until : at ≤ k
-  pub still : IsStill (world_of (moment at).world)
-  pub right : AreOf (moment at).world.sheet.layout.shape (edits_in (moment at).ledger) values
+  pub still : IsStill (moment at).world.sheet.layout (moment_of (world_of (moment at).world))
+  pub right : AreScratch (moment at).world.sheet.layout.shape (edits_in (moment at).ledger) values
 
 -- the place is a mark or an announcement of the sheet, and its word one that is not at rest
 abbrev pub IsUnrest : World → Place → ℕ → Type 0
-IsUnrest w (place.Mark c) word = (c < cells_of w.layout) × (state_of (mark_of w.layout.processes word) ≢ Clean)
+IsUnrest w (place.Mark c) word = (c < cells_of w.layout) × (IsClean word → ⊥)
 IsUnrest w (place.Announce q) word = (q < w.layout.processes) × IsPendingWord word
 IsUnrest w r word = ⊥
 
@@ -130,6 +118,11 @@ pub record Headline (old : WorldValue) (events : List Event) (replies : List Rep
   pub order : (k p : ℕ) (e f : Placed) → k < length events → IsClosed run.moment k p e → k < f.place
       → (j : ℕ) → j ≤ length events → Contains (run.moment j).ledger.counted e → Contains (run.moment j).ledger.counted f
       → Precedes (run.moment j).ledger.counted e f
+
+-- a run of worlds has the headline, and the moments are those of its own worlds
+pub record HasHeadline (old : WorldValue) (events : List Event) (replies : List Reply) (new : WorldValue) (run : WorldRun old events replies new) : Type 0 where
+  pub is : Headline old events replies new
+  pub worlds : (k : ℕ) → k ≤ length events → (is.run.moment k).world ≡ world_at old events replies new run k
 
 -- ---- what a caller is told
 

@@ -155,5 +155,4 @@ LedgerMoves place shape old (Evict word) NotEnabled new = new ≡ old
 LedgerMoves place shape old (Stop p) Stopped new = new ≡ record old { opens = put old.opens p (in_doubt (old.opens p)) }
 LedgerMoves place shape old (Stop p) NotEnabled new = new ≡ old
 LedgerMoves place shape old Crash Crashed new = Loses old new
-LedgerMoves place shape old Crash NotEnabled new = new ≡ old
 LedgerMoves place shape old event reply new = ⊥

@@ -3,9 +3,9 @@ pub mod PlainSheet
 pub mod Kept
 pub mod Requests
 pub mod Steps
+pub mod Stops
 pub mod Takes
 pub mod Counts
-pub mod Traces
 pub mod Own
 pub mod Solo
 pub mod Spent

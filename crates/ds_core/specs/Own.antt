@@ -6,9 +6,9 @@ use Rattle.ds_state.specs.declared.situation.Situation.{Situation}
 use Rattle.ds_state.specs.declared.situation.Situation.TheVariants.{Editing}
 use Rattle.ds_edit.specs.Steps.{rank}
 use Rattle.ds_core.specs.declared.event.Event.{Event}
-use Rattle.ds_core.specs.declared.event.Event.TheVariants.{Step}
+use Rattle.ds_core.specs.declared.event.Event.TheVariants.{Step, Stop, Crash}
 use Rattle.ds_core.specs.declared.reply.Reply.{Reply}
-use Rattle.ds_core.specs.declared.reply.Reply.TheVariants.{Stepped, Answered}
+use Rattle.ds_core.specs.declared.reply.Reply.TheVariants.{Stepped, Answered, Stopped}
 
 -- one for a step of the process, 0 for another event and for a step that can not happen
 abbrev pub own_step : ℕ → Event → Reply → ℕ
@@ -21,9 +21,11 @@ abbrev pub own_steps : ℕ → List Event → List Reply → ℕ
 own_steps p (event ∷ events) (reply ∷ replies) = own_step p event reply + own_steps p events replies
 own_steps p events replies = 0
 
--- the process is not answered
+-- the process is not answered, and does not stop
 abbrev pub IsUnanswered : ℕ → Event → Reply → Type 0
 IsUnanswered p (Step q) (Answered answer) = q ≡ p → ⊥
+IsUnanswered p (Stop q) Stopped = q ≡ p → ⊥
+IsUnanswered p Crash reply = ⊥
 IsUnanswered p event reply = Unit {0}
 
 -- in a run

@@ -1,14 +1,14 @@
 -- What each event does to a world, and what is answered.
-use Rattle.std.specs.Prelude.{ℕ, ◌≡◌, ◌<◌, List, [], ◌∷◌}
+use Rattle.std.specs.Prelude.{ℕ, ◌≡◌, ◌<◌, List, [], ◌∷◌, zero, suc}
 use Rattle.ds_formula.specs.Cells.{IsInside, index_of}
-use Rattle.ds_state.specs.Value.{WorldValue, world_of}
-use Rattle.ds_state.specs.Sound.{IsSound}
+use Rattle.ds_state.specs.Value.{WorldValue, world_of, IsGood}
 use Rattle.ds_edit.specs.Begun.{IsBegun, Refuses}
 use Rattle.ds_state.specs.declared.refusal.Refusal.{Refusal}
 use Rattle.ds_core.specs.Requests.{PlainRequest}
 use Rattle.ds_core.specs.Steps.{SameReports, StepTakes, EvictTakes}
+use Rattle.ds_core.specs.Stops.{StopTakes, CrashTakes}
 use Rattle.ds_core.specs.declared.event.Event.{Event}
-use Rattle.ds_core.specs.declared.event.Event.TheVariants.{BeginEdit, Step, Evict}
+use Rattle.ds_core.specs.declared.event.Event.TheVariants.{BeginEdit, Step, Evict, Stop, Crash}
 use Rattle.ds_core.specs.declared.reply.Reply.{Reply}
 use Rattle.ds_core.specs.declared.reply.Reply.TheVariants.{Begun, Refused, NotEnabled}
 
@@ -47,12 +47,14 @@ abbrev pub Takes : WorldValue → Event → Reply → WorldValue → Type 0
 Takes old (BeginEdit r) reply new = BeginTakes old r reply new
 Takes old (Step p) reply new = StepTakes old p reply new
 Takes old (Evict place) reply new = EvictTakes old place reply new
+Takes old (Stop p) reply new = StopTakes old p reply new
+Takes old Crash reply new = CrashTakes old reply new
 Takes old event reply new = (reply ≡ NotEnabled) × (new ≡ old)
 
--- so between sound worlds
+-- the event happens so, and the world after it is good
 pub record Fits (old : WorldValue) (event : Event) (reply : Reply) (new : WorldValue) : Type 0 where
   pub takes : Takes old event reply new
-  pub sound : IsSound (world_of new)
+  pub good : IsGood new
 
 -- a run: each event with its reply, from world to world
 abbrev pub WorldRun : WorldValue → List Event → List Reply → WorldValue → Type 0
@@ -60,3 +62,8 @@ WorldRun old [] [] new = new ≡ old
 WorldRun old (event ∷ events) (reply ∷ replies) new = (mid : WorldValue) × Fits old event reply mid × WorldRun mid events replies new
 WorldRun old [] (reply ∷ replies) new = ⊥
 WorldRun old (event ∷ events) [] new = ⊥
+
+-- the world of a run before the event at this place, and behind its last event
+abbrev pub world_at : (old : WorldValue) (events : List Event) (replies : List Reply) (new : WorldValue) → WorldRun old events replies new → ℕ → WorldValue
+world_at old (event ∷ events) (reply ∷ replies) new run (suc k) = world_at run.0 events replies new run.2 k
+world_at old events replies new run k = old

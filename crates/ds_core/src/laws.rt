@@ -3,7 +3,8 @@
 ghost use Rattle.std.specs.Prelude.{◌≡◌, ◌<◌, ◌≤◌, ◌+◌, ◌*◌, ℕ, List, length, Contains};
 ghost use Rattle.ds_state.specs.Edits.{PlainEdit};
 ghost use Rattle.ds_state.specs.World.{Edit, World};
-ghost use Rattle.ds_state.specs.Value.{WorldValue, world_of};
+ghost use Rattle.ds_state.specs.Fresh.{IsNew};
+ghost use Rattle.ds_state.specs.Value.{WorldValue, world_of, IsGood};
 ghost use Rattle.ds_state.specs.Sound.{IsSound};
 ghost use Rattle.ds_state.specs.declared.stage.Stage.TheVariants.{StoreHeader};
 ghost use Rattle.ds_state.specs.declared.situation.Situation.TheVariants.{Editing};
@@ -14,31 +15,11 @@ ghost use Rattle.ds_edit.specs.declared.answer.Answer.TheVariants.{Done, Overtak
 ghost use Rattle.ds_core.specs.declared.reply.Reply.TheVariants.{Answered};
 ghost use Rattle.ds_core.specs.declared.reply.Reply.{Reply};
 ghost use Rattle.ds_core.specs.Takes.{Takes, WorldRun};
-ghost use Rattle.ds_core.specs.Traces.{LedgerRun, DoneThenIssued, StandsBefore};
-ghost use Rattle.ds_core.specs.Headline.{Happens, RunFits, Headline, IsAcknowledged};
+ghost use Rattle.ds_core.specs.Headline.{Happens, RunFits, Headline, HasHeadline, IsAcknowledged};
 ghost use Rattle.ds_core.specs.Own.{own_steps, AreUnanswered};
 ghost use Rattle.ds_state.specs.Spent.{IsSpent};
 ghost use Rattle.ds_core.specs.Spent.{IsOut};
 ghost use Rattle.ds_core.specs.Solo.{IsSolo, AreDoneOnly};
-
-/// For each list of events, those that can happen and those that can not: one list of edits that
-/// count exists at each moment, in which no edit stands twice, and each event moves it as it says.
-/// An edit that is begun is issued and does not count; a step leaves the list, or lets its process's
-/// edit count, which did not; Done is answered only of an edit that counts, and Overtaken only of
-/// one that does not, while the edit that it names is of the same cell and came to count since the
-/// issue. Detectable execution (Friedman, Herlihy, Marathe, Petrank, PPoPP 2018), without crashes.
-#[tactic(auto, using(crate::proofs::Moves::ledger_runs))]
-pub fn runs_move_the_ledger()
-    ensures { (old : WorldValue) (events : List Event) (replies : List Reply) (new : WorldValue)
-        → IsSound (world_of old) → WorldRun old events replies new
-        → LedgerRun (world_of old) events replies (world_of new) }
-{}
-
-/// An edit that counts goes on counting: one that was answered Done stands in the list for good.
-pub fn counted_edits_stay()
-    ensures { (old : World) (events : List Event) (replies : List Reply) (new : World) (e : Edit)
-        → LedgerRun old events replies new → Contains old.counted e → Contains new.counted e }
-{}
 
 /// An edit that is answered Overtaken does not count then and never will: its number is spent, and
 /// stays so.
@@ -48,14 +29,6 @@ pub fn overtaken_edits_stay_out()
         → Takes old (Step p) (Answered (Overtaken number other)) mid
         → WorldRun mid events replies new
         → IsSpent (world_of new) p number × IsOut (world_of new) p number }
-{}
-
-/// An edit that is answered Done before another one is issued stands before it, where that one comes
-/// to count.
-#[tactic(auto, using(crate::proofs::Order::done_before))]
-pub fn done_stands_before()
-    ensures { (h : DoneThenIssued) → Contains h.last.counted h.second
-        → StandsBefore h.last.counted h.done.issue.edit h.second }
 {}
 
 /// From its beginning until it is answered, an edit with r references makes fewer than 3r + 67 steps
@@ -76,6 +49,19 @@ pub fn solo_edits_are_done()
         (p : ℕ) (e : PlainEdit) → IsSound (world_of old)
         → (world_of old).situation p ≡ Editing e → e.stage ≡ StoreHeader
         → WorldRun old events replies new → IsSolo p events → AreDoneOnly e.number replies }
+{}
+
+/// The headline, for every list of events, those that can happen and those that can not: a ledger
+/// exists at each moment of the run, which each event moves as it may, with one list of the edits that
+/// count. At each moment no edit stands in it twice, each cell's words have the text of its last edit
+/// there, and where no edit is open and no cell is dirty or held they show the values of its sheet from
+/// scratch. An edit, once answered, stays in the list or stays out, through stops and crashes, and
+/// stands before each edit that is begun later. Detectable execution (Friedman, Herlihy, Marathe,
+/// Petrank, PPoPP 2018).
+pub fn runs_have_the_headline()
+    ensures { (old : WorldValue) (events : List Event) (replies : List Reply) (new : WorldValue)
+        → IsNew (world_of old) → IsGood old → (run : WorldRun old events replies new)
+        → HasHeadline old events replies new run }
 {}
 
 /// A run that fits has the headline: an edit, once closed, stays in the list of those that count or

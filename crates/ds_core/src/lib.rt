@@ -7,4 +7,5 @@ pub mod laws;
 pub mod reply;
 pub mod sheet;
 pub mod step;
+pub mod stop;
 pub mod take;

@@ -10,6 +10,7 @@ ghost use Rattle.ds_core.specs.Takes.{BeginTakes, Takes, Fits, WorldRun};
 use crate::event::{Event, Request};
 use crate::reply::Reply;
 use crate::step::{evict, step};
+use crate::stop::{crash, stop};
 use ds_edit::begin::begin;
 use ds_state::world::World;
 use std::alloc::{AllocError, Global};
@@ -35,8 +36,10 @@ fn happen(alloc: Global, world: &mut World, event: &Event) -> Reply
         Event::BeginEdit(request) => begin_edit(alloc, world, request),
         Event::Step(process) => step(world, *process),
         Event::Evict(place) => evict(world, *place),
+        Event::Stop(process) => stop(world, *process),
+        Event::Crash => crash(world),
         Event::BeginWork(_, _) | Event::BeginShow(_) | Event::BeginRecover(_) => Reply::NotEnabled,
-        Event::Offer(_) | Event::Stop(_) | Event::Crash => Reply::NotEnabled,
+        Event::Offer(_) => Reply::NotEnabled,
     }
 }
 
@@ -54,9 +57,9 @@ pub fn take(alloc: Global, world: &mut World, event: &Event) -> Reply
     ensures fewer { (p : ℕ) → event.now ≡ Step p → result ≡ Stepped
         → steps_left p world.new < steps_left p world.old }
 {
-    world.is_sound();
+    world.is_always_good();
     let reply = happen(alloc, world, event);
-    world.is_sound();
+    world.is_always_good();
     reply
 }
 

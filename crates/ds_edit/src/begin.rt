@@ -22,7 +22,7 @@ use ds_layout::place::RECORDS;
 use ds_state::edit::EditCall;
 use ds_state::ledger::{Edit, Issue};
 use ds_state::refusal::Refusal;
-use ds_state::situation::Situation;
+use ds_state::situation::{put, Situation};
 use ds_state::stage::Stage;
 use ds_state::text::Text;
 use ds_state::world::World;
@@ -105,15 +105,6 @@ pub fn prepared(
         stage: Stage::StoreHeader,
     };
     Ok((call, content))
-}
-
-// Puts a process into a situation.
-fn put(situations: &mut Vec<Situation>, process: usize, situation: Situation)
-    requires { process < vec_len situations.old }
-    ensures items { situations.new.items ≡ slice_set situations.old.items process situation }
-    ensures count { vec_len situations.new ≡ vec_len situations.old }
-{
-    situations[process] = situation;
 }
 
 // Begins an edit of the sheet.

@@ -1,5 +1,5 @@
 -- The head of a cell.
-use Rattle.std.specs.Prelude.{ℕ, ◌+◌, ◌*◌, ◌/◌, ◌%◌, ◌^◌, ◌<◌, Option, Some, None, nat_lt, ◌&&◌, if◌then◌else◌}
+use Rattle.std.specs.Prelude.{ℕ, ◌+◌, ◌*◌, ◌/◌, ◌%◌, ◌^◌, ◌<◌, ◌==◌, Bool, Option, Some, None, nat_lt, ◌&&◌, if◌then◌else◌}
 use Rattle.ds_layout.specs.declared.head.Head.{Head}
 
 -- each part fits its place in the word
@@ -22,3 +22,7 @@ abbrev pub head_of : ℕ → ℕ → Option Head
 head_of processes word =
     let head : Head = record { stamp = word / 65536; process = word / 256 % 256; number = word % 256 } in
     if nat_lt 0 head.stamp && nat_lt head.process processes then Some head else None
+
+-- whether the word names this edit of this process, whatever its stamp
+abbrev pub names_edit : ℕ → ℕ → ℕ → Bool
+names_edit word process number = word % 65536 == process * 256 + number

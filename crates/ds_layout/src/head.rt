@@ -1,7 +1,7 @@
 //! The head of a cell: its last counted edit.
 
 ghost use Rattle.std.specs.Prelude.{◌≡◌, ℕ, ◌<◌, IfSome};
-ghost use Rattle.ds_layout.specs.Head.{CanPack, IsHead, head_word, head_of};
+ghost use Rattle.ds_layout.specs.Head.{CanPack, IsHead, head_word, head_of, names_edit};
 
 /// An edit of a cell, by its process and its number there. The stamp counts the edits of the cell,
 /// from 1.
@@ -48,5 +48,14 @@ impl Head {
         } else {
             None
         }
+    }
+
+    /// Whether a head's word names this edit of this process, whatever its stamp. Both are below 256.
+    pub fn names(word: u64, process: usize, number: usize) -> bool
+        requires process { process < 256 }
+        requires number { number < 256 }
+        ensures { result ≡ names_edit word process number }
+    {
+        word % 65536 == process as u64 * 256 + number as u64
     }
 }

@@ -289,7 +289,7 @@ module _ (old new : World) (sound : IsSound old) (crash : CrashesTo old new) whe
   pub crash_sound : IsSound new
   crash_sound = record {
     words = crash_words old new sound crash;
-    calls = λ p l. subst (λ (s : Situation). CallFits new p s) (sym (crash.situation p)) (record {
+    calls = λ p l. subst (λ (s : Situation). CallFits new p s) (sym (crash.situation p (rw (sym crash.layout) l))) (record {
       buffer = crash.memory.buffer p;
       doubt = stopped_left p (old.situation p) (sound.calls p (rw (sym crash.layout) l));
     });

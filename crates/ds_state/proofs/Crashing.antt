@@ -72,7 +72,7 @@ module _ (old new : World) (sound : IsSound old) (crash : CrashesTo old new) (le
   excused c x o = record {
     process = o.process;
     inside = rw crash.layout o.inside;
-    still = subst (λ (s : Situation). Excuses new o.process s c x) (sym (crash.situation o.process)) (pends o.process c (pends_while old o.process (old.situation o.process) c x (sound.calls o.process o.inside) o.still));
+    still = subst (λ (s : Situation). Excuses new o.process s c x) (sym (crash.situation o.process o.inside)) (pends o.process c (pends_while old o.process (old.situation o.process) c x (sound.calls o.process o.inside) o.still));
   }
 
   owing : (r c x : ℕ) → CellOwes old r c x → CellOwes new r c x
@@ -84,7 +84,7 @@ module _ (old new : World) (sound : IsSound old) (crash : CrashesTo old new) (le
       record {
         holder = o.holder;
         held = record { by = omega arith; same = omega arith };
-        still = subst (λ (s : Situation). Owes new.memory o.holder s r c x) (sym (crash.situation o.holder)) tt;
+        still = subst (λ (s : Situation). Owes new.memory o.holder s r c x) (sym (crash.situation o.holder ((sound.words (Mark r)).holder o.holder o.held.by).0)) tt;
       }
 
   -- the persisted head is of an edit that stays

@@ -16,7 +16,7 @@ use Rattle.ds_state.specs.declared.situation.Situation.{Situation}
 use Rattle.ds_state.specs.declared.situation.Situation.TheVariants.{Editing}
 use Rattle.ds_state.proofs.Frames.{Moves, CatchesUp}
 use Rattle.ds_state.proofs.Bearing.{Buffered, Mine, durable_least, on_its_way_excuses}
-use Rattle.ds_state.proofs.WorkSteps.{matters_most, odd_above}
+use Rattle.ds_state.proofs.Telling.{matters_most, odd_above}
 
 abbrev pub edit_on : PlainEdit → Stage → PlainEdit
 edit_on e s = record e { stage = s }

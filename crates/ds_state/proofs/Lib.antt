@@ -8,8 +8,8 @@ pub mod Stable
 pub mod Found
 pub mod Frames
 pub mod Bearing
-pub mod WorkSteps
 pub mod Dirty
+pub mod Telling
 pub mod EditSteps
 pub mod EditFrame
 pub mod RecoveryFrame
@@ -35,16 +35,6 @@ pub mod Sides
 pub mod Counting
 pub mod Padded
 pub mod Few
-pub mod WholeSteps
-pub mod WorkFrame
-pub mod WorkClaims
-pub mod WorkOwn
-pub mod WorkLoads
-pub mod WorkTells
-pub mod WorkEnds
-pub mod WorkRead
-pub mod EachWork
-pub mod WorkNamed
 pub mod Accesses
 pub mod Noted
 pub mod Underway

@@ -19,7 +19,7 @@ use Rattle.ds_state.specs.KnownRecovery.{HoldsFrom, Holding, marked, value_now, 
 use Rattle.ds_state.specs.Calls.{RecoveryFits}
 use Rattle.ds_state.specs.Rely.{Grows, Keeps}
 use Rattle.ds_state.specs.Sound.{IsSound}
-use Rattle.ds_state.specs.WorkSteps.{told_from}
+use Rattle.ds_state.specs.Telling.{told_from}
 use Rattle.ds_state.specs.RecoverySteps.{StepsAt, at, told}
 use Rattle.ds_state.specs.declared.work.Spread.TheVariants.{LoadRow, OrTold, FlushTold, BackTold}
 use Rattle.ds_state.specs.declared.work.RecoverStage.TheVariants.{LoadMark, FlushValue, FlushKind, BackValue, BackKind, Telling, Give, GiveDirty, FlushGiven, BackGiven, LoadAnnounce}
@@ -30,7 +30,7 @@ use Rattle.ds_state.proofs.Frames.{Moves, grows_own, one_holder}
 use Rattle.ds_state.proofs.Bearing.{Mine, MyMarks, no_new_marks, text_same, durable_least}
 use Rattle.ds_state.proofs.Buffers.{buffered}
 use Rattle.ds_state.proofs.EditFrame.{back_any}
-use Rattle.ds_state.proofs.WorkSteps.{matters_most, odd_above, row_passes, flush_passes, back_passes}
+use Rattle.ds_state.proofs.Telling.{matters_most, odd_above, row_passes, flush_passes, back_passes}
 use Rattle.ds_state.proofs.Accesses.{Turn, same_moves, flush_moves}
 use Rattle.ds_state.proofs.RecoveryFrame.{on, Passes, turn_of, held_on, pends_on, simple_passes, loads, flushes}
 use Rattle.ds_state.proofs.RecoveryBack.{held_from, pends_from, first_back, grown_back, was_there, backs, backs_none, moved_or, grown_or, ors}

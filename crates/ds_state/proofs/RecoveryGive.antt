@@ -11,7 +11,7 @@ use Rattle.ds_state.specs.Owing.{HELD_MOST, IsMark, IsClean, IsHeldBy, IsHeld, R
 use Rattle.ds_state.specs.KnownRecovery.{Holding, HoldsFrom}
 use Rattle.ds_state.specs.Calls.{CallFits, DoubtFits, RecoveryFits}
 use Rattle.ds_state.specs.Words.{WordFits}
-use Rattle.ds_state.specs.WorkSteps.{let_go}
+use Rattle.ds_state.specs.Telling.{let_go}
 use Rattle.ds_state.specs.Rely.{Bears, Grows, Keeps}
 use Rattle.ds_state.specs.Sound.{IsSound}
 use Rattle.ds_state.specs.declared.work.RecoverStage.{RecoverStage}

@@ -25,7 +25,7 @@ use Rattle.ds_state.proofs.Frames.{Moves, grows_own}
 use Rattle.ds_state.proofs.Bearing.{Mine, MyMarks, no_new_marks, text_same, durable_least}
 use Rattle.ds_state.proofs.Buffers.{buffered}
 use Rattle.ds_state.proofs.EditFrame.{back_any}
-use Rattle.ds_state.proofs.WorkSteps.{matters_most, odd_above}
+use Rattle.ds_state.proofs.Telling.{matters_most, odd_above}
 use Rattle.ds_state.proofs.Accesses.{Turn, flush_moves}
 use Rattle.ds_state.proofs.RecoveryFrame.{on, turn_of, simple_passes, flushes}
 use Rattle.ds_state.proofs.RecoveryBack.{held_from, pends_from, first_back, grown_back, was_there, backs, moved_or, grown_or, ors}

@@ -1,6 +1,7 @@
 -- A crash, and a stop, from world to world.
-use Rattle.std.specs.Prelude.{ℕ, ◌≡◌, ◌≢◌, ◌+◌, ◌*◌, ◌%◌, ◌==◌, ◌&&◌, Bool, true, false, List, filter, if◌then◌else◌}
+use Rattle.std.specs.Prelude.{ℕ, ◌≡◌, ◌≢◌, ◌<◌, ◌+◌, ◌*◌, ◌%◌, ◌==◌, ◌&&◌, Bool, true, false, List, filter, if◌then◌else◌}
 use Rattle.ds_words.specs.Memory.{Memory, Crashes, StopsAt}
+use Rattle.ds_layout.specs.Head.{names_edit}
 use Rattle.ds_layout.specs.declared.place.Place.{Place}
 use Rattle.ds_layout.specs.declared.place.Place.TheVariants as place
 use Rattle.ds_state.specs.World.{Edit, World}
@@ -8,7 +9,7 @@ use Rattle.ds_state.specs.declared.situation.Situation.TheVariants.{Stopped}
 
 -- whether a crash takes the edit: it is its cell's cached head, and that is not persisted
 abbrev pub is_lost : Memory Place → Edit → Bool
-is_lost m e = if m.cached (place.Head e.cell) == m.persisted (place.Head e.cell) then false else m.cached (place.Head e.cell) % 65536 == e.process * 256 + e.number
+is_lost m e = if m.cached (place.Head e.cell) == m.persisted (place.Head e.cell) then false else names_edit (m.cached (place.Head e.cell)) e.process e.number
 
 -- the edits that a crash leaves
 unfoldable pub survivors : Memory Place → List Edit → List Edit
@@ -18,7 +19,7 @@ survivors m edits = filter (λ e. if is_lost m e then false else true) edits
 pub record CrashesTo (old new : World) : Type 0 where
   pub layout : new.layout ≡ old.layout
   pub memory : Crashes old.memory new.memory
-  pub situation : (q : ℕ) → new.situation q ≡ Stopped
+  pub situation : (q : ℕ) → q < old.layout.processes → new.situation q ≡ Stopped
   pub counted : new.counted ≡ survivors old.memory old.counted
   pub pending : (q : ℕ) → new.pending q ≡ old.pending q
 

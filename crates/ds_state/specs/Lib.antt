@@ -19,7 +19,7 @@ pub mod Spent
 pub mod Fresh
 pub mod Events
 pub mod Crashes
-pub mod WorkSteps
+pub mod Telling
 pub mod RecoverySteps
 pub mod Text
 pub mod Dones

@@ -20,7 +20,7 @@ use Rattle.ds_state.specs.Works.{PlainRecovery}
 use Rattle.ds_state.specs.World.{Edit, Issue, World, announcement, done_place}
 use Rattle.ds_state.specs.Known.{AreBelow, IsSafelyIn}
 use Rattle.ds_state.specs.KnownRecovery.{marked, phase_for}
-use Rattle.ds_state.specs.WorkSteps.{let_go, told_from}
+use Rattle.ds_state.specs.Telling.{let_go, told_from}
 use Rattle.ds_state.specs.declared.situation.Situation.{Situation}
 use Rattle.ds_state.specs.declared.situation.Situation.TheVariants.{Idle, Recovering}
 use Rattle.ds_state.specs.declared.work.Spread.{Spread}

@@ -1,5 +1,7 @@
 //! What a process is doing.
 
+ghost use Rattle.std.specs.Prelude.{◌≡◌, ◌<◌, vec_len, slice_set};
+
 use crate::edit::EditCall;
 use crate::work::{RecoverCall, ShowCall, WorkCall};
 
@@ -18,4 +20,13 @@ pub enum Situation {
     Recovering(RecoverCall),
     /// It reports.
     Showing(ShowCall),
+}
+
+/// Puts a process into a situation, and leaves the others in theirs.
+pub fn put(situations: &mut Vec<Situation>, process: usize, situation: Situation)
+    requires { process < vec_len situations.old }
+    ensures items { situations.new.items ≡ slice_set situations.old.items process situation }
+    ensures count { vec_len situations.new ≡ vec_len situations.old }
+{
+    situations[process] = situation;
 }

@@ -86,10 +86,9 @@ fn all_answered(pending: &[Option<Issue>]) -> bool
 }
 
 impl World {
-    ghost use Rattle.ds_state.specs.Value.{world_of};
+    ghost use Rattle.ds_state.specs.Value.{world_of, IsGood};
     ghost use Rattle.ds_state.specs.Fresh.{IsNew};
     ghost use Rattle.ds_state.specs.Reports.{no_reports};
-    ghost use Rattle.ds_state.specs.Sound.{IsSound};
     ghost use Rattle.ds_state.specs.Shown.{mark_in, value_in, point_of, text_in, IsQuiet};
 
     /// A new sheet of this shape, for 1 to 8 processes. An error is a want of memory.
@@ -120,9 +119,9 @@ impl World {
         })
     }
 
-    /// It is sound.
-    pub fn is_sound(&self)
-        ensures { IsSound (world_of self.now) }
+    /// It is sound, as it is at each moment.
+    pub fn is_always_good(&self)
+        ensures { IsGood self.now }
     {
         let _words = &self.words;
     }

@@ -7,10 +7,10 @@ returns c =
     let a = adds c.args.world.now c.happen-reply.new.world c.args.event.now c.happen-reply.result c.happen-reply.ensures in
     let settled = a.reports.settled in
     record {
-      fits = record { takes = c.happen-reply.ensures; sound = c.is_sound-2.ensures };
+      fits = record { takes = c.happen-reply.ensures; good = c.is_always_good-2.ensures };
       reply = a.reply_is;
       done = a.done;
       settled = omega (arith, settled);
       reports = a.reports.reports;
-      fewer = falls_by c.args.world.now c.happen-reply.new.world c.args.event.now c.happen-reply.result c.is_sound.ensures c.happen-reply.ensures;
+      fewer = falls_by c.args.world.now c.happen-reply.new.world c.args.event.now c.happen-reply.result c.is_always_good.ensures.sound c.happen-reply.ensures;
     }

@@ -1,0 +1,55 @@
+-- What an event of an edit does to the world's own list of edits that count, and to its issues.
+use Rattle.std.specs.Prelude.{ℕ, ◌≡◌, ◌≢◌, ◌⊎◌, ◌++◌, List, [], ◌∷◌, length, drop, Some, None, Contains}
+use Rattle.ds_state.specs.World.{Edit, Issue, World}
+use Rattle.ds_edit.specs.declared.answer.Other.{Other}
+use Rattle.ds_edit.specs.declared.answer.Answer.TheVariants.{Done, Overtaken}
+use Rattle.ds_core.specs.declared.reply.Reply.{Reply}
+use Rattle.ds_core.specs.declared.reply.Reply.TheVariants.{Stepped, Answered}
+
+-- nothing
+pub record Stays (old new : World) : Type 0 where
+  pub counted : new.counted ≡ old.counted
+  pub pending : (q : ℕ) → new.pending q ≡ old.pending q
+
+-- the process, which had none, has an edit that is not answered; it does not count yet
+pub record Issues (old : World) (edit : Edit) (new : World) : Type 0 where
+  pub none : old.pending edit.process ≡ None
+  pub issued : new.pending edit.process ≡ Some (record { edit = edit; since = length old.counted })
+  pub others : (q : ℕ) → q ≢ edit.process → new.pending q ≡ old.pending q
+  pub fresh : Contains old.counted edit → ⊥
+  pub counted : new.counted ≡ old.counted
+
+-- the process's edit, which did not count, comes to count
+pub record Counts (old : World) (p : ℕ) (new : World) : Type 0 where
+  pub issue : Issue
+  pub open_is : old.pending p ≡ Some issue
+  pub mine : issue.edit.process ≡ p
+  pub not_yet : Contains old.counted issue.edit → ⊥
+  pub counted : new.counted ≡ old.counted ++ issue.edit ∷ []
+  pub pending : (q : ℕ) → new.pending q ≡ old.pending q
+
+-- the process's edit of this number is answered
+pub record Closes (old : World) (p number : ℕ) (Is : Issue → Type 0) (new : World) : Type 0 where
+  pub issue : Issue
+  pub open_is : old.pending p ≡ Some issue
+  pub number_is : issue.edit.number ≡ number
+  pub is : Is issue
+  pub closed : new.pending p ≡ None
+  pub others : (q : ℕ) → q ≢ p → new.pending q ≡ old.pending q
+  pub counted : new.counted ≡ old.counted
+
+-- the other edit is of the same cell, and came to count since the issue; this one does not count
+pub record IsOvertakenBy (w : World) (other : Other) (issue : Issue) : Type 0 where
+  pub out : Contains w.counted issue.edit → ⊥
+  pub by : Edit
+  pub since : Contains (drop issue.since w.counted) by
+  pub cell : by.cell ≡ issue.edit.cell
+  pub process : by.process ≡ other.process
+  pub number : by.number ≡ other.number
+
+-- a step of an edit, by its answer
+abbrev pub StepMoves : World → ℕ → Reply → World → Type 0
+StepMoves old p Stepped new = Stays old new ⊎ Counts old p new
+StepMoves old p (Answered (Done number)) new = Closes old p number (λ issue. Contains old.counted issue.edit) new
+StepMoves old p (Answered (Overtaken number other)) new = Closes old p number (IsOvertakenBy old other) new
+StepMoves old p reply new = Stays old new

@@ -1,5 +1,0 @@
-use Rattle.ds_state.proofs.EachWork as laws
-use Rattle.ds_state.proofs.laws.offers_keep_soundness.Goals as goal
-
-pub returns : goal.returns
-returns c = laws.offer_keep

@@ -1,0 +1,11 @@
+pub mod WorkSteps
+pub mod WholeSteps
+pub mod WorkFrame
+pub mod WorkClaims
+pub mod WorkOwn
+pub mod WorkLoads
+pub mod WorkTells
+pub mod WorkEnds
+pub mod WorkRead
+pub mod EachWork
+pub mod WorkNamed

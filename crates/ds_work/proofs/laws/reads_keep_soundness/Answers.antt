@@ -1,0 +1,5 @@
+use Rattle.ds_work.proofs.EachWork as laws
+use Rattle.ds_work.proofs.laws.reads_keep_soundness.Goals as goal
+
+pub returns : goal.returns
+returns c = laws.reads_keep

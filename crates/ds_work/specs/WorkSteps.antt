@@ -1,0 +1,242 @@
+-- The steps of work: what each stage does to the memory, and what comes then.
+use Rattle.std.specs.Prelude.{ℕ, ◌≡◌, ◌≢◌, ◌<◌, ◌+◌, ◌-◌, ◌*◌, ◌/◌, ◌%◌, ◌==◌, ◌&&◌, ◌^◌, nat_lt, if◌then◌else◌, List, [], ◌∷◌, ◌++◌, length, take, slice_index_or, Option, Some, None, Bool, true, false, zero, suc, map, All}
+use Rattle.std.specs.Int.{bit_at}
+use Rattle.ds_words.specs.Memory.{SameMemory}
+use Rattle.ds_words.specs.declared.access.Access.{Access}
+use Rattle.ds_words.specs.declared.access.Access.TheVariants as acts
+use Rattle.ds_formula.specs.Cells.{IsInside, index_of}
+use Rattle.ds_formula.specs.Refs.{Refers}
+use Rattle.ds_formula.specs.Grammar.{Reads}
+use Rattle.ds_formula.specs.declared.cells.Cell.{Cell}
+use Rattle.ds_formula.specs.declared.cells.Shape.{Shape}
+use Rattle.ds_formula.specs.Plain.{Plain}
+use Rattle.ds_eval.specs.declared.inputs.Entry as entries
+use Rattle.ds_eval.specs.declared.inputs.Input.{Input}
+use Rattle.ds_eval.specs.Inputs.{cell_in, with_entry, no_entry, entry_in, IsAscending}
+use Rattle.ds_eval.specs.Local.{local}
+use Rattle.ds_layout.specs.declared.place.Place.{Place}
+use Rattle.ds_layout.specs.declared.place.Place.TheVariants as place
+use Rattle.ds_layout.specs.declared.head.Head.{Head}
+use Rattle.ds_layout.specs.declared.header.Header.{Header}
+use Rattle.ds_layout.specs.declared.mark.Mark.{Mark}
+use Rattle.ds_layout.specs.declared.mark.State.{State}
+use Rattle.ds_layout.specs.declared.mark.State.TheVariants.{Clean, Marked, Held}
+use Rattle.ds_layout.specs.declared.mark.TheConstants.{DIRTY}
+use Rattle.ds_layout.specs.Head.{head_of}
+use Rattle.ds_layout.specs.Header.{header_of}
+use Rattle.ds_layout.specs.Mark.{mark_of, state_of}
+use Rattle.ds_layout.specs.Text.{bytes_of}
+use Rattle.ds_layout.specs.Sheet.{PerformsAt}
+use Rattle.ds_layout.specs.Places.{cells_of}
+use Rattle.ds_state.specs.Telling.{let_go, told_from}
+use Rattle.ds_state.specs.Works.{PlainWork}
+use Rattle.ds_state.specs.Standing.{shown_entry, value_for, word_for}
+use Rattle.ds_state.specs.World.{Edit, Issue, World}
+use Rattle.ds_state.specs.declared.situation.Situation.{Situation}
+use Rattle.ds_state.specs.declared.situation.Situation.TheVariants.{Idle, Working}
+use Rattle.ds_state.specs.declared.work.Spread.{Spread}
+use Rattle.ds_state.specs.declared.work.Spread.TheVariants.{LoadRow, OrTold, FlushTold, BackTold}
+use Rattle.ds_state.specs.declared.work.WorkEnd.{WorkEnd}
+use Rattle.ds_state.specs.declared.work.WorkEnd.TheVariants.{NotDirty, Missed, Worn, Published, Again, NoMemory}
+use Rattle.ds_state.specs.declared.work.WorkStage.{WorkStage}
+use Rattle.ds_state.specs.declared.work.WorkStage.TheVariants.{LoadMark, Claim, FlushClaim, BackClaim, LoadHead, LoadHeader, LoadText, Read, LoadValue, LoadKind, LoadOwnValue, LoadOwnKind, Wait, StoreValue, StoreKind, FlushValue, FlushKind, BackValue, BackKind, Telling, Clear, ClearDirty, Give, GiveDirty, FlushCleared, BackCleared, Answer}
+
+-- the mark of a claim of a mark that is not held
+abbrev pub claim_of : ℕ → ℕ → ℕ
+claim_of process mark = (mark / 32 + 1) * 32 + (process + 1) * 2
+
+abbrev pub parts_of : PlainWork → ℕ
+parts_of e = (e.cells + 63) / 64
+
+abbrev pub text_parts : PlainWork → ℕ
+text_parts e = (e.length + 7) / 8
+
+-- the cell of the input with this number
+abbrev pub input_place : Shape → PlainWork → ℕ → ℕ
+input_place shape e i = index_of shape (cell_in e.inputs i)
+
+abbrev pub spread_access : PlainWork → Spread → Access Place
+spread_access e (LoadRow part) = acts.Load (place.Index e.cell part)
+spread_access e (OrTold d) = acts.Or (place.Mark d) DIRTY
+spread_access e (FlushTold d) = acts.Flush (place.Mark d)
+spread_access e (BackTold d) = acts.Back
+
+-- the access of a stage
+abbrev pub access_at : Shape → PlainWork → WorkStage → Access Place
+access_at shape e LoadMark = acts.Load (place.Mark e.cell)
+access_at shape e Claim = acts.SwapIf (place.Mark e.cell) e.mark (claim_of e.process e.mark)
+access_at shape e FlushClaim = acts.Flush (place.Mark e.cell)
+access_at shape e BackClaim = acts.Back
+access_at shape e LoadHead = acts.Load (place.Head e.cell)
+access_at shape e LoadHeader = acts.Load (place.Header (e.head / 256 % 256) (e.head % 256))
+access_at shape e (LoadText part) = acts.Load (place.Text (e.head / 256 % 256) (e.head % 256) part)
+access_at shape e Read = acts.Nothing
+access_at shape e (LoadValue i) = acts.Load (place.Value (input_place shape e i))
+access_at shape e (LoadKind i value) = acts.Load (place.Kind (input_place shape e i))
+access_at shape e LoadOwnValue = acts.Load (place.Value e.cell)
+access_at shape e LoadOwnKind = acts.Load (place.Kind e.cell)
+access_at shape e Wait = acts.Nothing
+access_at shape e StoreValue = acts.Store (place.Value e.cell) (value_for e.entry)
+access_at shape e StoreKind = acts.Store (place.Kind e.cell) (word_for e.entry)
+access_at shape e FlushValue = acts.Flush (place.Value e.cell)
+access_at shape e FlushKind = acts.Flush (place.Kind e.cell)
+access_at shape e BackValue = acts.Back
+access_at shape e BackKind = acts.Back
+access_at shape e (Telling spread) = spread_access e spread
+access_at shape e (Clear changed) = acts.SwapIf (place.Mark e.cell) e.mark (let_go e.mark)
+access_at shape e ClearDirty = acts.SwapIf (place.Mark e.cell) (e.mark + 1) (let_go e.mark + 1)
+access_at shape e Give = acts.SwapIf (place.Mark e.cell) e.mark (let_go e.mark + 1)
+access_at shape e GiveDirty = acts.SwapIf (place.Mark e.cell) (e.mark + 1) (let_go e.mark + 1)
+access_at shape e (FlushCleared end) = acts.Flush (place.Mark e.cell)
+access_at shape e (BackCleared end) = acts.Back
+access_at shape e (Answer end) = acts.Nothing
+
+abbrev pub at : PlainWork → WorkStage → PlainWork
+at e stage = record e { stage = stage }
+
+-- what a mark lets work do
+abbrev pub claims_from : PlainWork → ℕ → State → PlainWork
+claims_from e word Clean = at e (Answer NotDirty)
+claims_from e word (Held p) = at e (Answer Missed)
+claims_from e word Marked = if nat_lt (2 ^ 58) (word / 32) then at e (Answer Worn) else record e { mark = word; stage = Claim }
+
+abbrev pub head_from : PlainWork → ℕ → Option Head → PlainWork
+head_from e word None = record e { head = word; length = 0; text = []; stage = Read }
+head_from e word (Some head) = record e { head = word; stage = LoadHeader }
+
+abbrev pub text_from : PlainWork → ℕ → PlainWork
+text_from e part = if nat_lt part (text_parts e) then at e (LoadText part) else at e Read
+
+abbrev pub header_from : PlainWork → Option Header → PlainWork
+header_from e None = at e Read
+header_from e (Some header) = text_from (record e { length = header.length; text = [] }) 0
+
+abbrev pub input_from : PlainWork → ℕ → PlainWork
+input_from e i = if nat_lt i (length e.inputs) then at e (LoadValue i) else at e LoadOwnValue
+
+abbrev pub told : PlainWork → Option ℕ → PlainWork
+told e None = at e (Clear true)
+told e (Some d) = at e (Telling (OrTold d))
+
+abbrev pub tell_from : PlainWork → ℕ → PlainWork
+tell_from e d = told e (told_from e.row (e.cells - d) d)
+
+abbrev pub row_from : PlainWork → ℕ → PlainWork
+row_from e part = if nat_lt part (parts_of e) then at e (Telling (LoadRow part)) else tell_from e 0
+
+abbrev pub spread_next : PlainWork → Spread → ℕ → PlainWork
+spread_next e (LoadRow part) word = row_from (record e { row = e.row ++ word ∷ [] }) (part + 1)
+spread_next e (OrTold d) word = at e (Telling (FlushTold d))
+spread_next e (FlushTold d) word = at e (Telling (BackTold d))
+spread_next e (BackTold d) word = tell_from e (d + 1)
+
+-- the work after a stage whose access answered the word; reading and waiting end by what they are given, and stay till then
+abbrev pub next_at : PlainWork → WorkStage → ℕ → PlainWork
+next_at e LoadMark word = claims_from e word (state_of (mark_of e.processes word))
+next_at e Claim word = if word == e.mark then record e { mark = claim_of e.process e.mark; stage = FlushClaim } else at e (Answer Missed)
+next_at e FlushClaim word = at e BackClaim
+next_at e BackClaim word = at e LoadHead
+next_at e LoadHead word = head_from e word (head_of e.processes word)
+next_at e LoadHeader word = header_from e (header_of e.cells word)
+next_at e (LoadText part) word = text_from (record e { text = take e.length (e.text ++ bytes_of word) }) (part + 1)
+next_at e Read word = at e Read
+next_at e (LoadValue i) word = at e (LoadKind i word)
+next_at e (LoadKind i value) word = input_from (record e { inputs = with_entry e.inputs i (shown_entry e.cells value word) }) (i + 1)
+next_at e LoadOwnValue word = record e { value = word; stage = LoadOwnKind }
+next_at e LoadOwnKind word = record e { kind = word; stage = Wait }
+next_at e Wait word = at e Wait
+next_at e StoreValue word = at e StoreKind
+next_at e StoreKind word = at e FlushValue
+next_at e FlushValue word = at e FlushKind
+next_at e FlushKind word = at e BackValue
+next_at e BackValue word = at e BackKind
+next_at e BackKind word = record e { row = []; stage = Telling (LoadRow 0) }
+next_at e (Telling spread) word = spread_next e spread word
+next_at e (Clear changed) word = if word == e.mark then at e (FlushCleared (Published changed)) else at e ClearDirty
+next_at e ClearDirty word = at e (FlushCleared Again)
+next_at e Give word = if word == e.mark then at e (FlushCleared NoMemory) else at e GiveDirty
+next_at e GiveDirty word = at e (FlushCleared NoMemory)
+next_at e (FlushCleared end) word = at e (BackCleared end)
+next_at e (BackCleared end) word = at e (Answer end)
+next_at e (Answer end) word = at e (Answer end)
+
+-- the content is read, with its references, none of which is looked at yet; or that lacked memory
+abbrev pub read_from : PlainWork → Plain → List Input → PlainWork
+read_from e content inputs = input_from (record e { content = content; inputs = inputs }) 0
+
+abbrev pub lacks : PlainWork → PlainWork
+lacks e = at e Give
+
+-- the entry is offered: where the words are the cell's own, nothing is stored
+abbrev pub offered : PlainWork → entries.Entry → PlainWork
+offered e entry = record e {
+  entry = entry;
+  stage = if (e.value == value_for entry) && (e.kind == word_for entry) then Clear false else StoreValue;
+}
+
+-- what the process does after the step: its answer ends the call
+abbrev pub after : PlainWork → WorkStage → ℕ → Situation
+after e (Answer end) word = Idle e.next
+after e stage word = Working (next_at e stage word)
+
+-- a stage that ends by its access alone: reading the content also takes memory, and waiting ends by an offer
+abbrev pub IsPlainStep : WorkStage → Type 0
+IsPlainStep Read = ⊥
+IsPlainStep Wait = ⊥
+IsPlainStep _ = Unit {0}
+
+-- one step of the work at such a stage, whose access answered the word: no edit comes to count
+pub record StepsAt (e : PlainWork) (stage : WorkStage) (word : ℕ) (old new : World) : Type 0 where
+  pub plain : IsPlainStep stage
+  pub layout : new.layout ≡ old.layout
+  pub memory : PerformsAt (access_at old.layout.shape e stage) e.process old.memory new.memory word
+  pub situation : new.situation e.process ≡ after e stage word
+  pub others : (q : ℕ) → q ≢ e.process → new.situation q ≡ old.situation q
+  pub counted : new.counted ≡ old.counted
+  pub pending : (q : ℕ) → new.pending q ≡ old.pending q
+
+-- the process's turn, which touches no word: what the work comes to be is said
+pub record Turns (e f : PlainWork) (old new : World) : Type 0 where
+  pub layout : new.layout ≡ old.layout
+  pub memory : SameMemory old.memory new.memory
+  pub situation : new.situation e.process ≡ Working f
+  pub others : (q : ℕ) → q ≢ e.process → new.situation q ≡ old.situation q
+  pub counted : new.counted ≡ old.counted
+  pub pending : (q : ℕ) → new.pending q ≡ old.pending q
+
+-- work begins on a cell: its process was idle
+pub record BeginsWork (next : ℕ) (e : PlainWork) (old new : World) : Type 0 where
+  pub turn : Turns e (at e LoadMark) old new
+  pub was : old.situation e.process ≡ Idle next
+  pub next_is : e.next ≡ next
+  pub cells : cells_of old.layout ≡ e.cells
+  pub processes : old.layout.processes ≡ e.processes
+  pub cell : e.cell < e.cells
+
+-- the content of the text, and its references on the sheet, in reading order
+pub record IsContent (shape : Shape) (text : List ℕ) (content : Plain) (inputs : List Input) : Type 0 where
+  pub reads : Reads shape text content
+  pub ascending : IsAscending inputs
+  pub all : (d : Cell) → Refers content d → IsInside shape d → (j : ℕ) × (j < length inputs) × (cell_in inputs j ≡ d)
+  pub only : (j : ℕ) → j < length inputs → Refers content (cell_in inputs j) × IsInside shape (cell_in inputs j)
+
+-- the content is read
+pub record ReadsAt (e : PlainWork) (content : Plain) (inputs : List Input) (old new : World) : Type 0 where
+  pub turn : Turns e (read_from e content inputs) old new
+  pub is : IsContent old.layout.shape e.text content inputs
+
+-- that lacked memory
+abbrev pub LacksAt : PlainWork → World → World → Type 0
+LacksAt e old new = Turns e (lacks e) old new
+
+-- the entry that the inputs give is offered
+pub record OffersAt (e : PlainWork) (entry : entries.Entry) (old new : World) : Type 0 where
+  pub turn : Turns e (offered e entry) old new
+  pub is : entry ≡ local old.layout.shape e.content (entry_in e.inputs)
+
+-- steps that are left at most: the answer's among them
+abbrev pub spread_rank : ℕ → ℕ → Spread → ℕ
+spread_rank cells parts (LoadRow part) = 4 + 3 * cells + (parts - part)
+spread_rank cells parts (OrTold d) = 4 + 3 * (cells - d)
+spread_rank cells parts (FlushTold d) = 3 + 3 * (cells - d)
+spread_rank cells parts (BackTold d) = 2 + 3 * (cells - d)

@@ -1,0 +1,4 @@
+//! The machine of work: the recalculation of one cell.
+#![tactic(auto)]
+
+pub mod laws;
