@@ -65,6 +65,14 @@ impl Inputs {
         let _ = self.items.push(input);
     }
 
+    /// They become none. The room stays.
+    pub fn clear(&mut self)
+        ensures items { self.new.items ≡ [] }
+        ensures room { self.new.room ≡ self.old.room }
+    {
+        self.items.clear();
+    }
+
     /// Equal inputs, in memory of their own. It fails only where that is refused.
     pub fn copy(&self, alloc: Global) -> Result<Inputs, AllocError>
         ensures { IfOk result (λ inputs. inputs.items ≡ self.now.items) }
@@ -96,7 +104,7 @@ impl Inputs {
     }
 
     /// Puts another entry in the place of that of the input with this number. Whether it differs.
-    pub(crate) fn set(&mut self, place: usize, entry: Entry) -> bool
+    pub fn set(&mut self, place: usize, entry: Entry) -> bool
         requires { place < length self.old.items }
         ensures after { self.new ≡ record self.old { items = with_entry self.old.items place entry } }
         ensures unchanged { result ≡ false → entry_at self.old.items place ≡ entry }

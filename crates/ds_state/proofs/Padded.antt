@@ -1,9 +1,9 @@
 -- Texts with zeros behind them.
-use Rattle.std.proofs.Common.{ℕ, ◌≡◌, ◌<◌, ◌≤◌, ◌-◌, ◌++◌, List, length, length-append, take, drop, replicate, get_or, sym, subst, arith}
+use Rattle.std.proofs.Common.{ℕ, ◌≡◌, ◌<◌, ◌≤◌, ◌-◌, ◌++◌, List, length, length-append, take, drop, replicate, get_or, set, refl, ap, ◌∙◌, ◌+◌, sym, subst, arith}
 use Rattle.std.specs.Prelude.{All}
 use Rattle.std.proofs.Math.Seq.{drop-append_seam}
-use Rattle.std.proofs.lemmas.List.{length-replicate, drop-replicate, get_or_default, length-take-le}
-use Rattle.std.proofs.lemmas.List.Elements.{All-append, All-replicate, All-take}
+use Rattle.std.proofs.lemmas.List.{length-replicate, drop-replicate, drop-drop, drop-set-lt, length-set, get_or_default, length-take-le}
+use Rattle.std.proofs.lemmas.List.Elements.{All-append, All-replicate, All-set, All-take}
 use Rattle.ds_layout.specs.declared.place.TheConstants.{TEXT_BYTES}
 use Rattle.ds_state.specs.Text.{IsText, IsPadded, padding}
 
@@ -25,6 +25,36 @@ pub padded_new : (bytes copied : List ℕ) → copied ≡ bytes → ((k : ℕ) �
 padded_new bytes copied same small short =
     subst (λ (xs : List ℕ). IsPadded (copied ++ xs) (length bytes)) (sym (drop-replicate (length bytes) TEXT_BYTES 0))
     (subst (λ (xs : List ℕ). IsPadded (xs ++ padding (length bytes)) (length bytes)) (sym same) (padded bytes small short))
+
+zeros : ℕ → List ℕ
+zeros n = replicate n 0
+
+zeros_less : (n m : ℕ) → m ≡ n + 1 → drop 1 (zeros m) ≡ zeros n
+unfolding zeros
+zeros_less n m is = drop-replicate 1 m 0 ∙ ap (λ (k : ℕ). replicate k 0) (omega (arith, is))
+
+-- zeros alone are the text of no bytes
+pub padded_empty : IsPadded (padding 0) 0
+padded_empty = record {
+  each = All-replicate (λ b. b < 256) TEXT_BYTES 0 (omega arith);
+  size = length-replicate {A = ℕ} TEXT_BYTES 0;
+  within = omega arith;
+  rest = refl;
+}
+
+-- one more byte behind them
+pub padded_push : (bytes : List ℕ) (len b : ℕ) → IsPadded bytes len → len < TEXT_BYTES → b < 256 → IsPadded (set bytes len b) (len + 1)
+unfolding zeros
+padded_push bytes len b h room small =
+    let size = h.size in
+    let same : drop (len + 1) (set bytes len b) ≡ drop (len + 1) bytes = drop-set-lt (len + 1) bytes len b (omega arith) in
+    let twice : drop (len + 1) bytes ≡ drop 1 (drop len bytes) = sym (drop-drop 1 len bytes) in
+    record {
+      each = All-set (λ x. x < 256) bytes len b small h.each;
+      size = length-set bytes len b ∙ size;
+      within = omega (arith, length-set bytes len b);
+      rest = same ∙ twice ∙ ap (λ (xs : List ℕ). drop 1 xs) h.rest ∙ zeros_less (TEXT_BYTES - (len + 1)) (TEXT_BYTES - len) (omega arith);
+    }
 
 pub text_within : (bytes : List ℕ) (len : ℕ) → IsPadded bytes len → IsText (take len bytes)
 text_within bytes len h =

@@ -14,7 +14,7 @@ use Rattle.ds_layout.specs.declared.place.TheConstants.{RECORDS}
 use Rattle.ds_layout.specs.declared.place.Place.{Place}
 use Rattle.ds_layout.specs.declared.place.Place.TheVariants as place
 use Rattle.ds_layout.specs.Places.{cells_of}
-use Rattle.ds_state.specs.Works.{PlainWork}
+use Rattle.ds_state.specs.Works.{PlainWork, StageFits}
 use Rattle.ds_state.specs.World.{Edit, World, of_cell, IsHeadBy, last_announcement}
 use Rattle.ds_state.specs.Known.{AreBelow}
 use Rattle.ds_state.specs.Owing.{entry, turn, IsEven, IsHeldBy, CellOwes, IsExcused, IsIndexed, IsMark, HoldsNone}
@@ -284,18 +284,6 @@ pub record IsAtRest (w : World) (p next : ℕ) : Type 0 where
   pub below : AreBelow w p next
   pub cached : w.memory.cached (place.Announce p) ≡ last_announcement w.counted p next
   pub persisted : w.memory.persisted (place.Announce p) ≡ last_announcement w.counted p next
-
--- the part of a text that is looked at is one of the text, the reference one of the references, the part of the row is
--- one of the row, and so many are loaded, and the cell that is told is one of the sheet
-abbrev pub StageFits : PlainWork → WorkStage → Type 0
-StageFits e (LoadText part) = 8 * part < e.length
-StageFits e (LoadValue i) = i < length e.inputs
-StageFits e (LoadKind i value) = i < length e.inputs
-StageFits e (Telling (LoadRow part)) = (length e.row ≡ part) × (part < (e.cells + 63) / 64)
-StageFits e (Telling (OrTold d)) = d < e.cells
-StageFits e (Telling (FlushTold d)) = d < e.cells
-StageFits e (Telling (BackTold d)) = d < e.cells
-StageFits e _ = Unit {0}
 
 pub record WorkFits (w : World) (p : ℕ) (e : PlainWork) : Type 0 where
   pub mine : e.process ≡ p

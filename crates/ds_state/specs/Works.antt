@@ -1,5 +1,10 @@
 -- Work, a recovery and a report under way, without where they lie in memory.
-use Rattle.std.specs.Prelude.{ℕ, ◌+◌, ◌*◌, ◌/◌, ◌≡◌, ◌<◌, ◌≤◌, List, length}
+use Rattle.std.specs.Prelude.{ℕ, ◌+◌, ◌*◌, ◌/◌, ◌^◌, ◌≡◌, ◌<◌, ◌≤◌, List, length}
+use Rattle.ds_formula.specs.Refs.{IsPossible}
+use Rattle.ds_eval.specs.Inputs.{cell_in}
+use Rattle.ds_layout.specs.declared.place.TheConstants.{TEXT_BYTES}
+use Rattle.ds_state.specs.declared.work.Spread.TheVariants.{LoadRow, OrTold, FlushTold, BackTold}
+use Rattle.ds_state.specs.declared.work.WorkStage.TheVariants.{Claim, LoadText, LoadValue, LoadKind, Telling}
 use Rattle.ds_formula.specs.Plain.{Plain}
 use Rattle.ds_eval.specs.declared.inputs.Entry.{Entry}
 use Rattle.ds_eval.specs.declared.inputs.Input.{Input}
@@ -27,6 +32,46 @@ pub record PlainWork : Type 0 where
   pub entry : Entry
   pub row : List ℕ
   pub stage : WorkStage
+
+-- the part of a text that is looked at is one of the text, the reference one of the references, the part of the row is
+-- one of the row, and so many are loaded, and the cell that is told is one of the sheet
+abbrev pub StageFits : PlainWork → WorkStage → Type 0
+StageFits e (LoadText part) = 8 * part < e.length
+StageFits e (LoadValue i) = i < length e.inputs
+StageFits e (LoadKind i value) = i < length e.inputs
+StageFits e (Telling (LoadRow part)) = (length e.row ≡ part) × (part < (e.cells + 63) / 64)
+StageFits e (Telling (OrTold d)) = d < e.cells
+StageFits e (Telling (FlushTold d)) = d < e.cells
+StageFits e (Telling (BackTold d)) = d < e.cells
+StageFits e _ = Unit {0}
+
+-- the greatest generation of a mark that it may claim, and of its claim
+abbrev pub SEEN_MOST : ℕ
+SEEN_MOST = 2 ^ 58
+
+-- the mark that it would claim has a generation that can be followed
+abbrev pub ClaimFits : PlainWork → WorkStage → Type 0
+ClaimFits e Claim = e.mark / 32 ≤ SEEN_MOST
+ClaimFits e _ = Unit {0}
+
+-- its process, cell, text and inputs are those of a sheet, whatever its words say
+pub record IsWork (e : PlainWork) : Type 0 where
+  pub process : e.process < e.processes
+  pub processes : e.processes ≤ 8
+  pub cell : e.cell < e.cells
+  pub cells : e.cells ≤ 1024
+  pub young : e.mark / 32 ≤ SEEN_MOST + 1
+  pub short : e.length ≤ TEXT_BYTES
+  pub text : length e.text ≤ e.length
+  pub possible : (j : ℕ) → j < length e.inputs → IsPossible (cell_in e.inputs j)
+  pub height : e.entry.height ≤ 1024
+  pub claim : ClaimFits e e.stage
+  pub stage : StageFits e e.stage
+
+-- also there is room for one input for each cell of the sheet
+pub record IsWorkIn (e : PlainWork) (places : ℕ) : Type 0 where
+  pub is : IsWork e
+  pub room : e.cells ≤ places
 
 -- its process; the mark that it saw, the index row of the cell that it gives back; the announcement that it saw, and
 -- the cell of that edit

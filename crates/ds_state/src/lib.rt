@@ -6,6 +6,7 @@ pub mod laws;
 pub mod ledger;
 pub mod refusal;
 pub mod reports;
+pub mod row;
 pub mod shown;
 pub mod situation;
 pub mod stage;

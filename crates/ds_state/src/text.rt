@@ -1,6 +1,6 @@
 //! The text of an edit.
 
-ghost use Rattle.std.specs.Prelude.{◌≡◌, ◌≤◌, ◌↔◌, length, IsTrue, IsSome, IfSome, []};
+ghost use Rattle.std.specs.Prelude.{◌≡◌, ◌<◌, ◌≤◌, ◌↔◌, ◌++◌, length, IsTrue, IsSome, IfSome, [], ◌∷◌};
 ghost use Rattle.ds_layout.specs.declared.place.TheConstants.{TEXT_BYTES};
 ghost use Rattle.ds_state.specs.Text.{IsText};
 
@@ -42,6 +42,25 @@ impl Text {
         let mut padded = [0; TEXT_BYTES];
         padded[..len].copy_from_slice(bytes);
         Some(Text { bytes: padded, len })
+    }
+
+    /// The text of no bytes.
+    pub fn empty() -> Text
+        ensures { result ≡ [] }
+    {
+        Text {
+            bytes: [0; TEXT_BYTES],
+            len: 0,
+        }
+    }
+
+    /// One more byte at its end. It has fewer than 120.
+    pub fn push(&mut self, byte: u8)
+        requires { length self.old < TEXT_BYTES }
+        ensures { self.new ≡ self.old ++ byte ∷ [] }
+    {
+        self.bytes[self.len] = byte;
+        self.len += 1;
     }
 
     /// It is a text: at most 120 bytes.

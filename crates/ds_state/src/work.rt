@@ -2,6 +2,8 @@
 
 ghost use Rattle.std.specs.Prelude.{◌≡◌};
 
+use crate::row::Row;
+use crate::text::Text;
 use ds_eval::inputs::{Entry, Inputs};
 use ds_formula::content::Content;
 use std::marker::Model;
@@ -116,10 +118,10 @@ pub struct WorkCall {
     /// The length of the text.
     pub length: usize,
     /// The text so far.
-    pub text: Vec<u8>,
+    pub text: Text,
     /// What the cell holds.
     pub content: Content,
-    /// The references and what they show, so far.
+    /// The references and what they show, so far. There is room for one for each cell of the sheet.
     pub inputs: Inputs,
     /// The cell's own value.
     pub value: u64,
@@ -128,13 +130,14 @@ pub struct WorkCall {
     /// What the inputs give.
     pub entry: Entry,
     /// The index row so far.
-    pub row: Vec<u64>,
+    pub row: Row,
     /// What it does next.
     pub stage: WorkStage,
 }
 
 impl Model for WorkCall {
-    ghost use Rattle.ds_state.specs.Works.{PlainWork};
+    ghost use Rattle.std.specs.Prelude.{◌≤◌};
+    ghost use Rattle.ds_state.specs.Works.{PlainWork, IsWorkIn};
     ghost use Rattle.ds_eval.specs.Code.{plain_code};
     ghost use Rattle.ds_formula.specs.Plain.{plain};
     ghost use Rattle.std.specs.Coded.{codes};
@@ -152,15 +155,34 @@ impl Model for WorkCall {
       mark = a.mark;
       head = a.head;
       length = a.length;
-      text = a.text.items;
+      text = a.text;
       content = plain a.content;
       inputs = a.inputs.items;
       value = a.value;
       kind = a.kind;
       entry = a.entry;
-      row = a.row.items;
+      row = a.row;
       stage = a.stage;
     } };
+
+    ghost invariant = { λ a. IsWorkIn (record {
+      process = a.process;
+      next = a.next;
+      cell = a.cell;
+      cells = a.cells;
+      processes = a.processes;
+      mark = a.mark;
+      head = a.head;
+      length = a.length;
+      text = a.text;
+      content = plain a.content;
+      inputs = a.inputs.items;
+      value = a.value;
+      kind = a.kind;
+      entry = a.entry;
+      row = a.row;
+      stage = a.stage;
+    }) a.inputs.room };
 }
 
 /// What a recovery does next.

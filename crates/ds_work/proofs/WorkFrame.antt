@@ -7,11 +7,11 @@ use Rattle.ds_words.specs.Memory.{SameMemory, StoresAt, FlushesAt, WritesBack, n
 use Rattle.ds_layout.specs.Places.{class_of}
 use Rattle.ds_layout.specs.declared.place.Place.{Place}
 use Rattle.ds_layout.specs.declared.place.Place.TheVariants.{Version, Mark, Value, Kind, Head, Announce}
-use Rattle.ds_state.specs.Works.{PlainWork}
+use Rattle.ds_state.specs.Works.{PlainWork, StageFits}
 use Rattle.ds_state.specs.World.{World}
 use Rattle.ds_state.specs.Owing.{entry, IsHeld, WorkOwes, Owes, WorkParts, Parts, CellOwes, IsApart, Excuses, IsIndexed}
 use Rattle.ds_state.specs.Standing.{Matters}
-use Rattle.ds_state.specs.KnownWork.{work_known, WorkKnows, work_held, WorkHolds, WorkFits, StageFits}
+use Rattle.ds_state.specs.KnownWork.{work_known, WorkKnows, work_held, WorkHolds, WorkFits}
 use Rattle.ds_state.specs.Words.{WordFits}
 use Rattle.ds_state.specs.Calls.{CallFits}
 use Rattle.ds_state.specs.Rely.{IsOwnedBy, KeepsHold, Grows, Bears, Keeps}

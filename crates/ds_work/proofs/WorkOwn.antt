@@ -9,11 +9,11 @@ use Rattle.ds_eval.specs.Local.{local}
 use Rattle.ds_layout.specs.Places.{class_of}
 use Rattle.ds_layout.specs.declared.place.Place.{Place}
 use Rattle.ds_layout.specs.declared.place.Place.TheVariants.{Mark, Value, Kind}
-use Rattle.ds_state.specs.Works.{PlainWork}
+use Rattle.ds_state.specs.Works.{PlainWork, StageFits}
 use Rattle.ds_state.specs.World.{World}
 use Rattle.ds_state.specs.Owing.{entry, IsHeld, IsApart, Parts}
 use Rattle.ds_state.specs.Standing.{value_for, word_for}
-use Rattle.ds_state.specs.KnownWork.{StageFits, WorkFits, value_entry, kind_entry}
+use Rattle.ds_state.specs.KnownWork.{WorkFits, value_entry, kind_entry}
 use Rattle.ds_work.specs.WorkSteps.{StepsAt, offered}
 use Rattle.ds_state.specs.Rely.{Keeps}
 use Rattle.ds_state.specs.Sound.{IsSound}

@@ -1,0 +1,63 @@
+//! The row of a cell in the index, as it is read.
+
+ghost use Rattle.std.specs.Prelude.{◌≡◌, ◌<◌, ◌++◌, length, [], ◌∷◌};
+
+use arrayvec::ArrayVec;
+use std::fmt;
+use std::marker::Model;
+
+/// How many words a row has at most: one bit for each of 1,024 cells.
+pub const ROW_PARTS: usize = 16;
+
+/// The words of an index row that were loaded, in place: it takes no memory.
+#[derive(Drop)]
+pub struct Row {
+    words: ArrayVec<u64, ROW_PARTS>,
+}
+
+impl Model for Row {
+    ghost use Rattle.std.specs.Prelude.{List, ℕ};
+
+    ghost Value = { List ℕ };
+
+    ghost view = { λ r. r.words.items };
+}
+
+impl Row {
+    /// No word.
+    pub fn new() -> Row
+        ensures { result ≡ [] }
+    {
+        Row {
+            words: ArrayVec::new(),
+        }
+    }
+
+    /// One more word at its end. It has fewer than 16.
+    pub fn push(&mut self, word: u64)
+        requires { length self.old < ROW_PARTS }
+        ensures { self.new ≡ self.old ++ word ∷ [] }
+    {
+        self.words.push(word);
+    }
+
+    /// Its words become none.
+    pub fn clear(&mut self)
+        ensures { self.new ≡ [] }
+    {
+        self.words.clear();
+    }
+
+    /// Its words.
+    pub fn as_slice(&self) -> &[u64]
+        ensures { result.now ≡ self.now }
+    {
+        self.words.as_slice()
+    }
+}
+
+impl fmt::Debug for Row {
+    fn fmt<W: fmt::Write>(&self, f: &mut fmt::Formatter<W>) -> fmt::Result {
+        fmt::Debug::fmt(&self.as_slice(), f)
+    }
+}
