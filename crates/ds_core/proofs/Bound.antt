@@ -4,6 +4,7 @@ use Rattle.std.specs.Prelude.{Option, if◌then◌else◌}
 use Rattle.std.proofs.lemmas.Bool.{cases_eq}
 use Rattle.std.proofs.lemmas.Bool.Decides.{eqb_tells}
 use Rattle.ds_state.specs.Edits.{PlainEdit, IsEdit}
+use Rattle.ds_state.specs.Works.{PlainShow}
 use Rattle.ds_state.specs.Value.{WorldValue, world_of}
 use Rattle.ds_state.specs.Calls.{CallFits, EditFits}
 use Rattle.ds_state.specs.Sound.{IsSound}
@@ -11,18 +12,20 @@ use Rattle.ds_state.specs.declared.stage.Outcome.{Outcome}
 use Rattle.ds_state.specs.declared.stage.Stage.{Stage}
 use Rattle.ds_state.specs.declared.stage.Stage.TheVariants.{Answer}
 use Rattle.ds_state.specs.declared.situation.Situation.{Situation}
-use Rattle.ds_state.specs.declared.situation.Situation.TheVariants.{Idle, Editing}
+use Rattle.ds_state.specs.declared.situation.Situation.TheVariants.{Idle, Editing, Showing}
 use Rattle.ds_edit.specs.Steps.{rank, next_at, Falls}
 use Rattle.ds_edit.specs.Worlds.{after}
 use Rattle.ds_edit.proofs.Stays.{each_falls, each_few, each_some}
-use Rattle.ds_core.specs.Steps.{reply_with, StepsBy}
+use Rattle.ds_core.specs.EditEvents.{reply_with, EditStepsBy}
+use Rattle.ds_core.specs.ReportEvents.{ReportStepsBy}
+use Rattle.ds_core.specs.Steps.{edits, reports}
 use Rattle.ds_edit.specs.Endings.{outcome_at}
 use Rattle.ds_core.specs.Takes.{Takes, WorldRun}
 use Rattle.ds_core.specs.Own.{own_step, own_steps, IsUnanswered, AreUnanswered, GoesOn}
 use Rattle.ds_core.specs.declared.event.Event.{Event}
 use Rattle.ds_core.specs.declared.event.Event.TheVariants.{BeginEdit, BeginWork, BeginShow, BeginRecover, Step, Offer, Evict, Stop, Crash}
 use Rattle.ds_core.specs.declared.reply.Reply.{Reply}
-use Rattle.ds_core.specs.declared.reply.Reply.TheVariants.{Begun, Refused, Stepped, Answered, Evicted, Stopped, Crashed, NotEnabled}
+use Rattle.ds_core.specs.declared.reply.Reply.TheVariants.{Begun, Entered, Refused, Stepped, Answered, Evicted, Stopped, Crashed, NotEnabled}
 
 pub unanswered_at : (processes number : ℕ) (o : Option Outcome) → Stepped ≡ reply_with processes number o → o ≡ None
 unanswered_at processes number None is = refl
@@ -48,14 +51,14 @@ still p e new at = (e, at, record { text = refl; refs = refl; fewer = omega arit
 unchanged : (p : ℕ) (e : PlainEdit) (old new : WorldValue) → (world_of old).situation p ≡ Editing e → new ≡ old → Later p e 0 new
 unchanged p e old new at same = still p e new (ap (λ (v : WorldValue). (world_of v).situation p) same ∙ at)
 
-another : (p q : ℕ) (e : PlainEdit) (old new : WorldValue) (reply : Reply) → (world_of old).situation p ≡ Editing e → q ≢ p → StepsBy old q reply new → Later p e 0 new
+another : (p q : ℕ) (e : PlainEdit) (old new : WorldValue) (reply : Reply) → (world_of old).situation p ≡ Editing e → q ≢ p → EditStepsBy old q reply new → Later p e 0 new
 another p q e old new reply at ne h = still p e new (h.steps.others p (λ same. ne (sym h.mine ∙ sym same)) ∙ at)
 
 not_own : (p q : ℕ) → q ≢ p → (q == p) ≡ false
 not_own p q ne = elim (eqb_tells q p) [ inl same ↦ absurd (ne same.1) | inr differs ↦ differs.0 ]
 
 module _ (p : ℕ) (e : PlainEdit) (old new : WorldValue) (sound : IsSound (world_of old)) (low : p < old.sheet.layout.processes) (at : (world_of old).situation p ≡ Editing e) where
-  own : StepsBy old p Stepped new → Later p e 1 new
+  pub own : EditStepsBy old p Stepped new → Later p e 1 new
   own h =
       let one : h.edit ≡ e = editing_same ((world_of old).situation p) h.edit e h.at at in
       let fits : EditFits (world_of old) p e = subst (λ (x : Situation). CallFits (world_of old) p x) at (sound.calls p low) in
@@ -68,11 +71,29 @@ module _ (p : ℕ) (e : PlainEdit) (old new : WorldValue) (sound : IsSound (worl
             (record { text = refl; refs = refl; fewer = omega arith }),
       )
 
-  by_step : (q : ℕ) → StepsBy old q Stepped new → Later p e (if q == p then 1 else 0) new
+  by_step : (q : ℕ) → EditStepsBy old q Stepped new → Later p e (if q == p then 1 else 0) new
   by_step q h = elim (eqb_tells q p) [
-    | inl same ↦ rw same.0 (own (subst (λ (x : ℕ). StepsBy old x Stepped new) same.1 h))
+    | inl same ↦ rw same.0 (own (subst (λ (x : ℕ). EditStepsBy old x Stepped new) same.1 h))
     | inr other ↦ rw other.0 (another p q e old new Stepped at other.1 h)
   ]
+
+  not_idle : (n : ℕ) → (world_of old).situation p ≡ Idle n → ⊥
+  not_idle n is = let bad : Idle n ≡ Editing e = sym is ∙ at in cc
+
+  not_showing : (f : PlainShow) → (world_of old).situation p ≡ Showing f → ⊥
+  not_showing f is = let bad : Showing f ≡ Editing e = sym is ∙ at in cc
+
+  -- another process's report
+  by_report : (q : ℕ) (reply : Reply) → ReportStepsBy old q reply new → Later p e (own_step p (Step q) reply) new
+  by_report q reply h =
+      let ne : q ≢ p = λ same. not_showing h.steps.show (ap (λ x. (world_of old).situation x) (sym same) ∙ h.steps.at) in
+      let stays : Later p e 0 new = still p e new (h.steps.steps.others p (λ same. ne (sym h.steps.mine ∙ sym same)) ∙ at) in
+      subst (λ (n : ℕ). Later p e n new) (sym (no_own q ne reply)) stays
+    where
+      no_own : (q : ℕ) → q ≢ p → (reply : Reply) → own_step p (Step q) reply ≡ 0
+      no_own q ne Stepped = rw (not_own p q ne) refl
+      no_own q ne (Answered answer) = rw (not_own p q ne) refl
+      no_own q ne _ = refl
 
   pub one_event : (event : Event) (reply : Reply) → Takes old event reply new → IsUnanswered p event reply → Later p e (own_step p event reply) new
   one_event (BeginEdit r) (Begun number) h u = elim (cases_eq p h.begun.edit.process) [
@@ -82,15 +103,20 @@ module _ (p : ℕ) (e : PlainEdit) (old new : WorldValue) (sound : IsSound (worl
   one_event (BeginEdit r) (Refused why) h u = unchanged p e old new at h.same
   one_event (BeginEdit r) NotEnabled h u = unchanged p e old new at h.same
   one_event (BeginEdit r) _ h u = absurd h
-  one_event (Step q) Stepped h u = by_step q h
-  one_event (Step q) (Answered answer) h u = subst (λ b. Later p e (if b then 1 else 0) new) (sym (not_own p q u)) (another p q e old new (Answered answer) at u h)
+  one_event (Step q) Stepped (edits h) u = by_step q h
+  one_event (Step q) Stepped (reports h) u = by_report q Stepped h
+  one_event (Step q) (Answered answer) (reports h) u = by_report q (Answered answer) h
+  one_event (Step q) (Answered answer) (edits h) u = subst (λ b. Later p e (if b then 1 else 0) new) (sym (not_own p q u)) (another p q e old new (Answered answer) at u h)
   one_event (Step q) NotEnabled h u = unchanged p e old new at h.same
   one_event (Step q) _ h u = absurd h
   one_event (Evict place) Evicted h u = still p e new (h.evicts.situation p ∙ at)
   one_event (Evict place) NotEnabled h u = unchanged p e old new at h.same
   one_event (Evict place) _ h u = absurd h
   one_event (BeginWork q cell) reply h u = unchanged p e old new at h.1
-  one_event (BeginShow q) reply h u = unchanged p e old new at h.1
+  one_event (BeginShow q) Entered h u = still p e new (h.begun.begins.others p (λ same. not_idle h.begun.next (ap (λ x. (world_of old).situation x) same ∙ h.begun.begins.idle)) ∙ at)
+  one_event (BeginShow q) (Refused why) h u = unchanged p e old new at h.same
+  one_event (BeginShow q) NotEnabled h u = unchanged p e old new at h.same
+  one_event (BeginShow q) _ h u = absurd h
   one_event (BeginRecover q) reply h u = unchanged p e old new at h.1
   one_event (Offer value) reply h u = unchanged p e old new at h.1
   one_event (Stop q) Stopped h u = still p e new (h.stops.others p (λ same. u (sym same)) ∙ at)
@@ -104,15 +130,20 @@ same_layout old new (BeginEdit r) (Begun number) h = h.begun.begins.layout
 same_layout old new (BeginEdit r) (Refused why) h = ap (λ (v : WorldValue). v.sheet.layout) h.same
 same_layout old new (BeginEdit r) NotEnabled h = ap (λ (v : WorldValue). v.sheet.layout) h.same
 same_layout old new (BeginEdit r) _ h = absurd h
-same_layout old new (Step q) Stepped h = h.steps.layout
-same_layout old new (Step q) (Answered answer) h = h.steps.layout
+same_layout old new (Step q) Stepped (edits h) = h.steps.layout
+same_layout old new (Step q) Stepped (reports h) = h.steps.steps.layout
+same_layout old new (Step q) (Answered answer) (edits h) = h.steps.layout
+same_layout old new (Step q) (Answered answer) (reports h) = h.steps.steps.layout
 same_layout old new (Step q) NotEnabled h = ap (λ (v : WorldValue). v.sheet.layout) h.same
 same_layout old new (Step q) _ h = absurd h
 same_layout old new (Evict place) Evicted h = h.evicts.layout
 same_layout old new (Evict place) NotEnabled h = ap (λ (v : WorldValue). v.sheet.layout) h.same
 same_layout old new (Evict place) _ h = absurd h
 same_layout old new (BeginWork q cell) reply h = ap (λ (v : WorldValue). v.sheet.layout) h.1
-same_layout old new (BeginShow q) reply h = ap (λ (v : WorldValue). v.sheet.layout) h.1
+same_layout old new (BeginShow q) Entered h = h.begun.begins.layout
+same_layout old new (BeginShow q) (Refused why) h = ap (λ (v : WorldValue). v.sheet.layout) h.same
+same_layout old new (BeginShow q) NotEnabled h = ap (λ (v : WorldValue). v.sheet.layout) h.same
+same_layout old new (BeginShow q) _ h = absurd h
 same_layout old new (BeginRecover q) reply h = ap (λ (v : WorldValue). v.sheet.layout) h.1
 same_layout old new (Offer value) reply h = ap (λ (v : WorldValue). v.sheet.layout) h.1
 same_layout old new (Stop q) Stopped h = h.stops.layout

@@ -5,17 +5,9 @@ use Rattle.ds_state.specs.Value.{WorldValue, world_of}
 use Rattle.ds_core.specs.Takes.{Takes}
 use Rattle.ds_core.specs.Moments.{Ledger, Moment, MomentFits, empty_ledger}
 use Rattle.ds_core.specs.LedgerSteps.{WordsMove, LedgerMoves}
-use Rattle.ds_core.specs.Headline.{Happens, RunFits}
+use Rattle.ds_core.specs.Headline.{Happens, ReportsFit, RunFits}
 use Rattle.ds_core.specs.declared.event.Event.{Event}
-use Rattle.ds_edit.specs.declared.answer.Answer.TheVariants.{Settled, Unsettled}
 use Rattle.ds_core.specs.declared.reply.Reply.{Reply}
-use Rattle.ds_core.specs.declared.reply.Reply.TheVariants.{Answered}
-
--- no report is answered
-abbrev pub IsNoReport : Reply → Type 0
-IsNoReport (Answered Settled) = ⊥
-IsNoReport (Answered (Unsettled place word)) = ⊥
-IsNoReport reply = Unit {0}
 
 -- one event, from moment to moment
 pub record StepFits (place : ℕ) (shape : Shape) (m : Moment) (event : Event) (reply : Reply) (n : Moment) : Type 0 where
@@ -23,7 +15,6 @@ pub record StepFits (place : ℕ) (shape : Shape) (m : Moment) (event : Event) (
   pub takes : Takes m.world event reply n.world
   pub words : WordsMove (world_of m.world).memory event reply (world_of n.world).memory
   pub ledger : LedgerMoves place shape m.ledger event reply n.ledger
-  pub calm : IsNoReport reply
 
 -- from a ledger and a place on
 pub record RunOn (place : ℕ) (shape : Shape) (ledger : Ledger) (old : WorldValue) (events : List Event) (replies : List Reply) (new : WorldValue) : Type 0 where
@@ -102,9 +93,9 @@ module _ (old : WorldValue) (events : List Event) (replies : List Reply) (new : 
   pub at_place : (k : ℕ) (event : Event) (reply : Reply) → Happens events replies k event reply → StepFits k old.sheet.layout.shape (run.moment k) event reply (run.moment (k + 1))
   at_place k event reply happens = let same : 0 + k ≡ k = omega arith in subst (λ n. StepFits n old.sheet.layout.shape (run.moment k) event reply (run.moment (k + 1))) same (run.steps k event reply happens)
 
-  -- from the empty ledger on, a run without reports fits
-  unfoldable pub fits_all : RunFits old events replies new
-  fits_all = record {
+  -- from the empty ledger on, a run whose reports fit does
+  unfoldable pub fits_all : ReportsFit run.moment events replies → RunFits old events replies new
+  fits_all reports = record {
     moment = run.moment;
     first = run.first;
     last = run.last;
@@ -114,6 +105,5 @@ module _ (old : WorldValue) (events : List Event) (replies : List Reply) (new : 
     words = λ k event reply happens. (at_place k event reply happens).words;
     ledger = λ k event reply happens. (at_place k event reply happens).ledger;
     fits = run.fits;
-    settled = λ k p happens. absurd ((at_place k _ _ happens).calm);
-    unsettled = λ k p r word happens. absurd ((at_place k _ _ happens).calm);
+    reports = reports;
   }

@@ -35,7 +35,7 @@ to_filter p (x ∷ xs) e (suc k, lt, is) keep = by (p x) (to_filter p xs e (k, o
     by true rest = behind x (filter p xs) e rest
     by false rest = rest
 
-found_at : {A : Type 0} (xs : List A) (k : ℕ) → k < length xs → (x : A) × (slice_get xs k ≡ Some x)
+pub found_at : {A : Type 0} (xs : List A) (k : ℕ) → k < length xs → (x : A) × (slice_get xs k ≡ Some x)
 found_at [] k lt = absurd (omega arith)
 found_at (x ∷ xs) zero lt = (x, refl)
 found_at (x ∷ xs) (suc k) lt = found_at xs k (omega arith)

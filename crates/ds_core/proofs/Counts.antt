@@ -1,80 +1,173 @@
 -- What each event adds to the counts, and that steps of a call end.
-use Rattle.std.proofs.Common.{ℕ, ◌≡◌, ◌<◌, ◌+◌, ◌==◌, refl, ap, sym, ◌∙◌, subst, arith, inl, inr, true, Bool}
-use Rattle.std.specs.Prelude.{Option, Some, None, if◌then◌else◌}
-use Rattle.std.proofs.lemmas.Bool.Decides.{eqb_tells}
+use Rattle.std.proofs.Common.{ℕ, ◌≡◌, ◌≢◌, ◌<◌, ◌+◌, ◌==◌, [], get_or, refl, ap, sym, ◌∙◌, subst, arith, inl, inr, true, Bool}
+use Rattle.std.specs.Prelude.{Option, Some, None, slice_index_or, if◌then◌else◌}
+use Rattle.std.proofs.lemmas.List.{get_or-set_other}
 use Rattle.ds_state.specs.Value.{WorldValue, world_of}
 use Rattle.ds_state.specs.Sound.{IsSound}
+use Rattle.ds_state.specs.Reports.{PlainReports}
+use Rattle.ds_state.specs.Works.{PlainShow}
+use Rattle.ds_state.specs.Calls.{CallFits}
+use Rattle.ds_state.specs.ShowStages.{IsShow}
+use Rattle.ds_state.specs.declared.work.ShowEnd.TheVariants as ends
+use Rattle.ds_state.specs.declared.work.ShowStage.{ShowStage}
+use Rattle.ds_state.specs.declared.work.ShowStage.TheVariants as stages
+use Rattle.ds_state.specs.declared.situation.Situation.{Situation}
+use Rattle.ds_state.specs.declared.situation.Situation.TheVariants.{Showing}
 use Rattle.ds_state.specs.declared.stage.Outcome.{Outcome}
 use Rattle.ds_state.specs.declared.stage.Outcome.TheVariants as outcome
 use Rattle.ds_edit.specs.Steps.{rank}
 use Rattle.ds_edit.specs.Endings.{outcome_at}
-use Rattle.ds_core.specs.Steps.{SameReports, reply_with, done_with, StepsBy}
+use Rattle.ds_edit.specs.declared.answer.Answer.TheVariants.{Settled}
+use Rattle.ds_show.specs.declared.machine.Effect.{Effect}
+use Rattle.ds_show.specs.declared.machine.Effect.TheVariants as effects
+use Rattle.ds_show.specs.ShowSteps as steps
+use Rattle.ds_show.specs.ShowTakes as shows
+use Rattle.ds_show.proofs.ShowKeeps as keeping
+use Rattle.ds_core.specs.EditEvents.{SameReports, reply_with, done_with, EditStepsBy}
+use Rattle.ds_core.specs.ReportEvents.{report_reply, ReportStepsBy}
+use Rattle.ds_core.specs.Steps.{edits, reports}
 use Rattle.ds_core.specs.Takes.{Takes}
-use Rattle.ds_core.specs.Own.{own_step, left_in, steps_left}
-use Rattle.ds_core.specs.Counts.{done_of, settled_of, IsReplyTo}
+use Rattle.ds_core.specs.Own.{left_in, steps_left}
+use Rattle.ds_core.specs.Counts.{done_of, settled_of, IsReplyTo, KeepsReports}
 use Rattle.ds_core.specs.declared.event.Event.{Event}
 use Rattle.ds_core.specs.declared.event.Event.TheVariants.{BeginEdit, BeginWork, BeginShow, BeginRecover, Step, Offer, Evict, Stop, Crash}
 use Rattle.ds_core.specs.declared.reply.Reply.{Reply}
-use Rattle.ds_core.specs.declared.reply.Reply.TheVariants.{Begun, Refused, Stepped, Answered, Evicted, Stopped, Crashed, NotEnabled}
-use Rattle.ds_core.proofs.Bound.{Later, one_event}
+use Rattle.ds_core.specs.declared.reply.Reply.TheVariants.{Begun, Entered, Refused, Stepped, Answered, Evicted, Stopped, Crashed, NotEnabled}
+use Rattle.ds_core.proofs.Bound.{Later, own}
 
 -- what an event with this answer adds
 pub record Adds (old : WorldValue) (event : Event) (reply : Reply) (new : WorldValue) : Type 0 where
   pub reply_is : IsReplyTo event reply
   pub done : new.done ≡ old.done + done_of reply
-  pub reports : SameReports old new
+  pub settled : new.settled ≡ old.settled + settled_of reply
+  pub reports : KeepsReports old event reply new
 
 outcome_adds : (processes number done : ℕ) (o : Option Outcome) → done_with done o ≡ done + done_of (reply_with processes number o)
 outcome_adds processes number done None = omega arith
 outcome_adds processes number done (Some outcome.Done) = refl
 outcome_adds processes number done (Some (outcome.Overtaken noted seen)) = omega arith
 
-step_adds : (old new : WorldValue) (p : ℕ) (reply : Reply) → StepsBy old p reply new → new.done ≡ old.done + done_of reply
+step_adds : (old new : WorldValue) (p : ℕ) (reply : Reply) → EditStepsBy old p reply new → new.done ≡ old.done + done_of reply
 step_adds old new p reply h = h.done ∙ outcome_adds old.sheet.layout.processes h.edit.number old.done (outcome_at h.edit.stage) ∙ ap (λ (r : Reply). old.done + done_of r) (sym h.is)
+
+-- where no report changes, none but an answered one does
+keeps : (old : WorldValue) (event : Event) (reply : Reply) (new : WorldValue) → new.reports ≡ old.reports → KeepsReports old event reply new
+keeps old (Step p) (Answered Settled) new same = λ q ne. ap (λ (r : PlainReports). slice_index_or r.values q []) same
+keeps old event reply new same = same
+
+-- an event that adds to no report
+adds_none : (old new : WorldValue) (event : Event) (reply : Reply) → IsReplyTo event reply → new.done ≡ old.done + done_of reply → settled_of reply ≡ 0 → SameReports old new → Adds old event reply new
+adds_none old new event reply is done zero same = record { reply_is = is; done = done; settled = (let s = same.settled in omega (arith, s, zero)); reports = keeps old event reply new same.reports }
 
 none : (old new : WorldValue) → new.done ≡ old.done → new.done ≡ old.done + 0
 none old new same = omega (arith, same)
 
-unchanged : (old new : WorldValue) (event : Event) (reply : Reply) → IsReplyTo event reply → done_of reply ≡ 0 → new ≡ old → Adds old event reply new
-unchanged old new event reply is zero same = record {
+unchanged : (old new : WorldValue) (event : Event) (reply : Reply) → IsReplyTo event reply → done_of reply ≡ 0 → settled_of reply ≡ 0 → new ≡ old → Adds old event reply new
+unchanged old new event reply is zero none_settled same = record {
   reply_is = is;
   done = (let d = ap (λ (v : WorldValue). v.done) same in omega (arith, d, zero));
-  reports = record { settled = ap (λ (v : WorldValue). v.settled) same; reports = ap (λ (v : WorldValue). v.reports) same };
+  settled = (let d = ap (λ (v : WorldValue). v.settled) same in omega (arith, d, none_settled));
+  reports = keeps old event reply new (ap (λ (v : WorldValue). v.reports) same);
 }
 
+-- an edit settles no report
+edit_settles_none : (processes number : ℕ) (o : Option Outcome) → settled_of (reply_with processes number o) ≡ 0
+edit_settles_none processes number None = refl
+edit_settles_none processes number (Some outcome.Done) = refl
+edit_settles_none processes number (Some (outcome.Overtaken noted seen)) = refl
+
+edit_adds : (old new : WorldValue) (p : ℕ) (reply : Reply) → EditStepsBy old p reply new → IsReplyTo (Step p) reply → Adds old (Step p) reply new
+edit_adds old new p reply h is = adds_none old new (Step p) reply is (step_adds old new p reply h) (ap settled_of h.is ∙ edit_settles_none old.sheet.layout.processes h.edit.number (outcome_at h.edit.stage)) h.reports
+
+-- a report answers nothing as Done, and settles what it answers as Settled
+report_done : (what : Effect) → done_of (report_reply what) ≡ 0
+report_done effects.GoesOn = refl
+report_done (effects.Answers ends.Settled) = refl
+report_done (effects.Answers (ends.AtMark cell word)) = refl
+report_done (effects.Answers (ends.AtAnnounce process word)) = refl
+
+report_settles : (what : Effect) → settled_of (report_reply what) ≡ shows.settled_by what
+report_settles effects.GoesOn = refl
+report_settles (effects.Answers ends.Settled) = refl
+report_settles (effects.Answers (ends.AtMark cell word)) = refl
+report_settles (effects.Answers (ends.AtAnnounce process word)) = refl
+
+report_keeps : (old new : WorldValue) (p : ℕ) (what : Effect) → shows.StepsBy old p what new → KeepsReports old (Step p) (report_reply what) new
+report_keeps old new p effects.GoesOn h = h.reports
+report_keeps old new p (effects.Answers ends.Settled) h = λ q ne. ap (λ (r : PlainReports). slice_index_or r.values q []) h.reports ∙ get_or-set_other old.reports.values h.show.process q _ [] (λ same. ne (same ∙ h.mine))
+report_keeps old new p (effects.Answers (ends.AtMark cell word)) h = h.reports
+report_keeps old new p (effects.Answers (ends.AtAnnounce process word)) h = h.reports
+
+report_adds : (old new : WorldValue) (p : ℕ) (reply : Reply) → ReportStepsBy old p reply new → IsReplyTo (Step p) reply → Adds old (Step p) reply new
+report_adds old new p reply h is = subst (λ (r : Reply). Adds old (Step p) r new) (sym h.is) (record {
+  reply_is = subst (λ (r : Reply). IsReplyTo (Step p) r) h.is is;
+  done = (let d = h.steps.done in omega (arith, d, report_done h.what));
+  settled = (let s = h.steps.settled in omega (arith, s, report_settles h.what));
+  reports = report_keeps old new p h.what h.steps;
+})
+
 pub adds : (old new : WorldValue) (event : Event) (reply : Reply) → Takes old event reply new → Adds old event reply new
-adds old new (BeginEdit r) (Begun number) h = record { reply_is = tt; done = none old new h.done; reports = h.reports }
-adds old new (BeginEdit r) (Refused why) h = unchanged old new (BeginEdit r) (Refused why) tt refl h.same
-adds old new (BeginEdit r) NotEnabled h = unchanged old new (BeginEdit r) NotEnabled tt refl h.same
+adds old new (BeginEdit r) (Begun number) h = adds_none old new (BeginEdit r) (Begun number) tt (none old new h.done) refl h.reports
+adds old new (BeginEdit r) (Refused why) h = unchanged old new (BeginEdit r) (Refused why) tt refl refl h.same
+adds old new (BeginEdit r) NotEnabled h = unchanged old new (BeginEdit r) NotEnabled tt refl refl h.same
 adds old new (BeginEdit r) _ h = absurd h
-adds old new (Step p) Stepped h = record { reply_is = tt; done = step_adds old new p Stepped h; reports = h.reports }
-adds old new (Step p) (Answered answer) h = record { reply_is = tt; done = step_adds old new p (Answered answer) h; reports = h.reports }
-adds old new (Step p) NotEnabled h = unchanged old new (Step p) NotEnabled tt refl h.same
+adds old new (Step p) Stepped (edits h) = edit_adds old new p Stepped h tt
+adds old new (Step p) Stepped (reports h) = report_adds old new p Stepped h tt
+adds old new (Step p) (Answered answer) (edits h) = edit_adds old new p (Answered answer) h tt
+adds old new (Step p) (Answered answer) (reports h) = report_adds old new p (Answered answer) h tt
+adds old new (Step p) NotEnabled h = unchanged old new (Step p) NotEnabled tt refl refl h.same
 adds old new (Step p) _ h = absurd h
-adds old new (Evict place) Evicted h = record { reply_is = tt; done = none old new h.done; reports = h.reports }
-adds old new (Evict place) NotEnabled h = unchanged old new (Evict place) NotEnabled tt refl h.same
+adds old new (Evict place) Evicted h = adds_none old new (Evict place) Evicted tt (none old new h.done) refl h.reports
+adds old new (Evict place) NotEnabled h = unchanged old new (Evict place) NotEnabled tt refl refl h.same
 adds old new (Evict place) _ h = absurd h
-adds old new (BeginWork p cell) reply h = subst (λ (r : Reply). Adds old (BeginWork p cell) r new) (sym h.0) (unchanged old new (BeginWork p cell) NotEnabled tt refl h.1)
-adds old new (BeginShow p) reply h = subst (λ (r : Reply). Adds old (BeginShow p) r new) (sym h.0) (unchanged old new (BeginShow p) NotEnabled tt refl h.1)
-adds old new (BeginRecover p) reply h = subst (λ (r : Reply). Adds old (BeginRecover p) r new) (sym h.0) (unchanged old new (BeginRecover p) NotEnabled tt refl h.1)
-adds old new (Stop p) Stopped h = record { reply_is = tt; done = none old new h.done; reports = h.reports }
-adds old new (Stop p) NotEnabled h = unchanged old new (Stop p) NotEnabled tt refl h.same
+adds old new (BeginWork p cell) reply h = subst (λ (r : Reply). Adds old (BeginWork p cell) r new) (sym h.0) (unchanged old new (BeginWork p cell) NotEnabled tt refl refl h.1)
+adds old new (BeginShow p) Entered h = adds_none old new (BeginShow p) Entered tt (none old new h.done) refl h.reports
+adds old new (BeginShow p) (Refused why) h = unchanged old new (BeginShow p) (Refused why) tt refl refl h.same
+adds old new (BeginShow p) NotEnabled h = unchanged old new (BeginShow p) NotEnabled tt refl refl h.same
+adds old new (BeginShow p) _ h = absurd h
+adds old new (BeginRecover p) reply h = subst (λ (r : Reply). Adds old (BeginRecover p) r new) (sym h.0) (unchanged old new (BeginRecover p) NotEnabled tt refl refl h.1)
+adds old new (Stop p) Stopped h = adds_none old new (Stop p) Stopped tt (none old new h.done) refl h.reports
+adds old new (Stop p) NotEnabled h = unchanged old new (Stop p) NotEnabled tt refl refl h.same
 adds old new (Stop p) _ h = absurd h
-adds old new (Offer ev) reply h = subst (λ (r : Reply). Adds old (Offer ev) r new) (sym h.0) (unchanged old new (Offer ev) NotEnabled tt refl h.1)
-adds old new Crash Crashed h = record { reply_is = tt; done = none old new h.done; reports = h.reports }
+adds old new (Offer ev) reply h = subst (λ (r : Reply). Adds old (Offer ev) r new) (sym h.0) (unchanged old new (Offer ev) NotEnabled tt refl refl h.1)
+adds old new Crash Crashed h = adds_none old new Crash Crashed tt (none old new h.done) refl h.reports
 adds old new Crash _ h = absurd h
 
-self_eq : (p : ℕ) → (p == p) ≡ true
-self_eq p = elim (eqb_tells p p) [ inl same ↦ same.0 | inr other ↦ absurd (other.1 refl) ]
-
 -- a step that does not answer leaves fewer
-pub falls : (old new : WorldValue) (p : ℕ) → IsSound (world_of old) → Takes old (Step p) Stepped new → steps_left p new < steps_left p old
-falls old new p sound h =
-    let l : Later p h.edit 1 new = subst (λ (n : ℕ). Later p h.edit n new) (ap (λ (b : Bool). if b then 1 else 0) (self_eq p)) (one_event p h.edit old new sound h.there h.at (Step p) Stepped h tt) in
+edit_falls : (old new : WorldValue) (p : ℕ) → IsSound (world_of old) → EditStepsBy old p Stepped new → steps_left p new < steps_left p old
+edit_falls old new p sound h =
+    let l : Later p h.edit 1 new = own p h.edit old new sound h.there h.at h in
     let few = l.2.fewer in
     let a : steps_left p old ≡ rank h.edit h.edit.stage = ap left_in h.at in
     let b : steps_left p new ≡ rank l.0 l.0.stage = ap left_in l.1 in
     omega (arith, few, a, b)
+
+goes_on : (what : Effect) → Stepped ≡ report_reply what → what ≡ effects.GoesOn
+goes_on effects.GoesOn is = refl
+goes_on (effects.Answers end) is = absurd (cc)
+
+after_on : (e : PlainShow) (s : ShowStage) (word : ℕ) → steps.effect_at s ≡ effects.GoesOn → steps.after e s word ≡ Showing (steps.next_at e s word)
+after_on e (stages.Answer end) word is = absurd (cc)
+after_on e _ word is = refl
+
+falls_on : (e : PlainShow) (s : ShowStage) (f : PlainShow) → steps.effect_at s ≡ effects.GoesOn → steps.Falls e s f → steps.rank f < steps.rank (steps.at e s)
+falls_on e (stages.Answer end) f is h = absurd (cc)
+falls_on e _ f is h = h
+
+report_falls : (old new : WorldValue) (p : ℕ) → IsSound (world_of old) → ReportStepsBy old p Stepped new → steps_left p new < steps_left p old
+report_falls old new p sound h =
+    let e : PlainShow = h.steps.show in
+    let goes : steps.effect_at e.stage ≡ effects.GoesOn = sym h.steps.is ∙ goes_on h.what h.is in
+    let fits = subst (λ (s : Situation). CallFits (world_of old) p s) h.steps.at (sound.calls p h.steps.there) in
+    let now : (world_of new).situation p ≡ Showing (steps.next_at e e.stage h.steps.word) = ap (λ q. (world_of new).situation q) (sym h.steps.mine) ∙ h.steps.steps.situation ∙ after_on e e.stage h.steps.word goes in
+    let fall : steps.rank (steps.next_at e e.stage h.steps.word) < steps.rank e = falls_on e e.stage (steps.next_at e e.stage h.steps.word) goes (keeping.falls e e.stage h.steps.word fits.1.is.stage) in
+    let a : steps_left p old ≡ steps.rank e = ap left_in h.steps.at in
+    let b : steps_left p new ≡ steps.rank (steps.next_at e e.stage h.steps.word) = ap left_in now in
+    omega (arith, fall, a, b)
+
+pub falls : (old new : WorldValue) (p : ℕ) → IsSound (world_of old) → Takes old (Step p) Stepped new → steps_left p new < steps_left p old
+falls old new p sound (edits h) = edit_falls old new p sound h
+falls old new p sound (reports h) = report_falls old new p sound h
 
 -- so of whatever event this is
 pub falls_by : (old new : WorldValue) (event : Event) (reply : Reply) → IsSound (world_of old) → Takes old event reply new → (p : ℕ) → event ≡ Step p → reply ≡ Stepped → steps_left p new < steps_left p old

@@ -1,6 +1,6 @@
 -- What each event does to a world's ledger.
-use Rattle.std.proofs.Common.{ℕ, ◌≡◌, ◌≢◌, ◌<◌, ◌+◌, List, refl, ap, sym, ◌∙◌, subst, arith, inl, inr, Some, None, true, false}
-use Rattle.std.specs.Prelude.{Option, Contains}
+use Rattle.std.proofs.Common.{ℕ, ◌≡◌, ◌≢◌, ◌<◌, ◌+◌, ◌==◌, List, refl, ap, sym, ◌∙◌, subst, arith, inl, inr, Some, None, true, false}
+use Rattle.std.specs.Prelude.{Option, Contains, Bool, nat_lt, if◌then◌else◌}
 use Rattle.std.proofs.lemmas.Bool.{cases_eq}
 use Rattle.ds_words.specs.Memory.{Memory, SameMemory}
 use Rattle.ds_layout.specs.declared.place.Place.{Place}
@@ -15,29 +15,59 @@ use Rattle.ds_state.specs.declared.stage.Outcome.{Outcome}
 use Rattle.ds_state.specs.declared.stage.Outcome.TheVariants as outcome
 use Rattle.ds_state.specs.declared.stage.Stage.TheVariants.{Answer}
 use Rattle.ds_state.specs.declared.situation.Situation.{Situation}
-use Rattle.ds_state.specs.declared.situation.Situation.TheVariants.{Idle, Editing}
+use Rattle.ds_state.specs.declared.situation.Situation.TheVariants.{Idle, Editing, Showing}
+use Rattle.ds_state.specs.Works.{PlainShow}
+use Rattle.ds_state.specs.KnownShow.{noted, reads_pending, reads_clean}
+use Rattle.ds_state.specs.declared.work.ShowEnd.TheVariants as ends
+use Rattle.ds_state.specs.declared.work.ShowStage.{ShowStage}
+use Rattle.ds_state.specs.declared.work.ShowStage.TheVariants as stages
+use Rattle.ds_show.specs.declared.machine.Effect.{Effect}
+use Rattle.ds_show.specs.declared.machine.Effect.TheVariants as effects
+use Rattle.ds_show.specs.ShowSteps as shows
 use Rattle.ds_edit.specs.Steps.{access_at}
 use Rattle.ds_edit.specs.Endings.{answer_of, outcome_at, other_of}
 use Rattle.ds_edit.specs.declared.answer.Other.{Other}
 use Rattle.ds_edit.specs.declared.answer.Answer as replies
 use Rattle.ds_edit.specs.declared.answer.Answer.TheVariants.{Done, Overtaken}
-use Rattle.ds_core.specs.Steps.{StepsBy}
+use Rattle.ds_core.specs.EditEvents.{EditStepsBy}
+use Rattle.ds_core.specs.ReportEvents.{report_reply, ReportBegins, ReportStepsBy}
+use Rattle.ds_core.specs.Steps.{edits, reports}
 use Rattle.ds_core.specs.Takes.{Takes}
 use Rattle.ds_core.specs.Moments.{Open, Ledger}
-use Rattle.ds_core.specs.LedgerSteps.{next_number, IsOvertakenBy, OneAccess, WordsMove, LedgerMoves}
+use Rattle.ds_core.specs.LedgerSteps.{next_number, IsOvertakenBy, OneAccess, WordsMove, AnswerMoves, LedgerMoves}
 use Rattle.ds_core.specs.declared.event.Event.{Event}
 use Rattle.ds_core.specs.declared.event.Event.TheVariants.{BeginEdit, BeginWork, BeginShow, BeginRecover, Step, Offer, Evict, Stop, Crash}
 use Rattle.ds_core.specs.declared.reply.Reply.{Reply}
-use Rattle.ds_core.specs.declared.reply.Reply.TheVariants.{Begun, Refused, Stepped, Answered, Evicted, Stopped, Crashed, NotEnabled}
+use Rattle.ds_core.specs.declared.reply.Reply.TheVariants.{Begun, Entered, Refused, Stepped, Answered, Evicted, Stopped, Crashed, NotEnabled}
 use Rattle.ds_core.proofs.Traces as traces
 use Rattle.ds_core.proofs.Moves.{begins_move, step_moves}
 use Rattle.ds_core.proofs.Good.{answers_at}
 use Rattle.ds_core.proofs.Bound.{unanswered_at, after_on, same_layout}
 use Rattle.ds_core.proofs.Solo.{some_outcome, after_answer}
 use Rattle.ds_core.proofs.Ledgers.{IsOf, SaysSame, says_same, numbered, doubts, stays, issued, issue_of, issues_fit, pushed, push_of, counts_fit, closed, close_of, closes_fit, stands_here, out_here, overtaken_here, doubted, stop_of, left, left_loses, crash_of}
-use Rattle.ds_core.proofs.Carry.{IsNoReport, StepFits}
+use Rattle.ds_core.proofs.Carry.{StepFits}
 
 -- ---- one event
+
+if_next : (b : Bool) (x y : PlainShow) (n : ℕ) → x.next ≡ n → y.next ≡ n → (if b then x else y).next ≡ n
+if_next true x y n a b = a
+if_next false x y n a b = b
+
+-- a report keeps the number of its process's next edit
+next_stays : (e : PlainShow) (s : ShowStage) (word : ℕ) → (shows.next_at e s word).next ≡ e.next
+next_stays e (stages.LoadAnnounce i) word = if_next (reads_pending word) _ _ e.next refl (if_next (nat_lt (i + 1) e.processes) _ _ e.next refl refl)
+next_stays e (stages.LoadMark i) word = if_next (reads_clean e.processes word) _ _ e.next (if_next (nat_lt (i + 1) e.cells) _ _ e.next refl refl) refl
+next_stays e (stages.LoadValue i) word = refl
+next_stays e (stages.LoadKind i) word = if_next (nat_lt (i + 1) e.cells) _ _ e.next refl refl
+next_stays e (stages.AgainMark i) word = if_next (word == noted e.marks i) _ _ e.next (if_next (nat_lt (i + 1) e.cells) _ _ e.next refl refl) refl
+next_stays e (stages.AgainAnnounce i) word = if_next (word == noted e.announcements i) _ _ e.next (if_next (nat_lt (i + 1) e.processes) _ _ e.next refl refl) refl
+next_stays e (stages.Answer end) word = refl
+
+goes : (e : PlainShow) (s : ShowStage) (word : ℕ) → SaysSame (Showing e) (Showing (shows.next_at e s word))
+goes e s word = record { number = ap (λ n. Some n) (next_stays e s word); doubt = refl }
+
+the_answer : (a b : replies.Answer) → Answered b ≡ Answered a → b ≡ a
+the_answer a b is = cc
 
 pub record Next (place : ℕ) (layout : Layout) (l : Ledger) (v : WorldValue) (event : Event) (reply : Reply) (v' : WorldValue) : Type 0 where
   pub ledger : Ledger
@@ -48,9 +78,9 @@ still : (m : Memory Place) → SameMemory m m
 still m = record { cached = λ r. refl; persisted = λ r. refl; buffer = λ q. refl }
 
 module _ (place : ℕ) (layout : Layout) (l : Ledger) (v v' : WorldValue) (h : IsOf layout l v) (good : IsGood v') where
-  unchanged : (event : Event) (reply : Reply) → Takes v event reply v → v' ≡ v → WordsMove (world_of v).memory event reply (world_of v).memory → LedgerMoves place layout.shape l event reply l → IsNoReport reply → Next place layout l v event reply v'
-  unchanged event reply takes is words ledger calm = subst (λ (x : WorldValue). Next place layout l v event reply x) (sym is)
-      (record { ledger = l; fits = record { layout = refl; takes = takes; words = words; ledger = ledger; calm = calm }; after = h })
+  unchanged : (event : Event) (reply : Reply) → Takes v event reply v → v' ≡ v → WordsMove (world_of v).memory event reply (world_of v).memory → LedgerMoves place layout.shape l event reply l → Next place layout l v event reply v'
+  unchanged event reply takes is words ledger = subst (λ (x : WorldValue). Next place layout l v event reply x) (sym is)
+      (record { ledger = l; fits = record { layout = refl; takes = takes; words = words; ledger = ledger }; after = h })
 
   kept_layout : (event : Event) (reply : Reply) → Takes v event reply v' → v'.sheet.layout ≡ layout
   kept_layout event reply t = same_layout v v' event reply t ∙ h.same
@@ -70,8 +100,8 @@ module _ (place : ℕ) (layout : Layout) (l : Ledger) (v v' : WorldValue) (h : I
       let all : (q : ℕ) → SaysSame ((world_of v).situation q) ((world_of v').situation q) = λ q. elim (cases_eq q e.process) [
         | inl here ↦ (
           let now = ap (λ x. (world_of v').situation x) here ∙ t.begun.begins.situation in
-          let then = ap (λ x. (world_of v).situation x) here ∙ idle in
-          record { number = ap numbered now ∙ sym (ap numbered then); doubt = ap doubts now ∙ sym (ap doubts then) })
+          let before = ap (λ x. (world_of v).situation x) here ∙ idle in
+          record { number = ap numbered now ∙ sym (ap numbered before); doubt = ap doubts now ∙ sym (ap doubts before) })
         | inr other ↦ says_same _ _ (t.begun.begins.others q other)
       ] in
       let sure : doubts ((world_of v).situation r.process) ≡ false = ap doubts was in
@@ -83,12 +113,11 @@ module _ (place : ℕ) (layout : Layout) (l : Ledger) (v v' : WorldValue) (h : I
           takes = t;
           words = t.begun.begins.memory;
           ledger = issues_fit layout l v v' h good kept place edit s all sure (h.numbers r.process n (ap numbered was));
-          calm = tt;
         };
         after = issue_of layout l v v' h good kept place edit s all sure;
       }
 
-  module _ (p : ℕ) (reply : Reply) (t : StepsBy v p reply v') where
+  module _ (p : ℕ) (reply : Reply) (t : EditStepsBy v p reply v') where
     access : OneAccess p (world_of v).memory (world_of v').memory
     access = (access_at t.edit t.edit.stage, t.word, subst (λ (q : ℕ). PerformsAt (access_at t.edit t.edit.stage) q (world_of v).memory (world_of v').memory t.word) t.mine t.steps.memory)
 
@@ -105,38 +134,38 @@ module _ (place : ℕ) (layout : Layout) (l : Ledger) (v v' : WorldValue) (h : I
     all_same goes q = elim (cases_eq q p) [
       | inl here ↦ (
           let now = ap (λ x. (world_of v').situation x) (here ∙ sym t.mine) ∙ t.steps.situation ∙ after_on t.edit t.edit.stage t.word goes in
-          let then = ap (λ x. (world_of v).situation x) here ∙ t.at in
-          record { number = ap numbered now ∙ sym (ap numbered then); doubt = ap doubts now ∙ sym (ap doubts then) })
+          let before = ap (λ x. (world_of v).situation x) here ∙ t.at in
+          record { number = ap numbered now ∙ sym (ap numbered before); doubt = ap doubts now ∙ sym (ap doubts before) })
       | inr other ↦ other_same q other
     ]
 
     pub number_after : (how : Outcome) → t.edit.stage ≡ Answer how → numbered ((world_of v').situation p) ≡ Some (t.edit.number + 1)
     number_after how at = ap (λ x. numbered ((world_of v').situation x)) (sym t.mine) ∙ ap numbered (t.steps.situation ∙ after_answer t.edit t.edit.stage how t.word at)
 
-  stepped : (p : ℕ) → Takes v (Step p) Stepped v' → Next place layout l v (Step p) Stepped v'
+  stepped : (p : ℕ) → EditStepsBy v p Stepped v' → Next place layout l v (Step p) Stepped v'
   stepped p t =
       let goes : outcome_at t.edit.stage ≡ None = unanswered_at v.sheet.layout.processes t.edit.number (outcome_at t.edit.stage) t.is in
       let all = all_same p Stepped t goes in
-      let kept = kept_layout (Step p) Stepped t in
+      let kept = kept_layout (Step p) Stepped (edits t) in
       elim (step_moves v v' h.good.sound p Stepped t) [
         | inl s ↦ record {
           ledger = l;
-          fits = record { layout = kept ∙ sym h.same; takes = t; words = access p Stepped t; ledger = inl refl; calm = tt };
+          fits = record { layout = kept ∙ sym h.same; takes = edits t; words = access p Stepped t; ledger = inl refl };
           after = stays layout l v v' h good kept s all;
         }
         | inr s ↦ record {
           ledger = pushed layout l v v' h good kept p s all (sure p Stepped t);
-          fits = record { layout = kept ∙ sym h.same; takes = t; words = access p Stepped t; ledger = inr (counts_fit layout l v v' h good kept p s all (sure p Stepped t)); calm = tt };
+          fits = record { layout = kept ∙ sym h.same; takes = edits t; words = access p Stepped t; ledger = inr (counts_fit layout l v v' h good kept p s all (sure p Stepped t)) };
           after = push_of layout l v v' h good kept p s all (sure p Stepped t);
         }
       ]
 
   answered_by : (p : ℕ) (how : Outcome) (number : ℕ) (answer : replies.Answer) → answer ≡ answer_of v.sheet.layout.processes number how
-      → (t : StepsBy v p (Answered answer) v') → t.edit.stage ≡ Answer how → t.edit.number ≡ number → Next place layout l v (Step p) (Answered answer) v'
+      → (t : EditStepsBy v p (Answered answer) v') → t.edit.stage ≡ Answer how → t.edit.number ≡ number → Next place layout l v (Step p) (Answered answer) v'
   answered_by p outcome.Done number answer is t at same =
-      let t' : StepsBy v p (Answered (Done number)) v' = subst (λ (a : replies.Answer). StepsBy v p (Answered a) v') is t in
+      let t' : EditStepsBy v p (Answered (Done number)) v' = subst (λ (a : replies.Answer). EditStepsBy v p (Answered a) v') is t in
       let s : traces.Closes (world_of v) p number (λ issue. Contains v.counted issue.edit) (world_of v') = step_moves v v' h.good.sound p (Answered (Done number)) t' in
-      let kept = kept_layout (Step p) (Answered answer) t in
+      let kept = kept_layout (Step p) (Answered answer) (edits t) in
       let now = number_after p (Answered answer) t outcome.Done at ∙ ap (λ n. Some (n + 1)) same in
       let others = other_same p (Answered answer) t in
       let sure = sure p (Answered answer) t in
@@ -144,18 +173,17 @@ module _ (place : ℕ) (layout : Layout) (l : Ledger) (v v' : WorldValue) (h : I
         ledger = closed layout l v v' h good kept p number _ true s now others sure;
         fits = record {
           layout = kept ∙ sym h.same;
-          takes = t';
+          takes = edits t';
           words = access p (Answered answer) t;
           ledger = closes_fit layout l v v' h good kept p number _ true s now others sure (λ o. Unit {0}) (stands_here layout l v v' h good kept p number _ true s now others sure s.is) tt;
-          calm = tt;
         };
         after = close_of layout l v v' h good kept p number _ true s now others sure;
       })
   answered_by p (outcome.Overtaken noted seen) number answer is t at same =
       let other : Other = other_of (head_of v.sheet.layout.processes seen) in
-      let t' : StepsBy v p (Answered (Overtaken number other)) v' = subst (λ (a : replies.Answer). StepsBy v p (Answered a) v') is t in
+      let t' : EditStepsBy v p (Answered (Overtaken number other)) v' = subst (λ (a : replies.Answer). EditStepsBy v p (Answered a) v') is t in
       let s : traces.Closes (world_of v) p number (traces.IsOvertakenBy (world_of v) other) (world_of v') = step_moves v v' h.good.sound p (Answered (Overtaken number other)) t' in
-      let kept = kept_layout (Step p) (Answered answer) t in
+      let kept = kept_layout (Step p) (Answered answer) (edits t) in
       let now = number_after p (Answered answer) t (outcome.Overtaken noted seen) at ∙ ap (λ n. Some (n + 1)) same in
       let others = other_same p (Answered answer) t in
       let sure = sure p (Answered answer) t in
@@ -163,37 +191,96 @@ module _ (place : ℕ) (layout : Layout) (l : Ledger) (v v' : WorldValue) (h : I
         ledger = closed layout l v v' h good kept p number _ false s now others sure;
         fits = record {
           layout = kept ∙ sym h.same;
-          takes = t';
+          takes = edits t';
           words = access p (Answered answer) t;
           ledger = closes_fit layout l v v' h good kept p number _ false s now others sure (IsOvertakenBy l other) (out_here layout l v v' h good kept p number _ false s now others sure s.is.out) (overtaken_here layout l v v' h good kept p number _ false s now others sure other s.is);
-          calm = tt;
         };
         after = close_of layout l v v' h good kept p number _ false s now others sure;
       })
 
-  answered : (p : ℕ) (answer : replies.Answer) → Takes v (Step p) (Answered answer) v' → Next place layout l v (Step p) (Answered answer) v'
+  answered : (p : ℕ) (answer : replies.Answer) → EditStepsBy v p (Answered answer) v' → Next place layout l v (Step p) (Answered answer) v'
   answered p answer t =
       let found = some_outcome v.sheet.layout.processes t.edit.number answer (outcome_at t.edit.stage) t.is in
       answered_by p found.0 t.edit.number answer found.2 t (answers_at t.edit.stage found.0 found.1) refl
+
+  -- a turn of a process that leaves the list, its issues, and what each process says of its edits
+  silent : (event : Event) (reply : Reply) → Takes v event reply v' → v'.counted ≡ v.counted → ((q : ℕ) → (world_of v').pending q ≡ (world_of v).pending q) → ((q : ℕ) → SaysSame ((world_of v).situation q) ((world_of v').situation q))
+      → WordsMove (world_of v).memory event reply (world_of v').memory → LedgerMoves place layout.shape l event reply l → Next place layout l v event reply v'
+  silent event reply t counted pending all words ledger =
+      let kept = kept_layout event reply t in
+      record {
+        ledger = l;
+        fits = record { layout = kept ∙ sym h.same; takes = t; words = words; ledger = ledger };
+        after = stays layout l v v' h good kept (record { counted = counted; pending = pending }) all;
+      }
+
+  -- a report begins
+  reports_begin : (p : ℕ) → ReportBegins v p v' → Next place layout l v (BeginShow p) Entered v'
+  reports_begin p t =
+      let b = t.begun.begins in
+      silent (BeginShow p) Entered t b.counted b.pending (λ q. elim (cases_eq q p) [
+        | inl here ↦ (
+          let now = ap (λ x. (world_of v').situation x) here ∙ b.situation in
+          let before = ap (λ x. (world_of v).situation x) here ∙ b.idle in
+          record { number = ap numbered now ∙ sym (ap numbered before); doubt = ap doubts now ∙ sym (ap doubts before) })
+        | inr other ↦ says_same _ _ (b.others q other)
+      ]) b.memory refl
+
+  -- a report makes a step
+  module _ (p : ℕ) (reply : Reply) (t : ReportStepsBy v p reply v') where
+    report_access : OneAccess p (world_of v).memory (world_of v').memory
+    report_access = (shows.access_at t.steps.show.stage, t.steps.word, subst (λ (q : ℕ). PerformsAt (shows.access_at t.steps.show.stage) q (world_of v).memory (world_of v').memory t.steps.word) t.steps.mine t.steps.steps.memory)
+
+    after_says : (e : PlainShow) (s : ShowStage) (word : ℕ) → SaysSame (Showing e) (shows.after e s word)
+    after_says e (stages.Answer end) word = record { number = refl; doubt = refl }
+    after_says e (stages.LoadAnnounce i) word = goes e (stages.LoadAnnounce i) word
+    after_says e (stages.LoadMark i) word = goes e (stages.LoadMark i) word
+    after_says e (stages.LoadValue i) word = goes e (stages.LoadValue i) word
+    after_says e (stages.LoadKind i) word = goes e (stages.LoadKind i) word
+    after_says e (stages.AgainMark i) word = goes e (stages.AgainMark i) word
+    after_says e (stages.AgainAnnounce i) word = goes e (stages.AgainAnnounce i) word
+
+    report_says : (q : ℕ) → SaysSame ((world_of v).situation q) ((world_of v').situation q)
+    report_says q = elim (cases_eq q p) [
+      | inl here ↦ (
+        let now : (world_of v').situation q ≡ shows.after t.steps.show t.steps.show.stage t.steps.word = ap (λ x. (world_of v').situation x) (here ∙ sym t.steps.mine) ∙ t.steps.steps.situation in
+        let before : (world_of v).situation q ≡ Showing t.steps.show = ap (λ x. (world_of v).situation x) here ∙ t.steps.at in
+        let s = after_says t.steps.show t.steps.show.stage t.steps.word in
+        record { number = ap numbered now ∙ s.number ∙ sym (ap numbered before); doubt = ap doubts now ∙ s.doubt ∙ sym (ap doubts before) })
+      | inr other ↦ says_same _ _ (t.steps.steps.others q (λ same. other (same ∙ t.steps.mine)))
+    ]
+
+  report_stepped : (p : ℕ) → ReportStepsBy v p Stepped v' → Next place layout l v (Step p) Stepped v'
+  report_stepped p t = silent (Step p) Stepped (reports t) t.steps.steps.counted t.steps.steps.pending (report_says p Stepped t) (report_access p Stepped t) (inl refl)
+
+  report_answered : (p : ℕ) (answer : replies.Answer) → ReportStepsBy v p (Answered answer) v' → Next place layout l v (Step p) (Answered answer) v'
+  report_answered p answer t =
+      silent (Step p) (Answered answer) (reports t) t.steps.steps.counted t.steps.steps.pending (report_says p (Answered answer) t) (report_access p (Answered answer) t) (nothing t.what answer t.is)
+    where
+      nothing : (what : Effect) (answer : replies.Answer) → Answered answer ≡ report_reply what → AnswerMoves l p answer l
+      nothing effects.GoesOn answer is = absurd (cc)
+      nothing (effects.Answers ends.Settled) answer is = subst (λ (a : replies.Answer). AnswerMoves l p a l) (the_answer answer _ (sym is)) refl
+      nothing (effects.Answers (ends.AtMark cell word)) answer is = subst (λ (a : replies.Answer). AnswerMoves l p a l) (the_answer answer _ (sym is)) refl
+      nothing (effects.Answers (ends.AtAnnounce process word)) answer is = subst (λ (a : replies.Answer). AnswerMoves l p a l) (the_answer answer _ (sym is)) refl
 
   evicts : (word : Place) → Takes v (Evict word) Evicted v' → Next place layout l v (Evict word) Evicted v'
   evicts word t =
       let kept = kept_layout (Evict word) Evicted t in
       record {
         ledger = l;
-        fits = record { layout = kept ∙ sym h.same; takes = t; words = t.evicts.memory; ledger = refl; calm = tt };
+        fits = record { layout = kept ∙ sym h.same; takes = t; words = t.evicts.memory; ledger = refl };
         after = stays layout l v v' h good kept (record { counted = t.evicts.counted; pending = t.evicts.pending }) (λ q. says_same _ _ (t.evicts.situation q));
       }
 
   not_enabled : (event : Event) (reply : Reply) → Takes v event NotEnabled v → (reply ≡ NotEnabled) × (v' ≡ v) → WordsMove (world_of v).memory event NotEnabled (world_of v).memory → LedgerMoves place layout.shape l event NotEnabled l → Next place layout l v event reply v'
-  not_enabled event reply takes t words ledger = subst (λ (r : Reply). Next place layout l v event r v') (sym t.0) (unchanged event NotEnabled takes t.1 words ledger tt)
+  not_enabled event reply takes t words ledger = subst (λ (r : Reply). Next place layout l v event r v') (sym t.0) (unchanged event NotEnabled takes t.1 words ledger)
 
   stops : (p : ℕ) → Takes v (Stop p) Stopped v' → Next place layout l v (Stop p) Stopped v'
   stops p t =
       let kept = kept_layout (Stop p) Stopped t in
       record {
         ledger = doubted layout l v v' h good kept p t.stops;
-        fits = record { layout = kept ∙ sym h.same; takes = t; words = t.stops.memory; ledger = refl; calm = tt };
+        fits = record { layout = kept ∙ sym h.same; takes = t; words = t.stops.memory; ledger = refl };
         after = stop_of layout l v v' h good kept p t.stops;
       }
 
@@ -202,27 +289,32 @@ module _ (place : ℕ) (layout : Layout) (l : Ledger) (v v' : WorldValue) (h : I
       let kept = kept_layout Crash Crashed t in
       record {
         ledger = left layout l v v' h good kept t.crashes;
-        fits = record { layout = kept ∙ sym h.same; takes = t; words = t.crashes.memory; ledger = left_loses layout l v v' h good kept t.crashes; calm = tt };
+        fits = record { layout = kept ∙ sym h.same; takes = t; words = t.crashes.memory; ledger = left_loses layout l v v' h good kept t.crashes };
         after = crash_of layout l v v' h good kept t.crashes;
       }
 
   pub next : (event : Event) (reply : Reply) → Takes v event reply v' → Next place layout l v event reply v'
   next (BeginEdit r) (Begun number) t = begins r number t
-  next (BeginEdit r) (Refused why) t = unchanged (BeginEdit r) (Refused why) (subst (λ (x : WorldValue). Takes v (BeginEdit r) (Refused why) x) t.same t) t.same (still (world_of v).memory) refl tt
-  next (BeginEdit r) NotEnabled t = unchanged (BeginEdit r) NotEnabled (subst (λ (x : WorldValue). Takes v (BeginEdit r) NotEnabled x) t.same t) t.same (still (world_of v).memory) refl tt
+  next (BeginEdit r) (Refused why) t = unchanged (BeginEdit r) (Refused why) (subst (λ (x : WorldValue). Takes v (BeginEdit r) (Refused why) x) t.same t) t.same (still (world_of v).memory) refl
+  next (BeginEdit r) NotEnabled t = unchanged (BeginEdit r) NotEnabled (subst (λ (x : WorldValue). Takes v (BeginEdit r) NotEnabled x) t.same t) t.same (still (world_of v).memory) refl
   next (BeginEdit r) _ t = absurd t
-  next (Step p) Stepped t = stepped p t
-  next (Step p) (Answered answer) t = answered p answer t
-  next (Step p) NotEnabled t = unchanged (Step p) NotEnabled (subst (λ (x : WorldValue). Takes v (Step p) NotEnabled x) t.same t) t.same (still (world_of v).memory) refl tt
+  next (Step p) Stepped (edits t) = stepped p t
+  next (Step p) Stepped (reports t) = report_stepped p t
+  next (Step p) (Answered answer) (edits t) = answered p answer t
+  next (Step p) (Answered answer) (reports t) = report_answered p answer t
+  next (Step p) NotEnabled t = unchanged (Step p) NotEnabled (subst (λ (x : WorldValue). Takes v (Step p) NotEnabled x) t.same t) t.same (still (world_of v).memory) refl
   next (Step p) _ t = absurd t
   next (Evict word) Evicted t = evicts word t
-  next (Evict word) NotEnabled t = unchanged (Evict word) NotEnabled (subst (λ (x : WorldValue). Takes v (Evict word) NotEnabled x) t.same t) t.same (still (world_of v).memory) refl tt
+  next (Evict word) NotEnabled t = unchanged (Evict word) NotEnabled (subst (λ (x : WorldValue). Takes v (Evict word) NotEnabled x) t.same t) t.same (still (world_of v).memory) refl
   next (Evict word) _ t = absurd t
   next (BeginWork q cell) reply t = not_enabled (BeginWork q cell) reply (refl, refl) t (still (world_of v).memory) refl
-  next (BeginShow q) reply t = not_enabled (BeginShow q) reply (refl, refl) t (still (world_of v).memory) refl
+  next (BeginShow p) Entered t = reports_begin p t
+  next (BeginShow p) (Refused why) t = unchanged (BeginShow p) (Refused why) (subst (λ (x : WorldValue). Takes v (BeginShow p) (Refused why) x) t.same t) t.same (still (world_of v).memory) refl
+  next (BeginShow p) NotEnabled t = unchanged (BeginShow p) NotEnabled (subst (λ (x : WorldValue). Takes v (BeginShow p) NotEnabled x) t.same t) t.same (still (world_of v).memory) refl
+  next (BeginShow p) _ t = absurd t
   next (BeginRecover q) reply t = not_enabled (BeginRecover q) reply (refl, refl) t (still (world_of v).memory) refl
   next (Stop p) Stopped t = stops p t
-  next (Stop p) NotEnabled t = unchanged (Stop p) NotEnabled (subst (λ (x : WorldValue). Takes v (Stop p) NotEnabled x) t.same t) t.same (still (world_of v).memory) refl tt
+  next (Stop p) NotEnabled t = unchanged (Stop p) NotEnabled (subst (λ (x : WorldValue). Takes v (Stop p) NotEnabled x) t.same t) t.same (still (world_of v).memory) refl
   next (Stop p) _ t = absurd t
   next Crash Crashed t = crashes t
   next Crash _ t = absurd t

@@ -11,12 +11,14 @@ use Rattle.ds_core.specs.declared.reply.Reply.{Reply}
 use Rattle.ds_core.proofs.Closing.{headline}
 use Rattle.ds_core.proofs.Ledgers.{IsOf, fits_of, numbered, no_some, one_some}
 use Rattle.ds_core.proofs.EachEvent.{Next, next}
+use Rattle.ds_core.proofs.Reported.{reports_fit}
 use Rattle.ds_core.proofs.Carry.{RunOn, nothing_on, event_on, fits_all}
 
 -- a run from a ledger and a place on, whose moments are those of the worlds
 record Follows (layout : Layout) (place : ℕ) (l : Ledger) (old : WorldValue) (events : List Event) (replies : List Reply) (new : WorldValue) (run : WorldRun old events replies new) : Type 0 where
   on : RunOn place layout.shape l old events replies new
   worlds : (k : ℕ) → k ≤ length events → (on.moment k).world ≡ world_at old events replies new run k
+  good : (k : ℕ) → k ≤ length events → IsGood (on.moment k).world
 
 -- with one event more in front
 module _ (layout : Layout) (place : ℕ) (l : Ledger) (old : WorldValue) (event : Event) (reply : Reply) (events : List Event) (replies : List Reply) (new : WorldValue) (h : IsOf layout l old) (run : WorldRun old (event ∷ events) (reply ∷ replies) new) where
@@ -32,12 +34,17 @@ module _ (layout : Layout) (place : ℕ) (l : Ledger) (old : WorldValue) (event 
     same_worlds zero lt = refl
     same_worlds (suc k) lt = rest.worlds k (omega arith)
 
+    good_worlds : (k : ℕ) → k ≤ length (event ∷ events) → IsGood (longer.moment k).world
+    unfolding event_on
+    good_worlds zero lt = h.good
+    good_worlds (suc k) lt = rest.good k (omega arith)
+
     one_more : Follows layout place l old (event ∷ events) (reply ∷ replies) new run
-    one_more = record { on = longer; worlds = same_worlds }
+    one_more = record { on = longer; worlds = same_worlds; good = good_worlds }
 
 follows : (layout : Layout) (place : ℕ) (l : Ledger) (old : WorldValue) (events : List Event) (replies : List Reply) (new : WorldValue) → IsOf layout l old → (run : WorldRun old events replies new) → Follows layout place l old events replies new run
 unfolding nothing_on
-follows layout place l old [] [] new h run = record { on = nothing_on place layout.shape l old new run (fits_of layout l old h); worlds = λ k lt. refl }
+follows layout place l old [] [] new h run = record { on = nothing_on place layout.shape l old new run (fits_of layout l old h); worlds = λ k lt. refl; good = λ k lt. h.good }
 follows layout place l old (event ∷ events) (reply ∷ replies) new h run =
     one_more layout place l old event reply events replies new h run
     (follows layout (place + 1) (n layout place l old event reply events replies new h run).ledger run.0 events replies new (n layout place l old event reply events replies new h run).after run.2)
@@ -59,4 +66,4 @@ pub runs_have_headline : (old : WorldValue) (events : List Event) (replies : Lis
 unfolding headline fits_all
 runs_have_headline old events replies new fresh good run =
     let f = follows old.sheet.layout 0 empty_ledger old events replies new (first_ledger old good fresh) run in
-    record { is = headline old events replies new (fits_all old events replies new f.on); worlds = f.worlds }
+    record { is = headline old events replies new (fits_all old events replies new f.on (reports_fit old events replies new f.on f.good fresh)); worlds = f.worlds }

@@ -35,7 +35,7 @@ use Rattle.ds_edit.specs.Steps.{access_at}
 use Rattle.ds_edit.specs.Worlds.{Steps, after, counted_at, pending_at}
 use Rattle.ds_edit.proofs.Sound.{step_sound}
 use Rattle.ds_edit.proofs.Possible.{can_perform}
-use Rattle.ds_core.specs.Steps.{reply_at, reply_with, done_at, done_with, StepsBy, StepTakes}
+use Rattle.ds_core.specs.EditEvents.{reply_at, reply_with, done_at, done_with, EditStepsBy, EditStepTakes}
 use Rattle.ds_edit.specs.Endings.{outcome_at}
 
 -- the process's edit
@@ -182,11 +182,11 @@ module _ (v : WorldValue) (g : IsGood v) (p : ℕ) (e : PlainEdit) (at : IsEditi
         counted_won : (noted : ℕ) → word ≡ noted → counted_at (edit_of e) (Swap noted) word ≡ edit_of e ∷ []
         counted_won noted same = rw (eq-eqb word noted same) refl
 
-    step_reply : (how : Option Outcome) → StepsBy v p (reply_with v.sheet.layout.processes e.number how) next → StepTakes v p (reply_with v.sheet.layout.processes e.number how) next
+    step_reply : (how : Option Outcome) → EditStepsBy v p (reply_with v.sheet.layout.processes e.number how) next → EditStepTakes v p (reply_with v.sheet.layout.processes e.number how) next
     step_reply None h = h
     step_reply (Some how) h = h
 
-    pub next_takes : StepTakes v p (reply_at v.sheet.layout.processes e.number e.stage) next
+    pub next_takes : EditStepTakes v p (reply_at v.sheet.layout.processes e.number e.stage) next
     unfolding next
     next_takes = step_reply (outcome_at e.stage) (record {
       there = low;

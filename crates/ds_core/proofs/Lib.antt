@@ -3,6 +3,7 @@ pub mod SheetLemmas
 pub mod Good
 pub mod Traces
 pub mod Moves
+pub mod Turns
 pub mod Bound
 pub mod Counts
 pub mod Runs
@@ -19,4 +20,5 @@ pub mod Lost
 pub mod Stopped
 pub mod Alone
 pub mod EachEvent
+pub mod Reported
 pub mod EachRun

@@ -21,7 +21,7 @@ use Rattle.ds_edit.specs.Worlds.{Begins, counted_at, pending_at}
 use Rattle.ds_edit.specs.Answers.{IsTrueAnswer, IsTrueOf}
 use Rattle.ds_edit.specs.Begun.{IsBegun}
 use Rattle.ds_edit.proofs.Truth.{answer_true}
-use Rattle.ds_core.specs.Steps.{reply_with, StepsBy}
+use Rattle.ds_core.specs.EditEvents.{reply_with, EditStepsBy}
 use Rattle.ds_edit.specs.Endings.{answer_of, other_of, outcome_at}
 use Rattle.ds_core.specs.Takes.{Takes, WorldRun}
 use Rattle.ds_core.proofs.Traces.{Stays, Issues, Counts, Closes, StepMoves}
@@ -61,7 +61,7 @@ begins_move old new sound process cell text number h =
     } in
     subst (λ (x : Edit). Issues old x new) h.asked.asked i
 
-module _ (old new : WorldValue) (g : IsSound (world_of old)) (p : ℕ) (reply : Reply) (h : StepsBy old p reply new) where
+module _ (old new : WorldValue) (g : IsSound (world_of old)) (p : ℕ) (reply : Reply) (h : EditStepsBy old p reply new) where
   w : World
   w = world_of old
 

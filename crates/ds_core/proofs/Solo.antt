@@ -2,6 +2,7 @@
 use Rattle.std.proofs.Common.{ℕ, ◌≡◌, ◌+◌, List, [], ◌∷◌, refl, ap, sym, ◌∙◌, subst, Some, None}
 use Rattle.std.specs.Prelude.{Option}
 use Rattle.ds_layout.specs.declared.place.Place.TheVariants as place
+use Rattle.ds_state.specs.Works.{PlainShow}
 use Rattle.ds_state.specs.Edits.{PlainEdit}
 use Rattle.ds_state.specs.World.{World}
 use Rattle.ds_state.specs.Value.{WorldValue, world_of}
@@ -11,12 +12,13 @@ use Rattle.ds_state.specs.declared.stage.Outcome.TheVariants as outcome
 use Rattle.ds_state.specs.declared.stage.Stage.{Stage}
 use Rattle.ds_state.specs.declared.stage.Stage.TheVariants.{StoreHeader, FlushNoted, BackNoted, OrDone, FlushDone, BackDone, Swap, StoreOutcome, FlushOutcome, BackOutcome, Answer}
 use Rattle.ds_state.specs.declared.situation.Situation.{Situation}
-use Rattle.ds_state.specs.declared.situation.Situation.TheVariants.{Idle, Editing}
+use Rattle.ds_state.specs.declared.situation.Situation.TheVariants.{Idle, Editing, Showing}
 use Rattle.ds_edit.specs.Steps.{next_at}
 use Rattle.ds_edit.specs.Worlds.{after}
 use Rattle.ds_edit.specs.Alone.{IsAloneAt}
 use Rattle.ds_edit.proofs.Alone.{alone}
-use Rattle.ds_core.specs.Steps.{reply_with, StepsBy}
+use Rattle.ds_core.specs.EditEvents.{reply_with, EditStepsBy}
+use Rattle.ds_core.specs.Steps.{edits, reports}
 use Rattle.ds_edit.specs.Endings.{outcome_at, answer_of}
 use Rattle.ds_core.specs.Takes.{Takes, WorldRun}
 use Rattle.ds_core.specs.Solo.{IsSoloEvent, IsSolo, IsDoneOnly, AreDoneOnly}
@@ -42,9 +44,16 @@ alone_same w w' cell (BackOutcome how) same h = h
 alone_same w w' cell (Answer how) same h = h
 alone_same w w' cell _ same h = tt
 
--- the process's edit, where it is in one, has this number and is alone
-abbrev pub IsAlone : WorldValue → ℕ → ℕ → Type 0
-IsAlone v p number = (e : PlainEdit) → (world_of v).situation p ≡ Editing e → (e.number ≡ number) × IsAloneAt (world_of v) e.cell e.stage
+-- in an edit, or in no call
+abbrev pub EditsOnly : Situation → Type 0
+EditsOnly (Idle next) = Unit {0}
+EditsOnly (Editing e) = Unit {0}
+EditsOnly _ = ⊥
+
+-- the process is in no other call; its edit, where it is in one, has this number and is alone
+pub record IsAlone (v : WorldValue) (p number : ℕ) : Type 0 where
+  pub only : EditsOnly ((world_of v).situation p)
+  pub edit : (e : PlainEdit) → (world_of v).situation p ≡ Editing e → (e.number ≡ number) × IsAloneAt (world_of v) e.cell e.stage
 
 pub some_outcome : (processes number : ℕ) (a : ReplyAnswer) (o : Option Outcome) → Answered a ≡ reply_with processes number o → (how : Outcome) × (o ≡ Some how) × (a ≡ answer_of processes number how)
 some_outcome processes number a None is = absurd (cc)
@@ -57,39 +66,66 @@ module _ (old new : WorldValue) (sound : IsSound (world_of old)) (p number : ℕ
   situation_now : (h : PlainEdit) (q : ℕ) → h.process ≡ q → q ≡ p → (s : Situation) → (world_of new).situation h.process ≡ s → (world_of new).situation p ≡ s
   situation_now h q mine same s is = ap (λ x. (world_of new).situation x) (sym (mine ∙ same)) ∙ is
 
-  stepped : (q : ℕ) → q ≡ p → StepsBy old q Stepped new → IsAlone new p number
-  stepped q same h e' is =
-      let at : (world_of old).situation p ≡ Editing h.edit = ap (λ x. (world_of old).situation x) (sym same) ∙ h.at in
-      let goes : outcome_at h.edit.stage ≡ None = unanswered_at old.sheet.layout.processes h.edit.number (outcome_at h.edit.stage) h.is in
-      let next : PlainEdit = record h.edit { stage = next_at h.edit h.edit.stage h.word } in
-      let one : next ≡ e' = editing_same ((world_of new).situation p) next e' (situation_now h.edit q h.mine same (Editing next) (h.steps.situation ∙ after_on h.edit h.edit.stage h.word goes)) is in
-      let before = a h.edit at in
-      subst (λ (x : PlainEdit). (x.number ≡ number) × IsAloneAt (world_of new) x.cell x.stage) one
-      (before.0, alone h.edit h.word (world_of old) (world_of new) sound h.edit.stage h.steps.memory before.1)
+  -- a step of its own that is not answered
+  module _ (q : ℕ) (same : q ≡ p) (h : EditStepsBy old q Stepped new) where
+    abbrev next : PlainEdit
+    next = record h.edit { stage = next_at h.edit h.edit.stage h.word }
 
-  answered : (q : ℕ) (answer : ReplyAnswer) → q ≡ p → StepsBy old q (Answered answer) new → (answer ≡ Done number) × IsAlone new p number
-  answered q answer same h =
-      let at : (world_of old).situation p ≡ Editing h.edit = ap (λ x. (world_of old).situation x) (sym same) ∙ h.at in
-      let found = some_outcome old.sheet.layout.processes h.edit.number answer (outcome_at h.edit.stage) h.is in
-      let last : h.edit.stage ≡ Answer found.0 = answers_at h.edit.stage found.0 found.1 in
-      let before = a h.edit at in
-      let done : found.0 ≡ outcome.Done = subst (λ (s : Stage). IsAloneAt (world_of old) h.edit.cell s) last before.1 in (
-        found.2 ∙ ap (λ how. answer_of old.sheet.layout.processes h.edit.number how) done ∙ ap (λ n. Done n) before.0,
-        (λ e' is. absurd (
-            let now : (world_of new).situation p ≡ Idle (h.edit.number + 1) = situation_now h.edit q h.mine same _ (h.steps.situation ∙ after_answer h.edit h.edit.stage found.0 h.word last) in
-            let bad : Idle (h.edit.number + 1) ≡ Editing e' = sym now ∙ is in
-            cc)),
-      )
+    goes : outcome_at h.edit.stage ≡ None
+    goes = unanswered_at old.sheet.layout.processes h.edit.number (outcome_at h.edit.stage) h.is
+
+    now : (world_of new).situation p ≡ Editing next
+    now = situation_now h.edit q h.mine same (Editing next) (h.steps.situation ∙ after_on h.edit h.edit.stage h.word goes)
+
+    stepped : IsAlone new p number
+    stepped = record {
+      only = subst EditsOnly (sym now) tt;
+      edit = λ e' is. (
+        let before = a.edit h.edit (ap (λ x. (world_of old).situation x) (sym same) ∙ h.at) in
+        subst (λ (x : PlainEdit). (x.number ≡ number) × IsAloneAt (world_of new) x.cell x.stage) (editing_same ((world_of new).situation p) next e' now is)
+        (before.0, alone h.edit h.word (world_of old) (world_of new) sound h.edit.stage h.steps.memory before.1));
+    }
+
+  -- its answer
+  module _ (q : ℕ) (answer : ReplyAnswer) (same : q ≡ p) (h : EditStepsBy old q (Answered answer) new) where
+    found : (how : Outcome) × (outcome_at h.edit.stage ≡ Some how) × (answer ≡ answer_of old.sheet.layout.processes h.edit.number how)
+    found = some_outcome old.sheet.layout.processes h.edit.number answer (outcome_at h.edit.stage) h.is
+
+    last : h.edit.stage ≡ Answer found.0
+    last = answers_at h.edit.stage found.0 found.1
+
+    over : (world_of new).situation p ≡ Idle (h.edit.number + 1)
+    over = situation_now h.edit q h.mine same _ (h.steps.situation ∙ after_answer h.edit h.edit.stage found.0 h.word last)
+
+    answered : (answer ≡ Done number) × IsAlone new p number
+    answered =
+        let before = a.edit h.edit (ap (λ x. (world_of old).situation x) (sym same) ∙ h.at) in
+        let done : found.0 ≡ outcome.Done = subst (λ (s : Stage). IsAloneAt (world_of old) h.edit.cell s) last before.1 in (
+          found.2 ∙ ap (λ how. answer_of old.sheet.layout.processes h.edit.number how) done ∙ ap (λ n. Done n) before.0,
+          record {
+            only = subst EditsOnly (sym over) tt;
+            edit = λ e' is. absurd (let bad : Idle (h.edit.number + 1) ≡ Editing e' = sym over ∙ is in cc);
+          },
+        )
+
+  -- it is in no report
+  no_report : (q : ℕ) → q ≡ p → (f : PlainShow) → (world_of old).situation q ≡ Showing f → ⊥
+  no_report q same f is = subst EditsOnly (ap (λ x. (world_of old).situation x) (sym same) ∙ is) a.only
 
   unchanged : new ≡ old → IsAlone new p number
   unchanged same = subst (λ (v : WorldValue). IsAlone v p number) (sym same) a
 
   pub one_event : (event : Event) (reply : Reply) → Takes old event reply new → IsSoloEvent p event → IsDoneOnly number reply × IsAlone new p number
-  one_event (Step q) Stepped h same = (tt, stepped q same h)
-  one_event (Step q) (Answered answer) h same = answered q answer same h
+  one_event (Step q) Stepped (edits h) same = (tt, stepped q same h)
+  one_event (Step q) Stepped (reports h) same = absurd (no_report q same h.steps.show h.steps.at)
+  one_event (Step q) (Answered answer) (edits h) same = answered q answer same h
+  one_event (Step q) (Answered answer) (reports h) same = absurd (no_report q same h.steps.show h.steps.at)
   one_event (Step q) NotEnabled h same = (tt, unchanged h.same)
   one_event (Step q) _ h same = absurd h
-  one_event (Evict r) Evicted h solo = (tt, (λ e is. let before = a e (sym (h.evicts.situation p) ∙ is) in (before.0, alone_same (world_of old) (world_of new) e.cell e.stage (h.evicts.memory.cached (place.Head e.cell)) before.1)))
+  one_event (Evict r) Evicted h solo = (tt, record {
+    only = subst EditsOnly (sym (h.evicts.situation p)) a.only;
+    edit = λ e is. let before = a.edit e (sym (h.evicts.situation p) ∙ is) in (before.0, alone_same (world_of old) (world_of new) e.cell e.stage (h.evicts.memory.cached (place.Head e.cell)) before.1);
+  })
   one_event (Evict r) NotEnabled h solo = (tt, unchanged h.same)
   one_event (Evict r) _ h solo = absurd h
   one_event (BeginEdit r) reply h solo = absurd solo
@@ -112,7 +148,10 @@ pub solo_done : (old : WorldValue) (events : List Event) (replies : List Reply) 
     → (world_of old).situation p ≡ Editing e → e.stage ≡ StoreHeader → WorldRun old events replies new → IsSolo p events → AreDoneOnly e.number replies
 solo_done old events replies new p e sound at first run solo = solo_run events replies old new p e.number sound starts run solo
   where
-    starts : IsAlone old p e.number
-    starts e' is =
+    first_edit : (e' : PlainEdit) → (world_of old).situation p ≡ Editing e' → (e'.number ≡ e.number) × IsAloneAt (world_of old) e'.cell e'.stage
+    first_edit e' is =
         let one : e ≡ e' = editing_same ((world_of old).situation p) e e' at is in
         subst (λ (x : PlainEdit). (x.number ≡ e.number) × IsAloneAt (world_of old) x.cell x.stage) one (refl, subst (λ (s : Stage). IsAloneAt (world_of old) e.cell s) (sym first) tt)
+
+    starts : IsAlone old p e.number
+    starts = record { only = subst EditsOnly (sym at) tt; edit = λ e' is. first_edit e' is }

@@ -17,14 +17,13 @@ use Rattle.ds_state.specs.declared.stage.Stage.TheVariants.{Answer}
 use Rattle.ds_state.specs.declared.situation.Situation.{Situation}
 use Rattle.ds_state.specs.declared.situation.Situation.TheVariants.{Editing}
 use Rattle.ds_edit.specs.Worlds.{counted_at}
-use Rattle.ds_core.specs.Steps.{StepsBy}
+use Rattle.ds_core.specs.EditEvents.{EditStepsBy}
 use Rattle.ds_edit.specs.Endings.{answer_of, outcome_at}
 use Rattle.ds_core.specs.Takes.{Takes, WorldRun}
 use Rattle.ds_core.specs.Spent.{IsOut}
 use Rattle.ds_state.specs.Spent.{IsSpent}
 use Rattle.ds_state.specs.Rely.{Keeps}
 use Rattle.ds_state.proofs.Spent.{spent_grown, spent_stays, spent_evicted, spent_crashed, swap_unspent, answer_spent}
-use Rattle.ds_state.proofs.Stopping.{stop_keeps}
 use Rattle.ds_state.proofs.Crashed.{was_counted}
 use Rattle.ds_layout.specs.declared.place.Place.TheVariants.{Announce}
 use Rattle.ds_edit.proofs.Sound.{step_sound}
@@ -33,9 +32,15 @@ use Rattle.ds_core.specs.declared.event.Event.TheVariants.{BeginEdit, BeginWork,
 use Rattle.ds_edit.specs.declared.answer.Other.{Other}
 use Rattle.ds_edit.specs.declared.answer.Answer.TheVariants.{Overtaken}
 use Rattle.ds_core.specs.declared.reply.Reply.{Reply}
-use Rattle.ds_core.specs.declared.reply.Reply.TheVariants.{Begun, Refused, Stepped, Answered, Evicted, Stopped, Crashed, NotEnabled}
+use Rattle.ds_core.specs.declared.reply.Reply.TheVariants.{Begun, Entered, Refused, Stepped, Answered, Evicted, Stopped, Crashed, NotEnabled}
 use Rattle.ds_core.proofs.Good.{counted_cases, answers_at}
 use Rattle.ds_core.proofs.Moves.{counts_at}
+use Rattle.ds_show.specs.declared.machine.Effect.{Effect}
+use Rattle.ds_show.specs.declared.machine.Effect.TheVariants as effects
+use Rattle.ds_state.specs.declared.work.ShowEnd.TheVariants as ends
+use Rattle.ds_core.specs.ReportEvents.{report_reply, ReportStepsBy}
+use Rattle.ds_core.specs.Steps.{edits, reports}
+use Rattle.ds_core.proofs.Turns.{IsTurn, edit_turn, report_turn, report_begins_turn, stop_turn}
 use Rattle.ds_core.proofs.Solo.{some_outcome}
 
 contains_one : (e f : Edit) → Contains (e ∷ []) f → f ≡ e
@@ -52,7 +57,7 @@ module _ (old new : WorldValue) (sound : IsSound (world_of old)) (p n : ℕ) (sp
   same_list : new.counted ≡ old.counted → IsOut (world_of new) p n
   same_list counted = λ e there. out e (subst (λ (es : List Edit). Contains es e) counted there)
 
-  by_step : (q : ℕ) (reply : Reply) → StepsBy old q reply new → Stays
+  by_step : (q : ℕ) (reply : Reply) → EditStepsBy old q reply new → Stays
   by_step q reply h =
       let low : h.edit.process < old.sheet.layout.processes = rw h.mine h.there in
       let here : (world_of old).situation h.edit.process ≡ Editing h.edit = ap (λ x. (world_of old).situation x) h.mine ∙ h.at in
@@ -72,6 +77,13 @@ module _ (old new : WorldValue) (sound : IsSound (world_of old)) (p n : ℕ) (sp
       ] in
       (spent_stays h.edit.process (world_of old) (world_of new) kept p n spent, stays)
 
+  -- a process's turn that leaves the list
+  by_turn : (q : ℕ) → IsTurn q old new → new.counted ≡ old.counted → Stays
+  by_turn q t same = (spent_stays q (world_of old) (world_of new) t.keeps p n spent, same_list same)
+
+  by_report : (q : ℕ) (reply : Reply) → ReportStepsBy old q reply new → Stays
+  by_report q reply h = by_turn q (report_turn old new q reply sound h) h.steps.steps.counted
+
   pub one_event : (event : Event) (reply : Reply) → Takes old event reply new → Stays
   one_event (BeginEdit r) (Begun number) h =
       let same = h.begun.begins.memory.persisted (Announce p) in
@@ -79,18 +91,23 @@ module _ (old new : WorldValue) (sound : IsSound (world_of old)) (p n : ℕ) (sp
   one_event (BeginEdit r) (Refused why) h = unchanged h.same
   one_event (BeginEdit r) NotEnabled h = unchanged h.same
   one_event (BeginEdit r) _ h = absurd h
-  one_event (Step q) Stepped h = by_step q Stepped h
-  one_event (Step q) (Answered answer) h = by_step q (Answered answer) h
+  one_event (Step q) Stepped (edits h) = by_step q Stepped h
+  one_event (Step q) Stepped (reports h) = by_report q Stepped h
+  one_event (Step q) (Answered answer) (edits h) = by_step q (Answered answer) h
+  one_event (Step q) (Answered answer) (reports h) = by_report q (Answered answer) h
   one_event (Step q) NotEnabled h = unchanged h.same
   one_event (Step q) _ h = absurd h
   one_event (Evict place) Evicted h = (spent_evicted place (world_of old) (world_of new) sound h.evicts p n spent, same_list h.evicts.counted)
   one_event (Evict place) NotEnabled h = unchanged h.same
   one_event (Evict place) _ h = absurd h
   one_event (BeginWork q cell) reply h = unchanged h.1
-  one_event (BeginShow q) reply h = unchanged h.1
+  one_event (BeginShow q) Entered h = by_turn q (report_begins_turn old new q sound h) h.begun.begins.counted
+  one_event (BeginShow q) (Refused why) h = unchanged h.same
+  one_event (BeginShow q) NotEnabled h = unchanged h.same
+  one_event (BeginShow q) _ h = absurd h
   one_event (BeginRecover q) reply h = unchanged h.1
   one_event (Offer value) reply h = unchanged h.1
-  one_event (Stop q) Stopped h = (spent_stays q (world_of old) (world_of new) (stop_keeps q (world_of old) (world_of new) sound h.there h.stops) p n spent, same_list h.stops.counted)
+  one_event (Stop q) Stopped h = by_turn q (stop_turn old new q sound h) h.stops.counted
   one_event (Stop q) NotEnabled h = unchanged h.same
   one_event (Stop q) _ h = absurd h
   one_event Crash Crashed h = (spent_crashed (world_of old) (world_of new) h.crashes p n spent, λ e there. out e (was_counted (world_of old) (world_of new) sound h.crashes e there))
@@ -110,7 +127,7 @@ overtaken_how : (processes number n : ℕ) (other : Other) (how : Outcome) → O
 overtaken_how processes number n other outcome.Done is = absurd (cc)
 overtaken_how processes number n other (outcome.Overtaken noted seen) is = (cc, (noted, seen, refl))
 
-pub overtaken_out : (old mid : WorldValue) (p n : ℕ) (other : Other) → IsSound (world_of old) → StepsBy old p (Answered (Overtaken n other)) mid → IsSpent (world_of mid) p n × IsOut (world_of mid) p n
+pub overtaken_out : (old mid : WorldValue) (p n : ℕ) (other : Other) → IsSound (world_of old) → EditStepsBy old p (Answered (Overtaken n other)) mid → IsSpent (world_of mid) p n × IsOut (world_of mid) p n
 overtaken_out old mid p n other sound h =
     let found = some_outcome old.sheet.layout.processes h.edit.number (Overtaken n other) (outcome_at h.edit.stage) h.is in
     let last : h.edit.stage ≡ Answer found.0 = answers_at h.edit.stage found.0 found.1 in
@@ -132,10 +149,16 @@ overtaken_out old mid p n other sound h =
           omega arith),
     )
 
+-- a report answers nothing as Overtaken
+not_overtaken : (what : Effect) (n : ℕ) (other : Other) → Answered (Overtaken n other) ≡ report_reply what → ⊥
+not_overtaken effects.GoesOn n other is = absurd (cc)
+not_overtaken (effects.Answers ends.Settled) n other is = absurd (cc)
+not_overtaken (effects.Answers (ends.AtMark cell word)) n other is = absurd (cc)
+not_overtaken (effects.Answers (ends.AtAnnounce process word)) n other is = absurd (cc)
+
 pub overtaken_never : (old mid new : WorldValue) (events : List Event) (replies : List Reply) (p n : ℕ) (other : Other) → IsSound (world_of old) → Takes old (Step p) (Answered (Overtaken n other)) mid
     → WorldRun mid events replies new → IsSpent (world_of new) p n × IsOut (world_of new) p n
-overtaken_never old mid new events replies p n other sound takes run =
-    let o = overtaken_out old mid p n other sound takes in
-    let kept : Keeps p (world_of old) (world_of mid) = subst (λ (q : ℕ). Keeps q (world_of old) (world_of mid)) takes.mine
-    (step_sound takes.edit takes.word (world_of old) (world_of mid) sound (rw takes.mine takes.there) (ap (λ q. (world_of old).situation q) takes.mine ∙ takes.at) takes.steps) in
-    stays_out events replies mid new p n kept.sound o.0 o.1 run
+overtaken_never old mid new events replies p n other sound (edits h) run =
+    let o = overtaken_out old mid p n other sound h in
+    stays_out events replies mid new p n (edit_turn old mid p (Answered (Overtaken n other)) sound h).keeps.sound o.0 o.1 run
+overtaken_never old mid new events replies p n other sound (reports h) run = absurd (not_overtaken h.what n other h.is)

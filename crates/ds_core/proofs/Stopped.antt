@@ -1,5 +1,5 @@
 -- The worlds after a stop and after a crash are good.
-use Rattle.std.proofs.Common.{ℕ, ◌≡◌, ◌≢◌, ◌<◌, ◌≤◌, ◌*◌, List, length, get_or, set, refl, ap, sym, ◌∙◌, subst, arith, inl, inr, Some, Bool, true, false}
+use Rattle.std.proofs.Common.{ℕ, ◌≡◌, ◌≢◌, ◌<◌, ◌≤◌, ◌*◌, ◌+◌, List, [], ◌∷◌, suc, length, get_or, set, refl, ap, sym, ◌∙◌, subst, arith, inl, inr, Some, Bool, true, false}
 use Rattle.std.specs.Prelude.{All, Contains, Option, filter, if◌then◌else◌}
 use Rattle.std.proofs.Math.ListN.{length-set}
 use Rattle.std.proofs.lemmas.Bool.{cases_eq}
@@ -15,6 +15,9 @@ use Rattle.ds_state.specs.Crashes.{StopsIn, CrashesTo, is_lost, survivors}
 use Rattle.ds_state.specs.Sound.{IsSound, IsOfSheet}
 use Rattle.ds_state.specs.declared.situation.Situation.{Situation}
 use Rattle.ds_state.specs.declared.situation.Situation.TheVariants as situation
+use Rattle.ds_state.specs.Underway.{reports_in, reports_under_way}
+use Rattle.ds_state.specs.declared.reports.TheConstants.{SETTLED_MOST}
+use Rattle.ds_state.proofs.Underway.{no_more}
 use Rattle.ds_state.proofs.Stopping.{stop_keeps}
 use Rattle.ds_state.proofs.CrashSound.{crash_sound}
 use Rattle.ds_core.specs.Stops.{HasHeadPlace}
@@ -53,11 +56,21 @@ module _ (v : WorldValue) (sheet : SheetValue) (p room : ℕ) (k : IsReserved v 
       pending = k.good.pending ∙ sym processes;
       reports = rw layout k.good.reports;
       answered = k.good.answered;
+      counts = no_more v.situations p situation.Stopped v.settled SETTLED_MOST there refl k.good.counts;
     };
     reserved = (let r = k.reserved in let s = processes in omega arith);
   }
 
 -- ---- a crash
+
+-- no report is under way where every process has stopped
+none_stopped : (ss : List Situation) → ((p : ℕ) → p < length ss → get_or ss p (situation.Idle 0) ≡ situation.Stopped) → reports_under_way ss ≡ 0
+none_stopped [] all = refl
+none_stopped (s ∷ ss) all =
+    let first = all 0 (omega arith) in
+    let rest = none_stopped ss (λ p lt. all (suc p) (omega arith)) in
+    let one = ap reports_in first in
+    omega arith
 
 abbrev pub crashed : WorldValue → SheetValue → List Situation → WorldValue
 crashed v sheet situations = record v { sheet = sheet; situations = situations; counted = survivors (memory v.sheet) v.counted }
@@ -109,6 +122,7 @@ module _ (v : WorldValue) (sheet : SheetValue) (situations : List Situation) (ro
       pending = k.good.pending ∙ sym same_processes;
       reports = rw layout k.good.reports;
       answered = answered;
+      counts = (let none = none_stopped situations all in let c = k.good.counts in omega arith);
     };
     reserved = (let r = k.reserved in let s = same_processes in omega arith);
   }

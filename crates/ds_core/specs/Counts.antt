@@ -1,15 +1,18 @@
 -- What an answer says by itself.
-use Rattle.std.specs.Prelude.{ℕ}
-use Rattle.ds_edit.specs.declared.answer.Answer.TheVariants.{Done}
+use Rattle.std.specs.Prelude.{ℕ, ◌≡◌, ◌≢◌, [], slice_index_or}
+use Rattle.ds_state.specs.Value.{WorldValue}
+use Rattle.ds_edit.specs.declared.answer.Answer.TheVariants.{Done, Settled}
 use Rattle.ds_core.specs.declared.event.Event.{Event}
-use Rattle.ds_core.specs.declared.event.Event.TheVariants.{BeginEdit, Step, Evict, Stop, Crash}
+use Rattle.ds_core.specs.declared.event.Event.TheVariants.{BeginEdit, BeginShow, Step, Evict, Stop, Crash}
 use Rattle.ds_core.specs.declared.reply.Reply.{Reply}
-use Rattle.ds_core.specs.declared.reply.Reply.TheVariants.{Begun, Refused, Stepped, Answered, Evicted, Stopped, Crashed, NotEnabled}
+use Rattle.ds_core.specs.declared.reply.Reply.TheVariants.{Begun, Entered, Refused, Stepped, Answered, Evicted, Stopped, Crashed, NotEnabled}
 
 -- the event may be answered so
 abbrev pub IsReplyTo : Event → Reply → Type 0
 IsReplyTo (BeginEdit r) (Begun number) = Unit {0}
 IsReplyTo (BeginEdit r) (Refused why) = Unit {0}
+IsReplyTo (BeginShow p) Entered = Unit {0}
+IsReplyTo (BeginShow p) (Refused why) = Unit {0}
 IsReplyTo (Step p) Stepped = Unit {0}
 IsReplyTo (Step p) (Answered answer) = Unit {0}
 IsReplyTo (Evict place) Evicted = Unit {0}
@@ -24,6 +27,12 @@ abbrev pub done_of : Reply → ℕ
 done_of (Answered (Done number)) = 1
 done_of reply = 0
 
--- how many reports it answers Settled: no report is answered yet
+-- how many reports it answers Settled
 abbrev pub settled_of : Reply → ℕ
+settled_of (Answered Settled) = 1
 settled_of reply = 0
+
+-- the values of each process's last settled report stay, but for that of the process which is answered Settled
+abbrev pub KeepsReports : WorldValue → Event → Reply → WorldValue → Type 0
+KeepsReports old (Step p) (Answered Settled) new = (q : ℕ) → q ≢ p → slice_index_or new.reports.values q [] ≡ slice_index_or old.reports.values q []
+KeepsReports old event reply new = new.reports ≡ old.reports

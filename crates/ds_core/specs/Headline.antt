@@ -72,6 +72,13 @@ pub record UnsettledFits (moment : ℕ → Moment) (start k : ℕ) (r : Place) (
 abbrev pub kept_values : WorldValue → ℕ → List Value
 kept_values v p = slice_index_or v.reports.values p []
 
+-- each report that is answered fits
+pub record ReportsFit (moment : ℕ → Moment) (events : List Event) (replies : List Reply) : Type 0 where
+  pub settled : (k p : ℕ) → Happens events replies k (Step p) (Answered Settled)
+      → (start : ℕ) × IsCall events replies p start k × SettledFits moment start k (kept_values (moment (k + 1)).world p)
+  pub unsettled : (k p : ℕ) (r : Place) (word : ℕ) → Happens events replies k (Step p) (Answered (Unsettled r word))
+      → (start : ℕ) × IsCall events replies p start k × UnsettledFits moment start k r word
+
 -- ---- the run
 
 -- the worlds are those that the processes' steps lead through, from the new world to the last one; a ledger exists at each
@@ -89,10 +96,7 @@ pub record RunFits (old : WorldValue) (events : List Event) (replies : List Repl
   pub ledger : (k : ℕ) (event : Event) (reply : Reply) → Happens events replies k event reply
       → LedgerMoves k old.sheet.layout.shape (moment k).ledger event reply (moment (k + 1)).ledger
   pub fits : (k : ℕ) → k ≤ length events → MomentFits (moment k)
-  pub settled : (k p : ℕ) → Happens events replies k (Step p) (Answered Settled)
-      → (start : ℕ) × IsCall events replies p start k × SettledFits moment start k (kept_values (moment (k + 1)).world p)
-  pub unsettled : (k p : ℕ) (r : Place) (word : ℕ) → Happens events replies k (Step p) (Answered (Unsettled r word))
-      → (start : ℕ) × IsCall events replies p start k × UnsettledFits moment start k r word
+  pub reports : ReportsFit moment events replies
 
 -- the first edit stands before the second one in the list
 pub record Precedes (es : List Placed) (e f : Placed) : Type 0 where

@@ -2,6 +2,8 @@ pub mod Ledger
 pub mod PlainSheet
 pub mod Kept
 pub mod Requests
+pub mod EditEvents
+pub mod ReportEvents
 pub mod Steps
 pub mod Stops
 pub mod Takes

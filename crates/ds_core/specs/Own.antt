@@ -3,8 +3,9 @@ use Rattle.std.specs.Prelude.{ℕ, ◌≡◌, ◌≤◌, ◌+◌, ◌==◌, List
 use Rattle.ds_state.specs.Edits.{PlainEdit}
 use Rattle.ds_state.specs.Value.{WorldValue, world_of}
 use Rattle.ds_state.specs.declared.situation.Situation.{Situation}
-use Rattle.ds_state.specs.declared.situation.Situation.TheVariants.{Editing}
+use Rattle.ds_state.specs.declared.situation.Situation.TheVariants.{Editing, Showing}
 use Rattle.ds_edit.specs.Steps.{rank}
+use Rattle.ds_show.specs.ShowSteps as shows
 use Rattle.ds_core.specs.declared.event.Event.{Event}
 use Rattle.ds_core.specs.declared.event.Event.TheVariants.{Step, Stop, Crash}
 use Rattle.ds_core.specs.declared.reply.Reply.{Reply}
@@ -42,6 +43,7 @@ pub record GoesOn (old : PlainEdit) (steps : ℕ) (new : PlainEdit) : Type 0 whe
 -- how many steps the call has left, and one more that answers: at most so many, and 0 outside a call
 abbrev pub left_in : Situation → ℕ
 left_in (Editing e) = rank e e.stage
+left_in (Showing e) = shows.rank e
 left_in situation = 0
 
 abbrev pub steps_left : ℕ → WorldValue → ℕ

@@ -1,56 +1,27 @@
 -- A step of a process, and an eviction, from world to world.
-use Rattle.std.specs.Prelude.{ℕ, ◌≡◌, ◌<◌, ◌+◌, Option, Some, None}
+use Rattle.std.specs.Prelude.{ℕ, ◌≡◌, ◌<◌}
 use Rattle.ds_layout.specs.declared.place.Place.{Place}
 use Rattle.ds_layout.specs.Places.{IsPlace}
 use Rattle.ds_state.specs.Edits.{PlainEdit}
+use Rattle.ds_state.specs.Works.{PlainShow}
 use Rattle.ds_state.specs.Value.{WorldValue, world_of}
 use Rattle.ds_state.specs.Events.{Evicts}
-use Rattle.ds_state.specs.declared.stage.Outcome.{Outcome}
-use Rattle.ds_state.specs.declared.stage.Outcome.TheVariants as outcome
-use Rattle.ds_state.specs.declared.stage.Stage.{Stage}
-use Rattle.ds_state.specs.declared.situation.Situation.TheVariants.{Editing}
-use Rattle.ds_edit.specs.Worlds as edits
-use Rattle.ds_edit.specs.Endings.{answer_of, outcome_at}
+use Rattle.ds_state.specs.declared.situation.Situation.TheVariants.{Editing, Showing}
+use Rattle.ds_core.specs.EditEvents.{SameReports, EditStepsBy}
+use Rattle.ds_core.specs.ReportEvents.{ReportStepsBy}
 use Rattle.ds_core.specs.declared.reply.Reply.{Reply}
 use Rattle.ds_core.specs.declared.reply.Reply.TheVariants.{Stepped, Answered, Evicted, NotEnabled}
 
--- what a step answers
-abbrev pub reply_with : ℕ → ℕ → Option Outcome → Reply
-reply_with processes number None = Stepped
-reply_with processes number (Some how) = Answered (answer_of processes number how)
+-- the process makes a step of its call
+pub data StepsBy (old : WorldValue) (p : ℕ) (reply : Reply) (new : WorldValue) : Type 0 where
+  edits : EditStepsBy old p reply new → StepsBy old p reply new
+  reports : ReportStepsBy old p reply new → StepsBy old p reply new
 
-abbrev pub reply_at : ℕ → ℕ → Stage → Reply
-reply_at processes number s = reply_with processes number (outcome_at s)
-
--- how many edits were answered Done after it
-abbrev pub done_with : ℕ → Option Outcome → ℕ
-done_with done (Some outcome.Done) = done + 1
-done_with done _ = done
-
-abbrev pub done_at : ℕ → Stage → ℕ
-done_at done s = done_with done (outcome_at s)
-
--- no report is answered
-pub record SameReports (old new : WorldValue) : Type 0 where
-  pub settled : new.settled ≡ old.settled
-  pub reports : new.reports ≡ old.reports
-
--- the process makes a step of its edit
-pub record StepsBy (old : WorldValue) (p : ℕ) (reply : Reply) (new : WorldValue) : Type 0 where
-  pub there : p < old.sheet.layout.processes
-  pub edit : PlainEdit
-  pub mine : edit.process ≡ p
-  pub at : (world_of old).situation p ≡ Editing edit
-  pub word : ℕ
-  pub steps : edits.Steps edit word (world_of old) (world_of new)
-  pub is : reply ≡ reply_at old.sheet.layout.processes edit.number edit.stage
-  pub done : new.done ≡ done_at old.done edit.stage
-  pub reports : SameReports old new
-
--- the process has no edit under way
+-- the process is in no call that can make a step, or the sheet has no such process
 pub record CanNotStep (old : WorldValue) (p : ℕ) (new : WorldValue) : Type 0 where
   pub same : new ≡ old
-  pub none : (edit : PlainEdit) → p < old.sheet.layout.processes → (world_of old).situation p ≡ Editing edit → ⊥
+  pub no_edit : (edit : PlainEdit) → p < old.sheet.layout.processes → (world_of old).situation p ≡ Editing edit → ⊥
+  pub no_report : (show : PlainShow) → p < old.sheet.layout.processes → (world_of old).situation p ≡ Showing show → ⊥
 
 -- a step of the process, and its answer
 abbrev pub StepTakes : WorldValue → ℕ → Reply → WorldValue → Type 0

@@ -6,7 +6,7 @@ use Rattle.ds_state.specs.World.{Edit}
 use Rattle.ds_state.specs.Value.{WorldValue, world_of}
 use Rattle.ds_state.specs.Crashes.{StopsIn, CrashesTo}
 use Rattle.ds_state.specs.declared.situation.Situation.TheVariants as situation
-use Rattle.ds_core.specs.Steps.{SameReports}
+use Rattle.ds_core.specs.EditEvents.{SameReports}
 use Rattle.ds_core.specs.declared.reply.Reply.{Reply}
 use Rattle.ds_core.specs.declared.reply.Reply.TheVariants.{Stopped, Crashed, NotEnabled}
 

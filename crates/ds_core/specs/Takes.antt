@@ -5,10 +5,12 @@ use Rattle.ds_state.specs.Value.{WorldValue, world_of, IsGood}
 use Rattle.ds_edit.specs.Begun.{IsBegun, Refuses}
 use Rattle.ds_state.specs.declared.refusal.Refusal.{Refusal}
 use Rattle.ds_core.specs.Requests.{PlainRequest}
-use Rattle.ds_core.specs.Steps.{SameReports, StepTakes, EvictTakes}
+use Rattle.ds_core.specs.EditEvents.{SameReports}
+use Rattle.ds_core.specs.ReportEvents.{BeginShowTakes}
+use Rattle.ds_core.specs.Steps.{StepTakes, EvictTakes}
 use Rattle.ds_core.specs.Stops.{StopTakes, CrashTakes}
 use Rattle.ds_core.specs.declared.event.Event.{Event}
-use Rattle.ds_core.specs.declared.event.Event.TheVariants.{BeginEdit, Step, Evict, Stop, Crash}
+use Rattle.ds_core.specs.declared.event.Event.TheVariants.{BeginEdit, BeginShow, Step, Evict, Stop, Crash}
 use Rattle.ds_core.specs.declared.reply.Reply.{Reply}
 use Rattle.ds_core.specs.declared.reply.Reply.TheVariants.{Begun, Refused, NotEnabled}
 
@@ -45,6 +47,7 @@ BeginTakes old r _ new = ⊥
 -- one event, from world to world; an event that can not happen yet changes nothing
 abbrev pub Takes : WorldValue → Event → Reply → WorldValue → Type 0
 Takes old (BeginEdit r) reply new = BeginTakes old r reply new
+Takes old (BeginShow p) reply new = BeginShowTakes old p reply new
 Takes old (Step p) reply new = StepTakes old p reply new
 Takes old (Evict place) reply new = EvictTakes old place reply new
 Takes old (Stop p) reply new = StopTakes old p reply new

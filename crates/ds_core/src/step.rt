@@ -5,7 +5,9 @@ ghost use Rattle.ds_state.specs.Edits.{PlainEdit};
 ghost use Rattle.ds_state.specs.declared.stage.Stage.TheVariants.{Swap};
 ghost use Rattle.ds_state.specs.declared.situation.Situation.TheVariants.{Editing};
 ghost use Rattle.ds_edit.specs.Worlds.{after, counted_at, pending_at};
-ghost use Rattle.ds_core.specs.Steps.{reply_at, done_at, StepTakes, EvictTakes};
+ghost use Rattle.ds_core.specs.EditEvents.{reply_at, done_at, EditStepTakes};
+ghost use Rattle.ds_core.specs.ReportEvents.{report_answer, report_reply};
+ghost use Rattle.ds_core.specs.Steps.{StepTakes, EvictTakes};
 
 use crate::reply::Reply;
 use ds_edit::answer::Answer;
@@ -15,6 +17,8 @@ use ds_state::edit::EditCall;
 use ds_state::ledger::{Edit, Issue};
 use ds_state::situation::Situation;
 use ds_state::stage::{Outcome, Stage};
+use ds_show::machine::Effect;
+use ds_state::work::ShowEnd;
 use ds_state::world::World;
 
 // The edit of a process, where it is in one.
@@ -86,10 +90,10 @@ fn reply(processes: usize, number: usize, stage: Stage) -> Reply
     }
 }
 
-/// A process makes the next step of its edit. Where it has none, or the sheet has no such process,
-/// the step can not happen and nothing changes.
-pub fn step(world: &mut World, process: usize) -> Reply
-    ensures { StepTakes world.old process result world.new }
+// A process makes the next step of its edit. Where it has none, or the sheet has no such process,
+// the step can not happen and nothing changes.
+fn edit_step(world: &mut World, process: usize) -> Reply
+    ensures { EditStepTakes world.old process result world.new }
 {
     if process >= world.situations.len() {
         return Reply::NotEnabled;
@@ -105,6 +109,43 @@ pub fn step(world: &mut World, process: usize) -> Reply
     close(&mut world.pending[process], stage);
     world.done = done_after(world.done, stage);
     reply(processes, edit.number, stage)
+}
+
+// What a report answers that ended so.
+fn report_answer(end: ShowEnd) -> Answer
+    ensures { result ≡ report_answer end }
+{
+    match end {
+        ShowEnd::Settled => Answer::Settled,
+        ShowEnd::AtMark(cell, word) => Answer::Unsettled(Place::Mark(cell), word),
+        ShowEnd::AtAnnounce(process, word) => Answer::Unsettled(Place::Announce(process), word),
+    }
+}
+
+// What a step of a report answers.
+fn report_reply(what: Effect) -> Reply
+    ensures { result ≡ report_reply what }
+{
+    match what {
+        Effect::GoesOn => Reply::Stepped,
+        Effect::Answers(end) => Reply::Answered(report_answer(end)),
+    }
+}
+
+/// A process makes the next step of its call. Where it is in none, or the sheet has no such process,
+/// the step can not happen and nothing changes. Each machine tells whether the process is in a call
+/// of its own.
+pub fn step(world: &mut World, process: usize) -> Reply
+    ensures { StepTakes world.old process result world.new }
+{
+    let reply = edit_step(world, process);
+    if reply != Reply::NotEnabled {
+        return reply;
+    }
+    match ds_show::step::step(world, process) {
+        Some(what) => report_reply(what),
+        None => Reply::NotEnabled,
+    }
 }
 
 /// A word is evicted: its cached side is persisted. Where the sheet has no such word, nothing

@@ -3,8 +3,9 @@
 ghost use Rattle.std.specs.Prelude.{◌≡◌, ◌<◌, ◌+◌, ℕ, IfOk, OnErr};
 ghost use Rattle.ds_core.specs.declared.event.Event.TheVariants.{Step};
 ghost use Rattle.ds_core.specs.declared.reply.Reply.TheVariants.{Stepped};
-ghost use Rattle.ds_core.specs.Counts.{IsReplyTo, done_of, settled_of};
+ghost use Rattle.ds_core.specs.Counts.{IsReplyTo, KeepsReports, done_of, settled_of};
 ghost use Rattle.ds_core.specs.Own.{steps_left};
+ghost use Rattle.ds_core.specs.ReportEvents.{BeginShowTakes};
 ghost use Rattle.ds_core.specs.Takes.{BeginTakes, Takes, Fits, WorldRun};
 
 use crate::event::{Event, Request};
@@ -29,6 +30,19 @@ fn begin_edit(alloc: Global, world: &mut World, request: &Request) -> Reply
     }
 }
 
+// A report begins, or is refused.
+fn begin_show(alloc: Global, world: &mut World, process: usize) -> Reply
+    ensures { BeginShowTakes world.old process result world.new }
+{
+    if process >= world.words.layout().processes {
+        return Reply::NotEnabled;
+    }
+    match ds_show::begin::begin(alloc, world, process) {
+        Ok(()) => Reply::Entered,
+        Err(refusal) => Reply::Refused(refusal),
+    }
+}
+
 fn happen(alloc: Global, world: &mut World, event: &Event) -> Reply
     ensures { Takes world.old event.now result world.new }
 {
@@ -38,8 +52,8 @@ fn happen(alloc: Global, world: &mut World, event: &Event) -> Reply
         Event::Evict(place) => evict(world, *place),
         Event::Stop(process) => stop(world, *process),
         Event::Crash => crash(world),
-        Event::BeginWork(_, _) | Event::BeginShow(_) | Event::BeginRecover(_) => Reply::NotEnabled,
-        Event::Offer(_) => Reply::NotEnabled,
+        Event::BeginShow(process) => begin_show(alloc, world, *process),
+        Event::BeginWork(_, _) | Event::BeginRecover(_) | Event::Offer(_) => Reply::NotEnabled,
     }
 }
 
@@ -53,7 +67,7 @@ pub fn take(alloc: Global, world: &mut World, event: &Event) -> Reply
     ensures reply { IsReplyTo event.now result }
     ensures done { world.new.done ≡ world.old.done + done_of result }
     ensures settled { world.new.settled ≡ world.old.settled + settled_of result }
-    ensures reports { world.new.reports ≡ world.old.reports }
+    ensures reports { KeepsReports world.old event.now result world.new }
     ensures fewer { (p : ℕ) → event.now ≡ Step p → result ≡ Stepped
         → steps_left p world.new < steps_left p world.old }
 {

@@ -9,10 +9,10 @@ use Rattle.ds_state.specs.declared.stage.Stage.{Stage}
 use Rattle.ds_state.specs.declared.situation.Situation.TheVariants.{Idle}
 use Rattle.ds_edit.specs.Steps.{access_at}
 use Rattle.ds_edit.specs.Worlds.{after, counted_at, pending_at}
-use Rattle.ds_core.specs.Steps.{StepTakes, reply_at, done_at}
+use Rattle.ds_core.specs.EditEvents.{EditStepTakes, reply_at, done_at}
 use Rattle.ds_core.proofs.Good.{IsEditing, editing_from, perform_at, next_is, next_kept, next_room, next_takes, pending_there, processes_are}
 use Rattle.ds_state.proofs.Dones.{few_done}
-use Rattle.ds_core.proofs.step.step.Goals as goal
+use Rattle.ds_core.proofs.step.edit_step.Goals as goal
 
 pub perform-word-requires : goal.perform-word-requires
 perform-word-requires c =
@@ -70,5 +70,5 @@ returns c =
     let processes : c.call.inside.processes ≡ v.sheet.layout.processes = ap (λ (x : PlainEdit). x.processes) c.call.view_is ∙ processes_are v c.world.invariant.good p e at in
     let reply : c.reply.result ≡ reply_at v.sheet.layout.processes e.number e.stage = c.reply.ensures ∙ ap (λ (n : ℕ). reply_at n c.edit.inside.number c.call.inside.stage) processes ∙ ap (λ (n : ℕ). reply_at v.sheet.layout.processes n c.call.inside.stage) number ∙ ap (λ (s : Stage). reply_at v.sheet.layout.processes e.number s) stage in
     rw (← c.world.view_is, reply)
-    (subst (λ (w : WorldValue). StepTakes v p (reply_at v.sheet.layout.processes e.number e.stage) w) (sym (next_is v c.world.invariant.good p e at word c.perform-word.new.self c.perform-word.ensures.layout performs c.go_on.new.situation c.count.new.counted.items c.close.new.pending c.done_after-world-inside.result situation counted pending done))
+    (subst (λ (w : WorldValue). EditStepTakes v p (reply_at v.sheet.layout.processes e.number e.stage) w) (sym (next_is v c.world.invariant.good p e at word c.perform-word.new.self c.perform-word.ensures.layout performs c.go_on.new.situation c.count.new.counted.items c.close.new.pending c.done_after-world-inside.result situation counted pending done))
     (next_takes v c.world.invariant.good p e at word c.perform-word.new.self c.perform-word.ensures.layout performs))

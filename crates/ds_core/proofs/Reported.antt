@@ -1,0 +1,427 @@
+-- What a run's reports answer is true of the worlds of their calls.
+use Rattle.std.proofs.Common.{ℕ, ◌≡◌, ◌≢◌, ◌<◌, ◌≤◌, ◌+◌, List, [], ◌∷◌, refl, ap, sym, ◌∙◌, subst, arith, inl, inr, zero, suc, length, Some, None}
+use Rattle.std.specs.Prelude.{◌⊎◌, Option, slice_get, slice_set, slice_index_or}
+use Rattle.std.proofs.lemmas.Bool.{cases_eq, cases_lt}
+use Rattle.std.proofs.lemmas.List.{get_or_past, get_or-set_same}
+use Rattle.ds_layout.specs.declared.layout.Layout.{Layout}
+use Rattle.ds_formula.specs.declared.cells.Shape.{Shape}
+use Rattle.ds_layout.specs.declared.place.Place.{Place}
+use Rattle.ds_layout.specs.declared.place.Place.TheVariants as place
+use Rattle.ds_state.specs.World.{Edit, World}
+use Rattle.ds_state.specs.Reports.{PlainReports}
+use Rattle.ds_state.specs.declared.stage.Outcome.{Outcome}
+use Rattle.ds_state.specs.declared.stage.Outcome.TheVariants as outcome
+use Rattle.ds_edit.specs.Endings.{outcome_at}
+use Rattle.ds_edit.specs.declared.answer.Answer.TheVariants.{Settled, Unsettled}
+use Rattle.ds_show.specs.declared.machine.Effect.{Effect}
+use Rattle.ds_show.specs.declared.machine.Effect.TheVariants.{GoesOn, Answers}
+use Rattle.ds_show.specs.ShowSteps.{answered, effect_at}
+use Rattle.ds_show.specs.ShowTakes.{reports_by}
+use Rattle.ds_state.specs.Works.{PlainShow}
+use Rattle.ds_state.specs.Edits.{PlainEdit}
+use Rattle.ds_layout.specs.Places.{cells_of}
+use Rattle.ds_state.specs.ShowStages.{IsStage}
+use Rattle.ds_state.specs.Fresh.{IsNew}
+use Rattle.ds_state.specs.Owing.{IsClean}
+use Rattle.ds_state.specs.KnownShow.{AreScratch, IsStill, IsPendingWord, moment_of}
+use Rattle.ds_state.specs.declared.stage.Stage.{Stage}
+use Rattle.ds_state.specs.declared.stage.Stage.TheVariants.{Answer}
+use Rattle.ds_state.specs.declared.work.ShowEnd.{ShowEnd}
+use Rattle.ds_state.specs.declared.work.ShowEnd.TheVariants as ends
+use Rattle.ds_state.specs.declared.work.ShowStage.{ShowStage}
+use Rattle.ds_state.specs.declared.work.ShowStage.TheVariants as stages
+use Rattle.ds_state.specs.Sound.{IsSound}
+use Rattle.ds_state.specs.Rely.{Keeps, Rely}
+use Rattle.ds_state.specs.Calls.{CallFits}
+use Rattle.ds_state.specs.Value.{WorldValue, world_of, IsGood}
+use Rattle.ds_state.specs.declared.situation.Situation.{Situation}
+use Rattle.ds_state.specs.declared.situation.Situation.TheVariants as situation
+use Rattle.ds_state.specs.declared.situation.Situation.TheVariants.{Idle, Editing, Showing}
+use Rattle.ds_state.proofs.Accesses.{evict_sound}
+use Rattle.ds_state.proofs.Buffers.{buffered}
+use Rattle.ds_edit.specs.Worlds as edit_steps
+use Rattle.ds_edit.proofs.Answering.{begin_sound}
+use Rattle.ds_show.specs.ShowRuns.{OwnStep, Passes, HasBegun, Call, IsOf, AreInTurn, WasStill, WasOff, IsTrueReport}
+use Rattle.ds_show.proofs.ShowRuns.{rely_same, answer_true}
+use Rattle.ds_core.specs.EditEvents.{reply_with, EditStepsBy}
+use Rattle.ds_core.specs.ReportEvents.{report_answer, report_reply, ReportStepsBy, ReportBegins}
+use Rattle.ds_core.specs.Steps.{StepsBy, edits, reports}
+use Rattle.ds_core.specs.Takes.{Takes}
+use Rattle.ds_core.specs.Moments.{Moment, MomentFits, edits_in, empty_ledger}
+use Rattle.ds_core.specs.Headline.{Happens, IsCall, IsWatched, IsUnrest, SettledFits, UnsettledFits, ReportsFit, kept_values}
+use Rattle.ds_core.specs.declared.event.Event.{Event}
+use Rattle.ds_core.specs.declared.event.Event.TheVariants.{BeginEdit, BeginWork, BeginShow, BeginRecover, Step, Offer, Evict, Stop, Crash}
+use Rattle.ds_core.specs.declared.reply.Reply.{Reply}
+use Rattle.ds_core.specs.declared.reply.Reply.TheVariants.{Begun, Entered, Refused, Stepped, Answered, Evicted, Stopped, Crashed, NotEnabled}
+use Rattle.ds_core.proofs.Turns.{IsTurn, edit_turn, report_turn, report_begins_turn, stop_turn}
+use Rattle.ds_core.proofs.Carry.{RunOn, at_place}
+use Rattle.ds_core.proofs.Closing.{found_at, up}
+
+-- ---- one event, seen by a process that reports after it
+
+-- it reported before, too: this was its own step, or leaves it what it counts on
+record WasReporting (p : ℕ) (old new : WorldValue) : Type 0 where
+  show : PlainShow
+  was : (world_of old).situation p ≡ Showing show
+  passes : Passes p (world_of old) (world_of new)
+
+-- its report has begun with this event
+record JustBegan (p : ℕ) (old : WorldValue) (event : Event) (reply : Reply) (new : WorldValue) : Type 0 where
+  event_is : event ≡ BeginShow p
+  reply_is : reply ≡ Entered
+  begun : HasBegun p (world_of new)
+
+module _ (p : ℕ) (old new : WorldValue) (good : IsGood old) (low : p < old.sheet.layout.processes) (e : PlainShow) (at : (world_of new).situation p ≡ Showing e) where
+  abbrev Either : Event → Reply → Type 0
+  Either event reply = JustBegan p old event reply new ⊎ WasReporting p old new
+
+  -- nothing changed
+  unchanged : (event : Event) (reply : Reply) → new ≡ old → Either event reply
+  unchanged event reply same = inr (record {
+    show = e;
+    was = ap (λ (v : WorldValue). (world_of v).situation p) (sym same) ∙ at;
+    passes = inr (subst (λ (v : WorldValue). Rely p (world_of old) (world_of v)) (sym same) (rely_same p (world_of old)));
+  })
+
+  -- another process's turn
+  by_other : (event : Event) (reply : Reply) (q : ℕ) → q ≢ p → IsTurn q old new → Either event reply
+  by_other event reply q ne t = inr (record {
+    show = e;
+    was = sym (t.others p (λ same. ne (sym same))) ∙ at;
+    passes = inr (t.keeps.others p (λ same. ne (sym same)));
+  })
+
+  -- a turn after which its process does not report
+  by_turn : (event : Event) (reply : Reply) (q : ℕ) → IsTurn q old new → (q ≡ p → (f : PlainShow) → (world_of new).situation q ≡ Showing f → ⊥) → Either event reply
+  by_turn event reply q t none = elim (cases_eq q p) [
+    | inl same ↦ absurd (none same e (ap (λ x. (world_of new).situation x) same ∙ at))
+    | inr ne ↦ by_other event reply q ne t
+  ]
+
+  by_edit : (q : ℕ) (reply : Reply) → EditStepsBy old q reply new → Either (Step q) reply
+  by_edit q reply h = by_turn (Step q) reply q (edit_turn old new q reply good.sound h) (λ same f is. edit_after h.edit h.edit.stage h.word f (sym h.steps.situation ∙ ap (λ x. (world_of new).situation x) h.mine ∙ is))
+    where
+      edit_after : (e : PlainEdit) (s : Stage) (word : ℕ) (f : PlainShow) → edit_steps.after e s word ≡ Showing f → ⊥
+      edit_after e (Answer how) word f is = absurd (cc)
+      edit_after e _ word f is = absurd (cc)
+
+  by_report : (q : ℕ) (reply : Reply) → ReportStepsBy old q reply new → Either (Step q) reply
+  by_report q reply h = elim (cases_eq q p) [
+    | inr ne ↦ by_other (Step q) reply q ne (report_turn old new q reply good.sound h)
+    | inl same ↦ inr (record {
+      show = h.steps.show;
+      was = ap (λ x. (world_of old).situation x) (sym same) ∙ h.steps.at;
+      passes = inl (record { show = h.steps.show; word = h.steps.word; mine = h.steps.mine ∙ same; was = ap (λ x. (world_of old).situation x) (sym same) ∙ h.steps.at; steps = h.steps.steps });
+    })
+  ]
+
+  began : (q : ℕ) → ReportBegins old q new → Either (BeginShow q) Entered
+  began q h = elim (cases_eq q p) [
+    | inr ne ↦ by_other (BeginShow q) Entered q ne (report_begins_turn old new q good.sound h)
+    | inl same ↦ inl (record {
+      event_is = ap (λ x. BeginShow x) same;
+      reply_is = refl;
+      begun = subst (λ (x : ℕ). HasBegun x (world_of new)) same (record { before = world_of old; next = h.begun.next; sound = good.sound; real = h.there; begins = h.begun.begins });
+    })
+  ]
+
+  one_event : (event : Event) (reply : Reply) → Takes old event reply new → Either event reply
+  one_event (BeginEdit r) (Begun number) h = by_turn (BeginEdit r) (Begun number) h.begun.edit.process (record {
+    there = rw h.begun.asked.sheet.processes h.begun.asked.is.process;
+    keeps = begin_sound h.begun.edit (world_of old) (world_of new) good.sound h.begun.asked.is h.begun.asked.sheet h.begun.asked.refs h.begun.begins;
+    others = h.begun.begins.others;
+  }) (λ same f is. let bad : Editing h.begun.edit ≡ Showing f = sym h.begun.begins.situation ∙ is in cc)
+  one_event (BeginEdit r) (Refused why) h = unchanged (BeginEdit r) (Refused why) h.same
+  one_event (BeginEdit r) NotEnabled h = unchanged (BeginEdit r) NotEnabled h.same
+  one_event (BeginEdit r) _ h = absurd h
+  one_event (BeginShow q) Entered h = began q h
+  one_event (BeginShow q) (Refused why) h = unchanged (BeginShow q) (Refused why) h.same
+  one_event (BeginShow q) NotEnabled h = unchanged (BeginShow q) NotEnabled h.same
+  one_event (BeginShow q) _ h = absurd h
+  one_event (Step q) Stepped (edits h) = by_edit q Stepped h
+  one_event (Step q) Stepped (reports h) = by_report q Stepped h
+  one_event (Step q) (Answered answer) (edits h) = by_edit q (Answered answer) h
+  one_event (Step q) (Answered answer) (reports h) = by_report q (Answered answer) h
+  one_event (Step q) NotEnabled h = unchanged (Step q) NotEnabled h.same
+  one_event (Step q) _ h = absurd h
+  one_event (Evict word) Evicted h = inr (record {
+    show = e;
+    was = sym (h.evicts.situation p) ∙ at;
+    passes = inr ((evict_sound word (world_of old) (world_of new) good.sound (buffered (world_of old) good.sound) h.evicts).1 p low);
+  })
+  one_event (Evict word) NotEnabled h = unchanged (Evict word) NotEnabled h.same
+  one_event (Evict word) _ h = absurd h
+  one_event (Stop q) Stopped h = by_turn (Stop q) Stopped q (stop_turn old new q good.sound h) (λ same f is. let bad : situation.Stopped ≡ Showing f = sym h.stops.situation ∙ is in cc)
+  one_event (Stop q) NotEnabled h = unchanged (Stop q) NotEnabled h.same
+  one_event (Stop q) _ h = absurd h
+  one_event Crash Crashed h = absurd (let bad : situation.Stopped ≡ Showing e = sym (h.crashes.situation p low) ∙ at in cc)
+  one_event Crash _ h = absurd h
+  one_event (BeginWork q cell) reply h = unchanged (BeginWork q cell) reply h.1
+  one_event (BeginRecover q) reply h = unchanged (BeginRecover q) reply h.1
+  one_event (Offer value) reply h = unchanged (Offer value) reply h.1
+
+there : {A : Type 0} (xs : List A) (k : ℕ) (x : A) → slice_get xs k ≡ Some x → k < length xs
+there [] k x is = absurd (cc)
+there (y ∷ ys) zero x is = omega arith
+there (y ∷ ys) (suc k) x is = let r = there ys k x is in omega arith
+
+-- ---- along a run
+
+-- a report of the world is one of its processes'
+real : (v : WorldValue) (p : ℕ) (e : PlainShow) → IsGood v → (world_of v).situation p ≡ Showing e → p < v.sheet.layout.processes
+real v p e good is = elim (cases_lt p v.sheet.layout.processes) [
+  | inl lt ↦ lt
+  | inr ge ↦ absurd (let bad : Idle 0 ≡ Showing e = sym (get_or_past v.situations p (Idle 0) (let n = good.situations in omega arith)) ∙ is in cc)
+]
+
+module _ (old : WorldValue) (events : List Event) (replies : List Reply) (new : WorldValue) (run : RunOn 0 old.sheet.layout.shape empty_ledger old events replies new)
+    (good : (k : ℕ) → k ≤ length events → IsGood (run.moment k).world) (fresh : IsNew (world_of old)) where
+  abbrev at : ℕ → WorldValue
+  at k = (run.moment k).world
+
+  -- the worlds behind a begin, so many, the latest first
+  abbrev past : ℕ → ℕ → List World
+  past start zero = []
+  past start (suc n) = world_of (at (start + 1 + n)) ∷ past start n
+
+  record IsReporting (p k : ℕ) : Type 0 where
+    start : ℕ
+    n : ℕ
+    is : k ≡ start + 1 + n
+    begins : Happens events replies start (BeginShow p) Entered
+    last : (j : ℕ) → start < j → j < k → Happens events replies j (BeginShow p) Entered → ⊥
+    call : Call p (world_of (at k)) (past start n)
+
+  takes_at : (k : ℕ) (event : Event) (reply : Reply) → Happens events replies k event reply → Takes (at k) event reply (at (k + 1))
+  takes_at k event reply happens = (at_place old events replies new run k event reply happens).takes
+
+  not_twice : (k p : ℕ) (e : PlainShow) → (world_of (at k)).situation p ≡ Showing e → Happens events replies k (BeginShow p) Entered → ⊥
+  not_twice k p e is happens = let t : ReportBegins (at k) p (at (k + 1)) = takes_at k (BeginShow p) Entered happens in let bad : Idle t.begun.next ≡ Showing e = sym t.begun.begins.idle ∙ is in cc
+
+  reporting : (k : ℕ) → k ≤ length events → (p : ℕ) (e : PlainShow) → (world_of (at k)).situation p ≡ Showing e → IsReporting p k
+  reporting zero lt p e is = absurd (let bad : Idle 0 ≡ Showing e = sym (fresh.situation p) ∙ ap (λ (m : Moment). (world_of m.world).situation p) (sym run.first) ∙ is in cc)
+  reporting (suc k) lt p e is =
+      let event = found_at events k (omega arith) in
+      let reply = found_at replies k (let same = run.answered in omega arith) in
+      let happens : Happens events replies k event.0 reply.0 = record { event_is = event.1; reply_is = reply.1 } in
+      let next : (world_of (at (k + 1))).situation p ≡ Showing e = (let same : suc k ≡ k + 1 = omega arith in subst (λ i. (world_of (at i)).situation p ≡ Showing e) same is) in
+      let layouts : (at (k + 1)).sheet.layout.processes ≡ (at k).sheet.layout.processes = ap (λ (l : Layout). l.processes) (at_place old events replies new run k event.0 reply.0 happens).layout in
+      let low : p < (at k).sheet.layout.processes = (let r = real (at (k + 1)) p e (good (k + 1) (omega arith)) next in omega arith) in
+      up (λ i. IsReporting p i) k (elim (one_event p (at k) (at (k + 1)) (good k (omega arith)) low e next event.0 reply.0 (takes_at k event.0 reply.0 happens)) [
+        | inl b ↦ record {
+          start = k;
+          n = 0;
+          is = omega arith;
+          begins = subst (λ (x : Event). Happens events replies k x Entered) b.event_is (subst (λ (x : Reply). Happens events replies k event.0 x) b.reply_is happens);
+          last = λ j later before. absurd (omega arith);
+          call = b.begun;
+        }
+        | inr w ↦ one_more k p w (good k (omega arith)) (reporting k (omega arith) p w.show w.was)
+      ])
+    where
+      one_more : (k p : ℕ) → WasReporting p (at k) (at (k + 1)) → IsGood (at k) → IsReporting p k → IsReporting p (k + 1)
+      one_more k p w good r = record {
+        start = r.start;
+        n = suc r.n;
+        is = (let i = r.is in omega arith);
+        begins = r.begins;
+        last = λ j later before happens. elim (cases_lt j k) [
+          | inl lt ↦ r.last j later lt happens
+          | inr ge ↦ (let same : j ≡ k = omega arith in not_twice k p w.show w.was (subst (λ i. Happens events replies i (BeginShow p) Entered) same happens))
+        ];
+        call = subst (λ i. Call p (world_of (at (k + 1))) (world_of (at i) ∷ past r.start r.n)) r.is (good.sound, w.passes, r.call);
+      }
+
+  -- a world of the call is that of a moment behind the begin
+  record IsAt (start k : ℕ) (m : World) : Type 0 where
+    i : ℕ
+    later : start < i
+    until : i ≤ k
+    is : m ≡ world_of (at i)
+
+  is_at : (start n : ℕ) (m : World) → IsOf m (world_of (at (start + 1 + n))) (past start n) → IsAt start (start + 1 + n) m
+  is_at start zero m is = record { i = start + 1 + 0; later = omega arith; until = omega arith; is = is }
+  is_at start (suc n) m (inl is) = record { i = start + 1 + suc n; later = omega arith; until = omega arith; is = is }
+  is_at start (suc n) m (inr rest) = let r = is_at start n m rest in record { i = r.i; later = r.later; until = (let u = r.until in omega arith); is = r.is }
+
+  record AreAt (start k : ℕ) (e m : World) : Type 0 where
+    early : IsAt start k e
+    late : IsAt start k m
+    order : early.i ≤ late.i
+
+  are_at : (start n : ℕ) (e m : World) → AreInTurn e m (world_of (at (start + 1 + n))) (past start n) → AreAt start (start + 1 + n) e m
+  are_at start zero e m is = absurd is
+  are_at start (suc n) e m (inl h) =
+      let r = is_at start n e h.1 in
+      record {
+        early = record { i = r.i; later = r.later; until = (let u = r.until in omega arith); is = r.is };
+        late = record { i = start + 1 + suc n; later = omega arith; until = omega arith; is = h.0 };
+        order = (let u = r.until in omega arith);
+      }
+  are_at start (suc n) e m (inr rest) =
+      let r = are_at start n e m rest in
+      record {
+        early = record { i = r.early.i; later = r.early.later; until = (let u = r.early.until in omega arith); is = r.early.is };
+        late = record { i = r.late.i; later = r.late.later; until = (let u = r.late.until in omega arith); is = r.late.is };
+        order = r.order;
+      }
+
+  -- what an answered report ended with
+  record Ends (k p : ℕ) (end : ShowEnd) : Type 0 where
+    show : PlainShow
+    mine : show.process ≡ p
+    was : (world_of (at k)).situation p ≡ Showing show
+    last : show.stage ≡ stages.Answer end
+    kept : (at (k + 1)).reports ≡ reports_by (at k).reports show (Answers end)
+
+  ends_at : (s : ShowStage) (end : ShowEnd) → effect_at s ≡ Answers end → s ≡ stages.Answer end
+  ends_at (stages.Answer e) end is = let same : e ≡ end = cc in ap (λ x. stages.Answer x) same
+  ends_at _ end is = absurd (cc)
+
+  ends_of : (k p : ℕ) (reply : Reply) (end : ShowEnd) (h : ReportStepsBy (at k) p reply (at (k + 1))) → h.what ≡ Answers end → Ends k p end
+  ends_of k p reply end h is = record {
+    show = h.steps.show;
+    mine = h.steps.mine;
+    was = h.steps.at;
+    last = ends_at h.steps.show.stage end (sym h.steps.is ∙ is);
+    kept = h.steps.reports ∙ ap (λ (w : Effect). reports_by (at k).reports h.steps.show w) is;
+  }
+
+  true_at : (k p : ℕ) (end : ShowEnd) → k ≤ length events → (h : Ends k p end) → (r : IsReporting p k) → IsTrueReport (world_of (at (r.start + 1 + r.n))) (past r.start r.n) h.show end
+  true_at k p end lt h r =
+      answer_true p (world_of (at (r.start + 1 + r.n))) (past r.start r.n) (subst (λ i. Call p (world_of (at i)) (past r.start r.n)) r.is r.call) h.show end
+      (subst (λ i. (world_of (at i)).situation p ≡ Showing h.show) r.is h.was) h.last
+
+  is_call : (k p : ℕ) (r : IsReporting p k) → IsCall events replies p r.start k
+  is_call k p r = record { begins = r.begins; earlier = (let i = r.is in omega arith); last = r.last }
+
+  settled_fits : (k p : ℕ) → k ≤ length events → (h : Ends k p ends.Settled) → (r : IsReporting p k) → WasStill (world_of (at (r.start + 1 + r.n))) (past r.start r.n) (answered h.show) → SettledFits run.moment r.start k (answered h.show)
+  settled_fits k p lt h r t =
+      let i = is_at r.start r.n t.moment t.of in
+      let fits : MomentFits (run.moment i.i) = run.fits i.i (let u = i.until in let same = r.is in omega arith) in
+      record {
+        at = i.i;
+        later = i.later;
+        until = (let u = i.until in let same = r.is in omega arith);
+        still = subst (λ (w : World). IsStill w.layout (moment_of w)) i.is t.still;
+        right = subst (λ (es : List Edit). AreScratch (at i.i).sheet.layout.shape es (answered h.show)) (sym fits.counted) (subst (λ (w : World). AreScratch w.layout.shape w.counted (answered h.show)) i.is t.right);
+      }
+
+  kept_here : (k p : ℕ) → k ≤ length events → (h : Ends k p ends.Settled) → kept_values (at (k + 1)) p ≡ answered h.show
+  kept_here k p lt h =
+      let g = good k lt in
+      let low = real (at k) p h.show g h.was in
+      ap (λ (r : PlainReports). slice_index_or r.values p []) h.kept ∙ ap (λ q. slice_index_or (slice_set (at k).reports.values q (answered h.show)) p []) h.mine ∙ get_or-set_same (at k).reports.values p (answered h.show) [] (let n = g.reports.processes in omega arith)
+
+  -- an edit settles nothing
+  edit_settles : (processes number : ℕ) (o : Option Outcome) → Answered Settled ≡ reply_with processes number o → ⊥
+  edit_settles processes number None is = cc
+  edit_settles processes number (Some outcome.Done) is = cc
+  edit_settles processes number (Some (outcome.Overtaken noted seen)) is = cc
+
+  edit_unsettles : (processes number : ℕ) (place : Place) (word : ℕ) (o : Option Outcome) → Answered (Unsettled place word) ≡ reply_with processes number o → ⊥
+  edit_unsettles processes number place word None is = cc
+  edit_unsettles processes number place word (Some outcome.Done) is = cc
+  edit_unsettles processes number place word (Some (outcome.Overtaken noted seen)) is = cc
+
+  settles : (what : Effect) → Answered Settled ≡ report_reply what → what ≡ Answers ends.Settled
+  settles GoesOn is = absurd (cc)
+  settles (Answers ends.Settled) is = refl
+  settles (Answers (ends.AtMark cell word)) is = absurd (cc)
+  settles (Answers (ends.AtAnnounce process word)) is = absurd (cc)
+
+  settled : (k p : ℕ) → Happens events replies k (Step p) (Answered Settled) → (start : ℕ) × IsCall events replies p start k × SettledFits run.moment start k (kept_values (at (k + 1)) p)
+  settled k p happens = by (takes_at k (Step p) (Answered Settled) happens)
+    where
+      lt : k < length events
+      lt = there events k (Step p) happens.event_is
+
+      by : StepsBy (at k) p (Answered Settled) (at (k + 1)) → (start : ℕ) × IsCall events replies p start k × SettledFits run.moment start k (kept_values (at (k + 1)) p)
+      by (edits h) = absurd (edit_settles (at k).sheet.layout.processes h.edit.number (outcome_at h.edit.stage) h.is)
+      by (reports h) =
+          let e : Ends k p ends.Settled = ends_of k p (Answered Settled) ends.Settled h (settles h.what h.is) in
+          let within : k ≤ length events = (let l = lt in omega arith) in
+          let r = reporting k within p e.show e.was in
+          (r.start, is_call k p r, subst (λ values. SettledFits run.moment r.start k values) (sym (kept_here k p within e)) (settled_fits k p within e r (true_at k p ends.Settled within e r)))
+
+  -- a word that is not at rest, or moved in the call
+  module _ (k p : ℕ) (r : IsReporting p k) (place : Place) (word : ℕ) (Bad : Type 0) (watched : (i : ℕ) → i ≤ k → IsWatched (world_of (at i)) place) (bad : (i : ℕ) → i ≤ k → Bad → IsUnrest (world_of (at i)) place word)
+      (t : WasOff (world_of (at (r.start + 1 + r.n))) (past r.start r.n) place word Bad) where
+    by_why : (why : Bad ⊎ ((earlier : World) × AreInTurn earlier t.moment (world_of (at (r.start + 1 + r.n))) (past r.start r.n) × (earlier.memory.cached place ≢ word))) → UnsettledFits run.moment r.start k place word
+    by_why (inl b) =
+        let i = is_at r.start r.n t.moment t.of in
+        let until : i.i ≤ k = (let u = i.until in let same = r.is in omega arith) in
+        record {
+          at = i.i;
+          later = i.later;
+          until = until;
+          watched = watched i.i until;
+          held = subst (λ (w : World). w.memory.cached place ≡ word) i.is t.held;
+          why = inl (bad i.i until b);
+        }
+    by_why (inr (earlier, turn, other)) =
+        let a = are_at r.start r.n earlier t.moment turn in
+        let until : a.late.i ≤ k = (let u = a.late.until in let same = r.is in omega arith) in
+        record {
+          at = a.late.i;
+          later = a.late.later;
+          until = until;
+          watched = watched a.late.i until;
+          held = subst (λ (w : World). w.memory.cached place ≡ word) a.late.is t.held;
+          why = inr (a.early.i, a.early.later, a.order, subst (λ (w : World). w.memory.cached place ≢ word) a.early.is other);
+        }
+
+    off_fits : UnsettledFits run.moment r.start k place word
+    off_fits = by_why t.why
+
+  cells_at : (k i : ℕ) → k ≤ length events → i ≤ k → cells_of (at i).sheet.layout ≡ cells_of (at k).sheet.layout
+  cells_at k i lt le = ap cells_of (run.layouts i (omega arith) ∙ sym (run.layouts k lt))
+
+  processes_at : (k i : ℕ) → k ≤ length events → i ≤ k → (at i).sheet.layout.processes ≡ (at k).sheet.layout.processes
+  processes_at k i lt le = ap (λ (l : Layout). l.processes) (run.layouts i (omega arith) ∙ sym (run.layouts k lt))
+
+  fits_at : (k p : ℕ) (e : PlainShow) → k ≤ length events → (world_of (at k)).situation p ≡ Showing e → CallFits (world_of (at k)) p (Showing e)
+  fits_at k p e lt is = subst (λ (s : Situation). CallFits (world_of (at k)) p s) is ((good k lt).sound.calls p (real (at k) p e (good k lt) is))
+
+  unsettled_by : (k p : ℕ) → k ≤ length events → (end : ShowEnd) (place : Place) (word : ℕ) → report_answer end ≡ Unsettled place word → (h : Ends k p end) → (r : IsReporting p k) → UnsettledFits run.moment r.start k place word
+  unsettled_by k p lt ends.Settled r word is h i = absurd (cc)
+  unsettled_by k p lt (ends.AtMark c w) r word is h i =
+      let there : c < cells_of (at k).sheet.layout = (let f = fits_at k p h.show lt h.was in let low = subst (λ (s : ShowStage). IsStage h.show s) h.last f.1.is.stage in let same = f.1.cells in omega arith) in
+      let place_is : place.Mark c ≡ r = cc in
+      let word_is : w ≡ word = cc in
+      subst (λ (q : Place). UnsettledFits run.moment i.start k q word) place_is (subst (λ (x : ℕ). UnsettledFits run.moment i.start k (place.Mark c) x) word_is
+        (off_fits k p i (place.Mark c) w _ (λ j le. (let same = cells_at k j lt le in omega arith)) (λ j le b. ((let same = cells_at k j lt le in omega arith), b)) (true_at k p (ends.AtMark c w) lt h i)))
+  unsettled_by k p lt (ends.AtAnnounce q w) r word is h i =
+      let there : q < (at k).sheet.layout.processes = (let f = fits_at k p h.show lt h.was in let low = subst (λ (s : ShowStage). IsStage h.show s) h.last f.1.is.stage in let same = f.1.processes in omega arith) in
+      let place_is : place.Announce q ≡ r = cc in
+      let word_is : w ≡ word = cc in
+      subst (λ (x : Place). UnsettledFits run.moment i.start k x word) place_is (subst (λ (x : ℕ). UnsettledFits run.moment i.start k (place.Announce q) x) word_is
+        (off_fits k p i (place.Announce q) w _ (λ j le. (let same = processes_at k j lt le in omega arith)) (λ j le b. ((let same = processes_at k j lt le in omega arith), b)) (true_at k p (ends.AtAnnounce q w) lt h i)))
+
+  -- an unsettled answer is that of an end
+  record UnsettledEnd (what : Effect) (place : Place) (word : ℕ) : Type 0 where
+    end : ShowEnd
+    is : what ≡ Answers end
+    answer : report_answer end ≡ Unsettled place word
+
+  unsettles : (what : Effect) (place : Place) (word : ℕ) → Answered (Unsettled place word) ≡ report_reply what → UnsettledEnd what place word
+  unsettles GoesOn place word is = absurd (cc)
+  unsettles (Answers end) place word is = record { end = end; is = refl; answer = (let same : Unsettled place word ≡ report_answer end = cc in sym same) }
+
+  unsettled : (k p : ℕ) (place : Place) (word : ℕ) → Happens events replies k (Step p) (Answered (Unsettled place word)) → (start : ℕ) × IsCall events replies p start k × UnsettledFits run.moment start k place word
+  unsettled k p place word happens = by (takes_at k (Step p) (Answered (Unsettled place word)) happens)
+    where
+      lt : k < length events
+      lt = there events k (Step p) happens.event_is
+
+      by : StepsBy (at k) p (Answered (Unsettled place word)) (at (k + 1)) → (start : ℕ) × IsCall events replies p start k × UnsettledFits run.moment start k place word
+      by (edits h) = absurd (edit_unsettles (at k).sheet.layout.processes h.edit.number place word (outcome_at h.edit.stage) h.is)
+      by (reports h) =
+          let u = unsettles h.what place word h.is in
+          let e : Ends k p u.end = ends_of k p (Answered (Unsettled place word)) u.end h u.is in
+          let within : k ≤ length events = (let l = lt in omega arith) in
+          let r = reporting k within p e.show e.was in
+          (r.start, is_call k p r, unsettled_by k p within u.end place word u.answer e r)
+
+  pub reports_fit : ReportsFit run.moment events replies
+  reports_fit = record { settled = settled; unsettled = unsettled }

@@ -1,0 +1,57 @@
+-- A step of an edit, from world to world.
+use Rattle.std.specs.Prelude.{ℕ, ◌≡◌, ◌<◌, ◌+◌, Option, Some, None}
+use Rattle.ds_state.specs.Edits.{PlainEdit}
+use Rattle.ds_state.specs.Value.{WorldValue, world_of}
+use Rattle.ds_state.specs.declared.stage.Outcome.{Outcome}
+use Rattle.ds_state.specs.declared.stage.Outcome.TheVariants as outcome
+use Rattle.ds_state.specs.declared.stage.Stage.{Stage}
+use Rattle.ds_state.specs.declared.situation.Situation.TheVariants.{Editing}
+use Rattle.ds_edit.specs.Worlds as edits
+use Rattle.ds_edit.specs.Endings.{answer_of, outcome_at}
+use Rattle.ds_core.specs.declared.reply.Reply.{Reply}
+use Rattle.ds_core.specs.declared.reply.Reply.TheVariants.{Stepped, Answered, NotEnabled}
+
+-- what a step answers
+abbrev pub reply_with : ℕ → ℕ → Option Outcome → Reply
+reply_with processes number None = Stepped
+reply_with processes number (Some how) = Answered (answer_of processes number how)
+
+abbrev pub reply_at : ℕ → ℕ → Stage → Reply
+reply_at processes number s = reply_with processes number (outcome_at s)
+
+-- how many edits were answered Done after it
+abbrev pub done_with : ℕ → Option Outcome → ℕ
+done_with done (Some outcome.Done) = done + 1
+done_with done _ = done
+
+abbrev pub done_at : ℕ → Stage → ℕ
+done_at done s = done_with done (outcome_at s)
+
+-- no report is answered
+pub record SameReports (old new : WorldValue) : Type 0 where
+  pub settled : new.settled ≡ old.settled
+  pub reports : new.reports ≡ old.reports
+
+-- the process makes a step of its edit
+pub record EditStepsBy (old : WorldValue) (p : ℕ) (reply : Reply) (new : WorldValue) : Type 0 where
+  pub there : p < old.sheet.layout.processes
+  pub edit : PlainEdit
+  pub mine : edit.process ≡ p
+  pub at : (world_of old).situation p ≡ Editing edit
+  pub word : ℕ
+  pub steps : edits.Steps edit word (world_of old) (world_of new)
+  pub is : reply ≡ reply_at old.sheet.layout.processes edit.number edit.stage
+  pub done : new.done ≡ done_at old.done edit.stage
+  pub reports : SameReports old new
+
+-- the process has no edit under way
+pub record CanNotEdit (old : WorldValue) (p : ℕ) (new : WorldValue) : Type 0 where
+  pub same : new ≡ old
+  pub none : (edit : PlainEdit) → p < old.sheet.layout.processes → (world_of old).situation p ≡ Editing edit → ⊥
+
+-- a step of the process's edit, and its answer
+abbrev pub EditStepTakes : WorldValue → ℕ → Reply → WorldValue → Type 0
+EditStepTakes old p Stepped new = EditStepsBy old p Stepped new
+EditStepTakes old p (Answered answer) new = EditStepsBy old p (Answered answer) new
+EditStepTakes old p NotEnabled new = CanNotEdit old p new
+EditStepTakes old p _ new = ⊥
