@@ -9,3 +9,5 @@ pub mod WorkEnds
 pub mod WorkRead
 pub mod EachWork
 pub mod WorkNamed
+pub mod Next
+pub mod Rows

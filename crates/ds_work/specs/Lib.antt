@@ -1,1 +1,2 @@
 pub mod WorkSteps
+pub mod Noted
