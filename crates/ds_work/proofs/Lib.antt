@@ -11,3 +11,4 @@ pub mod EachWork
 pub mod WorkNamed
 pub mod Next
 pub mod Rows
+pub mod Gathered

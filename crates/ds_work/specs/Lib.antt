@@ -1,2 +1,3 @@
 pub mod WorkSteps
 pub mod Noted
+pub mod Reading

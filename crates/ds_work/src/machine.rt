@@ -242,7 +242,7 @@ fn header_from(call: &WorkCall, word: u64) -> WorkStage
 }
 
 // The inputs one by one, then the cell's own words.
-fn input_from(count: usize, i: usize) -> WorkStage
+pub(crate) fn input_from(count: usize, i: usize) -> WorkStage
     ensures { (e : PlainWork) → length e.inputs ≡ count → result ≡ (input_from e i).stage }
 {
     if i < count {
