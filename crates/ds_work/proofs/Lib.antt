@@ -12,3 +12,4 @@ pub mod WorkNamed
 pub mod Next
 pub mod Rows
 pub mod Gathered
+pub mod Driving
