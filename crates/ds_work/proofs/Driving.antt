@@ -16,10 +16,13 @@ use Rattle.ds_state.specs.declared.refusal.Refusal.{Refusal}
 use Rattle.ds_state.specs.declared.refusal.Refusal.TheVariants as refusal
 use Rattle.ds_state.specs.declared.situation.Situation.{Situation}
 use Rattle.ds_state.specs.declared.situation.Situation.TheVariants.{Idle, Stopped, Editing, Working, Recovering, Showing}
-use Rattle.ds_state.specs.declared.work.WorkStage.TheVariants.{LoadMark}
-use Rattle.ds_work.specs.WorkSteps.{at, access_at, after, StepsAt, Turns, BeginsWork}
-use Rattle.ds_work.specs.WorkEvents.{next_of, IsAskedFor, Refuses}
-use Rattle.ds_work.proofs.EachWork.{begins_keep}
+use Rattle.ds_state.specs.declared.work.WorkStage.TheVariants.{LoadMark, Wait}
+use Rattle.ds_eval.specs.declared.inputs.Entry as entries
+use Rattle.ds_eval.specs.Inputs.{entry_in}
+use Rattle.ds_eval.specs.Local.{local}
+use Rattle.ds_work.specs.WorkSteps.{at, access_at, after, offered, StepsAt, Turns, BeginsWork, OffersAt}
+use Rattle.ds_work.specs.WorkEvents.{next_of, IsAskedFor, IsOffered, Refuses}
+use Rattle.ds_work.proofs.EachWork.{begins_keep, offer_keep}
 use Rattle.ds_work.proofs.WorkNamed.{can_perform}
 
 -- the world in which the process is in this situation, with these words
@@ -96,3 +99,53 @@ refuses_of w p (Showing e) r at is = rw at (let same : r ≡ refusal.Busy = cc i
 pub handed_on : {X : Type 0} (r : Result X Refusal) (given : Refusal) (P : Refusal → Type 0) → IsErrAnd r (λ x. x ≡ given) → P given → IfErr r P
 handed_on (Ok x) given P is h = tt
 handed_on (Err x) given P is h = subst P (sym is) h
+
+-- ---- works under way
+
+module _ (v : WorldValue) (g : IsGood v) (p : ℕ) (e : PlainWork) (low : p < v.sheet.layout.processes) (works : (world_of v).situation p ≡ Working e) where
+  fits : WorkFits (world_of v) p e
+  fits = subst (λ (x : Situation). CallFits (world_of v) p x) works (g.sound.calls p low)
+
+  pub mine : e.process ≡ p
+  mine = fits.mine
+
+  pub here : (world_of v).situation e.process ≡ Working e
+  here = ap (λ q. (world_of v).situation q) mine ∙ works
+
+  pub low_own : e.process < v.sheet.layout.processes
+  low_own = rw mine low
+
+  -- its cell is one of the sheet
+  pub cells_are : cells_of v.sheet.layout ≡ e.cells
+  cells_are = fits.cells
+
+  pub cell_inside : e.cell < count_of v.sheet.layout.shape
+  cell_inside = let c = fits.cell in let same = fits.cells in omega (arith, c, same)
+
+  -- its access can be performed
+  pub perform_at : CanPerform v.sheet.layout (memory v.sheet) p (access_at v.sheet.layout.shape e e.stage)
+  perform_at = subst (λ (q : ℕ). CanPerform v.sheet.layout (memory v.sheet) q (access_at v.sheet.layout.shape e e.stage)) mine (can_perform (world_of v) e g.sound low_own e.stage here)
+
+  -- a turn that touches no word
+  pub turns : (f : PlainWork) → Turns e f (world_of v) (world_of (put v p v.sheet (Working f)))
+  turns f = record {
+    layout = refl;
+    memory = record { cached = λ r. refl; persisted = λ r. refl; buffer = λ q. refl };
+    situation = ap (λ q. (world_of (put v p v.sheet (Working f))).situation q) mine ∙ situation_is v p v.sheet (Working f) refl low g;
+    others = λ q ne. others_are v p v.sheet (Working f) refl low q (λ same. ne (same ∙ sym mine));
+    counted = refl;
+    pending = λ q. refl;
+  }
+
+  -- the entry of its task is offered
+  module _ (entry' : entries.Entry) (waits : e.stage ≡ Wait) (is : entry' ≡ local v.sheet.layout.shape e.content (entry_in e.inputs)) where
+    pub offers : OffersAt e entry' (world_of v) (world_of (put v p v.sheet (Working (offered e entry'))))
+    offers = record { turn = turns (offered e entry'); is = is }
+
+    pub is_offered : IsOffered (world_of v) p entry' (world_of (put v p v.sheet (Working (offered e entry'))))
+    is_offered = record { work = e; waits = record { inside = low; works = works; waits = waits }; mine = mine; offers = offers }
+
+    pub offered_kept : (room : ℕ) → IsReserved v room → IsReserved (put v p v.sheet (Working (offered e entry'))) room
+    offered_kept room kept = put_kept v p v.sheet (Working (offered e entry')) refl low room kept
+        (subst (λ (q : ℕ). Keeps q (world_of v) (world_of (put v p v.sheet (Working (offered e entry'))))) mine
+        (offer_keep e entry' (world_of v) (world_of (put v p v.sheet (Working (offered e entry')))) g.sound low_own (here ∙ ap (λ s. Working (at e s)) waits) offers))

@@ -5,4 +5,5 @@ pub mod begin;
 pub mod drive;
 pub mod laws;
 pub mod machine;
+pub mod offer;
 pub mod reading;

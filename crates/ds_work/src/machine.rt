@@ -123,7 +123,7 @@ fn record_header(call: &WorkCall) -> Place
 }
 
 // What the two words of a cell are to show.
-fn stored(entry: Entry) -> Stored
+pub(crate) fn stored(entry: Entry) -> Stored
     ensures { result ≡ stored_for entry }
 {
     let height = entry.height;
