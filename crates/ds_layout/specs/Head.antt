@@ -17,10 +17,14 @@ pub record IsHead (processes : ℕ) (head : Head) : Type 0 where
 abbrev pub head_word : Head → ℕ
 head_word head = head.stamp * 65536 + head.process * 256 + head.number
 
+-- the parts of a word, whatever they are
+abbrev pub parts_of : ℕ → Head
+parts_of word = record { stamp = word / 65536; process = word / 256 % 256; number = word % 256 }
+
 -- what the word says: nothing where the stamp is 0 or the process is none of the sheet
 abbrev pub head_of : ℕ → ℕ → Option Head
 head_of processes word =
-    let head : Head = record { stamp = word / 65536; process = word / 256 % 256; number = word % 256 } in
+    let head : Head = parts_of word in
     if nat_lt 0 head.stamp && nat_lt head.process processes then Some head else None
 
 -- whether the word names this edit of this process, whatever its stamp

@@ -1,7 +1,7 @@
 //! The head of a cell: its last counted edit.
 
 ghost use Rattle.std.specs.Prelude.{◌≡◌, ℕ, ◌<◌, IfSome};
-ghost use Rattle.ds_layout.specs.Head.{CanPack, IsHead, head_word, head_of, names_edit};
+ghost use Rattle.ds_layout.specs.Head.{CanPack, IsHead, parts_of, head_word, head_of, names_edit};
 
 /// An edit of a cell, by its process and its number there. The stamp counts the edits of the cell,
 /// from 1.
@@ -31,6 +31,17 @@ impl Head {
         self.stamp * 65536 + self.process as u64 * 256 + self.number as u64
     }
 
+    /// The parts of a word, whatever they are: `read` says whether they are a head's.
+    pub fn parts(word: u64) -> Head
+        ensures { result ≡ parts_of word }
+    {
+        Head {
+            stamp: word / 65536,
+            process: (word / 256 % 256) as usize,
+            number: (word % 256) as usize,
+        }
+    }
+
     /// What a head's word says in a sheet with so many processes: `None` where the stamp is 0, as
     /// in a cell without edits, or the process is not one of the sheet.
     pub fn read(word: u64, processes: usize) -> Option<Head>
@@ -38,11 +49,7 @@ impl Head {
         ensures head { IfSome result (IsHead processes) }
         ensures word { IfSome result (λ h. head_word h ≡ word) }
     {
-        let head = Head {
-            stamp: word / 65536,
-            process: (word / 256 % 256) as usize,
-            number: (word % 256) as usize,
-        };
+        let head = Head::parts(word);
         if head.stamp != 0 && head.process < processes {
             Some(head)
         } else {

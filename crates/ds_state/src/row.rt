@@ -41,6 +41,17 @@ impl Row {
         self.words.push(word);
     }
 
+    /// The same words.
+    pub fn copy(&self) -> Row
+        ensures { result ≡ self.now }
+    {
+        let mut words = ArrayVec::new();
+        for word in self.words.as_slice() {
+            words.push(*word);
+        }
+        Row { words }
+    }
+
     /// Its words become none.
     pub fn clear(&mut self)
         ensures { self.new ≡ [] }

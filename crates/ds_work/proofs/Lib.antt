@@ -9,3 +9,7 @@ pub mod WorkEnds
 pub mod WorkRead
 pub mod EachWork
 pub mod WorkNamed
+pub mod Next
+pub mod Rows
+pub mod Gathered
+pub mod Driving

@@ -85,7 +85,7 @@ module _ (e : PlainWork) (word : ℕ) (old new : World) (sound : IsSound old) (r
         let some : head_of e.processes word ≡ Some head = ap (λ (n : ℕ). head_of n word) (sym fits.processes) ∙ ap (λ (n : ℕ). head_of old.layout.processes n) seen ∙ head_reads old sound e.cell b.0 b.1 b.2 in
         let by : IsHeadBy (of_cell e.cell old.counted) word b.1 =
         subst (λ (n : ℕ). IsHeadBy (of_cell e.cell old.counted) n b.1) (sym seen) (subst (λ (es : List Edit). IsHeadBy es (head_after_all es) b.1) (sym b.2) (by_last b.0 b.1)) in
-        frame.loads e works.LoadHead (record e { head = word; stage = works.LoadHeader }) old new sound real was
+        frame.loads e works.LoadHead (record e { head = word; length = 0; text = []; stage = works.LoadHeader }) old new sound real was
         (t.situation ∙ ap (λ (o : Option heads.Head). Working (head_from e word o)) some) (turn_of _ t) (t.pending e.process) fits tt t.memory.1
         (λ c x bit matters o. absurd o) (λ o. absurd o)
         (λ k. record { hold = k.hold; loaded = (λ at. inl here, (b.1, rw t.counted by)); own = tt; evaluated = tt }) (λ h. h))

@@ -1,1 +1,4 @@
 pub mod WorkSteps
+pub mod Noted
+pub mod Reading
+pub mod WorkEvents

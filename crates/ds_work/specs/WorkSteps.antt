@@ -102,13 +102,13 @@ claims_from e word Marked = if nat_lt (2 ^ 58) (word / 32) then at e (Answer Wor
 
 abbrev pub head_from : PlainWork → ℕ → Option Head → PlainWork
 head_from e word None = record e { head = word; length = 0; text = []; stage = Read }
-head_from e word (Some head) = record e { head = word; stage = LoadHeader }
+head_from e word (Some head) = record e { head = word; length = 0; text = []; stage = LoadHeader }
 
 abbrev pub text_from : PlainWork → ℕ → PlainWork
 text_from e part = if nat_lt part (text_parts e) then at e (LoadText part) else at e Read
 
 abbrev pub header_from : PlainWork → Option Header → PlainWork
-header_from e None = at e Read
+header_from e None = record e { length = 0; text = []; stage = Read }
 header_from e (Some header) = text_from (record e { length = header.length; text = [] }) 0
 
 abbrev pub input_from : PlainWork → ℕ → PlainWork

@@ -1,0 +1,319 @@
+-- The work after a step, field by field; it stays a work of its sheet.
+use Rattle.std.proofs.Common.{ℕ, ◌≡◌, ◌<◌, ◌≤◌, ◌+◌, ◌-◌, ◌*◌, ◌/◌, ◌%◌, ◌^◌, ◌==◌, Bool, true, false, if◌then◌else◌, nat_lt, List, [], ◌∷◌, ◌++◌, take, Option, Some, None, refl, ap, sym, ◌∙◌, subst, arith, length, length-append, min}
+use Rattle.std.proofs.lemmas.Bool.{ltb-true, ltb-false}
+use Rattle.std.proofs.lemmas.Bool.Decides.{nat_tests}
+use Rattle.std.proofs.lemmas.List.{length-take, length-set}
+use Rattle.ds_formula.specs.declared.cells.Cell.{Cell}
+use Rattle.ds_formula.specs.Refs.{IsPossible}
+use Rattle.ds_eval.specs.declared.inputs.Entry.{Entry}
+use Rattle.ds_eval.specs.declared.inputs.Input.{Input}
+use Rattle.ds_eval.specs.Inputs.{cell_in, with_entry}
+use Rattle.ds_eval.proofs.Cells.{cell_with}
+use Rattle.ds_layout.specs.declared.head.Head.{Head}
+use Rattle.ds_layout.specs.declared.header.Header.{Header}
+use Rattle.ds_layout.specs.declared.mark.State.{State}
+use Rattle.ds_layout.specs.declared.mark.State.TheVariants.{Clean, Marked, Held}
+use Rattle.ds_layout.specs.declared.place.TheConstants.{TEXT_BYTES}
+use Rattle.ds_layout.specs.Head.{head_of}
+use Rattle.ds_layout.specs.Header.{IsHeader, header_of}
+use Rattle.ds_layout.specs.Mark.{mark_of, state_of}
+use Rattle.ds_layout.specs.Text.{bytes_of}
+use Rattle.ds_layout.proofs.Packed.{IsHeader-header_of}
+use Rattle.ds_state.specs.Works.{PlainWork, IsWork, IsWorkIn, StageFits, ClaimFits, SEEN_MOST}
+use Rattle.ds_state.specs.Standing.{shown_entry}
+use Rattle.ds_state.specs.Telling.{told_from}
+use Rattle.ds_state.proofs.Telling.{ToldFits, first_told}
+use Rattle.ds_state.specs.declared.work.WorkStage.{WorkStage}
+use Rattle.ds_state.specs.declared.work.WorkEnd.TheVariants.{NotDirty, Missed, Worn, Published, Again, NoMemory}
+use Rattle.ds_state.specs.declared.work.WorkStage.TheVariants.{LoadMark, Claim, FlushClaim, BackClaim, LoadHead, LoadHeader, LoadText, Read, LoadValue, LoadKind, LoadOwnValue, LoadOwnKind, Wait, StoreValue, StoreKind, FlushValue, FlushKind, BackValue, BackKind, Telling, Clear, ClearDirty, Give, GiveDirty, FlushCleared, BackCleared, Answer}
+use Rattle.ds_state.specs.declared.work.Spread.TheVariants.{LoadRow, OrTold, FlushTold, BackTold}
+use Rattle.ds_work.specs.WorkSteps.{at, claim_of, next_at, claims_from, head_from, header_from, text_from, input_from, told, tell_from, row_from}
+use Rattle.ds_work.specs.Noted.{mark_at, head_at, length_at, length_in, text_after, text_at, inputs_after, inputs_at, value_after, value_at, kind_after, kind_at, row_after, row_at, stage_at, seen_mark}
+
+-- the work with these changes
+abbrev pub noted : PlainWork → WorkStage → ℕ → PlainWork
+noted e s word = record {
+  process = e.process;
+  next = e.next;
+  cell = e.cell;
+  cells = e.cells;
+  processes = e.processes;
+  mark = mark_at e s word;
+  head = head_at e s word;
+  length = length_at e s word;
+  text = text_at e s word;
+  content = e.content;
+  inputs = inputs_at e s word;
+  value = value_at e s word;
+  kind = kind_at e s word;
+  entry = e.entry;
+  row = row_at e s word;
+  stage = stage_at e s word;
+}
+
+chosen : (b : Bool) (f : PlainWork) (s t : WorkStage) → (if b then at f s else at f t) ≡ at f (if b then at f s else at f t).stage
+chosen true f s t = refl
+chosen false f s t = refl
+
+told_next : (o : Option ℕ) (f : PlainWork) → told f o ≡ at f (told f o).stage
+told_next None f = refl
+told_next (Some d) f = refl
+
+row_next : (b : Bool) (o : Option ℕ) (f : PlainWork) (s : WorkStage) → (if b then at f s else told f o) ≡ at f (if b then at f s else told f o).stage
+row_next true o f s = refl
+row_next false o f s = told_next o f
+
+module _ (e : PlainWork) (word : ℕ) where
+  marked : (b : Bool) → (if b then at e (Answer Worn) else record e { mark = word; stage = Claim })
+      ≡ record e { mark = if b then e.mark else word; stage = (if b then at e (Answer Worn) else record e { mark = word; stage = Claim }).stage }
+  marked true = refl
+  marked false = refl
+
+  by_mark : (st : State) → claims_from e word st ≡ record e { mark = seen_mark e word st; stage = (claims_from e word st).stage }
+  by_mark Clean = refl
+  by_mark (Held p) = refl
+  by_mark Marked = marked (nat_lt (2 ^ 58) (word / 32))
+
+  claimed : (b : Bool) → (if b then record e { mark = claim_of e.process e.mark; stage = FlushClaim } else at e (Answer Missed))
+      ≡ record e { mark = if b then claim_of e.process e.mark else e.mark; stage = (if b then record e { mark = claim_of e.process e.mark; stage = FlushClaim } else at e (Answer Missed)).stage }
+  claimed true = refl
+  claimed false = refl
+
+  by_head : (o : Option Head) → head_from e word o ≡ record e { head = word; length = 0; text = []; stage = (head_from e word o).stage }
+  by_head None = refl
+  by_head (Some head) = refl
+
+  by_header : (o : Option Header) → header_from e o ≡ record e { length = length_in o; text = []; stage = (header_from e o).stage }
+  by_header None = refl
+  by_header (Some header) = chosen (nat_lt 0 ((header.length + 7) / 8)) (record e { length = header.length; text = [] }) (LoadText 0) Read
+
+  pub next_noted : (s : WorkStage) → next_at e s word ≡ noted e s word
+  next_noted LoadMark = by_mark (state_of (mark_of e.processes word))
+  next_noted Claim = claimed (word == e.mark)
+  next_noted FlushClaim = refl
+  next_noted BackClaim = refl
+  next_noted LoadHead = by_head (head_of e.processes word)
+  next_noted LoadHeader = by_header (header_of e.cells word)
+  next_noted (LoadText part) = chosen (nat_lt (part + 1) ((e.length + 7) / 8)) (record e { text = take e.length (e.text ++ bytes_of word) }) (LoadText (part + 1)) Read
+  next_noted Read = refl
+  next_noted (LoadValue i) = refl
+  next_noted (LoadKind i value) = chosen (nat_lt (i + 1) (length (with_entry e.inputs i (shown_entry e.cells value word)))) (record e { inputs = with_entry e.inputs i (shown_entry e.cells value word) }) (LoadValue (i + 1)) LoadOwnValue
+  next_noted LoadOwnValue = refl
+  next_noted LoadOwnKind = refl
+  next_noted Wait = refl
+  next_noted StoreValue = refl
+  next_noted StoreKind = refl
+  next_noted FlushValue = refl
+  next_noted FlushKind = refl
+  next_noted BackValue = refl
+  next_noted BackKind = refl
+  next_noted (Telling (LoadRow part)) = row_next (nat_lt (part + 1) ((e.cells + 63) / 64)) (told_from (e.row ++ word ∷ []) (e.cells - 0) 0) (record e { row = e.row ++ word ∷ [] }) (Telling (LoadRow (part + 1)))
+  next_noted (Telling (OrTold d)) = refl
+  next_noted (Telling (FlushTold d)) = refl
+  next_noted (Telling (BackTold d)) = told_next (told_from e.row (e.cells - (d + 1)) (d + 1)) e
+  next_noted (Clear changed) = chosen (word == e.mark) e (FlushCleared (Published changed)) ClearDirty
+  next_noted ClearDirty = refl
+  next_noted Give = chosen (word == e.mark) e (FlushCleared NoMemory) GiveDirty
+  next_noted GiveDirty = refl
+  next_noted (FlushCleared end) = refl
+  next_noted (BackCleared end) = refl
+  next_noted (Answer end) = refl
+
+-- ---- it stays a work of its sheet
+
+staged : (e : PlainWork) (s s' : WorkStage) → IsWork (at e s) → ClaimFits e s' → StageFits e s' → IsWork (at e s')
+staged e s s' h claim stage = record {
+  process = h.process;
+  processes = h.processes;
+  cell = h.cell;
+  cells = h.cells;
+  young = h.young;
+  short = h.short;
+  text = h.text;
+  possible = h.possible;
+  height = h.height;
+  claim = claim;
+  stage = stage;
+}
+
+-- what holds of both branches holds of a test
+branches : (b : Bool) (x y : PlainWork) → (b ≡ true → IsWork x) → (b ≡ false → IsWork y) → IsWork (if b then x else y)
+branches true x y h k = h refl
+branches false x y h k = k refl
+
+pushed : (xs : List ℕ) (v : ℕ) → length (xs ++ v ∷ []) ≡ length xs + 1
+pushed xs v = length-append xs (v ∷ [])
+
+-- another mark, text, inputs or row
+marked_as : (e : PlainWork) (s : WorkStage) (mark : ℕ) (s' : WorkStage) → IsWork (at e s) → mark / 32 ≤ SEEN_MOST + 1 → ClaimFits (record e { mark = mark }) s' → StageFits e s' → IsWork (record e { mark = mark; stage = s' })
+marked_as e s mark s' h young claim stage = record {
+  process = h.process;
+  processes = h.processes;
+  cell = h.cell;
+  cells = h.cells;
+  young = young;
+  short = h.short;
+  text = h.text;
+  possible = h.possible;
+  height = h.height;
+  claim = claim;
+  stage = fits s' stage;
+}
+  where
+    fits : (s' : WorkStage) → StageFits e s' → StageFits (record e { mark = mark; stage = s' }) s'
+    fits (LoadText part) k = k
+    fits (LoadValue i) k = k
+    fits (LoadKind i value) k = k
+    fits (Telling (LoadRow part)) k = k
+    fits (Telling (OrTold d)) k = k
+    fits (Telling (FlushTold d)) k = k
+    fits (Telling (BackTold d)) k = k
+    fits _ k = tt
+
+module _ (e : PlainWork) (word : ℕ) where
+  texted : (s : WorkStage) (head count : ℕ) (text : List ℕ) (s' : WorkStage) → IsWork (at e s) → count ≤ TEXT_BYTES → length text ≤ count
+      → ClaimFits e s' → StageFits (record e { head = head; length = count; text = text }) s' → IsWork (record e { head = head; length = count; text = text; stage = s' })
+  texted s head count text s' h short within claim stage = record {
+    process = h.process;
+    processes = h.processes;
+    cell = h.cell;
+    cells = h.cells;
+    young = h.young;
+    short = short;
+    text = within;
+    possible = h.possible;
+    height = h.height;
+    claim = claim;
+    stage = stage;
+  }
+
+  parted : (s : WorkStage) (head count part : ℕ) (text : List ℕ) → IsWork (at e s) → count ≤ TEXT_BYTES → length text ≤ count → IsWork (text_from (record e { head = head; length = count; text = text }) part)
+  parted s head count part text h short within = branches (nat_lt part ((count + 7) / 8)) (record e { head = head; length = count; text = text; stage = LoadText part }) (record e { head = head; length = count; text = text; stage = Read })
+      (λ b. texted s head count text (LoadText part) h short within tt (let l = ltb-true part ((count + 7) / 8) b in omega arith))
+      (λ b. texted s head count text Read h short within tt tt)
+
+  by_state : (st : State) → IsWork (at e LoadMark) → IsWork (claims_from e word st)
+  by_state Clean h = staged e LoadMark (Answer NotDirty) h tt tt
+  by_state (Held p) h = staged e LoadMark (Answer Missed) h tt tt
+  by_state Marked h = branches (nat_lt (2 ^ 58) (word / 32)) (at e (Answer Worn)) (record e { mark = word; stage = Claim }) (λ b. staged e LoadMark (Answer Worn) h tt tt)
+      (λ b. (let young : word / 32 ≤ SEEN_MOST = (let l = ltb-false (2 ^ 58) (word / 32) b in l) in marked_as e LoadMark word Claim h (omega (arith, young)) young tt))
+
+  by_top : (o : Option Head) → IsWork (at e LoadHead) → IsWork (head_from e word o)
+  by_top None h = texted LoadHead word 0 [] Read h (omega arith) (omega arith) tt tt
+  by_top (Some head) h = texted LoadHead word 0 [] LoadHeader h (omega arith) (omega arith) tt tt
+
+  by_record : (o : Option Header) → header_of e.cells word ≡ o → IsWork (at e LoadHeader) → IsWork (header_from e o)
+  by_record None is h = texted LoadHeader e.head 0 [] Read h (omega arith) (omega arith) tt tt
+  by_record (Some header) is h = parted LoadHeader e.head header.length 0 [] h (IsHeader-header_of e.cells word header is).0.length (omega arith)
+
+  with_row : (s : WorkStage) (row : List ℕ) (s' : WorkStage) → IsWork (at e s) → ClaimFits e s' → StageFits (record e { row = row }) s' → IsWork (record e { row = row; stage = s' })
+  with_row s row s' h claim stage = record {
+    process = h.process;
+    processes = h.processes;
+    cell = h.cell;
+    cells = h.cells;
+    young = h.young;
+    short = h.short;
+    text = h.text;
+    possible = h.possible;
+    height = h.height;
+    claim = claim;
+    stage = stage;
+  }
+
+  told_fits : (s : WorkStage) (row : List ℕ) (n from : ℕ) (o : Option ℕ) → ToldFits row n from o → from + n ≤ e.cells → IsWork (at e s) → IsWork (told (record e { row = row }) o)
+  told_fits s row n from None first within h = with_row s row (Clear true) h tt tt
+  told_fits s row n from (Some d) first within h = with_row s row (Telling (OrTold d)) h tt (let l = first.1 in omega arith)
+
+  tells : (s : WorkStage) (row : List ℕ) (from : ℕ) → from ≤ e.cells → IsWork (at e s) → IsWork (tell_from (record e { row = row }) from)
+  tells s row from within h = told_fits s row (e.cells - from) from (told_from row (e.cells - from) from) (first_told row (e.cells - from) from) (omega arith) h
+
+  looked : (i value : ℕ) → IsWork (at e (LoadKind i value)) → (x : Entry) → (s' : WorkStage) → ClaimFits e s' → StageFits (record e { inputs = with_entry e.inputs i x }) s' → IsWork (record e { inputs = with_entry e.inputs i x; stage = s' })
+  looked i value h x s' claim stage = record {
+    process = h.process;
+    processes = h.processes;
+    cell = h.cell;
+    cells = h.cells;
+    young = h.young;
+    short = h.short;
+    text = h.text;
+    possible = λ j l. subst (λ (c : Cell). IsPossible c) (sym (cell_with e.inputs i x j h.stage)) (h.possible j (let same = length-set e.inputs i (record { cell = cell_in e.inputs i; entry = x }) in omega (arith, same, l)));
+    height = h.height;
+    claim = claim;
+    stage = stage;
+  }
+
+  owned : (s : WorkStage) (value kind : ℕ) (s' : WorkStage) → IsWork (at e s) → ClaimFits e s' → StageFits e s' → IsWork (record e { value = value; kind = kind; stage = s' })
+  owned s value kind s' h claim stage = record {
+    process = h.process;
+    processes = h.processes;
+    cell = h.cell;
+    cells = h.cells;
+    young = h.young;
+    short = h.short;
+    text = h.text;
+    possible = h.possible;
+    height = h.height;
+    claim = claim;
+    stage = fits s' stage;
+  }
+    where
+      fits : (s' : WorkStage) → StageFits e s' → StageFits (record e { value = value; kind = kind; stage = s' }) s'
+      fits (LoadText part) k = k
+      fits (LoadValue i) k = k
+      fits (LoadKind i v) k = k
+      fits (Telling (LoadRow part)) k = k
+      fits (Telling (OrTold d)) k = k
+      fits (Telling (FlushTold d)) k = k
+      fits (Telling (BackTold d)) k = k
+      fits _ k = tt
+
+  pub next_is : (s : WorkStage) → IsWork (at e s) → IsWork (next_at e s word)
+  next_is LoadMark h = by_state (state_of (mark_of e.processes word)) h
+  next_is Claim h = branches (word == e.mark) (record e { mark = claim_of e.process e.mark; stage = FlushClaim }) (at e (Answer Missed))
+      (λ b. marked_as e Claim (claim_of e.process e.mark) FlushClaim h (let young = h.claim in let p = h.process in let few = h.processes in omega arith) tt tt)
+      (λ b. staged e Claim (Answer Missed) h tt tt)
+  next_is FlushClaim h = staged e FlushClaim BackClaim h tt tt
+  next_is BackClaim h = staged e BackClaim LoadHead h tt tt
+  next_is LoadHead h = by_top (head_of e.processes word) h
+  next_is LoadHeader h = by_record (header_of e.cells word) refl h
+  next_is (LoadText part) h = parted (LoadText part) e.head e.length (part + 1) (take e.length (e.text ++ bytes_of word)) h h.short (let k = length-take e.length (e.text ++ bytes_of word) in omega (arith, k))
+  next_is Read h = h
+  next_is (LoadValue i) h = staged e (LoadValue i) (LoadKind i word) h tt h.stage
+  next_is (LoadKind i value) h = branches (nat_lt (i + 1) (length (with_entry e.inputs i (shown_entry e.cells value word))))
+      (record e { inputs = with_entry e.inputs i (shown_entry e.cells value word); stage = LoadValue (i + 1) }) (record e { inputs = with_entry e.inputs i (shown_entry e.cells value word); stage = LoadOwnValue })
+      (λ b. looked i value h (shown_entry e.cells value word) (LoadValue (i + 1)) tt (ltb-true (i + 1) (length (with_entry e.inputs i (shown_entry e.cells value word))) b))
+      (λ b. looked i value h (shown_entry e.cells value word) LoadOwnValue tt tt)
+  next_is LoadOwnValue h = owned LoadOwnValue word e.kind LoadOwnKind h tt tt
+  next_is LoadOwnKind h = owned LoadOwnKind e.value word Wait h tt tt
+  next_is Wait h = h
+  next_is StoreValue h = staged e StoreValue StoreKind h tt tt
+  next_is StoreKind h = staged e StoreKind FlushValue h tt tt
+  next_is FlushValue h = staged e FlushValue FlushKind h tt tt
+  next_is FlushKind h = staged e FlushKind BackValue h tt tt
+  next_is BackValue h = staged e BackValue BackKind h tt tt
+  next_is BackKind h = with_row BackKind [] (Telling (LoadRow 0)) h tt (refl, (let some = h.cell in omega arith))
+  next_is (Telling (LoadRow part)) h = branches (nat_lt (part + 1) ((e.cells + 63) / 64)) (record e { row = e.row ++ word ∷ []; stage = Telling (LoadRow (part + 1)) }) (tell_from (record e { row = e.row ++ word ∷ [] }) 0)
+      (λ b. with_row (Telling (LoadRow part)) (e.row ++ word ∷ []) (Telling (LoadRow (part + 1))) h tt (let size = h.stage.0 in let k = pushed e.row word in omega (arith, size, k), ltb-true (part + 1) ((e.cells + 63) / 64) b))
+      (λ b. tells (Telling (LoadRow part)) (e.row ++ word ∷ []) 0 (omega arith) h)
+  next_is (Telling (OrTold d)) h = staged e (Telling (OrTold d)) (Telling (FlushTold d)) h tt h.stage
+  next_is (Telling (FlushTold d)) h = staged e (Telling (FlushTold d)) (Telling (BackTold d)) h tt h.stage
+  next_is (Telling (BackTold d)) h = tells (Telling (BackTold d)) e.row (d + 1) (let l = h.stage in omega arith) h
+  next_is (Clear changed) h = branches (word == e.mark) (at e (FlushCleared (Published changed))) (at e ClearDirty) (λ b. staged e (Clear changed) (FlushCleared (Published changed)) h tt tt) (λ b. staged e (Clear changed) ClearDirty h tt tt)
+  next_is ClearDirty h = staged e ClearDirty (FlushCleared Again) h tt tt
+  next_is Give h = branches (word == e.mark) (at e (FlushCleared NoMemory)) (at e GiveDirty) (λ b. staged e Give (FlushCleared NoMemory) h tt tt) (λ b. staged e Give GiveDirty h tt tt)
+  next_is GiveDirty h = staged e GiveDirty (FlushCleared NoMemory) h tt tt
+  next_is (FlushCleared end) h = staged e (FlushCleared end) (BackCleared end) h tt tt
+  next_is (BackCleared end) h = staged e (BackCleared end) (Answer end) h tt tt
+  next_is (Answer end) h = h
+
+-- the work with these fields is the next one
+pub made : (e v : PlainWork) (word mark head count value kind : ℕ) (text row : List ℕ) (inputs : List Input) (stage : WorkStage) → v ≡ e
+    → stage ≡ stage_at e e.stage word → mark ≡ mark_at e e.stage word → head ≡ head_at e e.stage word → count ≡ length_at e e.stage word
+    → text ≡ text_after v.text v.length v.stage word → inputs ≡ inputs_after v.inputs v.cells v.stage word → row ≡ row_after v.row v.stage word
+    → value ≡ value_after v.value v.stage word → kind ≡ kind_after v.kind v.stage word
+    → record v { mark = mark; head = head; length = count; text = text; inputs = inputs; value = value; kind = kind; row = row; stage = stage } ≡ next_at e e.stage word
+made e v word mark head count value kind text row inputs stage same a b c d f g h i j = rw (f, g, h, i, j, same, a, b, c, d) (sym (next_noted e word e.stage))
+
+pub next_within : (e : PlainWork) (word room : ℕ) → IsWork e → e.cells ≤ room → IsWorkIn (next_at e e.stage word) room
+next_within e word room h fits = record { is = next_is e word e.stage h; room = subst (λ (n : ℕ). n ≤ room) (sym (ap (λ (x : PlainWork). x.cells) (next_noted e word e.stage))) fits }

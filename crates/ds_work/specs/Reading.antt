@@ -1,0 +1,24 @@
+-- What reading the content of a text makes of a work.
+use Rattle.std.specs.Prelude.{ℕ, ◌≡◌, ◌⊎◌, List, map}
+use Rattle.ds_formula.specs.declared.cells.Cell.{Cell}
+use Rattle.ds_formula.specs.declared.cells.Shape.{Shape}
+use Rattle.ds_formula.specs.Plain.{Plain}
+use Rattle.ds_eval.specs.declared.inputs.Input.{Input}
+use Rattle.ds_eval.specs.Inputs.{no_entry}
+use Rattle.ds_state.specs.Works.{PlainWork}
+use Rattle.ds_work.specs.WorkSteps.{IsContent, read_from, lacks}
+
+-- a reference that was not looked at yet
+abbrev pub unseen : Cell → Input
+unseen cell = record { cell = cell; entry = no_entry }
+
+-- the content is the text's, and its references are those on the sheet, in reading order
+pub record HasRead (shape : Shape) (e f : PlainWork) : Type 0 where
+  pub content : Plain
+  pub inputs : List Input
+  pub is : IsContent shape e.text content inputs
+  pub after : f ≡ read_from e content inputs
+
+-- it has the content, or memory was refused
+abbrev pub IsReading : Shape → PlainWork → PlainWork → Type 0
+IsReading shape e f = HasRead shape e f ⊎ (f ≡ lacks e)

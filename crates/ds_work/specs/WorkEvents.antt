@@ -1,0 +1,121 @@
+-- The events of works, from world to world: beginnings, steps, offers.
+use Rattle.std.specs.Prelude.{ℕ, ◌≡◌, ◌<◌, ◌/◌, List, [], Result, Ok, Err, Option, Some, None}
+use Rattle.ds_formula.specs.declared.cells.Shape.{Shape}
+use Rattle.ds_formula.specs.Cells.{cell_at}
+use Rattle.ds_formula.specs.Plain.{Plain}
+use Rattle.ds_eval.specs.declared.inputs.Entry.{Entry}
+use Rattle.ds_eval.specs.declared.inputs.Input.{Input}
+use Rattle.ds_eval.specs.Inputs.{entry_in}
+use Rattle.ds_eval.specs.Local.{local}
+use Rattle.ds_eval.specs.Tasks.{PlainTask}
+use Rattle.ds_layout.specs.declared.layout.Layout.{Layout}
+use Rattle.ds_layout.specs.Places.{cells_of}
+use Rattle.ds_state.specs.Works.{PlainWork}
+use Rattle.ds_state.specs.World.{World}
+use Rattle.ds_state.specs.declared.refusal.Refusal.{Refusal}
+use Rattle.ds_state.specs.declared.refusal.Refusal.TheVariants as refusal
+use Rattle.ds_state.specs.declared.situation.Situation.{Situation}
+use Rattle.ds_state.specs.declared.situation.Situation.TheVariants.{Idle, Stopped, Editing, Working, Recovering, Showing}
+use Rattle.ds_state.specs.declared.work.WorkEnd.{WorkEnd}
+use Rattle.ds_state.specs.declared.work.WorkStage.TheVariants.{LoadMark, Read, Wait, Answer}
+use Rattle.ds_work.specs.WorkSteps.{at, BeginsWork, StepsAt, ReadsAt, LacksAt, OffersAt, IsPlainStep}
+use Rattle.ds_work.specs.declared.drive.Taken.{Taken}
+use Rattle.ds_work.specs.declared.drive.Taken.TheVariants.{NotEnabled, Stepped, Answered}
+
+-- ---- beginnings
+
+-- the number of the next edit of a process that may begin work
+abbrev pub next_of : Situation → Result ℕ Refusal
+next_of (Idle number) = Ok number
+next_of Stopped = Err refusal.Stopped
+next_of (Editing e) = Err refusal.Busy
+next_of (Working e) = Err refusal.Busy
+next_of (Recovering e) = Err refusal.Busy
+next_of (Showing e) = Err refusal.Busy
+
+-- work of the process on the cell, before its first step
+pub record IsAskedFor (layout : Layout) (process number index : ℕ) (e : PlainWork) : Type 0 where
+  pub process_is : e.process ≡ process
+  pub next_is : e.next ≡ number
+  pub cell_is : e.cell ≡ index
+  pub cells : cells_of layout ≡ e.cells
+  pub processes : layout.processes ≡ e.processes
+  pub inside : e.cell < e.cells
+  pub first : e.stage ≡ LoadMark
+
+-- work of an idle process on the cell has begun
+pub record IsBegun (old : World) (process cell : ℕ) (new : World) : Type 0 where
+  pub next : ℕ
+  pub work : PlainWork
+  pub process_is : work.process ≡ process
+  pub cell_is : work.cell ≡ cell
+  pub begins : BeginsWork next work old new
+
+-- why a process may not begin work: by its situation
+abbrev pub RefusesIn : Situation → Refusal → Type 0
+RefusesIn (Idle number) r = r ≡ refusal.NoMemory
+RefusesIn Stopped r = r ≡ refusal.Stopped
+RefusesIn (Editing e) r = r ≡ refusal.Busy
+RefusesIn (Working e) r = r ≡ refusal.Busy
+RefusesIn (Recovering e) r = r ≡ refusal.Busy
+RefusesIn (Showing e) r = r ≡ refusal.Busy
+
+abbrev pub Refuses : World → ℕ → Refusal → Type 0
+Refuses w process r = RefusesIn (w.situation process) r
+
+-- ---- tasks and offers
+
+-- what a work that waits is to be given
+abbrev pub task_at : Shape → PlainWork → PlainTask
+task_at shape e = record {
+  process = e.process;
+  cell = cell_at shape e.cell;
+  generation = e.mark / 32;
+  shape = shape;
+  content = e.content;
+  inputs = e.inputs;
+}
+
+-- the process's work waits for an entry
+pub record Waits (w : World) (process : ℕ) (e : PlainWork) : Type 0 where
+  pub inside : process < w.layout.processes
+  pub works : w.situation process ≡ Working e
+  pub waits : e.stage ≡ Wait
+
+-- it waits for the entry of just this task
+pub record WaitsFor (w : World) (task : PlainTask) : Type 0 where
+  pub work : PlainWork
+  pub waits : Waits w task.process work
+  pub is : task ≡ task_at w.layout.shape work
+
+-- a work that waited for it is given the entry of its task
+pub record IsOffered (old : World) (process : ℕ) (entry : Entry) (new : World) : Type 0 where
+  pub work : PlainWork
+  pub waits : Waits old process work
+  pub mine : work.process ≡ process
+  pub offers : OffersAt work entry old new
+
+-- ---- steps
+
+-- what a turn of the process's work does: it makes the step of its stage, or reads the content of its text, which may
+-- lack memory, or answers
+pub data TakesTurn (e : PlainWork) (old new : World) : Taken → Type 0 where
+  steps : (word : ℕ) → StepsAt e e.stage word old new → ((end : WorkEnd) → e.stage ≡ Answer end → ⊥) → TakesTurn e old new Stepped
+  reads : (content : Plain) (inputs : List Input) → e.stage ≡ Read → ReadsAt e content inputs old new → TakesTurn e old new Stepped
+  lacked : e.stage ≡ Read → LacksAt e old new → TakesTurn e old new Stepped
+  answers : (end : WorkEnd) → e.stage ≡ Answer end → StepsAt e (Answer end) 0 old new → TakesTurn e old new (Answered end)
+
+pub record StepsBy (old : World) (process : ℕ) (taken : Taken) (new : World) : Type 0 where
+  pub inside : process < old.layout.processes
+  pub work : PlainWork
+  pub mine : work.process ≡ process
+  pub works : old.situation process ≡ Working work
+  pub turn : TakesTurn work old new taken
+
+-- the process is in no work, or its work waits
+abbrev pub CanNotStep : World → ℕ → Type 0
+CanNotStep w process = (e : PlainWork) → process < w.layout.processes → w.situation process ≡ Working e → e.stage ≡ Wait
+
+abbrev pub StepTakes : World → ℕ → Taken → World → Type 0
+StepTakes old process NotEnabled new = CanNotStep old process
+StepTakes old process taken new = StepsBy old process taken new

@@ -1,0 +1,123 @@
+//! The beginning of work.
+
+ghost use Rattle.std.specs.Prelude.{◌≡◌, ◌<◌, ◌≤◌, IfOk, IfErr, OnOk, OnErr, vec_len, slice_set};
+ghost use Rattle.ds_formula.specs.Cells.{IsInside, index_of};
+ghost use Rattle.ds_state.specs.Value.{world_of};
+ghost use Rattle.ds_state.specs.declared.situation.Situation.TheVariants.{Idle};
+ghost use Rattle.ds_work.specs.WorkSteps.{BeginsWork};
+ghost use Rattle.ds_work.specs.WorkEvents.{next_of, IsAskedFor, IsBegun, Refuses};
+
+use ds_eval::inputs::{Entry, Inputs};
+use ds_eval::value::Value;
+use ds_formula::cells::Cell;
+use ds_formula::content::Content;
+use ds_layout::layout::Layout;
+use ds_state::refusal::Refusal;
+use ds_state::row::Row;
+use ds_state::situation::Situation;
+use ds_state::text::Text;
+use ds_state::work::{WorkCall, WorkStage};
+use ds_state::world::World;
+use std::alloc::{AllocError, Global};
+
+// The number of the next edit of a process that may begin work.
+fn next(situation: &Situation) -> Result<usize, Refusal>
+    ensures { result ≡ next_of situation.now }
+{
+    match situation {
+        Situation::Idle(number) => Ok(*number),
+        Situation::Stopped => Err(Refusal::Stopped),
+        Situation::Working(_) | Situation::Recovering(_) | Situation::Showing(_) => Err(Refusal::Busy),
+        Situation::Editing(_) => Err(Refusal::Busy),
+    }
+}
+
+// Work of the process on the cell, with room for all that it will gather.
+fn prepared(
+    alloc: Global,
+    layout: &Layout,
+    process: usize,
+    next: usize,
+    cell: Cell,
+) -> Result<WorkCall, AllocError>
+    requires process { process < layout.now.processes }
+    requires cell { IsInside layout.now.shape cell }
+    ensures { IfOk result (λ e. IsAskedFor layout.now process next (index_of layout.now.shape cell) e) }
+{
+    let inputs = Inputs::with_capacity(alloc, layout.cells())?;
+    let nothing = Entry {
+        value: Value::Blank,
+        height: 0,
+    };
+    Ok(WorkCall {
+        process,
+        next,
+        cell: layout.shape.index(cell),
+        cells: layout.cells(),
+        processes: layout.processes,
+        mark: 0,
+        head: 0,
+        length: 0,
+        text: Text::empty(),
+        content: Content::Blank,
+        inputs,
+        value: 0,
+        kind: 0,
+        entry: nothing,
+        row: Row::new(),
+        stage: WorkStage::LoadMark,
+    })
+}
+
+// Puts a process into a situation.
+pub(crate) fn put(situations: &mut Vec<Situation>, process: usize, situation: Situation)
+    requires { process < vec_len situations.old }
+    ensures items { situations.new.items ≡ slice_set situations.old.items process situation }
+    ensures count { vec_len situations.new ≡ vec_len situations.old }
+{
+    situations[process] = situation;
+}
+
+// The process is in that work from now on.
+fn start(world: &mut World, call: WorkCall, cell: Cell, next: usize)
+    requires asked { IsAskedFor world.old.sheet.layout call.process next (index_of world.old.sheet.layout.shape cell) call }
+    requires process { call.process < world.old.sheet.layout.processes }
+    requires idle { (world_of world.old).situation call.process ≡ Idle next }
+    ensures begins { BeginsWork next call (world_of world.old) (world_of world.new) }
+    ensures sheet { world.new.sheet ≡ world.old.sheet }
+    ensures done { world.new.done ≡ world.old.done }
+    ensures settled { world.new.settled ≡ world.old.settled }
+    ensures reports { world.new.reports ≡ world.old.reports }
+{
+    let process = call.process;
+    put(&mut world.situations, process, Situation::Working(call));
+}
+
+/// Begins work on a cell by an idle process. Nothing is loaded yet: the work's steps do that. Room
+/// for an input for each cell of the sheet is taken here, so that later only the reading of the
+/// content takes memory.
+///
+/// The refusals are tried in this order, and each leaves the world as it was: `Busy` where the
+/// process is in a call, `Stopped` where it is stopped, `NoMemory` where an allocation failed.
+pub fn begin(
+    alloc: Global,
+    world: &mut World,
+    process: usize,
+    cell: Cell,
+) -> Result<(), Refusal>
+    requires process { process < world.old.sheet.layout.processes }
+    requires cell { IsInside world.old.sheet.layout.shape cell }
+    ensures begun { OnOk result (IsBegun (world_of world.old) process (index_of world.old.sheet.layout.shape cell) (world_of world.new)) }
+    ensures refused { IfErr result (λ refusal. Refuses (world_of world.old) process refusal) }
+    ensures unchanged { OnErr result (world.new ≡ world.old) }
+    ensures sheet { world.new.sheet ≡ world.old.sheet }
+    ensures done { world.new.done ≡ world.old.done }
+    ensures settled { world.new.settled ≡ world.old.settled }
+    ensures reports { world.new.reports ≡ world.old.reports }
+{
+    let number = next(&world.situations[process])?;
+    let layout = world.words.layout();
+    let call = prepared(alloc, &layout, process, number, cell)?;
+    start(world, call, cell, number);
+    Ok(())
+}

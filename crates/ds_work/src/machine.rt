@@ -1,0 +1,516 @@
+//! The machine of work: the access of each stage, and the stage that follows it.
+
+ghost use Rattle.std.specs.Prelude.{◌≡◌, ℕ, ◌+◌, ◌-◌, ◌*◌, ◌/◌, ◌%◌, ◌<◌, ◌≤◌, ◌++◌, length, take, slice_index_or, IsTrue, ◌↔◌};
+ghost use Rattle.ds_formula.specs.Cells.{index_of};
+ghost use Rattle.ds_formula.specs.Refs.{IsPossible};
+ghost use Rattle.ds_eval.specs.Inputs.{cell_in};
+ghost use Rattle.ds_layout.specs.Head.{head_of};
+ghost use Rattle.ds_layout.specs.Header.{header_of};
+ghost use Rattle.ds_layout.specs.Mark.{mark_of, state_of, holder_code, dirty_bit};
+ghost use Rattle.ds_layout.specs.declared.place.Place.TheVariants as place;
+ghost use Rattle.ds_state.specs.Standing.{stored_for, shown_entry, value_for, word_for};
+ghost use Rattle.ds_state.specs.Owing.{StandsIn};
+ghost use Rattle.ds_state.specs.Telling.{let_go, told_from};
+ghost use Rattle.ds_layout.specs.declared.place.TheConstants.{TEXT_BYTES};
+ghost use Rattle.ds_state.specs.Works.{PlainWork, StageFits, SEEN_MOST};
+ghost use Rattle.ds_state.specs.declared.work.WorkStage.TheVariants.{LoadMark, Claim, Clear, Give, Telling};
+ghost use Rattle.ds_state.specs.declared.work.Spread.TheVariants.{LoadRow};
+ghost use Rattle.ds_work.specs.WorkSteps.{claim_of, parts_of, text_parts, input_place, access_at, next_at, claims_from, head_from, header_from, text_from, input_from, told, tell_from, row_from, spread_access, spread_next};
+ghost use Rattle.ds_work.specs.Noted.{mark_at, head_at, length_at, text_after, inputs_after, value_after, kind_after, row_after, stage_at, turn_at, FitsInputs, FitsRow};
+
+use ds_eval::inputs::{Entry, Inputs};
+use ds_eval::value::Value;
+use ds_formula::cells::Shape;
+use ds_layout::bits;
+use ds_layout::head::Head;
+use ds_layout::header::Header;
+use ds_layout::mark::{DIRTY, Mark, State};
+use ds_layout::place::Place;
+use ds_layout::stored::{Kind, Stored};
+use ds_layout::text::part_bytes;
+use ds_state::row::Row;
+use ds_state::text::Text;
+use ds_state::work::{Spread, WorkCall, WorkEnd, WorkStage};
+use ds_words::access::Access;
+
+/// The greatest generation of a mark that work claims: a mark of a greater one is worn.
+pub const LAST_GENERATION: u64 = 1 << 58;
+
+/// What the process of a work does by its turn.
+#[derive(Clone, Copy, Debug, PartialEq, Eq)]
+pub enum Doing {
+    /// It performs its access, and goes on with the word that this answers.
+    Steps,
+    /// It reads the content of the text that it has gathered: this alone takes memory.
+    Reads,
+    /// It takes no step: it waits for the entry of its task.
+    Waits,
+    /// It answers, and is in no call any more.
+    Answers(WorkEnd),
+}
+
+/// What the work's process does by its turn: this decides how to go on with it.
+pub fn turn(call: &WorkCall) -> Doing
+    ensures { result ≡ turn_at call.now.stage }
+{
+    match call.stage {
+        WorkStage::Read => Doing::Reads,
+        WorkStage::Wait => Doing::Waits,
+        WorkStage::Answer(end) => Doing::Answers(end),
+        _ => Doing::Steps,
+    }
+}
+
+// The mark that follows one: of the next generation, with this holder.
+fn following(mark: u64, holder: Option<usize>, dirty: bool) -> u64
+    requires young { mark / 32 ≤ SEEN_MOST + 1 }
+    requires holder { holder_code holder < 16 }
+    ensures { result ≡ (mark / 32 + 1) * 32 + holder_code holder * 2 + dirty_bit dirty }
+{
+    let generation = Mark::read(mark, 0).generation + 1;
+    let next = Mark {
+        generation,
+        holder,
+        dirty,
+    };
+    next.word()
+}
+
+// The mark of the claim of the mark that was seen.
+fn claim(call: &WorkCall) -> u64
+    ensures { result ≡ claim_of call.now.process call.now.mark }
+{
+    following(call.mark, Some(call.process), false)
+}
+
+// The mark that lets the cell go, dirty or not.
+fn release(call: &WorkCall, dirty: bool) -> u64
+    ensures { result ≡ let_go call.now.mark + dirty_bit dirty }
+{
+    following(call.mark, None, dirty)
+}
+
+// The mark of its claim, as another process has marked it.
+fn outrun(call: &WorkCall) -> u64
+    ensures { result ≡ call.now.mark + 1 }
+{
+    call.mark + DIRTY
+}
+
+// The number of the cell of an input.
+fn input(call: &WorkCall, shape: Shape, i: usize) -> usize
+    requires { i < length call.now.inputs }
+    ensures { result ≡ input_place shape call.now i }
+{
+    let cell = call.inputs.as_slice()[i].cell;
+    cell.row * shape.columns + cell.column
+}
+
+// A part of the text of the record that the noted head names.
+fn record_text(call: &WorkCall, part: usize) -> Place
+    ensures { result ≡ place.Text (call.now.head / 256 % 256) (call.now.head % 256) part }
+{
+    let head = Head::parts(call.head);
+    Place::Text(head.process, head.number, part)
+}
+
+// Its header.
+fn record_header(call: &WorkCall) -> Place
+    ensures { result ≡ place.Header (call.now.head / 256 % 256) (call.now.head % 256) }
+{
+    let head = Head::parts(call.head);
+    Place::Header(head.process, head.number)
+}
+
+// What the two words of a cell are to show.
+pub(crate) fn stored(entry: Entry) -> Stored
+    ensures { result ≡ stored_for entry }
+{
+    let height = entry.height;
+    let (kind, value) = match entry.value {
+        Value::Blank => (Kind::Blank, 0),
+        Value::Number(number) => (Kind::Number, number),
+        Value::DivZero => (Kind::DivZero, 0),
+        Value::Num => (Kind::Num, 0),
+        Value::Circular => (Kind::Circular, 0),
+    };
+    Stored {
+        kind,
+        height,
+        value,
+    }
+}
+
+// What the two words of a cell show.
+fn shown(value: u64, kind: u64, cells: usize) -> Entry
+    ensures { result ≡ shown_entry cells value kind }
+{
+    let stored = Stored::read(value, kind, cells);
+    let value = match stored.kind {
+        Kind::Blank => Value::Blank,
+        Kind::Number => Value::Number(stored.value),
+        Kind::DivZero => Value::DivZero,
+        Kind::Num => Value::Num,
+        Kind::Circular => Value::Circular,
+    };
+    Entry {
+        value,
+        height: stored.height,
+    }
+}
+
+fn want_telling(call: &WorkCall, spread: Spread) -> Access<Place>
+    ensures { result ≡ spread_access call.now spread }
+{
+    match spread {
+        Spread::LoadRow(part) => Access::Load(Place::Index(call.cell, part)),
+        Spread::OrTold(cell) => Access::Or(Place::Mark(cell), DIRTY),
+        Spread::FlushTold(cell) => Access::Flush(Place::Mark(cell)),
+        Spread::BackTold(_) => Access::Back,
+    }
+}
+
+/// What the work does next, on a sheet of this shape.
+pub fn want(call: &WorkCall, shape: Shape) -> Access<Place>
+    ensures { result ≡ access_at shape call.now call.now.stage }
+{
+    let mark = Place::Mark(call.cell);
+    let value = Place::Value(call.cell);
+    let kind = Place::Kind(call.cell);
+    match call.stage {
+        WorkStage::LoadMark => Access::Load(mark),
+        WorkStage::Claim => Access::SwapIf(mark, call.mark, claim(call)),
+        WorkStage::FlushClaim | WorkStage::FlushCleared(_) => Access::Flush(mark),
+        WorkStage::LoadHead => Access::Load(Place::Head(call.cell)),
+        WorkStage::LoadHeader => Access::Load(record_header(call)),
+        WorkStage::LoadText(part) => Access::Load(record_text(call, part)),
+        WorkStage::LoadValue(i) => Access::Load(Place::Value(input(call, shape, i))),
+        WorkStage::LoadKind(i, _) => Access::Load(Place::Kind(input(call, shape, i))),
+        WorkStage::LoadOwnValue => Access::Load(value),
+        WorkStage::LoadOwnKind => Access::Load(kind),
+        WorkStage::StoreValue => Access::Store(value, stored(call.entry).value_word()),
+        WorkStage::StoreKind => Access::Store(kind, stored(call.entry).kind_word()),
+        WorkStage::FlushValue => Access::Flush(value),
+        WorkStage::FlushKind => Access::Flush(kind),
+        WorkStage::Telling(spread) => want_telling(call, spread),
+        WorkStage::Clear(_) => Access::SwapIf(mark, call.mark, release(call, false)),
+        WorkStage::Give => Access::SwapIf(mark, call.mark, release(call, true)),
+        WorkStage::ClearDirty | WorkStage::GiveDirty => {
+            Access::SwapIf(mark, outrun(call), release(call, true))
+        }
+        WorkStage::BackClaim | WorkStage::BackCleared(_) => Access::Back,
+        WorkStage::BackValue | WorkStage::BackKind => Access::Back,
+        WorkStage::Read | WorkStage::Wait | WorkStage::Answer(_) => Access::Nothing,
+    }
+}
+
+// The stage after its mark is seen.
+fn claims_from(call: &WorkCall, word: u64) -> WorkStage
+    ensures { result ≡ (claims_from call.now word (state_of (mark_of call.now.processes word))).stage }
+{
+    let mark = Mark::read(word, call.processes);
+    match mark.state() {
+        State::Clean => WorkStage::Answer(WorkEnd::NotDirty),
+        State::Held(_) => WorkStage::Answer(WorkEnd::Missed),
+        State::Marked => if mark.generation > LAST_GENERATION {
+            WorkStage::Answer(WorkEnd::Worn)
+        } else {
+            WorkStage::Claim
+        },
+    }
+}
+
+// The parts of the text one by one, then the content.
+fn text_from(length: usize, part: usize) -> WorkStage
+    requires { length ≤ TEXT_BYTES }
+    ensures { (e : PlainWork) → e.length ≡ length → result ≡ (text_from e part).stage }
+{
+    if part < length.div_ceil(8) {
+        WorkStage::LoadText(part)
+    } else {
+        WorkStage::Read
+    }
+}
+
+fn header_from(call: &WorkCall, word: u64) -> WorkStage
+    ensures { result ≡ (header_from call.now (header_of call.now.cells word)).stage }
+{
+    match Header::read(word, call.cells) {
+        Some(header) => text_from(header.length, 0),
+        None => WorkStage::Read,
+    }
+}
+
+// The inputs one by one, then the cell's own words.
+pub(crate) fn input_from(count: usize, i: usize) -> WorkStage
+    ensures { (e : PlainWork) → length e.inputs ≡ count → result ≡ (input_from e i).stage }
+{
+    if i < count {
+        WorkStage::LoadValue(i)
+    } else {
+        WorkStage::LoadOwnValue
+    }
+}
+
+// Whether the row has the bit of a cell. A part that it has not has no bits.
+fn stands(row: &[u64], cell: usize) -> bool
+    ensures { IsTrue result ↔ StandsIn row.now cell }
+{
+    let part = bits::part(cell);
+    part < row.len() && bits::has_bit(row[part], cell)
+}
+
+// The first cell from this one on whose bit the row has.
+fn told_from(row: &[u64], cells: usize, from: usize) -> Option<usize>
+    requires { from ≤ cells }
+    ensures { result ≡ told_from row.now (cells - from) from }
+{
+    for cell in from..cells {
+        if stands(row, cell) {
+            return Some(cell);
+        }
+    }
+    None
+}
+
+// The next cell that is told; where all are told, the cell is let go.
+fn tell_from(call: &WorkCall, row: &[u64], from: usize) -> WorkStage
+    requires { from ≤ call.now.cells }
+    ensures { (e : PlainWork) → e.row ≡ row.now → e.cells ≡ call.now.cells → result ≡ (tell_from e from).stage }
+{
+    match told_from(row, call.cells, from) {
+        Some(cell) => WorkStage::Telling(Spread::OrTold(cell)),
+        None => WorkStage::Clear(true),
+    }
+}
+
+fn row_from(call: &WorkCall, part: usize, word: u64) -> WorkStage
+    requires part { part < parts_of call.now }
+    requires loaded { length call.now.row ≡ part }
+    ensures { result ≡ (spread_next call.now (LoadRow part) word).stage }
+{
+    let parts = call.cells.div_ceil(64);
+    if part + 1 < parts {
+        return WorkStage::Telling(Spread::LoadRow(part + 1));
+    }
+    let mut row = call.row.copy();
+    row.push(word);
+    tell_from(call, row.as_slice(), 0)
+}
+
+fn spread_next(call: &WorkCall, spread: Spread, word: u64) -> WorkStage
+    requires { StageFits call.now (Telling spread) }
+    ensures { result ≡ (spread_next call.now spread word).stage }
+{
+    match spread {
+        Spread::LoadRow(part) => row_from(call, part, word),
+        Spread::OrTold(cell) => WorkStage::Telling(Spread::FlushTold(cell)),
+        Spread::FlushTold(cell) => WorkStage::Telling(Spread::BackTold(cell)),
+        Spread::BackTold(cell) => tell_from(call, call.row.as_slice(), cell + 1),
+    }
+}
+
+// The stage after a claim: where another mark stood there, the cell was missed.
+fn claimed(call: &WorkCall, word: u64) -> WorkStage
+    ensures { result ≡ (next_at call.now Claim word).stage }
+{
+    if word == call.mark {
+        WorkStage::FlushClaim
+    } else {
+        WorkStage::Answer(WorkEnd::Missed)
+    }
+}
+
+fn cleared(call: &WorkCall, changed: bool, word: u64) -> WorkStage
+    ensures { result ≡ (next_at call.now (Clear changed) word).stage }
+{
+    if word == call.mark {
+        WorkStage::FlushCleared(WorkEnd::Published(changed))
+    } else {
+        WorkStage::ClearDirty
+    }
+}
+
+fn given(call: &WorkCall, word: u64) -> WorkStage
+    ensures { result ≡ (next_at call.now Give word).stage }
+{
+    if word == call.mark {
+        WorkStage::FlushCleared(WorkEnd::NoMemory)
+    } else {
+        WorkStage::GiveDirty
+    }
+}
+
+fn headed(call: &WorkCall, word: u64) -> WorkStage
+    ensures { result ≡ (head_from call.now word (head_of call.now.processes word)).stage }
+{
+    match Head::read(word, call.processes) {
+        Some(_) => WorkStage::LoadHeader,
+        None => WorkStage::Read,
+    }
+}
+
+// The stage that follows, after the access answered the word.
+fn next(call: &WorkCall, word: u64) -> WorkStage
+    ensures { result ≡ stage_at call.now call.now.stage word }
+{
+    match call.stage {
+        WorkStage::LoadMark => claims_from(call, word),
+        WorkStage::Claim => claimed(call, word),
+        WorkStage::FlushClaim => WorkStage::BackClaim,
+        WorkStage::BackClaim => WorkStage::LoadHead,
+        WorkStage::LoadHead => headed(call, word),
+        WorkStage::LoadHeader => header_from(call, word),
+        WorkStage::LoadText(part) => text_from(call.length, part + 1),
+        WorkStage::Read => WorkStage::Read,
+        WorkStage::LoadValue(i) => WorkStage::LoadKind(i, word),
+        WorkStage::LoadKind(i, _) => input_from(call.inputs.len(), i + 1),
+        WorkStage::LoadOwnValue => WorkStage::LoadOwnKind,
+        WorkStage::LoadOwnKind => WorkStage::Wait,
+        WorkStage::Wait => WorkStage::Wait,
+        WorkStage::StoreValue => WorkStage::StoreKind,
+        WorkStage::StoreKind => WorkStage::FlushValue,
+        WorkStage::FlushValue => WorkStage::FlushKind,
+        WorkStage::FlushKind => WorkStage::BackValue,
+        WorkStage::BackValue => WorkStage::BackKind,
+        WorkStage::BackKind => WorkStage::Telling(Spread::LoadRow(0)),
+        WorkStage::Telling(spread) => spread_next(call, spread, word),
+        WorkStage::Clear(changed) => cleared(call, changed, word),
+        WorkStage::ClearDirty => WorkStage::FlushCleared(WorkEnd::Again),
+        WorkStage::Give => given(call, word),
+        WorkStage::GiveDirty => WorkStage::FlushCleared(WorkEnd::NoMemory),
+        WorkStage::FlushCleared(end) => WorkStage::BackCleared(end),
+        WorkStage::BackCleared(end) => WorkStage::Answer(end),
+        WorkStage::Answer(end) => WorkStage::Answer(end),
+    }
+}
+
+// The mark that it notes, or that of its claim.
+fn noted_mark(call: &WorkCall, word: u64) -> u64
+    ensures { result ≡ mark_at call.now call.now.stage word }
+{
+    match call.stage {
+        WorkStage::LoadMark => match claims_from(call, word) {
+            WorkStage::Claim => word,
+            _ => call.mark,
+        },
+        WorkStage::Claim => if word == call.mark {
+            claim(call)
+        } else {
+            call.mark
+        },
+        _ => call.mark,
+    }
+}
+
+fn noted_head(call: &WorkCall, word: u64) -> u64
+    ensures { result ≡ head_at call.now call.now.stage word }
+{
+    match call.stage {
+        WorkStage::LoadHead => word,
+        _ => call.head,
+    }
+}
+
+// The length of the text that its record has.
+fn noted_length(call: &WorkCall, word: u64) -> usize
+    ensures { result ≡ length_at call.now call.now.stage word }
+{
+    match call.stage {
+        WorkStage::LoadHead => 0,
+        WorkStage::LoadHeader => match Header::read(word, call.cells) {
+            Some(header) => header.length,
+            None => 0,
+        },
+        _ => call.length,
+    }
+}
+
+// Eight more bytes of a text, as far as it goes.
+fn append(text: &mut Text, bytes: [u8; 8], most: usize)
+    requires within { length text.old ≤ most }
+    requires short { most ≤ TEXT_BYTES }
+    ensures { text.new ≡ take most (text.old ++ bytes) }
+{
+    for i in 0..8 {
+        if text.len() < most {
+            text.push(bytes[i]);
+        }
+    }
+}
+
+// The text goes on with a part, or begins again.
+fn note_text(text: &mut Text, stage: WorkStage, most: usize, word: u64)
+    requires within { length text.old ≤ most }
+    requires short { most ≤ TEXT_BYTES }
+    ensures { text.new ≡ text_after text.old most stage word }
+{
+    match stage {
+        WorkStage::LoadHead | WorkStage::LoadHeader => *text = Text::empty(),
+        WorkStage::LoadText(_) => append(text, part_bytes(word), most),
+        _ => {}
+    }
+}
+
+// What a reference shows is noted, once both its words are loaded.
+fn note_input(inputs: &mut Inputs, stage: WorkStage, cells: usize, word: u64)
+    requires { FitsInputs inputs.old.items stage }
+    ensures items { inputs.new.items ≡ inputs_after inputs.old.items cells stage word }
+    ensures room { inputs.new.room ≡ inputs.old.room }
+{
+    if let WorkStage::LoadKind(i, value) = stage {
+        let _ = inputs.set(i, shown(value, word, cells));
+    }
+}
+
+// A part of the row is noted.
+fn note_row(row: &mut Row, stage: WorkStage, word: u64)
+    requires { FitsRow row.old stage }
+    ensures { row.new ≡ row_after row.old stage word }
+{
+    match stage {
+        WorkStage::BackKind => row.clear(),
+        WorkStage::Telling(Spread::LoadRow(_)) => row.push(word),
+        _ => {}
+    }
+}
+
+// The cell's own value, and its own kind.
+fn noted_value(value: u64, stage: WorkStage, word: u64) -> u64
+    ensures { result ≡ value_after value stage word }
+{
+    match stage {
+        WorkStage::LoadOwnValue => word,
+        _ => value,
+    }
+}
+
+fn noted_kind(kind: u64, stage: WorkStage, word: u64) -> u64
+    ensures { result ≡ kind_after kind stage word }
+{
+    match stage {
+        WorkStage::LoadOwnKind => word,
+        _ => kind,
+    }
+}
+
+/// The work goes on with the word that its access answered, whatever that is. Where it reads, waits
+/// or answers, it stays as it is.
+pub fn got(call: &mut WorkCall, word: u64)
+    ensures { call.new ≡ next_at call.old call.old.stage word }
+{
+    let stage = call.stage;
+    let next = next(call, word);
+    let mark = noted_mark(call, word);
+    let head = noted_head(call, word);
+    let count = noted_length(call, word);
+    note_text(&mut call.text, stage, call.length, word);
+    note_input(&mut call.inputs, stage, call.cells, word);
+    note_row(&mut call.row, stage, word);
+    call.mark = mark;
+    call.head = head;
+    call.length = count;
+    call.value = noted_value(call.value, stage, word);
+    call.kind = noted_kind(call.kind, stage, word);
+    call.stage = next;
+}
