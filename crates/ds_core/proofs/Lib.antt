@@ -20,5 +20,6 @@ pub mod Lost
 pub mod Stopped
 pub mod Alone
 pub mod EachEvent
+pub mod Headers
 pub mod Reported
 pub mod EachRun
