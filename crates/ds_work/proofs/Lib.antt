@@ -13,3 +13,5 @@ pub mod Next
 pub mod Rows
 pub mod Gathered
 pub mod Driving
+pub mod Ranks
+pub mod Answering
