@@ -15,3 +15,4 @@ pub mod Gathered
 pub mod Driving
 pub mod Ranks
 pub mod Answering
+pub mod Ors

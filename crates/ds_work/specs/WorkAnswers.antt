@@ -1,12 +1,16 @@
 -- What the answers of work say, of the worlds before and after the step that decides them.
 use Rattle.std.specs.Prelude.{ℕ, ◌≡◌, ◌≢◌, ◌<◌, ◌+◌, ◌/◌, ◌%◌, ◌⊎◌, Bool, true, false}
+use Rattle.ds_words.specs.declared.access.Access.{Access}
+use Rattle.ds_words.specs.declared.access.Access.TheVariants as acts
+use Rattle.ds_layout.specs.declared.mark.TheConstants.{DIRTY}
+use Rattle.ds_layout.specs.declared.place.Place.{Place}
 use Rattle.ds_layout.specs.declared.mark.State.{State}
 use Rattle.ds_layout.specs.declared.mark.State.TheVariants.{Clean, Marked, Held}
 use Rattle.ds_layout.specs.declared.place.Place.TheVariants as place
 use Rattle.ds_layout.specs.Mark.{mark_of, state_of}
-use Rattle.ds_layout.specs.Bits.{HasBit}
 use Rattle.ds_state.specs.Works.{PlainWork, SEEN_MOST}
-use Rattle.ds_state.specs.World.{World, index_place}
+use Rattle.ds_state.specs.Owing.{StandsIn}
+use Rattle.ds_state.specs.World.{World}
 use Rattle.ds_state.specs.Standing.{value_for, word_for}
 use Rattle.ds_state.specs.Telling.{let_go}
 use Rattle.ds_state.specs.declared.work.WorkEnd.{WorkEnd}
@@ -50,3 +54,8 @@ IsTrueAnswer e (FlushCleared before) old new end = before ≡ end
 IsTrueAnswer e (BackCleared before) old new end = before ≡ end
 IsTrueAnswer e (Answer before) old new end = before ≡ end
 IsTrueAnswer e _ old new end = ⊥
+
+-- it adds to no word but the mark of a cell whose bit stands in the row that it has loaded, and there the dirty bit alone
+abbrev pub OrsOnly : PlainWork → Access Place → Type 0
+OrsOnly e (acts.Or r bits) = (d : ℕ) × (r ≡ place.Mark d) × (bits ≡ DIRTY) × StandsIn e.row d
+OrsOnly e _ = Unit {0}

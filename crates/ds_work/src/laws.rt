@@ -1,12 +1,13 @@
 //! What is true of each work, as functions that do nothing.
 
-ghost use Rattle.std.specs.Prelude.{ℕ, ◌≡◌, ◌<◌, ◌≤◌, ◌+◌, ◌*◌, List, length};
+ghost use Rattle.std.specs.Prelude.{ℕ, ◌≡◌, ◌<◌, ◌≤◌, ◌+◌, ◌*◌, List, length, true, false};
+ghost use Rattle.ds_formula.specs.declared.cells.Shape.{Shape};
 ghost use Rattle.ds_formula.specs.Plain.{Plain};
 ghost use Rattle.ds_eval.specs.declared.inputs.Entry as entries;
 ghost use Rattle.ds_eval.specs.declared.inputs.Input.{Input};
 ghost use Rattle.ds_layout.specs.Sheet.{CanPerform};
 ghost use Rattle.ds_state.specs.World.{World};
-ghost use Rattle.ds_state.specs.Works.{PlainWork, IsWork};
+ghost use Rattle.ds_state.specs.Works.{PlainWork, IsWork, IsSame, Differs};
 ghost use Rattle.ds_state.specs.Sound.{IsSound};
 ghost use Rattle.ds_state.specs.Rely.{Keeps};
 ghost use Rattle.ds_state.specs.declared.situation.Situation.TheVariants.{Working};
@@ -14,8 +15,10 @@ ghost use Rattle.ds_state.specs.declared.work.WorkStage.{WorkStage};
 ghost use Rattle.ds_state.specs.declared.work.WorkStage.TheVariants as works;
 ghost use Rattle.ds_work.specs.WorkSteps.{at, BeginsWork, StepsAt, ReadsAt, LacksAt, OffersAt, access_at, next_at, read_from, offered};
 ghost use Rattle.ds_state.specs.declared.work.WorkEnd.{WorkEnd};
-ghost use Rattle.ds_work.specs.WorkAnswers.{IsDecided, IsTrueAnswer};
+ghost use Rattle.ds_work.specs.WorkAnswers.{IsDecided, IsTrueAnswer, OrsOnly};
 ghost use Rattle.ds_work.specs.WorkRank.{left, steps_left, Falls};
+
+use ds_state::work::WorkCall;
 
 /// Each step of work leaves a sound sheet sound, and leaves each other process what it may count on.
 #[tactic(auto, using(crate::proofs::EachWork::work_steps_keep))]
@@ -76,3 +79,25 @@ pub fn work_answers_are_true()
         → old.situation e.process ≡ Working (at e stage) → StepsAt e stage word old new
         → IsDecided (next_at e stage word).stage end → IsTrueAnswer e stage old new end }
 {}
+
+/// Work that is to say that its value has changed has an entry that differs from the words which it
+/// found in its cell; work that is to say that it is as it was has an entry that does not.
+#[tactic(auto, using(crate::proofs::Ors::changed_differs, crate::proofs::Ors::unchanged_same))]
+pub fn changes_are_told()
+    ensures changed { (e : PlainWork) → IsWork e → e.stage ≡ works.Clear true → Differs e }
+    ensures same { (e : PlainWork) → IsWork e → e.stage ≡ works.Clear false → IsSame e }
+{}
+
+/// Work adds bits to no word but the mark of a cell whose bit stands in the row that it has loaded,
+/// and there the dirty bit alone.
+#[tactic(auto, using(crate::proofs::Ors::ors_only))]
+pub fn only_cells_of_the_row_are_marked()
+    ensures { (shape : Shape) (e : PlainWork) → IsWork e → OrsOnly e (access_at shape e e.stage) }
+{}
+
+/// A work that is under way is one of a sheet, whatever its words say.
+pub fn works_are_of_a_sheet(call: &WorkCall)
+    ensures { IsWork call.now }
+{
+    let _stage = call.stage;
+}
