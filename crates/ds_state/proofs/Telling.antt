@@ -2,7 +2,7 @@
 use Rattle.std.proofs.Common.{ℕ, ◌≡◌, ◌<◌, ◌≤◌, ◌+◌, ◌/◌, ◌%◌, ◌==◌, ◌⊎◌, Bool, true, false, if◌then◌else◌, List, [], ◌∷◌, ◌++◌, Option, Some, None, refl, ap, sym, ◌∙◌, subst, arith, length, inl, inr, zero, suc}
 use Rattle.std.specs.Prelude.{Contains, slice_index_or, bit_or}
 use Rattle.std.specs.Int.{bit_at}
-use Rattle.std.proofs.lemmas.Bool.{cases_eq, eqb-false}
+use Rattle.std.proofs.lemmas.Bool.{cases_eq, eqb-true, eqb-false}
 use Rattle.ds_words.specs.Memory.{StoresAt}
 use Rattle.ds_words.specs.declared.access.Entry.{Entry}
 use Rattle.ds_layout.specs.Bits.{HasBit}
@@ -34,6 +34,15 @@ first_told row (suc n) d = go (bit_at (slice_index_or row (d / 64) 0) (d % 64) =
     go true unset o h = (omega arith, omega arith, λ c l s. l)
     go false unset (Some k) h = (let l = h.0 in omega arith, let l = h.1 in omega arith, λ c l s. elim (cases_eq c d) [ inl eq ↦ absurd (unset refl (subst (λ (y : ℕ). StandsIn row y) eq s)) | inr ne ↦ h.2 c (omega arith) s ])
     go false unset None h = λ c l m s. elim (cases_eq c d) [ inl eq ↦ unset refl (subst (λ (y : ℕ). StandsIn row y) eq s) | inr ne ↦ h c (omega arith) (omega arith) s ]
+
+-- its bit stands
+pub told_stands : (row : List ℕ) (n d k : ℕ) → told_from row n d ≡ Some k → StandsIn row k
+told_stands row zero d k is = absurd cc
+told_stands row (suc n) d k is = go (bit_at (slice_index_or row (d / 64) 0) (d % 64) == 1) refl is (λ is. told_stands row n (d + 1) k is)
+  where
+    go : (b : Bool) → (bit_at (slice_index_or row (d / 64) 0) (d % 64) == 1) ≡ b → (if b then Some d else told_from row n (d + 1)) ≡ Some k → (told_from row n (d + 1) ≡ Some k → StandsIn row k) → StandsIn row k
+    go true hit is again = subst (λ (y : ℕ). StandsIn row y) (let same : d ≡ k = cc in same) (eqb-true (bit_at (slice_index_or row (d / 64) 0) (d % 64)) 1 hit)
+    go false miss is again = again is
 
 pub or_hold : (q c v : ℕ) → KeepsHold q c v (bit_or c DIRTY) v
 or_hold q c v = let is = or_dirty c in record { cached = λ h. omega arith; persisted = λ h k. k; came = λ h. omega arith }

@@ -1,5 +1,6 @@
 pub mod Stages
 pub mod Edits
+pub mod EntryWords
 pub mod Works
 pub mod ShowStages
 pub mod Underway

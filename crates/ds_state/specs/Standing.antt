@@ -19,43 +19,9 @@ use Rattle.ds_layout.specs.declared.stored.Kind.TheVariants as kind
 use Rattle.ds_layout.specs.declared.stored.Stored.{Stored}
 use Rattle.ds_layout.specs.Places.{cells_of}
 use Rattle.ds_layout.specs.Stored.{stored_of, value_word, kind_word}
+pub use Rattle.ds_state.specs.EntryWords.{shown, shown_of, shown_entry, kind_for, number_for, stored_for, value_for, word_for}
 use Rattle.ds_state.specs.World.{Edit, World, of_cell, IsHeadBy}
 use Rattle.ds_state.specs.Owing.{entry, turn, IsClean, IsEven, CellOwes, IsExcused}
-
--- what a kind shows, with its number
-abbrev pub shown : Kind → ℤ → Value
-shown kind.Blank number = value.Blank
-shown kind.Number number = value.Number number
-shown kind.DivZero number = value.DivZero
-shown kind.Num number = value.Num
-shown kind.Circular number = value.Circular
-
-abbrev pub shown_of : Stored → Value
-shown_of stored = shown stored.kind stored.value
-
--- the entry that two words show, and the words of an entry
-abbrev pub shown_entry : ℕ → ℕ → ℕ → entries.Entry
-shown_entry cells v k = record { value = shown_of (stored_of cells v k); height = (stored_of cells v k).height }
-
-abbrev pub kind_for : Value → Kind
-kind_for value.Blank = kind.Blank
-kind_for (value.Number z) = kind.Number
-kind_for value.DivZero = kind.DivZero
-kind_for value.Num = kind.Num
-kind_for value.Circular = kind.Circular
-
-abbrev pub number_for : Value → ℤ
-number_for (value.Number z) = z
-number_for _ = pos 0
-
-abbrev pub stored_for : entries.Entry → Stored
-stored_for e = record { kind = kind_for e.value; height = e.height; value = number_for e.value }
-
-abbrev pub value_for : entries.Entry → ℕ
-value_for e = value_word (stored_for e)
-
-abbrev pub word_for : entries.Entry → ℕ
-word_for e = kind_word (stored_for e)
 
 -- one side of the words of the cells
 pub record Side : Type 0 where

@@ -1,10 +1,12 @@
 -- Work, a recovery and a report under way, without where they lie in memory.
-use Rattle.std.specs.Prelude.{ℕ, ◌+◌, ◌*◌, ◌/◌, ◌^◌, ◌≡◌, ◌<◌, ◌≤◌, List, length}
+use Rattle.std.specs.Prelude.{ℕ, ◌+◌, ◌*◌, ◌/◌, ◌^◌, ◌≡◌, ◌<◌, ◌≤◌, List, length, slice_index_or, Bool, true, false}
+use Rattle.ds_layout.specs.Bits.{HasBit}
+use Rattle.ds_state.specs.EntryWords.{value_for, word_for}
 use Rattle.ds_formula.specs.Refs.{IsPossible}
 use Rattle.ds_eval.specs.Inputs.{cell_in}
 use Rattle.ds_layout.specs.declared.place.TheConstants.{TEXT_BYTES}
 use Rattle.ds_state.specs.declared.work.Spread.TheVariants.{LoadRow, OrTold, FlushTold, BackTold}
-use Rattle.ds_state.specs.declared.work.WorkStage.TheVariants.{Claim, LoadText, LoadValue, LoadKind, Telling}
+use Rattle.ds_state.specs.declared.work.WorkStage.TheVariants.{Claim, LoadText, LoadValue, LoadKind, StoreValue, StoreKind, FlushValue, FlushKind, BackValue, BackKind, Telling, Clear}
 use Rattle.ds_formula.specs.Plain.{Plain}
 use Rattle.ds_eval.specs.declared.inputs.Entry.{Entry}
 use Rattle.ds_eval.specs.declared.inputs.Input.{Input}
@@ -54,6 +56,30 @@ abbrev pub ClaimFits : PlainWork → WorkStage → Type 0
 ClaimFits e Claim = e.mark / 32 ≤ SEEN_MOST
 ClaimFits e _ = Unit {0}
 
+-- the cell's own words were those of the entry; or they were not
+abbrev pub IsSame : PlainWork → Type 0
+IsSame e = (e.value ≡ value_for e.entry) × (e.kind ≡ word_for e.entry)
+
+abbrev pub Differs : PlainWork → Type 0
+Differs e = IsSame e → ⊥
+
+-- it stores where they were not, and tells only cells whose bit the loaded row has; where it lets its cell go, it knows
+-- which of both it was
+abbrev pub TellsFits : PlainWork → WorkStage → Type 0
+TellsFits e StoreValue = Differs e
+TellsFits e StoreKind = Differs e
+TellsFits e FlushValue = Differs e
+TellsFits e FlushKind = Differs e
+TellsFits e BackValue = Differs e
+TellsFits e BackKind = Differs e
+TellsFits e (Telling (LoadRow part)) = Differs e
+TellsFits e (Telling (OrTold d)) = Differs e × HasBit (slice_index_or e.row (d / 64) 0) d
+TellsFits e (Telling (FlushTold d)) = Differs e
+TellsFits e (Telling (BackTold d)) = Differs e
+TellsFits e (Clear true) = Differs e
+TellsFits e (Clear false) = IsSame e
+TellsFits e _ = Unit {0}
+
 -- its process, cell, text and inputs are those of a sheet, whatever its words say
 pub record IsWork (e : PlainWork) : Type 0 where
   pub process : e.process < e.processes
@@ -67,6 +93,7 @@ pub record IsWork (e : PlainWork) : Type 0 where
   pub height : e.entry.height ≤ 1024
   pub claim : ClaimFits e e.stage
   pub stage : StageFits e e.stage
+  pub told : TellsFits e e.stage
 
 -- also there is room for one input for each cell of the sheet
 pub record IsWorkIn (e : PlainWork) (places : ℕ) : Type 0 where

@@ -17,7 +17,7 @@ use Rattle.ds_formula.proofs.Formed.{read_inside}
 use Rattle.ds_eval.specs.declared.inputs.Input.{Input}
 use Rattle.ds_eval.specs.Inputs.{cell_in, no_input, IsAscending, IsBehind, IsBefore}
 use Rattle.std.proofs.lemmas.Bool.{ltb-true}
-use Rattle.ds_state.specs.Works.{PlainWork, IsWork, ClaimFits, StageFits}
+use Rattle.ds_state.specs.Works.{PlainWork, IsWork, ClaimFits, StageFits, TellsFits}
 use Rattle.ds_state.specs.declared.work.WorkStage.{WorkStage}
 use Rattle.ds_state.specs.declared.work.WorkStage.TheVariants.{LoadValue, LoadOwnValue}
 use Rattle.ds_work.specs.WorkSteps.{IsContent, read_from, input_from}
@@ -123,8 +123,8 @@ taken e content inputs s is = rw is (go (nat_lt 0 (length inputs)))
 pub read_is : (e : PlainWork) (content : Plain) (inputs : List Input) → IsWork e → ((j : ℕ) → j < length inputs → IsPossible (cell_in inputs j)) → IsWork (read_from e content inputs)
 read_is e content inputs h each = go (nat_lt 0 (length inputs)) refl
   where
-    with_stage : (s : WorkStage) → ClaimFits e s → StageFits (record e { content = content; inputs = inputs }) s → IsWork (record e { content = content; inputs = inputs; stage = s })
-    with_stage s claim stage = record {
+    with_stage : (s : WorkStage) → ClaimFits e s → StageFits (record e { content = content; inputs = inputs }) s → TellsFits (record e { content = content; inputs = inputs; stage = s }) s → IsWork (record e { content = content; inputs = inputs; stage = s })
+    with_stage s claim stage told = record {
       process = h.process;
       processes = h.processes;
       cell = h.cell;
@@ -136,11 +136,12 @@ read_is e content inputs h each = go (nat_lt 0 (length inputs)) refl
       height = h.height;
       claim = claim;
       stage = stage;
+      told = told;
     }
 
     go : (b : Bool) → nat_lt 0 (length inputs) ≡ b → IsWork (if b then record e { content = content; inputs = inputs; stage = LoadValue 0 } else record e { content = content; inputs = inputs; stage = LoadOwnValue })
-    go true some = with_stage (LoadValue 0) tt (ltb-true 0 (length inputs) some)
-    go false none = with_stage LoadOwnValue tt tt
+    go true some = with_stage (LoadValue 0) tt (ltb-true 0 (length inputs) some) tt
+    go false none = with_stage LoadOwnValue tt tt tt
 
 pub each_possible : (shape : Shape) (cells : List Cell) → ((c : Cell) → Contains cells c → IsInside shape c) → (j : ℕ) → j < length (map unseen cells) → IsPossible (cell_in (map unseen cells) j)
 each_possible shape cells inside j l =

@@ -13,3 +13,6 @@ pub mod Next
 pub mod Rows
 pub mod Gathered
 pub mod Driving
+pub mod Ranks
+pub mod Answering
+pub mod Ors

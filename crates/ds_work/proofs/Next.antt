@@ -19,10 +19,10 @@ use Rattle.ds_layout.specs.Header.{IsHeader, header_of}
 use Rattle.ds_layout.specs.Mark.{mark_of, state_of}
 use Rattle.ds_layout.specs.Text.{bytes_of}
 use Rattle.ds_layout.proofs.Packed.{IsHeader-header_of}
-use Rattle.ds_state.specs.Works.{PlainWork, IsWork, IsWorkIn, StageFits, ClaimFits, SEEN_MOST}
+use Rattle.ds_state.specs.Works.{PlainWork, IsWork, IsWorkIn, StageFits, ClaimFits, TellsFits, Differs, SEEN_MOST}
 use Rattle.ds_state.specs.Standing.{shown_entry}
 use Rattle.ds_state.specs.Telling.{told_from}
-use Rattle.ds_state.proofs.Telling.{ToldFits, first_told}
+use Rattle.ds_state.proofs.Telling.{ToldFits, first_told, told_stands}
 use Rattle.ds_state.specs.declared.work.WorkStage.{WorkStage}
 use Rattle.ds_state.specs.declared.work.WorkEnd.TheVariants.{NotDirty, Missed, Worn, Published, Again, NoMemory}
 use Rattle.ds_state.specs.declared.work.WorkStage.TheVariants.{LoadMark, Claim, FlushClaim, BackClaim, LoadHead, LoadHeader, LoadText, Read, LoadValue, LoadKind, LoadOwnValue, LoadOwnKind, Wait, StoreValue, StoreKind, FlushValue, FlushKind, BackValue, BackKind, Telling, Clear, ClearDirty, Give, GiveDirty, FlushCleared, BackCleared, Answer}
@@ -121,8 +121,8 @@ module _ (e : PlainWork) (word : ℕ) where
 
 -- ---- it stays a work of its sheet
 
-staged : (e : PlainWork) (s s' : WorkStage) → IsWork (at e s) → ClaimFits e s' → StageFits e s' → IsWork (at e s')
-staged e s s' h claim stage = record {
+staged : (e : PlainWork) (s s' : WorkStage) → IsWork (at e s) → ClaimFits e s' → StageFits e s' → TellsFits e s' → IsWork (at e s')
+staged e s s' h claim stage told = record {
   process = h.process;
   processes = h.processes;
   cell = h.cell;
@@ -134,6 +134,7 @@ staged e s s' h claim stage = record {
   height = h.height;
   claim = claim;
   stage = stage;
+  told = told;
 }
 
 -- what holds of both branches holds of a test
@@ -145,8 +146,8 @@ pushed : (xs : List ℕ) (v : ℕ) → length (xs ++ v ∷ []) ≡ length xs + 1
 pushed xs v = length-append xs (v ∷ [])
 
 -- another mark, text, inputs or row
-marked_as : (e : PlainWork) (s : WorkStage) (mark : ℕ) (s' : WorkStage) → IsWork (at e s) → mark / 32 ≤ SEEN_MOST + 1 → ClaimFits (record e { mark = mark }) s' → StageFits e s' → IsWork (record e { mark = mark; stage = s' })
-marked_as e s mark s' h young claim stage = record {
+marked_as : (e : PlainWork) (s : WorkStage) (mark : ℕ) (s' : WorkStage) → IsWork (at e s) → mark / 32 ≤ SEEN_MOST + 1 → ClaimFits (record e { mark = mark }) s' → StageFits e s' → TellsFits (record e { mark = mark; stage = s' }) s' → IsWork (record e { mark = mark; stage = s' })
+marked_as e s mark s' h young claim stage told = record {
   process = h.process;
   processes = h.processes;
   cell = h.cell;
@@ -158,6 +159,7 @@ marked_as e s mark s' h young claim stage = record {
   height = h.height;
   claim = claim;
   stage = fits s' stage;
+  told = told;
 }
   where
     fits : (s' : WorkStage) → StageFits e s' → StageFits (record e { mark = mark; stage = s' }) s'
@@ -172,8 +174,8 @@ marked_as e s mark s' h young claim stage = record {
 
 module _ (e : PlainWork) (word : ℕ) where
   texted : (s : WorkStage) (head count : ℕ) (text : List ℕ) (s' : WorkStage) → IsWork (at e s) → count ≤ TEXT_BYTES → length text ≤ count
-      → ClaimFits e s' → StageFits (record e { head = head; length = count; text = text }) s' → IsWork (record e { head = head; length = count; text = text; stage = s' })
-  texted s head count text s' h short within claim stage = record {
+      → ClaimFits e s' → StageFits (record e { head = head; length = count; text = text }) s' → TellsFits e s' → IsWork (record e { head = head; length = count; text = text; stage = s' })
+  texted s head count text s' h short within claim stage told = record {
     process = h.process;
     processes = h.processes;
     cell = h.cell;
@@ -185,29 +187,30 @@ module _ (e : PlainWork) (word : ℕ) where
     height = h.height;
     claim = claim;
     stage = stage;
+    told = told;
   }
 
   parted : (s : WorkStage) (head count part : ℕ) (text : List ℕ) → IsWork (at e s) → count ≤ TEXT_BYTES → length text ≤ count → IsWork (text_from (record e { head = head; length = count; text = text }) part)
   parted s head count part text h short within = branches (nat_lt part ((count + 7) / 8)) (record e { head = head; length = count; text = text; stage = LoadText part }) (record e { head = head; length = count; text = text; stage = Read })
-      (λ b. texted s head count text (LoadText part) h short within tt (let l = ltb-true part ((count + 7) / 8) b in omega arith))
-      (λ b. texted s head count text Read h short within tt tt)
+      (λ b. texted s head count text (LoadText part) h short within tt (let l = ltb-true part ((count + 7) / 8) b in omega arith) tt)
+      (λ b. texted s head count text Read h short within tt tt tt)
 
   by_state : (st : State) → IsWork (at e LoadMark) → IsWork (claims_from e word st)
-  by_state Clean h = staged e LoadMark (Answer NotDirty) h tt tt
-  by_state (Held p) h = staged e LoadMark (Answer Missed) h tt tt
-  by_state Marked h = branches (nat_lt (2 ^ 58) (word / 32)) (at e (Answer Worn)) (record e { mark = word; stage = Claim }) (λ b. staged e LoadMark (Answer Worn) h tt tt)
-      (λ b. (let young : word / 32 ≤ SEEN_MOST = (let l = ltb-false (2 ^ 58) (word / 32) b in l) in marked_as e LoadMark word Claim h (omega (arith, young)) young tt))
+  by_state Clean h = staged e LoadMark (Answer NotDirty) h tt tt tt
+  by_state (Held p) h = staged e LoadMark (Answer Missed) h tt tt tt
+  by_state Marked h = branches (nat_lt (2 ^ 58) (word / 32)) (at e (Answer Worn)) (record e { mark = word; stage = Claim }) (λ b. staged e LoadMark (Answer Worn) h tt tt tt)
+      (λ b. (let young : word / 32 ≤ SEEN_MOST = (let l = ltb-false (2 ^ 58) (word / 32) b in l) in marked_as e LoadMark word Claim h (omega (arith, young)) young tt tt))
 
   by_top : (o : Option Head) → IsWork (at e LoadHead) → IsWork (head_from e word o)
-  by_top None h = texted LoadHead word 0 [] Read h (omega arith) (omega arith) tt tt
-  by_top (Some head) h = texted LoadHead word 0 [] LoadHeader h (omega arith) (omega arith) tt tt
+  by_top None h = texted LoadHead word 0 [] Read h (omega arith) (omega arith) tt tt tt
+  by_top (Some head) h = texted LoadHead word 0 [] LoadHeader h (omega arith) (omega arith) tt tt tt
 
   by_record : (o : Option Header) → header_of e.cells word ≡ o → IsWork (at e LoadHeader) → IsWork (header_from e o)
-  by_record None is h = texted LoadHeader e.head 0 [] Read h (omega arith) (omega arith) tt tt
+  by_record None is h = texted LoadHeader e.head 0 [] Read h (omega arith) (omega arith) tt tt tt
   by_record (Some header) is h = parted LoadHeader e.head header.length 0 [] h (IsHeader-header_of e.cells word header is).0.length (omega arith)
 
-  with_row : (s : WorkStage) (row : List ℕ) (s' : WorkStage) → IsWork (at e s) → ClaimFits e s' → StageFits (record e { row = row }) s' → IsWork (record e { row = row; stage = s' })
-  with_row s row s' h claim stage = record {
+  with_row : (s : WorkStage) (row : List ℕ) (s' : WorkStage) → IsWork (at e s) → ClaimFits e s' → StageFits (record e { row = row }) s' → TellsFits (record e { row = row }) s' → IsWork (record e { row = row; stage = s' })
+  with_row s row s' h claim stage told = record {
     process = h.process;
     processes = h.processes;
     cell = h.cell;
@@ -219,17 +222,18 @@ module _ (e : PlainWork) (word : ℕ) where
     height = h.height;
     claim = claim;
     stage = stage;
+    told = told;
   }
 
-  told_fits : (s : WorkStage) (row : List ℕ) (n from : ℕ) (o : Option ℕ) → ToldFits row n from o → from + n ≤ e.cells → IsWork (at e s) → IsWork (told (record e { row = row }) o)
-  told_fits s row n from None first within h = with_row s row (Clear true) h tt tt
-  told_fits s row n from (Some d) first within h = with_row s row (Telling (OrTold d)) h tt (let l = first.1 in omega arith)
+  told_fits : (s : WorkStage) (row : List ℕ) (n from : ℕ) (o : Option ℕ) → told_from row n from ≡ o → ToldFits row n from o → from + n ≤ e.cells → IsWork (at e s) → Differs e → IsWork (told (record e { row = row }) o)
+  told_fits s row n from None is first within h differs = with_row s row (Clear true) h tt tt differs
+  told_fits s row n from (Some d) is first within h differs = with_row s row (Telling (OrTold d)) h tt (let l = first.1 in omega arith) (differs, told_stands row n from d is)
 
-  tells : (s : WorkStage) (row : List ℕ) (from : ℕ) → from ≤ e.cells → IsWork (at e s) → IsWork (tell_from (record e { row = row }) from)
-  tells s row from within h = told_fits s row (e.cells - from) from (told_from row (e.cells - from) from) (first_told row (e.cells - from) from) (omega arith) h
+  tells : (s : WorkStage) (row : List ℕ) (from : ℕ) → from ≤ e.cells → IsWork (at e s) → Differs e → IsWork (tell_from (record e { row = row }) from)
+  tells s row from within h differs = told_fits s row (e.cells - from) from (told_from row (e.cells - from) from) refl (first_told row (e.cells - from) from) (omega arith) h differs
 
-  looked : (i value : ℕ) → IsWork (at e (LoadKind i value)) → (x : Entry) → (s' : WorkStage) → ClaimFits e s' → StageFits (record e { inputs = with_entry e.inputs i x }) s' → IsWork (record e { inputs = with_entry e.inputs i x; stage = s' })
-  looked i value h x s' claim stage = record {
+  looked : (i value : ℕ) → IsWork (at e (LoadKind i value)) → (x : Entry) → (s' : WorkStage) → ClaimFits e s' → StageFits (record e { inputs = with_entry e.inputs i x }) s' → TellsFits e s' → IsWork (record e { inputs = with_entry e.inputs i x; stage = s' })
+  looked i value h x s' claim stage told = record {
     process = h.process;
     processes = h.processes;
     cell = h.cell;
@@ -241,10 +245,11 @@ module _ (e : PlainWork) (word : ℕ) where
     height = h.height;
     claim = claim;
     stage = stage;
+    told = told;
   }
 
-  owned : (s : WorkStage) (value kind : ℕ) (s' : WorkStage) → IsWork (at e s) → ClaimFits e s' → StageFits e s' → IsWork (record e { value = value; kind = kind; stage = s' })
-  owned s value kind s' h claim stage = record {
+  owned : (s : WorkStage) (value kind : ℕ) (s' : WorkStage) → IsWork (at e s) → ClaimFits e s' → StageFits e s' → TellsFits (record e { value = value; kind = kind }) s' → IsWork (record e { value = value; kind = kind; stage = s' })
+  owned s value kind s' h claim stage told = record {
     process = h.process;
     processes = h.processes;
     cell = h.cell;
@@ -256,6 +261,7 @@ module _ (e : PlainWork) (word : ℕ) where
     height = h.height;
     claim = claim;
     stage = fits s' stage;
+    told = told;
   }
     where
       fits : (s' : WorkStage) → StageFits e s' → StageFits (record e { value = value; kind = kind; stage = s' }) s'
@@ -271,40 +277,40 @@ module _ (e : PlainWork) (word : ℕ) where
   pub next_is : (s : WorkStage) → IsWork (at e s) → IsWork (next_at e s word)
   next_is LoadMark h = by_state (state_of (mark_of e.processes word)) h
   next_is Claim h = branches (word == e.mark) (record e { mark = claim_of e.process e.mark; stage = FlushClaim }) (at e (Answer Missed))
-      (λ b. marked_as e Claim (claim_of e.process e.mark) FlushClaim h (let young = h.claim in let p = h.process in let few = h.processes in omega arith) tt tt)
-      (λ b. staged e Claim (Answer Missed) h tt tt)
-  next_is FlushClaim h = staged e FlushClaim BackClaim h tt tt
-  next_is BackClaim h = staged e BackClaim LoadHead h tt tt
+      (λ b. marked_as e Claim (claim_of e.process e.mark) FlushClaim h (let young = h.claim in let p = h.process in let few = h.processes in omega arith) tt tt tt)
+      (λ b. staged e Claim (Answer Missed) h tt tt tt)
+  next_is FlushClaim h = staged e FlushClaim BackClaim h tt tt tt
+  next_is BackClaim h = staged e BackClaim LoadHead h tt tt tt
   next_is LoadHead h = by_top (head_of e.processes word) h
   next_is LoadHeader h = by_record (header_of e.cells word) refl h
   next_is (LoadText part) h = parted (LoadText part) e.head e.length (part + 1) (take e.length (e.text ++ bytes_of word)) h h.short (let k = length-take e.length (e.text ++ bytes_of word) in omega (arith, k))
   next_is Read h = h
-  next_is (LoadValue i) h = staged e (LoadValue i) (LoadKind i word) h tt h.stage
+  next_is (LoadValue i) h = staged e (LoadValue i) (LoadKind i word) h tt h.stage tt
   next_is (LoadKind i value) h = branches (nat_lt (i + 1) (length (with_entry e.inputs i (shown_entry e.cells value word))))
       (record e { inputs = with_entry e.inputs i (shown_entry e.cells value word); stage = LoadValue (i + 1) }) (record e { inputs = with_entry e.inputs i (shown_entry e.cells value word); stage = LoadOwnValue })
-      (λ b. looked i value h (shown_entry e.cells value word) (LoadValue (i + 1)) tt (ltb-true (i + 1) (length (with_entry e.inputs i (shown_entry e.cells value word))) b))
-      (λ b. looked i value h (shown_entry e.cells value word) LoadOwnValue tt tt)
-  next_is LoadOwnValue h = owned LoadOwnValue word e.kind LoadOwnKind h tt tt
-  next_is LoadOwnKind h = owned LoadOwnKind e.value word Wait h tt tt
+      (λ b. looked i value h (shown_entry e.cells value word) (LoadValue (i + 1)) tt (ltb-true (i + 1) (length (with_entry e.inputs i (shown_entry e.cells value word))) b) tt)
+      (λ b. looked i value h (shown_entry e.cells value word) LoadOwnValue tt tt tt)
+  next_is LoadOwnValue h = owned LoadOwnValue word e.kind LoadOwnKind h tt tt tt
+  next_is LoadOwnKind h = owned LoadOwnKind e.value word Wait h tt tt tt
   next_is Wait h = h
-  next_is StoreValue h = staged e StoreValue StoreKind h tt tt
-  next_is StoreKind h = staged e StoreKind FlushValue h tt tt
-  next_is FlushValue h = staged e FlushValue FlushKind h tt tt
-  next_is FlushKind h = staged e FlushKind BackValue h tt tt
-  next_is BackValue h = staged e BackValue BackKind h tt tt
-  next_is BackKind h = with_row BackKind [] (Telling (LoadRow 0)) h tt (refl, (let some = h.cell in omega arith))
+  next_is StoreValue h = staged e StoreValue StoreKind h tt tt h.told
+  next_is StoreKind h = staged e StoreKind FlushValue h tt tt h.told
+  next_is FlushValue h = staged e FlushValue FlushKind h tt tt h.told
+  next_is FlushKind h = staged e FlushKind BackValue h tt tt h.told
+  next_is BackValue h = staged e BackValue BackKind h tt tt h.told
+  next_is BackKind h = with_row BackKind [] (Telling (LoadRow 0)) h tt (refl, (let some = h.cell in omega arith)) h.told
   next_is (Telling (LoadRow part)) h = branches (nat_lt (part + 1) ((e.cells + 63) / 64)) (record e { row = e.row ++ word ∷ []; stage = Telling (LoadRow (part + 1)) }) (tell_from (record e { row = e.row ++ word ∷ [] }) 0)
-      (λ b. with_row (Telling (LoadRow part)) (e.row ++ word ∷ []) (Telling (LoadRow (part + 1))) h tt (let size = h.stage.0 in let k = pushed e.row word in omega (arith, size, k), ltb-true (part + 1) ((e.cells + 63) / 64) b))
-      (λ b. tells (Telling (LoadRow part)) (e.row ++ word ∷ []) 0 (omega arith) h)
-  next_is (Telling (OrTold d)) h = staged e (Telling (OrTold d)) (Telling (FlushTold d)) h tt h.stage
-  next_is (Telling (FlushTold d)) h = staged e (Telling (FlushTold d)) (Telling (BackTold d)) h tt h.stage
-  next_is (Telling (BackTold d)) h = tells (Telling (BackTold d)) e.row (d + 1) (let l = h.stage in omega arith) h
-  next_is (Clear changed) h = branches (word == e.mark) (at e (FlushCleared (Published changed))) (at e ClearDirty) (λ b. staged e (Clear changed) (FlushCleared (Published changed)) h tt tt) (λ b. staged e (Clear changed) ClearDirty h tt tt)
-  next_is ClearDirty h = staged e ClearDirty (FlushCleared Again) h tt tt
-  next_is Give h = branches (word == e.mark) (at e (FlushCleared NoMemory)) (at e GiveDirty) (λ b. staged e Give (FlushCleared NoMemory) h tt tt) (λ b. staged e Give GiveDirty h tt tt)
-  next_is GiveDirty h = staged e GiveDirty (FlushCleared NoMemory) h tt tt
-  next_is (FlushCleared end) h = staged e (FlushCleared end) (BackCleared end) h tt tt
-  next_is (BackCleared end) h = staged e (BackCleared end) (Answer end) h tt tt
+      (λ b. with_row (Telling (LoadRow part)) (e.row ++ word ∷ []) (Telling (LoadRow (part + 1))) h tt (let size = h.stage.0 in let k = pushed e.row word in omega (arith, size, k), ltb-true (part + 1) ((e.cells + 63) / 64) b) h.told)
+      (λ b. tells (Telling (LoadRow part)) (e.row ++ word ∷ []) 0 (omega arith) h h.told)
+  next_is (Telling (OrTold d)) h = staged e (Telling (OrTold d)) (Telling (FlushTold d)) h tt h.stage h.told.0
+  next_is (Telling (FlushTold d)) h = staged e (Telling (FlushTold d)) (Telling (BackTold d)) h tt h.stage h.told
+  next_is (Telling (BackTold d)) h = tells (Telling (BackTold d)) e.row (d + 1) (let l = h.stage in omega arith) h h.told
+  next_is (Clear changed) h = branches (word == e.mark) (at e (FlushCleared (Published changed))) (at e ClearDirty) (λ b. staged e (Clear changed) (FlushCleared (Published changed)) h tt tt tt) (λ b. staged e (Clear changed) ClearDirty h tt tt tt)
+  next_is ClearDirty h = staged e ClearDirty (FlushCleared Again) h tt tt tt
+  next_is Give h = branches (word == e.mark) (at e (FlushCleared NoMemory)) (at e GiveDirty) (λ b. staged e Give (FlushCleared NoMemory) h tt tt tt) (λ b. staged e Give GiveDirty h tt tt tt)
+  next_is GiveDirty h = staged e GiveDirty (FlushCleared NoMemory) h tt tt tt
+  next_is (FlushCleared end) h = staged e (FlushCleared end) (BackCleared end) h tt tt tt
+  next_is (BackCleared end) h = staged e (BackCleared end) (Answer end) h tt tt tt
   next_is (Answer end) h = h
 
 -- the work with these fields is the next one

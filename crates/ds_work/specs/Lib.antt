@@ -2,3 +2,5 @@ pub mod WorkSteps
 pub mod Noted
 pub mod Reading
 pub mod WorkEvents
+pub mod WorkRank
+pub mod WorkAnswers

@@ -1,18 +1,24 @@
 //! What is true of each work, as functions that do nothing.
 
-ghost use Rattle.std.specs.Prelude.{ℕ, ◌≡◌, ◌<◌, List};
+ghost use Rattle.std.specs.Prelude.{ℕ, ◌≡◌, ◌<◌, ◌≤◌, ◌+◌, ◌*◌, List, length, true, false};
+ghost use Rattle.ds_formula.specs.declared.cells.Shape.{Shape};
 ghost use Rattle.ds_formula.specs.Plain.{Plain};
 ghost use Rattle.ds_eval.specs.declared.inputs.Entry as entries;
 ghost use Rattle.ds_eval.specs.declared.inputs.Input.{Input};
 ghost use Rattle.ds_layout.specs.Sheet.{CanPerform};
 ghost use Rattle.ds_state.specs.World.{World};
-ghost use Rattle.ds_state.specs.Works.{PlainWork};
+ghost use Rattle.ds_state.specs.Works.{PlainWork, IsWork, IsSame, Differs};
 ghost use Rattle.ds_state.specs.Sound.{IsSound};
 ghost use Rattle.ds_state.specs.Rely.{Keeps};
 ghost use Rattle.ds_state.specs.declared.situation.Situation.TheVariants.{Working};
 ghost use Rattle.ds_state.specs.declared.work.WorkStage.{WorkStage};
 ghost use Rattle.ds_state.specs.declared.work.WorkStage.TheVariants as works;
-ghost use Rattle.ds_work.specs.WorkSteps.{at, BeginsWork, StepsAt, ReadsAt, LacksAt, OffersAt, access_at};
+ghost use Rattle.ds_work.specs.WorkSteps.{at, BeginsWork, StepsAt, ReadsAt, LacksAt, OffersAt, access_at, next_at, read_from, offered};
+ghost use Rattle.ds_state.specs.declared.work.WorkEnd.{WorkEnd};
+ghost use Rattle.ds_work.specs.WorkAnswers.{IsDecided, IsTrueAnswer, OrsOnly};
+ghost use Rattle.ds_work.specs.WorkRank.{left, steps_left, Falls};
+
+use ds_state::work::WorkCall;
 
 /// Each step of work leaves a sound sheet sound, and leaves each other process what it may count on.
 #[tactic(auto, using(crate::proofs::EachWork::work_steps_keep))]
@@ -49,3 +55,49 @@ pub fn work_accesses_are_possible()
     ensures { (w : World) (e : PlainWork) → IsSound w → e.process < w.layout.processes → (stage : WorkStage)
         → w.situation e.process ≡ Working (at e stage) → CanPerform w.layout w.memory e.process (access_at w.layout.shape e stage) }
 {}
+
+/// Each step of work leaves fewer steps, until the answer's, which is the last; so do reading the
+/// content, giving up for want of memory, and an offer. A work on a sheet of N cells whose content
+/// has r references has at most 2r + 3N + 52 of them, the offer and the answer among them.
+#[tactic(auto, using(crate::proofs::Ranks::each_falls, crate::proofs::Ranks::reading_falls, crate::proofs::Ranks::lacking_falls, crate::proofs::Ranks::offer_falls, crate::proofs::Ranks::few))]
+pub fn work_steps_are_few()
+    ensures falls { (r word : ℕ) (e : PlainWork) → IsWork e → Falls r e (next_at e e.stage word) e.stage }
+    ensures reading { (e : PlainWork) (content : Plain) (inputs : List Input)
+        → steps_left (length inputs) (read_from e content inputs) < left (length inputs) e works.Read }
+    ensures lacking { (r : ℕ) (e : PlainWork) → left r e works.Give < left r e works.Read }
+    ensures offer { (r : ℕ) (e : PlainWork) (entry : entries.Entry) → steps_left r (offered e entry) < left r e works.Wait }
+    ensures few { (r : ℕ) (e : PlainWork) → e.cells ≤ 1024 → left r e works.LoadMark ≤ 2 * r + 3 * e.cells + 52 }
+{}
+
+/// Each answer of work is true by the step that decides it. `NotDirty`: the mark was clean when it
+/// was seen. `Missed`: it was held, or it was another one when the claim was tried. `Worn`: its
+/// generation was above 2^58. `Published`: the cell's mark is clean now, and its words are those of
+/// the entry. `Again`: the cell was marked meanwhile, and is left dirty. `NoMemory`: it is left dirty.
+#[tactic(auto, using(crate::proofs::Answering::answer_true))]
+pub fn work_answers_are_true()
+    ensures { (e : PlainWork) (stage : WorkStage) (word : ℕ) (old new : World) (end : WorkEnd) → IsSound old → e.process < old.layout.processes
+        → old.situation e.process ≡ Working (at e stage) → StepsAt e stage word old new
+        → IsDecided (next_at e stage word).stage end → IsTrueAnswer e stage old new end }
+{}
+
+/// Work that is to say that its value has changed has an entry that differs from the words which it
+/// found in its cell; work that is to say that it is as it was has an entry that does not.
+#[tactic(auto, using(crate::proofs::Ors::changed_differs, crate::proofs::Ors::unchanged_same))]
+pub fn changes_are_told()
+    ensures changed { (e : PlainWork) → IsWork e → e.stage ≡ works.Clear true → Differs e }
+    ensures same { (e : PlainWork) → IsWork e → e.stage ≡ works.Clear false → IsSame e }
+{}
+
+/// Work adds bits to no word but the mark of a cell whose bit stands in the row that it has loaded,
+/// and there the dirty bit alone.
+#[tactic(auto, using(crate::proofs::Ors::ors_only))]
+pub fn only_cells_of_the_row_are_marked()
+    ensures { (shape : Shape) (e : PlainWork) → IsWork e → OrsOnly e (access_at shape e e.stage) }
+{}
+
+/// A work that is under way is one of a sheet, whatever its words say.
+pub fn works_are_of_a_sheet(call: &WorkCall)
+    ensures { IsWork call.now }
+{
+    let _stage = call.stage;
+}

@@ -1,0 +1,55 @@
+-- How many steps of its own a work has left.
+use Rattle.std.specs.Prelude.{ℕ, ◌+◌, ◌-◌, ◌*◌, ◌/◌, ◌<◌, length}
+use Rattle.ds_state.specs.Works.{PlainWork}
+use Rattle.ds_state.specs.declared.work.Spread.TheVariants.{LoadRow, OrTold, FlushTold, BackTold}
+use Rattle.ds_state.specs.declared.work.WorkStage.{WorkStage}
+use Rattle.ds_state.specs.declared.work.WorkStage.TheVariants.{LoadMark, Claim, FlushClaim, BackClaim, LoadHead, LoadHeader, LoadText, Read, LoadValue, LoadKind, LoadOwnValue, LoadOwnKind, Wait, StoreValue, StoreKind, FlushValue, FlushKind, BackValue, BackKind, Telling, Clear, ClearDirty, Give, GiveDirty, FlushCleared, BackCleared, Answer}
+
+-- the steps that tell the cells: one for each part of the row, three for each cell
+abbrev pub telling : PlainWork → ℕ
+telling e = 3 * e.cells + (e.cells + 63) / 64
+
+-- how many steps are left at most, the answer's among them: before the content is read, for a content with so many
+-- references; an offer counts as one
+abbrev pub left : ℕ → PlainWork → WorkStage → ℕ
+left r e LoadMark = 36 + telling e + 2 * r
+left r e Claim = 35 + telling e + 2 * r
+left r e FlushClaim = 34 + telling e + 2 * r
+left r e BackClaim = 33 + telling e + 2 * r
+left r e LoadHead = 32 + telling e + 2 * r
+left r e LoadHeader = 31 + telling e + 2 * r
+left r e (LoadText part) = 15 + telling e + 2 * r + ((e.length + 7) / 8 - part)
+left r e Read = 15 + telling e + 2 * r
+left r e (LoadValue i) = 14 + telling e + 2 * (length e.inputs - i)
+left r e (LoadKind i value) = 13 + telling e + 2 * (length e.inputs - i)
+left r e LoadOwnValue = 14 + telling e
+left r e LoadOwnKind = 13 + telling e
+left r e Wait = 12 + telling e
+left r e StoreValue = 11 + telling e
+left r e StoreKind = 10 + telling e
+left r e FlushValue = 9 + telling e
+left r e FlushKind = 8 + telling e
+left r e BackValue = 7 + telling e
+left r e BackKind = 6 + telling e
+left r e (Telling (LoadRow part)) = 5 + 3 * e.cells + ((e.cells + 63) / 64 - part)
+left r e (Telling (OrTold d)) = 5 + 3 * (e.cells - d)
+left r e (Telling (FlushTold d)) = 4 + 3 * (e.cells - d)
+left r e (Telling (BackTold d)) = 3 + 3 * (e.cells - d)
+left r e (Clear changed) = 5
+left r e ClearDirty = 4
+left r e Give = 5
+left r e GiveDirty = 4
+left r e (FlushCleared end) = 3
+left r e (BackCleared end) = 2
+left r e (Answer end) = 1
+
+-- as many at its own stage
+abbrev pub steps_left : ℕ → PlainWork → ℕ
+steps_left r e = left r e e.stage
+
+-- fewer steps are left after a step, but for the answer's, which is the last; reading and waiting are no such steps
+abbrev pub Falls : ℕ → PlainWork → PlainWork → WorkStage → Type 0
+Falls r e f Read = Unit {0}
+Falls r e f Wait = Unit {0}
+Falls r e f (Answer end) = Unit {0}
+Falls r e f stage = steps_left r f < left r e stage
