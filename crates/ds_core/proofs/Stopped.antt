@@ -15,6 +15,8 @@ use Rattle.ds_state.specs.Crashes.{StopsIn, CrashesTo, is_lost, survivors}
 use Rattle.ds_state.specs.Sound.{IsSound, IsOfSheet}
 use Rattle.ds_state.specs.declared.situation.Situation.{Situation}
 use Rattle.ds_state.specs.declared.situation.Situation.TheVariants as situation
+use Rattle.ds_state.specs.Underway.{reports_in}
+use Rattle.ds_state.proofs.Underway.{no_more, none_where}
 use Rattle.ds_state.proofs.Stopping.{stop_keeps}
 use Rattle.ds_state.proofs.CrashSound.{crash_sound}
 use Rattle.ds_core.specs.Stops.{HasHeadPlace}
@@ -53,6 +55,7 @@ module _ (v : WorldValue) (sheet : SheetValue) (p room : ℕ) (k : IsReserved v 
       pending = k.good.pending ∙ sym processes;
       reports = rw layout k.good.reports;
       answered = k.good.answered;
+      counts = no_more v.situations p situation.Stopped v.settled _ there refl k.good.counts;
     };
     reserved = (let r = k.reserved in let s = processes in omega arith);
   }
@@ -109,6 +112,7 @@ module _ (v : WorldValue) (sheet : SheetValue) (situations : List Situation) (ro
       pending = k.good.pending ∙ sym same_processes;
       reports = rw layout k.good.reports;
       answered = answered;
+      counts = (let none = none_where situations (situation.Idle 0) (λ p l. ap reports_in (all p l)) in let c = k.good.counts in omega arith);
     };
     reserved = (let r = k.reserved in let s = same_processes in omega arith);
   }

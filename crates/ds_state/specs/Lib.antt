@@ -2,6 +2,7 @@ pub mod Stages
 pub mod Edits
 pub mod Works
 pub mod ShowStages
+pub mod RecoverStages
 pub mod Underway
 pub mod World
 pub mod Owing
@@ -20,7 +21,6 @@ pub mod Fresh
 pub mod Events
 pub mod Crashes
 pub mod Telling
-pub mod RecoverySteps
 pub mod Text
 pub mod Dones
 pub mod Value

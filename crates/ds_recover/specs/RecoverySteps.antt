@@ -1,4 +1,4 @@
--- The steps of a recovery: what each stage does to the memory, and what comes then. (In the project: crate ds_recover, specs/Steps.)
+-- The steps of a recovery: what each stage does to the memory, and what comes then.
 use Rattle.std.specs.Prelude.{ℕ, ◌≡◌, ◌≢◌, ◌<◌, ◌≤◌, ◌⊎◌, ◌+◌, ◌-◌, ◌*◌, ◌/◌, ◌%◌, ◌==◌, nat_lt, if◌then◌else◌, List, [], ◌∷◌, ◌++◌, length, Option, Some, None, Bool, true, false, zero, suc}
 use Rattle.std.specs.Int.{bit_at}
 use Rattle.ds_words.specs.Memory.{SameMemory}
@@ -17,6 +17,7 @@ use Rattle.ds_layout.specs.Head.{head_of}
 use Rattle.ds_layout.specs.Header.{header_of}
 use Rattle.ds_layout.specs.Sheet.{PerformsAt}
 use Rattle.ds_state.specs.Works.{PlainRecovery}
+use Rattle.ds_state.specs.RecoverStages.{HELD_YOUNG}
 use Rattle.ds_state.specs.World.{Edit, Issue, World, announcement, done_place}
 use Rattle.ds_state.specs.Known.{AreBelow, IsSafelyIn}
 use Rattle.ds_state.specs.KnownRecovery.{marked, phase_for}
@@ -74,10 +75,14 @@ at e stage = record e { stage = stage }
 abbrev pub looks_from : ℕ → ℕ → RecoverStage
 looks_from cells cell = if nat_lt cell cells then LoadMark cell else LoadAnnounce
 
+-- whether a mark says that the process holds the cell; no mark that is held has a greater generation
+abbrev pub reads_held : ℕ → ℕ → Bool
+reads_held process word = if word / 2 % 16 == process + 1 then nat_lt (word / 32) (HELD_YOUNG + 1) else false
+
 -- a cell is let be, or given back
 abbrev pub holds_from : PlainRecovery → ℕ → ℕ → PlainRecovery
 holds_from e cell word =
-    if word / 2 % 16 == e.process + 1
+    if reads_held e.process word
     then record e { mark = word; row = []; stage = FlushValue cell }
     else at e (looks_from e.cells (cell + 1))
 
@@ -170,6 +175,9 @@ pub record StepsAt (e : PlainRecovery) (stage : RecoverStage) (word : ℕ) (old 
   pub counted : new.counted ≡ old.counted
   pub pending : new.pending e.process ≡ pending_at (old.pending e.process) stage
   pub others_pending : (q : ℕ) → q ≢ e.process → new.pending q ≡ old.pending q
+
+abbrev pub Steps : PlainRecovery → ℕ → World → World → Type 0
+Steps e word old new = StepsAt e e.stage word old new
 
 -- a recovery begins, of a process that is stopped or idle
 pub record BeginsRecovery (e : PlainRecovery) (old new : World) : Type 0 where

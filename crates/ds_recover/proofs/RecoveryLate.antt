@@ -17,7 +17,7 @@ use Rattle.ds_state.specs.KnownRecovery.{IsOpenAnd, SettledAs}
 use Rattle.ds_state.specs.Calls.{RecoveryFits, IsHeadFrom}
 use Rattle.ds_state.specs.Rely.{Grows, Keeps}
 use Rattle.ds_state.specs.Sound.{IsSound}
-use Rattle.ds_state.specs.RecoverySteps.{StepsAt, at}
+use Rattle.ds_recover.specs.RecoverySteps.{StepsAt, at}
 use Rattle.ds_state.specs.declared.work.RecoverStage.TheVariants.{FlushHead, BackHead, OrMark, FlushMark, BackMark, StoreOutcome, FlushOutcome, BackOutcome, Answer}
 use Rattle.ds_state.specs.declared.situation.Situation.TheVariants.{Recovering}
 use Rattle.ds_state.proofs.Dirty.{or_dirty}
@@ -27,8 +27,8 @@ use Rattle.ds_state.proofs.Buffers.{buffered}
 use Rattle.ds_state.proofs.EditFrame.{back_any}
 use Rattle.ds_state.proofs.Telling.{matters_most, odd_above}
 use Rattle.ds_state.proofs.Accesses.{Turn, flush_moves}
-use Rattle.ds_state.proofs.RecoveryFrame.{on, turn_of, simple_passes, flushes}
-use Rattle.ds_state.proofs.RecoveryBack.{held_from, pends_from, first_back, grown_back, was_there, backs, moved_or, grown_or, ors}
+use Rattle.ds_recover.proofs.RecoveryFrame.{on, turn_of, simple_passes, flushes}
+use Rattle.ds_recover.proofs.RecoveryBack.{held_from, pends_from, first_back, grown_back, was_there, backs, moved_or, grown_or, ors}
 
 same_issue : {o : Option Issue} {a b : Issue} → o ≡ Some a → o ≡ Some b → a ≡ b
 same_issue x y = let both : Some _ ≡ Some _ = sym x ∙ y in cc
@@ -58,7 +58,7 @@ module _ (e : PlainRecovery) (word : ℕ) (old new : World) (sound : IsSound old
           let there : new.memory.cached (Mark c) ≡ bit_or (old.memory.cached (Mark e.cell)) DIRTY = ap (λ (y : ℕ). new.memory.cached (Mark y)) (sym same) ∙ m.there in
           odd_above x (new.memory.cached (Mark c)) matters.0 (omega arith) most))
         (λ r held o. o) (λ f before last_of issue issued same k o. o))
-      e.cell m (λ h. h) (λ h. h) (m.buffer p ∙ fits.buffer) tt
+      e.cell m (λ h. h) (λ h. h) (m.buffer p ∙ fits.buffer) fits.is.stage
 
   pub step_flush_mark : (how : Bool) → old.situation e.process ≡ Recovering (at e (FlushMark how)) → RecoveryFits old e.process (at e (FlushMark how)) → StepsAt e (FlushMark how) word old new → Keeps e.process old new
   step_flush_mark how was fits t =
@@ -74,7 +74,7 @@ module _ (e : PlainRecovery) (word : ℕ) (old new : World) (sound : IsSound old
           record { value = old.memory.cached (Mark c); alone = subst (λ (y : ℕ). new.memory.buffer p ≡ entry (Mark y) (old.memory.cached (Mark y)) ∷ []) same alone; below = o }))
         (λ r held o. o) (λ f before last_of issue issued same k o. o))
       (Mark e.cell) m (λ h. h) (λ h. h)
-      (record { value = old.memory.cached (Mark e.cell); alone = alone; had = (let c = m.cached (Mark e.cell) in omega arith); is = λ q by. rw tn.layout ((sound.words (Mark e.cell)).holder q by) }) tt
+      (record { value = old.memory.cached (Mark e.cell); alone = alone; had = (let c = m.cached (Mark e.cell) in omega arith); is = λ q by. rw tn.layout ((sound.words (Mark e.cell)).holder q by) }) fits.is.stage
 
   pub step_back_mark : (how : Bool) → old.situation e.process ≡ Recovering (at e (BackMark how)) → RecoveryFits old e.process (at e (BackMark how)) → StepsAt e (BackMark how) word old new → Keeps e.process old new
   step_back_mark how was fits t =
@@ -91,7 +91,7 @@ module _ (e : PlainRecovery) (word : ℕ) (old new : World) (sound : IsSound old
         (λ r held o. o) (λ f before last_of issue issued same k o. o))
       (Mark e.cell) one.value [] m (one.had, one.is) (λ o. absurd o) (λ c at. cc) (λ r at. absurd (no_value r at)) (λ r at. absurd (no_value r at))
       (λ moves my. back_any p (Mark e.cell) one.value old new moves sound (buffered old sound) my (text_same old new moves.layout tn.counted) real m)
-      (λ h. h) (λ h. h) m.mine tt
+      (λ h. h) (λ h. h) m.mine fits.is.stage
     where
       no_value : (r : ℕ) → (Mark e.cell ≡ Value r) ⊎ (Mark e.cell ≡ Kind r) → ⊥
       no_value r at = elim at [ inl x ↦ cc | inr x ↦ cc ]
@@ -118,7 +118,7 @@ module _ (e : PlainRecovery) (word : ℕ) (old new : World) (sound : IsSound old
       (simple_passes p e.row (FlushOutcome how) e.row (BackOutcome how) old new (held_from p old new g) (pends_from p old new g t.pending)
         (λ r c x bit matters held o. o) (λ c x matters k o. o) (λ r held o. o) (λ f before last_of issue issued same k o. o))
       (Announce p) m (λ h. h) (λ h. h)
-      (m.mine ∙ ap (λ xs. xs ++ entry (Announce p) (old.memory.cached (Announce p)) ∷ []) fits.buffer ∙ ap (λ (v : ℕ). entry (Announce p) v ∷ []) fits.resolved.0) tt
+      (m.mine ∙ ap (λ xs. xs ++ entry (Announce p) (old.memory.cached (Announce p)) ∷ []) fits.buffer ∙ ap (λ (v : ℕ). entry (Announce p) v ∷ []) fits.resolved.0) fits.is.stage
 
   pub step_back_outcome : (how : Bool) → old.situation e.process ≡ Recovering (at e (BackOutcome how)) → RecoveryFits old e.process (at e (BackOutcome how)) → StepsAt e (BackOutcome how) word old new → Keeps e.process old new
   step_back_outcome how was fits t =
@@ -130,7 +130,7 @@ module _ (e : PlainRecovery) (word : ℕ) (old new : World) (sound : IsSound old
         (λ r c x bit matters held o. o) (λ c x matters k o. o) (λ r held o. o) (λ f before last_of issue issued same k o. o))
       (Announce p) e.announcement [] m (sym fits.resolved.0) (λ o. sym fits.resolved.0) (λ c at. cc) (λ r at. absurd (no_value r at)) (λ r at. absurd (no_value r at))
       (λ moves my. no_new_marks p (Announce p) old new moves (λ c at. cc) (was_there p (Announce p) e.announcement [] old new sound tn m (sym fits.resolved.0) (λ o. sym fits.resolved.0)))
-      (λ h. h) (λ h. (h.0, m.there, h.1)) m.mine tt
+      (λ h. h) (λ h. (h.0, m.there, h.1)) m.mine fits.is.stage
     where
       no_value : (r : ℕ) → (Announce p ≡ Value r) ⊎ (Announce p ≡ Kind r) → ⊥
       no_value r at = elim at [ inl x ↦ cc | inr x ↦ cc ]

@@ -24,7 +24,7 @@ use Rattle.ds_state.specs.KnownWork.{IsAtRest}
 use Rattle.ds_state.specs.Calls.{MaySay, rank, IsInDoubt, IsThrough, DoubtFits}
 use Rattle.ds_state.specs.Words.{IsKept, IsOvertaken}
 use Rattle.ds_state.specs.Sound.{IsSound}
-use Rattle.ds_state.specs.RecoverySteps.{is_shown, cell_from}
+use Rattle.ds_recover.specs.RecoverySteps.{is_shown, cell_from}
 use Rattle.ds_state.proofs.Noted.{last_cases, head_reads, last_same}
 use Rattle.ds_state.proofs.CrashSound.{same_edit}
 use Rattle.ds_state.proofs.Found.{gave_counts}

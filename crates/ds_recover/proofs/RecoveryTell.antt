@@ -2,7 +2,7 @@
 use Rattle.std.proofs.Common.{ℕ, ◌≡◌, ◌≢◌, ◌<◌, ◌≤◌, ◌+◌, ◌-◌, ◌*◌, ◌/◌, ◌%◌, ◌==◌, ◌⊎◌, List, [], ◌∷◌, ◌++◌, refl, ap, sym, ◌∙◌, subst, arith, inl, inr, Some, None, zero, suc, true, false, max, length, length-append}
 use Rattle.std.specs.Prelude.{Contains, Option, Bool, bit_or, nat_lt, if◌then◌else◌, slice_index_or}
 use Rattle.std.specs.Int.{bit_at}
-use Rattle.std.proofs.lemmas.Bool.{cases_eq, ltb-false}
+use Rattle.std.proofs.lemmas.Bool.{cases_eq, ltb-true, ltb-false}
 use Rattle.std.proofs.lemmas.Bool.Decides.{eqb_tells}
 use Rattle.ds_words.specs.declared.access.Entry.{Entry}
 use Rattle.ds_words.specs.Memory.{SameMemory, StoresAt, OrsAt, FlushesAt, WritesBack}
@@ -20,7 +20,7 @@ use Rattle.ds_state.specs.Calls.{RecoveryFits}
 use Rattle.ds_state.specs.Rely.{Grows, Keeps}
 use Rattle.ds_state.specs.Sound.{IsSound}
 use Rattle.ds_state.specs.Telling.{told_from}
-use Rattle.ds_state.specs.RecoverySteps.{StepsAt, at, told}
+use Rattle.ds_recover.specs.RecoverySteps.{StepsAt, at, told}
 use Rattle.ds_state.specs.declared.work.Spread.TheVariants.{LoadRow, OrTold, FlushTold, BackTold}
 use Rattle.ds_state.specs.declared.work.RecoverStage.TheVariants.{LoadMark, FlushValue, FlushKind, BackValue, BackKind, Telling, Give, GiveDirty, FlushGiven, BackGiven, LoadAnnounce}
 use Rattle.ds_state.specs.declared.situation.Situation.{Situation}
@@ -32,9 +32,9 @@ use Rattle.ds_state.proofs.Buffers.{buffered}
 use Rattle.ds_state.proofs.EditFrame.{back_any}
 use Rattle.ds_state.proofs.Telling.{matters_most, odd_above, row_passes, flush_passes, back_passes}
 use Rattle.ds_state.proofs.Accesses.{Turn, same_moves, flush_moves}
-use Rattle.ds_state.proofs.RecoveryFrame.{on, Passes, turn_of, held_on, pends_on, simple_passes, loads, flushes}
-use Rattle.ds_state.proofs.RecoveryBack.{held_from, pends_from, first_back, grown_back, was_there, backs, backs_none, moved_or, grown_or, ors}
-use Rattle.ds_state.proofs.RecoveryFree.{tells_none, tells_some}
+use Rattle.ds_recover.proofs.RecoveryFrame.{on, Passes, turn_of, held_on, pends_on, simple_passes, loads, flushes}
+use Rattle.ds_recover.proofs.RecoveryBack.{held_from, pends_from, first_back, grown_back, was_there, backs, backs_none, moved_or, grown_or, ors}
+use Rattle.ds_recover.proofs.RecoveryFree.{tells_none, tells_some, told_below}
 
 same_value : (a r : ℕ) → (Value a ≡ Value r) ⊎ (Value a ≡ Kind r) → a ≡ r
 same_value a r (inl x) = cc
@@ -71,14 +71,14 @@ module _ (e : PlainRecovery) (word : ℕ) (old new : World) (sound : IsSound old
       let holds : new.memory.buffer p ≡ kind_now new c ∷ [] = m.mine ∙ ap (λ (y : ℕ). entry (Kind c) y ∷ []) (sym (m.cached (Kind c))) in
       elim (sound.words (Value c)) [
         | inl same ↦ backs_none e e.mark e.row e.announcement e.cell (BackValue c) (BackKind c) old new sound was fits real tn t.situation t.pending passes (Value c) v (kind_now old c ∷ []) m (sym same) there g
-            (λ h. (h, agree)) (λ h. h) holds fits.row
+            (λ h. (h, agree)) (λ h. h) holds fits.is.stage
         | inr a ↦ (
             let both : IsHeld old.memory p c = apart_held c fits.freed a in
             backs e e.mark e.row e.announcement e.cell (BackValue c) (BackKind c) old new sound was fits real tn t.situation t.pending passes (Value c) v (kind_now old c ∷ []) m refl (λ o. refl) (λ d at. cc)
             (λ r at by d x. subst (λ (y : ℕ). CellOwes new y d x) (same_value c r at) (record { holder = p; held = held_from p old new g c both; still = subst (λ (s : Situation). Owes new.memory p s c d x) (sym t.situation) tt }))
             (λ r at by. subst (λ (y : ℕ). IsHeld old.memory p y) (same_value c r at) both)
             (λ moves my. no_new_marks p (Value c) old new moves (λ d at. cc) there)
-            (λ h. (h, agree)) (λ h. h) holds fits.row)
+            (λ h. (h, agree)) (λ h. h) holds fits.is.stage)
       ]
 
   pub step_back_kind : (c : ℕ) → old.situation e.process ≡ Recovering (at e (BackKind c)) → RecoveryFits old e.process (at e (BackKind c)) → StepsAt e (BackKind c) word old new → Keeps e.process old new
@@ -101,14 +101,14 @@ module _ (e : PlainRecovery) (word : ℕ) (old new : World) (sound : IsSound old
       let there : (d x q : ℕ) → Contains (new.memory.buffer q) (entry (Mark d) x) → Contains (old.memory.buffer q) (entry (Mark d) x) = was_there p (Kind c) v [] old new sound tn m refl (λ o. refl) in
       elim (sound.words (Kind c)) [
         | inl same ↦ backs_none e e.mark e.row e.announcement e.cell (BackKind c) (Telling c (LoadRow 0)) old new sound was fits real tn t.situation t.pending passes (Kind c) v [] m (sym same) there g
-            (λ h. (h.0, h.1, agree)) (λ h. h) m.mine fits.row
+            (λ h. (h.0, h.1, agree)) (λ h. h) m.mine (fits.is.stage.0, ((let n = fits.is.some in omega arith), fits.is.stage.1))
         | inr a ↦ (
             let both : IsHeld old.memory p c = apart_held c fits.freed.0 a in
             backs e e.mark e.row e.announcement e.cell (BackKind c) (Telling c (LoadRow 0)) old new sound was fits real tn t.situation t.pending passes (Kind c) v [] m refl (λ o. refl) (λ d at. cc)
             (λ r at by d x. subst (λ (y : ℕ). CellOwes new y d x) (same_kind c r at) (record { holder = p; held = held_from p old new g c both; still = subst (λ (s : Situation). Owes new.memory p s c d x) (sym t.situation) (inr (inl (omega arith))) }))
             (λ r at by. subst (λ (y : ℕ). IsHeld old.memory p y) (same_kind c r at) both)
             (λ moves my. no_new_marks p (Kind c) old new moves (λ d at. cc) there)
-            (λ h. (h.0, h.1, agree)) (λ h. h) m.mine fits.row)
+            (λ h. (h.0, h.1, agree)) (λ h. h) m.mine (fits.is.stage.0, ((let n = fits.is.some in omega arith), fits.is.stage.1)))
       ]
 
   -- what is owed by the cell c, and by others
@@ -133,7 +133,7 @@ module _ (e : PlainRecovery) (word : ℕ) (old new : World) (sound : IsSound old
               odd_above x (new.memory.cached (Mark y)) matters.0 (omega arith) most))
         ])) o)
         (λ y x matters k o. tt) (λ r held o. o) (λ f before last_of issue issued same k o. tt))
-      d m (λ h. h) (λ h. h) (m.buffer p ∙ fits.buffer) tt
+      d m (λ h. h) (λ h. h) (m.buffer p ∙ fits.buffer) fits.is.stage
 
   pub step_flush_told : (c d : ℕ) → old.situation e.process ≡ Recovering (at e (Telling c (FlushTold d))) → RecoveryFits old e.process (at e (Telling c (FlushTold d))) → StepsAt e (Telling c (FlushTold d)) word old new → Keeps e.process old new
   step_flush_told c d was fits t =
@@ -146,7 +146,7 @@ module _ (e : PlainRecovery) (word : ℕ) (old new : World) (sound : IsSound old
         (λ r y x bit matters held o. other_or c r _ _ (λ eq k. flush_passes p e.row d old new alone y x k) o)
         (λ y x matters k o. tt) (λ r held o. o) (λ f before last_of issue issued same k o. tt))
       (Mark d) m (λ h. h) (λ h. h)
-      (record { value = old.memory.cached (Mark d); alone = alone; had = (let k = m.cached (Mark d) in omega arith); is = λ q by. rw tn.layout ((sound.words (Mark d)).holder q by) }) tt
+      (record { value = old.memory.cached (Mark d); alone = alone; had = (let k = m.cached (Mark d) in omega arith); is = λ q by. rw tn.layout ((sound.words (Mark d)).holder q by) }) fits.is.stage
 
   -- the mark of a cell that was told is written back: what comes next is a later cell, or the give-back
   pub step_back_told : (c d : ℕ) → old.situation e.process ≡ Recovering (at e (Telling c (BackTold d))) → RecoveryFits old e.process (at e (Telling c (BackTold d))) → StepsAt e (Telling c (BackTold d)) word old new → Keeps e.process old new
@@ -183,7 +183,7 @@ module _ (e : PlainRecovery) (word : ℕ) (old new : World) (sound : IsSound old
             (λ y x matters k o. tt) (λ r held o. o) (λ f before last_of issue issued same k o. tt))
           (Mark d) one.value [] m (one.had, one.is) (λ o. absurd o) (λ y at. cc) (λ r at. absurd (no_value d r at)) (λ r at. absurd (no_value d r at))
           (λ moves my. back_any p (Mark d) one.value old new moves sound (buffered old sound) my (text_same old new moves.layout tn.counted) real m)
-          (λ h. h) (λ h. h) m.mine tt
+          (λ h. h) (λ h. h) m.mine fits.is.stage.0
       go (Some d') some is = backs e e.mark e.row e.announcement e.cell (Telling c (BackTold d)) (Telling c (OrTold d')) old new sound was fits real tn is t.pending
           (simple_passes p e.row (Telling c (BackTold d)) e.row (Telling c (OrTold d')) old new (held_from p old new g) (pends_from p old new g t.pending)
             (λ r y x bit matters held o. elim o [
@@ -193,7 +193,7 @@ module _ (e : PlainRecovery) (word : ℕ) (old new : World) (sound : IsSound old
             (λ y x matters k o. tt) (λ r held o. o) (λ f before last_of issue issued same k o. tt))
           (Mark d) one.value [] m (one.had, one.is) (λ o. absurd o) (λ y at. cc) (λ r at. absurd (no_value d r at)) (λ r at. absurd (no_value d r at))
           (λ moves my. back_any p (Mark d) one.value old new moves sound (buffered old sound) my (text_same old new moves.layout tn.counted) real m)
-          (λ h. h) (λ h. h) m.mine tt
+          (λ h. h) (λ h. h) m.mine (fits.is.stage.0, ((let l = told_below e.row (e.cells - (d + 1)) (d + 1) d' some in let k = fits.is.stage.1.0 in omega arith), fits.is.stage.1.1))
 
   -- a part of the row
   pub step_load_row : (c part : ℕ) → old.situation e.process ≡ Recovering (at e (Telling c (LoadRow part))) → RecoveryFits old e.process (at e (Telling c (LoadRow part))) → StepsAt e (Telling c (LoadRow part)) word old new → Keeps e.process old new
@@ -212,7 +212,7 @@ module _ (e : PlainRecovery) (word : ℕ) (old new : World) (sound : IsSound old
       moves = same_moves p old new tn m
 
       left : (r y x : ℕ) → c ≡ r → IsIndexed old r y → SpreadOwes old.memory p e.row (LoadRow part) y x → SpreadOwes new.memory p (e.row ++ word ∷ []) (LoadRow (part + 1)) y x
-      left r y x eq bit k = row_passes p e.row c part word old new fits.row t.memory.0 y x (subst (λ (z : ℕ). IsIndexed old z y) (sym eq) bit) k
+      left r y x eq bit k = row_passes p e.row c part word old new fits.is.stage.1.1 t.memory.0 y x (subst (λ (z : ℕ). IsIndexed old z y) (sym eq) bit) k
 
       go : (o : Option ℕ) → told_from (e.row ++ word ∷ []) (e.cells - 0) 0 ≡ o → (e.cells + 63) / 64 ≤ part + 1 → new.situation p ≡ Recovering (record e { row = e.row ++ word ∷ []; stage = told c o }) → Keeps p old new
       go None none last is = loads e e.mark (e.row ++ word ∷ []) e.announcement e.cell (Telling c (LoadRow part)) (Give c) old new sound was fits real tn is t.pending
@@ -228,7 +228,7 @@ module _ (e : PlainRecovery) (word : ℕ) (old new : World) (sound : IsSound old
               ]
             ])
             (λ y x matters k o. tt) (λ r held o. o) (λ f before last_of issue issued same k o. tt))
-          m (λ h. h) (λ h. h) (m.buffer p ∙ fits.buffer) tt
+          m (λ h. h) (λ h. h) (m.buffer p ∙ fits.buffer) fits.is.stage.0
       go (Some d') some last is = loads e e.mark (e.row ++ word ∷ []) e.announcement e.cell (Telling c (LoadRow part)) (Telling c (OrTold d')) old new sound was fits real tn is t.pending
           (simple_passes p e.row (Telling c (LoadRow part)) (e.row ++ word ∷ []) (Telling c (OrTold d')) old new (held_on p old new moves) (pends_on p old new moves t.pending)
             (λ r y x bit matters held o. other_or c r _ _ (λ eq k. elim (left r y x eq bit k) [
@@ -236,12 +236,12 @@ module _ (e : PlainRecovery) (word : ℕ) (old new : World) (sound : IsSound old
               | inr there ↦ (there, tells_some (e.row ++ word ∷ []) e.cells 0 d' y some (let b = bit.1 in let n = fits.cells in omega arith) there (omega arith))
             ]) o)
             (λ y x matters k o. tt) (λ r held o. o) (λ f before last_of issue issued same k o. tt))
-          m (λ h. h) (λ h. h) (m.buffer p ∙ fits.buffer) tt
+          m (λ h. h) (λ h. h) (m.buffer p ∙ fits.buffer) (fits.is.stage.0, ((let l = told_below (e.row ++ word ∷ []) (e.cells - 0) 0 d' some in let n = fits.is.some in omega arith), (let k = fits.is.stage.1.0 in let s = fits.is.stage.1.1 in omega (arith, length-append e.row (word ∷ [])))))
 
       by : (b : Bool) → nat_lt (part + 1) ((e.cells + 63) / 64) ≡ b → new.situation p ≡ Recovering (record e { row = e.row ++ word ∷ []; stage = if b then Telling c (LoadRow (part + 1)) else told c (told_from (e.row ++ word ∷ []) (e.cells - 0) 0) }) → Keeps p old new
       by true more is = loads e e.mark (e.row ++ word ∷ []) e.announcement e.cell (Telling c (LoadRow part)) (Telling c (LoadRow (part + 1))) old new sound was fits real tn is t.pending
           (simple_passes p e.row (Telling c (LoadRow part)) (e.row ++ word ∷ []) (Telling c (LoadRow (part + 1))) old new (held_on p old new moves) (pends_on p old new moves t.pending)
             (λ r y x bit matters held o. other_or c r _ _ (λ eq k. left r y x eq bit k) o)
             (λ y x matters k o. tt) (λ r held o. o) (λ f before last_of issue issued same k o. tt))
-          m (λ h. h) (λ h. h) (m.buffer p ∙ fits.buffer) (let s = fits.row in omega (arith, length-append e.row (word ∷ [])))
+          m (λ h. h) (λ h. h) (m.buffer p ∙ fits.buffer) (fits.is.stage.0, (ltb-true (part + 1) ((e.cells + 63) / 64) more, (let s = fits.is.stage.1.1 in omega (arith, length-append e.row (word ∷ [])))))
       by false none is = go (told_from (e.row ++ word ∷ []) (e.cells - 0) 0) refl (ltb-false (part + 1) ((e.cells + 63) / 64) none) is

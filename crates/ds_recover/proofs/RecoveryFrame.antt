@@ -8,15 +8,16 @@ use Rattle.ds_layout.specs.Places.{class_of, cells_of}
 use Rattle.ds_layout.specs.declared.place.Place.{Place}
 use Rattle.ds_layout.specs.declared.place.Place.TheVariants.{Version, Head, Mark, Value, Kind, Announce}
 use Rattle.ds_state.specs.Works.{PlainRecovery}
+use Rattle.ds_state.specs.RecoverStages.{IsStage}
 use Rattle.ds_state.specs.World.{Edit, Issue, World, of_cell, head_after_all, record_place}
 use Rattle.ds_state.specs.Owing.{entry, turn, IsHeldBy, IsHeld, Owes, RecoveryOwes, Parts, RecoveryParts, IsApart, CellOwes, IsPending, Excuses, RecoveryExcuses, IsExcused, Splits, RecoverySplits, IsIndexed}
 use Rattle.ds_state.specs.Standing.{HasContent, Matters}
-use Rattle.ds_state.specs.KnownRecovery.{ValueAgrees, KindAgrees, FreedFits, freed_at, ResolvedFits, resolved_at, RecoveryHolds, recovery_held, RowCounts}
+use Rattle.ds_state.specs.KnownRecovery.{ValueAgrees, KindAgrees, FreedFits, freed_at, ResolvedFits, resolved_at, RecoveryHolds, recovery_held}
 use Rattle.ds_state.specs.Calls.{CallFits, DoubtFits, RecoveryFits}
 use Rattle.ds_state.specs.Words.{WordFits}
 use Rattle.ds_state.specs.Rely.{Grows, Bears, Keeps}
 use Rattle.ds_state.specs.Sound.{IsSound}
-use Rattle.ds_state.specs.RecoverySteps.{StepsAt, after, pending_at}
+use Rattle.ds_recover.specs.RecoverySteps.{StepsAt, after, pending_at}
 use Rattle.ds_state.specs.declared.work.RecoverStage.{RecoverStage}
 use Rattle.ds_state.specs.declared.situation.Situation.{Situation}
 use Rattle.ds_state.specs.declared.situation.Situation.TheVariants.{Recovering}
@@ -128,7 +129,7 @@ module _ (e : PlainRecovery) (mark : ℕ) (row : List ℕ) (word : ℕ) (cell : 
   pub recovery_fits : RecoveryFits old e.process (record e { stage = s }) → new.layout ≡ old.layout → new.pending e.process ≡ old.pending e.process
       → DoubtFits new e.process (old.pending e.process)
       → FreedFits new e.process mark (freed_at s') → ResolvedFits new e.process word cell (resolved_at s')
-      → RecoveryHolds new e.process word cell (recovery_held cell s') → RowCounts row s' → RecoveryFits new e.process (on e mark row word cell s')
+      → RecoveryHolds new e.process word cell (recovery_held cell s') → IsStage (on e mark row word cell s') s' → RecoveryFits new e.process (on e mark row word cell s')
   recovery_fits fits layout pending doubt freed resolved buffer rows = record {
     mine = refl;
     cells = rw layout fits.cells;
@@ -137,7 +138,7 @@ module _ (e : PlainRecovery) (mark : ℕ) (row : List ℕ) (word : ℕ) (cell : 
     freed = freed;
     resolved = resolved;
     buffer = buffer;
-    row = rows;
+    is = record { process = fits.is.process; processes = fits.is.processes; some = fits.is.some; cells = fits.is.cells; stage = rows };
   }
 
 -- steps that give no cell back and announce nothing
@@ -148,7 +149,7 @@ module _ (e : PlainRecovery) (mark : ℕ) (row : List ℕ) (word : ℕ) (cell : 
 
   pub stays : Grows e.process Version old new → (FreedFits new e.process e.mark (freed_at s) → FreedFits new e.process mark (freed_at s'))
       → (ResolvedFits new e.process e.announcement e.cell (resolved_at s) → ResolvedFits new e.process word cell (resolved_at s'))
-      → RecoveryHolds new e.process word cell (recovery_held cell s') → RowCounts row s' → RecoveryFits new e.process (on e mark row word cell s')
+      → RecoveryHolds new e.process word cell (recovery_held cell s') → IsStage (on e mark row word cell s') s' → RecoveryFits new e.process (on e mark row word cell s')
   stays g freed resolved buffer rows = recovery_fits e mark row word cell s s' old new was is fits tn.layout pending
       (doubt_grows Version old new e.process g pending (λ x. cc) (λ n k. record_no_version e.process n k) (old.pending e.process) fits.doubt)
       (freed (freed_stable old new e.process g e.mark (freed_at s) fits.freed))
@@ -170,7 +171,7 @@ module _ (e : PlainRecovery) (mark : ℕ) (row : List ℕ) (word : ℕ) (cell : 
 
   pub loads : SameMemory old.memory new.memory → (FreedFits new e.process e.mark (freed_at s) → FreedFits new e.process mark (freed_at s'))
       → (ResolvedFits new e.process e.announcement e.cell (resolved_at s) → ResolvedFits new e.process word cell (resolved_at s'))
-      → RecoveryHolds new e.process word cell (recovery_held cell s') → RowCounts row s' → Keeps e.process old new
+      → RecoveryHolds new e.process word cell (recovery_held cell s') → IsStage (on e mark row word cell s') s' → Keeps e.process old new
   loads m freed resolved buffer rows =
       let moves : Moves e.process Version old new = same_moves e.process old new tn m in
       silent_step moves (λ c. m.cached (Head c)) (λ my. no_new_marks e.process Version old new moves (λ c at. cc) (λ c x q h. subst (λ (xs : List (Entry Place)). Contains xs (entry (Mark c) x)) (m.buffer q) h))
@@ -178,7 +179,7 @@ module _ (e : PlainRecovery) (mark : ℕ) (row : List ℕ) (word : ℕ) (cell : 
 
   pub flushes : (place : Place) → FlushesAt e.process place (class_of place) old.memory new.memory → (FreedFits new e.process e.mark (freed_at s) → FreedFits new e.process mark (freed_at s'))
       → (ResolvedFits new e.process e.announcement e.cell (resolved_at s) → ResolvedFits new e.process word cell (resolved_at s'))
-      → RecoveryHolds new e.process word cell (recovery_held cell s') → RowCounts row s' → Keeps e.process old new
+      → RecoveryHolds new e.process word cell (recovery_held cell s') → IsStage (on e mark row word cell s') s' → Keeps e.process old new
   flushes place m freed resolved buffer rows =
       let moves : Moves e.process Version old new = flush_moves e.process old new tn place (class_of place) m in
       silent_step moves (λ c. m.cached (Head c)) (λ my. flush_any e.process old new moves sound (buffered old sound) my (text_same old new moves.layout tn.counted) place m)

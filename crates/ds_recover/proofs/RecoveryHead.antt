@@ -16,7 +16,7 @@ use Rattle.ds_state.specs.Calls.{CallFits, DoubtFits, RecoveryFits}
 use Rattle.ds_state.specs.Words.{WordFits, IsOnItsWay}
 use Rattle.ds_state.specs.Rely.{Grows, Keeps}
 use Rattle.ds_state.specs.Sound.{IsSound, Increasing}
-use Rattle.ds_state.specs.RecoverySteps.{StepsAt, at}
+use Rattle.ds_recover.specs.RecoverySteps.{StepsAt, at}
 use Rattle.ds_state.specs.declared.work.RecoverStage.TheVariants.{FlushHead, BackHead, OrMark}
 use Rattle.ds_state.specs.declared.situation.Situation.{Situation}
 use Rattle.ds_state.specs.declared.situation.Situation.TheVariants.{Recovering}
@@ -32,8 +32,8 @@ use Rattle.ds_state.proofs.EditFrame.{back_any}
 use Rattle.ds_state.proofs.EditSteps.{head_back}
 use Rattle.ds_state.proofs.Sides.{IsBetween}
 use Rattle.ds_state.proofs.Accesses.{Turn, flush_moves}
-use Rattle.ds_state.proofs.RecoveryFrame.{on, turn_of, held_on, pends_on, simple_passes, flushes}
-use Rattle.ds_state.proofs.RecoveryBack.{held_from, pends_from, first_back, between, moved_back, grown_back}
+use Rattle.ds_recover.proofs.RecoveryFrame.{on, turn_of, held_on, pends_on, simple_passes, flushes}
+use Rattle.ds_recover.proofs.RecoveryBack.{held_from, pends_from, first_back, between, moved_back, grown_back}
 
 same_issue : {o : Option Issue} {a b : Issue} → o ≡ Some a → o ≡ Some b → a ≡ b
 same_issue x y = let both : Some _ ≡ Some _ = sym x ∙ y in cc
@@ -92,7 +92,7 @@ module _ (e : PlainRecovery) (word : ℕ) (old new : World) (sound : IsSound old
         own = own;
         head = subst (λ (es : List Edit). IsHeadBy (of_cell e.cell es) own h.issue.edit) (sym tn.counted) stands;
         enough = n.enough;
-      }) tt
+      }) fits.is.stage
 
   module _ (was : old.situation e.process ≡ Recovering (at e BackHead)) (fits : RecoveryFits old e.process (at e BackHead)) (t : StepsAt e BackHead word old new) where
     abbrev c : ℕ
@@ -262,5 +262,5 @@ module _ (e : PlainRecovery) (word : ℕ) (old new : World) (sound : IsSound old
           freed = λ r by. fits.freed r (subst (λ (x : ℕ). IsHeldBy p x) (m.cached (Mark r)) by);
           resolved = resolved;
           buffer = m.mine;
-          row = tt;
+          is = record { process = fits.is.process; processes = fits.is.processes; some = fits.is.some; cells = fits.is.cells; stage = fits.is.stage };
         }))

@@ -10,6 +10,10 @@ use Rattle.ds_layout.specs.declared.place.Place.TheVariants.{Version, Head, Mark
 use Rattle.ds_layout.specs.declared.announcement.Phase.{Phase}
 use Rattle.ds_layout.specs.declared.announcement.Phase.TheVariants as phase
 use Rattle.ds_layout.specs.Places.{cells_of}
+use Rattle.ds_formula.specs.Cells.{count_of}
+use Rattle.ds_formula.specs.declared.cells.Cell.{Cell}
+use Rattle.ds_formula.specs.declared.cells.Shape.{Shape}
+use Rattle.ds_eval.proofs.Walks.{index_below}
 use Rattle.ds_state.specs.Works.{PlainRecovery}
 use Rattle.ds_state.specs.World.{Edit, Issue, World, of_cell, head_after_all, announcement, last_announcement, phase_among, IsHeadBy}
 use Rattle.ds_state.specs.Known.{Standing, outside, inside, safe, Announced, last, pending, ended, word_of, phase_of, AreBelow, IsSafelyIn, StandsAs}
@@ -20,7 +24,7 @@ use Rattle.ds_state.specs.Calls.{CallFits, MaySay, rank, IsInDoubt, IsThrough, D
 use Rattle.ds_state.specs.KnownRecovery.{phase_for, Tells, ResolvedFits, over}
 use Rattle.ds_state.specs.Rely.{Grows, Keeps}
 use Rattle.ds_state.specs.Sound.{IsSound}
-use Rattle.ds_state.specs.RecoverySteps.{StepsAt, BeginsRecovery, at, number_of, next_number}
+use Rattle.ds_recover.specs.RecoverySteps.{StepsAt, BeginsRecovery, at, number_of, next_number}
 use Rattle.ds_state.specs.declared.work.RecoverStage.{RecoverStage}
 use Rattle.ds_state.specs.declared.work.RecoverStage.TheVariants.{LoadMark, Answer}
 use Rattle.ds_state.specs.declared.situation.Situation.{Situation}
@@ -33,8 +37,8 @@ use Rattle.ds_state.proofs.Bearing.{Mine, MyMarks, bears, all_stand, text_same, 
 use Rattle.ds_state.proofs.Buffers.{buffered}
 use Rattle.ds_state.proofs.EditFrame.{Framed, silent_framed, silent_keeps}
 use Rattle.ds_state.proofs.Accesses.{Turn, same_moves, quiet_sound}
-use Rattle.ds_state.proofs.RecoveryFrame.{on, turn_of, held_on, pends_on}
-use Rattle.ds_state.proofs.RecoveryDoubt.{phases}
+use Rattle.ds_recover.proofs.RecoveryFrame.{on, turn_of, held_on, pends_on}
+use Rattle.ds_recover.proofs.RecoveryDoubt.{phases}
 
 -- a process that is at rest but for its open edit
 pub record Rests (w : World) (p next : ℕ) : Type 0 where
@@ -203,6 +207,12 @@ module _ (e : PlainRecovery) (how : Option Bool) (word : ℕ) (old new : World) 
   step_answer = quiet_sound p old new tn sound moves f.bears f.stand f.apart (silent_keeps p old new moves tn.counted sound (buffered old sound) owes excuses parts splits m.buffer)
       (λ l. subst (λ (s : Situation). CallFits new p s) (sym t.situation) idle)
 
+some_cells : (shape : Shape) → 0 < count_of shape
+some_cells shape =
+    let c : Cell = record { column = 0; row = 0 } in
+    let l = index_below shape c (record { column = shape.within.some_columns; row = shape.within.some_rows }) in
+    omega arith
+
 -- the begin
 module _ (e : PlainRecovery) (old new : World) (sound : IsSound old) (real : e.process < old.layout.processes) (cells : cells_of old.layout ≡ e.cells) (processes : old.layout.processes ≡ e.processes)
     (b : BeginsRecovery e old new) where
@@ -227,7 +237,7 @@ module _ (e : PlainRecovery) (old new : World) (sound : IsSound old) (real : e.p
     freed = λ r l by. omega arith;
     resolved = tt;
     buffer = b.memory.buffer q ∙ empty;
-    row = tt;
+    is = record { process = rw (sym processes) real; processes = rw (sym processes) old.layout.limited; some = (let k = some_cells old.layout.shape in omega arith); cells = (let k = old.layout.shape.within.cells_to_1024 in omega arith); stage = (let k = some_cells old.layout.shape in omega arith) };
   }
 
   no_value : (r : ℕ) → (Version ≡ Value r) ⊎ (Version ≡ Kind r) → ⊥

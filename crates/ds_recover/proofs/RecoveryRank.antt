@@ -2,7 +2,7 @@
 use Rattle.std.proofs.Common.{ℕ, ◌≡◌, ◌<◌, ◌≤◌, ◌+◌, ◌-◌, ◌*◌, ◌/◌, refl, ap, sym, ◌∙◌, arith, true, false}
 use Rattle.std.specs.Prelude.{Bool, nat_lt, if◌then◌else◌}
 use Rattle.ds_state.specs.Works.{PlainRecovery}
-use Rattle.ds_state.specs.RecoverySteps.{rank, cells_rank, looks_from}
+use Rattle.ds_recover.specs.RecoverySteps.{rank, cells_rank, looks_from}
 use Rattle.ds_state.specs.declared.work.RecoverStage.TheVariants.{LoadMark, LoadAnnounce}
 
 times_a : (n k : ℕ) → (n + 1) * k ≡ n * k + k

@@ -1,0 +1,14 @@
+pub mod RecoveryFrame
+pub mod RecoveryGive
+pub mod RecoveryDoubt
+pub mod RecoveryResolve
+pub mod RecoverySay
+pub mod RecoveryEnds
+pub mod RecoveryBack
+pub mod RecoveryLate
+pub mod RecoveryFree
+pub mod RecoveryTell
+pub mod RecoveryHead
+pub mod RecoveryWhole
+pub mod RecoveryRank
+pub mod RecoveryLaws

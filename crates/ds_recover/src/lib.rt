@@ -1,0 +1,4 @@
+//! A recovery: its beginning, its steps, and what they are proved to do.
+#![tactic(auto)]
+
+pub mod laws;
