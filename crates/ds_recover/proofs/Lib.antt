@@ -7,6 +7,7 @@ pub mod RecoveryEnds
 pub mod RecoveryBack
 pub mod RecoveryLate
 pub mod RecoveryFree
+pub mod RecoveryReads
 pub mod RecoveryTell
 pub mod RecoveryHead
 pub mod RecoveryWhole

@@ -45,9 +45,9 @@ pub announced_of : (word : ℕ) (a : Announcement) → announcement_of word ≡ 
 announced_of word a is = let k = IsAnnouncement-announcement_of word a is in by a.number a.phase k.0 k.1
   where
     by : (n : ℕ) (f : Phase) → n < RECORDS → announcement n f ≡ word → IsAnnounced word
-    by n phase.Pending few w = record { some = omega arith; few = omega arith }
-    by n phase.Done few w = record { some = omega arith; few = omega arith }
-    by n phase.NotDone few w = record { some = omega arith; few = omega arith }
+    by n phase.Pending few w = record { it = a; reads = is; some = omega arith; few = omega arith }
+    by n phase.Done few w = record { it = a; reads = is; some = omega arith; few = omega arith }
+    by n phase.NotDone few w = record { it = a; reads = is; some = omega arith; few = omega arith }
 
 -- a header's cell is one of the sheet
 below_by : (cells word : ℕ) (o : Option headers.Header) → header_of cells word ≡ o → 0 < cells → cell_from o < cells

@@ -5,6 +5,7 @@ use Rattle.ds_words.specs.Memory.{StoresAt}
 use Rattle.ds_layout.specs.declared.place.TheConstants.{RECORDS}
 use Rattle.ds_layout.specs.declared.place.Place.TheVariants.{Version, Head, Mark, Value, Kind, Announce, Header}
 use Rattle.ds_layout.specs.declared.announcement.Phase.TheVariants as phase
+use Rattle.ds_layout.proofs.Packed.{announcement_of-announcement_word}
 use Rattle.ds_state.specs.Works.{PlainRecovery}
 use Rattle.ds_state.specs.RecoverStages.{IsAnnounced}
 use Rattle.ds_state.specs.World.{Edit, Issue, World, of_cell, record_size, record_place, announcement}
@@ -48,9 +49,9 @@ ended_word : (w : World) (f : Edit) (how : Bool) → announcement f.number (phas
 ended_word w f true = refl
 ended_word w f false = refl
 
-said_announced : (n : ℕ) (how : Bool) → n < RECORDS → IsAnnounced (announcement n (phase_for how))
-said_announced n true l = record { some = omega arith; few = omega arith }
-said_announced n false l = record { some = omega arith; few = omega arith }
+pub said_announced : (n : ℕ) (how : Bool) → n < RECORDS → IsAnnounced (announcement n (phase_for how))
+said_announced n true l = record { it = record { number = n; phase = phase.Done }; reads = announcement_of-announcement_word (record { number = n; phase = phase.Done }) l; some = omega arith; few = omega arith }
+said_announced n false l = record { it = record { number = n; phase = phase.NotDone }; reads = announcement_of-announcement_word (record { number = n; phase = phase.NotDone }) l; some = omega arith; few = omega arith }
 
 may_end : (how : Bool) → MaySay (standing_for how) (ended (outcome_for how))
 may_end true = tt

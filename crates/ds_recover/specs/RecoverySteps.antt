@@ -22,6 +22,10 @@ use Rattle.ds_state.specs.World.{Edit, Issue, World, announcement, done_place}
 use Rattle.ds_state.specs.Known.{AreBelow, IsSafelyIn}
 use Rattle.ds_state.specs.KnownRecovery.{marked, phase_for}
 use Rattle.ds_state.specs.Telling.{let_go, told_from}
+use Rattle.ds_recover.specs.declared.machine.Effect.{Effect}
+use Rattle.ds_recover.specs.declared.machine.Effect.TheVariants.{GoesOn, Answers}
+use Rattle.ds_recover.specs.declared.machine.RecoveryEnd.{RecoveryEnd}
+use Rattle.ds_recover.specs.declared.machine.RecoveryEnd.TheVariants.{Nothing, Last}
 use Rattle.ds_state.specs.declared.situation.Situation.{Situation}
 use Rattle.ds_state.specs.declared.situation.Situation.TheVariants.{Idle, Recovering}
 use Rattle.ds_state.specs.declared.work.Spread.{Spread}
@@ -151,6 +155,9 @@ next_at e (FlushOutcome how) word = at e (BackOutcome how)
 next_at e (BackOutcome how) word = at e (Answer (Some how))
 next_at e (Answer how) word = e
 
+abbrev pub got_at : PlainRecovery → ℕ → PlainRecovery
+got_at e word = next_at e e.stage word
+
 -- the number of the process's next edit, after its answer
 abbrev pub next_number : ℕ → Option Bool → ℕ
 next_number word None = 0
@@ -188,14 +195,15 @@ pub record BeginsRecovery (e : PlainRecovery) (old new : World) : Type 0 where
   pub counted : new.counted ≡ old.counted
   pub pending : (q : ℕ) → new.pending q ≡ old.pending q
 
--- what a recovery answers
-pub data RecoveryEnd : Type 0 where
-  Nothing : RecoveryEnd
-  Last : ℕ → ℕ → Bool → RecoveryEnd
-
+-- what the recovery answers, where it found an announcement and settled how that edit ended
 abbrev pub end_of : PlainRecovery → Option Bool → RecoveryEnd
 end_of e None = Nothing
 end_of e (Some how) = Last (number_of e) e.cell how
+
+-- what a step at a stage does to the recovery
+abbrev pub effect_at : PlainRecovery → RecoverStage → Effect
+effect_at e (Answer how) = Answers (end_of e how)
+effect_at e _ = GoesOn
 
 -- steps that are left at most, the answer's among them: within a cell, then of the cells that are left
 abbrev pub spread_rank : ℕ → Spread → ℕ

@@ -1,6 +1,8 @@
 -- A recovery's numbers are those of its sheet, at each of its stages.
 use Rattle.std.specs.Prelude.{ℕ, ◌≡◌, ◌<◌, ◌≤◌, ◌+◌, ◌/◌, List, length, Option, Some, None}
 use Rattle.ds_layout.specs.declared.place.TheConstants.{RECORDS}
+use Rattle.ds_layout.specs.declared.announcement.Announcement.{Announcement}
+use Rattle.ds_layout.specs.Announcement.{announcement_of}
 use Rattle.ds_state.specs.Works.{PlainRecovery, SEEN_MOST}
 use Rattle.ds_state.specs.declared.work.Spread.{Spread}
 use Rattle.ds_state.specs.declared.work.Spread.TheVariants.{LoadRow, OrTold, FlushTold, BackTold}
@@ -27,6 +29,8 @@ IsSpread cells row (BackTold d) = (d < cells) × (length row ≡ row_parts cells
 
 -- the announcement is one of a record
 pub record IsAnnounced (word : ℕ) : Type 0 where
+  pub it : Announcement
+  pub reads : announcement_of word ≡ Some it
   pub some : 0 < word / 4
   pub few : word / 4 ≤ RECORDS
 
