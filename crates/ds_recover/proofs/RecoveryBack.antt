@@ -1,19 +1,18 @@
 -- A recovery's write-backs, and the bits that it adds to marks.
-use Rattle.std.proofs.Common.{ℕ, ◌≡◌, ◌≢◌, ◌<◌, ◌≤◌, ◌+◌, ◌*◌, ◌/◌, ◌%◌, ◌⊎◌, List, [], ◌∷◌, ◌++◌, refl, ap, sym, ◌∙◌, subst, arith, inl, inr, Some, zero, suc, max}
-use Rattle.std.specs.Prelude.{Contains, Option, bit_or}
+use Rattle.std.proofs.Common.{ℕ, ◌≡◌, ◌≢◌, ◌<◌, ◌⊎◌, List, ◌∷◌, refl, ap, sym, ◌∙◌, subst, arith, inl, inr, suc}
+use Rattle.std.specs.Prelude.{Contains, bit_or}
 use Rattle.std.proofs.lemmas.Bool.{cases_eq}
 use Rattle.ds_words.specs.declared.access.Entry.{Entry}
-use Rattle.ds_words.specs.Memory.{Memory, OrsAt, StoresAt, WritesBack, BacksFirst, newer}
+use Rattle.ds_words.specs.Memory.{Memory, OrsAt, WritesBack, BacksFirst, newer}
 use Rattle.ds_layout.specs.Places.{class_of}
-use Rattle.ds_layout.specs.declared.layout.Layout.{Layout}
 use Rattle.ds_layout.specs.declared.mark.TheConstants.{DIRTY}
 use Rattle.ds_layout.specs.declared.place.Place.{Place}
 use Rattle.ds_layout.specs.declared.place.Place.TheVariants.{Version, Head, Mark, Value, Kind, Announce}
 use Rattle.ds_layout.proofs.PlaceCases.{place_cases}
 use Rattle.ds_state.specs.Works.{PlainRecovery}
 use Rattle.ds_state.specs.RecoverStages.{IsStage}
-use Rattle.ds_state.specs.World.{Edit, Issue, World, of_cell}
-use Rattle.ds_state.specs.Owing.{entry, turn, IsClean, IsHeldBy, IsHeld, IsPending, CellOwes, IsExcused}
+use Rattle.ds_state.specs.World.{World}
+use Rattle.ds_state.specs.Owing.{entry, IsClean, IsHeldBy, IsHeld, IsPending, CellOwes}
 use Rattle.ds_state.specs.KnownRecovery.{FreedFits, freed_at, ResolvedFits, resolved_at, RecoveryHolds, recovery_held}
 use Rattle.ds_state.specs.Calls.{CallFits, RecoveryFits}
 use Rattle.ds_state.specs.Words.{WordFits}
@@ -24,7 +23,7 @@ use Rattle.ds_state.specs.declared.situation.Situation.{Situation}
 use Rattle.ds_state.specs.declared.situation.Situation.TheVariants.{Recovering}
 use Rattle.ds_state.proofs.Dirty.{or_dirty, or_moves, or_mark_fits}
 use Rattle.ds_state.proofs.Heads.{small_counted}
-use Rattle.ds_state.proofs.Frames.{CatchesUp, Moves, grows_by, stays_hold, word_bears, moves_sound}
+use Rattle.ds_state.proofs.Frames.{Moves, grows_by, stays_hold, word_bears, moves_sound}
 use Rattle.ds_state.proofs.Bearing.{Mine, MyMarks, bears, all_stand, text_same, no_new_marks, stored_marks}
 use Rattle.ds_state.proofs.Buffers.{buffered}
 use Rattle.ds_state.proofs.Sides.{EntryFits, IsBetween, newer_between}

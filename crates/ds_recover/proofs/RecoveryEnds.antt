@@ -1,12 +1,12 @@
 -- A recovery begins, and answers.
-use Rattle.std.proofs.Common.{ℕ, ◌≡◌, ◌≢◌, ◌<◌, ◌≤◌, ◌+◌, ◌-◌, ◌*◌, ◌/◌, ◌%◌, ◌⊎◌, List, [], ◌∷◌, ◌++◌, refl, ap, sym, ◌∙◌, subst, arith, inl, inr, Some, None, true, false, zero, suc}
-use Rattle.std.specs.Prelude.{Option, Bool, All, Contains}
+use Rattle.std.proofs.Common.{ℕ, ◌≡◌, ◌<◌, ◌≤◌, ◌+◌, ◌/◌, ◌⊎◌, List, [], refl, ap, sym, ◌∙◌, subst, arith, inl, inr, Some, None, true, false, zero, suc}
+use Rattle.std.specs.Prelude.{Option, Bool, Contains}
 use Rattle.std.proofs.lemmas.Bool.{cases_eq}
 use Rattle.std.proofs.lemmas.List.Elements.{All-weaker}
 use Rattle.ds_words.specs.declared.access.Entry.{Entry}
 use Rattle.ds_words.specs.Memory.{SameMemory}
 use Rattle.ds_layout.specs.declared.place.TheConstants.{RECORDS}
-use Rattle.ds_layout.specs.declared.place.Place.TheVariants.{Version, Head, Mark, Value, Kind, Announce, Header}
+use Rattle.ds_layout.specs.declared.place.Place.TheVariants.{Version, Mark, Value, Kind, Announce}
 use Rattle.ds_layout.specs.declared.announcement.Phase.{Phase}
 use Rattle.ds_layout.specs.declared.announcement.Phase.TheVariants as phase
 use Rattle.ds_layout.specs.Places.{cells_of}
@@ -15,29 +15,27 @@ use Rattle.ds_formula.specs.declared.cells.Cell.{Cell}
 use Rattle.ds_formula.specs.declared.cells.Shape.{Shape}
 use Rattle.ds_eval.proofs.Walks.{index_below}
 use Rattle.ds_state.specs.Works.{PlainRecovery}
-use Rattle.ds_state.specs.World.{Edit, Issue, World, of_cell, head_after_all, announcement, last_announcement, phase_among, IsHeadBy}
-use Rattle.ds_state.specs.Known.{Standing, outside, inside, safe, Announced, last, pending, ended, word_of, phase_of, AreBelow, IsSafelyIn, StandsAs}
+use Rattle.ds_state.specs.World.{Edit, Issue, World, of_cell, head_after_all, announcement, last_announcement, phase_among}
+use Rattle.ds_state.specs.Known.{Standing, outside, inside, safe, Announced, last, pending, ended, word_of, phase_of, AreBelow, StandsAs}
 use Rattle.ds_state.specs.declared.stage.Outcome.TheVariants as outcome
 use Rattle.ds_state.specs.Owing.{entry, IsHeldBy, HoldsNone, Owes, Parts, IsPending, Excuses, Splits}
-use Rattle.ds_state.specs.KnownWork.{IsAtRest}
-use Rattle.ds_state.specs.Calls.{CallFits, MaySay, rank, IsInDoubt, IsThrough, DoubtFits, IdleFits, StoppedFits, RecoveryFits}
-use Rattle.ds_state.specs.KnownRecovery.{phase_for, Tells, ResolvedFits, over}
+use Rattle.ds_state.specs.Calls.{CallFits, MaySay, IsThrough, DoubtFits, IdleFits, StoppedFits, RecoveryFits}
+use Rattle.ds_state.specs.KnownRecovery.{Tells, ResolvedFits, over}
 use Rattle.ds_state.specs.Rely.{Grows, Keeps}
 use Rattle.ds_state.specs.Sound.{IsSound}
-use Rattle.ds_recover.specs.RecoverySteps.{StepsAt, BeginsRecovery, at, number_of, next_number}
-use Rattle.ds_state.specs.declared.work.RecoverStage.{RecoverStage}
+use Rattle.ds_recover.specs.RecoverySteps.{StepsAt, BeginsRecovery, at, next_number}
 use Rattle.ds_state.specs.declared.work.RecoverStage.TheVariants.{LoadMark, Answer}
 use Rattle.ds_state.specs.declared.situation.Situation.{Situation}
 use Rattle.ds_state.specs.declared.situation.Situation.TheVariants.{Idle, Stopped, Recovering}
 use Rattle.ds_state.proofs.Outcomes.{not_among, among}
 use Rattle.ds_state.proofs.Lasting.{below_stable, last_stable}
 use Rattle.ds_state.proofs.Stable.{doubt_grows, record_no_version}
-use Rattle.ds_state.proofs.Frames.{Moves, KeepsOwing, KeepsApart, grows_own}
-use Rattle.ds_state.proofs.Bearing.{Mine, MyMarks, bears, all_stand, text_same, no_new_marks, apart_lasts, splits_last, pends_last, marks_grow}
+use Rattle.ds_state.proofs.Frames.{Moves, grows_own}
+use Rattle.ds_state.proofs.Bearing.{Mine, bears, all_stand, text_same, no_new_marks, apart_lasts, splits_last, pends_last, marks_grow}
 use Rattle.ds_state.proofs.Buffers.{buffered}
 use Rattle.ds_state.proofs.EditFrame.{Framed, silent_framed, silent_keeps}
 use Rattle.ds_state.proofs.Accesses.{Turn, same_moves, quiet_sound}
-use Rattle.ds_recover.proofs.RecoveryFrame.{on, turn_of, held_on, pends_on}
+use Rattle.ds_recover.proofs.RecoveryFrame.{turn_of, held_on, pends_on}
 use Rattle.ds_recover.proofs.RecoveryDoubt.{phases}
 
 -- a process that is at rest but for its open edit

@@ -1,35 +1,32 @@
 -- The sorts of a recovery's steps: what each leaves of clauses 1 and 2, and of what it knows.
-use Rattle.std.proofs.Common.{ℕ, ◌≡◌, ◌≢◌, ◌<◌, ◌≤◌, ◌+◌, ◌*◌, ◌/◌, ◌%◌, ◌⊎◌, List, [], ◌∷◌, ◌++◌, refl, ap, sym, ◌∙◌, subst, arith, inl, inr, Some}
+use Rattle.std.proofs.Common.{ℕ, ◌≡◌, ◌<◌, ◌⊎◌, List, [], ◌∷◌, ◌++◌, refl, ap, sym, ◌∙◌, subst, arith, inl, inr, Some}
 use Rattle.std.specs.Prelude.{Contains, Option}
 use Rattle.std.proofs.lemmas.Bool.{cases_eq}
 use Rattle.ds_words.specs.declared.access.Entry.{Entry}
-use Rattle.ds_words.specs.Memory.{SameMemory, FlushesAt, WritesBack, StoresAt, newer}
-use Rattle.ds_layout.specs.Places.{class_of, cells_of}
+use Rattle.ds_words.specs.Memory.{SameMemory, FlushesAt}
+use Rattle.ds_layout.specs.Places.{class_of}
 use Rattle.ds_layout.specs.declared.place.Place.{Place}
 use Rattle.ds_layout.specs.declared.place.Place.TheVariants.{Version, Head, Mark, Value, Kind, Announce}
 use Rattle.ds_state.specs.Works.{PlainRecovery}
 use Rattle.ds_state.specs.RecoverStages.{IsStage}
-use Rattle.ds_state.specs.World.{Edit, Issue, World, of_cell, head_after_all, record_place}
-use Rattle.ds_state.specs.Owing.{entry, turn, IsHeldBy, IsHeld, Owes, RecoveryOwes, Parts, RecoveryParts, IsApart, CellOwes, IsPending, Excuses, RecoveryExcuses, IsExcused, Splits, RecoverySplits, IsIndexed}
-use Rattle.ds_state.specs.Standing.{HasContent, Matters}
+use Rattle.ds_state.specs.World.{Edit, Issue, World, of_cell, head_after_all}
+use Rattle.ds_state.specs.Owing.{entry, IsHeldBy, IsHeld, Owes, RecoveryOwes, Parts, RecoveryParts, CellOwes, IsPending, Excuses, RecoveryExcuses, IsExcused, Splits, RecoverySplits, IsIndexed}
+use Rattle.ds_state.specs.Standing.{Matters}
 use Rattle.ds_state.specs.KnownRecovery.{ValueAgrees, KindAgrees, FreedFits, freed_at, ResolvedFits, resolved_at, RecoveryHolds, recovery_held}
 use Rattle.ds_state.specs.Calls.{CallFits, DoubtFits, RecoveryFits}
-use Rattle.ds_state.specs.Words.{WordFits}
-use Rattle.ds_state.specs.Rely.{Grows, Bears, Keeps}
+use Rattle.ds_state.specs.Rely.{Grows, Keeps}
 use Rattle.ds_state.specs.Sound.{IsSound}
-use Rattle.ds_recover.specs.RecoverySteps.{StepsAt, after, pending_at}
+use Rattle.ds_recover.specs.RecoverySteps.{StepsAt}
 use Rattle.ds_state.specs.declared.work.RecoverStage.{RecoverStage}
 use Rattle.ds_state.specs.declared.situation.Situation.{Situation}
 use Rattle.ds_state.specs.declared.situation.Situation.TheVariants.{Recovering}
-use Rattle.ds_state.proofs.Heads.{small_counted}
 use Rattle.ds_state.proofs.Stable.{doubt_grows, record_no_version}
 use Rattle.ds_state.proofs.StableRecovery.{freed_stable, resolved_stable}
-use Rattle.ds_state.proofs.Frames.{CatchesUp, Moves, KeepsOwing, KeepsApart, grows_own, moves_sound}
-use Rattle.ds_state.proofs.Bearing.{Buffered, Mine, MyMarks, bears, all_stand, text_same, no_new_marks, apart_lasts, splits_last, pends_last, marks_grow}
+use Rattle.ds_state.proofs.Frames.{Moves, KeepsOwing, KeepsApart, grows_own}
+use Rattle.ds_state.proofs.Bearing.{Mine, MyMarks, bears, all_stand, text_same, no_new_marks, apart_lasts, splits_last, pends_last, marks_grow}
 use Rattle.ds_state.proofs.Buffers.{buffered}
-use Rattle.ds_state.proofs.EditFrame.{flush_any, back_any, heads_back}
-use Rattle.ds_state.proofs.Sides.{EntryFits, IsBetween, newer_between}
-use Rattle.ds_state.proofs.Accesses.{Turn, same_moves, store_moves, flush_moves, quiet_sound, Backs, written_backs, back_moves, back_grows, back_sound}
+use Rattle.ds_state.proofs.EditFrame.{flush_any}
+use Rattle.ds_state.proofs.Accesses.{Turn, same_moves, flush_moves, quiet_sound}
 
 -- the same recovery, with what it noted, at a stage
 abbrev pub on : PlainRecovery → ℕ → List ℕ → ℕ → ℕ → RecoverStage → PlainRecovery

@@ -1,20 +1,16 @@
 -- A recovery looks at its cells, and gives back those that it holds.
-use Rattle.std.proofs.Common.{ℕ, ◌≡◌, ◌≢◌, ◌<◌, ◌≤◌, ◌+◌, ◌-◌, ◌*◌, ◌/◌, ◌%◌, ◌==◌, ◌⊎◌, List, [], ◌∷◌, ◌++◌, refl, ap, sym, ◌∙◌, subst, arith, inl, inr, Some, None, zero, suc, true, false, max, length}
-use Rattle.std.specs.Prelude.{Contains, Option, Bool, bit_or, nat_lt, if◌then◌else◌, slice_index_or}
+use Rattle.std.proofs.Common.{ℕ, ◌≡◌, ◌≢◌, ◌<◌, ◌≤◌, ◌+◌, ◌-◌, ◌/◌, ◌%◌, ◌⊎◌, List, [], ◌∷◌, ◌++◌, refl, ap, sym, ◌∙◌, subst, arith, inl, inr, Some, None, zero, suc, true, false}
+use Rattle.std.specs.Prelude.{Option, Bool, nat_lt, if◌then◌else◌, slice_index_or}
 use Rattle.std.specs.Int.{bit_at}
-use Rattle.std.proofs.lemmas.Bool.{cases_eq, ltb-true, ltb-false, lt-ltb}
+use Rattle.std.proofs.lemmas.Bool.{cases_eq, ltb-true, ltb-false}
 use Rattle.std.proofs.lemmas.Bool.Decides.{eqb_tells}
-use Rattle.ds_words.specs.declared.access.Entry.{Entry}
-use Rattle.ds_words.specs.Memory.{SameMemory, StoresAt, OrsAt, FlushesAt, WritesBack}
+use Rattle.ds_words.specs.Memory.{SameMemory, FlushesAt, WritesBack}
 use Rattle.ds_layout.specs.Places.{class_of, cells_of}
-use Rattle.ds_layout.specs.declared.mark.TheConstants.{DIRTY}
-use Rattle.ds_layout.specs.declared.place.Place.{Place}
-use Rattle.ds_layout.specs.declared.place.Place.TheVariants.{Version, Head, Mark, Value, Kind, Announce, Index}
+use Rattle.ds_layout.specs.declared.place.Place.TheVariants.{Version, Mark, Value, Kind}
 use Rattle.ds_state.specs.Works.{PlainRecovery}
 use Rattle.ds_state.specs.RecoverStages.{HELD_YOUNG}
-use Rattle.ds_state.specs.World.{Edit, Issue, World, of_cell}
-use Rattle.ds_state.specs.Owing.{entry, HoldsNone, IsMark, IsHeldBy, IsHeld, IsApart, CellOwes, IsPending, IsIndexed, StandsIn, SpreadOwes, RecoveryOwes, Owes}
-use Rattle.ds_state.specs.Standing.{Matters}
+use Rattle.ds_state.specs.World.{World}
+use Rattle.ds_state.specs.Owing.{entry, HoldsNone, IsHeldBy, StandsIn}
 use Rattle.ds_state.specs.KnownWork.{HasMark}
 use Rattle.ds_state.specs.KnownRecovery.{HoldsFrom, Holding, marked, value_now, kind_now}
 use Rattle.ds_state.specs.Calls.{RecoveryFits}
@@ -22,21 +18,17 @@ use Rattle.ds_state.specs.Rely.{Grows, Keeps}
 use Rattle.ds_state.specs.Sound.{IsSound}
 use Rattle.ds_state.specs.Telling.{told_from}
 use Rattle.ds_state.proofs.Telling.{ToldFits, first_told as first_fits}
-use Rattle.ds_recover.specs.RecoverySteps.{StepsAt, at, told, reads_held}
-use Rattle.ds_state.specs.declared.work.Spread.TheVariants.{LoadRow, OrTold, FlushTold, BackTold}
-use Rattle.ds_state.specs.declared.work.RecoverStage.TheVariants.{LoadMark, FlushValue, FlushKind, BackValue, BackKind, Telling, Give, GiveDirty, FlushGiven, BackGiven, LoadAnnounce}
-use Rattle.ds_state.specs.declared.situation.Situation.{Situation}
+use Rattle.ds_recover.specs.RecoverySteps.{StepsAt, at, reads_held}
+use Rattle.ds_state.specs.declared.work.RecoverStage.TheVariants.{LoadMark, FlushValue, FlushKind, BackValue, Give, GiveDirty, FlushGiven, BackGiven, LoadAnnounce}
 use Rattle.ds_state.specs.declared.situation.Situation.TheVariants.{Recovering}
-use Rattle.ds_state.proofs.Dirty.{or_dirty}
-use Rattle.ds_state.proofs.Frames.{Moves, grows_own, one_holder}
-use Rattle.ds_state.proofs.Bearing.{Mine, MyMarks, no_new_marks, text_same, durable_least}
+use Rattle.ds_state.proofs.Frames.{Moves}
+use Rattle.ds_state.proofs.Bearing.{text_same}
 use Rattle.ds_state.proofs.Buffers.{buffered}
 use Rattle.ds_state.proofs.EditFrame.{back_any}
-use Rattle.ds_state.proofs.Telling.{matters_most, odd_above, row_passes, flush_passes, back_passes}
 use Rattle.ds_state.proofs.Accesses.{Turn, same_moves, flush_moves}
-use Rattle.ds_recover.proofs.RecoveryFrame.{on, Passes, turn_of, held_on, pends_on, simple_passes, loads, flushes}
-use Rattle.ds_recover.proofs.RecoveryBack.{held_from, pends_from, first_back, grown_back, was_there, backs, backs_none, moved_or, grown_or, ors}
-use Rattle.ds_recover.proofs.RecoveryGive.{given, give_keeps}
+use Rattle.ds_recover.proofs.RecoveryFrame.{turn_of, held_on, pends_on, simple_passes, loads, flushes}
+use Rattle.ds_recover.proofs.RecoveryBack.{held_from, pends_from, first_back, grown_back, backs}
+use Rattle.ds_recover.proofs.RecoveryGive.{give_keeps}
 
 -- the first cell that is told is no later than one whose bit stands
 pub first_told : (row : List ℕ) (more d c : ℕ) → d ≤ c → c < d + more → StandsIn row c → (d' : ℕ) × (told_from row more d ≡ Some d') × (d' ≤ c)

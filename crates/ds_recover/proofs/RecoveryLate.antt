@@ -1,33 +1,32 @@
 -- The later steps of a recovery: its mark, and its announcement's way back.
-use Rattle.std.proofs.Common.{ℕ, ◌≡◌, ◌≢◌, ◌<◌, ◌≤◌, ◌+◌, ◌*◌, ◌/◌, ◌%◌, ◌⊎◌, List, [], ◌∷◌, ◌++◌, refl, ap, sym, ◌∙◌, subst, arith, inl, inr, Some, max}
-use Rattle.std.specs.Prelude.{Contains, Option, Bool, bit_or}
+use Rattle.std.proofs.Common.{ℕ, ◌≡◌, ◌<◌, ◌≤◌, ◌⊎◌, [], ◌∷◌, ◌++◌, ap, sym, ◌∙◌, subst, arith, inl, inr, Some, max}
+use Rattle.std.specs.Prelude.{Option, Bool, bit_or}
 use Rattle.ds_words.specs.declared.access.Entry.{Entry}
 use Rattle.ds_words.specs.Memory.{OrsAt, FlushesAt, WritesBack}
 use Rattle.ds_layout.specs.Places.{class_of}
 use Rattle.ds_layout.specs.declared.mark.TheConstants.{DIRTY}
 use Rattle.ds_layout.specs.declared.place.Place.{Place}
-use Rattle.ds_layout.specs.declared.place.Place.TheVariants.{Version, Head, Mark, Value, Kind, Announce}
+use Rattle.ds_layout.specs.declared.place.Place.TheVariants.{Version, Mark, Value, Kind, Announce}
 use Rattle.ds_state.specs.Works.{PlainRecovery}
-use Rattle.ds_state.specs.World.{Edit, Issue, World, of_cell, IsHeadBy}
-use Rattle.ds_state.specs.Known.{IsIn}
-use Rattle.ds_state.specs.Owing.{entry, IsMark, IsPending, IsBelowBuffered}
+use Rattle.ds_state.specs.World.{Edit, Issue, World}
+use Rattle.ds_state.specs.Owing.{entry, IsPending, IsBelowBuffered}
 use Rattle.ds_state.specs.Standing.{Matters}
 use Rattle.ds_state.specs.KnownWork.{HasMark}
 use Rattle.ds_state.specs.KnownRecovery.{IsOpenAnd, SettledAs}
-use Rattle.ds_state.specs.Calls.{RecoveryFits, IsHeadFrom}
+use Rattle.ds_state.specs.Calls.{RecoveryFits}
 use Rattle.ds_state.specs.Rely.{Grows, Keeps}
 use Rattle.ds_state.specs.Sound.{IsSound}
 use Rattle.ds_recover.specs.RecoverySteps.{StepsAt, at}
-use Rattle.ds_state.specs.declared.work.RecoverStage.TheVariants.{FlushHead, BackHead, OrMark, FlushMark, BackMark, StoreOutcome, FlushOutcome, BackOutcome, Answer}
+use Rattle.ds_state.specs.declared.work.RecoverStage.TheVariants.{OrMark, FlushMark, BackMark, StoreOutcome, FlushOutcome, BackOutcome, Answer}
 use Rattle.ds_state.specs.declared.situation.Situation.TheVariants.{Recovering}
 use Rattle.ds_state.proofs.Dirty.{or_dirty}
 use Rattle.ds_state.proofs.Frames.{Moves, grows_own}
-use Rattle.ds_state.proofs.Bearing.{Mine, MyMarks, no_new_marks, text_same, durable_least}
+use Rattle.ds_state.proofs.Bearing.{no_new_marks, text_same, durable_least}
 use Rattle.ds_state.proofs.Buffers.{buffered}
 use Rattle.ds_state.proofs.EditFrame.{back_any}
 use Rattle.ds_state.proofs.Telling.{matters_most, odd_above}
 use Rattle.ds_state.proofs.Accesses.{Turn, flush_moves}
-use Rattle.ds_recover.proofs.RecoveryFrame.{on, turn_of, simple_passes, flushes}
+use Rattle.ds_recover.proofs.RecoveryFrame.{turn_of, simple_passes, flushes}
 use Rattle.ds_recover.proofs.RecoveryBack.{held_from, pends_from, first_back, grown_back, was_there, backs, moved_or, grown_or, ors}
 
 same_issue : {o : Option Issue} {a b : Issue} → o ≡ Some a → o ≡ Some b → a ≡ b

@@ -1,5 +1,5 @@
 -- What a recovery reads of words, and which cell it tells next.
-use Rattle.std.proofs.Common.{ℕ, ◌≡◌, ◌≢◌, ◌<◌, ◌≤◌, ◌+◌, ◌-◌, ◌*◌, ◌/◌, ◌%◌, ◌==◌, List, length, refl, ap, sym, ◌∙◌, subst, arith, zero, suc, true, false, Some, None}
+use Rattle.std.proofs.Common.{ℕ, ◌≡◌, ◌≢◌, ◌<◌, ◌≤◌, ◌+◌, ◌-◌, ◌/◌, ◌%◌, ◌==◌, List, length, refl, ap, ◌∙◌, arith, suc, true, false, Some, None}
 use Rattle.std.specs.Prelude.{Bool, Option, bit_or, nat_lt, if◌then◌else◌, slice_index_or}
 use Rattle.std.specs.Int.{bit_at}
 use Rattle.std.proofs.lemmas.Bool.{ne_eqb, eq-eqb, ltb-true, ltb-false}

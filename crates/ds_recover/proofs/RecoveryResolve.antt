@@ -1,20 +1,18 @@
 -- A recovery finds out about the edit in doubt.
-use Rattle.std.proofs.Common.{ℕ, ◌≡◌, ◌≢◌, ◌<◌, ◌≤◌, ◌+◌, ◌-◌, ◌*◌, ◌/◌, ◌%◌, ◌==◌, ◌⊎◌, List, [], ◌∷◌, ◌++◌, refl, ap, sym, ◌∙◌, subst, arith, inl, inr, Some, None, true, false}
+use Rattle.std.proofs.Common.{ℕ, ◌≡◌, ◌<◌, ◌+◌, ◌%◌, ◌==◌, ◌⊎◌, [], ◌∷◌, ◌++◌, refl, ap, sym, ◌∙◌, subst, arith, inl, inr, Some, None, true, false}
 use Rattle.std.specs.Prelude.{Option, Bool, if◌then◌else◌}
 use Rattle.std.specs.Int.{bit_at}
 use Rattle.std.proofs.lemmas.Bool.{eqb-true, eq-eqb}
 use Rattle.ds_words.specs.Memory.{SameMemory}
 use Rattle.ds_layout.specs.declared.header.Header as headers
 use Rattle.ds_layout.specs.declared.place.TheConstants.{RECORDS}
-use Rattle.ds_layout.specs.declared.place.Place.TheVariants.{Version, Head, Mark, Value, Kind, Announce, Header}
+use Rattle.ds_layout.specs.declared.place.Place.TheVariants.{Version, Head, Announce, Header}
 use Rattle.ds_layout.specs.declared.announcement.Phase.{Phase}
 use Rattle.ds_layout.specs.declared.announcement.Phase.TheVariants as phase
 use Rattle.ds_layout.specs.declared.announcement.Announcement.{Announcement}
-use Rattle.ds_layout.specs.Announcement.{announcement_of, IsAnnouncement}
-use Rattle.ds_layout.specs.Places.{cells_of}
+use Rattle.ds_layout.specs.Announcement.{announcement_of}
 use Rattle.ds_layout.specs.Head.{head_of}
 use Rattle.ds_layout.specs.Header.{header_of}
-use Rattle.ds_layout.specs.Bits.{HasBit}
 use Rattle.ds_layout.proofs.Packed.{IsAnnouncement-announcement_of, IsHeader-header_of}
 use Rattle.ds_state.specs.Works.{PlainRecovery}
 use Rattle.ds_state.specs.RecoverStages.{IsAnnounced}
@@ -22,7 +20,7 @@ use Rattle.ds_state.specs.World.{Edit, Issue, World, of_cell, announcement, done
 use Rattle.ds_state.specs.Known.{AreBelow, IsIn}
 use Rattle.ds_state.specs.Owing.{IsPending}
 use Rattle.ds_state.specs.Calls.{RecoveryFits, IsInDoubt, DoubtFits}
-use Rattle.ds_state.specs.KnownRecovery.{Tells, phase_for, IsOpen, IsOpenAnd, IsPassed, SettledAs}
+use Rattle.ds_state.specs.KnownRecovery.{Tells, phase_for, IsOpenAnd, IsPassed, SettledAs}
 use Rattle.ds_state.specs.Rely.{Keeps}
 use Rattle.ds_state.specs.Sound.{IsSound}
 use Rattle.ds_recover.specs.RecoverySteps.{StepsAt, at, number_of, announced_from, resolves_from, phase_from, cell_from, is_shown}
@@ -31,7 +29,7 @@ use Rattle.ds_state.specs.declared.work.RecoverStage.TheVariants.{LoadAnnounce, 
 use Rattle.ds_state.specs.declared.situation.Situation.TheVariants.{Recovering}
 use Rattle.ds_state.proofs.Frames.{Moves}
 use Rattle.ds_state.proofs.Accesses.{Turn, same_moves}
-use Rattle.ds_recover.proofs.RecoveryFrame.{on, Passes, turn_of, held_on, pends_on, simple_passes, loads}
+use Rattle.ds_recover.proofs.RecoveryFrame.{on, turn_of, held_on, pends_on, simple_passes, loads}
 use Rattle.ds_recover.proofs.RecoveryDoubt.{IsDoubted, unannounced, pending_open, header_reads, shown_in, not_shown, shows_last, shown_own, bit_tells, no_bit_tells}
 
 same_issue : {o : Option Issue} {a b : Issue} → o ≡ Some a → o ≡ Some b → a ≡ b

@@ -1,5 +1,5 @@
 -- The steps of a recovery: what each stage does to the memory, and what comes then.
-use Rattle.std.specs.Prelude.{ℕ, ◌≡◌, ◌≢◌, ◌<◌, ◌≤◌, ◌⊎◌, ◌+◌, ◌-◌, ◌*◌, ◌/◌, ◌%◌, ◌==◌, nat_lt, if◌then◌else◌, List, [], ◌∷◌, ◌++◌, length, Option, Some, None, Bool, true, false, zero, suc}
+use Rattle.std.specs.Prelude.{ℕ, ◌≡◌, ◌≢◌, ◌<◌, ◌≤◌, ◌⊎◌, ◌+◌, ◌-◌, ◌*◌, ◌/◌, ◌%◌, ◌==◌, nat_lt, if◌then◌else◌, List, [], ◌∷◌, ◌++◌, Option, Some, None, Bool, true, false}
 use Rattle.std.specs.Int.{bit_at}
 use Rattle.ds_words.specs.Memory.{SameMemory}
 use Rattle.ds_words.specs.declared.access.Access.{Access}
@@ -186,6 +186,19 @@ pub record StepsAt (e : PlainRecovery) (stage : RecoverStage) (word : ℕ) (old 
 abbrev pub Steps : PlainRecovery → ℕ → World → World → Type 0
 Steps e word old new = StepsAt e e.stage word old new
 
+-- a recovery of the sheet, before its first step
+abbrev pub fresh : ℕ → ℕ → ℕ → PlainRecovery
+fresh process cells processes = record {
+  process = process;
+  cells = cells;
+  processes = processes;
+  mark = 0;
+  row = [];
+  announcement = 0;
+  cell = 0;
+  stage = LoadMark 0;
+}
+
 -- a recovery begins, of a process that is stopped or idle
 pub record BeginsRecovery (e : PlainRecovery) (old new : World) : Type 0 where
   pub layout : new.layout ≡ old.layout
@@ -239,6 +252,11 @@ rank cells (StoreOutcome how) = 5
 rank cells (FlushOutcome how) = 4
 rank cells (BackOutcome how) = 3
 rank cells (Answer how) = 1
+
+-- fewer steps are left after a step, but for the answer's, which is the last
+abbrev pub Falls : PlainRecovery → RecoverStage → PlainRecovery → Type 0
+Falls e (Answer how) after = Unit {0}
+Falls e stage after = rank e.cells after.stage < rank e.cells stage
 
 -- what the answer says of an edit in doubt: with its number and Done it counts for good; else it does not count
 abbrev pub ResolvesAs : World → Edit → RecoveryEnd → Type 0

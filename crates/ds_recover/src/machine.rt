@@ -43,7 +43,7 @@ pub enum Effect {
 }
 
 // The number of the edit that it saw announced.
-fn number(call: &RecoverCall) -> usize
+pub(crate) fn number(call: &RecoverCall) -> usize
     requires { IsAnnounced call.now.announcement }
     ensures value { result ≡ number_of call.now }
     ensures few { result < 256 }
