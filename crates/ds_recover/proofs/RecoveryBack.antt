@@ -182,7 +182,7 @@ module _ (e : PlainRecovery) (mark : ℕ) (row : List ℕ) (word : ℕ) (cell : 
       (all_stand p (Mark d) old new moves sound (buffered old sound) my (text_same old new moves.layout tn.counted) marks)
       (recovery_apart e mark row word cell s s' old new was is (Mark d) moves passes) (λ k ne. recovery_keeps e mark row word cell s s' old new was is (Mark d) moves passes pending k)
       (subst (λ (x : ℕ). WordFits new (Mark d) x (new.memory.persisted (Mark d))) (sym m.there) (subst (λ (y : ℕ). WordFits new (Mark d) (bit_or c DIRTY) y) (sym (m.persisted (Mark d)))
-        (or_mark_fits new d c v (word_bears p (Mark d) old new moves tn.counted (Mark d) c v (λ k at. cc) (λ k at a. elim at [ inl x ↦ cc | inr x ↦ cc ]) (sound.words (Mark d))))))
+      (or_mark_fits new d c v (word_bears p (Mark d) old new moves tn.counted (Mark d) c v (λ k at. cc) (λ k at a. elim at [ inl x ↦ cc | inr x ↦ cc ]) (sound.words (Mark d))))))
       (λ l. subst (λ (t : Situation). CallFits new p t) (sym is)
       (stays e mark row word cell s s' old new sound was fits real tn is pending passes (grown_or p d old new tn m) freed resolved buffer rows))
     where

@@ -261,14 +261,17 @@ module _ (e : PlainRecovery) (old new : World) (sound : IsSound old) (real : e.p
         | inr ne ↦ apart_lasts q Version old new mb cell a ne
         | inl eq ↦ record { holder = q; held = held cell (subst (λ (k : ℕ). Rattle.ds_state.specs.Owing.IsHeld old.memory k cell) eq a.held); still = subst (λ (s : Situation). Parts s cell) (sym b.situation) tt }
       ]))
-      (λ cell f issue its pending' same before last_of owes'. (b.pending f.process ∙ pending', elim (cases_eq f.process q) [
-        | inl eq ↦ (
-            let k : IsPending old q f.cell = subst (λ (s : Situation). Splits old q s f.cell (head_after_all (of_cell cell old.counted))) was (subst (λ (x : ℕ). Splits old x (old.situation x) f.cell (head_after_all (of_cell cell old.counted))) eq owes') in
-            subst (λ (x : ℕ). Splits new x (new.situation x) f.cell (head_after_all (of_cell cell old.counted))) (sym eq)
-            (subst (λ (s : Situation). Splits new q s f.cell (head_after_all (of_cell cell old.counted))) (sym b.situation) (pends f.cell k, tt)))
-        | inr ne ↦ subst (λ (s : Situation). Splits new f.process s f.cell (head_after_all (of_cell cell old.counted))) (sym (b.others f.process ne))
-            (splits_last old new f.process (λ c. marks_grow q Version old new mb c) (b.memory.buffer f.process) (λ c k. pends_last q Version old new mb f.process c ne k) (old.situation f.process) f.cell _ owes')
-      ]))
+      (λ cell f issue its pending' same before last_of owes'. (
+        b.pending f.process ∙ pending',
+        elim (cases_eq f.process q) [
+          | inl eq ↦ (
+              let k : IsPending old q f.cell = subst (λ (s : Situation). Splits old q s f.cell (head_after_all (of_cell cell old.counted))) was (subst (λ (x : ℕ). Splits old x (old.situation x) f.cell (head_after_all (of_cell cell old.counted))) eq owes') in
+              subst (λ (x : ℕ). Splits new x (new.situation x) f.cell (head_after_all (of_cell cell old.counted))) (sym eq)
+              (subst (λ (s : Situation). Splits new q s f.cell (head_after_all (of_cell cell old.counted))) (sym b.situation) (pends f.cell k, tt)))
+          | inr ne ↦ subst (λ (s : Situation). Splits new f.process s f.cell (head_after_all (of_cell cell old.counted))) (sym (b.others f.process ne))
+              (splits_last old new f.process (λ c. marks_grow q Version old new mb c) (b.memory.buffer f.process) (λ c k. pends_last q Version old new mb f.process c ne k) (old.situation f.process) f.cell _ owes')
+        ],
+      ))
       (λ l. subst (λ (s : Situation). CallFits new q s) (sym b.situation) (begun stopped.buffer stopped.doubt))
 
   from_idle : (next : ℕ) → old.situation q ≡ Idle next → Keeps q old new

@@ -117,9 +117,11 @@ module _ (e : PlainRecovery) (mark : ℕ) (row : List ℕ) (word : ℕ) (cell : 
           let now : Splits new e.process (new.situation e.process) f.cell (head_after_all (of_cell c old.counted)) =
           subst (λ (x : Situation). Splits new e.process x f.cell (head_after_all (of_cell c old.counted))) (sym is) (n.0, n.1) in
           (ap new.pending eq ∙ pending ∙ ap old.pending (sym eq) ∙ pends, subst (λ (q : ℕ). Splits new q (new.situation q) f.cell (head_after_all (of_cell c old.counted))) (sym eq) now))
-      | inr ne ↦ (moves.pendings f.process ne ∙ pends,
+      | inr ne ↦ (
+        moves.pendings f.process ne ∙ pends,
         subst (λ (x : Situation). Splits new f.process x f.cell (head_after_all (of_cell c old.counted))) (sym (moves.situations f.process ne))
-        (splits_last old new f.process (λ y. marks_grow e.process place old new moves y) (moves.buffers f.process ne) (λ y k. pends_last e.process place old new moves f.process y ne k) (old.situation f.process) f.cell _ owes))
+            (splits_last old new f.process (λ y. marks_grow e.process place old new moves y) (moves.buffers f.process ne) (λ y k. pends_last e.process place old new moves f.process y ne k) (old.situation f.process) f.cell _ owes),
+      )
     ]
 
   -- what it knows after the step, where its own words stay
@@ -143,7 +145,6 @@ module _ (e : PlainRecovery) (mark : ℕ) (row : List ℕ) (word : ℕ) (cell : 
     (was : old.situation e.process ≡ Recovering (record e { stage = s })) (fits : RecoveryFits old e.process (record e { stage = s })) (real : e.process < old.layout.processes)
     (tn : Turn e.process old new) (is : new.situation e.process ≡ Recovering (on e mark row word cell s')) (pending : new.pending e.process ≡ old.pending e.process)
     (passes : Passes e.process e.row s row s' old new) where
-
   pub stays : Grows e.process Version old new → (FreedFits new e.process e.mark (freed_at s) → FreedFits new e.process mark (freed_at s'))
       → (ResolvedFits new e.process e.announcement e.cell (resolved_at s) → ResolvedFits new e.process word cell (resolved_at s'))
       → RecoveryHolds new e.process word cell (recovery_held cell s') → IsStage (on e mark row word cell s') s' → RecoveryFits new e.process (on e mark row word cell s')

@@ -78,7 +78,7 @@ module _ (e : PlainRecovery) (word : ℕ) (old new : World) (sound : IsSound old
       let n : NowHead old e.cell own = now_head old sound e.cell own h.issue.edit stands in
       flushes e e.mark e.row e.announcement e.cell FlushHead BackHead old new sound was fits real tn t.situation t.pending
       (simple_passes p e.row FlushHead e.row BackHead old new (held_on p old new moves) (pends_on p old new moves t.pending)
-        (λ r d x bit matters held o. o) (λ d x matters k o. tt) (λ r held o. o) (λ f before last_of issue issued same k o. tt))
+      (λ r d x bit matters held o. o) (λ d x matters k o. tt) (λ r held o. o) (λ f before last_of issue issued same k o. tt))
       (Head e.cell) m (λ k. k) (λ k. k)
       (record {
         value = old.memory.cached (Head e.cell);

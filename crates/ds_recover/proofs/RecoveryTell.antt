@@ -61,7 +61,7 @@ module _ (e : PlainRecovery) (word : ℕ) (old new : World) (sound : IsSound old
       let tn : Turn p old new = turn_of e (BackValue c) word old new t in
       let g : Grows p Version old new = grown_back p (Value c) v (kind_now old c ∷ []) old new sound tn m refl (λ o. refl) in
       let passes : Passes p e.row (BackValue c) e.row (BackKind c) old new = simple_passes p e.row (BackValue c) e.row (BackKind c) old new (held_from p old new g) (pends_from p old new g t.pending)
-          (λ r d x bit matters held o. tt) (λ d x matters k o. tt) (λ r held o. tt) (λ f before last_of issue issued same k o. tt) in
+      (λ r d x bit matters held o. tt) (λ d x matters k o. tt) (λ r held o. tt) (λ f before last_of issue issued same k o. tt) in
       let agree : ValueAgrees new c = m.there ∙ sym (m.cached (Value c)) in
       let there : (d x q : ℕ) → Contains (new.memory.buffer q) (entry (Mark d) x) → Contains (old.memory.buffer q) (entry (Mark d) x) = was_there p (Value c) v (kind_now old c ∷ []) old new sound tn m refl (λ o. refl) in
       let holds : new.memory.buffer p ≡ kind_now new c ∷ [] = m.mine ∙ ap (λ (y : ℕ). entry (Kind c) y ∷ []) (sym (m.cached (Kind c))) in
@@ -121,14 +121,20 @@ module _ (e : PlainRecovery) (word : ℕ) (old new : World) (sound : IsSound old
       let is = or_dirty (old.memory.cached (Mark d)) in
       ors e e.mark e.row e.announcement e.cell (Telling c (OrTold d)) (Telling c (FlushTold d)) old new sound was fits real tn t.situation t.pending
       (simple_passes p e.row (Telling c (OrTold d)) e.row (Telling c (FlushTold d)) old new (held_from p old new g) (pends_from p old new g t.pending)
-        (λ r y x bit matters held o. other_or c r _ _ (λ eq k. (k.0, elim (cases_eq d y) [
+      (λ r y x bit matters held o. other_or c r _ _ (λ eq k. (
+        k.0,
+        elim (cases_eq d y) [
           | inr ne ↦ inl (let l = k.1 in omega arith)
-          | inl at ↦ inr (at, (
-              let most = matters_most p d _ old new m moves sound (buffered old sound) y x matters in
-              let there : new.memory.cached (Mark y) ≡ bit_or (old.memory.cached (Mark d)) DIRTY = ap (λ (z : ℕ). new.memory.cached (Mark z)) (sym at) ∙ m.there in
-              odd_above x (new.memory.cached (Mark y)) matters.0 (omega arith) most))
-        ])) o)
-        (λ y x matters k o. tt) (λ r held o. o) (λ f before last_of issue issued same k o. tt))
+          | inl at ↦ inr (
+            at,
+            (
+                let most = matters_most p d _ old new m moves sound (buffered old sound) y x matters in
+                let there : new.memory.cached (Mark y) ≡ bit_or (old.memory.cached (Mark d)) DIRTY = ap (λ (z : ℕ). new.memory.cached (Mark z)) (sym at) ∙ m.there in
+                odd_above x (new.memory.cached (Mark y)) matters.0 (omega arith) most),
+          )
+        ],
+      )) o)
+      (λ y x matters k o. tt) (λ r held o. o) (λ f before last_of issue issued same k o. tt))
       d m (λ h. h) (λ h. h) (m.buffer p ∙ fits.buffer) fits.is.stage
 
   pub step_flush_told : (c d : ℕ) → old.situation e.process ≡ Recovering (at e (Telling c (FlushTold d))) → RecoveryFits old e.process (at e (Telling c (FlushTold d))) → StepsAt e (Telling c (FlushTold d)) word old new → Keeps e.process old new
@@ -139,8 +145,8 @@ module _ (e : PlainRecovery) (word : ℕ) (old new : World) (sound : IsSound old
       let alone : new.memory.buffer p ≡ entry (Mark d) (old.memory.cached (Mark d)) ∷ [] = m.mine ∙ ap (λ xs. xs ++ entry (Mark d) (old.memory.cached (Mark d)) ∷ []) fits.buffer in
       flushes e e.mark e.row e.announcement e.cell (Telling c (FlushTold d)) (Telling c (BackTold d)) old new sound was fits real tn t.situation t.pending
       (simple_passes p e.row (Telling c (FlushTold d)) e.row (Telling c (BackTold d)) old new (held_on p old new moves) (pends_on p old new moves t.pending)
-        (λ r y x bit matters held o. other_or c r _ _ (λ eq k. flush_passes p e.row d old new alone y x k) o)
-        (λ y x matters k o. tt) (λ r held o. o) (λ f before last_of issue issued same k o. tt))
+      (λ r y x bit matters held o. other_or c r _ _ (λ eq k. flush_passes p e.row d old new alone y x k) o)
+      (λ y x matters k o. tt) (λ r held o. o) (λ f before last_of issue issued same k o. tt))
       (Mark d) m (λ h. h) (λ h. h)
       (record { value = old.memory.cached (Mark d); alone = alone; had = (let k = m.cached (Mark d) in omega arith); is = λ q by. rw tn.layout ((sound.words (Mark d)).holder q by) }) fits.is.stage
 
@@ -172,21 +178,21 @@ module _ (e : PlainRecovery) (word : ℕ) (old new : World) (sound : IsSound old
       go : (o : Option ℕ) → told_from e.row (e.cells - (d + 1)) (d + 1) ≡ o → new.situation p ≡ Recovering (at e (told c o)) → Keeps p old new
       go None none is = backs e e.mark e.row e.announcement e.cell (Telling c (BackTold d)) (Give c) old new sound was fits real tn is t.pending
           (simple_passes p e.row (Telling c (BackTold d)) e.row (Give c) old new (held_from p old new g) (pends_from p old new g t.pending)
-            (λ r y x bit matters held o. elim o [
-              | inl ne ↦ ne
-              | inr k ↦ absurd (let l = left y x matters k in tells_none e.row e.cells (d + 1) y none (let b = bit.1 in let n = fits.cells in omega arith) l.0 l.1)
-            ])
-            (λ y x matters k o. tt) (λ r held o. o) (λ f before last_of issue issued same k o. tt))
+          (λ r y x bit matters held o. elim o [
+            | inl ne ↦ ne
+            | inr k ↦ absurd (let l = left y x matters k in tells_none e.row e.cells (d + 1) y none (let b = bit.1 in let n = fits.cells in omega arith) l.0 l.1)
+          ])
+          (λ y x matters k o. tt) (λ r held o. o) (λ f before last_of issue issued same k o. tt))
           (Mark d) one.value [] m (one.had, one.is) (λ o. absurd o) (λ y at. cc) (λ r at. absurd (no_value d r at)) (λ r at. absurd (no_value d r at))
           (λ moves my. back_any p (Mark d) one.value old new moves sound (buffered old sound) my (text_same old new moves.layout tn.counted) real m)
           (λ h. h) (λ h. h) m.mine fits.is.stage.0
       go (Some d') some is = backs e e.mark e.row e.announcement e.cell (Telling c (BackTold d)) (Telling c (OrTold d')) old new sound was fits real tn is t.pending
           (simple_passes p e.row (Telling c (BackTold d)) e.row (Telling c (OrTold d')) old new (held_from p old new g) (pends_from p old new g t.pending)
-            (λ r y x bit matters held o. elim o [
-              | inl ne ↦ inl ne
-              | inr k ↦ inr (let l = left y x matters k in (l.0, tells_some e.row e.cells (d + 1) d' y some (let b = bit.1 in let n = fits.cells in omega arith) l.0 l.1))
-            ])
-            (λ y x matters k o. tt) (λ r held o. o) (λ f before last_of issue issued same k o. tt))
+          (λ r y x bit matters held o. elim o [
+            | inl ne ↦ inl ne
+            | inr k ↦ inr (let l = left y x matters k in (l.0, tells_some e.row e.cells (d + 1) d' y some (let b = bit.1 in let n = fits.cells in omega arith) l.0 l.1))
+          ])
+          (λ y x matters k o. tt) (λ r held o. o) (λ f before last_of issue issued same k o. tt))
           (Mark d) one.value [] m (one.had, one.is) (λ o. absurd o) (λ y at. cc) (λ r at. absurd (no_value d r at)) (λ r at. absurd (no_value d r at))
           (λ moves my. back_any p (Mark d) one.value old new moves sound (buffered old sound) my (text_same old new moves.layout tn.counted) real m)
           (λ h. h) (λ h. h) m.mine (fits.is.stage.0, ((let l = told_below e.row (e.cells - (d + 1)) (d + 1) d' some in let k = fits.is.stage.1.0 in omega arith), fits.is.stage.1.1))
@@ -213,31 +219,31 @@ module _ (e : PlainRecovery) (word : ℕ) (old new : World) (sound : IsSound old
       go : (o : Option ℕ) → told_from (e.row ++ word ∷ []) (e.cells - 0) 0 ≡ o → (e.cells + 63) / 64 ≤ part + 1 → new.situation p ≡ Recovering (record e { row = e.row ++ word ∷ []; stage = told c o }) → Keeps p old new
       go None none last is = loads e e.mark (e.row ++ word ∷ []) e.announcement e.cell (Telling c (LoadRow part)) (Give c) old new sound was fits real tn is t.pending
           (simple_passes p e.row (Telling c (LoadRow part)) (e.row ++ word ∷ []) (Give c) old new (held_on p old new moves) (pends_on p old new moves t.pending)
-            (λ r y x bit matters held o. elim o [
-              | inl ne ↦ ne
-              | inr k ↦ elim (cases_eq c r) [
-                | inr ne ↦ ne
-                | inl eq ↦ absurd (elim (left r y x eq bit k) [
-                  | inl later ↦ (let b = bit.1 in let n = fits.cells in omega arith)
-                  | inr there ↦ tells_none (e.row ++ word ∷ []) e.cells 0 y none (let b = bit.1 in let n = fits.cells in omega arith) there (omega arith)
-                ])
-              ]
-            ])
-            (λ y x matters k o. tt) (λ r held o. o) (λ f before last_of issue issued same k o. tt))
+          (λ r y x bit matters held o. elim o [
+            | inl ne ↦ ne
+            | inr k ↦ elim (cases_eq c r) [
+              | inr ne ↦ ne
+              | inl eq ↦ absurd (elim (left r y x eq bit k) [
+                | inl later ↦ (let b = bit.1 in let n = fits.cells in omega arith)
+                | inr there ↦ tells_none (e.row ++ word ∷ []) e.cells 0 y none (let b = bit.1 in let n = fits.cells in omega arith) there (omega arith)
+              ])
+            ]
+          ])
+          (λ y x matters k o. tt) (λ r held o. o) (λ f before last_of issue issued same k o. tt))
           m (λ h. h) (λ h. h) (m.buffer p ∙ fits.buffer) fits.is.stage.0
       go (Some d') some last is = loads e e.mark (e.row ++ word ∷ []) e.announcement e.cell (Telling c (LoadRow part)) (Telling c (OrTold d')) old new sound was fits real tn is t.pending
           (simple_passes p e.row (Telling c (LoadRow part)) (e.row ++ word ∷ []) (Telling c (OrTold d')) old new (held_on p old new moves) (pends_on p old new moves t.pending)
-            (λ r y x bit matters held o. other_or c r _ _ (λ eq k. elim (left r y x eq bit k) [
-              | inl later ↦ absurd (let b = bit.1 in let n = fits.cells in omega arith)
-              | inr there ↦ (there, tells_some (e.row ++ word ∷ []) e.cells 0 d' y some (let b = bit.1 in let n = fits.cells in omega arith) there (omega arith))
-            ]) o)
-            (λ y x matters k o. tt) (λ r held o. o) (λ f before last_of issue issued same k o. tt))
+          (λ r y x bit matters held o. other_or c r _ _ (λ eq k. elim (left r y x eq bit k) [
+            | inl later ↦ absurd (let b = bit.1 in let n = fits.cells in omega arith)
+            | inr there ↦ (there, tells_some (e.row ++ word ∷ []) e.cells 0 d' y some (let b = bit.1 in let n = fits.cells in omega arith) there (omega arith))
+          ]) o)
+          (λ y x matters k o. tt) (λ r held o. o) (λ f before last_of issue issued same k o. tt))
           m (λ h. h) (λ h. h) (m.buffer p ∙ fits.buffer) (fits.is.stage.0, ((let l = told_below (e.row ++ word ∷ []) (e.cells - 0) 0 d' some in let n = fits.is.some in omega arith), (let k = fits.is.stage.1.0 in let s = fits.is.stage.1.1 in omega (arith, length-append e.row (word ∷ [])))))
 
       by : (b : Bool) → nat_lt (part + 1) ((e.cells + 63) / 64) ≡ b → new.situation p ≡ Recovering (record e { row = e.row ++ word ∷ []; stage = if b then Telling c (LoadRow (part + 1)) else told c (told_from (e.row ++ word ∷ []) (e.cells - 0) 0) }) → Keeps p old new
       by true more is = loads e e.mark (e.row ++ word ∷ []) e.announcement e.cell (Telling c (LoadRow part)) (Telling c (LoadRow (part + 1))) old new sound was fits real tn is t.pending
           (simple_passes p e.row (Telling c (LoadRow part)) (e.row ++ word ∷ []) (Telling c (LoadRow (part + 1))) old new (held_on p old new moves) (pends_on p old new moves t.pending)
-            (λ r y x bit matters held o. other_or c r _ _ (λ eq k. left r y x eq bit k) o)
-            (λ y x matters k o. tt) (λ r held o. o) (λ f before last_of issue issued same k o. tt))
+          (λ r y x bit matters held o. other_or c r _ _ (λ eq k. left r y x eq bit k) o)
+          (λ y x matters k o. tt) (λ r held o. o) (λ f before last_of issue issued same k o. tt))
           m (λ h. h) (λ h. h) (m.buffer p ∙ fits.buffer) (fits.is.stage.0, (ltb-true (part + 1) ((e.cells + 63) / 64) more, (let s = fits.is.stage.1.1 in omega (arith, length-append e.row (word ∷ [])))))
       by false none is = go (told_from (e.row ++ word ∷ []) (e.cells - 0) 0) refl (ltb-false (part + 1) ((e.cells + 63) / 64) none) is

@@ -61,7 +61,11 @@ fn enter(world: &mut World, call: RecoverCall)
     ensures settled { world.new.settled ≡ world.old.settled }
     ensures reports { world.new.reports ≡ world.old.reports }
 {
-    put(&mut world.situations, call.process, Situation::Recovering(call));
+    put(
+        &mut world.situations,
+        call.process,
+        Situation::Recovering(call),
+    );
 }
 
 /// Begins a recovery by a process that is stopped or idle. It takes no memory.

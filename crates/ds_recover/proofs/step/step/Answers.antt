@@ -30,7 +30,7 @@ invariant_of-world c =
     let there : p < _ = pending_there v c.world.invariant.good p e at in
     let situation : c.go_on.new.situation ≡ after e e.stage word = c.go_on.ensures e (c.index_mut.ensures.value ∙ get_or_default v.situations p c.index_mut.result.now (Idle 0) at.there ∙ at.is) in
     let pending : c.close.new.pending ≡ pending_at (get_or v.pending p None) e.stage = c.close.ensures ∙ ap (λ (w : Effect). pending_by c.index_mut-2.result.now w) c.effect_of-what.ensures ∙ resolved_by e e.stage c.index_mut-2.result.now
-        ∙ ap (λ (i : Option Issue). pending_at i e.stage) (c.index_mut-2.ensures.value ∙ get_or_default v.pending p c.index_mut-2.result.now None there) in
+    ∙ ap (λ (i : Option Issue). pending_at i e.stage) (c.index_mut-2.ensures.value ∙ get_or_default v.pending p c.index_mut-2.result.now None there) in
     subst (λ (w : WorldValue). IsReserved w (vec_capacity c.world.inside.counted)) (sym (next_is v c.world.invariant.good p e at word c.perform-word.new.self c.perform-word.ensures.layout performs c.go_on.new.situation c.close.new.pending situation pending))
     (next_kept v c.world.invariant.good p e at word c.perform-word.new.self c.perform-word.ensures.layout performs _ c.world.invariant)
 
@@ -45,7 +45,7 @@ returns c =
     let there : p < _ = pending_there v c.world.invariant.good p e at in
     let situation : c.go_on.new.situation ≡ after e e.stage word = c.go_on.ensures e (c.index_mut.ensures.value ∙ get_or_default v.situations p c.index_mut.result.now (Idle 0) at.there ∙ at.is) in
     let pending : c.close.new.pending ≡ pending_at (get_or v.pending p None) e.stage = c.close.ensures ∙ ap (λ (w : Effect). pending_by c.index_mut-2.result.now w) c.effect_of-what.ensures ∙ resolved_by e e.stage c.index_mut-2.result.now
-        ∙ ap (λ (i : Option Issue). pending_at i e.stage) (c.index_mut-2.ensures.value ∙ get_or_default v.pending p c.index_mut-2.result.now None there) in
+    ∙ ap (λ (i : Option Issue). pending_at i e.stage) (c.index_mut-2.ensures.value ∙ get_or_default v.pending p c.index_mut-2.result.now None there) in
     rw (← c.world.view_is)
     (subst (λ (w : WorldValue). StepsBy v p c.effect_of-what.result w) (sym (next_is v c.world.invariant.good p e at word c.perform-word.new.self c.perform-word.ensures.layout performs c.go_on.new.situation c.close.new.pending situation pending))
     (next_takes v c.world.invariant.good p e at word c.perform-word.new.self c.perform-word.ensures.layout performs c.effect_of-what.result c.effect_of-what.ensures))
