@@ -24,7 +24,9 @@ fn next(situation: &Situation) -> Result<usize, Refusal>
     match situation {
         Situation::Idle(number) => Ok(*number),
         Situation::Stopped => Err(Refusal::Stopped),
-        Situation::Working(_) | Situation::Recovering(_) | Situation::Showing(_) => Err(Refusal::Busy),
+        Situation::Working(_) | Situation::Recovering(_) | Situation::Showing(_) => Err(
+            Refusal::Busy,
+        ),
         Situation::Editing(_) => Err(Refusal::Busy),
     }
 }
@@ -107,7 +109,11 @@ fn enter(world: &mut World, call: ShowCall)
     ensures settled { world.new.settled ≡ world.old.settled }
     ensures reports { world.new.reports ≡ world.old.reports }
 {
-    put(&mut world.situations, call.process, Situation::Showing(call));
+    put(
+        &mut world.situations,
+        call.process,
+        Situation::Showing(call),
+    );
 }
 
 /// Begins a report by an idle process, with room for all that its steps note: they take no memory.

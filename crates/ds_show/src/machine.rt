@@ -25,9 +25,9 @@ pub fn want(call: &ShowCall) -> Access<Place>
     ensures { result ≡ access_at call.now.stage }
 {
     match call.stage {
-        ShowStage::LoadAnnounce(i) | ShowStage::AgainAnnounce(i) => Access::Load(
-            Place::Announce(i),
-        ),
+        ShowStage::LoadAnnounce(i) | ShowStage::AgainAnnounce(i) => Access::Load(Place::Announce(
+            i,
+        )),
         ShowStage::LoadMark(i) | ShowStage::AgainMark(i) => Access::Load(Place::Mark(i)),
         ShowStage::LoadValue(i) => Access::Load(Place::Value(i)),
         ShowStage::LoadKind(i) => Access::Load(Place::Kind(i)),

@@ -86,7 +86,7 @@ module _ (p : ℕ) (old new : World) (t : Turn p old new) where
     pub back_moves : Moves p place old new
     back_moves = record {
       layout = t.layout;
-        cached = λ r ne. b.cached r;
+      cached = λ r ne. b.cached r;
       persisted = b.elsewhere;
       here = subst (λ (c : ℕ). MovesWord old.memory p place (old.memory.cached place) (old.memory.persisted place) c (new.memory.persisted place)) (sym (b.cached place))
           (subst (λ (v : ℕ). MovesWord old.memory p place (old.memory.cached place) (old.memory.persisted place) (old.memory.cached place) v) (sym b.there)
@@ -158,7 +158,7 @@ module _ (place : Place) (old new : World) (s : IsSound old) (buffered : Buffere
       elim (s.words (Head c)).sides [
         | inl same ↦ inl (now ∙ sym same)
         | inr b ↦ inr (λ x. let o : IsExcused old c x = on_its_way_excuses old c (old.memory.persisted (Head c)) x s b in
-          excused_lasts nobody place old new moves c x o (λ eq. let l = o.inside in omega arith))
+            excused_lasts nobody place old new moves c x o (λ eq. let l = o.inside in omega arith))
       ]
 
   evict_mine : Mine nobody place old new moves
@@ -186,9 +186,11 @@ module _ (place : Place) (old new : World) (s : IsSound old) (buffered : Buffere
   keeps_apart = λ cell a. inl (apart_lasts nobody place old new moves cell a (λ eq. not_held cell (subst (λ (q : ℕ). IsHeldBy q (old.memory.cached (Mark cell))) eq a.held.by)))
 
   keeps_owing : (cell : ℕ) → KeepsOwing old new cell
-  keeps_owing cell e issue its is same before last_of owes = (v.pending e.process ∙ is,
-      subst (λ (x : Situation). Splits new e.process x e.cell (head_after_all (of_cell cell old.counted))) (sym (v.situation e.process))
-      (splits_last old new e.process (λ c. marks_grow nobody place old new moves c) (v.memory.buffer e.process) (λ c k. pends e.process c k) (old.situation e.process) e.cell _ owes))
+  keeps_owing cell e issue its is same before last_of owes = (
+    v.pending e.process ∙ is,
+    subst (λ (x : Situation). Splits new e.process x e.cell (head_after_all (of_cell cell old.counted))) (sym (v.situation e.process))
+        (splits_last old new e.process (λ c. marks_grow nobody place old new moves c) (v.memory.buffer e.process) (λ c k. pends e.process c k) (old.situation e.process) e.cell _ owes),
+  )
     where
       pends : (h c : ℕ) → IsPending old h c → IsPending new h c
       pends h c k = record {
@@ -205,6 +207,6 @@ module _ (place : Place) (old new : World) (s : IsSound old) (buffered : Buffere
   pub evict_sound : IsSound new × ((q : ℕ) → q < old.layout.processes → Rely q old new)
   evict_sound =
       let k : Keeps nobody old new = back_sound nobody old new t s place (old.memory.cached place) evicted between
-          (bears nobody place old new moves s evict_mine) (all_stand nobody place old new moves s buffered evict_mine (text_same old new v.layout v.counted) evict_marks) keeps_apart keeps_owing
-          (λ l. absurd (let same = ap (λ (x : _). x.processes) v.layout in omega arith)) in
+      (bears nobody place old new moves s evict_mine) (all_stand nobody place old new moves s buffered evict_mine (text_same old new v.layout v.counted) evict_marks) keeps_apart keeps_owing
+      (λ l. absurd (let same = ap (λ (x : _). x.processes) v.layout in omega arith)) in
       (k.sound, λ q l. k.others q (λ same. omega arith))

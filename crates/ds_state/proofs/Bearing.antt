@@ -444,9 +444,9 @@ module _ (p : ℕ) (place : Place) (old new : World) (m : Moves p place old new)
       ])
       (λ r bit o. b.owing r c x bit matters o)
       (to_persisted old c x sound
-        (clean_agrees old c (Value c) (inl refl) sound was (sound.words (Value c)))
-        (clean_agrees old c (Kind c) (inr refl) sound was (sound.words (Kind c)))
-        (subst (λ (y : ℕ). Stands old (cached_side old.memory) c y) (sym is) (sound.stand.on_cached c was)))
+      (clean_agrees old c (Value c) (inl refl) sound was (sound.words (Value c)))
+      (clean_agrees old c (Kind c) (inr refl) sound was (sound.words (Kind c)))
+      (subst (λ (y : ℕ). Stands old (cached_side old.memory) c y) (sym is) (sound.stand.on_cached c was)))
 
   -- every clean mark stands after the step
   pub all_stand : MyMarks p place old new m → AllStand new
@@ -516,18 +516,18 @@ module _ (p : ℕ) (place : Place) (old new : World) (m : Moves p place old new)
             no_older = (let g = f.persisted (Mark c) in let n = k.no_older in omega arith);
           }))
           | inl eq ↦ elim (in_push (old.memory.buffer p) (entry (Mark d) (old.memory.cached (Mark d))) (entry (Mark c) x)
-            (subst (λ (xs : List (Entry Place)). Contains xs (entry (Mark c) x)) (ap new.memory.buffer eq ∙ f.mine) k.there)) [
-            | inl there ↦ inl (inr (record {
-              by = p;
-              process = subst (λ (l : Layout). p < l.processes) m.layout (subst (λ (q : ℕ). q < new.layout.processes) eq k.process);
-              there = there;
-              no_older = (let g = f.persisted (Mark c) in let n = k.no_older in omega arith);
-            }))
-            | inr is ↦ (
-                let at : Mark d ≡ Mark c = ap (λ (y : Entry Place). y.place) is in
-                let v : old.memory.cached (Mark d) ≡ x = ap (λ (y : Entry Place). y.value) is in
-                inr (durable_now p place old new m sound buffered mine same_text c x clean (sym v ∙ ap old.memory.cached at) (inr k)))
-          ]
+              (subst (λ (xs : List (Entry Place)). Contains xs (entry (Mark c) x)) (ap new.memory.buffer eq ∙ f.mine) k.there)) [
+                | inl there ↦ inl (inr (record {
+                  by = p;
+                  process = subst (λ (l : Layout). p < l.processes) m.layout (subst (λ (q : ℕ). q < new.layout.processes) eq k.process);
+                  there = there;
+                  no_older = (let g = f.persisted (Mark c) in let n = k.no_older in omega arith);
+                }))
+                | inr is ↦ (
+                    let at : Mark d ≡ Mark c = ap (λ (y : Entry Place). y.place) is in
+                    let v : old.memory.cached (Mark d) ≡ x = ap (λ (y : Entry Place). y.value) is in
+                    inr (durable_now p place old new m sound buffered mine same_text c x clean (sym v ∙ ap old.memory.cached at) (inr k)))
+              ]
         ]
       ];
     }

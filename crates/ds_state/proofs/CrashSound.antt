@@ -190,8 +190,10 @@ module _ (old new : World) (sound : IsSound old) (crash : CrashesTo old new) whe
   in_or_out : (e : Edit) (own : ℕ) → IsIn old e own → (t : Standing) × StandsAs new e t × MaySay t pending
   in_or_out e own h = elim (le_or own (old.memory.persisted (Head e.cell))) [
     | inl most ↦ (safe, record { below = below_left e.process (e.number + 1) h.below; safe = safe_left old new sound crash e (record { own = own; head = h.head; persisted = most }) }, tt)
-    | inr less ↦ (outside, (λ k d l.
-        λ same. (
+    | inr less ↦ (
+      outside,
+      (λ k d l.
+          λ same. (
           let f : Edit = get_or new.counted k d in
           let most = below_left e.process (e.number + 1) h.below k d l same in
           elim (cases_eq f.number e.number) [
@@ -200,7 +202,9 @@ module _ (old new : World) (sound : IsSound old) (crash : CrashesTo old new) whe
                 let there : Contains new.counted f = All-contains_itself new.counted k d l in
                 let is : f ≡ e = same_edit old.counted f e sound.increasing (was_counted old new sound crash f there) (counts e own h) same eq in
                 gone e own h less (subst (λ (x : Edit). Contains new.counted x) is there))
-          ])), tt)
+          ])),
+      tt,
+    )
   ]
 
   -- an edit in doubt: what it had is persisted, or gone
@@ -276,7 +280,7 @@ module _ (old new : World) (sound : IsSound old) (crash : CrashesTo old new) whe
   doubt_left : (p : ℕ) (o : Option Issue) → old.pending p ≡ o → DoubtFits old p o → DoubtFits new p (new.pending p)
   doubt_left p None is k = through p k.next is k.rest
   doubt_left p (Some issue) is k = subst (λ (x : Option Issue). DoubtFits new p x) (sym (crash.pending p ∙ is))
-          (in_doubt p issue k.standing k.before k.mine k.number k.cell k.text k.stands k.said_before k.persisted (written_before old issue.edit k.before k.now k.order k.written))
+      (in_doubt p issue k.standing k.before k.mine k.number k.cell k.text k.stands k.said_before k.persisted (written_before old issue.edit k.before k.now k.order k.written))
 
   stopped_left : (p : ℕ) (s : Situation) → CallFits old p s → DoubtFits new p (new.pending p)
   stopped_left p (Idle next) h = through p next h.pending (record { number = h.number; pending = h.pending; below = h.below; cached = h.cached; persisted = h.persisted })

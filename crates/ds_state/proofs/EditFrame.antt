@@ -94,9 +94,11 @@ module _ (p : ℕ) (e : PlainEdit) (s s' : Stage) (place : Place) (old new : Wor
         let now : Splits new p (new.situation p) f.cell (head_after_all (of_cell cell old.counted)) =
         subst (λ (x : Situation). Splits new p x f.cell (head_after_all (of_cell cell old.counted))) (sym is) (k.0, splits _ k.1) in
         (ap new.pending eq ∙ pending ∙ ap old.pending (sym eq) ∙ pends, subst (λ (q : ℕ). Splits new q (new.situation q) f.cell (head_after_all (of_cell cell old.counted))) (sym eq) now))
-    | inr ne ↦ (moves.pendings f.process ne ∙ pends,
+    | inr ne ↦ (
+      moves.pendings f.process ne ∙ pends,
       subst (λ (x : Situation). Splits new f.process x f.cell (head_after_all (of_cell cell old.counted))) (sym (moves.situations f.process ne))
-      (splits_last old new f.process (λ c. marks_grow p place old new moves c) (moves.buffers f.process ne) (λ c k. pends_last p place old new moves f.process c ne k) (old.situation f.process) f.cell _ owes))
+          (splits_last old new f.process (λ c. marks_grow p place old new moves c) (moves.buffers f.process ne) (λ c k. pends_last p place old new moves f.process c ne k) (old.situation f.process) f.cell _ owes),
+    )
   ]
 
   pub edit_framed : (mine : Mine p place old new moves) → MyMarks p place old new moves → Framed old new
@@ -154,7 +156,9 @@ module _ (p : ℕ) (old new : World) (moves : Moves p Version old new) (same : n
   pub silent_keeps : (cell : ℕ) → KeepsOwing old new cell
   silent_keeps cell f issue its pends was_same before last_of o = elim (cases_eq f.process p) [
     | inl eq ↦ absurd (splits f.cell _ (subst (λ (q : ℕ). Splits old q (old.situation q) f.cell (head_after_all (of_cell cell old.counted))) eq o))
-    | inr ne ↦ (moves.pendings f.process ne ∙ pends,
+    | inr ne ↦ (
+      moves.pendings f.process ne ∙ pends,
       subst (λ (x : Situation). Splits new f.process x f.cell (head_after_all (of_cell cell old.counted))) (sym (moves.situations f.process ne))
-      (splits_last old new f.process (λ c. marks_grow p Version old new moves c) (buffer f.process) (λ c k. pends_last p Version old new moves f.process c ne k) (old.situation f.process) f.cell _ o))
+          (splits_last old new f.process (λ c. marks_grow p Version old new moves c) (buffer f.process) (λ c k. pends_last p Version old new moves f.process c ne k) (old.situation f.process) f.cell _ o),
+    )
   ]

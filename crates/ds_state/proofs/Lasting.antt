@@ -63,4 +63,3 @@ module _ (q : ℕ) (but : Place) (old new : World) (g : Grows q but old new) whe
 
   pub done_stable : (p n : ℕ) → IsDone old p n → IsDone new p n
   done_stable p n h = HasBit-subset (old.memory.persisted (done_place p n)) (new.memory.persisted (done_place p n)) n (g.done_persisted p _) h
-

@@ -87,7 +87,6 @@ unfolding of_cell
 all_its cell edits = λ k d l. eqb-true (get_or (filter (λ (e : Edit). e.cell == cell) edits) k d).cell cell (filter_passes (λ (e : Edit). e.cell == cell) edits k d l)
 
 module _ (old new : World) (sound : IsSound old) (crash : CrashesTo old new) where
-
   left : (c : ℕ) → of_cell c new.counted ≡ filter (keep old.memory) (of_cell c old.counted)
   left c = ap (λ (es : List Edit). of_cell c es) crash.counted ∙ survivors_of old.memory c old.counted
 
@@ -108,11 +107,11 @@ module _ (old new : World) (sound : IsSound old) (crash : CrashesTo old new) whe
       let tail : old.memory.cached (Head c) % 65536 ≡ b.last.process * 256 + b.last.number = (let p = tiny.process in let n = tiny.number in omega arith) in
       let grows = head_grows b.before b.last [] small in
       let apart : old.memory.cached (Head b.last.cell) ≢ old.memory.persisted (Head b.last.cell) = (λ same.
-          let again : old.memory.cached (Head c) ≡ old.memory.persisted (Head c) = subst (λ (y : ℕ). old.memory.cached (Head y) ≡ old.memory.persisted (Head y)) its same in
-          let is = b.is in
-          let all = ap head_after_all b.parts in
-          let l = (sound.words (Head c)).last in
-          omega arith) in
+      let again : old.memory.cached (Head c) ≡ old.memory.persisted (Head c) = subst (λ (y : ℕ). old.memory.cached (Head y) ≡ old.memory.persisted (Head y)) its same in
+      let is = b.is in
+      let all = ap head_after_all b.parts in
+      let l = (sound.words (Head c)).last in
+      omega arith) in
       left c ∙ ap (λ (xs : List Edit). filter (keep old.memory) xs) b.parts ∙ filter-append (keep old.memory) b.before (b.last ∷ [])
       ∙ ap (λ (xs : List Edit). xs ++ filter (keep old.memory) (b.last ∷ [])) (all_kept (keep old.memory) b.before (λ e h. kept_at old.memory e (before_kept c b e h tail)))
       ∙ ap (λ (xs : List Edit). b.before ++ xs) (none_left b.last (last_lost old.memory b.last apart (subst (λ (y : ℕ). old.memory.cached (Head y) % 65536 ≡ b.last.process * 256 + b.last.number) (sym its) tail)))
@@ -130,12 +129,12 @@ module _ (old new : World) (sound : IsSound old) (crash : CrashesTo old new) whe
           let its : e.cell ≡ c = cell_is c e (subst (λ (xs : List Edit). Contains xs e) (sym b.parts) there) in
           let increasing : Increasing (b.before ++ b.last ∷ []) = subst (λ (xs : List Edit). Increasing xs) b.parts (increasing_cell c old.counted sound.increasing) in
           other_kept old.memory e (λ same.
-            let at : old.memory.cached (Head c) % 65536 ≡ e.process * 256 + e.number = subst (λ (y : ℕ). old.memory.cached (Head y) % 65536 ≡ e.process * 256 + e.number) its same in
-            let p = tiny.number in
-            let p' = tiny'.number in
-            let process : b.last.process ≡ e.process = omega arith in
-            let less = last_greater b.before b.last e increasing h process in
-            omega arith)
+          let at : old.memory.cached (Head c) % 65536 ≡ e.process * 256 + e.number = subst (λ (y : ℕ). old.memory.cached (Head y) % 65536 ≡ e.process * 256 + e.number) its same in
+          let p = tiny.number in
+          let p' = tiny'.number in
+          let process : b.last.process ≡ e.process = omega arith in
+          let less = last_greater b.before b.last e increasing h process in
+          omega arith)
 
   pub leaves : Leaves old new
   leaves = record {

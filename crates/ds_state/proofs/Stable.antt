@@ -254,6 +254,6 @@ call_stable old new q (Recovering e) r h =
       resolved = resolved_stable old new e.process g pends e.announcement e.cell (resolved_at e.stage) h.resolved;
       buffer = held_stable old new e.process g pends (ap new.memory.buffer h.mine ∙ r.buffer ∙ ap old.memory.buffer (sym h.mine)) e.announcement e.cell (recovery_held e.cell e.stage)
           (own_words old e.process e.mark e.cell e.stage h.freed) h.buffer;
-      row = h.row;
+      is = h.is;
     }
 call_stable old new q (Showing e) r h = show_stable old new q e r h

@@ -81,10 +81,13 @@ module _ (old new : World) (p : ℕ) (g : Grows p Version old new) where
     resolved_stable word cell unknown h = tt
     resolved_stable word cell noted h = announce_same ∙ h
     resolved_stable word cell doubted h = and_stable word cell (λ f. Unit {0}) (λ f. Unit {0}) (λ f same k. tt) h
-    resolved_stable word cell is_head h = and_stable word cell (λ f. (own : ℕ) × IsIn old f own) (λ f. (own : ℕ) × IsIn new f own) (λ f same k. (k.0, record {
-      below = below_stable f.process Version old new (grows_at f same) (f.number + 1) k.1.below;
-      head = by_stable f.process Version old new (grows_at f same) f.cell k.0 f k.1.head;
-    })) h
+    resolved_stable word cell is_head h = and_stable word cell (λ f. (own : ℕ) × IsIn old f own) (λ f. (own : ℕ) × IsIn new f own) (λ f same k. (
+      k.0,
+      record {
+        below = below_stable f.process Version old new (grows_at f same) (f.number + 1) k.1.below;
+        head = by_stable f.process Version old new (grows_at f same) f.cell k.0 f k.1.head;
+      },
+    )) h
     resolved_stable word cell not_head h = and_stable word cell (λ f. AreBelow old f.process f.number ⊎ (IsPassed old f × AreBelow old f.process (f.number + 1))) (λ f. AreBelow new f.process f.number ⊎ (IsPassed new f × AreBelow new f.process (f.number + 1)))
         (λ f same k. elim k [
           | inl out ↦ inl (below_stable f.process Version old new (grows_at f same) f.number out)

@@ -126,10 +126,13 @@ module _ (but : Place) (old new : World) (e : PlainWork) (g : Grows e.process bu
     loaded_stable nothing h = tt
     loaded_stable the_head h = (head_stable h.0, head_of_stable h.1)
     loaded_stable (some_text parts) h = (head_stable h.0, record { by = h.1.by; gave = by_stable e.process but old new g e.cell e.head h.1.by h.1.gave; size = h.1.size; start = h.1.start })
-    loaded_stable whole_text h = (head_stable h.0, elim h.1 [
-      | inl none ↦ inl none
-      | inr w ↦ inr (record { by = w.by; gave = by_stable e.process but old new g e.cell e.head w.by w.gave; text = w.text })
-    ])
+    loaded_stable whole_text h = (
+      head_stable h.0,
+      elim h.1 [
+        | inl none ↦ inl none
+        | inr w ↦ inr (record { by = w.by; gave = by_stable e.process but old new g e.cell e.head w.by w.gave; text = w.text })
+      ],
+    )
     loaded_stable the_content h = inputs_stable 0 h
     loaded_stable (some_inputs count) h = inputs_stable count h
     loaded_stable (one_value count value) h = (inputs_stable count h.0, value_stable count value h.1)

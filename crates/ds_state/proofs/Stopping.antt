@@ -78,16 +78,19 @@ module _ (p : ℕ) (old new : World) (sound : IsSound old) (real : p < old.layou
   ])
 
   keeps : (cell : ℕ) → KeepsOwing old new cell
-  keeps cell f issue its is same before last_of owes = (stop.pending f.process ∙ is, elim (cases_eq f.process p) [
-    | inl eq ↦ (
-        let was : Splits old p (old.situation p) f.cell (head_after_all (of_cell cell old.counted)) = subst (λ (q : ℕ). Splits old q (old.situation q) f.cell (head_after_all (of_cell cell old.counted))) eq owes in
-        let now : Splits new p (new.situation p) f.cell (head_after_all (of_cell cell old.counted)) =
-        subst (λ (s : Situation). Splits new p s f.cell (head_after_all (of_cell cell old.counted))) (sym stop.situation)
-        (pends f.cell (pends_while old p (old.situation p) f.cell 0 fits (splits_excuse old p (old.situation p) f.cell _ 0 was))) in
-        subst (λ (q : ℕ). Splits new q (new.situation q) f.cell (head_after_all (of_cell cell old.counted))) (sym eq) now)
-    | inr ne ↦ subst (λ (s : Situation). Splits new f.process s f.cell (head_after_all (of_cell cell old.counted))) (sym (stop.others f.process ne))
-        (splits_last old new f.process (λ c. marks_grow p Version old new moves c) (stop.memory.others f.process ne) (λ c k. pends_last p Version old new moves f.process c ne k) (old.situation f.process) f.cell _ owes)
-  ])
+  keeps cell f issue its is same before last_of owes = (
+    stop.pending f.process ∙ is,
+    elim (cases_eq f.process p) [
+      | inl eq ↦ (
+          let was : Splits old p (old.situation p) f.cell (head_after_all (of_cell cell old.counted)) = subst (λ (q : ℕ). Splits old q (old.situation q) f.cell (head_after_all (of_cell cell old.counted))) eq owes in
+          let now : Splits new p (new.situation p) f.cell (head_after_all (of_cell cell old.counted)) =
+          subst (λ (s : Situation). Splits new p s f.cell (head_after_all (of_cell cell old.counted))) (sym stop.situation)
+          (pends f.cell (pends_while old p (old.situation p) f.cell 0 fits (splits_excuse old p (old.situation p) f.cell _ 0 was))) in
+          subst (λ (q : ℕ). Splits new q (new.situation q) f.cell (head_after_all (of_cell cell old.counted))) (sym eq) now)
+      | inr ne ↦ subst (λ (s : Situation). Splits new f.process s f.cell (head_after_all (of_cell cell old.counted))) (sym (stop.others f.process ne))
+          (splits_last old new f.process (λ c. marks_grow p Version old new moves c) (stop.memory.others f.process ne) (λ c k. pends_last p Version old new moves f.process c ne k) (old.situation f.process) f.cell _ owes)
+    ],
+  )
 
   grows : Grows p Version old new
   grows = grows_own p Version old new moves stop.counted

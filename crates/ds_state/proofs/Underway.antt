@@ -44,3 +44,8 @@ pub at_most_so_many : (ss : List Situation) (i : ℕ) → reports_under_way (tak
 at_most_so_many ss zero = omega arith
 at_most_so_many [] (suc i) = omega arith
 at_most_so_many (s ∷ ss) (suc i) = let a = at_most_one s in let b = at_most_so_many ss i in omega arith
+
+-- none where no process reports
+pub none_where : (ss : List Situation) (d : Situation) → ((p : ℕ) → p < length ss → reports_in (get_or ss p d) ≡ 0) → reports_under_way ss ≡ 0
+none_where [] d h = refl
+none_where (s ∷ ss) d h = let a = h 0 (omega arith) in let b = none_where ss d (λ p l. h (suc p) (omega arith)) in omega arith

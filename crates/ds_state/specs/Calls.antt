@@ -23,7 +23,8 @@ use Rattle.ds_state.specs.declared.stage.Outcome.TheVariants.{Done, Overtaken}
 use Rattle.ds_state.specs.KnownWork.{IsAtRest, WorkFits}
 use Rattle.ds_state.specs.KnownShow.{ShowFits}
 use Rattle.ds_state.specs.Works.{PlainRecovery}
-use Rattle.ds_state.specs.KnownRecovery.{FreedFits, freed_at, ResolvedFits, resolved_at, RecoveryHolds, recovery_held, RowCounts}
+use Rattle.ds_state.specs.RecoverStages.{IsRecovery}
+use Rattle.ds_state.specs.KnownRecovery.{FreedFits, freed_at, ResolvedFits, resolved_at, RecoveryHolds, recovery_held}
 use Rattle.ds_state.specs.declared.stage.Stage.{Stage}
 use Rattle.ds_state.specs.declared.stage.Stage.TheVariants.{FlushText, BackRecord, BackPending, BackIndex, BackNoted, BackDone, FlushOwn, BackOwn, BackMark, BackOutcome}
 use Rattle.ds_state.specs.declared.situation.Situation.{Situation}
@@ -174,13 +175,13 @@ pub record StoppedFits (w : World) (p : ℕ) : Type 0 where
 -- a recovery: its edit is in doubt throughout; it gives its cells back, then it settles that edit
 pub record RecoveryFits (w : World) (p : ℕ) (e : PlainRecovery) : Type 0 where
   pub mine : e.process ≡ p
+  pub is : IsRecovery e
   pub cells : cells_of w.layout ≡ e.cells
   pub processes : w.layout.processes ≡ e.processes
   pub doubt : DoubtFits w p (w.pending p)
   pub freed : FreedFits w e.process e.mark (freed_at e.stage)
   pub resolved : ResolvedFits w e.process e.announcement e.cell (resolved_at e.stage)
   pub buffer : RecoveryHolds w e.process e.announcement e.cell (recovery_held e.cell e.stage)
-  pub row : RowCounts e.row e.stage
 
 -- what the process does fits the world
 abbrev pub CallFits : World → ℕ → Situation → Type 0

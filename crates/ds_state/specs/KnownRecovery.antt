@@ -197,16 +197,3 @@ RecoveryHolds w p word c (the_kind cell) = w.memory.buffer p ≡ kind_now w cell
 RecoveryHolds w p word c (a_mark cell) = HasMark w p cell
 RecoveryHolds w p word c a_head = HasHead w p c
 RecoveryHolds w p word c the_outcome = w.memory.buffer p ≡ entry (place.Announce p) word ∷ []
-
--- the parts of the row that were loaded, and the cell that is looked at
-abbrev pub SpreadCounts : List ℕ → Spread → Type 0
-SpreadCounts row (LoadRow part) = length row ≡ part
-SpreadCounts row _ = Unit {0}
-
-abbrev pub RowCounts : List ℕ → RecoverStage → Type 0
-RowCounts row (FlushValue cell) = length row ≡ 0
-RowCounts row (FlushKind cell) = length row ≡ 0
-RowCounts row (BackValue cell) = length row ≡ 0
-RowCounts row (BackKind cell) = length row ≡ 0
-RowCounts row (Telling cell spread) = SpreadCounts row spread
-RowCounts row _ = Unit {0}

@@ -3,6 +3,7 @@ pub mod Edits
 pub mod EntryWords
 pub mod Works
 pub mod ShowStages
+pub mod RecoverStages
 pub mod Underway
 pub mod World
 pub mod Owing
@@ -21,7 +22,6 @@ pub mod Fresh
 pub mod Events
 pub mod Crashes
 pub mod Telling
-pub mod RecoverySteps
 pub mod Text
 pub mod Dones
 pub mod Value

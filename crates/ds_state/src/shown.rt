@@ -26,6 +26,7 @@ pub trait SheetReader {
 
     // What fixes the words, and what they are.
     ghost sheet: { Self → Layout };
+
     ghost seen: { Self → Memory Place };
 
     /// What fixes the words.

@@ -236,7 +236,7 @@ pub enum RecoverStage {
     Answer(Option<bool>),
 }
 
-/// A recovery under way.
+/// A recovery under way. The numbers of its stage are those of its sheet.
 #[derive(Debug, Drop)]
 pub struct RecoverCall {
     /// The process that runs it.
@@ -247,8 +247,8 @@ pub struct RecoverCall {
     pub processes: usize,
     /// The mark that it saw.
     pub mark: u64,
-    /// The index row so far.
-    pub row: Vec<u64>,
+    /// The index row so far, in place.
+    pub row: Row,
     /// The announcement that it saw.
     pub announcement: u64,
     /// The cell of the edit in doubt.
@@ -259,6 +259,7 @@ pub struct RecoverCall {
 
 impl Model for RecoverCall {
     ghost use Rattle.ds_state.specs.Works.{PlainRecovery};
+    ghost use Rattle.ds_state.specs.RecoverStages.{IsRecovery};
 
     ghost Value = { PlainRecovery };
 
@@ -267,11 +268,22 @@ impl Model for RecoverCall {
       cells = a.cells;
       processes = a.processes;
       mark = a.mark;
-      row = a.row.items;
+      row = a.row;
       announcement = a.announcement;
       cell = a.cell;
       stage = a.stage;
     } };
+
+    ghost invariant = { λ a. IsRecovery (record {
+      process = a.process;
+      cells = a.cells;
+      processes = a.processes;
+      mark = a.mark;
+      row = a.row;
+      announcement = a.announcement;
+      cell = a.cell;
+      stage = a.stage;
+    }) };
 }
 
 /// How a report ended.

@@ -12,6 +12,9 @@ use Rattle.ds_state.specs.Value.{WorldValue, world_of, IsGood, IsReserved}
 use Rattle.ds_state.specs.Calls.{CallFits}
 use Rattle.ds_state.specs.KnownWork.{WorkFits}
 use Rattle.ds_state.specs.Rely.{Keeps}
+use Rattle.ds_state.specs.Underway.{reports_in}
+use Rattle.ds_state.specs.declared.reports.TheConstants.{SETTLED_MOST}
+use Rattle.ds_state.proofs.Underway.{no_more}
 use Rattle.ds_state.specs.declared.refusal.Refusal.{Refusal}
 use Rattle.ds_state.specs.declared.refusal.Refusal.TheVariants as refusal
 use Rattle.ds_state.specs.declared.situation.Situation.{Situation}
@@ -40,8 +43,8 @@ module _ (v : WorldValue) (p : ℕ) (sheet : SheetValue) (s : Situation) (layout
   others_are q ne = get_or-set_other v.situations p q s (Idle 0) ne
 
   -- it stays a world where its step is a sound one
-  pub put_kept : (room : ℕ) → IsReserved v room → Keeps p (world_of v) (world_of (put v p sheet s)) → IsReserved (put v p sheet s) room
-  put_kept room h keeps = record {
+  pub put_kept : reports_in s ≡ 0 → (room : ℕ) → IsReserved v room → Keeps p (world_of v) (world_of (put v p sheet s)) → IsReserved (put v p sheet s) room
+  put_kept quiet room h keeps = record {
     good = record {
       sound = keeps.sound;
       situations = length-set v.situations p s ∙ h.good.situations ∙ ap (λ (l : Layout). l.processes) (sym layout);
@@ -51,6 +54,7 @@ module _ (v : WorldValue) (p : ℕ) (sheet : SheetValue) (s : Situation) (layout
         processes = h.good.reports.processes ∙ ap (λ (l : Layout). l.processes) (sym layout);
       };
       answered = h.good.answered;
+      counts = no_more v.situations p s v.settled SETTLED_MOST (there h.good) quiet h.good.counts;
     };
     reserved = subst (λ (l : Layout). l.processes * 256 ≤ room) (sym layout) h.reserved;
   }
@@ -80,7 +84,7 @@ module _ (v : WorldValue) (e : PlainWork) (next : ℕ) (room : ℕ) (kept : IsRe
       first = ap (λ s. Working (at e s)) asked.first
 
   pub begun_kept : IsReserved (put v e.process v.sheet (Working e)) room
-  begun_kept = put_kept v e.process v.sheet (Working e) refl low room kept (begins_keep next e (world_of v) (world_of (put v e.process v.sheet (Working e))) kept.good.sound low begun)
+  begun_kept = put_kept v e.process v.sheet (Working e) refl low refl room kept (begins_keep next e (world_of v) (world_of (put v e.process v.sheet (Working e))) kept.good.sound low begun)
 
 -- the situation that was read is the process's
 pub situation_at : (v : WorldValue) (p : ℕ) (read : Situation) → IsGood v → p < v.sheet.layout.processes → read ≡ get_or v.situations p read → (world_of v).situation p ≡ read

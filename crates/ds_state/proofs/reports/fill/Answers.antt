@@ -26,6 +26,7 @@ loop-cell-preserved c =
     let kinds : List ℕ = c.args.kinds.now in
     let shows : ℕ → Value = λ i. (shown_entry cells (noted values i) (noted kinds i)).value in
     let one : c.shown.result ≡ shows c.loop-cell.cell =
-    c.shown.ensures ∙ ap shown_of c.read-stored.ensures.value ∙ (let s = stored_of cells (noted values c.loop-cell.cell) (noted kinds c.loop-cell.cell) in sym (shown_same s.kind s.value)) in
-    (c.push_reserved.ensures.capacity ∙ c.loop-cell.invariant.0,
-        c.push_reserved.ensures.items ∙ ap (λ (vs : List Value). vs ++ c.shown.result ∷ []) c.loop-cell.invariant.1 ∙ ap (λ (v : Value). map shows (range_with_len 0 c.loop-cell.cell) ++ v ∷ []) one ∙ sym (map-range_with_len_more shows 0 c.loop-cell.cell c.loop-cell.cell (omega arith)))
+    c.shown.ensures ∙ ap shown_of c.read-stored.ensures.value ∙ (let s = stored_of cells (noted values c.loop-cell.cell) (noted kinds c.loop-cell.cell) in sym (shown_same s.kind s.value)) in (
+      c.push_reserved.ensures.capacity ∙ c.loop-cell.invariant.0,
+      c.push_reserved.ensures.items ∙ ap (λ (vs : List Value). vs ++ c.shown.result ∷ []) c.loop-cell.invariant.1 ∙ ap (λ (v : Value). map shows (range_with_len 0 c.loop-cell.cell) ++ v ∷ []) one ∙ sym (map-range_with_len_more shows 0 c.loop-cell.cell c.loop-cell.cell (omega arith)),
+    )

@@ -1,13 +1,15 @@
 -- A recovery says how its edit in doubt ended.
-use Rattle.std.proofs.Common.{ℕ, ◌≡◌, ◌≢◌, ◌<◌, ◌≤◌, ◌+◌, ◌-◌, ◌*◌, ◌/◌, ◌%◌, ◌⊎◌, List, [], ◌∷◌, ◌++◌, refl, ap, sym, ◌∙◌, subst, arith, inl, inr, Some, None, true, false, zero, suc}
+use Rattle.std.proofs.Common.{ℕ, ◌≡◌, ◌≢◌, ◌<◌, ◌≤◌, ◌⊎◌, refl, ap, sym, ◌∙◌, subst, arith, inl, inr, Some, true, false, zero, suc}
 use Rattle.std.specs.Prelude.{Option, Bool}
 use Rattle.ds_words.specs.Memory.{StoresAt}
 use Rattle.ds_layout.specs.declared.place.TheConstants.{RECORDS}
-use Rattle.ds_layout.specs.declared.place.Place.TheVariants.{Version, Head, Mark, Value, Kind, Announce, Header}
+use Rattle.ds_layout.specs.declared.place.Place.TheVariants.{Head, Mark, Value, Kind, Announce}
 use Rattle.ds_layout.specs.declared.announcement.Phase.TheVariants as phase
+use Rattle.ds_layout.proofs.Packed.{announcement_of-announcement_word}
 use Rattle.ds_state.specs.Works.{PlainRecovery}
-use Rattle.ds_state.specs.World.{Edit, Issue, World, of_cell, record_size, record_place, announcement}
-use Rattle.ds_state.specs.Known.{Standing, outside, inside, safe, Announced, last, pending, ended, word_of, AreBelow, IsSafelyIn, StandsAs, IsRecorded}
+use Rattle.ds_state.specs.RecoverStages.{IsAnnounced}
+use Rattle.ds_state.specs.World.{Edit, Issue, World, record_size, record_place, announcement}
+use Rattle.ds_state.specs.Known.{Standing, outside, inside, safe, Announced, last, pending, ended, word_of, StandsAs, IsRecorded}
 use Rattle.ds_state.specs.declared.stage.Outcome.{Outcome}
 use Rattle.ds_state.specs.declared.stage.Outcome.TheVariants as outcome
 use Rattle.ds_state.specs.Owing.{IsHeldBy}
@@ -16,8 +18,7 @@ use Rattle.ds_state.specs.KnownRecovery.{phase_for, IsOpenAnd, SettledAs}
 use Rattle.ds_state.specs.Words.{WordFits, IsKept}
 use Rattle.ds_state.specs.Rely.{Grows, Keeps}
 use Rattle.ds_state.specs.Sound.{IsSound}
-use Rattle.ds_state.specs.RecoverySteps.{StepsAt, at, number_of}
-use Rattle.ds_state.specs.declared.work.RecoverStage.{RecoverStage}
+use Rattle.ds_recover.specs.RecoverySteps.{StepsAt, at, number_of}
 use Rattle.ds_state.specs.declared.work.RecoverStage.TheVariants.{StoreOutcome, FlushOutcome}
 use Rattle.ds_state.specs.declared.situation.Situation.{Situation}
 use Rattle.ds_state.specs.declared.situation.Situation.TheVariants.{Recovering}
@@ -27,8 +28,8 @@ use Rattle.ds_state.proofs.Frames.{MovesWord, Moves, grows_own, moves_sound, kep
 use Rattle.ds_state.proofs.Bearing.{Mine, MyMarks, bears, all_stand, text_same, stored_marks}
 use Rattle.ds_state.proofs.Buffers.{buffered}
 use Rattle.ds_state.proofs.Accesses.{Turn, store_moves}
-use Rattle.ds_state.proofs.RecoveryFrame.{on, Passes, turn_of, recovery_mine, recovery_apart, recovery_keeps, recovery_fits}
-use Rattle.ds_state.proofs.RecoveryDoubt.{IsDoubted, pending_open, not_below}
+use Rattle.ds_recover.proofs.RecoveryFrame.{on, Passes, turn_of, recovery_mine, recovery_apart, recovery_keeps, recovery_fits}
+use Rattle.ds_recover.proofs.RecoveryDoubt.{IsDoubted, pending_open, not_below}
 
 record_no_announce : (p n k q : ℕ) → record_place p n k ≢ Announce q
 record_no_announce p n zero q = λ same. cc
@@ -46,6 +47,10 @@ standing_for false = outside
 ended_word : (w : World) (f : Edit) (how : Bool) → announcement f.number (phase_for how) ≡ word_of w f (ended (outcome_for how))
 ended_word w f true = refl
 ended_word w f false = refl
+
+pub said_announced : (n : ℕ) (how : Bool) → n < RECORDS → IsAnnounced (announcement n (phase_for how))
+said_announced n true l = record { it = record { number = n; phase = phase.Done }; reads = announcement_of-announcement_word (record { number = n; phase = phase.Done }) l; some = omega arith; few = omega arith }
+said_announced n false l = record { it = record { number = n; phase = phase.NotDone }; reads = announcement_of-announcement_word (record { number = n; phase = phase.NotDone }) l; some = omega arith; few = omega arith }
 
 may_end : (how : Bool) → MaySay (standing_for how) (ended (outcome_for how))
 may_end true = tt
@@ -184,4 +189,4 @@ module _ (e : PlainRecovery) (how : Bool) (word : ℕ) (old new : World) (sound 
       (subst (λ (o : Option Issue). DoubtFits new p o) (sym h.it.issued) in_doubt)
       (λ r by. fits.freed r (subst (λ (x : ℕ). IsHeldBy p x) (store.elsewhere (Mark r) (λ x. cc)) by))
       (store.there, record { number = number_of e; few = (let n = number_is in let k = h.it.number in omega arith); is = refl })
-      (store.buffer p ∙ fits.buffer) tt))
+      (store.buffer p ∙ fits.buffer) (said_announced (number_of e) how (let n = fits.is.stage.0.few in let k = fits.is.stage.0.some in omega arith), fits.is.stage.1)))

@@ -1,40 +1,36 @@
 -- A recovery writes back the words of a cell that it holds, and tells the cells that refer to it.
-use Rattle.std.proofs.Common.{ℕ, ◌≡◌, ◌≢◌, ◌<◌, ◌≤◌, ◌+◌, ◌-◌, ◌*◌, ◌/◌, ◌%◌, ◌==◌, ◌⊎◌, List, [], ◌∷◌, ◌++◌, refl, ap, sym, ◌∙◌, subst, arith, inl, inr, Some, None, zero, suc, true, false, max, length, length-append}
-use Rattle.std.specs.Prelude.{Contains, Option, Bool, bit_or, nat_lt, if◌then◌else◌, slice_index_or}
-use Rattle.std.specs.Int.{bit_at}
-use Rattle.std.proofs.lemmas.Bool.{cases_eq, ltb-false}
-use Rattle.std.proofs.lemmas.Bool.Decides.{eqb_tells}
-use Rattle.ds_words.specs.declared.access.Entry.{Entry}
-use Rattle.ds_words.specs.Memory.{SameMemory, StoresAt, OrsAt, FlushesAt, WritesBack}
-use Rattle.ds_layout.specs.Places.{class_of, cells_of}
+use Rattle.std.proofs.Common.{ℕ, ◌≡◌, ◌≢◌, ◌<◌, ◌≤◌, ◌+◌, ◌-◌, ◌/◌, ◌⊎◌, List, [], ◌∷◌, ◌++◌, refl, ap, sym, ◌∙◌, subst, arith, inl, inr, Some, None, true, false, max, length-append}
+use Rattle.std.specs.Prelude.{Contains, Option, Bool, bit_or, nat_lt, if◌then◌else◌}
+use Rattle.std.proofs.lemmas.Bool.{cases_eq, ltb-true, ltb-false}
+use Rattle.ds_words.specs.Memory.{SameMemory, OrsAt, FlushesAt, WritesBack}
+use Rattle.ds_layout.specs.Places.{class_of}
 use Rattle.ds_layout.specs.declared.mark.TheConstants.{DIRTY}
-use Rattle.ds_layout.specs.declared.place.Place.{Place}
-use Rattle.ds_layout.specs.declared.place.Place.TheVariants.{Version, Head, Mark, Value, Kind, Announce, Index}
+use Rattle.ds_layout.specs.declared.place.Place.TheVariants.{Version, Mark, Value, Kind}
 use Rattle.ds_state.specs.Works.{PlainRecovery}
-use Rattle.ds_state.specs.World.{Edit, Issue, World, of_cell}
-use Rattle.ds_state.specs.Owing.{entry, HoldsNone, IsMark, IsHeldBy, IsHeld, IsApart, CellOwes, IsPending, IsIndexed, StandsIn, IsBelowBuffered, SpreadOwes, RecoveryOwes, Owes}
+use Rattle.ds_state.specs.World.{World}
+use Rattle.ds_state.specs.Owing.{entry, IsHeldBy, IsHeld, IsApart, CellOwes, IsIndexed, SpreadOwes, Owes}
 use Rattle.ds_state.specs.Standing.{Matters}
 use Rattle.ds_state.specs.KnownWork.{HasMark}
-use Rattle.ds_state.specs.KnownRecovery.{HoldsFrom, Holding, ValueAgrees, KindAgrees, value_now, kind_now}
+use Rattle.ds_state.specs.KnownRecovery.{Holding, ValueAgrees, KindAgrees, value_now, kind_now}
 use Rattle.ds_state.specs.Calls.{RecoveryFits}
 use Rattle.ds_state.specs.Rely.{Grows, Keeps}
 use Rattle.ds_state.specs.Sound.{IsSound}
 use Rattle.ds_state.specs.Telling.{told_from}
-use Rattle.ds_state.specs.RecoverySteps.{StepsAt, at, told}
+use Rattle.ds_recover.specs.RecoverySteps.{StepsAt, at, told}
 use Rattle.ds_state.specs.declared.work.Spread.TheVariants.{LoadRow, OrTold, FlushTold, BackTold}
-use Rattle.ds_state.specs.declared.work.RecoverStage.TheVariants.{LoadMark, FlushValue, FlushKind, BackValue, BackKind, Telling, Give, GiveDirty, FlushGiven, BackGiven, LoadAnnounce}
+use Rattle.ds_state.specs.declared.work.RecoverStage.TheVariants.{BackValue, BackKind, Telling, Give}
 use Rattle.ds_state.specs.declared.situation.Situation.{Situation}
 use Rattle.ds_state.specs.declared.situation.Situation.TheVariants.{Recovering}
 use Rattle.ds_state.proofs.Dirty.{or_dirty}
-use Rattle.ds_state.proofs.Frames.{Moves, grows_own, one_holder}
-use Rattle.ds_state.proofs.Bearing.{Mine, MyMarks, no_new_marks, text_same, durable_least}
+use Rattle.ds_state.proofs.Frames.{Moves, one_holder}
+use Rattle.ds_state.proofs.Bearing.{no_new_marks, text_same}
 use Rattle.ds_state.proofs.Buffers.{buffered}
 use Rattle.ds_state.proofs.EditFrame.{back_any}
 use Rattle.ds_state.proofs.Telling.{matters_most, odd_above, row_passes, flush_passes, back_passes}
 use Rattle.ds_state.proofs.Accesses.{Turn, same_moves, flush_moves}
-use Rattle.ds_state.proofs.RecoveryFrame.{on, Passes, turn_of, held_on, pends_on, simple_passes, loads, flushes}
-use Rattle.ds_state.proofs.RecoveryBack.{held_from, pends_from, first_back, grown_back, was_there, backs, backs_none, moved_or, grown_or, ors}
-use Rattle.ds_state.proofs.RecoveryFree.{tells_none, tells_some}
+use Rattle.ds_recover.proofs.RecoveryFrame.{Passes, turn_of, held_on, pends_on, simple_passes, loads, flushes}
+use Rattle.ds_recover.proofs.RecoveryBack.{held_from, pends_from, first_back, grown_back, was_there, backs, backs_none, moved_or, grown_or, ors}
+use Rattle.ds_recover.proofs.RecoveryFree.{tells_none, tells_some, told_below}
 
 same_value : (a r : ℕ) → (Value a ≡ Value r) ⊎ (Value a ≡ Kind r) → a ≡ r
 same_value a r (inl x) = cc
@@ -65,20 +61,20 @@ module _ (e : PlainRecovery) (word : ℕ) (old new : World) (sound : IsSound old
       let tn : Turn p old new = turn_of e (BackValue c) word old new t in
       let g : Grows p Version old new = grown_back p (Value c) v (kind_now old c ∷ []) old new sound tn m refl (λ o. refl) in
       let passes : Passes p e.row (BackValue c) e.row (BackKind c) old new = simple_passes p e.row (BackValue c) e.row (BackKind c) old new (held_from p old new g) (pends_from p old new g t.pending)
-          (λ r d x bit matters held o. tt) (λ d x matters k o. tt) (λ r held o. tt) (λ f before last_of issue issued same k o. tt) in
+      (λ r d x bit matters held o. tt) (λ d x matters k o. tt) (λ r held o. tt) (λ f before last_of issue issued same k o. tt) in
       let agree : ValueAgrees new c = m.there ∙ sym (m.cached (Value c)) in
       let there : (d x q : ℕ) → Contains (new.memory.buffer q) (entry (Mark d) x) → Contains (old.memory.buffer q) (entry (Mark d) x) = was_there p (Value c) v (kind_now old c ∷ []) old new sound tn m refl (λ o. refl) in
       let holds : new.memory.buffer p ≡ kind_now new c ∷ [] = m.mine ∙ ap (λ (y : ℕ). entry (Kind c) y ∷ []) (sym (m.cached (Kind c))) in
       elim (sound.words (Value c)) [
         | inl same ↦ backs_none e e.mark e.row e.announcement e.cell (BackValue c) (BackKind c) old new sound was fits real tn t.situation t.pending passes (Value c) v (kind_now old c ∷ []) m (sym same) there g
-            (λ h. (h, agree)) (λ h. h) holds fits.row
+            (λ h. (h, agree)) (λ h. h) holds fits.is.stage
         | inr a ↦ (
             let both : IsHeld old.memory p c = apart_held c fits.freed a in
             backs e e.mark e.row e.announcement e.cell (BackValue c) (BackKind c) old new sound was fits real tn t.situation t.pending passes (Value c) v (kind_now old c ∷ []) m refl (λ o. refl) (λ d at. cc)
             (λ r at by d x. subst (λ (y : ℕ). CellOwes new y d x) (same_value c r at) (record { holder = p; held = held_from p old new g c both; still = subst (λ (s : Situation). Owes new.memory p s c d x) (sym t.situation) tt }))
             (λ r at by. subst (λ (y : ℕ). IsHeld old.memory p y) (same_value c r at) both)
             (λ moves my. no_new_marks p (Value c) old new moves (λ d at. cc) there)
-            (λ h. (h, agree)) (λ h. h) holds fits.row)
+            (λ h. (h, agree)) (λ h. h) holds fits.is.stage)
       ]
 
   pub step_back_kind : (c : ℕ) → old.situation e.process ≡ Recovering (at e (BackKind c)) → RecoveryFits old e.process (at e (BackKind c)) → StepsAt e (BackKind c) word old new → Keeps e.process old new
@@ -101,14 +97,14 @@ module _ (e : PlainRecovery) (word : ℕ) (old new : World) (sound : IsSound old
       let there : (d x q : ℕ) → Contains (new.memory.buffer q) (entry (Mark d) x) → Contains (old.memory.buffer q) (entry (Mark d) x) = was_there p (Kind c) v [] old new sound tn m refl (λ o. refl) in
       elim (sound.words (Kind c)) [
         | inl same ↦ backs_none e e.mark e.row e.announcement e.cell (BackKind c) (Telling c (LoadRow 0)) old new sound was fits real tn t.situation t.pending passes (Kind c) v [] m (sym same) there g
-            (λ h. (h.0, h.1, agree)) (λ h. h) m.mine fits.row
+            (λ h. (h.0, h.1, agree)) (λ h. h) m.mine (fits.is.stage.0, ((let n = fits.is.some in omega arith), fits.is.stage.1))
         | inr a ↦ (
             let both : IsHeld old.memory p c = apart_held c fits.freed.0 a in
             backs e e.mark e.row e.announcement e.cell (BackKind c) (Telling c (LoadRow 0)) old new sound was fits real tn t.situation t.pending passes (Kind c) v [] m refl (λ o. refl) (λ d at. cc)
             (λ r at by d x. subst (λ (y : ℕ). CellOwes new y d x) (same_kind c r at) (record { holder = p; held = held_from p old new g c both; still = subst (λ (s : Situation). Owes new.memory p s c d x) (sym t.situation) (inr (inl (omega arith))) }))
             (λ r at by. subst (λ (y : ℕ). IsHeld old.memory p y) (same_kind c r at) both)
             (λ moves my. no_new_marks p (Kind c) old new moves (λ d at. cc) there)
-            (λ h. (h.0, h.1, agree)) (λ h. h) m.mine fits.row)
+            (λ h. (h.0, h.1, agree)) (λ h. h) m.mine (fits.is.stage.0, ((let n = fits.is.some in omega arith), fits.is.stage.1)))
       ]
 
   -- what is owed by the cell c, and by others
@@ -125,15 +121,21 @@ module _ (e : PlainRecovery) (word : ℕ) (old new : World) (sound : IsSound old
       let is = or_dirty (old.memory.cached (Mark d)) in
       ors e e.mark e.row e.announcement e.cell (Telling c (OrTold d)) (Telling c (FlushTold d)) old new sound was fits real tn t.situation t.pending
       (simple_passes p e.row (Telling c (OrTold d)) e.row (Telling c (FlushTold d)) old new (held_from p old new g) (pends_from p old new g t.pending)
-        (λ r y x bit matters held o. other_or c r _ _ (λ eq k. (k.0, elim (cases_eq d y) [
+      (λ r y x bit matters held o. other_or c r _ _ (λ eq k. (
+        k.0,
+        elim (cases_eq d y) [
           | inr ne ↦ inl (let l = k.1 in omega arith)
-          | inl at ↦ inr (at, (
-              let most = matters_most p d _ old new m moves sound (buffered old sound) y x matters in
-              let there : new.memory.cached (Mark y) ≡ bit_or (old.memory.cached (Mark d)) DIRTY = ap (λ (z : ℕ). new.memory.cached (Mark z)) (sym at) ∙ m.there in
-              odd_above x (new.memory.cached (Mark y)) matters.0 (omega arith) most))
-        ])) o)
-        (λ y x matters k o. tt) (λ r held o. o) (λ f before last_of issue issued same k o. tt))
-      d m (λ h. h) (λ h. h) (m.buffer p ∙ fits.buffer) tt
+          | inl at ↦ inr (
+            at,
+            (
+                let most = matters_most p d _ old new m moves sound (buffered old sound) y x matters in
+                let there : new.memory.cached (Mark y) ≡ bit_or (old.memory.cached (Mark d)) DIRTY = ap (λ (z : ℕ). new.memory.cached (Mark z)) (sym at) ∙ m.there in
+                odd_above x (new.memory.cached (Mark y)) matters.0 (omega arith) most),
+          )
+        ],
+      )) o)
+      (λ y x matters k o. tt) (λ r held o. o) (λ f before last_of issue issued same k o. tt))
+      d m (λ h. h) (λ h. h) (m.buffer p ∙ fits.buffer) fits.is.stage
 
   pub step_flush_told : (c d : ℕ) → old.situation e.process ≡ Recovering (at e (Telling c (FlushTold d))) → RecoveryFits old e.process (at e (Telling c (FlushTold d))) → StepsAt e (Telling c (FlushTold d)) word old new → Keeps e.process old new
   step_flush_told c d was fits t =
@@ -143,10 +145,10 @@ module _ (e : PlainRecovery) (word : ℕ) (old new : World) (sound : IsSound old
       let alone : new.memory.buffer p ≡ entry (Mark d) (old.memory.cached (Mark d)) ∷ [] = m.mine ∙ ap (λ xs. xs ++ entry (Mark d) (old.memory.cached (Mark d)) ∷ []) fits.buffer in
       flushes e e.mark e.row e.announcement e.cell (Telling c (FlushTold d)) (Telling c (BackTold d)) old new sound was fits real tn t.situation t.pending
       (simple_passes p e.row (Telling c (FlushTold d)) e.row (Telling c (BackTold d)) old new (held_on p old new moves) (pends_on p old new moves t.pending)
-        (λ r y x bit matters held o. other_or c r _ _ (λ eq k. flush_passes p e.row d old new alone y x k) o)
-        (λ y x matters k o. tt) (λ r held o. o) (λ f before last_of issue issued same k o. tt))
+      (λ r y x bit matters held o. other_or c r _ _ (λ eq k. flush_passes p e.row d old new alone y x k) o)
+      (λ y x matters k o. tt) (λ r held o. o) (λ f before last_of issue issued same k o. tt))
       (Mark d) m (λ h. h) (λ h. h)
-      (record { value = old.memory.cached (Mark d); alone = alone; had = (let k = m.cached (Mark d) in omega arith); is = λ q by. rw tn.layout ((sound.words (Mark d)).holder q by) }) tt
+      (record { value = old.memory.cached (Mark d); alone = alone; had = (let k = m.cached (Mark d) in omega arith); is = λ q by. rw tn.layout ((sound.words (Mark d)).holder q by) }) fits.is.stage
 
   -- the mark of a cell that was told is written back: what comes next is a later cell, or the give-back
   pub step_back_told : (c d : ℕ) → old.situation e.process ≡ Recovering (at e (Telling c (BackTold d))) → RecoveryFits old e.process (at e (Telling c (BackTold d))) → StepsAt e (Telling c (BackTold d)) word old new → Keeps e.process old new
@@ -176,24 +178,24 @@ module _ (e : PlainRecovery) (word : ℕ) (old new : World) (sound : IsSound old
       go : (o : Option ℕ) → told_from e.row (e.cells - (d + 1)) (d + 1) ≡ o → new.situation p ≡ Recovering (at e (told c o)) → Keeps p old new
       go None none is = backs e e.mark e.row e.announcement e.cell (Telling c (BackTold d)) (Give c) old new sound was fits real tn is t.pending
           (simple_passes p e.row (Telling c (BackTold d)) e.row (Give c) old new (held_from p old new g) (pends_from p old new g t.pending)
-            (λ r y x bit matters held o. elim o [
-              | inl ne ↦ ne
-              | inr k ↦ absurd (let l = left y x matters k in tells_none e.row e.cells (d + 1) y none (let b = bit.1 in let n = fits.cells in omega arith) l.0 l.1)
-            ])
-            (λ y x matters k o. tt) (λ r held o. o) (λ f before last_of issue issued same k o. tt))
+          (λ r y x bit matters held o. elim o [
+            | inl ne ↦ ne
+            | inr k ↦ absurd (let l = left y x matters k in tells_none e.row e.cells (d + 1) y none (let b = bit.1 in let n = fits.cells in omega arith) l.0 l.1)
+          ])
+          (λ y x matters k o. tt) (λ r held o. o) (λ f before last_of issue issued same k o. tt))
           (Mark d) one.value [] m (one.had, one.is) (λ o. absurd o) (λ y at. cc) (λ r at. absurd (no_value d r at)) (λ r at. absurd (no_value d r at))
           (λ moves my. back_any p (Mark d) one.value old new moves sound (buffered old sound) my (text_same old new moves.layout tn.counted) real m)
-          (λ h. h) (λ h. h) m.mine tt
+          (λ h. h) (λ h. h) m.mine fits.is.stage.0
       go (Some d') some is = backs e e.mark e.row e.announcement e.cell (Telling c (BackTold d)) (Telling c (OrTold d')) old new sound was fits real tn is t.pending
           (simple_passes p e.row (Telling c (BackTold d)) e.row (Telling c (OrTold d')) old new (held_from p old new g) (pends_from p old new g t.pending)
-            (λ r y x bit matters held o. elim o [
-              | inl ne ↦ inl ne
-              | inr k ↦ inr (let l = left y x matters k in (l.0, tells_some e.row e.cells (d + 1) d' y some (let b = bit.1 in let n = fits.cells in omega arith) l.0 l.1))
-            ])
-            (λ y x matters k o. tt) (λ r held o. o) (λ f before last_of issue issued same k o. tt))
+          (λ r y x bit matters held o. elim o [
+            | inl ne ↦ inl ne
+            | inr k ↦ inr (let l = left y x matters k in (l.0, tells_some e.row e.cells (d + 1) d' y some (let b = bit.1 in let n = fits.cells in omega arith) l.0 l.1))
+          ])
+          (λ y x matters k o. tt) (λ r held o. o) (λ f before last_of issue issued same k o. tt))
           (Mark d) one.value [] m (one.had, one.is) (λ o. absurd o) (λ y at. cc) (λ r at. absurd (no_value d r at)) (λ r at. absurd (no_value d r at))
           (λ moves my. back_any p (Mark d) one.value old new moves sound (buffered old sound) my (text_same old new moves.layout tn.counted) real m)
-          (λ h. h) (λ h. h) m.mine tt
+          (λ h. h) (λ h. h) m.mine (fits.is.stage.0, ((let l = told_below e.row (e.cells - (d + 1)) (d + 1) d' some in let k = fits.is.stage.1.0 in omega arith), fits.is.stage.1.1))
 
   -- a part of the row
   pub step_load_row : (c part : ℕ) → old.situation e.process ≡ Recovering (at e (Telling c (LoadRow part))) → RecoveryFits old e.process (at e (Telling c (LoadRow part))) → StepsAt e (Telling c (LoadRow part)) word old new → Keeps e.process old new
@@ -212,36 +214,36 @@ module _ (e : PlainRecovery) (word : ℕ) (old new : World) (sound : IsSound old
       moves = same_moves p old new tn m
 
       left : (r y x : ℕ) → c ≡ r → IsIndexed old r y → SpreadOwes old.memory p e.row (LoadRow part) y x → SpreadOwes new.memory p (e.row ++ word ∷ []) (LoadRow (part + 1)) y x
-      left r y x eq bit k = row_passes p e.row c part word old new fits.row t.memory.0 y x (subst (λ (z : ℕ). IsIndexed old z y) (sym eq) bit) k
+      left r y x eq bit k = row_passes p e.row c part word old new fits.is.stage.1.1 t.memory.0 y x (subst (λ (z : ℕ). IsIndexed old z y) (sym eq) bit) k
 
       go : (o : Option ℕ) → told_from (e.row ++ word ∷ []) (e.cells - 0) 0 ≡ o → (e.cells + 63) / 64 ≤ part + 1 → new.situation p ≡ Recovering (record e { row = e.row ++ word ∷ []; stage = told c o }) → Keeps p old new
       go None none last is = loads e e.mark (e.row ++ word ∷ []) e.announcement e.cell (Telling c (LoadRow part)) (Give c) old new sound was fits real tn is t.pending
           (simple_passes p e.row (Telling c (LoadRow part)) (e.row ++ word ∷ []) (Give c) old new (held_on p old new moves) (pends_on p old new moves t.pending)
-            (λ r y x bit matters held o. elim o [
-              | inl ne ↦ ne
-              | inr k ↦ elim (cases_eq c r) [
-                | inr ne ↦ ne
-                | inl eq ↦ absurd (elim (left r y x eq bit k) [
-                  | inl later ↦ (let b = bit.1 in let n = fits.cells in omega arith)
-                  | inr there ↦ tells_none (e.row ++ word ∷ []) e.cells 0 y none (let b = bit.1 in let n = fits.cells in omega arith) there (omega arith)
-                ])
-              ]
-            ])
-            (λ y x matters k o. tt) (λ r held o. o) (λ f before last_of issue issued same k o. tt))
-          m (λ h. h) (λ h. h) (m.buffer p ∙ fits.buffer) tt
+          (λ r y x bit matters held o. elim o [
+            | inl ne ↦ ne
+            | inr k ↦ elim (cases_eq c r) [
+              | inr ne ↦ ne
+              | inl eq ↦ absurd (elim (left r y x eq bit k) [
+                | inl later ↦ (let b = bit.1 in let n = fits.cells in omega arith)
+                | inr there ↦ tells_none (e.row ++ word ∷ []) e.cells 0 y none (let b = bit.1 in let n = fits.cells in omega arith) there (omega arith)
+              ])
+            ]
+          ])
+          (λ y x matters k o. tt) (λ r held o. o) (λ f before last_of issue issued same k o. tt))
+          m (λ h. h) (λ h. h) (m.buffer p ∙ fits.buffer) fits.is.stage.0
       go (Some d') some last is = loads e e.mark (e.row ++ word ∷ []) e.announcement e.cell (Telling c (LoadRow part)) (Telling c (OrTold d')) old new sound was fits real tn is t.pending
           (simple_passes p e.row (Telling c (LoadRow part)) (e.row ++ word ∷ []) (Telling c (OrTold d')) old new (held_on p old new moves) (pends_on p old new moves t.pending)
-            (λ r y x bit matters held o. other_or c r _ _ (λ eq k. elim (left r y x eq bit k) [
-              | inl later ↦ absurd (let b = bit.1 in let n = fits.cells in omega arith)
-              | inr there ↦ (there, tells_some (e.row ++ word ∷ []) e.cells 0 d' y some (let b = bit.1 in let n = fits.cells in omega arith) there (omega arith))
-            ]) o)
-            (λ y x matters k o. tt) (λ r held o. o) (λ f before last_of issue issued same k o. tt))
-          m (λ h. h) (λ h. h) (m.buffer p ∙ fits.buffer) tt
+          (λ r y x bit matters held o. other_or c r _ _ (λ eq k. elim (left r y x eq bit k) [
+            | inl later ↦ absurd (let b = bit.1 in let n = fits.cells in omega arith)
+            | inr there ↦ (there, tells_some (e.row ++ word ∷ []) e.cells 0 d' y some (let b = bit.1 in let n = fits.cells in omega arith) there (omega arith))
+          ]) o)
+          (λ y x matters k o. tt) (λ r held o. o) (λ f before last_of issue issued same k o. tt))
+          m (λ h. h) (λ h. h) (m.buffer p ∙ fits.buffer) (fits.is.stage.0, ((let l = told_below (e.row ++ word ∷ []) (e.cells - 0) 0 d' some in let n = fits.is.some in omega arith), (let k = fits.is.stage.1.0 in let s = fits.is.stage.1.1 in omega (arith, length-append e.row (word ∷ [])))))
 
       by : (b : Bool) → nat_lt (part + 1) ((e.cells + 63) / 64) ≡ b → new.situation p ≡ Recovering (record e { row = e.row ++ word ∷ []; stage = if b then Telling c (LoadRow (part + 1)) else told c (told_from (e.row ++ word ∷ []) (e.cells - 0) 0) }) → Keeps p old new
       by true more is = loads e e.mark (e.row ++ word ∷ []) e.announcement e.cell (Telling c (LoadRow part)) (Telling c (LoadRow (part + 1))) old new sound was fits real tn is t.pending
           (simple_passes p e.row (Telling c (LoadRow part)) (e.row ++ word ∷ []) (Telling c (LoadRow (part + 1))) old new (held_on p old new moves) (pends_on p old new moves t.pending)
-            (λ r y x bit matters held o. other_or c r _ _ (λ eq k. left r y x eq bit k) o)
-            (λ y x matters k o. tt) (λ r held o. o) (λ f before last_of issue issued same k o. tt))
-          m (λ h. h) (λ h. h) (m.buffer p ∙ fits.buffer) (let s = fits.row in omega (arith, length-append e.row (word ∷ [])))
+          (λ r y x bit matters held o. other_or c r _ _ (λ eq k. left r y x eq bit k) o)
+          (λ y x matters k o. tt) (λ r held o. o) (λ f before last_of issue issued same k o. tt))
+          m (λ h. h) (λ h. h) (m.buffer p ∙ fits.buffer) (fits.is.stage.0, (ltb-true (part + 1) ((e.cells + 63) / 64) more, (let s = fits.is.stage.1.1 in omega (arith, length-append e.row (word ∷ [])))))
       by false none is = go (told_from (e.row ++ word ∷ []) (e.cells - 0) 0) refl (ltb-false (part + 1) ((e.cells + 63) / 64) none) is

@@ -1,30 +1,30 @@
 -- Each step of a recovery keeps a world sound, and its answer is true.
-use Rattle.std.proofs.Common.{ℕ, ◌≡◌, ◌≢◌, ◌<◌, ◌≤◌, ◌+◌, ◌-◌, ◌*◌, ◌/◌, ◌%◌, ◌⊎◌, List, [], ◌∷◌, refl, ap, sym, ◌∙◌, subst, arith, inl, inr, Some, None, true, false}
-use Rattle.std.specs.Prelude.{Option, Bool, All}
+use Rattle.std.proofs.Common.{ℕ, ◌≡◌, ◌<◌, ◌≤◌, ◌-◌, ◌/◌, refl, sym, ◌∙◌, subst, arith, inl, inr, Some, None, true, false}
+use Rattle.std.specs.Prelude.{Option, Bool}
 use Rattle.std.proofs.lemmas.List.Elements.{All-weaker}
 use Rattle.ds_layout.specs.declared.place.Place.TheVariants.{Announce}
 use Rattle.ds_layout.specs.declared.announcement.Phase.TheVariants as phase
 use Rattle.ds_state.specs.Works.{PlainRecovery}
 use Rattle.ds_state.specs.World.{Edit, Issue, World, announcement}
-use Rattle.ds_state.specs.Known.{Standing, outside, inside, safe, Announced, last, pending, ended, word_of, AreBelow, IsSafelyIn, StandsAs}
+use Rattle.ds_state.specs.Known.{Standing, outside, inside, safe, Announced, last, pending, ended, word_of, AreBelow, StandsAs}
 use Rattle.ds_state.specs.declared.stage.Outcome.TheVariants as outcome
 use Rattle.ds_state.specs.KnownRecovery.{Tells}
 use Rattle.ds_state.specs.Calls.{CallFits, MaySay, IsInDoubt, DoubtFits, RecoveryFits}
 use Rattle.ds_state.specs.Rely.{Keeps}
 use Rattle.ds_state.specs.Sound.{IsSound}
-use Rattle.ds_state.specs.RecoverySteps.{StepsAt, at, number_of, end_of, ResolvesAs}
+use Rattle.ds_recover.specs.RecoverySteps.{StepsAt, at, number_of, end_of, ResolvesAs}
 use Rattle.ds_state.specs.declared.work.Spread.TheVariants.{LoadRow, OrTold, FlushTold, BackTold}
 use Rattle.ds_state.specs.declared.work.RecoverStage.{RecoverStage}
 use Rattle.ds_state.specs.declared.work.RecoverStage.TheVariants.{LoadMark, FlushValue, FlushKind, BackValue, BackKind, Telling, Give, GiveDirty, FlushGiven, BackGiven, LoadAnnounce, LoadHeader, LoadHead, FlushHead, BackHead, LoadDone, OrMark, FlushMark, BackMark, StoreOutcome, FlushOutcome, BackOutcome, Answer}
 use Rattle.ds_state.specs.declared.situation.Situation.{Situation}
 use Rattle.ds_state.specs.declared.situation.Situation.TheVariants.{Recovering}
-use Rattle.ds_state.proofs.RecoveryResolve.{step_load_announce, step_load_header, step_load_head, step_load_done}
-use Rattle.ds_state.proofs.RecoverySay.{step_store_outcome}
-use Rattle.ds_state.proofs.RecoveryEnds.{step_answer, rests_none, last_number}
-use Rattle.ds_state.proofs.RecoveryLate.{step_or_mark, step_flush_mark, step_back_mark, step_flush_outcome, step_back_outcome}
-use Rattle.ds_state.proofs.RecoveryFree.{step_load_mark, step_flush_value, step_flush_kind, step_give, step_give_dirty, step_flush_given, step_back_given}
-use Rattle.ds_state.proofs.RecoveryTell.{step_back_value, step_back_kind, step_load_row, step_or_told, step_flush_told, step_back_told}
-use Rattle.ds_state.proofs.RecoveryHead.{step_flush_head, step_back_head}
+use Rattle.ds_recover.proofs.RecoveryResolve.{step_load_announce, step_load_header, step_load_head, step_load_done}
+use Rattle.ds_recover.proofs.RecoverySay.{step_store_outcome}
+use Rattle.ds_recover.proofs.RecoveryEnds.{step_answer, rests_none, last_number}
+use Rattle.ds_recover.proofs.RecoveryLate.{step_or_mark, step_flush_mark, step_back_mark, step_flush_outcome, step_back_outcome}
+use Rattle.ds_recover.proofs.RecoveryFree.{step_load_mark, step_flush_value, step_flush_kind, step_give, step_give_dirty, step_flush_given, step_back_given}
+use Rattle.ds_recover.proofs.RecoveryTell.{step_back_value, step_back_kind, step_load_row, step_or_told, step_flush_told, step_back_told}
+use Rattle.ds_recover.proofs.RecoveryHead.{step_flush_head, step_back_head}
 
 module _ (e : PlainRecovery) (word : ℕ) (old new : World) (sound : IsSound old) (real : e.process < old.layout.processes) where
   abbrev p : ℕ

@@ -1,21 +1,20 @@
 -- A recovery gives a held cell back.
-use Rattle.std.proofs.Common.{ℕ, ◌≡◌, ◌≢◌, ◌<◌, ◌≤◌, ◌+◌, ◌*◌, ◌/◌, ◌%◌, ◌⊎◌, List, [], ◌∷◌, refl, ap, sym, ◌∙◌, subst, arith, inl, inr, Some}
-use Rattle.std.specs.Prelude.{Option}
+use Rattle.std.proofs.Common.{ℕ, ◌≡◌, ◌≢◌, ◌≤◌, ◌+◌, ◌/◌, ◌⊎◌, [], ap, sym, ◌∙◌, subst, arith, inl, inr}
 use Rattle.std.proofs.lemmas.Bool.{cases_eq}
 use Rattle.ds_words.specs.Memory.{StoresAt}
-use Rattle.ds_layout.specs.declared.place.Place.{Place}
-use Rattle.ds_layout.specs.declared.place.Place.TheVariants.{Version, Head, Mark, Value, Kind, Announce}
+use Rattle.ds_layout.specs.declared.place.Place.TheVariants.{Head, Mark, Value, Kind, Announce}
 use Rattle.ds_state.specs.Works.{PlainRecovery}
-use Rattle.ds_state.specs.World.{Edit, Issue, World, record_place}
-use Rattle.ds_state.specs.Owing.{HELD_MOST, IsMark, IsClean, IsHeldBy, IsHeld, RecoveryOwes, RecoveryParts, IsPending, RecoveryExcuses, RecoverySplits}
+use Rattle.ds_state.specs.RecoverStages.{IsFreeing}
+use Rattle.ds_state.specs.World.{World}
+use Rattle.ds_state.specs.Owing.{HELD_MOST, IsMark, IsClean, IsHeldBy, IsHeld, RecoveryOwes, RecoveryParts, IsPending}
 use Rattle.ds_state.specs.KnownRecovery.{Holding, HoldsFrom}
-use Rattle.ds_state.specs.Calls.{CallFits, DoubtFits, RecoveryFits}
+use Rattle.ds_state.specs.Calls.{CallFits, RecoveryFits}
 use Rattle.ds_state.specs.Words.{WordFits}
 use Rattle.ds_state.specs.Telling.{let_go}
-use Rattle.ds_state.specs.Rely.{Bears, Grows, Keeps}
+use Rattle.ds_state.specs.Rely.{Grows, Keeps}
 use Rattle.ds_state.specs.Sound.{IsSound}
 use Rattle.ds_state.specs.declared.work.RecoverStage.{RecoverStage}
-use Rattle.ds_state.specs.declared.work.RecoverStage.TheVariants.{LoadMark, Give, GiveDirty, FlushGiven}
+use Rattle.ds_state.specs.declared.work.RecoverStage.TheVariants.{FlushGiven}
 use Rattle.ds_state.specs.declared.situation.Situation.{Situation}
 use Rattle.ds_state.specs.declared.situation.Situation.TheVariants.{Recovering}
 use Rattle.ds_state.proofs.Stable.{doubt_grows}
@@ -23,7 +22,7 @@ use Rattle.ds_state.proofs.Frames.{MovesWord, Moves, grows_own, moves_sound}
 use Rattle.ds_state.proofs.Bearing.{Mine, MyMarks, bears, all_stand, text_same, stored_marks}
 use Rattle.ds_state.proofs.Buffers.{buffered, record_no_mark}
 use Rattle.ds_state.proofs.Accesses.{Turn, store_moves}
-use Rattle.ds_state.proofs.RecoveryFrame.{on, Passes, recovery_mine, recovery_apart, recovery_keeps, recovery_fits}
+use Rattle.ds_recover.proofs.RecoveryFrame.{Passes, recovery_mine, recovery_apart, recovery_keeps, recovery_fits}
 
 -- the mark that gives a cell back
 abbrev pub given : ℕ → ℕ
@@ -36,7 +35,7 @@ given_free mark q by = omega arith
 module _ (e : PlainRecovery) (c : ℕ) (s : RecoverStage) (old new : World) (sound : IsSound old)
     (owed : (r d x : ℕ) → RecoveryOwes old.memory e.process e.row s r d x → c ≢ r) (parted : (r : ℕ) → RecoveryParts s r → c ≢ r)
     (was : old.situation e.process ≡ Recovering (record e { stage = s })) (fits : RecoveryFits old e.process (record e { stage = s })) (h : Holding old e.process e.mark c)
-    (empty : old.memory.buffer e.process ≡ [])
+    (empty : old.memory.buffer e.process ≡ []) (free : IsFreeing e.cells e.mark c)
     (tn : Turn e.process old new) (is : new.situation e.process ≡ Recovering (record e { stage = FlushGiven c })) (pending : new.pending e.process ≡ old.pending e.process)
     (store : StoresAt (Mark c) (given e.mark) old.memory new.memory) where
   abbrev p : ℕ
@@ -134,4 +133,4 @@ module _ (e : PlainRecovery) (c : ℕ) (s : RecoverStage) (old new : World) (sou
       (λ l. subst (λ (t : Situation). CallFits new p t) (sym is)
       (recovery_fits e e.mark e.row e.announcement e.cell s (FlushGiven c) old new was is fits tn.layout pending
       (doubt_grows (Mark c) old new p g pending (λ x. cc) (λ n k. record_no_mark p n k c) (old.pending p) fits.doubt)
-      freed tt (store.buffer p ∙ empty) tt))
+      freed tt (store.buffer p ∙ empty) free))

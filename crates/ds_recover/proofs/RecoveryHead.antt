@@ -1,39 +1,37 @@
 -- A recovery makes the head of its edit in doubt durable.
-use Rattle.std.proofs.Common.{ℕ, ◌≡◌, ◌≢◌, ◌<◌, ◌≤◌, ◌+◌, ◌*◌, ◌/◌, ◌%◌, ◌⊎◌, List, [], ◌∷◌, ◌++◌, refl, ap, sym, ◌∙◌, subst, arith, inl, inr, Some, true, max}
+use Rattle.std.proofs.Common.{ℕ, ◌≡◌, ◌≢◌, ◌<◌, ◌≤◌, ◌+◌, ◌⊎◌, List, [], ◌∷◌, ◌++◌, refl, ap, sym, ◌∙◌, subst, arith, inl, inr, Some, true, max}
 use Rattle.std.specs.Prelude.{Contains, Option, Bool}
 use Rattle.std.proofs.lemmas.Bool.{cases_eq}
-use Rattle.ds_words.specs.declared.access.Entry.{Entry}
 use Rattle.ds_words.specs.Memory.{FlushesAt, WritesBack}
 use Rattle.ds_layout.specs.Places.{class_of}
 use Rattle.ds_layout.specs.declared.place.Place.{Place}
-use Rattle.ds_layout.specs.declared.place.Place.TheVariants.{Version, Head, Mark, Value, Kind, Announce}
+use Rattle.ds_layout.specs.declared.place.Place.TheVariants.{Version, Head, Mark, Announce}
 use Rattle.ds_state.specs.Works.{PlainRecovery}
 use Rattle.ds_state.specs.World.{Edit, Issue, World, of_cell, head_after_all, IsHeadBy}
 use Rattle.ds_state.specs.Known.{IsIn}
-use Rattle.ds_state.specs.Owing.{entry, IsHeldBy, IsHeld, IsPending, IsApart, Owes, Parts, Excuses, IsExcused, Splits}
+use Rattle.ds_state.specs.Owing.{entry, IsHeldBy, Owes, Parts, Excuses, IsExcused, Splits}
 use Rattle.ds_state.specs.KnownRecovery.{HasHead, IsOpenAnd, SettledAs, ResolvedFits, settled}
 use Rattle.ds_state.specs.Calls.{CallFits, DoubtFits, RecoveryFits}
-use Rattle.ds_state.specs.Words.{WordFits, IsOnItsWay}
+use Rattle.ds_state.specs.Words.{WordFits}
 use Rattle.ds_state.specs.Rely.{Grows, Keeps}
 use Rattle.ds_state.specs.Sound.{IsSound, Increasing}
-use Rattle.ds_state.specs.RecoverySteps.{StepsAt, at}
+use Rattle.ds_recover.specs.RecoverySteps.{StepsAt, at}
 use Rattle.ds_state.specs.declared.work.RecoverStage.TheVariants.{FlushHead, BackHead, OrMark}
 use Rattle.ds_state.specs.declared.situation.Situation.{Situation}
 use Rattle.ds_state.specs.declared.situation.Situation.TheVariants.{Recovering}
-use Rattle.ds_state.proofs.Heads.{Small, small_counted, small_of_cell, by_most, by_last, by_cases, head_grows, persisted_most, cell_of-middle}
+use Rattle.ds_state.proofs.Heads.{Small, small_counted, small_of_cell, by_most, by_last, by_cases, persisted_most}
 use Rattle.ds_state.proofs.Noted.{last_cases}
 use Rattle.ds_state.proofs.Losing.{increasing_cell, last_greater}
 use Rattle.ds_state.proofs.Stable.{doubt_grows, record_no_version}
 use Rattle.ds_state.proofs.StableRecovery.{resolved_stable}
-use Rattle.ds_state.proofs.Frames.{CatchesUp, Moves, KeepsOwing, KeepsApart, grows_own, moves_sound}
-use Rattle.ds_state.proofs.Bearing.{Mine, MyMarks, bears, all_stand, text_same, apart_lasts, excused_lasts, splits_last, pends_last, marks_grow}
+use Rattle.ds_state.proofs.Frames.{CatchesUp, Moves, KeepsOwing, KeepsApart, moves_sound}
+use Rattle.ds_state.proofs.Bearing.{Mine, bears, all_stand, text_same, apart_lasts, excused_lasts, splits_last, pends_last, marks_grow}
 use Rattle.ds_state.proofs.Buffers.{buffered}
 use Rattle.ds_state.proofs.EditFrame.{back_any}
 use Rattle.ds_state.proofs.EditSteps.{head_back}
-use Rattle.ds_state.proofs.Sides.{IsBetween}
 use Rattle.ds_state.proofs.Accesses.{Turn, flush_moves}
-use Rattle.ds_state.proofs.RecoveryFrame.{on, turn_of, held_on, pends_on, simple_passes, flushes}
-use Rattle.ds_state.proofs.RecoveryBack.{held_from, pends_from, first_back, between, moved_back, grown_back}
+use Rattle.ds_recover.proofs.RecoveryFrame.{turn_of, held_on, pends_on, simple_passes, flushes}
+use Rattle.ds_recover.proofs.RecoveryBack.{pends_from, first_back, between, moved_back, grown_back}
 
 same_issue : {o : Option Issue} {a b : Issue} → o ≡ Some a → o ≡ Some b → a ≡ b
 same_issue x y = let both : Some _ ≡ Some _ = sym x ∙ y in cc
@@ -80,7 +78,7 @@ module _ (e : PlainRecovery) (word : ℕ) (old new : World) (sound : IsSound old
       let n : NowHead old e.cell own = now_head old sound e.cell own h.issue.edit stands in
       flushes e e.mark e.row e.announcement e.cell FlushHead BackHead old new sound was fits real tn t.situation t.pending
       (simple_passes p e.row FlushHead e.row BackHead old new (held_on p old new moves) (pends_on p old new moves t.pending)
-        (λ r d x bit matters held o. o) (λ d x matters k o. tt) (λ r held o. o) (λ f before last_of issue issued same k o. tt))
+      (λ r d x bit matters held o. o) (λ d x matters k o. tt) (λ r held o. o) (λ f before last_of issue issued same k o. tt))
       (Head e.cell) m (λ k. k) (λ k. k)
       (record {
         value = old.memory.cached (Head e.cell);
@@ -92,7 +90,7 @@ module _ (e : PlainRecovery) (word : ℕ) (old new : World) (sound : IsSound old
         own = own;
         head = subst (λ (es : List Edit). IsHeadBy (of_cell e.cell es) own h.issue.edit) (sym tn.counted) stands;
         enough = n.enough;
-      }) tt
+      }) fits.is.stage
 
   module _ (was : old.situation e.process ≡ Recovering (at e BackHead)) (fits : RecoveryFits old e.process (at e BackHead)) (t : StepsAt e BackHead word old new) where
     abbrev c : ℕ
@@ -262,5 +260,5 @@ module _ (e : PlainRecovery) (word : ℕ) (old new : World) (sound : IsSound old
           freed = λ r by. fits.freed r (subst (λ (x : ℕ). IsHeldBy p x) (m.cached (Mark r)) by);
           resolved = resolved;
           buffer = m.mine;
-          row = tt;
+          is = record { process = fits.is.process; processes = fits.is.processes; some = fits.is.some; cells = fits.is.cells; stage = fits.is.stage };
         }))

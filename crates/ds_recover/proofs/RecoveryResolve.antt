@@ -1,41 +1,59 @@
 -- A recovery finds out about the edit in doubt.
-use Rattle.std.proofs.Common.{ℕ, ◌≡◌, ◌≢◌, ◌<◌, ◌≤◌, ◌+◌, ◌-◌, ◌*◌, ◌/◌, ◌%◌, ◌==◌, ◌⊎◌, List, [], ◌∷◌, ◌++◌, refl, ap, sym, ◌∙◌, subst, arith, inl, inr, Some, None, true, false}
+use Rattle.std.proofs.Common.{ℕ, ◌≡◌, ◌<◌, ◌+◌, ◌%◌, ◌==◌, ◌⊎◌, [], ◌∷◌, ◌++◌, refl, ap, sym, ◌∙◌, subst, arith, inl, inr, Some, None, true, false}
 use Rattle.std.specs.Prelude.{Option, Bool, if◌then◌else◌}
 use Rattle.std.specs.Int.{bit_at}
 use Rattle.std.proofs.lemmas.Bool.{eqb-true, eq-eqb}
 use Rattle.ds_words.specs.Memory.{SameMemory}
-use Rattle.ds_layout.specs.declared.place.Place.TheVariants.{Version, Head, Mark, Value, Kind, Announce, Header}
+use Rattle.ds_layout.specs.declared.header.Header as headers
+use Rattle.ds_layout.specs.declared.place.TheConstants.{RECORDS}
+use Rattle.ds_layout.specs.declared.place.Place.TheVariants.{Version, Head, Announce, Header}
 use Rattle.ds_layout.specs.declared.announcement.Phase.{Phase}
 use Rattle.ds_layout.specs.declared.announcement.Phase.TheVariants as phase
 use Rattle.ds_layout.specs.declared.announcement.Announcement.{Announcement}
-use Rattle.ds_layout.specs.Announcement.{announcement_of, IsAnnouncement}
-use Rattle.ds_layout.specs.Places.{cells_of}
+use Rattle.ds_layout.specs.Announcement.{announcement_of}
 use Rattle.ds_layout.specs.Head.{head_of}
 use Rattle.ds_layout.specs.Header.{header_of}
-use Rattle.ds_layout.specs.Bits.{HasBit}
-use Rattle.ds_layout.proofs.Packed.{IsAnnouncement-announcement_of}
+use Rattle.ds_layout.proofs.Packed.{IsAnnouncement-announcement_of, IsHeader-header_of}
 use Rattle.ds_state.specs.Works.{PlainRecovery}
+use Rattle.ds_state.specs.RecoverStages.{IsAnnounced}
 use Rattle.ds_state.specs.World.{Edit, Issue, World, of_cell, announcement, done_place}
 use Rattle.ds_state.specs.Known.{AreBelow, IsIn}
 use Rattle.ds_state.specs.Owing.{IsPending}
 use Rattle.ds_state.specs.Calls.{RecoveryFits, IsInDoubt, DoubtFits}
-use Rattle.ds_state.specs.KnownRecovery.{Tells, phase_for, IsOpen, IsOpenAnd, IsPassed, SettledAs}
+use Rattle.ds_state.specs.KnownRecovery.{Tells, phase_for, IsOpenAnd, IsPassed, SettledAs}
 use Rattle.ds_state.specs.Rely.{Keeps}
 use Rattle.ds_state.specs.Sound.{IsSound}
-use Rattle.ds_state.specs.RecoverySteps.{StepsAt, at, number_of, announced_from, resolves_from, phase_from, cell_from, is_shown}
+use Rattle.ds_recover.specs.RecoverySteps.{StepsAt, at, number_of, announced_from, resolves_from, phase_from, cell_from, is_shown}
 use Rattle.ds_state.specs.declared.work.RecoverStage.{RecoverStage}
 use Rattle.ds_state.specs.declared.work.RecoverStage.TheVariants.{LoadAnnounce, LoadHeader, LoadHead, FlushHead, LoadDone, OrMark, FlushOutcome, Answer}
 use Rattle.ds_state.specs.declared.situation.Situation.TheVariants.{Recovering}
 use Rattle.ds_state.proofs.Frames.{Moves}
 use Rattle.ds_state.proofs.Accesses.{Turn, same_moves}
-use Rattle.ds_state.proofs.RecoveryFrame.{on, Passes, turn_of, held_on, pends_on, simple_passes, loads}
-use Rattle.ds_state.proofs.RecoveryDoubt.{IsDoubted, unannounced, pending_open, header_reads, shown_in, not_shown, shows_last, shown_own, bit_tells, no_bit_tells}
+use Rattle.ds_recover.proofs.RecoveryFrame.{on, turn_of, held_on, pends_on, simple_passes, loads}
+use Rattle.ds_recover.proofs.RecoveryDoubt.{IsDoubted, unannounced, pending_open, header_reads, shown_in, not_shown, shows_last, shown_own, bit_tells, no_bit_tells}
 
 same_issue : {o : Option Issue} {a b : Issue} → o ≡ Some a → o ≡ Some b → a ≡ b
 same_issue x y = let both : Some _ ≡ Some _ = sym x ∙ y in cc
 
 in_same : (old new : World) → new.counted ≡ old.counted → (f : Edit) (own : ℕ) → IsIn old f own → IsIn new f own
 in_same old new same f own h = record { below = rw same h.below; head = rw same h.head }
+
+-- an announcement that reads is one of a record
+pub announced_of : (word : ℕ) (a : Announcement) → announcement_of word ≡ Some a → IsAnnounced word
+announced_of word a is = let k = IsAnnouncement-announcement_of word a is in by a.number a.phase k.0 k.1
+  where
+    by : (n : ℕ) (f : Phase) → n < RECORDS → announcement n f ≡ word → IsAnnounced word
+    by n phase.Pending few w = record { it = a; reads = is; some = omega arith; few = omega arith }
+    by n phase.Done few w = record { it = a; reads = is; some = omega arith; few = omega arith }
+    by n phase.NotDone few w = record { it = a; reads = is; some = omega arith; few = omega arith }
+
+-- a header's cell is one of the sheet
+below_by : (cells word : ℕ) (o : Option headers.Header) → header_of cells word ≡ o → 0 < cells → cell_from o < cells
+below_by cells word None is some = some
+below_by cells word (Some h) is some = (IsHeader-header_of cells word h is).0.cell
+
+pub cell_below : (cells word : ℕ) → 0 < cells → cell_from (header_of cells word) < cells
+cell_below cells word some = below_by cells word (header_of cells word) refl some
 
 module _ (e : PlainRecovery) (word : ℕ) (old new : World) (sound : IsSound old) (real : e.process < old.layout.processes) where
   abbrev p : ℕ
@@ -62,21 +80,21 @@ module _ (e : PlainRecovery) (word : ℕ) (old new : World) (sound : IsSound old
     go : (a : Option Announcement) → announcement_of word ≡ a → Keeps p old new
     go None is = loads e e.mark e.row word e.cell LoadAnnounce (Answer None) old new sound was fits real tn (t.situation ∙ ap (λ o. Recovering (announced_from e word o)) is) t.pending
         (simple_passes p e.row LoadAnnounce e.row (Answer None) old new (held_on p old new moves) (pends_on p old new moves t.pending)
-          (λ r c x bit matters held o. o) (λ c x matters k o. no_pending is c k) (λ r held o. o) (λ f before last_of issue issued same k o. no_pending is f.cell k))
+        (λ r c x bit matters held o. o) (λ c x matters k o. no_pending is c k) (λ r held o. o) (λ f before last_of issue issued same k o. no_pending is f.cell k))
         m (λ h. h) (λ h. (
-          let none = unannounced old p (old.pending p) fits.doubt (ap announcement_of (sym t.memory.0) ∙ is) in
-          let seen = t.memory.0 in
-          let a = none.0 in
-          let b = none.1 in
-          let c = m.cached (Announce p) in
-          let v = m.persisted (Announce p) in
-          (omega arith, omega arith, omega arith)))
+        let none = unannounced old p (old.pending p) fits.doubt (ap announcement_of (sym t.memory.0) ∙ is) in
+        let seen = t.memory.0 in
+        let a = none.0 in
+        let b = none.1 in
+        let c = m.cached (Announce p) in
+        let v = m.persisted (Announce p) in
+        (omega arith, omega arith, omega arith)))
         (m.buffer p ∙ fits.buffer) tt
     go (Some a) is = loads e e.mark e.row word e.cell LoadAnnounce LoadHeader old new sound was fits real tn (t.situation ∙ ap (λ o. Recovering (announced_from e word o)) is) t.pending
         (simple_passes p e.row LoadAnnounce e.row LoadHeader old new (held_on p old new moves) (pends_on p old new moves t.pending)
-          (λ r c x bit matters held o. o) (λ c x matters k o. tt) (λ r held o. o) (λ f before last_of issue issued same k o. tt))
+        (λ r c x bit matters held o. o) (λ c x matters k o. tt) (λ r held o. o) (λ f before last_of issue issued same k o. tt))
         m (λ h. h) (λ h. m.cached (Announce p) ∙ sym t.memory.0)
-        (m.buffer p ∙ fits.buffer) tt
+        (m.buffer p ∙ fits.buffer) (announced_of word a is)
 
     pub step_load_announce : Keeps p old new
     step_load_announce = go (announcement_of word) refl
@@ -107,8 +125,8 @@ module _ (e : PlainRecovery) (word : ℕ) (old new : World) (sound : IsSound old
     done_ends a is phase' = loads e e.mark e.row e.announcement c' LoadHeader (FlushOutcome true) old new sound was fits real tn'
         (t.situation ∙ ap (λ (s : RecoverStage). Recovering (on e e.mark e.row e.announcement c' s)) (ap resolves_from is ∙ ap phase_from phase')) t.pending
         (simple_passes p e.row LoadHeader e.row (FlushOutcome true) old new (held_on p old new moves') (pends_on p old new moves' t.pending)
-          (λ r c x bit matters held o. o) (λ c x matters k o. none c k) (λ r held o. o) (λ f before last_of issue issued same k o. none f.cell k))
-        m' (λ h. h) (λ h. (h, tells true a is phase')) (m'.buffer p ∙ fits.buffer) tt
+        (λ r c x bit matters held o. o) (λ c x matters k o. none c k) (λ r held o. o) (λ f before last_of issue issued same k o. none f.cell k))
+        m' (λ h. h) (λ h. (h, tells true a is phase')) (m'.buffer p ∙ fits.buffer) (fits.is.stage, cell_below e.cells word fits.is.some)
       where
         none : (c : ℕ) → IsPending old p c → ⊥
         none c k = let d = (tells true a is phase').is in let x = k.cached in let s = seen in omega arith
@@ -117,8 +135,8 @@ module _ (e : PlainRecovery) (word : ℕ) (old new : World) (sound : IsSound old
     lost_ends a is phase' = loads e e.mark e.row e.announcement c' LoadHeader (FlushOutcome false) old new sound was fits real tn'
         (t.situation ∙ ap (λ (s : RecoverStage). Recovering (on e e.mark e.row e.announcement c' s)) (ap resolves_from is ∙ ap phase_from phase')) t.pending
         (simple_passes p e.row LoadHeader e.row (FlushOutcome false) old new (held_on p old new moves') (pends_on p old new moves' t.pending)
-          (λ r c x bit matters held o. o) (λ c x matters k o. none c k) (λ r held o. o) (λ f before last_of issue issued same k o. none f.cell k))
-        m' (λ h. h) (λ h. (h, tells false a is phase')) (m'.buffer p ∙ fits.buffer) tt
+        (λ r c x bit matters held o. o) (λ c x matters k o. none c k) (λ r held o. o) (λ f before last_of issue issued same k o. none f.cell k))
+        m' (λ h. h) (λ h. (h, tells false a is phase')) (m'.buffer p ∙ fits.buffer) (fits.is.stage, cell_below e.cells word fits.is.some)
       where
         none : (c : ℕ) → IsPending old p c → ⊥
         none c k = let d = (tells false a is phase').is in let x = k.cached in let s = seen in omega arith
@@ -127,15 +145,15 @@ module _ (e : PlainRecovery) (word : ℕ) (old new : World) (sound : IsSound old
     none_ends is = loads e e.mark e.row e.announcement c' LoadHeader (Answer None) old new sound was fits real tn'
         (t.situation ∙ ap (λ (s : RecoverStage). Recovering (on e e.mark e.row e.announcement c' s)) (ap resolves_from is)) t.pending
         (simple_passes p e.row LoadHeader e.row (Answer None) old new (held_on p old new moves') (pends_on p old new moves' t.pending)
-          (λ r c x bit matters held o. o) (λ c x matters k o. none c k) (λ r held o. o) (λ f before last_of issue issued same k o. none f.cell k))
+        (λ r c x bit matters held o. o) (λ c x matters k o. none c k) (λ r held o. o) (λ f before last_of issue issued same k o. none f.cell k))
         m' (λ h. h) (λ h. (
-          let z = zero' in
-          let a = z.0 in
-          let b = z.1 in
-          let s = seen in
-          let c = m'.cached (Announce p) in
-          let v = m'.persisted (Announce p) in
-          (omega arith, omega arith, omega arith))) (m'.buffer p ∙ fits.buffer) tt
+        let z = zero' in
+        let a = z.0 in
+        let b = z.1 in
+        let s = seen in
+        let c = m'.cached (Announce p) in
+        let v = m'.persisted (Announce p) in
+        (omega arith, omega arith, omega arith))) (m'.buffer p ∙ fits.buffer) tt
       where
         zero' : (old.memory.cached (Announce p) ≡ 0) × (old.memory.persisted (Announce p) ≡ 0)
         zero' = unannounced old p (old.pending p) fits.doubt (ap announcement_of seen ∙ is)
@@ -147,7 +165,7 @@ module _ (e : PlainRecovery) (word : ℕ) (old new : World) (sound : IsSound old
     goes_on a is phase' = loads e e.mark e.row e.announcement c' LoadHeader LoadHead old new sound was fits real tn'
         (t.situation ∙ ap (λ (s : RecoverStage). Recovering (on e e.mark e.row e.announcement c' s)) (ap resolves_from is ∙ ap phase_from phase')) t.pending
         (simple_passes p e.row LoadHeader e.row LoadHead old new (held_on p old new moves') (pends_on p old new moves' t.pending)
-          (λ r c x bit matters held o. o) (λ c x matters k o. tt) (λ r held o. o) (λ f before last_of issue issued same k o. tt))
+        (λ r c x bit matters held o. o) (λ c x matters k o. tt) (λ r held o. o) (λ f before last_of issue issued same k o. tt))
         m' (λ h. h) (λ h. record {
           issue = found.issue;
           it = record {
@@ -159,7 +177,7 @@ module _ (e : PlainRecovery) (word : ℕ) (old new : World) (sound : IsSound old
           };
           own_is = sym (ap (λ (n : ℕ). cell_from (header_of n word)) (sym fits.cells) ∙ header_reads old p found.issue found.doubt found.now word there);
           and = tt;
-        }) (m'.buffer p ∙ fits.buffer) tt
+        }) (m'.buffer p ∙ fits.buffer) (fits.is.stage, cell_below e.cells word fits.is.some)
       where
         word_is : e.announcement ≡ announcement a.number phase.Pending
         word_is = sym (IsAnnouncement-announcement_of e.announcement a is).1 ∙ ap (λ (f : Phase). announcement a.number f) phase'
@@ -226,24 +244,24 @@ module _ (e : PlainRecovery) (word : ℕ) (old new : World) (sound : IsSound old
     head_goes true is = loads e e.mark e.row e.announcement e.cell LoadHead FlushHead old new sound was fits real th
         (t.situation ∙ ap (λ (b : Bool). Recovering (if b then at e FlushHead else at e LoadDone)) is) t.pending
         (simple_passes p e.row LoadHead e.row FlushHead old new (held_on p old new movesh) (pends_on p old new movesh t.pending)
-          (λ r c x bit matters held o. o) (λ c x matters k o. tt) (λ r held o. o) (λ g before last_of issue issued same k o. tt))
+        (λ r c x bit matters held o. o) (λ c x matters k o. tt) (λ r held o. o) (λ g before last_of issue issued same k o. tt))
         mh (λ k. k) (λ k. open_on (λ g. (own : ℕ) × IsIn new g own) (
-          let found = shown_in old sound p h.issue doubt word at_head (sym shown_is ∙ is) in
-          (found.0, in_same old new t.counted f found.0 found.1))) (mh.buffer p ∙ fits.buffer) tt
+        let found = shown_in old sound p h.issue doubt word at_head (sym shown_is ∙ is) in
+        (found.0, in_same old new t.counted f found.0 found.1))) (mh.buffer p ∙ fits.buffer) fits.is.stage
     head_goes false is = loads e e.mark e.row e.announcement e.cell LoadHead LoadDone old new sound was fits real th
         (t.situation ∙ ap (λ (b : Bool). Recovering (if b then at e FlushHead else at e LoadDone)) is) t.pending
         (simple_passes p e.row LoadHead e.row LoadDone old new (held_on p old new movesh) (pends_on p old new movesh t.pending)
-          (λ r c x bit matters held o. o) (λ c x matters k o. tt) (λ r held o. o)
-          (λ g before last_of issue issued same k o. absurd (
-            let is_f : g ≡ f = sym same ∙ ap (λ (i : Issue). i.edit) (same_issue issued h.it.issued) in
-            let mine : of_cell f.cell old.counted ≡ before ++ f ∷ [] = subst (λ (x : Edit). of_cell x.cell old.counted ≡ before ++ x ∷ []) is_f last_of in
-            let bad : true ≡ false = sym (shown_own f.process p f.number f.number h.it.process refl) ∙ sym (shows_last old sound f.cell p f.number before f mine word at_head) ∙ sym shown_is ∙ is in
-            cc)))
+        (λ r c x bit matters held o. o) (λ c x matters k o. tt) (λ r held o. o)
+        (λ g before last_of issue issued same k o. absurd (
+        let is_f : g ≡ f = sym same ∙ ap (λ (i : Issue). i.edit) (same_issue issued h.it.issued) in
+        let mine : of_cell f.cell old.counted ≡ before ++ f ∷ [] = subst (λ (x : Edit). of_cell x.cell old.counted ≡ before ++ x ∷ []) is_f last_of in
+        let bad : true ≡ false = sym (shown_own f.process p f.number f.number h.it.process refl) ∙ sym (shows_last old sound f.cell p f.number before f mine word at_head) ∙ sym shown_is ∙ is in
+        cc)))
         mh (λ k. k) (λ k. open_on (λ g. AreBelow new g.process g.number ⊎ (IsPassed new g × AreBelow new g.process (g.number + 1))) (
-          elim (not_shown old sound p h.issue doubt word at_head (sym shown_is ∙ is)) [
-            | inl out ↦ inl (rw t.counted out)
-            | inr o ↦ inr (record { before = o.0.before; next = o.0.next; after = o.0.after; parts = rw t.counted o.0.parts }, rw t.counted o.1)
-          ])) (mh.buffer p ∙ fits.buffer) tt
+        elim (not_shown old sound p h.issue doubt word at_head (sym shown_is ∙ is)) [
+          | inl out ↦ inl (rw t.counted out)
+          | inr o ↦ inr (record { before = o.0.before; next = o.0.next; after = o.0.after; parts = rw t.counted o.0.parts }, rw t.counted o.1)
+        ])) (mh.buffer p ∙ fits.buffer) fits.is.stage
 
     pub step_load_head : Keeps p old new
     step_load_head = head_goes shown refl
@@ -293,15 +311,15 @@ module _ (e : PlainRecovery) (word : ℕ) (old new : World) (sound : IsSound old
     bit_goes true is = loads e e.mark e.row e.announcement e.cell LoadDone (OrMark true) old new sound was fits real td
         (t.situation ∙ ap (λ (b : Bool). Recovering (if b then at e (OrMark true) else at e (OrMark false))) is) t.pending
         (simple_passes p e.row LoadDone e.row (OrMark true) old new (held_on p old new movesd) (pends_on p old new movesd t.pending)
-          (λ r c x bit matters held o. o) (λ c x matters k o. tt) (λ r held o. o) (λ g before last_of issue issued same k o. o))
-        md (λ k. k) (λ k. settled_on true (bit_tells old sound g d.it.number d.and (sym bits_is ∙ eqb-true (bit_at word (number_of e % 64)) 1 is))) (md.buffer p ∙ fits.buffer) tt
+        (λ r c x bit matters held o. o) (λ c x matters k o. tt) (λ r held o. o) (λ g before last_of issue issued same k o. o))
+        md (λ k. k) (λ k. settled_on true (bit_tells old sound g d.it.number d.and (sym bits_is ∙ eqb-true (bit_at word (number_of e % 64)) 1 is))) (md.buffer p ∙ fits.buffer) fits.is.stage
     bit_goes false is = loads e e.mark e.row e.announcement e.cell LoadDone (OrMark false) old new sound was fits real td
         (t.situation ∙ ap (λ (b : Bool). Recovering (if b then at e (OrMark true) else at e (OrMark false))) is) t.pending
         (simple_passes p e.row LoadDone e.row (OrMark false) old new (held_on p old new movesd) (pends_on p old new movesd t.pending)
-          (λ r c x bit matters held o. o) (λ c x matters k o. tt) (λ r held o. o) (λ g before last_of issue issued same k o. o))
+        (λ r c x bit matters held o. o) (λ c x matters k o. tt) (λ r held o. o) (λ g before last_of issue issued same k o. o))
         md (λ k. k) (λ k. settled_on false (no_bit_tells old sound g d.and (λ has. (
-          let bad : true ≡ false = sym (eq-eqb (bit_at word (number_of e % 64)) 1 (bits_is ∙ has)) ∙ is in
-          cc)))) (md.buffer p ∙ fits.buffer) tt
+        let bad : true ≡ false = sym (eq-eqb (bit_at word (number_of e % 64)) 1 (bits_is ∙ has)) ∙ is in
+        cc)))) (md.buffer p ∙ fits.buffer) fits.is.stage
 
     pub step_load_done : Keeps p old new
     step_load_done = bit_goes set refl

@@ -1,40 +1,42 @@
 -- A recovery begins, and answers.
-use Rattle.std.proofs.Common.{ℕ, ◌≡◌, ◌≢◌, ◌<◌, ◌≤◌, ◌+◌, ◌-◌, ◌*◌, ◌/◌, ◌%◌, ◌⊎◌, List, [], ◌∷◌, ◌++◌, refl, ap, sym, ◌∙◌, subst, arith, inl, inr, Some, None, true, false, zero, suc}
-use Rattle.std.specs.Prelude.{Option, Bool, All, Contains}
+use Rattle.std.proofs.Common.{ℕ, ◌≡◌, ◌<◌, ◌≤◌, ◌+◌, ◌/◌, ◌⊎◌, List, [], refl, ap, sym, ◌∙◌, subst, arith, inl, inr, Some, None, true, false, zero, suc}
+use Rattle.std.specs.Prelude.{Option, Bool, Contains}
 use Rattle.std.proofs.lemmas.Bool.{cases_eq}
 use Rattle.std.proofs.lemmas.List.Elements.{All-weaker}
 use Rattle.ds_words.specs.declared.access.Entry.{Entry}
 use Rattle.ds_words.specs.Memory.{SameMemory}
 use Rattle.ds_layout.specs.declared.place.TheConstants.{RECORDS}
-use Rattle.ds_layout.specs.declared.place.Place.TheVariants.{Version, Head, Mark, Value, Kind, Announce, Header}
+use Rattle.ds_layout.specs.declared.place.Place.TheVariants.{Version, Mark, Value, Kind, Announce}
 use Rattle.ds_layout.specs.declared.announcement.Phase.{Phase}
 use Rattle.ds_layout.specs.declared.announcement.Phase.TheVariants as phase
 use Rattle.ds_layout.specs.Places.{cells_of}
+use Rattle.ds_formula.specs.Cells.{count_of}
+use Rattle.ds_formula.specs.declared.cells.Cell.{Cell}
+use Rattle.ds_formula.specs.declared.cells.Shape.{Shape}
+use Rattle.ds_eval.proofs.Walks.{index_below}
 use Rattle.ds_state.specs.Works.{PlainRecovery}
-use Rattle.ds_state.specs.World.{Edit, Issue, World, of_cell, head_after_all, announcement, last_announcement, phase_among, IsHeadBy}
-use Rattle.ds_state.specs.Known.{Standing, outside, inside, safe, Announced, last, pending, ended, word_of, phase_of, AreBelow, IsSafelyIn, StandsAs}
+use Rattle.ds_state.specs.World.{Edit, Issue, World, of_cell, head_after_all, announcement, last_announcement, phase_among}
+use Rattle.ds_state.specs.Known.{Standing, outside, inside, safe, Announced, last, pending, ended, word_of, phase_of, AreBelow, StandsAs}
 use Rattle.ds_state.specs.declared.stage.Outcome.TheVariants as outcome
 use Rattle.ds_state.specs.Owing.{entry, IsHeldBy, HoldsNone, Owes, Parts, IsPending, Excuses, Splits}
-use Rattle.ds_state.specs.KnownWork.{IsAtRest}
-use Rattle.ds_state.specs.Calls.{CallFits, MaySay, rank, IsInDoubt, IsThrough, DoubtFits, IdleFits, StoppedFits, RecoveryFits}
-use Rattle.ds_state.specs.KnownRecovery.{phase_for, Tells, ResolvedFits, over}
+use Rattle.ds_state.specs.Calls.{CallFits, MaySay, IsThrough, DoubtFits, IdleFits, StoppedFits, RecoveryFits}
+use Rattle.ds_state.specs.KnownRecovery.{Tells, ResolvedFits, over}
 use Rattle.ds_state.specs.Rely.{Grows, Keeps}
 use Rattle.ds_state.specs.Sound.{IsSound}
-use Rattle.ds_state.specs.RecoverySteps.{StepsAt, BeginsRecovery, at, number_of, next_number}
-use Rattle.ds_state.specs.declared.work.RecoverStage.{RecoverStage}
+use Rattle.ds_recover.specs.RecoverySteps.{StepsAt, BeginsRecovery, at, next_number}
 use Rattle.ds_state.specs.declared.work.RecoverStage.TheVariants.{LoadMark, Answer}
 use Rattle.ds_state.specs.declared.situation.Situation.{Situation}
 use Rattle.ds_state.specs.declared.situation.Situation.TheVariants.{Idle, Stopped, Recovering}
 use Rattle.ds_state.proofs.Outcomes.{not_among, among}
 use Rattle.ds_state.proofs.Lasting.{below_stable, last_stable}
 use Rattle.ds_state.proofs.Stable.{doubt_grows, record_no_version}
-use Rattle.ds_state.proofs.Frames.{Moves, KeepsOwing, KeepsApart, grows_own}
-use Rattle.ds_state.proofs.Bearing.{Mine, MyMarks, bears, all_stand, text_same, no_new_marks, apart_lasts, splits_last, pends_last, marks_grow}
+use Rattle.ds_state.proofs.Frames.{Moves, grows_own}
+use Rattle.ds_state.proofs.Bearing.{Mine, bears, all_stand, text_same, no_new_marks, apart_lasts, splits_last, pends_last, marks_grow}
 use Rattle.ds_state.proofs.Buffers.{buffered}
 use Rattle.ds_state.proofs.EditFrame.{Framed, silent_framed, silent_keeps}
 use Rattle.ds_state.proofs.Accesses.{Turn, same_moves, quiet_sound}
-use Rattle.ds_state.proofs.RecoveryFrame.{on, turn_of, held_on, pends_on}
-use Rattle.ds_state.proofs.RecoveryDoubt.{phases}
+use Rattle.ds_recover.proofs.RecoveryFrame.{turn_of, held_on, pends_on}
+use Rattle.ds_recover.proofs.RecoveryDoubt.{phases}
 
 -- a process that is at rest but for its open edit
 pub record Rests (w : World) (p next : ℕ) : Type 0 where
@@ -203,6 +205,12 @@ module _ (e : PlainRecovery) (how : Option Bool) (word : ℕ) (old new : World) 
   step_answer = quiet_sound p old new tn sound moves f.bears f.stand f.apart (silent_keeps p old new moves tn.counted sound (buffered old sound) owes excuses parts splits m.buffer)
       (λ l. subst (λ (s : Situation). CallFits new p s) (sym t.situation) idle)
 
+some_cells : (shape : Shape) → 0 < count_of shape
+some_cells shape =
+    let c : Cell = record { column = 0; row = 0 } in
+    let l = index_below shape c (record { column = shape.within.some_columns; row = shape.within.some_rows }) in
+    omega arith
+
 -- the begin
 module _ (e : PlainRecovery) (old new : World) (sound : IsSound old) (real : e.process < old.layout.processes) (cells : cells_of old.layout ≡ e.cells) (processes : old.layout.processes ≡ e.processes)
     (b : BeginsRecovery e old new) where
@@ -227,7 +235,7 @@ module _ (e : PlainRecovery) (old new : World) (sound : IsSound old) (real : e.p
     freed = λ r l by. omega arith;
     resolved = tt;
     buffer = b.memory.buffer q ∙ empty;
-    row = tt;
+    is = record { process = rw (sym processes) real; processes = rw (sym processes) old.layout.limited; some = (let k = some_cells old.layout.shape in omega arith); cells = (let k = old.layout.shape.within.cells_to_1024 in omega arith); stage = (let k = some_cells old.layout.shape in omega arith) };
   }
 
   no_value : (r : ℕ) → (Version ≡ Value r) ⊎ (Version ≡ Kind r) → ⊥
@@ -253,14 +261,17 @@ module _ (e : PlainRecovery) (old new : World) (sound : IsSound old) (real : e.p
         | inr ne ↦ apart_lasts q Version old new mb cell a ne
         | inl eq ↦ record { holder = q; held = held cell (subst (λ (k : ℕ). Rattle.ds_state.specs.Owing.IsHeld old.memory k cell) eq a.held); still = subst (λ (s : Situation). Parts s cell) (sym b.situation) tt }
       ]))
-      (λ cell f issue its pending' same before last_of owes'. (b.pending f.process ∙ pending', elim (cases_eq f.process q) [
-        | inl eq ↦ (
-            let k : IsPending old q f.cell = subst (λ (s : Situation). Splits old q s f.cell (head_after_all (of_cell cell old.counted))) was (subst (λ (x : ℕ). Splits old x (old.situation x) f.cell (head_after_all (of_cell cell old.counted))) eq owes') in
-            subst (λ (x : ℕ). Splits new x (new.situation x) f.cell (head_after_all (of_cell cell old.counted))) (sym eq)
-            (subst (λ (s : Situation). Splits new q s f.cell (head_after_all (of_cell cell old.counted))) (sym b.situation) (pends f.cell k, tt)))
-        | inr ne ↦ subst (λ (s : Situation). Splits new f.process s f.cell (head_after_all (of_cell cell old.counted))) (sym (b.others f.process ne))
-            (splits_last old new f.process (λ c. marks_grow q Version old new mb c) (b.memory.buffer f.process) (λ c k. pends_last q Version old new mb f.process c ne k) (old.situation f.process) f.cell _ owes')
-      ]))
+      (λ cell f issue its pending' same before last_of owes'. (
+        b.pending f.process ∙ pending',
+        elim (cases_eq f.process q) [
+          | inl eq ↦ (
+              let k : IsPending old q f.cell = subst (λ (s : Situation). Splits old q s f.cell (head_after_all (of_cell cell old.counted))) was (subst (λ (x : ℕ). Splits old x (old.situation x) f.cell (head_after_all (of_cell cell old.counted))) eq owes') in
+              subst (λ (x : ℕ). Splits new x (new.situation x) f.cell (head_after_all (of_cell cell old.counted))) (sym eq)
+              (subst (λ (s : Situation). Splits new q s f.cell (head_after_all (of_cell cell old.counted))) (sym b.situation) (pends f.cell k, tt)))
+          | inr ne ↦ subst (λ (s : Situation). Splits new f.process s f.cell (head_after_all (of_cell cell old.counted))) (sym (b.others f.process ne))
+              (splits_last old new f.process (λ c. marks_grow q Version old new mb c) (b.memory.buffer f.process) (λ c k. pends_last q Version old new mb f.process c ne k) (old.situation f.process) f.cell _ owes')
+        ],
+      ))
       (λ l. subst (λ (s : Situation). CallFits new q s) (sym b.situation) (begun stopped.buffer stopped.doubt))
 
   from_idle : (next : ℕ) → old.situation q ≡ Idle next → Keeps q old new

@@ -1,10 +1,10 @@
 -- What a recovery finds of an edit in doubt.
-use Rattle.std.proofs.Common.{ℕ, ◌≡◌, ◌≢◌, ◌<◌, ◌≤◌, ◌+◌, ◌-◌, ◌*◌, ◌/◌, ◌%◌, ◌==◌, ◌⊎◌, List, [], ◌∷◌, ◌++◌, refl, ap, sym, ◌∙◌, subst, arith, inl, inr, Some, None, true, false, zero, suc, length}
-use Rattle.std.specs.Prelude.{Option, Bool, All, Contains, if◌then◌else◌}
+use Rattle.std.proofs.Common.{ℕ, ◌≡◌, ◌<◌, ◌≤◌, ◌+◌, ◌==◌, ◌⊎◌, List, [], ◌∷◌, ◌++◌, refl, ap, sym, ◌∙◌, subst, arith, inl, inr, Some, None, true, false, zero, suc, length}
+use Rattle.std.specs.Prelude.{Option, Bool, Contains, if◌then◌else◌}
 use Rattle.std.proofs.lemmas.Bool.Decides.{eqb_tells}
 use Rattle.std.proofs.lemmas.List.Elements.{All-contains}
 use Rattle.ds_layout.specs.declared.place.TheConstants.{RECORDS}
-use Rattle.ds_layout.specs.declared.place.Place.TheVariants.{Version, Head, Mark, Value, Kind, Announce, Header}
+use Rattle.ds_layout.specs.declared.place.Place.TheVariants.{Head, Announce, Header}
 use Rattle.ds_layout.specs.declared.announcement.Phase.{Phase}
 use Rattle.ds_layout.specs.declared.announcement.Phase.TheVariants as phase
 use Rattle.ds_layout.specs.declared.announcement.Announcement.{Announcement}
@@ -15,17 +15,15 @@ use Rattle.ds_layout.specs.Places.{cells_of}
 use Rattle.ds_layout.specs.Bits.{HasBit}
 use Rattle.ds_layout.proofs.OrBits.{HasBit-subset}
 use Rattle.ds_layout.proofs.Packed.{announcement_of-announcement_word, header_of-header_word}
-use Rattle.ds_state.specs.World.{Edit, Issue, World, of_cell, head_after_all, IsHeadBy, announcement, last_announcement, phase_among, is_edit_of, done_place}
+use Rattle.ds_state.specs.World.{Edit, Issue, World, of_cell, head_after_all, announcement, last_announcement, phase_among, is_edit_of, done_place}
 use Rattle.ds_state.specs.Known.{Standing, outside, inside, safe, Announced, last, pending, ended, word_of, phase_of, AreBelow, IsIn, IsSafe, IsSafelyIn, StandsAs}
 use Rattle.ds_state.specs.declared.stage.Outcome.TheVariants as outcome
-use Rattle.ds_state.specs.Owing.{IsPending}
 use Rattle.ds_state.specs.KnownRecovery.{IsPassed}
-use Rattle.ds_state.specs.KnownWork.{IsAtRest}
 use Rattle.ds_state.specs.Calls.{MaySay, rank, IsInDoubt, IsThrough, DoubtFits}
-use Rattle.ds_state.specs.Words.{IsKept, IsOvertaken}
+use Rattle.ds_state.specs.Words.{IsKept}
 use Rattle.ds_state.specs.Sound.{IsSound}
-use Rattle.ds_state.specs.RecoverySteps.{is_shown, cell_from}
-use Rattle.ds_state.proofs.Noted.{last_cases, head_reads, last_same}
+use Rattle.ds_recover.specs.RecoverySteps.{is_shown, cell_from}
+use Rattle.ds_state.proofs.Noted.{last_cases, head_reads}
 use Rattle.ds_state.proofs.CrashSound.{same_edit}
 use Rattle.ds_state.proofs.Found.{gave_counts}
 

@@ -1,19 +1,19 @@
 -- A recovery's write-backs, and the bits that it adds to marks.
-use Rattle.std.proofs.Common.{ℕ, ◌≡◌, ◌≢◌, ◌<◌, ◌≤◌, ◌+◌, ◌*◌, ◌/◌, ◌%◌, ◌⊎◌, List, [], ◌∷◌, ◌++◌, refl, ap, sym, ◌∙◌, subst, arith, inl, inr, Some, zero, suc, max}
-use Rattle.std.specs.Prelude.{Contains, Option, bit_or}
+use Rattle.std.proofs.Common.{ℕ, ◌≡◌, ◌≢◌, ◌<◌, ◌⊎◌, List, ◌∷◌, refl, ap, sym, ◌∙◌, subst, arith, inl, inr, suc}
+use Rattle.std.specs.Prelude.{Contains, bit_or}
 use Rattle.std.proofs.lemmas.Bool.{cases_eq}
 use Rattle.ds_words.specs.declared.access.Entry.{Entry}
-use Rattle.ds_words.specs.Memory.{Memory, OrsAt, StoresAt, WritesBack, BacksFirst, newer}
+use Rattle.ds_words.specs.Memory.{Memory, OrsAt, WritesBack, BacksFirst, newer}
 use Rattle.ds_layout.specs.Places.{class_of}
-use Rattle.ds_layout.specs.declared.layout.Layout.{Layout}
 use Rattle.ds_layout.specs.declared.mark.TheConstants.{DIRTY}
 use Rattle.ds_layout.specs.declared.place.Place.{Place}
 use Rattle.ds_layout.specs.declared.place.Place.TheVariants.{Version, Head, Mark, Value, Kind, Announce}
 use Rattle.ds_layout.proofs.PlaceCases.{place_cases}
 use Rattle.ds_state.specs.Works.{PlainRecovery}
-use Rattle.ds_state.specs.World.{Edit, Issue, World, of_cell}
-use Rattle.ds_state.specs.Owing.{entry, turn, IsClean, IsHeldBy, IsHeld, IsPending, CellOwes, IsExcused}
-use Rattle.ds_state.specs.KnownRecovery.{FreedFits, freed_at, ResolvedFits, resolved_at, RecoveryHolds, recovery_held, RowCounts}
+use Rattle.ds_state.specs.RecoverStages.{IsStage}
+use Rattle.ds_state.specs.World.{World}
+use Rattle.ds_state.specs.Owing.{entry, IsClean, IsHeldBy, IsHeld, IsPending, CellOwes}
+use Rattle.ds_state.specs.KnownRecovery.{FreedFits, freed_at, ResolvedFits, resolved_at, RecoveryHolds, recovery_held}
 use Rattle.ds_state.specs.Calls.{CallFits, RecoveryFits}
 use Rattle.ds_state.specs.Words.{WordFits}
 use Rattle.ds_state.specs.Rely.{IsOwnedBy, KeepsHold, Grows, Keeps}
@@ -23,12 +23,12 @@ use Rattle.ds_state.specs.declared.situation.Situation.{Situation}
 use Rattle.ds_state.specs.declared.situation.Situation.TheVariants.{Recovering}
 use Rattle.ds_state.proofs.Dirty.{or_dirty, or_moves, or_mark_fits}
 use Rattle.ds_state.proofs.Heads.{small_counted}
-use Rattle.ds_state.proofs.Frames.{CatchesUp, Moves, grows_by, stays_hold, word_bears, moves_sound}
+use Rattle.ds_state.proofs.Frames.{Moves, grows_by, stays_hold, word_bears, moves_sound}
 use Rattle.ds_state.proofs.Bearing.{Mine, MyMarks, bears, all_stand, text_same, no_new_marks, stored_marks}
 use Rattle.ds_state.proofs.Buffers.{buffered}
 use Rattle.ds_state.proofs.Sides.{EntryFits, IsBetween, newer_between}
 use Rattle.ds_state.proofs.Accesses.{Turn, store_moves, Backs, written_backs, back_moves, back_grows, back_sound}
-use Rattle.ds_state.proofs.RecoveryFrame.{on, Passes, recovery_mine, recovery_apart, recovery_keeps, stays, silent_step}
+use Rattle.ds_recover.proofs.RecoveryFrame.{on, Passes, recovery_mine, recovery_apart, recovery_keeps, stays, silent_step}
 
 pub held_from : (p : ℕ) (old new : World) → Grows p Version old new → (r : ℕ) → IsHeld old.memory p r → IsHeld new.memory p r
 held_from p old new g r k =
@@ -104,7 +104,7 @@ module _ (e : PlainRecovery) (mark : ℕ) (row : List ℕ) (word : ℕ) (cell : 
       → ((moves : Moves e.process place old new) → Mine e.process place old new moves → MyMarks e.process place old new moves)
       → (FreedFits new e.process e.mark (freed_at s) → FreedFits new e.process mark (freed_at s'))
       → (ResolvedFits new e.process e.announcement e.cell (resolved_at s) → ResolvedFits new e.process word cell (resolved_at s'))
-      → RecoveryHolds new e.process word cell (recovery_held cell s') → RowCounts row s' → Keeps e.process old new
+      → RecoveryHolds new e.process word cell (recovery_held cell s') → IsStage (on e mark row word cell s') s' → Keeps e.process old new
   backs place value rest m fitting caught no_head stored holds marks freed resolved buffer rows =
       let moves : Moves e.process place old new = moved_back e.process place value rest old new sound tn m fitting caught in
       let g : Grows e.process Version old new = grown_back e.process place value rest old new sound tn m fitting caught in
@@ -124,7 +124,7 @@ module _ (e : PlainRecovery) (mark : ℕ) (row : List ℕ) (word : ℕ) (cell : 
       → Grows e.process Version old new
       → (FreedFits new e.process e.mark (freed_at s) → FreedFits new e.process mark (freed_at s'))
       → (ResolvedFits new e.process e.announcement e.cell (resolved_at s) → ResolvedFits new e.process word cell (resolved_at s'))
-      → RecoveryHolds new e.process word cell (recovery_held cell s') → RowCounts row s' → Keeps e.process old new
+      → RecoveryHolds new e.process word cell (recovery_held cell s') → IsStage (on e mark row word cell s') s' → Keeps e.process old new
   backs_none place value rest m same there g freed resolved buffer rows =
       let moves : Moves e.process Version old new = record {
         layout = tn.layout;
@@ -170,7 +170,7 @@ module _ (e : PlainRecovery) (mark : ℕ) (row : List ℕ) (word : ℕ) (cell : 
   pub ors : (d : ℕ) → OrsAt (Mark d) DIRTY old.memory new.memory
       → (FreedFits new e.process e.mark (freed_at s) → FreedFits new e.process mark (freed_at s'))
       → (ResolvedFits new e.process e.announcement e.cell (resolved_at s) → ResolvedFits new e.process word cell (resolved_at s'))
-      → RecoveryHolds new e.process word cell (recovery_held cell s') → RowCounts row s' → Keeps e.process old new
+      → RecoveryHolds new e.process word cell (recovery_held cell s') → IsStage (on e mark row word cell s') s' → Keeps e.process old new
   ors d m freed resolved buffer rows =
       let p : ℕ = e.process in
       let c : ℕ = old.memory.cached (Mark d) in
@@ -182,7 +182,7 @@ module _ (e : PlainRecovery) (mark : ℕ) (row : List ℕ) (word : ℕ) (cell : 
       (all_stand p (Mark d) old new moves sound (buffered old sound) my (text_same old new moves.layout tn.counted) marks)
       (recovery_apart e mark row word cell s s' old new was is (Mark d) moves passes) (λ k ne. recovery_keeps e mark row word cell s s' old new was is (Mark d) moves passes pending k)
       (subst (λ (x : ℕ). WordFits new (Mark d) x (new.memory.persisted (Mark d))) (sym m.there) (subst (λ (y : ℕ). WordFits new (Mark d) (bit_or c DIRTY) y) (sym (m.persisted (Mark d)))
-        (or_mark_fits new d c v (word_bears p (Mark d) old new moves tn.counted (Mark d) c v (λ k at. cc) (λ k at a. elim at [ inl x ↦ cc | inr x ↦ cc ]) (sound.words (Mark d))))))
+      (or_mark_fits new d c v (word_bears p (Mark d) old new moves tn.counted (Mark d) c v (λ k at. cc) (λ k at a. elim at [ inl x ↦ cc | inr x ↦ cc ]) (sound.words (Mark d))))))
       (λ l. subst (λ (t : Situation). CallFits new p t) (sym is)
       (stays e mark row word cell s s' old new sound was fits real tn is pending passes (grown_or p d old new tn m) freed resolved buffer rows))
     where

@@ -1,34 +1,32 @@
 -- The sorts of a recovery's steps: what each leaves of clauses 1 and 2, and of what it knows.
-use Rattle.std.proofs.Common.{ℕ, ◌≡◌, ◌≢◌, ◌<◌, ◌≤◌, ◌+◌, ◌*◌, ◌/◌, ◌%◌, ◌⊎◌, List, [], ◌∷◌, ◌++◌, refl, ap, sym, ◌∙◌, subst, arith, inl, inr, Some}
+use Rattle.std.proofs.Common.{ℕ, ◌≡◌, ◌<◌, ◌⊎◌, List, [], ◌∷◌, ◌++◌, refl, ap, sym, ◌∙◌, subst, arith, inl, inr, Some}
 use Rattle.std.specs.Prelude.{Contains, Option}
 use Rattle.std.proofs.lemmas.Bool.{cases_eq}
 use Rattle.ds_words.specs.declared.access.Entry.{Entry}
-use Rattle.ds_words.specs.Memory.{SameMemory, FlushesAt, WritesBack, StoresAt, newer}
-use Rattle.ds_layout.specs.Places.{class_of, cells_of}
+use Rattle.ds_words.specs.Memory.{SameMemory, FlushesAt}
+use Rattle.ds_layout.specs.Places.{class_of}
 use Rattle.ds_layout.specs.declared.place.Place.{Place}
 use Rattle.ds_layout.specs.declared.place.Place.TheVariants.{Version, Head, Mark, Value, Kind, Announce}
 use Rattle.ds_state.specs.Works.{PlainRecovery}
-use Rattle.ds_state.specs.World.{Edit, Issue, World, of_cell, head_after_all, record_place}
-use Rattle.ds_state.specs.Owing.{entry, turn, IsHeldBy, IsHeld, Owes, RecoveryOwes, Parts, RecoveryParts, IsApart, CellOwes, IsPending, Excuses, RecoveryExcuses, IsExcused, Splits, RecoverySplits, IsIndexed}
-use Rattle.ds_state.specs.Standing.{HasContent, Matters}
-use Rattle.ds_state.specs.KnownRecovery.{ValueAgrees, KindAgrees, FreedFits, freed_at, ResolvedFits, resolved_at, RecoveryHolds, recovery_held, RowCounts}
+use Rattle.ds_state.specs.RecoverStages.{IsStage}
+use Rattle.ds_state.specs.World.{Edit, Issue, World, of_cell, head_after_all}
+use Rattle.ds_state.specs.Owing.{entry, IsHeldBy, IsHeld, Owes, RecoveryOwes, Parts, RecoveryParts, CellOwes, IsPending, Excuses, RecoveryExcuses, IsExcused, Splits, RecoverySplits, IsIndexed}
+use Rattle.ds_state.specs.Standing.{Matters}
+use Rattle.ds_state.specs.KnownRecovery.{ValueAgrees, KindAgrees, FreedFits, freed_at, ResolvedFits, resolved_at, RecoveryHolds, recovery_held}
 use Rattle.ds_state.specs.Calls.{CallFits, DoubtFits, RecoveryFits}
-use Rattle.ds_state.specs.Words.{WordFits}
-use Rattle.ds_state.specs.Rely.{Grows, Bears, Keeps}
+use Rattle.ds_state.specs.Rely.{Grows, Keeps}
 use Rattle.ds_state.specs.Sound.{IsSound}
-use Rattle.ds_state.specs.RecoverySteps.{StepsAt, after, pending_at}
+use Rattle.ds_recover.specs.RecoverySteps.{StepsAt}
 use Rattle.ds_state.specs.declared.work.RecoverStage.{RecoverStage}
 use Rattle.ds_state.specs.declared.situation.Situation.{Situation}
 use Rattle.ds_state.specs.declared.situation.Situation.TheVariants.{Recovering}
-use Rattle.ds_state.proofs.Heads.{small_counted}
 use Rattle.ds_state.proofs.Stable.{doubt_grows, record_no_version}
 use Rattle.ds_state.proofs.StableRecovery.{freed_stable, resolved_stable}
-use Rattle.ds_state.proofs.Frames.{CatchesUp, Moves, KeepsOwing, KeepsApart, grows_own, moves_sound}
-use Rattle.ds_state.proofs.Bearing.{Buffered, Mine, MyMarks, bears, all_stand, text_same, no_new_marks, apart_lasts, splits_last, pends_last, marks_grow}
+use Rattle.ds_state.proofs.Frames.{Moves, KeepsOwing, KeepsApart, grows_own}
+use Rattle.ds_state.proofs.Bearing.{Mine, MyMarks, bears, all_stand, text_same, no_new_marks, apart_lasts, splits_last, pends_last, marks_grow}
 use Rattle.ds_state.proofs.Buffers.{buffered}
-use Rattle.ds_state.proofs.EditFrame.{flush_any, back_any, heads_back}
-use Rattle.ds_state.proofs.Sides.{EntryFits, IsBetween, newer_between}
-use Rattle.ds_state.proofs.Accesses.{Turn, same_moves, store_moves, flush_moves, quiet_sound, Backs, written_backs, back_moves, back_grows, back_sound}
+use Rattle.ds_state.proofs.EditFrame.{flush_any}
+use Rattle.ds_state.proofs.Accesses.{Turn, same_moves, flush_moves, quiet_sound}
 
 -- the same recovery, with what it noted, at a stage
 abbrev pub on : PlainRecovery → ℕ → List ℕ → ℕ → ℕ → RecoverStage → PlainRecovery
@@ -119,16 +117,18 @@ module _ (e : PlainRecovery) (mark : ℕ) (row : List ℕ) (word : ℕ) (cell : 
           let now : Splits new e.process (new.situation e.process) f.cell (head_after_all (of_cell c old.counted)) =
           subst (λ (x : Situation). Splits new e.process x f.cell (head_after_all (of_cell c old.counted))) (sym is) (n.0, n.1) in
           (ap new.pending eq ∙ pending ∙ ap old.pending (sym eq) ∙ pends, subst (λ (q : ℕ). Splits new q (new.situation q) f.cell (head_after_all (of_cell c old.counted))) (sym eq) now))
-      | inr ne ↦ (moves.pendings f.process ne ∙ pends,
+      | inr ne ↦ (
+        moves.pendings f.process ne ∙ pends,
         subst (λ (x : Situation). Splits new f.process x f.cell (head_after_all (of_cell c old.counted))) (sym (moves.situations f.process ne))
-        (splits_last old new f.process (λ y. marks_grow e.process place old new moves y) (moves.buffers f.process ne) (λ y k. pends_last e.process place old new moves f.process y ne k) (old.situation f.process) f.cell _ owes))
+            (splits_last old new f.process (λ y. marks_grow e.process place old new moves y) (moves.buffers f.process ne) (λ y k. pends_last e.process place old new moves f.process y ne k) (old.situation f.process) f.cell _ owes),
+      )
     ]
 
   -- what it knows after the step, where its own words stay
   pub recovery_fits : RecoveryFits old e.process (record e { stage = s }) → new.layout ≡ old.layout → new.pending e.process ≡ old.pending e.process
       → DoubtFits new e.process (old.pending e.process)
       → FreedFits new e.process mark (freed_at s') → ResolvedFits new e.process word cell (resolved_at s')
-      → RecoveryHolds new e.process word cell (recovery_held cell s') → RowCounts row s' → RecoveryFits new e.process (on e mark row word cell s')
+      → RecoveryHolds new e.process word cell (recovery_held cell s') → IsStage (on e mark row word cell s') s' → RecoveryFits new e.process (on e mark row word cell s')
   recovery_fits fits layout pending doubt freed resolved buffer rows = record {
     mine = refl;
     cells = rw layout fits.cells;
@@ -137,7 +137,7 @@ module _ (e : PlainRecovery) (mark : ℕ) (row : List ℕ) (word : ℕ) (cell : 
     freed = freed;
     resolved = resolved;
     buffer = buffer;
-    row = rows;
+    is = record { process = fits.is.process; processes = fits.is.processes; some = fits.is.some; cells = fits.is.cells; stage = rows };
   }
 
 -- steps that give no cell back and announce nothing
@@ -145,10 +145,9 @@ module _ (e : PlainRecovery) (mark : ℕ) (row : List ℕ) (word : ℕ) (cell : 
     (was : old.situation e.process ≡ Recovering (record e { stage = s })) (fits : RecoveryFits old e.process (record e { stage = s })) (real : e.process < old.layout.processes)
     (tn : Turn e.process old new) (is : new.situation e.process ≡ Recovering (on e mark row word cell s')) (pending : new.pending e.process ≡ old.pending e.process)
     (passes : Passes e.process e.row s row s' old new) where
-
   pub stays : Grows e.process Version old new → (FreedFits new e.process e.mark (freed_at s) → FreedFits new e.process mark (freed_at s'))
       → (ResolvedFits new e.process e.announcement e.cell (resolved_at s) → ResolvedFits new e.process word cell (resolved_at s'))
-      → RecoveryHolds new e.process word cell (recovery_held cell s') → RowCounts row s' → RecoveryFits new e.process (on e mark row word cell s')
+      → RecoveryHolds new e.process word cell (recovery_held cell s') → IsStage (on e mark row word cell s') s' → RecoveryFits new e.process (on e mark row word cell s')
   stays g freed resolved buffer rows = recovery_fits e mark row word cell s s' old new was is fits tn.layout pending
       (doubt_grows Version old new e.process g pending (λ x. cc) (λ n k. record_no_version e.process n k) (old.pending e.process) fits.doubt)
       (freed (freed_stable old new e.process g e.mark (freed_at s) fits.freed))
@@ -170,7 +169,7 @@ module _ (e : PlainRecovery) (mark : ℕ) (row : List ℕ) (word : ℕ) (cell : 
 
   pub loads : SameMemory old.memory new.memory → (FreedFits new e.process e.mark (freed_at s) → FreedFits new e.process mark (freed_at s'))
       → (ResolvedFits new e.process e.announcement e.cell (resolved_at s) → ResolvedFits new e.process word cell (resolved_at s'))
-      → RecoveryHolds new e.process word cell (recovery_held cell s') → RowCounts row s' → Keeps e.process old new
+      → RecoveryHolds new e.process word cell (recovery_held cell s') → IsStage (on e mark row word cell s') s' → Keeps e.process old new
   loads m freed resolved buffer rows =
       let moves : Moves e.process Version old new = same_moves e.process old new tn m in
       silent_step moves (λ c. m.cached (Head c)) (λ my. no_new_marks e.process Version old new moves (λ c at. cc) (λ c x q h. subst (λ (xs : List (Entry Place)). Contains xs (entry (Mark c) x)) (m.buffer q) h))
@@ -178,7 +177,7 @@ module _ (e : PlainRecovery) (mark : ℕ) (row : List ℕ) (word : ℕ) (cell : 
 
   pub flushes : (place : Place) → FlushesAt e.process place (class_of place) old.memory new.memory → (FreedFits new e.process e.mark (freed_at s) → FreedFits new e.process mark (freed_at s'))
       → (ResolvedFits new e.process e.announcement e.cell (resolved_at s) → ResolvedFits new e.process word cell (resolved_at s'))
-      → RecoveryHolds new e.process word cell (recovery_held cell s') → RowCounts row s' → Keeps e.process old new
+      → RecoveryHolds new e.process word cell (recovery_held cell s') → IsStage (on e mark row word cell s') s' → Keeps e.process old new
   flushes place m freed resolved buffer rows =
       let moves : Moves e.process Version old new = flush_moves e.process old new tn place (class_of place) m in
       silent_step moves (λ c. m.cached (Head c)) (λ my. flush_any e.process old new moves sound (buffered old sound) my (text_same old new moves.layout tn.counted) place m)

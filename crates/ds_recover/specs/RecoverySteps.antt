@@ -1,5 +1,5 @@
--- The steps of a recovery: what each stage does to the memory, and what comes then. (In the project: crate ds_recover, specs/Steps.)
-use Rattle.std.specs.Prelude.{ℕ, ◌≡◌, ◌≢◌, ◌<◌, ◌≤◌, ◌⊎◌, ◌+◌, ◌-◌, ◌*◌, ◌/◌, ◌%◌, ◌==◌, nat_lt, if◌then◌else◌, List, [], ◌∷◌, ◌++◌, length, Option, Some, None, Bool, true, false, zero, suc}
+-- The steps of a recovery: what each stage does to the memory, and what comes then.
+use Rattle.std.specs.Prelude.{ℕ, ◌≡◌, ◌≢◌, ◌<◌, ◌≤◌, ◌⊎◌, ◌+◌, ◌-◌, ◌*◌, ◌/◌, ◌%◌, ◌==◌, nat_lt, if◌then◌else◌, List, [], ◌∷◌, ◌++◌, Option, Some, None, Bool, true, false}
 use Rattle.std.specs.Int.{bit_at}
 use Rattle.ds_words.specs.Memory.{SameMemory}
 use Rattle.ds_words.specs.declared.access.Access.{Access}
@@ -17,10 +17,15 @@ use Rattle.ds_layout.specs.Head.{head_of}
 use Rattle.ds_layout.specs.Header.{header_of}
 use Rattle.ds_layout.specs.Sheet.{PerformsAt}
 use Rattle.ds_state.specs.Works.{PlainRecovery}
+use Rattle.ds_state.specs.RecoverStages.{HELD_YOUNG}
 use Rattle.ds_state.specs.World.{Edit, Issue, World, announcement, done_place}
 use Rattle.ds_state.specs.Known.{AreBelow, IsSafelyIn}
 use Rattle.ds_state.specs.KnownRecovery.{marked, phase_for}
 use Rattle.ds_state.specs.Telling.{let_go, told_from}
+use Rattle.ds_recover.specs.declared.machine.Effect.{Effect}
+use Rattle.ds_recover.specs.declared.machine.Effect.TheVariants.{GoesOn, Answers}
+use Rattle.ds_recover.specs.declared.machine.RecoveryEnd.{RecoveryEnd}
+use Rattle.ds_recover.specs.declared.machine.RecoveryEnd.TheVariants.{Nothing, Last}
 use Rattle.ds_state.specs.declared.situation.Situation.{Situation}
 use Rattle.ds_state.specs.declared.situation.Situation.TheVariants.{Idle, Recovering}
 use Rattle.ds_state.specs.declared.work.Spread.{Spread}
@@ -74,10 +79,14 @@ at e stage = record e { stage = stage }
 abbrev pub looks_from : ℕ → ℕ → RecoverStage
 looks_from cells cell = if nat_lt cell cells then LoadMark cell else LoadAnnounce
 
+-- whether a mark says that the process holds the cell; no mark that is held has a greater generation
+abbrev pub reads_held : ℕ → ℕ → Bool
+reads_held process word = if word / 2 % 16 == process + 1 then nat_lt (word / 32) (HELD_YOUNG + 1) else false
+
 -- a cell is let be, or given back
 abbrev pub holds_from : PlainRecovery → ℕ → ℕ → PlainRecovery
 holds_from e cell word =
-    if word / 2 % 16 == e.process + 1
+    if reads_held e.process word
     then record e { mark = word; row = []; stage = FlushValue cell }
     else at e (looks_from e.cells (cell + 1))
 
@@ -146,6 +155,9 @@ next_at e (FlushOutcome how) word = at e (BackOutcome how)
 next_at e (BackOutcome how) word = at e (Answer (Some how))
 next_at e (Answer how) word = e
 
+abbrev pub got_at : PlainRecovery → ℕ → PlainRecovery
+got_at e word = next_at e e.stage word
+
 -- the number of the process's next edit, after its answer
 abbrev pub next_number : ℕ → Option Bool → ℕ
 next_number word None = 0
@@ -171,6 +183,22 @@ pub record StepsAt (e : PlainRecovery) (stage : RecoverStage) (word : ℕ) (old 
   pub pending : new.pending e.process ≡ pending_at (old.pending e.process) stage
   pub others_pending : (q : ℕ) → q ≢ e.process → new.pending q ≡ old.pending q
 
+abbrev pub Steps : PlainRecovery → ℕ → World → World → Type 0
+Steps e word old new = StepsAt e e.stage word old new
+
+-- a recovery of the sheet, before its first step
+abbrev pub fresh : ℕ → ℕ → ℕ → PlainRecovery
+fresh process cells processes = record {
+  process = process;
+  cells = cells;
+  processes = processes;
+  mark = 0;
+  row = [];
+  announcement = 0;
+  cell = 0;
+  stage = LoadMark 0;
+}
+
 -- a recovery begins, of a process that is stopped or idle
 pub record BeginsRecovery (e : PlainRecovery) (old new : World) : Type 0 where
   pub layout : new.layout ≡ old.layout
@@ -180,14 +208,15 @@ pub record BeginsRecovery (e : PlainRecovery) (old new : World) : Type 0 where
   pub counted : new.counted ≡ old.counted
   pub pending : (q : ℕ) → new.pending q ≡ old.pending q
 
--- what a recovery answers
-pub data RecoveryEnd : Type 0 where
-  Nothing : RecoveryEnd
-  Last : ℕ → ℕ → Bool → RecoveryEnd
-
+-- what the recovery answers, where it found an announcement and settled how that edit ended
 abbrev pub end_of : PlainRecovery → Option Bool → RecoveryEnd
 end_of e None = Nothing
 end_of e (Some how) = Last (number_of e) e.cell how
+
+-- what a step at a stage does to the recovery
+abbrev pub effect_at : PlainRecovery → RecoverStage → Effect
+effect_at e (Answer how) = Answers (end_of e how)
+effect_at e _ = GoesOn
 
 -- steps that are left at most, the answer's among them: within a cell, then of the cells that are left
 abbrev pub spread_rank : ℕ → Spread → ℕ
@@ -223,6 +252,11 @@ rank cells (StoreOutcome how) = 5
 rank cells (FlushOutcome how) = 4
 rank cells (BackOutcome how) = 3
 rank cells (Answer how) = 1
+
+-- fewer steps are left after a step, but for the answer's, which is the last
+abbrev pub Falls : PlainRecovery → RecoverStage → PlainRecovery → Type 0
+Falls e (Answer how) after = Unit {0}
+Falls e stage after = rank e.cells after.stage < rank e.cells stage
 
 -- what the answer says of an edit in doubt: with its number and Done it counts for good; else it does not count
 abbrev pub ResolvesAs : World → Edit → RecoveryEnd → Type 0

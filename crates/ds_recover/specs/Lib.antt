@@ -1,0 +1,3 @@
+pub mod RecoverySteps
+pub mod RecoverBegun
+pub mod RecoverTakes

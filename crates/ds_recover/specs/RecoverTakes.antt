@@ -1,0 +1,36 @@
+-- What a step of a recovery makes of a world, with what the world counts and keeps.
+use Rattle.std.specs.Prelude.{ℕ, ◌≡◌, ◌<◌, Option, Some, None}
+use Rattle.ds_state.specs.Works.{PlainRecovery}
+use Rattle.ds_state.specs.World.{Issue}
+use Rattle.ds_state.specs.Value.{WorldValue, world_of}
+use Rattle.ds_state.specs.declared.situation.Situation.TheVariants.{Recovering}
+use Rattle.ds_recover.specs.declared.machine.Effect.{Effect}
+use Rattle.ds_recover.specs.declared.machine.Effect.TheVariants.{GoesOn, Answers}
+use Rattle.ds_recover.specs.RecoverySteps.{Steps, effect_at}
+
+-- its answer resolves the edit in doubt
+abbrev pub pending_by : Option Issue → Effect → Option Issue
+pending_by issue (Answers end) = None
+pending_by issue GoesOn = issue
+
+-- the process makes a step of its recovery
+pub record StepsBy (old : WorldValue) (p : ℕ) (what : Effect) (new : WorldValue) : Type 0 where
+  pub there : p < old.sheet.layout.processes
+  pub recovery : PlainRecovery
+  pub mine : recovery.process ≡ p
+  pub at : (world_of old).situation p ≡ Recovering recovery
+  pub word : ℕ
+  pub steps : Steps recovery word (world_of old) (world_of new)
+  pub is : what ≡ effect_at recovery recovery.stage
+  pub done : new.done ≡ old.done
+  pub settled : new.settled ≡ old.settled
+  pub reports : new.reports ≡ old.reports
+
+-- the process has no recovery under way, or the sheet has no such process
+pub record CanNotStep (old : WorldValue) (p : ℕ) (new : WorldValue) : Type 0 where
+  pub same : new ≡ old
+  pub none : (recovery : PlainRecovery) → p < old.sheet.layout.processes → (world_of old).situation p ≡ Recovering recovery → ⊥
+
+abbrev pub StepTakes : WorldValue → ℕ → Option Effect → WorldValue → Type 0
+StepTakes old p None new = CanNotStep old p new
+StepTakes old p (Some what) new = StepsBy old p what new

@@ -1,0 +1,91 @@
+//! The beginning of a recovery.
+
+ghost use Rattle.std.specs.Prelude.{◌≡◌, ◌<◌, ◌↔◌, IsTrue, IfOk, IfErr, OnErr, vec_len, slice_set};
+ghost use Rattle.ds_layout.specs.Places.{cells_of};
+ghost use Rattle.ds_state.specs.Value.{world_of};
+ghost use Rattle.ds_recover.specs.RecoverySteps.{BeginsRecovery, fresh};
+ghost use Rattle.ds_recover.specs.RecoverBegun.{MayRecover, IsBegun, Refuses};
+
+use ds_layout::layout::Layout;
+use ds_state::refusal::Refusal;
+use ds_state::row::Row;
+use ds_state::situation::Situation;
+use ds_state::work::{RecoverCall, RecoverStage};
+use ds_state::world::World;
+
+// Whether the process is in no call.
+fn may_recover(situation: &Situation) -> bool
+    ensures { IsTrue result ↔ MayRecover situation.now }
+{
+    match situation {
+        Situation::Idle(_) | Situation::Stopped => true,
+        Situation::Working(_) | Situation::Recovering(_) | Situation::Showing(_) => false,
+        Situation::Editing(_) => false,
+    }
+}
+
+// The process's recovery of the sheet, before its first step.
+fn fresh(layout: &Layout, process: usize) -> RecoverCall
+    requires { process < layout.now.processes }
+    ensures { result ≡ fresh process (cells_of layout.now) layout.now.processes }
+{
+    RecoverCall {
+        process,
+        cells: layout.cells(),
+        processes: layout.processes,
+        mark: 0,
+        row: Row::new(),
+        announcement: 0,
+        cell: 0,
+        stage: RecoverStage::LoadMark(0),
+    }
+}
+
+// Puts a process into a situation.
+fn put(situations: &mut Vec<Situation>, process: usize, situation: Situation)
+    requires { process < vec_len situations.old }
+    ensures items { situations.new.items ≡ slice_set situations.old.items process situation }
+    ensures count { vec_len situations.new ≡ vec_len situations.old }
+{
+    situations[process] = situation;
+}
+
+// Begins a recovery of the sheet.
+fn enter(world: &mut World, call: RecoverCall)
+    requires process { call.process < world.old.sheet.layout.processes }
+    requires free { MayRecover ((world_of world.old).situation call.process) }
+    requires first { call ≡ fresh call.process (cells_of world.old.sheet.layout) world.old.sheet.layout.processes }
+    ensures begins { BeginsRecovery call (world_of world.old) (world_of world.new) }
+    ensures sheet { world.new.sheet ≡ world.old.sheet }
+    ensures done { world.new.done ≡ world.old.done }
+    ensures settled { world.new.settled ≡ world.old.settled }
+    ensures reports { world.new.reports ≡ world.old.reports }
+{
+    put(
+        &mut world.situations,
+        call.process,
+        Situation::Recovering(call),
+    );
+}
+
+/// Begins a recovery by a process that is stopped or idle. It takes no memory.
+///
+/// The one refusal is `Busy`, where the process is in a call; it leaves the world as it was.
+pub fn begin(world: &mut World, process: usize) -> Result<(), Refusal>
+    requires { process < world.old.sheet.layout.processes }
+    ensures begun { IfOk result (λ _. IsBegun (world_of world.old) process (world_of world.new)) }
+    ensures refused { IfErr result (λ refusal. Refuses (world_of world.old) process refusal) }
+    ensures unchanged { OnErr result (world.new ≡ world.old) }
+    ensures sheet { world.new.sheet ≡ world.old.sheet }
+    ensures done { world.new.done ≡ world.old.done }
+    ensures settled { world.new.settled ≡ world.old.settled }
+    ensures reports { world.new.reports ≡ world.old.reports }
+{
+    if !may_recover(&world.situations[process]) {
+        return Err(Refusal::Busy);
+    }
+    let layout = world.words.layout();
+    let call = fresh(&layout, process);
+    enter(world, call);
+    Ok(())
+}

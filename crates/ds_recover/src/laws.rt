@@ -1,0 +1,75 @@
+//! What is true of each recovery, as functions that do nothing.
+
+ghost use Rattle.std.specs.Prelude.{ℕ, ◌≡◌, ◌<◌, ◌≤◌, ◌+◌, ◌*◌, Bool, Option, Some};
+ghost use Rattle.ds_layout.specs.declared.layout.Layout.{Layout};
+ghost use Rattle.ds_layout.specs.Places.{cells_of};
+ghost use Rattle.ds_layout.specs.Sheet.{CanPerform, NamesPlace};
+ghost use Rattle.ds_state.specs.World.{Issue, World};
+ghost use Rattle.ds_state.specs.Owing.{HoldsNone};
+ghost use Rattle.ds_state.specs.Sound.{IsSound};
+ghost use Rattle.ds_state.specs.Rely.{Keeps};
+ghost use Rattle.ds_state.specs.Works.{PlainRecovery};
+ghost use Rattle.ds_state.specs.RecoverStages.{IsRecovery};
+ghost use Rattle.ds_state.specs.declared.work.RecoverStage.TheVariants.{Answer};
+ghost use Rattle.ds_state.specs.declared.situation.Situation.TheVariants.{Recovering};
+ghost use Rattle.ds_recover.specs.RecoverySteps.{Steps, access_at, next_at, rank, Falls, end_of, ResolvesAs};
+ghost use Rattle.ds_recover.specs.RecoverBegun.{IsBegun};
+
+/// Each step of a recovery, whatever the word that its access answers, leaves a sound sheet sound,
+/// and leaves each other process what it may count on.
+#[tactic(auto, using(crate::proofs::RecoveryLaws::steps))]
+pub fn steps_keep_soundness()
+    ensures { (e : PlainRecovery) (word : ℕ) (old new : World) → IsSound old
+        → e.process < old.layout.processes → old.situation e.process ≡ Recovering e
+        → Steps e word old new → Keeps e.process old new }
+{}
+
+/// The beginning of a recovery, of a process that is stopped or idle, does the same.
+pub fn begins_keep_soundness()
+    ensures { (p : ℕ) (old new : World) → IsSound old → p < old.layout.processes
+        → IsBegun old p new → Keeps p old new }
+{}
+
+/// Each access of a recovery names a place of its sheet.
+#[tactic(auto, using(crate::proofs::RecoveryPossible::each_named))]
+pub fn accesses_are_of_the_sheet()
+    ensures { (layout : Layout) (e : PlainRecovery) → cells_of layout ≡ e.cells → layout.processes ≡ e.processes
+        → IsRecovery e → NamesPlace layout (access_at e e.stage) }
+{}
+
+/// The access of a recovery of a sound sheet can be performed: the buffer has room for what is
+/// flushed, and an entry where one is written back.
+#[tactic(auto, using(crate::proofs::RecoveryLaws::accesses))]
+pub fn accesses_are_possible()
+    ensures { (e : PlainRecovery) (w : World) → IsSound w → e.process < w.layout.processes
+        → w.situation e.process ≡ Recovering e
+        → CanPerform w.layout w.memory e.process (access_at e e.stage) }
+{}
+
+/// Each step of a recovery leaves fewer steps, until the answer's, which is the last; and a recovery
+/// of a sheet of N cells has at most N * (3N + 30) + 20.
+#[tactic(auto, using(crate::proofs::RecoveryRank::each_falls, crate::proofs::RecoveryRank::each_few))]
+pub fn steps_are_few()
+    ensures falls { (e : PlainRecovery) (word : ℕ) → IsRecovery e
+        → Falls e e.stage (next_at e e.stage word) }
+    ensures few { (e : PlainRecovery) → IsRecovery e
+        → rank e.cells e.stage ≤ e.cells * (3 * e.cells + 30) + 20 }
+{}
+
+/// Where an edit of the process is open, the answer resolves it: Last with its number says whether it
+/// counts, and where it does, no crash takes it; Nothing, or Last with a smaller number, says that it
+/// does not count. What is open no more never comes to count.
+#[tactic(auto, using(crate::proofs::RecoveryLaws::answers))]
+pub fn answers_resolve()
+    ensures { (e : PlainRecovery) (how : Option Bool) (w : World) (issue : Issue) → IsSound w
+        → e.process < w.layout.processes → w.situation e.process ≡ Recovering e → e.stage ≡ Answer how
+        → w.pending e.process ≡ Some issue → ResolvesAs w issue.edit (end_of e how) }
+{}
+
+/// After its answer the process holds no cell.
+#[tactic(auto, using(crate::proofs::RecoveryLaws::lets_go))]
+pub fn no_cell_stays_held()
+    ensures { (e : PlainRecovery) (how : Option Bool) (word : ℕ) (old new : World) → IsSound old
+        → e.process < old.layout.processes → old.situation e.process ≡ Recovering e → e.stage ≡ Answer how
+        → Steps e word old new → HoldsNone new e.process }
+{}

@@ -1,0 +1,81 @@
+//! A step of a recovery, in its world.
+
+ghost use Rattle.std.specs.Prelude.{ℕ, ◌≡◌, IfSome, IfNone};
+ghost use Rattle.ds_state.specs.Works.{PlainRecovery};
+ghost use Rattle.ds_state.specs.declared.work.RecoverStage.TheVariants.{Answer};
+ghost use Rattle.ds_state.specs.declared.situation.Situation.TheVariants.{Recovering};
+ghost use Rattle.ds_recover.specs.RecoverySteps.{after, next_number};
+ghost use Rattle.ds_recover.specs.RecoverTakes.{StepTakes, pending_by};
+
+use crate::machine::{Effect, effect_of, got, number, want};
+use ds_state::ledger::Issue;
+use ds_state::situation::Situation;
+use ds_state::work::{RecoverCall, RecoverStage};
+use ds_state::world::World;
+
+// The recovery of a process, where it is in one.
+fn call_of(situation: &Situation) -> Option<&RecoverCall>
+    ensures some { IfSome result (λ call. situation.now ≡ Recovering call.now) }
+    ensures none { IfNone result ((e : PlainRecovery) → situation.now ≡ Recovering e → ⊥) }
+{
+    match situation {
+        Situation::Recovering(call) => Some(call),
+        Situation::Idle(_) | Situation::Stopped | Situation::Editing(_) => None,
+        Situation::Working(_) | Situation::Showing(_) => None,
+    }
+}
+
+// The number of the process's next edit: that behind the one that was announced.
+fn next_number(call: &RecoverCall, how: Option<bool>) -> usize
+    requires { call.now.stage ≡ Answer how }
+    ensures { result ≡ next_number call.now.announcement how }
+{
+    let _stage = call.stage;
+    match how {
+        None => 0,
+        Some(_) => number(call) + 1,
+    }
+}
+
+// The process goes on with the word that its access answered.
+fn go_on(situation: &mut Situation, word: u64)
+    ensures { (e : PlainRecovery) → situation.old ≡ Recovering e → situation.new ≡ after e e.stage word }
+{
+    if let Situation::Recovering(call) = situation {
+        match call.stage {
+            RecoverStage::Answer(how) => {
+                let next = next_number(call, how);
+                *situation = Situation::Idle(next);
+            }
+            _ => got(call, word),
+        }
+    }
+}
+
+// The edit in doubt is resolved, where this was the last step.
+fn close(pending: &mut Option<Issue>, what: Effect)
+    ensures { pending.new ≡ pending_by pending.old what }
+{
+    if let Effect::Answers(_) = what {
+        *pending = None;
+    }
+}
+
+/// A process makes the next step of its recovery, and what that did to it. With its answer no edit of
+/// the process is open any more. It takes no memory. Where the process has no recovery under way, or
+/// the sheet has no such process, the step can not happen, and nothing changes.
+pub fn step(world: &mut World, process: usize) -> Option<Effect>
+    ensures { StepTakes world.old process result world.new }
+{
+    if process >= world.situations.len() {
+        return None;
+    }
+    let Some(call) = call_of(&world.situations[process]) else {
+        return None;
+    };
+    let (what, access) = (effect_of(call), want(call));
+    let word = world.words.perform(process, access);
+    go_on(&mut world.situations[process], word);
+    close(&mut world.pending[process], what);
+    Some(what)
+}

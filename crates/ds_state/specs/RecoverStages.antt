@@ -1,0 +1,73 @@
+-- A recovery's numbers are those of its sheet, at each of its stages.
+use Rattle.std.specs.Prelude.{ℕ, ◌≡◌, ◌<◌, ◌≤◌, ◌+◌, ◌/◌, List, length, Option, Some, None}
+use Rattle.ds_layout.specs.declared.place.TheConstants.{RECORDS}
+use Rattle.ds_layout.specs.declared.announcement.Announcement.{Announcement}
+use Rattle.ds_layout.specs.Announcement.{announcement_of}
+use Rattle.ds_state.specs.Works.{PlainRecovery, SEEN_MOST}
+use Rattle.ds_state.specs.declared.work.Spread.{Spread}
+use Rattle.ds_state.specs.declared.work.Spread.TheVariants.{LoadRow, OrTold, FlushTold, BackTold}
+use Rattle.ds_state.specs.declared.work.RecoverStage.{RecoverStage}
+use Rattle.ds_state.specs.declared.work.RecoverStage.TheVariants.{LoadMark, FlushValue, FlushKind, BackValue, BackKind, Telling, Give, GiveDirty, FlushGiven, BackGiven, LoadAnnounce, LoadHeader, LoadHead, FlushHead, BackHead, LoadDone, OrMark, FlushMark, BackMark, StoreOutcome, FlushOutcome, BackOutcome, Answer}
+
+abbrev pub row_parts : ℕ → ℕ
+row_parts cells = (cells + 63) / 64
+
+-- the greatest generation of a mark that a process holds
+abbrev pub HELD_YOUNG : ℕ
+HELD_YOUNG = SEEN_MOST + 1
+
+-- a cell that it gives back, by a mark whose generation has a next one
+abbrev pub IsFreeing : ℕ → ℕ → ℕ → Type 0
+IsFreeing cells mark cell = (cell < cells) × (mark / 32 ≤ HELD_YOUNG)
+
+-- the row is loaded part by part; then all of it is there, and cells of the sheet are told
+abbrev pub IsSpread : ℕ → List ℕ → Spread → Type 0
+IsSpread cells row (LoadRow part) = (part < row_parts cells) × (length row ≡ part)
+IsSpread cells row (OrTold d) = (d < cells) × (length row ≡ row_parts cells)
+IsSpread cells row (FlushTold d) = (d < cells) × (length row ≡ row_parts cells)
+IsSpread cells row (BackTold d) = (d < cells) × (length row ≡ row_parts cells)
+
+-- the announcement is one of a record
+pub record IsAnnounced (word : ℕ) : Type 0 where
+  pub it : Announcement
+  pub reads : announcement_of word ≡ Some it
+  pub some : 0 < word / 4
+  pub few : word / 4 ≤ RECORDS
+
+-- also its cell is one of the sheet
+abbrev pub IsResolving : PlainRecovery → Type 0
+IsResolving e = IsAnnounced e.announcement × (e.cell < e.cells)
+
+abbrev pub IsStage : PlainRecovery → RecoverStage → Type 0
+IsStage e (LoadMark cell) = cell < e.cells
+IsStage e (FlushValue cell) = IsFreeing e.cells e.mark cell × (length e.row ≡ 0)
+IsStage e (FlushKind cell) = IsFreeing e.cells e.mark cell × (length e.row ≡ 0)
+IsStage e (BackValue cell) = IsFreeing e.cells e.mark cell × (length e.row ≡ 0)
+IsStage e (BackKind cell) = IsFreeing e.cells e.mark cell × (length e.row ≡ 0)
+IsStage e (Telling cell spread) = IsFreeing e.cells e.mark cell × IsSpread e.cells e.row spread
+IsStage e (Give cell) = IsFreeing e.cells e.mark cell
+IsStage e (GiveDirty cell) = IsFreeing e.cells e.mark cell
+IsStage e (FlushGiven cell) = IsFreeing e.cells e.mark cell
+IsStage e (BackGiven cell) = IsFreeing e.cells e.mark cell
+IsStage e LoadAnnounce = Unit {0}
+IsStage e LoadHeader = IsAnnounced e.announcement
+IsStage e LoadHead = IsResolving e
+IsStage e FlushHead = IsResolving e
+IsStage e BackHead = IsResolving e
+IsStage e LoadDone = IsResolving e
+IsStage e (OrMark how) = IsResolving e
+IsStage e (FlushMark how) = IsResolving e
+IsStage e (BackMark how) = IsResolving e
+IsStage e (StoreOutcome how) = IsResolving e
+IsStage e (FlushOutcome how) = IsResolving e
+IsStage e (BackOutcome how) = IsResolving e
+IsStage e (Answer None) = Unit {0}
+IsStage e (Answer (Some how)) = IsResolving e
+
+-- its process is one of the sheet, and the numbers of its stage are, too
+pub record IsRecovery (e : PlainRecovery) : Type 0 where
+  pub process : e.process < e.processes
+  pub processes : e.processes ≤ 8
+  pub some : 0 < e.cells
+  pub cells : e.cells ≤ 1024
+  pub stage : IsStage e e.stage
