@@ -150,6 +150,6 @@ module _ (v : WorldValue) (g : IsGood v) (p : ℕ) (e : PlainWork) (low : p < v.
     is_offered = record { work = e; waits = record { inside = low; works = works; waits = waits }; mine = mine; offers = offers }
 
     pub offered_kept : (room : ℕ) → IsReserved v room → IsReserved (put v p v.sheet (Working (offered e entry'))) room
-    offered_kept room kept = put_kept v p v.sheet (Working (offered e entry')) refl low room kept
+    offered_kept room kept = put_kept v p v.sheet (Working (offered e entry')) refl low refl room kept
         (subst (λ (q : ℕ). Keeps q (world_of v) (world_of (put v p v.sheet (Working (offered e entry'))))) mine
         (offer_keep e entry' (world_of v) (world_of (put v p v.sheet (Working (offered e entry')))) g.sound low_own (here ∙ ap (λ s. Working (at e s)) waits) offers))
