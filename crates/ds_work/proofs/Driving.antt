@@ -1,5 +1,5 @@
 -- What an event of a work makes of a world, and that it stays one.
-use Rattle.std.proofs.Common.{ℕ, ◌≡◌, ◌≢◌, ◌<◌, ◌≤◌, ◌*◌, List, length, get_or, set, refl, ap, sym, ◌∙◌, subst, arith, Ok, Err, Some, None}
+use Rattle.std.proofs.Common.{ℕ, ◌≡◌, ◌≢◌, ◌<◌, ◌≤◌, ◌*◌, List, length, get_or, set, refl, ap, sym, ◌∙◌, subst, arith, inl, inr, Ok, Err, Some, None}
 use Rattle.std.specs.Prelude.{Contains, Result, Option, IfErr, IsErrAnd}
 use Rattle.std.proofs.lemmas.List.{get_or-set_same, get_or-set_other, get_or_default, length-set}
 use Rattle.ds_formula.specs.Cells.{count_of}
@@ -19,13 +19,19 @@ use Rattle.ds_state.specs.declared.refusal.Refusal.{Refusal}
 use Rattle.ds_state.specs.declared.refusal.Refusal.TheVariants as refusal
 use Rattle.ds_state.specs.declared.situation.Situation.{Situation}
 use Rattle.ds_state.specs.declared.situation.Situation.TheVariants.{Idle, Stopped, Editing, Working, Recovering, Showing}
-use Rattle.ds_state.specs.declared.work.WorkStage.TheVariants.{LoadMark, Wait}
+use Rattle.ds_state.specs.declared.work.WorkStage.TheVariants.{LoadMark, Read, Wait, Answer}
 use Rattle.ds_eval.specs.declared.inputs.Entry as entries
 use Rattle.ds_eval.specs.Inputs.{entry_in}
 use Rattle.ds_eval.specs.Local.{local}
-use Rattle.ds_work.specs.WorkSteps.{at, access_at, after, offered, StepsAt, Turns, BeginsWork, OffersAt}
-use Rattle.ds_work.specs.WorkEvents.{next_of, IsAskedFor, IsOffered, Refuses}
-use Rattle.ds_work.proofs.EachWork.{begins_keep, offer_keep}
+use Rattle.ds_state.specs.declared.work.WorkEnd.{WorkEnd}
+use Rattle.ds_state.specs.declared.work.WorkStage.{WorkStage}
+use Rattle.ds_work.specs.declared.machine.Doing.TheVariants as doings
+use Rattle.ds_work.specs.declared.drive.Taken.TheVariants.{NotEnabled, Stepped, Answered}
+use Rattle.ds_work.specs.WorkSteps.{at, access_at, next_at, after, offered, IsPlainStep, StepsAt, Turns, BeginsWork, ReadsAt, OffersAt}
+use Rattle.ds_work.specs.Noted.{turn_at}
+use Rattle.ds_work.specs.Reading.{IsReading}
+use Rattle.ds_work.specs.WorkEvents.{next_of, IsAskedFor, IsOffered, Refuses, StepsBy, steps, reads, lacked, answers}
+use Rattle.ds_work.proofs.EachWork.{begins_keep, offer_keep, work_steps_keep, reads_keep, lacks_keep}
 use Rattle.ds_work.proofs.WorkNamed.{can_perform}
 
 -- the world in which the process is in this situation, with these words
@@ -153,3 +159,64 @@ module _ (v : WorldValue) (g : IsGood v) (p : ℕ) (e : PlainWork) (low : p < v.
     offered_kept room kept = put_kept v p v.sheet (Working (offered e entry')) refl low refl room kept
         (subst (λ (q : ℕ). Keeps q (world_of v) (world_of (put v p v.sheet (Working (offered e entry'))))) mine
         (offer_keep e entry' (world_of v) (world_of (put v p v.sheet (Working (offered e entry')))) g.sound low_own (here ∙ ap (λ s. Working (at e s)) waits) offers))
+
+  -- ---- its steps
+
+  module _ (word : ℕ) (sheet : SheetValue) (layout : sheet.layout ≡ v.sheet.layout) (performs : PerformsAt (access_at v.sheet.layout.shape e e.stage) p (memory v.sheet) (memory sheet) word) where
+    pub steps_at : (s : Situation) → s ≡ after e e.stage word → IsPlainStep e.stage → StepsAt e e.stage word (world_of v) (world_of (put v p sheet s))
+    steps_at s is plain = record {
+      plain = plain;
+      layout = layout;
+      memory = subst (λ (q : ℕ). PerformsAt (access_at v.sheet.layout.shape e e.stage) q (memory v.sheet) (memory sheet) word) (sym mine) performs;
+      situation = ap (λ q. (world_of (put v p sheet s)).situation q) mine ∙ situation_is v p sheet s layout low g ∙ is;
+      others = λ q ne. others_are v p sheet s layout low q (λ same. ne (same ∙ sym mine));
+      counted = refl;
+      pending = λ q. refl;
+    }
+
+    pub step_kept : (s : Situation) → s ≡ after e e.stage word → IsPlainStep e.stage → (room : ℕ) → IsReserved v room → IsReserved (put v p sheet s) room
+    step_kept s is plain room kept = put_kept v p sheet s layout low room kept
+        (subst (λ (q : ℕ). Keeps q (world_of v) (world_of (put v p sheet s))) mine
+        (work_steps_keep e e.stage word (world_of v) (world_of (put v p sheet s)) g.sound low_own here (steps_at s is plain)))
+
+  -- the content is read, or that lacked memory
+  module _ (f : PlainWork) (at_read : e.stage ≡ Read) where
+    pub read_takes : IsReading v.sheet.layout.shape e f → StepsBy (world_of v) p Stepped (world_of (put v p v.sheet (Working f)))
+    read_takes (inl r) = record { inside = low; work = e; mine = mine; works = works; turn = reads r.content r.inputs at_read (record { turn = subst (λ (x : PlainWork). Turns e x (world_of v) (world_of (put v p v.sheet (Working f)))) r.after (turns f); is = r.is }) }
+    read_takes (inr l) = record { inside = low; work = e; mine = mine; works = works; turn = lacked at_read (subst (λ (x : PlainWork). Turns e x (world_of v) (world_of (put v p v.sheet (Working f)))) l (turns f)) }
+
+    pub read_kept : IsReading v.sheet.layout.shape e f → (room : ℕ) → IsReserved v room → IsReserved (put v p v.sheet (Working f)) room
+    read_kept r room kept = put_kept v p v.sheet (Working f) refl low room kept (subst (λ (q : ℕ). Keeps q (world_of v) (world_of (put v p v.sheet (Working f)))) mine (keeps r))
+      where
+        was : (world_of v).situation e.process ≡ Working (at e Read)
+        was = here ∙ ap (λ s. Working (at e s)) at_read
+
+        keeps : IsReading v.sheet.layout.shape e f → Keeps e.process (world_of v) (world_of (put v p v.sheet (Working f)))
+        keeps (inl r) = reads_keep e r.content r.inputs (world_of v) (world_of (put v p v.sheet (Working f))) g.sound low_own was (record { turn = subst (λ (x : PlainWork). Turns e x (world_of v) (world_of (put v p v.sheet (Working f)))) r.after (turns f); is = r.is })
+        keeps (inr l) = lacks_keep e (world_of v) (world_of (put v p v.sheet (Working f))) g.sound low_own was (subst (λ (x : PlainWork). Turns e x (world_of v) (world_of (put v p v.sheet (Working f)))) l (turns f))
+
+-- what the turn of a stage says of it
+pub steps_plain : (s : WorkStage) → turn_at s ≡ doings.Steps → IsPlainStep s
+steps_plain Read is = absurd cc
+steps_plain Wait is = absurd cc
+steps_plain (Answer end) is = absurd cc
+steps_plain _ is = tt
+
+pub steps_not_answer : (s : WorkStage) → turn_at s ≡ doings.Steps → (end : WorkEnd) → s ≡ Answer end → ⊥
+steps_not_answer s is end at = let k : turn_at (Answer end) ≡ doings.Steps = subst (λ (x : WorkStage). turn_at x ≡ doings.Steps) at is in cc
+
+pub steps_after : (e : PlainWork) (s : WorkStage) (word : ℕ) → turn_at s ≡ doings.Steps → Working (next_at e s word) ≡ after e s word
+steps_after e (Answer end) word is = absurd cc
+steps_after e _ word is = refl
+
+pub reads_at : (s : WorkStage) → turn_at s ≡ doings.Reads → s ≡ Read
+reads_at Read is = refl
+reads_at _ is = absurd cc
+
+pub answers_at : (s : WorkStage) (end : WorkEnd) → turn_at s ≡ doings.Answers end → s ≡ Answer end
+answers_at (Answer end') end is = let same : end' ≡ end = cc in ap (λ x. Answer x) same
+answers_at _ end is = absurd cc
+
+pub waits_at : (s : WorkStage) → turn_at s ≡ doings.Waits → s ≡ Wait
+waits_at Wait is = refl
+waits_at _ is = absurd cc

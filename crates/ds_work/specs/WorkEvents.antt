@@ -105,6 +105,11 @@ pub data TakesTurn (e : PlainWork) (old new : World) : Taken → Type 0 where
   lacked : e.stage ≡ Read → LacksAt e old new → TakesTurn e old new Stepped
   answers : (end : WorkEnd) → e.stage ≡ Answer end → StepsAt e (Answer end) 0 old new → TakesTurn e old new (Answered end)
 
+-- the process is in this work
+pub record IsIn (w : World) (process : ℕ) (e : PlainWork) : Type 0 where
+  pub inside : process < w.layout.processes
+  pub works : w.situation process ≡ Working e
+
 pub record StepsBy (old : World) (process : ℕ) (taken : Taken) (new : World) : Type 0 where
   pub inside : process < old.layout.processes
   pub work : PlainWork

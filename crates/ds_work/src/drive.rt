@@ -5,18 +5,22 @@ ghost use Rattle.ds_formula.specs.Cells.{count_of};
 ghost use Rattle.ds_state.specs.Works.{PlainWork};
 ghost use Rattle.ds_state.specs.Value.{world_of};
 ghost use Rattle.ds_state.specs.declared.situation.Situation.TheVariants.{Idle, Working};
-ghost use Rattle.ds_work.specs.WorkSteps.{next_at};
+ghost use Rattle.ds_work.specs.WorkSteps.{access_at, next_at};
 ghost use Rattle.ds_work.specs.Noted.{turn_at};
 ghost use Rattle.ds_work.specs.Reading.{IsReading};
-ghost use Rattle.ds_work.specs.WorkEvents.{StepTakes};
+ghost use Rattle.ds_work.specs.WorkEvents.{IsIn, StepsBy, StepTakes};
+ghost use Rattle.ds_work.specs.declared.machine.Doing.TheVariants.{Steps, Reads, Answers};
+ghost use Rattle.ds_work.specs.declared.drive.Taken.TheVariants.{NotEnabled, Stepped, Answered};
 
 use crate::begin::put;
 use crate::machine::{Doing, got, turn, want};
 use crate::reading::reading;
 use ds_formula::cells::Shape;
+use ds_layout::place::Place;
 use ds_state::situation::Situation;
 use ds_state::work::{WorkCall, WorkEnd};
 use ds_state::world::World;
+use ds_words::access::Access;
 use std::alloc::Global;
 
 /// What came of a step of a process.
@@ -58,5 +62,75 @@ fn read(alloc: Global, situation: &mut Situation, shape: Shape)
 {
     if let Situation::Working(call) = situation {
         reading(alloc, call, shape);
+    }
+}
+
+// The step of its stage, by this access.
+fn step_on(world: &mut World, process: usize, access: Access<Place>)
+    requires { (e : PlainWork) × IsIn (world_of world.old) process e × (access ≡ access_at world.old.sheet.layout.shape e e.stage) × (turn_at e.stage ≡ Steps) }
+    ensures takes { StepsBy (world_of world.old) process Stepped (world_of world.new) }
+    ensures done { world.new.done ≡ world.old.done }
+    ensures settled { world.new.settled ≡ world.old.settled }
+    ensures reports { world.new.reports ≡ world.old.reports }
+{
+    let word = world.words.perform(process, access);
+    go_on(&mut world.situations[process], word);
+}
+
+// The step that reads the content.
+fn read_on(alloc: Global, world: &mut World, process: usize)
+    requires { (e : PlainWork) × IsIn (world_of world.old) process e × (turn_at e.stage ≡ Reads) }
+    ensures takes { StepsBy (world_of world.old) process Stepped (world_of world.new) }
+    ensures done { world.new.done ≡ world.old.done }
+    ensures settled { world.new.settled ≡ world.old.settled }
+    ensures reports { world.new.reports ≡ world.old.reports }
+{
+    let shape = world.words.layout().shape;
+    read(alloc, &mut world.situations[process], shape);
+}
+
+// The answer: the process is idle after it.
+fn close(world: &mut World, process: usize, next: usize, end: WorkEnd)
+    requires { (e : PlainWork) × IsIn (world_of world.old) process e × (turn_at e.stage ≡ Answers end) × (e.next ≡ next) }
+    ensures takes { StepsBy (world_of world.old) process (Answered end) (world_of world.new) }
+    ensures done { world.new.done ≡ world.old.done }
+    ensures settled { world.new.settled ≡ world.old.settled }
+    ensures reports { world.new.reports ≡ world.old.reports }
+{
+    put(&mut world.situations, process, Situation::Idle(next));
+}
+
+/// A process makes the next step of its work. Where it has none, or its work waits for an entry, or
+/// the sheet has no such process, the step can not happen and nothing changes. Only the step that
+/// reads a content takes memory; where that is refused, the work goes on and answers `NoMemory`.
+pub fn step(alloc: Global, world: &mut World, process: usize) -> Taken
+    ensures takes { StepTakes (world_of world.old) process result (world_of world.new) }
+    ensures unchanged { result ≡ NotEnabled → world.new ≡ world.old }
+    ensures done { world.new.done ≡ world.old.done }
+    ensures settled { world.new.settled ≡ world.old.settled }
+    ensures reports { world.new.reports ≡ world.old.reports }
+{
+    if process >= world.situations.len() {
+        return Taken::NotEnabled;
+    }
+    let shape = world.words.layout().shape;
+    let Some(call) = work_of(&world.situations[process]) else {
+        return Taken::NotEnabled;
+    };
+    let (doing, access, next) = (turn(call), want(call, shape), call.next);
+    match doing {
+        Doing::Waits => Taken::NotEnabled,
+        Doing::Reads => {
+            read_on(alloc, world, process);
+            Taken::Stepped
+        }
+        Doing::Steps => {
+            step_on(world, process, access);
+            Taken::Stepped
+        }
+        Doing::Answers(end) => {
+            close(world, process, next, end);
+            Taken::Answered(end)
+        }
     }
 }

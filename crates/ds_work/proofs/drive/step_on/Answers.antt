@@ -1,0 +1,67 @@
+use Rattle.std.proofs.Common.{ℕ, ◌≡◌, ◌<◌, ◌≤◌, ◌∙◌, length, get_or, refl, ap, sym, subst, arith}
+use Rattle.std.proofs.lemmas.List.{get_or_default}
+use Rattle.ds_formula.specs.Cells.{count_of}
+use Rattle.ds_words.specs.declared.access.Access.{Access}
+use Rattle.ds_layout.specs.declared.layout.Layout.{Layout}
+use Rattle.ds_layout.specs.declared.place.Place.{Place}
+use Rattle.ds_layout.specs.Sheet.{CanPerform, PerformsAt, memory}
+use Rattle.ds_state.specs.Works.{PlainWork}
+use Rattle.ds_state.specs.Value.{WorldValue, world_of, IsReserved}
+use Rattle.ds_state.specs.declared.situation.Situation.{Situation}
+use Rattle.ds_state.specs.declared.situation.Situation.TheVariants.{Idle, Working}
+use Rattle.ds_state.specs.declared.work.WorkStage.{WorkStage}
+use Rattle.ds_state.specs.declared.work.WorkStage.TheVariants.{Read, Answer}
+use Rattle.ds_work.specs.declared.drive.Taken.TheVariants.{Stepped, Answered}
+use Rattle.ds_work.specs.WorkSteps.{access_at, next_at, after, StepsAt}
+use Rattle.ds_work.specs.Reading.{IsReading}
+use Rattle.ds_work.specs.WorkEvents.{IsIn, StepsBy, steps, answers}
+use Rattle.ds_work.proofs.Driving.{put, situation_at, mine, perform_at, cells_are, steps_at, step_kept, read_takes, read_kept, steps_plain, steps_not_answer, steps_after, reads_at, answers_at}
+use Rattle.ds_work.proofs.drive.step_on.Goals as goal
+
+pub perform-word-requires : goal.perform-word-requires
+perform-word-requires c =
+    let v : WorldValue = record { sheet = c.world.inside.words; situations = c.world.inside.situations.items; counted = c.world.inside.counted.items; pending = c.world.inside.pending.items; done = c.world.inside.done; settled = c.world.inside.settled; reports = c.world.inside.reports } in
+    let p : ℕ = c.args.process in
+    let e : PlainWork = c.requires.0 in
+    let is_in : IsIn (world_of v) p e = subst (λ (w : WorldValue). IsIn (world_of w) p e) (sym c.world.view_is) c.requires.1 in
+    let low : p < v.sheet.layout.processes = is_in.inside in
+    let there : p < length v.situations = (let n = c.world.invariant.good.situations in omega (arith, n, low)) in
+    let access : c.args.access ≡ access_at v.sheet.layout.shape e e.stage = subst (λ (w : WorldValue). c.args.access ≡ access_at w.sheet.layout.shape e e.stage) (sym c.world.view_is) c.requires.2 in
+    let turn = c.requires.3 in
+    subst (λ (a : Access Place). CanPerform v.sheet.layout (memory v.sheet) p a) (sym access) (perform_at v c.world.invariant.good p e low is_in.works)
+
+pub invariant_of-world : goal.invariant_of-world
+invariant_of-world c =
+    let v : WorldValue = record { sheet = c.world.inside.words; situations = c.world.inside.situations.items; counted = c.world.inside.counted.items; pending = c.world.inside.pending.items; done = c.world.inside.done; settled = c.world.inside.settled; reports = c.world.inside.reports } in
+    let p : ℕ = c.args.process in
+    let e : PlainWork = c.requires.0 in
+    let is_in : IsIn (world_of v) p e = subst (λ (w : WorldValue). IsIn (world_of w) p e) (sym c.world.view_is) c.requires.1 in
+    let low : p < v.sheet.layout.processes = is_in.inside in
+    let there : p < length v.situations = (let n = c.world.invariant.good.situations in omega (arith, n, low)) in
+    let access : c.args.access ≡ access_at v.sheet.layout.shape e e.stage = subst (λ (w : WorldValue). c.args.access ≡ access_at w.sheet.layout.shape e e.stage) (sym c.world.view_is) c.requires.2 in
+    let turn = c.requires.3 in
+    let word : ℕ = c.perform-word.result in
+    let performs : PerformsAt (access_at v.sheet.layout.shape e e.stage) p (memory v.sheet) (memory c.perform-word.new.self) word = subst (λ (a : Access Place). PerformsAt a p (memory v.sheet) (memory c.perform-word.new.self) word) access c.perform-word.ensures.performs in
+    let situation : c.go_on.new.situation ≡ after e e.stage word = c.go_on.ensures e (c.index_mut.ensures.value ∙ get_or_default v.situations p c.index_mut.result.now (Idle 0) there ∙ is_in.works) ∙ steps_after e e.stage word turn in
+    step_kept v c.world.invariant.good p e low is_in.works word c.perform-word.new.self c.perform-word.ensures.layout performs c.go_on.new.situation situation (steps_plain e.stage turn) _ c.world.invariant
+
+pub returns-clause-takes : goal.returns-clause-takes
+returns-clause-takes c =
+    let v : WorldValue = record { sheet = c.world.inside.words; situations = c.world.inside.situations.items; counted = c.world.inside.counted.items; pending = c.world.inside.pending.items; done = c.world.inside.done; settled = c.world.inside.settled; reports = c.world.inside.reports } in
+    let p : ℕ = c.args.process in
+    let e : PlainWork = c.requires.0 in
+    let is_in : IsIn (world_of v) p e = subst (λ (w : WorldValue). IsIn (world_of w) p e) (sym c.world.view_is) c.requires.1 in
+    let low : p < v.sheet.layout.processes = is_in.inside in
+    let there : p < length v.situations = (let n = c.world.invariant.good.situations in omega (arith, n, low)) in
+    let access : c.args.access ≡ access_at v.sheet.layout.shape e e.stage = subst (λ (w : WorldValue). c.args.access ≡ access_at w.sheet.layout.shape e e.stage) (sym c.world.view_is) c.requires.2 in
+    let turn = c.requires.3 in
+    let word : ℕ = c.perform-word.result in
+    let performs : PerformsAt (access_at v.sheet.layout.shape e e.stage) p (memory v.sheet) (memory c.perform-word.new.self) word = subst (λ (a : Access Place). PerformsAt a p (memory v.sheet) (memory c.perform-word.new.self) word) access c.perform-word.ensures.performs in
+    let situation : c.go_on.new.situation ≡ after e e.stage word = c.go_on.ensures e (c.index_mut.ensures.value ∙ get_or_default v.situations p c.index_mut.result.now (Idle 0) there ∙ is_in.works) ∙ steps_after e e.stage word turn in
+    rw (← c.world.view_is) (record {
+      inside = low;
+      work = e;
+      mine = mine v c.world.invariant.good p e low is_in.works;
+      works = is_in.works;
+      turn = steps word (steps_at v c.world.invariant.good p e low is_in.works word c.perform-word.new.self c.perform-word.ensures.layout performs c.go_on.new.situation situation (steps_plain e.stage turn)) (steps_not_answer e.stage turn);
+    })
