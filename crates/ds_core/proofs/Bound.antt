@@ -4,7 +4,11 @@ use Rattle.std.specs.Prelude.{Option, if◌then◌else◌}
 use Rattle.std.proofs.lemmas.Bool.{cases_eq}
 use Rattle.std.proofs.lemmas.Bool.Decides.{eqb_tells}
 use Rattle.ds_state.specs.Edits.{PlainEdit, IsEdit}
-use Rattle.ds_state.specs.Works.{PlainShow}
+use Rattle.ds_state.specs.World.{World}
+use Rattle.ds_state.specs.Works.{PlainWork, PlainShow, PlainRecovery}
+use Rattle.ds_work.specs.declared.drive.Taken.{Taken}
+use Rattle.ds_work.specs.WorkEvents as work_events
+use Rattle.ds_recover.specs.RecoverBegun.{MayRecover}
 use Rattle.ds_state.specs.Value.{WorldValue, world_of}
 use Rattle.ds_state.specs.Calls.{CallFits, EditFits}
 use Rattle.ds_state.specs.Sound.{IsSound}
@@ -12,20 +16,23 @@ use Rattle.ds_state.specs.declared.stage.Outcome.{Outcome}
 use Rattle.ds_state.specs.declared.stage.Stage.{Stage}
 use Rattle.ds_state.specs.declared.stage.Stage.TheVariants.{Answer}
 use Rattle.ds_state.specs.declared.situation.Situation.{Situation}
-use Rattle.ds_state.specs.declared.situation.Situation.TheVariants.{Idle, Editing, Showing}
+use Rattle.ds_state.specs.declared.situation.Situation.TheVariants.{Idle, Editing, Working, Recovering, Showing}
 use Rattle.ds_edit.specs.Steps.{rank, next_at, Falls}
 use Rattle.ds_edit.specs.Worlds.{after}
 use Rattle.ds_edit.proofs.Stays.{each_falls, each_few, each_some}
 use Rattle.ds_core.specs.EditEvents.{reply_with, EditStepsBy}
 use Rattle.ds_core.specs.ReportEvents.{ReportStepsBy}
-use Rattle.ds_core.specs.Steps.{edits, reports}
+use Rattle.ds_core.specs.WorkEvents.{WorkStepsBy}
+use Rattle.ds_core.specs.RecoveryEvents.{RecoveryStepsBy}
+use Rattle.ds_core.specs.Steps.{edits, works, reports, recoveries}
+use Rattle.ds_core.proofs.Turns.{IsTurn, report_turn, work_leaves, work_begins_leaves, offer_leaves, recovery_turn}
 use Rattle.ds_edit.specs.Endings.{outcome_at}
 use Rattle.ds_core.specs.Takes.{Takes, WorldRun}
 use Rattle.ds_core.specs.Own.{own_step, own_steps, IsUnanswered, AreUnanswered, GoesOn}
 use Rattle.ds_core.specs.declared.event.Event.{Event}
 use Rattle.ds_core.specs.declared.event.Event.TheVariants.{BeginEdit, BeginWork, BeginShow, BeginRecover, Step, Offer, Evict, Stop, Crash}
 use Rattle.ds_core.specs.declared.reply.Reply.{Reply}
-use Rattle.ds_core.specs.declared.reply.Reply.TheVariants.{Begun, Entered, Refused, Stepped, Answered, Evicted, Stopped, Crashed, NotEnabled}
+use Rattle.ds_core.specs.declared.reply.Reply.TheVariants.{Begun, Entered, Refused, Stepped, Answered, WrongTask, Evicted, Stopped, Crashed, NotEnabled}
 
 pub unanswered_at : (processes number : ℕ) (o : Option Outcome) → Stepped ≡ reply_with processes number o → o ≡ None
 unanswered_at processes number None is = refl
@@ -83,17 +90,29 @@ module _ (p : ℕ) (e : PlainEdit) (old new : WorldValue) (sound : IsSound (worl
   not_showing : (f : PlainShow) → (world_of old).situation p ≡ Showing f → ⊥
   not_showing f is = let bad : Showing f ≡ Editing e = sym is ∙ at in cc
 
-  -- another process's report
-  by_report : (q : ℕ) (reply : Reply) → ReportStepsBy old q reply new → Later p e (own_step p (Step q) reply) new
-  by_report q reply h =
-      let ne : q ≢ p = λ same. not_showing h.steps.show (ap (λ x. (world_of old).situation x) (sym same) ∙ h.steps.at) in
-      let stays : Later p e 0 new = still p e new (h.steps.steps.others p (λ same. ne (sym h.steps.mine ∙ sym same)) ∙ at) in
-      subst (λ (n : ℕ). Later p e n new) (sym (no_own q ne reply)) stays
+  -- another process's turn of another call
+  by_turn : (q : ℕ) (reply : Reply) → IsTurn q old new → (q ≡ p → ⊥) → Later p e (own_step p (Step q) reply) new
+  by_turn q reply t ne = subst (λ (n : ℕ). Later p e n new) (sym (none_own q ne reply)) (still p e new (t.others p (λ same. ne (sym same)) ∙ at))
     where
-      no_own : (q : ℕ) → q ≢ p → (reply : Reply) → own_step p (Step q) reply ≡ 0
-      no_own q ne Stepped = rw (not_own p q ne) refl
-      no_own q ne (Answered answer) = rw (not_own p q ne) refl
-      no_own q ne _ = refl
+      none_own : (q : ℕ) → q ≢ p → (reply : Reply) → own_step p (Step q) reply ≡ 0
+      none_own q ne Stepped = rw (not_own p q ne) refl
+      none_own q ne (Answered answer) = rw (not_own p q ne) refl
+      none_own q ne _ = refl
+
+  not_working : (f : PlainWork) → (world_of old).situation p ≡ Working f → ⊥
+  not_working f is = let bad : Working f ≡ Editing e = sym is ∙ at in cc
+
+  not_recovering : (f : PlainRecovery) → (world_of old).situation p ≡ Recovering f → ⊥
+  not_recovering f is = let bad : Recovering f ≡ Editing e = sym is ∙ at in cc
+
+  by_work : (q : ℕ) (reply : Reply) → WorkStepsBy old q reply new → Later p e (own_step p (Step q) reply) new
+  by_work q reply h = by_turn q reply (work_leaves old new q reply sound h).turn (λ same. not_working h.steps.work (ap (λ x. (world_of old).situation x) (sym same) ∙ h.steps.works))
+
+  by_recovery : (q : ℕ) (reply : Reply) → RecoveryStepsBy old q reply new → Later p e (own_step p (Step q) reply) new
+  by_recovery q reply h = by_turn q reply (recovery_turn old new q reply sound h) (λ same. not_recovering h.steps.recovery (ap (λ x. (world_of old).situation x) (sym same) ∙ h.steps.at))
+
+  by_report : (q : ℕ) (reply : Reply) → ReportStepsBy old q reply new → Later p e (own_step p (Step q) reply) new
+  by_report q reply h = by_turn q reply (report_turn old new q reply sound h) (λ same. not_showing h.steps.show (ap (λ x. (world_of old).situation x) (sym same) ∙ h.steps.at))
 
   pub one_event : (event : Event) (reply : Reply) → Takes old event reply new → IsUnanswered p event reply → Later p e (own_step p event reply) new
   one_event (BeginEdit r) (Begun number) h u = elim (cases_eq p h.begun.edit.process) [
@@ -104,25 +123,43 @@ module _ (p : ℕ) (e : PlainEdit) (old new : WorldValue) (sound : IsSound (worl
   one_event (BeginEdit r) NotEnabled h u = unchanged p e old new at h.same
   one_event (BeginEdit r) _ h u = absurd h
   one_event (Step q) Stepped (edits h) u = by_step q h
+  one_event (Step q) Stepped (works h) u = by_work q Stepped h
   one_event (Step q) Stepped (reports h) u = by_report q Stepped h
+  one_event (Step q) Stepped (recoveries h) u = by_recovery q Stepped h
+  one_event (Step q) (Answered answer) (works h) u = by_work q (Answered answer) h
   one_event (Step q) (Answered answer) (reports h) u = by_report q (Answered answer) h
+  one_event (Step q) (Answered answer) (recoveries h) u = by_recovery q (Answered answer) h
   one_event (Step q) (Answered answer) (edits h) u = subst (λ b. Later p e (if b then 1 else 0) new) (sym (not_own p q u)) (another p q e old new (Answered answer) at u h)
   one_event (Step q) NotEnabled h u = unchanged p e old new at h.same
   one_event (Step q) _ h u = absurd h
   one_event (Evict place) Evicted h u = still p e new (h.evicts.situation p ∙ at)
   one_event (Evict place) NotEnabled h u = unchanged p e old new at h.same
   one_event (Evict place) _ h u = absurd h
-  one_event (BeginWork q cell) reply h u = unchanged p e old new at h.1
+  one_event (BeginWork q cell) Entered h u = still p e new ((work_begins_leaves old new q cell sound h).turn.others p (λ same. not_idle h.begun.next (ap (λ x. (world_of old).situation x) (same ∙ sym h.begun.process_is) ∙ h.begun.begins.was)) ∙ at)
+  one_event (BeginWork q cell) (Refused why) h u = unchanged p e old new at h.same
+  one_event (BeginWork q cell) NotEnabled h u = unchanged p e old new at h.same
+  one_event (BeginWork q cell) _ h u = absurd h
   one_event (BeginShow q) Entered h u = still p e new (h.begun.begins.others p (λ same. not_idle h.begun.next (ap (λ x. (world_of old).situation x) same ∙ h.begun.begins.idle)) ∙ at)
   one_event (BeginShow q) (Refused why) h u = unchanged p e old new at h.same
   one_event (BeginShow q) NotEnabled h u = unchanged p e old new at h.same
   one_event (BeginShow q) _ h u = absurd h
-  one_event (BeginRecover q) reply h u = unchanged p e old new at h.1
-  one_event (Offer value) reply h u = unchanged p e old new at h.1
+  one_event (BeginRecover q) Entered h u = still p e new (h.begun.begins.others p (λ same. (subst MayRecover (ap (λ x. (world_of old).situation x) (sym same) ∙ at) h.begun.free)) ∙ at)
+  one_event (BeginRecover q) (Refused why) h u = unchanged p e old new at h.same
+  one_event (BeginRecover q) NotEnabled h u = unchanged p e old new at h.same
+  one_event (BeginRecover q) _ h u = absurd h
+  one_event (Offer value) Stepped h u = still p e new ((offer_leaves old new value sound h).turn.others p (λ same. not_working h.offered.work (ap (λ x. (world_of old).situation x) same ∙ h.offered.waits.works)) ∙ at)
+  one_event (Offer value) WrongTask h u = unchanged p e old new at h.same
+  one_event (Offer value) _ h u = absurd h
   one_event (Stop q) Stopped h u = still p e new (h.stops.others p (λ same. u (sym same)) ∙ at)
   one_event (Stop q) NotEnabled h u = unchanged p e old new at h.same
   one_event (Stop q) _ h u = absurd h
   one_event Crash reply h u = absurd u
+
+work_layout : (old new : World) (e : PlainWork) (what : Taken) → work_events.TakesTurn e old new what → new.layout ≡ old.layout
+work_layout old new e what (work_events.steps word t on) = t.layout
+work_layout old new e what (work_events.reads content inputs at t) = t.turn.layout
+work_layout old new e what (work_events.lacked at t) = t.layout
+work_layout old new e what (work_events.answers end at t) = t.layout
 
 -- the sheet keeps its layout
 pub same_layout : (old new : WorldValue) (event : Event) (reply : Reply) → Takes old event reply new → new.sheet.layout ≡ old.sheet.layout
@@ -131,21 +168,33 @@ same_layout old new (BeginEdit r) (Refused why) h = ap (λ (v : WorldValue). v.s
 same_layout old new (BeginEdit r) NotEnabled h = ap (λ (v : WorldValue). v.sheet.layout) h.same
 same_layout old new (BeginEdit r) _ h = absurd h
 same_layout old new (Step q) Stepped (edits h) = h.steps.layout
+same_layout old new (Step q) Stepped (works h) = work_layout (world_of old) (world_of new) h.steps.work h.what h.steps.turn
 same_layout old new (Step q) Stepped (reports h) = h.steps.steps.layout
+same_layout old new (Step q) Stepped (recoveries h) = h.steps.steps.layout
 same_layout old new (Step q) (Answered answer) (edits h) = h.steps.layout
+same_layout old new (Step q) (Answered answer) (works h) = work_layout (world_of old) (world_of new) h.steps.work h.what h.steps.turn
 same_layout old new (Step q) (Answered answer) (reports h) = h.steps.steps.layout
+same_layout old new (Step q) (Answered answer) (recoveries h) = h.steps.steps.layout
 same_layout old new (Step q) NotEnabled h = ap (λ (v : WorldValue). v.sheet.layout) h.same
 same_layout old new (Step q) _ h = absurd h
 same_layout old new (Evict place) Evicted h = h.evicts.layout
 same_layout old new (Evict place) NotEnabled h = ap (λ (v : WorldValue). v.sheet.layout) h.same
 same_layout old new (Evict place) _ h = absurd h
-same_layout old new (BeginWork q cell) reply h = ap (λ (v : WorldValue). v.sheet.layout) h.1
+same_layout old new (BeginWork q cell) Entered h = h.begun.begins.turn.layout
+same_layout old new (BeginWork q cell) (Refused why) h = ap (λ (v : WorldValue). v.sheet.layout) h.same
+same_layout old new (BeginWork q cell) NotEnabled h = ap (λ (v : WorldValue). v.sheet.layout) h.same
+same_layout old new (BeginWork q cell) _ h = absurd h
 same_layout old new (BeginShow q) Entered h = h.begun.begins.layout
 same_layout old new (BeginShow q) (Refused why) h = ap (λ (v : WorldValue). v.sheet.layout) h.same
 same_layout old new (BeginShow q) NotEnabled h = ap (λ (v : WorldValue). v.sheet.layout) h.same
 same_layout old new (BeginShow q) _ h = absurd h
-same_layout old new (BeginRecover q) reply h = ap (λ (v : WorldValue). v.sheet.layout) h.1
-same_layout old new (Offer value) reply h = ap (λ (v : WorldValue). v.sheet.layout) h.1
+same_layout old new (BeginRecover q) Entered h = h.begun.begins.layout
+same_layout old new (BeginRecover q) (Refused why) h = ap (λ (v : WorldValue). v.sheet.layout) h.same
+same_layout old new (BeginRecover q) NotEnabled h = ap (λ (v : WorldValue). v.sheet.layout) h.same
+same_layout old new (BeginRecover q) _ h = absurd h
+same_layout old new (Offer value) Stepped h = h.offered.offers.turn.layout
+same_layout old new (Offer value) WrongTask h = ap (λ (v : WorldValue). v.sheet.layout) h.same
+same_layout old new (Offer value) _ h = absurd h
 same_layout old new (Stop q) Stopped h = h.stops.layout
 same_layout old new (Stop q) NotEnabled h = ap (λ (v : WorldValue). v.sheet.layout) h.same
 same_layout old new (Stop q) _ h = absurd h

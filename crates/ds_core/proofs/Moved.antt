@@ -151,7 +151,6 @@ moved k shape old (Step p) NotEnabled new h = same_moved k _ old new h
 moved k shape old (Step p) _ new h = absurd h
 moved k shape old (Offer value) Stepped new h = same_moved k _ old new h
 moved k shape old (Offer value) WrongTask new h = same_moved k _ old new h
-moved k shape old (Offer value) NotEnabled new h = same_moved k _ old new h
 moved k shape old (Offer value) _ new h = absurd h
 moved k shape old (Evict word) Evicted new h = same_moved k _ old new h
 moved k shape old (Evict word) NotEnabled new h = same_moved k _ old new h

@@ -2,7 +2,7 @@
 use Rattle.std.proofs.Common.{ℕ, ◌≡◌, ◌+◌, List, [], ◌∷◌, refl, ap, sym, ◌∙◌, subst, Some, None}
 use Rattle.std.specs.Prelude.{Option}
 use Rattle.ds_layout.specs.declared.place.Place.TheVariants as place
-use Rattle.ds_state.specs.Works.{PlainShow}
+use Rattle.ds_state.specs.Works.{PlainWork, PlainShow, PlainRecovery}
 use Rattle.ds_state.specs.Edits.{PlainEdit}
 use Rattle.ds_state.specs.World.{World}
 use Rattle.ds_state.specs.Value.{WorldValue, world_of}
@@ -12,13 +12,13 @@ use Rattle.ds_state.specs.declared.stage.Outcome.TheVariants as outcome
 use Rattle.ds_state.specs.declared.stage.Stage.{Stage}
 use Rattle.ds_state.specs.declared.stage.Stage.TheVariants.{StoreHeader, FlushNoted, BackNoted, OrDone, FlushDone, BackDone, Swap, StoreOutcome, FlushOutcome, BackOutcome, Answer}
 use Rattle.ds_state.specs.declared.situation.Situation.{Situation}
-use Rattle.ds_state.specs.declared.situation.Situation.TheVariants.{Idle, Editing, Showing}
+use Rattle.ds_state.specs.declared.situation.Situation.TheVariants.{Idle, Editing, Working, Recovering, Showing}
 use Rattle.ds_edit.specs.Steps.{next_at}
 use Rattle.ds_edit.specs.Worlds.{after}
 use Rattle.ds_edit.specs.Alone.{IsAloneAt}
 use Rattle.ds_edit.proofs.Alone.{alone}
 use Rattle.ds_core.specs.EditEvents.{reply_with, EditStepsBy}
-use Rattle.ds_core.specs.Steps.{edits, reports}
+use Rattle.ds_core.specs.Steps.{edits, works, reports, recoveries}
 use Rattle.ds_edit.specs.Endings.{outcome_at, answer_of}
 use Rattle.ds_core.specs.Takes.{Takes, WorldRun}
 use Rattle.ds_core.specs.Solo.{IsSoloEvent, IsSolo, IsDoneOnly, AreDoneOnly}
@@ -112,14 +112,24 @@ module _ (old new : WorldValue) (sound : IsSound (world_of old)) (p number : ℕ
   no_report : (q : ℕ) → q ≡ p → (f : PlainShow) → (world_of old).situation q ≡ Showing f → ⊥
   no_report q same f is = subst EditsOnly (ap (λ x. (world_of old).situation x) (sym same) ∙ is) a.only
 
+  no_work : (q : ℕ) → q ≡ p → (f : PlainWork) → (world_of old).situation q ≡ Working f → ⊥
+  no_work q same f is = subst EditsOnly (ap (λ x. (world_of old).situation x) (sym same) ∙ is) a.only
+
+  no_recovery : (q : ℕ) → q ≡ p → (f : PlainRecovery) → (world_of old).situation q ≡ Recovering f → ⊥
+  no_recovery q same f is = subst EditsOnly (ap (λ x. (world_of old).situation x) (sym same) ∙ is) a.only
+
   unchanged : new ≡ old → IsAlone new p number
   unchanged same = subst (λ (v : WorldValue). IsAlone v p number) (sym same) a
 
   pub one_event : (event : Event) (reply : Reply) → Takes old event reply new → IsSoloEvent p event → IsDoneOnly number reply × IsAlone new p number
   one_event (Step q) Stepped (edits h) same = (tt, stepped q same h)
+  one_event (Step q) Stepped (works h) same = absurd (no_work q same h.steps.work h.steps.works)
   one_event (Step q) Stepped (reports h) same = absurd (no_report q same h.steps.show h.steps.at)
+  one_event (Step q) Stepped (recoveries h) same = absurd (no_recovery q same h.steps.recovery h.steps.at)
   one_event (Step q) (Answered answer) (edits h) same = answered q answer same h
+  one_event (Step q) (Answered answer) (works h) same = absurd (no_work q same h.steps.work h.steps.works)
   one_event (Step q) (Answered answer) (reports h) same = absurd (no_report q same h.steps.show h.steps.at)
+  one_event (Step q) (Answered answer) (recoveries h) same = absurd (no_recovery q same h.steps.recovery h.steps.at)
   one_event (Step q) NotEnabled h same = (tt, unchanged h.same)
   one_event (Step q) _ h same = absurd h
   one_event (Evict r) Evicted h solo = (tt, record {

@@ -32,15 +32,23 @@ use Rattle.ds_core.specs.declared.event.Event.TheVariants.{BeginEdit, BeginWork,
 use Rattle.ds_edit.specs.declared.answer.Other.{Other}
 use Rattle.ds_edit.specs.declared.answer.Answer.TheVariants.{Overtaken}
 use Rattle.ds_core.specs.declared.reply.Reply.{Reply}
-use Rattle.ds_core.specs.declared.reply.Reply.TheVariants.{Begun, Entered, Refused, Stepped, Answered, Evicted, Stopped, Crashed, NotEnabled}
+use Rattle.ds_core.specs.declared.reply.Reply.TheVariants.{Begun, Entered, Refused, Stepped, Answered, WrongTask, Evicted, Stopped, Crashed, NotEnabled}
 use Rattle.ds_core.proofs.Good.{counted_cases, answers_at}
 use Rattle.ds_core.proofs.Moves.{counts_at}
 use Rattle.ds_show.specs.declared.machine.Effect.{Effect}
 use Rattle.ds_show.specs.declared.machine.Effect.TheVariants as effects
 use Rattle.ds_state.specs.declared.work.ShowEnd.TheVariants as ends
 use Rattle.ds_core.specs.ReportEvents.{report_reply, ReportStepsBy}
-use Rattle.ds_core.specs.Steps.{edits, reports}
-use Rattle.ds_core.proofs.Turns.{IsTurn, edit_turn, report_turn, report_begins_turn, stop_turn}
+use Rattle.ds_state.specs.declared.work.WorkEnd.TheVariants as work_ends
+use Rattle.ds_work.specs.declared.drive.Taken.{Taken}
+use Rattle.ds_work.specs.declared.drive.Taken.TheVariants as taken
+use Rattle.ds_recover.specs.declared.machine.Effect as recovery_effect
+use Rattle.ds_recover.specs.declared.machine.Effect.TheVariants as recovery_effects
+use Rattle.ds_recover.specs.declared.machine.RecoveryEnd.TheVariants as recovery_ends
+use Rattle.ds_core.specs.WorkEvents.{work_reply, WorkStepsBy}
+use Rattle.ds_core.specs.RecoveryEvents.{recovery_reply, RecoveryStepsBy}
+use Rattle.ds_core.specs.Steps.{edits, works, reports, recoveries}
+use Rattle.ds_core.proofs.Turns.{IsTurn, LeavesEdits, edit_turn, report_turn, report_begins_turn, stop_turn, work_leaves, work_begins_leaves, offer_leaves, recovery_turn, recovery_begins_turn}
 use Rattle.ds_core.proofs.Solo.{some_outcome}
 
 contains_one : (e f : Edit) → Contains (e ∷ []) f → f ≡ e
@@ -81,6 +89,15 @@ module _ (old new : WorldValue) (sound : IsSound (world_of old)) (p n : ℕ) (sp
   by_turn : (q : ℕ) → IsTurn q old new → new.counted ≡ old.counted → Stays
   by_turn q t same = (spent_stays q (world_of old) (world_of new) t.keeps p n spent, same_list same)
 
+  by_leaves : (q : ℕ) → LeavesEdits q old new → Stays
+  by_leaves q l = by_turn q l.turn l.counted
+
+  by_work : (q : ℕ) (reply : Reply) → WorkStepsBy old q reply new → Stays
+  by_work q reply h = by_leaves q (work_leaves old new q reply sound h)
+
+  by_recovery : (q : ℕ) (reply : Reply) → RecoveryStepsBy old q reply new → Stays
+  by_recovery q reply h = by_turn q (recovery_turn old new q reply sound h) h.steps.steps.counted
+
   by_report : (q : ℕ) (reply : Reply) → ReportStepsBy old q reply new → Stays
   by_report q reply h = by_turn q (report_turn old new q reply sound h) h.steps.steps.counted
 
@@ -92,21 +109,33 @@ module _ (old new : WorldValue) (sound : IsSound (world_of old)) (p n : ℕ) (sp
   one_event (BeginEdit r) NotEnabled h = unchanged h.same
   one_event (BeginEdit r) _ h = absurd h
   one_event (Step q) Stepped (edits h) = by_step q Stepped h
+  one_event (Step q) Stepped (works h) = by_work q Stepped h
   one_event (Step q) Stepped (reports h) = by_report q Stepped h
+  one_event (Step q) Stepped (recoveries h) = by_recovery q Stepped h
   one_event (Step q) (Answered answer) (edits h) = by_step q (Answered answer) h
+  one_event (Step q) (Answered answer) (works h) = by_work q (Answered answer) h
   one_event (Step q) (Answered answer) (reports h) = by_report q (Answered answer) h
+  one_event (Step q) (Answered answer) (recoveries h) = by_recovery q (Answered answer) h
   one_event (Step q) NotEnabled h = unchanged h.same
   one_event (Step q) _ h = absurd h
   one_event (Evict place) Evicted h = (spent_evicted place (world_of old) (world_of new) sound h.evicts p n spent, same_list h.evicts.counted)
   one_event (Evict place) NotEnabled h = unchanged h.same
   one_event (Evict place) _ h = absurd h
-  one_event (BeginWork q cell) reply h = unchanged h.1
+  one_event (BeginWork q cell) Entered h = by_leaves q (work_begins_leaves old new q cell sound h)
+  one_event (BeginWork q cell) (Refused why) h = unchanged h.same
+  one_event (BeginWork q cell) NotEnabled h = unchanged h.same
+  one_event (BeginWork q cell) _ h = absurd h
   one_event (BeginShow q) Entered h = by_turn q (report_begins_turn old new q sound h) h.begun.begins.counted
   one_event (BeginShow q) (Refused why) h = unchanged h.same
   one_event (BeginShow q) NotEnabled h = unchanged h.same
   one_event (BeginShow q) _ h = absurd h
-  one_event (BeginRecover q) reply h = unchanged h.1
-  one_event (Offer value) reply h = unchanged h.1
+  one_event (BeginRecover q) Entered h = by_turn q (recovery_begins_turn old new q sound h) h.begun.begins.counted
+  one_event (BeginRecover q) (Refused why) h = unchanged h.same
+  one_event (BeginRecover q) NotEnabled h = unchanged h.same
+  one_event (BeginRecover q) _ h = absurd h
+  one_event (Offer value) Stepped h = by_leaves value.task.process (offer_leaves old new value sound h)
+  one_event (Offer value) WrongTask h = unchanged h.same
+  one_event (Offer value) _ h = absurd h
   one_event (Stop q) Stopped h = by_turn q (stop_turn old new q sound h) h.stops.counted
   one_event (Stop q) NotEnabled h = unchanged h.same
   one_event (Stop q) _ h = absurd h
@@ -156,9 +185,26 @@ not_overtaken (effects.Answers ends.Settled) n other is = absurd (cc)
 not_overtaken (effects.Answers (ends.AtMark cell word)) n other is = absurd (cc)
 not_overtaken (effects.Answers (ends.AtAnnounce process word)) n other is = absurd (cc)
 
+work_not_overtaken : (what : Taken) (n : ℕ) (other : Other) → Answered (Overtaken n other) ≡ work_reply what → ⊥
+work_not_overtaken taken.NotEnabled n other is = absurd (cc)
+work_not_overtaken taken.Stepped n other is = absurd (cc)
+work_not_overtaken (taken.Answered work_ends.NotDirty) n other is = absurd (cc)
+work_not_overtaken (taken.Answered work_ends.Missed) n other is = absurd (cc)
+work_not_overtaken (taken.Answered work_ends.Worn) n other is = absurd (cc)
+work_not_overtaken (taken.Answered (work_ends.Published changed)) n other is = absurd (cc)
+work_not_overtaken (taken.Answered work_ends.Again) n other is = absurd (cc)
+work_not_overtaken (taken.Answered work_ends.NoMemory) n other is = absurd (cc)
+
+recovery_not_overtaken : (what : recovery_effect.Effect) (n : ℕ) (other : Other) → Answered (Overtaken n other) ≡ recovery_reply what → ⊥
+recovery_not_overtaken recovery_effects.GoesOn n other is = absurd (cc)
+recovery_not_overtaken (recovery_effects.Answers recovery_ends.Nothing) n other is = absurd (cc)
+recovery_not_overtaken (recovery_effects.Answers (recovery_ends.Last m cell counts)) n other is = absurd (cc)
+
 pub overtaken_never : (old mid new : WorldValue) (events : List Event) (replies : List Reply) (p n : ℕ) (other : Other) → IsSound (world_of old) → Takes old (Step p) (Answered (Overtaken n other)) mid
     → WorldRun mid events replies new → IsSpent (world_of new) p n × IsOut (world_of new) p n
 overtaken_never old mid new events replies p n other sound (edits h) run =
     let o = overtaken_out old mid p n other sound h in
     stays_out events replies mid new p n (edit_turn old mid p (Answered (Overtaken n other)) sound h).keeps.sound o.0 o.1 run
+overtaken_never old mid new events replies p n other sound (works h) run = absurd (work_not_overtaken h.what n other h.is)
 overtaken_never old mid new events replies p n other sound (reports h) run = absurd (not_overtaken h.what n other h.is)
+overtaken_never old mid new events replies p n other sound (recoveries h) run = absurd (recovery_not_overtaken h.what n other h.is)

@@ -3,18 +3,25 @@ use Rattle.std.specs.Prelude.{ℕ, ◌≡◌, ◌≢◌, [], slice_index_or}
 use Rattle.ds_state.specs.Value.{WorldValue}
 use Rattle.ds_edit.specs.declared.answer.Answer.TheVariants.{Done, Settled}
 use Rattle.ds_core.specs.declared.event.Event.{Event}
-use Rattle.ds_core.specs.declared.event.Event.TheVariants.{BeginEdit, BeginShow, Step, Evict, Stop, Crash}
+use Rattle.ds_core.specs.declared.event.Event.TheVariants.{BeginEdit, BeginWork, BeginShow, BeginRecover, Step, Offer, Evict, Stop, Crash}
 use Rattle.ds_core.specs.declared.reply.Reply.{Reply}
-use Rattle.ds_core.specs.declared.reply.Reply.TheVariants.{Begun, Entered, Refused, Stepped, Answered, Evicted, Stopped, Crashed, NotEnabled}
+use Rattle.ds_core.specs.declared.reply.Reply.TheVariants.{Begun, Entered, Refused, Stepped, Answered, WrongTask, Evicted, Stopped, Crashed, NotEnabled}
 
 -- the event may be answered so
 abbrev pub IsReplyTo : Event → Reply → Type 0
 IsReplyTo (BeginEdit r) (Begun number) = Unit {0}
 IsReplyTo (BeginEdit r) (Refused why) = Unit {0}
+IsReplyTo (BeginWork p cell) Entered = Unit {0}
+IsReplyTo (BeginWork p cell) (Refused why) = Unit {0}
 IsReplyTo (BeginShow p) Entered = Unit {0}
 IsReplyTo (BeginShow p) (Refused why) = Unit {0}
+IsReplyTo (BeginRecover p) Entered = Unit {0}
+IsReplyTo (BeginRecover p) (Refused why) = Unit {0}
 IsReplyTo (Step p) Stepped = Unit {0}
 IsReplyTo (Step p) (Answered answer) = Unit {0}
+IsReplyTo (Offer value) Stepped = Unit {0}
+IsReplyTo (Offer value) WrongTask = Unit {0}
+IsReplyTo (Offer value) reply = ⊥
 IsReplyTo (Evict place) Evicted = Unit {0}
 IsReplyTo (Stop p) Stopped = Unit {0}
 IsReplyTo Crash Crashed = Unit {0}

@@ -149,7 +149,6 @@ LedgerMoves place shape old (Step p) (Answered answer) new = AnswerMoves old p a
 LedgerMoves place shape old (Step p) NotEnabled new = new ≡ old
 LedgerMoves place shape old (Offer value) Stepped new = new ≡ old
 LedgerMoves place shape old (Offer value) WrongTask new = new ≡ old
-LedgerMoves place shape old (Offer value) NotEnabled new = new ≡ old
 LedgerMoves place shape old (Evict word) Evicted new = new ≡ old
 LedgerMoves place shape old (Evict word) NotEnabled new = new ≡ old
 LedgerMoves place shape old (Stop p) Stopped new = new ≡ record old { opens = put old.opens p (in_doubt (old.opens p)) }

@@ -4,6 +4,8 @@ pub mod Kept
 pub mod Requests
 pub mod EditEvents
 pub mod ReportEvents
+pub mod WorkEvents
+pub mod RecoveryEvents
 pub mod Steps
 pub mod Stops
 pub mod Takes

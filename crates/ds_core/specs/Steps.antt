@@ -3,25 +3,33 @@ use Rattle.std.specs.Prelude.{ℕ, ◌≡◌, ◌<◌}
 use Rattle.ds_layout.specs.declared.place.Place.{Place}
 use Rattle.ds_layout.specs.Places.{IsPlace}
 use Rattle.ds_state.specs.Edits.{PlainEdit}
-use Rattle.ds_state.specs.Works.{PlainShow}
+use Rattle.ds_state.specs.Works.{PlainShow, PlainRecovery}
 use Rattle.ds_state.specs.Value.{WorldValue, world_of}
 use Rattle.ds_state.specs.Events.{Evicts}
-use Rattle.ds_state.specs.declared.situation.Situation.TheVariants.{Editing, Showing}
+use Rattle.ds_state.specs.declared.situation.Situation.TheVariants.{Editing, Recovering, Showing}
 use Rattle.ds_core.specs.EditEvents.{SameReports, EditStepsBy}
+use Rattle.ds_work.specs.WorkEvents as works
 use Rattle.ds_core.specs.ReportEvents.{ReportStepsBy}
+use Rattle.ds_core.specs.WorkEvents.{WorkStepsBy}
+use Rattle.ds_core.specs.RecoveryEvents.{RecoveryStepsBy}
 use Rattle.ds_core.specs.declared.reply.Reply.{Reply}
 use Rattle.ds_core.specs.declared.reply.Reply.TheVariants.{Stepped, Answered, Evicted, NotEnabled}
 
 -- the process makes a step of its call
 pub data StepsBy (old : WorldValue) (p : ℕ) (reply : Reply) (new : WorldValue) : Type 0 where
   edits : EditStepsBy old p reply new → StepsBy old p reply new
+  works : WorkStepsBy old p reply new → StepsBy old p reply new
   reports : ReportStepsBy old p reply new → StepsBy old p reply new
+  recoveries : RecoveryStepsBy old p reply new → StepsBy old p reply new
 
--- the process is in no call that can make a step, or the sheet has no such process
+-- the process is in no call that can make a step: in none, or in work that waits for an entry; or the sheet has no such
+-- process
 pub record CanNotStep (old : WorldValue) (p : ℕ) (new : WorldValue) : Type 0 where
   pub same : new ≡ old
   pub no_edit : (edit : PlainEdit) → p < old.sheet.layout.processes → (world_of old).situation p ≡ Editing edit → ⊥
+  pub no_work : works.CanNotStep (world_of old) p
   pub no_report : (show : PlainShow) → p < old.sheet.layout.processes → (world_of old).situation p ≡ Showing show → ⊥
+  pub no_recovery : (recovery : PlainRecovery) → p < old.sheet.layout.processes → (world_of old).situation p ≡ Recovering recovery → ⊥
 
 -- a step of the process, and its answer
 abbrev pub StepTakes : WorldValue → ℕ → Reply → WorldValue → Type 0

@@ -7,10 +7,12 @@ use Rattle.ds_state.specs.declared.refusal.Refusal.{Refusal}
 use Rattle.ds_core.specs.Requests.{PlainRequest}
 use Rattle.ds_core.specs.EditEvents.{SameReports}
 use Rattle.ds_core.specs.ReportEvents.{BeginShowTakes}
+use Rattle.ds_core.specs.WorkEvents.{BeginWorkTakes, OfferTakes}
+use Rattle.ds_core.specs.RecoveryEvents.{BeginRecoverTakes}
 use Rattle.ds_core.specs.Steps.{StepTakes, EvictTakes}
 use Rattle.ds_core.specs.Stops.{StopTakes, CrashTakes}
 use Rattle.ds_core.specs.declared.event.Event.{Event}
-use Rattle.ds_core.specs.declared.event.Event.TheVariants.{BeginEdit, BeginShow, Step, Evict, Stop, Crash}
+use Rattle.ds_core.specs.declared.event.Event.TheVariants.{BeginEdit, BeginWork, BeginShow, BeginRecover, Step, Offer, Evict, Stop, Crash}
 use Rattle.ds_core.specs.declared.reply.Reply.{Reply}
 use Rattle.ds_core.specs.declared.reply.Reply.TheVariants.{Begun, Refused, NotEnabled}
 
@@ -44,15 +46,17 @@ BeginTakes old r (Refused why) new = EditRefused old r why new
 BeginTakes old r NotEnabled new = CanNotBegin old r new
 BeginTakes old r _ new = ⊥
 
--- one event, from world to world; an event that can not happen yet changes nothing
+-- one event, from world to world
 abbrev pub Takes : WorldValue → Event → Reply → WorldValue → Type 0
 Takes old (BeginEdit r) reply new = BeginTakes old r reply new
+Takes old (BeginWork p cell) reply new = BeginWorkTakes old p cell reply new
 Takes old (BeginShow p) reply new = BeginShowTakes old p reply new
+Takes old (BeginRecover p) reply new = BeginRecoverTakes old p reply new
 Takes old (Step p) reply new = StepTakes old p reply new
+Takes old (Offer value) reply new = OfferTakes old value reply new
 Takes old (Evict place) reply new = EvictTakes old place reply new
 Takes old (Stop p) reply new = StopTakes old p reply new
 Takes old Crash reply new = CrashTakes old reply new
-Takes old event reply new = (reply ≡ NotEnabled) × (new ≡ old)
 
 -- the event happens so, and the world after it is good
 pub record Fits (old : WorldValue) (event : Event) (reply : Reply) (new : WorldValue) : Type 0 where

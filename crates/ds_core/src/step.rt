@@ -7,10 +7,12 @@ ghost use Rattle.ds_state.specs.declared.situation.Situation.TheVariants.{Editin
 ghost use Rattle.ds_edit.specs.Worlds.{after, counted_at, pending_at};
 ghost use Rattle.ds_core.specs.EditEvents.{reply_at, done_at, EditStepTakes};
 ghost use Rattle.ds_core.specs.ReportEvents.{report_answer, report_reply};
+ghost use Rattle.ds_core.specs.WorkEvents.{work_answer, work_reply};
+ghost use Rattle.ds_core.specs.RecoveryEvents.{recovery_reply};
 ghost use Rattle.ds_core.specs.Steps.{StepTakes, EvictTakes};
 
 use crate::reply::Reply;
-use ds_edit::answer::Answer;
+use ds_edit::answer::{Answer, Told};
 use ds_edit::machine::{got, want};
 use ds_layout::place::Place;
 use ds_state::edit::EditCall;
@@ -18,7 +20,10 @@ use ds_state::ledger::{Edit, Issue};
 use ds_state::situation::Situation;
 use ds_state::stage::{Outcome, Stage};
 use ds_show::machine::Effect;
-use ds_state::work::ShowEnd;
+use ds_recover::machine::RecoveryEnd;
+use ds_state::work::{ShowEnd, WorkEnd};
+use ds_work::drive::Taken;
+use std::alloc::Global;
 use ds_state::world::World;
 
 // The edit of a process, where it is in one.
@@ -132,18 +137,68 @@ fn report_reply(what: Effect) -> Reply
     }
 }
 
-/// A process makes the next step of its call. Where it is in none, or the sheet has no such process,
-/// the step can not happen and nothing changes. Each machine tells whether the process is in a call
-/// of its own.
-pub fn step(world: &mut World, process: usize) -> Reply
+// What work answers that ended so.
+fn work_answer(end: WorkEnd) -> Answer
+    ensures { result ≡ work_answer end }
+{
+    match end {
+        WorkEnd::NotDirty => Answer::NotDirty,
+        WorkEnd::Missed => Answer::Missed,
+        WorkEnd::Worn => Answer::Worn,
+        WorkEnd::Published(changed) => Answer::Published(changed),
+        WorkEnd::Again => Answer::Again,
+        WorkEnd::NoMemory => Answer::NoMemory,
+    }
+}
+
+// What a step of work answers.
+fn work_reply(taken: Taken) -> Reply
+    ensures { result ≡ work_reply taken }
+{
+    match taken {
+        Taken::NotEnabled => Reply::NotEnabled,
+        Taken::Stepped => Reply::Stepped,
+        Taken::Answered(end) => Reply::Answered(work_answer(end)),
+    }
+}
+
+// What a step of a recovery answers.
+fn recovery_reply(what: ds_recover::machine::Effect) -> Reply
+    ensures { result ≡ recovery_reply what }
+{
+    match what {
+        ds_recover::machine::Effect::GoesOn => Reply::Stepped,
+        ds_recover::machine::Effect::Answers(RecoveryEnd::Nothing) => Reply::Answered(Answer::Nothing),
+        ds_recover::machine::Effect::Answers(RecoveryEnd::Last(number, cell, counts)) => {
+            Reply::Answered(Answer::Last(Told {
+                number,
+                cell,
+                counts,
+            }))
+        }
+    }
+}
+
+/// A process makes the next step of its call. Where it is in none, or in work that waits for an
+/// entry, or the sheet has no such process, the step can not happen and nothing changes. Only the
+/// step of work that reads a content takes memory. Each machine tells whether the process is in a
+/// call of its own.
+pub fn step(alloc: Global, world: &mut World, process: usize) -> Reply
     ensures { StepTakes world.old process result world.new }
 {
     let reply = edit_step(world, process);
     if reply != Reply::NotEnabled {
         return reply;
     }
-    match ds_show::step::step(world, process) {
-        Some(what) => report_reply(what),
+    let taken = ds_work::drive::step(alloc, world, process);
+    if taken != Taken::NotEnabled {
+        return work_reply(taken);
+    }
+    if let Some(what) = ds_show::step::step(world, process) {
+        return report_reply(what);
+    }
+    match ds_recover::step::step(world, process) {
+        Some(what) => recovery_reply(what),
         None => Reply::NotEnabled,
     }
 }

@@ -6,6 +6,8 @@ ghost use Rattle.ds_core.specs.declared.reply.Reply.TheVariants.{Stepped};
 ghost use Rattle.ds_core.specs.Counts.{IsReplyTo, KeepsReports, done_of, settled_of};
 ghost use Rattle.ds_core.specs.Own.{steps_left};
 ghost use Rattle.ds_core.specs.ReportEvents.{BeginShowTakes};
+ghost use Rattle.ds_core.specs.WorkEvents.{BeginWorkTakes, OfferTakes};
+ghost use Rattle.ds_core.specs.RecoveryEvents.{BeginRecoverTakes};
 ghost use Rattle.ds_core.specs.Takes.{BeginTakes, Takes, Fits, WorldRun};
 
 use crate::event::{Event, Request};
@@ -13,6 +15,8 @@ use crate::reply::Reply;
 use crate::step::{evict, step};
 use crate::stop::{crash, stop};
 use ds_edit::begin::begin;
+use ds_eval::task::Evaluated;
+use ds_formula::cells::Cell;
 use ds_state::world::World;
 use std::alloc::{AllocError, Global};
 
@@ -26,6 +30,44 @@ fn begin_edit(alloc: Global, world: &mut World, request: &Request) -> Reply
     }
     match begin(alloc, world, request.process, request.cell, &request.text) {
         Ok(number) => Reply::Begun(number),
+        Err(refusal) => Reply::Refused(refusal),
+    }
+}
+
+// Work begins, or is refused.
+fn begin_work(alloc: Global, world: &mut World, process: usize, cell: Cell) -> Reply
+    ensures { BeginWorkTakes world.old process cell result world.new }
+{
+    let layout = world.words.layout();
+    if process >= layout.processes || !layout.shape.contains(cell) {
+        return Reply::NotEnabled;
+    }
+    match ds_work::begin::begin(alloc, world, process, cell) {
+        Ok(()) => Reply::Entered,
+        Err(refusal) => Reply::Refused(refusal),
+    }
+}
+
+// An evaluated task is offered: the work that waits for just this task goes on.
+fn offer(world: &mut World, evaluated: &Evaluated) -> Reply
+    ensures { OfferTakes world.old evaluated.now result world.new }
+{
+    if ds_work::offer::accepts(world, evaluated) {
+        Reply::Stepped
+    } else {
+        Reply::WrongTask
+    }
+}
+
+// A recovery begins, or is refused.
+fn begin_recover(world: &mut World, process: usize) -> Reply
+    ensures { BeginRecoverTakes world.old process result world.new }
+{
+    if process >= world.words.layout().processes {
+        return Reply::NotEnabled;
+    }
+    match ds_recover::begin::begin(world, process) {
+        Ok(()) => Reply::Entered,
         Err(refusal) => Reply::Refused(refusal),
     }
 }
@@ -48,12 +90,14 @@ fn happen(alloc: Global, world: &mut World, event: &Event) -> Reply
 {
     match event {
         Event::BeginEdit(request) => begin_edit(alloc, world, request),
-        Event::Step(process) => step(world, *process),
+        Event::Step(process) => step(alloc, world, *process),
         Event::Evict(place) => evict(world, *place),
         Event::Stop(process) => stop(world, *process),
         Event::Crash => crash(world),
         Event::BeginShow(process) => begin_show(alloc, world, *process),
-        Event::BeginWork(_, _) | Event::BeginRecover(_) | Event::Offer(_) => Reply::NotEnabled,
+        Event::BeginWork(process, cell) => begin_work(alloc, world, *process, *cell),
+        Event::BeginRecover(process) => begin_recover(world, *process),
+        Event::Offer(evaluated) => offer(world, evaluated),
     }
 }
 

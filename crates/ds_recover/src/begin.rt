@@ -1,6 +1,6 @@
 //! The beginning of a recovery.
 
-ghost use Rattle.std.specs.Prelude.{◌≡◌, ◌<◌, ◌↔◌, IsTrue, IfOk, IfErr, OnErr, vec_len, slice_set};
+ghost use Rattle.std.specs.Prelude.{◌≡◌, ◌<◌, ◌↔◌, IsTrue, IfOk, IfErr, OnErr};
 ghost use Rattle.ds_layout.specs.Places.{cells_of};
 ghost use Rattle.ds_state.specs.Value.{world_of};
 ghost use Rattle.ds_recover.specs.RecoverySteps.{BeginsRecovery, fresh};
@@ -9,7 +9,7 @@ ghost use Rattle.ds_recover.specs.RecoverBegun.{MayRecover, IsBegun, Refuses};
 use ds_layout::layout::Layout;
 use ds_state::refusal::Refusal;
 use ds_state::row::Row;
-use ds_state::situation::Situation;
+use ds_state::situation::{put, Situation};
 use ds_state::work::{RecoverCall, RecoverStage};
 use ds_state::world::World;
 
@@ -39,15 +39,6 @@ fn fresh(layout: &Layout, process: usize) -> RecoverCall
         cell: 0,
         stage: RecoverStage::LoadMark(0),
     }
-}
-
-// Puts a process into a situation.
-fn put(situations: &mut Vec<Situation>, process: usize, situation: Situation)
-    requires { process < vec_len situations.old }
-    ensures items { situations.new.items ≡ slice_set situations.old.items process situation }
-    ensures count { vec_len situations.new ≡ vec_len situations.old }
-{
-    situations[process] = situation;
 }
 
 // Begins a recovery of the sheet.

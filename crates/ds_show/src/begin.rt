@@ -1,6 +1,6 @@
 //! The beginning of a report.
 
-ghost use Rattle.std.specs.Prelude.{◌≡◌, ◌<◌, ◌≤◌, ◌+◌, ◌↔◌, IsTrue, IfOk, IfErr, OnErr, vec_len, slice_set};
+ghost use Rattle.std.specs.Prelude.{◌≡◌, ◌<◌, ◌≤◌, ◌+◌, ◌↔◌, IsTrue, IfOk, IfErr, OnErr};
 ghost use Rattle.ds_layout.specs.Places.{cells_of};
 ghost use Rattle.ds_state.specs.Value.{world_of, HasCountsLeft};
 ghost use Rattle.ds_state.specs.Underway.{reports_in, reports_under_way};
@@ -12,7 +12,7 @@ ghost use Rattle.ds_show.specs.ShowBegun.{next_of, IsBegun, Refuses};
 use ds_layout::layout::Layout;
 use ds_state::refusal::Refusal;
 use ds_state::reports::SETTLED_MOST;
-use ds_state::situation::Situation;
+use ds_state::situation::{put, Situation};
 use ds_state::work::{ShowCall, ShowStage};
 use ds_state::world::World;
 use std::alloc::{AllocError, Global};
@@ -86,15 +86,6 @@ fn fresh(
         kinds,
         stage: ShowStage::LoadAnnounce(0),
     })
-}
-
-// Puts a process into a situation.
-fn put(situations: &mut Vec<Situation>, process: usize, situation: Situation)
-    requires { process < vec_len situations.old }
-    ensures items { situations.new.items ≡ slice_set situations.old.items process situation }
-    ensures count { vec_len situations.new ≡ vec_len situations.old }
-{
-    situations[process] = situation;
 }
 
 // Begins a report of the sheet.

@@ -34,6 +34,11 @@ use Rattle.ds_work.specs.WorkEvents.{next_of, IsAskedFor, IsOffered, Refuses, St
 use Rattle.ds_work.proofs.EachWork.{begins_keep, offer_keep, work_steps_keep, reads_keep, lacks_keep}
 use Rattle.ds_work.proofs.WorkNamed.{can_perform}
 
+-- a process that works reports nothing
+after_quiet : (e : PlainWork) (s : WorkStage) (word : ℕ) → reports_in (after e s word) ≡ 0
+after_quiet e (Answer end) word = refl
+after_quiet e _ word = refl
+
 -- the world in which the process is in this situation, with these words
 abbrev pub put : WorldValue → ℕ → SheetValue → Situation → WorldValue
 put v p sheet s = record v { sheet = sheet; situations = set v.situations p s }
@@ -175,7 +180,7 @@ module _ (v : WorldValue) (g : IsGood v) (p : ℕ) (e : PlainWork) (low : p < v.
     }
 
     pub step_kept : (s : Situation) → s ≡ after e e.stage word → IsPlainStep e.stage → (room : ℕ) → IsReserved v room → IsReserved (put v p sheet s) room
-    step_kept s is plain room kept = put_kept v p sheet s layout low room kept
+    step_kept s is plain room kept = put_kept v p sheet s layout low (ap reports_in is ∙ after_quiet e e.stage word) room kept
         (subst (λ (q : ℕ). Keeps q (world_of v) (world_of (put v p sheet s))) mine
         (work_steps_keep e e.stage word (world_of v) (world_of (put v p sheet s)) g.sound low_own here (steps_at s is plain)))
 
@@ -186,7 +191,7 @@ module _ (v : WorldValue) (g : IsGood v) (p : ℕ) (e : PlainWork) (low : p < v.
     read_takes (inr l) = record { inside = low; work = e; mine = mine; works = works; turn = lacked at_read (subst (λ (x : PlainWork). Turns e x (world_of v) (world_of (put v p v.sheet (Working f)))) l (turns f)) }
 
     pub read_kept : IsReading v.sheet.layout.shape e f → (room : ℕ) → IsReserved v room → IsReserved (put v p v.sheet (Working f)) room
-    read_kept r room kept = put_kept v p v.sheet (Working f) refl low room kept (subst (λ (q : ℕ). Keeps q (world_of v) (world_of (put v p v.sheet (Working f)))) mine (keeps r))
+    read_kept r room kept = put_kept v p v.sheet (Working f) refl low refl room kept (subst (λ (q : ℕ). Keeps q (world_of v) (world_of (put v p v.sheet (Working f)))) mine (keeps r))
       where
         was : (world_of v).situation e.process ≡ Working (at e Read)
         was = here ∙ ap (λ s. Working (at e s)) at_read

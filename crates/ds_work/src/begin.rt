@@ -1,6 +1,6 @@
 //! The beginning of work.
 
-ghost use Rattle.std.specs.Prelude.{◌≡◌, ◌<◌, ◌≤◌, IfOk, IfErr, OnOk, OnErr, vec_len, slice_set};
+ghost use Rattle.std.specs.Prelude.{◌≡◌, ◌<◌, ◌≤◌, IfOk, IfErr, OnOk, OnErr};
 ghost use Rattle.ds_formula.specs.Cells.{IsInside, index_of};
 ghost use Rattle.ds_state.specs.Value.{world_of};
 ghost use Rattle.ds_state.specs.declared.situation.Situation.TheVariants.{Idle};
@@ -14,7 +14,7 @@ use ds_formula::content::Content;
 use ds_layout::layout::Layout;
 use ds_state::refusal::Refusal;
 use ds_state::row::Row;
-use ds_state::situation::Situation;
+use ds_state::situation::{put, Situation};
 use ds_state::text::Text;
 use ds_state::work::{WorkCall, WorkStage};
 use ds_state::world::World;
@@ -67,15 +67,6 @@ fn prepared(
         row: Row::new(),
         stage: WorkStage::LoadMark,
     })
-}
-
-// Puts a process into a situation.
-pub(crate) fn put(situations: &mut Vec<Situation>, process: usize, situation: Situation)
-    requires { process < vec_len situations.old }
-    ensures items { situations.new.items ≡ slice_set situations.old.items process situation }
-    ensures count { vec_len situations.new ≡ vec_len situations.old }
-{
-    situations[process] = situation;
 }
 
 // The process is in that work from now on.

@@ -1,6 +1,6 @@
 //! A step of a process that works.
 
-ghost use Rattle.std.specs.Prelude.{◌≡◌, ◌<◌, ℕ, IfSome, IfNone, vec_len, slice_set};
+ghost use Rattle.std.specs.Prelude.{◌≡◌, ◌<◌, ℕ, IfSome, IfNone};
 ghost use Rattle.ds_formula.specs.Cells.{count_of};
 ghost use Rattle.ds_state.specs.Works.{PlainWork};
 ghost use Rattle.ds_state.specs.Value.{world_of};
@@ -12,12 +12,11 @@ ghost use Rattle.ds_work.specs.WorkEvents.{IsIn, StepsBy, StepTakes};
 ghost use Rattle.ds_work.specs.declared.machine.Doing.TheVariants.{Steps, Reads, Answers};
 ghost use Rattle.ds_work.specs.declared.drive.Taken.TheVariants.{NotEnabled, Stepped, Answered};
 
-use crate::begin::put;
 use crate::machine::{Doing, got, turn, want};
 use crate::reading::reading;
 use ds_formula::cells::Shape;
 use ds_layout::place::Place;
-use ds_state::situation::Situation;
+use ds_state::situation::{put, Situation};
 use ds_state::work::{WorkCall, WorkEnd};
 use ds_state::world::World;
 use ds_words::access::Access;

@@ -149,27 +149,25 @@ pub fn task_of(alloc: Global, world: &World, process: usize) -> Result<Task, Tas
     }
 }
 
-/// Offers the entry of an evaluated task. It is taken where the task's process waits for just this
-/// task: of the same cell, generation, shape, content and inputs. Else it is handed back, and nothing
-/// changes.
-pub fn offer(world: &mut World, evaluated: Evaluated) -> Result<(), Evaluated>
-    ensures offered { OnOk result (IsOffered (world_of world.old) evaluated.task.process evaluated.entry (world_of world.new)) }
-    ensures waits { OnOk result (WaitsFor (world_of world.old) evaluated.task) }
-    ensures wrong { OnErr result (WaitsFor (world_of world.old) evaluated.task → ⊥) }
-    ensures handed_back { IfErr result (λ back. back ≡ evaluated) }
-    ensures unchanged { OnErr result (world.new ≡ world.old) }
+/// Offers the entry of an evaluated task: whether it is taken. It is where the task's process waits
+/// for just this task: of the same cell, generation, shape, content and inputs. Else nothing changes.
+pub fn accepts(world: &mut World, evaluated: &Evaluated) -> bool
+    ensures offered { IsTrue result → IsOffered (world_of world.old) evaluated.now.task.process evaluated.now.entry (world_of world.new) }
+    ensures waits { IsTrue result → WaitsFor (world_of world.old) evaluated.now.task }
+    ensures wrong { IsFalse result → WaitsFor (world_of world.old) evaluated.now.task → ⊥ }
+    ensures unchanged { IsFalse result → world.new ≡ world.old }
     ensures sheet { world.new.sheet ≡ world.old.sheet }
     ensures done { world.new.done ≡ world.old.done }
     ensures settled { world.new.settled ≡ world.old.settled }
     ensures reports { world.new.reports ≡ world.old.reports }
 {
     if !waits_for(world, evaluated.task()) {
-        return Err(evaluated);
+        return false;
     }
     let process = evaluated.task().process;
     let entry = evaluated.entry();
     accept(&mut world.situations[process], entry);
-    Ok(())
+    true
 }
 
 // The entry that a work which waits is to be given.

@@ -12,12 +12,12 @@ use Rattle.ds_state.specs.declared.situation.Situation.TheVariants.{Idle, Workin
 use Rattle.ds_work.specs.WorkSteps.{offered}
 use Rattle.ds_work.specs.WorkEvents.{WaitsFor, IsOffered}
 use Rattle.ds_work.proofs.Driving.{put, situation_at, is_offered, offered_kept}
-use Rattle.ds_work.proofs.offer.offer.Goals as goal
+use Rattle.ds_work.proofs.offer.accepts.Goals as goal
 
 pub invariant_of-world : goal.invariant_of-world
 invariant_of-world c =
     let v : WorldValue = record { sheet = c.world.inside.words; situations = c.world.inside.situations.items; counted = c.world.inside.counted.items; pending = c.world.inside.pending.items; done = c.world.inside.done; settled = c.world.inside.settled; reports = c.world.inside.reports } in
-    let task : PlainTask = c.args.evaluated.task in
+    let task : PlainTask = c.args.evaluated.now.task in
     let p : ℕ = task.process in
     let for : WaitsFor (world_of v) task = subst (λ (w : WorldValue). WaitsFor (world_of w) task) (sym c.world.view_is) (subst (λ (t : PlainTask). WaitsFor (world_of c.args.world.now) t) c.task.ensures (c.if-not-waits_for.ensures.yes refl)) in
     let e : PlainWork = for.work in
@@ -32,7 +32,7 @@ invariant_of-world c =
 pub returns-clause-offered : goal.returns-clause-offered
 returns-clause-offered c =
     let v : WorldValue = record { sheet = c.world.inside.words; situations = c.world.inside.situations.items; counted = c.world.inside.counted.items; pending = c.world.inside.pending.items; done = c.world.inside.done; settled = c.world.inside.settled; reports = c.world.inside.reports } in
-    let task : PlainTask = c.args.evaluated.task in
+    let task : PlainTask = c.args.evaluated.now.task in
     let p : ℕ = task.process in
     let for : WaitsFor (world_of v) task = subst (λ (w : WorldValue). WaitsFor (world_of w) task) (sym c.world.view_is) (subst (λ (t : PlainTask). WaitsFor (world_of c.args.world.now) t) c.task.ensures (c.if-not-waits_for.ensures.yes refl)) in
     let e : PlainWork = for.work in
@@ -42,4 +42,4 @@ returns-clause-offered c =
     let process : c.behind-evaluated.inside.process ≡ p = ap (λ (x : PlainTask). x.process) (c.behind-evaluated.view_is ∙ c.task-2.ensures) in
     let is : c.entry-entry.result ≡ local v.sheet.layout.shape e.content (entry_in e.inputs) = c.entry-entry.ensures.local ∙ ap (λ (x : PlainTask). local_of x) for.is in
     let situation : c.accept.new.situation ≡ Working (offered e c.entry-entry.result) = c.accept.ensures e (c.index_mut.ensures.value ∙ ap (λ (q : ℕ). get_or v.situations q c.index_mut.result.now) process ∙ get_or_default v.situations p c.index_mut.result.now (Idle 0) there ∙ works) in
-    rw (← c.world.view_is, process, situation, ← c.entry-entry.ensures.value) (is_offered v c.world.invariant.good p e low works c.entry-entry.result for.waits.waits is)
+    λ yes. rw (← c.world.view_is, process, situation, ← c.entry-entry.ensures.value) (is_offered v c.world.invariant.good p e low works c.entry-entry.result for.waits.waits is)

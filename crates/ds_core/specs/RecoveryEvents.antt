@@ -1,0 +1,52 @@
+-- The beginning of a recovery and its steps, from world to world.
+use Rattle.std.specs.Prelude.{ℕ, ◌≡◌, ◌<◌}
+use Rattle.ds_state.specs.Value.{WorldValue, world_of}
+use Rattle.ds_state.specs.declared.refusal.Refusal.{Refusal}
+use Rattle.ds_edit.specs.declared.answer.Answer.{Answer}
+use Rattle.ds_edit.specs.declared.answer.Answer.TheVariants.{Last, Nothing}
+use Rattle.ds_recover.specs.declared.machine.Effect.{Effect}
+use Rattle.ds_recover.specs.declared.machine.Effect.TheVariants as effects
+use Rattle.ds_recover.specs.declared.machine.RecoveryEnd.{RecoveryEnd}
+use Rattle.ds_recover.specs.declared.machine.RecoveryEnd.TheVariants as ends
+use Rattle.ds_recover.specs.RecoverBegun.{IsBegun, Refuses}
+use Rattle.ds_recover.specs.RecoverTakes as recoveries
+use Rattle.ds_core.specs.EditEvents.{SameReports}
+use Rattle.ds_core.specs.ReportEvents.{NoSuchProcess}
+use Rattle.ds_core.specs.declared.reply.Reply.{Reply}
+use Rattle.ds_core.specs.declared.reply.Reply.TheVariants.{Entered, Refused, Stepped, Answered, NotEnabled}
+
+-- what a recovery answers that ended so
+abbrev pub recovery_answer : RecoveryEnd → Answer
+recovery_answer ends.Nothing = Nothing
+recovery_answer (ends.Last number cell counts) = Last (record { number = number; cell = cell; counts = counts })
+
+-- what its step answers
+abbrev pub recovery_reply : Effect → Reply
+recovery_reply effects.GoesOn = Stepped
+recovery_reply (effects.Answers end) = Answered (recovery_answer end)
+
+-- the process makes a step of its recovery
+pub record RecoveryStepsBy (old : WorldValue) (p : ℕ) (reply : Reply) (new : WorldValue) : Type 0 where
+  pub what : Effect
+  pub steps : recoveries.StepsBy old p what new
+  pub is : reply ≡ recovery_reply what
+
+-- a recovery begins
+pub record RecoveryBegins (old : WorldValue) (p : ℕ) (new : WorldValue) : Type 0 where
+  pub there : p < old.sheet.layout.processes
+  pub begun : IsBegun (world_of old) p (world_of new)
+  pub done : new.done ≡ old.done
+  pub reports : SameReports old new
+
+-- it is refused
+pub record RecoveryRefused (old : WorldValue) (p : ℕ) (why : Refusal) (new : WorldValue) : Type 0 where
+  pub there : p < old.sheet.layout.processes
+  pub holds : Refuses (world_of old) p why
+  pub same : new ≡ old
+
+-- the beginning of a recovery, and its answer
+abbrev pub BeginRecoverTakes : WorldValue → ℕ → Reply → WorldValue → Type 0
+BeginRecoverTakes old p Entered new = RecoveryBegins old p new
+BeginRecoverTakes old p (Refused why) new = RecoveryRefused old p why new
+BeginRecoverTakes old p NotEnabled new = NoSuchProcess old p new
+BeginRecoverTakes old p _ new = ⊥

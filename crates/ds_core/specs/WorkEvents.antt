@@ -1,0 +1,88 @@
+-- The beginning of work, its steps and offers, from world to world.
+use Rattle.std.specs.Prelude.{ℕ, ◌≡◌, ◌<◌}
+use Rattle.ds_formula.specs.Cells.{IsInside, index_of}
+use Rattle.ds_formula.specs.declared.cells.Cell.{Cell}
+use Rattle.ds_eval.specs.Tasks.{PlainEvaluated}
+use Rattle.ds_state.specs.Value.{WorldValue, world_of}
+use Rattle.ds_state.specs.declared.refusal.Refusal.{Refusal}
+use Rattle.ds_state.specs.declared.work.WorkEnd.{WorkEnd}
+use Rattle.ds_state.specs.declared.work.WorkEnd.TheVariants as ends
+use Rattle.ds_edit.specs.declared.answer.Answer.{Answer}
+use Rattle.ds_edit.specs.declared.answer.Answer.TheVariants.{NotDirty, Missed, Worn, Published, Again, NoMemory}
+use Rattle.ds_work.specs.declared.drive.Taken.{Taken}
+use Rattle.ds_work.specs.declared.drive.Taken.TheVariants as taken
+use Rattle.ds_work.specs.WorkEvents as works
+use Rattle.ds_core.specs.EditEvents.{SameReports}
+use Rattle.ds_core.specs.declared.reply.Reply.{Reply}
+use Rattle.ds_core.specs.declared.reply.Reply.TheVariants.{Entered, Refused, Stepped, Answered, WrongTask, NotEnabled}
+
+-- what work answers that ended so
+abbrev pub work_answer : WorkEnd → Answer
+work_answer ends.NotDirty = NotDirty
+work_answer ends.Missed = Missed
+work_answer ends.Worn = Worn
+work_answer (ends.Published changed) = Published changed
+work_answer ends.Again = Again
+work_answer ends.NoMemory = NoMemory
+
+-- what its step answers
+abbrev pub work_reply : Taken → Reply
+work_reply taken.NotEnabled = NotEnabled
+work_reply taken.Stepped = Stepped
+work_reply (taken.Answered end) = Answered (work_answer end)
+
+-- the process makes a step of its work
+pub record WorkStepsBy (old : WorldValue) (p : ℕ) (reply : Reply) (new : WorldValue) : Type 0 where
+  pub what : Taken
+  pub steps : works.StepsBy (world_of old) p what (world_of new)
+  pub is : reply ≡ work_reply what
+  pub done : new.done ≡ old.done
+  pub reports : SameReports old new
+
+-- the sheet has the process and the cell
+pub record HasWork (old : WorldValue) (p : ℕ) (cell : Cell) : Type 0 where
+  pub process : p < old.sheet.layout.processes
+  pub cell : IsInside old.sheet.layout.shape cell
+
+-- work begins
+pub record WorkBegins (old : WorldValue) (p : ℕ) (cell : Cell) (new : WorldValue) : Type 0 where
+  pub named : HasWork old p cell
+  pub begun : works.IsBegun (world_of old) p (index_of old.sheet.layout.shape cell) (world_of new)
+  pub done : new.done ≡ old.done
+  pub reports : SameReports old new
+
+-- it is refused
+pub record WorkRefused (old : WorldValue) (p : ℕ) (cell : Cell) (why : Refusal) (new : WorldValue) : Type 0 where
+  pub named : HasWork old p cell
+  pub holds : works.Refuses (world_of old) p why
+  pub same : new ≡ old
+
+-- the sheet has no such process, or no such cell
+pub record CanNotWork (old : WorldValue) (p : ℕ) (cell : Cell) (new : WorldValue) : Type 0 where
+  pub unnamed : HasWork old p cell → ⊥
+  pub same : new ≡ old
+
+-- the beginning of work, and its answer
+abbrev pub BeginWorkTakes : WorldValue → ℕ → Cell → Reply → WorldValue → Type 0
+BeginWorkTakes old p cell Entered new = WorkBegins old p cell new
+BeginWorkTakes old p cell (Refused why) new = WorkRefused old p cell why new
+BeginWorkTakes old p cell NotEnabled new = CanNotWork old p cell new
+BeginWorkTakes old p cell _ new = ⊥
+
+-- work that waits for just this task is given its entry
+pub record TakesEntry (old : WorldValue) (value : PlainEvaluated) (new : WorldValue) : Type 0 where
+  pub waited : works.WaitsFor (world_of old) value.task
+  pub offered : works.IsOffered (world_of old) value.task.process value.entry (world_of new)
+  pub done : new.done ≡ old.done
+  pub reports : SameReports old new
+
+-- no work waits for it
+pub record IsWrongTask (old : WorldValue) (value : PlainEvaluated) (new : WorldValue) : Type 0 where
+  pub none : works.WaitsFor (world_of old) value.task → ⊥
+  pub same : new ≡ old
+
+-- an offer, and its answer
+abbrev pub OfferTakes : WorldValue → PlainEvaluated → Reply → WorldValue → Type 0
+OfferTakes old value Stepped new = TakesEntry old value new
+OfferTakes old value WrongTask new = IsWrongTask old value new
+OfferTakes old value _ new = ⊥
