@@ -6,7 +6,7 @@ use Rattle.ds_formula.specs.Cells.{count_of}
 use Rattle.ds_layout.specs.declared.layout.Layout.{Layout}
 use Rattle.ds_layout.specs.Places.{cells_of}
 use Rattle.ds_layout.specs.Sheet.{SheetValue, memory, CanPerform, PerformsAt}
-use Rattle.ds_state.specs.Works.{PlainWork}
+use Rattle.ds_state.specs.Works.{PlainWork, IsWork}
 use Rattle.ds_state.specs.World.{Edit, Issue, World}
 use Rattle.ds_state.specs.Value.{WorldValue, world_of, IsGood, IsReserved}
 use Rattle.ds_state.specs.Calls.{CallFits}
@@ -186,9 +186,9 @@ module _ (v : WorldValue) (g : IsGood v) (p : ℕ) (e : PlainWork) (low : p < v.
 
   -- the content is read, or that lacked memory
   module _ (f : PlainWork) (at_read : e.stage ≡ Read) where
-    pub read_takes : IsReading v.sheet.layout.shape e f → StepsBy (world_of v) p Stepped (world_of (put v p v.sheet (Working f)))
-    read_takes (inl r) = record { inside = low; work = e; mine = mine; works = works; turn = reads r.content r.inputs at_read (record { turn = subst (λ (x : PlainWork). Turns e x (world_of v) (world_of (put v p v.sheet (Working f)))) r.after (turns f); is = r.is }) }
-    read_takes (inr l) = record { inside = low; work = e; mine = mine; works = works; turn = lacked at_read (subst (λ (x : PlainWork). Turns e x (world_of v) (world_of (put v p v.sheet (Working f)))) l (turns f)) }
+    pub read_takes : IsWork e → IsReading v.sheet.layout.shape e f → StepsBy (world_of v) p Stepped (world_of (put v p v.sheet (Working f)))
+    read_takes h (inl r) = record { inside = low; work = e; mine = mine; works = works; is = h; turn = reads r.content r.inputs at_read (record { turn = subst (λ (x : PlainWork). Turns e x (world_of v) (world_of (put v p v.sheet (Working f)))) r.after (turns f); is = r.is }) }
+    read_takes h (inr l) = record { inside = low; work = e; mine = mine; works = works; is = h; turn = lacked at_read (subst (λ (x : PlainWork). Turns e x (world_of v) (world_of (put v p v.sheet (Working f)))) l (turns f)) }
 
     pub read_kept : IsReading v.sheet.layout.shape e f → (room : ℕ) → IsReserved v room → IsReserved (put v p v.sheet (Working f)) room
     read_kept r room kept = put_kept v p v.sheet (Working f) refl low refl room kept (subst (λ (q : ℕ). Keeps q (world_of v) (world_of (put v p v.sheet (Working f)))) mine (keeps r))

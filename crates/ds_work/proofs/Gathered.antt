@@ -148,3 +148,24 @@ each_possible shape cells inside j l =
     let size = length-map cells unseen in
     let there : j < length cells = omega (arith, size, l) in
     subst (λ (c : Cell). IsPossible c) (sym (cell_of cells j there)) (possible shape (get_or cells j no_cell) (inside (get_or cells j no_cell) (Contains-get_or cells j no_cell there)))
+
+-- a content has no more references on the sheet than that has cells
+module _ (shape : Shape) (inputs : List Input) (ascending : IsAscending inputs) (inside : (j : ℕ) → j < length inputs → IsInside shape (cell_in inputs j)) where
+  at_least : (j : ℕ) → j < length inputs → j ≤ index_of shape (cell_in inputs j)
+  at_least zero l = omega arith
+  at_least (suc j) l =
+      let first : j < length inputs = omega (arith, l) in
+      let least = at_least j first in
+      let more = before_less shape (cell_in inputs j) (cell_in inputs (suc j)) (inside j first) (ascending.ascend j (suc j) (omega arith) l) in
+      omega (arith, least, more)
+
+  few_inputs : (n : ℕ) → n ≡ length inputs → n ≤ count_of shape
+  few_inputs zero is = omega arith
+  few_inputs (suc n) is =
+      let l : n < length inputs = omega (arith, is) in
+      let least = at_least n l in
+      let below = index_below shape (cell_in inputs n) (inside n l) in
+      omega (arith, least, below)
+
+pub content_few : (shape : Shape) (text : List ℕ) (content : Plain) (inputs : List Input) → IsContent shape text content inputs → length inputs ≤ count_of shape
+content_few shape text content inputs is = few_inputs shape inputs is.ascending (λ j l. (is.only j l).1) (length inputs) refl

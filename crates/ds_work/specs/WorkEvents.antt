@@ -10,7 +10,7 @@ use Rattle.ds_eval.specs.Local.{local}
 use Rattle.ds_eval.specs.Tasks.{PlainTask}
 use Rattle.ds_layout.specs.declared.layout.Layout.{Layout}
 use Rattle.ds_layout.specs.Places.{cells_of}
-use Rattle.ds_state.specs.Works.{PlainWork}
+use Rattle.ds_state.specs.Works.{PlainWork, IsWork}
 use Rattle.ds_state.specs.World.{World}
 use Rattle.ds_state.specs.declared.refusal.Refusal.{Refusal}
 use Rattle.ds_state.specs.declared.refusal.Refusal.TheVariants as refusal
@@ -105,16 +105,18 @@ pub data TakesTurn (e : PlainWork) (old new : World) : Taken → Type 0 where
   lacked : e.stage ≡ Read → LacksAt e old new → TakesTurn e old new Stepped
   answers : (end : WorkEnd) → e.stage ≡ Answer end → StepsAt e (Answer end) 0 old new → TakesTurn e old new (Answered end)
 
--- the process is in this work
+-- the process is in this work, which is one of its sheet
 pub record IsIn (w : World) (process : ℕ) (e : PlainWork) : Type 0 where
   pub inside : process < w.layout.processes
   pub works : w.situation process ≡ Working e
+  pub is : IsWork e
 
 pub record StepsBy (old : World) (process : ℕ) (taken : Taken) (new : World) : Type 0 where
   pub inside : process < old.layout.processes
   pub work : PlainWork
   pub mine : work.process ≡ process
   pub works : old.situation process ≡ Working work
+  pub is : IsWork work
   pub turn : TakesTurn work old new taken
 
 -- the process is in no work, or its work waits

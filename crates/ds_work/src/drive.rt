@@ -12,6 +12,7 @@ ghost use Rattle.ds_work.specs.WorkEvents.{IsIn, StepsBy, StepTakes};
 ghost use Rattle.ds_work.specs.declared.machine.Doing.TheVariants.{Steps, Reads, Answers};
 ghost use Rattle.ds_work.specs.declared.drive.Taken.TheVariants.{NotEnabled, Stepped, Answered};
 
+use crate::laws::works_are_of_a_sheet;
 use crate::machine::{Doing, got, turn, want};
 use crate::reading::reading;
 use ds_formula::cells::Shape;
@@ -116,6 +117,7 @@ pub fn step(alloc: Global, world: &mut World, process: usize) -> Taken
     let Some(call) = work_of(&world.situations[process]) else {
         return Taken::NotEnabled;
     };
+    works_are_of_a_sheet(call);
     let (doing, access, next) = (turn(call), want(call, shape), call.next);
     match doing {
         Doing::Waits => Taken::NotEnabled,

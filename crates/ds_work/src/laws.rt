@@ -2,6 +2,7 @@
 
 ghost use Rattle.std.specs.Prelude.{ℕ, ◌≡◌, ◌<◌, ◌≤◌, ◌+◌, ◌*◌, List, length, true, false};
 ghost use Rattle.ds_formula.specs.declared.cells.Shape.{Shape};
+ghost use Rattle.ds_formula.specs.Cells.{count_of};
 ghost use Rattle.ds_formula.specs.Plain.{Plain};
 ghost use Rattle.ds_eval.specs.declared.inputs.Entry as entries;
 ghost use Rattle.ds_eval.specs.declared.inputs.Input.{Input};
@@ -13,7 +14,7 @@ ghost use Rattle.ds_state.specs.Rely.{Keeps};
 ghost use Rattle.ds_state.specs.declared.situation.Situation.TheVariants.{Working};
 ghost use Rattle.ds_state.specs.declared.work.WorkStage.{WorkStage};
 ghost use Rattle.ds_state.specs.declared.work.WorkStage.TheVariants as works;
-ghost use Rattle.ds_work.specs.WorkSteps.{at, BeginsWork, StepsAt, ReadsAt, LacksAt, OffersAt, access_at, next_at, read_from, offered};
+ghost use Rattle.ds_work.specs.WorkSteps.{at, IsContent, BeginsWork, StepsAt, ReadsAt, LacksAt, OffersAt, access_at, next_at, read_from, offered};
 ghost use Rattle.ds_state.specs.declared.work.WorkEnd.{WorkEnd};
 ghost use Rattle.ds_work.specs.WorkAnswers.{IsDecided, IsTrueAnswer, OrsOnly};
 ghost use Rattle.ds_work.specs.WorkRank.{left, steps_left, Falls};
@@ -67,6 +68,13 @@ pub fn work_steps_are_few()
     ensures lacking { (r : ℕ) (e : PlainWork) → left r e works.Give < left r e works.Read }
     ensures offer { (r : ℕ) (e : PlainWork) (entry : entries.Entry) → steps_left r (offered e entry) < left r e works.Wait }
     ensures few { (r : ℕ) (e : PlainWork) → e.cells ≤ 1024 → left r e works.LoadMark ≤ 2 * r + 3 * e.cells + 52 }
+{}
+
+/// A content has no more references on a sheet than that has cells.
+#[tactic(auto, using(crate::proofs::Gathered::content_few))]
+pub fn contents_have_few_references()
+    ensures { (shape : Shape) (text : List ℕ) (content : Plain) (inputs : List Input)
+        → IsContent shape text content inputs → length inputs ≤ count_of shape }
 {}
 
 /// Each answer of work is true by the step that decides it. `NotDirty`: the mark was clean when it

@@ -51,5 +51,6 @@ returns-clause-takes c =
       work = e;
       mine = mine v c.world.invariant.good p e low is_in.works;
       works = is_in.works;
+      is = is_in.is;
       turn = answers c.args.end at_answer (subst (λ (s : WorkStage). StepsAt e s 0 (world_of v) (world_of (put v p v.sheet (Idle c.args.next)))) at_answer (steps_at v c.world.invariant.good p e low is_in.works 0 v.sheet refl performs (Idle c.args.next) situation plain));
     })

@@ -44,4 +44,4 @@ returns-clause-takes c =
     let out = c.read.ensures e (c.index_mut.ensures.value ∙ get_or_default v.situations p c.index_mut.result.now (Idle 0) there ∙ is_in.works) in
     let f : PlainWork = out.0 in
     let reading : IsReading v.sheet.layout.shape e f = subst (λ (l : Layout). IsReading l.shape e f) c.layout.ensures out.2 in
-    rw (← c.world.view_is, out.1) (read_takes v c.world.invariant.good p e low is_in.works f at_read reading)
+    rw (← c.world.view_is, out.1) (read_takes v c.world.invariant.good p e low is_in.works f at_read is_in.is reading)

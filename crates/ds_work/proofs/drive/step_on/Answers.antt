@@ -63,5 +63,6 @@ returns-clause-takes c =
       work = e;
       mine = mine v c.world.invariant.good p e low is_in.works;
       works = is_in.works;
+      is = is_in.is;
       turn = steps word (steps_at v c.world.invariant.good p e low is_in.works word c.perform-word.new.self c.perform-word.ensures.layout performs c.go_on.new.situation situation (steps_plain e.stage turn)) (steps_not_answer e.stage turn);
     })
