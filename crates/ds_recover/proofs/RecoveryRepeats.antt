@@ -42,9 +42,10 @@ repeats e (Some how) w fits =
     let n : e.announcement / 4 ≡ number_of e + 1 = some_told e.announcement how fits.resolved.2 in
     let n' : e.announcement / 4 ≡ suc (number_of e) = omega arith in
     let word : announcement (number_of e) (phase_among w.counted e.process (number_of e)) ≡ announcement fits.resolved.2.number (phase_for how) =
-    ap (λ (k : ℕ). last_announcement w.counted e.process k) (sym n') ∙ sym r.cached ∙ fits.resolved.0 ∙ fits.resolved.2.is in
-    (subst (λ (k : ℕ). AreBelow w e.process k) n r.below,
-        same_phase (number_of e) fits.resolved.2.number (phase_among w.counted e.process (number_of e)) how (phases w.counted e.process (number_of e)) word)
+    ap (λ (k : ℕ). last_announcement w.counted e.process k) (sym n') ∙ sym r.cached ∙ fits.resolved.0 ∙ fits.resolved.2.is in (
+      subst (λ (k : ℕ). AreBelow w e.process k) n r.below,
+      same_phase (number_of e) fits.resolved.2.number (phase_among w.counted e.process (number_of e)) how (phases w.counted e.process (number_of e)) word,
+    )
 
 -- ---- telling
 

@@ -190,7 +190,9 @@ module _ (e : PlainRecovery) (how : Bool) (word : ℕ) (old new : World) (sound 
       (λ l. subst (λ (s : Situation). CallFits new p s) (sym went)
       (recovery_fits e e.mark e.row said_word e.cell (StoreOutcome how) (FlushOutcome how) old new was went fits tn.layout t.pending
       (subst (λ (o : Option Issue). DoubtFits new p o) (sym h.it.issued) in_doubt)
-      (λ r by. fits.freed r (subst (λ (x : ℕ). IsHeldBy p x) (store.elsewhere (Mark r) (λ x. cc)) by))
-      (store.there, record { number = number_of e; few = (let n = number_is in let k = h.it.number in omega arith); is = refl },
-        λ issue is same. (let mine : issue ≡ h.issue = same_issue is (t.pending ∙ h.it.issued) in ap (λ (i : Issue). i.edit.cell) mine ∙ h.own_is))
+      (λ r by. fits.freed r (subst (λ (x : ℕ). IsHeldBy p x) (store.elsewhere (Mark r) (λ x. cc)) by)) (
+        store.there,
+        record { number = number_of e; few = (let n = number_is in let k = h.it.number in omega arith); is = refl },
+        λ issue is same. (let mine : issue ≡ h.issue = same_issue is (t.pending ∙ h.it.issued) in ap (λ (i : Issue). i.edit.cell) mine ∙ h.own_is),
+      )
       (store.buffer p ∙ fits.buffer) (said_announced (number_of e) how (let n = fits.is.stage.0.few in let k = fits.is.stage.0.some in omega arith), fits.is.stage.1)))
