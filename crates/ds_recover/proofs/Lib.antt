@@ -12,6 +12,7 @@ pub mod RecoveryTell
 pub mod RecoveryHead
 pub mod RecoveryWhole
 pub mod RecoveryRank
+pub mod RecoveryRepeats
 pub mod RecoveryPossible
 pub mod RecoveryBegins
 pub mod RecoveryLaws

@@ -1,5 +1,5 @@
 -- What a recovery finds of an edit in doubt.
-use Rattle.std.proofs.Common.{ℕ, ◌≡◌, ◌<◌, ◌≤◌, ◌+◌, ◌==◌, ◌⊎◌, List, [], ◌∷◌, ◌++◌, refl, ap, sym, ◌∙◌, subst, arith, inl, inr, Some, None, true, false, zero, suc, length}
+use Rattle.std.proofs.Common.{ℕ, ◌≡◌, ◌<◌, ◌≤◌, ◌+◌, ◌==◌, ◌⊎◌, List, [], ◌∷◌, ◌++◌, refl, ap, sym, ◌∙◌, subst, arith, inl, inr, Some, None, true, false, zero, suc, length, ◌/◌, ◌-◌}
 use Rattle.std.specs.Prelude.{Option, Bool, Contains, if◌then◌else◌}
 use Rattle.std.proofs.lemmas.Bool.Decides.{eqb_tells}
 use Rattle.std.proofs.lemmas.List.Elements.{All-contains}
@@ -15,10 +15,10 @@ use Rattle.ds_layout.specs.Places.{cells_of}
 use Rattle.ds_layout.specs.Bits.{HasBit}
 use Rattle.ds_layout.proofs.OrBits.{HasBit-subset}
 use Rattle.ds_layout.proofs.Packed.{announcement_of-announcement_word, header_of-header_word}
-use Rattle.ds_state.specs.World.{Edit, Issue, World, of_cell, head_after_all, announcement, last_announcement, phase_among, is_edit_of, done_place}
-use Rattle.ds_state.specs.Known.{Standing, outside, inside, safe, Announced, last, pending, ended, word_of, phase_of, AreBelow, IsIn, IsSafe, IsSafelyIn, StandsAs}
+use Rattle.ds_state.specs.World.{Edit, Issue, World, of_cell, head_after_all, announcement, last_announcement, phase_among, is_edit_of, done_place, record_size}
+use Rattle.ds_state.specs.Known.{IsRecorded, Standing, outside, inside, safe, Announced, last, pending, ended, word_of, phase_of, AreBelow, IsIn, IsSafe, IsSafelyIn, StandsAs}
 use Rattle.ds_state.specs.declared.stage.Outcome.TheVariants as outcome
-use Rattle.ds_state.specs.KnownRecovery.{IsPassed}
+use Rattle.ds_state.specs.KnownRecovery.{Tells, IsPassed}
 use Rattle.ds_state.specs.Calls.{MaySay, rank, IsInDoubt, IsThrough, DoubtFits}
 use Rattle.ds_state.specs.Words.{IsKept}
 use Rattle.ds_state.specs.Sound.{IsSound}
@@ -100,16 +100,43 @@ pending_open w p n (Some issue) h is = at h.now refl h.cached
     at (ended (outcome.Overtaken a b)) same c = absurd (let k = sym c ∙ is in omega arith)
 
 -- the header of its record reads back
-pub header_reads : (w : World) (p : ℕ) (issue : Issue) → (h : IsInDoubt w p issue) → h.now ≡ pending → (word : ℕ) → word ≡ w.memory.cached (Header p issue.edit.number) → cell_from (header_of (cells_of w.layout) word) ≡ issue.edit.cell
-header_reads w p issue h now word is =
+-- an announcement of how the edit ended before this one
+pub last_number : (w : World) (p n word : ℕ) (how : Bool) → last_announcement w.counted p n ≡ word → Tells word how → n ≡ word / 4
+last_number w p zero word true is k = absurd (let i = k.is in omega arith)
+last_number w p zero word false is k = absurd (let i = k.is in omega arith)
+last_number w p (suc n) word how is k = elim (phases w.counted p n) [
+  | inl done ↦ (let same : announcement n phase.Done ≡ word = ap (λ (f : Phase). announcement n f) (sym done) ∙ is in omega arith)
+  | inr lost ↦ (let same : announcement n phase.NotDone ≡ word = ap (λ (f : Phase). announcement n f) (sym lost) ∙ is in omega arith)
+]
+
+pub recorded_reads : (w : World) (p : ℕ) (issue : Issue) → (h : IsInDoubt w p issue) → IsRecorded w issue.edit (record_size issue.edit) (record_size issue.edit) → (word : ℕ) → word ≡ w.memory.cached (Header p issue.edit.number) → cell_from (header_of (cells_of w.layout) word) ≡ issue.edit.cell
+recorded_reads w p issue h written word is =
     let e : Edit = issue.edit in
     let few = h.text in
-    let written = subst (λ (a : Announced). Rattle.ds_state.specs.Calls.IsWritten w e a) now h.written in
     let there = is ∙ ap (λ (q : ℕ). w.memory.cached (Header q e.number)) (sym h.mine) ∙ written.cached 0 (omega arith) in
     let room = h.cell in
     let m = w.layout.limited in
     let back = header_of-header_word (cells_of w.layout) (record { cell = e.cell; length = length e.text }) (record { cell = omega arith; length = omega arith }) (record { cell = h.cell; length = h.text }) in
     ap (λ (x : ℕ). cell_from (header_of (cells_of w.layout) x)) there ∙ ap cell_from back
+
+pub header_reads : (w : World) (p : ℕ) (issue : Issue) → (h : IsInDoubt w p issue) → h.now ≡ pending → (word : ℕ) → word ≡ w.memory.cached (Header p issue.edit.number) → cell_from (header_of (cells_of w.layout) word) ≡ issue.edit.cell
+header_reads w p issue h now word is = recorded_reads w p issue h (subst (λ (a : Announced). Rattle.ds_state.specs.Calls.IsWritten w issue.edit a) now h.written) word is
+
+-- where the announcement is the edit's own, and tells how it ended, its record stands
+ended_written : (w : World) (p word : ℕ) (how : Bool) (issue : Issue) (h : IsInDoubt w p issue) → w.memory.cached (Announce p) ≡ word → Tells word how → issue.edit.number + 1 ≡ word / 4
+    → IsRecorded w issue.edit (record_size issue.edit) (record_size issue.edit)
+ended_written w p word how issue h there tells own = by h.now h.cached h.written
+  where
+    by : (a : Announced) → w.memory.cached (Announce p) ≡ word_of w issue.edit a → Rattle.ds_state.specs.Calls.IsWritten w issue.edit a → IsRecorded w issue.edit (record_size issue.edit) (record_size issue.edit)
+    by last c written = absurd (let n : issue.edit.number ≡ word / 4 = last_number w issue.edit.process issue.edit.number word how (sym c ∙ there) tells in omega arith)
+    by pending c written = written
+    by (ended end) c written = written
+
+pub ended_reads : (w : World) (p word : ℕ) (how : Bool) (issue : Issue) → IsInDoubt w p issue → w.memory.cached (Announce p) ≡ word → Tells word how → issue.edit.number + 1 ≡ word / 4
+    → (seen : ℕ) → seen ≡ w.memory.cached (Header p (word / 4 - 1)) → cell_from (header_of (cells_of w.layout) seen) ≡ issue.edit.cell
+ended_reads w p word how issue h there tells own seen is =
+    let n : word / 4 - 1 ≡ issue.edit.number = omega arith in
+    recorded_reads w p issue h (ended_written w p word how issue h there tells own) seen (is ∙ ap (λ (k : ℕ). w.memory.cached (Header p k)) n)
 
 -- a cell's head shows its last edit
 pub shows_last : (w : World) → IsSound w → (cell p n : ℕ) (before : List Edit) (by : Edit) → of_cell cell w.counted ≡ before ++ by ∷ [] → (word : ℕ) → word ≡ w.memory.cached (Head cell)

@@ -36,7 +36,7 @@ use Rattle.ds_state.proofs.Buffers.{buffered}
 use Rattle.ds_state.proofs.EditFrame.{Framed, silent_framed, silent_keeps}
 use Rattle.ds_state.proofs.Accesses.{Turn, same_moves, quiet_sound}
 use Rattle.ds_recover.proofs.RecoveryFrame.{turn_of, held_on, pends_on}
-use Rattle.ds_recover.proofs.RecoveryDoubt.{phases}
+use Rattle.ds_recover.proofs.RecoveryDoubt.{phases, last_number}
 
 -- a process that is at rest but for its open edit
 pub record Rests (w : World) (p next : ℕ) : Type 0 where
@@ -54,15 +54,6 @@ last_zero w p (suc n) is = absurd (above_zero n (phase_among w.counted p n) is)
 tells_number : (word : ℕ) (how : Bool) → (k : Tells word how) → word / 4 ≡ k.number + 1
 tells_number word true k = let i = k.is in omega arith
 tells_number word false k = let i = k.is in omega arith
-
--- an announcement of how the edit ended before this one
-pub last_number : (w : World) (p n word : ℕ) (how : Bool) → last_announcement w.counted p n ≡ word → Tells word how → n ≡ word / 4
-last_number w p zero word true is k = absurd (let i = k.is in omega arith)
-last_number w p zero word false is k = absurd (let i = k.is in omega arith)
-last_number w p (suc n) word how is k = elim (phases w.counted p n) [
-  | inl done ↦ (let same : announcement n phase.Done ≡ word = ap (λ (f : Phase). announcement n f) (sym done) ∙ is in omega arith)
-  | inr lost ↦ (let same : announcement n phase.NotDone ≡ word = ap (λ (f : Phase). announcement n f) (sym lost) ∙ is in omega arith)
-]
 
 below_more : (w : World) (p n : ℕ) → AreBelow w p n → AreBelow w p (n + 1)
 below_more w p n h = All-weaker (λ (f : Edit). f.process ≡ p → f.number < n) (λ (f : Edit). f.process ≡ p → f.number < n + 1) (λ f k same. let l = k same in omega arith) w.counted h

@@ -129,7 +129,7 @@ module _ (e : PlainRecovery) (word : ℕ) (old new : World) (sound : IsSound old
       (λ r c x bit matters held o. o) (λ c x matters k o. o) (λ r held o. o) (λ f before last_of issue issued same k o. o))
       (Announce p) e.announcement [] m (sym fits.resolved.0) (λ o. sym fits.resolved.0) (λ c at. cc) (λ r at. absurd (no_value r at)) (λ r at. absurd (no_value r at))
       (λ moves my. no_new_marks p (Announce p) old new moves (λ c at. cc) (was_there p (Announce p) e.announcement [] old new sound tn m (sym fits.resolved.0) (λ o. sym fits.resolved.0)))
-      (λ h. h) (λ h. (h.0, m.there, h.1)) m.mine fits.is.stage
+      (λ h. h) (λ h. (h.0, m.there, h.1, h.2)) m.mine fits.is.stage
     where
       no_value : (r : ℕ) → (Announce p ≡ Value r) ⊎ (Announce p ≡ Kind r) → ⊥
       no_value r at = elim at [ inl x ↦ cc | inr x ↦ cc ]

@@ -12,7 +12,8 @@ use Rattle.ds_state.specs.declared.situation.Situation.{Situation}
 use Rattle.ds_state.specs.declared.situation.Situation.TheVariants.{Idle, Recovering}
 use Rattle.ds_state.specs.declared.work.RecoverStage.{RecoverStage}
 use Rattle.ds_state.specs.declared.work.RecoverStage.TheVariants.{Answer}
-use Rattle.ds_recover.specs.RecoverySteps.{Steps, access_at, after, next_number, end_of, ResolvesAs}
+use Rattle.ds_recover.specs.RecoverySteps.{Steps, access_at, after, next_number, end_of, ResolvesAs, RepeatsAs}
+use Rattle.ds_recover.proofs.RecoveryRepeats.{repeats}
 use Rattle.ds_recover.specs.RecoverBegun.{IsBegun}
 use Rattle.ds_recover.proofs.RecoveryBegins.{begun_keeps}
 use Rattle.ds_recover.proofs.RecoveryPossible.{possible}
@@ -34,6 +35,9 @@ pub answers : (e : PlainRecovery) (how : Option Bool) (w : World) (issue : Issue
     → w.pending e.process ≡ Some issue → ResolvesAs w issue.edit (end_of e how)
 answers e how w issue sound real is last open_is =
     answer_resolves e how w issue (subst (λ (s : RecoverStage). RecoveryFits w e.process (record e { stage = s })) last (fits_of e w sound real is)) open_is
+
+pub repeated : (e : PlainRecovery) (how : Option Bool) (w : World) → IsSound w → e.process < w.layout.processes → w.situation e.process ≡ Recovering e → e.stage ≡ Answer how → RepeatsAs w e.process (end_of e how)
+repeated e how w sound real is last = repeats e how w (subst (λ (s : RecoverStage). RecoveryFits w e.process (record e { stage = s })) last (fits_of e w sound real is))
 
 -- after its answer the process is idle, and holds no cell
 idle_after : (e : PlainRecovery) (s : RecoverStage) (how : Option Bool) (word : ℕ) → s ≡ Answer how → after e s word ≡ Idle (next_number e.announcement how)

@@ -20,7 +20,7 @@ use Rattle.ds_state.specs.World.{Edit, Issue, World, of_cell, announcement, done
 use Rattle.ds_state.specs.Known.{AreBelow, IsIn}
 use Rattle.ds_state.specs.Owing.{IsPending}
 use Rattle.ds_state.specs.Calls.{RecoveryFits, IsInDoubt, DoubtFits}
-use Rattle.ds_state.specs.KnownRecovery.{Tells, phase_for, IsOpenAnd, IsPassed, SettledAs}
+use Rattle.ds_state.specs.KnownRecovery.{IsItsCell, Tells, phase_for, IsOpenAnd, IsPassed, SettledAs}
 use Rattle.ds_state.specs.Rely.{Keeps}
 use Rattle.ds_state.specs.Sound.{IsSound}
 use Rattle.ds_recover.specs.RecoverySteps.{StepsAt, at, number_of, announced_from, resolves_from, phase_from, cell_from, is_shown}
@@ -30,7 +30,7 @@ use Rattle.ds_state.specs.declared.situation.Situation.TheVariants.{Recovering}
 use Rattle.ds_state.proofs.Frames.{Moves}
 use Rattle.ds_state.proofs.Accesses.{Turn, same_moves}
 use Rattle.ds_recover.proofs.RecoveryFrame.{on, turn_of, held_on, pends_on, simple_passes, loads}
-use Rattle.ds_recover.proofs.RecoveryDoubt.{IsDoubted, unannounced, pending_open, header_reads, shown_in, not_shown, shows_last, shown_own, bit_tells, no_bit_tells}
+use Rattle.ds_recover.proofs.RecoveryDoubt.{ended_reads, IsDoubted, unannounced, pending_open, header_reads, shown_in, not_shown, shows_last, shown_own, bit_tells, no_bit_tells}
 
 same_issue : {o : Option Issue} {a b : Issue} → o ≡ Some a → o ≡ Some b → a ≡ b
 same_issue x y = let both : Some _ ≡ Some _ = sym x ∙ y in cc
@@ -121,12 +121,17 @@ module _ (e : PlainRecovery) (word : ℕ) (old new : World) (sound : IsSound old
         let k = IsAnnouncement-announcement_of e.announcement a is in
         record { number = a.number; few = k.0; is = sym k.1 ∙ ap (λ (f : Phase). announcement a.number f) phase' }
 
+    its_cell : (how : Bool) (a : Announcement) → announcement_of e.announcement ≡ Some a → a.phase ≡ phase_for how → IsItsCell new p e.announcement c'
+    its_cell how a is phase' issue open_is own =
+        let doubt : IsInDoubt old p issue = subst (λ (o : Option Issue). DoubtFits old p o) (sym t.pending ∙ open_is) fits.doubt in
+        sym (ap (λ (n : ℕ). cell_from (header_of n word)) (sym fits.cells) ∙ ended_reads old p e.announcement how issue doubt seen (tells how a is phase') own word t.memory.0)
+
     done_ends : (a : Announcement) → announcement_of e.announcement ≡ Some a → a.phase ≡ phase.Done → Keeps p old new
     done_ends a is phase' = loads e e.mark e.row e.announcement c' LoadHeader (FlushOutcome true) old new sound was fits real tn'
         (t.situation ∙ ap (λ (s : RecoverStage). Recovering (on e e.mark e.row e.announcement c' s)) (ap resolves_from is ∙ ap phase_from phase')) t.pending
         (simple_passes p e.row LoadHeader e.row (FlushOutcome true) old new (held_on p old new moves') (pends_on p old new moves' t.pending)
         (λ r c x bit matters held o. o) (λ c x matters k o. none c k) (λ r held o. o) (λ f before last_of issue issued same k o. none f.cell k))
-        m' (λ h. h) (λ h. (h, tells true a is phase')) (m'.buffer p ∙ fits.buffer) (fits.is.stage, cell_below e.cells word fits.is.some)
+        m' (λ h. h) (λ h. (h, tells true a is phase', its_cell true a is phase')) (m'.buffer p ∙ fits.buffer) (fits.is.stage, cell_below e.cells word fits.is.some)
       where
         none : (c : ℕ) → IsPending old p c → ⊥
         none c k = let d = (tells true a is phase').is in let x = k.cached in let s = seen in omega arith
@@ -136,7 +141,7 @@ module _ (e : PlainRecovery) (word : ℕ) (old new : World) (sound : IsSound old
         (t.situation ∙ ap (λ (s : RecoverStage). Recovering (on e e.mark e.row e.announcement c' s)) (ap resolves_from is ∙ ap phase_from phase')) t.pending
         (simple_passes p e.row LoadHeader e.row (FlushOutcome false) old new (held_on p old new moves') (pends_on p old new moves' t.pending)
         (λ r c x bit matters held o. o) (λ c x matters k o. none c k) (λ r held o. o) (λ f before last_of issue issued same k o. none f.cell k))
-        m' (λ h. h) (λ h. (h, tells false a is phase')) (m'.buffer p ∙ fits.buffer) (fits.is.stage, cell_below e.cells word fits.is.some)
+        m' (λ h. h) (λ h. (h, tells false a is phase', its_cell false a is phase')) (m'.buffer p ∙ fits.buffer) (fits.is.stage, cell_below e.cells word fits.is.some)
       where
         none : (c : ℕ) → IsPending old p c → ⊥
         none c k = let d = (tells false a is phase').is in let x = k.cached in let s = seen in omega arith

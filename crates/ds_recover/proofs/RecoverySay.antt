@@ -48,6 +48,9 @@ ended_word : (w : World) (f : Edit) (how : Bool) → announcement f.number (phas
 ended_word w f true = refl
 ended_word w f false = refl
 
+same_issue : {o : Option Issue} {a b : Issue} → o ≡ Some a → o ≡ Some b → a ≡ b
+same_issue x y = let both : Some _ ≡ Some _ = sym x ∙ y in cc
+
 pub said_announced : (n : ℕ) (how : Bool) → n < RECORDS → IsAnnounced (announcement n (phase_for how))
 said_announced n true l = record { it = record { number = n; phase = phase.Done }; reads = announcement_of-announcement_word (record { number = n; phase = phase.Done }) l; some = omega arith; few = omega arith }
 said_announced n false l = record { it = record { number = n; phase = phase.NotDone }; reads = announcement_of-announcement_word (record { number = n; phase = phase.NotDone }) l; some = omega arith; few = omega arith }
@@ -187,6 +190,9 @@ module _ (e : PlainRecovery) (how : Bool) (word : ℕ) (old new : World) (sound 
       (λ l. subst (λ (s : Situation). CallFits new p s) (sym went)
       (recovery_fits e e.mark e.row said_word e.cell (StoreOutcome how) (FlushOutcome how) old new was went fits tn.layout t.pending
       (subst (λ (o : Option Issue). DoubtFits new p o) (sym h.it.issued) in_doubt)
-      (λ r by. fits.freed r (subst (λ (x : ℕ). IsHeldBy p x) (store.elsewhere (Mark r) (λ x. cc)) by))
-      (store.there, record { number = number_of e; few = (let n = number_is in let k = h.it.number in omega arith); is = refl })
+      (λ r by. fits.freed r (subst (λ (x : ℕ). IsHeldBy p x) (store.elsewhere (Mark r) (λ x. cc)) by)) (
+        store.there,
+        record { number = number_of e; few = (let n = number_is in let k = h.it.number in omega arith); is = refl },
+        λ issue is same. (let mine : issue ≡ h.issue = same_issue is (t.pending ∙ h.it.issued) in ap (λ (i : Issue). i.edit.cell) mine ∙ h.own_is),
+      )
       (store.buffer p ∙ fits.buffer) (said_announced (number_of e) how (let n = fits.is.stage.0.few in let k = fits.is.stage.0.some in omega arith), fits.is.stage.1)))

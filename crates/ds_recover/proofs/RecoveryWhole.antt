@@ -1,5 +1,5 @@
 -- Each step of a recovery keeps a world sound, and its answer is true.
-use Rattle.std.proofs.Common.{ℕ, ◌≡◌, ◌<◌, ◌≤◌, ◌-◌, ◌/◌, refl, sym, ◌∙◌, subst, arith, inl, inr, Some, None, true, false}
+use Rattle.std.proofs.Common.{ℕ, ◌≡◌, ◌<◌, ◌≤◌, ◌-◌, ◌/◌, refl, sym, ◌∙◌, subst, arith, inl, inr, Some, None, true, false, ◌+◌}
 use Rattle.std.specs.Prelude.{Option, Bool}
 use Rattle.std.proofs.lemmas.List.Elements.{All-weaker}
 use Rattle.ds_layout.specs.declared.place.Place.TheVariants.{Announce}
@@ -20,7 +20,8 @@ use Rattle.ds_state.specs.declared.situation.Situation.{Situation}
 use Rattle.ds_state.specs.declared.situation.Situation.TheVariants.{Recovering}
 use Rattle.ds_recover.proofs.RecoveryResolve.{step_load_announce, step_load_header, step_load_head, step_load_done}
 use Rattle.ds_recover.proofs.RecoverySay.{step_store_outcome}
-use Rattle.ds_recover.proofs.RecoveryEnds.{step_answer, rests_none, last_number}
+use Rattle.ds_recover.proofs.RecoveryDoubt.{last_number}
+use Rattle.ds_recover.proofs.RecoveryEnds.{step_answer, rests_none}
 use Rattle.ds_recover.proofs.RecoveryLate.{step_or_mark, step_flush_mark, step_back_mark, step_flush_outcome, step_back_outcome}
 use Rattle.ds_recover.proofs.RecoveryFree.{step_load_mark, step_flush_value, step_flush_kind, step_give, step_give_dirty, step_flush_given, step_back_given}
 use Rattle.ds_recover.proofs.RecoveryTell.{step_back_value, step_back_kind, step_load_row, step_or_told, step_flush_told, step_back_told}
@@ -78,7 +79,7 @@ not_pending n word false is k = let i = k.is in omega arith
 
 smaller : (w : World) (f : Edit) (e : PlainRecovery) (how : Bool) → number_of e < f.number → AreBelow w f.process f.number → ResolvesAs w f (end_of e (Some how))
 smaller w f e true less h = inr (less, h)
-smaller w f e false less h = (omega arith, h)
+smaller w f e false less h = (omega arith, h, λ same. absurd (omega arith))
 
 -- the answer resolves the edit in doubt
 pub answer_resolves : (e : PlainRecovery) (how : Option Bool) (w : World) (issue : Issue) → RecoveryFits w e.process (at e (Answer how)) → w.pending e.process ≡ Some issue → ResolvesAs w issue.edit (end_of e how)
@@ -100,18 +101,22 @@ answer_resolves e (Some how) w issue fits is = by h.now h.said h.cached
     there : w.memory.cached (Announce e.process) ≡ e.announcement
     there = fits.resolved.0
 
+    -- the cell that it found is the edit's
+    its : f.number + 1 ≡ e.announcement / 4 → f.cell ≡ e.cell
+    its own = fits.resolved.3 issue is own
+
+    some : 4 ≤ e.announcement
+    some = at_least how tells
+      where
+        at_least : (b : Bool) → Tells e.announcement b → 4 ≤ e.announcement
+        at_least true k = let i = k.is in omega arith
+        at_least false k = let i = k.is in omega arith
+
     by : (a : Announced) → MaySay h.standing a → w.memory.cached (Announce e.process) ≡ word_of w f a → ResolvesAs w f (end_of e (Some how))
     by last said c = outs h.standing said h.stands
       where
         n : f.number ≡ e.announcement / 4
         n = last_number w f.process f.number e.announcement how (sym c ∙ there) tells
-
-        some : 4 ≤ e.announcement
-        some = at_least how tells
-          where
-            at_least : (b : Bool) → Tells e.announcement b → 4 ≤ e.announcement
-            at_least true k = let i = k.is in omega arith
-            at_least false k = let i = k.is in omega arith
 
         outs : (s : Standing) → MaySay s last → StandsAs w f s → ResolvesAs w f (end_of e (Some how))
         outs outside said stands = smaller w f e how (let k = n in let l = some in omega arith) stands
@@ -122,13 +127,13 @@ answer_resolves e (Some how) w issue fits is = by h.now h.said h.cached
       where
         outs : (s : Standing) → MaySay s (ended outcome.Done) → StandsAs w f s → ResolvesAs w f (end_of e (Some how))
         outs safe said stands = let k = ended_true f.number e.announcement how (sym there ∙ c) tells in
-            subst (λ (b : Bool). ResolvesAs w f (end_of e (Some b))) (sym k.1) (inl (k.0, stands))
+            subst (λ (b : Bool). ResolvesAs w f (end_of e (Some b))) (sym k.1) (inl (k.0, its (let n = k.0 in let s = some in omega arith), stands))
         outs outside said stands = absurd said
         outs (inside own) said stands = absurd said
     by (ended (outcome.Overtaken a b)) said c = outs h.standing said h.stands
       where
         outs : (s : Standing) → MaySay s (ended (outcome.Overtaken a b)) → StandsAs w f s → ResolvesAs w f (end_of e (Some how))
         outs outside said stands = let k = ended_false f.number e.announcement how (sym there ∙ c) tells in
-            subst (λ (b : Bool). ResolvesAs w f (end_of e (Some b))) (sym k.1) (let n = k.0 in (omega arith, stands))
+            subst (λ (b : Bool). ResolvesAs w f (end_of e (Some b))) (sym k.1) (let n = k.0 in (omega arith, stands, λ same. its (let s = some in omega arith)))
         outs safe said stands = absurd said
         outs (inside own) said stands = absurd said

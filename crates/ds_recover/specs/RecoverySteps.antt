@@ -18,7 +18,8 @@ use Rattle.ds_layout.specs.Header.{header_of}
 use Rattle.ds_layout.specs.Sheet.{PerformsAt}
 use Rattle.ds_state.specs.Works.{PlainRecovery}
 use Rattle.ds_state.specs.RecoverStages.{HELD_YOUNG}
-use Rattle.ds_state.specs.World.{Edit, Issue, World, announcement, done_place}
+use Rattle.ds_state.specs.World.{Edit, Issue, World, announcement, done_place, phase_among}
+use Rattle.ds_state.specs.Owing.{StandsIn}
 use Rattle.ds_state.specs.Known.{AreBelow, IsSafelyIn}
 use Rattle.ds_state.specs.KnownRecovery.{marked, phase_for}
 use Rattle.ds_state.specs.Telling.{let_go, told_from}
@@ -258,8 +259,18 @@ abbrev pub Falls : PlainRecovery → RecoverStage → PlainRecovery → Type 0
 Falls e (Answer how) after = Unit {0}
 Falls e stage after = rank e.cells after.stage < rank e.cells stage
 
--- what the answer says of an edit in doubt: with its number and Done it counts for good; else it does not count
+-- what the answer says of an edit in doubt: with its number it has its cell; with Done it counts for good; else it does not
+-- count
 abbrev pub ResolvesAs : World → Edit → RecoveryEnd → Type 0
 ResolvesAs w f Nothing = AreBelow w f.process f.number
-ResolvesAs w f (Last n cell true) = ((n ≡ f.number) × IsSafelyIn w f) ⊎ ((n < f.number) × AreBelow w f.process f.number)
-ResolvesAs w f (Last n cell false) = (n ≤ f.number) × AreBelow w f.process f.number
+ResolvesAs w f (Last n cell true) = ((n ≡ f.number) × (f.cell ≡ cell) × IsSafelyIn w f) ⊎ ((n < f.number) × AreBelow w f.process f.number)
+ResolvesAs w f (Last n cell false) = (n ≤ f.number) × AreBelow w f.process f.number × (n ≡ f.number → f.cell ≡ cell)
+
+-- it repeats how the last of the process's edits ended whose number is spent: with that number, and whether one counts
+abbrev pub RepeatsAs : World → ℕ → RecoveryEnd → Type 0
+RepeatsAs w p Nothing = AreBelow w p 0
+RepeatsAs w p (Last n cell counts) = AreBelow w p (n + 1) × (phase_among w.counted p n ≡ phase_for counts)
+
+-- the cell that is told next is one whose bit it found
+abbrev pub TellsFound : PlainRecovery → Type 0
+TellsFound e = (cell d : ℕ) → e.stage ≡ Telling cell (OrTold d) → StandsIn e.row d

@@ -12,7 +12,7 @@ ghost use Rattle.ds_state.specs.Works.{PlainRecovery};
 ghost use Rattle.ds_state.specs.RecoverStages.{IsRecovery};
 ghost use Rattle.ds_state.specs.declared.work.RecoverStage.TheVariants.{Answer};
 ghost use Rattle.ds_state.specs.declared.situation.Situation.TheVariants.{Recovering};
-ghost use Rattle.ds_recover.specs.RecoverySteps.{Steps, access_at, next_at, rank, Falls, end_of, ResolvesAs};
+ghost use Rattle.ds_recover.specs.RecoverySteps.{Steps, access_at, next_at, rank, Falls, end_of, ResolvesAs, RepeatsAs, TellsFound};
 ghost use Rattle.ds_recover.specs.RecoverBegun.{IsBegun};
 
 /// Each step of a recovery, whatever the word that its access answers, leaves a sound sheet sound,
@@ -56,14 +56,31 @@ pub fn steps_are_few()
         → rank e.cells e.stage ≤ e.cells * (3 * e.cells + 30) + 20 }
 {}
 
-/// Where an edit of the process is open, the answer resolves it: Last with its number says whether it
-/// counts, and where it does, no crash takes it; Nothing, or Last with a smaller number, says that it
+/// Where an edit of the process is open, the answer resolves it: Last with its number has its cell and
+/// says whether it counts, and where it does, no crash takes it; Nothing, or Last with a smaller number, says that it
 /// does not count. What is open no more never comes to count.
 #[tactic(auto, using(crate::proofs::RecoveryLaws::answers))]
 pub fn answers_resolve()
     ensures { (e : PlainRecovery) (how : Option Bool) (w : World) (issue : Issue) → IsSound w
         → e.process < w.layout.processes → w.situation e.process ≡ Recovering e → e.stage ≡ Answer how
         → w.pending e.process ≡ Some issue → ResolvesAs w issue.edit (end_of e how) }
+{}
+
+/// The answer repeats how the last of the process's edits ended whose number is spent, whether one is
+/// open or not: Last has that number, and says whether an edit of it counts; after Nothing none of the
+/// process's edits counts.
+#[tactic(auto, using(crate::proofs::RecoveryLaws::repeated))]
+pub fn answers_repeat()
+    ensures { (e : PlainRecovery) (how : Option Bool) (w : World) → IsSound w
+        → e.process < w.layout.processes → w.situation e.process ≡ Recovering e → e.stage ≡ Answer how
+        → RepeatsAs w e.process (end_of e how) }
+{}
+
+/// A recovery marks only cells whose bits it found in the row of a cell that it gives back, and the
+/// cell of its edit: no step makes it tell a cell without a bit.
+#[tactic(auto, using(crate::proofs::RecoveryRepeats::each_found))]
+pub fn only_cells_with_bits_are_told()
+    ensures { (e : PlainRecovery) (word : ℕ) → TellsFound e → TellsFound (next_at e e.stage word) }
 {}
 
 /// After its answer the process holds no cell.

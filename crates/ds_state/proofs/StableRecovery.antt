@@ -94,8 +94,8 @@ module _ (old new : World) (p : ℕ) (g : Grows p Version old new) where
           | inr o ↦ inr (passed_stable f o.0, below_stable f.process Version old new (grows_at f same) (f.number + 1) o.1)
         ]) h
     resolved_stable word cell (settled how) h = and_stable word cell (λ f. SettledAs old f how) (λ f. SettledAs new f how) (settled_stable how) h
-    resolved_stable word cell (said how) h = (announce_same ∙ h.0, h.1)
-    resolved_stable word cell (over (Some how)) h = (announce_same ∙ h.0, announce_kept word h.0 h.1, h.2)
+    resolved_stable word cell (said how) h = (announce_same ∙ h.0, h.1, λ issue is. h.2 issue (sym pending ∙ is))
+    resolved_stable word cell (over (Some how)) h = (announce_same ∙ h.0, announce_kept word h.0 h.1, h.2, λ issue is. h.3 issue (sym pending ∙ is))
     resolved_stable word cell (over None) h = (announce_same ∙ h.0, announce_kept word h.0 h.1, h.2)
 
     -- the words in the buffer are those of a cell that it holds

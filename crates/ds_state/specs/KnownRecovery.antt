@@ -121,6 +121,10 @@ pub record IsPassed (w : World) (e : Edit) : Type 0 where
   pub after : List Edit
   pub parts : of_cell e.cell w.counted ≡ before ++ e ∷ next ∷ after
 
+-- the cell is that of the edit in doubt, where the word announces that edit
+abbrev pub IsItsCell : World → ℕ → ℕ → ℕ → Type 0
+IsItsCell w p word cell = (issue : Issue) → w.pending p ≡ Some issue → issue.edit.number + 1 ≡ word / 4 → issue.edit.cell ≡ cell
+
 -- the edit in doubt, which is announced as pending by the word
 pub record IsOpen (w : World) (p word : ℕ) (issue : Issue) : Type 0 where
   pub issued : w.pending p ≡ Some issue
@@ -142,8 +146,8 @@ ResolvedFits w p word cell doubted = IsOpenAnd w p word cell (λ f. Unit {0})
 ResolvedFits w p word cell is_head = IsOpenAnd w p word cell (λ f. (own : ℕ) × IsIn w f own)
 ResolvedFits w p word cell not_head = IsOpenAnd w p word cell (λ f. AreBelow w f.process f.number ⊎ (IsPassed w f × AreBelow w f.process (f.number + 1)))
 ResolvedFits w p word cell (settled how) = IsOpenAnd w p word cell (λ f. SettledAs w f how)
-ResolvedFits w p word cell (said how) = (w.memory.cached (place.Announce p) ≡ word) × Tells word how
-ResolvedFits w p word cell (over (Some how)) = (w.memory.cached (place.Announce p) ≡ word) × (w.memory.persisted (place.Announce p) ≡ word) × Tells word how
+ResolvedFits w p word cell (said how) = (w.memory.cached (place.Announce p) ≡ word) × Tells word how × IsItsCell w p word cell
+ResolvedFits w p word cell (over (Some how)) = (w.memory.cached (place.Announce p) ≡ word) × (w.memory.persisted (place.Announce p) ≡ word) × Tells word how × IsItsCell w p word cell
 ResolvedFits w p word cell (over None) = (w.memory.cached (place.Announce p) ≡ word) × (w.memory.persisted (place.Announce p) ≡ word) × (word ≡ 0)
 
 -- what its buffer holds: the words of the cell that it frees; marks; a head; its announcement
