@@ -1,5 +1,5 @@
 -- What each event adds to the counts, and that steps of a call end.
-use Rattle.std.proofs.Common.{ℕ, ◌≡◌, ◌≢◌, ◌<◌, ◌+◌, ◌==◌, [], get_or, refl, ap, sym, ◌∙◌, subst, arith, inl, inr, true, Bool}
+use Rattle.std.proofs.Common.{ℕ, ◌≡◌, ◌≢◌, ◌<◌, ◌+◌, ◌≤◌, ◌==◌, List, [], length, zero, suc, nat_lt, get_or, refl, ap, sym, ◌∙◌, subst, arith, inl, inr, true, Bool}
 use Rattle.std.specs.Prelude.{Option, Some, None, slice_index_or, if◌then◌else◌}
 use Rattle.std.proofs.lemmas.List.{get_or-set_other}
 use Rattle.ds_state.specs.Value.{WorldValue, world_of}
@@ -12,7 +12,7 @@ use Rattle.ds_state.specs.declared.work.ShowEnd.TheVariants as ends
 use Rattle.ds_state.specs.declared.work.ShowStage.{ShowStage}
 use Rattle.ds_state.specs.declared.work.ShowStage.TheVariants as stages
 use Rattle.ds_state.specs.declared.situation.Situation.{Situation}
-use Rattle.ds_state.specs.declared.situation.Situation.TheVariants.{Showing}
+use Rattle.ds_state.specs.declared.situation.Situation.TheVariants.{Working, Recovering, Showing}
 use Rattle.ds_state.specs.declared.stage.Outcome.{Outcome}
 use Rattle.ds_state.specs.declared.stage.Outcome.TheVariants as outcome
 use Rattle.ds_edit.specs.Steps.{rank}
@@ -24,15 +24,44 @@ use Rattle.ds_show.specs.ShowSteps as steps
 use Rattle.ds_show.specs.ShowTakes as shows
 use Rattle.ds_show.proofs.ShowKeeps as keeping
 use Rattle.ds_core.specs.EditEvents.{SameReports, reply_with, done_with, EditStepsBy}
+use Rattle.ds_state.specs.Works.{PlainWork, PlainRecovery}
+use Rattle.ds_state.specs.declared.work.WorkEnd.TheVariants as work_ends
+use Rattle.ds_state.specs.declared.work.RecoverStage.{RecoverStage}
+use Rattle.ds_state.specs.declared.work.RecoverStage.TheVariants as recover_stages
+use Rattle.ds_work.specs.declared.drive.Taken.{Taken}
+use Rattle.ds_work.specs.declared.drive.Taken.TheVariants as taken
+use Rattle.ds_recover.specs.declared.machine.Effect as recovery_effect
+use Rattle.ds_recover.specs.declared.machine.Effect.TheVariants as recovery_effects
+use Rattle.ds_recover.specs.declared.machine.RecoveryEnd.TheVariants as recovery_ends
+use Rattle.ds_recover.specs.RecoverySteps as recover_steps
+use Rattle.ds_recover.proofs.RecoveryRank.{each_falls}
+use Rattle.ds_layout.specs.Places.{cells_of}
+use Rattle.ds_formula.specs.declared.cells.Shape.{Shape}
+use Rattle.ds_formula.specs.Cells.{IsInside, index_of, count_of}
+use Rattle.ds_formula.specs.Plain.{Plain}
+use Rattle.ds_eval.specs.declared.inputs.Input.{Input}
+use Rattle.ds_eval.specs.Inputs.{IsAscending, cell_in}
+use Rattle.ds_eval.proofs.Walks.{index_below}
+use Rattle.ds_state.specs.declared.work.WorkEnd.{WorkEnd}
+use Rattle.ds_state.specs.declared.work.WorkStage.{WorkStage}
+use Rattle.ds_state.specs.declared.work.WorkStage.TheVariants as work_stages
+use Rattle.ds_work.specs.WorkEvents as work_events
+use Rattle.ds_work.specs.WorkSteps as work_steps
+use Rattle.ds_work.specs.WorkRank as work_ranks
+use Rattle.ds_work.proofs.Ranks as work_falling
+use Rattle.ds_work.proofs.Gathered.{before_less}
+use Rattle.ds_core.proofs.Turns.{work_leaves, recovery_turn}
 use Rattle.ds_core.specs.ReportEvents.{report_reply, ReportStepsBy}
-use Rattle.ds_core.specs.Steps.{edits, reports}
+use Rattle.ds_core.specs.WorkEvents.{work_reply, WorkStepsBy}
+use Rattle.ds_core.specs.RecoveryEvents.{recovery_reply, RecoveryStepsBy}
+use Rattle.ds_core.specs.Steps.{edits, works, reports, recoveries}
 use Rattle.ds_core.specs.Takes.{Takes}
 use Rattle.ds_core.specs.Own.{left_in, steps_left}
 use Rattle.ds_core.specs.Counts.{done_of, settled_of, IsReplyTo, KeepsReports}
 use Rattle.ds_core.specs.declared.event.Event.{Event}
 use Rattle.ds_core.specs.declared.event.Event.TheVariants.{BeginEdit, BeginWork, BeginShow, BeginRecover, Step, Offer, Evict, Stop, Crash}
 use Rattle.ds_core.specs.declared.reply.Reply.{Reply}
-use Rattle.ds_core.specs.declared.reply.Reply.TheVariants.{Begun, Entered, Refused, Stepped, Answered, Evicted, Stopped, Crashed, NotEnabled}
+use Rattle.ds_core.specs.declared.reply.Reply.TheVariants.{Begun, Entered, Refused, Stepped, Answered, WrongTask, Evicted, Stopped, Crashed, NotEnabled}
 use Rattle.ds_core.proofs.Bound.{Later, own}
 
 -- what an event with this answer adds
@@ -106,30 +135,70 @@ report_adds old new p reply h is = subst (λ (r : Reply). Adds old (Step p) r ne
   reports = report_keeps old new p h.what h.steps;
 })
 
+-- work and a recovery answer nothing as Done or Settled
+work_none : (what : Taken) → (done_of (work_reply what) ≡ 0) × (settled_of (work_reply what) ≡ 0)
+work_none taken.NotEnabled = (refl, refl)
+work_none taken.Stepped = (refl, refl)
+work_none (taken.Answered work_ends.NotDirty) = (refl, refl)
+work_none (taken.Answered work_ends.Missed) = (refl, refl)
+work_none (taken.Answered work_ends.Worn) = (refl, refl)
+work_none (taken.Answered (work_ends.Published changed)) = (refl, refl)
+work_none (taken.Answered work_ends.Again) = (refl, refl)
+work_none (taken.Answered work_ends.NoMemory) = (refl, refl)
+
+work_adds : (old new : WorldValue) (p : ℕ) (reply : Reply) → WorkStepsBy old p reply new → IsReplyTo (Step p) reply → Adds old (Step p) reply new
+work_adds old new p reply h is =
+    let n = work_none h.what in
+    let zero_done : done_of reply ≡ 0 = ap done_of h.is ∙ n.0 in
+    adds_none old new (Step p) reply is (let d = h.done in omega (arith, d, zero_done)) (ap settled_of h.is ∙ n.1) h.reports
+
+recovery_none : (what : recovery_effect.Effect) → (done_of (recovery_reply what) ≡ 0) × (settled_of (recovery_reply what) ≡ 0)
+recovery_none recovery_effects.GoesOn = (refl, refl)
+recovery_none (recovery_effects.Answers recovery_ends.Nothing) = (refl, refl)
+recovery_none (recovery_effects.Answers (recovery_ends.Last number cell counts)) = (refl, refl)
+
+recovery_adds : (old new : WorldValue) (p : ℕ) (reply : Reply) → RecoveryStepsBy old p reply new → IsReplyTo (Step p) reply → Adds old (Step p) reply new
+recovery_adds old new p reply h is =
+    let n = recovery_none h.what in
+    let zero_done : done_of reply ≡ 0 = ap done_of h.is ∙ n.0 in
+    adds_none old new (Step p) reply is (let d = h.steps.done in omega (arith, d, zero_done)) (ap settled_of h.is ∙ n.1) (record { settled = h.steps.settled; reports = h.steps.reports })
+
 pub adds : (old new : WorldValue) (event : Event) (reply : Reply) → Takes old event reply new → Adds old event reply new
 adds old new (BeginEdit r) (Begun number) h = adds_none old new (BeginEdit r) (Begun number) tt (none old new h.done) refl h.reports
 adds old new (BeginEdit r) (Refused why) h = unchanged old new (BeginEdit r) (Refused why) tt refl refl h.same
 adds old new (BeginEdit r) NotEnabled h = unchanged old new (BeginEdit r) NotEnabled tt refl refl h.same
 adds old new (BeginEdit r) _ h = absurd h
 adds old new (Step p) Stepped (edits h) = edit_adds old new p Stepped h tt
+adds old new (Step p) Stepped (works h) = work_adds old new p Stepped h tt
 adds old new (Step p) Stepped (reports h) = report_adds old new p Stepped h tt
+adds old new (Step p) Stepped (recoveries h) = recovery_adds old new p Stepped h tt
 adds old new (Step p) (Answered answer) (edits h) = edit_adds old new p (Answered answer) h tt
+adds old new (Step p) (Answered answer) (works h) = work_adds old new p (Answered answer) h tt
 adds old new (Step p) (Answered answer) (reports h) = report_adds old new p (Answered answer) h tt
+adds old new (Step p) (Answered answer) (recoveries h) = recovery_adds old new p (Answered answer) h tt
 adds old new (Step p) NotEnabled h = unchanged old new (Step p) NotEnabled tt refl refl h.same
 adds old new (Step p) _ h = absurd h
 adds old new (Evict place) Evicted h = adds_none old new (Evict place) Evicted tt (none old new h.done) refl h.reports
 adds old new (Evict place) NotEnabled h = unchanged old new (Evict place) NotEnabled tt refl refl h.same
 adds old new (Evict place) _ h = absurd h
-adds old new (BeginWork p cell) reply h = subst (λ (r : Reply). Adds old (BeginWork p cell) r new) (sym h.0) (unchanged old new (BeginWork p cell) NotEnabled tt refl refl h.1)
+adds old new (BeginWork p cell) Entered h = adds_none old new (BeginWork p cell) Entered tt (none old new h.done) refl h.reports
+adds old new (BeginWork p cell) (Refused why) h = unchanged old new (BeginWork p cell) (Refused why) tt refl refl h.same
+adds old new (BeginWork p cell) NotEnabled h = unchanged old new (BeginWork p cell) NotEnabled tt refl refl h.same
+adds old new (BeginWork p cell) _ h = absurd h
 adds old new (BeginShow p) Entered h = adds_none old new (BeginShow p) Entered tt (none old new h.done) refl h.reports
 adds old new (BeginShow p) (Refused why) h = unchanged old new (BeginShow p) (Refused why) tt refl refl h.same
 adds old new (BeginShow p) NotEnabled h = unchanged old new (BeginShow p) NotEnabled tt refl refl h.same
 adds old new (BeginShow p) _ h = absurd h
-adds old new (BeginRecover p) reply h = subst (λ (r : Reply). Adds old (BeginRecover p) r new) (sym h.0) (unchanged old new (BeginRecover p) NotEnabled tt refl refl h.1)
+adds old new (BeginRecover p) Entered h = adds_none old new (BeginRecover p) Entered tt (none old new h.done) refl h.reports
+adds old new (BeginRecover p) (Refused why) h = unchanged old new (BeginRecover p) (Refused why) tt refl refl h.same
+adds old new (BeginRecover p) NotEnabled h = unchanged old new (BeginRecover p) NotEnabled tt refl refl h.same
+adds old new (BeginRecover p) _ h = absurd h
 adds old new (Stop p) Stopped h = adds_none old new (Stop p) Stopped tt (none old new h.done) refl h.reports
 adds old new (Stop p) NotEnabled h = unchanged old new (Stop p) NotEnabled tt refl refl h.same
 adds old new (Stop p) _ h = absurd h
-adds old new (Offer ev) reply h = subst (λ (r : Reply). Adds old (Offer ev) r new) (sym h.0) (unchanged old new (Offer ev) NotEnabled tt refl refl h.1)
+adds old new (Offer value) Stepped h = adds_none old new (Offer value) Stepped tt (none old new h.done) refl h.reports
+adds old new (Offer value) WrongTask h = unchanged old new (Offer value) WrongTask tt refl refl h.same
+adds old new (Offer value) _ h = absurd h
 adds old new Crash Crashed h = adds_none old new Crash Crashed tt (none old new h.done) refl h.reports
 adds old new Crash _ h = absurd h
 
@@ -165,9 +234,121 @@ report_falls old new p sound h =
     let b : steps_left p new ≡ steps.rank (steps.next_at e e.stage h.steps.word) = ap left_in now in
     omega (arith, fall, a, b)
 
+-- inputs that ascend on the sheet are no more than its cells
+few_inputs : (shape : Shape) (inputs : List Input) → IsAscending inputs → ((j : ℕ) → j < length inputs → IsInside shape (cell_in inputs j)) → length inputs ≤ count_of shape
+few_inputs shape inputs up inside = go (length inputs) refl
+  where
+    least : (j : ℕ) → j < length inputs → j ≤ index_of shape (cell_in inputs j)
+    least zero lt = omega arith
+    least (suc j) lt =
+        let before = least j (omega arith) in
+        let more = before_less shape (cell_in inputs j) (cell_in inputs (suc j)) (inside j (omega arith)) (up.ascend j (suc j) (omega arith) lt) in
+        omega arith
+
+    go : (n : ℕ) → n ≡ length inputs → n ≤ count_of shape
+    go zero is = omega arith
+    go (suc n) is = let lt : n < length inputs = omega arith in let l = least n lt in let below = index_below shape (cell_in inputs n) (inside n lt) in omega arith
+
+work_falls : (old new : WorldValue) (p : ℕ) → IsSound (world_of old) → WorkStepsBy old p Stepped new → steps_left p new < steps_left p old
+work_falls old new p sound h = by h.what h.steps.turn h.is
+  where
+    e : PlainWork
+    e = h.steps.work
+
+    keeps : IsSound (world_of new)
+    keeps = (work_leaves old new p Stepped sound h).turn.keeps.sound
+
+    layout : new.sheet.layout ≡ old.sheet.layout
+    layout = (work_leaves old new p Stepped sound h).layout
+
+    -- a work that follows is of the same sheet
+    same_cells : (f : PlainWork) → (world_of new).situation p ≡ Working f → f.cells ≡ e.cells
+    same_cells f is =
+        let now = subst (λ (s : Situation). CallFits (world_of new) p s) is (keeps.calls p (rw layout h.steps.inside)) in
+        let was = subst (λ (s : Situation). CallFits (world_of old) p s) h.steps.works (sound.calls p h.steps.inside) in
+        sym now.cells ∙ ap cells_of layout ∙ was.cells
+
+    falls_to : (f : PlainWork) → (world_of new).situation p ≡ Working f → work_ranks.steps_left e.cells f < work_ranks.left e.cells e e.stage → steps_left p new < steps_left p old
+    falls_to f is less =
+        let a : steps_left p old ≡ work_ranks.steps_left e.cells e = ap left_in h.steps.works in
+        let b : steps_left p new ≡ work_ranks.steps_left f.cells f = ap left_in is in
+        let c : work_ranks.steps_left f.cells f ≡ work_ranks.steps_left e.cells f = ap (λ r. work_ranks.steps_left r f) (same_cells f is) in
+        omega (arith, less, a, b, c)
+
+    at_p : (s : Situation) → (world_of new).situation e.process ≡ s → (world_of new).situation p ≡ s
+    at_p s is = ap (λ q. (world_of new).situation q) (sym h.steps.mine) ∙ is
+
+    lower : (f : PlainWork) (s : WorkStage) → work_steps.IsPlainStep s → ((end : WorkEnd) → s ≡ work_stages.Answer end → ⊥) → work_ranks.Falls e.cells e f s → work_ranks.steps_left e.cells f < work_ranks.left e.cells e s
+    lower f work_stages.Read plain on fall = absurd plain
+    lower f work_stages.Wait plain on fall = absurd plain
+    lower f (work_stages.Answer end) plain on fall = absurd (on end refl)
+    lower f _ plain on fall = fall
+
+    goes_to : (s : WorkStage) (word : ℕ) → ((end : WorkEnd) → s ≡ work_stages.Answer end → ⊥) → work_steps.after e s word ≡ Working (work_steps.next_at e s word)
+    goes_to (work_stages.Answer end) word on = absurd (on end refl)
+    goes_to _ word on = refl
+
+    read_stage : Plain → List Input → WorkStage → PlainWork
+    read_stage content inputs s = record e { content = content; inputs = inputs; stage = s }
+
+    no_rank : (inputs : List Input) (b : Bool) (content : Plain) → work_ranks.steps_left (length inputs) (if b then read_stage content inputs (work_stages.LoadValue 0) else read_stage content inputs work_stages.LoadOwnValue)
+        ≡ work_ranks.steps_left e.cells (if b then read_stage content inputs (work_stages.LoadValue 0) else read_stage content inputs work_stages.LoadOwnValue)
+    no_rank inputs true content = refl
+    no_rank inputs false content = refl
+
+    by : (what : Taken) → work_events.TakesTurn e (world_of old) (world_of new) what → Stepped ≡ work_reply what → steps_left p new < steps_left p old
+    by what (work_events.steps word t on) is = falls_to (work_steps.next_at e e.stage word) (at_p _ (t.situation ∙ goes_to e.stage word on)) (lower _ e.stage t.plain on (work_falling.each_falls e.cells word e h.steps.is))
+    by what (work_events.reads content inputs at t) is =
+        let few : length inputs ≤ e.cells = (
+          let l = few_inputs old.sheet.layout.shape inputs t.is.ascending (λ j lt. (t.is.only j lt).1) in
+          let was = subst (λ (s : Situation). CallFits (world_of old) p s) h.steps.works (sound.calls p h.steps.inside) in
+          let same = was.cells in
+          omega arith) in
+        let less = work_falling.reading_falls e content inputs in
+        let rank = no_rank inputs (nat_lt 0 (length inputs)) content in
+        let read : work_ranks.left e.cells e e.stage ≡ work_ranks.left e.cells e work_stages.Read = ap (λ s. work_ranks.left e.cells e s) at in
+        falls_to (work_steps.read_from e content inputs) (at_p _ t.turn.situation) (omega (arith, few, less, rank, read))
+    by what (work_events.lacked at t) is =
+        let less = work_falling.lacking_falls e.cells e in
+        let read : work_ranks.left e.cells e e.stage ≡ work_ranks.left e.cells e work_stages.Read = ap (λ s. work_ranks.left e.cells e s) at in
+        falls_to (work_steps.lacks e) (at_p _ t.situation) (omega (arith, less, read))
+    by what (work_events.answers end at t) is = absurd (cc)
+
+
+recovery_goes : (what : recovery_effect.Effect) → Stepped ≡ recovery_reply what → what ≡ recovery_effects.GoesOn
+recovery_goes recovery_effects.GoesOn is = refl
+recovery_goes (recovery_effects.Answers recovery_ends.Nothing) is = absurd (cc)
+recovery_goes (recovery_effects.Answers (recovery_ends.Last number cell counts)) is = absurd (cc)
+
+recovery_after : (e : PlainRecovery) (s : RecoverStage) (word : ℕ) → recover_steps.effect_at e s ≡ recovery_effects.GoesOn → recover_steps.after e s word ≡ Recovering (recover_steps.next_at e s word)
+recovery_after e (recover_stages.Answer how) word is = absurd (cc)
+recovery_after e _ word is = refl
+
+recovery_lower : (e f : PlainRecovery) (s : RecoverStage) → recover_steps.effect_at e s ≡ recovery_effects.GoesOn → recover_steps.Falls e s f → recover_steps.rank e.cells f.stage < recover_steps.rank e.cells s
+recovery_lower e f (recover_stages.Answer how) is h = absurd (cc)
+recovery_lower e f _ is h = h
+
+recovery_falls : (old new : WorldValue) (p : ℕ) → IsSound (world_of old) → RecoveryStepsBy old p Stepped new → steps_left p new < steps_left p old
+recovery_falls old new p sound h =
+    let e : PlainRecovery = h.steps.recovery in
+    let f : PlainRecovery = recover_steps.next_at e e.stage h.steps.word in
+    let goes : recover_steps.effect_at e e.stage ≡ recovery_effects.GoesOn = sym h.steps.is ∙ recovery_goes h.what h.is in
+    let fits = subst (λ (s : Situation). CallFits (world_of old) p s) h.steps.at (sound.calls p h.steps.there) in
+    let now : (world_of new).situation p ≡ Recovering f = ap (λ q. (world_of new).situation q) (sym h.steps.mine) ∙ h.steps.steps.situation ∙ recovery_after e e.stage h.steps.word goes in
+    let fall : recover_steps.rank e.cells f.stage < recover_steps.rank e.cells e.stage = recovery_lower e f e.stage goes (each_falls e h.steps.word fits.is) in
+    let turn = recovery_turn old new p Stepped sound h in
+    let now_fits = subst (λ (s : Situation). CallFits (world_of new) p s) now (turn.keeps.sound.calls p (rw h.steps.steps.layout h.steps.there)) in
+    let cells : f.cells ≡ e.cells = sym now_fits.cells ∙ ap cells_of h.steps.steps.layout ∙ fits.cells in
+    let a : steps_left p old ≡ recover_steps.rank e.cells e.stage = ap left_in h.steps.at in
+    let b : steps_left p new ≡ recover_steps.rank f.cells f.stage = ap left_in now in
+    let c = ap (λ n. recover_steps.rank n f.stage) cells in
+    omega (arith, fall, a, b, c)
+
 pub falls : (old new : WorldValue) (p : ℕ) → IsSound (world_of old) → Takes old (Step p) Stepped new → steps_left p new < steps_left p old
 falls old new p sound (edits h) = edit_falls old new p sound h
+falls old new p sound (works h) = work_falls old new p sound h
 falls old new p sound (reports h) = report_falls old new p sound h
+falls old new p sound (recoveries h) = recovery_falls old new p sound h
 
 -- so of whatever event this is
 pub falls_by : (old new : WorldValue) (event : Event) (reply : Reply) → IsSound (world_of old) → Takes old event reply new → (p : ℕ) → event ≡ Step p → reply ≡ Stepped → steps_left p new < steps_left p old

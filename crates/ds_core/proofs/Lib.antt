@@ -21,5 +21,6 @@ pub mod Stopped
 pub mod Alone
 pub mod EachEvent
 pub mod Headers
+pub mod Told
 pub mod Reported
 pub mod EachRun

@@ -3,9 +3,11 @@ use Rattle.std.specs.Prelude.{ℕ, ◌≡◌, ◌≤◌, ◌+◌, ◌==◌, List
 use Rattle.ds_state.specs.Edits.{PlainEdit}
 use Rattle.ds_state.specs.Value.{WorldValue, world_of}
 use Rattle.ds_state.specs.declared.situation.Situation.{Situation}
-use Rattle.ds_state.specs.declared.situation.Situation.TheVariants.{Editing, Showing}
+use Rattle.ds_state.specs.declared.situation.Situation.TheVariants.{Editing, Working, Recovering, Showing}
 use Rattle.ds_edit.specs.Steps.{rank}
+use Rattle.ds_work.specs.WorkRank as works
 use Rattle.ds_show.specs.ShowSteps as shows
+use Rattle.ds_recover.specs.RecoverySteps as recoveries
 use Rattle.ds_core.specs.declared.event.Event.{Event}
 use Rattle.ds_core.specs.declared.event.Event.TheVariants.{Step, Stop, Crash}
 use Rattle.ds_core.specs.declared.reply.Reply.{Reply}
@@ -43,6 +45,8 @@ pub record GoesOn (old : PlainEdit) (steps : ℕ) (new : PlainEdit) : Type 0 whe
 -- how many steps the call has left, and one more that answers: at most so many, and 0 outside a call
 abbrev pub left_in : Situation → ℕ
 left_in (Editing e) = rank e e.stage
+left_in (Working e) = works.steps_left e.cells e
+left_in (Recovering e) = recoveries.rank e.cells e.stage
 left_in (Showing e) = shows.rank e
 left_in situation = 0
 

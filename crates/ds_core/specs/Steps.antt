@@ -8,7 +8,7 @@ use Rattle.ds_state.specs.Value.{WorldValue, world_of}
 use Rattle.ds_state.specs.Events.{Evicts}
 use Rattle.ds_state.specs.declared.situation.Situation.TheVariants.{Editing, Recovering, Showing}
 use Rattle.ds_core.specs.EditEvents.{SameReports, EditStepsBy}
-use Rattle.ds_work.specs.WorkEvents as works
+use Rattle.ds_work.specs.WorkEvents as work_events
 use Rattle.ds_core.specs.ReportEvents.{ReportStepsBy}
 use Rattle.ds_core.specs.WorkEvents.{WorkStepsBy}
 use Rattle.ds_core.specs.RecoveryEvents.{RecoveryStepsBy}
@@ -27,7 +27,7 @@ pub data StepsBy (old : WorldValue) (p : ℕ) (reply : Reply) (new : WorldValue)
 pub record CanNotStep (old : WorldValue) (p : ℕ) (new : WorldValue) : Type 0 where
   pub same : new ≡ old
   pub no_edit : (edit : PlainEdit) → p < old.sheet.layout.processes → (world_of old).situation p ≡ Editing edit → ⊥
-  pub no_work : works.CanNotStep (world_of old) p
+  pub no_work : work_events.CanNotStep (world_of old) p
   pub no_report : (show : PlainShow) → p < old.sheet.layout.processes → (world_of old).situation p ≡ Showing show → ⊥
   pub no_recovery : (recovery : PlainRecovery) → p < old.sheet.layout.processes → (world_of old).situation p ≡ Recovering recovery → ⊥
 

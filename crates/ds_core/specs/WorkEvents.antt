@@ -42,7 +42,7 @@ pub record WorkStepsBy (old : WorldValue) (p : ℕ) (reply : Reply) (new : World
 -- the sheet has the process and the cell
 pub record HasWork (old : WorldValue) (p : ℕ) (cell : Cell) : Type 0 where
   pub process : p < old.sheet.layout.processes
-  pub cell : IsInside old.sheet.layout.shape cell
+  pub within : IsInside old.sheet.layout.shape cell
 
 -- work begins
 pub record WorkBegins (old : WorldValue) (p : ℕ) (cell : Cell) (new : WorldValue) : Type 0 where

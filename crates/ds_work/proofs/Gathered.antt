@@ -40,7 +40,7 @@ ascends cells pairs = record { ascend = λ j k lt l. (
     (subst (λ (c : Cell). IsBefore (get_or cells j no_cell) c) (sym (cell_of cells k last)) (pairs j k no_cell lt last))) }
 
 -- a later cell has a greater number
-before_less : (shape : Shape) (c d : Cell) → IsInside shape c → IsBefore c d → index_of shape c < index_of shape d
+pub before_less : (shape : Shape) (c d : Cell) → IsInside shape c → IsBefore c d → index_of shape c < index_of shape d
 before_less shape c d inside (inl row) =
     let column = inside.column in
     let whole : suc c.row * shape.columns ≤ d.row * shape.columns = mul-le-mul_right shape.columns row in
