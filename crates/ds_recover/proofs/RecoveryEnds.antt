@@ -36,7 +36,7 @@ use Rattle.ds_state.proofs.Buffers.{buffered}
 use Rattle.ds_state.proofs.EditFrame.{Framed, silent_framed, silent_keeps}
 use Rattle.ds_state.proofs.Accesses.{Turn, same_moves, quiet_sound}
 use Rattle.ds_recover.proofs.RecoveryFrame.{turn_of, held_on, pends_on}
-use Rattle.ds_recover.proofs.RecoveryDoubt.{phases, last_number}
+use Rattle.ds_recover.proofs.RecoveryDoubt.{last_number}
 
 -- a process that is at rest but for its open edit
 pub record Rests (w : World) (p next : ℕ) : Type 0 where

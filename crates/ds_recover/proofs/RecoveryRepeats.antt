@@ -1,12 +1,11 @@
 -- The answer of a recovery repeats how the last spent number ended, and only cells whose bits it found are told.
-use Rattle.std.proofs.Common.{ℕ, ◌≡◌, ◌<◌, ◌≤◌, ◌+◌, ◌-◌, ◌*◌, ◌/◌, ◌%◌, ◌==◌, ◌⊎◌, List, [], ◌∷◌, ◌++◌, refl, ap, sym, ◌∙◌, subst, arith, inl, inr, zero, suc, true, false, Some, None}
+use Rattle.std.proofs.Common.{ℕ, ◌≡◌, ◌+◌, ◌-◌, ◌/◌, ◌%◌, ◌==◌, ◌⊎◌, List, [], ◌∷◌, ◌++◌, refl, ap, sym, ◌∙◌, subst, arith, inl, inr, zero, suc, true, false, Some, None}
 use Rattle.std.specs.Prelude.{Bool, Option, nat_lt, if◌then◌else◌, slice_index_or}
 use Rattle.std.specs.Int.{bit_at}
 use Rattle.std.proofs.lemmas.Bool.{eqb-true}
 use Rattle.ds_layout.specs.declared.announcement.Announcement.{Announcement}
 use Rattle.ds_layout.specs.declared.announcement.Phase.{Phase}
 use Rattle.ds_layout.specs.declared.announcement.Phase.TheVariants as phase
-use Rattle.ds_layout.specs.declared.place.Place.TheVariants.{Announce}
 use Rattle.ds_layout.specs.Announcement.{announcement_of}
 use Rattle.ds_layout.specs.Head.{head_of}
 use Rattle.ds_state.specs.Works.{PlainRecovery}
@@ -20,7 +19,7 @@ use Rattle.ds_state.specs.Telling.{told_from}
 use Rattle.ds_state.specs.declared.work.Spread.TheVariants.{LoadRow, OrTold, FlushTold, BackTold}
 use Rattle.ds_state.specs.declared.work.RecoverStage.{RecoverStage}
 use Rattle.ds_state.specs.declared.work.RecoverStage.TheVariants.{LoadMark, FlushValue, FlushKind, BackValue, BackKind, Telling, Give, GiveDirty, FlushGiven, BackGiven, LoadAnnounce, LoadHeader, LoadHead, FlushHead, BackHead, LoadDone, OrMark, FlushMark, BackMark, StoreOutcome, FlushOutcome, BackOutcome, Answer}
-use Rattle.ds_recover.specs.RecoverySteps.{at, number_of, end_of, next_number, RepeatsAs, TellsFound, reads_held, looks_from, announced_from, resolves_from, phase_from, is_shown, told, tell_from, row_from, next_at}
+use Rattle.ds_recover.specs.RecoverySteps.{at, number_of, end_of, RepeatsAs, TellsFound, reads_held, announced_from, resolves_from, phase_from, is_shown, told, tell_from, next_at}
 use Rattle.ds_recover.proofs.RecoveryDoubt.{phases}
 use Rattle.ds_recover.proofs.RecoveryEnds.{Rests, rests}
 
