@@ -42,7 +42,7 @@ cell_entry : (shape : Shape) (xs : List Input) → IsTable shape xs → (c : Cel
 cell_entry shape xs t c i =
     ap (entry_in xs) (sym (cell_back shape c i)) ∙ table_entry shape xs t (index_of shape c) (index_below shape c i)
 
-table_with : (shape : Shape) (xs : List Input) (k : ℕ) (e : Entry) → k < count_of shape → IsTable shape xs → IsTable shape (with_entry xs k e)
+pub table_with : (shape : Shape) (xs : List Input) (k : ℕ) (e : Entry) → k < count_of shape → IsTable shape xs → IsTable shape (with_entry xs k e)
 table_with shape xs k e l t = record {
   each = length-set {A = Input} xs k (let i : Input = record { cell = cell_in xs k; entry = e } in i) ∙ t.each;
   cells = λ j m. cell_with xs k e j (omega (arith, t.each)) ∙ t.cells j m;

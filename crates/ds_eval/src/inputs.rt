@@ -31,6 +31,8 @@ pub struct Input {
 #[derive(Debug, Drop)]
 pub struct Inputs {
     items: Vec<Input>,
+    // how many columns the cells may be counted by: where a cell is looked for first
+    columns: usize,
 }
 
 impl Model for Inputs {
@@ -50,8 +52,17 @@ impl Inputs {
         ensures items { IfOk result (λ inputs. inputs.items ≡ []) }
         ensures room { IfOk result (λ inputs. count ≤ inputs.room) }
     {
+        Inputs::by_columns(alloc, count, 0)
+    }
+
+    /// No inputs, with room for so many, which are found at once where they are all cells of rows of so many columns.
+    pub fn by_columns(alloc: Global, count: usize, columns: usize) -> Result<Inputs, AllocError>
+        ensures items { IfOk result (λ inputs. inputs.items ≡ []) }
+        ensures room { IfOk result (λ inputs. count ≤ inputs.room) }
+    {
         Ok(Inputs {
             items: Vec::with_capacity(alloc, count)?,
+            columns,
         })
     }
 
@@ -71,6 +82,7 @@ impl Inputs {
     {
         Ok(Inputs {
             items: Vec::from_slice(alloc, &self.items)?,
+            columns: self.columns,
         })
     }
 
@@ -111,7 +123,8 @@ impl Inputs {
     pub fn entry(&self, cell: Cell) -> Entry
         ensures { result ≡ entry_in self.now.items cell }
     {
-        match find(&self.items, cell) {
+        let guess = cell.row.saturating_mul(self.columns).saturating_add(cell.column);
+        match find_near(&self.items, guess, cell) {
             Some(place) => self.items[place].entry,
             None => Entry {
                 value: Value::Blank,
@@ -126,6 +139,19 @@ fn is_before(first: Cell, second: Cell) -> bool
     ensures { IsTrue result ↔ IsBefore first second }
 {
     first.row < second.row || (first.row == second.row && first.column < second.column)
+}
+
+/// Where the cell is among ascending inputs: this place is tried first.
+fn find_near(inputs: &[Input], guess: usize, cell: Cell) -> Option<usize>
+    requires { IsAscending inputs.now }
+    ensures some { IfSome result (λ place. (place < length inputs.now) × (cell_in inputs.now place ≡ cell)) }
+    ensures none { IsNone result → (k : ℕ) → k < length inputs.now → cell_in inputs.now k ≢ cell }
+{
+    if guess < inputs.len() && inputs[guess].cell == cell {
+        Some(guess)
+    } else {
+        find(inputs, cell)
+    }
 }
 
 /// Where the cell is among ascending inputs.
