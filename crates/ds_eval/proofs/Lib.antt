@@ -9,6 +9,7 @@ pub mod Neighbours
 pub mod Walks
 pub mod FixedPoint
 pub mod Rounds
+pub mod Rows
 pub mod Sameness
 pub mod Tasks
 pub mod Results

@@ -2,6 +2,7 @@
 
 ghost use Rattle.std.specs.Prelude.{◌≡◌, ◌≢◌, ◌<◌, ◌^◌, pos};
 ghost use Rattle.ds_eval.specs.Numbers as exact;
+ghost use Rattle.ds_eval.specs.Evaluation.{chosen as branch};
 ghost use Rattle.ds_eval.specs.Steps.{exactly, number_or_error, size_of_rest, with_sign, is_chosen};
 
 use crate::value::Value;
@@ -134,12 +135,24 @@ fn signed_size(negative: bool, size: u64) -> i64
 }
 
 /// Whether a condition holds: its number is not 0.
-pub fn chosen(condition: Value) -> Result<bool, Value>
+fn chosen(condition: Value) -> Result<bool, Value>
     ensures { result ≡ is_chosen condition }
 {
     match as_number(condition) {
         Ok(number) => Ok(number != 0),
         Err(error) => Err(error),
+    }
+}
+
+/// IF (OpenFormula, function IF): the value of one of two branches, by the condition. An error in the condition goes
+/// before both, and one in the other branch counts for nothing.
+pub fn choice(condition: Value, then_value: Value, else_value: Value) -> Value
+    ensures { result ≡ branch condition then_value else_value }
+{
+    match chosen(condition) {
+        Ok(true) => then_value,
+        Ok(false) => else_value,
+        Err(error) => error,
     }
 }
 
