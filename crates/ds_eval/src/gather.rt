@@ -1,6 +1,6 @@
 //! Many cells at once: the tally of their values, and how far references lead from what refers to them.
 
-ghost use Rattle.std.specs.Prelude.{◌≡◌, ◌+◌, ◌*◌, ◌<◌, ◌≤◌, ◌^◌, suc, min, max, List, [], ◌∷◌, ◌++◌, length, map, IfSome};
+ghost use Rattle.std.specs.Prelude.{◌≡◌, ℕ, ◌+◌, ◌*◌, ◌<◌, ◌≤◌, ◌^◌, suc, min, max, List, [], ◌∷◌, ◌++◌, length, map, IfSome};
 ghost use Rattle.ds_formula.specs.Cells.{count_of};
 ghost use Rattle.ds_eval.specs.declared.value.Value as values;
 ghost use Rattle.ds_eval.specs.Evaluation as spec;
@@ -90,6 +90,50 @@ fn entry_right_of(inputs: &Inputs, place: Option<usize>, first: Cell, k: usize) 
     }
 }
 
+/// The greater of a height and one more than the greatest height in a row of so many columns.
+fn height_with_row(
+    inputs: &Inputs,
+    most: usize,
+    place: Option<usize>,
+    first: Cell,
+    columns: usize,
+    height: usize,
+) -> usize
+    requires columns { first.column + columns ≤ 26 }
+    requires within { IfSome place (λ p. p + columns ≤ length inputs.now.items) }
+    requires cells { IfSome place (λ p. (k : ℕ) → k < columns → cell_in inputs.now.items (p + k) ≡ right_of first k) }
+    ensures { result ≡ max height (min most (above (map (heights_in inputs.now.items) (row_from first columns)))) }
+{
+    let mut greatest = height;
+    for k in 0..columns {
+        let next = raised(entry_right_of(inputs, place, first, k).height, most);
+        greatest = greatest.max(next);
+    }
+    greatest
+}
+
+/// The tally with the values of a row of so many columns. A loop of its own is faster than one with the heights.
+fn tally_with_row(
+    inputs: &Inputs,
+    place: Option<usize>,
+    first: Cell,
+    columns: usize,
+    tally: Tally,
+) -> Tally
+    requires columns { first.column + columns ≤ 26 }
+    requires within { IfSome place (λ p. p + columns ≤ length inputs.now.items) }
+    requires cells { IfSome place (λ p. (k : ℕ) → k < columns → cell_in inputs.now.items (p + k) ≡ right_of first k) }
+    requires count { tally.count < 2 ^ 31 }
+    ensures tally { (vs : List values.Value) → IsTally vs tally → IsTally (vs ++ map (values_in inputs.now.items) (row_from first columns)) result }
+    ensures count { result.count ≤ tally.count + columns }
+{
+    let mut sum = tally;
+    for k in 0..columns {
+        sum = sum.with(entry_right_of(inputs, place, first, k).value);
+    }
+    sum
+}
+
 /// With the cells of a row of so many columns, which is looked for at this place first.
 fn with_row(
     inputs: &Inputs,
@@ -106,12 +150,10 @@ fn with_row(
     ensures height { result.height ≡ max gathered.height (min most (above (map (heights_in inputs.now.items) (row_from first columns)))) }
 {
     let place = inputs.row_at(first, columns, near);
-    let mut sum = gathered;
-    for k in 0..columns {
-        let entry = entry_right_of(inputs, place, first, k);
-        sum = sum.with(entry.value, raised(entry.height, most));
+    Gathered {
+        tally: tally_with_row(inputs, place, first, columns, gathered.tally),
+        height: height_with_row(inputs, most, place, first, columns, gathered.height),
     }
-    sum
 }
 
 /// With the cells of a range. From the height on at which references lead round and round no more values are read.

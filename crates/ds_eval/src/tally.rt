@@ -45,11 +45,9 @@ impl Tally {
         ensures count { result.count ≤ self.count + 1 }
     {
         match value {
-            Value::Blank => self,
             Value::Number(number) => self.with_number(number),
-            Value::DivZero => self.with_error(Value::DivZero),
-            Value::Num => self.with_error(Value::Num),
-            Value::Circular => self.with_error(Value::Circular),
+            Value::Blank => self,
+            Value::DivZero | Value::Num | Value::Circular => self.with_error(value),
         }
     }
 
