@@ -15,3 +15,4 @@ pub mod Tasks
 pub mod Results
 pub mod Sheets
 pub mod Showable
+pub mod Meant

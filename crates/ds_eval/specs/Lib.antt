@@ -11,3 +11,4 @@ pub mod Sheet
 pub mod Code
 pub mod Tasks
 pub mod Showable
+pub mod Meanings
