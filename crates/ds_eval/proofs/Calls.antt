@@ -1,5 +1,5 @@
 -- The values of calls, by their arguments.
-use Rattle.std.proofs.Common.{◌≡◌, ℕ, suc, ◌+◌, ◌<◌, ◌≤◌, Bool, true, false, leb, List, [], ◌∷◌, ◌++◌, map, length, get_or, take, Result, Ok, Err, ℤ, pos, refl, sym, ap, subst, ◌∙◌, arith, append_assoc, append-nil, not, int_eq, if◌then◌else◌}
+use Rattle.std.proofs.Common.{◌≡◌, ℕ, suc, ◌+◌, ◌<◌, ◌≤◌, true, false, leb, List, [], ◌∷◌, ◌++◌, map, length, get_or, take, ℤ, refl, sym, ap, subst, ◌∙◌, arith, append_assoc, append-nil}
 use Rattle.std.proofs.lemmas.Bool.Decides.{nat_tests}
 use Rattle.std.proofs.lemmas.List.{map-append, take_more}
 use Rattle.ds_formula.specs.declared.cells.Shape.{Shape}
@@ -15,10 +15,9 @@ use Rattle.ds_formula.specs.declared.content.Tree.TheVariants as trees
 use Rattle.ds_formula.specs.Plain.{Formula, Literal, At, Area, Signed, Joined, Called, formula, listed, count}
 use Rattle.ds_eval.proofs.Views.{formula_number, formula_reference, formula_range, formula_prefix, formula_binary, formula_call}
 use Rattle.ds_eval.specs.declared.value.Value.{Value}
-use Rattle.ds_eval.specs.declared.value.Value.TheVariants.{Blank, Number, DivZero, Num, Circular}
+use Rattle.ds_eval.specs.declared.value.Value.TheVariants.{Num}
 use Rattle.ds_eval.specs.declared.tally.Tally.{Tally}
-use Rattle.ds_eval.specs.Evaluation.{formula_value, all_values, own_values, applied, chosen, stands_for, first_cells, cell_of, cells_of, look}
-use Rattle.ds_eval.specs.Steps.{is_chosen}
+use Rattle.ds_eval.specs.Evaluation.{formula_value, all_values, own_values, applied, stands_for, first_cells, cell_of, cells_of, look}
 use Rattle.ds_eval.specs.Tally.{IsTally}
 
 count_listed : (fs : List Formula) → count (listed fs) ≡ length fs

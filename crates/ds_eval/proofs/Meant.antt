@@ -1,5 +1,5 @@
 -- Heights, the cells of a range and floor division, by what they mean.
-use Rattle.std.proofs.Common.{◌≡◌, ◌≢◌, ℕ, zero, suc, ◌+◌, ◌-◌, ◌*◌, ◌/◌, ◌%◌, ◌<◌, ◌≤◌, ℤ, pos, negsuc, ◌+ℤ◌, ◌*ℤ◌, ◌<ℤ◌, ◌≤ℤ◌, neg_ℤ, List, [], ◌∷◌, ◌++◌, length, get_or, refl, sym, ap, subst, ◌∙◌, inl, inr, arith}
+use Rattle.std.proofs.Common.{◌≡◌, ◌≢◌, ℕ, zero, suc, ◌-◌, ◌*◌, ◌/◌, ◌<◌, ℤ, pos, negsuc, ◌+ℤ◌, ◌*ℤ◌, ◌<ℤ◌, neg_ℤ, [], ◌∷◌, ◌++◌, get_or, refl, sym, ap, subst, ◌∙◌, inl, inr, arith}
 use Rattle.std.proofs.Math.Nat.{mul-le-mul_left}
 use Rattle.std.proofs.lemmas.Bool.{cases_lt}
 use Rattle.std.proofs.lemmas.Int.{ints}
@@ -11,13 +11,13 @@ use Rattle.ds_formula.specs.declared.cells.Cell.{Cell}
 use Rattle.ds_formula.specs.declared.cells.Rect.{Rect}
 use Rattle.ds_formula.specs.Cells.{IsInside, IsWithin}
 use Rattle.ds_formula.specs.Plain.{Plain}
-use Rattle.ds_formula.specs.Refs.{Refers, IsBefore}
+use Rattle.ds_formula.specs.Refs.{IsBefore}
 use Rattle.ds_eval.specs.Numbers.{floor_div}
 use Rattle.ds_eval.specs.Evaluation.{width, height, cell_of, first_cells, cells_of}
 use Rattle.ds_eval.specs.Local.{content_height}
 use Rattle.ds_eval.specs.Meanings.{IsAbove, AreCellsOf, IsFloor}
 use Rattle.ds_eval.proofs.Neighbours.{reached, bound}
-use Rattle.ds_eval.proofs.Ranges.{some_columns, within_range, number_in}
+use Rattle.ds_eval.proofs.Ranges.{within_range, number_in}
 
 -- ---- heights
 

@@ -117,11 +117,7 @@ fn add_row(marks: &Vec<bool>, row: usize, cells: &mut Vec<Cell>) -> Result<(), A
 }
 
 // The cells that have a mark. It looks only at these rows.
-fn marked(
-    alloc: Global,
-    marks: &Vec<bool>,
-    rows: &[bool; ROWS],
-) -> Result<Vec<Cell>, AllocError>
+fn marked(alloc: Global, marks: &Vec<bool>, rows: &[bool; ROWS]) -> Result<Vec<Cell>, AllocError>
     requires count { vec_len marks.now ≡ PLACES }
     requires rows { AreRowsOf marks.now.items rows.now }
     ensures { IfOk result (λ v. v.items ≡ marked_below marks.now.items PLACES) }

@@ -3,6 +3,7 @@
 use crate::running::answers;
 use ds_sched::ending::ScriptEnd;
 use std::alloc::{AllocError, Global};
+use std::process::Abort;
 
 const COUNT: u32 = 1024;
 
@@ -14,6 +15,7 @@ fn name(alloc: Global, cell: u32) -> Result<String, AllocError> {
 }
 
 // A script that sets all cells, settles and reports, and its answers, cell by cell.
+#[derive(Drop)]
 struct Case {
     script: String,
     done: String,
@@ -36,8 +38,7 @@ impl Case {
         let process = self.cells / 256;
         let number = self.cells % 256;
         let own = name(alloc, self.cells)?;
-        self.script
-            .push_str(format!(in alloc; "set {process} {own} {text}\n")?.as_str())?;
+        self.script.push_str(format!(in alloc; "set {process} {own} {text}\n")?.as_str())?;
         self.done
             .push_str(format!(in alloc; "{process} {number} done\n")?.as_str())?;
         let end = if self.cells % 16 == 15 { "\n" } else { "," };
@@ -47,7 +48,7 @@ impl Case {
         Ok(())
     }
 
-    fn check(self, rt: &HostRuntime) -> Result<(), AllocError> {
+    fn check(self, rt: &(impl Abort + AllocGlobal)) -> Result<(), AllocError> {
         let alloc = rt.alloc();
         let mut script = self.script;
         script.push_str("settle 0\nreport 0\n")?;
@@ -129,7 +130,7 @@ fn row_sums(rt: HostRuntime) -> Result<(), AllocError> {
 }
 
 // Each cell sums all rows above it: 16 times a power of 17, while it is in range. The last cell may refer to itself.
-fn all_above(rt: &HostRuntime, circle: bool) -> Result<(), AllocError> {
+fn all_above(rt: &(impl Abort + AllocGlobal), circle: bool) -> Result<(), AllocError> {
     let alloc = rt.alloc();
     let mut case = Case::new(alloc)?;
     let mut value: Option<i64> = Some(16);

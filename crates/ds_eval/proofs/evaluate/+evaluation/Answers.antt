@@ -1,4 +1,4 @@
-use Rattle.std.proofs.Common.{◌≡◌, ◌∙◌, ℕ, ◌<◌, ◌≤◌, length, sym, ap, arith, inl, inr, List, [], ◌∷◌, min, map, rules}
+use Rattle.std.proofs.Common.{◌∙◌, ℕ, sym, ap, arith, inl, inr, List, [], ◌∷◌, min, rules}
 use Rattle.ds_formula.specs.Cells.{count_of}
 use Rattle.ds_formula.specs.declared.content.Function.TheVariants as functions
 use Rattle.ds_formula.specs.Plain.{Formula, formula}

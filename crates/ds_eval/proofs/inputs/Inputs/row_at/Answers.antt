@@ -1,7 +1,7 @@
-use Rattle.std.proofs.Common.{◌≡◌, ◌+◌, ◌-◌, ◌<◌, ◌≤◌, length, subst, sym, refl, ap, ◌∙◌, slice_index_or, arith}
+use Rattle.std.proofs.Common.{◌≡◌, ◌+◌, ◌-◌, ◌<◌, ◌≤◌, length, sym, ap, ◌∙◌, slice_index_or, arith}
 use Rattle.std.proofs.lemmas.List.{get_or_read}
 use Rattle.ds_eval.specs.declared.inputs.Input.{Input}
-use Rattle.ds_eval.specs.Inputs.{PlainInputs, no_input, cell_in}
+use Rattle.ds_eval.specs.Inputs.{no_input}
 use Rattle.ds_eval.specs.Rows.{right_of}
 use Rattle.ds_eval.proofs.Cells.{is_same_true}
 use Rattle.ds_eval.proofs.Rows.{whole_row}
