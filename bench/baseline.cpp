@@ -287,19 +287,19 @@ class Evaluation {
         states[cell] = State::Done;
     }
 
-    // visits what the formula refers to; whether any of it leads round and round
+    // visits what the formula refers to, up to the first cell that leads round and round; whether there is one
     bool visit_all(const Tree &tree) {
-        bool circular = false;
         if (tree.form == Form::Reference || tree.form == Form::Range) {
             for (int row = tree.area.top; row <= tree.area.bottom; row++)
                 for (int column = tree.area.left; column <= tree.area.right; column++) {
                     size_t cell = size_t(row) * sheet.columns + column;
                     visit(cell);
-                    circular |= states[cell] == State::Open || values[cell].kind == Kind::Circular;
+                    if (states[cell] == State::Open || values[cell].kind == Kind::Circular) return true;
                 }
         }
-        for (auto &part : tree.parts) circular |= visit_all(*part);
-        return circular;
+        for (auto &part : tree.parts)
+            if (visit_all(*part)) return true;
+        return false;
     }
 
     Value at(int column, int row) const { return values[size_t(row) * sheet.columns + column]; }

@@ -12,7 +12,8 @@ use Rattle.ds_formula.specs.declared.content.Content.{Content}
 use Rattle.ds_formula.specs.Plain.{Plain, plain}
 use Rattle.ds_eval.specs.declared.inputs.Entry.{Entry}
 use Rattle.ds_eval.specs.declared.inputs.Input.{Input}
-use Rattle.ds_eval.specs.Inputs.{entry_in, entry_at, cell_in, with_entry, no_input, IsBefore, IsBehind}
+use Rattle.ds_formula.specs.Refs.{IsBefore}
+use Rattle.ds_eval.specs.Inputs.{entry_in, entry_at, cell_in, with_entry, no_input, IsBehind}
 use Rattle.ds_eval.specs.declared.sheet.Sheet.{Sheet}
 use Rattle.ds_eval.specs.Sheet.{contents_of, plain_or_empty}
 use Rattle.ds_eval.specs.Scratch.{Walk, value, at, IsScratch}

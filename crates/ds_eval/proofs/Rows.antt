@@ -8,7 +8,8 @@ use Rattle.ds_formula.specs.declared.cells.Cell.{Cell}
 use Rattle.ds_formula.specs.declared.cells.Rect.{Rect}
 use Rattle.ds_eval.specs.declared.value.Value.{Value}
 use Rattle.ds_eval.specs.declared.inputs.Input.{Input}
-use Rattle.ds_eval.specs.Inputs.{IsBefore, IsAscending, cell_in}
+use Rattle.ds_formula.specs.Refs.{IsBefore}
+use Rattle.ds_eval.specs.Inputs.{IsAscending, cell_in}
 use Rattle.ds_eval.specs.Rows.{right_of, row_from}
 use Rattle.ds_eval.specs.Evaluation.{cell_of, first_cells}
 use Rattle.ds_eval.specs.Local.{above}

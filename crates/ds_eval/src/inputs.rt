@@ -1,7 +1,8 @@
 //! Cells with what they show.
 
 ghost use Rattle.std.specs.Prelude.{◌≡◌, ◌≢◌, ◌↔◌, ℕ, ◌+◌, ◌<◌, ◌≤◌, [], ◌∷◌, ◌++◌, length, false, IsTrue, IfOk, IfSome, IsNone};
-ghost use Rattle.ds_eval.specs.Inputs.{entry_in, entry_at, with_entry, cell_in, IsAscending, IsBehind, IsBefore};
+ghost use Rattle.ds_formula.specs.Refs.{IsBefore};
+ghost use Rattle.ds_eval.specs.Inputs.{entry_in, entry_at, with_entry, cell_in, IsAscending, IsBehind};
 ghost use Rattle.ds_eval.specs.Rows.{right_of};
 
 use crate::value::Value;
