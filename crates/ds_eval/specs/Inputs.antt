@@ -1,5 +1,5 @@
 -- Entries of cells, in a list.
-use Rattle.std.specs.Prelude.{◌≡◌, ℕ, ◌==◌, ◌<◌, ◌&&◌, Bool, if◌then◌else◌, List, [], ◌∷◌, length, slice_index_or, slice_set}
+use Rattle.std.specs.Prelude.{ℕ, ◌==◌, ◌<◌, ◌&&◌, Bool, if◌then◌else◌, List, [], ◌∷◌, length, slice_index_or, slice_set}
 use Rattle.ds_formula.specs.declared.cells.Cell.{Cell}
 use Rattle.ds_formula.specs.Refs.{IsBefore}
 use Rattle.ds_eval.specs.declared.value.Value.{Value}

@@ -134,9 +134,7 @@ fn tally_with_row(
     sum
 }
 
-/// With the cells of a row of so many columns, which is looked for at this place first. On its own it keeps its sums in
-/// registers.
-#[inline(never)]
+/// With the cells of a row of so many columns, which is looked for at this place first.
 fn with_row(
     inputs: &Inputs,
     most: usize,
