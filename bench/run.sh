@@ -1,7 +1,7 @@
 #!/bin/sh
 # Times of whole runs of `dsheet run`, beside those of a plain program that does the same (baseline.cpp): the median of
-# interleaved runs (11, or as many as the first argument says), and two ratios: to the plain program, and to the run of
-# an empty script. Both programs' values are compared first.
+# interleaved runs (11, or as many as the first argument says), and ratios to the plain program and to the run of an empty
+# script. What both programs answer is compared first.
 # Run it after a build: ./dsheet --help >/dev/null; bench/run.sh
 set -eu
 here=$(CDPATH= cd -- "$(dirname -- "$0")" && pwd)

@@ -5,7 +5,6 @@ import sys
 
 COLUMNS, ROWS = 16, 64
 COUNT = COLUMNS * ROWS
-TOP_LEFT, BOTTOM_RIGHT = "A1", "P64"
 
 
 def name(number, columns=COLUMNS):
@@ -32,15 +31,14 @@ def below(times):
     texts = []
     for k in range(COUNT):
         right = [f"[.{name(k + 1)}]"] if k + 1 < COUNT else ["1"]
-        rows = [f"[.A{k // COLUMNS + 2}:.{BOTTOM_RIGHT}]"] * times if k // COLUMNS + 1 < ROWS else []
+        rows = [f"[.A{k // COLUMNS + 2}:.P64]"] * times if k // COLUMNS + 1 < ROWS else []
         texts.append(f"=MAX({';'.join(right + rows)})")
     return texts
 
 
 def budget():
     """Totals in the first row and the first columns, of twelve months each."""
-    first = [""] * 3 + [f"=SUM([.{c}2:.{c}64])" for c in "DEFGHIJKLMNO"] + [""]
-    texts = first
+    texts = [""] * 3 + [f"=SUM([.{c}2:.{c}64])" for c in "DEFGHIJKLMNO"] + [""]
     for row in range(2, ROWS + 1):
         sums = [f"=IF([.B{row}]>400;[.B{row}]-400;0)", f"=QUOTIENT([.C{row}];12)", f"=SUM([.D{row}:.O{row}])"]
         texts += sums + [str((row * 37 + month * 11) % 900) for month in range(12)] + [""]
@@ -51,7 +49,7 @@ def sheets():
     """The texts of each sheet by its name; the first eight are those that have a target."""
     places = list(range(COUNT))
     shuffled = random.Random(5).sample(places, COUNT)
-    all_above = ["1" if k < COLUMNS else f"=SUM([.{TOP_LEFT}:.P{k // COLUMNS}])" for k in places]
+    all_above = ["1" if k < COLUMNS else f"=SUM([.A1:.P{k // COLUMNS}])" for k in places]
     yield "chain", script(chain(places))
     yield "chain_backwards", script(chain(places[::-1]))
     yield "chain_shuffled", script(chain(shuffled))
