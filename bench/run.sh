@@ -10,5 +10,6 @@ work=$(mktemp -d)
 trap 'rm -rf "$work"' EXIT
 mkdir "$work/sheets"
 ${CXX:-c++} -O2 -static-libstdc++ -static-libgcc -std=c++17 -o "$work/baseline" "$here/baseline.cpp"
+export PYTHONDONTWRITEBYTECODE=1
 python3 "$here/sheets.py" "$work/sheets" >/dev/null
 python3 "$here/times.py" "$program" "$work/baseline" "$work/sheets" "${1:-11}"
