@@ -1,5 +1,5 @@
 -- The values of calls, by their arguments.
-use Rattle.std.proofs.Common.{◌≡◌, ℕ, suc, ◌+◌, ◌<◌, ◌≤◌, Bool, true, false, leb, List, [], ◌∷◌, ◌++◌, map, length, get_or, take, Result, Ok, Err, ℤ, pos, refl, sym, ap, subst, ◌∙◌, arith, append_assoc, append-nil, not, int_eq, if◌then◌else◌}
+use Rattle.std.proofs.Common.{◌≡◌, ℕ, suc, ◌+◌, ◌<◌, ◌≤◌, true, false, leb, List, [], ◌∷◌, ◌++◌, map, length, get_or, take, ℤ, refl, sym, ap, subst, ◌∙◌, arith, append_assoc, append-nil}
 use Rattle.std.proofs.lemmas.Bool.Decides.{nat_tests}
 use Rattle.std.proofs.lemmas.List.{map-append, take_more}
 use Rattle.ds_formula.specs.declared.cells.Shape.{Shape}
@@ -15,10 +15,9 @@ use Rattle.ds_formula.specs.declared.content.Tree.TheVariants as trees
 use Rattle.ds_formula.specs.Plain.{Formula, Literal, At, Area, Signed, Joined, Called, formula, listed, count}
 use Rattle.ds_eval.proofs.Views.{formula_number, formula_reference, formula_range, formula_prefix, formula_binary, formula_call}
 use Rattle.ds_eval.specs.declared.value.Value.{Value}
-use Rattle.ds_eval.specs.declared.value.Value.TheVariants.{Blank, Number, DivZero, Num, Circular}
+use Rattle.ds_eval.specs.declared.value.Value.TheVariants.{Num}
 use Rattle.ds_eval.specs.declared.tally.Tally.{Tally}
-use Rattle.ds_eval.specs.Evaluation.{formula_value, all_values, own_values, applied, chosen, stands_for, first_cells, cell_of, cells_of, look}
-use Rattle.ds_eval.specs.Steps.{is_chosen}
+use Rattle.ds_eval.specs.Evaluation.{formula_value, all_values, own_values, applied, stands_for, first_cells, cell_of, cells_of, look}
 use Rattle.ds_eval.specs.Tally.{IsTally}
 
 count_listed : (fs : List Formula) → count (listed fs) ≡ length fs
@@ -44,37 +43,6 @@ too_many shape read function xs h = rw (count_of_arguments xs, above_most (lengt
 pub few : (shape : Shape) (read : Cell → Value) (function : Function) (xs : List Tree) → length xs ≤ 255
     → formula_value shape read (Called function (listed (map formula xs))) ≡ applied function (all_values shape read (listed (map formula xs))) (own_values shape read (listed (map formula xs)))
 few shape read function xs h = rw (count_of_arguments xs, at_most (length xs) 255 h) refl
-
--- ---- IF
-
-test_true : (b : Bool) (t f : Value) → (let r : Result Bool Value = Ok (not b) in r) ≡ Ok true → (if b then f else t) ≡ t
-test_true true t f e = absurd cc
-test_true false t f e = refl
-
-test_false : (b : Bool) (t f : Value) → (let r : Result Bool Value = Ok (not b) in r) ≡ Ok false → (if b then f else t) ≡ f
-test_false true t f e = refl
-test_false false t f e = absurd cc
-
-chosen_true : (v t f : Value) → is_chosen v ≡ Ok true → chosen v t f ≡ t
-chosen_true Blank t f e = absurd cc
-chosen_true (Number z) t f e = test_true (int_eq z (pos 0)) t f e
-chosen_true DivZero t f e = absurd cc
-chosen_true Num t f e = absurd cc
-chosen_true Circular t f e = absurd cc
-
-chosen_false : (v t f : Value) → is_chosen v ≡ Ok false → chosen v t f ≡ f
-chosen_false Blank t f e = refl
-chosen_false (Number z) t f e = test_false (int_eq z (pos 0)) t f e
-chosen_false DivZero t f e = absurd cc
-chosen_false Num t f e = absurd cc
-chosen_false Circular t f e = absurd cc
-
-chosen_error : (v t f err : Value) → is_chosen v ≡ Err err → chosen v t f ≡ err
-chosen_error Blank t f err e = absurd cc
-chosen_error (Number z) t f err e = absurd cc
-chosen_error DivZero t f err e = cc
-chosen_error Num t f err e = cc
-chosen_error Circular t f err e = cc
 
 module _ (shape : Shape) (read : Cell → Value) where
   abbrev own : Tree → Value
@@ -107,36 +75,10 @@ module _ (shape : Shape) (read : Cell → Value) where
   wrong_if (x ∷ y ∷ z ∷ []) h n = absurd (n (omega arith) (omega arith))
   wrong_if (x ∷ y ∷ z ∷ w ∷ xs) h n = few shape read functions.If (x ∷ y ∷ z ∷ w ∷ xs) h
 
-  -- the condition is that of the first argument
-  condition : (x a : Tree) (v : Value) (r : Result Bool Value) → a ≡ x → v ≡ own a → is_chosen v ≡ r → is_chosen (own x) ≡ r
-  condition x a v r e q h = ap (λ (t : Tree). is_chosen (own t)) (sym e) ∙ ap is_chosen (sym q) ∙ h
-
-  pub if_error : (xs : List Tree) (a : Tree) (v err : Value) → 2 ≤ length xs → length xs ≤ 3 → a ≡ get_or xs 0 a → v ≡ own a → is_chosen v ≡ Err err → call functions.If xs ≡ err
-  if_error [] a v err l h e q c = absurd (omega arith)
-  if_error (x ∷ []) a v err l h e q c = absurd (omega arith)
-  if_error (x ∷ y ∷ []) a v err l h e q c = chosen_error (own x) (own y) (Number (pos 0)) err (condition x a v (Err err) e q c)
-  if_error (x ∷ y ∷ z ∷ []) a v err l h e q c = chosen_error (own x) (own y) (own z) err (condition x a v (Err err) e q c)
-  if_error (x ∷ y ∷ z ∷ w ∷ xs) a v err l h e q c = absurd (omega arith)
-
-  pub if_true : (xs : List Tree) (a b : Tree) (v : Value) → 2 ≤ length xs → length xs ≤ 3 → a ≡ get_or xs 0 a → v ≡ own a → is_chosen v ≡ Ok true → b ≡ get_or xs 1 b → call functions.If xs ≡ own b
-  if_true [] a b v l h e q c p = absurd (omega arith)
-  if_true (x ∷ []) a b v l h e q c p = absurd (omega arith)
-  if_true (x ∷ y ∷ []) a b v l h e q c p = chosen_true (own x) (own y) (Number (pos 0)) (condition x a v (Ok true) e q c) ∙ ap own (sym p)
-  if_true (x ∷ y ∷ z ∷ []) a b v l h e q c p = chosen_true (own x) (own y) (own z) (condition x a v (Ok true) e q c) ∙ ap own (sym p)
-  if_true (x ∷ y ∷ z ∷ w ∷ xs) a b v l h e q c p = absurd (omega arith)
-
-  pub if_false_two : (xs : List Tree) (a : Tree) (v : Value) → length xs ≡ 2 → a ≡ get_or xs 0 a → v ≡ own a → is_chosen v ≡ Ok false → call functions.If xs ≡ Number (pos 0)
-  if_false_two [] a v l e q c = absurd (omega (arith, l))
-  if_false_two (x ∷ []) a v l e q c = absurd (omega (arith, l))
-  if_false_two (x ∷ y ∷ []) a v l e q c = chosen_false (own x) (own y) (Number (pos 0)) (condition x a v (Ok false) e q c)
-  if_false_two (x ∷ y ∷ z ∷ xs) a v l e q c = absurd (omega (arith, l))
-
-  pub if_false_three : (xs : List Tree) (a b : Tree) (v : Value) → 2 ≤ length xs → length xs ≤ 3 → (length xs ≡ 2 → ⊥) → a ≡ get_or xs 0 a → v ≡ own a → is_chosen v ≡ Ok false → b ≡ get_or xs 2 b → call functions.If xs ≡ own b
-  if_false_three [] a b v l h n e q c p = absurd (omega arith)
-  if_false_three (x ∷ []) a b v l h n e q c p = absurd (omega arith)
-  if_false_three (x ∷ y ∷ []) a b v l h n e q c p = absurd (n refl)
-  if_false_three (x ∷ y ∷ z ∷ []) a b v l h n e q c p = chosen_false (own x) (own y) (own z) (condition x a v (Ok false) e q c) ∙ ap own (sym p)
-  if_false_three (x ∷ y ∷ z ∷ w ∷ xs) a b v l h n e q c p = absurd (omega arith)
+  -- a call, where its arguments' own values are known
+  pub by_own : (function : Function) (xs : List Tree) (vs : List Value) → length xs ≤ 255 → own_values shape read (listed (map formula xs)) ≡ vs
+      → call function xs ≡ applied function (all_values shape read (listed (map formula xs))) vs
+  by_own function xs vs l e = few shape read function xs l ∙ ap (λ (ws : List Value). applied function (all_values shape read (listed (map formula xs))) ws) e
 
   -- ---- what the arguments stand for
 

@@ -6,7 +6,8 @@ use Rattle.std.proofs.lemmas.Bool.Decides.{nat_tests}
 use Rattle.ds_formula.specs.declared.cells.Cell.{Cell}
 use Rattle.ds_eval.specs.declared.inputs.Entry.{Entry}
 use Rattle.ds_eval.specs.declared.inputs.Input.{Input}
-use Rattle.ds_eval.specs.Inputs.{IsBefore, IsAscending, entry_in, entry_at, with_entry, cell_in, no_entry, no_input, is_same_cell}
+use Rattle.ds_formula.specs.Refs.{IsBefore}
+use Rattle.ds_eval.specs.Inputs.{IsAscending, entry_in, entry_at, with_entry, cell_in, no_entry, no_input, is_same_cell}
 
 pub before_before : (a b c : Cell) → IsBefore a b → IsBefore b c → IsBefore a c
 before_before a b c (inl p) (inl q) = inl (omega arith)

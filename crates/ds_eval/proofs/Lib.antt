@@ -9,8 +9,10 @@ pub mod Neighbours
 pub mod Walks
 pub mod FixedPoint
 pub mod Rounds
+pub mod Rows
 pub mod Sameness
 pub mod Tasks
 pub mod Results
 pub mod Sheets
 pub mod Showable
+pub mod Meant

@@ -12,7 +12,8 @@ use Rattle.ds_formula.specs.declared.content.Content.{Content}
 use Rattle.ds_formula.specs.Plain.{Plain, plain}
 use Rattle.ds_eval.specs.declared.inputs.Entry.{Entry}
 use Rattle.ds_eval.specs.declared.inputs.Input.{Input}
-use Rattle.ds_eval.specs.Inputs.{entry_in, entry_at, cell_in, with_entry, no_entry, no_input, IsBefore, IsBehind}
+use Rattle.ds_formula.specs.Refs.{IsBefore}
+use Rattle.ds_eval.specs.Inputs.{entry_in, entry_at, cell_in, with_entry, no_input, IsBehind}
 use Rattle.ds_eval.specs.declared.sheet.Sheet.{Sheet}
 use Rattle.ds_eval.specs.Sheet.{contents_of, plain_or_empty}
 use Rattle.ds_eval.specs.Scratch.{Walk, value, at, IsScratch}
@@ -42,7 +43,7 @@ cell_entry : (shape : Shape) (xs : List Input) → IsTable shape xs → (c : Cel
 cell_entry shape xs t c i =
     ap (entry_in xs) (sym (cell_back shape c i)) ∙ table_entry shape xs t (index_of shape c) (index_below shape c i)
 
-table_with : (shape : Shape) (xs : List Input) (k : ℕ) (e : Entry) → k < count_of shape → IsTable shape xs → IsTable shape (with_entry xs k e)
+pub table_with : (shape : Shape) (xs : List Input) (k : ℕ) (e : Entry) → k < count_of shape → IsTable shape xs → IsTable shape (with_entry xs k e)
 table_with shape xs k e l t = record {
   each = length-set {A = Input} xs k (let i : Input = record { cell = cell_in xs k; entry = e } in i) ∙ t.each;
   cells = λ j m. cell_with xs k e j (omega (arith, t.each)) ∙ t.cells j m;
@@ -81,6 +82,12 @@ some_cells zero b l m e = omega arith
 some_cells (suc a) zero l m e = omega arith
 some_cells (suc a) (suc b) l m e = omega arith
 
+at_least_one : (shape : Shape) → 1 ≤ count_of shape
+at_least_one shape = elim (cases_lt 0 (count_of shape)) [
+  | inl l ↦ l
+  | inr l ↦ absurd (some_cells shape.columns shape.rows shape.within.some_columns shape.within.some_rows l)
+]
+
 module _ (shape : Shape) (sheet : Cell → Plain) where
   pub local_scratch : (xs : List Input) → IsTable shape xs → IsLocal shape sheet (entry_in xs) → IsScratch shape sheet (shown xs)
   local_scratch xs t l = fixed_point shape sheet (entry_in xs) l (shown xs) (is_shown shape xs t)
@@ -88,9 +95,10 @@ module _ (shape : Shape) (sheet : Cell → Plain) where
   pub settled_scratch : (xs : List Input) → IsTable shape xs → AreSettled shape sheet (count_of shape) xs → IsScratch shape sheet (shown xs)
   settled_scratch xs t s =
       let v = is_shown shape xs t in
+      let some : 1 ≤ count_of shape = at_least_one shape in
       record {
         each = v.each;
-        circular = λ c i w. v.same c i ∙ (s.each c i).circular ((s.each c i).complete (count_of shape) (omega arith) (omega arith) w);
+        circular = λ c i w. v.same c i ∙ (s.each c i).circular some ((s.each c i).complete (count_of shape) (omega arith) (omega arith) w);
         computed = λ c i n. v.same c i ∙ (s.each c i).computed n;
       }
 
@@ -102,17 +110,17 @@ module _ (shape : Shape) (sheet : Cell → Plain) where
 
   weaker : (n : ℕ) (e : Entry) (c : Cell) → IsSettled shape sheet (suc n) e c → IsSettled shape sheet n e c
   weaker n e c s = record {
-    sound = s.sound;
+    sound = λ w. s.sound (λ v. w (shorter shape sheet n c v));
     complete = λ k l. s.complete k (omega arith);
-    circular = s.circular;
+    circular = λ l. s.circular (omega arith);
     computed = λ w. s.computed (λ v. w (shorter shape sheet n c v)) ∙ value_stays n c w;
   }
 
-  pub settled_first : (c : Cell) → IsSettled shape sheet 0 no_entry c
-  settled_first c = record {
-    sound = λ k l. subst (λ (j : ℕ). Walk shape sheet j c) (let e : 0 ≡ k = omega arith in e) tt;
-    complete = λ k l m w. l;
-    circular = λ l. absurd (let p = shape.within.some_columns in let q = shape.within.some_rows in some_cells shape.columns shape.rows p q l);
+  pub settled_first : (e : Entry) (c : Cell) → IsSettled shape sheet 0 e c
+  settled_first e c = record {
+    sound = λ w. absurd (w tt);
+    complete = λ k l m w. omega arith;
+    circular = λ l. absurd (omega arith);
     computed = λ w. absurd (w tt);
   }
 
@@ -121,21 +129,22 @@ module _ (shape : Shape) (sheet : Cell → Plain) where
   settled_next n es l s c =
       let most = count_of shape in
       let high = content_height shape (height_of es) (sheet c) in
-      let sound : (k : ℕ) → k ≤ min most high → Walk shape sheet k c = λ k. sound_at k in
       record {
-        sound = sound;
+        sound = sound_at;
         complete = complete_at;
-        circular = λ h. round_value shape (sheet c) es (min most high) (omega (arith, h));
+        circular = λ m h. round_value shape (sheet c) es (min most high) (omega (arith, h));
         computed = λ w. elim (cases_lt (min most high) most) [
           | inl m ↦ plain_value shape (sheet c) es (min most high) m
               ∙ value_on shape (value_of es) (value shape sheet n) (sheet c) (λ d r i. (s d i).computed (λ v. w (d, r, i, v)))
-          | inr m ↦ absurd (w (sound (suc n) (omega (arith, m))))
+          | inr m ↦ absurd (w (sound_at w (suc n) (omega (arith, m))))
         ];
       }
     where
-      sound_at : (k : ℕ) → k ≤ min (count_of shape) (content_height shape (height_of es) (sheet c)) → Walk shape sheet k c
-      sound_at zero h = tt
-      sound_at (suc k) h = let r = reached shape (height_of es) (sheet c) k (omega arith) in (r.0, r.1, r.2, (s r.0 r.2).sound k r.3)
+      sound_at : (Walk shape sheet (suc n) c → ⊥) → (k : ℕ) → k ≤ min (count_of shape) (content_height shape (height_of es) (sheet c)) → Walk shape sheet k c
+      sound_at w zero h = tt
+      sound_at w (suc k) h =
+          let r = reached shape (height_of es) (sheet c) k (omega arith) in
+          (r.0, r.1, r.2, (s r.0 r.2).sound (λ v. w (r.0, r.1, r.2, v)) k r.3)
 
       complete_at : (k : ℕ) → k ≤ suc n → k ≤ count_of shape → Walk shape sheet k c → k ≤ min (count_of shape) (content_height shape (height_of es) (sheet c))
       complete_at zero a b w = omega arith
@@ -222,43 +231,34 @@ ascends shape j k l =
       ]
     ]
 
--- the first k cells, blank
-pub record IsBlank (shape : Shape) (k : ℕ) (table : List Input) : Type 0 where
+-- the first k cells
+pub record IsBegun (shape : Shape) (k : ℕ) (table : List Input) : Type 0 where
   pub each : length table ≡ k
   pub cells : (j : ℕ) → j < k → cell_in table j ≡ cell_at shape j
-  pub blank : (j : ℕ) → j < k → entry_at table j ≡ no_entry
 
-pub blank_none : (shape : Shape) (xs : List Input) → xs ≡ [] → IsBlank shape 0 xs
-blank_none shape xs e = record { each = ap length e; cells = λ j l. absurd (omega arith); blank = λ j l. absurd (omega arith) }
+pub begun_none : (shape : Shape) (xs : List Input) → xs ≡ [] → IsBegun shape 0 xs
+begun_none shape xs e = record { each = ap length e; cells = λ j l. absurd (omega arith) }
 
-pub blank_behind : (shape : Shape) (k : ℕ) (xs : List Input) (c : Cell) → IsBlank shape k xs → c ≡ cell_at shape k → IsBehind xs c
-blank_behind shape k xs c b e = record {
+pub begun_behind : (shape : Shape) (k : ℕ) (xs : List Input) (c : Cell) → IsBegun shape k xs → c ≡ cell_at shape k → IsBehind xs c
+begun_behind shape k xs c b e = record {
   behind = λ j l. rw (b.cells j (omega (arith, b.each)), e) (ascends shape j k (omega (arith, b.each)));
 }
 
-pub blank_more : (shape : Shape) (k : ℕ) (xs ys : List Input) (i : Input) → IsBlank shape k xs → i.cell ≡ cell_at shape k → i.entry ≡ no_entry → ys ≡ xs ++ i ∷ [] → IsBlank shape (k + 1) ys
-blank_more shape k xs ys i b e f h = subst (IsBlank shape (k + 1)) (sym h) (record {
+pub begun_more : (shape : Shape) (k : ℕ) (xs ys : List Input) (i : Input) → IsBegun shape k xs → i.cell ≡ cell_at shape k → ys ≡ xs ++ i ∷ [] → IsBegun shape (k + 1) ys
+begun_more shape k xs ys i b e h = subst (IsBegun shape (k + 1)) (sym h) (record {
   each = length-append xs (i ∷ []) ∙ omega (arith, b.each);
   cells = λ j l. elim (cases_lt j k) [
     | inl m ↦ ap (λ (x : Input). x.cell) (get_or-append xs (i ∷ []) no_input j (omega (arith, b.each))) ∙ b.cells j m
     | inr m ↦ let q : length xs ≡ j = omega (arith, b.each) in
         ap (λ (n : ℕ). cell_in (xs ++ i ∷ []) n) (sym q) ∙ ap (λ (x : Input). x.cell) (get_or-append_seam xs i [] no_input) ∙ e ∙ ap (cell_at shape) (sym b.each ∙ q)
   ];
-  blank = λ j l. elim (cases_lt j k) [
-    | inl m ↦ ap (λ (x : Input). x.entry) (get_or-append xs (i ∷ []) no_input j (omega (arith, b.each))) ∙ b.blank j m
-    | inr m ↦ let q : length xs ≡ j = omega (arith, b.each) in
-        ap (λ (n : ℕ). entry_at (xs ++ i ∷ []) n) (sym q) ∙ ap (λ (x : Input). x.entry) (get_or-append_seam xs i [] no_input) ∙ f
-  ];
 })
 
-pub blank_table : (shape : Shape) (xs : List Input) → IsBlank shape (count_of shape) xs → IsTable shape xs
-blank_table shape xs b = record { each = b.each; cells = b.cells }
+pub begun_table : (shape : Shape) (xs : List Input) → IsBegun shape (count_of shape) xs → IsTable shape xs
+begun_table shape xs b = record { each = b.each; cells = b.cells }
 
-pub blank_entries : (shape : Shape) (xs : List Input) → IsBlank shape (count_of shape) xs → (c : Cell) → IsInside shape c → entry_in xs c ≡ no_entry
-blank_entries shape xs b c i = cell_entry shape xs (blank_table shape xs b) c i ∙ b.blank (index_of shape c) (index_below shape c i)
-
-pub blank_settled : (shape : Shape) (sheet : Cell → Plain) (xs : List Input) → ((c : Cell) → IsInside shape c → entry_in xs c ≡ no_entry) → AreSettled shape sheet 0 xs
-blank_settled shape sheet xs h = record { each = λ c i. subst (λ (e : Entry). IsSettled shape sheet 0 e c) (sym (h c i)) (settled_first shape sheet c) }
+pub first_settled : (shape : Shape) (sheet : Cell → Plain) (xs : List Input) → AreSettled shape sheet 0 xs
+first_settled shape sheet xs = record { each = λ c i. settled_first shape sheet (entry_in xs c) c }
 
 -- ---- what a cell of a sheet holds
 

@@ -1,6 +1,7 @@
 -- Entries of cells, in a list.
-use Rattle.std.specs.Prelude.{◌≡◌, ℕ, ◌==◌, ◌<◌, ◌⊎◌, ◌&&◌, Bool, if◌then◌else◌, List, [], ◌∷◌, length, slice_index_or, slice_set}
+use Rattle.std.specs.Prelude.{ℕ, ◌==◌, ◌<◌, ◌&&◌, Bool, if◌then◌else◌, List, [], ◌∷◌, length, slice_index_or, slice_set}
 use Rattle.ds_formula.specs.declared.cells.Cell.{Cell}
+use Rattle.ds_formula.specs.Refs.{IsBefore}
 use Rattle.ds_eval.specs.declared.value.Value.{Value}
 use Rattle.ds_eval.specs.declared.value.Value.TheVariants.{Blank}
 use Rattle.ds_eval.specs.declared.inputs.Entry.{Entry}
@@ -30,10 +31,6 @@ values_in inputs c = (entry_in inputs c).value
 -- the heights of the cells
 abbrev pub heights_in : List Input → Cell → ℕ
 heights_in inputs c = (entry_in inputs c).height
-
--- row by row from the left
-abbrev pub IsBefore : Cell → Cell → Type 0
-IsBefore c d = (c.row < d.row) ⊎ ((c.row ≡ d.row) × (c.column < d.column))
 
 abbrev pub no_input : Input
 no_input = record { cell = record { column = 0; row = 0 }; entry = no_entry }

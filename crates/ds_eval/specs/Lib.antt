@@ -3,6 +3,7 @@ pub mod Evaluation
 pub mod Scratch
 pub mod Local
 pub mod Inputs
+pub mod Rows
 pub mod Tally
 pub mod Steps
 pub mod Rounds
@@ -10,3 +11,4 @@ pub mod Sheet
 pub mod Code
 pub mod Tasks
 pub mod Showable
+pub mod Meanings

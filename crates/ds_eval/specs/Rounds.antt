@@ -16,11 +16,11 @@ pub record IsTable (shape : Shape) (table : List Input) : Type 0 where
   pub each : length table ≡ count_of shape
   pub cells : (k : ℕ) → k < count_of shape → cell_in table k ≡ cell_at shape k
 
--- what is known of a cell's entry after n rounds
+-- what is known of a cell's entry after n rounds, whatever the first entries were
 pub record IsSettled (shape : Shape) (sheet : Cell → Plain) (n : ℕ) (entry : Entry) (c : Cell) : Type 0 where
-  pub sound : (k : ℕ) → k ≤ entry.height → Walk shape sheet k c
+  pub sound : (Walk shape sheet n c → ⊥) → (k : ℕ) → k ≤ entry.height → Walk shape sheet k c
   pub complete : (k : ℕ) → k ≤ n → k ≤ count_of shape → Walk shape sheet k c → k ≤ entry.height
-  pub circular : count_of shape ≤ entry.height → entry.value ≡ Circular
+  pub circular : 1 ≤ n → count_of shape ≤ entry.height → entry.value ≡ Circular
   pub computed : (Walk shape sheet n c → ⊥) → entry.value ≡ value shape sheet n c
 
 pub record AreSettled (shape : Shape) (sheet : Cell → Plain) (n : ℕ) (table : List Input) : Type 0 where

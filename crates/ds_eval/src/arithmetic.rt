@@ -2,6 +2,7 @@
 
 ghost use Rattle.std.specs.Prelude.{◌≡◌, ◌≢◌, ◌<◌, ◌^◌, pos};
 ghost use Rattle.ds_eval.specs.Numbers as exact;
+ghost use Rattle.ds_eval.specs.Evaluation.{chosen as branch};
 ghost use Rattle.ds_eval.specs.Steps.{exactly, number_or_error, size_of_rest, with_sign, is_chosen};
 
 use crate::value::Value;
@@ -45,7 +46,7 @@ pub fn never_blank(value: Value) -> Value
     }
 }
 
-/// A sign before a value (OpenFormula 6.4, prefix operators).
+/// A sign before a value (OpenFormula 6.4.14 and 6.4.15).
 pub fn signed(sign: Sign, value: Value) -> Value
     ensures { result ≡ exact.with_number value (exact.signed sign) }
 {
@@ -75,7 +76,7 @@ fn joined_numbers(operator: Operator, a: i64, b: i64) -> Value
     }
 }
 
-/// An operator between two values (OpenFormula 6.4, infix operators): the error of the left one goes first.
+/// An operator between two values (OpenFormula 6.4.2 to 6.4.4 and 6.4.7 to 6.4.9): the error of the left one goes first.
 pub fn joined(operator: Operator, left: Value, right: Value) -> Value
     ensures { result ≡ exact.with_numbers left right (exact.joined operator) }
 {
@@ -86,7 +87,7 @@ pub fn joined(operator: Operator, left: Value, right: Value) -> Value
     }
 }
 
-/// ABS (OpenFormula 6.16).
+/// ABS (OpenFormula 6.16.2).
 pub fn absolute(value: Value) -> Value
     ensures { result ≡ exact.with_number value exact.absolute }
 {
@@ -134,12 +135,24 @@ fn signed_size(negative: bool, size: u64) -> i64
 }
 
 /// Whether a condition holds: its number is not 0.
-pub fn chosen(condition: Value) -> Result<bool, Value>
+fn chosen(condition: Value) -> Result<bool, Value>
     ensures { result ≡ is_chosen condition }
 {
     match as_number(condition) {
         Ok(number) => Ok(number != 0),
         Err(error) => Err(error),
+    }
+}
+
+/// IF (OpenFormula, function IF): the value of one of two branches, by the condition. An error in the condition goes
+/// before both, and one in the other branch counts for nothing.
+pub fn choice(condition: Value, then_value: Value, else_value: Value) -> Value
+    ensures { result ≡ branch condition then_value else_value }
+{
+    match chosen(condition) {
+        Ok(true) => then_value,
+        Ok(false) => else_value,
+        Err(error) => error,
     }
 }
 
@@ -153,7 +166,7 @@ fn modulo_numbers(a: i64, b: i64) -> Value
     }
 }
 
-/// MOD (OpenFormula 6.16): `a - b * floor(a / b)`, and `#DIV/0!` where `b` is 0.
+/// MOD (OpenFormula 6.16, function MOD): `a - b * floor(a / b)`, and `#DIV/0!` where `b` is 0.
 pub fn modulo(left: Value, right: Value) -> Value
     ensures { result ≡ exact.with_numbers left right exact.modulo }
 {
@@ -174,7 +187,7 @@ fn quotient_numbers(a: i64, b: i64) -> Value
     }
 }
 
-/// QUOTIENT (OpenFormula 6.16): `a / b`, cut towards 0, and `#DIV/0!` where `b` is 0.
+/// QUOTIENT (OpenFormula 6.16, function QUOTIENT): `a / b`, cut towards 0, and `#DIV/0!` where `b` is 0.
 pub fn quotient(left: Value, right: Value) -> Value
     ensures { result ≡ exact.with_numbers left right exact.quotient }
 {

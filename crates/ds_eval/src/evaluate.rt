@@ -1,88 +1,79 @@
-//! The value of a formula where the values of the cells are known.
+//! The value of a formula where the values of the cells are known, and how far references lead from it.
+//!
+//! Both are found in one pass. Where references lead round and round, at the height of all cells, no value is claimed.
 
-ghost use Rattle.std.specs.Prelude.{◌≡◌, ◌+◌, ◌*◌, ◌/◌, ◌<◌, ◌≤◌, ◌^◌, List, ◌++◌, length, map};
-ghost use Rattle.ds_formula.specs.Plain.{formula, plain, listed, Called};
-ghost use Rattle.ds_eval.specs.declared.value.Value as values;
+ghost use Rattle.std.specs.Prelude.{◌≡◌, ◌<◌, ◌≤◌, [], ◌∷◌, length, map, min};
+ghost use Rattle.ds_formula.specs.Cells.{count_of};
+ghost use Rattle.ds_formula.specs.Plain.{formula, listed, Called};
 ghost use Rattle.ds_eval.specs.Evaluation as spec;
-ghost use Rattle.ds_eval.specs.Inputs.{values_in};
+ghost use Rattle.ds_eval.specs.Inputs.{values_in, heights_in};
+ghost use Rattle.ds_eval.specs.Local as heights;
 ghost use Rattle.ds_eval.specs.Tally.{IsTally};
 
-use crate::arithmetic::{absolute, chosen, joined, modulo, never_blank, quotient, signed};
-use crate::inputs::Inputs;
-use crate::tally::Tally;
+use crate::arithmetic::{absolute, choice, joined, modulo, never_blank, quotient, signed};
+use crate::gather::{Gathered, raised, with_range};
+use crate::inputs::{Entry, Inputs};
 use crate::value::Value;
-use ds_formula::cells::{Cell, Rect, Shape};
-use ds_formula::content::{Content, Function, Tree};
+use ds_formula::cells::{Cell, Shape};
+use ds_formula::content::{Function, Tree};
 
-/// The value of a cell: outside of the sheet all is blank.
-fn look(shape: Shape, inputs: &Inputs, cell: Cell) -> Value
-    ensures { result ≡ spec.look shape (values_in inputs.now.items) cell }
+/// The value of a cell, and one more than its height, at most the number of cells: outside of the sheet all is blank,
+/// and no references lead there.
+fn look(shape: Shape, inputs: &Inputs, cell: Cell) -> Entry
+    ensures value { result.value ≡ spec.look shape (values_in inputs.now.items) cell }
+    ensures height { result.height ≡ min (count_of shape) (heights.reference_height shape (heights_in inputs.now.items) cell) }
 {
     if cell.column < shape.columns && cell.row < shape.rows {
-        inputs.entry(cell).value
+        let entry = inputs.entry(cell);
+        Entry {
+            value: entry.value,
+            height: raised(entry.height, shape.count()),
+        }
     } else {
-        Value::Blank
+        Entry {
+            value: Value::Blank,
+            height: 0,
+        }
     }
 }
 
-/// How many columns of the sheet the range has.
-pub fn width(shape: Shape, area: Rect) -> usize
-    ensures value { result ≡ spec.width shape area }
-    ensures within { 0 < result → area.first.column + result ≤ 26 }
-{
-    (area.last.column.min(shape.columns - 1) + 1).saturating_sub(area.first.column)
-}
-
-/// How many rows of the sheet the range has.
-pub fn height(shape: Shape, area: Rect) -> usize
-    ensures value { result ≡ spec.height shape area }
-    ensures within { 0 < result → area.first.row + result ≤ 64 }
-{
-    (area.last.row.min(shape.rows - 1) + 1).saturating_sub(area.first.row)
-}
-
-/// The cell with this number of a range of so many columns, row by row from the left.
-pub fn cell_of(area: Rect, columns: usize, k: usize) -> Cell
-    requires some { 0 < columns }
-    requires columns { area.first.column + columns ≤ 26 }
-    requires rows { area.first.row + k / columns ≤ 64 }
-    ensures { result ≡ spec.cell_of area columns k }
-{
-    Cell {
-        column: area.first.column + k % columns,
-        row: area.first.row + k / columns,
-    }
-}
-
-/// The tally with the cells of a range.
-fn with_range(shape: Shape, inputs: &Inputs, area: Rect, tally: Tally) -> Tally
-    requires { tally.count < 2 ^ 31 }
-    ensures tally { (vs : List values.Value) → IsTally vs tally → IsTally (vs ++ map (values_in inputs.now.items) (spec.cells_of shape area)) result }
-    ensures count { result.count ≤ tally.count + 2048 }
-{
-    let columns = width(shape, area);
-    let rows = height(shape, area);
-    let mut sum = tally;
-    for k in 0..columns * rows {
-        let cell = cell_of(area, columns, k);
-        sum = sum.with(inputs.entry(cell).value);
-    }
-    sum
-}
-
-/// The value of a formula (OpenFormula, our profile). It recurses over the formula alone.
+/// The value of a formula (OpenFormula, our profile), and one more than the greatest height of a cell written in it, at
+/// most the number of cells. It recurses over the formula alone.
 #[cycle(evaluation)]
-pub fn evaluate(tree: &Tree, shape: Shape, inputs: &Inputs) -> Value
-    ensures { result ≡ spec.formula_value shape (values_in inputs.now.items) (formula tree.now) }
+pub fn evaluate(tree: &Tree, shape: Shape, inputs: &Inputs) -> Entry
+    ensures value { result.height < count_of shape → result.value ≡ spec.formula_value shape (values_in inputs.now.items) (formula tree.now) }
+    ensures height { result.height ≡ min (count_of shape) (heights.formula_height shape (heights_in inputs.now.items) (formula tree.now)) }
 {
     match tree {
-        Tree::Number(number) => Value::Number(*number),
-        Tree::Reference(cell) => never_blank(look(shape, inputs, *cell)),
-        Tree::Range(_) => Value::Num,
-        Tree::Prefix(sign, operand) => signed(*sign, evaluate(operand, shape, inputs)),
+        Tree::Number(number) => Entry {
+            value: Value::Number(*number),
+            height: 0,
+        },
+        Tree::Reference(cell) => {
+            let entry = look(shape, inputs, *cell);
+            Entry {
+                value: never_blank(entry.value),
+                height: entry.height,
+            }
+        }
+        Tree::Range(area) => Entry {
+            value: Value::Num,
+            height: with_range(shape, inputs, *area, Gathered::new()).height,
+        },
+        Tree::Prefix(sign, operand) => {
+            let entry = evaluate(operand, shape, inputs);
+            Entry {
+                value: signed(*sign, entry.value),
+                height: entry.height,
+            }
+        }
         Tree::Binary(operator, left, right) => {
             let left = evaluate(left, shape, inputs);
-            joined(*operator, left, evaluate(right, shape, inputs))
+            let right = evaluate(right, shape, inputs);
+            Entry {
+                value: joined(*operator, left.value, right.value),
+                height: left.height.max(right.height),
+            }
         }
         Tree::Call(function, arguments) => call(*function, arguments, shape, inputs),
     }
@@ -91,89 +82,167 @@ pub fn evaluate(tree: &Tree, shape: Shape, inputs: &Inputs) -> Value
 /// The value of a function. What the reader of formulas never gives has some value all the same: a wrong number of
 /// arguments of ABS, MOD, QUOTIENT or IF is `#NUM!`, and SUM, MIN and MAX of none are 0.
 #[cycle(evaluation)]
-fn call(function: Function, arguments: &[Tree], shape: Shape, inputs: &Inputs) -> Value
-    ensures { result ≡ spec.formula_value shape (values_in inputs.now.items) (Called function (listed (map formula arguments.now))) }
+fn call(function: Function, arguments: &[Tree], shape: Shape, inputs: &Inputs) -> Entry
+    ensures value { result.height < count_of shape → result.value ≡ spec.formula_value shape (values_in inputs.now.items) (Called function (listed (map formula arguments.now))) }
+    ensures height { result.height ≡ min (count_of shape) (heights.formulas_height shape (heights_in inputs.now.items) (listed (map formula arguments.now))) }
 {
-    let count = arguments.len();
     // no reader gives as many: this bounds the sums
-    if count > 255 {
-        return Value::Num;
+    if arguments.len() > 255 {
+        return unfit(arguments, shape, inputs);
     }
     match function {
-        Function::Sum => gather(arguments, shape, inputs).total(),
-        Function::Min => gather(arguments, shape, inputs).least(),
-        Function::Max => gather(arguments, shape, inputs).greatest(),
-        Function::Abs => {
-            if count != 1 {
-                return Value::Num;
+        Function::Sum => {
+            let gathered = gather(arguments, shape, inputs);
+            Entry {
+                value: gathered.tally.total(),
+                height: gathered.height,
             }
-            absolute(evaluate(&arguments[0], shape, inputs))
         }
-        Function::Mod => {
-            if count != 2 {
-                return Value::Num;
+        Function::Min => {
+            let gathered = gather(arguments, shape, inputs);
+            Entry {
+                value: gathered.tally.least(),
+                height: gathered.height,
             }
-            let left = evaluate(&arguments[0], shape, inputs);
-            modulo(left, evaluate(&arguments[1], shape, inputs))
+        }
+        Function::Max => {
+            let gathered = gather(arguments, shape, inputs);
+            Entry {
+                value: gathered.tally.greatest(),
+                height: gathered.height,
+            }
+        }
+        Function::Abs => absolute_of(arguments, shape, inputs),
+        Function::Mod => {
+            if arguments.len() != 2 {
+                return unfit(arguments, shape, inputs);
+            }
+            let pair = paired(arguments, shape, inputs);
+            Entry {
+                value: modulo(pair.left, pair.right),
+                height: pair.height,
+            }
         }
         Function::Quotient => {
-            if count != 2 {
-                return Value::Num;
+            if arguments.len() != 2 {
+                return unfit(arguments, shape, inputs);
             }
-            let left = evaluate(&arguments[0], shape, inputs);
-            quotient(left, evaluate(&arguments[1], shape, inputs))
+            let pair = paired(arguments, shape, inputs);
+            Entry {
+                value: quotient(pair.left, pair.right),
+                height: pair.height,
+            }
         }
         Function::If => conditional(arguments, shape, inputs),
     }
 }
 
-/// IF (OpenFormula 6.15): the condition and the chosen branch alone are evaluated.
+/// A function with a number of arguments that it does not take: `#NUM!`, and how far references lead all the same.
 #[cycle(evaluation)]
-fn conditional(arguments: &[Tree], shape: Shape, inputs: &Inputs) -> Value
+fn unfit(arguments: &[Tree], shape: Shape, inputs: &Inputs) -> Entry
+    ensures value { result.value ≡ Value.Num }
+    ensures height { result.height ≡ min (count_of shape) (heights.formulas_height shape (heights_in inputs.now.items) (listed (map formula arguments.now))) }
+{
+    let mut height = 0;
+    for argument in arguments {
+        let next = evaluate(argument, shape, inputs).height;
+        height = height.max(next);
+    }
+    Entry {
+        value: Value::Num,
+        height,
+    }
+}
+
+/// ABS of its one argument.
+#[cycle(evaluation)]
+fn absolute_of(arguments: &[Tree], shape: Shape, inputs: &Inputs) -> Entry
     requires { length arguments.now ≤ 255 }
-    ensures { result ≡ spec.formula_value shape (values_in inputs.now.items) (Called Function.If (listed (map formula arguments.now))) }
+    ensures value { result.height < count_of shape → result.value ≡ spec.formula_value shape (values_in inputs.now.items) (Called Function.Abs (listed (map formula arguments.now))) }
+    ensures height { result.height ≡ min (count_of shape) (heights.formulas_height shape (heights_in inputs.now.items) (listed (map formula arguments.now))) }
+{
+    if arguments.len() != 1 {
+        return unfit(arguments, shape, inputs);
+    }
+    let entry = evaluate(&arguments[0], shape, inputs);
+    Entry {
+        value: absolute(entry.value),
+        height: entry.height,
+    }
+}
+
+/// The values of two arguments, and one more than the greatest height of a cell written in them.
+#[derive(Clone, Copy, Debug)]
+struct Pair {
+    left: Value,
+    right: Value,
+    height: usize,
+}
+
+/// The values of the two arguments of a function.
+#[cycle(evaluation)]
+fn paired(arguments: &[Tree], shape: Shape, inputs: &Inputs) -> Pair
+    requires { length arguments.now ≡ 2 }
+    ensures values { result.height < count_of shape → spec.own_values shape (values_in inputs.now.items) (listed (map formula arguments.now)) ≡ result.left ∷ result.right ∷ [] }
+    ensures height { result.height ≡ min (count_of shape) (heights.formulas_height shape (heights_in inputs.now.items) (listed (map formula arguments.now))) }
+{
+    let left = evaluate(&arguments[0], shape, inputs);
+    let right = evaluate(&arguments[1], shape, inputs);
+    Pair {
+        left: left.value,
+        right: right.value,
+        height: left.height.max(right.height),
+    }
+}
+
+/// IF (OpenFormula, function IF): the value of the chosen branch, 0 for one that is left out. References in the other
+/// branch count for the height, and so it is read too; its value is dropped, an error included.
+#[cycle(evaluation)]
+fn conditional(arguments: &[Tree], shape: Shape, inputs: &Inputs) -> Entry
+    requires { length arguments.now ≤ 255 }
+    ensures value { result.height < count_of shape → result.value ≡ spec.formula_value shape (values_in inputs.now.items) (Called Function.If (listed (map formula arguments.now))) }
+    ensures height { result.height ≡ min (count_of shape) (heights.formulas_height shape (heights_in inputs.now.items) (listed (map formula arguments.now))) }
 {
     let count = arguments.len();
-    if count < 2 || count > 3 {
-        return Value::Num;
-    }
-    match chosen(evaluate(&arguments[0], shape, inputs)) {
-        Err(error) => error,
-        Ok(true) => evaluate(&arguments[1], shape, inputs),
-        Ok(false) => {
-            if count == 2 {
-                return Value::Number(0);
-            }
-            evaluate(&arguments[2], shape, inputs)
-        }
-    }
-}
-
-/// The tally of what the arguments stand for: a reference or a range stands for its cells.
-#[cycle(evaluation)]
-fn gather(arguments: &[Tree], shape: Shape, inputs: &Inputs) -> Tally
-    requires { length arguments.now ≤ 255 }
-    ensures { IsTally (spec.all_values shape (values_in inputs.now.items) (listed (map formula arguments.now))) result }
-{
-    let mut tally = Tally::new();
-    for argument in arguments {
-        tally = match argument {
-            Tree::Reference(cell) => tally.with(look(shape, inputs, *cell)),
-            Tree::Range(area) => with_range(shape, inputs, *area, tally),
-            Tree::Number(_) | Tree::Prefix(_, _) | Tree::Binary(_, _, _) | Tree::Call(_, _) =>
-                tally.with(evaluate(argument, shape, inputs)),
+    if count == 2 {
+        let pair = paired(arguments, shape, inputs);
+        return Entry {
+            value: choice(pair.left, pair.right, Value::Number(0)),
+            height: pair.height,
         };
     }
-    tally
+    if count != 3 {
+        return unfit(arguments, shape, inputs);
+    }
+    let condition = evaluate(&arguments[0], shape, inputs);
+    let left = evaluate(&arguments[1], shape, inputs);
+    let right = evaluate(&arguments[2], shape, inputs);
+    Entry {
+        value: choice(condition.value, left.value, right.value),
+        height: condition.height.max(left.height.max(right.height)),
+    }
 }
 
-/// The value of what a cell holds.
-pub fn evaluate_content(content: &Content, shape: Shape, inputs: &Inputs) -> Value
-    ensures { result ≡ spec.content_value shape (values_in inputs.now.items) (plain content.now) }
+/// What the arguments stand for: a reference or a range stands for its cells.
+#[cycle(evaluation)]
+fn gather(arguments: &[Tree], shape: Shape, inputs: &Inputs) -> Gathered
+    requires { length arguments.now ≤ 255 }
+    ensures tally { result.height < count_of shape → IsTally (spec.all_values shape (values_in inputs.now.items) (listed (map formula arguments.now))) result.tally }
+    ensures height { result.height ≡ min (count_of shape) (heights.formulas_height shape (heights_in inputs.now.items) (listed (map formula arguments.now))) }
 {
-    match content {
-        Content::Blank => Value::Blank,
-        Content::Number(number) => Value::Number(*number),
-        Content::Formula(tree) => evaluate(tree, shape, inputs),
+    let mut gathered = Gathered::new();
+    for argument in arguments {
+        gathered = match argument {
+            Tree::Reference(cell) => {
+                let entry = look(shape, inputs, *cell);
+                gathered.with(entry.value, entry.height)
+            }
+            Tree::Range(area) => with_range(shape, inputs, *area, gathered),
+            Tree::Number(_) | Tree::Prefix(_, _) | Tree::Binary(_, _, _) | Tree::Call(_, _) => {
+                let entry = evaluate(argument, shape, inputs);
+                gathered.with(entry.value, entry.height)
+            }
+        };
     }
+    gathered
 }

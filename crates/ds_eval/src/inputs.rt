@@ -1,7 +1,9 @@
 //! Cells with what they show.
 
 ghost use Rattle.std.specs.Prelude.{◌≡◌, ◌≢◌, ◌↔◌, ℕ, ◌+◌, ◌<◌, ◌≤◌, [], ◌∷◌, ◌++◌, length, false, IsTrue, IfOk, IfSome, IsNone};
-ghost use Rattle.ds_eval.specs.Inputs.{entry_in, entry_at, with_entry, cell_in, IsAscending, IsBehind, IsBefore};
+ghost use Rattle.ds_formula.specs.Refs.{IsBefore};
+ghost use Rattle.ds_eval.specs.Inputs.{entry_in, entry_at, with_entry, cell_in, IsAscending, IsBehind};
+ghost use Rattle.ds_eval.specs.Rows.{right_of};
 
 use crate::value::Value;
 use ds_formula::cells::Cell;
@@ -26,11 +28,13 @@ pub struct Input {
     pub entry: Entry,
 }
 
-/// The entries of some cells, in which a cell is found by halving.
+/// The entries of some cells. In a table of all cells of a sheet a cell is found at its own place, else by halving.
 /// Clauses see the inputs, which ascend row by row from the left, and how many there is room for.
 #[derive(Debug, Drop)]
 pub struct Inputs {
     items: Vec<Input>,
+    // how many columns a table of all cells has, 0 for any other inputs: it says where a cell is looked for first
+    columns: usize,
 }
 
 impl Model for Inputs {
@@ -50,8 +54,17 @@ impl Inputs {
         ensures items { IfOk result (λ inputs. inputs.items ≡ []) }
         ensures room { IfOk result (λ inputs. count ≤ inputs.room) }
     {
+        Inputs::by_columns(alloc, count, 0)
+    }
+
+    /// No inputs, with room for so many. They are found faster where they become all cells of a sheet of so many columns.
+    pub fn by_columns(alloc: Global, count: usize, columns: usize) -> Result<Inputs, AllocError>
+        ensures items { IfOk result (λ inputs. inputs.items ≡ []) }
+        ensures room { IfOk result (λ inputs. count ≤ inputs.room) }
+    {
         Ok(Inputs {
             items: Vec::with_capacity(alloc, count)?,
+            columns,
         })
     }
 
@@ -79,6 +92,7 @@ impl Inputs {
     {
         Ok(Inputs {
             items: Vec::from_slice(alloc, &self.items)?,
+            columns: self.columns,
         })
     }
 
@@ -119,12 +133,58 @@ impl Inputs {
     pub fn entry(&self, cell: Cell) -> Entry
         ensures { result ≡ entry_in self.now.items cell }
     {
-        match find(&self.items, cell) {
+        match find_near(&self.items, self.guess(cell), cell) {
             Some(place) => self.items[place].entry,
             None => Entry {
                 value: Value::Blank,
                 height: 0,
             },
+        }
+    }
+
+    /// The entry of the input so many behind the one with this number.
+    pub(crate) fn at(&self, place: usize, k: usize) -> Entry
+        requires { place + k < length self.now.items }
+        ensures { result ≡ entry_in self.now.items (cell_in self.now.items (place + k)) }
+    {
+        self.items[place + k].entry
+    }
+
+    // The number that the cell has in a table of all cells.
+    fn guess(&self, cell: Cell) -> usize {
+        cell.row
+            .saturating_mul(self.columns)
+            .saturating_add(cell.column)
+    }
+
+    /// Where the rows of a range are likely to begin: the place of the first one, and how far apart they are.
+    pub(crate) fn rows_of(&self, first: Cell, width: usize) -> (usize, usize) {
+        if self.columns > 0 {
+            (self.guess(first), self.columns)
+        } else {
+            (count_before(&self.items, first), width)
+        }
+    }
+
+    /// From which place on the inputs are this cell and those to its right, so many as the width says. This place is
+    /// tried first; `None` where one of the cells is missing.
+    pub(crate) fn row_at(&self, first: Cell, width: usize, near: usize) -> Option<usize>
+        requires { first.column + width ≤ 26 }
+        ensures within { IfSome result (λ place. place + width ≤ length self.now.items) }
+        ensures cells { IfSome result (λ place. (k : ℕ) → k < width → cell_in self.now.items (place + k) ≡ right_of first k) }
+    {
+        let place = find_near(&self.items, near, first)?;
+        if width == 0 || width > self.items.len() - place {
+            return None;
+        }
+        let last = Cell {
+            column: first.column + (width - 1),
+            row: first.row,
+        };
+        if self.items[place + (width - 1)].cell == last {
+            Some(place)
+        } else {
+            None
         }
     }
 }
@@ -134,6 +194,19 @@ fn is_before(first: Cell, second: Cell) -> bool
     ensures { IsTrue result ↔ IsBefore first second }
 {
     first.row < second.row || (first.row == second.row && first.column < second.column)
+}
+
+/// Where the cell is among ascending inputs: this place is tried first.
+fn find_near(inputs: &[Input], guess: usize, cell: Cell) -> Option<usize>
+    requires { IsAscending inputs.now }
+    ensures some { IfSome result (λ place. (place < length inputs.now) × (cell_in inputs.now place ≡ cell)) }
+    ensures none { IsNone result → (k : ℕ) → k < length inputs.now → cell_in inputs.now k ≢ cell }
+{
+    if guess < inputs.len() && inputs[guess].cell == cell {
+        Some(guess)
+    } else {
+        find(inputs, cell)
+    }
 }
 
 /// Where the cell is among ascending inputs.

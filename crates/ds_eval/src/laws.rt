@@ -1,17 +1,20 @@
 //! Laws over the definitions alone: functions without other work, whose contracts are the theorems.
 
-ghost use Rattle.std.specs.Prelude.{◌≡◌, ◌≢◌, ℕ, List};
+ghost use Rattle.std.specs.Prelude.{◌≡◌, ◌≢◌, ℕ, min, ℤ, pos, List};
 ghost use Rattle.ds_formula.specs.declared.cells.Shape as shapes;
 ghost use Rattle.ds_formula.specs.declared.cells.Cell as cells;
-ghost use Rattle.ds_formula.specs.Cells.{IsInside, index_of};
+ghost use Rattle.ds_formula.specs.declared.cells.Rect as areas;
+ghost use Rattle.ds_formula.specs.Cells.{IsInside, index_of, count_of};
 ghost use Rattle.ds_formula.specs.Plain.{Plain, Formula};
 ghost use Rattle.ds_formula.specs.Refs.{Refers};
 ghost use Rattle.ds_formula.specs.Grammar.{Reads};
 ghost use Rattle.ds_eval.specs.declared.value.Value as values;
 ghost use Rattle.ds_eval.specs.declared.inputs.Entry as entries;
 ghost use Rattle.ds_eval.specs.Scratch.{Runs, at, IsScratch, WalkLaw};
-ghost use Rattle.ds_eval.specs.Evaluation.{formula_value};
-ghost use Rattle.ds_eval.specs.Local.{local, IsLocal, IsShown};
+ghost use Rattle.ds_eval.specs.Evaluation.{formula_value, cells_of};
+ghost use Rattle.ds_eval.specs.Numbers.{floor_div};
+ghost use Rattle.ds_eval.specs.Meanings.{IsAbove, AreCellsOf, IsFloor};
+ghost use Rattle.ds_eval.specs.Local.{local, content_height, height_of, IsLocal, IsShown};
 ghost use Rattle.ds_eval.specs.Showable.{CanShow};
 
 use crate::value::Value;
@@ -49,4 +52,20 @@ pub fn neighbours_law()
 /// A cell can show the entry of a content that was read, where it can be shown what the cells that are written in it have.
 pub fn shown_law()
     ensures { (shape : shapes.Shape) (text : List ℕ) (content : Plain) (entries : cells.Cell → entries.Entry) → Reads shape text content → ((d : cells.Cell) → Refers content d → IsInside shape d → CanShow shape (entries d)) → CanShow shape (local shape content entries) }
+{}
+
+/// A cell's height is one more than the greatest height of a cell of the sheet that is written in it, at most the number of
+/// cells, and 0 where none is.
+pub fn height_law()
+    ensures { (shape : shapes.Shape) (content : Plain) (entries : cells.Cell → entries.Entry) → IsAbove shape content (height_of entries) (content_height shape (height_of entries) content) × ((local shape content entries).height ≡ min (count_of shape) (content_height shape (height_of entries) content)) }
+{}
+
+/// The cells of a range are those of the sheet within it, in reading order.
+pub fn range_law()
+    ensures { (shape : shapes.Shape) (area : areas.Rect) → AreCellsOf shape area (cells_of shape area) }
+{}
+
+/// MOD rests on the whole number below a quotient, or at it.
+pub fn floor_law()
+    ensures { (a b : ℤ) → b ≢ pos 0 → IsFloor a b (floor_div a b) }
 {}

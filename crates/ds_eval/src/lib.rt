@@ -3,6 +3,8 @@
 
 mod arithmetic;
 mod evaluate;
+mod gather;
+mod guess;
 pub mod inputs;
 pub mod laws;
 pub mod local;

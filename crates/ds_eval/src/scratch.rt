@@ -1,40 +1,19 @@
 //! The values of a sheet from its contents alone.
 
 ghost use Rattle.std.specs.Prelude.{◌≡◌, ℕ, ◌<◌, suc, false, IfOk};
-ghost use Rattle.ds_formula.specs.declared.cells.Cell as cells;
-ghost use Rattle.ds_formula.specs.Cells.{IsInside, count_of};
-ghost use Rattle.ds_eval.specs.Inputs.{entry_in, no_entry};
+ghost use Rattle.ds_formula.specs.Cells.{count_of};
+ghost use Rattle.ds_eval.specs.Inputs.{entry_in};
 ghost use Rattle.ds_eval.specs.Sheet.{contents_of};
 ghost use Rattle.ds_eval.specs.Scratch.{IsScratch};
 ghost use Rattle.ds_eval.specs.Local.{IsLocal};
 ghost use Rattle.ds_eval.specs.Rounds.{IsTable, AreSettled, shown};
 
-use crate::inputs::{Entry, Input, Inputs};
+use crate::guess::guessed;
+use crate::inputs::Inputs;
 use crate::local::local;
 use crate::sheet::Sheet;
 use crate::value::Value;
-use ds_formula::cells::Shape;
 use std::alloc::{AllocError, Global};
-
-/// A blank entry for each cell of the sheet.
-fn blank_table(alloc: Global, shape: Shape) -> Result<Inputs, AllocError>
-    ensures table { IfOk result (λ t. IsTable shape t.items) }
-    ensures blank { IfOk result (λ t. (c : cells.Cell) → IsInside shape c → entry_in t.items c ≡ no_entry) }
-{
-    let count = shape.count();
-    let mut table = Inputs::with_capacity(alloc, count)?;
-    for k in 0..count {
-        let cell = shape.cell(k);
-        table.push(Input {
-            cell,
-            entry: Entry {
-                value: Value::Blank,
-                height: 0,
-            },
-        });
-    }
-    Ok(table)
-}
 
 /// Evaluates each cell in turn on what the others show at that moment. Whether any entry changed.
 fn evaluate_all(sheet: &Sheet, table: &mut Inputs) -> bool
@@ -52,10 +31,10 @@ fn evaluate_all(sheet: &Sheet, table: &mut Inputs) -> bool
     changed
 }
 
-/// Evaluates all cells until nothing changes, or as often as there are cells: references reach no further.
+/// Evaluates all cells until nothing changes, or as often as there are cells: whatever the first entries are,
+/// references reach no further. Where they were guessed right, the first round changes nothing.
 fn settle(sheet: &Sheet, table: &mut Inputs)
-    requires table { IsTable sheet.now.shape table.old.items }
-    requires first { AreSettled sheet.now.shape (contents_of sheet.now) 0 table.old.items }
+    requires { IsTable sheet.now.shape table.old.items }
     ensures { IsScratch sheet.now.shape (contents_of sheet.now) (shown table.new.items) }
 {
     for _ in 0..sheet.shape.count() {
@@ -84,7 +63,7 @@ fn values_of(alloc: Global, table: &Inputs) -> Result<Vec<Value>, AllocError>
 pub fn scratch(alloc: Global, sheet: &Sheet) -> Result<Vec<Value>, AllocError>
     ensures { IfOk result (λ values. IsScratch sheet.now.shape (contents_of sheet.now) values.items) }
 {
-    let mut table = blank_table(alloc, sheet.shape)?;
+    let mut table = guessed(alloc, sheet)?;
     settle(sheet, &mut table);
     values_of(alloc, &table)
 }

@@ -45,11 +45,9 @@ impl Tally {
         ensures count { result.count ≤ self.count + 1 }
     {
         match value {
-            Value::Blank => self,
             Value::Number(number) => self.with_number(number),
-            Value::DivZero => self.with_error(Value::DivZero),
-            Value::Num => self.with_error(Value::Num),
-            Value::Circular => self.with_error(Value::Circular),
+            Value::Blank => self,
+            Value::DivZero | Value::Num | Value::Circular => self.with_error(value),
         }
     }
 
@@ -87,7 +85,7 @@ impl Tally {
         }
     }
 
-    /// SUM (OpenFormula 6.16): added exactly before the range is asked for.
+    /// SUM (OpenFormula 6.16, function SUM): added exactly before the range is asked for.
     pub fn total(self) -> Value
         ensures { (vs : List values.Value) → IsTally vs self → result ≡ exact.with_all vs (λ ns. exact.in_range (exact.total ns)) }
     {
@@ -100,7 +98,7 @@ impl Tally {
         }
     }
 
-    /// MIN (OpenFormula 6.18): 0 of no numbers.
+    /// MIN (OpenFormula 6.18, function MIN): 0 of no numbers.
     pub fn least(self) -> Value
         ensures { (vs : List values.Value) → IsTally vs self → result ≡ exact.with_all vs (λ ns. Value.Number (exact.least ns)) }
     {
@@ -110,7 +108,7 @@ impl Tally {
         }
     }
 
-    /// MAX (OpenFormula 6.18): 0 of no numbers.
+    /// MAX (OpenFormula 6.18, function MAX): 0 of no numbers.
     pub fn greatest(self) -> Value
         ensures { (vs : List values.Value) → IsTally vs self → result ≡ exact.with_all vs (λ ns. Value.Number (exact.greatest ns)) }
     {

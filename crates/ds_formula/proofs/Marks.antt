@@ -1,5 +1,5 @@
 -- Marks are the cells that are written, and the cells that have a mark ascend.
-use Rattle.std.proofs.Common.{◌≡◌, inl, inr, ℕ, zero, suc, ◌+◌, ◌*◌, ◌/◌, ◌<◌, ◌≤◌, Bool, true, false, cond, ◌||◌, leb, List, [], ◌∷◌, ◌++◌, map, take, length, length-append, get_or, replicate, Decides, refl, sym, ap, subst, ◌∙◌, arith, add-one, Result, Ok, Err, IfOk}
+use Rattle.std.proofs.Common.{◌≡◌, ◌⊎◌, inl, inr, ℕ, zero, suc, ◌+◌, ◌*◌, ◌/◌, ◌<◌, ◌≤◌, Bool, true, false, cond, ◌||◌, leb, List, [], ◌∷◌, ◌++◌, map, take, length, length-append, get_or, replicate, Decides, refl, sym, ap, subst, ◌∙◌, arith, add-one, Result, Ok, Err, IfOk}
 use Rattle.std.proofs.Math.Bool.{or_assoc}
 use Rattle.std.proofs.Math.Seq.{get_or-append_seam}
 use Rattle.std.proofs.lemmas.Bool.{cases_lt, false≢true, leb-true, le-leb}
@@ -19,7 +19,7 @@ use Rattle.ds_formula.specs.declared.references.TheConstants.{PLACES}
 use Rattle.ds_formula.specs.Cells.{IsWithin}
 use Rattle.ds_formula.specs.Plain.{Formula, Literal, At, Area, Signed, Joined, Called, Formulas, Nothing, Then, listed, formula, plain, Computed}
 use Rattle.ds_formula.specs.Refs.{Mentions, SomeMentions, IsPossible, IsBefore, AreRefs}
-use Rattle.ds_formula.specs.Marks.{cell_by, is_within, mentions, some_mentions, marked_below, MarksBy, Marks}
+use Rattle.ds_formula.specs.Marks.{AreRowsOf, MarksArea, MarksRows, cell_by, is_within, mentions, some_mentions, marked_below, MarksBy, Marks}
 use Rattle.ds_formula.proofs.Views.{formula_call}
 
 -- ---- marks of arguments
@@ -198,3 +198,41 @@ pub refs_answer : {E : Type 0} (content : Content) (t : Tree) (r : Result (Vec C
 refs_answer content t (Err e) start marks p q m h = h
 refs_answer content t (Ok v) start marks p q m h =
     subst (λ (x : Content). AreRefs (plain x) v.items) (sym p) (subst (λ (xs : List Cell). AreRefs (Computed (formula t)) xs) (sym h) (refs_are (formula t) marks (subst (λ (x : List Bool). Marks (formula t) x marks) q m)))
+
+-- ---- rows with a mark
+
+pub no_rows : (marks rows : List Bool) → marks ≡ replicate PLACES false → AreRowsOf marks rows
+no_rows marks rows e = record {
+  each = λ k l m. absurd (false≢true (sym (get_or-replicate PLACES k false false l) ∙ ap (λ (x : List Bool). get_or x k false) (sym e) ∙ m));
+}
+
+either_true : (a b : Bool) → (a || b) ≡ true → (a ≡ true) ⊎ (b ≡ true)
+either_true true b e = inl refl
+either_true false b e = inr e
+
+pub area_rows : (area : Rect) (marks more rows then : List Bool) → AreRowsOf marks rows → MarksArea area marks more → MarksRows area rows then → AreRowsOf more then
+area_rows area marks more rows then r m n = record {
+  each = λ k l e. elim (either_true (get_or marks k false) (is_within area (cell_by k)) (sym (m.each k l) ∙ e)) [
+    | inl p ↦ n.kept (k / 26) (r.each k l p)
+    | inr p ↦ let w = (within_decides area (cell_by k)).0 p in n.marked (k / 26) w.from_top w.to_bottom (omega arith)
+  ];
+}
+
+-- places without a mark add no cell
+pub unmarked_more : (marks : List Bool) (n m : ℕ) → ((k : ℕ) → n ≤ k → k < n + m → get_or marks k false ≡ false) → marked_below marks (n + m) ≡ marked_below marks n
+unmarked_more marks n zero h = ap (marked_below marks) (let e : n + 0 ≡ n = omega arith in e)
+unmarked_more marks n (suc m) h =
+    ap (marked_below marks) (let e : n + suc m ≡ (n + m) + 1 = omega arith in e)
+    ∙ marked_step marks (n + m)
+    ∙ ap (λ (b : Bool). marked_below marks (n + m) ++ cond b (cell_by (n + m) ∷ []) []) (h (n + m) (omega arith) (omega arith))
+    ∙ append-nil (marked_below marks (n + m))
+    ∙ unmarked_more marks n m (λ k l o. h k l (omega arith))
+
+is_false : (b : Bool) → (b ≡ true → ⊥) → b ≡ false
+is_false true n = absurd (n refl)
+is_false false n = refl
+
+pub row_skipped : (marks rows : List Bool) (row : ℕ) → row < 64 → AreRowsOf marks rows → get_or rows row false ≡ false → marked_below marks (26 * row + 26) ≡ marked_below marks (26 * row)
+row_skipped marks rows row l r e = unmarked_more marks (26 * row) 26 (λ k o p.
+    let q : k / 26 ≡ row = omega arith in
+    is_false (get_or marks k false) (λ m. false≢true (sym e ∙ ap (λ (i : ℕ). get_or rows i false) (sym q) ∙ r.each k (omega arith) m)))

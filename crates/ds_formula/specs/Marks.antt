@@ -1,5 +1,5 @@
 -- A mark for each cell that some sheet has, row by row from the left.
-use Rattle.std.specs.Prelude.{◌≡◌, ℕ, zero, suc, ◌/◌, ◌%◌, ◌<◌, Bool, false, ◌&&◌, ◌||◌, nat_le, List, [], ◌∷◌, ◌++◌, length, slice_index_or, if◌then◌else◌}
+use Rattle.std.specs.Prelude.{◌≡◌, ℕ, zero, suc, ◌/◌, ◌%◌, ◌<◌, ◌≤◌, Bool, false, true, ◌&&◌, ◌||◌, nat_le, List, [], ◌∷◌, ◌++◌, length, slice_index_or, if◌then◌else◌}
 use Rattle.ds_formula.specs.declared.cells.Cell.{Cell}
 use Rattle.ds_formula.specs.declared.cells.Rect.{Rect}
 use Rattle.ds_formula.specs.declared.references.TheConstants.{PLACES}
@@ -30,6 +30,10 @@ unfoldable pub marked_below : List Bool → ℕ → List Cell
 marked_below marks zero = []
 marked_below marks (suc n) = marked_below marks n ++ (if slice_index_or marks n false then cell_by n ∷ [] else [])
 
+-- each row with a mark is one of these
+pub record AreRowsOf (marks rows : List Bool) : Type 0 where
+  pub each : (k : ℕ) → k < PLACES → slice_index_or marks k false ≡ true → slice_index_or rows (k / 26) false ≡ true
+
 -- the cells that pass the test have a mark too now
 pub record MarksBy (test : Cell → Bool) (old new : List Bool) : Type 0 where
   pub same_length : length new ≡ length old
@@ -40,3 +44,8 @@ MarksArea area = MarksBy (is_within area)
 
 abbrev pub Marks : Formula → List Bool → List Bool → Type 0
 Marks f = MarksBy (mentions f)
+
+-- the rows of the range are marked too now
+pub record MarksRows (area : Rect) (old new : List Bool) : Type 0 where
+  pub kept : (k : ℕ) → slice_index_or old k false ≡ true → slice_index_or new k false ≡ true
+  pub marked : (k : ℕ) → area.first.row ≤ k → k ≤ area.last.row → k < 64 → slice_index_or new k false ≡ true

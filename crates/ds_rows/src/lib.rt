@@ -20,4 +20,6 @@ mod running;
 #[cfg(test)]
 mod runs;
 #[cfg(test)]
+mod speeds;
+#[cfg(test)]
 mod worlds;

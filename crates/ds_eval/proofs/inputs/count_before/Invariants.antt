@@ -1,5 +1,6 @@
 use Rattle.std.proofs.Common.{ℕ, ◌<◌, ◌≤◌, ◌-◌, length}
-use Rattle.ds_eval.specs.Inputs.{cell_in, IsBefore}
+use Rattle.ds_formula.specs.Refs.{IsBefore}
+use Rattle.ds_eval.specs.Inputs.{cell_in}
 use Rattle.ds_eval.proofs.inputs.count_before.Given as goal
 
 abbrev pub invariant-loop-low : goal.invariant-loop-low

@@ -2,8 +2,11 @@ use Rattle.std.proofs.Common.{arith, ◌≡◌, subst, ℕ}
 use Rattle.ds_formula.specs.Cells.{count_of}
 use Rattle.ds_eval.specs.Sheet.{contents_of}
 use Rattle.ds_eval.specs.Rounds.{AreSettled}
-use Rattle.ds_eval.proofs.Rounds.{local_scratch, settled_scratch}
+use Rattle.ds_eval.proofs.Rounds.{local_scratch, settled_scratch, first_settled}
 use Rattle.ds_eval.proofs.scratch.settle.Goals as goal
+
+pub loop-init : goal.loop-init
+loop-init c = record { table = c.requires; settled = first_settled c.args.sheet.now.shape (contents_of c.args.sheet.now) c.args.table.now.items }
 
 pub returns-then-not-evaluate_all : goal.returns-then-not-evaluate_all
 returns-then-not-evaluate_all c =

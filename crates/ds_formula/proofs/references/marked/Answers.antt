@@ -1,19 +1,20 @@
-use Rattle.std.proofs.Common.{arith, sym, ap, ◌∙◌, true, false, [], ◌∷◌, ◌++◌}
+use Rattle.std.proofs.Common.{◌≡◌, ◌+◌, ◌*◌, arith, sym, ap, ◌∙◌}
 use Rattle.std.specs.Global.{Vec}
-use Rattle.std.proofs.lemmas.List.{get_or_read, append-nil}
 use Rattle.ds_formula.specs.declared.cells.Cell.{Cell}
-use Rattle.ds_formula.proofs.Marks.{marked_none, marked_more}
+use Rattle.ds_formula.specs.Marks.{marked_below}
+use Rattle.ds_formula.proofs.Marks.{marked_none, row_skipped}
 use Rattle.ds_formula.proofs.references.marked.Goals as goal
-use Rattle.ds_formula.proofs.references.marked.Goals.{then-index+in_ok-push, else-index}
+use Rattle.ds_formula.proofs.references.marked.Goals.{then-rows-row+in_ok-add_row, else-rows-row}
 
-pub loop-place-init : goal.loop-place-init
-loop-place-init c = c.new-cells.ensures.items ∙ sym (marked_none c.args.marks.now.items)
+pub loop-row-init : goal.loop-row-init
+loop-row-init c = c.new-cells.ensures.items ∙ sym (marked_none c.args.marks.now.items)
 
-pub loop-place-preserved : goal.loop-place-preserved
-loop-place-preserved c =
-    let r = get_or_read c.args.marks.now.items _ _ (omega (arith, c.args.marks.now.ok.0)) c.index.ensures false in
-    elim c.if-index.branch [
-      | then-index+in_ok-push w ↦ marked_more _ _ true c.loop-place.cells.items _ (sym r ∙ w.if-index.true) c.loop-place.invariant
-          (ap (λ (v : Vec Cell). v.items) w.cells-is ∙ w.in_ok-push.ensures.items ∙ ap (λ (x : Cell). c.loop-place.cells.items ++ x ∷ []) w.cell_by.ensures)
-      | else-index w ↦ marked_more _ _ false c.loop-place.cells.items _ (sym r ∙ w.if-index.false) c.loop-place.invariant (ap (λ (v : Vec Cell). v.items) w.cells-is ∙ sym (append-nil _))
+pub loop-row-preserved : goal.loop-row-preserved
+loop-row-preserved c =
+    let marks = c.args.marks.now.items in
+    let row = c.loop-row.row in
+    let next : 26 * row + 26 ≡ 26 * (row + 1) = omega arith in
+    elim c.if-rows-row.branch [
+      | then-rows-row+in_ok-add_row w ↦ ap (λ (v : Vec Cell). v.items) w.cells-is ∙ w.in_ok-add_row.ensures ∙ ap (marked_below marks) next
+      | else-rows-row w ↦ ap (λ (v : Vec Cell). v.items) w.cells-is ∙ c.loop-row.invariant ∙ sym (row_skipped marks c.args.rows.now row c.loop-row-test.true c.requires.rows w.if-rows-row.false) ∙ ap (marked_below marks) next
     ]

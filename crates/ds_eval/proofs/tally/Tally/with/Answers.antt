@@ -1,5 +1,8 @@
-use Rattle.std.proofs.Common.{rules, refl, w64, to_z, of_z, ◌≡◌}
+use Rattle.std.proofs.Common.{rules, refl, w64, to_z, of_z, ◌≡◌, ◌⊎◌, inl, inr, [], ◌∷◌, Some}
 use Rattle.std.proofs.lemmas.Int.{to_z-of_z}
+use Rattle.ds_eval.specs.declared.value.Value.{Value}
+use Rattle.ds_eval.specs.declared.value.Value.TheVariants.{Blank, Number, DivZero, Num, Circular}
+use Rattle.ds_eval.specs.Numbers.{numbers, first_error}
 use Rattle.ds_eval.proofs.Tallies.{blank_more, number_more, error_more}
 use Rattle.ds_eval.proofs.tally.Tally.with.Goals as goal
 
@@ -12,17 +15,19 @@ returns-in-Number-clause-tally c =
     let q : to_z w64 (of_z w64 c.in-Number.number) ≡ c.in-Number.number = to_z-of_z w64 _ (search rules) in
     rw c.in-Number.is (λ vs h. number_more vs c.in-Number.number c.args.self c.with_number.result (to_z w64 (of_z w64 c.in-Number.number)) q e.count e.sum e.least e.greatest e.error h)
 
+is_error : (v : Value) → (v ≡ DivZero) ⊎ ((v ≡ Num) ⊎ (v ≡ Circular)) → (numbers (v ∷ []) ≡ []) × (first_error (v ∷ []) ≡ Some v)
+is_error DivZero e = (refl, refl)
+is_error Num e = (refl, refl)
+is_error Circular e = (refl, refl)
+is_error Blank (inl e) = absurd cc
+is_error Blank (inr (inl e)) = absurd cc
+is_error Blank (inr (inr e)) = absurd cc
+is_error (Number z) (inl e) = absurd cc
+is_error (Number z) (inr (inl e)) = absurd cc
+is_error (Number z) (inr (inr e)) = absurd cc
+
 pub returns-in-DivZero-clause-tally : goal.returns-in-DivZero-clause-tally
 returns-in-DivZero-clause-tally c =
     let e = c.with_error.ensures in
-    rw c.in-DivZero.is (λ vs h. error_more vs _ c.args.self c.with_error.result refl refl e.count e.sum e.least e.greatest e.error h)
-
-pub returns-in-Num-clause-tally : goal.returns-in-Num-clause-tally
-returns-in-Num-clause-tally c =
-    let e = c.with_error-in-Num.ensures in
-    rw c.in-Num.is (λ vs h. error_more vs _ c.args.self c.with_error-in-Num.result refl refl e.count e.sum e.least e.greatest e.error h)
-
-pub returns-in-Circular-clause-tally : goal.returns-in-Circular-clause-tally
-returns-in-Circular-clause-tally c =
-    let e = c.with_error-in-Circular.ensures in
-    rw c.in-Circular.is (λ vs h. error_more vs _ c.args.self c.with_error-in-Circular.result refl refl e.count e.sum e.least e.greatest e.error h)
+    let v = is_error c.args.value c.in-DivZero.is in
+    λ vs h. error_more vs c.args.value c.args.self c.with_error.result v.0 v.1 e.count e.sum e.least e.greatest e.error h

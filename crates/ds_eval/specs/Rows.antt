@@ -1,0 +1,12 @@
+-- Rows of a range: private functions' contracts cite these words.
+use Rattle.std.specs.Prelude.{ℕ, zero, suc, ◌+◌, List, [], ◌∷◌, ◌++◌}
+use Rattle.ds_formula.specs.declared.cells.Cell.{Cell}
+
+-- the cell so many columns to the right
+abbrev pub right_of : Cell → ℕ → Cell
+right_of first k = record { column = first.column + k; row = first.row }
+
+-- the cell and those to its right, so many of them
+abbrev pub row_from : Cell → ℕ → List Cell
+row_from first zero = []
+row_from first (suc k) = row_from first k ++ right_of first k ∷ []

@@ -1,0 +1,186 @@
+//! Many cells at once: the tally of their values, and how far references lead from what refers to them.
+
+ghost use Rattle.std.specs.Prelude.{◌≡◌, ℕ, ◌+◌, ◌*◌, ◌<◌, ◌≤◌, ◌^◌, suc, min, max, List, [], ◌∷◌, ◌++◌, length, map, IfSome};
+ghost use Rattle.ds_formula.specs.Cells.{count_of};
+ghost use Rattle.ds_eval.specs.declared.value.Value as values;
+ghost use Rattle.ds_eval.specs.Evaluation as spec;
+ghost use Rattle.ds_eval.specs.Inputs.{values_in, heights_in, entry_in, cell_in};
+ghost use Rattle.ds_eval.specs.Local.{above};
+ghost use Rattle.ds_eval.specs.Rows.{right_of, row_from};
+ghost use Rattle.ds_eval.specs.Tally.{IsTally};
+
+use crate::inputs::{Entry, Inputs};
+use crate::tally::Tally;
+use crate::value::Value;
+use ds_formula::cells::{Cell, Rect, Shape};
+
+/// How many columns of the sheet the range has.
+pub fn width(shape: Shape, area: Rect) -> usize
+    ensures value { result ≡ spec.width shape area }
+    ensures within { 0 < result → area.first.column + result ≤ 26 }
+{
+    (area.last.column.min(shape.columns - 1) + 1).saturating_sub(area.first.column)
+}
+
+/// How many rows of the sheet the range has.
+pub fn height(shape: Shape, area: Rect) -> usize
+    ensures value { result ≡ spec.height shape area }
+    ensures within { 0 < result → area.first.row + result ≤ 64 }
+{
+    (area.last.row.min(shape.rows - 1) + 1).saturating_sub(area.first.row)
+}
+
+/// What is known of some cells that an expression refers to.
+#[derive(Clone, Copy, Debug)]
+pub struct Gathered {
+    /// The tally of their values.
+    pub tally: Tally,
+    /// One more than their greatest height, at most the number of cells of the sheet; 0 without cells.
+    pub height: usize,
+}
+
+impl Gathered {
+    /// What is known of no cells.
+    pub fn new() -> Gathered
+        ensures tally { IsTally [] result.tally }
+        ensures count { result.tally.count ≡ 0 }
+        ensures height { result.height ≡ 0 }
+    {
+        Gathered {
+            tally: Tally::new(),
+            height: 0,
+        }
+    }
+
+    /// With one more value, at a height one more than its cell's.
+    pub fn with(self, value: Value, height: usize) -> Gathered
+        requires { self.tally.count < 2 ^ 32 }
+        ensures tally { (vs : List values.Value) → IsTally vs self.tally → IsTally (vs ++ value ∷ []) result.tally }
+        ensures count { result.tally.count ≤ self.tally.count + 1 }
+        ensures height { result.height ≡ max self.height height }
+    {
+        Gathered {
+            tally: self.tally.with(value),
+            height: self.height.max(height),
+        }
+    }
+}
+
+/// One more than a cell's height, at most the number of cells.
+pub fn raised(height: usize, most: usize) -> usize
+    ensures { result ≡ min most (suc height) }
+{
+    if height < most { height + 1 } else { most }
+}
+
+/// The entry of the cell so many columns to the right of the first one, which has this place where the whole row is
+/// there.
+fn entry_right_of(inputs: &Inputs, place: Option<usize>, first: Cell, k: usize) -> Entry
+    requires column { first.column + k < 26 }
+    requires within { IfSome place (λ p. p + k < length inputs.now.items) }
+    requires cell { IfSome place (λ p. cell_in inputs.now.items (p + k) ≡ right_of first k) }
+    ensures { result ≡ entry_in inputs.now.items (right_of first k) }
+{
+    match place {
+        Some(place) => inputs.at(place, k),
+        None => inputs.entry(Cell {
+            column: first.column + k,
+            row: first.row,
+        }),
+    }
+}
+
+/// The greater of a height and one more than the greatest height in a row of so many columns.
+fn height_with_row(
+    inputs: &Inputs,
+    most: usize,
+    place: Option<usize>,
+    first: Cell,
+    columns: usize,
+    height: usize,
+) -> usize
+    requires columns { first.column + columns ≤ 26 }
+    requires within { IfSome place (λ p. p + columns ≤ length inputs.now.items) }
+    requires cells { IfSome place (λ p. (k : ℕ) → k < columns → cell_in inputs.now.items (p + k) ≡ right_of first k) }
+    ensures { result ≡ max height (min most (above (map (heights_in inputs.now.items) (row_from first columns)))) }
+{
+    let mut greatest = height;
+    for k in 0..columns {
+        let next = raised(entry_right_of(inputs, place, first, k).height, most);
+        greatest = greatest.max(next);
+    }
+    greatest
+}
+
+/// The tally with the values of a row of so many columns. A loop of its own is faster than one with the heights.
+fn tally_with_row(
+    inputs: &Inputs,
+    place: Option<usize>,
+    first: Cell,
+    columns: usize,
+    tally: Tally,
+) -> Tally
+    requires columns { first.column + columns ≤ 26 }
+    requires within { IfSome place (λ p. p + columns ≤ length inputs.now.items) }
+    requires cells { IfSome place (λ p. (k : ℕ) → k < columns → cell_in inputs.now.items (p + k) ≡ right_of first k) }
+    requires count { tally.count < 2 ^ 31 }
+    ensures tally { (vs : List values.Value) → IsTally vs tally → IsTally (vs ++ map (values_in inputs.now.items) (row_from first columns)) result }
+    ensures count { result.count ≤ tally.count + columns }
+{
+    let mut sum = tally;
+    for k in 0..columns {
+        sum = sum.with(entry_right_of(inputs, place, first, k).value);
+    }
+    sum
+}
+
+/// With the cells of a row of so many columns, which is looked for at this place first.
+fn with_row(
+    inputs: &Inputs,
+    most: usize,
+    first: Cell,
+    columns: usize,
+    near: usize,
+    gathered: Gathered,
+) -> Gathered
+    requires within { first.column + columns ≤ 26 }
+    requires count { gathered.tally.count < 2 ^ 31 }
+    ensures tally { (vs : List values.Value) → IsTally vs gathered.tally → IsTally (vs ++ map (values_in inputs.now.items) (row_from first columns)) result.tally }
+    ensures count { result.tally.count ≤ gathered.tally.count + columns }
+    ensures height { result.height ≡ max gathered.height (min most (above (map (heights_in inputs.now.items) (row_from first columns)))) }
+{
+    let place = inputs.row_at(first, columns, near);
+    Gathered {
+        tally: tally_with_row(inputs, place, first, columns, gathered.tally),
+        height: height_with_row(inputs, most, place, first, columns, gathered.height),
+    }
+}
+
+/// With the cells of a range. From the height on at which references lead round and round no more values are read.
+pub fn with_range(shape: Shape, inputs: &Inputs, area: Rect, gathered: Gathered) -> Gathered
+    requires count { gathered.tally.count < 2 ^ 30 }
+    requires height { gathered.height ≤ count_of shape }
+    ensures tally { result.height < count_of shape → (vs : List values.Value) → IsTally vs gathered.tally → IsTally (vs ++ map (values_in inputs.now.items) (spec.cells_of shape area)) result.tally }
+    ensures count { result.tally.count ≤ gathered.tally.count + 2048 }
+    ensures height { result.height ≡ max gathered.height (min (count_of shape) (above (map (heights_in inputs.now.items) (spec.cells_of shape area)))) }
+{
+    let columns = width(shape, area);
+    let rows = height(shape, area);
+    let most = shape.count();
+    if columns == 0 {
+        return gathered;
+    }
+    let (near, apart) = inputs.rows_of(area.first, columns);
+    let mut sum = gathered;
+    for row in 0..rows {
+        if sum.height < most {
+            let first = Cell {
+                column: area.first.column,
+                row: area.first.row + row,
+            };
+            let near = near.saturating_add(row.saturating_mul(apart));
+            sum = with_row(inputs, most, first, columns, near, sum);
+        }
+    }
+    sum
+}

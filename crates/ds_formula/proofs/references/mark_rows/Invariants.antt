@@ -1,0 +1,9 @@
+use Rattle.std.proofs.Common.{◌≡◌, ℕ, ◌<◌, ◌≤◌, false, true, length, get_or}
+use Rattle.ds_formula.proofs.references.mark_rows.Given as goal
+
+abbrev pub invariant-loop-row : goal.invariant-loop-row
+invariant-loop-row l = record {
+  same_length : length l.rows ≡ length l.initial.rows;
+  kept : (k : ℕ) → get_or l.initial.rows k false ≡ true → get_or l.rows k false ≡ true;
+  marked : (k : ℕ) → l.fn.area.first.row ≤ k → k < l.row → get_or l.rows k false ≡ true;
+}
