@@ -1,19 +1,17 @@
 -- Each turn of a work that goes on leaves fewer.
-use Rattle.std.proofs.Common.{ℕ, ◌≡◌, ◌<◌, ◌≤◌, ◌+◌, ◌*◌, ◌∙◌, Bool, true, false, if◌then◌else◌, nat_lt, List, refl, ap, sym, subst, arith, length}
+use Rattle.std.proofs.Common.{ℕ, ◌≡◌, ◌<◌, ◌≤◌, ◌∙◌, Bool, true, false, if◌then◌else◌, nat_lt, List, refl, ap, sym, subst, arith, length}
 use Rattle.ds_formula.specs.Cells.{count_of}
 use Rattle.ds_formula.specs.Plain.{Plain}
 use Rattle.ds_eval.specs.declared.inputs.Input.{Input}
-use Rattle.ds_layout.specs.Places.{cells_of}
 use Rattle.ds_state.specs.Works.{PlainWork, IsWork}
 use Rattle.ds_state.specs.World.{World}
 use Rattle.ds_state.specs.Calls.{CallFits}
-use Rattle.ds_state.specs.KnownWork.{WorkFits}
 use Rattle.ds_state.specs.Sound.{IsSound}
 use Rattle.ds_state.specs.declared.situation.Situation.{Situation}
 use Rattle.ds_state.specs.declared.situation.Situation.TheVariants.{Working}
 use Rattle.ds_state.specs.declared.work.WorkEnd.{WorkEnd}
 use Rattle.ds_state.specs.declared.work.WorkStage.{WorkStage}
-use Rattle.ds_state.specs.declared.work.WorkStage.TheVariants.{Read, Wait, LoadValue, LoadOwnValue, Give, Answer}
+use Rattle.ds_state.specs.declared.work.WorkStage.TheVariants.{Read, Wait, LoadValue, LoadOwnValue, Answer}
 use Rattle.ds_work.specs.declared.drive.Taken.{Taken}
 use Rattle.ds_work.specs.declared.drive.Taken.TheVariants.{Stepped}
 use Rattle.ds_work.specs.WorkSteps.{at, after, next_at, read_from, lacks, IsPlainStep}
