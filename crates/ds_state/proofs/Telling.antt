@@ -102,11 +102,17 @@ row_passes p row cell part word old new size seen c x bit o = elim (cases_eq (c 
 pub flush_passes : (p : ℕ) (row : List ℕ) (d : ℕ) (old new : World) → new.memory.buffer p ≡ entry (Mark d) (old.memory.cached (Mark d)) ∷ []
     → (c x : ℕ) → SpreadOwes old.memory p row (FlushTold d) c x → SpreadOwes new.memory p row (BackTold d) c x
 flush_passes p row d old new alone c x (bit, inl lt) = (bit, inl lt)
-flush_passes p row d old new alone c x (bit, inr o) = (bit, inr (o.0, record {
-  value = old.memory.cached (Mark d);
-  alone = alone ∙ ap (λ (y : ℕ). entry (Mark y) (old.memory.cached (Mark d)) ∷ []) o.0;
-  below = (let e = ap (λ (y : ℕ). old.memory.cached (Mark y)) o.0 in let l = o.1 in omega arith);
-}))
+flush_passes p row d old new alone c x (bit, inr o) = (
+  bit,
+  inr (
+    o.0,
+    record {
+      value = old.memory.cached (Mark d);
+      alone = alone ∙ ap (λ (y : ℕ). entry (Mark y) (old.memory.cached (Mark d)) ∷ []) o.0;
+      below = (let e = ap (λ (y : ℕ). old.memory.cached (Mark y)) o.0 in let l = o.1 in omega arith);
+    },
+  ),
+)
 
 -- it is written back: nothing below that matters any more
 pub back_passes : (p : ℕ) (row : List ℕ) (d d' v : ℕ) (old new : World) → old.memory.buffer p ≡ entry (Mark d) v ∷ [] → v ≤ new.memory.persisted (Mark d) → new.memory.persisted (Mark d) ≤ new.memory.cached (Mark d)
