@@ -1,5 +1,5 @@
 -- Each answer of work is true by the step that decides it.
-use Rattle.std.proofs.Common.{ℕ, ◌≡◌, ◌≢◌, ◌<◌, ◌≤◌, ◌+◌, ◌-◌, ◌*◌, ◌/◌, ◌^◌, ◌==◌, Bool, true, false, if◌then◌else◌, nat_lt, List, [], ◌∷◌, ◌++◌, take, Option, Some, None, refl, ap, sym, ◌∙◌, subst, arith, length, inl, inr}
+use Rattle.std.proofs.Common.{ℕ, ◌≡◌, ◌<◌, ◌+◌, ◌-◌, ◌/◌, ◌^◌, ◌==◌, Bool, true, false, if◌then◌else◌, nat_lt, [], ◌∷◌, ◌++◌, take, Option, Some, None, refl, ap, sym, ◌∙◌, subst, arith, length, inl, inr}
 use Rattle.std.proofs.lemmas.Bool.{ltb-true, ne_eqb}
 use Rattle.std.proofs.lemmas.Bool.Decides.{nat_tests}
 use Rattle.ds_eval.specs.Inputs.{with_entry}
@@ -7,7 +7,7 @@ use Rattle.ds_layout.specs.declared.head.Head.{Head}
 use Rattle.ds_layout.specs.declared.header.Header.{Header}
 use Rattle.ds_layout.specs.declared.mark.State.{State}
 use Rattle.ds_layout.specs.declared.mark.State.TheVariants.{Clean, Marked, Held}
-use Rattle.ds_layout.specs.declared.place.Place.TheVariants.{Mark, Value, Kind}
+use Rattle.ds_layout.specs.declared.place.Place.TheVariants.{Value, Kind}
 use Rattle.ds_layout.specs.Head.{head_of}
 use Rattle.ds_layout.specs.Header.{header_of}
 use Rattle.ds_layout.specs.Mark.{mark_of, state_of}
@@ -15,17 +15,17 @@ use Rattle.ds_layout.specs.Text.{bytes_of}
 use Rattle.ds_state.specs.Works.{PlainWork, SEEN_MOST}
 use Rattle.ds_state.specs.World.{World}
 use Rattle.ds_state.specs.Standing.{shown_entry}
-use Rattle.ds_state.specs.Telling.{let_go, told_from}
+use Rattle.ds_state.specs.Telling.{told_from}
 use Rattle.ds_state.specs.Sound.{IsSound}
 use Rattle.ds_state.specs.KnownWork.{WorkFits}
 use Rattle.ds_state.specs.declared.situation.Situation.TheVariants.{Working}
 use Rattle.ds_state.specs.declared.work.WorkEnd.{WorkEnd}
-use Rattle.ds_state.specs.declared.work.WorkEnd.TheVariants.{NotDirty, Missed, Worn, Published, Again, NoMemory}
+use Rattle.ds_state.specs.declared.work.WorkEnd.TheVariants.{Missed, Worn, Published, NoMemory}
 use Rattle.ds_state.specs.declared.work.WorkStage.{WorkStage}
 use Rattle.ds_state.specs.declared.work.WorkStage.TheVariants.{LoadMark, Claim, FlushClaim, BackClaim, LoadHead, LoadHeader, LoadText, Read, LoadValue, LoadKind, LoadOwnValue, LoadOwnKind, Wait, StoreValue, StoreKind, FlushValue, FlushKind, BackValue, BackKind, Telling, Clear, ClearDirty, Give, GiveDirty, FlushCleared, BackCleared, Answer}
 use Rattle.ds_state.specs.declared.work.Spread.TheVariants.{LoadRow, OrTold, FlushTold, BackTold}
-use Rattle.ds_work.specs.WorkSteps.{at, claim_of, next_at, claims_from, head_from, header_from, text_from, told, tell_from, StepsAt}
-use Rattle.ds_work.specs.WorkAnswers.{IsDecided, mark_now, state_now, IsTrueAnswer}
+use Rattle.ds_work.specs.WorkSteps.{at, claim_of, next_at, claims_from, head_from, header_from, told, tell_from, StepsAt}
+use Rattle.ds_work.specs.WorkAnswers.{IsDecided, mark_now, IsTrueAnswer}
 use Rattle.ds_work.proofs.EachWork.{fits_at}
 
 -- a test of which the outcome is known
@@ -71,7 +71,7 @@ module _ (e : PlainWork) (word : ℕ) (old new : World) (sound : IsSound old) (r
   decided Claim fits t d = elim t.memory.1 [
     | inl won ↦ absurd (when (word == e.mark) (record e { mark = claim_of e.process e.mark; stage = FlushClaim }) (at e (Answer Missed)) end (eq_true e.mark won.0) d)
     | inr lost ↦ (let is : Missed ≡ end = unless (word == e.mark) (record e { mark = claim_of e.process e.mark; stage = FlushClaim }) (at e (Answer Missed)) end (ne_eqb word e.mark lost.0) d in
-      subst (λ (x : WorkEnd). IsTrueAnswer e Claim old new x) is (λ same. lost.0 (t.memory.0 ∙ same)))
+        subst (λ (x : WorkEnd). IsTrueAnswer e Claim old new x) is (λ same. lost.0 (t.memory.0 ∙ same)))
   ]
   decided FlushClaim fits t d = absurd d
   decided BackClaim fits t d = absurd d
@@ -96,11 +96,14 @@ module _ (e : PlainWork) (word : ℕ) (old new : World) (sound : IsSound old) (r
   decided (Telling (FlushTold cell)) fits t d = absurd d
   decided (Telling (BackTold cell)) fits t d = absurd (no_told e (told_from e.row (e.cells - (cell + 1)) (cell + 1)) d)
   decided (Clear changed) fits t d = elim t.memory.1 [
-    | inl won ↦ (sym (when (word == e.mark) (at e (FlushCleared (Published changed))) (at e ClearDirty) end (eq_true e.mark won.0) d), record {
+    | inl won ↦ (
+      sym (when (word == e.mark) (at e (FlushCleared (Published changed))) (at e ClearDirty) end (eq_true e.mark won.0) d),
+      record {
         clean = won.1.there;
         value = won.1.elsewhere (Value e.cell) (λ x. cc) ∙ fits.knows.own.0.0;
         kind = won.1.elsewhere (Kind e.cell) (λ x. cc) ∙ fits.knows.own.0.1;
-      })
+      },
+    )
     | inr lost ↦ absurd (unless (word == e.mark) (at e (FlushCleared (Published changed))) (at e ClearDirty) end (ne_eqb word e.mark lost.0) d)
   ]
   decided ClearDirty fits t d = elim t.memory.1 [

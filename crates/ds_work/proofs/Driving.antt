@@ -1,13 +1,13 @@
 -- What an event of a work makes of a world, and that it stays one.
-use Rattle.std.proofs.Common.{ℕ, ◌≡◌, ◌≢◌, ◌<◌, ◌≤◌, ◌*◌, List, length, get_or, set, refl, ap, sym, ◌∙◌, subst, arith, inl, inr, Ok, Err, Some, None}
-use Rattle.std.specs.Prelude.{Contains, Result, Option, IfErr, IsErrAnd}
+use Rattle.std.proofs.Common.{ℕ, ◌≡◌, ◌≢◌, ◌<◌, ◌≤◌, ◌*◌, length, get_or, set, refl, ap, sym, ◌∙◌, subst, arith, inl, inr, Ok, Err}
+use Rattle.std.specs.Prelude.{Result, IfErr, IsErrAnd}
 use Rattle.std.proofs.lemmas.List.{get_or-set_same, get_or-set_other, get_or_default, length-set}
 use Rattle.ds_formula.specs.Cells.{count_of}
 use Rattle.ds_layout.specs.declared.layout.Layout.{Layout}
 use Rattle.ds_layout.specs.Places.{cells_of}
 use Rattle.ds_layout.specs.Sheet.{SheetValue, memory, CanPerform, PerformsAt}
 use Rattle.ds_state.specs.Works.{PlainWork, IsWork}
-use Rattle.ds_state.specs.World.{Edit, Issue, World}
+use Rattle.ds_state.specs.World.{World}
 use Rattle.ds_state.specs.Value.{WorldValue, world_of, IsGood, IsReserved}
 use Rattle.ds_state.specs.Calls.{CallFits}
 use Rattle.ds_state.specs.KnownWork.{WorkFits}
@@ -26,11 +26,11 @@ use Rattle.ds_eval.specs.Local.{local}
 use Rattle.ds_state.specs.declared.work.WorkEnd.{WorkEnd}
 use Rattle.ds_state.specs.declared.work.WorkStage.{WorkStage}
 use Rattle.ds_work.specs.declared.machine.Doing.TheVariants as doings
-use Rattle.ds_work.specs.declared.drive.Taken.TheVariants.{NotEnabled, Stepped, Answered}
-use Rattle.ds_work.specs.WorkSteps.{at, access_at, next_at, after, offered, IsPlainStep, StepsAt, Turns, BeginsWork, ReadsAt, OffersAt}
+use Rattle.ds_work.specs.declared.drive.Taken.TheVariants.{Stepped}
+use Rattle.ds_work.specs.WorkSteps.{at, access_at, next_at, after, offered, IsPlainStep, StepsAt, Turns, BeginsWork, OffersAt}
 use Rattle.ds_work.specs.Noted.{turn_at}
 use Rattle.ds_work.specs.Reading.{IsReading}
-use Rattle.ds_work.specs.WorkEvents.{next_of, IsAskedFor, IsOffered, Refuses, StepsBy, steps, reads, lacked, answers}
+use Rattle.ds_work.specs.WorkEvents.{next_of, IsAskedFor, IsOffered, Refuses, StepsBy, reads, lacked}
 use Rattle.ds_work.proofs.EachWork.{begins_keep, offer_keep, work_steps_keep, reads_keep, lacks_keep}
 use Rattle.ds_work.proofs.WorkNamed.{can_perform}
 

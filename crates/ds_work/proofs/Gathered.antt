@@ -1,6 +1,5 @@
 -- The cells of a content as inputs: they ascend, and fit the sheet.
-use Rattle.std.proofs.Common.{ℕ, ◌≡◌, ◌<◌, ◌≤◌, ◌+◌, ◌*◌, ◌⊎◌, Bool, true, false, if◌then◌else◌, nat_lt, List, [], ◌∷◌, length, length-append, map, take, get_or, refl, ap, sym, ◌∙◌, subst, arith, inl, inr, suc, zero}
-use Rattle.std.specs.Prelude.{slice_index_or}
+use Rattle.std.proofs.Common.{ℕ, ◌≡◌, ◌<◌, ◌≤◌, ◌*◌, Bool, true, false, if◌then◌else◌, nat_lt, List, length, map, take, get_or, refl, ap, sym, ◌∙◌, subst, arith, inl, inr, suc, zero}
 use Rattle.std.specs.List.{Contains, AllPairs}
 use Rattle.std.proofs.lemmas.List.{get_or-map, get_or-take, get_or_default, length-map, length-take-le}
 use Rattle.std.proofs.Math.Nat.{mul-le-mul_right}
@@ -21,7 +20,7 @@ use Rattle.ds_state.specs.Works.{PlainWork, IsWork, ClaimFits, StageFits, TellsF
 use Rattle.ds_state.specs.declared.work.WorkStage.{WorkStage}
 use Rattle.ds_state.specs.declared.work.WorkStage.TheVariants.{LoadValue, LoadOwnValue}
 use Rattle.ds_work.specs.WorkSteps.{IsContent, read_from, input_from}
-use Rattle.ds_work.specs.Reading.{unseen, HasRead}
+use Rattle.ds_work.specs.Reading.{unseen}
 
 abbrev pub no_cell : Cell
 no_cell = record { column = 0; row = 0 }
@@ -32,12 +31,14 @@ cell_of cells j l = ap (λ (i : Input). i.cell) (get_or-map unseen cells j no_ce
 
 -- they ascend
 pub ascends : (cells : List Cell) → AllPairs refs.IsBefore cells → IsAscending (map unseen cells)
-ascends cells pairs = record { ascend = λ j k lt l. (
-    let size = length-map cells unseen in
-    let last : k < length cells = omega (arith, size, l) in
-    let first : j < length cells = omega (arith, last, lt) in
-    subst (λ (c : Cell). IsBefore c (cell_in (map unseen cells) k)) (sym (cell_of cells j first))
-    (subst (λ (c : Cell). IsBefore (get_or cells j no_cell) c) (sym (cell_of cells k last)) (pairs j k no_cell lt last))) }
+ascends cells pairs = record {
+  ascend = λ j k lt l. (
+      let size = length-map cells unseen in
+      let last : k < length cells = omega (arith, size, l) in
+      let first : j < length cells = omega (arith, last, lt) in
+      subst (λ (c : Cell). IsBefore c (cell_in (map unseen cells) k)) (sym (cell_of cells j first))
+      (subst (λ (c : Cell). IsBefore (get_or cells j no_cell) c) (sym (cell_of cells k last)) (pairs j k no_cell lt last)));
+}
 
 -- a later cell has a greater number
 pub before_less : (shape : Shape) (c d : Cell) → IsInside shape c → IsBefore c d → index_of shape c < index_of shape d
@@ -76,12 +77,14 @@ module _ (shape : Shape) (cells : List Cell) (pairs : AllPairs refs.IsBefore cel
 
 -- the next one is behind those before it
 pub is_behind : (cells : List Cell) (i : ℕ) → AllPairs refs.IsBefore cells → i < length cells → IsBehind (map unseen (take i cells)) (get_or cells i no_cell)
-is_behind cells i pairs l = record { behind = λ k lt. (
-    let size = length-map (take i cells) unseen in
-    let cut = length-take-le i cells (omega (arith, l)) in
-    let first : k < length (take i cells) = omega (arith, size, lt) in
-    let before : k < i = omega (arith, cut, first) in
-    subst (λ (c : Cell). IsBefore c (get_or cells i no_cell)) (sym (cell_of (take i cells) k first ∙ get_or-take i cells k no_cell before)) (pairs k i no_cell before l)) }
+is_behind cells i pairs l = record {
+  behind = λ k lt. (
+      let size = length-map (take i cells) unseen in
+      let cut = length-take-le i cells (omega (arith, l)) in
+      let first : k < length (take i cells) = omega (arith, size, lt) in
+      let before : k < i = omega (arith, cut, first) in
+      subst (λ (c : Cell). IsBefore c (get_or cells i no_cell)) (sym (cell_of (take i cells) k first ∙ get_or-take i cells k no_cell before)) (pairs k i no_cell before l));
+}
 
 possible : (shape : Shape) (cell : Cell) → IsInside shape cell → IsPossible cell
 possible shape cell inside =

@@ -16,3 +16,4 @@ pub mod Driving
 pub mod Ranks
 pub mod Answering
 pub mod Ors
+pub mod Turning

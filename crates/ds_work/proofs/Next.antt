@@ -1,7 +1,6 @@
 -- The work after a step, field by field; it stays a work of its sheet.
-use Rattle.std.proofs.Common.{ℕ, ◌≡◌, ◌<◌, ◌≤◌, ◌+◌, ◌-◌, ◌*◌, ◌/◌, ◌%◌, ◌^◌, ◌==◌, Bool, true, false, if◌then◌else◌, nat_lt, List, [], ◌∷◌, ◌++◌, take, Option, Some, None, refl, ap, sym, ◌∙◌, subst, arith, length, length-append, min}
+use Rattle.std.proofs.Common.{ℕ, ◌≡◌, ◌≤◌, ◌+◌, ◌-◌, ◌/◌, ◌^◌, ◌==◌, Bool, true, false, if◌then◌else◌, nat_lt, List, [], ◌∷◌, ◌++◌, take, Option, Some, None, refl, ap, sym, subst, arith, length, length-append}
 use Rattle.std.proofs.lemmas.Bool.{ltb-true, ltb-false}
-use Rattle.std.proofs.lemmas.Bool.Decides.{nat_tests}
 use Rattle.std.proofs.lemmas.List.{length-take, length-set}
 use Rattle.ds_formula.specs.declared.cells.Cell.{Cell}
 use Rattle.ds_formula.specs.Refs.{IsPossible}
@@ -15,7 +14,7 @@ use Rattle.ds_layout.specs.declared.mark.State.{State}
 use Rattle.ds_layout.specs.declared.mark.State.TheVariants.{Clean, Marked, Held}
 use Rattle.ds_layout.specs.declared.place.TheConstants.{TEXT_BYTES}
 use Rattle.ds_layout.specs.Head.{head_of}
-use Rattle.ds_layout.specs.Header.{IsHeader, header_of}
+use Rattle.ds_layout.specs.Header.{header_of}
 use Rattle.ds_layout.specs.Mark.{mark_of, state_of}
 use Rattle.ds_layout.specs.Text.{bytes_of}
 use Rattle.ds_layout.proofs.Packed.{IsHeader-header_of}
@@ -27,7 +26,7 @@ use Rattle.ds_state.specs.declared.work.WorkStage.{WorkStage}
 use Rattle.ds_state.specs.declared.work.WorkEnd.TheVariants.{NotDirty, Missed, Worn, Published, Again, NoMemory}
 use Rattle.ds_state.specs.declared.work.WorkStage.TheVariants.{LoadMark, Claim, FlushClaim, BackClaim, LoadHead, LoadHeader, LoadText, Read, LoadValue, LoadKind, LoadOwnValue, LoadOwnKind, Wait, StoreValue, StoreKind, FlushValue, FlushKind, BackValue, BackKind, Telling, Clear, ClearDirty, Give, GiveDirty, FlushCleared, BackCleared, Answer}
 use Rattle.ds_state.specs.declared.work.Spread.TheVariants.{LoadRow, OrTold, FlushTold, BackTold}
-use Rattle.ds_work.specs.WorkSteps.{at, claim_of, next_at, claims_from, head_from, header_from, text_from, input_from, told, tell_from, row_from}
+use Rattle.ds_work.specs.WorkSteps.{at, claim_of, next_at, claims_from, head_from, header_from, text_from, told, tell_from}
 use Rattle.ds_work.specs.Noted.{mark_at, head_at, length_at, length_in, text_after, text_at, inputs_after, inputs_at, value_after, value_at, kind_after, kind_at, row_after, row_at, stage_at, seen_mark}
 
 -- the work with these changes

@@ -1,11 +1,11 @@
 -- Work marks only the cells of its row, and says truly whether its entry differs.
-use Rattle.std.proofs.Common.{ℕ, ◌≡◌, ◌<◌, refl, subst, true, false}
+use Rattle.std.proofs.Common.{◌≡◌, refl, subst, true, false}
 use Rattle.ds_formula.specs.declared.cells.Shape.{Shape}
 use Rattle.ds_state.specs.Works.{PlainWork, IsWork, IsSame, Differs, TellsFits}
 use Rattle.ds_state.specs.declared.work.WorkStage.{WorkStage}
 use Rattle.ds_state.specs.declared.work.WorkStage.TheVariants.{Clear, Telling}
 use Rattle.ds_state.specs.declared.work.Spread.TheVariants.{OrTold}
-use Rattle.ds_work.specs.WorkSteps.{at, access_at}
+use Rattle.ds_work.specs.WorkSteps.{access_at}
 use Rattle.ds_work.specs.WorkAnswers.{OrsOnly}
 
 ors_at : (shape : Shape) (e : PlainWork) (s : WorkStage) → TellsFits e s → OrsOnly e (access_at shape e s)

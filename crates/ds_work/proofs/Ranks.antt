@@ -1,6 +1,5 @@
 -- Each step of work leaves fewer.
 use Rattle.std.proofs.Common.{ℕ, ◌≡◌, ◌<◌, ◌≤◌, ◌+◌, ◌-◌, ◌*◌, ◌/◌, ◌^◌, ◌==◌, ◌&&◌, Bool, true, false, if◌then◌else◌, nat_lt, List, [], ◌∷◌, ◌++◌, take, Option, Some, None, refl, arith, length}
-use Rattle.std.proofs.lemmas.Bool.{ltb-true, ltb-false}
 use Rattle.std.proofs.lemmas.List.{length-set}
 use Rattle.ds_formula.specs.Plain.{Plain}
 use Rattle.ds_eval.specs.declared.inputs.Entry.{Entry}
@@ -20,10 +19,10 @@ use Rattle.ds_state.specs.Standing.{shown_entry, value_for, word_for}
 use Rattle.ds_state.specs.Telling.{told_from}
 use Rattle.ds_state.proofs.Telling.{ToldFits, first_told}
 use Rattle.ds_state.specs.declared.work.WorkStage.{WorkStage}
-use Rattle.ds_state.specs.declared.work.WorkEnd.TheVariants.{NotDirty, Missed, Worn, Published, Again, NoMemory}
+use Rattle.ds_state.specs.declared.work.WorkEnd.TheVariants.{Missed, Worn, Published, NoMemory}
 use Rattle.ds_state.specs.declared.work.WorkStage.TheVariants.{LoadMark, Claim, FlushClaim, BackClaim, LoadHead, LoadHeader, LoadText, Read, LoadValue, LoadKind, LoadOwnValue, LoadOwnKind, Wait, StoreValue, StoreKind, FlushValue, FlushKind, BackValue, BackKind, Telling, Clear, ClearDirty, Give, GiveDirty, FlushCleared, BackCleared, Answer}
 use Rattle.ds_state.specs.declared.work.Spread.TheVariants.{LoadRow, OrTold, FlushTold, BackTold}
-use Rattle.ds_work.specs.WorkSteps.{at, claim_of, next_at, claims_from, head_from, header_from, text_from, input_from, told, tell_from, row_from, read_from, offered}
+use Rattle.ds_work.specs.WorkSteps.{at, claim_of, next_at, claims_from, head_from, header_from, text_from, told, tell_from, read_from, offered}
 use Rattle.ds_work.specs.WorkRank.{left, steps_left, Falls}
 
 -- what holds of both branches holds of a test

@@ -1,6 +1,6 @@
 -- The clear and the first store as whole steps: they keep a world sound, and what others count on.
-use Rattle.std.proofs.Common.{ℕ, ◌≡◌, ◌≢◌, ◌<◌, ◌≤◌, ◌+◌, ◌*◌, ◌/◌, ◌%◌, ◌⊎◌, List, [], ◌∷◌, refl, ap, sym, ◌∙◌, subst, arith, length, inl, inr, true, false}
-use Rattle.std.specs.Prelude.{Bool, Contains}
+use Rattle.std.proofs.Common.{ℕ, ◌≡◌, ◌<◌, ◌≤◌, ◌/◌, refl, ap, sym, ◌∙◌, subst, arith, length, inl, inr}
+use Rattle.std.specs.Prelude.{Bool}
 use Rattle.std.proofs.lemmas.Bool.{cases_eq}
 use Rattle.ds_words.specs.Memory.{SameMemory, StoresAt}
 use Rattle.ds_layout.specs.Places.{cells_of}
@@ -8,32 +8,32 @@ use Rattle.ds_state.specs.Owing.{Owes}
 use Rattle.ds_state.specs.Calls.{IdleFits}
 use Rattle.ds_state.proofs.EditFrame.{Framed, silent_framed, silent_keeps}
 use Rattle.ds_layout.specs.declared.place.Place.{Place}
-use Rattle.ds_layout.specs.declared.place.Place.TheVariants.{Version, Mark, Value, Kind, Head, Announce}
+use Rattle.ds_layout.specs.declared.place.Place.TheVariants.{Version, Mark, Value, Announce}
 use Rattle.ds_state.specs.Works.{PlainWork}
-use Rattle.ds_state.specs.World.{Edit, Issue, World, of_cell, head_after_all}
-use Rattle.ds_state.specs.Owing.{HELD_MOST, HoldsNone, IsHeldBy, IsHeld, IsApart, Parts, IsPending, Splits, Excuses, IsMark}
-use Rattle.ds_state.specs.KnownWork.{WorkFits, WorkKnows, settled, value_stored, value_back, both_stored, both_seen, storing, IsAtRest}
+use Rattle.ds_state.specs.World.{World, of_cell, head_after_all}
+use Rattle.ds_state.specs.Owing.{HELD_MOST, HoldsNone, IsHeldBy, IsHeld, IsApart, Parts, Splits, Excuses, IsMark}
+use Rattle.ds_state.specs.KnownWork.{WorkFits, IsAtRest}
 use Rattle.ds_state.specs.Words.{WordFits}
 use Rattle.ds_state.specs.Calls.{CallFits}
-use Rattle.ds_state.specs.Rely.{KeepsHold, Grows, Bears, Keeps}
+use Rattle.ds_state.specs.Rely.{Grows, Bears, Keeps}
 use Rattle.ds_state.specs.Sound.{IsSound}
 use Rattle.ds_state.specs.declared.work.WorkEnd.TheVariants.{Published}
 use Rattle.ds_state.specs.declared.work.WorkStage.{WorkStage}
 use Rattle.ds_state.specs.declared.work.WorkStage.TheVariants as works
 use Rattle.ds_state.specs.declared.situation.Situation.{Situation}
-use Rattle.ds_state.specs.declared.situation.Situation.TheVariants.{Idle, Stopped, Editing, Working, Recovering, Showing}
+use Rattle.ds_state.specs.declared.situation.Situation.TheVariants.{Idle, Working}
 use Rattle.ds_state.proofs.Lasting.{below_stable, last_stable}
 use Rattle.ds_state.specs.KnownWork.{HasHeld, HasInputs}
 use Rattle.ds_state.specs.Standing.{value_for}
 use Rattle.ds_state.proofs.Bearing.{text_same, stored_marks}
 use Rattle.ds_work.proofs.WorkSteps.{held_both}
 use Rattle.ds_state.proofs.StableWork.{rest_stable, held_stable, inputs_stable}
-use Rattle.ds_state.proofs.Frames.{MovesWord, Moves, KeepsOwing, KeepsApart, grows_own, moves_sound, one_holder}
-use Rattle.ds_state.proofs.Bearing.{Buffered, bears, all_stand, splits_last, pends_last, marks_grow, apart_lasts}
+use Rattle.ds_state.proofs.Frames.{MovesWord, Moves, KeepsOwing, KeepsApart, grows_own, moves_sound}
+use Rattle.ds_state.proofs.Bearing.{bears, all_stand, splits_last, pends_last, marks_grow, apart_lasts}
 use Rattle.ds_state.proofs.Accesses.{Turn, store_moves, same_moves, quiet_sound}
 use Rattle.ds_state.proofs.Buffers.{buffered}
 use Rattle.ds_state.specs.Telling.{let_go}
-use Rattle.ds_work.proofs.WorkSteps.{on, clear_mine, clear_stands, store_value_mine, store_marks}
+use Rattle.ds_work.proofs.WorkSteps.{on, clear_mine, clear_stands, store_value_mine}
 
 -- who works owes no head
 module _ (p : ℕ) (e : PlainWork) (place : Place) (old new : World) (moves : Moves p place old new) (was : old.situation p ≡ Working e) where

@@ -1,25 +1,23 @@
 -- The hard steps of work: its claim, its stores, and its clear.
-use Rattle.std.proofs.Common.{ℕ, ◌≡◌, ◌≢◌, ◌<◌, ◌≤◌, ◌+◌, ◌*◌, ◌/◌, ◌%◌, ◌⊎◌, List, [], ◌∷◌, ◌++◌, refl, ap, sym, ◌∙◌, subst, arith, length, inl, inr, zero, suc}
-use Rattle.std.specs.Prelude.{Bool, Contains, slice_index_or}
+use Rattle.std.proofs.Common.{ℕ, ◌≡◌, ◌≢◌, ◌<◌, ◌≤◌, ◌/◌, ◌%◌, ◌⊎◌, List, refl, ap, sym, ◌∙◌, subst, arith, length, inl, inr}
+use Rattle.std.specs.Prelude.{Bool, Contains}
 use Rattle.std.proofs.lemmas.Bool.{cases_eq}
 use Rattle.ds_words.specs.Memory.{StoresAt}
 use Rattle.ds_words.specs.declared.access.Entry.{Entry}
 use Rattle.ds_formula.specs.Cells.{IsInside, index_of}
 use Rattle.ds_formula.specs.declared.cells.Cell.{Cell}
-use Rattle.ds_formula.specs.Refs.{Refers}
 use Rattle.ds_eval.specs.declared.inputs.Entry as entries
 use Rattle.ds_eval.specs.Inputs.{entry_in, cell_in, entry_at}
 use Rattle.ds_eval.proofs.Cells.{entry_found}
 use Rattle.ds_layout.specs.declared.place.Place.{Place}
-use Rattle.ds_layout.specs.Bits.{HasBit}
-use Rattle.ds_layout.specs.declared.place.Place.TheVariants.{Mark, Value, Kind, Head, Index}
+use Rattle.ds_layout.specs.declared.place.Place.TheVariants.{Mark, Value, Kind, Head}
 use Rattle.ds_layout.specs.declared.layout.Layout.{Layout}
 use Rattle.ds_state.specs.Telling.{let_go}
 use Rattle.ds_state.specs.Works.{PlainWork}
 use Rattle.ds_state.specs.World.{World}
-use Rattle.ds_state.specs.Owing.{entry, turn, IsClean, IsEven, IsHeldBy, IsHeld, IsBelowBuffered, SpreadOwes, WorkOwes, RecoveryOwes, Owes, CellOwes, EditOwes, RecoveryExcuses, Excuses, IsExcused, IsIndexed}
-use Rattle.ds_state.specs.Standing.{cached_side, entry_on, value_for, word_for, HasContent, Stands, Reasons, IsBuffered, IsDurable, Matters, AllStand}
-use Rattle.ds_state.specs.KnownWork.{HasHeld, HasInputs, InputStands, input_row, WorkFits}
+use Rattle.ds_state.specs.Owing.{entry, IsClean, IsHeldBy, IsHeld, IsBelowBuffered, SpreadOwes, WorkOwes, RecoveryOwes, Owes, CellOwes, EditOwes, RecoveryExcuses, Excuses, IsExcused, IsIndexed}
+use Rattle.ds_state.specs.Standing.{cached_side, entry_on, value_for, word_for, HasContent, Stands, Matters, AllStand}
+use Rattle.ds_state.specs.KnownWork.{HasHeld, HasInputs, input_row, WorkFits}
 use Rattle.ds_state.specs.Sound.{IsSound}
 use Rattle.ds_state.specs.declared.stage.Stage.{Stage}
 use Rattle.ds_state.specs.declared.stage.Stage.TheVariants as edits
@@ -31,9 +29,9 @@ use Rattle.ds_state.specs.declared.work.RecoverStage.{RecoverStage}
 use Rattle.ds_state.specs.declared.work.RecoverStage.TheVariants as recoveries
 use Rattle.ds_state.specs.declared.situation.Situation.{Situation}
 use Rattle.ds_state.specs.declared.situation.Situation.TheVariants.{Idle, Stopped, Editing, Working, Recovering, Showing}
-use Rattle.ds_state.proofs.Frames.{Moves, each_moved, one_holder, clean_free}
-use Rattle.ds_state.proofs.Telling.{durable_same, matters_most, odd_above}
-use Rattle.ds_state.proofs.Bearing.{Buffered, Mine, MyMarks, text_same, stored_marks, all_stand, durable_most, durable_least, cell_owes_lasts, excused_lasts}
+use Rattle.ds_state.proofs.Frames.{Moves, clean_free}
+use Rattle.ds_state.proofs.Telling.{matters_most, odd_above}
+use Rattle.ds_state.proofs.Bearing.{Buffered, Mine, MyMarks, text_same, stored_marks, all_stand, cell_owes_lasts, excused_lasts}
 
 abbrev pub on : PlainWork → WorkStage → PlainWork
 on e s = record e { stage = s }

@@ -1,8 +1,7 @@
 -- Work tells the cells that refer to its own.
-use Rattle.std.proofs.Common.{ℕ, ◌≡◌, ◌<◌, ◌≤◌, ◌+◌, ◌-◌, ◌/◌, ◌%◌, ◌==◌, max, Bool, true, false, if◌then◌else◌, nat_lt, List, [], ◌∷◌, ◌++◌, Option, Some, None, refl, ap, sym, ◌∙◌, subst, arith, length, inl, inr, zero, suc}
-use Rattle.std.specs.Prelude.{slice_index_or, bit_or}
-use Rattle.std.specs.Int.{bit_at}
-use Rattle.std.proofs.lemmas.Bool.{cases_eq, cases_lt, eqb-false, ltb-false, ltb-true}
+use Rattle.std.proofs.Common.{ℕ, ◌≡◌, ◌<◌, ◌≤◌, ◌+◌, ◌-◌, ◌/◌, ◌%◌, max, Bool, true, false, if◌then◌else◌, nat_lt, List, [], ◌∷◌, ◌++◌, Option, Some, None, refl, ap, sym, ◌∙◌, subst, arith, length, inl, inr}
+use Rattle.std.specs.Prelude.{bit_or}
+use Rattle.std.proofs.lemmas.Bool.{cases_eq, cases_lt, ltb-false, ltb-true}
 use Rattle.ds_words.specs.Memory.{StoresAt, FlushesAt, WritesBack}
 use Rattle.ds_words.specs.declared.access.Entry.{Entry}
 use Rattle.ds_layout.specs.Places.{class_of, cells_of}
@@ -12,7 +11,7 @@ use Rattle.ds_layout.specs.declared.mark.TheConstants.{DIRTY}
 use Rattle.ds_layout.proofs.PlaceCases.{place_cases}
 use Rattle.ds_state.specs.Works.{PlainWork}
 use Rattle.ds_state.specs.World.{World}
-use Rattle.ds_state.specs.Owing.{entry, IsHeld, IsIndexed, StandsIn, SpreadOwes}
+use Rattle.ds_state.specs.Owing.{entry, IsHeld, IsIndexed, SpreadOwes}
 use Rattle.ds_state.specs.KnownWork.{WorkFits, work_known}
 use Rattle.ds_state.specs.Telling.{told_from}
 use Rattle.ds_work.specs.WorkSteps.{StepsAt, told, tell_from}

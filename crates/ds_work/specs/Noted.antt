@@ -1,5 +1,5 @@
 -- What a step of work changes, field by field, and what the process does by its turn.
-use Rattle.std.specs.Prelude.{ℕ, ◌+◌, ◌/◌, ◌==◌, ◌^◌, nat_lt, if◌then◌else◌, ◌<◌, List, [], ◌∷◌, ◌++◌, length, take, Option, Some, None}
+use Rattle.std.specs.Prelude.{ℕ, ◌/◌, ◌==◌, ◌^◌, nat_lt, if◌then◌else◌, ◌<◌, List, [], ◌∷◌, ◌++◌, length, take, Option, Some, None}
 use Rattle.ds_eval.specs.declared.inputs.Input.{Input}
 use Rattle.ds_eval.specs.Inputs.{with_entry}
 use Rattle.ds_layout.specs.declared.header.Header.{Header}
@@ -11,7 +11,6 @@ use Rattle.ds_layout.specs.Text.{bytes_of}
 use Rattle.ds_state.specs.Works.{PlainWork}
 use Rattle.ds_state.specs.Standing.{shown_entry}
 use Rattle.ds_state.specs.declared.work.Spread.TheVariants.{LoadRow}
-use Rattle.ds_state.specs.declared.work.WorkEnd.{WorkEnd}
 use Rattle.ds_state.specs.declared.work.WorkStage.{WorkStage}
 use Rattle.ds_state.specs.declared.work.WorkStage.TheVariants.{LoadMark, Claim, LoadHead, LoadHeader, LoadText, Read, LoadKind, LoadOwnValue, LoadOwnKind, Wait, BackKind, Telling, Answer}
 use Rattle.ds_work.specs.WorkSteps.{claim_of, next_at}

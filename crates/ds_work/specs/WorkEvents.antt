@@ -1,12 +1,10 @@
 -- The events of works, from world to world: beginnings, steps, offers.
-use Rattle.std.specs.Prelude.{ℕ, ◌≡◌, ◌<◌, ◌/◌, List, [], Result, Ok, Err, Option, Some, None}
+use Rattle.std.specs.Prelude.{ℕ, ◌≡◌, ◌<◌, ◌/◌, List, Result, Ok, Err}
 use Rattle.ds_formula.specs.declared.cells.Shape.{Shape}
 use Rattle.ds_formula.specs.Cells.{cell_at}
 use Rattle.ds_formula.specs.Plain.{Plain}
 use Rattle.ds_eval.specs.declared.inputs.Entry.{Entry}
 use Rattle.ds_eval.specs.declared.inputs.Input.{Input}
-use Rattle.ds_eval.specs.Inputs.{entry_in}
-use Rattle.ds_eval.specs.Local.{local}
 use Rattle.ds_eval.specs.Tasks.{PlainTask}
 use Rattle.ds_layout.specs.declared.layout.Layout.{Layout}
 use Rattle.ds_layout.specs.Places.{cells_of}
@@ -18,7 +16,7 @@ use Rattle.ds_state.specs.declared.situation.Situation.{Situation}
 use Rattle.ds_state.specs.declared.situation.Situation.TheVariants.{Idle, Stopped, Editing, Working, Recovering, Showing}
 use Rattle.ds_state.specs.declared.work.WorkEnd.{WorkEnd}
 use Rattle.ds_state.specs.declared.work.WorkStage.TheVariants.{LoadMark, Read, Wait, Answer}
-use Rattle.ds_work.specs.WorkSteps.{at, BeginsWork, StepsAt, ReadsAt, LacksAt, OffersAt, IsPlainStep}
+use Rattle.ds_work.specs.WorkSteps.{BeginsWork, StepsAt, ReadsAt, LacksAt, OffersAt}
 use Rattle.ds_work.specs.declared.drive.Taken.{Taken}
 use Rattle.ds_work.specs.declared.drive.Taken.TheVariants.{NotEnabled, Stepped, Answered}
 

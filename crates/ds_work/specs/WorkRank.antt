@@ -1,5 +1,7 @@
 -- How many steps of its own a work has left.
-use Rattle.std.specs.Prelude.{ℕ, ◌+◌, ◌-◌, ◌*◌, ◌/◌, ◌<◌, length}
+use Rattle.std.specs.Prelude.{ℕ, ◌≡◌, ◌+◌, ◌-◌, ◌*◌, ◌/◌, ◌<◌, length}
+use Rattle.ds_state.specs.World.{World}
+use Rattle.ds_state.specs.declared.situation.Situation.TheVariants.{Working}
 use Rattle.ds_state.specs.Works.{PlainWork}
 use Rattle.ds_state.specs.declared.work.Spread.TheVariants.{LoadRow, OrTold, FlushTold, BackTold}
 use Rattle.ds_state.specs.declared.work.WorkStage.{WorkStage}
@@ -53,3 +55,11 @@ Falls r e f Read = Unit {0}
 Falls r e f Wait = Unit {0}
 Falls r e f (Answer end) = Unit {0}
 Falls r e f stage = steps_left r f < left r e stage
+
+-- the process is in the work that this one has come to be, with fewer steps left: before the content is read, for as
+-- many references as the sheet has cells
+pub record GoesOn (p : ℕ) (e : PlainWork) (new : World) : Type 0 where
+  pub work : PlainWork
+  pub works : new.situation p ≡ Working work
+  pub cells : work.cells ≡ e.cells
+  pub fewer : steps_left e.cells work < steps_left e.cells e

@@ -1,6 +1,6 @@
 //! The beginning of work.
 
-ghost use Rattle.std.specs.Prelude.{◌≡◌, ◌<◌, ◌≤◌, IfOk, IfErr, OnOk, OnErr};
+ghost use Rattle.std.specs.Prelude.{◌≡◌, ◌<◌, IfOk, IfErr, OnOk, OnErr};
 ghost use Rattle.ds_formula.specs.Cells.{IsInside, index_of};
 ghost use Rattle.ds_state.specs.Value.{world_of};
 ghost use Rattle.ds_state.specs.declared.situation.Situation.TheVariants.{Idle};
@@ -27,7 +27,9 @@ fn next(situation: &Situation) -> Result<usize, Refusal>
     match situation {
         Situation::Idle(number) => Ok(*number),
         Situation::Stopped => Err(Refusal::Stopped),
-        Situation::Working(_) | Situation::Recovering(_) | Situation::Showing(_) => Err(Refusal::Busy),
+        Situation::Working(_) | Situation::Recovering(_) | Situation::Showing(_) => Err(
+            Refusal::Busy,
+        ),
         Situation::Editing(_) => Err(Refusal::Busy),
     }
 }
@@ -90,12 +92,7 @@ fn start(world: &mut World, call: WorkCall, cell: Cell, next: usize)
 ///
 /// The refusals are tried in this order, and each leaves the world as it was: `Busy` where the
 /// process is in a call, `Stopped` where it is stopped, `NoMemory` where an allocation failed.
-pub fn begin(
-    alloc: Global,
-    world: &mut World,
-    process: usize,
-    cell: Cell,
-) -> Result<(), Refusal>
+pub fn begin(alloc: Global, world: &mut World, process: usize, cell: Cell) -> Result<(), Refusal>
     requires process { process < world.old.sheet.layout.processes }
     requires cell { IsInside world.old.sheet.layout.shape cell }
     ensures begun { OnOk result (IsBegun (world_of world.old) process (index_of world.old.sheet.layout.shape cell) (world_of world.new)) }

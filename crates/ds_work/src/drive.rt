@@ -1,6 +1,6 @@
 //! A step of a process that works.
 
-ghost use Rattle.std.specs.Prelude.{◌≡◌, ◌<◌, ℕ, IfSome, IfNone};
+ghost use Rattle.std.specs.Prelude.{◌≡◌, ◌<◌, IfSome, IfNone};
 ghost use Rattle.ds_formula.specs.Cells.{count_of};
 ghost use Rattle.ds_state.specs.Works.{PlainWork};
 ghost use Rattle.ds_state.specs.Value.{world_of};

@@ -17,7 +17,9 @@ ghost use Rattle.ds_state.specs.declared.work.WorkStage.TheVariants as works;
 ghost use Rattle.ds_work.specs.WorkSteps.{at, IsContent, BeginsWork, StepsAt, ReadsAt, LacksAt, OffersAt, access_at, next_at, read_from, offered};
 ghost use Rattle.ds_state.specs.declared.work.WorkEnd.{WorkEnd};
 ghost use Rattle.ds_work.specs.WorkAnswers.{IsDecided, IsTrueAnswer, OrsOnly};
-ghost use Rattle.ds_work.specs.WorkRank.{left, steps_left, Falls};
+ghost use Rattle.ds_work.specs.WorkRank.{left, steps_left, Falls, GoesOn};
+ghost use Rattle.ds_work.specs.WorkEvents.{StepsBy};
+ghost use Rattle.ds_work.specs.declared.drive.Taken.TheVariants.{Stepped};
 
 use ds_state::work::WorkCall;
 
@@ -109,3 +111,9 @@ pub fn works_are_of_a_sheet(call: &WorkCall)
 {
     let _stage = call.stage;
 }
+
+/// A turn of a work that goes on leaves fewer steps than there were.
+#[tactic(auto, using(crate::proofs::Turning::turns_fall))]
+pub fn turns_leave_fewer_steps()
+    ensures { (p : ℕ) (old new : World) → IsSound old → (by : StepsBy old p Stepped new) → GoesOn p by.work new }
+{}

@@ -1,21 +1,18 @@
 //! The machine of work: the access of each stage, and the stage that follows it.
 
-ghost use Rattle.std.specs.Prelude.{◌≡◌, ℕ, ◌+◌, ◌-◌, ◌*◌, ◌/◌, ◌%◌, ◌<◌, ◌≤◌, ◌++◌, length, take, slice_index_or, IsTrue, ◌↔◌};
-ghost use Rattle.ds_formula.specs.Cells.{index_of};
-ghost use Rattle.ds_formula.specs.Refs.{IsPossible};
-ghost use Rattle.ds_eval.specs.Inputs.{cell_in};
+ghost use Rattle.std.specs.Prelude.{◌≡◌, ◌+◌, ◌-◌, ◌*◌, ◌/◌, ◌%◌, ◌<◌, ◌≤◌, ◌++◌, length, take, IsTrue, ◌↔◌};
 ghost use Rattle.ds_layout.specs.Head.{head_of};
 ghost use Rattle.ds_layout.specs.Header.{header_of};
 ghost use Rattle.ds_layout.specs.Mark.{mark_of, state_of, holder_code, dirty_bit};
 ghost use Rattle.ds_layout.specs.declared.place.Place.TheVariants as place;
-ghost use Rattle.ds_state.specs.Standing.{stored_for, shown_entry, value_for, word_for};
+ghost use Rattle.ds_state.specs.Standing.{stored_for, shown_entry};
 ghost use Rattle.ds_state.specs.Owing.{StandsIn};
 ghost use Rattle.ds_state.specs.Telling.{let_go, told_from};
 ghost use Rattle.ds_layout.specs.declared.place.TheConstants.{TEXT_BYTES};
 ghost use Rattle.ds_state.specs.Works.{PlainWork, StageFits, SEEN_MOST};
 ghost use Rattle.ds_state.specs.declared.work.WorkStage.TheVariants.{LoadMark, Claim, Clear, Give, Telling};
 ghost use Rattle.ds_state.specs.declared.work.Spread.TheVariants.{LoadRow};
-ghost use Rattle.ds_work.specs.WorkSteps.{claim_of, parts_of, text_parts, input_place, access_at, next_at, claims_from, head_from, header_from, text_from, input_from, told, tell_from, row_from, spread_access, spread_next};
+ghost use Rattle.ds_work.specs.WorkSteps.{claim_of, parts_of, input_place, access_at, next_at, claims_from, head_from, header_from, text_from, input_from, told, tell_from, row_from, spread_access, spread_next};
 ghost use Rattle.ds_work.specs.Noted.{mark_at, head_at, length_at, text_after, inputs_after, value_after, kind_after, row_after, stage_at, turn_at, FitsInputs, FitsRow};
 
 use ds_eval::inputs::{Entry, Inputs};

@@ -1,8 +1,7 @@
 //! The task of a work that waits, and the offer of its entry.
 
-ghost use Rattle.std.specs.Prelude.{◌≡◌, ◌<◌, ◌≤◌, ◌/◌, ◌↔◌, ℕ, IsTrue, IsFalse, IfOk, IfErr, IfSome, IfNone, OnOk, OnErr};
+ghost use Rattle.std.specs.Prelude.{◌≡◌, ◌<◌, ◌≤◌, ◌/◌, IsTrue, IsFalse, IfOk, IfErr, IfSome, IfNone, OnOk, OnErr};
 ghost use Rattle.ds_formula.specs.Cells.{count_of};
-ghost use Rattle.ds_formula.specs.Plain.{plain};
 ghost use Rattle.ds_eval.specs.Inputs.{entry_in};
 ghost use Rattle.ds_eval.specs.Local as evaluation;
 ghost use Rattle.ds_eval.specs.declared.inputs.Entry as entries;

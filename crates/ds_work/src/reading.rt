@@ -1,6 +1,6 @@
 //! The one step of work that takes memory: it reads the content of the text that was gathered.
 
-ghost use Rattle.std.specs.Prelude.{◌≡◌, ◌≤◌, ◌<◌, ◌⊎◌, ℕ, List, map, length, IfOk};
+ghost use Rattle.std.specs.Prelude.{◌≡◌, ◌≤◌, ◌<◌, map, IfOk};
 ghost use Rattle.std.specs.List.{Contains, AllPairs};
 ghost use Rattle.ds_formula.specs.Cells.{IsInside, count_of};
 ghost use Rattle.ds_formula.specs.declared.cells.Cell.{Cell};

@@ -1,10 +1,10 @@
-use Rattle.std.proofs.Common.{ℕ, ◌≡◌, ◌<◌, ap, sym, subst}
+use Rattle.std.proofs.Common.{◌≡◌, ◌<◌, ap, sym, subst}
 use Rattle.ds_formula.specs.Cells.{index_of}
 use Rattle.ds_state.specs.Works.{PlainWork}
-use Rattle.ds_state.specs.Value.{WorldValue, world_of, IsReserved}
+use Rattle.ds_state.specs.Value.{WorldValue, world_of}
 use Rattle.ds_state.specs.declared.situation.Situation.TheVariants.{Idle}
 use Rattle.ds_work.specs.WorkEvents.{IsAskedFor}
-use Rattle.ds_work.proofs.Driving.{begun, begun_kept}
+use Rattle.ds_work.proofs.Driving.{begun_kept}
 use Rattle.ds_work.proofs.begin.start.Goals as goal
 
 pub invariant_of-world : goal.invariant_of-world

@@ -1,21 +1,13 @@
-use Rattle.std.proofs.Common.{ℕ, ◌≡◌, ◌<◌, ◌≤◌, ◌∙◌, length, get_or, refl, ap, sym, subst, arith}
-use Rattle.std.proofs.lemmas.List.{get_or_default}
-use Rattle.ds_formula.specs.Cells.{count_of}
-use Rattle.ds_words.specs.declared.access.Access.{Access}
-use Rattle.ds_layout.specs.declared.layout.Layout.{Layout}
-use Rattle.ds_layout.specs.declared.place.Place.{Place}
-use Rattle.ds_layout.specs.Sheet.{CanPerform, PerformsAt, memory}
+use Rattle.std.proofs.Common.{ℕ, ◌≡◌, ◌<◌, ◌∙◌, length, refl, ap, sym, subst, arith}
+use Rattle.ds_layout.specs.Sheet.{PerformsAt, memory}
 use Rattle.ds_state.specs.Works.{PlainWork}
-use Rattle.ds_state.specs.Value.{WorldValue, world_of, IsReserved}
-use Rattle.ds_state.specs.declared.situation.Situation.{Situation}
-use Rattle.ds_state.specs.declared.situation.Situation.TheVariants.{Idle, Working}
+use Rattle.ds_state.specs.Value.{WorldValue, world_of}
+use Rattle.ds_state.specs.declared.situation.Situation.TheVariants.{Idle}
 use Rattle.ds_state.specs.declared.work.WorkStage.{WorkStage}
-use Rattle.ds_state.specs.declared.work.WorkStage.TheVariants.{Read, Answer}
-use Rattle.ds_work.specs.declared.drive.Taken.TheVariants.{Stepped, Answered}
-use Rattle.ds_work.specs.WorkSteps.{access_at, next_at, after, IsPlainStep, StepsAt}
-use Rattle.ds_work.specs.Reading.{IsReading}
-use Rattle.ds_work.specs.WorkEvents.{IsIn, StepsBy, steps, answers}
-use Rattle.ds_work.proofs.Driving.{put, situation_at, mine, perform_at, cells_are, steps_at, step_kept, read_takes, read_kept, steps_plain, steps_not_answer, steps_after, reads_at, answers_at}
+use Rattle.ds_state.specs.declared.work.WorkStage.TheVariants.{Answer}
+use Rattle.ds_work.specs.WorkSteps.{access_at, after, IsPlainStep, StepsAt}
+use Rattle.ds_work.specs.WorkEvents.{IsIn, answers}
+use Rattle.ds_work.proofs.Driving.{put, mine, steps_at, step_kept, answers_at}
 use Rattle.ds_work.proofs.drive.close.Goals as goal
 
 pub invariant_of-world : goal.invariant_of-world

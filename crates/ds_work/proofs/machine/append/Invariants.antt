@@ -1,4 +1,4 @@
-use Rattle.std.proofs.Common.{◌≡◌, ◌≤◌, ◌++◌, take, length}
+use Rattle.std.proofs.Common.{◌≡◌, ◌++◌, take}
 use Rattle.ds_work.proofs.machine.append.Given as goal
 
 abbrev pub invariant-loop-i : goal.invariant-loop-i

@@ -1,4 +1,4 @@
-use Rattle.std.proofs.Common.{ℕ, ◌≡◌, ◌∙◌, sym, ap, refl, []}
+use Rattle.std.proofs.Common.{ℕ, ◌∙◌, sym, ap, refl, []}
 use Rattle.std.specs.Prelude.{Option}
 use Rattle.ds_layout.specs.declared.header.Header.{Header}
 use Rattle.ds_layout.specs.Header.{header_of}

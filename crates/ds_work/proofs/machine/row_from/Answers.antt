@@ -1,4 +1,4 @@
-use Rattle.std.proofs.Common.{ℕ, ◌≡◌, ◌+◌, ◌-◌, ◌/◌, ◌∙◌, List, Bool, true, false, if◌then◌else◌, nat_lt, ◌++◌, ◌∷◌, [], sym, ap, refl, arith}
+use Rattle.std.proofs.Common.{ℕ, ◌≡◌, ◌+◌, ◌/◌, ◌∙◌, List, Bool, false, if◌then◌else◌, nat_lt, ◌++◌, ◌∷◌, [], sym, ap, refl, arith}
 use Rattle.std.proofs.lemmas.Bool.Decides.{nat_tests}
 use Rattle.ds_state.specs.Works.{PlainWork}
 use Rattle.ds_state.specs.declared.work.WorkStage.TheVariants.{Telling}

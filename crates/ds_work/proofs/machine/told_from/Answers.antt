@@ -1,5 +1,5 @@
-use Rattle.std.proofs.Common.{◌≡◌, ◌∙◌, sym}
-use Rattle.ds_work.proofs.Rows.{told_here, told_on, told_end}
+use Rattle.std.proofs.Common.{◌∙◌}
+use Rattle.ds_work.proofs.Rows.{told_on}
 use Rattle.ds_work.proofs.machine.told_from.Goals as goal
 
 pub loop-cell-preserved : goal.loop-cell-preserved

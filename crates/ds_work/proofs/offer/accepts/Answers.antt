@@ -1,17 +1,14 @@
-use Rattle.std.proofs.Common.{ℕ, ◌≡◌, ◌<◌, ◌≤◌, ◌∙◌, length, get_or, refl, ap, sym, subst, arith}
+use Rattle.std.proofs.Common.{ℕ, ◌≡◌, ◌<◌, ◌∙◌, length, get_or, refl, ap, sym, subst, arith}
 use Rattle.std.proofs.lemmas.List.{get_or_default}
-use Rattle.ds_eval.specs.declared.inputs.Entry as entries
 use Rattle.ds_eval.specs.Inputs.{entry_in}
 use Rattle.ds_eval.specs.Local.{local}
 use Rattle.ds_eval.specs.Tasks.{PlainTask, local_of}
-use Rattle.ds_layout.specs.declared.layout.Layout.{Layout}
 use Rattle.ds_state.specs.Works.{PlainWork}
-use Rattle.ds_state.specs.Value.{WorldValue, world_of, IsReserved}
-use Rattle.ds_state.specs.declared.situation.Situation.{Situation}
+use Rattle.ds_state.specs.Value.{WorldValue, world_of}
 use Rattle.ds_state.specs.declared.situation.Situation.TheVariants.{Idle, Working}
 use Rattle.ds_work.specs.WorkSteps.{offered}
-use Rattle.ds_work.specs.WorkEvents.{WaitsFor, IsOffered}
-use Rattle.ds_work.proofs.Driving.{put, situation_at, is_offered, offered_kept}
+use Rattle.ds_work.specs.WorkEvents.{WaitsFor}
+use Rattle.ds_work.proofs.Driving.{is_offered, offered_kept}
 use Rattle.ds_work.proofs.offer.accepts.Goals as goal
 
 pub invariant_of-world : goal.invariant_of-world

@@ -1,5 +1,4 @@
-use Rattle.std.proofs.Common.{◌≡◌, ◌<◌, List, length, map, take, get_or, sym, subst, arith, ap}
-use Rattle.ds_formula.specs.declared.cells.Cell.{Cell}
+use Rattle.std.proofs.Common.{List, length, take, get_or, sym, subst, arith, ap}
 use Rattle.ds_eval.specs.declared.inputs.Input.{Input}
 use Rattle.ds_eval.specs.Inputs.{IsBehind}
 use Rattle.ds_work.specs.Reading.{unseen}

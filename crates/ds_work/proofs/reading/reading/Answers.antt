@@ -1,9 +1,8 @@
-use Rattle.std.proofs.Common.{ℕ, ◌≡◌, ◌∙◌, List, map, sym, ap, subst, inl}
+use Rattle.std.proofs.Common.{ℕ, ◌∙◌, List, map, sym, ap, subst, inl}
 use Rattle.std.specs.List.{Contains}
 use Rattle.ds_formula.specs.declared.cells.Cell.{Cell}
 use Rattle.ds_formula.specs.Cells.{IsInside}
 use Rattle.ds_formula.specs.Plain.{plain}
-use Rattle.ds_formula.specs.Grammar.{Reads}
 use Rattle.ds_state.specs.Works.{PlainWork}
 use Rattle.ds_work.specs.WorkSteps.{IsContent}
 use Rattle.ds_work.specs.Reading.{unseen}

@@ -1,10 +1,10 @@
-use Rattle.std.proofs.Common.{ℕ, ◌≡◌, ◌≤◌, ◌<◌, ◌∙◌, List, length, map, sym, ap, subst, refl, arith}
+use Rattle.std.proofs.Common.{ℕ, ◌<◌, ◌∙◌, List, length, sym, ap, subst, arith}
 use Rattle.std.proofs.lemmas.List.{length-map}
 use Rattle.ds_formula.specs.Plain.{plain}
 use Rattle.ds_formula.specs.Refs.{IsPossible}
 use Rattle.ds_eval.specs.declared.inputs.Input.{Input}
 use Rattle.ds_eval.specs.Inputs.{cell_in}
-use Rattle.ds_state.specs.Works.{PlainWork, IsWork, IsWorkIn}
+use Rattle.ds_state.specs.Works.{PlainWork, IsWork}
 use Rattle.ds_work.specs.WorkSteps.{read_from}
 use Rattle.ds_work.specs.Reading.{unseen}
 use Rattle.ds_work.proofs.Gathered.{taken, read_is, each_possible}
