@@ -111,18 +111,16 @@ pub counted_more : (es more : List Placed) (it : Placed) (b : Bool) → IsCounte
 counted_more es more it true h front cases new = front h
 counted_more es more it false h front cases new = λ f there a b. elim (cases f there) [ inl early ↦ h f early a b | inr late ↦ new f late a b ]
 
--- a turn of q, which leaves what is told of all processes: what it has to show of itself
-pub record OwnTold (q : ℕ) (l : Ledger) (v v' : WorldValue) : Type 0 where
+-- a turn of q: what it has to show of itself, and what of the others' edits stays as it was
+pub record OwnTold (q : ℕ) (l' : Ledger) (v v' : WorldValue) : Type 0 where
   pub layout : v'.sheet.layout ≡ v.sheet.layout
-  pub header : (c : Closed) → l.told q ≡ Some c → SidesStay (world_of v).memory (world_of v').memory (Header q c.it.edit.number)
-  pub opens : (issue : Issue) → (world_of v').pending q ≡ Some issue → issue.edit.number ≡ next_number (l.told q)
-  pub announced : doubts ((world_of v').situation q) ≡ true → (world_of v').pending q ≡ None → Announces (world_of v') q (l.told q)
+  pub told : (c : Closed) → l'.told q ≡ Some c → IsTold l'.counted (world_of v') q c
+  pub opens : (issue : Issue) → (world_of v').pending q ≡ Some issue → issue.edit.number ≡ next_number (l'.told q)
+  pub announced : doubts ((world_of v').situation q) ≡ true → (world_of v').pending q ≡ None → Announces (world_of v') q (l'.told q)
   pub sees : (e : PlainRecovery) → (world_of v').situation q ≡ Recovering e → SeesCell (world_of v') q e
 
-module _ (q : ℕ) (l l' : Ledger) (v v' : WorldValue) (t : Tells l v) (turn : IsTurn q v v') (own : OwnTold q l v v') (same : (p : ℕ) → l'.told p ≡ l.told p) (counted : (p : ℕ) (c : Closed) → l.told p ≡ Some c → IsCounted l'.counted c.it c.counts) where
-  was : (p : ℕ) (c : Closed) → l'.told p ≡ Some c → l.told p ≡ Some c
-  was p c is = sym (same p) ∙ is
-
+module _ (q : ℕ) (l l' : Ledger) (v v' : WorldValue) (t : Tells l v) (turn : IsTurn q v v') (own : OwnTold q l' v v') (same : (p : ℕ) → p ≢ q → l'.told p ≡ l.told p)
+    (counted : (p : ℕ) (c : Closed) → p ≢ q → l.told p ≡ Some c → IsCounted l'.counted c.it c.counts) where
   stay_cached : (p : ℕ) (r : Place) → p ≢ q → ((r ≡ Announce p) ⊎ ((n : ℕ) × (r ≡ Header p n))) → (world_of v').memory.cached r ≡ (world_of v).memory.cached r
   stay_cached p r ne (inl is) = ap (λ x. (world_of v').memory.cached x) is ∙ ((turn.keeps.others p ne).grows Version).owned_cached (Announce p) refl (λ x. cc) ∙ ap (λ x. (world_of v).memory.cached x) (sym is)
   stay_cached p r ne (inr h) = ap (λ x. (world_of v').memory.cached x) h.1 ∙ ((turn.keeps.others p ne).grows Version).owned_cached (Header p h.0) refl (λ x. cc) ∙ ap (λ x. (world_of v).memory.cached x) (sym h.1)
@@ -130,19 +128,20 @@ module _ (q : ℕ) (l l' : Ledger) (v v' : WorldValue) (t : Tells l v) (turn : I
   pub tells_turn : Tells l' v'
   tells_turn = record {
     told = λ p c is. elim (cases_eq p q) [
-      | inl here ↦ told_on l.counted l'.counted (world_of v) (world_of v') p c (t.told p c (was p c is)) own.layout
-          (subst (λ x. SidesStay (world_of v).memory (world_of v').memory (Header x c.it.edit.number)) (sym here) (own.header c (ap l.told (sym here) ∙ was p c is))) (counted p c (was p c is))
-      | inr other ↦ told_on l.counted l'.counted (world_of v) (world_of v') p c (t.told p c (was p c is)) own.layout (sides_relied p c.it.edit.number (world_of v) (world_of v') (turn.keeps.others p other)) (counted p c (was p c is))
+      | inl here ↦ subst (λ x. IsTold l'.counted (world_of v') x c) (sym here) (own.told c (ap l'.told (sym here) ∙ is))
+      | inr other ↦ (
+        let was : l.told p ≡ Some c = sym (same p other) ∙ is in
+        told_on l.counted l'.counted (world_of v) (world_of v') p c (t.told p c was) own.layout (sides_relied p c.it.edit.number (world_of v) (world_of v') (turn.keeps.others p other)) (counted p c other was))
     ];
     opens = λ p issue is. elim (cases_eq p q) [
-      | inl here ↦ own.opens issue (ap (λ x. (world_of v').pending x) (sym here) ∙ is) ∙ ap next_number (ap l.told (sym here) ∙ sym (same p))
-      | inr other ↦ t.opens p issue (sym ((turn.keeps.others p other).pending) ∙ is) ∙ ap next_number (sym (same p))
+      | inl here ↦ own.opens issue (ap (λ x. (world_of v').pending x) (sym here) ∙ is) ∙ ap next_number (ap l'.told (sym here))
+      | inr other ↦ t.opens p issue (sym ((turn.keeps.others p other).pending) ∙ is) ∙ ap next_number (sym (same p other))
     ];
     announced = λ p lt doubt none. elim (cases_eq p q) [
-      | inl here ↦ subst (λ x. (world_of v').memory.cached (Announce x) / 4 ≡ next_number (l'.told p)) (sym here) (own.announced (ap (λ x. doubts ((world_of v').situation x)) (sym here) ∙ doubt) (ap (λ x. (world_of v').pending x) (sym here) ∙ none) ∙ ap next_number (ap l.told (sym here) ∙ sym (same p)))
+      | inl here ↦ subst (λ x. (world_of v').memory.cached (Announce x) / 4 ≡ next_number (l'.told x)) (sym here) (own.announced (ap (λ x. doubts ((world_of v').situation x)) (sym here) ∙ doubt) (ap (λ x. (world_of v').pending x) (sym here) ∙ none))
       | inr other ↦ (
         let before = t.announced p (rw (sym own.layout) lt) (ap doubts (sym (turn.others p other)) ∙ doubt) (sym ((turn.keeps.others p other).pending) ∙ none) in
-        ap (λ x. x / 4) (stay_cached p (Announce p) other (inl refl)) ∙ before ∙ ap next_number (sym (same p)))
+        ap (λ x. x / 4) (stay_cached p (Announce p) other (inl refl)) ∙ before ∙ ap next_number (sym (same p other)))
     ];
     sees = λ p e is. elim (cases_eq p q) [
       | inl here ↦ subst (λ x. SeesCell (world_of v') x e) (sym here) (own.sees e (ap (λ x. (world_of v').situation x) (sym here) ∙ is))
