@@ -36,21 +36,10 @@ use Rattle.ds_recover.specs.declared.machine.RecoveryEnd.TheVariants as recovery
 use Rattle.ds_recover.specs.RecoverySteps as recover_steps
 use Rattle.ds_recover.proofs.RecoveryRank.{each_falls}
 use Rattle.ds_layout.specs.Places.{cells_of}
-use Rattle.ds_formula.specs.declared.cells.Shape.{Shape}
-use Rattle.ds_formula.specs.Cells.{IsInside, index_of, count_of}
-use Rattle.ds_formula.specs.Plain.{Plain}
-use Rattle.ds_eval.specs.declared.inputs.Input.{Input}
-use Rattle.ds_eval.specs.Inputs.{IsAscending, cell_in}
-use Rattle.ds_eval.proofs.Walks.{index_below}
-use Rattle.ds_state.specs.declared.work.WorkEnd.{WorkEnd}
-use Rattle.ds_state.specs.declared.work.WorkStage.{WorkStage}
-use Rattle.ds_state.specs.declared.work.WorkStage.TheVariants as work_stages
 use Rattle.ds_work.specs.WorkEvents as work_events
-use Rattle.ds_work.specs.WorkSteps as work_steps
 use Rattle.ds_work.specs.WorkRank as work_ranks
-use Rattle.ds_work.proofs.Ranks as work_falling
-use Rattle.ds_work.proofs.Gathered.{before_less}
-use Rattle.ds_core.proofs.Turns.{work_leaves, recovery_turn}
+use Rattle.ds_work.proofs.Turning.{turns_fall}
+use Rattle.ds_core.proofs.Turns.{recovery_turn}
 use Rattle.ds_core.specs.ReportEvents.{report_reply, ReportStepsBy}
 use Rattle.ds_core.specs.WorkEvents.{work_reply, WorkStepsBy}
 use Rattle.ds_core.specs.RecoveryEvents.{recovery_reply, RecoveryStepsBy}
@@ -234,86 +223,19 @@ report_falls old new p sound h =
     let b : steps_left p new ≡ steps.rank (steps.next_at e e.stage h.steps.word) = ap left_in now in
     omega (arith, fall, a, b)
 
--- inputs that ascend on the sheet are no more than its cells
-few_inputs : (shape : Shape) (inputs : List Input) → IsAscending inputs → ((j : ℕ) → j < length inputs → IsInside shape (cell_in inputs j)) → length inputs ≤ count_of shape
-few_inputs shape inputs up inside = go (length inputs) refl
-  where
-    least : (j : ℕ) → j < length inputs → j ≤ index_of shape (cell_in inputs j)
-    least zero lt = omega arith
-    least (suc j) lt =
-        let before = least j (omega arith) in
-        let more = before_less shape (cell_in inputs j) (cell_in inputs (suc j)) (inside j (omega arith)) (up.ascend j (suc j) (omega arith) lt) in
-        omega arith
-
-    go : (n : ℕ) → n ≡ length inputs → n ≤ count_of shape
-    go zero is = omega arith
-    go (suc n) is = let lt : n < length inputs = omega arith in let l = least n lt in let below = index_below shape (cell_in inputs n) (inside n lt) in omega arith
-
 work_falls : (old new : WorldValue) (p : ℕ) → IsSound (world_of old) → WorkStepsBy old p Stepped new → steps_left p new < steps_left p old
-work_falls old new p sound h = by h.what h.steps.turn h.is
+work_falls old new p sound h = by h.what h.steps h.is
   where
-    e : PlainWork
-    e = h.steps.work
-
-    keeps : IsSound (world_of new)
-    keeps = (work_leaves old new p Stepped sound h).turn.keeps.sound
-
-    layout : new.sheet.layout ≡ old.sheet.layout
-    layout = (work_leaves old new p Stepped sound h).layout
-
-    -- a work that follows is of the same sheet
-    same_cells : (f : PlainWork) → (world_of new).situation p ≡ Working f → f.cells ≡ e.cells
-    same_cells f is =
-        let now = subst (λ (s : Situation). CallFits (world_of new) p s) is (keeps.calls p (rw layout h.steps.inside)) in
-        let was = subst (λ (s : Situation). CallFits (world_of old) p s) h.steps.works (sound.calls p h.steps.inside) in
-        sym now.cells ∙ ap cells_of layout ∙ was.cells
-
-    falls_to : (f : PlainWork) → (world_of new).situation p ≡ Working f → work_ranks.steps_left e.cells f < work_ranks.left e.cells e e.stage → steps_left p new < steps_left p old
-    falls_to f is less =
-        let a : steps_left p old ≡ work_ranks.steps_left e.cells e = ap left_in h.steps.works in
-        let b : steps_left p new ≡ work_ranks.steps_left f.cells f = ap left_in is in
-        let c : work_ranks.steps_left f.cells f ≡ work_ranks.steps_left e.cells f = ap (λ r. work_ranks.steps_left r f) (same_cells f is) in
+    by : (what : Taken) → work_events.StepsBy (world_of old) p what (world_of new) → Stepped ≡ work_reply what → steps_left p new < steps_left p old
+    by taken.Stepped s is =
+        let g = turns_fall p (world_of old) (world_of new) sound s in
+        let less = g.fewer in
+        let a : steps_left p old ≡ work_ranks.steps_left s.work.cells s.work = ap left_in s.works in
+        let b : steps_left p new ≡ work_ranks.steps_left g.work.cells g.work = ap left_in g.works in
+        let c : work_ranks.steps_left g.work.cells g.work ≡ work_ranks.steps_left s.work.cells g.work = ap (λ r. work_ranks.steps_left r g.work) g.cells in
         omega (arith, less, a, b, c)
-
-    at_p : (s : Situation) → (world_of new).situation e.process ≡ s → (world_of new).situation p ≡ s
-    at_p s is = ap (λ q. (world_of new).situation q) (sym h.steps.mine) ∙ is
-
-    lower : (f : PlainWork) (s : WorkStage) → work_steps.IsPlainStep s → ((end : WorkEnd) → s ≡ work_stages.Answer end → ⊥) → work_ranks.Falls e.cells e f s → work_ranks.steps_left e.cells f < work_ranks.left e.cells e s
-    lower f work_stages.Read plain on fall = absurd plain
-    lower f work_stages.Wait plain on fall = absurd plain
-    lower f (work_stages.Answer end) plain on fall = absurd (on end refl)
-    lower f _ plain on fall = fall
-
-    goes_to : (s : WorkStage) (word : ℕ) → ((end : WorkEnd) → s ≡ work_stages.Answer end → ⊥) → work_steps.after e s word ≡ Working (work_steps.next_at e s word)
-    goes_to (work_stages.Answer end) word on = absurd (on end refl)
-    goes_to _ word on = refl
-
-    read_stage : Plain → List Input → WorkStage → PlainWork
-    read_stage content inputs s = record e { content = content; inputs = inputs; stage = s }
-
-    no_rank : (inputs : List Input) (b : Bool) (content : Plain) → work_ranks.steps_left (length inputs) (if b then read_stage content inputs (work_stages.LoadValue 0) else read_stage content inputs work_stages.LoadOwnValue)
-        ≡ work_ranks.steps_left e.cells (if b then read_stage content inputs (work_stages.LoadValue 0) else read_stage content inputs work_stages.LoadOwnValue)
-    no_rank inputs true content = refl
-    no_rank inputs false content = refl
-
-    by : (what : Taken) → work_events.TakesTurn e (world_of old) (world_of new) what → Stepped ≡ work_reply what → steps_left p new < steps_left p old
-    by what (work_events.steps word t on) is = falls_to (work_steps.next_at e e.stage word) (at_p _ (t.situation ∙ goes_to e.stage word on)) (lower _ e.stage t.plain on (work_falling.each_falls e.cells word e h.steps.is))
-    by what (work_events.reads content inputs at t) is =
-        let few : length inputs ≤ e.cells = (
-          let l = few_inputs old.sheet.layout.shape inputs t.is.ascending (λ j lt. (t.is.only j lt).1) in
-          let was = subst (λ (s : Situation). CallFits (world_of old) p s) h.steps.works (sound.calls p h.steps.inside) in
-          let same = was.cells in
-          omega arith) in
-        let less = work_falling.reading_falls e content inputs in
-        let rank = no_rank inputs (nat_lt 0 (length inputs)) content in
-        let read : work_ranks.left e.cells e e.stage ≡ work_ranks.left e.cells e work_stages.Read = ap (λ s. work_ranks.left e.cells e s) at in
-        falls_to (work_steps.read_from e content inputs) (at_p _ t.turn.situation) (omega (arith, few, less, rank, read))
-    by what (work_events.lacked at t) is =
-        let less = work_falling.lacking_falls e.cells e in
-        let read : work_ranks.left e.cells e e.stage ≡ work_ranks.left e.cells e work_stages.Read = ap (λ s. work_ranks.left e.cells e s) at in
-        falls_to (work_steps.lacks e) (at_p _ t.situation) (omega (arith, less, read))
-    by what (work_events.answers end at t) is = absurd (cc)
-
+    by taken.NotEnabled s is = absurd (cc)
+    by (taken.Answered end) s is = absurd (cc)
 
 recovery_goes : (what : recovery_effect.Effect) → Stepped ≡ recovery_reply what → what ≡ recovery_effects.GoesOn
 recovery_goes recovery_effects.GoesOn is = refl

@@ -22,5 +22,7 @@ pub mod Alone
 pub mod EachEvent
 pub mod Headers
 pub mod Told
+pub mod Telling
+pub mod Recovered
 pub mod Reported
 pub mod EachRun

@@ -9,12 +9,12 @@ use Rattle.ds_formula.specs.Cells.{IsInside, index_of, count_of}
 use Rattle.ds_formula.specs.declared.cells.Cell.{Cell}
 use Rattle.ds_formula.specs.declared.cells.Shape.{Shape}
 use Rattle.ds_formula.specs.Plain.{Plain}
-use Rattle.ds_formula.specs.Refs.{Refers, AreRefs, IsPossible}
+use Rattle.ds_formula.specs.Refs.{Refers, AreRefs, IsPossible, IsBefore}
 use Rattle.ds_formula.specs.Refs as refs
 use Rattle.ds_formula.specs.Grammar.{Reads}
 use Rattle.ds_formula.proofs.Formed.{read_inside}
 use Rattle.ds_eval.specs.declared.inputs.Input.{Input}
-use Rattle.ds_eval.specs.Inputs.{cell_in, no_input, IsAscending, IsBehind, IsBefore}
+use Rattle.ds_eval.specs.Inputs.{cell_in, no_input, IsAscending, IsBehind}
 use Rattle.std.proofs.lemmas.Bool.{ltb-true}
 use Rattle.ds_state.specs.Works.{PlainWork, IsWork, ClaimFits, StageFits, TellsFits}
 use Rattle.ds_state.specs.declared.work.WorkStage.{WorkStage}
@@ -41,7 +41,7 @@ ascends cells pairs = record {
 }
 
 -- a later cell has a greater number
-pub before_less : (shape : Shape) (c d : Cell) → IsInside shape c → IsBefore c d → index_of shape c < index_of shape d
+before_less : (shape : Shape) (c d : Cell) → IsInside shape c → IsBefore c d → index_of shape c < index_of shape d
 before_less shape c d inside (inl row) =
     let column = inside.column in
     let whole : suc c.row * shape.columns ≤ d.row * shape.columns = mul-le-mul_right shape.columns row in
