@@ -31,14 +31,23 @@ use Rattle.ds_edit.specs.declared.answer.Answer as replies
 use Rattle.ds_edit.specs.declared.answer.Answer.TheVariants.{Done, Overtaken}
 use Rattle.ds_core.specs.EditEvents.{EditStepsBy}
 use Rattle.ds_core.specs.ReportEvents.{report_reply, ReportBegins, ReportStepsBy}
-use Rattle.ds_core.specs.Steps.{edits, reports}
+use Rattle.ds_core.specs.Steps.{edits, works, reports, recoveries}
+use Rattle.ds_core.specs.WorkEvents.{work_reply, WorkStepsBy, WorkBegins, TakesEntry}
+use Rattle.ds_core.specs.RecoveryEvents.{recovery_reply, RecoveryStepsBy, RecoveryBegins}
+use Rattle.ds_work.specs.declared.drive.Taken.{Taken}
+use Rattle.ds_work.specs.declared.drive.Taken.TheVariants as taken
+use Rattle.ds_state.specs.declared.work.WorkEnd.TheVariants as work_ends
+use Rattle.ds_recover.specs.declared.machine.Effect as recovery_effect
+use Rattle.ds_recover.specs.declared.machine.Effect.TheVariants as recovery_effects
+use Rattle.ds_recover.specs.declared.machine.RecoveryEnd.TheVariants as recovery_ends
 use Rattle.ds_core.specs.Takes.{Takes}
 use Rattle.ds_core.specs.Moments.{Open, Ledger}
+use Rattle.ds_core.specs.Headline.{IsResolution}
 use Rattle.ds_core.specs.LedgerSteps.{next_number, IsOvertakenBy, OneAccess, WordsMove, AnswerMoves, LedgerMoves}
 use Rattle.ds_core.specs.declared.event.Event.{Event}
 use Rattle.ds_core.specs.declared.event.Event.TheVariants.{BeginEdit, BeginWork, BeginShow, BeginRecover, Step, Offer, Evict, Stop, Crash}
 use Rattle.ds_core.specs.declared.reply.Reply.{Reply}
-use Rattle.ds_core.specs.declared.reply.Reply.TheVariants.{Begun, Entered, Refused, Stepped, Answered, Evicted, Stopped, Crashed, NotEnabled}
+use Rattle.ds_core.specs.declared.reply.Reply.TheVariants.{Begun, Entered, Refused, Stepped, Answered, WrongTask, Evicted, Stopped, Crashed, NotEnabled}
 use Rattle.ds_core.proofs.Traces as traces
 use Rattle.ds_core.proofs.Moves.{begins_move, step_moves}
 use Rattle.ds_core.proofs.Good.{answers_at}
@@ -46,6 +55,9 @@ use Rattle.ds_core.proofs.Bound.{unanswered_at, after_on, same_layout}
 use Rattle.ds_core.proofs.Solo.{some_outcome, after_answer}
 use Rattle.ds_core.proofs.Ledgers.{IsOf, SaysSame, says_same, numbered, doubts, stays, issued, issue_of, issues_fit, pushed, push_of, counts_fit, closed, close_of, closes_fit, stands_here, out_here, overtaken_here, doubted, stop_of, left, left_loses, crash_of}
 use Rattle.ds_core.proofs.Carry.{StepFits}
+use Rattle.ds_core.proofs.Turns.{work_leaves, work_begins_leaves, offer_leaves}
+use Rattle.ds_core.proofs.AtWork.{work_says, work_stays, work_begins_stays, offer_stays}
+use Rattle.ds_core.proofs.AtRecovery.{recovery_begins_after, recovery_access, recovery_pending, recovery_says}
 
 -- ---- one event
 
@@ -263,6 +275,65 @@ module _ (place : ℕ) (layout : Layout) (l : Ledger) (v v' : WorldValue) (h : I
       nothing (effects.Answers (ends.AtMark cell word)) answer is = subst (λ (a : replies.Answer). AnswerMoves l p a l) (the_answer answer _ (sym is)) refl
       nothing (effects.Answers (ends.AtAnnounce process word)) answer is = subst (λ (a : replies.Answer). AnswerMoves l p a l) (the_answer answer _ (sym is)) refl
 
+  -- work begins, is offered an entry, makes a step
+  work_begins : (p : ℕ) (cell : _) → WorkBegins v p cell v' → Next place layout l v (BeginWork p cell) Entered v'
+  work_begins p cell t =
+      let k = work_begins_leaves v v' p cell h.good.sound t in
+      silent (BeginWork p cell) Entered t k.counted k.pending (work_says p v v' (work_begins_stays p v v' cell t) k.turn) t.begun.begins.turn.memory refl
+
+  offers : (value : _) → TakesEntry v value v' → Next place layout l v (Offer value) Stepped v'
+  offers value t =
+      let k = offer_leaves v v' value h.good.sound t in
+      silent (Offer value) Stepped t k.counted k.pending (work_says value.task.process v v' (offer_stays v v' value t) k.turn) t.offered.offers.turn.memory refl
+
+  work_stepped : (p : ℕ) → WorkStepsBy v p Stepped v' → Next place layout l v (Step p) Stepped v'
+  work_stepped p t =
+      let k = work_leaves v v' p Stepped h.good.sound t in
+      silent (Step p) Stepped (works t) k.counted k.pending (work_says p v v' (work_stays p v v' Stepped t) k.turn) k.words (inl refl)
+
+  work_answered : (p : ℕ) (answer : replies.Answer) → WorkStepsBy v p (Answered answer) v' → Next place layout l v (Step p) (Answered answer) v'
+  work_answered p answer t =
+      let k = work_leaves v v' p (Answered answer) h.good.sound t in
+      silent (Step p) (Answered answer) (works t) k.counted k.pending (work_says p v v' (work_stays p v v' (Answered answer) t) k.turn) k.words (nothing t.what answer t.is)
+    where
+      nothing : (what : Taken) (answer : replies.Answer) → Answered answer ≡ work_reply what → AnswerMoves l p answer l
+      nothing taken.NotEnabled answer is = absurd (cc)
+      nothing taken.Stepped answer is = absurd (cc)
+      nothing (taken.Answered work_ends.NotDirty) answer is = subst (λ (a : replies.Answer). AnswerMoves l p a l) (the_answer answer _ (sym is)) refl
+      nothing (taken.Answered work_ends.Missed) answer is = subst (λ (a : replies.Answer). AnswerMoves l p a l) (the_answer answer _ (sym is)) refl
+      nothing (taken.Answered work_ends.Worn) answer is = subst (λ (a : replies.Answer). AnswerMoves l p a l) (the_answer answer _ (sym is)) refl
+      nothing (taken.Answered (work_ends.Published changed)) answer is = subst (λ (a : replies.Answer). AnswerMoves l p a l) (the_answer answer _ (sym is)) refl
+      nothing (taken.Answered work_ends.Again) answer is = subst (λ (a : replies.Answer). AnswerMoves l p a l) (the_answer answer _ (sym is)) refl
+      nothing (taken.Answered work_ends.NoMemory) answer is = subst (λ (a : replies.Answer). AnswerMoves l p a l) (the_answer answer _ (sym is)) refl
+
+  -- a recovery begins, and makes a step
+  recovery_begins : (p : ℕ) → RecoveryBegins v p v' → Next place layout l v (BeginRecover p) Entered v'
+  recovery_begins p t =
+      let kept = kept_layout (BeginRecover p) Entered t in
+      record {
+        ledger = l;
+        fits = record { layout = kept ∙ sym h.same; takes = t; words = t.begun.begins.memory; ledger = refl };
+        after = recovery_begins_after layout l v v' h good p t;
+      }
+
+  recovery_goes : (what : recovery_effect.Effect) → Stepped ≡ recovery_reply what → what ≡ recovery_effects.GoesOn
+  recovery_goes recovery_effects.GoesOn is = refl
+  recovery_goes (recovery_effects.Answers recovery_ends.Nothing) is = absurd (cc)
+  recovery_goes (recovery_effects.Answers (recovery_ends.Last number cell counts)) is = absurd (cc)
+
+  recovery_stepped : (p : ℕ) → RecoveryStepsBy v p Stepped v' → Next place layout l v (Step p) Stepped v'
+  recovery_stepped p t =
+      let goes = recovery_goes t.what t.is in
+      silent (Step p) Stepped (recoveries t) t.steps.steps.counted (recovery_pending v v' p Stepped t goes) (recovery_says v v' p Stepped t goes) (recovery_access v v' p Stepped t) (inl refl)
+
+  resolves : (p : ℕ) (answer : replies.Answer) → RecoveryStepsBy v p (Answered answer) v' → IsResolution (Answered answer)
+  resolves p answer t = by t.what t.is
+    where
+      by : (what : recovery_effect.Effect) → Answered answer ≡ recovery_reply what → IsResolution (Answered answer)
+      by recovery_effects.GoesOn is = absurd (cc)
+      by (recovery_effects.Answers recovery_ends.Nothing) is = subst (λ (r : Reply). IsResolution r) (sym is) tt
+      by (recovery_effects.Answers (recovery_ends.Last number cell counts)) is = subst (λ (r : Reply). IsResolution r) (sym is) tt
+
   evicts : (word : Place) → Takes v (Evict word) Evicted v' → Next place layout l v (Evict word) Evicted v'
   evicts word t =
       let kept = kept_layout (Evict word) Evicted t in
@@ -271,9 +342,6 @@ module _ (place : ℕ) (layout : Layout) (l : Ledger) (v v' : WorldValue) (h : I
         fits = record { layout = kept ∙ sym h.same; takes = t; words = t.evicts.memory; ledger = refl };
         after = stays layout l v v' h good kept (record { counted = t.evicts.counted; pending = t.evicts.pending }) (λ q. says_same _ _ (t.evicts.situation q));
       }
-
-  not_enabled : (event : Event) (reply : Reply) → Takes v event NotEnabled v → (reply ≡ NotEnabled) × (v' ≡ v) → WordsMove (world_of v).memory event NotEnabled (world_of v).memory → LedgerMoves place layout.shape l event NotEnabled l → Next place layout l v event reply v'
-  not_enabled event reply takes t words ledger = subst (λ (r : Reply). Next place layout l v event r v') (sym t.0) (unchanged event NotEnabled takes t.1 words ledger)
 
   stops : (p : ℕ) → Takes v (Stop p) Stopped v' → Next place layout l v (Stop p) Stopped v'
   stops p t =
@@ -293,30 +361,41 @@ module _ (place : ℕ) (layout : Layout) (l : Ledger) (v v' : WorldValue) (h : I
         after = crash_of layout l v v' h good kept t.crashes;
       }
 
-  pub next : (event : Event) (reply : Reply) → Takes v event reply v' → Next place layout l v event reply v'
-  next (BeginEdit r) (Begun number) t = begins r number t
-  next (BeginEdit r) (Refused why) t = unchanged (BeginEdit r) (Refused why) (subst (λ (x : WorldValue). Takes v (BeginEdit r) (Refused why) x) t.same t) t.same (still (world_of v).memory) refl
-  next (BeginEdit r) NotEnabled t = unchanged (BeginEdit r) NotEnabled (subst (λ (x : WorldValue). Takes v (BeginEdit r) NotEnabled x) t.same t) t.same (still (world_of v).memory) refl
-  next (BeginEdit r) _ t = absurd t
-  next (Step p) Stepped (edits t) = stepped p t
-  next (Step p) Stepped (reports t) = report_stepped p t
-  next (Step p) (Answered answer) (edits t) = answered p answer t
-  next (Step p) (Answered answer) (reports t) = report_answered p answer t
-  next (Step p) NotEnabled t = unchanged (Step p) NotEnabled (subst (λ (x : WorldValue). Takes v (Step p) NotEnabled x) t.same t) t.same (still (world_of v).memory) refl
-  next (Step p) _ t = absurd t
-  next (Evict word) Evicted t = evicts word t
-  next (Evict word) NotEnabled t = unchanged (Evict word) NotEnabled (subst (λ (x : WorldValue). Takes v (Evict word) NotEnabled x) t.same t) t.same (still (world_of v).memory) refl
-  next (Evict word) _ t = absurd t
-  next (BeginWork q cell) reply t = not_enabled (BeginWork q cell) reply (refl, refl) t (still (world_of v).memory) refl
-  next (BeginShow p) Entered t = reports_begin p t
-  next (BeginShow p) (Refused why) t = unchanged (BeginShow p) (Refused why) (subst (λ (x : WorldValue). Takes v (BeginShow p) (Refused why) x) t.same t) t.same (still (world_of v).memory) refl
-  next (BeginShow p) NotEnabled t = unchanged (BeginShow p) NotEnabled (subst (λ (x : WorldValue). Takes v (BeginShow p) NotEnabled x) t.same t) t.same (still (world_of v).memory) refl
-  next (BeginShow p) _ t = absurd t
-  next (BeginRecover q) reply t = not_enabled (BeginRecover q) reply (refl, refl) t (still (world_of v).memory) refl
-  next (Stop p) Stopped t = stops p t
-  next (Stop p) NotEnabled t = unchanged (Stop p) NotEnabled (subst (λ (x : WorldValue). Takes v (Stop p) NotEnabled x) t.same t) t.same (still (world_of v).memory) refl
-  next (Stop p) _ t = absurd t
-  next Crash Crashed t = crashes t
-  next Crash _ t = absurd t
-  next (Offer value) reply t = not_enabled (Offer value) reply (refl, refl) t (still (world_of v).memory) refl
-
+  pub next : (event : Event) (reply : Reply) → (IsResolution reply → ⊥) → Takes v event reply v' → Next place layout l v event reply v'
+  next (BeginEdit r) (Begun number) unresolved t = begins r number t
+  next (BeginEdit r) (Refused why) unresolved t = unchanged (BeginEdit r) (Refused why) (subst (λ (x : WorldValue). Takes v (BeginEdit r) (Refused why) x) t.same t) t.same (still (world_of v).memory) refl
+  next (BeginEdit r) NotEnabled unresolved t = unchanged (BeginEdit r) NotEnabled (subst (λ (x : WorldValue). Takes v (BeginEdit r) NotEnabled x) t.same t) t.same (still (world_of v).memory) refl
+  next (BeginEdit r) _ unresolved t = absurd t
+  next (Step p) Stepped unresolved (edits t) = stepped p t
+  next (Step p) Stepped unresolved (reports t) = report_stepped p t
+  next (Step p) Stepped unresolved (works t) = work_stepped p t
+  next (Step p) Stepped unresolved (recoveries t) = recovery_stepped p t
+  next (Step p) (Answered answer) unresolved (edits t) = answered p answer t
+  next (Step p) (Answered answer) unresolved (reports t) = report_answered p answer t
+  next (Step p) (Answered answer) unresolved (works t) = work_answered p answer t
+  next (Step p) (Answered answer) unresolved (recoveries t) = absurd (unresolved (resolves p answer t))
+  next (Step p) NotEnabled unresolved t = unchanged (Step p) NotEnabled (subst (λ (x : WorldValue). Takes v (Step p) NotEnabled x) t.same t) t.same (still (world_of v).memory) refl
+  next (Step p) _ unresolved t = absurd t
+  next (Evict word) Evicted unresolved t = evicts word t
+  next (Evict word) NotEnabled unresolved t = unchanged (Evict word) NotEnabled (subst (λ (x : WorldValue). Takes v (Evict word) NotEnabled x) t.same t) t.same (still (world_of v).memory) refl
+  next (Evict word) _ unresolved t = absurd t
+  next (BeginShow p) Entered unresolved t = reports_begin p t
+  next (BeginShow p) (Refused why) unresolved t = unchanged (BeginShow p) (Refused why) (subst (λ (x : WorldValue). Takes v (BeginShow p) (Refused why) x) t.same t) t.same (still (world_of v).memory) refl
+  next (BeginShow p) NotEnabled unresolved t = unchanged (BeginShow p) NotEnabled (subst (λ (x : WorldValue). Takes v (BeginShow p) NotEnabled x) t.same t) t.same (still (world_of v).memory) refl
+  next (BeginShow p) _ unresolved t = absurd t
+  next (Stop p) Stopped unresolved t = stops p t
+  next (Stop p) NotEnabled unresolved t = unchanged (Stop p) NotEnabled (subst (λ (x : WorldValue). Takes v (Stop p) NotEnabled x) t.same t) t.same (still (world_of v).memory) refl
+  next (Stop p) _ unresolved t = absurd t
+  next Crash Crashed unresolved t = crashes t
+  next Crash _ unresolved t = absurd t
+  next (BeginWork q cell) Entered unresolved t = work_begins q cell t
+  next (BeginWork q cell) (Refused why) unresolved t = unchanged (BeginWork q cell) (Refused why) (subst (λ (x : WorldValue). Takes v (BeginWork q cell) (Refused why) x) t.same t) t.same (still (world_of v).memory) refl
+  next (BeginWork q cell) NotEnabled unresolved t = unchanged (BeginWork q cell) NotEnabled (subst (λ (x : WorldValue). Takes v (BeginWork q cell) NotEnabled x) t.same t) t.same (still (world_of v).memory) refl
+  next (BeginWork q cell) _ unresolved t = absurd t
+  next (BeginRecover q) Entered unresolved t = recovery_begins q t
+  next (BeginRecover q) (Refused why) unresolved t = unchanged (BeginRecover q) (Refused why) (subst (λ (x : WorldValue). Takes v (BeginRecover q) (Refused why) x) t.same t) t.same (still (world_of v).memory) refl
+  next (BeginRecover q) NotEnabled unresolved t = unchanged (BeginRecover q) NotEnabled (subst (λ (x : WorldValue). Takes v (BeginRecover q) NotEnabled x) t.same t) t.same (still (world_of v).memory) refl
+  next (BeginRecover q) _ unresolved t = absurd t
+  next (Offer value) Stepped unresolved t = offers value t
+  next (Offer value) WrongTask unresolved t = unchanged (Offer value) WrongTask (subst (λ (x : WorldValue). Takes v (Offer value) WrongTask x) t.same t) t.same (still (world_of v).memory) refl
+  next (Offer value) _ unresolved t = absurd t

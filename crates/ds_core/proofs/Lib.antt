@@ -19,10 +19,8 @@ pub mod Crash
 pub mod Lost
 pub mod Stopped
 pub mod Alone
+pub mod AtWork
+pub mod AtRecovery
 pub mod EachEvent
-pub mod Headers
-pub mod Told
-pub mod Telling
-pub mod Recovered
 pub mod Reported
 pub mod EachRun

@@ -12,6 +12,7 @@ use Rattle.ds_state.specs.Reports.{PlainReports}
 use Rattle.ds_state.specs.declared.stage.Outcome.{Outcome}
 use Rattle.ds_state.specs.declared.stage.Outcome.TheVariants as outcome
 use Rattle.ds_edit.specs.Endings.{outcome_at}
+use Rattle.ds_edit.specs.declared.answer.Answer as call_answers
 use Rattle.ds_edit.specs.declared.answer.Answer.TheVariants.{Settled, Unsettled}
 use Rattle.ds_show.specs.declared.machine.Effect.{Effect}
 use Rattle.ds_show.specs.declared.machine.Effect.TheVariants.{GoesOn, Answers}
@@ -36,7 +37,7 @@ use Rattle.ds_state.specs.Calls.{CallFits}
 use Rattle.ds_state.specs.Value.{WorldValue, world_of, IsGood}
 use Rattle.ds_state.specs.declared.situation.Situation.{Situation}
 use Rattle.ds_state.specs.declared.situation.Situation.TheVariants as situation
-use Rattle.ds_state.specs.declared.situation.Situation.TheVariants.{Idle, Editing, Showing}
+use Rattle.ds_state.specs.declared.situation.Situation.TheVariants.{Idle, Editing, Recovering, Showing}
 use Rattle.ds_state.proofs.Accesses.{evict_sound}
 use Rattle.ds_state.proofs.Buffers.{buffered}
 use Rattle.ds_edit.specs.Worlds as edit_steps
@@ -45,15 +46,26 @@ use Rattle.ds_show.specs.ShowRuns.{OwnStep, Passes, HasBegun, Call, IsOf, AreInT
 use Rattle.ds_show.proofs.ShowRuns.{rely_same, answer_true}
 use Rattle.ds_core.specs.EditEvents.{reply_with, EditStepsBy}
 use Rattle.ds_core.specs.ReportEvents.{report_answer, report_reply, ReportStepsBy, ReportBegins}
-use Rattle.ds_core.specs.Steps.{StepsBy, edits, reports}
+use Rattle.ds_core.specs.Steps.{StepsBy, edits, works, reports, recoveries}
+use Rattle.ds_core.specs.WorkEvents.{work_reply, WorkStepsBy}
+use Rattle.ds_core.specs.RecoveryEvents.{recovery_reply, RecoveryStepsBy, RecoveryBegins}
+use Rattle.ds_work.specs.declared.drive.Taken.{Taken}
+use Rattle.ds_work.specs.declared.drive.Taken.TheVariants as taken
+use Rattle.ds_state.specs.declared.work.WorkEnd.{WorkEnd}
+use Rattle.ds_state.specs.declared.work.WorkEnd.TheVariants as work_ends
+use Rattle.ds_recover.specs.declared.machine.Effect as recovery_effect
+use Rattle.ds_recover.specs.declared.machine.Effect.TheVariants as recovery_effects
+use Rattle.ds_recover.specs.declared.machine.RecoveryEnd.TheVariants as recovery_ends
 use Rattle.ds_core.specs.Takes.{Takes}
 use Rattle.ds_core.specs.Moments.{Moment, MomentFits, edits_in, empty_ledger}
 use Rattle.ds_core.specs.Headline.{Happens, IsCall, IsWatched, IsUnrest, SettledFits, UnsettledFits, ReportsFit, kept_values}
 use Rattle.ds_core.specs.declared.event.Event.{Event}
 use Rattle.ds_core.specs.declared.event.Event.TheVariants.{BeginEdit, BeginWork, BeginShow, BeginRecover, Step, Offer, Evict, Stop, Crash}
 use Rattle.ds_core.specs.declared.reply.Reply.{Reply}
-use Rattle.ds_core.specs.declared.reply.Reply.TheVariants.{Begun, Entered, Refused, Stepped, Answered, Evicted, Stopped, Crashed, NotEnabled}
-use Rattle.ds_core.proofs.Turns.{IsTurn, edit_turn, report_turn, report_begins_turn, stop_turn}
+use Rattle.ds_core.specs.declared.reply.Reply.TheVariants.{Begun, Entered, Refused, Stepped, Answered, WrongTask, Evicted, Stopped, Crashed, NotEnabled}
+use Rattle.ds_core.proofs.Turns.{IsTurn, LeavesEdits, edit_turn, report_turn, report_begins_turn, stop_turn, work_leaves, work_begins_leaves, offer_leaves, recovery_turn, recovery_begins_turn}
+use Rattle.ds_core.proofs.AtWork.{StaysAtWork, at_work_shows_not, work_stays, work_begins_stays, offer_stays}
+use Rattle.ds_core.proofs.AtRecovery.{recovery_shows_not}
 use Rattle.ds_core.proofs.Carry.{RunOn, at_place}
 use Rattle.ds_core.proofs.Closing.{found_at, up}
 
@@ -125,6 +137,12 @@ module _ (p : ℕ) (old new : WorldValue) (good : IsGood old) (low : p < old.she
     })
   ]
 
+  by_work : (event : Event) (reply : Reply) (q : ℕ) → LeavesEdits q old new → StaysAtWork q old new → Either event reply
+  by_work event reply q k s = by_turn event reply q k.turn (λ same f is. at_work_shows_not s.number ((world_of new).situation q) s.now f is)
+
+  by_recovery : (q : ℕ) (reply : Reply) → RecoveryStepsBy old q reply new → Either (Step q) reply
+  by_recovery q reply h = by_turn (Step q) reply q (recovery_turn old new q reply good.sound h) (λ same f is. recovery_shows_not old new q reply h f is)
+
   one_event : (event : Event) (reply : Reply) → Takes old event reply new → Either event reply
   one_event (BeginEdit r) (Begun number) h = by_turn (BeginEdit r) (Begun number) h.begun.edit.process (record {
     there = rw h.begun.asked.sheet.processes h.begun.asked.is.process;
@@ -140,8 +158,12 @@ module _ (p : ℕ) (old new : WorldValue) (good : IsGood old) (low : p < old.she
   one_event (BeginShow q) _ h = absurd h
   one_event (Step q) Stepped (edits h) = by_edit q Stepped h
   one_event (Step q) Stepped (reports h) = by_report q Stepped h
+  one_event (Step q) Stepped (works h) = by_work (Step q) Stepped q (work_leaves old new q Stepped good.sound h) (work_stays q old new Stepped h)
+  one_event (Step q) Stepped (recoveries h) = by_recovery q Stepped h
   one_event (Step q) (Answered answer) (edits h) = by_edit q (Answered answer) h
   one_event (Step q) (Answered answer) (reports h) = by_report q (Answered answer) h
+  one_event (Step q) (Answered answer) (works h) = by_work (Step q) (Answered answer) q (work_leaves old new q (Answered answer) good.sound h) (work_stays q old new (Answered answer) h)
+  one_event (Step q) (Answered answer) (recoveries h) = by_recovery q (Answered answer) h
   one_event (Step q) NotEnabled h = unchanged (Step q) NotEnabled h.same
   one_event (Step q) _ h = absurd h
   one_event (Evict word) Evicted h = inr (record {
@@ -156,9 +178,26 @@ module _ (p : ℕ) (old new : WorldValue) (good : IsGood old) (low : p < old.she
   one_event (Stop q) _ h = absurd h
   one_event Crash Crashed h = absurd (let bad : situation.Stopped ≡ Showing e = sym (h.crashes.situation p low) ∙ at in cc)
   one_event Crash _ h = absurd h
-  one_event (BeginWork q cell) reply h = unchanged (BeginWork q cell) reply h.1
-  one_event (BeginRecover q) reply h = unchanged (BeginRecover q) reply h.1
-  one_event (Offer value) reply h = unchanged (Offer value) reply h.1
+  one_event (BeginWork q cell) Entered h = by_work (BeginWork q cell) Entered q (work_begins_leaves old new q cell good.sound h) (work_begins_stays q old new cell h)
+  one_event (BeginWork q cell) (Refused why) h = unchanged (BeginWork q cell) (Refused why) h.same
+  one_event (BeginWork q cell) NotEnabled h = unchanged (BeginWork q cell) NotEnabled h.same
+  one_event (BeginWork q cell) _ h = absurd h
+  one_event (BeginRecover q) Entered h = by_turn (BeginRecover q) Entered q (recovery_begins_turn old new q good.sound h) (λ same f is. let bad : Recovering _ ≡ Showing f = sym h.begun.begins.situation ∙ is in cc)
+  one_event (BeginRecover q) (Refused why) h = unchanged (BeginRecover q) (Refused why) h.same
+  one_event (BeginRecover q) NotEnabled h = unchanged (BeginRecover q) NotEnabled h.same
+  one_event (BeginRecover q) _ h = absurd h
+  one_event (Offer value) Stepped h = by_work (Offer value) Stepped value.task.process (offer_leaves old new value good.sound h) (offer_stays old new value h)
+  one_event (Offer value) WrongTask h = unchanged (Offer value) WrongTask h.same
+  one_event (Offer value) _ h = absurd h
+
+-- an answer that is no report's
+abbrev IsNoReport : call_answers.Answer → Type 0
+IsNoReport Settled = ⊥
+IsNoReport (Unsettled place word) = ⊥
+IsNoReport _ = Unit {0}
+
+no_report : (a b : call_answers.Answer) → Answered a ≡ Answered b → IsNoReport b → IsNoReport a
+no_report a b is none = (let same : a ≡ b = cc in subst (λ (x : call_answers.Answer). IsNoReport x) (sym same) none)
 
 there : {A : Type 0} (xs : List A) (k : ℕ) (x : A) → slice_get xs k ≡ Some x → k < length xs
 there [] k x is = absurd (cc)
@@ -324,6 +363,25 @@ module _ (old : WorldValue) (events : List Event) (replies : List Reply) (new : 
   edit_unsettles processes number place word (Some outcome.Done) is = cc
   edit_unsettles processes number place word (Some (outcome.Overtaken noted seen)) is = cc
 
+  -- nor does work, nor a recovery
+  work_is : (end : WorkEnd) (answer : call_answers.Answer) → Answered answer ≡ work_reply (taken.Answered end) → IsNoReport answer
+  work_is work_ends.NotDirty answer is = no_report answer _ is tt
+  work_is work_ends.Missed answer is = no_report answer _ is tt
+  work_is work_ends.Worn answer is = no_report answer _ is tt
+  work_is (work_ends.Published changed) answer is = no_report answer _ is tt
+  work_is work_ends.Again answer is = no_report answer _ is tt
+  work_is work_ends.NoMemory answer is = no_report answer _ is tt
+
+  work_reports_not : (what : Taken) (answer : call_answers.Answer) → Answered answer ≡ work_reply what → IsNoReport answer
+  work_reports_not taken.NotEnabled answer is = absurd (cc)
+  work_reports_not taken.Stepped answer is = absurd (cc)
+  work_reports_not (taken.Answered end) answer is = work_is end answer is
+
+  recovery_reports_not : (what : recovery_effect.Effect) (answer : call_answers.Answer) → Answered answer ≡ recovery_reply what → IsNoReport answer
+  recovery_reports_not recovery_effects.GoesOn answer is = absurd (cc)
+  recovery_reports_not (recovery_effects.Answers recovery_ends.Nothing) answer is = no_report answer _ is tt
+  recovery_reports_not (recovery_effects.Answers (recovery_ends.Last number cell counts)) answer is = no_report answer _ is tt
+
   settles : (what : Effect) → Answered Settled ≡ report_reply what → what ≡ Answers ends.Settled
   settles GoesOn is = absurd (cc)
   settles (Answers ends.Settled) is = refl
@@ -338,6 +396,8 @@ module _ (old : WorldValue) (events : List Event) (replies : List Reply) (new : 
 
       by : StepsBy (at k) p (Answered Settled) (at (k + 1)) → (start : ℕ) × IsCall events replies p start k × SettledFits run.moment start k (kept_values (at (k + 1)) p)
       by (edits h) = absurd (edit_settles (at k).sheet.layout.processes h.edit.number (outcome_at h.edit.stage) h.is)
+      by (works h) = absurd (work_reports_not h.what Settled h.is)
+      by (recoveries h) = absurd (recovery_reports_not h.what Settled h.is)
       by (reports h) =
           let e : Ends k p ends.Settled = ends_of k p (Answered Settled) ends.Settled h (settles h.what h.is) in
           let within : k ≤ length events = (let l = lt in omega arith) in
@@ -416,6 +476,8 @@ module _ (old : WorldValue) (events : List Event) (replies : List Reply) (new : 
 
       by : StepsBy (at k) p (Answered (Unsettled place word)) (at (k + 1)) → (start : ℕ) × IsCall events replies p start k × UnsettledFits run.moment start k place word
       by (edits h) = absurd (edit_unsettles (at k).sheet.layout.processes h.edit.number place word (outcome_at h.edit.stage) h.is)
+      by (works h) = absurd (work_reports_not h.what (Unsettled place word) h.is)
+      by (recoveries h) = absurd (recovery_reports_not h.what (Unsettled place word) h.is)
       by (reports h) =
           let u = unsettles h.what place word h.is in
           let e : Ends k p u.end = ends_of k p (Answered (Unsettled place word)) u.end h u.is in
