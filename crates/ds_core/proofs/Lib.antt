@@ -21,6 +21,7 @@ pub mod Stopped
 pub mod Alone
 pub mod AtWork
 pub mod AtRecovery
+pub mod Stepping
 pub mod EachEvent
 pub mod Reported
 pub mod EachRun

@@ -183,6 +183,7 @@ fn recovery_reply(what: ds_recover::machine::Effect) -> Reply
 /// entry, or the sheet has no such process, the step can not happen and nothing changes. Only the
 /// step of work that reads a content takes memory. Each machine tells whether the process is in a
 /// call of its own.
+#[tactic(auto, using(crate::proofs::Stepping::recovers))]
 pub fn step(alloc: Global, world: &mut World, process: usize) -> Reply
     ensures { StepTakes world.old process result world.new }
 {
