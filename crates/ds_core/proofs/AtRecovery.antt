@@ -1,8 +1,7 @@
 -- What a process in recovery says of its edits, until it answers.
-use Rattle.std.proofs.Common.{ℕ, ◌≡◌, ◌≢◌, ◌<◌, refl, ap, sym, ◌∙◌, subst, arith, inl, inr, Bool, true, false, Some, None}
+use Rattle.std.proofs.Common.{ℕ, ◌≡◌, refl, ap, sym, ◌∙◌, subst, inl, inr, Bool, true, Some, None}
 use Rattle.std.specs.Prelude.{Option}
 use Rattle.std.proofs.lemmas.Bool.{cases_eq}
-use Rattle.ds_words.specs.Memory.{SameMemory}
 use Rattle.ds_layout.specs.Sheet.{PerformsAt}
 use Rattle.ds_layout.specs.declared.layout.Layout.{Layout}
 use Rattle.ds_state.specs.World.{Issue}
@@ -13,7 +12,6 @@ use Rattle.ds_state.specs.declared.situation.Situation.{Situation}
 use Rattle.ds_state.specs.declared.situation.Situation.TheVariants.{Idle, Stopped, Editing, Working, Recovering, Showing}
 use Rattle.ds_state.specs.declared.work.RecoverStage.{RecoverStage}
 use Rattle.ds_state.specs.declared.work.RecoverStage.TheVariants as stages
-use Rattle.ds_recover.specs.declared.machine.Effect.{Effect}
 use Rattle.ds_recover.specs.declared.machine.Effect.TheVariants as effects
 use Rattle.ds_recover.specs.RecoverBegun.{MayRecover}
 use Rattle.ds_recover.specs.RecoverySteps as steps

@@ -1,18 +1,17 @@
 -- What each event adds to the counts, and that steps of a call end.
-use Rattle.std.proofs.Common.{ℕ, ◌≡◌, ◌≢◌, ◌<◌, ◌+◌, ◌≤◌, ◌==◌, List, [], length, zero, suc, nat_lt, get_or, refl, ap, sym, ◌∙◌, subst, arith, inl, inr, true, Bool}
-use Rattle.std.specs.Prelude.{Option, Some, None, slice_index_or, if◌then◌else◌}
+use Rattle.std.proofs.Common.{ℕ, ◌≡◌, ◌<◌, ◌+◌, [], refl, ap, sym, ◌∙◌, subst, arith}
+use Rattle.std.specs.Prelude.{Option, Some, None, slice_index_or}
 use Rattle.std.proofs.lemmas.List.{get_or-set_other}
 use Rattle.ds_state.specs.Value.{WorldValue, world_of}
 use Rattle.ds_state.specs.Sound.{IsSound}
 use Rattle.ds_state.specs.Reports.{PlainReports}
 use Rattle.ds_state.specs.Works.{PlainShow}
 use Rattle.ds_state.specs.Calls.{CallFits}
-use Rattle.ds_state.specs.ShowStages.{IsShow}
 use Rattle.ds_state.specs.declared.work.ShowEnd.TheVariants as ends
 use Rattle.ds_state.specs.declared.work.ShowStage.{ShowStage}
 use Rattle.ds_state.specs.declared.work.ShowStage.TheVariants as stages
 use Rattle.ds_state.specs.declared.situation.Situation.{Situation}
-use Rattle.ds_state.specs.declared.situation.Situation.TheVariants.{Working, Recovering, Showing}
+use Rattle.ds_state.specs.declared.situation.Situation.TheVariants.{Recovering, Showing}
 use Rattle.ds_state.specs.declared.stage.Outcome.{Outcome}
 use Rattle.ds_state.specs.declared.stage.Outcome.TheVariants as outcome
 use Rattle.ds_edit.specs.Steps.{rank}
@@ -24,7 +23,7 @@ use Rattle.ds_show.specs.ShowSteps as steps
 use Rattle.ds_show.specs.ShowTakes as shows
 use Rattle.ds_show.proofs.ShowKeeps as keeping
 use Rattle.ds_core.specs.EditEvents.{SameReports, reply_with, done_with, EditStepsBy}
-use Rattle.ds_state.specs.Works.{PlainWork, PlainRecovery}
+use Rattle.ds_state.specs.Works.{PlainRecovery}
 use Rattle.ds_state.specs.declared.work.WorkEnd.TheVariants as work_ends
 use Rattle.ds_state.specs.declared.work.RecoverStage.{RecoverStage}
 use Rattle.ds_state.specs.declared.work.RecoverStage.TheVariants as recover_stages
@@ -75,15 +74,15 @@ keeps old event reply new same = same
 
 -- an event that adds to no report
 adds_none : (old new : WorldValue) (event : Event) (reply : Reply) → IsReplyTo event reply → new.done ≡ old.done + done_of reply → settled_of reply ≡ 0 → SameReports old new → Adds old event reply new
-adds_none old new event reply is done zero same = record { reply_is = is; done = done; settled = (let s = same.settled in omega (arith, s, zero)); reports = keeps old event reply new same.reports }
+adds_none old new event reply is done none_done same = record { reply_is = is; done = done; settled = (let s = same.settled in omega (arith, s, none_done)); reports = keeps old event reply new same.reports }
 
 none : (old new : WorldValue) → new.done ≡ old.done → new.done ≡ old.done + 0
 none old new same = omega (arith, same)
 
 unchanged : (old new : WorldValue) (event : Event) (reply : Reply) → IsReplyTo event reply → done_of reply ≡ 0 → settled_of reply ≡ 0 → new ≡ old → Adds old event reply new
-unchanged old new event reply is zero none_settled same = record {
+unchanged old new event reply is none_done none_settled same = record {
   reply_is = is;
-  done = (let d = ap (λ (v : WorldValue). v.done) same in omega (arith, d, zero));
+  done = (let d = ap (λ (v : WorldValue). v.done) same in omega (arith, d, none_done));
   settled = (let d = ap (λ (v : WorldValue). v.settled) same in omega (arith, d, none_settled));
   reports = keeps old event reply new (ap (λ (v : WorldValue). v.reports) same);
 }

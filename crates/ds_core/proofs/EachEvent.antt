@@ -1,6 +1,6 @@
 -- What each event does to a world's ledger.
-use Rattle.std.proofs.Common.{ℕ, ◌≡◌, ◌≢◌, ◌<◌, ◌+◌, ◌==◌, List, refl, ap, sym, ◌∙◌, subst, arith, inl, inr, Some, None, true, false}
-use Rattle.std.specs.Prelude.{Option, Contains, Bool, nat_lt, if◌then◌else◌}
+use Rattle.std.proofs.Common.{ℕ, ◌≡◌, ◌≢◌, ◌+◌, ◌==◌, refl, ap, sym, ◌∙◌, subst, inl, inr, Some, None, true, false}
+use Rattle.std.specs.Prelude.{Contains, Bool, nat_lt, if◌then◌else◌}
 use Rattle.std.proofs.lemmas.Bool.{cases_eq}
 use Rattle.ds_words.specs.Memory.{Memory, SameMemory}
 use Rattle.ds_layout.specs.declared.place.Place.{Place}
@@ -9,12 +9,11 @@ use Rattle.ds_layout.specs.Head.{head_of}
 use Rattle.ds_layout.specs.Sheet.{PerformsAt}
 use Rattle.ds_formula.specs.Cells.{index_of}
 use Rattle.ds_state.specs.Edits.{PlainEdit}
-use Rattle.ds_state.specs.World.{Edit, World}
+use Rattle.ds_state.specs.World.{Edit}
 use Rattle.ds_state.specs.Value.{WorldValue, world_of, IsGood}
 use Rattle.ds_state.specs.declared.stage.Outcome.{Outcome}
 use Rattle.ds_state.specs.declared.stage.Outcome.TheVariants as outcome
 use Rattle.ds_state.specs.declared.stage.Stage.TheVariants.{Answer}
-use Rattle.ds_state.specs.declared.situation.Situation.{Situation}
 use Rattle.ds_state.specs.declared.situation.Situation.TheVariants.{Idle, Editing, Showing}
 use Rattle.ds_state.specs.Works.{PlainShow}
 use Rattle.ds_state.specs.KnownShow.{noted, reads_pending, reads_clean}
@@ -41,9 +40,9 @@ use Rattle.ds_recover.specs.declared.machine.Effect as recovery_effect
 use Rattle.ds_recover.specs.declared.machine.Effect.TheVariants as recovery_effects
 use Rattle.ds_recover.specs.declared.machine.RecoveryEnd.TheVariants as recovery_ends
 use Rattle.ds_core.specs.Takes.{Takes}
-use Rattle.ds_core.specs.Moments.{Open, Ledger}
+use Rattle.ds_core.specs.Moments.{Ledger}
 use Rattle.ds_core.specs.Headline.{IsResolution}
-use Rattle.ds_core.specs.LedgerSteps.{next_number, IsOvertakenBy, OneAccess, WordsMove, AnswerMoves, LedgerMoves}
+use Rattle.ds_core.specs.LedgerSteps.{IsOvertakenBy, OneAccess, WordsMove, AnswerMoves, LedgerMoves}
 use Rattle.ds_core.specs.declared.event.Event.{Event}
 use Rattle.ds_core.specs.declared.event.Event.TheVariants.{BeginEdit, BeginWork, BeginShow, BeginRecover, Step, Offer, Evict, Stop, Crash}
 use Rattle.ds_core.specs.declared.reply.Reply.{Reply}

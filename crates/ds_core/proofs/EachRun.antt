@@ -1,11 +1,11 @@
 -- The headline of every run.
-use Rattle.std.proofs.Common.{ℕ, ◌≡◌, ◌≤◌, ◌+◌, List, [], ◌∷◌, refl, ap, sym, ◌∙◌, subst, arith, zero, suc, length, Some, None}
+use Rattle.std.proofs.Common.{ℕ, ◌≡◌, ◌≤◌, ◌+◌, List, [], ◌∷◌, refl, ap, sym, arith, zero, suc, length}
 use Rattle.ds_layout.specs.declared.layout.Layout.{Layout}
 use Rattle.ds_state.specs.Value.{WorldValue, world_of, IsGood}
 use Rattle.ds_state.specs.Fresh.{IsNew}
 use Rattle.ds_core.specs.Takes.{WorldRun, world_at}
 use Rattle.ds_core.specs.Moments.{Ledger, empty_ledger}
-use Rattle.ds_core.specs.Headline.{AreUnresolved, Headline, HasHeadline}
+use Rattle.ds_core.specs.Headline.{AreUnresolved, HasHeadline}
 use Rattle.ds_core.specs.declared.event.Event.{Event}
 use Rattle.ds_core.specs.declared.reply.Reply.{Reply}
 use Rattle.ds_core.proofs.Closing.{headline}

@@ -1,6 +1,6 @@
 -- The ledger of a world: how it goes on from event to event.
-use Rattle.std.proofs.Common.{ℕ, ◌≡◌, ◌≢◌, ◌<◌, ◌≤◌, ◌+◌, List, [], ◌∷◌, ◌++◌, refl, ap, sym, ◌∙◌, subst, arith, inl, inr, zero, suc, length, Bool, true, false, Some, None, map, drop, append_assoc, get_or}
-use Rattle.std.specs.Prelude.{Option, Contains, filter, option_map, if◌then◌else◌}
+use Rattle.std.proofs.Common.{ℕ, ◌≡◌, ◌≢◌, ◌<◌, ◌+◌, List, [], ◌∷◌, ◌++◌, refl, ap, sym, ◌∙◌, subst, arith, inl, inr, zero, suc, length, Bool, true, false, Some, None, map, drop, append_assoc, get_or}
+use Rattle.std.specs.Prelude.{Option, Contains, option_map, if◌then◌else◌}
 use Rattle.std.proofs.Math.Seq.{drop-append_seam}
 use Rattle.std.proofs.lemmas.Bool.{cases_eq, cases_lt}
 use Rattle.std.proofs.lemmas.Bool.Decides.{eqb_tells}
@@ -9,17 +9,16 @@ use Rattle.std.proofs.lemmas.List.Elements.{All-contains, Contains-append_cases,
 use Rattle.ds_layout.specs.declared.layout.Layout.{Layout}
 use Rattle.ds_state.specs.World.{Edit, Issue, World, of_cell}
 use Rattle.ds_state.specs.Value.{WorldValue, world_of, IsGood}
-use Rattle.ds_state.specs.Shown.{last_text, values_shown, IsQuiet}
+use Rattle.ds_state.specs.Shown.{last_text, values_shown}
 use Rattle.ds_state.specs.KnownShow.{AreScratch}
 use Rattle.ds_state.specs.Sound.{Increasing}
-use Rattle.ds_state.specs.Fresh.{IsNew}
-use Rattle.ds_state.specs.Crashes.{StopsIn, CrashesTo, is_lost}
+use Rattle.ds_state.specs.Crashes.{StopsIn, CrashesTo}
 use Rattle.ds_state.specs.declared.situation.Situation.{Situation}
 use Rattle.ds_state.specs.declared.situation.Situation.TheVariants.{Idle, Stopped, Editing, Working, Recovering, Showing}
 use Rattle.ds_state.proofs.LastText.{text_right}
 use Rattle.ds_state.proofs.QuietShown.{quiet_shows}
 use Rattle.ds_edit.specs.declared.answer.Other.{Other}
-use Rattle.ds_core.specs.Moments.{Placed, Open, Closed, Ledger, MomentFits, AreApart, NoneTwice, edits_in, empty_ledger}
+use Rattle.ds_core.specs.Moments.{Placed, Open, Closed, Ledger, MomentFits, AreApart, NoneTwice, edits_in}
 use Rattle.ds_core.specs.LedgerSteps.{put, next_number, in_doubt, Stands, Issues, Counts, Closes, IsOvertakenBy, Loses}
 use Rattle.ds_core.proofs.Traces as traces
 use Rattle.ds_core.proofs.Closing.{contains_none, contains_one, behind, of_filter}

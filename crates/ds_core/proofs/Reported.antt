@@ -4,7 +4,6 @@ use Rattle.std.specs.Prelude.{◌⊎◌, Option, slice_get, slice_set, slice_ind
 use Rattle.std.proofs.lemmas.Bool.{cases_eq, cases_lt}
 use Rattle.std.proofs.lemmas.List.{get_or_past, get_or-set_same}
 use Rattle.ds_layout.specs.declared.layout.Layout.{Layout}
-use Rattle.ds_formula.specs.declared.cells.Shape.{Shape}
 use Rattle.ds_layout.specs.declared.place.Place.{Place}
 use Rattle.ds_layout.specs.declared.place.Place.TheVariants as place
 use Rattle.ds_state.specs.World.{Edit, World}
@@ -23,16 +22,14 @@ use Rattle.ds_state.specs.Edits.{PlainEdit}
 use Rattle.ds_layout.specs.Places.{cells_of}
 use Rattle.ds_state.specs.ShowStages.{IsStage}
 use Rattle.ds_state.specs.Fresh.{IsNew}
-use Rattle.ds_state.specs.Owing.{IsClean}
-use Rattle.ds_state.specs.KnownShow.{AreScratch, IsStill, IsPendingWord, moment_of}
+use Rattle.ds_state.specs.KnownShow.{AreScratch, IsStill, moment_of}
 use Rattle.ds_state.specs.declared.stage.Stage.{Stage}
 use Rattle.ds_state.specs.declared.stage.Stage.TheVariants.{Answer}
 use Rattle.ds_state.specs.declared.work.ShowEnd.{ShowEnd}
 use Rattle.ds_state.specs.declared.work.ShowEnd.TheVariants as ends
 use Rattle.ds_state.specs.declared.work.ShowStage.{ShowStage}
 use Rattle.ds_state.specs.declared.work.ShowStage.TheVariants as stages
-use Rattle.ds_state.specs.Sound.{IsSound}
-use Rattle.ds_state.specs.Rely.{Keeps, Rely}
+use Rattle.ds_state.specs.Rely.{Rely}
 use Rattle.ds_state.specs.Calls.{CallFits}
 use Rattle.ds_state.specs.Value.{WorldValue, world_of, IsGood}
 use Rattle.ds_state.specs.declared.situation.Situation.{Situation}
@@ -42,13 +39,13 @@ use Rattle.ds_state.proofs.Accesses.{evict_sound}
 use Rattle.ds_state.proofs.Buffers.{buffered}
 use Rattle.ds_edit.specs.Worlds as edit_steps
 use Rattle.ds_edit.proofs.Answering.{begin_sound}
-use Rattle.ds_show.specs.ShowRuns.{OwnStep, Passes, HasBegun, Call, IsOf, AreInTurn, WasStill, WasOff, IsTrueReport}
+use Rattle.ds_show.specs.ShowRuns.{Passes, HasBegun, Call, IsOf, AreInTurn, WasStill, WasOff, IsTrueReport}
 use Rattle.ds_show.proofs.ShowRuns.{rely_same, answer_true}
 use Rattle.ds_core.specs.EditEvents.{reply_with, EditStepsBy}
 use Rattle.ds_core.specs.ReportEvents.{report_answer, report_reply, ReportStepsBy, ReportBegins}
 use Rattle.ds_core.specs.Steps.{StepsBy, edits, works, reports, recoveries}
-use Rattle.ds_core.specs.WorkEvents.{work_reply, WorkStepsBy}
-use Rattle.ds_core.specs.RecoveryEvents.{recovery_reply, RecoveryStepsBy, RecoveryBegins}
+use Rattle.ds_core.specs.WorkEvents.{work_reply}
+use Rattle.ds_core.specs.RecoveryEvents.{recovery_reply, RecoveryStepsBy}
 use Rattle.ds_work.specs.declared.drive.Taken.{Taken}
 use Rattle.ds_work.specs.declared.drive.Taken.TheVariants as taken
 use Rattle.ds_state.specs.declared.work.WorkEnd.{WorkEnd}
@@ -57,7 +54,7 @@ use Rattle.ds_recover.specs.declared.machine.Effect as recovery_effect
 use Rattle.ds_recover.specs.declared.machine.Effect.TheVariants as recovery_effects
 use Rattle.ds_recover.specs.declared.machine.RecoveryEnd.TheVariants as recovery_ends
 use Rattle.ds_core.specs.Takes.{Takes}
-use Rattle.ds_core.specs.Moments.{Moment, MomentFits, edits_in, empty_ledger}
+use Rattle.ds_core.specs.Moments.{Moment, MomentFits, empty_ledger}
 use Rattle.ds_core.specs.Headline.{Happens, IsCall, IsWatched, IsUnrest, SettledFits, UnsettledFits, ReportsFit, kept_values}
 use Rattle.ds_core.specs.declared.event.Event.{Event}
 use Rattle.ds_core.specs.declared.event.Event.TheVariants.{BeginEdit, BeginWork, BeginShow, BeginRecover, Step, Offer, Evict, Stop, Crash}

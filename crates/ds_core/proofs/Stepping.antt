@@ -1,5 +1,5 @@
 -- A step of a recovery is one of its process.
-use Rattle.std.proofs.Common.{ℕ, ◌≡◌, refl}
+use Rattle.std.proofs.Common.{ℕ, refl}
 use Rattle.ds_state.specs.Value.{WorldValue}
 use Rattle.ds_recover.specs.declared.machine.Effect.{Effect}
 use Rattle.ds_recover.specs.declared.machine.Effect.TheVariants.{GoesOn, Answers}

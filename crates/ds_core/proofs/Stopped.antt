@@ -1,18 +1,16 @@
 -- The worlds after a stop and after a crash are good.
-use Rattle.std.proofs.Common.{ℕ, ◌≡◌, ◌≢◌, ◌<◌, ◌≤◌, ◌*◌, ◌+◌, List, [], ◌∷◌, suc, length, get_or, set, refl, ap, sym, ◌∙◌, subst, arith, inl, inr, Some, Bool, true, false}
-use Rattle.std.specs.Prelude.{All, Contains, Option, filter, if◌then◌else◌}
+use Rattle.std.proofs.Common.{ℕ, ◌≡◌, ◌≢◌, ◌<◌, List, [], ◌∷◌, suc, length, get_or, set, refl, ap, sym, ◌∙◌, arith, Some, Bool, true, false}
+use Rattle.std.specs.Prelude.{All, Contains, if◌then◌else◌}
 use Rattle.std.proofs.Math.ListN.{length-set}
-use Rattle.std.proofs.lemmas.Bool.{cases_eq}
 use Rattle.std.proofs.lemmas.List.{get_or-set_same, get_or-set_other}
 use Rattle.ds_words.specs.Memory.{StopsAt, Crashes}
 use Rattle.ds_layout.specs.declared.layout.Layout.{Layout}
-use Rattle.ds_layout.specs.declared.place.TheConstants.{RECORDS}
 use Rattle.ds_layout.specs.Sheet.{SheetValue, memory}
-use Rattle.ds_state.specs.World.{Edit, Issue, World}
+use Rattle.ds_state.specs.World.{Edit, Issue}
 use Rattle.ds_state.specs.Value.{WorldValue, world_of, IsGood, IsReserved}
 use Rattle.ds_state.specs.Dones.{HasAnswered}
 use Rattle.ds_state.specs.Crashes.{StopsIn, CrashesTo, is_lost, survivors}
-use Rattle.ds_state.specs.Sound.{IsSound, IsOfSheet}
+use Rattle.ds_state.specs.Sound.{IsOfSheet}
 use Rattle.ds_state.specs.declared.situation.Situation.{Situation}
 use Rattle.ds_state.specs.declared.situation.Situation.TheVariants as situation
 use Rattle.ds_state.specs.Underway.{reports_in, reports_under_way}

@@ -1,5 +1,5 @@
 -- What an event of an edit does to the world's own list of edits that count, and to its issues.
-use Rattle.std.specs.Prelude.{ℕ, ◌≡◌, ◌≢◌, ◌⊎◌, ◌++◌, List, [], ◌∷◌, length, drop, Some, None, Contains}
+use Rattle.std.specs.Prelude.{ℕ, ◌≡◌, ◌≢◌, ◌⊎◌, ◌++◌, [], ◌∷◌, length, drop, Some, None, Contains}
 use Rattle.ds_state.specs.World.{Edit, Issue, World}
 use Rattle.ds_edit.specs.declared.answer.Other.{Other}
 use Rattle.ds_edit.specs.declared.answer.Answer.TheVariants.{Done, Overtaken}

@@ -1,5 +1,5 @@
 -- A process's turn: what it leaves the others to count on.
-use Rattle.std.proofs.Common.{ℕ, ◌≡◌, ◌≢◌, ◌<◌, refl, ap, sym, ◌∙◌, subst}
+use Rattle.std.proofs.Common.{ℕ, ◌≡◌, ◌≢◌, ◌<◌, refl, ap, ◌∙◌, subst}
 use Rattle.ds_state.specs.Value.{WorldValue, world_of}
 use Rattle.ds_state.specs.Sound.{IsSound}
 use Rattle.ds_state.specs.Rely.{Keeps}
@@ -11,7 +11,6 @@ use Rattle.ds_state.specs.Works.{PlainWork}
 use Rattle.ds_state.specs.declared.work.WorkStage.{WorkStage}
 use Rattle.ds_state.specs.declared.work.WorkStage.TheVariants as stages
 use Rattle.ds_state.specs.declared.situation.Situation.TheVariants.{Working}
-use Rattle.ds_layout.specs.declared.layout.Layout.{Layout}
 use Rattle.ds_words.specs.declared.access.Access.TheVariants.{Nothing}
 use Rattle.ds_layout.specs.Sheet.{PerformsAt}
 use Rattle.ds_eval.specs.Tasks.{PlainEvaluated}
@@ -20,7 +19,6 @@ use Rattle.ds_work.specs.WorkEvents as works
 use Rattle.ds_work.specs.WorkSteps as work_steps
 use Rattle.ds_work.proofs.EachWork.{work_steps_keep, reads_keep, lacks_keep, offer_keep, begins_keep}
 use Rattle.ds_recover.proofs.RecoveryLaws as recoveries
-use Rattle.ds_recover.proofs.RecoveryEnds as recovery_ends
 use Rattle.ds_core.specs.EditEvents.{EditStepsBy}
 use Rattle.ds_core.specs.WorkEvents.{WorkStepsBy, WorkBegins, TakesEntry}
 use Rattle.ds_core.specs.RecoveryEvents.{RecoveryStepsBy, RecoveryBegins}

@@ -1,5 +1,5 @@
 -- What each event does to a world, and what is answered.
-use Rattle.std.specs.Prelude.{ℕ, ◌≡◌, ◌<◌, List, [], ◌∷◌, zero, suc}
+use Rattle.std.specs.Prelude.{ℕ, ◌≡◌, ◌<◌, List, [], ◌∷◌, suc}
 use Rattle.ds_formula.specs.Cells.{IsInside, index_of}
 use Rattle.ds_state.specs.Value.{WorldValue, world_of, IsGood}
 use Rattle.ds_edit.specs.Begun.{IsBegun, Refuses}

@@ -24,8 +24,7 @@ impl Model for Request {
     ghost view = { λ r. record { process = r.process; cell = r.cell; text = r.text.items } };
 }
 
-/// What happens to a world. Events of work, offers, reports, recoveries, stops and crashes can not
-/// happen yet.
+/// What happens to a world.
 #[derive(Debug, Drop)]
 pub enum Event {
     /// A process begins an edit.

@@ -103,8 +103,8 @@ fn happen(alloc: Global, world: &mut World, event: &Event) -> Reply
 
 /// What happens to a world by one event, and its answer. The world is sound before and after.
 ///
-/// Memory is taken by beginnings alone; where it is refused, the answer is the refusal `NoMemory`
-/// and the world is unchanged. The clauses beside `fits` name no other world: what is answered alone
+/// Memory is taken by beginnings, and by the step of work that reads a content. Where a beginning is
+/// refused it, the answer is the refusal `NoMemory` and the world is unchanged. The clauses beside `fits` name no other world: what is answered alone
 /// says how much each count grows, and a step of a call that is not answered leaves fewer of them.
 pub fn take(alloc: Global, world: &mut World, event: &Event) -> Reply
     ensures fits { Fits world.old event.now result world.new }

@@ -1,6 +1,6 @@
-use Rattle.std.proofs.Common.{ℕ, ◌≡◌, ◌≢◌, ◌<◌, List, length, get_or, refl, ap, sym, ◌∙◌, subst, arith}
-use Rattle.ds_state.specs.Value.{WorldValue, IsReserved}
-use Rattle.ds_core.proofs.Stopped.{crashed, heads_there, crashes_to, crash_reserved}
+use Rattle.std.proofs.Common.{refl, arith}
+use Rattle.ds_state.specs.Value.{WorldValue}
+use Rattle.ds_core.proofs.Stopped.{heads_there, crashes_to, crash_reserved}
 use Rattle.ds_core.proofs.stop.crash.Goals as goal
 
 pub lose-requires : goal.lose-requires

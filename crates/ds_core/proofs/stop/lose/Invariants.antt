@@ -1,5 +1,5 @@
-use Rattle.std.proofs.Common.{◌≡◌, ◌≤◌, length}
-use Rattle.std.specs.Prelude.{vec_capacity, vec_len}
+use Rattle.std.proofs.Common.{◌≡◌}
+use Rattle.std.specs.Prelude.{vec_capacity}
 use Rattle.ds_layout.specs.Sheet.{memory}
 use Rattle.ds_core.proofs.Lost.{IsSifted}
 use Rattle.ds_core.proofs.stop.lose.Given as goal

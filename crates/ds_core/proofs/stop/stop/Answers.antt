@@ -1,10 +1,8 @@
-use Rattle.std.proofs.Common.{ℕ, ◌≡◌, ◌≢◌, ◌<◌, List, length, get_or, refl, ap, sym, ◌∙◌, subst, arith}
+use Rattle.std.proofs.Common.{◌≢◌, ◌<◌, length, get_or, refl, ◌∙◌, arith}
 use Rattle.std.proofs.lemmas.List.{get_or_default}
-use Rattle.ds_state.specs.Value.{WorldValue, IsReserved}
-use Rattle.ds_state.specs.declared.situation.Situation.{Situation}
+use Rattle.ds_state.specs.Value.{WorldValue}
 use Rattle.ds_state.specs.declared.situation.Situation.TheVariants as situation
-use Rattle.ds_core.specs.Stops.{StopsProcess}
-use Rattle.ds_core.proofs.Stopped.{stopped, stop_there, stops_in, stop_reserved}
+use Rattle.ds_core.proofs.Stopped.{stop_there, stops_in, stop_reserved}
 use Rattle.ds_core.proofs.stop.stop.Goals as goal
 
 pub invariant_of-world : goal.invariant_of-world

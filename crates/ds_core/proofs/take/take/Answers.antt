@@ -1,4 +1,4 @@
-use Rattle.std.proofs.Common.{◌≡◌, ◌∙◌, arith}
+use Rattle.std.proofs.Common.{arith}
 use Rattle.ds_core.proofs.Counts.{adds, falls_by}
 use Rattle.ds_core.proofs.take.take.Goals as goal
 
