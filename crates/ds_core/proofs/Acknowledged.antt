@@ -51,6 +51,7 @@ just_one p n (x ∷ es) e once there process number = elim (its p n x) [
     first : x.edit.process ≡ p → x.edit.number ≡ n → Contains (x ∷ es) e → x ≡ e
     first a b (zero, lt, is) = is
     first a b (suc k, lt, is) = absurd (All-contains (AreApart x) es e once.0 (k, omega arith, is) (process ∙ sym a) (number ∙ sym b))
+
     later : (x.edit.process ≡ p → x.edit.number ≡ n → ⊥) → Contains (x ∷ es) e → Contains es e
     later differs (zero, lt, is) = absurd (differs (ap (λ (f : Placed). f.edit.process) is ∙ process) (ap (λ (f : Placed). f.edit.number) is ∙ number))
     later differs (suc k, lt, is) = (k, omega arith, is)
@@ -135,7 +136,7 @@ module _ (old : WorldValue) (events : List Event) (replies : List Reply) (new : 
     once = ap (λ (es : List Edit). filter (is_edit_of p n) es) (sym last_list)
         ∙ just_one p n (at (length events)).counted it (h.run.fits (length events) (omega arith)).once stands process closes.number_is
         ∙ ap (λ (x : Edit). x ∷ []) (begun.is ∙ ap (λ i. record { process = i; number = it.edit.number; cell = index_of old.sheet.layout.shape begun.request.cell; text = begun.request.text }) process
-            ∙ ap (λ i. record { process = p; number = i; cell = index_of old.sheet.layout.shape begun.request.cell; text = begun.request.text }) closes.number_is);
+        ∙ ap (λ i. record { process = p; number = i; cell = index_of old.sheet.layout.shape begun.request.cell; text = begun.request.text }) closes.number_is);
   }
 
 pub acknowledged_once : (old : WorldValue) (events : List Event) (replies : List Reply) (new : WorldValue) (k p n : ℕ) → Headline old events replies new → Happens events replies k (Step p) (Answered (Done n))

@@ -91,8 +91,8 @@ module _ (v v' : WorldValue) (p : ℕ) (reply : Reply) (s : RecoveryStepsBy v p 
     pub recovery_says : (q : ℕ) → SaysSame ((world_of v).situation q) ((world_of v').situation q)
     recovery_says q = elim (cases_eq q p) [
       | inl here ↦ (
-        let then_is = ap (λ x. (world_of v').situation x) here ∙ now in
-        let before = ap (λ x. (world_of v).situation x) here ∙ s.steps.at in
-        record { number = ap numbered then_is ∙ sym (ap numbered before); doubt = ap doubts then_is ∙ sym (ap doubts before) })
+          let then_is = ap (λ x. (world_of v').situation x) here ∙ now in
+          let before = ap (λ x. (world_of v).situation x) here ∙ s.steps.at in
+          record { number = ap numbered then_is ∙ sym (ap numbered before); doubt = ap doubts then_is ∙ sym (ap doubts before) })
       | inr other ↦ says_same _ _ (s.steps.steps.others q (λ same. other (same ∙ s.steps.mine)))
     ]

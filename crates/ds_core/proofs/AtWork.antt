@@ -45,11 +45,11 @@ pub record StaysAtWork (p : ℕ) (old new : WorldValue) : Type 0 where
 pub work_says : (p : ℕ) (old new : WorldValue) → StaysAtWork p old new → IsTurn p old new → (q : ℕ) → SaysSame ((world_of old).situation q) ((world_of new).situation q)
 work_says p old new s turn q = elim (cases_eq q p) [
   | inl here ↦ (
-    let sit : (w : WorldValue) → (world_of w).situation q ≡ (world_of w).situation p = λ w. ap (λ x. (world_of w).situation x) here in
-    record {
-      number = ap numbered (sit new) ∙ says_number s.number _ s.now ∙ sym (says_number s.number _ s.was) ∙ sym (ap numbered (sit old));
-      doubt = ap doubts (sit new) ∙ at_work_sure s.number _ s.now ∙ sym (at_work_sure s.number _ s.was) ∙ sym (ap doubts (sit old));
-    })
+      let sit : (w : WorldValue) → (world_of w).situation q ≡ (world_of w).situation p = λ w. ap (λ x. (world_of w).situation x) here in
+      record {
+        number = ap numbered (sit new) ∙ says_number s.number _ s.now ∙ sym (says_number s.number _ s.was) ∙ sym (ap numbered (sit old));
+        doubt = ap doubts (sit new) ∙ at_work_sure s.number _ s.now ∙ sym (at_work_sure s.number _ s.was) ∙ sym (ap doubts (sit old));
+      })
   | inr other ↦ says_same _ _ (turn.others q other)
 ]
 

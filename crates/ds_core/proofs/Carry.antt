@@ -70,13 +70,13 @@ module _ (place : ℕ) (shape : Shape) (ledger : Ledger) (old : WorldValue) (eve
       let here : place ≡ place + 0 = omega arith in
       subst (λ n. StepFits n shape start e r (moments 1)) here
       (subst (λ (x : Event). StepFits place shape start x r (moments 1)) (one_event event e happens.event_is)
-          (subst (λ (x : Reply). StepFits place shape start event x (moments 1)) (one_reply reply r happens.reply_is) first_step))
+      (subst (λ (x : Reply). StepFits place shape start event x (moments 1)) (one_reply reply r happens.reply_is) first_step))
   steps_on (suc i) e r happens =
       let there : place + 1 + i ≡ place + suc i = omega arith in
       let after : suc (i + 1) ≡ suc i + 1 = omega arith in
       subst (λ n. StepFits n shape (rest.moment i) e r (moments (suc i + 1))) there
       (subst (λ n. StepFits (place + 1 + i) shape (rest.moment i) e r (moments n)) after
-          (rest.steps i e r (record { event_is = happens.event_is; reply_is = happens.reply_is })))
+      (rest.steps i e r (record { event_is = happens.event_is; reply_is = happens.reply_is })))
 
   unfoldable pub event_on : RunOn place shape ledger old (event ∷ events) (reply ∷ replies) new
   event_on = record {

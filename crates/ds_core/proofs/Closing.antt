@@ -94,10 +94,12 @@ kept_out k old new e away m = elim m.counted [
       | inl early ↦ early
       | inr now ↦ absurd (away.closed push.p push.o push.was (contains_one push.o.it e now))
     ],
-    λ h. subst (λ (es : List Placed). Contains es e) (sym push.is) (Contains-append_left old.counted (push.o.it ∷ []) e h))
+    λ h. subst (λ (es : List Placed). Contains es e) (sym push.is) (Contains-append_left old.counted (push.o.it ∷ []) e h),
+  )
   | inr (inr drops) ↦ (
     λ h. of_filter drops.stays old.counted e (subst (λ (es : List Placed). Contains es e) drops.is h),
-    λ h. subst (λ (es : List Placed). Contains es e) (sym drops.is) (to_filter drops.stays old.counted e h (stays_on drops h (drops.stays e) refl)))
+    λ h. subst (λ (es : List Placed). Contains es e) (sym drops.is) (to_filter drops.stays old.counted e h (stays_on drops h (drops.stays e) refl)),
+  )
 ]
   where
     stays_on : (d : Filters old new) → Contains old.counted e → (b : Bool) → d.stays e ≡ b → d.stays e ≡ true

@@ -110,9 +110,9 @@ module _ (place : ℕ) (layout : Layout) (l : Ledger) (v v' : WorldValue) (h : I
       let idle : (world_of v).situation e.process ≡ Idle e.number = t.begun.begins.idle in
       let all : (q : ℕ) → SaysSame ((world_of v).situation q) ((world_of v').situation q) = λ q. elim (cases_eq q e.process) [
         | inl here ↦ (
-          let now = ap (λ x. (world_of v').situation x) here ∙ t.begun.begins.situation in
-          let before = ap (λ x. (world_of v).situation x) here ∙ idle in
-          record { number = ap numbered now ∙ sym (ap numbered before); doubt = ap doubts now ∙ sym (ap doubts before) })
+            let now = ap (λ x. (world_of v').situation x) here ∙ t.begun.begins.situation in
+            let before = ap (λ x. (world_of v).situation x) here ∙ idle in
+            record { number = ap numbered now ∙ sym (ap numbered before); doubt = ap doubts now ∙ sym (ap doubts before) })
         | inr other ↦ says_same _ _ (t.begun.begins.others q other)
       ] in
       let sure : doubts ((world_of v).situation r.process) ≡ false = ap doubts was in
@@ -231,9 +231,9 @@ module _ (place : ℕ) (layout : Layout) (l : Ledger) (v v' : WorldValue) (h : I
       let b = t.begun.begins in
       silent (BeginShow p) Entered t b.counted b.pending (λ q. elim (cases_eq q p) [
         | inl here ↦ (
-          let now = ap (λ x. (world_of v').situation x) here ∙ b.situation in
-          let before = ap (λ x. (world_of v).situation x) here ∙ b.idle in
-          record { number = ap numbered now ∙ sym (ap numbered before); doubt = ap doubts now ∙ sym (ap doubts before) })
+            let now = ap (λ x. (world_of v').situation x) here ∙ b.situation in
+            let before = ap (λ x. (world_of v).situation x) here ∙ b.idle in
+            record { number = ap numbered now ∙ sym (ap numbered before); doubt = ap doubts now ∙ sym (ap doubts before) })
         | inr other ↦ says_same _ _ (b.others q other)
       ]) b.memory refl
 
@@ -254,10 +254,10 @@ module _ (place : ℕ) (layout : Layout) (l : Ledger) (v v' : WorldValue) (h : I
     report_says : (q : ℕ) → SaysSame ((world_of v).situation q) ((world_of v').situation q)
     report_says q = elim (cases_eq q p) [
       | inl here ↦ (
-        let now : (world_of v').situation q ≡ shows.after t.steps.show t.steps.show.stage t.steps.word = ap (λ x. (world_of v').situation x) (here ∙ sym t.steps.mine) ∙ t.steps.steps.situation in
-        let before : (world_of v).situation q ≡ Showing t.steps.show = ap (λ x. (world_of v).situation x) here ∙ t.steps.at in
-        let s = after_says t.steps.show t.steps.show.stage t.steps.word in
-        record { number = ap numbered now ∙ s.number ∙ sym (ap numbered before); doubt = ap doubts now ∙ s.doubt ∙ sym (ap doubts before) })
+          let now : (world_of v').situation q ≡ shows.after t.steps.show t.steps.show.stage t.steps.word = ap (λ x. (world_of v').situation x) (here ∙ sym t.steps.mine) ∙ t.steps.steps.situation in
+          let before : (world_of v).situation q ≡ Showing t.steps.show = ap (λ x. (world_of v).situation x) here ∙ t.steps.at in
+          let s = after_says t.steps.show t.steps.show.stage t.steps.word in
+          record { number = ap numbered now ∙ s.number ∙ sym (ap numbered before); doubt = ap doubts now ∙ s.doubt ∙ sym (ap doubts before) })
       | inr other ↦ says_same _ _ (t.steps.steps.others q (λ same. other (same ∙ t.steps.mine)))
     ]
 

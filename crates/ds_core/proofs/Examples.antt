@@ -55,25 +55,43 @@ module _ (shape : Shape) (r : PlainRequest) where
       (BeginEdit r ∷ Crash ∷ BeginRecover r.process ∷ Step r.process ∷ BeginEdit r ∷ Step r.process ∷ [])
       (Begun 0 ∷ Crashed ∷ Entered ∷ Answered Nothing ∷ Begun 0 ∷ Stepped ∷ []) counted
   given_out_again = (
-    begun, record { none = refl; next = refl; is = refl },
-    (crashed, record { stays = λ e. true; lost_open = λ e there. absurd (contains_none e there); is = refl },
-    (crashed, refl,
-    (forgotten, inl (record {
-      open_edit = record { it = first; before = []; doubt = true };
-      was = ap in_doubt (put_here empty_ledger.opens r.process (Some (record { it = first; before = []; doubt = false })));
-      doubt_is = refl;
-      out = λ there. contains_none first there;
-      repeats = refl;
-      is = refl;
-    }),
-    (again, record { none = put_here crashed.opens r.process None; next = refl; is = refl },
-    (counted, inr (record {
-      open_edit = record { it = second; before = []; doubt = false };
-      was = put_here forgotten.opens r.process (Some (record { it = second; before = []; doubt = false }));
-      sure = refl;
-      not_yet = λ there. contains_none second there;
-      is = refl;
-    }), refl))))))
+    begun,
+    record { none = refl; next = refl; is = refl },
+    (
+      crashed,
+      record { stays = λ e. true; lost_open = λ e there. absurd (contains_none e there); is = refl },
+      (
+        crashed,
+        refl,
+        (
+          forgotten,
+          inl (record {
+            open_edit = record { it = first; before = []; doubt = true };
+            was = ap in_doubt (put_here empty_ledger.opens r.process (Some (record { it = first; before = []; doubt = false })));
+            doubt_is = refl;
+            out = λ there. contains_none first there;
+            repeats = refl;
+            is = refl;
+          }),
+          (
+            again,
+            record { none = put_here crashed.opens r.process None; next = refl; is = refl },
+            (
+              counted,
+              inr (record {
+                open_edit = record { it = second; before = []; doubt = false };
+                was = put_here forgotten.opens r.process (Some (record { it = second; before = []; doubt = false }));
+                sure = refl;
+                not_yet = λ there. contains_none second there;
+                is = refl;
+              }),
+              refl,
+            ),
+          ),
+        ),
+      ),
+    ),
+  )
 
   -- the lost edit is another one: it is not in the list
   lost_is_another : Contains counted.counted first → ⊥

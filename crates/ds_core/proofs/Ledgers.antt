@@ -47,7 +47,8 @@ none_twice (x ∷ es) h = (
       let e : Placed = get_or es k d in
       let l = All-contains (λ (f : Edit). f.process ≡ x.edit.process → x.edit.number < f.number) (edits es) e.edit h.0 (contains_edit es e (k, lt, get_or_default es k e d lt)) process in
       omega arith),
-  none_twice es h.1)
+  none_twice es h.1,
+)
 
 pub apart_parts : (xs ys : List Placed) (f : Placed) → NoneTwice (xs ++ ys) → Contains xs f → Contains ys f → ⊥
 apart_parts [] ys f once a b = contains_none f a
@@ -162,7 +163,12 @@ module _ (layout : Layout) (l : Ledger) (v v' : WorldValue) (h : IsOf layout l v
 
     opens_other : (q : ℕ) → q ≢ edit.process → (issue : Issue) (b : Bool) → As l issue q b → As issued issue q b
     opens_other q ne issue b a = record {
-      o = a.o; is = put_other l.opens edit.process (Some it) q ne ∙ a.is; edit = a.edit; mine = a.mine; doubt_is = a.doubt_is; only = a.only;
+      o = a.o;
+      is = put_other l.opens edit.process (Some it) q ne ∙ a.is;
+      edit = a.edit;
+      mine = a.mine;
+      doubt_is = a.doubt_is;
+      only = a.only;
       running = λ sure. (let r = a.running sure in record { since = r.since; more = r.more; grown = r.grown });
     }
 
@@ -212,7 +218,11 @@ module _ (layout : Layout) (l : Ledger) (v v' : WorldValue) (h : IsOf layout l v
 
     grows : (q : ℕ) (issue : Issue) (b : Bool) → As l issue q b → As pushed issue q b
     grows q issue b a = record {
-      o = a.o; is = a.is; edit = a.edit; mine = a.mine; doubt_is = a.doubt_is;
+      o = a.o;
+      is = a.is;
+      edit = a.edit;
+      mine = a.mine;
+      doubt_is = a.doubt_is;
       running = λ is. (let r = a.running is in record {
         since = r.since;
         more = r.more ++ own.o.it ∷ [];
@@ -277,7 +287,12 @@ module _ (layout : Layout) (l : Ledger) (v v' : WorldValue) (h : IsOf layout l v
       some = λ q issue is. elim (cases_eq q p) [
         | inl here ↦ absurd (no_some ((world_of v').pending q) issue (ap (λ x. (world_of v').pending x) here ∙ s.closed) is)
         | inr other ↦ (let a = h.some q issue (sym (s.others q other) ∙ is) in subst (λ (b : Bool). As closed issue q b) (sym (others q other).doubt) (record {
-          o = a.o; is = put_other l.opens p None q other ∙ a.is; edit = a.edit; mine = a.mine; doubt_is = a.doubt_is; only = a.only;
+          o = a.o;
+          is = put_other l.opens p None q other ∙ a.is;
+          edit = a.edit;
+          mine = a.mine;
+          doubt_is = a.doubt_is;
+          only = a.only;
           running = λ on. (let r = a.running on in record { since = r.since; more = r.more; grown = r.grown });
         }))
       ];
@@ -316,7 +331,6 @@ module _ (layout : Layout) (l : Ledger) (v v' : WorldValue) (h : IsOf layout l v
           number = ap (λ (e : Edit). e.number) r.2 ∙ t.number;
         }
 
-
   -- the process stops: its open edit is in doubt
   module _ (p : ℕ) (s : StopsIn p (world_of v) (world_of v')) where
     abbrev pub doubted : Ledger
@@ -336,10 +350,21 @@ module _ (layout : Layout) (l : Ledger) (v v' : WorldValue) (h : IsOf layout l v
       ]);
       some = λ q issue is. (let a = h.some q issue (sym (s.pending q) ∙ is) in elim (cases_eq q p) [
         | inl here ↦ subst (λ (b : Bool). As doubted issue q b) (sym (ap (λ x. doubts ((world_of v').situation x)) here ∙ ap doubts s.situation)) (record {
-          o = record a.o { doubt = true }; is = in_doubt_here q here ∙ ap in_doubt a.is; edit = a.edit; mine = a.mine; doubt_is = refl; only = a.only; running = λ sure. absurd (cc);
+          o = record a.o { doubt = true };
+          is = in_doubt_here q here ∙ ap in_doubt a.is;
+          edit = a.edit;
+          mine = a.mine;
+          doubt_is = refl;
+          only = a.only;
+          running = λ sure. absurd (cc);
         })
         | inr other ↦ subst (λ (b : Bool). As doubted issue q b) (sym (ap doubts (s.others q other))) (record {
-          o = a.o; is = put_other l.opens p (in_doubt (l.opens p)) q other ∙ a.is; edit = a.edit; mine = a.mine; doubt_is = a.doubt_is; only = a.only;
+          o = a.o;
+          is = put_other l.opens p (in_doubt (l.opens p)) q other ∙ a.is;
+          edit = a.edit;
+          mine = a.mine;
+          doubt_is = a.doubt_is;
+          only = a.only;
           running = λ on. (let r = a.running on in record { since = r.since; more = r.more; grown = r.grown });
         })
       ]);
@@ -373,17 +398,22 @@ module _ (layout : Layout) (l : Ledger) (v v' : WorldValue) (h : IsOf layout l v
       counted = crash_counted (world_of v) (world_of v') h.good.sound l h.counted known c;
       none = λ p is. ap in_doubt (h.none p (sym (c.pending p) ∙ is));
       some = λ p issue is. (
-        let was : (world_of v).pending p ≡ Some issue = sym (c.pending p) ∙ is in
-        let a = h.some p issue was in
-        subst (λ (b : Bool). As left issue p b) (sym (ap doubts (c.situation p (real p issue was)))) (record {
-          o = record a.o { doubt = true }; is = ap in_doubt a.is; edit = a.edit; mine = a.mine; doubt_is = refl; running = λ sure. absurd (cc);
-          only = λ f there is. a.only f (of_filter _ l.counted f there) is;
-        }));
+          let was : (world_of v).pending p ≡ Some issue = sym (c.pending p) ∙ is in
+          let a = h.some p issue was in
+          subst (λ (b : Bool). As left issue p b) (sym (ap doubts (c.situation p (real p issue was)))) (record {
+            o = record a.o { doubt = true };
+            is = ap in_doubt a.is;
+            edit = a.edit;
+            mine = a.mine;
+            doubt_is = refl;
+            running = λ sure. absurd (cc);
+            only = λ f there is. a.only f (of_filter _ l.counted f there) is;
+          }));
       numbers = λ q k is. elim (cases_lt q v.sheet.layout.processes) [
         | inl lt ↦ absurd (let bad : None ≡ Some k = sym (ap numbered (c.situation q lt)) ∙ is in cc)
         | inr ge ↦ (
-          let was : (world_of v).situation q ≡ Idle 0 = get_or_past v.situations q (Idle 0) (let n = h.good.situations in omega arith) in
-          let now : (world_of v').situation q ≡ Idle 0 = get_or_past v'.situations q (Idle 0) (let n = good.situations in let lay = ap (λ (x : Layout). x.processes) c.layout in omega arith) in
-          h.numbers q k (ap numbered (was ∙ sym now) ∙ is))
+            let was : (world_of v).situation q ≡ Idle 0 = get_or_past v.situations q (Idle 0) (let n = h.good.situations in omega arith) in
+            let now : (world_of v').situation q ≡ Idle 0 = get_or_past v'.situations q (Idle 0) (let n = good.situations in let lay = ap (λ (x : Layout). x.processes) c.layout in omega arith) in
+            h.numbers q k (ap numbered (was ∙ sym now) ∙ is))
       ];
     }

@@ -447,13 +447,13 @@ module _ (old : WorldValue) (events : List Event) (replies : List Reply) (new : 
       let place_is : place.Mark c ≡ r = cc in
       let word_is : w ≡ word = cc in
       subst (λ (q : Place). UnsettledFits run.moment i.start k q word) place_is (subst (λ (x : ℕ). UnsettledFits run.moment i.start k (place.Mark c) x) word_is
-        (off_fits k p i (place.Mark c) w _ (λ j le. (let same = cells_at k j lt le in omega arith)) (λ j le b. ((let same = cells_at k j lt le in omega arith), b)) (true_at k p (ends.AtMark c w) lt h i)))
+      (off_fits k p i (place.Mark c) w _ (λ j le. (let same = cells_at k j lt le in omega arith)) (λ j le b. ((let same = cells_at k j lt le in omega arith), b)) (true_at k p (ends.AtMark c w) lt h i)))
   unsettled_by k p lt (ends.AtAnnounce q w) r word is h i =
       let there : q < (at k).sheet.layout.processes = (let f = fits_at k p h.show lt h.was in let low = subst (λ (s : ShowStage). IsStage h.show s) h.last f.1.is.stage in let same = f.1.processes in omega arith) in
       let place_is : place.Announce q ≡ r = cc in
       let word_is : w ≡ word = cc in
       subst (λ (x : Place). UnsettledFits run.moment i.start k x word) place_is (subst (λ (x : ℕ). UnsettledFits run.moment i.start k (place.Announce q) x) word_is
-        (off_fits k p i (place.Announce q) w _ (λ j le. (let same = processes_at k j lt le in omega arith)) (λ j le b. ((let same = processes_at k j lt le in omega arith), b)) (true_at k p (ends.AtAnnounce q w) lt h i)))
+      (off_fits k p i (place.Announce q) w _ (λ j le. (let same = processes_at k j lt le in omega arith)) (λ j le b. ((let same = processes_at k j lt le in omega arith), b)) (true_at k p (ends.AtAnnounce q w) lt h i)))
 
   -- an unsettled answer is that of an end
   record UnsettledEnd (what : Effect) (place : Place) (word : ℕ) : Type 0 where

@@ -81,9 +81,9 @@ module _ (old new : WorldValue) (sound : IsSound (world_of old)) (p number : ℕ
     stepped = record {
       only = subst EditsOnly (sym now) tt;
       edit = λ e' is. (
-        let before = a.edit h.edit (ap (λ x. (world_of old).situation x) (sym same) ∙ h.at) in
-        subst (λ (x : PlainEdit). (x.number ≡ number) × IsAloneAt (world_of new) x.cell x.stage) (editing_same ((world_of new).situation p) next e' now is)
-        (before.0, alone h.edit h.word (world_of old) (world_of new) sound h.edit.stage h.steps.memory before.1));
+          let before = a.edit h.edit (ap (λ x. (world_of old).situation x) (sym same) ∙ h.at) in
+          subst (λ (x : PlainEdit). (x.number ≡ number) × IsAloneAt (world_of new) x.cell x.stage) (editing_same ((world_of new).situation p) next e' now is)
+          (before.0, alone h.edit h.word (world_of old) (world_of new) sound h.edit.stage h.steps.memory before.1));
     }
 
   -- its answer
@@ -132,10 +132,13 @@ module _ (old new : WorldValue) (sound : IsSound (world_of old)) (p number : ℕ
   one_event (Step q) (Answered answer) (recoveries h) same = absurd (no_recovery q same h.steps.recovery h.steps.at)
   one_event (Step q) NotEnabled h same = (tt, unchanged h.same)
   one_event (Step q) _ h same = absurd h
-  one_event (Evict r) Evicted h solo = (tt, record {
-    only = subst EditsOnly (sym (h.evicts.situation p)) a.only;
-    edit = λ e is. let before = a.edit e (sym (h.evicts.situation p) ∙ is) in (before.0, alone_same (world_of old) (world_of new) e.cell e.stage (h.evicts.memory.cached (place.Head e.cell)) before.1);
-  })
+  one_event (Evict r) Evicted h solo = (
+    tt,
+    record {
+      only = subst EditsOnly (sym (h.evicts.situation p)) a.only;
+      edit = λ e is. let before = a.edit e (sym (h.evicts.situation p) ∙ is) in (before.0, alone_same (world_of old) (world_of new) e.cell e.stage (h.evicts.memory.cached (place.Head e.cell)) before.1);
+    },
+  )
   one_event (Evict r) NotEnabled h solo = (tt, unchanged h.same)
   one_event (Evict r) _ h solo = absurd h
   one_event (BeginEdit r) reply h solo = absurd solo

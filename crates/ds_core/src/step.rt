@@ -15,16 +15,16 @@ use crate::reply::Reply;
 use ds_edit::answer::{Answer, Told};
 use ds_edit::machine::{got, want};
 use ds_layout::place::Place;
+use ds_recover::machine::RecoveryEnd;
+use ds_show::machine::Effect;
 use ds_state::edit::EditCall;
 use ds_state::ledger::{Edit, Issue};
 use ds_state::situation::Situation;
 use ds_state::stage::{Outcome, Stage};
-use ds_show::machine::Effect;
-use ds_recover::machine::RecoveryEnd;
 use ds_state::work::{ShowEnd, WorkEnd};
+use ds_state::world::World;
 use ds_work::drive::Taken;
 use std::alloc::Global;
-use ds_state::world::World;
 
 // The edit of a process, where it is in one.
 fn call_of(situation: &Situation) -> Option<&EditCall>
@@ -168,7 +168,9 @@ fn recovery_reply(what: ds_recover::machine::Effect) -> Reply
 {
     match what {
         ds_recover::machine::Effect::GoesOn => Reply::Stepped,
-        ds_recover::machine::Effect::Answers(RecoveryEnd::Nothing) => Reply::Answered(Answer::Nothing),
+        ds_recover::machine::Effect::Answers(RecoveryEnd::Nothing) => Reply::Answered(
+            Answer::Nothing,
+        ),
         ds_recover::machine::Effect::Answers(RecoveryEnd::Last(number, cell, counts)) => {
             Reply::Answered(Answer::Last(Told {
                 number,

@@ -11,7 +11,7 @@ use ds_layout::head::Head;
 use ds_layout::place::Place;
 use ds_layout::sheet_words::SheetWords;
 use ds_state::ledger::Edit;
-use ds_state::situation::{put, Situation};
+use ds_state::situation::{Situation, put};
 use ds_state::world::World;
 
 // Whether a crash takes the edit: it is the last of its cell, and only the cached side has its head.

@@ -10,13 +10,11 @@ use Rattle.ds_state.specs.World.{Edit, edit_of, World, record_place, announcemen
 use Rattle.ds_layout.specs.declared.announcement.Phase.{Phase}
 use Rattle.ds_state.specs.Known.{Known, Announced, last, pending, ended, indexing, word_of, Knowing, IsAnnounced, StandsAs, standing_after}
 use Rattle.ds_state.specs.Calls.{EditFits}
-use Rattle.std.specs.Prelude.{Contains}
-use Rattle.ds_words.specs.declared.access.Entry.{Entry}
-use Rattle.ds_state.specs.Owing.{entry, HoldsNone, IsHeldBy, SplitsAt, EditOwes}
+use Rattle.ds_state.specs.Owing.{HoldsNone, IsHeldBy, SplitsAt, EditOwes}
 use Rattle.ds_state.proofs.Buffers.{buffered}
-use Rattle.ds_state.proofs.Bearing.{Mine, MyMarks, no_new_marks, stored_marks, text_same}
+use Rattle.ds_state.proofs.Bearing.{Mine, MyMarks, stored_marks}
 use Rattle.ds_state.proofs.EditSteps.{edit_mine}
-use Rattle.ds_state.proofs.EditFrame.{Framed, edit_keeps, edit_framed, flush_any}
+use Rattle.ds_state.proofs.EditFrame.{Framed, edit_keeps, edit_framed}
 use Rattle.ds_state.specs.Words.{IsKept, WordFits}
 use Rattle.ds_state.specs.Rely.{Grows, Keeps}
 use Rattle.ds_state.specs.Sound.{IsSound}

@@ -5,7 +5,7 @@ use Rattle.ds_words.specs.Memory.{SameMemory}
 use Rattle.ds_layout.specs.declared.place.Place.TheVariants as place
 use Rattle.ds_layout.specs.declared.announcement.Phase.{Phase}
 use Rattle.ds_state.specs.Edits.{PlainEdit, IsEdit, text_parts}
-use Rattle.ds_state.specs.World.{Edit, edit_of, World, of_cell, head_after_all, phase_among, last_announcement, announcement}
+use Rattle.ds_state.specs.World.{Edit, edit_of, World, phase_among, last_announcement, announcement}
 use Rattle.ds_state.specs.Known.{AreBelow, Knowing, StandsAs, standing_after, phase_of, word_of, ended, known_at, writing}
 use Rattle.ds_state.specs.Calls.{EditFits, IdleFits, CallFits, IsSheetOf, HasRefs, held_at, Holds}
 use Rattle.ds_state.specs.Sound.{IsSound}
@@ -18,7 +18,6 @@ use Rattle.ds_state.specs.declared.situation.Situation.{Situation}
 use Rattle.ds_state.specs.declared.situation.Situation.TheVariants.{Editing}
 use Rattle.ds_state.proofs.Outcomes.{among, not_among}
 use Rattle.ds_state.specs.Owing.{IsHeldBy, Owes, Excuses, Parts, Splits}
-use Rattle.ds_state.specs.declared.situation.Situation.TheVariants.{Idle}
 use Rattle.ds_state.proofs.Buffers.{buffered}
 use Rattle.ds_state.proofs.EditFrame.{Framed, silent_framed, silent_keeps}
 use Rattle.ds_state.proofs.Frames.{Moves, KeepsOwing}

@@ -6,7 +6,7 @@ use Rattle.ds_words.specs.declared.access.Entry.{Entry}
 use Rattle.ds_words.specs.Memory.{Memory, WritesBack, BacksFirst}
 use Rattle.ds_layout.specs.declared.place.Place.{Place}
 use Rattle.ds_state.specs.Edits.{PlainEdit, text_parts}
-use Rattle.ds_state.specs.World.{edit_of, Issue, World, of_cell, head_after_all}
+use Rattle.ds_state.specs.World.{edit_of, Issue, World}
 use Rattle.ds_state.specs.Known.{known_at, Knowing}
 use Rattle.ds_state.specs.Calls.{held_at, Holds, EditFits, CallFits}
 use Rattle.ds_state.specs.Owing.{HoldsNone}

@@ -22,7 +22,7 @@ use ds_layout::place::RECORDS;
 use ds_state::edit::EditCall;
 use ds_state::ledger::{Edit, Issue};
 use ds_state::refusal::Refusal;
-use ds_state::situation::{put, Situation};
+use ds_state::situation::{Situation, put};
 use ds_state::stage::Stage;
 use ds_state::text::Text;
 use ds_state::world::World;
@@ -35,7 +35,9 @@ fn next(situation: &Situation) -> Result<usize, Refusal>
     match situation {
         Situation::Idle(number) => Ok(*number),
         Situation::Stopped => Err(Refusal::Stopped),
-        Situation::Working(_) | Situation::Recovering(_) | Situation::Showing(_) => Err(Refusal::Busy),
+        Situation::Working(_) | Situation::Recovering(_) | Situation::Showing(_) => Err(
+            Refusal::Busy,
+        ),
         Situation::Editing(_) => Err(Refusal::Busy),
     }
 }

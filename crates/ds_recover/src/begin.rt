@@ -9,7 +9,7 @@ ghost use Rattle.ds_recover.specs.RecoverBegun.{MayRecover, IsBegun, Refuses};
 use ds_layout::layout::Layout;
 use ds_state::refusal::Refusal;
 use ds_state::row::Row;
-use ds_state::situation::{put, Situation};
+use ds_state::situation::{Situation, put};
 use ds_state::work::{RecoverCall, RecoverStage};
 use ds_state::world::World;
 

@@ -12,7 +12,7 @@ ghost use Rattle.ds_show.specs.ShowBegun.{next_of, IsBegun, Refuses};
 use ds_layout::layout::Layout;
 use ds_state::refusal::Refusal;
 use ds_state::reports::SETTLED_MOST;
-use ds_state::situation::{put, Situation};
+use ds_state::situation::{Situation, put};
 use ds_state::work::{ShowCall, ShowStage};
 use ds_state::world::World;
 use std::alloc::{AllocError, Global};

@@ -6,7 +6,7 @@ use Rattle.ds_words.specs.Memory.{SameMemory, StoresAt, FlushesAt, WritesBack, E
 use Rattle.ds_layout.specs.declared.layout.Layout.{Layout}
 use Rattle.ds_layout.specs.Places.{class_of}
 use Rattle.ds_layout.specs.declared.place.Place.{Place}
-use Rattle.ds_layout.specs.declared.place.Place.TheVariants.{Version, Head, Mark, Value, Kind, Index, Announce, Header, Text, Done}
+use Rattle.ds_layout.specs.declared.place.Place.TheVariants.{Version, Head, Mark, Value, Kind, Announce}
 use Rattle.ds_layout.proofs.PlaceCases.{place_cases}
 use Rattle.std.specs.Prelude.{Contains}
 use Rattle.ds_state.specs.World.{World, of_cell, head_after_all}
@@ -15,7 +15,7 @@ use Rattle.ds_state.specs.Calls.{CallFits}
 use Rattle.ds_state.specs.Words.{WordFits}
 use Rattle.ds_state.specs.Sound.{IsSound}
 use Rattle.ds_state.specs.Events.{Evicts}
-use Rattle.ds_state.specs.Owing.{IsHeldBy, IsApart, IsPending, Excuses, IsExcused, Splits}
+use Rattle.ds_state.specs.Owing.{IsHeldBy, IsPending, IsExcused, Splits}
 use Rattle.ds_state.specs.declared.situation.Situation.{Situation}
 use Rattle.ds_state.specs.Standing.{AllStand}
 use Rattle.ds_state.specs.Rely.{IsOwnedBy, KeepsHold, Grows, Bears, Keeps, Rely}

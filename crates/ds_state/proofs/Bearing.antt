@@ -1,5 +1,5 @@
 -- What a step leaves of what was owed, and of what clean marks say.
-use Rattle.std.proofs.Common.{ℕ, ◌≡◌, ◌≢◌, ◌<◌, ◌≤◌, ◌+◌, ◌/◌, ◌%◌, ◌⊎◌, List, [], ◌∷◌, ◌++◌, zero, suc, refl, ap, sym, ◌∙◌, subst, arith, inl, inr, Some}
+use Rattle.std.proofs.Common.{ℕ, ◌≡◌, ◌≢◌, ◌<◌, ◌≤◌, ◌/◌, ◌⊎◌, List, [], ◌∷◌, ◌++◌, zero, suc, refl, ap, sym, ◌∙◌, subst, arith, inl, inr}
 use Rattle.std.specs.Prelude.{Contains}
 use Rattle.std.proofs.lemmas.Bool.{cases_eq}
 use Rattle.std.proofs.lemmas.List.Elements.{Contains-append_cases}
@@ -7,18 +7,16 @@ use Rattle.ds_words.specs.declared.access.Entry.{Entry}
 use Rattle.ds_words.specs.Memory.{Memory, FlushesAt}
 use Rattle.ds_layout.specs.Places.{class_of}
 use Rattle.ds_formula.specs.Cells.{IsInside, index_of}
-use Rattle.ds_formula.specs.declared.cells.Cell.{Cell}
 use Rattle.ds_formula.specs.Plain.{Plain}
-use Rattle.ds_formula.specs.Refs.{Refers}
 use Rattle.ds_layout.specs.declared.place.Place.{Place}
-use Rattle.ds_layout.specs.declared.place.Place.TheVariants.{Version, Head, Mark, Value, Kind, Index, Announce}
+use Rattle.ds_layout.specs.declared.place.Place.TheVariants.{Head, Mark, Value, Kind, Announce}
 use Rattle.ds_layout.specs.declared.layout.Layout.{Layout}
 use Rattle.ds_layout.proofs.PlaceCases.{place_cases}
-use Rattle.ds_state.specs.World.{Edit, Issue, World, of_cell, head_after_all, index_place, IsHeadBy}
-use Rattle.ds_state.specs.Owing.{entry, turn, IsClean, IsEven, IsHeldBy, IsHeld, StandsIn, IsBelowBuffered, SpreadOwes, WorkOwes, RecoveryOwes, Owes, WorkParts, RecoveryParts, Parts, CellOwes, IsApart, IsPending, EditOwes, RecoveryExcuses, Excuses, IsExcused, SplitsAt, RecoverySplits, Splits, IsIndexed}
-use Rattle.ds_state.specs.Standing.{Side, cached_side, persisted_side, entry_on, HasText, HasContent, Inputs, Reasons, Stands, IsBuffered, IsDurable, Matters, AllStand}
-use Rattle.ds_state.specs.Words.{WordFits, IndexFits, IsOnItsWay, RefersTo}
-use Rattle.ds_state.specs.Rely.{KeepsHold, Bears}
+use Rattle.ds_state.specs.World.{Edit, World, of_cell, IsHeadBy}
+use Rattle.ds_state.specs.Owing.{entry, IsClean, IsEven, IsHeldBy, IsHeld, IsBelowBuffered, SpreadOwes, WorkOwes, RecoveryOwes, Owes, WorkParts, RecoveryParts, Parts, CellOwes, IsApart, IsPending, EditOwes, RecoveryExcuses, Excuses, IsExcused, SplitsAt, RecoverySplits, Splits, IsIndexed}
+use Rattle.ds_state.specs.Standing.{Side, cached_side, persisted_side, HasContent, Stands, IsBuffered, IsDurable, Matters, AllStand}
+use Rattle.ds_state.specs.Words.{IsOnItsWay}
+use Rattle.ds_state.specs.Rely.{Bears}
 use Rattle.ds_state.specs.Sound.{IsSound}
 use Rattle.ds_state.specs.declared.stage.Stage.{Stage}
 use Rattle.ds_state.specs.declared.stage.Stage.TheVariants as edits
@@ -30,7 +28,6 @@ use Rattle.ds_state.specs.declared.work.RecoverStage.{RecoverStage}
 use Rattle.ds_state.specs.declared.work.RecoverStage.TheVariants as recoveries
 use Rattle.ds_state.specs.declared.situation.Situation.{Situation}
 use Rattle.ds_state.specs.declared.situation.Situation.TheVariants.{Idle, Stopped, Editing, Working, Recovering, Showing}
-use Rattle.ds_state.proofs.Lasting.{at_most}
 use Rattle.ds_state.proofs.Heads.{cell_of-middle}
 use Rattle.ds_state.proofs.Noted.{of_sheet_middle}
 use Rattle.ds_state.proofs.Found.{refs_indexed}

@@ -1,14 +1,14 @@
 -- Each mark in a buffer is one that its cell has had.
-use Rattle.std.proofs.Common.{ℕ, ◌≡◌, ◌≢◌, ◌<◌, ◌≤◌, List, [], ◌∷◌, refl, ap, sym, ◌∙◌, subst, arith, inl, inr, zero, suc}
-use Rattle.std.specs.Prelude.{All, Contains, map}
+use Rattle.std.proofs.Common.{ℕ, ◌≡◌, ◌≢◌, ◌≤◌, List, [], ◌∷◌, refl, ap, sym, subst, arith, zero, suc}
+use Rattle.std.specs.Prelude.{Contains, map}
 use Rattle.std.specs.List.{range_with_len}
 use Rattle.std.proofs.lemmas.List.Elements.{All-contains, All-map}
 use Rattle.ds_words.specs.declared.access.Entry.{Entry}
 use Rattle.ds_layout.specs.declared.place.Place.{Place}
 use Rattle.ds_layout.specs.declared.place.Place.TheVariants.{Mark, Value, Kind, Announce, Head}
 use Rattle.ds_state.specs.Edits.{text_parts}
-use Rattle.ds_state.specs.Works.{PlainWork, PlainRecovery}
-use Rattle.ds_state.specs.World.{Edit, edit_of, World, record_place, record_word, index_place, done_place}
+use Rattle.ds_state.specs.Works.{PlainWork}
+use Rattle.ds_state.specs.World.{Edit, edit_of, World, record_place, index_place, done_place}
 use Rattle.ds_state.specs.Known.{word_of}
 use Rattle.ds_state.specs.Owing.{entry}
 use Rattle.ds_state.specs.KnownWork.{WorkHeld, claim, a_mark, the_value, both_words, the_kind, work_held, WorkHolds}

@@ -13,7 +13,7 @@ use Rattle.ds_layout.proofs.PlaceCases.{place_cases}
 use Rattle.ds_state.specs.World.{Edit, Issue, World, record_place, record_word, record_size, index_place, done_place, of_cell, head_after_all}
 use Rattle.ds_state.specs.Known.{AreBelow, IsDone}
 use Rattle.ds_state.specs.Owing.{Owes, Excuses, Splits, Parts, IsApart, IsExcused}
-use Rattle.ds_state.specs.Standing.{HasContent, AllStand}
+use Rattle.ds_state.specs.Standing.{HasContent}
 use Rattle.ds_state.specs.Calls.{CallFits}
 use Rattle.ds_state.specs.Words.{RefersTo, IsKept, WordFits}
 use Rattle.ds_state.specs.Sound.{IsSound, IsOfSheet, Increasing}

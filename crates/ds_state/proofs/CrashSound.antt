@@ -1,5 +1,5 @@
 -- A crash leaves a sound world sound.
-use Rattle.std.proofs.Common.{ℕ, ◌≡◌, ◌≢◌, ◌<◌, ◌≤◌, ◌+◌, ◌==◌, ◌⊎◌, List, [], ◌∷◌, ◌++◌, refl, ap, sym, ◌∙◌, subst, arith, inl, inr, zero, suc, length, Some, None, true, false, get_or}
+use Rattle.std.proofs.Common.{ℕ, ◌≡◌, ◌<◌, ◌≤◌, ◌+◌, ◌==◌, ◌⊎◌, List, [], ◌∷◌, ◌++◌, refl, ap, sym, ◌∙◌, subst, arith, inl, inr, zero, suc, length, Some, None, true, false, get_or}
 use Rattle.std.specs.Prelude.{All, Contains, Option, Bool, filter, if◌then◌else◌}
 use Rattle.std.proofs.lemmas.List.Elements.{All-contains, All-contains_itself}
 use Rattle.std.proofs.lemmas.Bool.{eq-eqb}
@@ -12,10 +12,10 @@ use Rattle.ds_layout.specs.declared.announcement.Phase.TheVariants as phase
 use Rattle.ds_layout.specs.Places.{cells_of}
 use Rattle.ds_words.specs.Memory.{Memory}
 use Rattle.ds_state.specs.Edits.{PlainEdit, text_parts}
-use Rattle.ds_state.specs.World.{Edit, edit_of, Issue, World, of_cell, phase_among, is_edit_of, last_announcement, announcement, record_size, record_place, record_word}
-use Rattle.ds_state.specs.Known.{IsIn, Standing, outside, inside, safe, Announced, last, pending, ended, Known, known_at, AreBelow, IsSafe, StandsAs, IsRecorded, word_of, IsAnnounced, Knowing}
+use Rattle.ds_state.specs.World.{Edit, edit_of, Issue, World, of_cell, phase_among, is_edit_of, last_announcement, announcement, record_size, record_place}
+use Rattle.ds_state.specs.Known.{IsIn, Standing, outside, inside, safe, Announced, last, pending, ended, Known, known_at, AreBelow, IsSafe, StandsAs, IsRecorded, word_of}
 use Rattle.ds_state.specs.KnownWork.{IsAtRest}
-use Rattle.ds_state.specs.Calls.{CallFits, EditFits, MaySay, rank, IsWritten, IsInDoubt, IsThrough, DoubtFits, StoppedFits}
+use Rattle.ds_state.specs.Calls.{CallFits, EditFits, MaySay, rank, IsWritten, IsInDoubt, DoubtFits}
 use Rattle.ds_state.specs.Crashes.{is_lost, survivors, CrashesTo}
 use Rattle.ds_state.specs.Sound.{IsSound, Increasing}
 use Rattle.ds_state.specs.declared.stage.Outcome.TheVariants as outcome

@@ -1,13 +1,12 @@
 -- After a crash each word fits.
-use Rattle.std.proofs.Common.{ℕ, ◌≡◌, ◌≢◌, ◌<◌, ◌≤◌, ◌+◌, ◌/◌, ◌⊎◌, List, [], ◌∷◌, ◌++◌, refl, ap, sym, ◌∙◌, subst, arith, le_refl, inl, inr, length, append_assoc}
-use Rattle.std.specs.Prelude.{All, Contains, Bool, filter, if◌then◌else◌, true, false}
+use Rattle.std.proofs.Common.{ℕ, List, [], ◌∷◌, ◌++◌, refl, ap, sym, ◌∙◌, subst, arith, le_refl, inl, inr, append_assoc}
+use Rattle.std.specs.Prelude.{All, Contains, filter, if◌then◌else◌, true, false}
 use Rattle.std.proofs.lemmas.List.Elements.{All-filter, All-contains, All-contains_itself}
 use Rattle.ds_words.specs.Memory.{Memory}
 use Rattle.ds_layout.specs.declared.place.Place.{Place}
 use Rattle.ds_layout.specs.declared.place.Place.TheVariants.{Version, Head, Mark, Value, Kind, Index, Announce, Header, Text, Done}
-use Rattle.ds_layout.specs.Bits.{HasBit, IsSubset}
 use Rattle.ds_layout.proofs.OrBits.{IsSubset-same, HasBit-subset}
-use Rattle.ds_state.specs.World.{Edit, World, of_cell, head_after_all, IsHeadBy, record_size}
+use Rattle.ds_state.specs.World.{Edit, World, of_cell, IsHeadBy}
 use Rattle.ds_state.specs.Known.{IsSafe}
 use Rattle.ds_state.specs.Crashes.{is_lost, survivors, CrashesTo}
 use Rattle.ds_state.specs.Words.{WordFits, IsKept, IsOvertaken}

@@ -1,25 +1,23 @@
 -- What a crash leaves.
-use Rattle.std.proofs.Common.{ℕ, ◌≡◌, ◌≢◌, ◌<◌, ◌≤◌, ◌+◌, ◌/◌, ◌%◌, ◌⊎◌, List, [], ◌∷◌, ◌++◌, refl, ap, sym, ◌∙◌, subst, arith, inl, inr, zero, suc, length, Some, None}
-use Rattle.std.specs.Prelude.{All, Contains, Option}
-use Rattle.ds_words.specs.Memory.{Crashes}
+use Rattle.std.proofs.Common.{ℕ, ◌≡◌, ◌⊎◌, List, [], ◌∷◌, ◌++◌, ap, sym, ◌∙◌, subst, arith, inl, inr, length}
+use Rattle.std.specs.Prelude.{Contains}
 use Rattle.ds_words.specs.declared.access.Entry.{Entry}
 use Rattle.ds_formula.specs.Plain.{Plain}
 use Rattle.ds_layout.specs.declared.place.Place.{Place}
-use Rattle.ds_layout.specs.declared.place.Place.TheVariants.{Version, Head, Mark, Value, Kind, Index, Announce}
-use Rattle.ds_state.specs.Edits.{PlainEdit, text_parts}
-use Rattle.ds_state.specs.World.{Edit, edit_of, Issue, World, of_cell, head_after_all, IsHeadBy}
-use Rattle.ds_state.specs.Owing.{entry, turn, IsClean, IsHeldBy, IsHeld, Owes, CellOwes, IsApart, IsPending, EditOwes, Excuses, IsExcused, IsIndexed}
-use Rattle.ds_state.specs.Standing.{Side, cached_side, persisted_side, HasContent, HasText, Stands, IsDurable, AllStand}
-use Rattle.ds_state.specs.Words.{WordFits, IsOnItsWay}
+use Rattle.ds_layout.specs.declared.place.Place.TheVariants.{Head, Mark, Value, Kind, Announce}
+use Rattle.ds_state.specs.Edits.{text_parts}
+use Rattle.ds_state.specs.World.{Edit, edit_of, World, of_cell, head_after_all, IsHeadBy}
+use Rattle.ds_state.specs.Owing.{entry, Owes, CellOwes, IsPending, EditOwes, Excuses, IsExcused}
+use Rattle.ds_state.specs.Standing.{cached_side, persisted_side, HasContent, AllStand}
 use Rattle.ds_state.specs.Known.{pending, IsAnnounced, known_at}
-use Rattle.ds_state.specs.Calls.{CallFits, EditFits}
+use Rattle.ds_state.specs.Calls.{CallFits}
 use Rattle.ds_state.specs.Sound.{IsSound}
 use Rattle.ds_state.specs.Crashes.{CrashesTo}
 use Rattle.ds_state.specs.declared.stage.Stage.{Stage}
 use Rattle.ds_state.specs.declared.stage.Stage.TheVariants as edits
 use Rattle.ds_state.specs.declared.situation.Situation.{Situation}
 use Rattle.ds_state.specs.declared.situation.Situation.TheVariants.{Idle, Stopped, Editing, Working, Recovering, Showing}
-use Rattle.ds_state.proofs.Heads.{Small, small_counted, small_of_cell, small_before, head_grows, by_cases}
+use Rattle.ds_state.proofs.Heads.{Small, small_counted, small_of_cell, head_grows, by_cases}
 use Rattle.ds_state.proofs.Bearing.{stands_lasts}
 
 -- what a crash does to the list, cell by cell: it keeps the edits of the persisted head, and their order

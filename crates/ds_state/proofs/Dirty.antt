@@ -1,16 +1,13 @@
 -- The dirty bit added to a mark.
-use Rattle.std.proofs.Common.{ℕ, ◌≡◌, ◌<◌, ◌≤◌, ◌+◌, ◌*◌, ◌/◌, ◌%◌, refl, ap, sym, ◌∙◌, subst, arith, zero, suc, max}
+use Rattle.std.proofs.Common.{ℕ, ◌≡◌, ◌+◌, ◌*◌, ◌/◌, ap, ◌∙◌, subst, arith, zero, suc}
 use Rattle.std.specs.Prelude.{bit_or}
 use Rattle.std.specs.Int.{bit_at}
 use Rattle.std.proofs.lemmas.Nat.Bits.{bit_at_lowest, bit_at-suc, bit_at-zero, bit_at_or, same_from_bits}
 use Rattle.ds_words.specs.Memory.{OrsAt, StoresAt}
-use Rattle.ds_layout.specs.declared.place.Place.{Place}
 use Rattle.ds_layout.specs.declared.place.Place.TheVariants.{Mark}
 use Rattle.ds_layout.specs.declared.mark.TheConstants.{DIRTY}
-use Rattle.ds_state.specs.Owing.{IsHeldBy, IsMark}
 use Rattle.ds_state.specs.World.{World}
-use Rattle.ds_state.specs.Words.{MarkFits, WordFits}
-use Rattle.ds_state.specs.Rely.{KeepsHold}
+use Rattle.ds_state.specs.Words.{MarkFits}
 use Rattle.ds_state.proofs.Frames.{MovesMark}
 
 dirty_bit : (x i : ℕ) → bit_at (bit_or x 1) i ≡ bit_at (x / 2 * 2 + 1) i

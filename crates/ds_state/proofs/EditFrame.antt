@@ -1,17 +1,17 @@
 -- What an edit's step leaves of clauses 1 and 2, by the sort of its access.
-use Rattle.std.proofs.Common.{ℕ, ◌≡◌, ◌≢◌, ◌<◌, ◌≤◌, ◌⊎◌, List, [], ◌∷◌, refl, ap, sym, ◌∙◌, subst, arith, inl, inr, max, suc}
+use Rattle.std.proofs.Common.{ℕ, ◌≡◌, ◌<◌, ◌≤◌, ◌⊎◌, List, [], ◌∷◌, refl, ap, sym, ◌∙◌, subst, arith, inl, inr, max, suc}
 use Rattle.std.specs.Prelude.{Contains}
 use Rattle.std.proofs.lemmas.Bool.{cases_eq}
 use Rattle.ds_words.specs.declared.access.Entry.{Entry}
 use Rattle.ds_words.specs.Memory.{FlushesAt, WritesBack, newer}
 use Rattle.ds_layout.specs.Places.{class_of}
 use Rattle.ds_layout.specs.declared.place.Place.{Place}
-use Rattle.ds_layout.specs.declared.place.Place.TheVariants.{Version, Head, Mark, Value, Kind, Index, Announce, Header, Text, Done}
+use Rattle.ds_layout.specs.declared.place.Place.TheVariants.{Version, Head, Mark}
 use Rattle.ds_formula.specs.Plain.{Plain}
 use Rattle.ds_state.specs.Edits.{PlainEdit}
-use Rattle.ds_state.specs.World.{Edit, Issue, World, of_cell, head_after_all}
-use Rattle.ds_state.specs.Owing.{entry, Parts, IsApart, EditOwes, SplitsAt, Splits, Owes, Excuses, IsExcused}
-use Rattle.ds_state.specs.Standing.{HasContent, IsDurable, Matters, AllStand}
+use Rattle.ds_state.specs.World.{World, of_cell, head_after_all}
+use Rattle.ds_state.specs.Owing.{entry, Parts, SplitsAt, Splits, Owes, Excuses, IsExcused}
+use Rattle.ds_state.specs.Standing.{HasContent, IsDurable, AllStand}
 use Rattle.ds_state.specs.Rely.{Bears}
 use Rattle.ds_state.specs.Sound.{IsSound}
 use Rattle.ds_state.specs.declared.stage.Stage.{Stage}
@@ -21,7 +21,7 @@ use Rattle.ds_state.proofs.Frames.{Moves, KeepsOwing, KeepsApart}
 use Rattle.ds_state.proofs.Bearing.{Buffered, Mine, MyMarks, bears, all_stand, text_same, no_new_marks, flushed_marks, backed_marks, in_push, apart_lasts, splits_last, splits_excuse, pends_last, marks_grow}
 use Rattle.ds_state.proofs.Heads.{cell_of-middle}
 use Rattle.ds_state.proofs.Noted.{of_sheet_middle}
-use Rattle.ds_state.proofs.EditSteps.{edit_on, edit_mine}
+use Rattle.ds_state.proofs.EditSteps.{edit_on}
 
 pub record Framed (old new : World) : Type 0 where
   pub bears : Bears old new

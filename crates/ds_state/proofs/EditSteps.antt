@@ -1,14 +1,13 @@
 -- What an edit's steps leave of what it owes: each passes on what matters.
-use Rattle.std.proofs.Common.{ℕ, ◌≡◌, ◌≢◌, ◌<◌, ◌≤◌, ◌+◌, ◌%◌, ◌⊎◌, List, [], ◌∷◌, refl, ap, sym, ◌∙◌, subst, arith, inl, inr}
+use Rattle.std.proofs.Common.{ℕ, ◌≡◌, ◌≤◌, ◌%◌, ◌⊎◌, [], ◌∷◌, ap, sym, ◌∙◌, subst, arith, inl, inr}
 use Rattle.ds_words.specs.Memory.{StoresAt}
 use Rattle.ds_words.specs.declared.access.Entry.{Entry}
 use Rattle.ds_layout.specs.declared.place.Place.{Place}
-use Rattle.ds_layout.specs.declared.place.Place.TheVariants.{Version, Head, Mark, Value, Kind, Announce}
+use Rattle.ds_layout.specs.declared.place.Place.TheVariants.{Head, Mark}
 use Rattle.ds_state.specs.Edits.{PlainEdit}
-use Rattle.ds_state.specs.World.{Edit, World, of_cell}
-use Rattle.ds_state.specs.Owing.{entry, HoldsNone, IsClean, IsBelowBuffered, Owes, EditOwes, Excuses, IsExcused}
+use Rattle.ds_state.specs.World.{World}
+use Rattle.ds_state.specs.Owing.{entry, HoldsNone, Owes, EditOwes, Excuses, IsExcused}
 use Rattle.ds_state.specs.Standing.{Matters}
-use Rattle.ds_state.specs.Words.{IsOnItsWay, HeadFits}
 use Rattle.ds_state.specs.Sound.{IsSound}
 use Rattle.ds_state.specs.declared.stage.Stage.{Stage}
 use Rattle.ds_state.specs.declared.stage.Stage.TheVariants as edits

@@ -1,18 +1,17 @@
 -- An edit that gave a head counts, and its references have its cell in their rows.
-use Rattle.std.proofs.Common.{ℕ, ◌≡◌, ◌<◌, ◌+◌, ◌/◌, ◌⊎◌, List, [], ◌∷◌, ◌++◌, refl, ap, sym, ◌∙◌, subst, arith, inl, inr, zero, suc, length}
+use Rattle.std.proofs.Common.{ℕ, ◌≡◌, ◌/◌, List, [], ◌∷◌, ◌++◌, refl, sym, subst, arith, inl, inr, zero, suc}
 use Rattle.std.specs.Prelude.{Contains}
 use Rattle.std.proofs.lemmas.Bool.Decides.{eqb_tells}
 use Rattle.std.proofs.lemmas.List.Elements.{Contains-append_right}
 use Rattle.ds_formula.specs.Cells.{IsInside, index_of}
 use Rattle.ds_formula.specs.declared.cells.Cell.{Cell}
 use Rattle.ds_eval.proofs.Walks.{index_below}
-use Rattle.ds_formula.specs.Plain.{Plain, Empty}
+use Rattle.ds_formula.specs.Plain.{Plain}
 use Rattle.ds_formula.specs.Refs.{Refers}
 use Rattle.ds_layout.specs.declared.place.Place.TheVariants.{Index}
-use Rattle.ds_layout.specs.Bits.{HasBit}
-use Rattle.ds_state.specs.World.{Edit, World, of_cell, IsHeadBy, index_place}
+use Rattle.ds_state.specs.World.{Edit, World, of_cell, IsHeadBy}
 use Rattle.ds_state.specs.Owing.{IsIndexed}
-use Rattle.ds_state.specs.Standing.{HasContent, HasText}
+use Rattle.ds_state.specs.Standing.{HasContent}
 use Rattle.ds_state.specs.Sound.{IsSound}
 use Rattle.ds_state.proofs.Heads.{cell_of-middle}
 use Rattle.ds_state.proofs.Outcomes.{kept, dropped}

@@ -1,19 +1,18 @@
 -- Which edits a crash takes: at most the last one of each cell.
-use Rattle.std.proofs.Common.{ℕ, ◌≡◌, ◌≢◌, ◌<◌, ◌≤◌, ◌+◌, ◌*◌, ◌/◌, ◌%◌, ◌==◌, ◌⊎◌, List, [], ◌∷◌, ◌++◌, refl, ap, sym, ◌∙◌, subst, arith, inl, inr, zero, suc, length, length-append, true, false, get_or, append_assoc}
+use Rattle.std.proofs.Common.{ℕ, ◌≡◌, ◌≢◌, ◌<◌, ◌+◌, ◌*◌, ◌%◌, ◌==◌, List, [], ◌∷◌, ◌++◌, refl, ap, sym, ◌∙◌, subst, arith, inl, inr, zero, suc, length, true, false, get_or}
 use Rattle.std.specs.Prelude.{All, Contains, Bool, filter, if◌then◌else◌}
-use Rattle.std.proofs.lemmas.Bool.{cases_eq, eq-eqb, eqb-true}
+use Rattle.std.proofs.lemmas.Bool.{eq-eqb, eqb-true}
 use Rattle.std.proofs.lemmas.Bool.Decides.{eqb_tells}
-use Rattle.std.proofs.lemmas.List.Elements.{All-head, All-tail, filter-append, filter_passes, All-filter, All-contains, Contains-append_right, Contains-append_left}
+use Rattle.std.proofs.lemmas.List.Elements.{filter-append, filter_passes, All-filter, All-contains, Contains-append_right, Contains-append_left}
 use Rattle.std.proofs.lemmas.List.{append-nil}
 use Rattle.ds_words.specs.Memory.{Memory}
 use Rattle.ds_layout.specs.declared.place.Place.{Place}
 use Rattle.ds_layout.specs.declared.place.Place.TheVariants.{Head}
-use Rattle.ds_state.specs.World.{Edit, World, of_cell, head_after_all, head_by, IsHeadBy}
+use Rattle.ds_state.specs.World.{Edit, World, of_cell, head_after_all, head_by}
 use Rattle.ds_state.specs.Crashes.{is_lost, survivors, CrashesTo}
-use Rattle.ds_state.specs.Words.{WordFits, IsOnItsWay}
-use Rattle.ds_state.specs.Sound.{IsSound, Increasing, IsOfSheet}
-use Rattle.ds_state.proofs.Heads.{Small, IsSmall, small_counted, small_of_cell, small_before, head_grows, head_push, cell_of-middle}
-use Rattle.ds_state.proofs.Found.{from_cell}
+use Rattle.ds_state.specs.Words.{IsOnItsWay}
+use Rattle.ds_state.specs.Sound.{IsSound, Increasing}
+use Rattle.ds_state.proofs.Heads.{Small, IsSmall, small_counted, small_of_cell, head_grows, head_push, cell_of-middle}
 use Rattle.ds_state.proofs.Crashing.{Leaves}
 
 -- two tests of a list, in either order

@@ -1,15 +1,13 @@
 -- A world that is made anew is good.
 use Rattle.std.proofs.Common.{ℕ, ◌≡◌, ◌≤◌, ◌+◌, ◌*◌, ◌++◌, List, [], ◌∷◌, get_or, replicate, refl, sym, ◌∙◌, subst, arith, zero, suc, Option, None}
 use Rattle.std.proofs.lemmas.List.{length-replicate, replicate_more}
-use Rattle.std.proofs.lemmas.List.Elements.{All-nil}
 use Rattle.ds_words.specs.Memory.{IsFresh}
 use Rattle.ds_layout.specs.declared.place.TheConstants.{RECORDS}
 use Rattle.ds_layout.specs.Sheet.{SheetValue, memory}
 use Rattle.ds_eval.specs.declared.value.Value.{Value}
 use Rattle.ds_layout.specs.Places.{cells_of}
-use Rattle.ds_state.specs.Text.{IsText}
 use Rattle.ds_state.specs.Reports.{no_reports}
-use Rattle.ds_state.specs.World.{Edit, Issue}
+use Rattle.ds_state.specs.World.{Issue}
 use Rattle.ds_state.specs.Fresh.{IsNew}
 use Rattle.ds_state.specs.Value.{WorldValue, world_of, IsReserved}
 use Rattle.ds_state.specs.declared.situation.Situation.{Situation}

@@ -1,17 +1,16 @@
 -- Where every mark is clean and no edit is open, each cell shows what its content gives: clause 1 is enough for the headline.
-use Rattle.std.proofs.Common.{ℕ, ◌≡◌, ◌<◌, ap, sym, ◌∙◌, inl, inr, Some, None}
+use Rattle.std.proofs.Common.{ℕ, ◌≡◌, ap, sym, ◌∙◌, inl, inr, Some, None}
 use Rattle.std.specs.Prelude.{Option}
 use Rattle.ds_formula.specs.Cells.{IsInside, index_of}
 use Rattle.ds_formula.specs.declared.cells.Cell.{Cell}
-use Rattle.ds_formula.specs.Plain.{Plain}
 use Rattle.ds_formula.specs.Refs.{Refers}
 use Rattle.ds_eval.specs.Local.{local}
 use Rattle.ds_eval.proofs.Neighbours as neighbours
 use Rattle.ds_layout.specs.Places.{cells_of}
-use Rattle.ds_layout.specs.declared.place.Place.TheVariants.{Head, Mark, Kind}
+use Rattle.ds_layout.specs.declared.place.Place.TheVariants.{Head, Kind}
 use Rattle.ds_state.specs.World.{Issue, edit_of, World}
-use Rattle.ds_state.specs.Owing.{IsClean, Excuses}
-use Rattle.ds_state.specs.Standing.{cached_side, entry_on, shown_entry, value_for, HasContent}
+use Rattle.ds_state.specs.Owing.{Excuses}
+use Rattle.ds_state.specs.Standing.{cached_side, entry_on, shown_entry, value_for}
 use Rattle.ds_state.specs.Calls.{CallFits}
 use Rattle.ds_state.specs.Sound.{IsSound}
 use Rattle.ds_state.specs.Calm.{IsCalm, IsLocalAt}

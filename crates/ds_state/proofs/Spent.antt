@@ -1,5 +1,5 @@
 -- Numbers that are spent stay so, and edits that come to count have others.
-use Rattle.std.proofs.Common.{ℕ, ◌≡◌, ◌<◌, ◌≤◌, refl, sym, subst, arith, suc, inl, inr, length}
+use Rattle.std.proofs.Common.{ℕ, ◌≡◌, ◌<◌, ◌≤◌, sym, subst, arith, suc, inl, inr, length}
 use Rattle.ds_layout.specs.declared.place.Place.{Place}
 use Rattle.ds_layout.specs.declared.place.Place.TheVariants.{Version, Announce}
 use Rattle.ds_layout.proofs.PlaceCases.{place_cases}

@@ -1,25 +1,19 @@
 -- What a call knows stays while words only grow.
-use Rattle.std.proofs.Common.{ℕ, ◌≡◌, ◌≢◌, ◌<◌, ◌≤◌, ◌+◌, List, [], ◌∷◌, ◌++◌, refl, ap, sym, ◌∙◌, subst, arith, length, length-append, inl, inr, Some, None, zero, suc, take}
-use Rattle.std.specs.Prelude.{All, Option, if◌then◌else◌}
-use Rattle.std.proofs.lemmas.List.{take-append-le}
-use Rattle.std.proofs.lemmas.Bool.Decides.{eqb_tells}
-use Rattle.std.proofs.lemmas.List.Elements.{All-append, All-weaker, All-same, All-head, All-tail}
-use Rattle.ds_words.specs.Memory.{Memory}
+use Rattle.std.proofs.Common.{ℕ, ◌≡◌, ◌≢◌, ◌+◌, List, [], ◌∷◌, refl, ap, sym, ◌∙◌, subst, arith, length, inl, inr, Some, None, zero, suc}
+use Rattle.std.specs.Prelude.{Option}
 use Rattle.ds_layout.specs.declared.place.Place.{Place}
 use Rattle.ds_layout.specs.declared.place.Place.TheVariants.{Version, Announce}
-use Rattle.ds_layout.specs.declared.announcement.Phase.TheVariants as phase
 use Rattle.ds_layout.proofs.OrBits.{HasBit-subset, IsSubset-both}
 use Rattle.ds_state.specs.Edits.{PlainEdit, text_parts}
-use Rattle.ds_state.specs.World.{Edit, Issue, edit_of, World, record_size, record_place, done_place, of_cell, of_cell_when, head_after_all, IsHeadBy, phase_among, is_edit_of, last_announcement, announcement}
-use Rattle.ds_state.specs.Known.{Standing, outside, inside, safe, Announced, last, pending, ended, Noted, nothing, head_noted, head_back, bit_set, bit_back, came_late, Known, known_at, AreBelow, IsSafe, StandsAs, IsRecorded, word_of, IsAnnounced, row_of, IsIndexedTo, IsOred, IsDone, IsWhen, IsNoted, Knows, Knowing}
+use Rattle.ds_state.specs.World.{Edit, Issue, edit_of, World, record_size, record_place, done_place, head_after_all}
+use Rattle.ds_state.specs.Known.{Standing, outside, inside, safe, Announced, last, pending, ended, Noted, nothing, head_noted, head_back, bit_set, bit_back, came_late, Known, known_at, StandsAs, IsRecorded, word_of, IsAnnounced, row_of, IsIndexedTo, IsOred, IsWhen, IsNoted, Knows, Knowing}
 use Rattle.ds_state.specs.Owing.{entry}
-use Rattle.ds_state.specs.Calls.{Held, empty, record_words, announcing_word, row_bits, done_bits, head_from, mark, held_at, Holds, CallFits, IsSheetOf, HasRefs, DoubtFits, IsInDoubt, IsWritten}
+use Rattle.ds_state.specs.Calls.{Held, empty, record_words, announcing_word, row_bits, done_bits, head_from, mark, held_at, Holds, CallFits, IsSheetOf, HasRefs, DoubtFits, IsWritten}
 use Rattle.ds_state.specs.KnownWork.{IsAtRest}
-use Rattle.ds_state.specs.Rely.{IsOwnedBy, Grows, Rely}
+use Rattle.ds_state.specs.Rely.{Grows, Rely}
 use Rattle.ds_state.specs.declared.situation.Situation.{Situation}
 use Rattle.ds_state.specs.declared.situation.Situation.TheVariants.{Idle, Stopped, Editing, Working, Recovering, Showing}
-use Rattle.ds_state.proofs.Heads.{of_cell-append, by_append}
-use Rattle.ds_state.proofs.Lasting.{at_most, last_append, record_owned, below_stable, by_stable, last_stable, when_stable, longer, safe_stable, done_stable}
+use Rattle.ds_state.proofs.Lasting.{at_most, record_owned, below_stable, by_stable, last_stable, when_stable, longer, safe_stable, done_stable}
 use Rattle.ds_state.specs.KnownRecovery.{freed_at, resolved_at, recovery_held}
 use Rattle.ds_state.proofs.StableRecovery.{freed_stable, resolved_stable, held_stable, own_words}
 use Rattle.ds_state.proofs.StableWork.{work_stable}

@@ -1,21 +1,20 @@
 -- What work knows stays while others step.
-use Rattle.std.proofs.Common.{ℕ, ◌≡◌, ◌≢◌, ◌<◌, ◌≤◌, ◌+◌, ◌/◌, ◌%◌, ◌⊎◌, List, [], ◌∷◌, refl, ap, sym, ◌∙◌, subst, arith, length, inl, inr, true, false}
+use Rattle.std.proofs.Common.{ℕ, ◌≡◌, ◌≢◌, ◌≤◌, ◌/◌, ◌%◌, ◌⊎◌, refl, ap, sym, ◌∙◌, subst, arith, length, inl, inr, true, false}
 use Rattle.std.specs.Prelude.{Bool}
 use Rattle.ds_formula.specs.Cells.{IsInside}
 use Rattle.ds_formula.specs.Plain.{Plain}
 use Rattle.ds_layout.specs.declared.place.Place.{Place}
-use Rattle.ds_layout.specs.declared.place.Place.TheVariants.{Version, Mark, Value, Kind, Head, Announce}
+use Rattle.ds_layout.specs.declared.place.Place.TheVariants.{Version, Mark, Value, Kind, Announce}
 use Rattle.ds_layout.specs.declared.layout.Layout.{Layout}
-use Rattle.ds_layout.specs.Places.{cells_of}
 use Rattle.ds_layout.proofs.OrBits.{HasBit-subset}
 use Rattle.ds_state.specs.Works.{PlainWork}
-use Rattle.ds_state.specs.World.{Edit, World, index_place, of_cell, IsHeadBy}
-use Rattle.ds_state.specs.Owing.{HoldsNone, turn, IsEven, IsHeldBy, IsExcused, CellOwes, IsIndexed}
-use Rattle.ds_state.specs.Standing.{HasContent, HasText, Matters, shown_entry}
-use Rattle.ds_state.specs.KnownWork.{Hold, free, seen, claimed, held, outrun, Loaded, nothing, the_head, some_text, whole_text, the_content, some_inputs, one_value, Own, unseen, value_seen, both_seen, value_stored, both_stored, value_back, settled, WorkKnown, work_known, HasClaimed, HasHeld, HoldFits, WhileEven, HeadStands, HasRead, HasWhole, IsHeadOf, input_row, InputStands, ValueStands, HasInputs, LoadedFits, OwnFits, EntryIs, WorkKnows, WorkHeld, empty, claim, a_mark, the_value, both_words, the_kind, work_held, HasMark, HasClaim, WorkHolds, IsAtRest, WorkFits}
+use Rattle.ds_state.specs.World.{World, index_place}
+use Rattle.ds_state.specs.Owing.{HoldsNone, IsHeldBy, CellOwes, IsIndexed}
+use Rattle.ds_state.specs.Standing.{HasContent, Matters}
+use Rattle.ds_state.specs.KnownWork.{Hold, free, seen, claimed, held, outrun, Loaded, nothing, the_head, some_text, whole_text, the_content, some_inputs, one_value, Own, unseen, value_seen, both_seen, value_stored, both_stored, value_back, settled, WorkKnown, work_known, HasClaimed, HasHeld, HoldFits, HeadStands, IsHeadOf, input_row, InputStands, ValueStands, HasInputs, LoadedFits, OwnFits, EntryIs, WorkKnows, WorkHeld, empty, claim, a_mark, the_value, both_words, the_kind, work_held, WorkHolds, IsAtRest, WorkFits}
 use Rattle.ds_state.specs.declared.work.WorkStage.{WorkStage}
 use Rattle.ds_state.specs.declared.work.WorkStage.TheVariants.{LoadMark, Claim, FlushClaim, BackClaim, ClearDirty, GiveDirty, FlushCleared, BackCleared, Answer}
-use Rattle.ds_state.specs.Rely.{IsOwnedBy, KeepsHold, Grows, Bears, Rely}
+use Rattle.ds_state.specs.Rely.{IsOwnedBy, Grows, Bears, Rely}
 use Rattle.ds_state.proofs.Lasting.{at_most, below_stable, by_stable, last_stable}
 
 -- a cell marked as it was claimed was so before

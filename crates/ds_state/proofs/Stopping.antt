@@ -1,18 +1,16 @@
 -- A stop keeps a world sound, and what the others count on.
-use Rattle.std.proofs.Common.{ℕ, ◌≡◌, ◌≢◌, ◌<◌, ◌≤◌, ◌+◌, ◌⊎◌, List, [], ◌∷◌, refl, ap, sym, ◌∙◌, subst, arith, inl, inr, Some, None, length}
+use Rattle.std.proofs.Common.{ℕ, ◌≡◌, ◌<◌, ◌≤◌, List, [], refl, ap, sym, ◌∙◌, subst, arith, inl, inr, Some, None, length}
 use Rattle.std.specs.Prelude.{Contains, Option}
 use Rattle.std.proofs.lemmas.Bool.{cases_eq}
-use Rattle.ds_words.specs.Memory.{StopsAt}
 use Rattle.ds_words.specs.declared.access.Entry.{Entry}
 use Rattle.ds_layout.specs.declared.place.Place.{Place}
-use Rattle.ds_layout.specs.declared.place.Place.TheVariants.{Version, Head, Mark, Value, Kind, Announce}
-use Rattle.ds_layout.specs.Places.{cells_of}
+use Rattle.ds_layout.specs.declared.place.Place.TheVariants.{Version, Mark, Announce}
 use Rattle.ds_state.specs.Edits.{PlainEdit, text_parts}
-use Rattle.ds_state.specs.World.{Edit, edit_of, Issue, World, of_cell, head_after_all, record_size, record_place}
-use Rattle.ds_state.specs.Known.{Announced, Known, known_at, StandsAs, IsRecorded, word_of, AreBelow}
-use Rattle.ds_state.specs.Owing.{entry, IsHeldBy, IsHeld, Owes, Parts, IsApart, CellOwes, IsPending, Excuses, IsExcused, Splits}
+use Rattle.ds_state.specs.World.{Edit, edit_of, Issue, World, of_cell, head_after_all, record_size}
+use Rattle.ds_state.specs.Known.{Announced, Known, known_at, IsRecorded, word_of}
+use Rattle.ds_state.specs.Owing.{entry, IsHeld, Owes, Parts, IsPending, Excuses, Splits}
 use Rattle.ds_state.specs.KnownWork.{IsAtRest}
-use Rattle.ds_state.specs.Calls.{CallFits, EditFits, MaySay, rank, IsWritten, IsInDoubt, IsThrough, DoubtFits, StoppedFits}
+use Rattle.ds_state.specs.Calls.{CallFits, EditFits, MaySay, rank, IsWritten, IsInDoubt, DoubtFits}
 use Rattle.ds_state.specs.Crashes.{StopsIn}
 use Rattle.ds_state.specs.Rely.{Grows, Keeps}
 use Rattle.ds_state.specs.Sound.{IsSound}
@@ -24,7 +22,7 @@ use Rattle.ds_state.proofs.Frames.{Moves, KeepsOwing, KeepsApart, grows_own, mov
 use Rattle.ds_state.proofs.Bearing.{Mine, MyMarks, bears, all_stand, no_new_marks, text_same, splits_excuse, splits_last, pends_last, marks_grow, apart_lasts}
 use Rattle.ds_state.proofs.Buffers.{buffered}
 use Rattle.ds_state.proofs.Crashing.{pends_while}
-use Rattle.ds_state.proofs.CrashSound.{Said, edit_says, recorded_at, written_all, written_before}
+use Rattle.ds_state.proofs.CrashSound.{Said, edit_says, recorded_at, written_all}
 
 module _ (p : ℕ) (old new : World) (sound : IsSound old) (real : p < old.layout.processes) (stop : StopsIn p old new) where
   moves : Moves p Version old new

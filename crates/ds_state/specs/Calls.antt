@@ -12,7 +12,7 @@ use Rattle.ds_layout.specs.declared.place.TheConstants.{RECORDS, TEXT_BYTES}
 use Rattle.ds_layout.specs.declared.place.Place.{Place}
 use Rattle.ds_layout.specs.declared.place.Place.TheVariants as place
 use Rattle.ds_layout.specs.declared.layout.Layout.{Layout}
-use Rattle.ds_layout.specs.Places.{class_of, cells_of}
+use Rattle.ds_layout.specs.Places.{cells_of}
 use Rattle.ds_layout.specs.Head.{head_word}
 use Rattle.ds_layout.specs.Bits.{HasBit, IsSubset}
 use Rattle.ds_state.specs.Edits.{PlainEdit, IsEdit, text_parts}
@@ -26,7 +26,7 @@ use Rattle.ds_state.specs.Works.{PlainRecovery}
 use Rattle.ds_state.specs.RecoverStages.{IsRecovery}
 use Rattle.ds_state.specs.KnownRecovery.{FreedFits, freed_at, ResolvedFits, resolved_at, RecoveryHolds, recovery_held}
 use Rattle.ds_state.specs.declared.stage.Stage.{Stage}
-use Rattle.ds_state.specs.declared.stage.Stage.TheVariants.{FlushText, BackRecord, BackPending, BackIndex, BackNoted, BackDone, FlushOwn, BackOwn, BackMark, BackOutcome}
+use Rattle.ds_state.specs.declared.stage.Stage.TheVariants.{FlushText, BackRecord, BackPending, BackIndex, BackNoted, BackDone, BackOwn, BackMark, BackOutcome}
 use Rattle.ds_state.specs.declared.situation.Situation.{Situation}
 use Rattle.ds_state.specs.declared.situation.Situation.TheVariants.{Idle, Stopped, Editing, Working, Recovering, Showing}
 

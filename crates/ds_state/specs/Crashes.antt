@@ -1,5 +1,5 @@
 -- A crash, and a stop, from world to world.
-use Rattle.std.specs.Prelude.{ℕ, ◌≡◌, ◌≢◌, ◌<◌, ◌+◌, ◌*◌, ◌%◌, ◌==◌, ◌&&◌, Bool, true, false, List, filter, if◌then◌else◌}
+use Rattle.std.specs.Prelude.{ℕ, ◌≡◌, ◌≢◌, ◌<◌, ◌==◌, Bool, true, false, List, filter, if◌then◌else◌}
 use Rattle.ds_words.specs.Memory.{Memory, Crashes, StopsAt}
 use Rattle.ds_layout.specs.Head.{names_edit}
 use Rattle.ds_layout.specs.declared.place.Place.{Place}

@@ -1,12 +1,10 @@
 -- What work knows at each of its stages, and what its buffer holds.
-use Rattle.std.specs.Prelude.{ℕ, ◌≡◌, ◌<◌, ◌≤◌, ◌+◌, ◌*◌, ◌/◌, ◌^◌, ◌⊎◌, List, [], ◌∷◌, ◌++◌, length, take, Bool, true, false, Contains, slice_index_or, None}
-use Rattle.ds_words.specs.Memory.{Memory}
+use Rattle.std.specs.Prelude.{ℕ, ◌≡◌, ◌<◌, ◌≤◌, ◌+◌, ◌*◌, ◌/◌, ◌^◌, ◌⊎◌, List, [], ◌∷◌, length, take, Bool, true, false, None}
 use Rattle.ds_words.specs.declared.access.Entry.{Entry}
 use Rattle.ds_formula.specs.Cells.{IsInside, index_of}
 use Rattle.ds_formula.specs.declared.cells.Cell.{Cell}
 use Rattle.ds_formula.specs.Plain.{Plain}
 use Rattle.ds_formula.specs.Refs.{Refers}
-use Rattle.ds_eval.specs.declared.inputs.Entry as entries
 use Rattle.ds_eval.specs.declared.inputs.Input.{Input}
 use Rattle.ds_eval.specs.Inputs.{entry_in, cell_in, entry_at, IsAscending}
 use Rattle.ds_eval.specs.Local.{local}
@@ -21,7 +19,7 @@ use Rattle.ds_state.specs.Owing.{entry, turn, IsEven, IsHeldBy, CellOwes, IsExcu
 use Rattle.ds_state.specs.Standing.{HasContent, cached_side, entry_on, value_for, word_for}
 use Rattle.ds_state.specs.declared.work.WorkStage.{WorkStage}
 use Rattle.ds_state.specs.declared.work.WorkStage.TheVariants.{LoadMark, Claim, FlushClaim, BackClaim, LoadHead, LoadHeader, LoadText, Read, LoadValue, LoadKind, LoadOwnValue, LoadOwnKind, Wait, StoreValue, StoreKind, FlushValue, FlushKind, BackValue, BackKind, Telling, Clear, ClearDirty, Give, GiveDirty, FlushCleared, BackCleared, Answer}
-use Rattle.ds_state.specs.declared.work.Spread.TheVariants.{LoadRow, OrTold, FlushTold, BackTold}
+use Rattle.ds_state.specs.declared.work.Spread.TheVariants.{BackTold}
 
 -- the cell's mark: it holds none; it saw this one, which nobody held; it holds the cell on the cached side; on both sides
 pub data Hold : Type 0 where

@@ -1,27 +1,20 @@
 -- What a clean mark says: the cell's words are what its content gives, or somebody owes.
-use Rattle.std.specs.Prelude.{ℕ, ℤ, pos, ◌≡◌, ◌<◌, ◌≤◌, ◌⊎◌, List, [], ◌∷◌, Contains}
+use Rattle.std.specs.Prelude.{ℕ, ◌≡◌, ◌<◌, ◌≤◌, ◌⊎◌, Contains}
 use Rattle.ds_words.specs.Memory.{Memory}
 use Rattle.ds_formula.specs.Cells.{IsInside, index_of}
 use Rattle.ds_formula.specs.declared.cells.Cell.{Cell}
-use Rattle.ds_formula.specs.declared.cells.Shape.{Shape}
 use Rattle.ds_formula.specs.Plain.{Plain, Empty}
 use Rattle.ds_formula.specs.Refs.{Refers}
 use Rattle.ds_formula.specs.Grammar.{Reads}
-use Rattle.ds_eval.specs.declared.value.Value.{Value}
-use Rattle.ds_eval.specs.declared.value.Value.TheVariants as value
 use Rattle.ds_eval.specs.declared.inputs.Entry as entries
 use Rattle.ds_eval.specs.Local.{local}
 use Rattle.ds_layout.specs.declared.place.Place.{Place}
 use Rattle.ds_layout.specs.declared.place.Place.TheVariants as place
 use Rattle.ds_layout.specs.declared.layout.Layout.{Layout}
-use Rattle.ds_layout.specs.declared.stored.Kind.{Kind}
-use Rattle.ds_layout.specs.declared.stored.Kind.TheVariants as kind
-use Rattle.ds_layout.specs.declared.stored.Stored.{Stored}
 use Rattle.ds_layout.specs.Places.{cells_of}
-use Rattle.ds_layout.specs.Stored.{stored_of, value_word, kind_word}
 pub use Rattle.ds_state.specs.EntryWords.{shown, shown_of, shown_entry, kind_for, number_for, stored_for, value_for, word_for}
 use Rattle.ds_state.specs.World.{Edit, World, of_cell, IsHeadBy}
-use Rattle.ds_state.specs.Owing.{entry, turn, IsClean, IsEven, CellOwes, IsExcused}
+use Rattle.ds_state.specs.Owing.{entry, IsClean, IsEven, CellOwes, IsExcused}
 
 -- one side of the words of the cells
 pub record Side : Type 0 where

@@ -14,7 +14,7 @@ use ds_formula::content::Content;
 use ds_layout::layout::Layout;
 use ds_state::refusal::Refusal;
 use ds_state::row::Row;
-use ds_state::situation::{put, Situation};
+use ds_state::situation::{Situation, put};
 use ds_state::text::Text;
 use ds_state::work::{WorkCall, WorkStage};
 use ds_state::world::World;

@@ -17,7 +17,7 @@ use crate::machine::{Doing, got, turn, want};
 use crate::reading::reading;
 use ds_formula::cells::Shape;
 use ds_layout::place::Place;
-use ds_state::situation::{put, Situation};
+use ds_state::situation::{Situation, put};
 use ds_state::work::{WorkCall, WorkEnd};
 use ds_state::world::World;
 use ds_words::access::Access;

@@ -33,11 +33,13 @@ loop-i-preserved c =
     let lt = c.loop-i-test.true in
     elim c.if-not-is_lost.branch [
       | then-not-is_lost w ↦ (
-          rw (w.counted-is, w.kept-is) (sifted_in m old c.loop-i.counted.items c.loop-i.i c.loop-i.kept h c.index.result.now (omega arith) c.index.ensures (sym c.is_lost.ensures ∙ w.if-not-is_lost.true)),
-          rw w.counted-is c.loop-i.invariant.1)
+        rw (w.counted-is, w.kept-is) (sifted_in m old c.loop-i.counted.items c.loop-i.i c.loop-i.kept h c.index.result.now (omega arith) c.index.ensures (sym c.is_lost.ensures ∙ w.if-not-is_lost.true)),
+        rw w.counted-is c.loop-i.invariant.1,
+      )
       | else-not-is_lost w ↦ (
-          rw (w.counted-is, w.kept-is) (sifted_out m old c.loop-i.counted.items c.loop-i.i c.loop-i.kept h c.index.result.now (omega arith) c.index.ensures (sym c.is_lost.ensures ∙ w.if-not-is_lost.false)),
-          rw w.counted-is c.loop-i.invariant.1)
+        rw (w.counted-is, w.kept-is) (sifted_out m old c.loop-i.counted.items c.loop-i.i c.loop-i.kept h c.index.result.now (omega arith) c.index.ensures (sym c.is_lost.ensures ∙ w.if-not-is_lost.false)),
+        rw w.counted-is c.loop-i.invariant.1,
+      )
     ]
 
 pub returns : goal.returns

@@ -1,4 +1,4 @@
-use Rattle.std.proofs.Common.{ℕ, ◌≡◌, ◌<◌, List, length, subst, sym, arith}
+use Rattle.std.proofs.Common.{ℕ, ◌<◌, List, length, subst, sym, arith}
 use Rattle.ds_layout.specs.declared.place.TheConstants.{TEXT_BYTES}
 use Rattle.ds_state.specs.Text.{padded_len}
 use Rattle.ds_state.proofs.Padded.{padded_push}
