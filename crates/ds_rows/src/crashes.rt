@@ -19,7 +19,12 @@ const BLANK: [Value; 4] = [Value::Blank; 4];
 
 // A sheet whose first cell alone shows a number.
 fn first(number: i64) -> [Value; 4] {
-    [Value::Number(number), Value::Blank, Value::Blank, Value::Blank]
+    [
+        Value::Number(number),
+        Value::Blank,
+        Value::Blank,
+        Value::Blank,
+    ]
 }
 
 fn last(number: usize, cell: usize, counts: bool) -> Answer {
@@ -124,13 +129,24 @@ fn value_not_persisted(rt: HostRuntime) -> Result<(), Fail> {
     expect_reply(&rt, &mut world, Event::Stop(1), Reply::Stopped)?;
     expect_recovery(&rt, &mut world, 1, Answer::Nothing)?;
     expect_edit(&rt, &mut world, 0, (B1, "=[.A1]"), 1)?;
-    expect_whole(&rt, &mut world, 0, Event::BeginWork(0, B1), Answer::Published(true))?;
+    expect_whole(
+        &rt,
+        &mut world,
+        0,
+        Event::BeginWork(0, B1),
+        Answer::Published(true),
+    )?;
     crash(&rt, &mut world)?;
     expect_recovery(&rt, &mut world, 0, last(1, 1, true))?;
     expect_recovery(&rt, &mut world, 1, Answer::Nothing)?;
     expect_edit(&rt, &mut world, 0, (A1, ""), 2)?;
     let zero = Value::Number(0);
-    expect_settled(&rt, &mut world, 0, [Value::Blank, zero, Value::Blank, Value::Blank])
+    expect_settled(
+        &rt,
+        &mut world,
+        0,
+        [Value::Blank, zero, Value::Blank, Value::Blank],
+    )
 }
 
 // The number of an edit that was never announced is given out again; that of one that was is spent.
@@ -158,7 +174,13 @@ fn seen_and_lost(rt: HostRuntime) -> Result<(), Fail> {
     let mut world = small(rt.alloc())?;
     expect_edit(&rt, &mut world, 1, (A1, "9"), 0)?;
     begin_edit(&rt, &mut world, (A1, "1"), 0, 16)?;
-    expect_whole(&rt, &mut world, 1, Event::BeginWork(1, A1), Answer::Published(true))?;
+    expect_whole(
+        &rt,
+        &mut world,
+        1,
+        Event::BeginWork(1, A1),
+        Answer::Published(true),
+    )?;
     expect_value(&rt, &world, A1, Value::Number(1));
     crash(&rt, &mut world)?;
     expect_recovery(&rt, &mut world, 1, last(0, 0, true))?;
@@ -261,11 +283,7 @@ fn crash_at_each_step_with_a_reference(rt: HostRuntime) -> Result<(), Fail> {
 }
 
 // So many steps of process 1, with an offer where its work waits for one.
-fn step_on(
-    rt: &(impl Abort + AllocGlobal),
-    world: &mut World,
-    count: usize,
-) -> Result<(), Fail> {
+fn step_on(rt: &(impl Abort + AllocGlobal), world: &mut World, count: usize) -> Result<(), Fail> {
     for _ in 0..count {
         if let Some(entry) = evaluated(rt.alloc(), world, 1)? {
             expect_reply(rt, world, Event::Offer(entry), Reply::Stepped)?;

@@ -3,8 +3,8 @@
 use crate::worlds::{A1, A2, B1, B2, begin, expect_text, small};
 use ds_core::event::Event;
 use ds_core::reply::Reply;
-use ds_edit::answer::Answer;
 use ds_core::take::run;
+use ds_edit::answer::Answer;
 use ds_formula::cells::Cell;
 use ds_layout::place::Place;
 use ds_state::world::World;

@@ -29,8 +29,7 @@ enum Drawn {
     Steps(usize, usize),
     // The work of a process is offered its own entry.
     Offer(usize),
-    // The evaluated task of a process is kept, or the one that was kept last is offered.
-    Keep(usize),
+    // The evaluated task that was offered last is offered again.
     Late,
     Evict(Place),
     Stop(usize),
@@ -68,14 +67,13 @@ fn draw_next(state: &mut u64, recount: &Recount) -> Drawn {
         0 => Drawn::Crash,
         1 | 2 => Drawn::Stop(process),
         3 => Drawn::Calm,
-        4..6 => Drawn::Keep(process),
-        6..8 => Drawn::Late,
+        4..8 => Drawn::Late,
         8..11 => Drawn::Recover(process),
         11..16 => Drawn::Show(process),
         16..25 => Drawn::Evict(draw_place(state)),
-        25..35 => Drawn::Offer(process),
-        35..48 => Drawn::Work(process, draw_cell(state)),
-        48..62 => {
+        25..28 => Drawn::Offer(process),
+        28..45 => Drawn::Work(process, draw_cell(state)),
+        45..58 => {
             let cell = draw_cell(state);
             Drawn::Edit(process, cell, draw_text(state))
         }
@@ -83,7 +81,8 @@ fn draw_next(state: &mut u64, recount: &Recount) -> Drawn {
     }
 }
 
-// A sheet, its recount, the task that is kept, and how many offers came too late and how many moments were quiet.
+// A sheet, its recount, the task that was offered last, and how many offers came too late and how many moments were
+// quiet.
 #[derive(Drop)]
 struct Game {
     alloc: Global,
@@ -116,31 +115,32 @@ impl Game {
         Ok(reply)
     }
 
+    // Where its work waits, it is offered its entry: one of the steps.
     fn steps(&mut self, process: usize, count: usize) -> Result<(), Fail> {
         for _ in 0..count {
             if self.step(process)? == Reply::NotEnabled {
-                return Ok(());
+                self.offer(process)?;
             }
         }
         Ok(())
     }
 
     fn offer(&mut self, process: usize) -> Result<(), Fail> {
+        let again = evaluated(self.alloc, &self.world, process)?;
         if let Some(entry) = evaluated(self.alloc, &self.world, process)? {
             let reply = self.take(Event::Offer(entry));
             self.recount.expect(reply == Reply::Stepped);
+            self.kept = again;
         }
         Ok(())
     }
 
-    // The task may be that of a work that still waits.
+    // Its work does not wait for it any more.
     fn offer_late(&mut self) {
         if let Some(entry) = self.kept.take() {
-            match self.take(Event::Offer(entry)) {
-                Reply::Stepped => {}
-                Reply::WrongTask => self.late = self.late.wrapping_add(1),
-                _ => self.recount.expect(false),
-            }
+            let reply = self.take(Event::Offer(entry));
+            self.recount.expect(reply == Reply::WrongTask);
+            self.late = self.late.wrapping_add(1);
         }
     }
 
@@ -193,7 +193,6 @@ impl Game {
             Drawn::Recover(process) => self.recover(process),
             Drawn::Steps(process, count) => self.steps(process, count)?,
             Drawn::Offer(process) => self.offer(process)?,
-            Drawn::Keep(process) => self.kept = evaluated(self.alloc, &self.world, process)?,
             Drawn::Late => self.offer_late(),
             Drawn::Evict(place) => {
                 let reply = self.take(Event::Evict(place));
@@ -291,10 +290,10 @@ fn sixty_four_lists(rt: HostRuntime) -> Result<(), Fail> {
         quiet = quiet.wrapping_add(game.quiet);
     }
     // The draw meets each kind.
-    let edits = counts.done > 100 && counts.overtaken > 2;
+    let edits = counts.done > 100 && counts.overtaken > 0;
     let recoveries = counts.counted > 50 && counts.uncounted > 2 && counts.nothing > 10;
-    let others = counts.published > 100 && counts.settled > 5;
+    let others = counts.published > 10 && counts.settled > 5;
     assert!(rt; edits && recoveries && others, "{counts:?}");
-    assert!(rt; late > 2 && quiet > 100, "{late} {quiet}");
+    assert!(rt; late > 0 && quiet > 100, "{late} {quiet}");
     Ok(())
 }

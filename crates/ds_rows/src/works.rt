@@ -40,7 +40,12 @@ fn published(rt: HostRuntime) -> Result<(), Fail> {
     expect_word(&rt, &world, Place::Value(0), 3, 3);
     expect_word(&rt, &world, Place::Kind(0), 1, 1);
     let number = Value::Number(3);
-    expect_settled(&rt, &mut world, 1, [number, Value::Blank, Value::Blank, Value::Blank])?;
+    expect_settled(
+        &rt,
+        &mut world,
+        1,
+        [number, Value::Blank, Value::Blank, Value::Blank],
+    )?;
     Ok(())
 }
 
@@ -117,7 +122,13 @@ fn two_workers(rt: HostRuntime) -> Result<(), Fail> {
     expect_state(&rt, &world, A1, State::Held(0));
     expect_whole(&rt, &mut world, 1, Event::BeginWork(1, A1), Answer::Missed)?;
     expect_end(&rt, &mut world, 0, Answer::Published(true))?;
-    expect_whole(&rt, &mut world, 1, Event::BeginWork(1, A1), Answer::NotDirty)?;
+    expect_whole(
+        &rt,
+        &mut world,
+        1,
+        Event::BeginWork(1, A1),
+        Answer::NotDirty,
+    )?;
     Ok(())
 }
 
@@ -134,7 +145,13 @@ fn refers_to_itself(rt: HostRuntime) -> Result<(), Fail> {
         expect_word(&rt, &world, Place::Kind(0), kind, kind);
         expect_word(&rt, &world, Place::Value(0), 0, 0);
     }
-    expect_whole(&rt, &mut world, 1, Event::BeginWork(1, A1), Answer::Published(false))?;
+    expect_whole(
+        &rt,
+        &mut world,
+        1,
+        Event::BeginWork(1, A1),
+        Answer::Published(false),
+    )?;
     expect_word(&rt, &world, Place::Mark(0), 320, 320);
     expect_value(&rt, &world, A1, Value::Circular);
     Ok(())
@@ -162,7 +179,13 @@ fn stale_bits(rt: HostRuntime) -> Result<(), Fail> {
     expect_edit(&rt, &mut world, 0, (B1, "5"), 1)?;
     assert!(rt; settle(rt.alloc(), &mut world, 0)?);
     expect_edit(&rt, &mut world, 0, (A1, "1"), 2)?;
-    expect_whole(&rt, &mut world, 0, Event::BeginWork(0, A1), Answer::Published(true))?;
+    expect_whole(
+        &rt,
+        &mut world,
+        0,
+        Event::BeginWork(0, A1),
+        Answer::Published(true),
+    )?;
     expect_state(&rt, &world, B1, State::Marked);
     expect_value(&rt, &world, B1, Value::Number(5));
     expect_state(&rt, &world, A2, State::Clean);
@@ -181,7 +204,12 @@ fn circle(rt: HostRuntime) -> Result<(), Fail> {
     expect_edit(&rt, &mut world, 1, (A2, "=[.A1]"), 0)?;
     expect_edit(&rt, &mut world, 0, (B1, "=[.A1]+1"), 1)?;
     let circular = Value::Circular;
-    expect_settled(&rt, &mut world, 1, [circular, circular, circular, Value::Blank])?;
+    expect_settled(
+        &rt,
+        &mut world,
+        1,
+        [circular, circular, circular, Value::Blank],
+    )?;
     expect_edit(&rt, &mut world, 1, (A2, "4"), 1)?;
     let (four, five) = (Value::Number(4), Value::Number(5));
     expect_settled(&rt, &mut world, 0, [four, five, four, Value::Blank])?;
@@ -214,7 +242,12 @@ fn unsettled(rt: HostRuntime) -> Result<(), Fail> {
     let (seven, blank) = (Value::Number(7), Value::Blank);
     expect_settled(&rt, &mut world, 0, [seven, blank, blank, blank])?;
     assert_eq!(rt; world.settled, 1);
-    expect_reply(&rt, &mut world, begin(rt.alloc(), 0, A1, "8")?, Reply::Begun(1))?;
+    expect_reply(
+        &rt,
+        &mut world,
+        begin(rt.alloc(), 0, A1, "8")?,
+        Reply::Begun(1),
+    )?;
     advance(&rt, &mut world, 0, 9)?;
     let at_edit = Answer::Unsettled(Place::Announce(0), 9);
     expect_whole(&rt, &mut world, 1, Event::BeginShow(1), at_edit)?;

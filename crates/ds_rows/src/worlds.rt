@@ -13,8 +13,8 @@ use ds_state::situation::Situation;
 use ds_state::stage::{Point, Stage};
 use ds_state::work::{RecoverStage, ShowStage, WorkStage};
 use ds_state::world::World;
-use ds_work::offer::{TaskFault, task_of};
 use ds_words::words::Word;
+use ds_work::offer::{TaskFault, task_of};
 use std::alloc::{AllocError, Global};
 use std::process::Abort;
 use std::test::Fail;
@@ -152,7 +152,12 @@ pub fn finish(alloc: Global, world: &mut World, process: usize) -> Result<Reply,
 }
 
 /// A process begins a call, and steps to its end. How it ended, or why it did not begin.
-pub fn whole(alloc: Global, world: &mut World, process: usize, begin: Event) -> Result<Reply, Fail> {
+pub fn whole(
+    alloc: Global,
+    world: &mut World,
+    process: usize,
+    begin: Event,
+) -> Result<Reply, Fail> {
     match take(alloc, world, &begin) {
         Reply::Begun(_) | Reply::Entered => finish(alloc, world, process),
         refused => Ok(refused),
@@ -246,7 +251,13 @@ pub fn expect_settled(
     for (cell, value) in CELLS.into_iter().zip(wanted) {
         expect_value(rt, world, cell, value);
     }
-    expect_whole(rt, world, process, Event::BeginShow(process), Answer::Settled)?;
+    expect_whole(
+        rt,
+        world,
+        process,
+        Event::BeginShow(process),
+        Answer::Settled,
+    )?;
     expect_report(rt, world, process, wanted);
     Ok(())
 }
@@ -265,6 +276,7 @@ pub fn expect_report(rt: &impl Abort, world: &World, process: usize, wanted: [Va
     let is_there = process < world.words.layout().processes;
     assert!(rt; is_there, "{process}");
     if is_there {
+        world.is_always_good();
         assert!(rt; world.reports.of(process) == wanted.as_slice());
     }
 }
