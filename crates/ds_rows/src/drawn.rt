@@ -3,8 +3,8 @@
 use crate::worlds::{A1, A2, B1, B2, begin, expect_text, small};
 use ds_core::event::Event;
 use ds_core::reply::Reply;
-use ds_edit::answer::Answer;
 use ds_core::take::run;
+use ds_edit::answer::Answer;
 use ds_formula::cells::Cell;
 use ds_layout::place::Place;
 use ds_state::world::World;
@@ -13,7 +13,7 @@ use std::process::Abort;
 use std::test::Fail;
 
 // A number below the bound, and the next state of the generator.
-fn draw(state: &mut u64, bound: u64) -> usize {
+pub fn draw(state: &mut u64, bound: u64) -> usize {
     *state = state
         .wrapping_mul(6364136223846793005)
         .wrapping_add(1442695040888963407);
@@ -21,7 +21,7 @@ fn draw(state: &mut u64, bound: u64) -> usize {
 }
 
 // A1 more often than the others, so that edits meet.
-fn draw_cell(state: &mut u64) -> Cell {
+pub fn draw_cell(state: &mut u64) -> Cell {
     match draw(state, 8) {
         0 => A2,
         1 => B2,
@@ -31,7 +31,7 @@ fn draw_cell(state: &mut u64) -> Cell {
 }
 
 // One of them has a fault.
-fn draw_text(state: &mut u64) -> &'static str {
+pub fn draw_text(state: &mut u64) -> &'static str {
     match draw(state, 7) {
         0 => "",
         1 => "7",
@@ -74,7 +74,7 @@ fn draw_event(alloc: Global, state: &mut u64) -> Result<Event, AllocError> {
 }
 
 // The text of the last edit of the cell with this number that counts: empty where none does.
-fn last_text(world: &World, cell: usize) -> &[u8] {
+pub fn last_text(world: &World, cell: usize) -> &[u8] {
     let mut text: &[u8] = b"";
     for edit in &world.counted {
         if edit.cell == cell {
@@ -92,7 +92,7 @@ fn expect_texts(rt: &(impl Abort + AllocGlobal), world: &World) -> Result<(), Al
 }
 
 // How many of the edits that count are this one.
-fn times_counted(world: &World, process: usize, number: usize) -> usize {
+pub fn times_counted(world: &World, process: usize, number: usize) -> usize {
     world
         .counted
         .iter()

@@ -2,7 +2,7 @@
 
 use crate::worlds::{
     A1, A2, B1, Play, begin, expect_point, expect_reply, expect_text, expect_unchanged,
-    expect_word, small, stop_idle,
+    expect_word, small,
 };
 use ds_core::event::Event;
 use ds_core::reply::Reply;
@@ -155,12 +155,18 @@ fn refused(rt: HostRuntime) -> Result<(), Fail> {
 fn refused_where_it_is_stopped(rt: HostRuntime) -> Result<(), Fail> {
     let alloc = rt.alloc();
     let mut world = small(alloc)?;
-    stop_idle(&mut world, 1);
+    expect_reply(&rt, &mut world, Event::Stop(1), Reply::Stopped)?;
     for text in ["1", "=1.5", LONG] {
         let stopped = Reply::Refused(Refusal::Stopped);
         expect_unchanged(&rt, &mut world, begin(alloc, 1, A2, text)?, stopped)?;
     }
-    expect_unchanged(&rt, &mut world, Event::Step(1), Reply::NotEnabled)?;
+    for event in [Event::Step(1), Event::Stop(1)] {
+        expect_unchanged(&rt, &mut world, event, Reply::NotEnabled)?;
+    }
+    for event in [Event::BeginWork(1, A1), Event::BeginShow(1)] {
+        let stopped = Reply::Refused(Refusal::Stopped);
+        expect_unchanged(&rt, &mut world, event, stopped)?;
+    }
     expect_reply(&rt, &mut world, begin(alloc, 0, A1, "1")?, Reply::Begun(0))?;
     Ok(())
 }
@@ -221,11 +227,12 @@ fn expect_not_enabled(
         Event::Evict(Place::Index(0, 1)),
         Event::Evict(Place::Announce(2)),
         Event::Evict(Place::Text(0, 0, 15)),
-        Event::Stop(0),
-        Event::Crash,
-        Event::BeginShow(0),
-        Event::BeginRecover(0),
-        Event::BeginWork(0, A1),
+        Event::Stop(2),
+        Event::Stop(7),
+        Event::BeginShow(2),
+        Event::BeginRecover(2),
+        Event::BeginWork(2, A1),
+        Event::BeginWork(0, outside),
     ];
     for event in events {
         expect_unchanged(rt, world, event, Reply::NotEnabled)?;

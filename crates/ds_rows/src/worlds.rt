@@ -2,13 +2,19 @@
 
 use ds_core::event::{Event, Request};
 use ds_core::reply::Reply;
-use ds_core::take::run;
+use ds_core::take::{run, take};
+use ds_edit::answer::Answer;
+use ds_eval::task::{Evaluated, evaluate};
+use ds_eval::value::Value;
 use ds_formula::cells::{Cell, Shape};
+use ds_layout::mark::State;
 use ds_layout::place::Place;
 use ds_state::situation::Situation;
 use ds_state::stage::{Point, Stage};
+use ds_state::work::{RecoverStage, ShowStage, WorkStage};
 use ds_state::world::World;
 use ds_words::words::Word;
+use ds_work::offer::{TaskFault, task_of};
 use std::alloc::{AllocError, Global};
 use std::process::Abort;
 use std::test::Fail;
@@ -27,11 +33,10 @@ pub fn small(alloc: Global) -> Result<World, Fail> {
     Ok(World::new(alloc, shape, 2)?)
 }
 
-/// Stops a process that is idle. No event does so yet.
-pub fn stop_idle(world: &mut World, process: usize) {
-    if let Some(Situation::Idle(_)) = world.situations.get(process) {
-        world.situations[process] = Situation::Stopped;
-    }
+/// The sheet, new, with three processes.
+pub fn small_of_three(alloc: Global) -> Result<World, Fail> {
+    let shape = Shape::new(2, 2).ok_or("shape")?;
+    Ok(World::new(alloc, shape, 3)?)
 }
 
 /// An edit is asked for.
@@ -114,6 +119,168 @@ pub fn expect_reply(
     play.run(rt, world)
 }
 
+/// The task of a work that waits, evaluated: none where the process waits for none.
+pub fn evaluated(alloc: Global, world: &World, process: usize) -> Result<Option<Evaluated>, Fail> {
+    match task_of(alloc, world, process) {
+        Ok(task) => Ok(Some(evaluate(task))),
+        Err(TaskFault::NoTask) => Ok(None),
+        Err(TaskFault::NoMemory) => Err(Fail::from("no memory for a task")),
+    }
+}
+
+/// More steps than a call of the sheet has.
+const STEPS: usize = 500;
+
+/// A process steps until its call ends; where its work waits, the entry of its task is offered. How
+/// the call ended: `NotEnabled` where there was none.
+pub fn finish(alloc: Global, world: &mut World, process: usize) -> Result<Reply, Fail> {
+    for _ in 0..STEPS {
+        match take(alloc, world, &Event::Step(process)) {
+            Reply::Stepped => {}
+            Reply::NotEnabled => {
+                let Some(entry) = evaluated(alloc, world, process)? else {
+                    return Ok(Reply::NotEnabled);
+                };
+                if take(alloc, world, &Event::Offer(entry)) != Reply::Stepped {
+                    return Ok(Reply::WrongTask);
+                }
+            }
+            ended => return Ok(ended),
+        }
+    }
+    Err(Fail::from("a call without an end"))
+}
+
+/// A process begins a call, and steps to its end. How it ended, or why it did not begin.
+pub fn whole(
+    alloc: Global,
+    world: &mut World,
+    process: usize,
+    begin: Event,
+) -> Result<Reply, Fail> {
+    match take(alloc, world, &begin) {
+        Reply::Begun(_) | Reply::Entered => finish(alloc, world, process),
+        refused => Ok(refused),
+    }
+}
+
+/// A whole call ends so.
+pub fn expect_whole(
+    rt: &(impl Abort + AllocGlobal),
+    world: &mut World,
+    process: usize,
+    begin: Event,
+    wanted: Answer,
+) -> Result<(), Fail> {
+    let reply = whole(rt.alloc(), world, process, begin)?;
+    assert_eq!(rt; reply, Reply::Answered(wanted));
+    Ok(())
+}
+
+/// A whole edit counts.
+pub fn expect_edit(
+    rt: &(impl Abort + AllocGlobal),
+    world: &mut World,
+    process: usize,
+    (cell, text): (Cell, &str),
+    number: usize,
+) -> Result<(), Fail> {
+    let event = begin(rt.alloc(), process, cell, text)?;
+    expect_whole(rt, world, process, event, Answer::Done(number))
+}
+
+/// The call under way of a process steps to its end, which is this one.
+pub fn expect_end(
+    rt: &(impl Abort + AllocGlobal),
+    world: &mut World,
+    process: usize,
+    wanted: Answer,
+) -> Result<(), Fail> {
+    let reply = finish(rt.alloc(), world, process)?;
+    assert_eq!(rt; reply, Reply::Answered(wanted));
+    Ok(())
+}
+
+/// So many steps of a process, each of which goes on.
+pub fn advance(
+    rt: &(impl Abort + AllocGlobal),
+    world: &mut World,
+    process: usize,
+    count: usize,
+) -> Result<(), AllocError> {
+    let mut play = Play::new(rt.alloc());
+    play.steps(process, count, Reply::Stepped)?;
+    play.run(rt, world)
+}
+
+/// The cells of the sheet, by their numbers.
+pub const CELLS: [Cell; 4] = [A1, B1, A2, B2];
+
+/// Whether the cell is marked, and held by nobody.
+fn is_marked(world: &World, cell: Cell) -> bool {
+    world.words.layout().shape.contains(cell) && world.mark_of(cell).state() == State::Marked
+}
+
+/// A process works on each cell that is marked when its turn comes, up to the first pass that finds
+/// none. Whether there was one.
+pub fn settle(alloc: Global, world: &mut World, process: usize) -> Result<bool, Fail> {
+    for _ in 0..6usize {
+        let mut found = false;
+        for cell in CELLS {
+            if is_marked(world, cell) {
+                found = true;
+                whole(alloc, world, process, Event::BeginWork(process, cell))?;
+            }
+        }
+        if !found {
+            return Ok(true);
+        }
+    }
+    Ok(false)
+}
+
+/// The sheet settles, and is quiet then; these are its values, and those of a report by the process.
+pub fn expect_settled(
+    rt: &(impl Abort + AllocGlobal),
+    world: &mut World,
+    process: usize,
+    wanted: [Value; 4],
+) -> Result<(), Fail> {
+    assert!(rt; settle(rt.alloc(), world, process)?);
+    assert!(rt; world.is_quiet());
+    for (cell, value) in CELLS.into_iter().zip(wanted) {
+        expect_value(rt, world, cell, value);
+    }
+    expect_whole(
+        rt,
+        world,
+        process,
+        Event::BeginShow(process),
+        Answer::Settled,
+    )?;
+    expect_report(rt, world, process, wanted);
+    Ok(())
+}
+
+/// The cell of the sheet shows this value.
+pub fn expect_value(rt: &impl Abort, world: &World, cell: Cell, wanted: Value) {
+    let is_there = world.words.layout().shape.contains(cell);
+    assert!(rt; is_there, "{cell:?}");
+    if is_there {
+        assert_eq!(rt; world.value_of(cell), wanted, "{cell:?}");
+    }
+}
+
+/// The last report of the process that was answered Settled has these values.
+pub fn expect_report(rt: &impl Abort, world: &World, process: usize, wanted: [Value; 4]) {
+    let is_there = process < world.words.layout().processes;
+    assert!(rt; is_there, "{process}");
+    if is_there {
+        world.is_always_good();
+        assert!(rt; world.reports.of(process) == wanted.as_slice());
+    }
+}
+
 /// The word at a place of the sheet has these sides.
 pub fn expect_word(rt: &impl Abort, world: &World, place: Place, cached: u64, persisted: u64) {
     let is_there = world.words.layout().contains(place);
@@ -149,14 +316,15 @@ pub fn expect_point(rt: &impl Abort, world: &World, process: usize, wanted: Opti
     }
 }
 
-/// What a process does: its edit's number, or its next one's, and its stage; another call has none
-/// yet.
+/// What a process does: its edit's number, or its next one's, and the stage of its call.
 #[derive(Clone, Copy, Debug, PartialEq, Eq)]
 enum Doing {
     Idle(usize),
     Stopped,
     Editing(usize, Stage),
-    Another,
+    Working(usize, WorkStage),
+    Recovering(RecoverStage),
+    Showing(usize, ShowStage),
 }
 
 impl Doing {
@@ -165,9 +333,9 @@ impl Doing {
             Situation::Idle(number) => Doing::Idle(*number),
             Situation::Stopped => Doing::Stopped,
             Situation::Editing(call) => Doing::Editing(call.number, call.stage),
-            Situation::Working(_) | Situation::Recovering(_) | Situation::Showing(_) => {
-                Doing::Another
-            }
+            Situation::Working(call) => Doing::Working(call.next, call.stage),
+            Situation::Recovering(call) => Doing::Recovering(call.stage),
+            Situation::Showing(call) => Doing::Showing(call.next, call.stage),
         }
     }
 }
@@ -181,6 +349,7 @@ pub struct Picture {
     pending: Vec<bool>,
     counted: usize,
     done: u64,
+    settled: u64,
 }
 
 fn words_of(alloc: Global, world: &World) -> Result<Vec<Word>, AllocError> {
@@ -227,6 +396,7 @@ impl Picture {
             pending: pending_of(alloc, world)?,
             counted: world.counted.len(),
             done: world.done,
+            settled: world.settled,
         })
     }
 
@@ -238,6 +408,7 @@ impl Picture {
         assert_eq!(rt; self.pending.as_slice(), other.pending.as_slice());
         assert_eq!(rt; self.counted, other.counted);
         assert_eq!(rt; self.done, other.done);
+        assert_eq!(rt; self.settled, other.settled);
     }
 }
 
