@@ -4,19 +4,13 @@
 #[cfg(test)]
 mod contents;
 #[cfg(test)]
-mod crashes;
-#[cfg(test)]
 mod drawn;
 #[cfg(test)]
 mod endings;
 #[cfg(test)]
 mod large;
 #[cfg(test)]
-mod lists;
-#[cfg(test)]
 mod random;
-#[cfg(test)]
-mod recount;
 #[cfg(test)]
 mod refusals;
 #[cfg(test)]
@@ -27,7 +21,5 @@ mod running;
 mod runs;
 #[cfg(test)]
 mod speeds;
-#[cfg(test)]
-mod works;
 #[cfg(test)]
 mod worlds;

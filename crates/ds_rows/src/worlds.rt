@@ -3,9 +3,7 @@
 use ds_core::event::{Event, Request};
 use ds_core::reply::Reply;
 use ds_core::take::{run, take};
-use ds_edit::answer::Answer;
 use ds_eval::task::{Evaluated, evaluate};
-use ds_eval::value::Value;
 use ds_formula::cells::{Cell, Shape};
 use ds_layout::mark::State;
 use ds_layout::place::Place;
@@ -31,12 +29,6 @@ pub const B2: Cell = Cell { column: 1, row: 1 };
 pub fn small(alloc: Global) -> Result<World, Fail> {
     let shape = Shape::new(2, 2).ok_or("shape")?;
     Ok(World::new(alloc, shape, 2)?)
-}
-
-/// The sheet, new, with three processes.
-pub fn small_of_three(alloc: Global) -> Result<World, Fail> {
-    let shape = Shape::new(2, 2).ok_or("shape")?;
-    Ok(World::new(alloc, shape, 3)?)
 }
 
 /// An edit is asked for.
@@ -164,55 +156,6 @@ pub fn whole(
     }
 }
 
-/// A whole call ends so.
-pub fn expect_whole(
-    rt: &(impl Abort + AllocGlobal),
-    world: &mut World,
-    process: usize,
-    begin: Event,
-    wanted: Answer,
-) -> Result<(), Fail> {
-    let reply = whole(rt.alloc(), world, process, begin)?;
-    assert_eq!(rt; reply, Reply::Answered(wanted));
-    Ok(())
-}
-
-/// A whole edit counts.
-pub fn expect_edit(
-    rt: &(impl Abort + AllocGlobal),
-    world: &mut World,
-    process: usize,
-    (cell, text): (Cell, &str),
-    number: usize,
-) -> Result<(), Fail> {
-    let event = begin(rt.alloc(), process, cell, text)?;
-    expect_whole(rt, world, process, event, Answer::Done(number))
-}
-
-/// The call under way of a process steps to its end, which is this one.
-pub fn expect_end(
-    rt: &(impl Abort + AllocGlobal),
-    world: &mut World,
-    process: usize,
-    wanted: Answer,
-) -> Result<(), Fail> {
-    let reply = finish(rt.alloc(), world, process)?;
-    assert_eq!(rt; reply, Reply::Answered(wanted));
-    Ok(())
-}
-
-/// So many steps of a process, each of which goes on.
-pub fn advance(
-    rt: &(impl Abort + AllocGlobal),
-    world: &mut World,
-    process: usize,
-    count: usize,
-) -> Result<(), AllocError> {
-    let mut play = Play::new(rt.alloc());
-    play.steps(process, count, Reply::Stepped)?;
-    play.run(rt, world)
-}
-
 /// The cells of the sheet, by their numbers.
 pub const CELLS: [Cell; 4] = [A1, B1, A2, B2];
 
@@ -237,48 +180,6 @@ pub fn settle(alloc: Global, world: &mut World, process: usize) -> Result<bool, 
         }
     }
     Ok(false)
-}
-
-/// The sheet settles, and is quiet then; these are its values, and those of a report by the process.
-pub fn expect_settled(
-    rt: &(impl Abort + AllocGlobal),
-    world: &mut World,
-    process: usize,
-    wanted: [Value; 4],
-) -> Result<(), Fail> {
-    assert!(rt; settle(rt.alloc(), world, process)?);
-    assert!(rt; world.is_quiet());
-    for (cell, value) in CELLS.into_iter().zip(wanted) {
-        expect_value(rt, world, cell, value);
-    }
-    expect_whole(
-        rt,
-        world,
-        process,
-        Event::BeginShow(process),
-        Answer::Settled,
-    )?;
-    expect_report(rt, world, process, wanted);
-    Ok(())
-}
-
-/// The cell of the sheet shows this value.
-pub fn expect_value(rt: &impl Abort, world: &World, cell: Cell, wanted: Value) {
-    let is_there = world.words.layout().shape.contains(cell);
-    assert!(rt; is_there, "{cell:?}");
-    if is_there {
-        assert_eq!(rt; world.value_of(cell), wanted, "{cell:?}");
-    }
-}
-
-/// The last report of the process that was answered Settled has these values.
-pub fn expect_report(rt: &impl Abort, world: &World, process: usize, wanted: [Value; 4]) {
-    let is_there = process < world.words.layout().processes;
-    assert!(rt; is_there, "{process}");
-    if is_there {
-        world.is_always_good();
-        assert!(rt; world.reports.of(process) == wanted.as_slice());
-    }
 }
 
 /// The word at a place of the sheet has these sides.
