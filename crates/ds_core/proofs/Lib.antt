@@ -22,6 +22,10 @@ pub mod Alone
 pub mod AtWork
 pub mod AtRecovery
 pub mod Stepping
+pub mod Headers
+pub mod Told
+pub mod Telling
+pub mod Recovered
 pub mod EachEvent
 pub mod Reported
 pub mod EachRun
