@@ -25,7 +25,10 @@ pub mod Stepping
 pub mod Headers
 pub mod Told
 pub mod Telling
+pub mod ToldEdits
+pub mod ToldCalls
 pub mod Recovered
+pub mod Resolved
 pub mod EachEvent
 pub mod Reported
 pub mod EachRun

@@ -1,9 +1,9 @@
 -- What each event leaves of what the words tell of closed edits.
-use Rattle.std.proofs.Common.{ℕ, ◌≡◌, ◌≢◌, ◌<◌, ◌+◌, ◌/◌, ◌⊎◌, List, [], ◌∷◌, ◌++◌, refl, ap, sym, ◌∙◌, subst, arith, inl, inr, zero, suc, length, Bool, true, false, Some, None}
+use Rattle.std.proofs.Common.{ℕ, ◌≡◌, ◌≢◌, ◌<◌, ◌≤◌, ◌+◌, ◌/◌, ◌⊎◌, List, [], ◌∷◌, ◌++◌, refl, ap, sym, ◌∙◌, subst, arith, inl, inr, zero, suc, length, Bool, true, false, Some, None}
 use Rattle.std.specs.Prelude.{Option, Contains, filter}
 use Rattle.std.proofs.lemmas.Bool.{cases_eq, cases_lt}
 use Rattle.std.proofs.lemmas.List.{get_or_past}
-use Rattle.std.proofs.lemmas.List.Elements.{Contains-append_cases, Contains-append_left}
+use Rattle.std.proofs.lemmas.List.Elements.{All-contains}
 use Rattle.ds_words.specs.Memory.{Memory, SameMemory}
 use Rattle.ds_layout.specs.declared.place.Place.{Place}
 use Rattle.ds_layout.specs.declared.place.Place.TheVariants.{Header, Announce, Version}
@@ -25,17 +25,20 @@ use Rattle.ds_state.specs.declared.work.RecoverStage.TheVariants as stages
 use Rattle.ds_state.specs.World.{announcement, last_announcement, phase_among}
 use Rattle.ds_layout.specs.declared.announcement.Phase.{Phase}
 use Rattle.ds_layout.specs.declared.announcement.Phase.TheVariants as phase
-use Rattle.ds_recover.specs.RecoverySteps.{number_of}
+use Rattle.ds_recover.specs.RecoverySteps.{cell_from, number_of}
+use Rattle.ds_layout.proofs.Packed.{header_of-header_word}
+use Rattle.ds_layout.specs.declared.place.TheConstants.{TEXT_BYTES}
+use Rattle.ds_state.specs.Known.{AreBelow, IsRecorded}
 use Rattle.ds_core.specs.Stops.{StopsProcess}
-use Rattle.ds_core.specs.Moments.{Placed, Open, Closed, Ledger}
+use Rattle.ds_core.specs.Moments.{Placed, Open, Closed, Ledger, edits_in}
 use Rattle.ds_core.specs.LedgerSteps.{next_number, Loses}
 use Rattle.ds_core.proofs.Closing.{of_filter, to_filter}
 use Rattle.ds_core.proofs.Headers.{SidesStay, sides_same, sides_evicted, sides_crashed, sides_stopped}
-use Rattle.ds_core.proofs.Ledgers.{IsOf, doubts, numbered, one_some}
+use Rattle.ds_core.proofs.Ledgers.{IsOf, doubts, numbered, no_some, one_some, contains_edit}
 use Rattle.ds_core.proofs.Turns.{IsTurn, stop_turn}
-use Rattle.ds_core.proofs.Told.{cell_told, IsCounted, IsTold, HasSeen, SeesCell, Announces, Tells, OwnTold, has_seen, told_on, tells_turn}
+use Rattle.ds_core.proofs.Told.{cell_told, IsCounted, IsTold, HasSeen, SeesCell, Announces, Tells, OwnTold, LeavesOthers, has_seen, told_on, turn_leaves, tells_left, tells_turn}
 
-announced_number : (n : ℕ) (f : Phase) → announcement n f / 4 ≡ suc n
+pub announced_number : (n : ℕ) (f : Phase) → announcement n f / 4 ≡ suc n
 announced_number n phase.Pending = omega arith
 announced_number n phase.Done = omega arith
 announced_number n phase.NotDone = omega arith
@@ -161,15 +164,72 @@ module _ (layout : Layout) (l : Ledger) (v v' : WorldValue) (h : IsOf layout l v
     ];
   }
 
--- ---- a turn that leaves the ledger, in no doubt
+-- ---- a process's doing behind which it is in no doubt
 
+-- which closes no edit
+module _ (q : ℕ) (l l' : Ledger) (v v' : WorldValue) (t : Tells l v) (leaves : LeavesOthers q v v') (layout : v'.sheet.layout ≡ v.sheet.layout) (told : (p : ℕ) → l'.told p ≡ l.told p)
+    (counted : (p : ℕ) (c : Closed) → l.told p ≡ Some c → IsCounted l'.counted c.it c.counts)
+    (sides : (c : Closed) → l.told q ≡ Some c → SidesStay (world_of v).memory (world_of v').memory (Header q c.it.edit.number))
+    (opens : (issue : Issue) → (world_of v').pending q ≡ Some issue → issue.edit.number ≡ next_number (l.told q)) (sure : doubts ((world_of v').situation q) ≡ false) where
+  pub tells_on : Tells l' v'
+  tells_on = tells_left q l l' v v' t leaves (record {
+    layout = layout;
+    told = λ c is. (let was = sym (told q) ∙ is in told_on l.counted l'.counted (world_of v) (world_of v') q c (t.told q c was) layout (sides c was) (counted q c was));
+    opens = λ issue is. opens issue is ∙ ap next_number (sym (told q));
+    announced = λ doubt none. not_doubted ((world_of v').situation q) _ sure doubt;
+    sees = λ e is. not_recovering ((world_of v').situation q) e _ sure is;
+  }) (λ p ne. told p) (λ p c ne is. counted p c is)
+
+-- which leaves the ledger
 pub tells_quiet : (l : Ledger) (v v' : WorldValue) (q : ℕ) → Tells l v → IsTurn q v v' → v'.sheet.layout ≡ v.sheet.layout → ((c : Closed) → l.told q ≡ Some c → SidesStay (world_of v).memory (world_of v').memory (Header q c.it.edit.number))
     → (world_of v').pending q ≡ (world_of v).pending q → doubts ((world_of v').situation q) ≡ false → Tells l v'
 tells_quiet l v v' q t turn layout sides pending sure =
-    tells_turn q l l v v' t turn (record {
-      layout = layout;
-      told = λ c is. (let k = t.told q c is in told_on l.counted l.counted (world_of v) (world_of v') q c k layout (sides c is) k.counted);
-      opens = λ issue is. t.opens q issue (sym pending ∙ is);
-      announced = λ doubt none. not_doubted ((world_of v').situation q) _ sure doubt;
-      sees = λ e is. not_recovering ((world_of v').situation q) e _ sure is;
-    }) (λ p ne. refl) (λ p c ne is. (t.told p c is).counted)
+    tells_on q l l v v' t (turn_leaves q v v' turn) layout (λ p. refl) (λ p c is. (t.told p c is).counted) sides (λ issue is. t.opens q issue (sym pending ∙ is)) sure
+
+-- which closes this edit, and leaves the list
+module _ (q : ℕ) (l l' : Ledger) (v v' : WorldValue) (t : Tells l v) (turn : IsTurn q v v') (layout : v'.sheet.layout ≡ v.sheet.layout) (c : Closed) (here : l'.told q ≡ Some c) (others : (p : ℕ) → p ≢ q → l'.told p ≡ l.told p)
+    (counted : l'.counted ≡ l.counted) (is_told : IsTold l.counted (world_of v) q c) (sides : SidesStay (world_of v).memory (world_of v').memory (Header q c.it.edit.number))
+    (none : (world_of v').pending q ≡ None) (sure : doubts ((world_of v').situation q) ≡ false) where
+  on_list : (d : Closed) → IsCounted l.counted d.it d.counts → IsCounted l'.counted d.it d.counts
+  on_list d h = subst (λ (es : List Placed). IsCounted es d.it d.counts) (sym counted) h
+
+  pub tells_closed : Tells l' v'
+  tells_closed = tells_turn q l l' v v' t turn (record {
+    layout = layout;
+    told = λ d is. (
+      let same : c ≡ d = one_some (l'.told q) c d here is in
+      subst (λ (x : Closed). IsTold l'.counted (world_of v') q x) same (told_on l.counted l'.counted (world_of v) (world_of v') q c is_told layout sides (on_list c is_told.counted)));
+    opens = λ issue is. absurd (no_some ((world_of v').pending q) issue none is);
+    announced = λ doubt open_none. not_doubted ((world_of v').situation q) _ sure doubt;
+    sees = λ e is. not_recovering ((world_of v').situation q) e _ sure is;
+  }) others (λ p d ne is. on_list d (t.told p d is).counted)
+
+-- ---- what a record that stands tells
+
+pub recorded_tells : (w : World) (e : Edit) (size : ℕ) → 0 < size → IsRecorded w e size size → e.cell < cells_of w.layout → length e.text ≤ TEXT_BYTES
+    → (cell_told w.layout (w.memory.cached (Header e.process e.number)) ≡ e.cell) × (cell_told w.layout (w.memory.persisted (Header e.process e.number)) ≡ e.cell)
+recorded_tells w e size some r low few =
+    let m = w.layout.limited in
+    let back = header_of-header_word (cells_of w.layout) (record { cell = e.cell; length = length e.text }) (record { cell = omega arith; length = omega arith }) (record { cell = low; length = few }) in (
+      ap (λ x. cell_told w.layout x) (r.cached 0 some) ∙ ap cell_from back,
+      ap (λ x. cell_told w.layout x) (r.persisted 0 some) ∙ ap cell_from back,
+    )
+
+-- the closed edit is told, where it is one whose record stands
+pub told_by : (es : List Placed) (w : World) (p : ℕ) (c : Closed) (e : Edit) (size : ℕ) → c.it.edit ≡ e → e.process ≡ p → IsCounted es c.it c.counts → 0 < size → IsRecorded w e size size → e.cell < cells_of w.layout → length e.text ≤ TEXT_BYTES → IsTold es w p c
+told_by es w p c e size same mine counted some r low few =
+    let tells = recorded_tells w e size some r low few in
+    let place : (m : Place → ℕ) → cell_told w.layout (m (Header e.process e.number)) ≡ e.cell → cell_told w.layout (m (Header p c.it.edit.number)) ≡ c.it.edit.cell =
+    λ m is. ap (λ n. cell_told w.layout (m (Header p n))) (ap (λ (x : Edit). x.number) same) ∙ ap (λ q. cell_told w.layout (m (Header q e.number))) (sym mine) ∙ is ∙ ap (λ (x : Edit). x.cell) (sym same) in
+    record {
+      process = ap (λ (x : Edit). x.process) same ∙ mine;
+      counted = counted;
+      cached = place w.memory.cached tells.0;
+      persisted = place w.memory.persisted tells.1;
+    }
+
+-- an edit with a number above those of its process's that count does not count
+pub below_out : (l : Ledger) (v : WorldValue) (it : Placed) → edits_in l ≡ v.counted → AreBelow (world_of v) it.edit.process it.edit.number → IsCounted l.counted it false
+below_out l v it same below = λ f there process number. (
+    let less = All-contains (λ (g : Edit). g.process ≡ it.edit.process → g.number < it.edit.number) v.counted f.edit below (subst (λ (es : List Edit). Contains es f.edit) same (contains_edit l.counted f there)) process in
+    omega arith)

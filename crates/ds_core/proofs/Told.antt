@@ -119,33 +119,49 @@ pub record OwnTold (q : ℕ) (l' : Ledger) (v v' : WorldValue) : Type 0 where
   pub announced : doubts ((world_of v').situation q) ≡ true → (world_of v').pending q ≡ None → Announces (world_of v') q (l'.told q)
   pub sees : (e : PlainRecovery) → (world_of v').situation q ≡ Recovering e → SeesCell (world_of v') q e
 
-module _ (q : ℕ) (l l' : Ledger) (v v' : WorldValue) (t : Tells l v) (turn : IsTurn q v v') (own : OwnTold q l' v v') (same : (p : ℕ) → p ≢ q → l'.told p ≡ l.told p)
-    (counted : (p : ℕ) (c : Closed) → p ≢ q → l.told p ≡ Some c → IsCounted l'.counted c.it c.counts) where
-  stay_cached : (p : ℕ) (r : Place) → p ≢ q → ((r ≡ Announce p) ⊎ ((n : ℕ) × (r ≡ Header p n))) → (world_of v').memory.cached r ≡ (world_of v).memory.cached r
-  stay_cached p r ne (inl is) = ap (λ x. (world_of v').memory.cached x) is ∙ ((turn.keeps.others p ne).grows Version).owned_cached (Announce p) refl (λ x. cc) ∙ ap (λ x. (world_of v).memory.cached x) (sym is)
-  stay_cached p r ne (inr h) = ap (λ x. (world_of v').memory.cached x) h.1 ∙ ((turn.keeps.others p ne).grows Version).owned_cached (Header p h.0) refl (λ x. cc) ∙ ap (λ x. (world_of v).memory.cached x) (sym h.1)
+-- what it leaves of the others' words and of their edits
+pub record LeavesOthers (q : ℕ) (v v' : WorldValue) : Type 0 where
+  pub situation : (p : ℕ) → p ≢ q → (world_of v').situation p ≡ (world_of v).situation p
+  pub pending : (p : ℕ) → p ≢ q → (world_of v').pending p ≡ (world_of v).pending p
+  pub announced : (p : ℕ) → p ≢ q → (world_of v').memory.cached (Announce p) ≡ (world_of v).memory.cached (Announce p)
+  pub header : (p n : ℕ) → p ≢ q → (world_of v').memory.cached (Header p n) ≡ (world_of v).memory.cached (Header p n)
+  pub sides : (p n : ℕ) → p ≢ q → SidesStay (world_of v).memory (world_of v').memory (Header p n)
 
-  pub tells_turn : Tells l' v'
-  tells_turn = record {
+pub turn_leaves : (q : ℕ) (v v' : WorldValue) → IsTurn q v v' → LeavesOthers q v v'
+turn_leaves q v v' turn = record {
+  situation = λ p ne. turn.others p ne;
+  pending = λ p ne. (turn.keeps.others p ne).pending;
+  announced = λ p ne. ((turn.keeps.others p ne).grows Version).owned_cached (Announce p) refl (λ x. cc);
+  header = λ p n ne. ((turn.keeps.others p ne).grows Version).owned_cached (Header p n) refl (λ x. cc);
+  sides = λ p n ne. sides_relied p n (world_of v) (world_of v') (turn.keeps.others p ne);
+}
+
+module _ (q : ℕ) (l l' : Ledger) (v v' : WorldValue) (t : Tells l v) (leaves : LeavesOthers q v v') (own : OwnTold q l' v v') (same : (p : ℕ) → p ≢ q → l'.told p ≡ l.told p)
+    (counted : (p : ℕ) (c : Closed) → p ≢ q → l.told p ≡ Some c → IsCounted l'.counted c.it c.counts) where
+  pub tells_left : Tells l' v'
+  tells_left = record {
     told = λ p c is. elim (cases_eq p q) [
       | inl here ↦ subst (λ x. IsTold l'.counted (world_of v') x c) (sym here) (own.told c (ap l'.told (sym here) ∙ is))
       | inr other ↦ (
         let was : l.told p ≡ Some c = sym (same p other) ∙ is in
-        told_on l.counted l'.counted (world_of v) (world_of v') p c (t.told p c was) own.layout (sides_relied p c.it.edit.number (world_of v) (world_of v') (turn.keeps.others p other)) (counted p c other was))
+        told_on l.counted l'.counted (world_of v) (world_of v') p c (t.told p c was) own.layout (leaves.sides p c.it.edit.number other) (counted p c other was))
     ];
     opens = λ p issue is. elim (cases_eq p q) [
       | inl here ↦ own.opens issue (ap (λ x. (world_of v').pending x) (sym here) ∙ is) ∙ ap next_number (ap l'.told (sym here))
-      | inr other ↦ t.opens p issue (sym ((turn.keeps.others p other).pending) ∙ is) ∙ ap next_number (sym (same p other))
+      | inr other ↦ t.opens p issue (sym (leaves.pending p other) ∙ is) ∙ ap next_number (sym (same p other))
     ];
     announced = λ p lt doubt none. elim (cases_eq p q) [
       | inl here ↦ subst (λ x. (world_of v').memory.cached (Announce x) / 4 ≡ next_number (l'.told x)) (sym here) (own.announced (ap (λ x. doubts ((world_of v').situation x)) (sym here) ∙ doubt) (ap (λ x. (world_of v').pending x) (sym here) ∙ none))
       | inr other ↦ (
-        let before = t.announced p (rw (sym own.layout) lt) (ap doubts (sym (turn.others p other)) ∙ doubt) (sym ((turn.keeps.others p other).pending) ∙ none) in
-        ap (λ x. x / 4) (stay_cached p (Announce p) other (inl refl)) ∙ before ∙ ap next_number (sym (same p other)))
+        let before = t.announced p (rw (sym own.layout) lt) (ap doubts (sym (leaves.situation p other)) ∙ doubt) (sym (leaves.pending p other) ∙ none) in
+        ap (λ x. x / 4) (leaves.announced p other) ∙ before ∙ ap next_number (sym (same p other)))
     ];
     sees = λ p e is. elim (cases_eq p q) [
       | inl here ↦ subst (λ x. SeesCell (world_of v') x e) (sym here) (own.sees e (ap (λ x. (world_of v').situation x) (sym here) ∙ is))
       | inr other ↦ has_seen e.stage _ _ (λ was. was ∙ ap (λ (x : Layout). cell_told x ((world_of v).memory.cached (Header p (number_of e)))) (sym own.layout)
-          ∙ ap (λ x. cell_told v'.sheet.layout x) (sym (stay_cached p (Header p (number_of e)) other (inr (number_of e, refl))))) (t.sees p e (sym (turn.others p other) ∙ is))
+          ∙ ap (λ x. cell_told v'.sheet.layout x) (sym (leaves.header p (number_of e) other))) (t.sees p e (sym (leaves.situation p other) ∙ is))
     ];
   }
+
+pub tells_turn : (q : ℕ) (l l' : Ledger) (v v' : WorldValue) → Tells l v → IsTurn q v v' → OwnTold q l' v v' → ((p : ℕ) → p ≢ q → l'.told p ≡ l.told p) → ((p : ℕ) (c : Closed) → p ≢ q → l.told p ≡ Some c → IsCounted l'.counted c.it c.counts) → Tells l' v'
+tells_turn q l l' v v' t turn own same counted = tells_left q l l' v v' t (turn_leaves q v v' turn) own same counted
