@@ -1,20 +1,18 @@
 -- The header of a record that no edit is writing: each of its sides stays one of the two that it had.
-use Rattle.std.proofs.Common.{ℕ, ◌≡◌, ◌≢◌, ◌<◌, ◌⊎◌, List, [], ◌∷◌, refl, ap, sym, ◌∙◌, subst, arith, inl, inr, zero, suc, map}
+use Rattle.std.proofs.Common.{ℕ, ◌≡◌, ◌≢◌, ◌⊎◌, List, [], ◌∷◌, refl, ap, sym, ◌∙◌, subst, inl, inr, zero, suc, map}
 use Rattle.std.specs.List.{range_with_len}
-use Rattle.std.proofs.lemmas.Bool.{cases_eq}
 use Rattle.ds_formula.specs.declared.cells.Shape.{Shape}
 use Rattle.ds_words.specs.Memory.{Memory, SameMemory, StoresAt, EvictsAt, StopsAt, Crashes}
 use Rattle.ds_words.specs.declared.access.Access.{Access}
 use Rattle.ds_words.specs.declared.access.Access.TheVariants as acts
 use Rattle.ds_words.specs.declared.access.Entry.{Entry}
 use Rattle.ds_layout.specs.declared.place.Place.{Place}
-use Rattle.ds_layout.specs.declared.place.Place.TheVariants as place
 use Rattle.ds_layout.specs.declared.place.Place.TheVariants.{Header, Version}
 use Rattle.ds_layout.specs.Sheet.{PerformsAt}
 use Rattle.ds_state.specs.Edits.{PlainEdit, text_parts}
-use Rattle.ds_state.specs.Works.{PlainWork, PlainShow, PlainRecovery}
-use Rattle.ds_state.specs.World.{Edit, World, edit_of, record_place}
-use Rattle.ds_state.specs.Rely.{Rely, Keeps}
+use Rattle.ds_state.specs.Works.{PlainWork}
+use Rattle.ds_state.specs.World.{Edit, World, edit_of}
+use Rattle.ds_state.specs.Rely.{Rely}
 use Rattle.ds_state.specs.Calls.{Held, Holds, held_at, record_entry}
 use Rattle.ds_state.specs.Calls as held
 use Rattle.ds_state.specs.KnownWork.{WorkHeld, WorkHolds, work_held}
@@ -39,7 +37,8 @@ pub record SidesStay (old new : Memory Place) (r : Place) : Type 0 where
 pub sides_keep : (P : ℕ → Type 0) (old new : Memory Place) (r : Place) → SidesStay old new r → P (old.cached r) → P (old.persisted r) → P (new.cached r) × P (new.persisted r)
 sides_keep P old new r s a b = (
   elim s.cached [ inl is ↦ subst P (sym is) a | inr is ↦ subst P (sym is) b ],
-  elim s.persisted [ inl is ↦ subst P (sym is) a | inr is ↦ subst P (sym is) b ])
+  elim s.persisted [ inl is ↦ subst P (sym is) a | inr is ↦ subst P (sym is) b ],
+)
 
 pub sides_same : (old new : Memory Place) (r : Place) → SameMemory old new → SidesStay old new r
 sides_same old new r s = record { cached = inl (s.cached r); persisted = inr (s.persisted r) }

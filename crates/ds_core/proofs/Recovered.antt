@@ -1,16 +1,13 @@
 -- What a recovery's begin and steps leave of what the words tell of closed edits.
-use Rattle.std.proofs.Common.{ℕ, ◌≡◌, ◌≢◌, ◌<◌, ◌+◌, ◌-◌, ◌/◌, ◌%◌, ◌==◌, ◌⊎◌, List, [], ◌∷◌, refl, ap, sym, ◌∙◌, subst, arith, inl, inr, Bool, true, false, Some, None}
+use Rattle.std.proofs.Common.{ℕ, ◌≡◌, ◌≢◌, ◌+◌, ◌-◌, ◌/◌, ◌%◌, ◌==◌, ◌⊎◌, List, [], refl, ap, sym, ◌∙◌, subst, arith, inl, inr, Bool, true, false, Some, None}
 use Rattle.std.specs.Prelude.{Option, nat_lt, if◌then◌else◌}
-use Rattle.ds_words.specs.Memory.{Memory, SameMemory}
+use Rattle.ds_words.specs.Memory.{Memory}
 use Rattle.ds_words.specs.declared.access.Access.{Access}
 use Rattle.ds_words.specs.declared.access.Access.TheVariants as acts
 use Rattle.ds_layout.specs.declared.place.Place.{Place}
 use Rattle.ds_layout.specs.declared.place.Place.TheVariants as place
 use Rattle.ds_layout.specs.declared.place.Place.TheVariants.{Header, Announce}
 use Rattle.ds_layout.specs.declared.announcement.Announcement.{Announcement}
-use Rattle.ds_layout.specs.declared.announcement.Phase.{Phase}
-use Rattle.ds_layout.specs.declared.announcement.Phase.TheVariants as phase
-use Rattle.ds_layout.specs.declared.header.Header as headers
 use Rattle.ds_layout.specs.declared.layout.Layout.{Layout}
 use Rattle.ds_layout.specs.Announcement.{announcement_of}
 use Rattle.ds_layout.specs.Header.{header_of}
@@ -25,23 +22,21 @@ use Rattle.ds_state.specs.KnownRecovery.{recovery_held, phase_for, ResolvedFits,
 use Rattle.std.specs.Int.{bit_at}
 use Rattle.std.proofs.lemmas.Bool.{cases_eq}
 use Rattle.ds_state.specs.declared.situation.Situation.{Situation}
-use Rattle.ds_state.specs.declared.situation.Situation.TheVariants.{Idle, Stopped, Recovering}
+use Rattle.ds_state.specs.declared.situation.Situation.TheVariants.{Recovering}
 use Rattle.ds_state.specs.declared.work.Spread.{Spread}
 use Rattle.ds_state.specs.declared.work.Spread.TheVariants as spreads
 use Rattle.ds_state.specs.declared.work.RecoverStage.{RecoverStage}
 use Rattle.ds_state.specs.declared.work.RecoverStage.TheVariants as stages
-use Rattle.ds_recover.specs.declared.machine.Effect as effect
 use Rattle.ds_recover.specs.declared.machine.Effect.TheVariants as effects
 use Rattle.ds_recover.specs.RecoverySteps as steps
 use Rattle.ds_recover.specs.RecoverySteps.{number_of, cell_from}
 use Rattle.ds_core.specs.RecoveryEvents.{RecoveryStepsBy, RecoveryBegins}
-use Rattle.ds_core.specs.Moments.{Closed, Ledger}
-use Rattle.ds_core.specs.LedgerSteps.{next_number}
+use Rattle.ds_core.specs.Moments.{Ledger}
 use Rattle.ds_core.specs.declared.reply.Reply.{Reply}
 use Rattle.ds_core.proofs.Headers.{SidesStay, Spares, sides_same, sides_performed, recovery_first}
-use Rattle.ds_core.proofs.Ledgers.{IsOf, doubts, numbered}
-use Rattle.ds_core.proofs.Turns.{IsTurn, recovery_turn, recovery_begins_turn}
-use Rattle.ds_core.proofs.Told.{cell_told, IsTold, HasSeen, SeesCell, Announces, Tells, has_seen, told_on, tells_turn}
+use Rattle.ds_core.proofs.Ledgers.{IsOf, doubts}
+use Rattle.ds_core.proofs.Turns.{recovery_turn, recovery_begins_turn}
+use Rattle.ds_core.proofs.Told.{cell_told, HasSeen, SeesCell, Tells, has_seen, told_on, tells_turn}
 use Rattle.ds_core.proofs.Telling.{announces_now}
 
 -- ---- its accesses
@@ -213,7 +208,7 @@ tells_recovery_begun layout l v v' p h t b =
       opens = λ issue is. t.opens p issue (sym (g.pending p) ∙ is);
       announced = λ doubt none. ap (λ x. x / 4) (g.memory.cached (Announce p)) ∙ announces_now (world_of v) h.good.sound p b.there (sym (g.pending p) ∙ none) (l.told p) (λ n is. h.numbers p n is) (λ d. t.announced p b.there d (sym (g.pending p) ∙ none));
       sees = λ e is. (let same : steps.at (steps.fresh p (cells_of v.sheet.layout) v.sheet.layout.processes) (stages.LoadMark 0) ≡ e = (let x = sym g.situation ∙ is in cc) in
-        subst (λ (x : PlainRecovery). SeesCell (world_of v') p x) same tt);
+          subst (λ (x : PlainRecovery). SeesCell (world_of v') p x) same tt);
     }) (λ q ne. refl) (λ q c ne is. (t.told q c is).counted)
 
 -- ---- a step that goes on
@@ -257,9 +252,9 @@ module _ (layout : Layout) (l : Ledger) (v v' : WorldValue) (p : ℕ) (reply : R
     quiet_word none = elim (plain_or_store s.steps.recovery s.steps.recovery.stage) [
       | inl plain ↦ cached_stays s.steps.recovery.process (steps.access_at s.steps.recovery s.steps.recovery.stage) (world_of v).memory (world_of v').memory s.steps.word (Announce p) plain (λ c is. cc) s.steps.steps.memory
       | inr (how, at) ↦ (
-        let r = subst (λ (x : RecoverStage). ResolvedFits (world_of v) s.steps.recovery.process s.steps.recovery.announcement s.steps.recovery.cell (resolved_at x)) at recovery_fits.resolved in
-        let open_there : (world_of v).pending p ≡ Some r.issue = ap (λ x. (world_of v).pending x) (sym s.steps.mine) ∙ r.it.issued in
-        absurd (let bad : None ≡ Some r.issue = sym none ∙ open_there in cc))
+          let r = subst (λ (x : RecoverStage). ResolvedFits (world_of v) s.steps.recovery.process s.steps.recovery.announcement s.steps.recovery.cell (resolved_at x)) at recovery_fits.resolved in
+          let open_there : (world_of v).pending p ≡ Some r.issue = ap (λ x. (world_of v).pending x) (sym s.steps.mine) ∙ r.it.issued in
+          absurd (let bad : None ≡ Some r.issue = sym none ∙ open_there in cc))
     ]
 
     loaded : s.steps.recovery.stage ≡ stages.LoadHeader → s.steps.word ≡ (world_of v').memory.cached (Header p (number_of s.steps.recovery))
@@ -274,10 +269,10 @@ module _ (layout : Layout) (l : Ledger) (v v' : WorldValue) (p : ℕ) (reply : R
       opens = λ issue is. t.opens p issue (sym (recovery_pending p) ∙ is);
       announced = λ doubt none. (let before = sym (recovery_pending p) ∙ none in ap (λ x. x / 4) (quiet_word before) ∙ t.announced p s.steps.there (ap doubts s.steps.at) before);
       sees = λ f is. (
-        let same : steps.next_at s.steps.recovery s.steps.recovery.stage s.steps.word ≡ f = (let x = sym recovery_now ∙ is in cc) in
-        let seen = has_seen s.steps.recovery.stage _ _ (λ (was : s.steps.recovery.cell ≡ cell_told v.sheet.layout ((world_of v).memory.cached (Header p (number_of s.steps.recovery)))).
-            was ∙ ap (λ (x : Layout). cell_told x ((world_of v).memory.cached (Header p (number_of s.steps.recovery)))) (sym s.steps.steps.layout)
-            ∙ ap (λ x. cell_told v'.sheet.layout x) (sym (header_cached p (number_of s.steps.recovery) (world_of v) (world_of v') s.steps.recovery s.steps.word s.steps.steps.memory))) (t.sees p s.steps.recovery s.steps.at) in
-        subst (λ (x : PlainRecovery). SeesCell (world_of v') p x) same
-        (sees_next v'.sheet.layout (world_of v').memory p s.steps.recovery s.steps.recovery.stage s.steps.word (ap cells_of s.steps.steps.layout ∙ recovery_fits.cells) seen loaded on));
+          let same : steps.next_at s.steps.recovery s.steps.recovery.stage s.steps.word ≡ f = (let x = sym recovery_now ∙ is in cc) in
+          let seen = has_seen s.steps.recovery.stage _ _ (λ (was : s.steps.recovery.cell ≡ cell_told v.sheet.layout ((world_of v).memory.cached (Header p (number_of s.steps.recovery)))).
+          was ∙ ap (λ (x : Layout). cell_told x ((world_of v).memory.cached (Header p (number_of s.steps.recovery)))) (sym s.steps.steps.layout)
+          ∙ ap (λ x. cell_told v'.sheet.layout x) (sym (header_cached p (number_of s.steps.recovery) (world_of v) (world_of v') s.steps.recovery s.steps.word s.steps.steps.memory))) (t.sees p s.steps.recovery s.steps.at) in
+          subst (λ (x : PlainRecovery). SeesCell (world_of v') p x) same
+          (sees_next v'.sheet.layout (world_of v').memory p s.steps.recovery s.steps.recovery.stage s.steps.word (ap cells_of s.steps.steps.layout ∙ recovery_fits.cells) seen loaded on));
     }) (λ q ne. refl) (λ q c ne is. (t.told q c is).counted)

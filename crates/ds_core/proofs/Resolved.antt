@@ -1,13 +1,11 @@
 -- A recovery's answer: what it does to the ledger, and what the words tell behind it.
-use Rattle.std.proofs.Common.{ℕ, ◌≡◌, ◌≢◌, ◌<◌, ◌+◌, ◌-◌, ◌/◌, ◌==◌, ◌⊎◌, List, [], ◌∷◌, refl, ap, sym, ◌∙◌, subst, arith, inl, inr, zero, suc, Bool, true, false, Some, None}
+use Rattle.std.proofs.Common.{ℕ, ◌≡◌, ◌≢◌, ◌<◌, ◌+◌, ◌-◌, ◌/◌, List, [], ◌∷◌, refl, ap, sym, ◌∙◌, subst, arith, inl, inr, zero, suc, Bool, true, false, Some, None}
 use Rattle.std.specs.Prelude.{Option, Contains, if◌then◌else◌}
 use Rattle.std.proofs.lemmas.Bool.{cases_eq}
 use Rattle.std.proofs.lemmas.Bool.Decides.{eqb_tells}
-use Rattle.std.proofs.lemmas.List.Elements.{All-contains}
 use Rattle.ds_words.specs.Memory.{SameMemory}
 use Rattle.ds_layout.specs.declared.announcement.Phase.{Phase}
 use Rattle.ds_layout.specs.declared.announcement.Phase.TheVariants as phase
-use Rattle.ds_layout.specs.declared.place.Place.{Place}
 use Rattle.ds_layout.specs.declared.place.Place.TheVariants.{Header, Announce}
 use Rattle.ds_layout.specs.declared.layout.Layout.{Layout}
 use Rattle.ds_layout.specs.Sheet.{PerformsAt}
@@ -18,21 +16,20 @@ use Rattle.ds_state.specs.Calls.{CallFits, MaySay, DoubtFits, IsInDoubt, IsWritt
 use Rattle.ds_state.specs.KnownRecovery.{Tells as Announced_as, ResolvedFits, resolved_at, over, phase_for}
 use Rattle.ds_state.specs.Value.{WorldValue, world_of, IsGood}
 use Rattle.ds_state.specs.declared.situation.Situation.{Situation}
-use Rattle.ds_state.specs.declared.situation.Situation.TheVariants.{Idle, Recovering}
+use Rattle.ds_state.specs.declared.situation.Situation.TheVariants.{Idle}
 use Rattle.ds_state.specs.declared.stage.Outcome.{Outcome}
 use Rattle.ds_state.specs.declared.stage.Outcome.TheVariants as outcome
 use Rattle.ds_state.specs.declared.work.RecoverStage.{RecoverStage}
 use Rattle.ds_state.specs.declared.work.RecoverStage.TheVariants as stages
 use Rattle.ds_state.proofs.Found.{gave_counts}
 use Rattle.ds_edit.specs.declared.answer.Answer.{Answer}
-use Rattle.ds_edit.specs.declared.answer.Answer.TheVariants.{Last, Nothing}
+use Rattle.ds_edit.specs.declared.answer.Answer.TheVariants.{Last}
 use Rattle.ds_recover.specs.RecoverySteps as steps
 use Rattle.ds_recover.specs.RecoverySteps.{number_of, end_of}
 use Rattle.ds_recover.proofs.RecoveryLaws.{repeated}
 use Rattle.ds_core.specs.RecoveryEvents.{recovery_answer, recovery_reply, RecoveryStepsBy}
-use Rattle.ds_core.specs.Moments.{Placed, Open, Closed, Ledger}
-use Rattle.ds_core.specs.LedgerSteps.{put, next_number, told_of, Closes, Forgets, Repeats, Resolves, Stands, AnswerMoves}
-use Rattle.ds_core.specs.declared.reply.Reply.{Reply}
+use Rattle.ds_core.specs.Moments.{Placed, Closed, Ledger}
+use Rattle.ds_core.specs.LedgerSteps.{put, next_number, told_of, Closes, Forgets, Repeats, Stands, AnswerMoves}
 use Rattle.ds_core.specs.declared.reply.Reply.TheVariants.{Answered}
 use Rattle.ds_core.proofs.Acknowledged.{put_here}
 use Rattle.ds_core.proofs.Closing.{contains_none}
@@ -149,8 +146,8 @@ agree es list it true true same h is = refl
 agree es list it false false same h is = refl
 agree es list it true false same h is =
     let lost : phase_among list it.edit.process it.edit.number ≡ phase.NotDone = out_lost list it.edit.process it.edit.number (λ x there process number. (
-      let r = from_edits es x (subst (λ (xs : List Edit). Contains xs x) (sym same) there) in
-      h r.0 r.1 (ap (λ (y : Edit). y.process) r.2 ∙ process) (ap (λ (y : Edit). y.number) r.2 ∙ number))) in
+    let r = from_edits es x (subst (λ (xs : List Edit). Contains xs x) (sym same) there) in
+    h r.0 r.1 (ap (λ (y : Edit). y.process) r.2 ∙ process) (ap (λ (y : Edit). y.number) r.2 ∙ number))) in
     absurd (let bad : phase.NotDone ≡ phase.Done = sym lost ∙ is in cc)
 agree es list it false true same h is =
     let done = counted_done list it.edit (subst (λ (xs : List Edit). Contains xs it.edit) same (contains_edit es it h)) in

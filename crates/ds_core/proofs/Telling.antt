@@ -1,28 +1,24 @@
 -- What each event leaves of what the words tell of closed edits.
-use Rattle.std.proofs.Common.{ℕ, ◌≡◌, ◌≢◌, ◌<◌, ◌≤◌, ◌+◌, ◌/◌, ◌⊎◌, List, [], ◌∷◌, ◌++◌, refl, ap, sym, ◌∙◌, subst, arith, inl, inr, zero, suc, length, Bool, true, false, Some, None}
+use Rattle.std.proofs.Common.{ℕ, ◌≡◌, ◌≢◌, ◌<◌, ◌≤◌, ◌/◌, ◌⊎◌, List, refl, ap, sym, ◌∙◌, subst, arith, inl, inr, zero, suc, length, Bool, true, false, Some, None}
 use Rattle.std.specs.Prelude.{Option, Contains, filter}
 use Rattle.std.proofs.lemmas.Bool.{cases_eq, cases_lt}
 use Rattle.std.proofs.lemmas.List.{get_or_past}
 use Rattle.std.proofs.lemmas.List.Elements.{All-contains}
-use Rattle.ds_words.specs.Memory.{Memory, SameMemory}
 use Rattle.ds_layout.specs.declared.place.Place.{Place}
-use Rattle.ds_layout.specs.declared.place.Place.TheVariants.{Header, Announce, Version}
+use Rattle.ds_layout.specs.declared.place.Place.TheVariants.{Header, Announce}
 use Rattle.ds_layout.specs.declared.layout.Layout.{Layout}
-use Rattle.ds_layout.specs.Header.{header_of}
 use Rattle.ds_layout.specs.Places.{cells_of}
 use Rattle.ds_state.specs.World.{Edit, Issue, World, edit_of}
-use Rattle.ds_state.specs.Works.{PlainWork, PlainShow, PlainRecovery}
+use Rattle.ds_state.specs.Works.{PlainRecovery}
 use Rattle.ds_state.specs.Value.{WorldValue, world_of, IsGood}
 use Rattle.ds_state.specs.Sound.{IsSound}
 use Rattle.ds_state.specs.Calls.{CallFits, DoubtFits}
 use Rattle.ds_state.specs.KnownWork.{IsAtRest}
-use Rattle.ds_state.specs.Crashes.{StopsIn, CrashesTo}
+use Rattle.ds_state.specs.Crashes.{CrashesTo}
 use Rattle.ds_state.specs.Events.{Evicts}
 use Rattle.ds_state.specs.declared.situation.Situation.{Situation}
 use Rattle.ds_state.specs.declared.situation.Situation.TheVariants.{Idle, Stopped, Editing, Working, Recovering, Showing}
-use Rattle.ds_state.specs.declared.work.RecoverStage.{RecoverStage}
-use Rattle.ds_state.specs.declared.work.RecoverStage.TheVariants as stages
-use Rattle.ds_state.specs.World.{announcement, last_announcement, phase_among}
+use Rattle.ds_state.specs.World.{announcement, phase_among}
 use Rattle.ds_layout.specs.declared.announcement.Phase.{Phase}
 use Rattle.ds_layout.specs.declared.announcement.Phase.TheVariants as phase
 use Rattle.ds_recover.specs.RecoverySteps.{cell_from, number_of}
@@ -33,10 +29,10 @@ use Rattle.ds_core.specs.Stops.{StopsProcess}
 use Rattle.ds_core.specs.Moments.{Placed, Open, Closed, Ledger, edits_in}
 use Rattle.ds_core.specs.LedgerSteps.{next_number, Loses}
 use Rattle.ds_core.proofs.Closing.{of_filter, to_filter}
-use Rattle.ds_core.proofs.Headers.{SidesStay, sides_same, sides_evicted, sides_crashed, sides_stopped}
+use Rattle.ds_core.proofs.Headers.{SidesStay, sides_evicted, sides_crashed, sides_stopped}
 use Rattle.ds_core.proofs.Ledgers.{IsOf, doubts, numbered, no_some, one_some, contains_edit}
 use Rattle.ds_core.proofs.Turns.{IsTurn, stop_turn}
-use Rattle.ds_core.proofs.Told.{cell_told, IsCounted, IsTold, HasSeen, SeesCell, Announces, Tells, OwnTold, LeavesOthers, has_seen, told_on, turn_leaves, tells_left, tells_turn}
+use Rattle.ds_core.proofs.Told.{cell_told, IsCounted, IsTold, Announces, Tells, LeavesOthers, has_seen, told_on, turn_leaves, tells_left, tells_turn}
 
 pub announced_number : (n : ℕ) (f : Phase) → announcement n f / 4 ≡ suc n
 announced_number n phase.Pending = omega arith
@@ -110,7 +106,7 @@ tells_stopped layout l v v' h t p s l' counted told =
     tells_turn p l l' v v' t (stop_turn v v' p h.good.sound s) (record {
       layout = s.stops.layout;
       told = λ c is. (let k = t.told p c (sym (same p) ∙ is) in
-        told_on l.counted l'.counted (world_of v) (world_of v') p c k s.stops.layout (sides_stopped p (world_of v).memory (world_of v').memory (Header p c.it.edit.number) s.stops.memory) (subst (λ (es : List Placed). IsCounted es c.it c.counts) (sym counted) k.counted));
+          told_on l.counted l'.counted (world_of v) (world_of v') p c k s.stops.layout (sides_stopped p (world_of v).memory (world_of v').memory (Header p c.it.edit.number) s.stops.memory) (subst (λ (es : List Placed). IsCounted es c.it c.counts) (sym counted) k.counted));
       opens = λ issue is. t.opens p issue (sym (s.stops.pending p) ∙ is) ∙ ap next_number (sym (same p));
       announced = λ doubt none. ap (λ x. x / 4) (s.stops.memory.cached (Announce p))
           ∙ announces_now (world_of v) h.good.sound p s.there (sym (s.stops.pending p) ∙ none) (l.told p) (λ n is. h.numbers p n is) (λ d. t.announced p s.there d (sym (s.stops.pending p) ∙ none)) ∙ ap next_number (sym (same p));
@@ -145,19 +141,19 @@ module _ (layout : Layout) (l : Ledger) (v v' : WorldValue) (h : IsOf layout l v
           kept : (b : Bool) → loses.stays k.it ≡ b → loses.stays k.it ≡ true
           kept true same = same
           kept false lost = (let o = loses.lost_open k.it there lost in
-            absurd (not_open p k o.0 is (ap l.opens (sym (t.told p k is).process) ∙ o.1) o.2))
+              absurd (not_open p k o.0 is (ap l.opens (sym (t.told p k is).process) ∙ o.1) o.2))
       by false none = λ f there. none f (of_filter loses.stays l.counted f there)
 
   pub tells_crashed : Tells l' v'
   tells_crashed = record {
     told = λ p k is. (let was = sym (told_same p) ∙ is in
-      told_on l.counted l'.counted (world_of v) (world_of v') p k (t.told p k was) c.layout (sides_crashed (world_of v).memory (world_of v').memory (Header p k.it.edit.number) c.memory) (left_counted p k was));
+        told_on l.counted l'.counted (world_of v) (world_of v') p k (t.told p k was) c.layout (sides_crashed (world_of v).memory (world_of v').memory (Header p k.it.edit.number) c.memory) (left_counted p k was));
     opens = λ p issue is. t.opens p issue (sym (c.pending p) ∙ is) ∙ ap next_number (sym (told_same p));
     announced = λ p lt doubt none. (
-      let low : p < v.sheet.layout.processes = rw (sym c.layout) lt in
-      let none_before = sym (c.pending p) ∙ none in
-      ap (λ x. x / 4) (c.memory.cached (Announce p) ∙ sides_agree (world_of v) h.good.sound p low none_before)
-      ∙ announces_now (world_of v) h.good.sound p low none_before (l.told p) (λ n is. h.numbers p n is) (λ d. t.announced p low d none_before) ∙ ap next_number (sym (told_same p)));
+        let low : p < v.sheet.layout.processes = rw (sym c.layout) lt in
+        let none_before = sym (c.pending p) ∙ none in
+        ap (λ x. x / 4) (c.memory.cached (Announce p) ∙ sides_agree (world_of v) h.good.sound p low none_before)
+        ∙ announces_now (world_of v) h.good.sound p low none_before (l.told p) (λ n is. h.numbers p n is) (λ d. t.announced p low d none_before) ∙ ap next_number (sym (told_same p)));
     sees = λ p e is. elim (cases_lt p v.sheet.layout.processes) [
       | inl lt ↦ absurd (let bad : Stopped ≡ Recovering e = sym (c.situation p lt) ∙ is in cc)
       | inr ge ↦ absurd (let bad : Idle 0 ≡ Recovering e = sym (get_or_past v'.situations p (Idle 0) (let n = good.situations in let lay = ap (λ (x : Layout). x.processes) c.layout in omega arith)) ∙ is in cc)
@@ -197,8 +193,8 @@ module _ (q : ℕ) (l l' : Ledger) (v v' : WorldValue) (t : Tells l v) (turn : I
   tells_closed = tells_turn q l l' v v' t turn (record {
     layout = layout;
     told = λ d is. (
-      let same : c ≡ d = one_some (l'.told q) c d here is in
-      subst (λ (x : Closed). IsTold l'.counted (world_of v') q x) same (told_on l.counted l'.counted (world_of v) (world_of v') q c is_told layout sides (on_list c is_told.counted)));
+        let same : c ≡ d = one_some (l'.told q) c d here is in
+        subst (λ (x : Closed). IsTold l'.counted (world_of v') q x) same (told_on l.counted l'.counted (world_of v) (world_of v') q c is_told layout sides (on_list c is_told.counted)));
     opens = λ issue is. absurd (no_some ((world_of v').pending q) issue none is);
     announced = λ doubt open_none. not_doubted ((world_of v').situation q) _ sure doubt;
     sees = λ e is. not_recovering ((world_of v').situation q) e _ sure is;

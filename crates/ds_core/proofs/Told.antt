@@ -1,17 +1,14 @@
 -- What the words tell of a process's last edit that was closed under its number, and how that lasts.
-use Rattle.std.proofs.Common.{ℕ, ◌≡◌, ◌≢◌, ◌<◌, ◌+◌, ◌/◌, ◌-◌, ◌⊎◌, List, [], ◌∷◌, ◌++◌, refl, ap, sym, ◌∙◌, subst, arith, inl, inr, zero, suc, Bool, true, false, Some, None}
+use Rattle.std.proofs.Common.{ℕ, ◌≡◌, ◌≢◌, ◌<◌, ◌/◌, ◌⊎◌, List, ◌++◌, refl, ap, sym, ◌∙◌, subst, inl, inr, Bool, true, false, Some, None}
 use Rattle.std.specs.Prelude.{Option, Contains}
 use Rattle.std.proofs.lemmas.Bool.{cases_eq}
-use Rattle.ds_words.specs.Memory.{Memory}
-use Rattle.ds_layout.specs.declared.place.Place.{Place}
 use Rattle.ds_layout.specs.declared.place.Place.TheVariants.{Header, Announce, Version}
 use Rattle.ds_layout.specs.declared.layout.Layout.{Layout}
 use Rattle.ds_layout.specs.Header.{header_of}
 use Rattle.ds_layout.specs.Places.{cells_of}
-use Rattle.ds_state.specs.World.{Edit, Issue, World}
+use Rattle.ds_state.specs.World.{Issue, World}
 use Rattle.ds_state.specs.Works.{PlainRecovery}
 use Rattle.ds_state.specs.Value.{WorldValue, world_of}
-use Rattle.ds_state.specs.declared.situation.Situation.{Situation}
 use Rattle.ds_state.specs.declared.situation.Situation.TheVariants.{Recovering}
 use Rattle.ds_state.specs.declared.work.RecoverStage.{RecoverStage}
 use Rattle.ds_state.specs.declared.work.RecoverStage.TheVariants as stages
@@ -143,8 +140,8 @@ module _ (q : ℕ) (l l' : Ledger) (v v' : WorldValue) (t : Tells l v) (leaves :
     told = λ p c is. elim (cases_eq p q) [
       | inl here ↦ subst (λ x. IsTold l'.counted (world_of v') x c) (sym here) (own.told c (ap l'.told (sym here) ∙ is))
       | inr other ↦ (
-        let was : l.told p ≡ Some c = sym (same p other) ∙ is in
-        told_on l.counted l'.counted (world_of v) (world_of v') p c (t.told p c was) own.layout (leaves.sides p c.it.edit.number other) (counted p c other was))
+          let was : l.told p ≡ Some c = sym (same p other) ∙ is in
+          told_on l.counted l'.counted (world_of v) (world_of v') p c (t.told p c was) own.layout (leaves.sides p c.it.edit.number other) (counted p c other was))
     ];
     opens = λ p issue is. elim (cases_eq p q) [
       | inl here ↦ own.opens issue (ap (λ x. (world_of v').pending x) (sym here) ∙ is) ∙ ap next_number (ap l'.told (sym here))
@@ -153,8 +150,8 @@ module _ (q : ℕ) (l l' : Ledger) (v v' : WorldValue) (t : Tells l v) (leaves :
     announced = λ p lt doubt none. elim (cases_eq p q) [
       | inl here ↦ subst (λ x. (world_of v').memory.cached (Announce x) / 4 ≡ next_number (l'.told x)) (sym here) (own.announced (ap (λ x. doubts ((world_of v').situation x)) (sym here) ∙ doubt) (ap (λ x. (world_of v').pending x) (sym here) ∙ none))
       | inr other ↦ (
-        let before = t.announced p (rw (sym own.layout) lt) (ap doubts (sym (leaves.situation p other)) ∙ doubt) (sym (leaves.pending p other) ∙ none) in
-        ap (λ x. x / 4) (leaves.announced p other) ∙ before ∙ ap next_number (sym (same p other)))
+          let before = t.announced p (rw (sym own.layout) lt) (ap doubts (sym (leaves.situation p other)) ∙ doubt) (sym (leaves.pending p other) ∙ none) in
+          ap (λ x. x / 4) (leaves.announced p other) ∙ before ∙ ap next_number (sym (same p other)))
     ];
     sees = λ p e is. elim (cases_eq p q) [
       | inl here ↦ subst (λ x. SeesCell (world_of v') x e) (sym here) (own.sees e (ap (λ x. (world_of v').situation x) (sym here) ∙ is))

@@ -13,12 +13,9 @@ use Rattle.ds_state.specs.declared.situation.Situation.{Situation}
 use Rattle.ds_state.specs.declared.situation.Situation.TheVariants.{Working}
 use Rattle.ds_state.specs.declared.work.ShowStage.{ShowStage}
 use Rattle.ds_state.specs.declared.work.ShowStage.TheVariants as stages
-use Rattle.ds_state.specs.declared.work.WorkStage.{WorkStage}
-use Rattle.ds_state.specs.declared.work.WorkStage.TheVariants as work_stages
 use Rattle.ds_show.specs.ShowSteps as shows
 use Rattle.ds_work.specs.declared.drive.Taken.{Taken}
 use Rattle.ds_work.specs.WorkEvents as works
-use Rattle.ds_work.specs.WorkSteps as work_steps
 use Rattle.ds_core.specs.ReportEvents.{ReportStepsBy}
 use Rattle.ds_core.specs.WorkEvents.{WorkStepsBy}
 use Rattle.ds_core.specs.declared.reply.Reply.{Reply}

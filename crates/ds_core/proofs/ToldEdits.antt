@@ -1,5 +1,5 @@
 -- What an edit's begin, steps and answer leave of what the words tell of closed edits.
-use Rattle.std.proofs.Common.{ℕ, ◌≡◌, ◌≢◌, ◌<◌, ◌+◌, List, [], ◌∷◌, ◌++◌, refl, ap, sym, ◌∙◌, subst, arith, suc, length, Bool, true, false, Some, None}
+use Rattle.std.proofs.Common.{ℕ, ◌≡◌, ◌≢◌, List, [], ◌∷◌, ◌++◌, refl, ap, sym, ◌∙◌, subst, arith, suc, length, false, Some, None}
 use Rattle.std.specs.Prelude.{Contains}
 use Rattle.std.proofs.lemmas.List.Elements.{Contains-append_cases, Contains-append_left}
 use Rattle.ds_words.specs.Memory.{SameMemory}
@@ -58,6 +58,9 @@ module _ (layout : _) (l : Ledger) (v v' : WorldValue) (h : IsOf layout l v) (t 
   sides : (c : Closed) → l.told p ≡ Some c → SidesStay (world_of v).memory (world_of v').memory (Header p c.it.edit.number)
   sides c is = edit_sides p c.it.edit.number (world_of v) (world_of v') s.edit s.word (apart c is) fits.buffer s.steps.memory
 
+  its : (issue : Issue) → (world_of v).pending p ≡ Some issue → issue.edit ≡ edit_of s.edit
+  its issue is = ap (λ (i : Issue). i.edit) (one_some ((world_of v).pending p) issue (record { edit = edit_of s.edit; since = fits.since }) is fits.pending)
+
   leaves : LeavesOthers p v v'
   leaves = turn_leaves p v v' (edit_turn v v' p reply h.good.sound s)
 
@@ -70,7 +73,13 @@ module _ (layout : _) (l : Ledger) (v v' : WorldValue) (h : IsOf layout l v) (t 
     tells_edit_on = tells_on p l l v v' t leaves s.steps.layout (λ q. refl) (λ q c is. (t.told q c is).counted) sides opens sure
 
     -- it comes to count
-    module _ (l' : Ledger) (x : Placed) (counted : l'.counted ≡ l.counted ++ x ∷ []) (told : (q : ℕ) → l'.told q ≡ l.told q) (mine : x.edit.process ≡ p) (number : x.edit.number ≡ s.edit.number) where
+    module _ (l' : Ledger) (x : Placed) (counted : l'.counted ≡ l.counted ++ x ∷ []) (told : (q : ℕ) → l'.told q ≡ l.told q) (issue : Issue) (open_is : (world_of v).pending p ≡ Some issue) (same : x.edit ≡ issue.edit) where
+      mine : x.edit.process ≡ p
+      mine = ap (λ (e : Edit). e.process) (same ∙ its issue open_is) ∙ fits.mine
+
+      number : x.edit.number ≡ s.edit.number
+      number = ap (λ (e : Edit). e.number) (same ∙ its issue open_is)
+
       no_closed : (q : ℕ) (c : Closed) → l.told q ≡ Some c → (f : Placed) → Contains (x ∷ []) f → f.edit.process ≡ c.it.edit.process → f.edit.number ≡ c.it.edit.number → ⊥
       no_closed q c is f late same_process same_number =
           let one : x ≡ f = contains_one x f late in
@@ -91,9 +100,6 @@ module _ (layout : _) (l : Ledger) (v v' : WorldValue) (h : IsOf layout l v) (t 
     memory : SameMemory (world_of v).memory (world_of v').memory
     memory = (subst (λ (x : Stage). PerformsAt (access_at s.edit x) s.edit.process (world_of v).memory (world_of v').memory s.word) at s.steps.memory).1
 
-    its : (issue : Issue) → (world_of v).pending p ≡ Some issue → issue.edit ≡ edit_of s.edit
-    its issue is = ap (λ (i : Issue). i.edit) (one_some ((world_of v).pending p) issue (record { edit = edit_of s.edit; since = fits.since }) is fits.pending)
-
     module _ (issue : Issue) (open_is : (world_of v).pending p ≡ Some issue) where
       pub tells_answered : (l' : Ledger) (c : Closed) → l'.told p ≡ Some c → ((q : ℕ) → q ≢ p → l'.told q ≡ l.told q) → l'.counted ≡ l.counted → c.it.edit ≡ issue.edit → IsCounted l.counted c.it c.counts
           → (world_of v').pending p ≡ None → doubts ((world_of v').situation p) ≡ false → Tells l' v'
@@ -107,4 +113,4 @@ module _ (layout : _) (l : Ledger) (v v' : WorldValue) (h : IsOf layout l v) (t 
   pub overtaken_is_out : (noted seen : ℕ) → s.edit.stage ≡ Answer (outcome.Overtaken noted seen) → (issue : Issue) → (world_of v).pending p ≡ Some issue → (it : Placed) → it.edit ≡ issue.edit → IsCounted l.counted it false
   overtaken_is_out noted seen at issue open_is it same =
       let k : AreBelow (world_of v) s.edit.process s.edit.number = (knows (outcome.Overtaken noted seen) at).standing in
-      below_out l v it h.counted (subst (λ (e : Edit). AreBelow (world_of v) e.process e.number) (sym (same ∙ its (outcome.Overtaken noted seen) at issue open_is)) k)
+      below_out l v it h.counted (subst (λ (e : Edit). AreBelow (world_of v) e.process e.number) (sym (same ∙ its issue open_is)) k)

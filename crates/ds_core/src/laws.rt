@@ -15,7 +15,7 @@ ghost use Rattle.ds_edit.specs.declared.answer.Answer.TheVariants.{Done, Overtak
 ghost use Rattle.ds_core.specs.declared.reply.Reply.TheVariants.{Answered};
 ghost use Rattle.ds_core.specs.declared.reply.Reply.{Reply};
 ghost use Rattle.ds_core.specs.Takes.{Takes, WorldRun};
-ghost use Rattle.ds_core.specs.Headline.{Happens, AreUnresolved, RunFits, Headline, HasHeadline, IsAcknowledged};
+ghost use Rattle.ds_core.specs.Headline.{Happens, RunFits, Headline, HasHeadline, IsAcknowledged};
 ghost use Rattle.ds_core.specs.Own.{own_steps, AreUnanswered};
 ghost use Rattle.ds_state.specs.Spent.{IsSpent};
 ghost use Rattle.ds_core.specs.Spent.{IsOut};
@@ -51,17 +51,18 @@ pub fn solo_edits_are_done()
         → WorldRun old events replies new → IsSolo p events → AreDoneOnly e.number replies }
 {}
 
-/// The headline, for every list of events, those that can happen and those that can not, as long as
-/// no recovery has come to its answer: a ledger exists at each moment of the run, which each event moves as it may, with one list of the edits that
-/// count. At each moment no edit stands in it twice, each cell's words have the text of its last edit
-/// there, and where no edit is open and no cell is dirty or held they show the values of its sheet from
-/// scratch. An edit, once answered, stays in the list or stays out, through stops and crashes, and
-/// stands before each edit that is begun later. Detectable execution (Friedman, Herlihy, Marathe,
-/// Petrank, PPoPP 2018).
+/// The headline, for every list of events, those that can happen and those that can not: a ledger
+/// exists at each moment of the run, which each event moves as it may, with one list of the edits
+/// that count. At each moment no edit stands in it twice, each cell's words have the text of its last
+/// edit there, and where no edit is open and no cell is dirty or held they show the values of its
+/// sheet from scratch. A recovery's answer closes the edit in doubt as done just where it stands in
+/// the list. An edit, once closed, stays in the list or stays out, through stops and crashes, and
+/// stands before each edit that is begun later. Each report that is answered fits a moment of its
+/// call. Detectable execution (Friedman, Herlihy, Marathe, Petrank, PPoPP 2018).
 pub fn runs_have_the_headline()
     ensures { (old : WorldValue) (events : List Event) (replies : List Reply) (new : WorldValue)
         → IsNew (world_of old) → IsGood old → (run : WorldRun old events replies new)
-        → AreUnresolved replies → HasHeadline old events replies new run }
+        → HasHeadline old events replies new run }
 {}
 
 /// A run that fits has the headline: an edit, once closed, stays in the list of those that count or
