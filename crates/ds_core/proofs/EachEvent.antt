@@ -55,7 +55,7 @@ use Rattle.ds_core.proofs.Solo.{some_outcome, after_answer}
 use Rattle.ds_core.proofs.Ledgers.{IsOf, SaysSame, says_same, numbered, doubts, stays, issued, issue_of, issues_fit, pushed, push_of, own, counts_fit, closing, put_other, closed, close_of, closes_fit, stands_here, out_here, overtaken_here, doubted, stop_of, left, left_loses, crash_of}
 use Rattle.ds_core.proofs.Carry.{StepFits}
 use Rattle.ds_core.proofs.Turns.{LeavesEdits, report_turn, report_begins_turn, work_leaves, work_begins_leaves, offer_leaves}
-use Rattle.ds_core.proofs.Acknowledged.{put_here}
+use Rattle.ds_core.proofs.Moved.{put_here}
 use Rattle.ds_core.proofs.Headers.{SidesStay, sides_same}
 use Rattle.ds_core.proofs.Told.{Tells}
 use Rattle.ds_core.proofs.Telling.{tells_quiet, tells_evicted, tells_stopped, tells_crashed}
@@ -136,7 +136,7 @@ module _ (place : ℕ) (layout : Layout) (l : Ledger) (v v' : WorldValue) (h : I
         };
         after = issue_of layout l v v' h good kept place edit s all sure;
         tells = tells_begun l (issued layout l v v' h good kept place edit s all sure) v v' edit tells s t.begun.begins.layout t.begun.begins.memory
-            (λ q ne. t.begun.begins.others q (λ same. ne (same ∙ process))) ((all r.process).doubt ∙ sure) (h.numbers r.process n (ap numbered was)) refl (λ q. refl);
+            (λ q ne. t.begun.begins.others q (λ same. ne (same ∙ process))) ((all r.process).doubt ∙ sure) (h.numbers r.process n (ap numbered was)) (refl {a = l.counted}) (λ q. refl {a = l.told q});
       }
 
   module _ (p : ℕ) (reply : Reply) (t : EditStepsBy v p reply v') where

@@ -29,6 +29,7 @@ pub mod ToldEdits
 pub mod ToldCalls
 pub mod Recovered
 pub mod Resolved
+pub mod NotDone
 pub mod EachEvent
 pub mod Reported
 pub mod EachRun

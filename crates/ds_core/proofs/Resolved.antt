@@ -31,7 +31,7 @@ use Rattle.ds_core.specs.RecoveryEvents.{recovery_answer, recovery_reply, Recove
 use Rattle.ds_core.specs.Moments.{Placed, Closed, Ledger}
 use Rattle.ds_core.specs.LedgerSteps.{put, next_number, told_of, Closes, Forgets, Repeats, Stands, AnswerMoves}
 use Rattle.ds_core.specs.declared.reply.Reply.TheVariants.{Answered}
-use Rattle.ds_core.proofs.Acknowledged.{put_here}
+use Rattle.ds_core.proofs.Moved.{put_here}
 use Rattle.ds_core.proofs.Closing.{contains_none}
 use Rattle.ds_core.proofs.Headers.{sides_same}
 use Rattle.ds_core.proofs.Ledgers.{IsOf, IsOpenAs, doubts, numbered, no_some, one_some, put_other, contains_edit, from_edits}
@@ -54,7 +54,7 @@ itself x = elim (eqb_tells x.process x.process) [
   ]
 ]
 
-counted_done : (es : List Edit) (x : Edit) → Contains es x → phase_among es x.process x.number ≡ phase.Done
+pub counted_done : (es : List Edit) (x : Edit) → Contains es x → phase_among es x.process x.number ≡ phase.Done
 counted_done [] x there = absurd (contains_none x there)
 counted_done (y ∷ es) x (zero, lt, is) = ap (λ (z : Edit). phase_among (z ∷ es) x.process x.number) is ∙ ap (λ (b : Bool). if b then phase.Done else phase_among es x.process x.number) (itself x)
 counted_done (y ∷ es) x (suc k, lt, is) = done_or (is_edit_of x.process x.number y) (phase_among es x.process x.number) (counted_done es x (k, omega arith, is))
@@ -82,7 +82,7 @@ pub record IsAtAnswer (e : PlainRecovery) (s : RecoverStage) (answer : Answer) :
 same_answer : (a b : Answer) → Answered a ≡ Answered b → a ≡ b
 same_answer a b is = cc
 
-at_answer : (e : PlainRecovery) (s : RecoverStage) (answer : Answer) → Answered answer ≡ recovery_reply (steps.effect_at e s) → IsAtAnswer e s answer
+pub at_answer : (e : PlainRecovery) (s : RecoverStage) (answer : Answer) → Answered answer ≡ recovery_reply (steps.effect_at e s) → IsAtAnswer e s answer
 at_answer e (stages.Answer how) answer is = record { how = how; at = refl; is = same_answer answer (recovery_answer (end_of e how)) is }
 at_answer e _ answer is = absurd (cc)
 

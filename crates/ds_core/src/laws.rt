@@ -1,6 +1,6 @@
 //! What is true of each run, as functions that do nothing. `run` gives the run that they speak of.
 
-ghost use Rattle.std.specs.Prelude.{◌≡◌, ◌<◌, ◌≤◌, ◌+◌, ◌*◌, ℕ, List, length, Contains};
+ghost use Rattle.std.specs.Prelude.{◌≡◌, ◌<◌, ◌≤◌, ◌+◌, ◌*◌, ℕ, List, length, Contains, true, false};
 ghost use Rattle.ds_state.specs.Edits.{PlainEdit};
 ghost use Rattle.ds_state.specs.World.{Edit, World};
 ghost use Rattle.ds_state.specs.Fresh.{IsNew};
@@ -11,11 +11,12 @@ ghost use Rattle.ds_state.specs.declared.situation.Situation.TheVariants.{Editin
 ghost use Rattle.ds_core.specs.declared.event.Event.{Event};
 ghost use Rattle.ds_core.specs.declared.event.Event.TheVariants.{Step};
 ghost use Rattle.ds_edit.specs.declared.answer.Other.{Other};
-ghost use Rattle.ds_edit.specs.declared.answer.Answer.TheVariants.{Done, Overtaken};
+ghost use Rattle.ds_edit.specs.declared.answer.Told.{Told};
+ghost use Rattle.ds_edit.specs.declared.answer.Answer.TheVariants.{Done, Overtaken, Last};
 ghost use Rattle.ds_core.specs.declared.reply.Reply.TheVariants.{Answered};
 ghost use Rattle.ds_core.specs.declared.reply.Reply.{Reply};
 ghost use Rattle.ds_core.specs.Takes.{Takes, WorldRun};
-ghost use Rattle.ds_core.specs.Headline.{Happens, RunFits, Headline, HasHeadline, IsAcknowledged};
+ghost use Rattle.ds_core.specs.Headline.{Happens, RunFits, Headline, HasHeadline, IsAcknowledged, IsToldDone};
 ghost use Rattle.ds_core.specs.Own.{own_steps, AreUnanswered};
 ghost use Rattle.ds_state.specs.Spent.{IsSpent};
 ghost use Rattle.ds_core.specs.Spent.{IsOut};
@@ -81,6 +82,26 @@ pub fn acknowledged_edits_stand_once()
         (k p number : ℕ) → Headline old events replies new
         → Happens events replies k (Step p) (Answered (Done number))
         → IsAcknowledged old events replies k p number new.counted }
+{}
+
+/// An edit that a recovery tells as done stands in the last list exactly once, with the cell and the
+/// text of its request, and the cell that is told is that one.
+#[tactic(auto, using(crate::proofs::Acknowledged::resolved_once))]
+pub fn edits_told_as_done_stand_once()
+    ensures { (old : WorldValue) (events : List Event) (replies : List Reply) (new : WorldValue)
+        (k p : ℕ) (told : Told) → Headline old events replies new
+        → Happens events replies k (Step p) (Answered (Last told)) → told.counts ≡ true
+        → IsToldDone old events replies k p told new.counted }
+{}
+
+/// An edit that a recovery tells as not done does not count then and never will: its number is
+/// spent, and stays so.
+pub fn edits_told_as_not_done_stay_out()
+    ensures { (old mid new : WorldValue) (events : List Event) (replies : List Reply)
+        (p : ℕ) (told : Told) → IsSound (world_of old)
+        → Takes old (Step p) (Answered (Last told)) mid → told.counts ≡ false
+        → WorldRun mid events replies new
+        → IsSpent (world_of new) p told.number × IsOut (world_of new) p told.number }
 {}
 
 /// An edit that is alone from its beginning on, but for evictions, and makes as many steps as an edit
