@@ -8,6 +8,7 @@ pub mod Bound
 pub mod Counts
 pub mod Runs
 pub mod Solo
+pub mod LoneWork
 pub mod Spent
 pub mod Moved
 pub mod Closing

@@ -7,7 +7,7 @@ ghost use Rattle.ds_state.specs.Fresh.{IsNew};
 ghost use Rattle.ds_state.specs.Value.{WorldValue, world_of, IsGood};
 ghost use Rattle.ds_state.specs.Sound.{IsSound};
 ghost use Rattle.ds_state.specs.declared.stage.Stage.TheVariants.{StoreHeader};
-ghost use Rattle.ds_state.specs.declared.situation.Situation.TheVariants.{Editing};
+ghost use Rattle.ds_state.specs.declared.situation.Situation.TheVariants.{Editing, Working};
 ghost use Rattle.ds_core.specs.declared.event.Event.{Event};
 ghost use Rattle.ds_core.specs.declared.event.Event.TheVariants.{Step};
 ghost use Rattle.ds_edit.specs.declared.answer.Other.{Other};
@@ -20,7 +20,12 @@ ghost use Rattle.ds_core.specs.Headline.{Happens, RunFits, Headline, HasHeadline
 ghost use Rattle.ds_core.specs.Own.{own_steps, AreUnanswered};
 ghost use Rattle.ds_state.specs.Spent.{IsSpent};
 ghost use Rattle.ds_core.specs.Spent.{IsOut};
-ghost use Rattle.ds_core.specs.Solo.{IsSolo, AreDoneOnly};
+ghost use Rattle.ds_core.specs.Solo.{IsSolo, AreDoneOnly, IsLone, AreLoneReplies, StandsInOwnRow};
+ghost use Rattle.ds_state.specs.Works.{PlainWork};
+ghost use Rattle.ds_state.specs.Owing.{IsClean};
+ghost use Rattle.ds_state.specs.declared.work.WorkStage.TheVariants.{LoadMark};
+ghost use Rattle.ds_layout.specs.declared.place.Place.TheVariants.{Mark};
+ghost use Rattle.ds_work.specs.WorkAlone.{IsMarkedAt};
 
 /// An edit that is answered Overtaken does not count then and never will: its number is spent, and
 /// stays so.
@@ -114,4 +119,18 @@ pub fn solo_edits_are_answered()
         → WorldRun old events replies new → IsSolo p events
         → 67 + 3 * length e.refs ≤ own_steps p events replies
         → (k : ℕ) × Happens events replies k (Step p) (Answered (Done e.number)) }
+{}
+
+/// Work on a marked cell whose mark has generations left, which is alone from its beginning on, but
+/// for evictions and offers to it: it is answered Published, and its cell is clean then and at the
+/// end; or NoMemory; or Again, and then its cell's bit stands in the cell's own index row, since its
+/// text refers to it, or did.
+#[tactic(auto, using(crate::proofs::LoneWork::lone_publishes))]
+pub fn lone_works_publish()
+    ensures { (old : WorldValue) (events : List Event) (replies : List Reply) (new : WorldValue)
+        (p : ℕ) (e : PlainWork) → IsSound (world_of old) → p < old.sheet.layout.processes
+        → (world_of old).situation p ≡ Working e → e.stage ≡ LoadMark → IsMarkedAt (world_of old) e
+        → WorldRun old events replies new → IsLone p events
+        → AreLoneReplies (IsClean ((world_of new).memory.cached (Mark e.cell)))
+        (StandsInOwnRow (world_of old) e.cell) replies }
 {}
