@@ -6,7 +6,7 @@ ghost use Rattle.csv.specs.Writing.{row_text, default_writer};
 ghost use Rattle.ds_sched.specs.Csv.{IsReady, text_of};
 ghost use Rattle.ds_formula.specs.Cells.{count_of};
 ghost use Rattle.ds_eval.specs.Numbers.{value_text};
-ghost use Rattle.ds_sched.specs.Answers.{done_text, refused_text, settled_text};
+ghost use Rattle.ds_sched.specs.Answers.{done_text, refused_text, rows_text, settled_text};
 
 use csv::{ByteRecord, Writer, WriterBuilder};
 use ds_eval::value::Value;
@@ -58,20 +58,33 @@ fn add_record(writer: &mut Writer<Vec<u8>>, row: &ByteRecord) -> Result<(), Allo
     }
 }
 
-/// `settled`, and the values as CSV, a record a row. An error is a want of memory.
-pub fn settled_lines(alloc: Global, shape: &Shape, values: &[Value]) -> Result<Vec<u8>, AllocError>
+/// A text, and the values behind it as CSV, a record a row. An error is a want of memory.
+pub fn value_lines(
+    text: Vec<u8>,
+    alloc: Global,
+    shape: &Shape,
+    values: &[Value],
+) -> Result<Vec<u8>, AllocError>
     requires { length values.now ≡ count_of shape.now }
-    ensures { IfOk result (λ text. text.items ≡ settled_text shape.now values.now) }
+    ensures { IfOk result (λ lines. lines.items ≡ text.items ++ rows_text shape.now.columns shape.now.rows values.now) }
 {
-    let heading = Vec::from_slice(alloc, b"settled\n")?;
-    let mut writer = WriterBuilder::new().from_writer(heading);
+    let mut writer = WriterBuilder::new().from_writer(text);
     for row in 0..shape.rows {
         let start = row * shape.columns;
         let fields = record_of(alloc, &values[start..start + shape.columns])?;
         add_record(&mut writer, &fields)?;
     }
     match writer.into_inner() {
-        Ok(text) => Ok(text),
+        Ok(lines) => Ok(lines),
         Err(_) => Err(AllocError),
     }
+}
+
+/// `settled`, and the values as CSV, a record a row. An error is a want of memory.
+pub fn settled_lines(alloc: Global, shape: &Shape, values: &[Value]) -> Result<Vec<u8>, AllocError>
+    requires { length values.now ≡ count_of shape.now }
+    ensures { IfOk result (λ text. text.items ≡ settled_text shape.now values.now) }
+{
+    let heading = Vec::from_slice(alloc, b"settled\n")?;
+    value_lines(heading, alloc, shape, values)
 }
