@@ -1,0 +1,3 @@
+pub mod Played
+pub mod Driving
+pub mod Scripts
