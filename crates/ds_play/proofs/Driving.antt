@@ -1,6 +1,8 @@
 -- Offers and steps of a process that is driven.
 use Rattle.std.proofs.Common.{ℕ, ◌≡◌, ◌<◌, ◌≤◌, List, length, refl, sym, ap, ◌∙◌, subst, Some, arith, inl, inr}
-use Rattle.std.specs.Prelude.{slice_index_or}
+use Rattle.std.specs.Prelude.{Option, None, IfSome, IfNone}
+use Rattle.std.proofs.lemmas.Bool.{cases_lt}
+use Rattle.std.proofs.lemmas.List.{get_or_past}
 use Rattle.ds_eval.specs.declared.inputs.Entry.{Entry}
 use Rattle.ds_state.specs.Value.{WorldValue, world_of, IsGood}
 use Rattle.ds_state.specs.Works.{PlainWork}
@@ -28,7 +30,7 @@ use Rattle.ds_play.proofs.Played.{one}
 -- ---- an offer
 
 module _ (old new : WorldValue) (p : ℕ) (until : Until) (given : (entry : Entry) × IsOffered (world_of old) p entry (world_of new)) (good : IsGood new) (done : new.done ≡ old.done) (settled : new.settled ≡ old.settled) (reports : new.reports ≡ old.reports) where
-  event : Event
+  abbrev event : Event
   event = Offer (evaluated old.sheet.layout.shape given.1.work)
 
   asked : asks (Drives p until) old ≡ Some event
@@ -78,11 +80,20 @@ wants_in : (v : WorldValue) (p : ℕ) (s : Situation) → (world_of v).situation
 wants_in v p (Working e) is none = wants_at v p e e.stage refl (none e is)
 wants_in v p s is none = refl
 
+-- the process is one of the sheet
+inside : (v : WorldValue) (p : ℕ) (e : PlainWork) → IsGood v → (world_of v).situation p ≡ Working e → p < v.sheet.layout.processes
+inside v p e good is = elim (cases_lt p v.sheet.layout.processes) [
+  | inl lt ↦ lt
+  | inr ge ↦ absurd (let bad : Idle 0 ≡ Working e = sym (get_or_past v.situations p (Idle 0) (let n = good.situations in omega arith)) ∙ is in cc)
+]
+
 pub wants_step : (v : WorldValue) (p : ℕ) → IsGood v → ((e : PlainWork) → Waits (world_of v) p e → ⊥) → WantsStep v p
-wants_step v p good none = wants_in v p ((world_of v).situation p) refl (λ e works waits. none e (record { inside = inside e works; works = works; waits = waits }))
-  where
-    inside : (e : PlainWork) → (world_of v).situation p ≡ Working e → p < v.sheet.layout.processes
-    inside e works = ?
+wants_step v p good none =
+    wants_in v p ((world_of v).situation p) refl (λ e works waits. none e (record { inside = inside v p e good works; works = works; waits = waits }))
+
+driven_by : (w : WorldValue) (p : ℕ) (until : Until) (reply : Reply) → (reply ≡ Stepped → ⊥) → driven w p until (Step p) reply ≡ ended w p until reply
+driven_by w p until Stepped other = absurd (other refl)
+driven_by w p until reply other = refl
 
 module _ (old new : WorldValue) (p : ℕ) (until : Until) (wants : WantsStep old p) where
   asked_step : asks (Drives p until) old ≡ Some (Step p)
@@ -93,3 +104,16 @@ module _ (old new : WorldValue) (p : ℕ) (until : Until) (wants : WantsStep old
 
   pub step_goes : Fits old (Step p) Stepped new → stepped new p until ≡ Drives p until → GoesOn old p until new
   step_goes fits is = record { event = Step p; reply = Stepped; asked = asked_step; fits = fits; on = is }
+
+  pub step_ends : (reply : Reply) → Fits old (Step p) reply new → (reply ≡ Stepped → ⊥) → Leads (Drives p until) old (ended new p until reply) new
+  step_ends reply fits other = one (Drives p until) (ended new p until reply) old new (Step p) reply asked_step fits (driven_by new p until reply other)
+
+-- ---- options
+
+pub if_some : {A : Type 0} (r : Option A) (P Q : A → Type 0) → ((x : A) → P x → Q x) → IfSome r P → IfSome r Q
+if_some (Some x) P Q f h = f x h
+if_some None P Q f h = tt
+
+pub if_none : {A : Type 0} (r : Option A) (P Q : Type 0) → (P → Q) → IfNone r P → IfNone r Q
+if_none (Some x) P Q f h = tt
+if_none None P Q f h = f h

@@ -56,6 +56,12 @@ leads_on a b c old mid new h k = record {
 pub stays : (a b : Doing) (w : WorldValue) → b ≡ a → Leads a w b w
 stays a b w same = record { events = []; replies = []; plays = (same, refl) }
 
+pub leads_to : (a b c : Doing) (old new : WorldValue) → Leads a old b new → b ≡ c → Leads a old c new
+leads_to a b c old new h is = subst (λ (d : Doing). Leads a old d new) is h
+
+pub leads_from : (a b c : Doing) (old new : WorldValue) → a ≡ b → Leads b old c new → Leads a old c new
+leads_from a b c old new is h = subst (λ (d : Doing). Leads d old c new) (sym is) h
+
 -- one event
 pub one : (a b : Doing) (old new : WorldValue) (event : Event) (reply : Reply) → asks a old ≡ Some event → Fits old event reply new → told a event reply new ≡ b → Leads a old b new
 one a b old new event reply asked fits is = record { events = event ∷ []; replies = reply ∷ []; plays = (new, asked, fits, (sym is, refl)) }
@@ -68,6 +74,10 @@ goes old new p until h = one (Drives p until) (Drives p until) old new h.event h
 -- a text, and nothing more
 pub says_so : (text : List ℕ) (w : WorldValue) → Played (Says text) w text w
 says_so text w = stays (Says text) (Says text) w refl
+
+pub if_ok : {E : Type 0} (result : Result (Vec ℕ) E) (P Q : Vec ℕ → Type 0) → ((v : Vec ℕ) → P v → Q v) → IfOk result P → IfOk result Q
+if_ok (Ok v) P Q f h = f v h
+if_ok (Err e) P Q f h = tt
 
 -- a text that is the answer
 pub answered : {E : Type 0} (result : Result (Vec ℕ) E) (text : List ℕ) (Q : List ℕ → Type 0) → IfOk result (λ v. v.items ≡ text) → Q text → IfOk result (λ v. Q v.items)

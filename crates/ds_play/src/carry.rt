@@ -93,6 +93,7 @@ fn call(
 }
 
 // `run P to POINT`.
+#[tactic(auto, using(crate::proofs::Played::says_so))]
 fn run_to(
     alloc: Global,
     world: &mut World,
@@ -108,6 +109,7 @@ fn run_to(
 }
 
 /// Carries a command out, and gives its answer. An error is a want of memory.
+#[tactic(auto, using(crate::proofs::Played::says_so))]
 pub fn carry_out(
     alloc: Global,
     world: &mut World,

@@ -2,6 +2,9 @@
 
 ghost use Rattle.std.specs.Prelude.{◌≡◌, ◌<◌, IfSome, IfNone};
 ghost use Rattle.ds_state.specs.Value.{world_of};
+ghost use Rattle.ds_core.specs.declared.event.Event.TheVariants.{Step};
+ghost use Rattle.ds_core.specs.declared.reply.Reply.TheVariants.{Stepped};
+ghost use Rattle.ds_core.specs.Takes.{Fits};
 ghost use Rattle.ds_core.specs.Own.{steps_left};
 ghost use Rattle.ds_play.specs.Points.{has_passed};
 ghost use Rattle.ds_play.specs.Doing.{Drives, offered, stepped};
@@ -88,6 +91,14 @@ fn after_step(world: &World, process: usize, until: Until) -> Option<Halt>
     }
 }
 
+fn step_once(alloc: Global, world: &mut World, process: usize) -> Reply
+    ensures fits { Fits world.old (Step process) result world.new }
+    ensures fewer { result ≡ Stepped → steps_left process world.new < steps_left process world.old }
+{
+    let event = Event::Step(process);
+    take(alloc, world, &event)
+}
+
 // One step, and why it is the last one, where it is.
 fn step(alloc: Global, world: &mut World, process: usize, until: Until) -> Option<Halt>
     requires { WantsStep world.old process }
@@ -95,8 +106,7 @@ fn step(alloc: Global, world: &mut World, process: usize, until: Until) -> Optio
     ensures goes { IfNone result (GoesOn world.old process until world.new) }
     ensures fewer { IfNone result (steps_left process world.new < steps_left process world.old) }
 {
-    let event = Event::Step(process);
-    match take(alloc, world, &event) {
+    match step_once(alloc, world, process) {
         Reply::Stepped => after_step(world, process, until),
         reply => Some(Halt::Replied(reply)),
     }

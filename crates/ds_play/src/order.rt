@@ -248,11 +248,7 @@ fn peek<'a>(layout: &Layout, rest: Option<&'a [u8]>) -> Option<Command<'a>>
 }
 
 // `set CELL TEXT` behind `begin PROCESS`.
-fn begin_edit<'a>(
-    layout: &Layout,
-    process: usize,
-    rest: Option<&'a [u8]>,
-) -> Option<Command<'a>>
+fn begin_edit<'a>(layout: &Layout, process: usize, rest: Option<&'a [u8]>) -> Option<Command<'a>>
     ensures value { option_map command_view result ≡ begin_edit_of layout.now process (option_map (λ r. r.now) rest.entry) }
     ensures can { IfSome result (CanDo layout.now) }
 {
@@ -261,11 +257,7 @@ fn begin_edit<'a>(
 }
 
 // `work CELL` behind it.
-fn begin_work<'a>(
-    layout: &Layout,
-    process: usize,
-    rest: Option<&'a [u8]>,
-) -> Option<Command<'a>>
+fn begin_work<'a>(layout: &Layout, process: usize, rest: Option<&'a [u8]>) -> Option<Command<'a>>
     ensures value { option_map command_view result ≡ begin_work_of layout.now process (option_map (λ r. r.now) rest.entry) }
     ensures can { IfSome result (CanDo layout.now) }
 {
@@ -292,11 +284,7 @@ fn call_named(word: &[u8]) -> Option<CallName>
 }
 
 // A call that takes no further word, behind `begin PROCESS`.
-fn begin_bare<'a>(
-    process: usize,
-    call: Call<'a>,
-    rest: Option<&'a [u8]>,
-) -> Option<Command<'a>>
+fn begin_bare<'a>(process: usize, call: Call<'a>, rest: Option<&'a [u8]>) -> Option<Command<'a>>
     ensures value { option_map command_view result ≡ alone (deed.Begin process (beginning process call.entry)) (option_map (λ r. r.now) rest.entry) }
     ensures can { IfSome result (λ c. (layout : Layout) → CanDo layout c) }
 {

@@ -1,10 +1,13 @@
 //! Works on all cells that are marked, in passes, until a pass finds none.
 
 ghost use Rattle.std.specs.Prelude.{◌≡◌, ◌<◌, ◌≤◌, ◌-◌, ℕ, IfSome, IfNone, IfOk};
+ghost use Rattle.ds_formula.specs.Cells.{cell_at};
 ghost use Rattle.ds_layout.specs.Places.{cells_of};
 ghost use Rattle.ds_state.specs.Value.{WorldValue, world_of};
+ghost use Rattle.ds_core.specs.declared.event.Event.TheVariants.{BeginWork};
+ghost use Rattle.ds_core.specs.Takes.{Fits};
 ghost use Rattle.ds_play.specs.declared.drive.Until.TheVariants.{InPass};
-ghost use Rattle.ds_play.specs.Settling.{marked_from, left_in};
+ghost use Rattle.ds_play.specs.Settling.{state_at, is_marked, marked_from, left_in};
 ghost use Rattle.ds_play.specs.Doing.{Works, Says, settle, goes_behind, pass};
 ghost use Rattle.ds_play.specs.Plays.{Leads, Played, halted, halt_text};
 
@@ -19,16 +22,34 @@ use ds_state::shown::mark;
 use ds_state::world::World;
 use std::alloc::{AllocError, Global};
 
+fn cells(world: &World) -> usize
+    ensures value { result ≡ cells_of world.now.sheet.layout }
+    ensures few { result ≤ 1024 }
+{
+    world.words.layout().cells()
+}
+
+fn is_marked(world: &World, cell: usize) -> bool
+    requires { cell < cells_of world.now.sheet.layout }
+    ensures { result ≡ is_marked (state_at (world_of world.now) cell) }
+{
+    match mark(&world.words, cell).state() {
+        State::Marked => true,
+        State::Clean | State::Held(_) => false,
+    }
+}
+
 // The first cell that is marked, from this one on.
 fn next_marked(world: &World, from: usize) -> Option<usize>
     requires { from ≤ cells_of world.now.sheet.layout }
     ensures value { result ≡ marked_from (world_of world.now) (cells_of world.now.sheet.layout - from) from }
+    ensures above { IfSome result (λ cell. from ≤ cell) }
     ensures inside { IfSome result (λ cell. cell < cells_of world.now.sheet.layout) }
 {
-    let cells = world.words.layout().cells();
+    let count = cells(world);
     let mut cell = from;
-    while cell < cells {
-        if mark(&world.words, cell).state() == State::Marked {
+    while cell < count {
+        if is_marked(world, cell) {
             return Some(cell);
         }
         cell += 1;
@@ -41,7 +62,7 @@ fn left(world: &World) -> usize
     ensures { result ≡ left_in (world_of world.now) }
 {
     let mut left = 0;
-    for cell in 0..world.words.layout().cells() {
+    for cell in 0..cells(world) {
         if mark(&world.words, cell).state() != State::Clean {
             left += 1;
         }
@@ -61,6 +82,16 @@ fn ends_with(halt: Halt) -> Option<Halt>
     }
 }
 
+// Work on the cell with this number begins, or is refused.
+fn begin(alloc: Global, world: &mut World, process: usize, cell: usize) -> Reply
+    requires { cell < cells_of world.old.sheet.layout }
+    ensures { Fits world.old (BeginWork process (cell_at world.old.sheet.layout.shape cell)) result world.new }
+{
+    let shape = world.words.layout().shape;
+    let event = Event::BeginWork(process, shape.cell(cell));
+    take(alloc, world, &event)
+}
+
 // A whole work of a settle, and why it is the last one, where it is.
 fn work(
     alloc: Global,
@@ -73,10 +104,8 @@ fn work(
     ensures halts { IfSome result (λ halt. Leads (Works process passes cell) world.old (Says (halt_text world.new process halt)) world.new) }
     ensures goes { IfNone result (Leads (Works process passes cell) world.old (goes_behind world.new process passes cell) world.new) }
 {
-    let shape = world.words.layout().shape;
-    let event = Event::BeginWork(process, shape.cell(cell));
-    match take(alloc, world, &event) {
-        Reply::Entered | Reply::Begun(_) => {
+    match begin(alloc, world, process, cell) {
+        Reply::Begun(_) | Reply::Entered => {
             let halt = drive(alloc, world, process, Until::InPass { passes, cell });
             ends_with(halt)
         }
@@ -113,7 +142,7 @@ fn pass(
 pub fn settle(alloc: Global, world: &mut World, process: usize) -> Result<Vec<u8>, AllocError>
     ensures { IfOk result (λ answer. Played (settle world.old process) world.old answer.items world.new) }
 {
-    let mut passes = world.words.layout().cells() + 2;
+    let mut passes = cells(world) + 2;
     'passes: loop {
         if passes == 0 {
             break 'passes;

@@ -134,11 +134,7 @@ const ROWS_OF_CALLS: [(&str, &str, ScriptEnd); 48] = [
         "0 0 done\nclean\nsettled\n3,\n,\n",
         ScriptEnd::Ended,
     ),
-    (
-        "report 0\n",
-        "settled\n,\n,\n",
-        ScriptEnd::Ended,
-    ),
+    ("report 0\n", "settled\n,\n,\n", ScriptEnd::Ended),
     (
         "set 0 A1 =[.A2]\nset 0 A2 =[.A1]\nset 0 B1 =[.A1]+1\nsettle 0\nreport 0\n",
         "0 0 done\n0 1 done\n0 2 done\nclean\nsettled\nErr:522,Err:522\nErr:522,\n",

@@ -58,7 +58,12 @@ fn last_line(alloc: Global, shape: Shape, process: usize, told: Told) -> Result<
 }
 
 // `unsettled mark C WORD`, `unsettled announce P WORD`.
-fn unsettled_line(alloc: Global, shape: Shape, place: Place, word: u64) -> Result<String, AllocError>
+fn unsettled_line(
+    alloc: Global,
+    shape: Shape,
+    place: Place,
+    word: u64,
+) -> Result<String, AllocError>
     ensures { IfOk result (λ line. string_bytes line ≡ unsettled_text shape place word) }
 {
     match place {
