@@ -6,8 +6,9 @@ ghost use Rattle.ds_core.specs.declared.event.Event.TheVariants.{Step};
 ghost use Rattle.ds_core.specs.declared.reply.Reply.TheVariants.{Stepped};
 ghost use Rattle.ds_core.specs.Takes.{Fits};
 ghost use Rattle.ds_core.specs.Own.{steps_left};
+ghost use Rattle.ds_play.specs.declared.drive.Until.TheVariants.{ToPoint};
 ghost use Rattle.ds_play.specs.Points.{has_passed};
-ghost use Rattle.ds_play.specs.Doing.{Drives, offered, stepped};
+ghost use Rattle.ds_play.specs.Doing.{Drives, offered, stepped, to_point};
 ghost use Rattle.ds_play.specs.Plays.{Leads, GoesOn, WantsStep, halted};
 
 use crate::point::{PointName, is_past};
@@ -56,19 +57,25 @@ pub fn has_come(world: &World, process: usize, name: PointName) -> bool
     }
 }
 
+// Why a process is driven no further towards a point, where it isn't.
+fn at_point(world: &World, process: usize, name: PointName) -> Option<Halt>
+    ensures halts { IfSome result (λ halt. to_point process name ((world_of world.now).situation process) ≡ halted world.now process (ToPoint name) halt) }
+    ensures goes { IfNone result (to_point process name ((world_of world.now).situation process) ≡ Drives process (ToPoint name)) }
+{
+    if has_come(world, process, name) {
+        Some(Halt::At(name))
+    } else {
+        None
+    }
+}
+
 // Why a process is driven no further once its work was offered an entry, where it isn't.
 fn after_offer(world: &World, process: usize, until: Until) -> Option<Halt>
     ensures halts { IfSome result (λ halt. offered world.now process until ≡ halted world.now process until halt) }
     ensures goes { IfNone result (offered world.now process until ≡ Drives process until) }
 {
     match until {
-        Until::ToPoint(name) => {
-            if has_come(world, process, name) {
-                Some(Halt::At(name))
-            } else {
-                None
-            }
-        }
+        Until::ToPoint(name) => at_point(world, process, name),
         Until::OneStep | Until::ToAnswer | Until::InPass { passes: _, cell: _ } => None,
     }
 }
@@ -80,13 +87,7 @@ fn after_step(world: &World, process: usize, until: Until) -> Option<Halt>
 {
     match until {
         Until::OneStep => Some(Halt::Replied(Reply::Stepped)),
-        Until::ToPoint(name) => {
-            if has_come(world, process, name) {
-                Some(Halt::At(name))
-            } else {
-                None
-            }
-        }
+        Until::ToPoint(name) => at_point(world, process, name),
         Until::ToAnswer | Until::InPass { passes: _, cell: _ } => None,
     }
 }
