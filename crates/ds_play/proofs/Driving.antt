@@ -1,5 +1,5 @@
 -- Offers and steps of a process that is driven.
-use Rattle.std.proofs.Common.{ℕ, ◌≡◌, ◌<◌, ◌≤◌, List, length, refl, sym, ap, ◌∙◌, subst, Some, arith, inl, inr}
+use Rattle.std.proofs.Common.{ℕ, ◌≡◌, ◌<◌, refl, sym, ap, ◌∙◌, subst, Some, arith, inl, inr}
 use Rattle.std.specs.Prelude.{Option, None, IfSome, IfNone}
 use Rattle.std.proofs.lemmas.Bool.{cases_lt}
 use Rattle.std.proofs.lemmas.List.{get_or_past}
@@ -7,15 +7,14 @@ use Rattle.ds_eval.specs.declared.inputs.Entry.{Entry}
 use Rattle.ds_state.specs.Value.{WorldValue, world_of, IsGood}
 use Rattle.ds_state.specs.Works.{PlainWork}
 use Rattle.ds_state.specs.declared.situation.Situation.{Situation}
-use Rattle.ds_state.specs.declared.situation.Situation.TheVariants.{Idle, Stopped, Editing, Working, Recovering, Showing}
+use Rattle.ds_state.specs.declared.situation.Situation.TheVariants.{Idle, Working}
 use Rattle.ds_state.specs.declared.work.WorkStage.{WorkStage}
 use Rattle.ds_state.specs.declared.work.WorkStage.TheVariants.{Wait}
 use Rattle.ds_work.specs.WorkSteps as steps
-use Rattle.ds_work.specs.WorkEvents.{Waits, IsOffered, task_at}
+use Rattle.ds_work.specs.WorkEvents.{Waits, IsOffered}
 use Rattle.ds_work.specs.WorkRank as ranks
 use Rattle.ds_work.proofs.Ranks.{offer_falls}
 use Rattle.ds_core.specs.Own.{left_in, steps_left}
-use Rattle.ds_core.specs.EditEvents.{SameReports}
 use Rattle.ds_core.specs.Takes.{Fits}
 use Rattle.ds_core.specs.declared.event.Event.{Event}
 use Rattle.ds_core.specs.declared.event.Event.TheVariants.{Step, Offer}
@@ -23,7 +22,7 @@ use Rattle.ds_core.specs.declared.reply.Reply.{Reply}
 use Rattle.ds_core.specs.declared.reply.Reply.TheVariants.{Stepped}
 use Rattle.ds_play.specs.declared.drive.Until.{Until}
 use Rattle.ds_play.specs.declared.drive.Halt.{Halt}
-use Rattle.ds_play.specs.Doing.{Drives, asks, told, wanted, wanted_at, evaluated, offered, stepped, driven, ended}
+use Rattle.ds_play.specs.Doing.{Drives, asks, wanted, wanted_at, evaluated, offered, stepped, driven, ended}
 use Rattle.ds_play.specs.Plays.{Leads, GoesOn, WantsStep, halted}
 use Rattle.ds_play.proofs.Played.{one}
 

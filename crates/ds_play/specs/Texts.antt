@@ -1,9 +1,9 @@
 -- The text of each answer.
-use Rattle.std.specs.Prelude.{ℕ, zero, suc, ◌==◌, Bool, true, false, List, [], ◌∷◌, ◌++◌, codes, length, slice_index_or, if◌then◌else◌}
+use Rattle.std.specs.Prelude.{ℕ, zero, suc, Bool, true, false, List, [], ◌∷◌, ◌++◌, codes, slice_index_or}
 use Rattle.std.specs.Fmt.{decimal}
 use Rattle.ds_formula.specs.declared.cells.Cell.{Cell}
 use Rattle.ds_formula.specs.declared.cells.Shape.{Shape}
-use Rattle.ds_formula.specs.Cells.{cell_at, count_of}
+use Rattle.ds_formula.specs.Cells.{cell_at}
 use Rattle.ds_formula.specs.Names.{cell_text}
 use Rattle.ds_eval.specs.declared.value.Value.{Value}
 use Rattle.ds_eval.specs.declared.value.Value.TheVariants as value
@@ -57,12 +57,9 @@ unsettled_text shape (place.Mark cell) word = codes "unsettled mark " ++ (cell_t
 unsettled_text shape (place.Announce p) word = codes "unsettled announce " ++ (decimal p ++ (codes " " ++ (decimal word ++ codes "\n")))
 unsettled_text shape other word = codes "unsettled " ++ (decimal word ++ codes "\n")
 
--- the values of the process's last settled report; settled and the values as CSV, where there is one for each cell
+-- the values of the process's last settled report
 abbrev pub values_of : WorldValue → ℕ → List Value
 values_of w p = slice_index_or w.reports.values p []
-
-abbrev pub report_text : Shape → List Value → List ℕ
-report_text shape values = if length values == count_of shape then settled_text shape values else codes "settled\n"
 
 -- the line of an answer, in the world that it leaves
 abbrev pub answer_text : WorldValue → ℕ → Answer → List ℕ
@@ -76,7 +73,7 @@ answer_text w p answers.Again = word_line p (codes "again")
 answer_text w p answers.NoMemory = word_line p (codes "nomemory")
 answer_text w p (answers.Last told) = last_text w.sheet.layout.shape p told
 answer_text w p answers.Nothing = word_line p (codes "nothing")
-answer_text w p answers.Settled = report_text w.sheet.layout.shape (values_of w p)
+answer_text w p answers.Settled = settled_text w.sheet.layout.shape (values_of w p)
 answer_text w p (answers.Unsettled place word) = unsettled_text w.sheet.layout.shape place word
 
 -- the line of a reply to the process, in the world behind it

@@ -2,7 +2,8 @@
 
 ghost use Rattle.std.specs.Prelude.{◌≡◌, ◌≤◌, IfOk};
 ghost use Rattle.ds_state.specs.Value.{world_of};
-ghost use Rattle.ds_play.specs.Orders.{CanDo, command_view, beginning};
+ghost use Rattle.ds_core.specs.Takes.{BeginTakes, Fits};
+ghost use Rattle.ds_play.specs.Orders.{CanDo, command_view, beginning, request};
 ghost use Rattle.ds_play.specs.Doing.{Once, Calls, Drives, to_point};
 ghost use Rattle.ds_play.specs.Plays.{Played, IsNoPass};
 ghost use Rattle.ds_play.specs.Script.{IsMade};
@@ -13,10 +14,10 @@ use crate::order::{Call, Command};
 use crate::point::PointName;
 use crate::settle::settle;
 use crate::texts::{at_line, halt_bytes, peek_line, reply_bytes, word_line};
-use ds_core::event::{Event, Request};
+use ds_core::event::Event;
 use ds_core::reply::Reply;
 use ds_core::take::take;
-use ds_formula::cells::Shape;
+use ds_formula::cells::{Cell, Shape};
 use ds_state::world::World;
 use std::alloc::{AllocError, Global};
 
@@ -31,22 +32,39 @@ pub fn new_world(alloc: Global, shape: Shape, processes: usize) -> Result<World,
     Ok(world)
 }
 
-// The event that begins a call. An error is a want of memory for the text of an edit.
-fn beginning(alloc: Global, process: usize, call: Call<'_>) -> Result<Event, AllocError>
-    ensures { IfOk result (λ event. event ≡ beginning process call.entry) }
+// An edit begins, or is refused: as by the event, which would own the text.
+fn edits(alloc: Global, world: &mut World, process: usize, cell: Cell, text: &[u8]) -> Reply
+    ensures { BeginTakes world.old (request process cell text.now) result world.new }
+{
+    let layout = world.words.layout();
+    if process >= layout.processes || !layout.shape.contains(cell) {
+        return Reply::NotEnabled;
+    }
+    match ds_edit::begin::begin(alloc, world, process, cell, text) {
+        Ok(number) => Reply::Begun(number),
+        Err(refusal) => Reply::Refused(refusal),
+    }
+}
+
+fn happen(alloc: Global, world: &mut World, event: &Event) -> Reply
+    ensures { Fits world.old event.now result world.new }
+{
+    take(alloc, world, event)
+}
+
+// A call begins, or is refused.
+fn begins(alloc: Global, world: &mut World, process: usize, call: Call<'_>) -> Reply
+    ensures { Fits world.old (beginning process call.entry) result world.new }
 {
     match call {
         Call::Edit(cell, text) => {
-            let text = Vec::from_slice(alloc, text)?;
-            Ok(Event::BeginEdit(Request {
-                process,
-                cell,
-                text,
-            }))
+            let reply = edits(alloc, world, process, cell, text);
+            world.is_always_good();
+            reply
         }
-        Call::Work(cell) => Ok(Event::BeginWork(process, cell)),
-        Call::Report => Ok(Event::BeginShow(process)),
-        Call::Recovery => Ok(Event::BeginRecover(process)),
+        Call::Work(cell) => happen(alloc, world, &Event::BeginWork(process, cell)),
+        Call::Report => happen(alloc, world, &Event::BeginShow(process)),
+        Call::Recovery => happen(alloc, world, &Event::BeginRecover(process)),
     }
 }
 
@@ -59,7 +77,20 @@ fn once(
 ) -> Result<Vec<u8>, AllocError>
     ensures { IfOk result (λ answer. Played (Once process event.now) world.old answer.items world.new) }
 {
-    let reply = take(alloc, world, event);
+    let reply = happen(alloc, world, event);
+    reply_bytes(alloc, world, process, reply)
+}
+
+// The beginning of a call.
+fn begin(
+    alloc: Global,
+    world: &mut World,
+    process: usize,
+    call: Call<'_>,
+) -> Result<Vec<u8>, AllocError>
+    ensures { IfOk result (λ answer. Played (Once process (beginning process call.entry)) world.old answer.items world.new) }
+{
+    let reply = begins(alloc, world, process, call);
     reply_bytes(alloc, world, process, reply)
 }
 
@@ -78,15 +109,15 @@ fn run(
 }
 
 // A whole call.
-fn call(
+fn whole(
     alloc: Global,
     world: &mut World,
     process: usize,
-    event: &Event,
+    call: Call<'_>,
 ) -> Result<Vec<u8>, AllocError>
-    ensures { IfOk result (λ answer. Played (Calls process event.now) world.old answer.items world.new) }
+    ensures { IfOk result (λ answer. Played (Calls process (beginning process call.entry)) world.old answer.items world.new) }
 {
-    match take(alloc, world, event) {
+    match begins(alloc, world, process, call) {
         Reply::Begun(_) | Reply::Entered => run(alloc, world, process, Until::ToAnswer),
         reply => reply_bytes(alloc, world, process, reply),
     }
@@ -123,14 +154,8 @@ pub fn carry_out(
             *world = new_world(alloc, shape, processes)?;
             Ok(Vec::new(alloc))
         }
-        Command::Whole(process, begun) => {
-            let event = beginning(alloc, process, begun)?;
-            call(alloc, world, process, &event)
-        }
-        Command::Begin(process, begun) => {
-            let event = beginning(alloc, process, begun)?;
-            once(alloc, world, process, &event)
-        }
+        Command::Whole(process, call) => whole(alloc, world, process, call),
+        Command::Begin(process, call) => begin(alloc, world, process, call),
         Command::Settle(process) => settle(alloc, world, process),
         Command::Step(process) => run(alloc, world, process, Until::OneStep),
         Command::RunTo(process, name) => run_to(alloc, world, process, name),

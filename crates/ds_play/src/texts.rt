@@ -7,7 +7,8 @@ ghost use Rattle.ds_layout.specs.Sheet.{memory};
 ghost use Rattle.ds_state.specs.Value.{world_of};
 ghost use Rattle.ds_edit.specs.declared.answer.Answer.TheVariants.{Settled};
 ghost use Rattle.ds_core.specs.declared.reply.Reply.TheVariants.{Answered};
-ghost use Rattle.ds_play.specs.Texts.{counts_text, changed_text, last_text, unsettled_text, values_of, report_text, answer_text, reply_text, at_text, left_text, shown_text, state_text, peek_head, peek_text, word_text};
+ghost use Rattle.ds_sched.specs.Answers.{settled_text};
+ghost use Rattle.ds_play.specs.Texts.{counts_text, changed_text, last_text, unsettled_text, values_of, answer_text, reply_text, at_text, left_text, shown_text, state_text, peek_head, peek_text, word_text};
 ghost use Rattle.ds_play.specs.Plays.{halt_text};
 
 use crate::drive::Halt;
@@ -87,15 +88,14 @@ fn values(world: &World, process: usize) -> &[Value]
     }
 }
 
-// `settled` and the values as CSV.
+// `settled` and the values as CSV, one for each cell; no settled report has another number of them.
 fn report_lines(alloc: Global, shape: Shape, values: &[Value]) -> Result<Vec<u8>, AllocError>
-    ensures { IfOk result (λ text. text.items ≡ report_text shape values.now) }
+    ensures { IfOk result (λ text. text.items ≡ settled_text shape values.now) }
 {
-    if values.len() == shape.count() {
-        settled_lines(alloc, &shape, values)
-    } else {
-        Vec::from_slice(alloc, b"settled\n")
+    if values.len() != shape.count() {
+        return Err(AllocError);
     }
+    settled_lines(alloc, &shape, values)
 }
 
 // The line of an answer that is no settled report.

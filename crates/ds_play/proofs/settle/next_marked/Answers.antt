@@ -1,4 +1,4 @@
-use Rattle.std.proofs.Common.{◌∙◌, sym, ap, ◌≡◌, ◌≤◌, ◌-◌, ℕ, arith}
+use Rattle.std.proofs.Common.{◌∙◌, sym, ap, ◌-◌, ℕ, arith}
 use Rattle.ds_state.specs.Value.{world_of}
 use Rattle.ds_play.specs.Settling.{marked_from}
 use Rattle.ds_play.proofs.Settles.{marked_here, marked_later}

@@ -1,5 +1,4 @@
 use Rattle.std.proofs.Common.{◌-◌, ◌≡◌, ◌≤◌}
-use Rattle.ds_layout.specs.Places.{cells_of}
 use Rattle.ds_state.specs.Value.{world_of}
 use Rattle.ds_play.specs.Settling.{marked_from}
 use Rattle.ds_play.proofs.settle.next_marked.Given as goal

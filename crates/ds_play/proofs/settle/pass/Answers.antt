@@ -1,8 +1,8 @@
-use Rattle.std.proofs.Common.{◌≡◌, ◌∙◌, ℕ, Option, Some, None, refl, sym, ap, arith}
+use Rattle.std.proofs.Common.{ℕ, Option, refl, sym, ap, arith}
 use Rattle.ds_layout.specs.Places.{cells_of}
 use Rattle.ds_layout.specs.declared.layout.Layout.{Layout}
 use Rattle.ds_play.specs.Doing.{Works, Says, goes_behind, next_of, pass}
-use Rattle.ds_play.specs.Plays.{Leads, halt_text}
+use Rattle.ds_play.specs.Plays.{halt_text}
 use Rattle.ds_play.proofs.Played.{leads_on, leads_to, leads_layout, stays}
 use Rattle.ds_play.proofs.settle.pass.Goals as goal
 

@@ -1,4 +1,4 @@
-use Rattle.std.proofs.Common.{◌≡◌, ◌<◌, ◌-◌}
+use Rattle.std.proofs.Common.{◌<◌, ◌-◌}
 use Rattle.ds_layout.specs.Places.{cells_of}
 use Rattle.ds_play.specs.Doing.{Works}
 use Rattle.ds_play.specs.Plays.{Leads}

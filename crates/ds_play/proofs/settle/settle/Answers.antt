@@ -1,9 +1,7 @@
-use Rattle.std.proofs.Common.{◌≡◌, ◌+◌, ◌-◌, ◌∙◌, ℕ, List, refl, sym, ap, arith}
-use Rattle.ds_layout.specs.Places.{cells_of}
-use Rattle.ds_layout.specs.declared.layout.Layout.{Layout}
+use Rattle.std.proofs.Common.{◌+◌, ◌-◌, ℕ, List, ap}
 use Rattle.ds_play.specs.Doing.{Works, Says, pass, settle}
 use Rattle.ds_play.specs.Plays.{Played, halt_text}
-use Rattle.ds_play.proofs.Played.{answered, leads_on, leads_to, leads_from, stays}
+use Rattle.ds_play.proofs.Played.{answered, leads_on, leads_from, stays}
 use Rattle.ds_play.proofs.Settles.{pass_works}
 use Rattle.ds_play.proofs.settle.settle.Goals as goal
 
