@@ -20,7 +20,7 @@ use Rattle.ds_play.specs.declared.script.Break.TheVariants as breaks
 use Rattle.ds_play.specs.Orders.{Order, Make, Does}
 use Rattle.ds_play.specs.Doing.{Says, plan}
 use Rattle.ds_play.specs.Script.{Progress, Asks, begins_at, goes_on, Carried, begins, skips, makes, obeys, Finishes, FaultAt, Breaks, Lacks, is_whole, Writes}
-use Rattle.ds_play.specs.Running.{Obeys, Obeyed, Stopped, after, break_of, RanLines, ending_of}
+use Rattle.ds_play.specs.Running.{Obeys, Obeyed, Stopped, after, break_of, RanLines, HidesNone, ending_of}
 use Rattle.ds_play.proofs.Played.{play_runs, runs_on}
 
 -- ---- runs
@@ -115,6 +115,17 @@ writes_of whole script (Ok u) end input before now failed w done ran ne = (ran.0
 writes_of whole script (Err (breaks.Fault line kind)) end input before now failed w done ran ne = (ran.0, ran.1, subst (λ (b : Bool). Breaks b script ran.0 line kind) (sym w) ran.2)
 writes_of whole script (Err breaks.NoMemory) end input before now failed w done ran ne = (ran.0, ran.1, subst (λ (b : Bool). Lacks b script ran.0) (sym w) ran.2)
 writes_of whole script (Err breaks.WriteFailed) end input before now failed w done ran ne = absurd (ne refl)
+
+pub none_hidden : (run : Result (Unit {0}) Break) (end : ScriptEnd) (before now : Bool) → HidesNone run before now → ending_of run end ≢ ends.WriteFailed → now ≡ before
+none_hidden (Ok u) end before now h ne = h
+none_hidden (Err (breaks.Fault line kind)) end before now h ne = h
+none_hidden (Err breaks.NoMemory) end before now h ne = h
+none_hidden (Err breaks.WriteFailed) end before now h ne = absurd (ne refl)
+
+pub same_after : (stop : Stop) (line : ℕ) (before now : Bool) → (stop ≢ stops.WriteFailed → now ≡ before) → HidesNone (Err (break_of line stop)) before now
+same_after (stops.Fault kind) line before now h = h (λ e. cc)
+same_after stops.NoMemory line before now h = h (λ e. cc)
+same_after stops.WriteFailed line before now h = tt
 
 pub writes_fail : (whole : Bool) (script : List ℕ) (run : Result (Unit {0}) Break) (end : ScriptEnd) (before now : Option (List ℕ)) (failed : Bool)
     → end ≢ ends.WriteFailed → RanLines whole script before now failed run → ending_of run end ≡ ends.WriteFailed → failed ≡ true

@@ -61,6 +61,13 @@ RanLines whole script before now failed (Err (breaks.Fault line kind)) = (out : 
 RanLines whole script before now failed (Err breaks.NoMemory) = (out : List ℕ) × Appends before now out × Lacks whole script out
 RanLines whole script before now failed (Err breaks.WriteFailed) = failed ≡ true
 
+-- no write failed, but for one that ends the run
+abbrev pub HidesNone : Result (Unit {0}) Break → Bool → Bool → Type 0
+HidesNone (Ok done) before now = now ≡ before
+HidesNone (Err (breaks.Fault line kind)) before now = now ≡ before
+HidesNone (Err breaks.NoMemory) before now = now ≡ before
+HidesNone (Err breaks.WriteFailed) before now = Unit {0}
+
 abbrev pub ending_of : Result (Unit {0}) Break → ScriptEnd → ScriptEnd
 ending_of (Ok done) end = end
 ending_of (Err (breaks.Fault line kind)) end = ends.Fault line kind

@@ -11,7 +11,7 @@ ghost use Rattle.ds_sched.specs.declared.ending.ScriptEnd.TheVariants as ends;
 ghost use Rattle.ds_play.specs.declared.script.Stop.TheVariants as stops;
 ghost use Rattle.ds_play.specs.Orders.{command_view};
 ghost use Rattle.ds_play.specs.Script.{Progress, Carried, Writes, Outcome, is_whole};
-ghost use Rattle.ds_play.specs.Running.{Obeyed, Stopped, RanLines, after, break_of, ending_of};
+ghost use Rattle.ds_play.specs.Running.{Obeyed, Stopped, RanLines, HidesNone, after, break_of, ending_of};
 
 use crate::carry::{carry_out, new_world};
 use crate::order::{Begun, Command, read_order};
@@ -71,6 +71,8 @@ fn obey<W: Write>(
 ) -> Result<Begun, Stop>
     ensures obeyed { IfOk result (λ now. Obeyed begun world.old line.now now world.new (W.contents (writer_of writer.old)) (W.contents (writer_of writer.new))) }
     ensures stopped { IfErr result (λ stop. Stopped begun world.old line.now (W.contents (writer_of writer.old)) (W.contents (writer_of writer.new)) (write_failed writer.new) stop) }
+    ensures no_failure { IfOk result (λ now. write_failed writer.new ≡ write_failed writer.old) }
+    ensures none_hidden { IfErr result (λ stop. stop ≢ stops.WriteFailed → write_failed writer.new ≡ write_failed writer.old) }
 {
     let Some(command) = read_order(line, begun, world)? else {
         return Ok(begun);
@@ -110,7 +112,8 @@ fn run_lines<W: Write>(
     writer: &mut Writing<W>,
 ) -> Result<(), Break>
     requires { length script.now < 2 ^ 62 }
-    ensures { RanLines whole script.now (W.contents (writer_of writer.old)) (W.contents (writer_of writer.new)) (write_failed writer.new) result }
+    ensures none_hidden { HidesNone result (write_failed writer.old) (write_failed writer.new) }
+    ensures ran { RanLines whole script.now (W.contents (writer_of writer.old)) (W.contents (writer_of writer.new)) (write_failed writer.new) result }
 {
     let shape = Shape {
         columns: 2,
@@ -159,6 +162,7 @@ fn run_input<W: Write>(
 ) -> ScriptEnd
     requires small { limit < 2 ^ 62 - 1 }
     requires within { Within limit (length input.now.bytes.items) input.now.end }
+    ensures no_failure { result ≢ ScriptEnd.WriteFailed → write_failed writer.new ≡ write_failed writer.old }
     ensures write_failed { result ≡ ScriptEnd.WriteFailed → write_failed writer.new ≡ true }
     ensures writes { result ≢ ScriptEnd.WriteFailed → (out : List ℕ) × Appends (W.contents (writer_of writer.old)) (W.contents (writer_of writer.new)) out
         × Writes input.now.end (take limit input.now.bytes.items) out result }
@@ -186,6 +190,7 @@ fn run_within<R: Read, W: Write>(
 ) -> ScriptEnd
     requires { limit < 2 ^ 62 - 1 }
     ensures given { bytes_given reader.new ≤ bytes_given reader.old + (limit + 1) }
+    ensures no_failure { result ≢ ScriptEnd.WriteFailed → write_failed writer.new ≡ write_failed writer.old }
     ensures write_failed { result ≡ ScriptEnd.WriteFailed → write_failed writer.new ≡ true }
     ensures outcome { result ≢ ScriptEnd.WriteFailed → (bytes : List ℕ) × (out : List ℕ) × Consumes (R.remaining (reader_of reader.old)) (R.remaining (reader_of reader.new)) bytes
         × Appends (W.contents (writer_of writer.old)) (W.contents (writer_of writer.new)) out
@@ -212,6 +217,7 @@ pub fn run_script<R: Read, W: Write>(
     writer: &mut Writing<W>,
 ) -> ScriptEnd
     ensures given { bytes_given reader.new ≤ bytes_given reader.old + (SCRIPT_LIMIT + 1) }
+    ensures no_failure { result ≢ ScriptEnd.WriteFailed → write_failed writer.new ≡ write_failed writer.old }
     ensures write_failed { result ≡ ScriptEnd.WriteFailed → write_failed writer.new ≡ true }
     ensures outcome { result ≢ ScriptEnd.WriteFailed → (bytes : List ℕ) × (out : List ℕ) × Consumes (R.remaining (reader_of reader.old)) (R.remaining (reader_of reader.new)) bytes
         × Appends (W.contents (writer_of writer.old)) (W.contents (writer_of writer.new)) out
