@@ -11,12 +11,39 @@ pub enum Action {
 }
 
 const RUN_HELP: &str = "\
-Commands, one a line (P is a process, C a cell as A1):
+Commands, one a line. P is a process, from 0; C is a cell, as A1.
   sheet COLUMNS ROWS PROCESSES   a new sheet; only as the first command; without it 2 2 2
-  set P C TEXT                   sets the text of a cell
+  set P C TEXT                   an edit: sets the text of a cell
+  work P C                       works on a cell that is marked, and gives it its value
   settle P                       works until no cell is marked
   report P                       shows all values as CSV
-Empty lines and lines that begin with # are skipped.
+  recover P                      tells, after a crash or a stop, whether its last edit counts
+
+The same in parts, with what may come between:
+  begin P set C TEXT             begins an edit; so do begin P work C, begin P show (a report)
+                                 and begin P recover for the other calls
+  step P                         makes one step of its call
+  run P to POINT                 makes steps until its call has the point behind it
+  run P                          makes steps to the end of its call
+  stop P                         stops it: its call is lost
+  crash                          stops all; what is not persisted is lost
+  evict PLACE                    persists a word
+  peek C                         shows the state, the value and the text of a cell
+  word PLACE                     shows the cached and the persisted number of a word
+
+Points, in order:
+  an edit       written announced indexed helped swung kept marked answered
+  work          held stored valued spread cleared
+  a recovery    freed kept marked answered
+Places (N is one of the edits of P, from 0; PART is from 0):
+  head C, mark C, value C, kind C, index C PART,
+  announce P, header P N, text P N PART, done P PART
+
+A text is empty, a whole number or a formula, as =[.A1]*2 or =SUM([.A1:.B3];7):
+a reference is [.A1], a range [.A1:.B3], and ; parts arguments.
+Limits: 26 columns, 64 rows, 1024 cells; 8 processes, 256 edits of each;
+120 bytes a text, 512 a line, 1048576 a script.
+Empty lines and lines that begin with # are skipped. The answers come when the input has ended.
 
 Example:
   printf 'set 0 A1 =1+2\\nsettle 0\\nreport 0\\n' | dsheet run

@@ -1,0 +1,5 @@
+pub mod Played
+pub mod Driving
+pub mod Calling
+pub mod Settles
+pub mod Scripts

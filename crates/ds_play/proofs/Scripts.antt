@@ -1,0 +1,135 @@
+-- What a script does is a run, and how it ends.
+use Rattle.std.proofs.Common.{◌≡◌, ◌≢◌, ℕ, suc, ◌+◌, Bool, true, List, ◌++◌, Option, Result, Ok, Err, refl, sym, ap, subst, ◌∙◌, inl, inr}
+use Rattle.std.specs.Io.KnownBytes.{Appends}
+use Rattle.std.specs.Prelude.{Some}
+use Rattle.std.proofs.lemmas.List.{append-nil}
+use Rattle.ds_state.specs.Value.{WorldValue, world_of, IsGood}
+use Rattle.ds_state.specs.Fresh.{IsNew}
+use Rattle.ds_core.specs.Takes.{WorldRun}
+use Rattle.ds_sched.specs.declared.ending.ScriptEnd.{ScriptEnd}
+use Rattle.ds_sched.specs.declared.ending.ScriptEnd.TheVariants as ends
+use Rattle.ds_sched.specs.declared.input.InputEnd.{InputEnd}
+use Rattle.ds_sched.specs.Lines.{AtFront, ALine, next_of}
+use Rattle.ds_sched.proofs.Known.{Appends-both}
+use Rattle.ds_play.specs.declared.order.Begun.{Begun}
+use Rattle.ds_play.specs.declared.order.Begun.TheVariants as begun
+use Rattle.ds_play.specs.declared.script.Stop.{Stop}
+use Rattle.ds_play.specs.declared.script.Stop.TheVariants as stops
+use Rattle.ds_play.specs.declared.script.Break.{Break}
+use Rattle.ds_play.specs.declared.script.Break.TheVariants as breaks
+use Rattle.ds_play.specs.Orders.{Order, Make, Does}
+use Rattle.ds_play.specs.Doing.{Says, plan}
+use Rattle.ds_play.specs.Script.{Progress, Asks, begins_at, goes_on, Carried, begins, skips, makes, obeys, Finishes, FaultAt, Breaks, Lacks, is_whole, Writes}
+use Rattle.ds_play.specs.Running.{Obeys, Obeyed, Stopped, after, break_of, RanLines, HidesNone, ending_of}
+use Rattle.ds_play.proofs.Played.{play_runs, runs_on}
+
+-- ---- runs
+
+pub carried_runs : (whole : Bool) (script : List ℕ) (lines : ℕ) (p : Progress) (out rest : List ℕ) → Carried whole script lines p out rest → WorldRun p.start p.events p.replies p.world
+carried_runs whole script lines p out rest (begins w made) = refl
+carried_runs whole script lines p out rest (skips n q o r line behind before next asks) = carried_runs whole script n q o r before
+carried_runs whole script lines p out rest (makes n q o r line behind columns rows processes w before next asks made) = refl
+carried_runs whole script lines p out rest (obeys n q o r line behind deed events replies answer new before next asks plays) =
+    runs_on q.events q.replies events replies q.start q.world new (carried_runs whole script n q o r before) (play_runs events replies (plan q.world deed) (Says answer) q.world new plays)
+
+pub carried_new : (whole : Bool) (script : List ℕ) (lines : ℕ) (p : Progress) (out rest : List ℕ) → Carried whole script lines p out rest → IsNew (world_of p.start)
+carried_new whole script lines p out rest (begins w made) = made.new
+carried_new whole script lines p out rest (skips n q o r line behind before next asks) = carried_new whole script n q o r before
+carried_new whole script lines p out rest (makes n q o r line behind columns rows processes w before next asks made) = made.new
+carried_new whole script lines p out rest (obeys n q o r line behind deed events replies answer new before next asks plays) = carried_new whole script n q o r before
+
+pub carried_good : (whole : Bool) (script : List ℕ) (lines : ℕ) (p : Progress) (out rest : List ℕ) → Carried whole script lines p out rest → IsGood p.start
+carried_good whole script lines p out rest (begins w made) = made.good
+carried_good whole script lines p out rest (skips n q o r line behind before next asks) = carried_good whole script n q o r before
+carried_good whole script lines p out rest (makes n q o r line behind columns rows processes w before next asks made) = made.good
+carried_good whole script lines p out rest (obeys n q o r line behind deed events replies answer new before next asks plays) = carried_good whole script n q o r before
+
+-- ---- one line more
+
+-- the lines led here, with this to say of what came before and of the world
+pub record Led (whole : Bool) (script : List ℕ) (lines : ℕ) (first : Begun) (w : WorldValue) (out rest : List ℕ) : Type 0 where
+  pub progress : Progress
+  pub begun_is : progress.begun ≡ first
+  pub world_is : progress.world ≡ w
+  pub carried : Carried whole script lines progress out rest
+
+led_by : (whole : Bool) (script : List ℕ) (lines : ℕ) (p : Progress) (out rest : List ℕ) → Carried whole script lines p out rest → Led whole script lines p.begun p.world out rest
+led_by whole script lines p out rest carried = record { progress = p; begun_is = refl; world_is = refl; carried = carried }
+
+obeyed_more : (whole : Bool) (script : List ℕ) (lines : ℕ) (p : Progress) (out rest line behind : List ℕ) (order : Order) (answer : List ℕ) (new : WorldValue)
+    → Carried whole script lines p out rest → next_of whole rest ≡ ALine line behind → Asks p line (Some order) → Obeys p.world order answer new
+    → Led whole script (suc lines) (after order) new (out ++ answer) behind
+obeyed_more whole script lines p out rest line behind (Make columns rows processes) answer new carried next asks h =
+    subst (λ (o : List ℕ). Led whole script (suc lines) begun.Sheet new o behind) (sym (ap (λ (a : List ℕ). out ++ a) h.0 ∙ append-nil out))
+    (led_by whole script (suc lines) (begins_at begun.Sheet new) out behind (makes lines p out rest line behind columns rows processes new carried next asks h.1))
+obeyed_more whole script lines p out rest line behind (Does deed) answer new carried next asks h =
+    led_by whole script (suc lines) (goes_on p h.events h.replies new) (out ++ answer) behind (obeys lines p out rest line behind deed h.events h.replies answer new carried next asks h.plays)
+
+obeyed_at : (whole : Bool) (script : List ℕ) (lines : ℕ) (p : Progress) (out rest line behind : List ℕ) (before now then : Option (List ℕ)) (first' : Begun) (new : WorldValue)
+    → Carried whole script lines p out rest → Appends before now out → next_of whole rest ≡ ALine line behind → Obeyed p.begun p.world line first' new now then
+    → (out' : List ℕ) × Appends before then out' × Led whole script (suc lines) first' new out' behind
+obeyed_at whole script lines p out rest line behind before now then first' new carried written next (inl s) = (
+  out,
+  subst (λ (o : Option (List ℕ)). Appends before o out) (sym s.nothing) written,
+  record { progress = p; begun_is = sym s.still; world_is = sym s.same; carried = skips lines p out rest line behind carried next s.asks },
+)
+obeyed_at whole script lines p out rest line behind before now then first' new carried written next (inr a) = (
+  out ++ a.answer,
+  Appends-both before now then out a.answer written a.written,
+  subst (λ (b : Begun). Led whole script (suc lines) b new (out ++ a.answer) behind) (sym a.begun_is) (obeyed_more whole script lines p out rest line behind a.order a.answer new carried next a.asks a.obeys),
+)
+
+pub line_more : (whole : Bool) (script : List ℕ) (lines : ℕ) (first : Begun) (w : WorldValue) (out rest line behind : List ℕ) (before now then : Option (List ℕ)) (first' : Begun) (new : WorldValue)
+    → Led whole script lines first w out rest → Appends before now out → next_of whole rest ≡ ALine line behind → Obeyed first w line first' new now then
+    → (out' : List ℕ) × Appends before then out' × Led whole script (suc lines) first' new out' behind
+line_more whole script lines first w out rest line behind before now then first' new led written next h =
+    obeyed_at whole script lines led.progress out rest line behind before now then first' new led.carried written next
+    (subst (λ (b : Begun). Obeyed b led.progress.world line first' new now then) (sym led.begun_is) (subst (λ (v : WorldValue). Obeyed first v line first' new now then) (sym led.world_is) h))
+
+-- a line that stops the script
+stops_at : (whole : Bool) (script : List ℕ) (lines : ℕ) (p : Progress) (out rest line behind : List ℕ) (before now then : Option (List ℕ)) (failed : Bool) (stop : Stop)
+    → Carried whole script lines p out rest → Appends before now out → next_of whole rest ≡ ALine line behind → Stopped p.begun p.world line now then failed stop
+    → RanLines whole script before then failed (Err (break_of (lines + 1) stop))
+stops_at whole script lines p out rest line behind before now then failed (stops.Fault kind) carried written next s = (
+  out,
+  subst (λ (o : Option (List ℕ)). Appends before o out) (sym s.1) written,
+  record { lines = lines; progress = p; rest = rest; carried = carried; number = refl; fault = subst (λ (f : AtFront). FaultAt p f kind) (sym next) s.0 },
+)
+stops_at whole script lines p out rest line behind before now then failed stops.NoMemory carried written next s =
+    (out, subst (λ (o : Option (List ℕ)). Appends before o out) (sym s) written, inl (record { lines = lines; progress = p; rest = rest; carried = carried }))
+stops_at whole script lines p out rest line behind before now then failed stops.WriteFailed carried written next s = s
+
+pub line_stops : (whole : Bool) (script : List ℕ) (lines : ℕ) (first : Begun) (w : WorldValue) (out rest line behind : List ℕ) (before now then : Option (List ℕ)) (failed : Bool) (stop : Stop)
+    → Led whole script lines first w out rest → Appends before now out → next_of whole rest ≡ ALine line behind → Stopped first w line now then failed stop
+    → RanLines whole script before then failed (Err (break_of (lines + 1) stop))
+line_stops whole script lines first w out rest line behind before now then failed stop led written next h =
+    stops_at whole script lines led.progress out rest line behind before now then failed stop led.carried written next
+    (subst (λ (b : Begun). Stopped b led.progress.world line now then failed stop) (sym led.begun_is) (subst (λ (v : WorldValue). Stopped first v line now then failed stop) (sym led.world_is) h))
+
+-- ---- endings
+
+pub writes_of : (whole : Bool) (script : List ℕ) (run : Result (Unit {0}) Break) (end : ScriptEnd) (input : InputEnd) (before now : Option (List ℕ)) (failed : Bool)
+    → is_whole input ≡ whole → ((out : List ℕ) → Finishes whole script out → Writes input script out end) → RanLines whole script before now failed run → ending_of run end ≢ ends.WriteFailed
+    → (out : List ℕ) × Appends before now out × Writes input script out (ending_of run end)
+writes_of whole script (Ok u) end input before now failed w done ran ne = (ran.0, ran.1, done ran.0 ran.2)
+writes_of whole script (Err (breaks.Fault line kind)) end input before now failed w done ran ne = (ran.0, ran.1, subst (λ (b : Bool). Breaks b script ran.0 line kind) (sym w) ran.2)
+writes_of whole script (Err breaks.NoMemory) end input before now failed w done ran ne = (ran.0, ran.1, subst (λ (b : Bool). Lacks b script ran.0) (sym w) ran.2)
+writes_of whole script (Err breaks.WriteFailed) end input before now failed w done ran ne = absurd (ne refl)
+
+pub none_hidden : (run : Result (Unit {0}) Break) (end : ScriptEnd) (before now : Bool) → HidesNone run before now → ending_of run end ≢ ends.WriteFailed → now ≡ before
+none_hidden (Ok u) end before now h ne = h
+none_hidden (Err (breaks.Fault line kind)) end before now h ne = h
+none_hidden (Err breaks.NoMemory) end before now h ne = h
+none_hidden (Err breaks.WriteFailed) end before now h ne = absurd (ne refl)
+
+pub same_after : (stop : Stop) (line : ℕ) (before now : Bool) → (stop ≢ stops.WriteFailed → now ≡ before) → HidesNone (Err (break_of line stop)) before now
+same_after (stops.Fault kind) line before now h = h (λ e. cc)
+same_after stops.NoMemory line before now h = h (λ e. cc)
+same_after stops.WriteFailed line before now h = tt
+
+pub writes_fail : (whole : Bool) (script : List ℕ) (run : Result (Unit {0}) Break) (end : ScriptEnd) (before now : Option (List ℕ)) (failed : Bool)
+    → end ≢ ends.WriteFailed → RanLines whole script before now failed run → ending_of run end ≡ ends.WriteFailed → failed ≡ true
+writes_fail whole script (Ok u) end before now failed ne ran e = absurd (ne e)
+writes_fail whole script (Err (breaks.Fault line kind)) end before now failed ne ran e = absurd (cc)
+writes_fail whole script (Err breaks.NoMemory) end before now failed ne ran e = absurd (cc)
+writes_fail whole script (Err breaks.WriteFailed) end before now failed ne ran e = ran

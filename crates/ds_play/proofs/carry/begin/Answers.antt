@@ -1,0 +1,13 @@
+use Rattle.std.proofs.Common.{ℕ, List, refl}
+use Rattle.ds_play.specs.Orders.{beginning}
+use Rattle.ds_play.specs.Doing.{Once, Says}
+use Rattle.ds_play.specs.Texts.{reply_text}
+use Rattle.ds_play.specs.Plays.{Played}
+use Rattle.ds_play.proofs.Played.{answered, one}
+use Rattle.ds_play.proofs.carry.begin.Goals as goal
+
+pub returns : goal.returns
+returns c =
+    answered c.reply_bytes.result (reply_text c.begins-reply.new.world c.args.process c.begins-reply.result)
+    (λ (t : List ℕ). Played (Once c.args.process (beginning c.args.process c.args.call)) c.args.world.now t c.begins-reply.new.world) c.reply_bytes.ensures
+    (one (Once c.args.process (beginning c.args.process c.args.call)) (Says (reply_text c.begins-reply.new.world c.args.process c.begins-reply.result)) c.args.world.now c.begins-reply.new.world (beginning c.args.process c.args.call) c.begins-reply.result refl c.begins-reply.ensures refl)

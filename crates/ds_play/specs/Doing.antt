@@ -1,0 +1,146 @@
+-- What a command does, event by event, and the text that it ends with.
+use Rattle.std.specs.Prelude.{ℕ, zero, suc, ◌+◌, ◌-◌, List, Option, Some, None, if◌then◌else◌}
+use Rattle.ds_formula.specs.declared.cells.Shape.{Shape}
+use Rattle.ds_formula.specs.Cells.{cell_at}
+use Rattle.ds_eval.specs.Tasks.{PlainEvaluated, local_of}
+use Rattle.ds_layout.specs.Sheet.{memory}
+use Rattle.ds_layout.specs.Places.{cells_of}
+use Rattle.ds_state.specs.Value.{WorldValue, world_of}
+use Rattle.ds_state.specs.Works.{PlainWork}
+use Rattle.ds_state.specs.declared.work.WorkStage.{WorkStage}
+use Rattle.ds_state.specs.declared.work.WorkStage.TheVariants.{Wait}
+use Rattle.ds_state.specs.declared.situation.Situation.{Situation}
+use Rattle.ds_state.specs.declared.situation.Situation.TheVariants.{Working}
+use Rattle.ds_edit.specs.declared.answer.Answer.TheVariants as answers
+use Rattle.ds_work.specs.WorkEvents.{task_at}
+use Rattle.ds_core.specs.declared.event.Event.{Event}
+use Rattle.ds_core.specs.declared.event.Event.TheVariants as events
+use Rattle.ds_core.specs.declared.reply.Reply.{Reply}
+use Rattle.ds_core.specs.declared.reply.Reply.TheVariants.{Begun, Entered, Stepped, Answered}
+use Rattle.ds_play.specs.declared.point.PointName.{PointName}
+use Rattle.ds_play.specs.declared.drive.Until.{Until}
+use Rattle.ds_play.specs.declared.drive.Until.TheVariants.{OneStep, ToPoint, ToAnswer, InPass}
+use Rattle.ds_play.specs.Points.{has_passed}
+use Rattle.ds_play.specs.Settling.{marked_from, left_in}
+use Rattle.ds_play.specs.Texts.{reply_text, answer_text, at_text, left_text, peek_text, word_text}
+use Rattle.ds_play.specs.Orders.{Deed}
+use Rattle.ds_play.specs.Orders as deed
+
+-- it ends with this text; it wants one event, whose reply to the process is its text; it begins a call of the process and
+-- drives it to its answer; it drives the process up to here; it begins, in a pass of a settle that has so many passes
+-- behind it, the process's work on a cell
+pub data Doing : Type 0 where
+  Says : List ℕ → Doing
+  Once : ℕ → Event → Doing
+  Calls : ℕ → Event → Doing
+  Drives : ℕ → Until → Doing
+  Works : ℕ → ℕ → ℕ → Doing
+
+-- ---- what it wants
+
+-- the task of a work that waits, evaluated
+abbrev pub evaluated : Shape → PlainWork → PlainEvaluated
+evaluated shape e = record { task = task_at shape e; entry = local_of (task_at shape e) }
+
+abbrev pub wanted_at : ℕ → Shape → PlainWork → WorkStage → Event
+wanted_at p shape e Wait = events.Offer (evaluated shape e)
+wanted_at p shape e stage = events.Step p
+
+-- a process that is driven makes a step; where its work waits, it is offered the entry that it waits for
+abbrev pub wanted : ℕ → Shape → Situation → Event
+wanted p shape (Working e) = wanted_at p shape e e.stage
+wanted p shape s = events.Step p
+
+-- the event that it wants
+abbrev pub asks : Doing → WorldValue → Option Event
+asks (Says text) w = None
+asks (Once p event) w = Some event
+asks (Calls p event) w = Some event
+asks (Drives p until) w = Some (wanted p w.sheet.layout.shape ((world_of w).situation p))
+asks (Works p passes cell) w = Some (events.BeginWork p (cell_at w.sheet.layout.shape cell))
+
+-- ---- passes of a settle
+
+abbrev pub ends : WorldValue → Doing
+ends w = Says (left_text (left_in (world_of w)))
+
+-- a pass with so many behind it begins: a work on the first cell that is marked, where one is; else it is the last
+abbrev pub first_of : WorldValue → ℕ → ℕ → Option ℕ → Doing
+first_of w p passes None = ends w
+first_of w p passes (Some cell) = Works p passes cell
+
+abbrev pub pass : WorldValue → ℕ → ℕ → Doing
+pass w p zero = ends w
+pass w p (suc passes) = first_of w p passes (marked_from (world_of w) (cells_of w.sheet.layout) 0)
+
+-- a pass that has worked goes on behind a cell: with the next one that is marked, or with the next pass
+abbrev pub next_of : WorldValue → ℕ → ℕ → Option ℕ → Doing
+next_of w p passes None = pass w p passes
+next_of w p passes (Some cell) = Works p passes cell
+
+abbrev pub goes_behind : WorldValue → ℕ → ℕ → ℕ → Doing
+goes_behind w p passes cell = next_of w p passes (marked_from (world_of w) (cells_of w.sheet.layout - (cell + 1)) (cell + 1))
+
+-- ---- what it does when it is told
+
+-- up to the point, where the process's call does not have it behind it
+abbrev pub to_point : ℕ → PointName → Situation → Doing
+to_point p name s = if has_passed s name then Says (at_text p name) else Drives p (ToPoint name)
+
+-- the process has made a step
+abbrev pub stepped : WorldValue → ℕ → Until → Doing
+stepped w p OneStep = Says (reply_text w p Stepped)
+stepped w p (ToPoint name) = to_point p name ((world_of w).situation p)
+stepped w p ToAnswer = Drives p ToAnswer
+stepped w p (InPass passes cell) = Drives p (InPass passes cell)
+
+-- its work was offered the entry, which is no step
+abbrev pub offered : WorldValue → ℕ → Until → Doing
+offered w p OneStep = Drives p OneStep
+offered w p (ToPoint name) = to_point p name ((world_of w).situation p)
+offered w p ToAnswer = Drives p ToAnswer
+offered w p (InPass passes cell) = Drives p (InPass passes cell)
+
+-- its call has ended, or can not go on; want of memory in a work ends a settle, each other answer lets it go on
+abbrev pub ended : WorldValue → ℕ → Until → Reply → Doing
+ended w p (InPass passes cell) (Answered answers.NoMemory) = Says (answer_text w p answers.NoMemory)
+ended w p (InPass passes cell) (Answered answer) = goes_behind w p passes cell
+ended w p until reply = Says (reply_text w p reply)
+
+abbrev pub driven : WorldValue → ℕ → Until → Event → Reply → Doing
+driven w p until (events.Offer value) Stepped = offered w p until
+driven w p until event Stepped = stepped w p until
+driven w p until event reply = ended w p until reply
+
+-- the call has begun, or not
+abbrev pub called : WorldValue → ℕ → Until → Reply → Doing
+called w p until (Begun number) = Drives p until
+called w p until Entered = Drives p until
+called w p until reply = Says (reply_text w p reply)
+
+-- what it does when the event has this reply, in the world behind it
+abbrev pub told : Doing → Event → Reply → WorldValue → Doing
+told (Says text) event reply w = Says text
+told (Once p asked) event reply w = Says (reply_text w p reply)
+told (Calls p asked) event reply w = called w p ToAnswer reply
+told (Drives p until) event reply w = driven w p until event reply
+told (Works p passes cell) event reply w = called w p (InPass passes cell) reply
+
+-- ---- how it begins
+
+-- at most two passes more than the sheet has cells
+abbrev pub settle : WorldValue → ℕ → Doing
+settle w p = pass w p (cells_of w.sheet.layout + 2)
+
+abbrev pub plan : WorldValue → Deed → Doing
+plan w (deed.Whole p event) = Calls p event
+plan w (deed.Begin p event) = Once p event
+plan w (deed.Settle p) = settle w p
+plan w (deed.Step p) = Drives p OneStep
+plan w (deed.RunTo p name) = to_point p name ((world_of w).situation p)
+plan w (deed.Run p) = Drives p ToAnswer
+plan w (deed.Stop p) = Once p (events.Stop p)
+plan w deed.Crash = Once 0 events.Crash
+plan w (deed.Evict place) = Once 0 (events.Evict place)
+plan w (deed.Peek cell) = Says (peek_text (world_of w) cell)
+plan w (deed.Word place) = Says (word_text (memory w.sheet) place)

@@ -1,0 +1,310 @@
+-- The commands of a script over a world, and the lines that give them.
+use Rattle.std.specs.Prelude.{ℕ, ◌≤◌, List, [], codes, Option, Some, None, is_none, option_map, unwrap_or, Result, Ok, Err, if◌then◌else◌}
+use Rattle.std.specs.Str.{bytes_eq}
+use Rattle.ds_formula.specs.declared.cells.Shape.{Shape}
+use Rattle.ds_formula.specs.declared.cells.Cell.{Cell}
+use Rattle.ds_formula.specs.Cells.{IsInside, index_of}
+use Rattle.ds_layout.specs.declared.place.TheConstants.{RECORDS, TEXT_PARTS, DONE_PARTS}
+use Rattle.ds_layout.specs.declared.place.Place.{Place}
+use Rattle.ds_layout.specs.declared.place.Place.TheVariants as place
+use Rattle.ds_layout.specs.declared.layout.Layout.{Layout}
+use Rattle.ds_layout.specs.Places.{parts_of, IsPlace}
+use Rattle.ds_state.specs.Value.{WorldValue, world_of}
+use Rattle.ds_core.specs.Requests.{PlainRequest}
+use Rattle.ds_core.specs.declared.event.Event.{Event}
+use Rattle.ds_core.specs.declared.event.Event.TheVariants as events
+use Rattle.ds_sched.specs.declared.ending.ScriptFault.{ScriptFault}
+use Rattle.ds_sched.specs.declared.ending.ScriptFault.TheVariants.{UnknownCommand, BadField, SheetNotFirst}
+use Rattle.ds_sched.specs.Lines.{word_of}
+use Rattle.ds_sched.specs.Commands.{◌>>=◌, number_field, cell_field, make_of, is_skipped}
+use Rattle.ds_sched.specs.Commands as old
+use Rattle.ds_play.specs.declared.point.PointName.{PointName}
+use Rattle.ds_play.specs.declared.point.PointName.TheVariants as name
+use Rattle.ds_play.specs.declared.order.Verb.{Verb}
+use Rattle.ds_play.specs.declared.order.Verb.TheVariants as verbs
+use Rattle.ds_play.specs.declared.order.CallName.{CallName}
+use Rattle.ds_play.specs.declared.order.CallName.TheVariants as names
+use Rattle.ds_play.specs.declared.order.Begun.{Begun}
+use Rattle.ds_play.specs.declared.order.Begun.TheVariants as begun
+use Rattle.ds_play.specs.declared.places.PlaceKind.{PlaceKind}
+use Rattle.ds_play.specs.declared.places.PlaceKind.TheVariants as kinds
+use Rattle.ds_play.specs.declared.order.Call.{Call}
+use Rattle.ds_play.specs.declared.order.Call.TheVariants as calls
+use Rattle.ds_play.specs.declared.order.Command.{Command}
+use Rattle.ds_play.specs.declared.order.Command.TheVariants as commands
+use Rattle.ds_play.specs.Points.{lacks}
+
+-- what a line asks of a world: a whole call of a process, by the event that begins it; its beginning alone; passes of
+-- works until no cell is marked; one step; steps up to a point; steps to the end of the call; a stop, a crash, an
+-- eviction; what a cell shows; both sides of a word
+pub data Deed : Type 0 where
+  Whole : ℕ → Event → Deed
+  Begin : ℕ → Event → Deed
+  Settle : ℕ → Deed
+  Step : ℕ → Deed
+  RunTo : ℕ → PointName → Deed
+  Run : ℕ → Deed
+  Stop : ℕ → Deed
+  Crash : Deed
+  Evict : Place → Deed
+  Peek : Cell → Deed
+  Word : Place → Deed
+
+-- what a line asks for: a new sheet of so many columns, rows and processes, or something of the one that is there
+pub data Order : Type 0 where
+  Make : ℕ → ℕ → ℕ → Order
+  Does : Deed → Order
+
+abbrev pub request : ℕ → Cell → List ℕ → PlainRequest
+request process cell text = record { process = process; cell = cell; text = text }
+
+-- the event that begins a call of the process
+abbrev pub beginning : ℕ → Call → Event
+beginning process (calls.Edit cell text) = events.BeginEdit (request process cell text.now)
+beginning process (calls.Work cell) = events.BeginWork process cell
+beginning process calls.Report = events.BeginShow process
+beginning process calls.Recovery = events.BeginRecover process
+
+abbrev pub command_view : Command → Order
+command_view (commands.Sheet shape processes) = Make shape.columns shape.rows processes
+command_view (commands.Whole process call) = Does (Whole process (beginning process call))
+command_view (commands.Begin process call) = Does (Begin process (beginning process call))
+command_view (commands.Settle process) = Does (Settle process)
+command_view (commands.Step process) = Does (Step process)
+command_view (commands.RunTo process name) = Does (RunTo process name)
+command_view (commands.Run process) = Does (Run process)
+command_view (commands.Stop process) = Does (Stop process)
+command_view commands.Crash = Does Crash
+command_view (commands.Evict place) = Does (Evict place)
+command_view (commands.Peek cell) = Does (Peek cell)
+command_view (commands.Word place) = Does (Word place)
+
+-- a sheet of this layout can carry it out
+abbrev pub CanDo : Layout → Command → Type 0
+CanDo layout (commands.Sheet shape processes) = (1 ≤ processes) × (processes ≤ 8)
+CanDo layout (commands.Evict place) = IsPlace layout place
+CanDo layout (commands.Peek cell) = IsInside layout.shape cell
+CanDo layout (commands.Word place) = IsPlace layout place
+CanDo layout _ = Unit {0}
+
+-- ---- places
+
+-- the last word: a cell's number, or a number below the limit
+abbrev pub cell_only : Shape → Option (List ℕ) → Option ℕ
+cell_only shape rest = cell_field shape rest >>= λ cell. if is_none cell.1 then Some (index_of shape cell.0) else None
+
+abbrev pub number_only : ℕ → Option (List ℕ) → Option ℕ
+number_only limit rest = number_field limit rest >>= λ n. if is_none n.1 then Some n.0 else None
+
+abbrev pub kind_of : List ℕ → Option PlaceKind
+kind_of word =
+    if bytes_eq word (codes "head") then Some kinds.Head
+    else (if bytes_eq word (codes "mark") then Some kinds.Mark
+    else (if bytes_eq word (codes "value") then Some kinds.Value
+    else (if bytes_eq word (codes "kind") then Some kinds.Kind
+    else (if bytes_eq word (codes "index") then Some kinds.Index
+    else (if bytes_eq word (codes "announce") then Some kinds.Announce
+    else (if bytes_eq word (codes "header") then Some kinds.Header
+    else (if bytes_eq word (codes "text") then Some kinds.Text
+    else (if bytes_eq word (codes "done") then Some kinds.Done
+    else None))))))))
+
+-- head C, mark C, value C, kind C, index C PART, announce P, header P NUMBER, text P NUMBER PART, done P PART
+abbrev pub place_by : Layout → PlaceKind → Option (List ℕ) → Option Place
+place_by layout kinds.Head rest = cell_only layout.shape rest >>= λ c. Some (place.Head c)
+place_by layout kinds.Mark rest = cell_only layout.shape rest >>= λ c. Some (place.Mark c)
+place_by layout kinds.Value rest = cell_only layout.shape rest >>= λ c. Some (place.Value c)
+place_by layout kinds.Kind rest = cell_only layout.shape rest >>= λ c. Some (place.Kind c)
+place_by layout kinds.Index rest =
+    cell_field layout.shape rest >>= λ c. number_only (parts_of layout) c.1 >>= λ part. Some (place.Index (index_of layout.shape c.0) part)
+place_by layout kinds.Announce rest = number_only layout.processes rest >>= λ p. Some (place.Announce p)
+place_by layout kinds.Header rest = number_field layout.processes rest >>= λ p. number_only RECORDS p.1 >>= λ n. Some (place.Header p.0 n)
+place_by layout kinds.Text rest =
+    number_field layout.processes rest >>= λ p. number_field RECORDS p.1 >>= λ n. number_only TEXT_PARTS n.1 >>= λ part. Some (place.Text p.0 n.0 part)
+place_by layout kinds.Done rest = number_field layout.processes rest >>= λ p. number_only DONE_PARTS p.1 >>= λ part. Some (place.Done p.0 part)
+
+abbrev pub place_field : Layout → Option (List ℕ) → Option Place
+place_field layout rest = rest >>= λ bytes. kind_of (word_of bytes).0 >>= λ kind. place_by layout kind (word_of bytes).1
+
+-- ---- points
+
+abbrev pub point_named : List ℕ → Option PointName
+point_named word =
+    if bytes_eq word (codes "written") then Some name.Written
+    else (if bytes_eq word (codes "announced") then Some name.Announced
+    else (if bytes_eq word (codes "indexed") then Some name.Indexed
+    else (if bytes_eq word (codes "helped") then Some name.Helped
+    else (if bytes_eq word (codes "swung") then Some name.Swung
+    else (if bytes_eq word (codes "kept") then Some name.Kept
+    else (if bytes_eq word (codes "marked") then Some name.Marked
+    else (if bytes_eq word (codes "answered") then Some name.Answered
+    else (if bytes_eq word (codes "held") then Some name.Held
+    else (if bytes_eq word (codes "stored") then Some name.Stored
+    else (if bytes_eq word (codes "valued") then Some name.Valued
+    else (if bytes_eq word (codes "spread") then Some name.Spread
+    else (if bytes_eq word (codes "cleared") then Some name.Cleared
+    else (if bytes_eq word (codes "freed") then Some name.Freed
+    else None)))))))))))))
+
+-- ---- commands
+
+-- nothing behind it
+abbrev pub alone : Deed → Option (List ℕ) → Option Order
+alone deed rest = if is_none rest then Some (Does deed) else None
+
+-- PROCESS CELL TEXT, where the text is all that follows the space behind the cell, and empty without one
+abbrev pub set_of : Layout → Option (List ℕ) → Option Order
+set_of layout rest =
+    number_field layout.processes rest >>= λ process.
+    cell_field layout.shape process.1 >>= λ cell.
+    Some (Does (Whole process.0 (events.BeginEdit (request process.0 cell.0 (unwrap_or cell.1 [])))))
+
+-- PROCESS CELL
+abbrev pub work_of : Layout → Option (List ℕ) → Option Order
+work_of layout rest =
+    number_field layout.processes rest >>= λ process.
+    cell_field layout.shape process.1 >>= λ cell.
+    alone (Whole process.0 (events.BeginWork process.0 cell.0)) cell.1
+
+-- PROCESS alone
+abbrev pub deed_of : Verb → ℕ → Option Deed
+deed_of verbs.Recover process = Some (Whole process (events.BeginRecover process))
+deed_of verbs.Report process = Some (Whole process (events.BeginShow process))
+deed_of verbs.Settle process = Some (Settle process)
+deed_of verbs.Step process = Some (Step process)
+deed_of verbs.Stop process = Some (Stop process)
+deed_of _ process = None
+
+abbrev pub of_process : Verb → Layout → Option (List ℕ) → Option Order
+of_process verb layout rest = number_only layout.processes rest >>= λ process. deed_of verb process >>= λ deed. Some (Does deed)
+
+-- PROCESS to POINT, or PROCESS alone
+abbrev pub run_by : ℕ → Option (List ℕ) → Option Order
+run_by process None = Some (Does (Run process))
+run_by process (Some bytes) =
+    if bytes_eq (word_of bytes).0 (codes "to") then ((word_of bytes).1 >>= λ word. point_named word >>= λ n. Some (Does (RunTo process n))) else None
+
+abbrev pub run_of : Layout → Option (List ℕ) → Option Order
+run_of layout rest = number_field layout.processes rest >>= λ process. run_by process.0 process.1
+
+abbrev pub evict_of : Layout → Option (List ℕ) → Option Order
+evict_of layout rest = place_field layout rest >>= λ r. Some (Does (Evict r))
+
+abbrev pub word_order : Layout → Option (List ℕ) → Option Order
+word_order layout rest = place_field layout rest >>= λ r. Some (Does (Word r))
+
+abbrev pub peek_of : Layout → Option (List ℕ) → Option Order
+peek_of layout rest = cell_field layout.shape rest >>= λ cell. alone (Peek cell.0) cell.1
+
+abbrev pub make : old.Order → Option Order
+make (old.Make columns rows processes) = Some (Make columns rows processes)
+make _ = None
+
+abbrev pub sheet_of : Option (List ℕ) → Option Order
+sheet_of rest = make_of rest >>= make
+
+abbrev pub or_bad_field : Option Order → Result Order ScriptFault
+or_bad_field None = Err BadField
+or_bad_field (Some order) = Ok order
+
+-- ---- begin PROCESS set CELL TEXT, work CELL, show, recover; a word that is no call's is no command
+
+abbrev pub begin_edit_of : Layout → ℕ → Option (List ℕ) → Option Order
+begin_edit_of layout process rest =
+    cell_field layout.shape rest >>= λ cell. Some (Does (Begin process (events.BeginEdit (request process cell.0 (unwrap_or cell.1 [])))))
+
+abbrev pub begin_work_of : Layout → ℕ → Option (List ℕ) → Option Order
+begin_work_of layout process rest = cell_field layout.shape rest >>= λ cell. alone (Begin process (events.BeginWork process cell.0)) cell.1
+
+abbrev pub call_named : List ℕ → Option CallName
+call_named word =
+    if bytes_eq word (codes "set") then Some names.Edit
+    else (if bytes_eq word (codes "work") then Some names.Work
+    else (if bytes_eq word (codes "show") then Some names.Report
+    else (if bytes_eq word (codes "recover") then Some names.Recovery
+    else None)))
+
+abbrev pub begin_by : Layout → ℕ → Option CallName → Option (List ℕ) → Result Order ScriptFault
+begin_by layout process None rest = Err UnknownCommand
+begin_by layout process (Some names.Edit) rest = or_bad_field (begin_edit_of layout process rest)
+begin_by layout process (Some names.Work) rest = or_bad_field (begin_work_of layout process rest)
+begin_by layout process (Some names.Report) rest = or_bad_field (alone (Begin process (events.BeginShow process)) rest)
+begin_by layout process (Some names.Recovery) rest = or_bad_field (alone (Begin process (events.BeginRecover process)) rest)
+
+abbrev pub begin_words : Layout → ℕ → Option (List ℕ) → Result Order ScriptFault
+begin_words layout process None = Err BadField
+begin_words layout process (Some bytes) = begin_by layout process (call_named (word_of bytes).0) (word_of bytes).1
+
+abbrev pub begin_of : Layout → Option (ℕ × Option (List ℕ)) → Result Order ScriptFault
+begin_of layout None = Err BadField
+begin_of layout (Some process) = begin_words layout process.0 process.1
+
+-- ---- lines
+
+abbrev pub verb_of : List ℕ → Option Verb
+verb_of word =
+    if bytes_eq word (codes "sheet") then Some verbs.Sheet
+    else (if bytes_eq word (codes "set") then Some verbs.Set
+    else (if bytes_eq word (codes "work") then Some verbs.Work
+    else (if bytes_eq word (codes "recover") then Some verbs.Recover
+    else (if bytes_eq word (codes "report") then Some verbs.Report
+    else (if bytes_eq word (codes "settle") then Some verbs.Settle
+    else (if bytes_eq word (codes "begin") then Some verbs.Begin
+    else (if bytes_eq word (codes "step") then Some verbs.Step
+    else (if bytes_eq word (codes "run") then Some verbs.Run
+    else (if bytes_eq word (codes "stop") then Some verbs.Stop
+    else (if bytes_eq word (codes "crash") then Some verbs.Crash
+    else (if bytes_eq word (codes "evict") then Some verbs.Evict
+    else (if bytes_eq word (codes "peek") then Some verbs.Peek
+    else (if bytes_eq word (codes "word") then Some verbs.Word
+    else None)))))))))))))
+
+-- the words behind the first
+abbrev pub fields_of : Verb → Layout → Option (List ℕ) → Result Order ScriptFault
+fields_of verbs.Sheet layout rest = or_bad_field (sheet_of rest)
+fields_of verbs.Set layout rest = or_bad_field (set_of layout rest)
+fields_of verbs.Work layout rest = or_bad_field (work_of layout rest)
+fields_of verbs.Recover layout rest = or_bad_field (of_process verbs.Recover layout rest)
+fields_of verbs.Report layout rest = or_bad_field (of_process verbs.Report layout rest)
+fields_of verbs.Settle layout rest = or_bad_field (of_process verbs.Settle layout rest)
+fields_of verbs.Begin layout rest = begin_of layout (number_field layout.processes rest)
+fields_of verbs.Step layout rest = or_bad_field (of_process verbs.Step layout rest)
+fields_of verbs.Run layout rest = or_bad_field (run_of layout rest)
+fields_of verbs.Stop layout rest = or_bad_field (of_process verbs.Stop layout rest)
+fields_of verbs.Crash layout rest = or_bad_field (alone Crash rest)
+fields_of verbs.Evict layout rest = or_bad_field (evict_of layout rest)
+fields_of verbs.Peek layout rest = or_bad_field (peek_of layout rest)
+fields_of verbs.Word layout rest = or_bad_field (word_order layout rest)
+
+abbrev pub order_by : Option Verb → Begun → Layout → Option (List ℕ) → Result Order ScriptFault
+order_by None first layout rest = Err UnknownCommand
+order_by (Some verbs.Sheet) begun.Sheet layout rest = Err SheetNotFirst
+order_by (Some verbs.Sheet) begun.Command layout rest = Err SheetNotFirst
+order_by (Some verb) first layout rest = fields_of verb layout rest
+
+-- a point that the process's call does not have is a bad field
+abbrev pub checked : WorldValue → Order → Result Order ScriptFault
+checked w (Does (RunTo process n)) = if lacks ((world_of w).situation process) n then Err BadField else Ok (Does (RunTo process n))
+checked w order = Ok order
+
+abbrev pub some : Result Order ScriptFault → Result (Option Order) ScriptFault
+some (Ok order) = Ok (Some order)
+some (Err fault) = Err fault
+
+abbrev pub checked_of : WorldValue → Result Order ScriptFault → Result (Option Order) ScriptFault
+checked_of w (Err fault) = Err fault
+checked_of w (Ok order) = some (checked w order)
+
+-- what the line asks for at this point of a script; nothing where it is skipped; or its fault
+abbrev pub order_of : Begun → WorldValue → List ℕ → Result (Option Order) ScriptFault
+order_of first w line =
+    if is_skipped line then Ok None
+    else checked_of w (order_by (verb_of (word_of line).0) first w.sheet.layout (word_of line).1)
+
+abbrev pub read_view : Result Command ScriptFault → Result Order ScriptFault
+read_view (Ok command) = Ok (command_view command)
+read_view (Err fault) = Err fault
+
+abbrev pub answer_view : Result (Option Command) ScriptFault → Result (Option Order) ScriptFault
+answer_view (Ok command) = Ok (option_map command_view command)
+answer_view (Err fault) = Err fault

@@ -1,0 +1,126 @@
+-- The text of each answer.
+use Rattle.std.specs.Prelude.{ℕ, zero, suc, Bool, true, false, List, [], ◌∷◌, ◌++◌, codes, slice_index_or}
+use Rattle.std.specs.Fmt.{decimal}
+use Rattle.ds_formula.specs.declared.cells.Cell.{Cell}
+use Rattle.ds_formula.specs.declared.cells.Shape.{Shape}
+use Rattle.ds_formula.specs.Cells.{cell_at}
+use Rattle.ds_formula.specs.Names.{cell_text}
+use Rattle.ds_eval.specs.declared.value.Value.{Value}
+use Rattle.ds_eval.specs.declared.value.Value.TheVariants as value
+use Rattle.ds_eval.specs.Numbers.{value_text}
+use Rattle.ds_words.specs.Memory.{Memory}
+use Rattle.ds_layout.specs.declared.place.Place.{Place}
+use Rattle.ds_layout.specs.declared.place.Place.TheVariants as place
+use Rattle.ds_layout.specs.declared.mark.State.{State}
+use Rattle.ds_layout.specs.declared.mark.State.TheVariants.{Clean, Marked, Held}
+use Rattle.ds_layout.specs.Mark.{state_of}
+use Rattle.ds_state.specs.Value.{WorldValue}
+use Rattle.ds_state.specs.World.{World}
+use Rattle.ds_state.specs.Shown.{mark_in, value_in, text_in}
+use Rattle.ds_edit.specs.declared.answer.Answer.{Answer}
+use Rattle.ds_edit.specs.declared.answer.Answer.TheVariants as answers
+use Rattle.ds_edit.specs.declared.answer.Other.{Other}
+use Rattle.ds_edit.specs.declared.answer.Told.{Told}
+use Rattle.ds_core.specs.declared.reply.Reply.{Reply}
+use Rattle.ds_core.specs.declared.reply.Reply.TheVariants.{Begun, Entered, Refused, Stepped, Answered, WrongTask, Evicted, Stopped, Crashed, NotEnabled}
+use Rattle.ds_sched.specs.Answers.{done_text, refused_text, settled_text}
+use Rattle.ds_play.specs.declared.point.PointName.{PointName}
+use Rattle.ds_play.specs.Points.{name_of_point}
+
+-- ---- answers
+
+-- P NUMBER overtaken by PROCESS NUMBER
+abbrev pub overtaken_text : ℕ → ℕ → Other → List ℕ
+overtaken_text p number by =
+    decimal p ++ (codes " " ++ (decimal number ++ (codes " overtaken by " ++ (decimal by.process ++ (codes " " ++ (decimal by.number ++ codes "\n"))))))
+
+-- P WORD
+abbrev pub word_line : ℕ → List ℕ → List ℕ
+word_line p word = decimal p ++ (codes " " ++ (word ++ codes "\n"))
+
+abbrev pub counts_text : Bool → List ℕ
+counts_text true = codes "done"
+counts_text false = codes "not-done"
+
+abbrev pub changed_text : Bool → List ℕ
+changed_text true = codes "published changed"
+changed_text false = codes "published same"
+
+-- P last NUMBER C done; P last NUMBER C not-done
+abbrev pub last_text : Shape → ℕ → Told → List ℕ
+last_text shape p told =
+    decimal p ++ (codes " last " ++ (decimal told.number ++ (codes " " ++ (cell_text (cell_at shape told.cell) ++ (codes " " ++ (counts_text told.counts ++ codes "\n"))))))
+
+-- unsettled mark C WORD; unsettled announce P WORD; a report watches no other words
+abbrev pub unsettled_text : Shape → Place → ℕ → List ℕ
+unsettled_text shape (place.Mark cell) word = codes "unsettled mark " ++ (cell_text (cell_at shape cell) ++ (codes " " ++ (decimal word ++ codes "\n")))
+unsettled_text shape (place.Announce p) word = codes "unsettled announce " ++ (decimal p ++ (codes " " ++ (decimal word ++ codes "\n")))
+unsettled_text shape other word = codes "unsettled " ++ (decimal word ++ codes "\n")
+
+-- the values of the process's last settled report
+abbrev pub values_of : WorldValue → ℕ → List Value
+values_of w p = slice_index_or w.reports.values p []
+
+-- the line of an answer, in the world that it leaves
+abbrev pub answer_text : WorldValue → ℕ → Answer → List ℕ
+answer_text w p (answers.Done number) = done_text p number
+answer_text w p (answers.Overtaken number by) = overtaken_text p number by
+answer_text w p answers.NotDirty = word_line p (codes "notdirty")
+answer_text w p answers.Missed = word_line p (codes "missed")
+answer_text w p answers.Worn = word_line p (codes "worn")
+answer_text w p (answers.Published changed) = word_line p (changed_text changed)
+answer_text w p answers.Again = word_line p (codes "again")
+answer_text w p answers.NoMemory = word_line p (codes "nomemory")
+answer_text w p (answers.Last told) = last_text w.sheet.layout.shape p told
+answer_text w p answers.Nothing = word_line p (codes "nothing")
+answer_text w p answers.Settled = settled_text w.sheet.layout.shape (values_of w p)
+answer_text w p (answers.Unsettled place word) = unsettled_text w.sheet.layout.shape place word
+
+-- the line of a reply to the process, in the world behind it
+abbrev pub reply_text : WorldValue → ℕ → Reply → List ℕ
+reply_text w p (Begun number) = decimal p ++ (codes " begun " ++ (decimal number ++ codes "\n"))
+reply_text w p Entered = word_line p (codes "begun")
+reply_text w p (Refused why) = refused_text p why
+reply_text w p Stepped = word_line p (codes "stepped")
+reply_text w p (Answered answer) = answer_text w p answer
+reply_text w p WrongTask = word_line p (codes "wrong-task")
+reply_text w p Stopped = word_line p (codes "stopped")
+reply_text w p Crashed = codes "crashed\n"
+reply_text w p Evicted = codes "evicted\n"
+reply_text w p NotEnabled = word_line p (codes "not-enabled")
+
+-- P at POINT
+abbrev pub at_text : ℕ → PointName → List ℕ
+at_text p name = decimal p ++ (codes " at " ++ (name_of_point name ++ codes "\n"))
+
+-- clean; left K, with the number of cells that are marked or held
+abbrev pub left_text : ℕ → List ℕ
+left_text zero = codes "clean\n"
+left_text (suc k) = codes "left " ++ (decimal (suc k) ++ codes "\n")
+
+-- ---- what a world shows
+
+abbrev pub state_text : State → List ℕ
+state_text Clean = codes "clean"
+state_text Marked = codes "dirty"
+state_text (Held process) = codes "held " ++ decimal process
+
+abbrev pub shown_text : Value → List ℕ
+shown_text value.Blank = codes "blank"
+shown_text v = value_text v
+
+-- C STATE VALUE
+abbrev pub peek_head : Cell → State → Value → List ℕ
+peek_head cell mark v = cell_text cell ++ (codes " " ++ (state_text mark ++ (codes " " ++ shown_text v)))
+
+-- without a text the line ends after the value
+abbrev pub behind_value : List ℕ → List ℕ
+behind_value [] = codes "\n"
+behind_value (b ∷ text) = codes " " ++ ((b ∷ text) ++ codes "\n")
+
+abbrev pub peek_text : World → Cell → List ℕ
+peek_text w cell = peek_head cell (state_of (mark_in w cell)) (value_in w cell) ++ behind_value (text_in w cell)
+
+-- the cached and the persisted number
+abbrev pub word_text : Memory Place → Place → List ℕ
+word_text m r = decimal (m.cached r) ++ (codes " " ++ (decimal (m.persisted r) ++ codes "\n"))

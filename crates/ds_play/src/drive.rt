@@ -1,0 +1,141 @@
+//! Drives a process, step by step.
+
+ghost use Rattle.std.specs.Prelude.{◌≡◌, ◌<◌, IfSome, IfNone};
+ghost use Rattle.ds_state.specs.Value.{world_of};
+ghost use Rattle.ds_core.specs.declared.event.Event.TheVariants.{Step};
+ghost use Rattle.ds_core.specs.declared.reply.Reply.TheVariants.{Stepped};
+ghost use Rattle.ds_core.specs.Takes.{Fits};
+ghost use Rattle.ds_core.specs.Own.{steps_left};
+ghost use Rattle.ds_play.specs.declared.drive.Until.TheVariants.{ToPoint};
+ghost use Rattle.ds_play.specs.Points.{has_passed};
+ghost use Rattle.ds_play.specs.Doing.{Drives, offered, stepped, to_point};
+ghost use Rattle.ds_play.specs.Plays.{Leads, GoesOn, WantsStep, halted};
+
+use crate::point::{PointName, is_past};
+use ds_core::event::Event;
+use ds_core::reply::Reply;
+use ds_core::take::take;
+use ds_state::world::World;
+use ds_work::offer::offer_own;
+use std::alloc::Global;
+
+/// How far a process is driven.
+#[derive(Clone, Copy, Debug, PartialEq, Eq)]
+pub enum Until {
+    /// One step.
+    OneStep,
+    /// Up to this point of its call, or a later one.
+    ToPoint(PointName),
+    /// To its answer.
+    ToAnswer,
+    /// To the answer of its work on a cell, in a pass of a settle.
+    InPass {
+        /// How many passes are left behind this one.
+        passes: usize,
+        /// The cell, by its number.
+        cell: usize,
+    },
+}
+
+/// Why a process is driven no further.
+#[derive(Clone, Copy, Debug, PartialEq, Eq)]
+pub enum Halt {
+    /// Its call has reached the point.
+    At(PointName),
+    /// Its last step had this reply.
+    Replied(Reply),
+}
+
+/// Whether a process's call has the point, or a later one, behind it.
+pub fn has_come(world: &World, process: usize, name: PointName) -> bool
+    ensures { result ≡ has_passed ((world_of world.now).situation process) name }
+{
+    if process < world.situations.len() {
+        is_past(&world.situations[process], name)
+    } else {
+        false
+    }
+}
+
+// Why a process is driven no further towards a point, where it isn't.
+fn at_point(world: &World, process: usize, name: PointName) -> Option<Halt>
+    ensures halts { IfSome result (λ halt. to_point process name ((world_of world.now).situation process) ≡ halted world.now process (ToPoint name) halt) }
+    ensures goes { IfNone result (to_point process name ((world_of world.now).situation process) ≡ Drives process (ToPoint name)) }
+{
+    if has_come(world, process, name) {
+        Some(Halt::At(name))
+    } else {
+        None
+    }
+}
+
+// Why a process is driven no further once its work was offered an entry, where it isn't.
+fn after_offer(world: &World, process: usize, until: Until) -> Option<Halt>
+    ensures halts { IfSome result (λ halt. offered world.now process until ≡ halted world.now process until halt) }
+    ensures goes { IfNone result (offered world.now process until ≡ Drives process until) }
+{
+    match until {
+        Until::ToPoint(name) => at_point(world, process, name),
+        Until::OneStep | Until::ToAnswer | Until::InPass { passes: _, cell: _ } => None,
+    }
+}
+
+// Why it is driven no further once it has made a step, where it isn't.
+fn after_step(world: &World, process: usize, until: Until) -> Option<Halt>
+    ensures halts { IfSome result (λ halt. stepped world.now process until ≡ halted world.now process until halt) }
+    ensures goes { IfNone result (stepped world.now process until ≡ Drives process until) }
+{
+    match until {
+        Until::OneStep => Some(Halt::Replied(Reply::Stepped)),
+        Until::ToPoint(name) => at_point(world, process, name),
+        Until::ToAnswer | Until::InPass { passes: _, cell: _ } => None,
+    }
+}
+
+fn step_once(alloc: Global, world: &mut World, process: usize) -> Reply
+    ensures fits { Fits world.old (Step process) result world.new }
+    ensures fewer { result ≡ Stepped → steps_left process world.new < steps_left process world.old }
+{
+    let event = Event::Step(process);
+    take(alloc, world, &event)
+}
+
+// One step, and why it is the last one, where it is.
+fn step(alloc: Global, world: &mut World, process: usize, until: Until) -> Option<Halt>
+    requires { WantsStep world.old process }
+    ensures halts { IfSome result (λ halt. Leads (Drives process until) world.old (halted world.new process until halt) world.new) }
+    ensures goes { IfNone result (GoesOn world.old process until world.new) }
+    ensures fewer { IfNone result (steps_left process world.new < steps_left process world.old) }
+{
+    match step_once(alloc, world, process) {
+        Reply::Stepped => after_step(world, process, until),
+        reply => Some(Halt::Replied(reply)),
+    }
+}
+
+// An offer or a step, and why it is the last one, where it is.
+fn go(alloc: Global, world: &mut World, process: usize, until: Until) -> Option<Halt>
+    ensures halts { IfSome result (λ halt. Leads (Drives process until) world.old (halted world.new process until halt) world.new) }
+    ensures goes { IfNone result (GoesOn world.old process until world.new) }
+    ensures fewer { IfNone result (steps_left process world.new < steps_left process world.old) }
+{
+    world.is_always_good();
+    if offer_own(world, process) {
+        world.is_always_good();
+        after_offer(world, process, until)
+    } else {
+        step(alloc, world, process, until)
+    }
+}
+
+/// Lets a process make steps up to here, or to the end of its call. Where its work waits, it is
+/// offered the entry that it waits for, evaluated in place, which takes no memory and is no step.
+pub fn drive(alloc: Global, world: &mut World, process: usize, until: Until) -> Halt
+    ensures { Leads (Drives process until) world.old (halted world.new process until result) world.new }
+{
+    'steps: loop {
+        if let Some(halt) = go(alloc, world, process, until) {
+            return halt;
+        }
+    }
+}

@@ -1,0 +1,13 @@
+//! Scripts over a world: lines of commands in, answers out.
+#![tactic(auto)]
+
+pub mod carry;
+pub mod drive;
+pub mod order;
+pub mod places;
+pub mod point;
+pub mod script;
+pub mod settle;
+#[cfg(test)]
+mod tests;
+pub mod texts;

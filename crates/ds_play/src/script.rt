@@ -1,0 +1,239 @@
+//! Runs scripts.
+
+ghost use Rattle.std.specs.Prelude.{◌≡◌, ◌≢◌, ◌≤◌, ◌+◌, ◌<◌, ◌^◌, ◌-◌, Bool, List, ℕ, IfOk, IfErr, length, take, true};
+ghost use Rattle.std.specs.Io.KnownBytes.{Consumes, Appends};
+ghost use Rattle.ds_state.specs.Fresh.{IsNew};
+ghost use Rattle.ds_state.specs.Value.{world_of, IsGood};
+ghost use Rattle.ds_core.specs.Takes.{WorldRun};
+ghost use Rattle.ds_sched.specs.Streams.{reader_of, writer_of, bytes_given, has_ended, read_failed, write_failed};
+ghost use Rattle.ds_sched.specs.Input.{Within};
+ghost use Rattle.ds_sched.specs.declared.ending.ScriptEnd.TheVariants as ends;
+ghost use Rattle.ds_play.specs.declared.script.Stop.TheVariants as stops;
+ghost use Rattle.ds_play.specs.Orders.{command_view};
+ghost use Rattle.ds_play.specs.Script.{Progress, Carried, Writes, Outcome, is_whole};
+ghost use Rattle.ds_play.specs.Running.{Obeyed, Stopped, RanLines, HidesNone, after, break_of, ending_of};
+
+use crate::carry::{carry_out, new_world};
+use crate::order::{Begun, Command, read_order};
+use ds_formula::cells::Shape;
+use ds_sched::ending::{ScriptEnd, ScriptFault};
+use ds_sched::input::{Input, InputEnd, read_input};
+use ds_sched::line::{NextLine, next_line};
+use ds_sched::streams::{Reading, Writing};
+use ds_state::world::World;
+use std::alloc::{AllocError, Global};
+use std::io::{Read, Write};
+
+/// The most bytes of a script.
+pub const SCRIPT_LIMIT: usize = 1_048_576;
+
+// Why no further line is carried out.
+#[derive(Drop)]
+enum Stop {
+    Fault(ScriptFault),
+    NoMemory,
+    WriteFailed,
+}
+
+impl From<ScriptFault> for Stop {
+    ghost from_gives = { λ f s. s ≡ stops.Fault f };
+
+    fn from(fault: ScriptFault) -> Stop {
+        Stop::Fault(fault)
+    }
+}
+
+impl From<AllocError> for Stop {
+    ghost from_gives = { λ _ s. s ≡ stops.NoMemory };
+
+    fn from(_error: AllocError) -> Stop {
+        Stop::NoMemory
+    }
+}
+
+// What has come before the next line, where the last one was this command.
+fn begun_by(command: Command<'_>) -> Begun
+    ensures { result ≡ after (command_view command.entry) }
+{
+    match command {
+        Command::Sheet(_, _) => Begun::Sheet,
+        _ => Begun::Command,
+    }
+}
+
+// Carries a line out and writes its answer. It answers what has come before the next line.
+fn obey<W: Write>(
+    alloc: Global,
+    line: &[u8],
+    begun: Begun,
+    world: &mut World,
+    writer: &mut Writing<W>,
+) -> Result<Begun, Stop>
+    ensures obeyed { IfOk result (λ now. Obeyed begun world.old line.now now world.new (W.contents (writer_of writer.old)) (W.contents (writer_of writer.new))) }
+    ensures stopped { IfErr result (λ stop. Stopped begun world.old line.now (W.contents (writer_of writer.old)) (W.contents (writer_of writer.new)) (write_failed writer.new) stop) }
+    ensures no_failure { IfOk result (λ now. write_failed writer.new ≡ write_failed writer.old) }
+    ensures none_hidden { IfErr result (λ stop. stop ≢ stops.WriteFailed → write_failed writer.new ≡ write_failed writer.old) }
+{
+    let Some(command) = read_order(line, begun, world)? else {
+        return Ok(begun);
+    };
+    let now = begun_by(command);
+    let text = carry_out(alloc, world, command)?;
+    match writer.write_all(&text) {
+        Ok(()) => Ok(now),
+        Err(_) => Err(Stop::WriteFailed),
+    }
+}
+
+// Why lines are left.
+#[derive(Drop)]
+enum Break {
+    Fault(usize, ScriptFault),
+    NoMemory,
+    WriteFailed,
+}
+
+// The break at this line, counted from 1.
+fn break_at(line: usize, stop: Stop) -> Break
+    ensures { result ≡ break_of line stop }
+{
+    match stop {
+        Stop::Fault(kind) => Break::Fault(line, kind),
+        Stop::NoMemory => Break::NoMemory,
+        Stop::WriteFailed => Break::WriteFailed,
+    }
+}
+
+// Carries the lines of a script out, to its end or to the first that stops it.
+fn run_lines<W: Write>(
+    alloc: Global,
+    script: &[u8],
+    whole: bool,
+    writer: &mut Writing<W>,
+) -> Result<(), Break>
+    requires { length script.now < 2 ^ 62 }
+    ensures none_hidden { HidesNone result (write_failed writer.old) (write_failed writer.new) }
+    ensures ran { RanLines whole script.now (W.contents (writer_of writer.old)) (W.contents (writer_of writer.new)) (write_failed writer.new) result }
+{
+    let shape = Shape {
+        columns: 2,
+        rows: 2,
+    };
+    let Ok(mut world) = new_world(alloc, shape, 2) else {
+        return Err(Break::NoMemory);
+    };
+    let mut begun = Begun::Nothing;
+    let mut lines = 0usize;
+    let mut rest = script;
+    'lines: loop {
+        match next_line(rest, whole) {
+            NextLine::Nothing => return Ok(()),
+            NextLine::TooLong => return Err(Break::Fault(lines + 1, ScriptFault::LineTooLong)),
+            NextLine::Line(line, behind) => {
+                match obey(alloc, line, begun, &mut world, writer) {
+                    Ok(now) => begun = now,
+                    Err(stop) => return Err(break_at(lines + 1, stop)),
+                }
+                lines += 1;
+                rest = behind;
+            }
+        }
+    }
+}
+
+// How a script ended, whose lines were run up to this.
+fn ending(run: Result<(), Break>, end: ScriptEnd) -> ScriptEnd
+    ensures { result ≡ ending_of run end }
+{
+    match run {
+        Ok(()) => end,
+        Err(Break::Fault(line, kind)) => ScriptEnd::Fault { line, kind },
+        Err(Break::NoMemory) => ScriptEnd::NoMemory,
+        Err(Break::WriteFailed) => ScriptEnd::WriteFailed,
+    }
+}
+
+// Runs the lines of what was read.
+fn run_input<W: Write>(
+    alloc: Global,
+    input: &Input,
+    limit: usize,
+    writer: &mut Writing<W>,
+) -> ScriptEnd
+    requires small { limit < 2 ^ 62 - 1 }
+    requires within { Within limit (length input.now.bytes.items) input.now.end }
+    ensures no_failure { result ≢ ScriptEnd.WriteFailed → write_failed writer.new ≡ write_failed writer.old }
+    ensures write_failed { result ≡ ScriptEnd.WriteFailed → write_failed writer.new ≡ true }
+    ensures writes { result ≢ ScriptEnd.WriteFailed → (out : List ℕ) × Appends (W.contents (writer_of writer.old)) (W.contents (writer_of writer.new)) out
+        × Writes input.now.end (take limit input.now.bytes.items) out result }
+{
+    let bytes = input.bytes.as_slice();
+    match input.end {
+        InputEnd::Ended => ending(run_lines(alloc, bytes, true, writer), ScriptEnd::Ended),
+        InputEnd::TooLong => {
+            let run = run_lines(alloc, &bytes[..limit], false, writer);
+            ending(run, ScriptEnd::TooLong)
+        }
+        InputEnd::Failed => ending(
+            run_lines(alloc, bytes, false, writer),
+            ScriptEnd::ReadFailed,
+        ),
+    }
+}
+
+// Runs a script of at most so many bytes.
+fn run_within<R: Read, W: Write>(
+    alloc: Global,
+    limit: usize,
+    reader: &mut Reading<R>,
+    writer: &mut Writing<W>,
+) -> ScriptEnd
+    requires { limit < 2 ^ 62 - 1 }
+    ensures given { bytes_given reader.new ≤ bytes_given reader.old + (limit + 1) }
+    ensures no_failure { result ≢ ScriptEnd.WriteFailed → write_failed writer.new ≡ write_failed writer.old }
+    ensures write_failed { result ≡ ScriptEnd.WriteFailed → write_failed writer.new ≡ true }
+    ensures outcome { result ≢ ScriptEnd.WriteFailed → (bytes : List ℕ) × (out : List ℕ) × Consumes (R.remaining (reader_of reader.old)) (R.remaining (reader_of reader.new)) bytes
+        × Appends (W.contents (writer_of writer.old)) (W.contents (writer_of writer.new)) out
+        × Outcome limit (R.remaining (reader_of reader.new)) (has_ended reader.new) (read_failed reader.new) bytes out result }
+{
+    let Ok(input) = read_input(alloc, reader, limit) else {
+        return ScriptEnd::NoMemory;
+    };
+    let end = run_input(alloc, &input, limit, writer);
+    match writer.flush() {
+        Ok(()) => end,
+        Err(_) => ScriptEnd::WriteFailed,
+    }
+}
+
+/// Runs a script: reads all of it, carries its lines out in order, and writes the answers to its commands.
+///
+/// At most 1,048,577 bytes are read. The script's meaning is that of the definitions of `Script`: the events of its
+/// commands, one after another, are a run of a fresh world (`scripts_are_runs`), and each answer is the text of what
+/// its events were answered.
+pub fn run_script<R: Read, W: Write>(
+    alloc: Global,
+    reader: &mut Reading<R>,
+    writer: &mut Writing<W>,
+) -> ScriptEnd
+    ensures given { bytes_given reader.new ≤ bytes_given reader.old + (SCRIPT_LIMIT + 1) }
+    ensures no_failure { result ≢ ScriptEnd.WriteFailed → write_failed writer.new ≡ write_failed writer.old }
+    ensures write_failed { result ≡ ScriptEnd.WriteFailed → write_failed writer.new ≡ true }
+    ensures outcome { result ≢ ScriptEnd.WriteFailed → (bytes : List ℕ) × (out : List ℕ) × Consumes (R.remaining (reader_of reader.old)) (R.remaining (reader_of reader.new)) bytes
+        × Appends (W.contents (writer_of writer.old)) (W.contents (writer_of writer.new)) out
+        × Outcome SCRIPT_LIMIT (R.remaining (reader_of reader.new)) (has_ended reader.new) (read_failed reader.new) bytes out result }
+{
+    run_within(alloc, SCRIPT_LIMIT, reader, writer)
+}
+
+/// What a script does to its world is one run of `ds_core::take` from a new sheet on, whatever its
+/// events are answered: what is proved of runs (`ds_core::laws::runs_have_the_headline`) is true of scripts.
+#[tactic(auto, using(crate::proofs::Scripts::carried_runs, crate::proofs::Scripts::carried_new, crate::proofs::Scripts::carried_good))]
+pub fn scripts_are_runs()
+    ensures runs { (whole : Bool) (script : List ℕ) (lines : ℕ) (p : Progress) (out rest : List ℕ)
+        → Carried whole script lines p out rest → WorldRun p.start p.events p.replies p.world }
+    ensures new { (whole : Bool) (script : List ℕ) (lines : ℕ) (p : Progress) (out rest : List ℕ)
+        → Carried whole script lines p out rest → IsNew (world_of p.start) }
+    ensures good { (whole : Bool) (script : List ℕ) (lines : ℕ) (p : Progress) (out rest : List ℕ)
+        → Carried whole script lines p out rest → IsGood p.start }
+{}

@@ -1,0 +1,267 @@
+//! The text of each answer.
+
+ghost use Rattle.std.specs.Prelude.{◌≡◌, ◌≢◌, IfOk, string_bytes};
+ghost use Rattle.ds_formula.specs.Cells.{IsInside, cell_at};
+ghost use Rattle.ds_layout.specs.Places.{IsPlace};
+ghost use Rattle.ds_layout.specs.Sheet.{memory};
+ghost use Rattle.ds_state.specs.Value.{world_of};
+ghost use Rattle.ds_edit.specs.declared.answer.Answer.TheVariants.{Settled};
+ghost use Rattle.ds_core.specs.declared.reply.Reply.TheVariants.{Answered};
+ghost use Rattle.ds_sched.specs.Answers.{settled_text};
+ghost use Rattle.ds_play.specs.Texts.{counts_text, changed_text, last_text, unsettled_text, values_of, answer_text, reply_text, at_text, left_text, shown_text, state_text, peek_head, peek_text, word_text};
+ghost use Rattle.ds_play.specs.Plays.{halt_text};
+
+use crate::drive::Halt;
+use crate::point::PointName;
+use ds_core::reply::Reply;
+use ds_edit::answer::{Answer, Told};
+use ds_eval::value::Value;
+use ds_formula::cells::{Cell, Shape};
+use ds_layout::mark::State;
+use ds_layout::place::Place;
+use ds_sched::answer::{done_line, refused_line, settled_lines};
+use ds_state::world::World;
+use std::alloc::{AllocError, Global};
+
+// The cell with this number; of a number that no cell has, some cell.
+fn cell_at(shape: Shape, index: usize) -> Cell
+    ensures { result ≡ cell_at shape index }
+{
+    Cell {
+        column: index % shape.columns,
+        row: index / shape.columns,
+    }
+}
+
+fn counts(counts: bool) -> &'static str
+    ensures { result.now ≡ counts_text counts }
+{
+    if counts { "done" } else { "not-done" }
+}
+
+fn changed(changed: bool) -> &'static str
+    ensures { result.now ≡ changed_text changed }
+{
+    if changed {
+        "published changed"
+    } else {
+        "published same"
+    }
+}
+
+// `P last NUMBER C done`, `P last NUMBER C not-done`.
+fn last_line(alloc: Global, shape: Shape, process: usize, told: Told) -> Result<String, AllocError>
+    ensures { IfOk result (λ line. string_bytes line ≡ last_text shape process told) }
+{
+    let cell = cell_at(shape, told.cell);
+    let counts = counts(told.counts);
+    format!(in alloc; "{process} last {} {cell} {counts}\n", told.number)
+}
+
+// `unsettled mark C WORD`, `unsettled announce P WORD`.
+fn unsettled_line(
+    alloc: Global,
+    shape: Shape,
+    place: Place,
+    word: u64,
+) -> Result<String, AllocError>
+    ensures { IfOk result (λ line. string_bytes line ≡ unsettled_text shape place word) }
+{
+    match place {
+        Place::Mark(cell) => {
+            let cell = cell_at(shape, cell);
+            format!(in alloc; "unsettled mark {cell} {word}\n")
+        }
+        Place::Announce(process) => format!(in alloc; "unsettled announce {process} {word}\n"),
+        _ => format!(in alloc; "unsettled {word}\n"),
+    }
+}
+
+// The values of a process's last settled report.
+fn values(world: &World, process: usize) -> &[Value]
+    ensures { result.now ≡ values_of world.now process }
+{
+    if process < world.situations.len() {
+        world.reports.of(process)
+    } else {
+        &[]
+    }
+}
+
+// `settled` and the values as CSV, one for each cell; no settled report has another number of them.
+fn report_lines(alloc: Global, shape: Shape, values: &[Value]) -> Result<Vec<u8>, AllocError>
+    ensures { IfOk result (λ text. text.items ≡ settled_text shape values.now) }
+{
+    if values.len() != shape.count() {
+        return Err(AllocError);
+    }
+    settled_lines(alloc, &shape, values)
+}
+
+// The line of an answer that is no settled report.
+fn answer_line(
+    alloc: Global,
+    world: &World,
+    process: usize,
+    answer: Answer,
+) -> Result<String, AllocError>
+    requires { answer ≢ Settled }
+    ensures { IfOk result (λ line. string_bytes line ≡ answer_text world.now process answer) }
+{
+    let shape = world.words.layout().shape;
+    match answer {
+        Answer::Done(number) => done_line(alloc, process, number),
+        Answer::Overtaken(number, by) => {
+            format!(in alloc;
+                "{process} {number} overtaken by {} {}\n",
+                by.process, by.number
+            )
+        }
+        Answer::NotDirty => format!(in alloc; "{process} notdirty\n"),
+        Answer::Missed => format!(in alloc; "{process} missed\n"),
+        Answer::Worn => format!(in alloc; "{process} worn\n"),
+        Answer::Published(how) => {
+            let how = changed(how);
+            format!(in alloc; "{process} {how}\n")
+        }
+        Answer::Again => format!(in alloc; "{process} again\n"),
+        Answer::NoMemory => format!(in alloc; "{process} nomemory\n"),
+        Answer::Last(told) => last_line(alloc, shape, process, told),
+        Answer::Nothing => format!(in alloc; "{process} nothing\n"),
+        Answer::Settled => format!(in alloc; "settled\n"),
+        Answer::Unsettled(place, word) => unsettled_line(alloc, shape, place, word),
+    }
+}
+
+// The line of a reply to a process, which is no settled report.
+fn reply_line(
+    alloc: Global,
+    world: &World,
+    process: usize,
+    reply: Reply,
+) -> Result<String, AllocError>
+    requires { reply ≢ Answered Settled }
+    ensures { IfOk result (λ line. string_bytes line ≡ reply_text world.now process reply) }
+{
+    match reply {
+        Reply::Begun(number) => format!(in alloc; "{process} begun {number}\n"),
+        Reply::Entered => format!(in alloc; "{process} begun\n"),
+        Reply::Refused(refusal) => refused_line(alloc, process, refusal),
+        Reply::Stepped => format!(in alloc; "{process} stepped\n"),
+        Reply::Answered(answer) => answer_line(alloc, world, process, answer),
+        Reply::WrongTask => format!(in alloc; "{process} wrong-task\n"),
+        Reply::Stopped => format!(in alloc; "{process} stopped\n"),
+        Reply::Crashed => format!(in alloc; "crashed\n"),
+        Reply::Evicted => format!(in alloc; "evicted\n"),
+        Reply::NotEnabled => format!(in alloc; "{process} not-enabled\n"),
+    }
+}
+
+/// `P at POINT`. An error is a want of memory.
+pub fn at_line(alloc: Global, process: usize, name: PointName) -> Result<String, AllocError>
+    ensures { IfOk result (λ line. string_bytes line ≡ at_text process name) }
+{
+    let name = name.name();
+    format!(in alloc; "{process} at {name}\n")
+}
+
+/// The text of a reply to a process, in the world behind it: a line, but of a settled report also
+/// its values. An error is a want of memory.
+pub fn reply_bytes(
+    alloc: Global,
+    world: &World,
+    process: usize,
+    reply: Reply,
+) -> Result<Vec<u8>, AllocError>
+    ensures { IfOk result (λ line. line.items ≡ reply_text world.now process reply) }
+{
+    if reply == Reply::Answered(Answer::Settled) {
+        let shape = world.words.layout().shape;
+        return report_lines(alloc, shape, values(world, process));
+    }
+    Ok(reply_line(alloc, world, process, reply)?.into_bytes())
+}
+
+/// The text of where a process was driven to. An error is a want of memory.
+pub fn halt_bytes(
+    alloc: Global,
+    world: &World,
+    process: usize,
+    halt: Halt,
+) -> Result<Vec<u8>, AllocError>
+    ensures { IfOk result (λ line. line.items ≡ halt_text world.now process halt) }
+{
+    match halt {
+        Halt::At(name) => Ok(at_line(alloc, process, name)?.into_bytes()),
+        Halt::Replied(reply) => reply_bytes(alloc, world, process, reply),
+    }
+}
+
+/// `clean`, or `left K` where so many cells are left. An error is a want of memory.
+pub fn left_line(alloc: Global, left: usize) -> Result<String, AllocError>
+    ensures { IfOk result (λ line. string_bytes line ≡ left_text left) }
+{
+    if left == 0 {
+        format!(in alloc; "clean\n")
+    } else {
+        format!(in alloc; "left {left}\n")
+    }
+}
+
+fn shown(alloc: Global, value: Value) -> Result<String, AllocError>
+    ensures { IfOk result (λ text. string_bytes text ≡ shown_text value) }
+{
+    match value {
+        Value::Blank => format!(in alloc; "blank"),
+        value => value.to_string(alloc),
+    }
+}
+
+fn state(alloc: Global, state: State) -> Result<String, AllocError>
+    ensures { IfOk result (λ text. string_bytes text ≡ state_text state) }
+{
+    match state {
+        State::Clean => format!(in alloc; "clean"),
+        State::Marked => format!(in alloc; "dirty"),
+        State::Held(process) => format!(in alloc; "held {process}"),
+    }
+}
+
+// `C STATE VALUE`.
+fn head(alloc: Global, cell: Cell, mark: State, value: Value) -> Result<String, AllocError>
+    ensures { IfOk result (λ text. string_bytes text ≡ peek_head cell mark value) }
+{
+    let mark = state(alloc, mark)?;
+    let value = shown(alloc, value)?;
+    format!(in alloc; "{cell} {mark} {value}")
+}
+
+/// `C STATE VALUE TEXT`; without a text the line ends after the value. An error is a want of memory.
+pub fn peek_line(alloc: Global, world: &World, cell: Cell) -> Result<Vec<u8>, AllocError>
+    requires { IsInside world.now.sheet.layout.shape cell }
+    ensures { IfOk result (λ line. line.items ≡ peek_text (world_of world.now) cell) }
+{
+    let text = world.text_of(alloc, cell)?;
+    let head = head(
+        alloc,
+        cell,
+        world.mark_of(cell).state(),
+        world.value_of(cell),
+    )?;
+    let mut line = head.into_bytes();
+    if !text.is_empty() {
+        line.push(b' ')?;
+        line.extend_from_slice(&text)?;
+    }
+    line.push(b'\n')?;
+    Ok(line)
+}
+
+/// Both sides of a word. An error is a want of memory.
+pub fn word_line(alloc: Global, world: &World, place: Place) -> Result<String, AllocError>
+    requires { IsPlace world.now.sheet.layout place }
+    ensures { IfOk result (λ line. string_bytes line ≡ word_text (memory world.now.sheet) place) }
+{
+    let word = world.words.word(place);
+    format!(in alloc; "{} {}\n", word.cached, word.persisted)
+}
