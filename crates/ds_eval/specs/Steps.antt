@@ -1,7 +1,6 @@
 -- What the steps of the code give: its private functions' contracts cite these words, the public ones' do not.
 use Rattle.std.specs.Prelude.{ℕ, ◌-◌, ◌%◌, ℤ, pos, negsuc, neg_ℤ, unsigned_abs, Bool, true, false, not, ◌==◌, if◌then◌else◌, Option, Some, None, Result, Ok, Err}
 use Rattle.std.specs.Ordering.{int_eq}
-use Rattle.std.specs.Int.{int_min, int_max}
 use Rattle.ds_eval.specs.declared.value.Value.{Value}
 use Rattle.ds_eval.specs.declared.value.Value.TheVariants.{Blank, Number, DivZero, Num, Circular}
 
@@ -45,14 +44,6 @@ same false b = not b
 
 abbrev pub floor_mod : ℤ → ℤ → ℤ
 floor_mod a b = with_sign (is_negative b) (size_of_rest (same (is_negative a) (is_negative b)) (unsigned_abs a % unsigned_abs b) (unsigned_abs b))
-
--- ---- the least and the greatest so far
-
-abbrev pub smaller : Bool → ℤ → ℤ → ℤ
-smaller first a b = if first then b else int_min a b
-
-abbrev pub greater : Bool → ℤ → ℤ → ℤ
-greater first a b = if first then b else int_max a b
 
 -- the first of two errors
 abbrev pub first_or : Option Value → Option Value → Option Value

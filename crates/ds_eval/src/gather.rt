@@ -104,15 +104,18 @@ fn height_with_row(
     requires cells { IfSome place (λ p. (k : ℕ) → k < columns → cell_in inputs.now.items (p + k) ≡ right_of first k) }
     ensures { result ≡ max height (min most (above (map (heights_in inputs.now.items) (row_from first columns)))) }
 {
-    let mut greatest = height;
-    for k in 0..columns {
-        let next = raised(entry_right_of(inputs, place, first, k).height, most);
-        greatest = greatest.max(next);
+    if columns == 0 {
+        return height;
     }
-    greatest
+    let mut greatest: usize = 0;
+    for k in 0..columns {
+        greatest = greatest.max(entry_right_of(inputs, place, first, k).height);
+    }
+    height.max(raised(greatest, most))
 }
 
-/// The tally with the values of a row of so many columns. A loop of its own is faster than one with the heights.
+/// The tally with the values of a row of so many columns. A loop of its own is faster than one with the heights, and
+/// ends at an error.
 fn tally_with_row(
     inputs: &Inputs,
     place: Option<usize>,
@@ -128,8 +131,14 @@ fn tally_with_row(
     ensures count { result.count ≤ tally.count + columns }
 {
     let mut sum = tally;
+    if sum.has_error() {
+        return sum;
+    }
     for k in 0..columns {
         sum = sum.with(entry_right_of(inputs, place, first, k).value);
+        if sum.has_error() {
+            return sum;
+        }
     }
     sum
 }

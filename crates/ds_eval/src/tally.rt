@@ -1,12 +1,14 @@
 //! Many values at once: SUM, MIN and MAX.
 
 ghost use Rattle.std.specs.Prelude.{◌≡◌, ◌+◌, ◌*◌, ◌<◌, ◌≤◌, ◌^◌, pos, neg_ℤ, ◌≤ℤ◌};
+ghost use Rattle.std.specs.Int.{int_min, int_max};
 ghost use Rattle.ds_eval.specs.Steps as Steps;
 
 use crate::value::Value;
 
-/// The numbers among some values, and the first error among them.
-/// The sum is bounded by the count, so that it cannot leave 128 bits.
+/// The numbers among some values, up to the first error among them.
+/// The sum is bounded by the count, so that it cannot leave 128 bits. Before the first number the least one is the
+/// greatest that a number could be, and the greatest one the least.
 #[derive(Clone, Copy, Debug)]
 pub struct Tally {
     count: usize,
@@ -19,7 +21,8 @@ pub struct Tally {
 }
 
 impl Tally {
-    ghost use Rattle.std.specs.Prelude.{List, [], ◌∷◌, ◌++◌, ◌+ℤ◌, ◌==◌};
+    ghost use Rattle.std.specs.Prelude.{List, [], ◌∷◌, ◌++◌, ◌+ℤ◌};
+    ghost use Rattle.std.specs.Option.{is_some};
     ghost use Rattle.ds_eval.specs.declared.value.Value as values;
     ghost use Rattle.ds_eval.specs.Numbers as exact;
     ghost use Rattle.ds_eval.specs.Tally.{IsTally};
@@ -32,10 +35,17 @@ impl Tally {
         Tally {
             count: 0,
             sum: 0,
-            least: 0,
-            greatest: 0,
+            least: i64::MAX,
+            greatest: i64::MIN,
             error: None,
         }
+    }
+
+    /// Whether there was an error: behind the first one nothing counts.
+    pub fn has_error(self) -> bool
+        ensures { result ≡ is_some self.error }
+    {
+        self.error.is_some()
     }
 
     /// With one more value: a blank is left out.
@@ -51,11 +61,9 @@ impl Tally {
         }
     }
 
-    fn with_error(self, error: Value) -> Tally
+    /// With one more error.
+    pub fn with_error(self, error: Value) -> Tally
         ensures count { result.count ≡ self.count }
-        ensures sum { result.sum ≡ self.sum }
-        ensures least { result.least ≡ self.least }
-        ensures greatest { result.greatest ≡ self.greatest }
         ensures error { result.error ≡ Steps.first_or self.error (Some error) }
     {
         Tally {
@@ -67,20 +75,20 @@ impl Tally {
         }
     }
 
-    fn with_number(self, number: i64) -> Tally
+    /// With one more number.
+    pub fn with_number(self, number: i64) -> Tally
         requires { self.count < 2 ^ 32 }
         ensures count { result.count ≡ self.count + 1 }
         ensures sum { result.sum ≡ self.sum +ℤ number }
-        ensures least { result.least ≡ Steps.smaller (self.count == 0) self.least number }
-        ensures greatest { result.greatest ≡ Steps.greater (self.count == 0) self.greatest number }
+        ensures least { result.least ≡ int_min self.least number }
+        ensures greatest { result.greatest ≡ int_max self.greatest number }
         ensures error { result.error ≡ self.error }
     {
-        let first = self.count == 0;
         Tally {
             count: self.count + 1,
             sum: self.sum + i128::from(number),
-            least: smaller(first, self.least, number),
-            greatest: greater(first, self.greatest, number),
+            least: self.least.min(number),
+            greatest: self.greatest.max(number),
             error: self.error,
         }
     }
@@ -104,6 +112,7 @@ impl Tally {
     {
         match self.error {
             Some(error) => error,
+            None if self.count == 0 => Value::Number(0),
             None => Value::Number(self.least),
         }
     }
@@ -114,21 +123,8 @@ impl Tally {
     {
         match self.error {
             Some(error) => error,
+            None if self.count == 0 => Value::Number(0),
             None => Value::Number(self.greatest),
         }
     }
-}
-
-/// The smaller number, or the second one where there is no first yet.
-fn smaller(first: bool, a: i64, b: i64) -> i64
-    ensures { result ≡ Steps.smaller first a b }
-{
-    if first { b } else { a.min(b) }
-}
-
-/// The greater number, or the second one where there is no first yet.
-fn greater(first: bool, a: i64, b: i64) -> i64
-    ensures { result ≡ Steps.greater first a b }
-{
-    if first { b } else { a.max(b) }
 }
