@@ -1,6 +1,5 @@
 -- The inputs between the first and the last cell of a row are all its cells.
-use Rattle.std.proofs.Common.{◌≡◌, ℕ, zero, suc, ◌+◌, ◌-◌, ◌*◌, ◌<◌, ◌≤◌, max, true, List, [], ◌∷◌, ◌++◌, map, length, sym, ap, subst, ◌∙◌, inl, inr, arith, append_assoc, append-nil, mul-suc}
-use Rattle.std.specs.Option.{is_some}
+use Rattle.std.proofs.Common.{◌≡◌, ℕ, zero, suc, ◌+◌, ◌-◌, ◌*◌, ◌<◌, ◌≤◌, max, Some, List, [], ◌∷◌, ◌++◌, map, length, sym, ap, subst, ◌∙◌, inl, inr, arith, append_assoc, append-nil, mul-suc}
 use Rattle.std.proofs.lemmas.Bool.{cases_lt}
 use Rattle.std.proofs.lemmas.List.{map-append}
 use Rattle.std.proofs.lemmas.Nat.{mod-mul-add, div-mul-add}
@@ -14,10 +13,9 @@ use Rattle.ds_eval.specs.Inputs.{IsAscending, cell_in}
 use Rattle.ds_eval.specs.Rows.{right_of, row_from}
 use Rattle.ds_eval.specs.Evaluation.{cell_of, first_cells}
 use Rattle.ds_eval.specs.Local.{above}
-use Rattle.ds_eval.specs.declared.tally.Tally.{Tally}
-use Rattle.ds_eval.specs.Tally.{IsTally}
+use Rattle.ds_eval.specs.Numbers.{first_error}
 use Rattle.ds_eval.proofs.Heights.{above_push}
-use Rattle.ds_eval.proofs.Tallies.{after_error}
+use Rattle.ds_eval.proofs.Tallies.{error_stays}
 use Rattle.ds_eval.proofs.Cells.{same_cell}
 
 not_below : (a b : Cell) → IsBefore a b → a.row ≤ b.row
@@ -98,14 +96,17 @@ row_parts first j (suc k) h = elim (cases_lt j (suc k)) [
   | inr not_less ↦ ([], append-nil (row_from first j) ∙ ap (row_from first) (let e : j ≡ suc k = omega (arith, h, not_less) in e))
 ]
 
--- behind an error the rest of a row counts for nothing
-pub error_in_row : (read : Cell → Value) (vs : List Value) (first : Cell) (j k : ℕ) (t : Tally) → j ≤ k → is_some t.error ≡ true → IsTally (vs ++ map read (row_from first j)) t → IsTally (vs ++ map read (row_from first k)) t
-error_in_row read vs first j k t h e more =
+abbrev values_so_far : (Cell → Value) → List Value → Cell → ℕ → List Value
+values_so_far read vs first k = vs ++ map read (row_from first k)
+
+-- an error in a row is that of the whole row
+pub error_in_row : (read : Cell → Value) (vs : List Value) (first : Cell) (j k : ℕ) (e : Value) → j ≤ k → first_error (values_so_far read vs first j) ≡ Some e → first_error (values_so_far read vs first k) ≡ Some e
+error_in_row read vs first j k e h found =
     let p = row_parts first j k h in
     let before = map read (row_from first j) in
-    let same : (vs ++ before) ++ map read p.0 ≡ vs ++ map read (row_from first k) =
+    let same : (vs ++ before) ++ map read p.0 ≡ values_so_far read vs first k =
     append_assoc vs before (map read p.0) ∙ ap (λ (ws : List Value). vs ++ ws) (sym (map-append read (row_from first j) p.0) ∙ ap (map read) p.1) in
-    subst (λ (ws : List Value). IsTally ws t) same (after_error (vs ++ before) (map read p.0) t e more)
+    sym (ap first_error same) ∙ error_stays (vs ++ before) (map read p.0) e found
 
 -- ---- a range, row by row
 

@@ -1,14 +1,15 @@
 -- One more value in a tally.
-use Rattle.std.proofs.Common.{◌≡◌, ℕ, suc, ◌+◌, ◌-◌, ◌^◌, ◌<◌, ℤ, pos, negsuc, ◌+ℤ◌, true, List, [], ◌∷◌, ◌++◌, length, fold, Option, Some, None, refl, sym, ap, subst, ◌∙◌, arith, length-append}
+use Rattle.std.proofs.Common.{◌≡◌, ◌⊎◌, inl, inr, ℕ, ◌+◌, ◌-◌, ◌^◌, ◌<◌, ℤ, pos, negsuc, ◌+ℤ◌, true, false, List, [], ◌∷◌, ◌++◌, length, Option, Some, None, refl, sym, ap, subst, ◌∙◌, arith, length-append}
 use Rattle.std.specs.Int.{int_min, int_max}
 use Rattle.std.specs.Option.{is_some}
 use Rattle.std.proofs.lemmas.List.Sums.{fold_push}
 use Rattle.ds_eval.specs.declared.value.Value.{Value}
 use Rattle.ds_eval.specs.declared.value.Value.TheVariants.{Blank, Number, DivZero, Num, Circular}
+use Rattle.ds_eval.specs.declared.tally.Totals.{Totals}
 use Rattle.ds_eval.specs.declared.tally.Tally.{Tally}
 use Rattle.ds_eval.specs.Numbers.{numbers, first_error, least, greatest}
 use Rattle.ds_eval.specs.Steps.{first_or}
-use Rattle.ds_eval.specs.Tally.{AreTallied, IsTally}
+use Rattle.ds_eval.specs.Tally.{AreTotals, AreCounted, IsTally}
 
 numbers_push : (vs : List Value) (z : ℤ) → numbers (vs ++ Number z ∷ []) ≡ numbers vs ++ z ∷ []
 numbers_push [] z = refl
@@ -65,23 +66,58 @@ greatest_more (n ∷ ns) z x y f none some e = e ∙ ap (λ (w : ℤ). int_max w
 
 -- ---- one more value
 
--- where all numbers are the same, so is what is known of them
-same_numbers : (ns ms : List ℤ) (t : Tally) → ms ≡ ns → AreTallied ns t → AreTallied ms t
-same_numbers ns ms t e h = subst (λ (xs : List ℤ). AreTallied xs t) (sym e) h
+totals_more : (ns : List ℤ) (z : ℤ) (t u : Totals) → NoGreater z → NoLess z → u.count ≡ t.count + 1 → u.sum ≡ t.sum +ℤ z → u.least ≡ int_min t.least z → u.greatest ≡ int_max t.greatest z
+    → AreTotals ns t → AreTotals (ns ++ z ∷ []) u
+totals_more ns z t u f g a b c d h = record {
+  count = a ∙ ap (λ (n : ℕ). n + 1) h.count ∙ sym (length-append ns (z ∷ []));
+  sum = b ∙ ap (λ (x : ℤ). x +ℤ z) h.sum ∙ sym (fold_push ◌+ℤ◌ (pos 0) ns z);
+  least = λ _. least_more ns z t.least u.least f h.no_least h.least c;
+  greatest = λ _. greatest_more ns z t.greatest u.greatest g h.no_greatest h.greatest d;
+  no_least = λ e. absurd (omega (arith, e, length-append ns (z ∷ [])));
+  no_greatest = λ e. absurd (omega (arith, e, length-append ns (z ∷ [])));
+}
 
-none_before : (vs : List Value) (v : Value) → first_error (vs ++ v ∷ []) ≡ None → first_error vs ≡ None
-none_before [] v e = refl
-none_before (Blank ∷ vs) v e = none_before vs v e
-none_before (Number y ∷ vs) v e = none_before vs v e
-none_before (DivZero ∷ vs) v e = absurd cc
-none_before (Num ∷ vs) v e = absurd cc
-none_before (Circular ∷ vs) v e = absurd cc
+-- the totals with one more number, which is y by its bits
+pub record IsMore (z : ℤ) (t u : Totals) : Type 0 where
+  pub y : ℤ
+  pub same : y ≡ z
+  pub no_greater : NoGreater y
+  pub no_less : NoLess y
+  pub count : u.count ≡ t.count + 1
+  pub sum : u.sum ≡ t.sum +ℤ y
+  pub least : u.least ≡ int_min t.least y
+  pub greatest : u.greatest ≡ int_max t.greatest y
+
+number_totals : (vs : List Value) (z : ℤ) (t u : Totals) → IsMore z t u → AreTotals (numbers vs) t → AreTotals (numbers (vs ++ Number z ∷ [])) u
+number_totals vs z t u m h =
+    let ns = numbers vs in
+    let more : AreTotals (ns ++ z ∷ []) u =
+    subst (λ (x : ℤ). AreTotals (ns ++ x ∷ []) u) m.same (totals_more ns m.y t u m.no_greater m.no_less m.count m.sum m.least m.greatest h) in
+    subst (λ (xs : List ℤ). AreTotals xs u) (sym (numbers_push vs z)) more
+
+blank_totals : (vs : List Value) (t : Totals) → AreTotals (numbers vs) t → AreTotals (numbers (vs ++ Blank ∷ [])) t
+blank_totals vs t h = subst (λ (xs : List ℤ). AreTotals xs t) (sym (numbers_skip vs Blank refl)) h
+
+pub number_error : (vs : List Value) (z : ℤ) → first_error (vs ++ Number z ∷ []) ≡ first_error vs
+number_error vs z = error_push vs (Number z) ∙ or_none (first_error vs)
+
+pub blank_error : (vs : List Value) → first_error (vs ++ Blank ∷ []) ≡ first_error vs
+blank_error vs = error_push vs Blank ∙ or_none (first_error vs)
+
+pub number_counted : (vs : List Value) (z : ℤ) (t u : Totals) → IsMore z t u → AreCounted vs t → AreCounted (vs ++ Number z ∷ []) u
+number_counted vs z t u m h = record { no_error = number_error vs z ∙ h.no_error; sums = number_totals vs z t u m h.sums }
+
+pub blank_counted : (vs : List Value) (t : Totals) → AreCounted vs t → AreCounted (vs ++ Blank ∷ []) t
+blank_counted vs t h = record { no_error = blank_error vs ∙ h.no_error; sums = blank_totals vs t h.sums }
+
+pub number_more : (vs : List Value) (z : ℤ) (t : Tally) (u : Totals) → IsMore z t.totals u → IsTally vs t → IsTally (vs ++ Number z ∷ []) (record { totals = u; error = t.error })
+number_more vs z t u m h = record {
+  error = h.error ∙ sym (number_error vs z);
+  totals = λ none. number_totals vs z t.totals u m (h.totals (sym (number_error vs z) ∙ none));
+}
 
 pub blank_more : (vs : List Value) (t : Tally) → IsTally vs t → IsTally (vs ++ Blank ∷ []) t
-blank_more vs t h = record {
-  error = h.error ∙ sym (error_push vs Blank ∙ or_none (first_error vs));
-  numbers = λ none. same_numbers (numbers vs) (numbers (vs ++ Blank ∷ [])) t (numbers_skip vs Blank refl) (h.numbers (none_before vs Blank none));
-}
+blank_more vs t h = record { error = h.error ∙ sym (blank_error vs); totals = λ none. blank_totals vs t.totals (h.totals (sym (blank_error vs) ∙ none)) }
 
 abbrev no_error : Option Value
 no_error = None
@@ -95,52 +131,61 @@ error_more vs v t u f e h =
     let pushed = error_push vs v ∙ ap (first_or (first_error vs)) f in
     record {
       error = e ∙ ap (λ (o : Option Value). first_or o (Some v)) h.error ∙ sym pushed;
-      numbers = λ none. absurd (never_none (first_error vs) v (sym pushed ∙ none));
+      totals = λ none. absurd (never_none (first_error vs) v (sym pushed ∙ none));
     }
-
-number_added : (vs : List Value) (z : ℤ) (t u : Tally) → NoGreater z → NoLess z
-    → u.count ≡ t.count + 1 → u.sum ≡ t.sum +ℤ z → u.least ≡ int_min t.least z → u.greatest ≡ int_max t.greatest z → u.error ≡ t.error
-    → IsTally vs t → IsTally (vs ++ Number z ∷ []) u
-number_added vs z t u f g a b c d e h = record {
-  error = e ∙ h.error ∙ sym (error_push vs (Number z) ∙ or_none (first_error vs));
-  numbers = λ none.
-      let k = h.numbers (none_before vs (Number z) none) in
-      let ns = numbers vs in
-      same_numbers (ns ++ z ∷ []) (numbers (vs ++ Number z ∷ [])) u (numbers_push vs z) (record {
-        count = a ∙ ap (λ (n : ℕ). n + 1) k.count ∙ sym (length-append ns (z ∷ []));
-        sum = b ∙ ap (λ (x : ℤ). x +ℤ z) k.sum ∙ sym (fold_push ◌+ℤ◌ (pos 0) ns z);
-        least = λ _. least_more ns z t.least u.least f k.no_least k.least c;
-        greatest = λ _. greatest_more ns z t.greatest u.greatest g k.no_greatest k.greatest d;
-        no_least = λ e. absurd (omega (arith, e, length-append ns (z ∷ [])));
-        no_greatest = λ e. absurd (omega (arith, e, length-append ns (z ∷ [])));
-      });
-}
-
-pub number_more : (vs : List Value) (z : ℤ) (t u : Tally) (y : ℤ) → y ≡ z → NoGreater y → NoLess y
-    → u.count ≡ t.count + 1 → u.sum ≡ t.sum +ℤ y → u.least ≡ int_min t.least y → u.greatest ≡ int_max t.greatest y → u.error ≡ t.error
-    → IsTally vs t → IsTally (vs ++ Number z ∷ []) u
-number_more vs z t u y q f g a b c d e h = subst (λ (x : ℤ). IsTally (vs ++ Number x ∷ []) u) q (number_added vs y t u f g a b c d e h)
 
 -- ---- behind an error
 
-abbrev IsError : Option Value → Type 0
-IsError o = is_some o ≡ true
+pub error_stays : (vs ws : List Value) (e : Value) → first_error vs ≡ Some e → first_error (vs ++ ws) ≡ Some e
+error_stays [] ws e h = absurd cc
+error_stays (Blank ∷ vs) ws e h = error_stays vs ws e h
+error_stays (Number y ∷ vs) ws e h = error_stays vs ws e h
+error_stays (DivZero ∷ vs) ws e h = h
+error_stays (Num ∷ vs) ws e h = h
+error_stays (Circular ∷ vs) ws e h = h
 
-error_stays : (vs ws : List Value) → IsError (first_error vs) → first_error (vs ++ ws) ≡ first_error vs
-error_stays [] ws e = absurd cc
-error_stays (Blank ∷ vs) ws e = error_stays vs ws e
-error_stays (Number y ∷ vs) ws e = error_stays vs ws e
-error_stays (DivZero ∷ vs) ws e = refl
-error_stays (Num ∷ vs) ws e = refl
-error_stays (Circular ∷ vs) ws e = refl
+-- the first error, behind values that have none
+pub first_here : (vs : List Value) (v : Value) → first_error (v ∷ []) ≡ Some v → first_error vs ≡ None → first_error (vs ++ v ∷ []) ≡ Some v
+first_here vs v f none = error_push vs v ∙ ap (λ (o : Option Value). first_or o (first_error (v ∷ []))) none ∙ f
 
-some_error : (o : Option Value) → IsError o → o ≡ no_error → ⊥
+still : (vs ws : List Value) (o : Option Value) → is_some o ≡ true → o ≡ first_error vs → first_error (vs ++ ws) ≡ first_error vs
+still vs ws None e h = absurd cc
+still vs ws (Some v) e h = error_stays vs ws v (sym h) ∙ h
+
+some_error : (o : Option Value) → is_some o ≡ true → o ≡ no_error → ⊥
 some_error None e n = cc
 some_error (Some v) e n = cc
 
 -- behind an error nothing counts
-pub after_error : (vs ws : List Value) (t : Tally) → IsError t.error → IsTally vs t → IsTally (vs ++ ws) t
+pub after_error : (vs ws : List Value) (t : Tally) → is_some t.error ≡ true → IsTally vs t → IsTally (vs ++ ws) t
 after_error vs ws t e h =
-    let here : IsError (first_error vs) = subst IsError h.error e in
-    let stays = error_stays vs ws here in
-    record { error = h.error ∙ sym stays; numbers = λ none. absurd (some_error (first_error vs) here (sym stays ∙ none)) }
+    let same = still vs ws t.error e h.error in
+    record { error = h.error ∙ sym same; totals = λ none. absurd (some_error t.error e (h.error ∙ sym same ∙ none)) }
+
+-- ---- a tally from totals, or from the first error
+
+not_some : (o : Option Value) → is_some o ≡ false → o ≡ None
+not_some None e = refl
+not_some (Some v) e = absurd cc
+
+pub counted : (vs : List Value) (t : Tally) → is_some t.error ≡ false → IsTally vs t → AreCounted vs t.totals
+counted vs t e h = let none = sym h.error ∙ not_some t.error e in record { no_error = none; sums = h.totals none }
+
+pub tally_of : (vs : List Value) (t : Totals) → AreCounted vs t → IsTally vs (record { totals = t; error = None })
+tally_of vs t h = record { error = sym h.no_error; totals = λ none. h.sums }
+
+pub tally_stopped : (vs : List Value) (t : Totals) (e : Value) → first_error vs ≡ Some e → IsTally vs (record { totals = t; error = Some e })
+tally_stopped vs t e h = record { error = sym h; totals = λ none. absurd (let x : Some e ≡ no_error = sym h ∙ none in cc) }
+
+-- ---- which values are errors
+
+pub is_error : (v : Value) → (v ≡ DivZero) ⊎ ((v ≡ Num) ⊎ (v ≡ Circular)) → first_error (v ∷ []) ≡ Some v
+is_error DivZero e = refl
+is_error Num e = refl
+is_error Circular e = refl
+is_error Blank (inl e) = absurd cc
+is_error Blank (inr (inl e)) = absurd cc
+is_error Blank (inr (inr e)) = absurd cc
+is_error (Number z) (inl e) = absurd cc
+is_error (Number z) (inr (inl e)) = absurd cc
+is_error (Number z) (inr (inr e)) = absurd cc
