@@ -91,8 +91,13 @@ abbrev pub Answers : Shape → List ℕ → Result Content TextFault → Type 0
 Answers shape text (Ok c) = Reads shape text (plain c)
 Answers shape text (Err e) = (e ≡ no_memory) ⊎ Faults shape text e
 
--- a text has one content or one fault
+-- the text has a content, or it has a fault
+abbrev pub IsAnswered : Shape → List ℕ → Type 0
+IsAnswered shape text = ((c : Plain) × Reads shape text c) ⊎ ((e : TextFault) × Faults shape text e)
+
+-- a text has one content or one fault: there is one, no second one, and not one of each
 pub record OneAnswer (shape : Shape) (text : List ℕ) : Type 0 where
+  pub some : IsAnswered shape text
   pub content : (c d : Plain) → Reads shape text c → Reads shape text d → c ≡ d
   pub fault : (e f : TextFault) → Faults shape text e → Faults shape text f → e ≡ f
   pub never_both : (c : Plain) (e : TextFault) → Reads shape text c → Faults shape text e → ⊥
