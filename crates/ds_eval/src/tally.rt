@@ -99,7 +99,7 @@ impl Tally {
         }
     }
 
-    /// SUM (OpenFormula 6.16, function SUM): added exactly before the range is asked for.
+    /// SUM (OpenFormula 6.16.61): added exactly before the range is asked for.
     pub fn total(self) -> Value
         ensures { (vs : List values.Value) → IsTally vs self → result ≡ exact.with_all vs (λ ns. exact.in_range (exact.total ns)) }
     {
@@ -112,7 +112,7 @@ impl Tally {
         }
     }
 
-    /// MIN (OpenFormula 6.18, function MIN): 0 of no numbers.
+    /// MIN (OpenFormula 6.18.48): 0 of no numbers.
     pub fn least(self) -> Value
         ensures { (vs : List values.Value) → IsTally vs self → result ≡ exact.with_all vs (λ ns. Value.Number (exact.least ns)) }
     {
@@ -123,7 +123,7 @@ impl Tally {
         }
     }
 
-    /// MAX (OpenFormula 6.18, function MAX): 0 of no numbers.
+    /// MAX (OpenFormula 6.18.45): 0 of no numbers.
     pub fn greatest(self) -> Value
         ensures { (vs : List values.Value) → IsTally vs self → result ≡ exact.with_all vs (λ ns. Value.Number (exact.greatest ns)) }
     {
