@@ -8,8 +8,12 @@ use Rattle.ds_eval.specs.declared.value.Value.TheVariants.{Blank, Number, DivZer
 use Rattle.ds_eval.specs.declared.tally.Totals.{Totals}
 use Rattle.ds_eval.specs.declared.tally.Tally.{Tally}
 use Rattle.ds_eval.specs.Numbers.{numbers, first_error, least, greatest}
-use Rattle.ds_eval.specs.Steps.{first_or}
 use Rattle.ds_eval.specs.Tally.{AreTotals, AreCounted, IsTally}
+
+-- the first error, where there is one, else the second
+abbrev first_or : Option Value → Option Value → Option Value
+first_or (Some e) o = Some e
+first_or None o = o
 
 numbers_push : (vs : List Value) (z : ℤ) → numbers (vs ++ Number z ∷ []) ≡ numbers vs ++ z ∷ []
 numbers_push [] z = refl

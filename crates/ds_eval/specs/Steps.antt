@@ -51,8 +51,3 @@ same false b = not b
 -- what is left of a, with the sign of b, by sizes and signs
 abbrev pub floor_mod : ℤ → ℤ → ℤ
 floor_mod a b = with_sign (is_negative b) (size_of_rest (same (is_negative a) (is_negative b)) (unsigned_abs a % unsigned_abs b) (unsigned_abs b))
-
--- the first error, where there is one, else the second
-abbrev pub first_or : Option Value → Option Value → Option Value
-first_or (Some e) o = Some e
-first_or None o = o

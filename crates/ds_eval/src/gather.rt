@@ -210,7 +210,7 @@ pub fn with_range(shape: Shape, inputs: &Inputs, area: Rect, gathered: Gathered)
     if columns == 0 {
         return gathered;
     }
-    let (near, apart) = inputs.rows_of(area.first, columns);
+    let (mut near, apart) = inputs.rows_of(area.first, columns);
     let mut sum = gathered;
     for row in 0..rows {
         if sum.height < most {
@@ -218,8 +218,8 @@ pub fn with_range(shape: Shape, inputs: &Inputs, area: Rect, gathered: Gathered)
                 column: area.first.column,
                 row: area.first.row + row,
             };
-            let near = near.saturating_add(row.saturating_mul(apart));
             sum = with_row(inputs, most, first, columns, near, sum);
+            near = near.saturating_add(apart);
         }
     }
     sum

@@ -1,8 +1,6 @@
 //! Many values at once: SUM, MIN and MAX.
 
 ghost use Rattle.std.specs.Prelude.{◌≡◌, ◌+◌, ◌*◌, ◌<◌, ◌≤◌, ◌^◌, pos, neg_ℤ, ◌≤ℤ◌};
-ghost use Rattle.std.specs.Int.{int_min, int_max};
-ghost use Rattle.ds_eval.specs.Steps as Steps;
 
 use crate::value::Value;
 
@@ -57,7 +55,7 @@ impl Totals {
 /// The numbers among some values, or the first error among them, behind which nothing counts.
 #[derive(Clone, Copy, Debug)]
 pub struct Tally {
-    /// Of the numbers, as long as there is no error.
+    /// What is wanted of the numbers, as long as there is no error.
     pub totals: Totals,
     /// The first error.
     pub error: Option<Value>,
