@@ -1,4 +1,4 @@
-use Rattle.ds_rows.proofs.random.+begins_walk.Given as goal
+use Rattle.ds_values.proofs.random.+begins_walk.Given as goal
 
 abbrev pub decreases-begins_walk : goal.decreases-begins_walk
 decreases-begins_walk l = l.steps
