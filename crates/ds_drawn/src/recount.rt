@@ -1,6 +1,6 @@
 //! A recount of the edits of a sheet with three processes, from events and their replies alone.
 
-use crate::drawn::times_counted;
+use crate::last::times_counted;
 use ds_core::reply::Reply;
 use ds_edit::answer::{Answer, Told};
 use ds_formula::cells::Cell;

@@ -1,7 +1,13 @@
-//! Runs of edits, step by step, and the words that they leave.
+//! Runs of edits, works and reports by events, step by step, and the words that they leave.
 #![tactic(auto)]
 
 #[cfg(test)]
+mod edits;
+#[cfg(test)]
 mod refusals;
 #[cfg(test)]
-mod runs;
+mod reports;
+#[cfg(test)]
+mod tasks;
+#[cfg(test)]
+mod works;

@@ -178,3 +178,27 @@ fn not_enabled(rt: HostRuntime) -> Result<(), Fail> {
     play_on(rt.alloc(), &mut world, &NOT_ENABLED)?;
     play_on(rt.alloc(), &mut world, &IDLE)
 }
+
+// A process that is in a call begins no other one.
+const SECOND_CALLS: [Row; 4] = [
+    Row::Still(Asked::Edit(0, A1, "1"), BUSY),
+    Row::Still(Asked::Work(0, A2), BUSY),
+    Row::Still(Asked::Show(0), BUSY),
+    Row::Still(Asked::Recover(0), BUSY),
+];
+
+#[test]
+fn busy(rt: HostRuntime) -> Result<(), Fail> {
+    let first_calls = [
+        Row::Event(Asked::Edit(0, A1, "1"), Reply::Begun(0)),
+        Row::Event(Asked::Work(0, A1), Reply::Entered),
+        Row::Event(Asked::Show(0), Reply::Entered),
+        Row::Event(Asked::Recover(0), Reply::Entered),
+    ];
+    for first in first_calls {
+        let mut world = small(rt.alloc())?;
+        play_on(rt.alloc(), &mut world, &[first])?;
+        play_on(rt.alloc(), &mut world, &SECOND_CALLS)?;
+    }
+    Ok(())
+}

@@ -1,11 +1,10 @@
-//! A report of a new sheet of two columns, two rows and two processes.
+//! Recoveries of a new sheet of two columns, two rows and two processes.
 
-use crate::begin::begin;
-use crate::machine::Effect;
-use crate::step::step;
 use ds_formula::cells::Shape;
+use ds_recover::begin::begin;
+use ds_recover::machine::{Effect, RecoveryEnd};
+use ds_recover::step::step;
 use ds_state::refusal::Refusal;
-use ds_state::work::ShowEnd;
 use ds_state::world::World;
 use std::test::Fail;
 
@@ -19,25 +18,22 @@ fn steps(world: &mut World, process: usize, count: usize) -> Option<Effect> {
 }
 
 #[test]
-fn new_sheet(rt: HostRuntime) -> Result<(), Fail> {
+fn no_edit(rt: HostRuntime) -> Result<(), Fail> {
     if let Some(shape) = Shape::new(2, 2) {
         let mut world = World::new(rt.alloc(), shape, 2)?;
+        assert_eq!(rt; step(&mut world, 1), None);
         if world.words.layout().processes == 2 {
-            assert_eq!(rt; step(&mut world, 1), None);
+            assert_eq!(rt; begin(&mut world, 1), Ok(()));
         }
         if world.words.layout().processes == 2 {
-            assert_eq!(rt; begin(rt.alloc(), &mut world, 1), Ok(()));
+            assert_eq!(rt; begin(&mut world, 1), Err(Refusal::Busy));
         }
-        if world.words.layout().processes == 2 {
-            assert_eq!(rt; begin(rt.alloc(), &mut world, 1), Err(Refusal::Busy));
-        }
-        assert_eq!(rt; steps(&mut world, 1, 20), Some(Effect::GoesOn));
+        assert_eq!(rt; steps(&mut world, 1, 5), Some(Effect::GoesOn));
         assert_eq!(rt;
             step(&mut world, 1),
-            Some(Effect::Answers(ShowEnd::Settled))
+            Some(Effect::Answers(RecoveryEnd::Nothing))
         );
         assert_eq!(rt; step(&mut world, 1), None);
-        assert_eq!(rt; world.settled, 1);
     }
     Ok(())
 }

@@ -1,15 +1,15 @@
 //! Words by hand, for a sheet of two columns, two rows and two processes.
 
-use crate::announcement::{Announcement, Phase};
-use crate::head::Head;
-use crate::header::Header;
-use crate::layout::Layout;
-use crate::mark::{Mark, State};
-use crate::place::Place;
-use crate::sheet_words::SheetWords;
-use crate::stored::{Kind, Stored};
-use crate::text::{part_bytes, part_word};
 use ds_formula::cells::Shape;
+use ds_layout::announcement::{Announcement, Phase};
+use ds_layout::head::Head;
+use ds_layout::header::Header;
+use ds_layout::layout::Layout;
+use ds_layout::mark::{Mark, State};
+use ds_layout::place::Place;
+use ds_layout::sheet_words::SheetWords;
+use ds_layout::stored::{Kind, Stored};
+use ds_layout::text::{part_bytes, part_word};
 use std::test::Fail;
 
 fn layout(columns: usize, rows: usize, processes: usize) -> Option<Layout> {

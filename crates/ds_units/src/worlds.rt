@@ -1,8 +1,5 @@
 //! A new sheet of two columns, two rows and two processes, and words by hand.
 
-use crate::shown;
-use crate::text::Text;
-use crate::world::World;
 use ds_eval::value::Value;
 use ds_formula::cells::{Cell, Shape};
 use ds_layout::header::Header;
@@ -11,6 +8,9 @@ use ds_layout::mark::State;
 use ds_layout::place::Place;
 use ds_layout::sheet_words::SheetWords;
 use ds_layout::text::part_word;
+use ds_state::shown;
+use ds_state::text::Text;
+use ds_state::world::World;
 use ds_words::access::Access;
 use std::test::Fail;
 

@@ -1,0 +1,269 @@
+//! A sheet of three processes on which drawn events happen, and its recount.
+
+use crate::last::{are_last_texts, last_text};
+use crate::recount::{Doing, PROCESSES, Recount};
+use ds_core::event::Event;
+use ds_core::reply::Reply;
+use ds_core::take::take;
+use ds_eval::scratch::scratch;
+use ds_eval::sheet::Sheet;
+use ds_eval::task::Evaluated;
+use ds_fixtures::calls::{edit, evaluated, settle};
+use ds_fixtures::sheet::{CELLS, small_of_three};
+use ds_formula::cells::Cell;
+use ds_formula::reading::read_content;
+use ds_layout::place::Place;
+use ds_state::world::World;
+use std::alloc::Global;
+use std::test::Fail;
+
+/// An edit that others see before it is safe.
+#[derive(Clone, Copy, Debug)]
+pub struct Loss {
+    /// The process that begins the edit.
+    pub process: usize,
+    /// The process that edits the cell before, and works on it then.
+    pub other: usize,
+    /// The cell.
+    pub cell: Cell,
+    /// The text.
+    pub text: &'static str,
+    /// How many steps of the edit there are before the other process works.
+    pub steps: usize,
+}
+
+/// What is drawn: one event or some.
+#[derive(Clone, Copy, Debug)]
+pub enum Drawn {
+    /// A process begins an edit.
+    Edit(usize, Cell, &'static str),
+    /// A process begins to work on a cell.
+    Work(usize, Cell),
+    /// A process begins a report.
+    Show(usize),
+    /// A process begins to recover.
+    Recover(usize),
+    /// So many steps of a process.
+    Steps(usize, usize),
+    /// The work of a process is offered its own entry.
+    Offer(usize),
+    /// The evaluated task that was offered last is offered again.
+    Late,
+    /// A word is evicted.
+    Evict(Place),
+    /// A process stops.
+    Stop(usize),
+    /// All that is not persisted is lost.
+    Crash,
+    /// One process has edited a cell, another one is in an edit of it, the first one works on it, and then a crash comes.
+    Loss(Loss),
+    /// Each process ends its call, and recovers if it is stopped; then the sheet settles.
+    Calm,
+}
+
+/// A sheet, its recount, and the task that was offered last.
+#[derive(Drop)]
+pub struct Game {
+    alloc: Global,
+    world: World,
+    /// The recount.
+    pub recount: Recount,
+    kept: Option<Evaluated>,
+    /// How many offers came too late.
+    pub late: u64,
+    /// How many moments were quiet.
+    pub quiet: u64,
+}
+
+impl Game {
+    /// A new sheet.
+    pub fn new(alloc: Global) -> Result<Game, Fail> {
+        let world = small_of_three(alloc)?;
+        Ok(Game {
+            alloc,
+            world,
+            recount: Recount::new(alloc),
+            kept: None,
+            late: 0,
+            quiet: 0,
+        })
+    }
+
+    fn take(&mut self, event: &Event) -> Reply {
+        take(self.alloc, &mut self.world, event)
+    }
+
+    fn step(&mut self, process: usize) -> Result<Reply, Fail> {
+        let reply = self.take(&Event::Step(process));
+        self.recount.step(&self.world, process, reply)?;
+        Ok(reply)
+    }
+
+    // Where its work waits, it is offered its entry: one of the steps.
+    fn steps(&mut self, process: usize, count: usize) -> Result<(), Fail> {
+        for _ in 0..count {
+            if self.step(process)? == Reply::NotEnabled {
+                self.offer(process)?;
+            }
+        }
+        Ok(())
+    }
+
+    fn offer(&mut self, process: usize) -> Result<(), Fail> {
+        let again = evaluated(self.alloc, &self.world, process)?;
+        if let Some(entry) = evaluated(self.alloc, &self.world, process)? {
+            let reply = self.take(&Event::Offer(entry));
+            self.recount.expect(reply == Reply::Stepped);
+            self.kept = again;
+        }
+        Ok(())
+    }
+
+    // Its work does not wait for it any more.
+    fn offer_late(&mut self) {
+        if let Some(entry) = self.kept.take() {
+            let reply = self.take(&Event::Offer(entry));
+            self.recount.expect(reply == Reply::WrongTask);
+            self.late = self.late.wrapping_add(1);
+        }
+    }
+
+    fn edit(&mut self, process: usize, cell: Cell, text: &'static str) -> Result<(), Fail> {
+        let event = edit(self.alloc, process, cell, text)?;
+        let reply = self.take(&event);
+        self.recount.edit(process, cell, text, reply)?;
+        Ok(())
+    }
+
+    // Work or a report begins.
+    fn enter(&mut self, process: usize, event: &Event) {
+        let reply = self.take(event);
+        self.recount.enter(process, reply);
+    }
+
+    fn recover(&mut self, process: usize) {
+        let reply = self.take(&Event::BeginRecover(process));
+        self.recount.recover(process, reply);
+    }
+
+    fn stop(&mut self, process: usize) {
+        let reply = self.take(&Event::Stop(process));
+        self.recount.stop(process, reply);
+    }
+
+    fn crash(&mut self) {
+        let reply = self.take(&Event::Crash);
+        self.recount.crash(reply);
+    }
+
+    fn evict(&mut self, place: Place) {
+        let reply = self.take(&Event::Evict(place));
+        self.recount.expect(reply == Reply::Evicted);
+    }
+
+    fn finish(&mut self, process: usize) -> Result<(), Fail> {
+        for _ in 0..500usize {
+            if self.recount.doing(process) != Doing::Busy {
+                return Ok(());
+            }
+            if self.step(process)? == Reply::NotEnabled {
+                self.offer(process)?;
+            }
+        }
+        Err(Fail::from("a call without an end"))
+    }
+
+    // The process ends its call, and recovers if it is stopped.
+    fn rest(&mut self, process: usize) -> Result<(), Fail> {
+        self.finish(process)?;
+        if self.recount.doing(process) == Doing::Stopped {
+            self.recover(process);
+            self.finish(process)?;
+        }
+        Ok(())
+    }
+
+    fn calm(&mut self) -> Result<(), Fail> {
+        for process in 0..PROCESSES {
+            self.rest(process)?;
+        }
+        let settled = settle(self.alloc, &mut self.world, 0)?;
+        let is_quiet = self.world.is_quiet();
+        self.recount.expect(settled && is_quiet);
+        Ok(())
+    }
+
+    fn lose(&mut self, loss: Loss) -> Result<(), Fail> {
+        self.rest(loss.process)?;
+        self.rest(loss.other)?;
+        self.edit(loss.other, loss.cell, "3")?;
+        self.finish(loss.other)?;
+        self.edit(loss.process, loss.cell, loss.text)?;
+        self.steps(loss.process, loss.steps)?;
+        self.enter(loss.other, &Event::BeginWork(loss.other, loss.cell));
+        self.finish(loss.other)?;
+        self.crash();
+        Ok(())
+    }
+
+    /// What is drawn happens.
+    pub fn happen(&mut self, drawn: Drawn) -> Result<(), Fail> {
+        match drawn {
+            Drawn::Edit(process, cell, text) => self.edit(process, cell, text)?,
+            Drawn::Work(process, cell) => self.enter(process, &Event::BeginWork(process, cell)),
+            Drawn::Show(process) => self.enter(process, &Event::BeginShow(process)),
+            Drawn::Recover(process) => self.recover(process),
+            Drawn::Steps(process, count) => self.steps(process, count)?,
+            Drawn::Offer(process) => self.offer(process)?,
+            Drawn::Late => self.offer_late(),
+            Drawn::Evict(place) => self.evict(place),
+            Drawn::Stop(process) => self.stop(process),
+            Drawn::Crash => self.crash(),
+            Drawn::Loss(loss) => self.lose(loss)?,
+            Drawn::Calm => self.calm()?,
+        }
+        Ok(())
+    }
+
+    /// The ledger is that of the recount, each text is the last one that counts, and the values of a quiet sheet are
+    /// right.
+    pub fn check(&mut self) -> Result<(), Fail> {
+        let agrees = self.recount.agrees(&self.world);
+        self.recount.expect(agrees);
+        let are_last = are_last_texts(self.alloc, &self.world)?;
+        self.recount.expect(are_last);
+        if self.world.is_quiet() {
+            self.quiet = self.quiet.wrapping_add(1);
+            let are_right = are_right_values(self.alloc, &self.world)?;
+            self.recount.expect(are_right);
+        }
+        Ok(())
+    }
+}
+
+// The sheet of the last texts that count.
+fn sheet_of(alloc: Global, world: &World) -> Result<Option<Sheet>, Fail> {
+    let shape = world.words.layout().shape;
+    let mut contents = Vec::new(alloc);
+    for number in 0..CELLS.len() {
+        contents.push(read_content(alloc, &shape, last_text(world, number))?)?;
+    }
+    if contents.len() != shape.count() {
+        return Ok(None);
+    }
+    Ok(Some(Sheet::new(shape, contents)))
+}
+
+// Whether each value is that of an evaluation from scratch of the last texts that count.
+fn are_right_values(alloc: Global, world: &World) -> Result<bool, Fail> {
+    let Some(sheet) = sheet_of(alloc, world)? else {
+        return Ok(false);
+    };
+    let values = scratch(alloc, &sheet)?;
+    for (cell, value) in CELLS.into_iter().zip(&values) {
+        if !world.words.layout().shape.contains(cell) || world.value_of(cell) != *value {
+            return Ok(false);
+        }
+    }
+    Ok(true)
+}
