@@ -256,7 +256,11 @@ fn happen(alloc: Global, world: &mut World, row: Row) -> Result<(), Mismatch> {
 // What it shows.
 fn expect_shown(alloc: Global, world: &World, row: Row) -> Result<(), Mismatch> {
     match row {
-        Row::Word(place, cached, persisted) => expect_word(world, place, Word { cached, persisted }),
+        Row::Word(place, cached, persisted) => expect_word(
+            world,
+            place,
+            Word { cached, persisted },
+        ),
         Row::Text(cell, wanted) => expect_text(alloc, world, cell, wanted.as_bytes()),
         Row::Value(cell, wanted) => expect_value(world, cell, wanted),
         Row::State(cell, wanted) => expect_state(world, cell, wanted),
@@ -275,9 +279,7 @@ fn expect_shown(alloc: Global, world: &World, row: Row) -> Result<(), Mismatch> 
 pub fn play_on(alloc: Global, world: &mut World, rows: &[Row]) -> Result<(), Fail> {
     for (number, row) in rows.iter().enumerate() {
         if let Err(mismatch) = happen(alloc, world, *row) {
-            return Err(Fail::new(format_args!(
-                "row {number}, {row:?}: {mismatch:?}"
-            )));
+            return Err(Fail::new(format_args!("row {number}, {row:?}: {mismatch:?}")));
         }
     }
     Ok(())

@@ -68,11 +68,7 @@ pub fn expect_state(world: &World, cell: Cell, wanted: State) -> Result<(), Mism
 }
 
 /// The last point behind the edit of the process.
-pub fn expect_point(
-    world: &World,
-    process: usize,
-    wanted: Option<Point>,
-) -> Result<(), Mismatch> {
+pub fn expect_point(world: &World, process: usize, wanted: Option<Point>) -> Result<(), Mismatch> {
     if process >= world.words.layout().processes {
         return Err(Mismatch::NotThere);
     }

@@ -67,7 +67,11 @@ fn offered_again(rt: HostRuntime) -> Result<(), Fail> {
     let mut world = small(alloc)?;
     play_on(alloc, &mut world, &ONE_EDIT)?;
     let again = task_of(alloc, &world)?;
-    play_on(alloc, &mut world, &[Row::Event(Asked::Offer(0), Reply::Stepped)])?;
+    play_on(
+        alloc,
+        &mut world,
+        &[Row::Event(Asked::Offer(0), Reply::Stepped)],
+    )?;
     expect_wrong(alloc, &mut world, again)?;
     play_on(alloc, &mut world, &[Row::End(0, Answer::Published(true))])
 }
