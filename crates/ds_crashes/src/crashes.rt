@@ -3,7 +3,7 @@
 use ds_core::reply::Reply;
 use ds_edit::answer::{Answer, Told};
 use ds_eval::value::Value;
-use ds_fixtures::row::{Asked, Row, play};
+use ds_fixtures::row::{Action, Row, play};
 use ds_fixtures::sheet::{A1, A2, B1};
 use ds_layout::place::Place;
 use std::test::Fail;
@@ -27,14 +27,14 @@ const COUNTS_NOT: Answer = Answer::Last(Told {
 
 // After eleven steps the head has the edit, on the cached side alone; the next edit of the cell helps it.
 const HELPED_BY_THE_NEXT: [Row; 9] = [
-    Row::Event(Asked::Edit(0, A1, "1"), Reply::Begun(0)),
+    Row::Event(Action::Edit(0, A1, "1"), Reply::Begun(0)),
     Row::Steps(0, 11, Reply::Stepped),
     Row::Word(Place::Head(0), 65536, 0),
-    Row::Call(1, Asked::Edit(1, A1, "2"), Answer::Done(0)),
-    Row::Event(Asked::Crash, Reply::Crashed),
+    Row::Call(Action::Edit(1, A1, "2"), Answer::Done(0)),
+    Row::Event(Action::Crash, Reply::Crashed),
     Row::Counted(2),
-    Row::Call(0, Asked::Recover(0), COUNTS),
-    Row::Call(1, Asked::Recover(1), COUNTS),
+    Row::Call(Action::Recover(0), COUNTS),
+    Row::Call(Action::Recover(1), COUNTS),
     Row::Settled(0, [Value::Number(2), BLANK, BLANK, BLANK]),
 ];
 
@@ -44,13 +44,13 @@ fn helped_by_the_next(rt: HostRuntime) -> Result<(), Fail> {
 }
 
 const LOST: [Row; 8] = [
-    Row::Event(Asked::Edit(0, A1, "1"), Reply::Begun(0)),
+    Row::Event(Action::Edit(0, A1, "1"), Reply::Begun(0)),
     Row::Steps(0, 11, Reply::Stepped),
     Row::Word(Place::Head(0), 65536, 0),
-    Row::Event(Asked::Crash, Reply::Crashed),
+    Row::Event(Action::Crash, Reply::Crashed),
     Row::Word(Place::Head(0), 0, 0),
     Row::Counted(0),
-    Row::Call(0, Asked::Recover(0), COUNTS_NOT),
+    Row::Call(Action::Recover(0), COUNTS_NOT),
     Row::Settled(0, BLANKS),
 ];
 
@@ -60,12 +60,12 @@ fn lost(rt: HostRuntime) -> Result<(), Fail> {
 }
 
 const EVICTED_BEFORE_THE_CRASH: [Row; 7] = [
-    Row::Event(Asked::Edit(0, A1, "1"), Reply::Begun(0)),
+    Row::Event(Action::Edit(0, A1, "1"), Reply::Begun(0)),
     Row::Steps(0, 11, Reply::Stepped),
     Row::Word(Place::Head(0), 65536, 0),
-    Row::Event(Asked::Evict(Place::Head(0)), Reply::Evicted),
-    Row::Event(Asked::Crash, Reply::Crashed),
-    Row::Call(0, Asked::Recover(0), COUNTS),
+    Row::Event(Action::Evict(Place::Head(0)), Reply::Evicted),
+    Row::Event(Action::Crash, Reply::Crashed),
+    Row::Call(Action::Recover(0), COUNTS),
     Row::Settled(0, [Value::Number(1), BLANK, BLANK, BLANK]),
 ];
 
@@ -76,14 +76,14 @@ fn evicted_before_the_crash(rt: HostRuntime) -> Result<(), Fail> {
 
 // What a recovery has said stands after a crash, and so does what a second one says.
 const STOPPED_AND_CRASHED: [Row; 9] = [
-    Row::Event(Asked::Edit(0, A1, "1"), Reply::Begun(0)),
+    Row::Event(Action::Edit(0, A1, "1"), Reply::Begun(0)),
     Row::Steps(0, 11, Reply::Stepped),
     Row::Word(Place::Head(0), 65536, 0),
-    Row::Event(Asked::Stop(0), Reply::Stopped),
-    Row::Call(0, Asked::Recover(0), COUNTS),
-    Row::Event(Asked::Crash, Reply::Crashed),
-    Row::Call(0, Asked::Recover(0), COUNTS),
-    Row::Call(0, Asked::Recover(0), COUNTS),
+    Row::Event(Action::Stop(0), Reply::Stopped),
+    Row::Call(Action::Recover(0), COUNTS),
+    Row::Event(Action::Crash, Reply::Crashed),
+    Row::Call(Action::Recover(0), COUNTS),
+    Row::Call(Action::Recover(0), COUNTS),
     Row::Settled(0, [Value::Number(1), BLANK, BLANK, BLANK]),
 ];
 
@@ -94,28 +94,27 @@ fn stopped_and_crashed(rt: HostRuntime) -> Result<(), Fail> {
 
 // A work stops where it has stored its value, which no one has written back.
 const VALUE_NOT_PERSISTED: [Row; 15] = [
-    Row::Call(0, Asked::Edit(0, A1, "5"), Answer::Done(0)),
-    Row::Event(Asked::Work(1, A1), Reply::Entered),
+    Row::Call(Action::Edit(0, A1, "5"), Answer::Done(0)),
+    Row::Event(Action::Work(1, A1), Reply::Entered),
     Row::Steps(1, 10, Reply::Stepped),
-    Row::Event(Asked::Offer(1), Reply::Stepped),
+    Row::Event(Action::Offer(1), Reply::Stepped),
     Row::Steps(1, 2, Reply::Stepped),
     Row::Word(Place::Value(0), 5, 0),
-    Row::Event(Asked::Stop(1), Reply::Stopped),
-    Row::Call(1, Asked::Recover(1), Answer::Nothing),
-    Row::Call(0, Asked::Edit(0, B1, "=[.A1]"), Answer::Done(1)),
-    Row::Call(0, Asked::Work(0, B1), Answer::Published(true)),
-    Row::Event(Asked::Crash, Reply::Crashed),
+    Row::Event(Action::Stop(1), Reply::Stopped),
+    Row::Call(Action::Recover(1), Answer::Nothing),
+    Row::Call(Action::Edit(0, B1, "=[.A1]"), Answer::Done(1)),
+    Row::Call(Action::Work(0, B1), Answer::Published(true)),
+    Row::Event(Action::Crash, Reply::Crashed),
     Row::Call(
-        0,
-        Asked::Recover(0),
+        Action::Recover(0),
         Answer::Last(Told {
             number: 1,
             cell: 1,
             counts: true,
         }),
     ),
-    Row::Call(1, Asked::Recover(1), Answer::Nothing),
-    Row::Call(0, Asked::Edit(0, A1, ""), Answer::Done(2)),
+    Row::Call(Action::Recover(1), Answer::Nothing),
+    Row::Call(Action::Edit(0, A1, ""), Answer::Done(2)),
     Row::Settled(0, [BLANK, Value::Number(0), BLANK, BLANK]),
 ];
 
@@ -126,28 +125,27 @@ fn value_not_persisted(rt: HostRuntime) -> Result<(), Fail> {
 
 // The number of an edit that was never announced is given out again; that of one that was is spent.
 const NUMBERS_AFTER_A_CRASH: [Row; 15] = [
-    Row::Event(Asked::Edit(0, A1, "1"), Reply::Begun(0)),
+    Row::Event(Action::Edit(0, A1, "1"), Reply::Begun(0)),
     Row::Steps(0, 6, Reply::Stepped),
-    Row::Event(Asked::Crash, Reply::Crashed),
-    Row::Call(0, Asked::Recover(0), Answer::Nothing),
-    Row::Call(0, Asked::Edit(0, A1, "2"), Answer::Done(0)),
-    Row::Event(Asked::Edit(0, B1, "=[.A1]+[.A2]"), Reply::Begun(1)),
+    Row::Event(Action::Crash, Reply::Crashed),
+    Row::Call(Action::Recover(0), Answer::Nothing),
+    Row::Call(Action::Edit(0, A1, "2"), Answer::Done(0)),
+    Row::Event(Action::Edit(0, B1, "=[.A1]+[.A2]"), Reply::Begun(1)),
     Row::Steps(0, 8, Reply::Stepped),
-    Row::Event(Asked::Crash, Reply::Crashed),
-    Row::Call(0, Asked::Recover(0), COUNTS),
-    Row::Event(Asked::Edit(0, A2, "3"), Reply::Begun(1)),
+    Row::Event(Action::Crash, Reply::Crashed),
+    Row::Call(Action::Recover(0), COUNTS),
+    Row::Event(Action::Edit(0, A2, "3"), Reply::Begun(1)),
     Row::Steps(0, 9, Reply::Stepped),
-    Row::Event(Asked::Crash, Reply::Crashed),
+    Row::Event(Action::Crash, Reply::Crashed),
     Row::Call(
-        0,
-        Asked::Recover(0),
+        Action::Recover(0),
         Answer::Last(Told {
             number: 1,
             cell: 2,
             counts: false,
         }),
     ),
-    Row::Call(0, Asked::Edit(0, A2, "4"), Answer::Done(2)),
+    Row::Call(Action::Edit(0, A2, "4"), Answer::Done(2)),
     Row::Settled(0, [Value::Number(2), BLANK, Value::Number(4), BLANK]),
 ];
 
@@ -158,15 +156,15 @@ fn numbers_after_a_crash(rt: HostRuntime) -> Result<(), Fail> {
 
 // The other process works on a text that a crash takes: after it the last persisted text counts.
 const SEEN_AND_LOST: [Row; 10] = [
-    Row::Call(1, Asked::Edit(1, A1, "9"), Answer::Done(0)),
-    Row::Event(Asked::Edit(0, A1, "1"), Reply::Begun(0)),
+    Row::Call(Action::Edit(1, A1, "9"), Answer::Done(0)),
+    Row::Event(Action::Edit(0, A1, "1"), Reply::Begun(0)),
     Row::Steps(0, 16, Reply::Stepped),
-    Row::Call(1, Asked::Work(1, A1), Answer::Published(true)),
+    Row::Call(Action::Work(1, A1), Answer::Published(true)),
     Row::Value(A1, Value::Number(1)),
-    Row::Event(Asked::Crash, Reply::Crashed),
-    Row::Call(1, Asked::Recover(1), COUNTS),
-    Row::Call(1, Asked::Show(1), Answer::Unsettled(Place::Announce(0), 5)),
-    Row::Call(0, Asked::Recover(0), COUNTS_NOT),
+    Row::Event(Action::Crash, Reply::Crashed),
+    Row::Call(Action::Recover(1), COUNTS),
+    Row::Call(Action::Show(1), Answer::Unsettled(Place::Announce(0), 5)),
+    Row::Call(Action::Recover(0), COUNTS_NOT),
     Row::Settled(0, [Value::Number(9), BLANK, BLANK, BLANK]),
 ];
 
@@ -176,12 +174,12 @@ fn seen_and_lost(rt: HostRuntime) -> Result<(), Fail> {
 }
 
 const CLEAN_CELLS_STAY_CLEAN: [Row; 7] = [
-    Row::Call(0, Asked::Edit(0, A1, "1"), Answer::Done(0)),
+    Row::Call(Action::Edit(0, A1, "1"), Answer::Done(0)),
     Row::Settle(0),
-    Row::Event(Asked::Crash, Reply::Crashed),
-    Row::Call(1, Asked::Recover(1), Answer::Nothing),
+    Row::Event(Action::Crash, Reply::Crashed),
+    Row::Call(Action::Recover(1), Answer::Nothing),
     Row::Word(Place::Mark(0), 64, 64),
-    Row::Call(1, Asked::Show(1), Answer::Settled),
+    Row::Call(Action::Show(1), Answer::Settled),
     Row::Settled(1, [Value::Number(1), BLANK, BLANK, BLANK]),
 ];
 

@@ -3,7 +3,7 @@
 use ds_core::reply::Reply;
 use ds_edit::answer::{Answer, Told};
 use ds_eval::value::Value;
-use ds_fixtures::row::{Asked, Row, play, play_on};
+use ds_fixtures::row::{Action, Row, play, play_on};
 use ds_fixtures::sheet::{A1, B1, small};
 use ds_formula::cells::Cell;
 use std::alloc::Global;
@@ -30,11 +30,11 @@ fn crash_after(
     wanted: [Value; 4],
 ) -> Result<(), Fail> {
     let rows = [
-        Row::Event(Asked::Edit(0, cell, text), Reply::Begun(0)),
+        Row::Event(Action::Edit(0, cell, text), Reply::Begun(0)),
         Row::Moves(0, steps),
-        Row::Event(Asked::Crash, Reply::Crashed),
-        Row::Call(0, Asked::Recover(0), told),
-        Row::Call(1, Asked::Recover(1), Answer::Nothing),
+        Row::Event(Action::Crash, Reply::Crashed),
+        Row::Call(Action::Recover(0), told),
+        Row::Call(Action::Recover(1), Answer::Nothing),
         Row::Settled(0, wanted),
     ];
     play(alloc, &rows)
@@ -70,31 +70,30 @@ fn of_an_edit_with_a_reference(rt: HostRuntime) -> Result<(), Fail> {
 
 // A cell is marked that another one refers to, and process 1 begins to work on it.
 const WORK: [Row; 5] = [
-    Row::Call(0, Asked::Edit(0, B1, "=[.A1]+1"), Answer::Done(0)),
-    Row::Call(0, Asked::Edit(0, A1, "5"), Answer::Done(1)),
+    Row::Call(Action::Edit(0, B1, "=[.A1]+1"), Answer::Done(0)),
+    Row::Call(Action::Edit(0, A1, "5"), Answer::Done(1)),
     Row::Settle(0),
-    Row::Call(0, Asked::Edit(0, A1, "6"), Answer::Done(2)),
-    Row::Event(Asked::Work(1, A1), Reply::Entered),
+    Row::Call(Action::Edit(0, A1, "6"), Answer::Done(2)),
+    Row::Event(Action::Work(1, A1), Reply::Entered),
 ];
 
-const CRASH: [Row; 1] = [Row::Event(Asked::Crash, Reply::Crashed)];
+const CRASH: [Row; 1] = [Row::Event(Action::Crash, Reply::Crashed)];
 
 const STOPS: [Row; 2] = [
-    Row::Event(Asked::Stop(0), Reply::Stopped),
-    Row::Event(Asked::Stop(1), Reply::Stopped),
+    Row::Event(Action::Stop(0), Reply::Stopped),
+    Row::Event(Action::Stop(1), Reply::Stopped),
 ];
 
 const BEHIND_WORK: [Row; 3] = [
     Row::Call(
-        0,
-        Asked::Recover(0),
+        Action::Recover(0),
         Answer::Last(Told {
             number: 2,
             cell: 0,
             counts: true,
         }),
     ),
-    Row::Call(1, Asked::Recover(1), Answer::Nothing),
+    Row::Call(Action::Recover(1), Answer::Nothing),
     Row::Settled(1, [Value::Number(6), Value::Number(7), BLANK, BLANK]),
 ];
 

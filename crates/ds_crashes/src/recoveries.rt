@@ -3,7 +3,7 @@
 use ds_core::reply::Reply;
 use ds_edit::answer::{Answer, Told};
 use ds_eval::value::Value;
-use ds_fixtures::row::{Asked, Row, play};
+use ds_fixtures::row::{Action, Row, play};
 use ds_fixtures::sheet::{A1, B1};
 use ds_layout::place::Place;
 use std::test::Fail;
@@ -25,14 +25,14 @@ fn recovery_crashed(rt: HostRuntime) -> Result<(), Fail> {
     for (steps, counts) in [(4, false), (7, false), (9, true), (12, true), (14, true)] {
         let shown = if counts { Value::Number(1) } else { BLANK };
         let rows = [
-            Row::Event(Asked::Edit(0, A1, "1"), Reply::Begun(0)),
+            Row::Event(Action::Edit(0, A1, "1"), Reply::Begun(0)),
             Row::Steps(0, 11, Reply::Stepped),
             Row::Word(Place::Head(0), 65536, 0),
-            Row::Event(Asked::Stop(0), Reply::Stopped),
-            Row::Event(Asked::Recover(0), Reply::Entered),
+            Row::Event(Action::Stop(0), Reply::Stopped),
+            Row::Event(Action::Recover(0), Reply::Entered),
             Row::Steps(0, steps, Reply::Stepped),
-            Row::Event(Asked::Crash, Reply::Crashed),
-            Row::Call(0, Asked::Recover(0), last(counts)),
+            Row::Event(Action::Crash, Reply::Crashed),
+            Row::Call(Action::Recover(0), last(counts)),
             Row::Settled(0, [shown, BLANK, BLANK, BLANK]),
         ];
         play(rt.alloc(), &rows)?;
@@ -41,15 +41,14 @@ fn recovery_crashed(rt: HostRuntime) -> Result<(), Fail> {
 }
 
 const MARKS_ONE_CELL: [Row; 13] = [
-    Row::Call(0, Asked::Edit(0, A1, "1"), Answer::Done(0)),
-    Row::Call(0, Asked::Edit(0, B1, "2"), Answer::Done(1)),
+    Row::Call(Action::Edit(0, A1, "1"), Answer::Done(0)),
+    Row::Call(Action::Edit(0, B1, "2"), Answer::Done(1)),
     Row::Settle(0),
-    Row::Event(Asked::Edit(0, A1, "3"), Reply::Begun(2)),
+    Row::Event(Action::Edit(0, A1, "3"), Reply::Begun(2)),
     Row::Steps(0, 16, Reply::Stepped),
-    Row::Event(Asked::Stop(0), Reply::Stopped),
+    Row::Event(Action::Stop(0), Reply::Stopped),
     Row::Call(
-        0,
-        Asked::Recover(0),
+        Action::Recover(0),
         Answer::Last(Told {
             number: 2,
             cell: 0,
@@ -72,12 +71,12 @@ fn marks_one_cell(rt: HostRuntime) -> Result<(), Fail> {
 #[test]
 fn recovery_of_an_idle_process(rt: HostRuntime) -> Result<(), Fail> {
     let rows = [
-        Row::Call(0, Asked::Recover(0), Answer::Nothing),
-        Row::Call(0, Asked::Edit(0, A1, "1"), Answer::Done(0)),
-        Row::Call(0, Asked::Recover(0), last(true)),
-        Row::Event(Asked::Recover(0), Reply::Entered),
+        Row::Call(Action::Recover(0), Answer::Nothing),
+        Row::Call(Action::Edit(0, A1, "1"), Answer::Done(0)),
+        Row::Call(Action::Recover(0), last(true)),
+        Row::Event(Action::Recover(0), Reply::Entered),
         Row::End(0, last(true)),
-        Row::Call(0, Asked::Edit(0, A1, "2"), Answer::Done(1)),
+        Row::Call(Action::Edit(0, A1, "2"), Answer::Done(1)),
     ];
     play(rt.alloc(), &rows)
 }

@@ -6,10 +6,10 @@ mod draw;
 #[cfg(test)]
 mod edits;
 #[cfg(test)]
-mod game;
-#[cfg(test)]
 mod last;
 #[cfg(test)]
 mod lists;
 #[cfg(test)]
 mod recount;
+#[cfg(test)]
+mod simulation;

@@ -2,24 +2,24 @@
 // quiet moment the values are those of an evaluation from scratch. A list that fails is printed.
 
 use crate::draw::Draw;
-use crate::game::{Drawn, Game, Loss};
 use crate::recount::{Counts, Doing, Recount};
+use crate::simulation::{Drawn, Meeting, Simulation};
 use std::process::Abort;
 use std::test::Fail;
 
-// Of two processes; the edit has the head from its step 11 on, or from its step 16 on.
-fn draw_loss(draw: &mut Draw, process: usize) -> Drawn {
+// The process and another one; most edits note their cell's head and take it within these steps.
+fn draw_meeting(draw: &mut Draw, process: usize) -> Meeting {
     let other = draw.below(2).wrapping_add(process).wrapping_add(1) % 3;
     let cell = draw.cell();
     let text = draw.text();
-    let steps = draw.below(14).wrapping_add(8);
-    Drawn::Loss(Loss {
+    let steps = draw.below(28).wrapping_add(8);
+    Meeting {
         process,
         other,
         cell,
         text,
         steps,
-    })
+    }
 }
 
 // A stopped process mostly recovers.
@@ -28,10 +28,10 @@ fn draw_next(draw: &mut Draw, recount: &Recount) -> Drawn {
     if recount.doing(process) == Doing::Stopped && draw.below(3) != 0 {
         return Drawn::Recover(process);
     }
-    match draw.below(104) {
+    match draw.below(108) {
         0 => Drawn::Crash,
         1 | 2 => Drawn::Stop(process),
-        3 => Drawn::Calm,
+        3 | 106 | 107 => Drawn::Calm,
         4..8 => Drawn::Late,
         8..11 => Drawn::Recover(process),
         11..16 => Drawn::Show(process),
@@ -42,7 +42,8 @@ fn draw_next(draw: &mut Draw, recount: &Recount) -> Drawn {
             let cell = draw.cell();
             Drawn::Edit(process, cell, draw.text())
         }
-        58..62 => draw_loss(draw, process),
+        58..62 => Drawn::Loss(draw_meeting(draw, process)),
+        62 | 63 => Drawn::Race(draw_meeting(draw, process)),
         _ => Drawn::Steps(process, draw.below(12).wrapping_add(1)),
     }
 }
@@ -50,7 +51,7 @@ fn draw_next(draw: &mut Draw, recount: &Recount) -> Drawn {
 // Plays a list of so many drawn events, and a calm end; it is printed where it fails.
 fn play(
     rt: &(impl Abort + AllocGlobal),
-    game: &mut Game,
+    simulation: &mut Simulation,
     draw: &mut Draw,
     count: usize,
 ) -> Result<(), Fail> {
@@ -59,12 +60,12 @@ fn play(
         let drawn = if left == 0 {
             Drawn::Calm
         } else {
-            draw_next(draw, &game.recount)
+            draw_next(draw, &simulation.recount)
         };
         list.push(drawn)?;
-        game.happen(drawn)?;
-        game.check()?;
-        assert!(rt; game.recount.is_right, "{list:?}");
+        simulation.happen(drawn)?;
+        simulation.check()?;
+        assert!(rt; simulation.recount.is_right, "{list:?}");
     }
     Ok(())
 }
@@ -78,16 +79,16 @@ struct Met {
 }
 
 impl Met {
-    fn add(&mut self, game: &Game) {
-        self.counts = self.counts.plus(game.recount.counts);
-        self.late = self.late.wrapping_add(game.late);
-        self.quiet = self.quiet.wrapping_add(game.quiet);
+    fn add(&mut self, simulation: &Simulation) {
+        self.counts = self.counts.plus(simulation.recount.counts);
+        self.late = self.late.wrapping_add(simulation.late);
+        self.quiet = self.quiet.wrapping_add(simulation.quiet);
     }
 
     // The draw meets each kind.
     fn is_all(&self) -> bool {
         let counts = self.counts;
-        let edits = counts.done > 100 && counts.overtaken > 0;
+        let edits = counts.done > 100 && counts.overtaken > 10;
         let recoveries = counts.counted > 50 && counts.uncounted > 20 && counts.nothing > 10;
         let others = counts.published > 10 && counts.settled > 5;
         edits && recoveries && others && self.late > 0 && self.quiet > 100
@@ -103,9 +104,9 @@ fn sixty_four_lists(rt: HostRuntime) -> Result<(), Fail> {
         quiet: 0,
     };
     for _ in 0..64usize {
-        let mut game = Game::new(rt.alloc())?;
-        play(&rt, &mut game, &mut draw, 110)?;
-        met.add(&game);
+        let mut simulation = Simulation::new(rt.alloc())?;
+        play(&rt, &mut simulation, &mut draw, 110)?;
+        met.add(&simulation);
     }
     assert!(rt; met.is_all(), "{met:?}");
     Ok(())

@@ -4,7 +4,7 @@
 
 pub mod calls;
 pub mod mismatch;
-pub mod picture;
 pub mod row;
 pub mod sheet;
 pub mod shown;
+pub mod snapshot;

@@ -14,6 +14,8 @@ pub enum Mismatch {
     NoMemory,
     /// The sheet has no such cell, process or word.
     NotThere,
+    /// No call begins by this.
+    NoCall,
     /// No work of the process waits for an entry.
     NoTask,
     /// More steps than a call of the sheet has.

@@ -2,11 +2,11 @@
 
 use crate::calls::{advance, edit, evaluated, finish, settle, whole};
 use crate::mismatch::Mismatch;
-use crate::picture::Picture;
 use crate::sheet::{CELLS, small};
 use crate::shown::{
     expect_point, expect_report, expect_state, expect_text, expect_value, expect_word,
 };
+use crate::snapshot::Snapshot;
 use ds_core::event::Event;
 use ds_core::reply::Reply;
 use ds_core::take::{run, take};
@@ -23,7 +23,7 @@ use std::test::Fail;
 
 /// An event.
 #[derive(Clone, Copy, Debug)]
-pub enum Asked {
+pub enum Action {
     /// A process begins to give a cell this text.
     Edit(usize, Cell, &'static str),
     /// A process begins to work on a cell.
@@ -48,15 +48,15 @@ pub enum Asked {
 #[derive(Clone, Copy, Debug)]
 pub enum Row {
     /// An event, with this reply.
-    Event(Asked, Reply),
+    Event(Action, Reply),
     /// An event, with this reply, and nothing of the sheet changes.
-    Still(Asked, Reply),
+    Still(Action, Reply),
     /// So many steps of a process: the last one has this reply, and the others go on.
     Steps(usize, usize, Reply),
     /// So many steps of a process, which can all happen; where its work waits, it is offered its entry.
     Moves(usize, usize),
     /// A process begins a call, and steps to its end, which is this.
-    Call(usize, Asked, Answer),
+    Call(Action, Answer),
     /// The call under way of a process steps to its end, which is this.
     End(usize, Answer),
     /// A process works on all cells, until none is marked.
@@ -81,22 +81,33 @@ pub enum Row {
     Reports(u64),
 }
 
-impl Asked {
+impl Action {
+    /// The process whose call begins.
+    fn caller(self) -> Option<usize> {
+        match self {
+            Action::Edit(process, _, _)
+            | Action::Work(process, _)
+            | Action::Show(process)
+            | Action::Recover(process) => Some(process),
+            _ => None,
+        }
+    }
+
     /// The event on this sheet.
     pub fn event(self, alloc: Global, world: &World) -> Result<Event, Mismatch> {
         Ok(match self {
-            Asked::Edit(process, cell, text) => edit(alloc, process, cell, text)?,
-            Asked::Work(process, cell) => Event::BeginWork(process, cell),
-            Asked::Show(process) => Event::BeginShow(process),
-            Asked::Recover(process) => Event::BeginRecover(process),
-            Asked::Step(process) => Event::Step(process),
-            Asked::Offer(process) => match evaluated(alloc, world, process)? {
+            Action::Edit(process, cell, text) => edit(alloc, process, cell, text)?,
+            Action::Work(process, cell) => Event::BeginWork(process, cell),
+            Action::Show(process) => Event::BeginShow(process),
+            Action::Recover(process) => Event::BeginRecover(process),
+            Action::Step(process) => Event::Step(process),
+            Action::Offer(process) => match evaluated(alloc, world, process)? {
                 Some(entry) => Event::Offer(entry),
                 None => return Err(Mismatch::NoTask),
             },
-            Asked::Evict(place) => Event::Evict(place),
-            Asked::Stop(process) => Event::Stop(process),
-            Asked::Crash => Event::Crash,
+            Action::Evict(place) => Event::Evict(place),
+            Action::Stop(process) => Event::Stop(process),
+            Action::Crash => Event::Crash,
         })
     }
 }
@@ -138,10 +149,10 @@ pub fn expect_reply(
 fn expect_event(
     alloc: Global,
     world: &mut World,
-    asked: Asked,
+    action: Action,
     wanted: Reply,
 ) -> Result<(), Mismatch> {
-    let events = [asked.event(alloc, world)?];
+    let events = [action.event(alloc, world)?];
     expect_replies(alloc, world, &events, &[wanted])
 }
 
@@ -152,9 +163,9 @@ pub fn expect_unchanged(
     event: &Event,
     wanted: Reply,
 ) -> Result<(), Mismatch> {
-    let before = Picture::of(alloc, world)?;
+    let before = Snapshot::of(alloc, world)?;
     expect_reply(alloc, world, event, wanted)?;
-    let after = Picture::of(alloc, world)?;
+    let after = Snapshot::of(alloc, world)?;
     holds(before.is_same(&after), Mismatch::Changed)
 }
 
@@ -205,11 +216,11 @@ fn expect_moves(
 fn expect_call(
     alloc: Global,
     world: &mut World,
-    process: usize,
-    asked: Asked,
+    action: Action,
     wanted: Answer,
 ) -> Result<(), Mismatch> {
-    let event = asked.event(alloc, world)?;
+    let process = action.caller().ok_or(Mismatch::NoCall)?;
+    let event = action.event(alloc, world)?;
     let reply = whole(alloc, world, process, &event)?;
     reply_is(reply, Reply::Answered(wanted))
 }
@@ -225,21 +236,21 @@ fn expect_settled(
     for (cell, value) in CELLS.into_iter().zip(wanted) {
         expect_value(world, cell, value)?;
     }
-    expect_call(alloc, world, process, Asked::Show(process), Answer::Settled)?;
+    expect_call(alloc, world, Action::Show(process), Answer::Settled)?;
     expect_report(world, process, &wanted)
 }
 
 // What happens.
 fn happen(alloc: Global, world: &mut World, row: Row) -> Result<(), Mismatch> {
     match row {
-        Row::Event(asked, wanted) => expect_event(alloc, world, asked, wanted),
-        Row::Still(asked, wanted) => {
-            let event = asked.event(alloc, world)?;
+        Row::Event(action, wanted) => expect_event(alloc, world, action, wanted),
+        Row::Still(action, wanted) => {
+            let event = action.event(alloc, world)?;
             expect_unchanged(alloc, world, &event, wanted)
         }
         Row::Steps(process, count, last) => expect_steps(alloc, world, process, count, last),
         Row::Moves(process, count) => expect_moves(alloc, world, process, count),
-        Row::Call(process, asked, wanted) => expect_call(alloc, world, process, asked, wanted),
+        Row::Call(action, wanted) => expect_call(alloc, world, action, wanted),
         Row::End(process, wanted) => {
             let reply = finish(alloc, world, process)?;
             reply_is(reply, Reply::Answered(wanted))

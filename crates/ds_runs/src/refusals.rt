@@ -2,7 +2,7 @@
 
 use ds_core::reply::Reply;
 use ds_edit::answer::Answer;
-use ds_fixtures::row::{Asked, Row, play, play_on};
+use ds_fixtures::row::{Action, Row, play, play_on};
 use ds_fixtures::sheet::{A1, A2, small};
 use ds_formula::cells::Cell;
 use ds_formula::fault::{FaultKind, TextFault};
@@ -41,19 +41,19 @@ const LONG: &str =
 
 // Process 0 is in an edit, and process 1 is idle.
 const REFUSED: [Row; 6] = [
-    Row::Still(Asked::Edit(0, A2, "=1.5"), BUSY),
-    Row::Still(Asked::Edit(1, A2, "=1.5"), NOT_WHOLE),
-    Row::Still(Asked::Edit(0, A2, "=[.C1]"), BUSY),
-    Row::Still(Asked::Edit(1, A2, "=[.C1]"), OUTSIDE),
-    Row::Still(Asked::Edit(0, A2, LONG), BUSY),
-    Row::Still(Asked::Edit(1, A2, LONG), TOO_LONG),
+    Row::Still(Action::Edit(0, A2, "=1.5"), BUSY),
+    Row::Still(Action::Edit(1, A2, "=1.5"), NOT_WHOLE),
+    Row::Still(Action::Edit(0, A2, "=[.C1]"), BUSY),
+    Row::Still(Action::Edit(1, A2, "=[.C1]"), OUTSIDE),
+    Row::Still(Action::Edit(0, A2, LONG), BUSY),
+    Row::Still(Action::Edit(1, A2, LONG), TOO_LONG),
 ];
 
 const REFUSED_BEHIND_IT: [Row; 4] = [
-    Row::Event(Asked::Step(0), DONE),
-    Row::Still(Asked::Edit(0, A1, "=1.5"), NOT_WHOLE),
-    Row::Still(Asked::Edit(0, A1, "=[.C1]"), OUTSIDE),
-    Row::Still(Asked::Edit(0, A1, LONG), TOO_LONG),
+    Row::Event(Action::Step(0), DONE),
+    Row::Still(Action::Edit(0, A1, "=1.5"), NOT_WHOLE),
+    Row::Still(Action::Edit(0, A1, "=[.C1]"), OUTSIDE),
+    Row::Still(Action::Edit(0, A1, LONG), TOO_LONG),
 ];
 
 #[test]
@@ -62,29 +62,29 @@ fn refused(rt: HostRuntime) -> Result<(), Fail> {
     play_on(
         rt.alloc(),
         &mut world,
-        &[Row::Event(Asked::Edit(0, A1, "1"), Reply::Begun(0))],
+        &[Row::Event(Action::Edit(0, A1, "1"), Reply::Begun(0))],
     )?;
     for _ in 0..19usize {
         play_on(rt.alloc(), &mut world, &REFUSED)?;
         play_on(
             rt.alloc(),
             &mut world,
-            &[Row::Event(Asked::Step(0), Reply::Stepped)],
+            &[Row::Event(Action::Step(0), Reply::Stepped)],
         )?;
     }
     play_on(rt.alloc(), &mut world, &REFUSED_BEHIND_IT)
 }
 
 const STOPPED_PROCESS: [Row; 9] = [
-    Row::Event(Asked::Stop(1), Reply::Stopped),
-    Row::Still(Asked::Edit(1, A2, "1"), STOPPED),
-    Row::Still(Asked::Edit(1, A2, "=1.5"), STOPPED),
-    Row::Still(Asked::Edit(1, A2, LONG), STOPPED),
-    Row::Still(Asked::Step(1), Reply::NotEnabled),
-    Row::Still(Asked::Stop(1), Reply::NotEnabled),
-    Row::Still(Asked::Work(1, A1), STOPPED),
-    Row::Still(Asked::Show(1), STOPPED),
-    Row::Event(Asked::Edit(0, A1, "1"), Reply::Begun(0)),
+    Row::Event(Action::Stop(1), Reply::Stopped),
+    Row::Still(Action::Edit(1, A2, "1"), STOPPED),
+    Row::Still(Action::Edit(1, A2, "=1.5"), STOPPED),
+    Row::Still(Action::Edit(1, A2, LONG), STOPPED),
+    Row::Still(Action::Step(1), Reply::NotEnabled),
+    Row::Still(Action::Stop(1), Reply::NotEnabled),
+    Row::Still(Action::Work(1, A1), STOPPED),
+    Row::Still(Action::Show(1), STOPPED),
+    Row::Event(Action::Edit(0, A1, "1"), Reply::Begun(0)),
 ];
 
 #[test]
@@ -97,7 +97,7 @@ fn spend_records(alloc: Global, world: &mut World) -> Result<(), Fail> {
     for number in 0..256usize {
         let count = if number == 0 { 20 } else { 25 };
         let rows = [
-            Row::Event(Asked::Edit(0, A1, "1"), Reply::Begun(number)),
+            Row::Event(Action::Edit(0, A1, "1"), Reply::Begun(number)),
             Row::Steps(0, count, Reply::Answered(Answer::Done(number))),
         ];
         play_on(alloc, world, &rows)?;
@@ -109,14 +109,14 @@ const SPENT: [Row; 15] = [
     Row::Counted(256),
     Row::Done(256),
     Row::Word(Place::Head(0), 16777471, 16777471),
-    Row::Still(Asked::Edit(0, A1, "2"), FULL),
-    Row::Still(Asked::Edit(0, A2, ""), FULL),
-    Row::Still(Asked::Edit(0, A1, "=1.5"), NOT_WHOLE),
+    Row::Still(Action::Edit(0, A1, "2"), FULL),
+    Row::Still(Action::Edit(0, A2, ""), FULL),
+    Row::Still(Action::Edit(0, A1, "=1.5"), NOT_WHOLE),
     Row::Word(Place::Done(0, 0), u64::MAX, u64::MAX),
     Row::Word(Place::Done(0, 1), u64::MAX, u64::MAX),
     Row::Word(Place::Done(0, 2), u64::MAX, u64::MAX),
     Row::Word(Place::Done(0, 3), u64::MAX / 2, u64::MAX / 2),
-    Row::Event(Asked::Edit(1, A1, "3"), Reply::Begun(0)),
+    Row::Event(Action::Edit(1, A1, "3"), Reply::Begun(0)),
     Row::Steps(1, 25, DONE),
     Row::Word(Place::Done(0, 3), u64::MAX, u64::MAX),
     Row::Text(A1, "3"),
@@ -136,24 +136,24 @@ const BELOW: Cell = Cell { column: 0, row: 2 };
 
 // Process 1 is idle, and there is no third one.
 const NOT_ENABLED: [Row; 15] = [
-    Row::Still(Asked::Edit(1, BESIDE, "1"), Reply::NotEnabled),
-    Row::Still(Asked::Edit(1, BELOW, "=1.5"), Reply::NotEnabled),
-    Row::Still(Asked::Edit(2, A1, "1"), Reply::NotEnabled),
-    Row::Still(Asked::Step(1), Reply::NotEnabled),
-    Row::Still(Asked::Step(7), Reply::NotEnabled),
-    Row::Still(Asked::Evict(Place::Head(4)), Reply::NotEnabled),
-    Row::Still(Asked::Evict(Place::Index(0, 1)), Reply::NotEnabled),
-    Row::Still(Asked::Evict(Place::Announce(2)), Reply::NotEnabled),
-    Row::Still(Asked::Evict(Place::Text(0, 0, 15)), Reply::NotEnabled),
-    Row::Still(Asked::Stop(2), Reply::NotEnabled),
-    Row::Still(Asked::Stop(7), Reply::NotEnabled),
-    Row::Still(Asked::Show(2), Reply::NotEnabled),
-    Row::Still(Asked::Recover(2), Reply::NotEnabled),
-    Row::Still(Asked::Work(2, A1), Reply::NotEnabled),
-    Row::Still(Asked::Work(0, BESIDE), Reply::NotEnabled),
+    Row::Still(Action::Edit(1, BESIDE, "1"), Reply::NotEnabled),
+    Row::Still(Action::Edit(1, BELOW, "=1.5"), Reply::NotEnabled),
+    Row::Still(Action::Edit(2, A1, "1"), Reply::NotEnabled),
+    Row::Still(Action::Step(1), Reply::NotEnabled),
+    Row::Still(Action::Step(7), Reply::NotEnabled),
+    Row::Still(Action::Evict(Place::Head(4)), Reply::NotEnabled),
+    Row::Still(Action::Evict(Place::Index(0, 1)), Reply::NotEnabled),
+    Row::Still(Action::Evict(Place::Announce(2)), Reply::NotEnabled),
+    Row::Still(Action::Evict(Place::Text(0, 0, 15)), Reply::NotEnabled),
+    Row::Still(Action::Stop(2), Reply::NotEnabled),
+    Row::Still(Action::Stop(7), Reply::NotEnabled),
+    Row::Still(Action::Show(2), Reply::NotEnabled),
+    Row::Still(Action::Recover(2), Reply::NotEnabled),
+    Row::Still(Action::Work(2, A1), Reply::NotEnabled),
+    Row::Still(Action::Work(0, BESIDE), Reply::NotEnabled),
 ];
 
-const IDLE: [Row; 1] = [Row::Still(Asked::Step(0), Reply::NotEnabled)];
+const IDLE: [Row; 1] = [Row::Still(Action::Step(0), Reply::NotEnabled)];
 
 // Process 0 is idle, at each of its steps, and idle again.
 #[test]
@@ -164,7 +164,7 @@ fn not_enabled(rt: HostRuntime) -> Result<(), Fail> {
     play_on(
         rt.alloc(),
         &mut world,
-        &[Row::Event(Asked::Edit(0, A1, "1"), Reply::Begun(0))],
+        &[Row::Event(Action::Edit(0, A1, "1"), Reply::Begun(0))],
     )?;
     for step in 0..20usize {
         play_on(rt.alloc(), &mut world, &NOT_ENABLED)?;
@@ -172,7 +172,7 @@ fn not_enabled(rt: HostRuntime) -> Result<(), Fail> {
         play_on(
             rt.alloc(),
             &mut world,
-            &[Row::Event(Asked::Step(0), wanted)],
+            &[Row::Event(Action::Step(0), wanted)],
         )?;
     }
     play_on(rt.alloc(), &mut world, &NOT_ENABLED)?;
@@ -181,19 +181,19 @@ fn not_enabled(rt: HostRuntime) -> Result<(), Fail> {
 
 // A process that is in a call begins no other one.
 const SECOND_CALLS: [Row; 4] = [
-    Row::Still(Asked::Edit(0, A1, "1"), BUSY),
-    Row::Still(Asked::Work(0, A2), BUSY),
-    Row::Still(Asked::Show(0), BUSY),
-    Row::Still(Asked::Recover(0), BUSY),
+    Row::Still(Action::Edit(0, A1, "1"), BUSY),
+    Row::Still(Action::Work(0, A2), BUSY),
+    Row::Still(Action::Show(0), BUSY),
+    Row::Still(Action::Recover(0), BUSY),
 ];
 
 #[test]
 fn busy(rt: HostRuntime) -> Result<(), Fail> {
     let first_calls = [
-        Row::Event(Asked::Edit(0, A1, "1"), Reply::Begun(0)),
-        Row::Event(Asked::Work(0, A1), Reply::Entered),
-        Row::Event(Asked::Show(0), Reply::Entered),
-        Row::Event(Asked::Recover(0), Reply::Entered),
+        Row::Event(Action::Edit(0, A1, "1"), Reply::Begun(0)),
+        Row::Event(Action::Work(0, A1), Reply::Entered),
+        Row::Event(Action::Show(0), Reply::Entered),
+        Row::Event(Action::Recover(0), Reply::Entered),
     ];
     for first in first_calls {
         let mut world = small(rt.alloc())?;

@@ -5,7 +5,7 @@ use ds_core::reply::Reply;
 use ds_edit::answer::Answer;
 use ds_eval::task::Evaluated;
 use ds_fixtures::calls::evaluated;
-use ds_fixtures::row::{Asked, Row, expect_unchanged, play_on};
+use ds_fixtures::row::{Action, Row, expect_unchanged, play_on};
 use ds_fixtures::sheet::{A1, small};
 use ds_layout::place::Place;
 use ds_state::world::World;
@@ -15,24 +15,24 @@ use std::test::Fail;
 // Five edits of the cell to one text, the first four of them worked off, so that the fifth work holds the cell in
 // generation 9, and waits.
 const FIVE_EDITS: [Row; 12] = [
-    Row::Call(0, Asked::Edit(0, A1, "=1+2"), Answer::Done(0)),
-    Row::Call(0, Asked::Work(0, A1), Answer::Published(true)),
-    Row::Call(0, Asked::Edit(0, A1, "=1+2"), Answer::Done(1)),
-    Row::Call(0, Asked::Work(0, A1), Answer::Published(false)),
-    Row::Call(0, Asked::Edit(0, A1, "=1+2"), Answer::Done(2)),
-    Row::Call(0, Asked::Work(0, A1), Answer::Published(false)),
-    Row::Call(0, Asked::Edit(0, A1, "=1+2"), Answer::Done(3)),
-    Row::Call(0, Asked::Work(0, A1), Answer::Published(false)),
-    Row::Call(0, Asked::Edit(0, A1, "=1+2"), Answer::Done(4)),
-    Row::Event(Asked::Work(0, A1), Reply::Entered),
+    Row::Call(Action::Edit(0, A1, "=1+2"), Answer::Done(0)),
+    Row::Call(Action::Work(0, A1), Answer::Published(true)),
+    Row::Call(Action::Edit(0, A1, "=1+2"), Answer::Done(1)),
+    Row::Call(Action::Work(0, A1), Answer::Published(false)),
+    Row::Call(Action::Edit(0, A1, "=1+2"), Answer::Done(2)),
+    Row::Call(Action::Work(0, A1), Answer::Published(false)),
+    Row::Call(Action::Edit(0, A1, "=1+2"), Answer::Done(3)),
+    Row::Call(Action::Work(0, A1), Answer::Published(false)),
+    Row::Call(Action::Edit(0, A1, "=1+2"), Answer::Done(4)),
+    Row::Event(Action::Work(0, A1), Reply::Entered),
     Row::Steps(0, 10, Reply::Stepped),
     Row::Word(Place::Mark(0), 290, 290),
 ];
 
 // One edit of that text, and a work that waits.
 const ONE_EDIT: [Row; 3] = [
-    Row::Call(0, Asked::Edit(0, A1, "=1+2"), Answer::Done(0)),
-    Row::Event(Asked::Work(0, A1), Reply::Entered),
+    Row::Call(Action::Edit(0, A1, "=1+2"), Answer::Done(0)),
+    Row::Event(Action::Work(0, A1), Reply::Entered),
     Row::Steps(0, 10, Reply::Stepped),
 ];
 
@@ -70,7 +70,7 @@ fn offered_again(rt: HostRuntime) -> Result<(), Fail> {
     play_on(
         alloc,
         &mut world,
-        &[Row::Event(Asked::Offer(0), Reply::Stepped)],
+        &[Row::Event(Action::Offer(0), Reply::Stepped)],
     )?;
     expect_wrong(alloc, &mut world, again)?;
     play_on(alloc, &mut world, &[Row::End(0, Answer::Published(true))])

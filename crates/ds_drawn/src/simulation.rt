@@ -13,22 +13,23 @@ use ds_fixtures::sheet::{CELLS, small_of_three};
 use ds_formula::cells::Cell;
 use ds_formula::reading::read_content;
 use ds_layout::place::Place;
+use ds_state::stage::Point;
 use ds_state::world::World;
 use std::alloc::Global;
 use std::test::Fail;
 
-/// An edit that others see before it is safe.
+/// Two processes that meet at a cell.
 #[derive(Clone, Copy, Debug)]
-pub struct Loss {
-    /// The process that begins the edit.
+pub struct Meeting {
+    /// The process whose edit of the cell is under way.
     pub process: usize,
-    /// The process that edits the cell before, and works on it then.
+    /// The process that comes between.
     pub other: usize,
     /// The cell.
     pub cell: Cell,
-    /// The text.
+    /// The text of the edit.
     pub text: &'static str,
-    /// How many steps of the edit there are before the other process works.
+    /// How many steps the edit makes before the other process comes.
     pub steps: usize,
 }
 
@@ -55,15 +56,17 @@ pub enum Drawn {
     Stop(usize),
     /// All that is not persisted is lost.
     Crash,
-    /// One process has edited a cell, another one is in an edit of it, the first one works on it, and then a crash comes.
-    Loss(Loss),
+    /// The other process has edited the cell, and works on it where the edit has just taken the head; then a crash comes.
+    Loss(Meeting),
+    /// The other process edits the cell during the edit, which then ends.
+    Race(Meeting),
     /// Each process ends its call, and recovers if it is stopped; then the sheet settles.
     Calm,
 }
 
 /// A sheet, its recount, and the task that was offered last.
 #[derive(Drop)]
-pub struct Game {
+pub struct Simulation {
     alloc: Global,
     world: World,
     /// The recount.
@@ -75,11 +78,11 @@ pub struct Game {
     pub quiet: u64,
 }
 
-impl Game {
+impl Simulation {
     /// A new sheet.
-    pub fn new(alloc: Global) -> Result<Game, Fail> {
+    pub fn new(alloc: Global) -> Result<Simulation, Fail> {
         let world = small_of_three(alloc)?;
-        Ok(Game {
+        Ok(Simulation {
             alloc,
             world,
             recount: Recount::new(alloc),
@@ -193,17 +196,49 @@ impl Game {
         Ok(())
     }
 
-    fn lose(&mut self, loss: Loss) -> Result<(), Fail> {
-        self.rest(loss.process)?;
-        self.rest(loss.other)?;
-        self.edit(loss.other, loss.cell, "3")?;
-        self.finish(loss.other)?;
-        self.edit(loss.process, loss.cell, loss.text)?;
-        self.steps(loss.process, loss.steps)?;
-        self.enter(loss.other, &Event::BeginWork(loss.other, loss.cell));
-        self.finish(loss.other)?;
+    // Both processes end what they do, and the other one edits the cell; then the edit begins.
+    fn meet(&mut self, meeting: Meeting) -> Result<(), Fail> {
+        self.rest(meeting.process)?;
+        self.rest(meeting.other)?;
+        self.edit(meeting.other, meeting.cell, "3")?;
+        self.finish(meeting.other)?;
+        self.edit(meeting.process, meeting.cell, meeting.text)
+    }
+
+    // Whether the head of its cell has the edit of the process, on the cached side alone or on both.
+    fn is_swung(&self, process: usize) -> bool {
+        process < self.world.words.layout().processes
+            && self.world.point_of(process) == Some(Point::Swung)
+    }
+
+    // So many steps, or fewer where the head has the edit.
+    fn swing(&mut self, process: usize, count: usize) -> Result<(), Fail> {
+        for _ in 0..count {
+            if !self.is_swung(process) {
+                self.step(process)?;
+            }
+        }
+        Ok(())
+    }
+
+    fn lose(&mut self, meeting: Meeting) -> Result<(), Fail> {
+        self.meet(meeting)?;
+        self.swing(meeting.process, meeting.steps)?;
+        self.enter(
+            meeting.other,
+            &Event::BeginWork(meeting.other, meeting.cell),
+        );
+        self.finish(meeting.other)?;
         self.crash();
         Ok(())
+    }
+
+    fn race(&mut self, meeting: Meeting) -> Result<(), Fail> {
+        self.meet(meeting)?;
+        self.steps(meeting.process, meeting.steps)?;
+        self.edit(meeting.other, meeting.cell, "")?;
+        self.finish(meeting.other)?;
+        self.finish(meeting.process)
     }
 
     /// What is drawn happens.
@@ -219,7 +254,8 @@ impl Game {
             Drawn::Evict(place) => self.evict(place),
             Drawn::Stop(process) => self.stop(process),
             Drawn::Crash => self.crash(),
-            Drawn::Loss(loss) => self.lose(loss)?,
+            Drawn::Loss(meeting) => self.lose(meeting)?,
+            Drawn::Race(meeting) => self.race(meeting)?,
             Drawn::Calm => self.calm()?,
         }
         Ok(())

@@ -33,7 +33,7 @@ impl Doing {
 
 /// Both sides of each word, what the processes of a sheet do, and its edits.
 #[derive(Drop)]
-pub struct Picture {
+pub struct Snapshot {
     words: Vec<Word>,
     doing: Vec<Doing>,
     points: Vec<Option<Point>>,
@@ -77,14 +77,14 @@ fn pending_of(alloc: Global, world: &World) -> Result<Vec<bool>, AllocError> {
     Ok(pending)
 }
 
-impl Picture {
+impl Snapshot {
     /// What is seen of the sheet now.
-    pub fn of(alloc: Global, world: &World) -> Result<Picture, AllocError> {
+    pub fn of(alloc: Global, world: &World) -> Result<Snapshot, AllocError> {
         let words = words_of(alloc, world)?;
         let doing = doing_of(alloc, world)?;
         let points = points_of(alloc, world)?;
         let pending = pending_of(alloc, world)?;
-        Ok(Picture {
+        Ok(Snapshot {
             words,
             doing,
             points,
@@ -95,12 +95,12 @@ impl Picture {
         })
     }
 
-    fn has_counts_of(&self, other: &Picture) -> bool {
+    fn has_counts_of(&self, other: &Snapshot) -> bool {
         self.counted == other.counted && self.done == other.done && self.settled == other.settled
     }
 
     /// Whether the same is seen of both.
-    pub fn is_same(&self, other: &Picture) -> bool {
+    pub fn is_same(&self, other: &Snapshot) -> bool {
         self.words.as_slice() == other.words.as_slice()
             && self.doing.as_slice() == other.doing.as_slice()
             && self.points.as_slice() == other.points.as_slice()
