@@ -240,8 +240,8 @@ fn expect_settled(
     expect_report(world, process, &wanted)
 }
 
-// What happens.
-fn happen(alloc: Global, world: &mut World, row: Row) -> Result<(), Mismatch> {
+/// The row is true of the sheet.
+pub fn carry_out(alloc: Global, world: &mut World, row: Row) -> Result<(), Mismatch> {
     match row {
         Row::Event(action, wanted) => expect_event(alloc, world, action, wanted),
         Row::Still(action, wanted) => {
@@ -289,7 +289,7 @@ fn expect_shown(alloc: Global, world: &World, row: Row) -> Result<(), Mismatch> 
 /// The rows are true of the sheet, one after the other.
 pub fn play_on(alloc: Global, world: &mut World, rows: &[Row]) -> Result<(), Fail> {
     for (number, row) in rows.iter().enumerate() {
-        if let Err(mismatch) = happen(alloc, world, *row) {
+        if let Err(mismatch) = carry_out(alloc, world, *row) {
             return Err(Fail::new(format_args!("row {number}, {row:?}: {mismatch:?}")));
         }
     }

@@ -4,6 +4,8 @@
 #[cfg(test)]
 mod edits;
 #[cfg(test)]
+mod mismatches;
+#[cfg(test)]
 mod refusals;
 #[cfg(test)]
 mod reports;
