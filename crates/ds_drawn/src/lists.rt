@@ -28,7 +28,7 @@ fn draw_next(draw: &mut Draw, recount: &Recount) -> Drawn {
     if recount.doing(process) == Doing::Stopped && draw.below(3) != 0 {
         return Drawn::Recover(process);
     }
-    match draw.below(108) {
+    match draw.below(110) {
         0 => Drawn::Crash,
         1 | 2 => Drawn::Stop(process),
         3 | 106 | 107 => Drawn::Calm,
@@ -44,6 +44,7 @@ fn draw_next(draw: &mut Draw, recount: &Recount) -> Drawn {
         }
         58..62 => Drawn::Loss(draw_meeting(draw, process)),
         62 | 63 => Drawn::Race(draw_meeting(draw, process)),
+        108 | 109 => Drawn::Help(draw_meeting(draw, process)),
         _ => Drawn::Steps(process, draw.below(12).wrapping_add(1)),
     }
 }

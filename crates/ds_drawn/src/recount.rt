@@ -12,6 +12,11 @@ use std::alloc::{AllocError, Global};
 /// How many processes the sheet has.
 pub const PROCESSES: usize = 3;
 
+/// The number of a cell.
+pub fn number_of(cell: Cell) -> usize {
+    cell.row.wrapping_mul(2).wrapping_add(cell.column)
+}
+
 /// What a process does, as its replies tell.
 #[derive(Clone, Copy, Debug, PartialEq, Eq)]
 pub enum Doing {
@@ -191,7 +196,7 @@ impl Recount {
                 self.issued.push(Issued {
                     process,
                     number,
-                    cell: cell.row.wrapping_mul(2).wrapping_add(cell.column),
+                    cell: number_of(cell),
                     text,
                 })?;
                 self.put(

@@ -1,7 +1,7 @@
 //! A sheet of three processes on which drawn events happen, and its recount.
 
 use crate::last::{are_last_texts, last_text};
-use crate::recount::{Doing, PROCESSES, Recount};
+use crate::recount::{Doing, PROCESSES, Recount, number_of};
 use ds_core::event::Event;
 use ds_core::reply::Reply;
 use ds_core::take::take;
@@ -60,6 +60,9 @@ pub enum Drawn {
     Loss(Meeting),
     /// The other process edits the cell during the edit, which then ends.
     Race(Meeting),
+    /// The other process edits the cell where the edit has just taken the head, and takes the head, too; that is evicted,
+    /// and then a crash comes.
+    Help(Meeting),
     /// Each process ends its call, and recovers if it is stopped; then the sheet settles.
     Calm,
 }
@@ -77,6 +80,9 @@ pub struct Simulation {
     /// How many moments were quiet.
     pub quiet: u64,
 }
+
+// More steps than a call of the sheet has.
+const STEPS: usize = 500;
 
 impl Simulation {
     /// A new sheet.
@@ -165,7 +171,7 @@ impl Simulation {
     }
 
     fn finish(&mut self, process: usize) -> Result<(), Fail> {
-        for _ in 0..500usize {
+        for _ in 0..STEPS {
             if self.recount.doing(process) != Doing::Busy {
                 return Ok(());
             }
@@ -233,6 +239,16 @@ impl Simulation {
         Ok(())
     }
 
+    fn help(&mut self, meeting: Meeting) -> Result<(), Fail> {
+        self.meet(meeting)?;
+        self.swing(meeting.process, meeting.steps)?;
+        self.edit(meeting.other, meeting.cell, "=[.B2]+1")?;
+        self.swing(meeting.other, STEPS)?;
+        self.evict(Place::Head(number_of(meeting.cell)));
+        self.crash();
+        Ok(())
+    }
+
     fn race(&mut self, meeting: Meeting) -> Result<(), Fail> {
         self.meet(meeting)?;
         self.steps(meeting.process, meeting.steps)?;
@@ -256,6 +272,7 @@ impl Simulation {
             Drawn::Crash => self.crash(),
             Drawn::Loss(meeting) => self.lose(meeting)?,
             Drawn::Race(meeting) => self.race(meeting)?,
+            Drawn::Help(meeting) => self.help(meeting)?,
             Drawn::Calm => self.calm()?,
         }
         Ok(())

@@ -56,23 +56,21 @@ const REFUSED_BEHIND_IT: [Row; 4] = [
     Row::Still(Action::Edit(0, A1, LONG), TOO_LONG),
 ];
 
+const BEGUN: [Row; 1] = [Row::Event(Action::Edit(0, A1, "1"), Reply::Begun(0))];
+
+fn refused_at_each_step(alloc: Global, world: &mut World) -> Result<(), Fail> {
+    play_on(alloc, world, &BEGUN)?;
+    for _ in 0..19usize {
+        play_on(alloc, world, &REFUSED)?;
+        play_on(alloc, world, &[Row::Steps(0, 1, Reply::Stepped)])?;
+    }
+    play_on(alloc, world, &REFUSED_BEHIND_IT)
+}
+
 #[test]
 fn refused(rt: HostRuntime) -> Result<(), Fail> {
     let mut world = small(rt.alloc())?;
-    play_on(
-        rt.alloc(),
-        &mut world,
-        &[Row::Event(Action::Edit(0, A1, "1"), Reply::Begun(0))],
-    )?;
-    for _ in 0..19usize {
-        play_on(rt.alloc(), &mut world, &REFUSED)?;
-        play_on(
-            rt.alloc(),
-            &mut world,
-            &[Row::Event(Action::Step(0), Reply::Stepped)],
-        )?;
-    }
-    play_on(rt.alloc(), &mut world, &REFUSED_BEHIND_IT)
+    refused_at_each_step(rt.alloc(), &mut world)
 }
 
 const STOPPED_PROCESS: [Row; 9] = [
@@ -156,27 +154,23 @@ const NOT_ENABLED: [Row; 15] = [
 const IDLE: [Row; 1] = [Row::Still(Action::Step(0), Reply::NotEnabled)];
 
 // Process 0 is idle, at each of its steps, and idle again.
+fn not_enabled_at_each_step(alloc: Global, world: &mut World) -> Result<(), Fail> {
+    play_on(alloc, world, &NOT_ENABLED)?;
+    play_on(alloc, world, &IDLE)?;
+    play_on(alloc, world, &BEGUN)?;
+    for step in 0..20usize {
+        play_on(alloc, world, &NOT_ENABLED)?;
+        let wanted = if step < 19 { Reply::Stepped } else { DONE };
+        play_on(alloc, world, &[Row::Steps(0, 1, wanted)])?;
+    }
+    play_on(alloc, world, &NOT_ENABLED)?;
+    play_on(alloc, world, &IDLE)
+}
+
 #[test]
 fn not_enabled(rt: HostRuntime) -> Result<(), Fail> {
     let mut world = small(rt.alloc())?;
-    play_on(rt.alloc(), &mut world, &NOT_ENABLED)?;
-    play_on(rt.alloc(), &mut world, &IDLE)?;
-    play_on(
-        rt.alloc(),
-        &mut world,
-        &[Row::Event(Action::Edit(0, A1, "1"), Reply::Begun(0))],
-    )?;
-    for step in 0..20usize {
-        play_on(rt.alloc(), &mut world, &NOT_ENABLED)?;
-        let wanted = if step < 19 { Reply::Stepped } else { DONE };
-        play_on(
-            rt.alloc(),
-            &mut world,
-            &[Row::Event(Action::Step(0), wanted)],
-        )?;
-    }
-    play_on(rt.alloc(), &mut world, &NOT_ENABLED)?;
-    play_on(rt.alloc(), &mut world, &IDLE)
+    not_enabled_at_each_step(rt.alloc(), &mut world)
 }
 
 // A process that is in a call begins no other one.
@@ -187,18 +181,18 @@ const SECOND_CALLS: [Row; 4] = [
     Row::Still(Action::Recover(0), BUSY),
 ];
 
+// They are refused behind this call.
+fn busy_behind(alloc: Global, first: Row) -> Result<(), Fail> {
+    let mut rows = Vec::new(alloc);
+    rows.push(first)?;
+    rows.extend_from_slice(&SECOND_CALLS)?;
+    play(alloc, &rows)
+}
+
 #[test]
 fn busy(rt: HostRuntime) -> Result<(), Fail> {
-    let first_calls = [
-        Row::Event(Action::Edit(0, A1, "1"), Reply::Begun(0)),
-        Row::Event(Action::Work(0, A1), Reply::Entered),
-        Row::Event(Action::Show(0), Reply::Entered),
-        Row::Event(Action::Recover(0), Reply::Entered),
-    ];
-    for first in first_calls {
-        let mut world = small(rt.alloc())?;
-        play_on(rt.alloc(), &mut world, &[first])?;
-        play_on(rt.alloc(), &mut world, &SECOND_CALLS)?;
-    }
-    Ok(())
+    busy_behind(rt.alloc(), BEGUN[0])?;
+    busy_behind(rt.alloc(), Row::Event(Action::Work(0, A1), Reply::Entered))?;
+    busy_behind(rt.alloc(), Row::Event(Action::Show(0), Reply::Entered))?;
+    busy_behind(rt.alloc(), Row::Event(Action::Recover(0), Reply::Entered))
 }

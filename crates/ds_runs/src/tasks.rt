@@ -36,6 +36,13 @@ const ONE_EDIT: [Row; 3] = [
     Row::Steps(0, 10, Reply::Stepped),
 ];
 
+// A new sheet after these rows.
+fn after(alloc: Global, rows: &[Row]) -> Result<World, Fail> {
+    let mut world = small(alloc)?;
+    play_on(alloc, &mut world, rows)?;
+    Ok(world)
+}
+
 // The task of the work of process 0.
 fn task_of(alloc: Global, world: &World) -> Result<Evaluated, Fail> {
     Ok(evaluated(alloc, world, 0)?.ok_or("no task")?)
@@ -47,31 +54,35 @@ fn expect_wrong(alloc: Global, world: &mut World, task: Evaluated) -> Result<(),
     Ok(())
 }
 
+const END: [Row; 1] = [Row::End(0, Answer::Published(true))];
+
+// The other sheet's task is wrong where no work waits, and where one waits for another task.
+fn expect_other_wrong(alloc: Global, world: &mut World, other: &World) -> Result<(), Fail> {
+    expect_wrong(alloc, world, task_of(alloc, other)?)?;
+    play_on(alloc, world, &ONE_EDIT)?;
+    expect_wrong(alloc, world, task_of(alloc, other)?)?;
+    play_on(alloc, world, &END)
+}
+
 #[test]
 fn of_another_sheet(rt: HostRuntime) -> Result<(), Fail> {
-    let alloc = rt.alloc();
-    let mut other = small(alloc)?;
-    play_on(alloc, &mut other, &FIVE_EDITS)?;
-    let late = task_of(alloc, &other)?;
-    assert_eq!(rt; late.task().generation, 9);
-    let mut world = small(alloc)?;
-    expect_wrong(alloc, &mut world, late)?;
-    play_on(alloc, &mut world, &ONE_EDIT)?;
-    expect_wrong(alloc, &mut world, task_of(alloc, &other)?)?;
-    play_on(alloc, &mut world, &[Row::End(0, Answer::Published(true))])
+    let other = after(rt.alloc(), &FIVE_EDITS)?;
+    assert_eq!(rt; task_of(rt.alloc(), &other)?.task().generation, 9);
+    let mut world = small(rt.alloc())?;
+    expect_other_wrong(rt.alloc(), &mut world, &other)
+}
+
+const OFFERED: [Row; 1] = [Row::Event(Action::Offer(0), Reply::Stepped)];
+
+fn expect_again_wrong(alloc: Global, world: &mut World) -> Result<(), Fail> {
+    let again = task_of(alloc, world)?;
+    play_on(alloc, world, &OFFERED)?;
+    expect_wrong(alloc, world, again)?;
+    play_on(alloc, world, &END)
 }
 
 #[test]
 fn offered_again(rt: HostRuntime) -> Result<(), Fail> {
-    let alloc = rt.alloc();
-    let mut world = small(alloc)?;
-    play_on(alloc, &mut world, &ONE_EDIT)?;
-    let again = task_of(alloc, &world)?;
-    play_on(
-        alloc,
-        &mut world,
-        &[Row::Event(Action::Offer(0), Reply::Stepped)],
-    )?;
-    expect_wrong(alloc, &mut world, again)?;
-    play_on(alloc, &mut world, &[Row::End(0, Answer::Published(true))])
+    let mut world = after(rt.alloc(), &ONE_EDIT)?;
+    expect_again_wrong(rt.alloc(), &mut world)
 }
