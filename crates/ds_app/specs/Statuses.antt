@@ -1,7 +1,7 @@
 -- Exit statuses (our own rule).
 use Rattle.std.specs.Prelude.{ℕ}
-use Rattle.ds_sched.specs.declared.ending.ScriptEnd.{ScriptEnd}
-use Rattle.ds_sched.specs.declared.ending.ScriptEnd.TheVariants.{Ended, Fault, TooLong, ReadFailed, WriteFailed, NoMemory}
+use Rattle.ds_streams.specs.declared.ending.ScriptEnd.{ScriptEnd}
+use Rattle.ds_streams.specs.declared.ending.ScriptEnd.TheVariants.{Ended, Fault, TooLong, ReadFailed, WriteFailed, NoMemory}
 use Rattle.ds_grid.specs.declared.ending.GridEnd.{GridEnd}
 use Rattle.ds_grid.specs.declared.ending.GridEnd.TheVariants as grids
 

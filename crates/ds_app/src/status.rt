@@ -4,7 +4,7 @@ ghost use Rattle.std.specs.Prelude.{◌≡◌};
 ghost use Rattle.ds_app.specs.Statuses.{status_of, grid_status_of};
 
 use ds_grid::ending::GridEnd;
-use ds_sched::ending::ScriptEnd;
+use ds_streams::ending::ScriptEnd;
 
 /// The status that tells how a script ended: 0 ended, 1 a fault in a line, 3 a failed read or write or a script over
 /// its limit, 4 want of memory.

@@ -17,7 +17,7 @@ use Rattle.ds_eval.specs.Sheet.{contents_of, plain_or_empty}
 use Rattle.ds_eval.proofs.Walks.{index_below, cell_back}
 use Rattle.ds_grid.specs.declared.ending.GridEnd.{GridEnd}
 use Rattle.ds_grid.specs.Grids.{width, text_at, IsCsv, IsGridOf, AreRead, AllRead, IsFirstFault, FailsAt, Fails, Ran}
-use Rattle.ds_sched.specs.declared.input.InputEnd.TheVariants as inputs
+use Rattle.ds_streams.specs.declared.input.InputEnd.TheVariants as inputs
 
 -- ---- fields
 

@@ -4,8 +4,8 @@ ghost use Rattle.std.specs.Prelude.{◌≡◌, ◌≢◌, ◌≤◌, ◌+◌, �
 ghost use Rattle.std.specs.Io.KnownBytes.{Consumes, Appends};
 ghost use Rattle.ds_formula.specs.Cells.{count_of};
 ghost use Rattle.ds_eval.specs.Numbers.{value_text};
-ghost use Rattle.ds_sched.specs.Answers.{rows_text};
-ghost use Rattle.ds_sched.specs.Streams.{reader_of, bytes_given, has_ended, read_failed, writer_of, write_failed};
+ghost use Rattle.ds_streams.specs.Answers.{rows_text};
+ghost use Rattle.ds_streams.specs.Streams.{reader_of, bytes_given, has_ended, read_failed, writer_of, write_failed};
 ghost use Rattle.ds_grid.specs.Grids.{Shows, Fails, Outcome};
 ghost use Rattle.ds_grid.specs.declared.ending.GridEnd as GridEnd;
 ghost use Rattle.ds_grid.specs.declared.report.TheConstants.{GRID_LIMIT};
@@ -14,9 +14,9 @@ use crate::ending::GridEnd;
 use crate::grid::{contents, records, shape_of};
 use ds_eval::scratch::scratch;
 use ds_eval::sheet::Sheet;
-use ds_sched::answer::value_lines;
-use ds_sched::input::{InputEnd, read_input};
-use ds_sched::streams::{Reading, Writing};
+use ds_streams::answer::value_lines;
+use ds_streams::input::{InputEnd, read_input};
+use ds_streams::streams::{Reading, Writing};
 use std::alloc::{AllocError, Global};
 use std::io::{Read, Write};
 

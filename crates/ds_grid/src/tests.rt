@@ -1,6 +1,6 @@
 use crate::ending::{GridEnd, GridFault};
 use crate::report::report_grid;
-use ds_sched::streams::{Reading, Writing};
+use ds_streams::streams::{Reading, Writing};
 use std::alloc::Global;
 use std::test::Fail;
 
