@@ -1,6 +1,6 @@
 -- An edit that is answered Done stands in the last list exactly once, as it was asked for.
-use Rattle.std.proofs.Common.{ℕ, ◌≡◌, ◌<◌, ◌+◌, ◌⊎◌, List, [], ◌∷◌, refl, ap, sym, ◌∙◌, subst, arith, inl, inr, zero, suc, length, Bool, true, false, cond, Some, None, map}
-use Rattle.std.specs.Prelude.{Option, Contains, All, slice_get, filter, if◌then◌else◌}
+use Rattle.std.proofs.Common.{ℕ, ◌≡◌, ◌<◌, ◌≤◌, ◌+◌, ◌⊎◌, List, [], ◌∷◌, refl, ap, sym, ◌∙◌, subst, arith, inl, inr, zero, suc, length, Bool, true, false, cond, Some, None, map}
+use Rattle.std.specs.Prelude.{Option, Contains, All, slice_get, filter}
 use Rattle.std.proofs.lemmas.Bool.Decides.{eqb_tells}
 use Rattle.std.proofs.lemmas.List.Elements.{All-contains}
 use Rattle.ds_formula.specs.declared.cells.Shape.{Shape}
@@ -8,15 +8,17 @@ use Rattle.ds_formula.specs.Cells.{index_of}
 use Rattle.ds_state.specs.World.{Edit, is_edit_of}
 use Rattle.ds_state.specs.Value.{WorldValue}
 use Rattle.ds_core.specs.Requests.{PlainRequest}
-use Rattle.ds_core.specs.Moments.{Placed, Ledger, AreApart, NoneTwice, edits_in}
-use Rattle.ds_core.specs.LedgerSteps.{put, Closes}
-use Rattle.ds_core.specs.Headline.{IsIssueOf, Happens, IsClosed, Headline, IsAcknowledged}
+use Rattle.ds_core.specs.Moments.{Placed, Open, Closed, Ledger, Moment, AreApart, NoneTwice, edits_in}
+use Rattle.ds_core.specs.LedgerSteps.{Stands, told_of, Closes, Resolves}
+use Rattle.ds_core.specs.Headline.{IsIssueOf, Happens, IsClosed, Headline, IsAcknowledged, IsToldDone}
 use Rattle.ds_core.specs.declared.event.Event.{Event}
 use Rattle.ds_core.specs.declared.event.Event.TheVariants.{BeginEdit, BeginWork, BeginShow, BeginRecover, Step, Offer, Evict, Stop, Crash}
-use Rattle.ds_edit.specs.declared.answer.Answer.TheVariants.{Done}
+use Rattle.ds_edit.specs.declared.answer.Told.{Told}
+use Rattle.ds_edit.specs.declared.answer.Answer.TheVariants.{Done, Last}
 use Rattle.ds_core.specs.declared.reply.Reply.{Reply}
 use Rattle.ds_core.specs.declared.reply.Reply.TheVariants.{Begun, Answered}
-use Rattle.ds_core.proofs.Closing.{contains_none, orderly, asked}
+use Rattle.ds_core.proofs.Moved.{put_here}
+use Rattle.ds_core.proofs.Closing.{contains_none, up, IsAsked, orderly, asked, the_move}
 
 abbrev test : ℕ → ℕ → Placed → Bool
 test p n e = is_edit_of p n e.edit
@@ -61,12 +63,6 @@ within [] k x is = absurd (cc)
 within (y ∷ xs) zero x is = omega arith
 within (y ∷ xs) (suc k) x is = let l = within xs k x is in omega arith
 
-pub put_here : {A : Type 0} (f : ℕ → Option A) (p : ℕ) (x : Option A) → put f p x p ≡ x
-put_here f p x = elim (eqb_tells p p) [
-  | inl same ↦ subst (λ b. (if b then x else f p) ≡ x) (sym same.0) refl
-  | inr other ↦ absurd (other.1 refl)
-]
-
 pub record WasBegun (events : List Event) (replies : List Reply) (shape : Shape) (e : Placed) : Type 0 where
   pub request : PlainRequest
   pub begun : Happens events replies e.place (BeginEdit request) (Begun e.edit.number)
@@ -95,50 +91,102 @@ was_begun events replies shape e (Evict word) reply happens is = absurd is
 was_begun events replies shape e (Stop q) reply happens is = absurd is
 was_begun events replies shape e Crash reply happens is = absurd is
 
-module _ (old : WorldValue) (events : List Event) (replies : List Reply) (new : WorldValue) (h : Headline old events replies new) (k p n : ℕ) (done : Happens events replies k (Step p) (Answered (Done n))) where
+module _ (old : WorldValue) (events : List Event) (replies : List Reply) (new : WorldValue) (h : Headline old events replies new) where
   abbrev at : ℕ → Ledger
   at i = (h.run.moment i).ledger
 
-  closes : Closes (at k) p n false true (λ o. Unit {0}) (at (k + 1))
-  closes = h.run.ledger k (Step p) (Answered (Done n)) done
+  -- the process's edit was closed as one that counts, at this place
+  module _ (k p n place : ℕ) (it : Placed) (lt : place < length events) (until : place ≤ k) (closed : IsClosed h.run.moment place p it) (there : Contains (at place).counted it) (number : it.edit.number ≡ n) where
+    stands : Contains (at (length events)).counted it
+    stands = (h.closed place p it lt closed (length events) lt (omega arith)).1 there
 
-  abbrev it : Placed
-  it = closes.open_edit.it
+    process : it.edit.process ≡ p
+    process = ap (λ (x : Placed). x.edit.process) (sym closed.is) ∙ (orderly old events replies new h.run place (omega (arith, lt))).mine p closed.open_edit closed.was
 
-  lt : k < length events
-  lt = within events k (Step p) done.event_is
+    early : it.place < k
+    early = let l = (orderly old events replies new h.run place (omega (arith, lt))).opens p closed.open_edit closed.was in let same = ap (λ (x : Placed). x.place) closed.is in omega arith
 
-  closed : IsClosed h.run.moment k p it
-  closed = record { open_edit = closes.open_edit; was = closes.was; is = refl; gone = ap (λ (l : Ledger). l.opens p) closes.is ∙ put_here (at k).opens p None }
+    pub begun : WasBegun events replies old.sheet.layout.shape it
+    begun = let a = subst (λ (x : Placed). IsAsked old events replies new h.run x) closed.is ((asked old events replies new h.run place (omega (arith, lt))).opens p closed.open_edit closed.was) in was_begun events replies old.sheet.layout.shape it a.event a.reply a.happens a.issues
 
-  stands : Contains (at (length events)).counted it
-  stands = (h.closed k p it lt closed (length events) lt (omega arith)).1 closes.stands
+    last_list : edits_in (at (length events)) ≡ new.counted
+    last_list = (h.run.fits (length events) (omega arith)).counted ∙ ap (λ (v : WorldValue). v.counted) h.run.last
 
-  process : it.edit.process ≡ p
-  process = (orderly old events replies new h.run k (omega (arith, lt))).mine p closes.open_edit closes.was
+    pub stands_once : IsAcknowledged old events replies k p n new.counted
+    stands_once = record {
+      request = begun.request;
+      start = it.place;
+      earlier = early;
+      begun = subst (λ i. Happens events replies it.place (BeginEdit begun.request) (Begun i)) number begun.begun;
+      mine = begun.process ∙ process;
+      once = ap (λ (es : List Edit). filter (is_edit_of p n) es) (sym last_list)
+          ∙ just_one p n (at (length events)).counted it (h.run.fits (length events) (omega arith)).once stands process number
+          ∙ ap (λ (x : Edit). x ∷ []) (begun.is ∙ ap (λ i. record { process = i; number = it.edit.number; cell = index_of old.sheet.layout.shape begun.request.cell; text = begun.request.text }) process
+          ∙ ap (λ i. record { process = p; number = i; cell = index_of old.sheet.layout.shape begun.request.cell; text = begun.request.text }) number);
+    }
 
-  early : it.place < k
-  early = (orderly old events replies new h.run k (omega (arith, lt))).opens p closes.open_edit closes.was
+  -- at a place where an event closes it
+  closed_at : (k p number : ℕ) (doubt counts : Bool) (And : Open → Type 0) (c : Closes (at k) p number doubt counts And (at (k + 1))) → IsClosed h.run.moment k p c.open_edit.it
+  closed_at k p number doubt counts And c = record { open_edit = c.open_edit; was = c.was; is = refl; gone = ap (λ (l : Ledger). l.opens p) c.is ∙ put_here (at k).opens p None }
 
-  begun : WasBegun events replies old.sheet.layout.shape it
-  begun = let a = (asked old events replies new h.run k (omega (arith, lt))).opens p closes.open_edit closes.was in was_begun events replies old.sheet.layout.shape it a.event a.reply a.happens a.issues
+  done_once : (k p n : ℕ) → Happens events replies k (Step p) (Answered (Done n)) → IsAcknowledged old events replies k p n new.counted
+  done_once k p n done =
+      let c : Closes (at k) p n false true (λ o. Unit {0}) (at (k + 1)) = h.run.ledger k (Step p) (Answered (Done n)) done in
+      stands_once k p n k c.open_edit.it (within events k (Step p) done.event_is) (omega arith) (closed_at k p n false true _ c) c.stands c.number_is
 
-  last_list : edits_in (at (length events)) ≡ new.counted
-  last_list = (h.run.fits (length events) (omega arith)).counted ∙ ap (λ (v : WorldValue). v.counted) h.run.last
+  -- ---- what a recovery tells
 
-  pub acknowledged : IsAcknowledged old events replies k p n new.counted
-  acknowledged = record {
-    request = begun.request;
-    start = it.place;
-    earlier = early;
-    begun = subst (λ i. Happens events replies it.place (BeginEdit begun.request) (Begun i)) closes.number_is begun.begun;
-    mine = begun.process ∙ process;
-    once = ap (λ (es : List Edit). filter (is_edit_of p n) es) (sym last_list)
-        ∙ just_one p n (at (length events)).counted it (h.run.fits (length events) (omega arith)).once stands process closes.number_is
-        ∙ ap (λ (x : Edit). x ∷ []) (begun.is ∙ ap (λ i. record { process = i; number = it.edit.number; cell = index_of old.sheet.layout.shape begun.request.cell; text = begun.request.text }) process
-        ∙ ap (λ i. record { process = p; number = i; cell = index_of old.sheet.layout.shape begun.request.cell; text = begun.request.text }) closes.number_is);
-  }
+  -- the edit that is told was closed at an earlier place
+  record WasClosed (k q : ℕ) (c : Closed) : Type 0 where
+    place : ℕ
+    early : place < k
+    closed : IsClosed h.run.moment place q c.it
+    stands : Stands (at place).counted c.it c.counts
+
+  later : (k q : ℕ) (c : Closed) → WasClosed k q c → WasClosed (k + 1) q c
+  later k q c w = record { place = w.place; early = (let l = w.early in omega arith); closed = w.closed; stands = w.stands }
+
+  told_closed : (k : ℕ) → k ≤ length events → (q : ℕ) (c : Closed) → (at k).told q ≡ Some c → WasClosed k q c
+  told_closed zero lt q c is = absurd (let first : (at 0).told q ≡ None = ap (λ (m : Moment). m.ledger.told q) h.run.first in let bad : None ≡ Some c = sym first ∙ is in cc)
+  told_closed (suc k) lt q c is = up (λ i. WasClosed i q c) k (elim ((the_move old events replies new h.run k (omega arith)).moves.told q c (ap (λ i. (at i).told q) (let same : k + 1 ≡ suc k = omega arith in same) ∙ is)) [
+    | inl before ↦ later k q c (told_closed k (omega arith) q c before)
+    | inr now ↦ record { place = k; early = omega arith; closed = record { open_edit = now.o; was = now.was; is = now.same; gone = now.gone }; stands = now.stands }
+  ])
+
+  -- ---- what is told as done counts
+
+  module _ (k p : ℕ) (told : Told) (lt : k < length events) (counts : told.counts ≡ true) where
+    abbrev IsDone : Type 0
+    IsDone = IsToldDone old events replies k p told new.counted
+
+    -- closed at this place as one that counts
+    by_closed : (place : ℕ) (it : Placed) → place < length events → place ≤ k → IsClosed h.run.moment place p it → Contains (at place).counted it → it.edit.number ≡ told.number → it.edit.cell ≡ told.cell → IsDone
+    unfolding stands_once begun
+    by_closed place it low until closed there number cell =
+        let b = begun k p told.number place it low until closed there number in
+        record { it = stands_once k p told.number place it low until closed there number; cell = sym cell ∙ ap (λ (x : Edit). x.cell) b.is }
+
+    by_told : (o : Option Closed) → (at k).told p ≡ o → Last told ≡ told_of o → IsDone
+    by_told None is same = absurd (cc)
+    by_told (Some c) is same =
+        let one : told ≡ record { number = c.it.edit.number; cell = c.it.edit.cell; counts = c.counts } = cc in
+        let w = told_closed k (omega arith) p c is in
+        let early = w.early in
+        by_closed w.place c.it (omega arith) (omega arith) w.closed (subst (λ (b : Bool). Stands (at w.place).counted c.it b) (sym (ap (λ (t : Told). t.counts) one) ∙ counts) w.stands)
+        (sym (ap (λ (t : Told). t.number) one)) (sym (ap (λ (t : Told). t.cell) one))
+
+    by_moves : Resolves (at k) p (Last told) (at (k + 1)) → IsDone
+    by_moves (inl c) = by_closed k c.open_edit.it lt (omega arith) (closed_at k p told.number true told.counts _ c) (subst (λ (b : Bool). Stands (at k).counted c.open_edit.it b) counts c.stands) c.number_is c.also
+    by_moves (inr (inl f)) = by_told ((at k).told p) refl f.repeats
+    by_moves (inr (inr r)) = by_told ((at k).told p) refl r.repeats
+
+  told_once : (k p : ℕ) (told : Told) → Happens events replies k (Step p) (Answered (Last told)) → told.counts ≡ true → IsToldDone old events replies k p told new.counted
+  told_once k p told happens counts = by_moves k p told (within events k (Step p) happens.event_is) counts (h.run.ledger k (Step p) (Answered (Last told)) happens)
 
 pub acknowledged_once : (old : WorldValue) (events : List Event) (replies : List Reply) (new : WorldValue) (k p n : ℕ) → Headline old events replies new → Happens events replies k (Step p) (Answered (Done n))
     → IsAcknowledged old events replies k p n new.counted
-acknowledged_once old events replies new k p n h done = acknowledged old events replies new h k p n done
+acknowledged_once old events replies new k p n h done = done_once old events replies new h k p n done
+
+pub resolved_once : (old : WorldValue) (events : List Event) (replies : List Reply) (new : WorldValue) (k p : ℕ) (told : Told) → Headline old events replies new → Happens events replies k (Step p) (Answered (Last told)) → told.counts ≡ true
+    → IsToldDone old events replies k p told new.counted
+resolved_once old events replies new k p told h happens counts = told_once old events replies new h k p told happens counts

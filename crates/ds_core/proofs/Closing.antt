@@ -188,7 +188,7 @@ module _ (old : WorldValue) (events : List Event) (replies : List Reply) (new : 
     pub happens : Happens events replies k event reply
     pub moves : Moved k (IsIssueOf old.sheet.layout.shape event reply) (at k) (at (k + 1))
 
-  the_move : (k : ℕ) → k < length events → MoveAt k
+  pub the_move : (k : ℕ) → k < length events → MoveAt k
   the_move k lt =
       let event = found_at events k lt in
       let reply = found_at replies k (let same = run.answered in omega arith) in

@@ -4,6 +4,7 @@ use Rattle.std.specs.Prelude.{Contains, Bool, nat_lt, if◌then◌else◌}
 use Rattle.std.proofs.lemmas.Bool.{cases_eq}
 use Rattle.ds_words.specs.Memory.{Memory, SameMemory}
 use Rattle.ds_layout.specs.declared.place.Place.{Place}
+use Rattle.ds_layout.specs.declared.place.Place.TheVariants.{Header}
 use Rattle.ds_layout.specs.declared.layout.Layout.{Layout}
 use Rattle.ds_layout.specs.Head.{head_of}
 use Rattle.ds_layout.specs.Sheet.{PerformsAt}
@@ -41,7 +42,6 @@ use Rattle.ds_recover.specs.declared.machine.Effect.TheVariants as recovery_effe
 use Rattle.ds_recover.specs.declared.machine.RecoveryEnd.TheVariants as recovery_ends
 use Rattle.ds_core.specs.Takes.{Takes}
 use Rattle.ds_core.specs.Moments.{Ledger}
-use Rattle.ds_core.specs.Headline.{IsResolution}
 use Rattle.ds_core.specs.LedgerSteps.{IsOvertakenBy, OneAccess, WordsMove, AnswerMoves, LedgerMoves}
 use Rattle.ds_core.specs.declared.event.Event.{Event}
 use Rattle.ds_core.specs.declared.event.Event.TheVariants.{BeginEdit, BeginWork, BeginShow, BeginRecover, Step, Offer, Evict, Stop, Crash}
@@ -52,10 +52,18 @@ use Rattle.ds_core.proofs.Moves.{begins_move, step_moves}
 use Rattle.ds_core.proofs.Good.{answers_at}
 use Rattle.ds_core.proofs.Bound.{unanswered_at, after_on, same_layout}
 use Rattle.ds_core.proofs.Solo.{some_outcome, after_answer}
-use Rattle.ds_core.proofs.Ledgers.{IsOf, SaysSame, says_same, numbered, doubts, stays, issued, issue_of, issues_fit, pushed, push_of, counts_fit, closed, close_of, closes_fit, stands_here, out_here, overtaken_here, doubted, stop_of, left, left_loses, crash_of}
+use Rattle.ds_core.proofs.Ledgers.{IsOf, SaysSame, says_same, numbered, doubts, stays, issued, issue_of, issues_fit, pushed, push_of, own, counts_fit, closing, put_other, closed, close_of, closes_fit, stands_here, out_here, overtaken_here, doubted, stop_of, left, left_loses, crash_of}
 use Rattle.ds_core.proofs.Carry.{StepFits}
-use Rattle.ds_core.proofs.Turns.{work_leaves, work_begins_leaves, offer_leaves}
-use Rattle.ds_core.proofs.AtWork.{work_says, work_stays, work_begins_stays, offer_stays}
+use Rattle.ds_core.proofs.Turns.{LeavesEdits, report_turn, report_begins_turn, work_leaves, work_begins_leaves, offer_leaves}
+use Rattle.ds_core.proofs.Moved.{put_here}
+use Rattle.ds_core.proofs.Headers.{SidesStay, sides_same}
+use Rattle.ds_core.proofs.Told.{Tells}
+use Rattle.ds_core.proofs.Telling.{tells_quiet, tells_evicted, tells_stopped, tells_crashed}
+use Rattle.ds_core.proofs.ToldEdits.{tells_begun, tells_edit_on, tells_counted, tells_answered, overtaken_is_out}
+use Rattle.ds_core.proofs.ToldCalls.{report_sides, work_sides_of}
+use Rattle.ds_core.proofs.Recovered.{tells_recovery_begun, tells_recovery_on}
+use Rattle.ds_core.proofs.Resolved.{resolves}
+use Rattle.ds_core.proofs.AtWork.{StaysAtWork, at_work_sure, work_says, work_stays, work_begins_stays, offer_stays}
 use Rattle.ds_core.proofs.AtRecovery.{recovery_begins_after, recovery_access, recovery_pending, recovery_says}
 
 -- ---- one event
@@ -84,14 +92,15 @@ pub record Next (place : ℕ) (layout : Layout) (l : Ledger) (v : WorldValue) (e
   pub ledger : Ledger
   pub fits : StepFits place layout.shape (record { world = v; ledger = l }) event reply (record { world = v'; ledger = ledger })
   pub after : IsOf layout ledger v'
+  pub tells : Tells ledger v'
 
 still : (m : Memory Place) → SameMemory m m
 still m = record { cached = λ r. refl; persisted = λ r. refl; buffer = λ q. refl }
 
-module _ (place : ℕ) (layout : Layout) (l : Ledger) (v v' : WorldValue) (h : IsOf layout l v) (good : IsGood v') where
+module _ (place : ℕ) (layout : Layout) (l : Ledger) (v v' : WorldValue) (h : IsOf layout l v) (tells : Tells l v) (good : IsGood v') where
   unchanged : (event : Event) (reply : Reply) → Takes v event reply v → v' ≡ v → WordsMove (world_of v).memory event reply (world_of v).memory → LedgerMoves place layout.shape l event reply l → Next place layout l v event reply v'
   unchanged event reply takes is words ledger = subst (λ (x : WorldValue). Next place layout l v event reply x) (sym is)
-      (record { ledger = l; fits = record { layout = refl; takes = takes; words = words; ledger = ledger }; after = h })
+      (record { ledger = l; fits = record { layout = refl; takes = takes; words = words; ledger = ledger }; after = h; tells = tells })
 
   kept_layout : (event : Event) (reply : Reply) → Takes v event reply v' → v'.sheet.layout ≡ layout
   kept_layout event reply t = same_layout v v' event reply t ∙ h.same
@@ -126,6 +135,8 @@ module _ (place : ℕ) (layout : Layout) (l : Ledger) (v v' : WorldValue) (h : I
           ledger = issues_fit layout l v v' h good kept place edit s all sure (h.numbers r.process n (ap numbered was));
         };
         after = issue_of layout l v v' h good kept place edit s all sure;
+        tells = tells_begun l (issued layout l v v' h good kept place edit s all sure) v v' edit tells s t.begun.begins.layout t.begun.begins.memory
+            (λ q ne. t.begun.begins.others q (λ same. ne (same ∙ process))) ((all r.process).doubt ∙ sure) (h.numbers r.process n (ap numbered was)) (refl {a = l.counted}) (λ q. refl {a = l.told q});
       }
 
   module _ (p : ℕ) (reply : Reply) (t : EditStepsBy v p reply v') where
@@ -150,6 +161,9 @@ module _ (place : ℕ) (layout : Layout) (l : Ledger) (v v' : WorldValue) (h : I
       | inr other ↦ other_same q other
     ]
 
+    idle_after : (how : Outcome) → t.edit.stage ≡ Answer how → doubts ((world_of v').situation p) ≡ false
+    idle_after how at = ap (λ x. doubts ((world_of v').situation x)) (sym t.mine) ∙ ap doubts (t.steps.situation ∙ after_answer t.edit t.edit.stage how t.word at)
+
     pub number_after : (how : Outcome) → t.edit.stage ≡ Answer how → numbered ((world_of v').situation p) ≡ Some (t.edit.number + 1)
     number_after how at = ap (λ x. numbered ((world_of v').situation x)) (sym t.mine) ∙ ap numbered (t.steps.situation ∙ after_answer t.edit t.edit.stage how t.word at)
 
@@ -163,11 +177,15 @@ module _ (place : ℕ) (layout : Layout) (l : Ledger) (v v' : WorldValue) (h : I
           ledger = l;
           fits = record { layout = kept ∙ sym h.same; takes = edits t; words = access p Stepped t; ledger = inl refl };
           after = stays layout l v v' h good kept s all;
+          tells = tells_edit_on layout l v v' h tells p Stepped t (s.pending p) ((all p).doubt ∙ sure p Stepped t);
         }
         | inr s ↦ record {
           ledger = pushed layout l v v' h good kept p s all (sure p Stepped t);
           fits = record { layout = kept ∙ sym h.same; takes = edits t; words = access p Stepped t; ledger = inr (counts_fit layout l v v' h good kept p s all (sure p Stepped t)) };
           after = push_of layout l v v' h good kept p s all (sure p Stepped t);
+          tells = (let own = own layout l v v' h good kept p s all (sure p Stepped t) in
+              tells_counted layout l v v' h tells p Stepped t (s.pending p) ((all p).doubt ∙ sure p Stepped t) (pushed layout l v v' h good kept p s all (sure p Stepped t)) own.o.it refl (λ q. refl)
+              s.issue s.open_is own.edit);
         }
       ]
 
@@ -189,6 +207,9 @@ module _ (place : ℕ) (layout : Layout) (l : Ledger) (v v' : WorldValue) (h : I
           ledger = closes_fit layout l v v' h good kept p number _ true s now others sure (λ o. Unit {0}) (stands_here layout l v v' h good kept p number _ true s now others sure s.is) tt;
         };
         after = close_of layout l v v' h good kept p number _ true s now others sure;
+        tells = (let c = closing layout l v v' h good kept p number _ true s now others sure in
+            tells_answered layout l v v' h tells p (Answered answer) t outcome.Done at s.issue s.open_is (closed layout l v v' h good kept p number _ true s now others sure) (record { it = c.o.it; counts = true })
+            (put_here l.told p (Some (record { it = c.o.it; counts = true }))) (λ q ne. put_other l.told p (Some (record { it = c.o.it; counts = true })) q ne) refl c.edit (stands_here layout l v v' h good kept p number _ true s now others sure s.is) s.closed (idle_after p (Answered answer) t outcome.Done at));
       })
   answered_by p (outcome.Overtaken noted seen) number answer is t at same =
       let other : Other = other_of (head_of v.sheet.layout.processes seen) in
@@ -207,6 +228,9 @@ module _ (place : ℕ) (layout : Layout) (l : Ledger) (v v' : WorldValue) (h : I
           ledger = closes_fit layout l v v' h good kept p number _ false s now others sure (IsOvertakenBy l other) (out_here layout l v v' h good kept p number _ false s now others sure s.is.out) (overtaken_here layout l v v' h good kept p number _ false s now others sure other s.is);
         };
         after = close_of layout l v v' h good kept p number _ false s now others sure;
+        tells = (let c = closing layout l v v' h good kept p number _ false s now others sure in
+            tells_answered layout l v v' h tells p (Answered answer) t (outcome.Overtaken noted seen) at s.issue s.open_is (closed layout l v v' h good kept p number _ false s now others sure) (record { it = c.o.it; counts = false })
+            (put_here l.told p (Some (record { it = c.o.it; counts = false }))) (λ q ne. put_other l.told p (Some (record { it = c.o.it; counts = false })) q ne) refl c.edit (overtaken_is_out layout l v v' h tells p (Answered answer) t noted seen at s.issue s.open_is (closing layout l v v' h good kept p number _ false s now others sure).o.it (closing layout l v v' h good kept p number _ false s now others sure).edit) s.closed (idle_after p (Answered answer) t (outcome.Overtaken noted seen) at));
       })
 
   answered : (p : ℕ) (answer : replies.Answer) → EditStepsBy v p (Answered answer) v' → Next place layout l v (Step p) (Answered answer) v'
@@ -216,13 +240,14 @@ module _ (place : ℕ) (layout : Layout) (l : Ledger) (v v' : WorldValue) (h : I
 
   -- a turn of a process that leaves the list, its issues, and what each process says of its edits
   silent : (event : Event) (reply : Reply) → Takes v event reply v' → v'.counted ≡ v.counted → ((q : ℕ) → (world_of v').pending q ≡ (world_of v).pending q) → ((q : ℕ) → SaysSame ((world_of v).situation q) ((world_of v').situation q))
-      → WordsMove (world_of v).memory event reply (world_of v').memory → LedgerMoves place layout.shape l event reply l → Next place layout l v event reply v'
-  silent event reply t counted pending all words ledger =
+      → WordsMove (world_of v).memory event reply (world_of v').memory → LedgerMoves place layout.shape l event reply l → Tells l v' → Next place layout l v event reply v'
+  silent event reply t counted pending all words ledger told =
       let kept = kept_layout event reply t in
       record {
         ledger = l;
         fits = record { layout = kept ∙ sym h.same; takes = t; words = words; ledger = ledger };
         after = stays layout l v v' h good kept (record { counted = counted; pending = pending }) all;
+        tells = told;
       }
 
   -- a report begins
@@ -235,7 +260,7 @@ module _ (place : ℕ) (layout : Layout) (l : Ledger) (v v' : WorldValue) (h : I
             let before = ap (λ x. (world_of v).situation x) here ∙ b.idle in
             record { number = ap numbered now ∙ sym (ap numbered before); doubt = ap doubts now ∙ sym (ap doubts before) })
         | inr other ↦ says_same _ _ (b.others q other)
-      ]) b.memory refl
+      ]) b.memory refl (tells_quiet l v v' p tells (report_begins_turn v v' p h.good.sound t) b.layout (λ c is. sides_same (world_of v).memory (world_of v').memory (Header p c.it.edit.number) b.memory) (b.pending p) (ap doubts b.situation))
 
   -- a report makes a step
   module _ (p : ℕ) (reply : Reply) (t : ReportStepsBy v p reply v') where
@@ -261,12 +286,15 @@ module _ (place : ℕ) (layout : Layout) (l : Ledger) (v v' : WorldValue) (h : I
       | inr other ↦ says_same _ _ (t.steps.steps.others q (λ same. other (same ∙ t.steps.mine)))
     ]
 
+    report_tells : Tells l v'
+    report_tells = tells_quiet l v v' p tells (report_turn v v' p reply h.good.sound t) t.steps.steps.layout (λ c is. report_sides p c.it.edit.number v v' reply t) (t.steps.steps.pending p) ((report_says p).doubt ∙ ap doubts t.steps.at)
+
   report_stepped : (p : ℕ) → ReportStepsBy v p Stepped v' → Next place layout l v (Step p) Stepped v'
-  report_stepped p t = silent (Step p) Stepped (reports t) t.steps.steps.counted t.steps.steps.pending (report_says p Stepped t) (report_access p Stepped t) (inl refl)
+  report_stepped p t = silent (Step p) Stepped (reports t) t.steps.steps.counted t.steps.steps.pending (report_says p Stepped t) (report_access p Stepped t) (inl refl) (report_tells p Stepped t)
 
   report_answered : (p : ℕ) (answer : replies.Answer) → ReportStepsBy v p (Answered answer) v' → Next place layout l v (Step p) (Answered answer) v'
   report_answered p answer t =
-      silent (Step p) (Answered answer) (reports t) t.steps.steps.counted t.steps.steps.pending (report_says p (Answered answer) t) (report_access p (Answered answer) t) (nothing t.what answer t.is)
+      silent (Step p) (Answered answer) (reports t) t.steps.steps.counted t.steps.steps.pending (report_says p (Answered answer) t) (report_access p (Answered answer) t) (nothing t.what answer t.is) (report_tells p (Answered answer) t)
     where
       nothing : (what : Effect) (answer : replies.Answer) → Answered answer ≡ report_reply what → AnswerMoves l p answer l
       nothing effects.GoesOn answer is = absurd (cc)
@@ -275,25 +303,32 @@ module _ (place : ℕ) (layout : Layout) (l : Ledger) (v v' : WorldValue) (h : I
       nothing (effects.Answers (ends.AtAnnounce process word)) answer is = subst (λ (a : replies.Answer). AnswerMoves l p a l) (the_answer answer _ (sym is)) refl
 
   -- work begins, is offered an entry, makes a step
+  work_tells : (p : ℕ) → (k : LeavesEdits p v v') → (a : StaysAtWork p v v') → ((n : ℕ) → SidesStay (world_of v).memory (world_of v').memory (Header p n)) → Tells l v'
+  work_tells p k a sides = tells_quiet l v v' p tells k.turn k.layout (λ c is. sides c.it.edit.number) (k.pending p) (at_work_sure a.number _ a.now)
+
   work_begins : (p : ℕ) (cell : _) → WorkBegins v p cell v' → Next place layout l v (BeginWork p cell) Entered v'
   work_begins p cell t =
       let k = work_begins_leaves v v' p cell h.good.sound t in
       silent (BeginWork p cell) Entered t k.counted k.pending (work_says p v v' (work_begins_stays p v v' cell t) k.turn) t.begun.begins.turn.memory refl
+      (work_tells p k (work_begins_stays p v v' cell t) (λ n. sides_same (world_of v).memory (world_of v').memory (Header p n) t.begun.begins.turn.memory))
 
   offers : (value : _) → TakesEntry v value v' → Next place layout l v (Offer value) Stepped v'
   offers value t =
       let k = offer_leaves v v' value h.good.sound t in
       silent (Offer value) Stepped t k.counted k.pending (work_says value.task.process v v' (offer_stays v v' value t) k.turn) t.offered.offers.turn.memory refl
+      (work_tells value.task.process k (offer_stays v v' value t) (λ n. sides_same (world_of v).memory (world_of v').memory (Header value.task.process n) t.offered.offers.turn.memory))
 
   work_stepped : (p : ℕ) → WorkStepsBy v p Stepped v' → Next place layout l v (Step p) Stepped v'
   work_stepped p t =
       let k = work_leaves v v' p Stepped h.good.sound t in
       silent (Step p) Stepped (works t) k.counted k.pending (work_says p v v' (work_stays p v v' Stepped t) k.turn) k.words (inl refl)
+      (work_tells p k (work_stays p v v' Stepped t) (λ n. work_sides_of p n v v' Stepped h.good.sound t))
 
   work_answered : (p : ℕ) (answer : replies.Answer) → WorkStepsBy v p (Answered answer) v' → Next place layout l v (Step p) (Answered answer) v'
   work_answered p answer t =
       let k = work_leaves v v' p (Answered answer) h.good.sound t in
       silent (Step p) (Answered answer) (works t) k.counted k.pending (work_says p v v' (work_stays p v v' (Answered answer) t) k.turn) k.words (nothing t.what answer t.is)
+      (work_tells p k (work_stays p v v' (Answered answer) t) (λ n. work_sides_of p n v v' (Answered answer) h.good.sound t))
     where
       nothing : (what : Taken) (answer : replies.Answer) → Answered answer ≡ work_reply what → AnswerMoves l p answer l
       nothing taken.NotEnabled answer is = absurd (cc)
@@ -313,6 +348,7 @@ module _ (place : ℕ) (layout : Layout) (l : Ledger) (v v' : WorldValue) (h : I
         ledger = l;
         fits = record { layout = kept ∙ sym h.same; takes = t; words = t.begun.begins.memory; ledger = refl };
         after = recovery_begins_after layout l v v' h good p t;
+        tells = tells_recovery_begun layout l v v' p h tells t;
       }
 
   recovery_goes : (what : recovery_effect.Effect) → Stepped ≡ recovery_reply what → what ≡ recovery_effects.GoesOn
@@ -323,15 +359,18 @@ module _ (place : ℕ) (layout : Layout) (l : Ledger) (v v' : WorldValue) (h : I
   recovery_stepped : (p : ℕ) → RecoveryStepsBy v p Stepped v' → Next place layout l v (Step p) Stepped v'
   recovery_stepped p t =
       let goes = recovery_goes t.what t.is in
-      silent (Step p) Stepped (recoveries t) t.steps.steps.counted (recovery_pending v v' p Stepped t goes) (recovery_says v v' p Stepped t goes) (recovery_access v v' p Stepped t) (inl refl)
+      silent (Step p) Stepped (recoveries t) t.steps.steps.counted (recovery_pending v v' p Stepped t goes) (recovery_says v v' p Stepped t goes) (recovery_access v v' p Stepped t) (inl refl) (tells_recovery_on layout l v v' p Stepped h tells t goes)
 
-  resolves : (p : ℕ) (answer : replies.Answer) → RecoveryStepsBy v p (Answered answer) v' → IsResolution (Answered answer)
-  resolves p answer t = by t.what t.is
-    where
-      by : (what : recovery_effect.Effect) → Answered answer ≡ recovery_reply what → IsResolution (Answered answer)
-      by recovery_effects.GoesOn is = absurd (cc)
-      by (recovery_effects.Answers recovery_ends.Nothing) is = subst (λ (r : Reply). IsResolution r) (sym is) tt
-      by (recovery_effects.Answers (recovery_ends.Last number cell counts)) is = subst (λ (r : Reply). IsResolution r) (sym is) tt
+  recovery_answered : (p : ℕ) (answer : replies.Answer) → RecoveryStepsBy v p (Answered answer) v' → Next place layout l v (Step p) (Answered answer) v'
+  recovery_answered p answer t =
+      let kept = kept_layout (Step p) (Answered answer) (recoveries t) in
+      let r = resolves layout l v v' h good tells p answer t in
+      record {
+        ledger = r.ledger;
+        fits = record { layout = kept ∙ sym h.same; takes = recoveries t; words = recovery_access v v' p (Answered answer) t; ledger = r.moves };
+        after = r.after;
+        tells = r.tells;
+      }
 
   evicts : (word : Place) → Takes v (Evict word) Evicted v' → Next place layout l v (Evict word) Evicted v'
   evicts word t =
@@ -340,6 +379,7 @@ module _ (place : ℕ) (layout : Layout) (l : Ledger) (v v' : WorldValue) (h : I
         ledger = l;
         fits = record { layout = kept ∙ sym h.same; takes = t; words = t.evicts.memory; ledger = refl };
         after = stays layout l v v' h good kept (record { counted = t.evicts.counted; pending = t.evicts.pending }) (λ q. says_same _ _ (t.evicts.situation q));
+        tells = tells_evicted l v v' word tells t.evicts;
       }
 
   stops : (p : ℕ) → Takes v (Stop p) Stopped v' → Next place layout l v (Stop p) Stopped v'
@@ -349,6 +389,7 @@ module _ (place : ℕ) (layout : Layout) (l : Ledger) (v v' : WorldValue) (h : I
         ledger = doubted layout l v v' h good kept p t.stops;
         fits = record { layout = kept ∙ sym h.same; takes = t; words = t.stops.memory; ledger = refl };
         after = stop_of layout l v v' h good kept p t.stops;
+        tells = tells_stopped layout l v v' h tells p t (doubted layout l v v' h good kept p t.stops) refl refl;
       }
 
   crashes : Takes v Crash Crashed v' → Next place layout l v Crash Crashed v'
@@ -358,43 +399,44 @@ module _ (place : ℕ) (layout : Layout) (l : Ledger) (v v' : WorldValue) (h : I
         ledger = left layout l v v' h good kept t.crashes;
         fits = record { layout = kept ∙ sym h.same; takes = t; words = t.crashes.memory; ledger = left_loses layout l v v' h good kept t.crashes };
         after = crash_of layout l v v' h good kept t.crashes;
+        tells = tells_crashed layout l v v' h tells good t.crashes (left layout l v v' h good kept t.crashes) (left_loses layout l v v' h good kept t.crashes);
       }
 
-  pub next : (event : Event) (reply : Reply) → (IsResolution reply → ⊥) → Takes v event reply v' → Next place layout l v event reply v'
-  next (BeginEdit r) (Begun number) unresolved t = begins r number t
-  next (BeginEdit r) (Refused why) unresolved t = unchanged (BeginEdit r) (Refused why) (subst (λ (x : WorldValue). Takes v (BeginEdit r) (Refused why) x) t.same t) t.same (still (world_of v).memory) refl
-  next (BeginEdit r) NotEnabled unresolved t = unchanged (BeginEdit r) NotEnabled (subst (λ (x : WorldValue). Takes v (BeginEdit r) NotEnabled x) t.same t) t.same (still (world_of v).memory) refl
-  next (BeginEdit r) _ unresolved t = absurd t
-  next (Step p) Stepped unresolved (edits t) = stepped p t
-  next (Step p) Stepped unresolved (reports t) = report_stepped p t
-  next (Step p) Stepped unresolved (works t) = work_stepped p t
-  next (Step p) Stepped unresolved (recoveries t) = recovery_stepped p t
-  next (Step p) (Answered answer) unresolved (edits t) = answered p answer t
-  next (Step p) (Answered answer) unresolved (reports t) = report_answered p answer t
-  next (Step p) (Answered answer) unresolved (works t) = work_answered p answer t
-  next (Step p) (Answered answer) unresolved (recoveries t) = absurd (unresolved (resolves p answer t))
-  next (Step p) NotEnabled unresolved t = unchanged (Step p) NotEnabled (subst (λ (x : WorldValue). Takes v (Step p) NotEnabled x) t.same t) t.same (still (world_of v).memory) refl
-  next (Step p) _ unresolved t = absurd t
-  next (Evict word) Evicted unresolved t = evicts word t
-  next (Evict word) NotEnabled unresolved t = unchanged (Evict word) NotEnabled (subst (λ (x : WorldValue). Takes v (Evict word) NotEnabled x) t.same t) t.same (still (world_of v).memory) refl
-  next (Evict word) _ unresolved t = absurd t
-  next (BeginShow p) Entered unresolved t = reports_begin p t
-  next (BeginShow p) (Refused why) unresolved t = unchanged (BeginShow p) (Refused why) (subst (λ (x : WorldValue). Takes v (BeginShow p) (Refused why) x) t.same t) t.same (still (world_of v).memory) refl
-  next (BeginShow p) NotEnabled unresolved t = unchanged (BeginShow p) NotEnabled (subst (λ (x : WorldValue). Takes v (BeginShow p) NotEnabled x) t.same t) t.same (still (world_of v).memory) refl
-  next (BeginShow p) _ unresolved t = absurd t
-  next (Stop p) Stopped unresolved t = stops p t
-  next (Stop p) NotEnabled unresolved t = unchanged (Stop p) NotEnabled (subst (λ (x : WorldValue). Takes v (Stop p) NotEnabled x) t.same t) t.same (still (world_of v).memory) refl
-  next (Stop p) _ unresolved t = absurd t
-  next Crash Crashed unresolved t = crashes t
-  next Crash _ unresolved t = absurd t
-  next (BeginWork q cell) Entered unresolved t = work_begins q cell t
-  next (BeginWork q cell) (Refused why) unresolved t = unchanged (BeginWork q cell) (Refused why) (subst (λ (x : WorldValue). Takes v (BeginWork q cell) (Refused why) x) t.same t) t.same (still (world_of v).memory) refl
-  next (BeginWork q cell) NotEnabled unresolved t = unchanged (BeginWork q cell) NotEnabled (subst (λ (x : WorldValue). Takes v (BeginWork q cell) NotEnabled x) t.same t) t.same (still (world_of v).memory) refl
-  next (BeginWork q cell) _ unresolved t = absurd t
-  next (BeginRecover q) Entered unresolved t = recovery_begins q t
-  next (BeginRecover q) (Refused why) unresolved t = unchanged (BeginRecover q) (Refused why) (subst (λ (x : WorldValue). Takes v (BeginRecover q) (Refused why) x) t.same t) t.same (still (world_of v).memory) refl
-  next (BeginRecover q) NotEnabled unresolved t = unchanged (BeginRecover q) NotEnabled (subst (λ (x : WorldValue). Takes v (BeginRecover q) NotEnabled x) t.same t) t.same (still (world_of v).memory) refl
-  next (BeginRecover q) _ unresolved t = absurd t
-  next (Offer value) Stepped unresolved t = offers value t
-  next (Offer value) WrongTask unresolved t = unchanged (Offer value) WrongTask (subst (λ (x : WorldValue). Takes v (Offer value) WrongTask x) t.same t) t.same (still (world_of v).memory) refl
-  next (Offer value) _ unresolved t = absurd t
+  pub next : (event : Event) (reply : Reply) → Takes v event reply v' → Next place layout l v event reply v'
+  next (BeginEdit r) (Begun number) t = begins r number t
+  next (BeginEdit r) (Refused why) t = unchanged (BeginEdit r) (Refused why) (subst (λ (x : WorldValue). Takes v (BeginEdit r) (Refused why) x) t.same t) t.same (still (world_of v).memory) refl
+  next (BeginEdit r) NotEnabled t = unchanged (BeginEdit r) NotEnabled (subst (λ (x : WorldValue). Takes v (BeginEdit r) NotEnabled x) t.same t) t.same (still (world_of v).memory) refl
+  next (BeginEdit r) _ t = absurd t
+  next (Step p) Stepped (edits t) = stepped p t
+  next (Step p) Stepped (reports t) = report_stepped p t
+  next (Step p) Stepped (works t) = work_stepped p t
+  next (Step p) Stepped (recoveries t) = recovery_stepped p t
+  next (Step p) (Answered answer) (edits t) = answered p answer t
+  next (Step p) (Answered answer) (reports t) = report_answered p answer t
+  next (Step p) (Answered answer) (works t) = work_answered p answer t
+  next (Step p) (Answered answer) (recoveries t) = recovery_answered p answer t
+  next (Step p) NotEnabled t = unchanged (Step p) NotEnabled (subst (λ (x : WorldValue). Takes v (Step p) NotEnabled x) t.same t) t.same (still (world_of v).memory) refl
+  next (Step p) _ t = absurd t
+  next (Evict word) Evicted t = evicts word t
+  next (Evict word) NotEnabled t = unchanged (Evict word) NotEnabled (subst (λ (x : WorldValue). Takes v (Evict word) NotEnabled x) t.same t) t.same (still (world_of v).memory) refl
+  next (Evict word) _ t = absurd t
+  next (BeginShow p) Entered t = reports_begin p t
+  next (BeginShow p) (Refused why) t = unchanged (BeginShow p) (Refused why) (subst (λ (x : WorldValue). Takes v (BeginShow p) (Refused why) x) t.same t) t.same (still (world_of v).memory) refl
+  next (BeginShow p) NotEnabled t = unchanged (BeginShow p) NotEnabled (subst (λ (x : WorldValue). Takes v (BeginShow p) NotEnabled x) t.same t) t.same (still (world_of v).memory) refl
+  next (BeginShow p) _ t = absurd t
+  next (Stop p) Stopped t = stops p t
+  next (Stop p) NotEnabled t = unchanged (Stop p) NotEnabled (subst (λ (x : WorldValue). Takes v (Stop p) NotEnabled x) t.same t) t.same (still (world_of v).memory) refl
+  next (Stop p) _ t = absurd t
+  next Crash Crashed t = crashes t
+  next Crash _ t = absurd t
+  next (BeginWork q cell) Entered t = work_begins q cell t
+  next (BeginWork q cell) (Refused why) t = unchanged (BeginWork q cell) (Refused why) (subst (λ (x : WorldValue). Takes v (BeginWork q cell) (Refused why) x) t.same t) t.same (still (world_of v).memory) refl
+  next (BeginWork q cell) NotEnabled t = unchanged (BeginWork q cell) NotEnabled (subst (λ (x : WorldValue). Takes v (BeginWork q cell) NotEnabled x) t.same t) t.same (still (world_of v).memory) refl
+  next (BeginWork q cell) _ t = absurd t
+  next (BeginRecover q) Entered t = recovery_begins q t
+  next (BeginRecover q) (Refused why) t = unchanged (BeginRecover q) (Refused why) (subst (λ (x : WorldValue). Takes v (BeginRecover q) (Refused why) x) t.same t) t.same (still (world_of v).memory) refl
+  next (BeginRecover q) NotEnabled t = unchanged (BeginRecover q) NotEnabled (subst (λ (x : WorldValue). Takes v (BeginRecover q) NotEnabled x) t.same t) t.same (still (world_of v).memory) refl
+  next (BeginRecover q) _ t = absurd t
+  next (Offer value) Stepped t = offers value t
+  next (Offer value) WrongTask t = unchanged (Offer value) WrongTask (subst (λ (x : WorldValue). Takes v (Offer value) WrongTask x) t.same t) t.same (still (world_of v).memory) refl
+  next (Offer value) _ t = absurd t

@@ -1,15 +1,17 @@
 -- The headline of every run.
-use Rattle.std.proofs.Common.{ℕ, ◌≡◌, ◌≤◌, ◌+◌, List, [], ◌∷◌, refl, ap, sym, arith, zero, suc, length}
+use Rattle.std.proofs.Common.{ℕ, ◌≡◌, ◌≤◌, ◌+◌, List, [], ◌∷◌, refl, ap, sym, ◌∙◌, arith, zero, suc, length, None, true, false}
 use Rattle.ds_layout.specs.declared.layout.Layout.{Layout}
 use Rattle.ds_state.specs.Value.{WorldValue, world_of, IsGood}
 use Rattle.ds_state.specs.Fresh.{IsNew}
 use Rattle.ds_core.specs.Takes.{WorldRun, world_at}
 use Rattle.ds_core.specs.Moments.{Ledger, empty_ledger}
-use Rattle.ds_core.specs.Headline.{AreUnresolved, HasHeadline}
+use Rattle.ds_core.specs.Headline.{HasHeadline}
 use Rattle.ds_core.specs.declared.event.Event.{Event}
 use Rattle.ds_core.specs.declared.reply.Reply.{Reply}
 use Rattle.ds_core.proofs.Closing.{headline}
-use Rattle.ds_core.proofs.Ledgers.{IsOf, fits_of, numbered, no_some, one_some}
+use Rattle.ds_core.proofs.Ledgers.{IsOf, fits_of, doubts, numbered, no_some, one_some}
+use Rattle.ds_core.proofs.Told.{Tells}
+use Rattle.ds_state.specs.declared.situation.Situation.TheVariants.{Idle, Recovering}
 use Rattle.ds_core.proofs.EachEvent.{Next, next}
 use Rattle.ds_core.proofs.Reported.{reports_fit}
 use Rattle.ds_core.proofs.Carry.{RunOn, nothing_on, event_on, fits_all}
@@ -21,9 +23,9 @@ record Follows (layout : Layout) (place : ℕ) (l : Ledger) (old : WorldValue) (
   good : (k : ℕ) → k ≤ length events → IsGood (on.moment k).world
 
 -- with one event more in front
-module _ (layout : Layout) (place : ℕ) (l : Ledger) (old : WorldValue) (event : Event) (reply : Reply) (events : List Event) (replies : List Reply) (new : WorldValue) (h : IsOf layout l old) (run : WorldRun old (event ∷ events) (reply ∷ replies) new) (unresolved : AreUnresolved (reply ∷ replies)) where
+module _ (layout : Layout) (place : ℕ) (l : Ledger) (old : WorldValue) (event : Event) (reply : Reply) (events : List Event) (replies : List Reply) (new : WorldValue) (h : IsOf layout l old) (run : WorldRun old (event ∷ events) (reply ∷ replies) new) (tells : Tells l old) where
   n : Next place layout l old event reply run.0
-  n = next place layout l old run.0 h run.1.good event reply unresolved.0 run.1.takes
+  n = next place layout l old run.0 h tells run.1.good event reply run.1.takes
 
   module _ (rest : Follows layout (place + 1) n.ledger run.0 events replies new run.2) where
     abbrev longer : RunOn place layout.shape l old (event ∷ events) (reply ∷ replies) new
@@ -42,14 +44,14 @@ module _ (layout : Layout) (place : ℕ) (l : Ledger) (old : WorldValue) (event 
     one_more : Follows layout place l old (event ∷ events) (reply ∷ replies) new run
     one_more = record { on = longer; worlds = same_worlds; good = good_worlds }
 
-follows : (layout : Layout) (place : ℕ) (l : Ledger) (old : WorldValue) (events : List Event) (replies : List Reply) (new : WorldValue) → IsOf layout l old → (run : WorldRun old events replies new) → AreUnresolved replies → Follows layout place l old events replies new run
+follows : (layout : Layout) (place : ℕ) (l : Ledger) (old : WorldValue) (events : List Event) (replies : List Reply) (new : WorldValue) → IsOf layout l old → Tells l old → (run : WorldRun old events replies new) → Follows layout place l old events replies new run
 unfolding nothing_on
-follows layout place l old [] [] new h run un = record { on = nothing_on place layout.shape l old new run (fits_of layout l old h); worlds = λ k lt. refl; good = λ k lt. h.good }
-follows layout place l old (event ∷ events) (reply ∷ replies) new h run un =
-    let m = n layout place l old event reply events replies new h run un in
-    one_more layout place l old event reply events replies new h run un (follows layout (place + 1) m.ledger run.0 events replies new m.after run.2 un.1)
-follows layout place l old [] (reply ∷ replies) new h run un = absurd run
-follows layout place l old (event ∷ events) [] new h run un = absurd run
+follows layout place l old [] [] new h tells run = record { on = nothing_on place layout.shape l old new run (fits_of layout l old h); worlds = λ k lt. refl; good = λ k lt. h.good }
+follows layout place l old (event ∷ events) (reply ∷ replies) new h tells run =
+    let m = n layout place l old event reply events replies new h run tells in
+    one_more layout place l old event reply events replies new h run tells (follows layout (place + 1) m.ledger run.0 events replies new m.after m.tells run.2)
+follows layout place l old [] (reply ∷ replies) new h tells run = absurd run
+follows layout place l old (event ∷ events) [] new h tells run = absurd run
 
 first_ledger : (v : WorldValue) → IsGood v → IsNew (world_of v) → IsOf v.sheet.layout empty_ledger v
 first_ledger v good new = record {
@@ -61,9 +63,17 @@ first_ledger v good new = record {
   numbers = λ p n is. one_some (numbered ((world_of v).situation p)) n 0 is (ap numbered (new.situation p));
 }
 
--- every run from a new world, in which no recovery has come to its answer, has the headline, with its own worlds
-pub runs_have_headline : (old : WorldValue) (events : List Event) (replies : List Reply) (new : WorldValue) → IsNew (world_of old) → IsGood old → (run : WorldRun old events replies new) → AreUnresolved replies → HasHeadline old events replies new run
+first_tells : (v : WorldValue) → IsNew (world_of v) → Tells empty_ledger v
+first_tells v new = record {
+  told = λ p c is. absurd (no_some None c refl is);
+  opens = λ p issue is. absurd (no_some ((world_of v).pending p) issue (new.pending p) is);
+  announced = λ p lt doubt none. absurd (let bad : false ≡ true = sym (ap doubts (new.situation p)) ∙ doubt in cc);
+  sees = λ p e is. absurd (let bad : Idle 0 ≡ Recovering e = sym (new.situation p) ∙ is in cc);
+}
+
+-- every run from a new world has the headline, with its own worlds
+pub runs_have_headline : (old : WorldValue) (events : List Event) (replies : List Reply) (new : WorldValue) → IsNew (world_of old) → IsGood old → (run : WorldRun old events replies new) → HasHeadline old events replies new run
 unfolding headline fits_all
-runs_have_headline old events replies new fresh good run unresolved =
-    let f = follows old.sheet.layout 0 empty_ledger old events replies new (first_ledger old good fresh) run unresolved in
+runs_have_headline old events replies new fresh good run =
+    let f = follows old.sheet.layout 0 empty_ledger old events replies new (first_ledger old good fresh) (first_tells old fresh) run in
     record { is = headline old events replies new (fits_all old events replies new f.on (reports_fit old events replies new f.on f.good fresh)); worlds = f.worlds }

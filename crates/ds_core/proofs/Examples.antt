@@ -15,7 +15,8 @@ use Rattle.ds_edit.specs.declared.answer.Answer.TheVariants.{Done, Nothing}
 use Rattle.ds_core.specs.declared.reply.Reply.{Reply}
 use Rattle.ds_core.specs.declared.reply.Reply.TheVariants.{Begun, Entered, Stepped, Answered, Crashed}
 use Rattle.ds_core.proofs.Closing.{contains_none, contains_one}
-use Rattle.ds_core.proofs.Acknowledged.{acknowledged, put_here}
+use Rattle.ds_core.proofs.Acknowledged.{acknowledged_once}
+use Rattle.ds_core.proofs.Moved.{put_here}
 
 -- from this place on, event by event
 abbrev LedgersMove : ℕ → Shape → Ledger → List Event → List Reply → Ledger → Type 0
@@ -114,4 +115,4 @@ module _ (shape : Shape) (r : PlainRequest) where
 -- a run that drops an edit that was answered Done, at a crash or anywhere, has no headline
 dropped : (old : WorldValue) (events : List Event) (replies : List Reply) (new : WorldValue) (k p n : ℕ) → Happens events replies k (Step p) (Answered (Done n))
     → filter (is_edit_of p n) new.counted ≡ [] → Headline old events replies new → ⊥
-dropped old events replies new k p n done none h = let one = (acknowledged old events replies new h k p n done).once in cc
+dropped old events replies new k p n done none h = let one = (acknowledged_once old events replies new k p n h done).once in cc

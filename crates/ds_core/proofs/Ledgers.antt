@@ -22,7 +22,7 @@ use Rattle.ds_core.specs.Moments.{Placed, Open, Closed, Ledger, MomentFits, AreA
 use Rattle.ds_core.specs.LedgerSteps.{put, next_number, in_doubt, Stands, Issues, Counts, Closes, IsOvertakenBy, Loses}
 use Rattle.ds_core.proofs.Traces as traces
 use Rattle.ds_core.proofs.Closing.{contains_none, contains_one, behind, of_filter}
-use Rattle.ds_core.proofs.Acknowledged.{put_here}
+use Rattle.ds_core.proofs.Moved.{put_here}
 use Rattle.ds_core.proofs.Crash.{IsKnownAs, after_crash, crash_loses, crash_counted}
 
 -- ---- lists

@@ -8,6 +8,7 @@ pub mod Bound
 pub mod Counts
 pub mod Runs
 pub mod Solo
+pub mod LoneWork
 pub mod Spent
 pub mod Moved
 pub mod Closing
@@ -22,6 +23,14 @@ pub mod Alone
 pub mod AtWork
 pub mod AtRecovery
 pub mod Stepping
+pub mod Headers
+pub mod Told
+pub mod Telling
+pub mod ToldEdits
+pub mod ToldCalls
+pub mod Recovered
+pub mod Resolved
+pub mod NotDone
 pub mod EachEvent
 pub mod Reported
 pub mod EachRun

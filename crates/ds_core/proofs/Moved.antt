@@ -6,7 +6,7 @@ use Rattle.ds_formula.specs.declared.cells.Shape.{Shape}
 use Rattle.ds_state.specs.World.{Edit}
 use Rattle.ds_core.specs.Moments.{Placed, Open, Closed, Ledger}
 use Rattle.ds_core.specs.Headline.{IsIssueOf}
-use Rattle.ds_core.specs.LedgerSteps.{put, in_doubt, Issues, Counts, Closes, Forgets, Loses, AnswerMoves, LedgerMoves}
+use Rattle.ds_core.specs.LedgerSteps.{put, in_doubt, Stands, Issues, Counts, Closes, Forgets, Loses, AnswerMoves, LedgerMoves}
 use Rattle.ds_core.specs.declared.event.Event.{Event}
 use Rattle.ds_core.specs.declared.event.Event.TheVariants.{BeginEdit, BeginWork, BeginShow, BeginRecover, Step, Offer, Evict, Stop, Crash}
 use Rattle.ds_edit.specs.declared.answer.Answer.{Answer}
@@ -38,8 +38,27 @@ pub record Filters (old new : Ledger) : Type 0 where
   pub is : new.counted ≡ filter stays old.counted
   pub keeps : NoneGone old new
 
+pub put_here : {A : Type 0} (f : ℕ → Option A) (p : ℕ) (x : Option A) → put f p x p ≡ x
+put_here f p x = elim (eqb_tells p p) [
+  | inl same ↦ subst (λ b. (if b then x else f p) ≡ x) (sym same.0) refl
+  | inr other ↦ absurd (other.1 refl)
+]
+
+-- the process's open edit is closed under its number
+pub record ClosesAs (old : Ledger) (q : ℕ) (c : Closed) (new : Ledger) : Type 0 where
+  pub o : Open
+  pub was : old.opens q ≡ Some o
+  pub same : o.it ≡ c.it
+  pub gone : new.opens q ≡ None
+  pub stands : Stands old.counted c.it c.counts
+
+-- it was told before, or is now
+abbrev pub IsToldSo : Ledger → Ledger → ℕ → Closed → Type 0
+IsToldSo old new q c = (old.told q ≡ Some c) ⊎ ClosesAs old q c new
+
 pub record Moved (k : ℕ) (I : Edit → Type 0) (old new : Ledger) : Type 0 where
   pub opens : (q : ℕ) (o : Open) → new.opens q ≡ Some o → IsFresh k I q o ⊎ WasOpen old q o
+  pub told : (q : ℕ) (c : Closed) → new.told q ≡ Some c → IsToldSo old new q c
   pub counted : (new.counted ≡ old.counted) ⊎ (Pushes old new ⊎ Filters old new)
 
 put_cases : {A : Type 0} (f : ℕ → Option A) (p : ℕ) (x : Option A) (q : ℕ) (r : Option A) → put f p x q ≡ r → ((q ≡ p) × (x ≡ r)) ⊎ ((q ≢ p) × (f q ≡ r))
@@ -63,7 +82,7 @@ none_some : (x : Option Open) (o : Open) → x ≡ None → x ≡ Some o → ⊥
 none_some x o a b = let e : None ≡ Some o = sym a ∙ b in cc
 
 same_moved : (k : ℕ) (I : Edit → Type 0) (old new : Ledger) → new ≡ old → Moved k I old new
-same_moved k I old new h = subst (λ (l : Ledger). Moved k I old l) (sym h) (record { opens = λ q o is. inr (was_open old q o is); counted = inl refl })
+same_moved k I old new h = subst (λ (l : Ledger). Moved k I old l) (sym h) (record { opens = λ q o is. inr (was_open old q o is); told = λ q c is. inl is; counted = inl refl })
 
 issues_moved : (k : ℕ) (I : Edit → Type 0) (old : Ledger) (edit : Edit) (new : Ledger) → I edit → Issues k old edit new → Moved k I old new
 issues_moved k I old edit new i h = subst (λ (l : Ledger). Moved k I old l) (sym h.is) (record {
@@ -73,26 +92,42 @@ issues_moved k I old edit new i h = subst (λ (l : Ledger). Moved k I old l) (sy
         (sym (ap (λ (x : Open). x.it.place) one), sym (ap (λ (x : Open). x.it.edit.process) one) ∙ sym here.0, subst I (ap (λ (x : Open). x.it.edit) one) i))
     | inr there ↦ inr (was_open old q o there.1)
   ];
+  told = λ q c is. inl is;
   counted = inl refl;
 })
 
 counts_moved : (k : ℕ) (I : Edit → Type 0) (old : Ledger) (p : ℕ) (new : Ledger) → Counts old p new → Moved k I old new
 counts_moved k I old p new h = subst (λ (l : Ledger). Moved k I old l) (sym h.is) (record {
   opens = λ q o is. inr (was_open old q o is);
+  told = λ q c is. inl is;
   counted = inr (inl (record { p = p; o = h.open_edit; was = h.was; is = refl; keeps = λ q o was gone. none_some (old.opens q) o gone was }));
 })
 
-gone_moved : (k : ℕ) (I : Edit → Type 0) (old : Ledger) (p : ℕ) (told : ℕ → Option Closed) → Moved k I old (record old { opens = put old.opens p None; told = told })
-gone_moved k I old p told = record {
+gone_moved : (k : ℕ) (I : Edit → Type 0) (old : Ledger) (p : ℕ) (told : ℕ → Option Closed) → ((q : ℕ) (c : Closed) → told q ≡ Some c → IsToldSo old (record old { opens = put old.opens p None; told = told }) q c)
+    → Moved k I old (record old { opens = put old.opens p None; told = told })
+gone_moved k I old p told so = record {
   opens = λ q o is. elim (put_cases old.opens p None q (Some o) is) [ inl here ↦ absurd (let s = here.1 in cc) | inr there ↦ inr (was_open old q o there.1) ];
+  told = so;
   counted = inl refl;
 }
 
 closes_moved : (k : ℕ) (I : Edit → Type 0) (old : Ledger) (p number : ℕ) (doubt counts : Bool) (And : Open → Type 0) (new : Ledger) → Closes old p number doubt counts And new → Moved k I old new
-closes_moved k I old p number doubt counts And new h = subst (λ (l : Ledger). Moved k I old l) (sym h.is) (gone_moved k I old p _)
+closes_moved k I old p number doubt counts And new h = subst (λ (l : Ledger). Moved k I old l) (sym h.is) (gone_moved k I old p _ so)
+  where
+    so : (q : ℕ) (c : Closed) → put old.told p (Some (record { it = h.open_edit.it; counts = counts })) q ≡ Some c → IsToldSo old (record old { opens = put old.opens p None; told = put old.told p (Some (record { it = h.open_edit.it; counts = counts })) }) q c
+    so q c is = elim (put_cases old.told p (Some (record { it = h.open_edit.it; counts = counts })) q (Some c) is) [
+      | inl here ↦ (let one : record { it = h.open_edit.it; counts = counts } ≡ c = let s = here.1 in cc in inr (record {
+        o = h.open_edit;
+        was = ap old.opens here.0 ∙ h.was;
+        same = ap (λ (x : Closed). x.it) one;
+        gone = ap (λ x. put old.opens p None x) here.0 ∙ put_here old.opens p None;
+        stands = subst (λ (x : Closed). Stands old.counted x.it x.counts) one h.stands;
+      }))
+      | inr there ↦ inl there.1
+    ]
 
 forgets_moved : (k : ℕ) (I : Edit → Type 0) (old : Ledger) (p : ℕ) (answer : Answer) (new : Ledger) → Forgets old p answer new → Moved k I old new
-forgets_moved k I old p answer new h = subst (λ (l : Ledger). Moved k I old l) (sym h.is) (gone_moved k I old p old.told)
+forgets_moved k I old p answer new h = subst (λ (l : Ledger). Moved k I old l) (sym h.is) (gone_moved k I old p old.told (λ q c is. inl is))
 
 stop_moved : (k : ℕ) (I : Edit → Type 0) (old : Ledger) (p : ℕ) (new : Ledger) → new ≡ record old { opens = put old.opens p (in_doubt (old.opens p)) } → Moved k I old new
 stop_moved k I old p new h = subst (λ (l : Ledger). Moved k I old l) (sym h) (record {
@@ -100,12 +135,14 @@ stop_moved k I old p new h = subst (λ (l : Ledger). Moved k I old l) (sym h) (r
     | inl here ↦ inr (doubted old q o (old.opens q) refl (ap (λ x. in_doubt (old.opens x)) here.0 ∙ here.1))
     | inr there ↦ inr (was_open old q o there.1)
   ];
+  told = λ q c is. inl is;
   counted = inl refl;
 })
 
 loses_moved : (k : ℕ) (I : Edit → Type 0) (old new : Ledger) → Loses old new → Moved k I old new
 loses_moved k I old new h = subst (λ (l : Ledger). Moved k I old l) (sym h.is) (record {
   opens = λ q o is. inr (doubted old q o (old.opens q) refl is);
+  told = λ q c is. inl is;
   counted = inr (inr (record { stays = h.stays; lost_open = h.lost_open; is = refl; keeps = λ q o was gone. doubt_keeps (old.opens q) o was gone }));
 })
 

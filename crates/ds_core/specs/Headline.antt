@@ -16,7 +16,8 @@ use Rattle.ds_core.specs.Requests.{PlainRequest}
 use Rattle.ds_core.specs.LedgerSteps.{WordsMove, LedgerMoves}
 use Rattle.ds_core.specs.declared.event.Event.{Event}
 use Rattle.ds_core.specs.declared.event.Event.TheVariants.{BeginEdit, BeginShow, Step}
-use Rattle.ds_edit.specs.declared.answer.Answer.TheVariants.{Last, Nothing, Settled, Unsettled}
+use Rattle.ds_edit.specs.declared.answer.Told.{Told}
+use Rattle.ds_edit.specs.declared.answer.Answer.TheVariants.{Settled, Unsettled}
 use Rattle.ds_core.specs.declared.reply.Reply.{Reply}
 use Rattle.ds_core.specs.declared.reply.Reply.TheVariants.{Begun, Entered, Answered}
 
@@ -29,19 +30,6 @@ pub record Happens (events : List Event) (replies : List Reply) (k : ℕ) (event
 abbrev pub IsIssueOf : Shape → Event → Reply → Edit → Type 0
 IsIssueOf shape (BeginEdit r) (Begun number) edit = edit ≡ record { process = r.process; number = number; cell = index_of shape r.cell; text = r.text }
 IsIssueOf shape event reply edit = ⊥
-
--- ---- recoveries
-
--- the reply resolves the edit in doubt of a process that recovers, if it has one
-abbrev pub IsResolution : Reply → Type 0
-IsResolution (Answered (Last told)) = Unit {0}
-IsResolution (Answered Nothing) = Unit {0}
-IsResolution _ = ⊥
-
--- no recovery of the run has come to its answer
-abbrev pub AreUnresolved : List Reply → Type 0
-AreUnresolved [] = Unit {0}
-AreUnresolved (reply ∷ replies) = (IsResolution reply → ⊥) × AreUnresolved replies
 
 -- ---- reports
 
@@ -152,3 +140,8 @@ pub record IsAcknowledged (old : WorldValue) (events : List Event) (replies : Li
   pub begun : Happens events replies start (BeginEdit request) (Begun number)
   pub mine : request.process ≡ p
   pub once : filter (is_edit_of p number) edits ≡ record { process = p; number = number; cell = index_of old.sheet.layout.shape request.cell; text = request.text } ∷ []
+
+-- so of an edit that a recovery tells as done, and the cell that it tells is that of the request
+pub record IsToldDone (old : WorldValue) (events : List Event) (replies : List Reply) (k p : ℕ) (told : Told) (edits : List Edit) : Type 0 where
+  pub it : IsAcknowledged old events replies k p told.number edits
+  pub cell : told.cell ≡ index_of old.sheet.layout.shape it.request.cell

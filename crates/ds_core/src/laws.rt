@@ -1,25 +1,31 @@
 //! What is true of each run, as functions that do nothing. `run` gives the run that they speak of.
 
-ghost use Rattle.std.specs.Prelude.{◌≡◌, ◌<◌, ◌≤◌, ◌+◌, ◌*◌, ℕ, List, length, Contains};
+ghost use Rattle.std.specs.Prelude.{◌≡◌, ◌<◌, ◌≤◌, ◌+◌, ◌*◌, ℕ, List, length, Contains, true, false};
 ghost use Rattle.ds_state.specs.Edits.{PlainEdit};
 ghost use Rattle.ds_state.specs.World.{Edit, World};
 ghost use Rattle.ds_state.specs.Fresh.{IsNew};
 ghost use Rattle.ds_state.specs.Value.{WorldValue, world_of, IsGood};
 ghost use Rattle.ds_state.specs.Sound.{IsSound};
 ghost use Rattle.ds_state.specs.declared.stage.Stage.TheVariants.{StoreHeader};
-ghost use Rattle.ds_state.specs.declared.situation.Situation.TheVariants.{Editing};
+ghost use Rattle.ds_state.specs.declared.situation.Situation.TheVariants.{Editing, Working};
 ghost use Rattle.ds_core.specs.declared.event.Event.{Event};
 ghost use Rattle.ds_core.specs.declared.event.Event.TheVariants.{Step};
 ghost use Rattle.ds_edit.specs.declared.answer.Other.{Other};
-ghost use Rattle.ds_edit.specs.declared.answer.Answer.TheVariants.{Done, Overtaken};
+ghost use Rattle.ds_edit.specs.declared.answer.Told.{Told};
+ghost use Rattle.ds_edit.specs.declared.answer.Answer.TheVariants.{Done, Overtaken, Last};
 ghost use Rattle.ds_core.specs.declared.reply.Reply.TheVariants.{Answered};
 ghost use Rattle.ds_core.specs.declared.reply.Reply.{Reply};
 ghost use Rattle.ds_core.specs.Takes.{Takes, WorldRun};
-ghost use Rattle.ds_core.specs.Headline.{Happens, AreUnresolved, RunFits, Headline, HasHeadline, IsAcknowledged};
+ghost use Rattle.ds_core.specs.Headline.{Happens, RunFits, Headline, HasHeadline, IsAcknowledged, IsToldDone};
 ghost use Rattle.ds_core.specs.Own.{own_steps, AreUnanswered};
 ghost use Rattle.ds_state.specs.Spent.{IsSpent};
 ghost use Rattle.ds_core.specs.Spent.{IsOut};
-ghost use Rattle.ds_core.specs.Solo.{IsSolo, AreDoneOnly};
+ghost use Rattle.ds_core.specs.Solo.{IsSolo, AreDoneOnly, IsLone, AreLoneReplies, StandsInOwnRow};
+ghost use Rattle.ds_state.specs.Works.{PlainWork};
+ghost use Rattle.ds_state.specs.Owing.{IsClean};
+ghost use Rattle.ds_state.specs.declared.work.WorkStage.TheVariants.{LoadMark};
+ghost use Rattle.ds_layout.specs.declared.place.Place.TheVariants.{Mark};
+ghost use Rattle.ds_work.specs.WorkAlone.{IsMarkedAt};
 
 /// An edit that is answered Overtaken does not count then and never will: its number is spent, and
 /// stays so.
@@ -51,17 +57,18 @@ pub fn solo_edits_are_done()
         → WorldRun old events replies new → IsSolo p events → AreDoneOnly e.number replies }
 {}
 
-/// The headline, for every list of events, those that can happen and those that can not, as long as
-/// no recovery has come to its answer: a ledger exists at each moment of the run, which each event moves as it may, with one list of the edits that
-/// count. At each moment no edit stands in it twice, each cell's words have the text of its last edit
-/// there, and where no edit is open and no cell is dirty or held they show the values of its sheet from
-/// scratch. An edit, once answered, stays in the list or stays out, through stops and crashes, and
-/// stands before each edit that is begun later. Detectable execution (Friedman, Herlihy, Marathe,
-/// Petrank, PPoPP 2018).
+/// The headline, for every list of events, those that can happen and those that can not: a ledger
+/// exists at each moment of the run, which each event moves as it may, with one list of the edits
+/// that count. At each moment no edit stands in it twice, each cell's words have the text of its last
+/// edit there, and where no edit is open and no cell is dirty or held they show the values of its
+/// sheet from scratch. A recovery's answer closes the edit in doubt as done just where it stands in
+/// the list. An edit, once closed, stays in the list or stays out, through stops and crashes, and
+/// stands before each edit that is begun later. Each report that is answered fits a moment of its
+/// call. Detectable execution (Friedman, Herlihy, Marathe, Petrank, PPoPP 2018).
 pub fn runs_have_the_headline()
     ensures { (old : WorldValue) (events : List Event) (replies : List Reply) (new : WorldValue)
         → IsNew (world_of old) → IsGood old → (run : WorldRun old events replies new)
-        → AreUnresolved replies → HasHeadline old events replies new run }
+        → HasHeadline old events replies new run }
 {}
 
 /// A run that fits has the headline: an edit, once closed, stays in the list of those that count or
@@ -82,6 +89,26 @@ pub fn acknowledged_edits_stand_once()
         → IsAcknowledged old events replies k p number new.counted }
 {}
 
+/// An edit that a recovery tells as done stands in the last list exactly once, with the cell and the
+/// text of its request, and the cell that is told is that one.
+#[tactic(auto, using(crate::proofs::Acknowledged::resolved_once))]
+pub fn edits_told_as_done_stand_once()
+    ensures { (old : WorldValue) (events : List Event) (replies : List Reply) (new : WorldValue)
+        (k p : ℕ) (told : Told) → Headline old events replies new
+        → Happens events replies k (Step p) (Answered (Last told)) → told.counts ≡ true
+        → IsToldDone old events replies k p told new.counted }
+{}
+
+/// An edit that a recovery tells as not done does not count then and never will: its number is
+/// spent, and stays so.
+pub fn edits_told_as_not_done_stay_out()
+    ensures { (old mid new : WorldValue) (events : List Event) (replies : List Reply)
+        (p : ℕ) (told : Told) → IsSound (world_of old)
+        → Takes old (Step p) (Answered (Last told)) mid → told.counts ≡ false
+        → WorldRun mid events replies new
+        → IsSpent (world_of new) p told.number × IsOut (world_of new) p told.number }
+{}
+
 /// An edit that is alone from its beginning on, but for evictions, and makes as many steps as an edit
 /// can need, is answered, and the answer is Done.
 #[tactic(auto, using(crate::proofs::Alone::solo_answered))]
@@ -92,4 +119,18 @@ pub fn solo_edits_are_answered()
         → WorldRun old events replies new → IsSolo p events
         → 67 + 3 * length e.refs ≤ own_steps p events replies
         → (k : ℕ) × Happens events replies k (Step p) (Answered (Done e.number)) }
+{}
+
+/// Work on a marked cell whose mark has generations left, which is alone from its beginning on, but
+/// for evictions and offers to it: it is answered Published, and its cell is clean then and at the
+/// end; or NoMemory; or Again, and then its cell's bit stands in the cell's own index row, since its
+/// text refers to it, or did.
+#[tactic(auto, using(crate::proofs::LoneWork::lone_publishes))]
+pub fn lone_works_publish()
+    ensures { (old : WorldValue) (events : List Event) (replies : List Reply) (new : WorldValue)
+        (p : ℕ) (e : PlainWork) → IsSound (world_of old) → p < old.sheet.layout.processes
+        → (world_of old).situation p ≡ Working e → e.stage ≡ LoadMark → IsMarkedAt (world_of old) e
+        → WorldRun old events replies new → IsLone p events
+        → AreLoneReplies (IsClean ((world_of new).memory.cached (Mark e.cell)))
+        (StandsInOwnRow (world_of old) e.cell) replies }
 {}

@@ -17,3 +17,4 @@ pub mod Ranks
 pub mod Answering
 pub mod Ors
 pub mod Turning
+pub mod WorkAlone

@@ -4,3 +4,4 @@ pub mod Reading
 pub mod WorkEvents
 pub mod WorkRank
 pub mod WorkAnswers
+pub mod WorkAlone

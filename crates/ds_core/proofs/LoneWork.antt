@@ -1,0 +1,238 @@
+-- Work that is alone publishes its value, or says why it does not.
+use Rattle.std.proofs.Common.{ℕ, ◌≡◌, ◌<◌, ◌/◌, ◌⊎◌, List, [], ◌∷◌, refl, ap, sym, ◌∙◌, subst, inl, inr}
+use Rattle.ds_layout.specs.declared.place.Place.TheVariants.{Mark, Index}
+use Rattle.ds_state.specs.Owing.{IsClean}
+use Rattle.ds_state.specs.Works.{PlainWork, PlainShow, PlainRecovery}
+use Rattle.ds_state.specs.Edits.{PlainEdit}
+use Rattle.ds_state.specs.Sound.{IsSound}
+use Rattle.ds_state.specs.Value.{WorldValue, world_of}
+use Rattle.ds_state.specs.declared.work.WorkEnd.{WorkEnd}
+use Rattle.ds_state.specs.declared.work.WorkEnd.TheVariants as ends
+use Rattle.ds_state.specs.declared.work.WorkStage.{WorkStage}
+use Rattle.ds_state.specs.declared.work.WorkStage.TheVariants.{LoadMark}
+use Rattle.ds_layout.specs.Bits.{HasBit}
+use Rattle.ds_state.specs.KnownWork.{WorkFits}
+use Rattle.ds_state.specs.Calls.{CallFits}
+use Rattle.ds_state.specs.declared.situation.Situation.{Situation}
+use Rattle.ds_state.specs.declared.situation.Situation.TheVariants.{Idle, Editing, Working, Recovering, Showing}
+use Rattle.ds_work.specs.WorkEvents as work_events
+use Rattle.ds_work.specs.declared.drive.Taken.{Taken}
+use Rattle.ds_work.specs.declared.drive.Taken.TheVariants as taken
+use Rattle.ds_work.specs.WorkAlone.{IsMarkedAt, IsAloneAt, IsAlone, EndsAlone, GoesAlone}
+use Rattle.ds_work.proofs.WorkAlone.{turn_alone, offer_alone, same_sees}
+use Rattle.ds_core.specs.Steps.{edits, works, reports, recoveries}
+use Rattle.ds_core.specs.Takes.{Takes, WorldRun}
+use Rattle.ds_core.specs.WorkEvents.{work_answer, work_reply, WorkStepsBy}
+use Rattle.ds_core.specs.Solo.{IsLoneEvent, IsLone, IsLoneAnswer, IsLoneReply, AreLoneReplies, StandsInOwnRow}
+use Rattle.ds_core.specs.declared.event.Event.{Event}
+use Rattle.ds_core.specs.declared.event.Event.TheVariants.{BeginEdit, BeginWork, BeginShow, BeginRecover, Step, Offer, Evict, Stop, Crash}
+use Rattle.ds_core.specs.declared.reply.Reply.{Reply}
+use Rattle.ds_core.specs.declared.reply.Reply.TheVariants.{Stepped, Answered, WrongTask, Evicted, NotEnabled}
+
+-- ---- it is over
+
+-- nothing is answered any more, and the marks stay
+record IsOver (P Q : Type 0) (p : ℕ) (reply : Reply) (old new : WorldValue) : Type 0 where
+  silent : IsLoneReply P Q reply
+  idle : (n : ℕ) → (world_of old).situation p ≡ Idle n → (world_of new).situation p ≡ Idle n
+  marks : (c : ℕ) → (world_of new).memory.cached (Mark c) ≡ (world_of old).memory.cached (Mark c)
+
+module _ (P Q : Type 0) (p n : ℕ) (old new : WorldValue) (idle : (world_of old).situation p ≡ Idle n) where
+  nothing : (reply : Reply) → IsLoneReply P Q reply → new ≡ old → IsOver P Q p reply old new
+  nothing reply silent same = subst (λ (v : WorldValue). IsOver P Q p reply old v) (sym same) (record { silent = silent; idle = λ k is. is; marks = λ c. refl })
+
+  idle_at : (q : ℕ) → q ≡ p → (world_of old).situation q ≡ Idle n
+  idle_at q same = ap (λ x. (world_of old).situation x) same ∙ idle
+
+  over : (event : Event) (reply : Reply) → Takes old event reply new → IsLoneEvent p event → IsOver P Q p reply old new
+  over (Step q) Stepped (edits h) same = absurd (let bad : Idle n ≡ Editing h.edit = sym (idle_at q same) ∙ h.at in cc)
+  over (Step q) Stepped (works h) same = absurd (let bad : Idle n ≡ Working h.steps.work = sym (idle_at q same) ∙ h.steps.works in cc)
+  over (Step q) Stepped (reports h) same = absurd (let bad : Idle n ≡ Showing h.steps.show = sym (idle_at q same) ∙ h.steps.at in cc)
+  over (Step q) Stepped (recoveries h) same = absurd (let bad : Idle n ≡ Recovering h.steps.recovery = sym (idle_at q same) ∙ h.steps.at in cc)
+  over (Step q) (Answered answer) (edits h) same = absurd (let bad : Idle n ≡ Editing h.edit = sym (idle_at q same) ∙ h.at in cc)
+  over (Step q) (Answered answer) (works h) same = absurd (let bad : Idle n ≡ Working h.steps.work = sym (idle_at q same) ∙ h.steps.works in cc)
+  over (Step q) (Answered answer) (reports h) same = absurd (let bad : Idle n ≡ Showing h.steps.show = sym (idle_at q same) ∙ h.steps.at in cc)
+  over (Step q) (Answered answer) (recoveries h) same = absurd (let bad : Idle n ≡ Recovering h.steps.recovery = sym (idle_at q same) ∙ h.steps.at in cc)
+  over (Step q) NotEnabled h same = nothing NotEnabled tt h.same
+  over (Step q) _ h same = absurd h
+  over (Evict r) Evicted h same = record { silent = tt; idle = λ k is. h.evicts.situation p ∙ is; marks = λ c. h.evicts.memory.cached (Mark c) }
+  over (Evict r) NotEnabled h same = nothing NotEnabled tt h.same
+  over (Evict r) _ h same = absurd h
+  over (Offer value) Stepped h same = absurd (let bad : Idle n ≡ Working h.offered.work = sym (idle_at value.task.process same) ∙ h.offered.waits.works in cc)
+  over (Offer value) WrongTask h same = nothing WrongTask tt h.same
+  over (Offer value) _ h same = absurd h
+  over (BeginEdit r) reply h same = absurd same
+  over (BeginWork q cell) reply h same = absurd same
+  over (BeginShow q) reply h same = absurd same
+  over (BeginRecover q) reply h same = absurd same
+  over (Stop q) reply h same = absurd same
+  over Crash reply h same = absurd same
+
+rest : (P Q : Type 0) (events : List Event) (replies : List Reply) (old new : WorldValue) (p n : ℕ) → (world_of old).situation p ≡ Idle n → WorldRun old events replies new → IsLone p events
+    → AreLoneReplies P Q replies × ((c : ℕ) → (world_of new).memory.cached (Mark c) ≡ (world_of old).memory.cached (Mark c))
+rest P Q [] [] old new p n idle run lone = (tt, λ c. ap (λ (v : WorldValue). (world_of v).memory.cached (Mark c)) run)
+rest P Q (event ∷ events) (reply ∷ replies) old new p n idle run lone =
+    let one = over P Q p n old run.0 idle event reply run.1.takes lone.0 in
+    let more = rest P Q events replies run.0 new p n (one.idle n idle) run.2 lone.1 in
+    ((one.silent, more.0), λ c. more.1 c ∙ one.marks c)
+rest P Q [] (reply ∷ replies) old new p n idle run lone = absurd run
+rest P Q (event ∷ events) [] old new p n idle run lone = absurd run
+
+-- ---- it is under way
+
+record IsUnderway (row : ℕ → ℕ) (p cell : ℕ) (v : WorldValue) : Type 0 where
+  work : PlainWork
+  mine : work.process ≡ p
+  of_cell : work.cell ≡ cell
+  at : (world_of v).situation p ≡ Working work
+  alone : IsAlone row (world_of v) work
+
+module _ (row : ℕ → ℕ) (p cell : ℕ) (old new : WorldValue) (sound : IsSound (world_of old)) (u : IsUnderway row p cell old) where
+  same_work : (q : ℕ) (f : PlainWork) → q ≡ p → (world_of old).situation q ≡ Working f → f ≡ u.work
+  same_work q f same is = let one : Working f ≡ Working u.work = sym is ∙ ap (λ x. (world_of old).situation x) same ∙ u.at in cc
+
+  no_edit : (q : ℕ) (f : PlainEdit) → q ≡ p → (world_of old).situation q ≡ Editing f → ⊥
+  no_edit q f same is = let bad : Editing f ≡ Working u.work = sym is ∙ ap (λ x. (world_of old).situation x) same ∙ u.at in cc
+
+  no_report : (q : ℕ) (f : PlainShow) → q ≡ p → (world_of old).situation q ≡ Showing f → ⊥
+  no_report q f same is = let bad : Showing f ≡ Working u.work = sym is ∙ ap (λ x. (world_of old).situation x) same ∙ u.at in cc
+
+  no_recovery : (q : ℕ) (f : PlainRecovery) → q ≡ p → (world_of old).situation q ≡ Recovering f → ⊥
+  no_recovery q f same is = let bad : Recovering f ≡ Working u.work = sym is ∙ ap (λ x. (world_of old).situation x) same ∙ u.at in cc
+
+  goes : (e : PlainWork) → e ≡ u.work → GoesAlone row e (world_of new) taken.Stepped → IsUnderway row p cell new
+  goes e same g =
+      let mine : e.process ≡ p = ap (λ (x : PlainWork). x.process) same ∙ u.mine in
+      record { work = g.0; mine = g.2 ∙ mine; of_cell = g.1 ∙ ap (λ (x : PlainWork). x.cell) same ∙ u.of_cell; at = ap (λ x. (world_of new).situation x) (sym mine) ∙ g.3; alone = g.4 }
+
+  turns : (q : ℕ) (reply : Reply) → q ≡ p → (h : WorkStepsBy old q reply new) → GoesAlone row h.steps.work (world_of new) h.what
+  turns q reply same h =
+      let e : PlainWork = h.steps.work in
+      let one = same_work q e same h.steps.works in
+      turn_alone row e (world_of old) (world_of new) sound (rw h.steps.mine h.steps.inside) (ap (λ x. (world_of old).situation x) h.steps.mine ∙ h.steps.works) h.steps.is
+      (subst (λ (x : PlainWork). IsAlone row (world_of old) x) (sym one) u.alone) h.what h.steps.turn
+
+  stays : new ≡ old → IsUnderway row p cell new
+  stays same = subst (λ (v : WorldValue). IsUnderway row p cell v) (sym same) u
+
+-- what comes of one event: it goes on, and nothing is answered; or it is answered, and is over
+record Goes (P Q : Type 0) (row : ℕ → ℕ) (p cell : ℕ) (reply : Reply) (new : WorldValue) : Type 0 where
+  silent : IsLoneReply P Q reply
+  on : IsUnderway row p cell new
+
+record Ends (row : ℕ → ℕ) (p cell : ℕ) (reply : Reply) (new : WorldValue) : Type 0 where
+  end : WorkEnd
+  is : reply ≡ Answered (work_answer end)
+  work : PlainWork
+  of_cell : work.cell ≡ cell
+  so : EndsAlone row (world_of new) work end
+  n : ℕ
+  idle : (world_of new).situation p ≡ Idle n
+
+module _ (P Q : Type 0) (row : ℕ → ℕ) (p cell : ℕ) (old new : WorldValue) (sound : IsSound (world_of old)) (u : IsUnderway row p cell old) where
+  by_work : (q : ℕ) (reply : Reply) → q ≡ p → (h : WorkStepsBy old q reply new) → Goes P Q row p cell reply new ⊎ Ends row p cell reply new
+  by_work q reply same h = by h.what refl h.is (turns row p cell old new sound u q reply same h)
+    where
+      one : h.steps.work ≡ u.work
+      one = same_work row p cell old new sound u q h.steps.work same h.steps.works
+
+      none : (what : Taken) → what ≡ taken.NotEnabled → work_events.TakesTurn h.steps.work (world_of old) (world_of new) what → ⊥
+      none what is (work_events.steps word t on) = cc
+      none what is (work_events.reads content inputs at t) = cc
+      none what is (work_events.lacked at t) = cc
+      none what is (work_events.answers end at t) = cc
+
+      by : (what : Taken) → h.what ≡ what → reply ≡ work_reply h.what → GoesAlone row h.steps.work (world_of new) h.what → Goes P Q row p cell reply new ⊎ Ends row p cell reply new
+      by taken.NotEnabled at is g = absurd (none h.what at h.steps.turn)
+      by taken.Stepped at is g = inl (record { silent = subst (λ (r : Reply). IsLoneReply P Q r) (sym (is ∙ ap work_reply at)) tt; on = goes row p cell old new sound u h.steps.work one (subst (λ (x : Taken). GoesAlone row h.steps.work (world_of new) x) at g) })
+      by (taken.Answered end) at is g =
+          let k = subst (λ (x : Taken). GoesAlone row h.steps.work (world_of new) x) at g in
+          inr (record {
+            end = end;
+            is = is ∙ ap work_reply at;
+            work = h.steps.work;
+            of_cell = ap (λ (x : PlainWork). x.cell) one ∙ u.of_cell;
+            so = k.1;
+            n = h.steps.work.next;
+            idle = ap (λ x. (world_of new).situation x) (sym same ∙ sym h.steps.mine) ∙ k.0;
+          })
+
+  still : (reply : Reply) → IsLoneReply P Q reply → new ≡ old → Goes P Q row p cell reply new ⊎ Ends row p cell reply new
+  still reply silent same = inl (record { silent = silent; on = stays row p cell old new sound u same })
+
+  event_goes : (event : Event) (reply : Reply) → Takes old event reply new → IsLoneEvent p event → Goes P Q row p cell reply new ⊎ Ends row p cell reply new
+  event_goes (Step q) Stepped (edits h) same = absurd (no_edit row p cell old new sound u q h.edit same h.at)
+  event_goes (Step q) Stepped (works h) same = by_work q Stepped same h
+  event_goes (Step q) Stepped (reports h) same = absurd (no_report row p cell old new sound u q h.steps.show same h.steps.at)
+  event_goes (Step q) Stepped (recoveries h) same = absurd (no_recovery row p cell old new sound u q h.steps.recovery same h.steps.at)
+  event_goes (Step q) (Answered answer) (edits h) same = absurd (no_edit row p cell old new sound u q h.edit same h.at)
+  event_goes (Step q) (Answered answer) (works h) same = by_work q (Answered answer) same h
+  event_goes (Step q) (Answered answer) (reports h) same = absurd (no_report row p cell old new sound u q h.steps.show same h.steps.at)
+  event_goes (Step q) (Answered answer) (recoveries h) same = absurd (no_recovery row p cell old new sound u q h.steps.recovery same h.steps.at)
+  event_goes (Step q) NotEnabled h same = still NotEnabled tt h.same
+  event_goes (Step q) _ h same = absurd h
+  event_goes (Evict r) Evicted h same = inl (record {
+    silent = tt;
+    on = record {
+      work = u.work;
+      mine = u.mine;
+      of_cell = u.of_cell;
+      at = h.evicts.situation p ∙ u.at;
+      alone = same_sees row (world_of old) (world_of new) u.work (h.evicts.memory.cached (Mark u.work.cell)) (λ part. h.evicts.memory.cached (Index u.work.cell part)) u.alone;
+    };
+  })
+  event_goes (Evict r) NotEnabled h same = still NotEnabled tt h.same
+  event_goes (Evict r) _ h same = absurd h
+  event_goes (Offer value) Stepped h same =
+      let o = h.offered in
+      let one = same_work row p cell old new sound u value.task.process o.work same o.waits.works in
+      inl (record {
+        silent = tt;
+        on = goes row p cell old new sound u o.work one
+            (offer_alone row o.work (world_of old) (world_of new) (subst (λ (x : PlainWork). IsAlone row (world_of old) x) (sym one) u.alone) value.entry o.waits.waits o.offers.turn);
+      })
+  event_goes (Offer value) WrongTask h same = still WrongTask tt h.same
+  event_goes (Offer value) _ h same = absurd h
+  event_goes (BeginEdit r) reply h same = absurd same
+  event_goes (BeginWork q c) reply h same = absurd same
+  event_goes (BeginShow q) reply h same = absurd same
+  event_goes (BeginRecover q) reply h same = absurd same
+  event_goes (Stop q) reply h same = absurd same
+  event_goes Crash reply h same = absurd same
+
+-- ---- over a run
+
+marks_on : (row : ℕ → ℕ) (Own : Type 0) (cell : ℕ) (v new : WorldValue) (work : PlainWork) (end : WorkEnd) → work.cell ≡ cell → (OwnBit : (HasBit (row (work.cell / 64)) work.cell → Own))
+    → (world_of new).memory.cached (Mark cell) ≡ (world_of v).memory.cached (Mark cell) → EndsAlone row (world_of v) work end → IsLoneAnswer (IsClean ((world_of new).memory.cached (Mark cell))) Own (work_answer end)
+marks_on row Own cell v new work ends.NotDirty of_cell own same so = absurd so
+marks_on row Own cell v new work ends.Missed of_cell own same so = absurd so
+marks_on row Own cell v new work ends.Worn of_cell own same so = absurd so
+marks_on row Own cell v new work (ends.Published changed) of_cell own same so = subst IsClean (ap (λ c. (world_of v).memory.cached (Mark c)) of_cell ∙ sym same) so
+marks_on row Own cell v new work ends.Again of_cell own same so = own so
+marks_on row Own cell v new work ends.NoMemory of_cell own same so = tt
+
+lone_run : (row : ℕ → ℕ) (Own : Type 0) (p cell : ℕ) → (HasBit (row (cell / 64)) cell → Own) → (events : List Event) (replies : List Reply) (old new : WorldValue) → IsSound (world_of old) → IsUnderway row p cell old → WorldRun old events replies new → IsLone p events
+    → AreLoneReplies (IsClean ((world_of new).memory.cached (Mark cell))) Own replies
+lone_run row Own p cell own [] [] old new sound u run lone = tt
+lone_run row Own p cell own (event ∷ events) (reply ∷ replies) old new sound u run lone =
+    elim (event_goes (IsClean ((world_of new).memory.cached (Mark cell))) Own row p cell old run.0 sound u event reply run.1.takes lone.0) [
+      | inl on ↦ (on.silent, lone_run row Own p cell own events replies run.0 new run.1.good.sound on.on run.2 lone.1)
+      | inr end ↦ (
+          let more = rest (IsClean ((world_of new).memory.cached (Mark cell))) Own events replies run.0 new p end.n end.idle run.2 lone.1 in
+          let answer = marks_on row Own cell run.0 new end.work end.end end.of_cell (λ bit. own (subst (λ c. HasBit (row (c / 64)) c) end.of_cell bit)) (more.1 cell) end.so in
+          (subst (λ (r : Reply). IsLoneReply (IsClean ((world_of new).memory.cached (Mark cell))) Own r) (sym end.is) answer, more.0))
+    ]
+lone_run row Own p cell own [] (reply ∷ replies) old new sound u run lone = absurd run
+lone_run row Own p cell own (event ∷ events) [] old new sound u run lone = absurd run
+
+pub lone_publishes : (old : WorldValue) (events : List Event) (replies : List Reply) (new : WorldValue) (p : ℕ) (e : PlainWork) → IsSound (world_of old) → p < old.sheet.layout.processes → (world_of old).situation p ≡ Working e → e.stage ≡ LoadMark → IsMarkedAt (world_of old) e
+    → WorldRun old events replies new → IsLone p events → AreLoneReplies (IsClean ((world_of new).memory.cached (Mark e.cell))) (StandsInOwnRow (world_of old) e.cell) replies
+lone_publishes old events replies new p e sound low at first marked run lone =
+    let fits : WorkFits (world_of old) p e = subst (λ (x : Situation). CallFits (world_of old) p x) at (sound.calls p low) in
+    lone_run (λ part. (world_of old).memory.cached (Index e.cell part)) (StandsInOwnRow (world_of old) e.cell) p e.cell (λ bit. bit) events replies old new sound (record {
+      work = e;
+      mine = fits.mine;
+      of_cell = refl;
+      at = at;
+      alone = record { at = subst (λ (s : WorkStage). IsAloneAt (λ part. (world_of old).memory.cached (Index e.cell part)) (world_of old) e s) (sym first) marked; index = λ part. refl };
+    }) run lone

@@ -1,0 +1,102 @@
+-- An edit that a recovery tells as not done never counts.
+use Rattle.std.proofs.Common.{ℕ, ◌≡◌, ◌<◌, List, refl, ap, sym, ◌∙◌, subst, arith, Bool, true, false, Some, None}
+use Rattle.std.specs.Prelude.{Option, Contains}
+use Rattle.ds_words.specs.Memory.{SameMemory}
+use Rattle.ds_layout.specs.declared.announcement.Phase.TheVariants as phase
+use Rattle.ds_layout.specs.declared.place.Place.TheVariants.{Announce}
+use Rattle.ds_layout.specs.Sheet.{PerformsAt}
+use Rattle.ds_state.specs.World.{Edit, phase_among}
+use Rattle.ds_state.specs.Works.{PlainRecovery}
+use Rattle.ds_state.specs.Calls.{RecoveryFits}
+use Rattle.ds_state.specs.KnownRecovery.{ResolvedFits, resolved_at, over}
+use Rattle.ds_state.specs.Sound.{IsSound}
+use Rattle.ds_state.specs.Spent.{IsSpent}
+use Rattle.ds_state.specs.Value.{WorldValue, world_of}
+use Rattle.ds_state.specs.declared.situation.Situation.TheVariants.{Recovering}
+use Rattle.ds_state.specs.declared.stage.Outcome.{Outcome}
+use Rattle.ds_state.specs.declared.stage.Outcome.TheVariants as outcome
+use Rattle.ds_state.specs.declared.work.RecoverStage.{RecoverStage}
+use Rattle.ds_state.specs.declared.work.RecoverStage.TheVariants as stages
+use Rattle.ds_state.specs.declared.work.ShowEnd.TheVariants as ends
+use Rattle.ds_state.specs.declared.work.WorkEnd.TheVariants as work_ends
+use Rattle.ds_edit.specs.Endings.{answer_of, outcome_at}
+use Rattle.ds_edit.specs.declared.answer.Told.{Told}
+use Rattle.ds_edit.specs.declared.answer.Answer.TheVariants.{Last}
+use Rattle.ds_show.specs.declared.machine.Effect.{Effect}
+use Rattle.ds_show.specs.declared.machine.Effect.TheVariants as effects
+use Rattle.ds_work.specs.declared.drive.Taken.{Taken}
+use Rattle.ds_work.specs.declared.drive.Taken.TheVariants as taken
+use Rattle.ds_recover.specs.RecoverySteps.{number_of, end_of, access_at}
+use Rattle.ds_recover.proofs.RecoveryLaws.{fits_of, repeated}
+use Rattle.ds_core.specs.RecoveryEvents.{recovery_answer, recovery_reply, RecoveryStepsBy}
+use Rattle.ds_core.specs.ReportEvents.{report_reply}
+use Rattle.ds_core.specs.WorkEvents.{work_reply}
+use Rattle.ds_core.specs.Spent.{IsOut}
+use Rattle.ds_core.specs.Steps.{edits, works, reports, recoveries}
+use Rattle.ds_core.specs.Takes.{Takes, WorldRun}
+use Rattle.ds_core.specs.declared.event.Event.{Event}
+use Rattle.ds_core.specs.declared.event.Event.TheVariants.{Step}
+use Rattle.ds_core.specs.declared.reply.Reply.{Reply}
+use Rattle.ds_core.specs.declared.reply.Reply.TheVariants.{Answered}
+use Rattle.ds_core.proofs.Resolved.{at_answer, counted_done}
+use Rattle.ds_core.proofs.Solo.{some_outcome}
+use Rattle.ds_core.proofs.Spent.{stays_out}
+use Rattle.ds_core.proofs.Turns.{recovery_turn}
+
+edit_not_last : (processes number : ℕ) (told : Told) (how : Outcome) → Last told ≡ answer_of processes number how → ⊥
+edit_not_last processes number told outcome.Done is = absurd (cc)
+edit_not_last processes number told (outcome.Overtaken noted seen) is = absurd (cc)
+
+report_not_last : (what : Effect) (told : Told) → Answered (Last told) ≡ report_reply what → ⊥
+report_not_last effects.GoesOn told is = absurd (cc)
+report_not_last (effects.Answers ends.Settled) told is = absurd (cc)
+report_not_last (effects.Answers (ends.AtMark cell word)) told is = absurd (cc)
+report_not_last (effects.Answers (ends.AtAnnounce process word)) told is = absurd (cc)
+
+work_not_last : (what : Taken) (told : Told) → Answered (Last told) ≡ work_reply what → ⊥
+work_not_last taken.NotEnabled told is = absurd (cc)
+work_not_last taken.Stepped told is = absurd (cc)
+work_not_last (taken.Answered work_ends.NotDirty) told is = absurd (cc)
+work_not_last (taken.Answered work_ends.Missed) told is = absurd (cc)
+work_not_last (taken.Answered work_ends.Worn) told is = absurd (cc)
+work_not_last (taken.Answered (work_ends.Published changed)) told is = absurd (cc)
+work_not_last (taken.Answered work_ends.Again) told is = absurd (cc)
+work_not_last (taken.Answered work_ends.NoMemory) told is = absurd (cc)
+
+-- how a recovery ended that tells so
+told_how : (e : PlainRecovery) (how : Option Bool) (told : Told) → Last told ≡ recovery_answer (end_of e how) → told.counts ≡ false → (how ≡ Some false) × (told.number ≡ number_of e)
+told_how e None told is not = absurd (cc)
+told_how e (Some true) told is not = absurd (let same : told ≡ record { number = number_of e; cell = e.cell; counts = true } = cc in let bad : false ≡ true = sym not ∙ ap (λ (t : Told). t.counts) same in cc)
+told_how e (Some false) told is not = (refl, (let same : told ≡ record { number = number_of e; cell = e.cell; counts = false } = cc in ap (λ (t : Told). t.number) same))
+
+pub resolved_out : (old mid : WorldValue) (p : ℕ) (told : Told) → IsSound (world_of old) → RecoveryStepsBy old p (Answered (Last told)) mid → told.counts ≡ false → IsSpent (world_of mid) p told.number × IsOut (world_of mid) p told.number
+resolved_out old mid p told sound s not =
+    let e : PlainRecovery = s.steps.recovery in
+    let found = at_answer e e.stage (Last told) (s.is ∙ ap recovery_reply s.steps.is) in
+    let how = told_how e found.how told found.is not in
+    let at : e.stage ≡ stages.Answer (Some false) = found.at ∙ ap (λ x. stages.Answer x) how.0 in
+    let low : e.process < old.sheet.layout.processes = rw s.steps.mine s.steps.there in
+    let here : (world_of old).situation e.process ≡ Recovering e = ap (λ q. (world_of old).situation q) s.steps.mine ∙ s.steps.at in
+    let fits : RecoveryFits (world_of old) e.process e = fits_of e (world_of old) sound low here in
+    let r : ResolvedFits (world_of old) e.process e.announcement e.cell (over (Some false)) = subst (λ (x : RecoverStage). ResolvedFits (world_of old) e.process e.announcement e.cell (resolved_at x)) at fits.resolved in
+    let same : SameMemory (world_of old).memory (world_of mid).memory = (subst (λ (x : RecoverStage). PerformsAt (access_at e x) e.process (world_of old).memory (world_of mid).memory s.steps.word) at s.steps.steps.memory).1 in
+    let lost : phase_among old.counted e.process (number_of e) ≡ phase.NotDone = (repeated e (Some false) (world_of old) sound low here at).1 in
+    let number : told.number ≡ number_of e = how.1 in
+    let mine : e.process ≡ p = s.steps.mine in
+    let persisted : (world_of mid).memory.persisted (Announce p) ≡ e.announcement = same.persisted (Announce p) ∙ ap (λ q. (world_of old).memory.persisted (Announce q)) (sym mine) ∙ r.1 in
+    let word = r.2.is in (
+      omega arith,
+      (λ f there its is.
+          let done = counted_done old.counted f (subst (λ (es : List Edit). Contains es f) s.steps.steps.counted there) in
+          let bad : phase.Done ≡ phase.NotDone = sym done ∙ ap (λ q. phase_among old.counted q f.number) (its ∙ sym mine) ∙ ap (λ n. phase_among old.counted e.process n) (is ∙ number) ∙ lost in
+          cc),
+    )
+
+pub told_not_done_never : (old mid new : WorldValue) (events : List Event) (replies : List Reply) (p : ℕ) (told : Told) → IsSound (world_of old) → Takes old (Step p) (Answered (Last told)) mid → told.counts ≡ false
+    → WorldRun mid events replies new → IsSpent (world_of new) p told.number × IsOut (world_of new) p told.number
+told_not_done_never old mid new events replies p told sound (recoveries s) not run =
+    let o = resolved_out old mid p told sound s not in
+    stays_out events replies mid new p told.number (recovery_turn old mid p (Answered (Last told)) sound s).keeps.sound o.0 o.1 run
+told_not_done_never old mid new events replies p told sound (edits s) not run = absurd (let found = some_outcome old.sheet.layout.processes s.edit.number (Last told) (outcome_at s.edit.stage) s.is in edit_not_last old.sheet.layout.processes s.edit.number told found.0 found.2)
+told_not_done_never old mid new events replies p told sound (works s) not run = absurd (work_not_last s.what told s.is)
+told_not_done_never old mid new events replies p told sound (reports s) not run = absurd (report_not_last s.what told s.is)

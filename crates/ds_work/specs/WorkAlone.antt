@@ -1,0 +1,84 @@
+-- Work that is alone: what it sees of its cell's mark. `row` has the words of its cell's index row.
+use Rattle.std.specs.Prelude.{ℕ, ◌≡◌, ◌<◌, ◌≤◌, ◌⊎◌, ◌+◌, ◌/◌, length, slice_index_or}
+use Rattle.ds_layout.specs.Bits.{HasBit}
+use Rattle.ds_layout.specs.declared.place.Place.TheVariants as place
+use Rattle.ds_layout.specs.declared.mark.State.TheVariants.{Marked}
+use Rattle.ds_state.specs.Works.{PlainWork, SEEN_MOST}
+use Rattle.ds_state.specs.World.{World}
+use Rattle.ds_state.specs.Owing.{IsClean}
+use Rattle.ds_state.specs.declared.work.WorkEnd.{WorkEnd}
+use Rattle.ds_state.specs.declared.work.WorkEnd.TheVariants.{NotDirty, Missed, Worn, Published, Again, NoMemory}
+use Rattle.ds_state.specs.declared.work.WorkStage.{WorkStage}
+use Rattle.ds_state.specs.declared.work.WorkStage.TheVariants.{LoadMark, Claim, FlushClaim, BackClaim, LoadHead, LoadHeader, LoadText, Read, LoadValue, LoadKind, LoadOwnValue, LoadOwnKind, Wait, StoreValue, StoreKind, FlushValue, FlushKind, BackValue, BackKind, Telling, Clear, ClearDirty, Give, GiveDirty, FlushCleared, BackCleared, Answer}
+use Rattle.ds_state.specs.declared.situation.Situation.TheVariants.{Idle, Working}
+use Rattle.ds_work.specs.declared.drive.Taken.{Taken}
+use Rattle.ds_work.specs.declared.drive.Taken.TheVariants.{NotEnabled, Stepped, Answered}
+use Rattle.ds_work.specs.WorkAnswers.{mark_now, state_now}
+
+-- the cell is marked, and its mark has generations left
+pub record IsMarkedAt (w : World) (e : PlainWork) : Type 0 where
+  pub marked : state_now w e ≡ Marked
+  pub young : mark_now w e / 32 ≤ SEEN_MOST
+
+-- the cell stands in its own row: its text refers to it, or did
+abbrev pub RefersToItself : (ℕ → ℕ) → PlainWork → Type 0
+RefersToItself row e = HasBit (row (e.cell / 64)) e.cell
+
+-- the work ends with its value published, and the cell clean; or for want of memory; or, where it marked its own cell,
+-- with that cell dirty
+abbrev pub EndsAlone : (ℕ → ℕ) → World → PlainWork → WorkEnd → Type 0
+EndsAlone row w e NotDirty = ⊥
+EndsAlone row w e Missed = ⊥
+EndsAlone row w e Worn = ⊥
+EndsAlone row w e (Published changed) = IsClean (mark_now w e)
+EndsAlone row w e Again = RefersToItself row e
+EndsAlone row w e NoMemory = Unit {0}
+
+-- the mark is the one that it noted; or it has marked its own cell since
+abbrev pub MarkStays : (ℕ → ℕ) → World → PlainWork → Type 0
+MarkStays row w e = (mark_now w e ≡ e.mark) ⊎ ((mark_now w e ≡ e.mark + 1) × RefersToItself row e)
+
+-- the words that it has loaded are the row's
+abbrev pub IsRow : (ℕ → ℕ) → PlainWork → Type 0
+IsRow row e = (part : ℕ) → part < length e.row → slice_index_or e.row part 0 ≡ row part
+
+-- what it sees at a stage
+abbrev pub IsAloneAt : (ℕ → ℕ) → World → PlainWork → WorkStage → Type 0
+IsAloneAt row w e LoadMark = IsMarkedAt w e
+IsAloneAt row w e Claim = mark_now w e ≡ e.mark
+IsAloneAt row w e FlushClaim = mark_now w e ≡ e.mark
+IsAloneAt row w e BackClaim = mark_now w e ≡ e.mark
+IsAloneAt row w e LoadHead = mark_now w e ≡ e.mark
+IsAloneAt row w e LoadHeader = mark_now w e ≡ e.mark
+IsAloneAt row w e (LoadText part) = mark_now w e ≡ e.mark
+IsAloneAt row w e Read = mark_now w e ≡ e.mark
+IsAloneAt row w e (LoadValue i) = mark_now w e ≡ e.mark
+IsAloneAt row w e (LoadKind i value) = mark_now w e ≡ e.mark
+IsAloneAt row w e LoadOwnValue = mark_now w e ≡ e.mark
+IsAloneAt row w e LoadOwnKind = mark_now w e ≡ e.mark
+IsAloneAt row w e Wait = mark_now w e ≡ e.mark
+IsAloneAt row w e StoreValue = mark_now w e ≡ e.mark
+IsAloneAt row w e StoreKind = mark_now w e ≡ e.mark
+IsAloneAt row w e FlushValue = mark_now w e ≡ e.mark
+IsAloneAt row w e FlushKind = mark_now w e ≡ e.mark
+IsAloneAt row w e BackValue = mark_now w e ≡ e.mark
+IsAloneAt row w e BackKind = mark_now w e ≡ e.mark
+IsAloneAt row w e (Telling spread) = MarkStays row w e × IsRow row e
+IsAloneAt row w e (Clear changed) = MarkStays row w e
+IsAloneAt row w e ClearDirty = RefersToItself row e
+IsAloneAt row w e Give = mark_now w e ≡ e.mark
+IsAloneAt row w e GiveDirty = ⊥
+IsAloneAt row w e (FlushCleared end) = EndsAlone row w e end
+IsAloneAt row w e (BackCleared end) = EndsAlone row w e end
+IsAloneAt row w e (Answer end) = EndsAlone row w e end
+
+-- so of the work at its own stage, in a world with that row
+pub record IsAlone (row : ℕ → ℕ) (w : World) (e : PlainWork) : Type 0 where
+  pub at : IsAloneAt row w e e.stage
+  pub index : (part : ℕ) → w.memory.cached (place.Index e.cell part) ≡ row part
+
+-- what a turn of it leaves: it goes on alone, or it has ended so
+abbrev pub GoesAlone : (ℕ → ℕ) → PlainWork → World → Taken → Type 0
+GoesAlone row e w NotEnabled = Unit {0}
+GoesAlone row e w Stepped = (f : PlainWork) × (f.cell ≡ e.cell) × (f.process ≡ e.process) × (w.situation e.process ≡ Working f) × IsAlone row w f
+GoesAlone row e w (Answered end) = (w.situation e.process ≡ Idle e.next) × EndsAlone row w e end
