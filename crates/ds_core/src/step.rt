@@ -171,7 +171,13 @@ fn recovery_reply(what: ds_recover::machine::Effect) -> Reply
         ds_recover::machine::Effect::Answers(RecoveryEnd::Nothing) => Reply::Answered(
             Answer::Nothing,
         ),
-        ds_recover::machine::Effect::Answers(RecoveryEnd::Last(number, cell, counts)) => {
+        ds_recover::machine::Effect::Answers(
+            RecoveryEnd::Last {
+                number,
+                cell,
+                counts,
+            },
+        ) => {
             Reply::Answered(Answer::Last(Told {
                 number,
                 cell,

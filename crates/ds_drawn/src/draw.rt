@@ -61,7 +61,11 @@ impl Draw {
             4 => Place::Index(cell, 0),
             5 => Place::Announce(process),
             6 => Place::Header(process, number),
-            7 => Place::Text(process, number, self.below(3)),
+            7 => Place::Text {
+                process,
+                number,
+                part: self.below(3),
+            },
             8 => Place::Done(process, 0),
             9 => Place::Head(0),
             _ => Place::Mark(0),

@@ -82,7 +82,9 @@ impl Answer {
     {
         match how {
             Outcome::Done => Answer::Done(number),
-            Outcome::Overtaken(_, seen) => Answer::Overtaken(number, Other::of(seen, processes)),
+            Outcome::Overtaken { noted: _, seen } => {
+                Answer::Overtaken(number, Other::of(seen, processes))
+            }
         }
     }
 }

@@ -40,7 +40,11 @@ fn header(call: &EditCall) -> Place
 fn text(call: &EditCall, part: usize) -> Place
     ensures { result ≡ text_place call.now part }
 {
-    Place::Text(call.process, call.number, part)
+    Place::Text {
+        process: call.process,
+        number: call.number,
+        part,
+    }
 }
 
 fn index(call: &EditCall, i: usize) -> Place
@@ -82,7 +86,7 @@ fn phase_of(outcome: Outcome) -> Phase
 {
     match outcome {
         Outcome::Done => Phase::Done,
-        Outcome::Overtaken(_, _) => Phase::NotDone,
+        Outcome::Overtaken { noted: _, seen: _ } => Phase::NotDone,
     }
 }
 
@@ -183,7 +187,7 @@ fn swung_from(call: &EditCall, noted: u64, seen: u64) -> Stage
     if seen == noted {
         Stage::FlushOwn(head_after(call, noted))
     } else {
-        Stage::StoreOutcome(Outcome::Overtaken(noted, seen))
+        Stage::StoreOutcome(Outcome::Overtaken { noted, seen })
     }
 }
 

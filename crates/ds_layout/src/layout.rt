@@ -122,9 +122,11 @@ impl Layout {
             Place::Index(row, part) => starts.index + (row * self.row_parts() + part),
             Place::Announce(process) => starts.announcements + process,
             Place::Header(process, number) => starts.headers + (process * RECORDS + number),
-            Place::Text(process, number, part) => {
-                starts.texts + ((process * RECORDS + number) * TEXT_PARTS + part)
-            }
+            Place::Text {
+                process,
+                number,
+                part,
+            } => { starts.texts + ((process * RECORDS + number) * TEXT_PARTS + part) }
             Place::Done(process, part) => starts.done + (process * DONE_PARTS + part),
         }
     }
@@ -164,7 +166,11 @@ impl Layout {
         if number < starts.done {
             let at = number - starts.texts;
             let record = at / TEXT_PARTS;
-            return Place::Text(record / RECORDS, record % RECORDS, at % TEXT_PARTS);
+            return Place::Text {
+                process: record / RECORDS,
+                number: record % RECORDS,
+                part: at % TEXT_PARTS,
+            };
         }
         let at = number - starts.done;
         Place::Done(at / DONE_PARTS, at % DONE_PARTS)
@@ -185,9 +191,11 @@ impl Layout {
             Place::Index(row, part) => row < cells && part < self.row_parts(),
             Place::Announce(process) => process < processes,
             Place::Header(process, number) => process < processes && number < RECORDS,
-            Place::Text(process, number, part) => {
-                process < processes && number < RECORDS && part < TEXT_PARTS
-            }
+            Place::Text {
+                process,
+                number,
+                part,
+            } => { process < processes && number < RECORDS && part < TEXT_PARTS }
             Place::Done(process, part) => process < processes && part < DONE_PARTS,
         }
     }

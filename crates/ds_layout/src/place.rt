@@ -37,9 +37,16 @@ pub enum Place {
     Announce(usize),
     /// The cell and the length of a text, by process and number.
     Header(usize, usize),
-    /// A part of a text, by process, number and part.
-    Text(usize, usize, usize),
-    /// A part of the done bits of a process: which of its edits count and were overtaken.
+    /// Eight bytes of a text.
+    Text {
+        /// The process of the edit.
+        process: usize,
+        /// Which of its edits, from 0.
+        number: usize,
+        /// Which part of the text, from 0.
+        part: usize,
+    },
+    /// A part of the done bits of a process: which of its edits count and were superseded.
     Done(usize, usize),
 }
 
@@ -52,7 +59,13 @@ impl Place {
             Place::Version | Place::Head(_) | Place::Mark(_) => Class::Stamped,
             Place::Index(_, _) | Place::Done(_, _) => Class::Bit,
             Place::Value(_) | Place::Kind(_) => Class::Owned,
-            Place::Announce(_) | Place::Header(_, _) | Place::Text(_, _, _) => Class::Owned,
+            Place::Announce(_)
+            | Place::Header(_, _)
+            | Place::Text {
+                process: _,
+                number: _,
+                part: _,
+            } => Class::Owned,
         }
     }
 }

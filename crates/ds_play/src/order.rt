@@ -15,10 +15,10 @@ use crate::point::{PointName, is_lacking};
 use ds_formula::cells::{Cell, Shape};
 use ds_layout::layout::Layout;
 use ds_layout::place::Place;
-use ds_streams::fields::{is_skipped, named, numbered};
-use ds_streams::ending::ScriptFault;
-use ds_streams::line::word;
 use ds_state::world::World;
+use ds_streams::ending::ScriptFault;
+use ds_streams::fields::{is_skipped, named, numbered};
+use ds_streams::line::word;
 
 /// The first word of a line.
 #[derive(Clone, Copy, Debug, PartialEq, Eq)]

@@ -106,7 +106,12 @@ fn text_place(layout: &Layout, rest: Option<&[u8]>) -> Option<Place>
 {
     let (process, rest) = numbered(layout.processes, rest)?;
     let (number, rest) = numbered(RECORDS, rest)?;
-    Some(Place::Text(process, number, last_number(TEXT_PARTS, rest)?))
+    let part = last_number(TEXT_PARTS, rest)?;
+    Some(Place::Text {
+        process,
+        number,
+        part,
+    })
 }
 
 fn done_place(layout: &Layout, rest: Option<&[u8]>) -> Option<Place>

@@ -16,11 +16,11 @@ ghost use Rattle.ds_play.specs.Running.{Obeyed, Stopped, RanLines, HidesNone, af
 use crate::carry::{carry_out, new_world};
 use crate::order::{Begun, Command, read_order};
 use ds_formula::cells::Shape;
+use ds_state::world::World;
 use ds_streams::ending::{ScriptEnd, ScriptFault};
 use ds_streams::input::{Input, InputEnd, read_input};
 use ds_streams::line::{NextLine, next_line};
 use ds_streams::streams::{Reading, Writing};
-use ds_state::world::World;
 use std::alloc::{AllocError, Global};
 use std::io::{Read, Write};
 

@@ -19,8 +19,8 @@ use ds_eval::value::Value;
 use ds_formula::cells::{Cell, Shape};
 use ds_layout::mark::State;
 use ds_layout::place::Place;
-use ds_streams::answer::{done_line, refused_line, settled_lines};
 use ds_state::world::World;
+use ds_streams::answer::{done_line, refused_line, settled_lines};
 use std::alloc::{AllocError, Global};
 
 // The cell with this number; of a number that no cell has, some cell.

@@ -28,9 +28,15 @@ pub const HELD_GENERATION_MOST: u64 = (1 << 58) + 1;
 pub enum RecoveryEnd {
     /// The process has announced no edit.
     Nothing,
-    /// The process's edit of this number, of the cell of this number, was the last one that it
-    /// announced; whether it counts.
-    Last(usize, usize, bool),
+    /// The process's last edit that it announced.
+    Last {
+        /// Which of its edits it is, from 0.
+        number: usize,
+        /// Its cell, by its number.
+        cell: usize,
+        /// Whether it counts.
+        counts: bool,
+    },
 }
 
 /// What a step does to its recovery.
@@ -145,11 +151,11 @@ pub fn effect_of(call: &RecoverCall) -> Effect
 {
     match call.stage {
         RecoverStage::Answer(None) => Effect::Answers(RecoveryEnd::Nothing),
-        RecoverStage::Answer(Some(how)) => Effect::Answers(RecoveryEnd::Last(
-            number(call),
-            call.cell,
-            how,
-        )),
+        RecoverStage::Answer(Some(how)) => Effect::Answers(RecoveryEnd::Last {
+            number: number(call),
+            cell: call.cell,
+            counts: how,
+        }),
         _ => Effect::GoesOn,
     }
 }

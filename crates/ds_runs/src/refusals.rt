@@ -142,7 +142,14 @@ const NOT_ENABLED: [Row; 15] = [
     Row::Still(Action::Evict(Place::Head(4)), Reply::NotEnabled),
     Row::Still(Action::Evict(Place::Index(0, 1)), Reply::NotEnabled),
     Row::Still(Action::Evict(Place::Announce(2)), Reply::NotEnabled),
-    Row::Still(Action::Evict(Place::Text(0, 0, 15)), Reply::NotEnabled),
+    Row::Still(
+        Action::Evict(Place::Text {
+            process: 0,
+            number: 0,
+            part: 15,
+        }),
+        Reply::NotEnabled,
+    ),
     Row::Still(Action::Stop(2), Reply::NotEnabled),
     Row::Still(Action::Stop(7), Reply::NotEnabled),
     Row::Still(Action::Show(2), Reply::NotEnabled),

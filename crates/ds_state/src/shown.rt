@@ -112,7 +112,11 @@ fn parts<W: SheetReader>(
 {
     let mut bytes = Vec::with_capacity(alloc, count)?;
     for part in 0..count.div_ceil(8) {
-        let word = words.load(Place::Text(process, number, part));
+        let word = words.load(Place::Text {
+            process,
+            number,
+            part,
+        });
         let rest = (count - 8 * part).min(8);
         bytes.extend_from_slice(&part_bytes(word)[..rest])?;
     }

@@ -10,9 +10,13 @@ use ds_layout::head::Head;
 pub enum Outcome {
     /// It counts.
     Done,
-    /// It does not: its cell had the first word as its head when the edit noted that, and the second
-    /// one when the edit tried to take its place.
-    Overtaken(u64, u64),
+    /// It does not: another edit took its cell's head first.
+    Overtaken {
+        /// The word of the head that the edit noted.
+        noted: u64,
+        /// The word that stood there when the edit tried to take its place.
+        seen: u64,
+    },
 }
 
 /// What an edit does next. A number counts the parts of the text, or the references, from 0; a

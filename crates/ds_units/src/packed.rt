@@ -36,11 +36,25 @@ fn numbers(rt: HostRuntime) {
         (Place::Index(3, 0), Some(20)),
         (Place::Announce(1), Some(22)),
         (Place::Header(1, 255), Some(534)),
-        (Place::Text(0, 1, 14), Some(564)),
+        (
+            Place::Text {
+                process: 0,
+                number: 1,
+                part: 14,
+            },
+            Some(564),
+        ),
         (Place::Done(1, 3), Some(8222)),
         (Place::Head(4), None),
         (Place::Index(0, 1), None),
-        (Place::Text(1, 256, 0), None),
+        (
+            Place::Text {
+                process: 1,
+                number: 256,
+                part: 0,
+            },
+            None,
+        ),
         (Place::Done(2, 0), None),
     ];
     for (place, wanted) in places {

@@ -47,6 +47,15 @@ fn store(words: &mut SheetWords, place: Place, value: u64) {
     }
 }
 
+// A part of the text of process 1's edit 7.
+fn text_place(part: usize) -> Place {
+    Place::Text {
+        process: 1,
+        number: 7,
+        part,
+    }
+}
+
 #[test]
 fn record(rt: HostRuntime) -> Result<(), Fail> {
     let text: &[u8] = b"=SUM(A1:B2)*2";
@@ -58,8 +67,8 @@ fn record(rt: HostRuntime) -> Result<(), Fail> {
             length: 13,
         };
         store(&mut words, Place::Header(1, 7), header.word());
-        store(&mut words, Place::Text(1, 7, 0), part_word(text, 0));
-        store(&mut words, Place::Text(1, 7, 1), part_word(text, 1));
+        store(&mut words, text_place(0), part_word(text, 0));
+        store(&mut words, text_place(1), part_word(text, 1));
         if words.layout().processes == 2 {
             let read = shown::record_text(&words, rt.alloc(), 1, 7)?;
             assert_eq!(rt; read.as_slice(), text);

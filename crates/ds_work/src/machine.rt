@@ -108,7 +108,11 @@ fn record_text(call: &WorkCall, part: usize) -> Place
     ensures { result ≡ place.Text (call.now.head / 256 % 256) (call.now.head % 256) part }
 {
     let head = Head::parts(call.head);
-    Place::Text(head.process, head.number, part)
+    Place::Text {
+        process: head.process,
+        number: head.number,
+        part,
+    }
 }
 
 // Its header.
