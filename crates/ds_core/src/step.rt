@@ -8,7 +8,7 @@ ghost use Rattle.ds_edit.specs.Worlds.{after, counted_at, pending_at};
 ghost use Rattle.ds_core.specs.EditEvents.{reply_at, done_at, EditStepTakes};
 ghost use Rattle.ds_core.specs.ReportEvents.{report_answer, report_reply};
 ghost use Rattle.ds_core.specs.WorkEvents.{work_answer, work_reply};
-ghost use Rattle.ds_core.specs.RecoveryEvents.{recovery_reply};
+ghost use Rattle.ds_core.specs.RecoveryEvents.{recovery_answer, recovery_reply};
 ghost use Rattle.ds_core.specs.Steps.{StepTakes, EvictTakes};
 
 use crate::reply::Reply;
@@ -162,28 +162,31 @@ fn work_reply(taken: Taken) -> Reply
     }
 }
 
+// What a recovery answers that ended so.
+fn recovery_answer(end: RecoveryEnd) -> Answer
+    ensures { result ≡ recovery_answer end }
+{
+    match end {
+        RecoveryEnd::Nothing => Answer::Nothing,
+        RecoveryEnd::Last {
+            number,
+            cell,
+            counts,
+        } => Answer::Last(Told {
+            number,
+            cell,
+            counts,
+        }),
+    }
+}
+
 // What a step of a recovery answers.
 fn recovery_reply(what: ds_recover::machine::Effect) -> Reply
     ensures { result ≡ recovery_reply what }
 {
     match what {
         ds_recover::machine::Effect::GoesOn => Reply::Stepped,
-        ds_recover::machine::Effect::Answers(RecoveryEnd::Nothing) => Reply::Answered(
-            Answer::Nothing,
-        ),
-        ds_recover::machine::Effect::Answers(
-            RecoveryEnd::Last {
-                number,
-                cell,
-                counts,
-            },
-        ) => {
-            Reply::Answered(Answer::Last(Told {
-                number,
-                cell,
-                counts,
-            }))
-        }
+        ds_recover::machine::Effect::Answers(end) => Reply::Answered(recovery_answer(end)),
     }
 }
 
