@@ -1,7 +1,9 @@
 -- Exit statuses (our own rule).
 use Rattle.std.specs.Prelude.{ℕ}
-use Rattle.ds_sched.specs.declared.ending.ScriptEnd.{ScriptEnd}
-use Rattle.ds_sched.specs.declared.ending.ScriptEnd.TheVariants.{Ended, Fault, TooLong, ReadFailed, WriteFailed, NoMemory}
+use Rattle.ds_streams.specs.declared.ending.ScriptEnd.{ScriptEnd}
+use Rattle.ds_streams.specs.declared.ending.ScriptEnd.TheVariants.{Ended, Fault, TooLong, ReadFailed, WriteFailed, NoMemory}
+use Rattle.ds_grid.specs.declared.ending.GridEnd.{GridEnd}
+use Rattle.ds_grid.specs.declared.ending.GridEnd.TheVariants as grids
 
 abbrev pub status_of : ScriptEnd → ℕ
 status_of Ended = 0
@@ -10,3 +12,12 @@ status_of TooLong = 3
 status_of ReadFailed = 3
 status_of WriteFailed = 3
 status_of NoMemory = 4
+
+abbrev pub grid_status_of : GridEnd → ℕ
+grid_status_of grids.Ended = 0
+grid_status_of (grids.Grid fault) = 1
+grid_status_of (grids.CellFault cell fault) = 1
+grid_status_of grids.TooLong = 3
+grid_status_of grids.ReadFailed = 3
+grid_status_of grids.WriteFailed = 3
+grid_status_of grids.NoMemory = 4

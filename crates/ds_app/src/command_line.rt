@@ -8,7 +8,12 @@ use std::alloc::{AllocError, Global};
 pub enum Action {
     /// `dsheet run`: a script on standard input.
     Run,
+    /// `dsheet report`: a grid on standard input.
+    Report,
 }
+
+/// The program's version.
+const VERSION: &str = "0.1.0";
 
 const RUN_HELP: &str = "\
 Commands, one a line. P is a process, from 0; C is a cell, as A1.
@@ -51,9 +56,27 @@ Example:
 Exit status: 0 ended; 1 a fault in a line, which is named; 2 wrong words on the
 command line; 3 a failed read or write, or a script over 1048576 bytes; 4 no memory.";
 
-const HELP: &str = "\
+const REPORT_HELP: &str = "\
+The grid is CSV without a heading line: a record is a row, a field the text of a cell.
+A text is empty, a whole number or a formula, as =[.A1]*2 or =SUM([.A1:.B3];7):
+a reference is [.A1], a range [.A1:.B3], and ; parts arguments.
+Limits: 26 columns, 64 rows, 1024 cells; 120 bytes a text, 1048576 the grid.
+What is written is the values, as CSV. Nothing is written where a fault is told:
+  empty grid        no record
+  bad csv           a record has another number of fields than the first
+  grid too large    more columns, rows or cells than the limits
+  cell A1: KIND N   the text of this cell is refused at its byte N, from 0
+
 Example:
-  printf 'set 0 A1 =1+2\\nsettle 0\\nreport 0\\n' | dsheet run";
+  printf '1,=[.A1]*20\\n2,=SUM([.A1:.A2])\\n' | dsheet report
+
+Exit status: 0 ended; 1 a fault in the grid; 2 wrong words on the command line;
+3 a failed read or write, or a grid over 1048576 bytes; 4 no memory.";
+
+const HELP: &str = "\
+Examples:
+  printf 'set 0 A1 =1+2\\nsettle 0\\nreport 0\\n' | dsheet run
+  printf '1,=[.A1]*20\\n' | dsheet report";
 
 fn run_command<'a>(alloc: Global) -> Result<Command<'a>, AllocError> {
     Command::new(alloc, "run")
@@ -62,18 +85,30 @@ fn run_command<'a>(alloc: Global) -> Result<Command<'a>, AllocError> {
         .bin_name("dsheet run")
 }
 
+fn report_command<'a>(alloc: Global) -> Result<Command<'a>, AllocError> {
+    Command::new(alloc, "report")
+        .about("Reads a grid of texts from standard input and writes its values to standard output")
+        .after_help(REPORT_HELP)
+        .bin_name("dsheet report")
+}
+
 fn program<'a>(alloc: Global) -> Result<Command<'a>, AllocError> {
     Command::new(alloc, "dsheet")
+        .version(VERSION)
         .about("The calculator of a shared spreadsheet that survives crashes")
         .after_help(HELP)
         .subcommand_required(true)
         .arg_required_else_help(true)
         .bin_name("dsheet")?
-        .subcommand(run_command(alloc)?)
+        .subcommand(run_command(alloc)?)?
+        .subcommand(report_command(alloc)?)
 }
 
 /// What the words ask for, of which the first is the program's name; `clap`'s error for help and for wrong words.
 pub fn parse(alloc: Global, words: &[String]) -> Result<Action, Error> {
-    program(alloc)?.try_get_matches_from(words)?;
-    Ok(Action::Run)
+    let matches = program(alloc)?.try_get_matches_from(words)?;
+    match matches.subcommand_name() {
+        Some("report") => Ok(Action::Report),
+        _ => Ok(Action::Run),
+    }
 }

@@ -5,15 +5,20 @@ mod command_line;
 mod status;
 
 use crate::command_line::{Action, parse};
-use crate::status::script_status;
+use crate::status::{grid_status, script_status};
 use clap::Error;
 use clap::error::ErrorKind;
+use ds_grid::ending::GridEnd;
+use ds_grid::report::report_grid;
 use ds_play::script::run_script;
-use ds_sched::ending::ScriptEnd;
-use ds_sched::streams::{Reading, Writing};
+use ds_streams::ending::ScriptEnd;
+use ds_streams::streams::{Reading, Writing};
 use std::io::{self, BufWriter};
 use std::process::ExitCode;
 use std::rt::Env;
+
+/// The status of wrong words on the command line.
+const WRONG_WORDS: u8 = 2;
 
 /// The status of a failed read or write.
 const STREAM_FAILED: u8 = 3;
@@ -29,20 +34,39 @@ fn run<R: AllocGlobal + Input + Print + Eprint>(rt: &R) -> u8 {
     let mut reader = Reading::new(rt.reader());
     let mut writer = Writing::new(buffered);
     let end = run_script(rt.alloc(), &mut reader, &mut writer);
-    if end != ScriptEnd::Ended && eprintln!(rt; "{end}").is_err() {
-        return STREAM_FAILED;
-    }
+    let _told = match end {
+        ScriptEnd::Ended => Ok(()),
+        ScriptEnd::Fault { line: _, kind: _ } => eprintln!(rt; "{end}"),
+        _ => eprintln!(rt; "dsheet: {end}"),
+    };
     script_status(&end)
+}
+
+// `dsheet report`: a grid from standard input, its values to standard output, the fault to standard error.
+fn report<R: AllocGlobal + Input + Print + Eprint>(rt: &R) -> u8 {
+    let Ok(buffered) = BufWriter::new(rt.alloc(), io::writer(rt)) else {
+        return NO_MEMORY;
+    };
+    let mut reader = Reading::new(rt.reader());
+    let mut writer = Writing::new(buffered);
+    let end = report_grid(rt.alloc(), &mut reader, &mut writer);
+    let _told = match end {
+        GridEnd::Ended => Ok(()),
+        GridEnd::Grid(_) | GridEnd::CellFault { cell: _, fault: _ } => eprintln!(rt; "{end}"),
+        _ => eprintln!(rt; "dsheet: {end}"),
+    };
+    grid_status(&end)
 }
 
 // Prints help to standard output, and what is wrong with the words to standard error.
 fn explain(rt: &(impl Print + Eprint), error: &Error) -> u8 {
-    if error.print(rt).is_err() {
-        STREAM_FAILED
-    } else if error.kind() == ErrorKind::OutOfMemory {
+    let printed = error.print(rt);
+    if error.kind() == ErrorKind::OutOfMemory {
         NO_MEMORY
     } else if error.use_stderr() {
-        2
+        WRONG_WORDS
+    } else if printed.is_err() {
+        STREAM_FAILED
     } else {
         0
     }
@@ -52,13 +76,17 @@ fn dispatch<R: AllocGlobal + Env + Input + Print + Eprint>(rt: &R) -> u8 {
     let arguments = match std::env::args(rt) {
         Ok(arguments) => arguments,
         Err(error) if error.kind() == io::ErrorKind::OutOfMemory => return NO_MEMORY,
-        Err(_) => return STREAM_FAILED,
+        Err(_) => {
+            let _told = eprintln!(rt; "dsheet: an argument is not UTF-8");
+            return WRONG_WORDS;
+        }
     };
     let Ok(words) = arguments.collect::<Vec<String>>(rt.alloc()) else {
         return NO_MEMORY;
     };
     match parse(rt.alloc(), words.as_slice()) {
         Ok(Action::Run) => run(rt),
+        Ok(Action::Report) => report(rt),
         Err(error) => explain(rt, &error),
     }
 }

@@ -1,9 +1,10 @@
 //! Exit statuses.
 
 ghost use Rattle.std.specs.Prelude.{◌≡◌};
-ghost use Rattle.ds_app.specs.Statuses.{status_of};
+ghost use Rattle.ds_app.specs.Statuses.{status_of, grid_status_of};
 
-use ds_sched::ending::ScriptEnd;
+use ds_grid::ending::GridEnd;
+use ds_streams::ending::ScriptEnd;
 
 /// The status that tells how a script ended: 0 ended, 1 a fault in a line, 3 a failed read or write or a script over
 /// its limit, 4 want of memory.
@@ -15,5 +16,18 @@ pub fn script_status(end: &ScriptEnd) -> u8
         ScriptEnd::Fault { line: _, kind: _ } => 1,
         ScriptEnd::TooLong | ScriptEnd::ReadFailed | ScriptEnd::WriteFailed => 3,
         ScriptEnd::NoMemory => 4,
+    }
+}
+
+/// The status that tells how the report of a grid ended: 0 ended, 1 a fault in the grid, 3 a failed read or write or
+/// a grid over its limit, 4 want of memory.
+pub fn grid_status(end: &GridEnd) -> u8
+    ensures { result ≡ grid_status_of end.now }
+{
+    match end {
+        GridEnd::Ended => 0,
+        GridEnd::Grid(_) | GridEnd::CellFault { cell: _, fault: _ } => 1,
+        GridEnd::TooLong | GridEnd::ReadFailed | GridEnd::WriteFailed => 3,
+        GridEnd::NoMemory => 4,
     }
 }

@@ -1,5 +1,3 @@
-pub mod LedgerLemmas
-pub mod SheetLemmas
 pub mod Good
 pub mod Traces
 pub mod Moves

@@ -1,6 +1,3 @@
-pub mod Ledger
-pub mod PlainSheet
-pub mod Kept
 pub mod Requests
 pub mod EditEvents
 pub mod ReportEvents

@@ -1,5 +1,5 @@
 -- The inputs between the first and the last cell of a row are all its cells.
-use Rattle.std.proofs.Common.{◌≡◌, ℕ, zero, suc, ◌+◌, ◌-◌, ◌*◌, ◌<◌, ◌≤◌, max, List, [], ◌∷◌, ◌++◌, map, length, sym, ap, subst, ◌∙◌, inl, inr, arith, append_assoc, append-nil, mul-suc}
+use Rattle.std.proofs.Common.{◌≡◌, ℕ, zero, suc, ◌+◌, ◌-◌, ◌*◌, ◌<◌, ◌≤◌, max, Some, List, [], ◌∷◌, ◌++◌, map, length, sym, ap, subst, ◌∙◌, inl, inr, arith, append_assoc, append-nil, mul-suc}
 use Rattle.std.proofs.lemmas.Bool.{cases_lt}
 use Rattle.std.proofs.lemmas.List.{map-append}
 use Rattle.std.proofs.lemmas.Nat.{mod-mul-add, div-mul-add}
@@ -13,7 +13,9 @@ use Rattle.ds_eval.specs.Inputs.{IsAscending, cell_in}
 use Rattle.ds_eval.specs.Rows.{right_of, row_from}
 use Rattle.ds_eval.specs.Evaluation.{cell_of, first_cells}
 use Rattle.ds_eval.specs.Local.{above}
+use Rattle.ds_eval.specs.Numbers.{first_error}
 use Rattle.ds_eval.proofs.Heights.{above_push}
+use Rattle.ds_eval.proofs.Tallies.{error_stays}
 use Rattle.ds_eval.proofs.Cells.{same_cell}
 
 not_below : (a b : Cell) → IsBefore a b → a.row ≤ b.row
@@ -76,6 +78,35 @@ row_height heights first k =
     ap (λ (n : ℕ). above (map heights (row_from first n))) (let e : k + 1 ≡ suc k = omega arith in e)
     ∙ ap above (map-append heights (row_from first k) (right_of first k ∷ []))
     ∙ above_push (map heights (row_from first k)) (heights (right_of first k))
+
+pub some_height : (heights : Cell → ℕ) (first : Cell) (columns : ℕ) → 0 < columns → 0 < above (map heights (row_from first columns))
+some_height heights first zero h = absurd (omega (arith, h))
+some_height heights first (suc k) h =
+    let e : suc k ≡ k + 1 = omega arith in
+    let more = row_height heights first k in
+    let same = ap (λ (n : ℕ). above (map heights (row_from first n))) e in
+    omega (arith, more, same)
+
+-- a row begins with each shorter one
+pub row_parts : (first : Cell) (j k : ℕ) → j ≤ k → (rest : List Cell) × (row_from first j ++ rest ≡ row_from first k)
+row_parts first j zero h = ([], append-nil (row_from first j) ∙ ap (row_from first) (let e : j ≡ 0 = omega (arith, h) in e))
+row_parts first j (suc k) h = elim (cases_lt j (suc k)) [
+  | inl less ↦ let p = row_parts first j k (omega (arith, less)) in
+      (p.0 ++ right_of first k ∷ [], sym (append_assoc (row_from first j) p.0 (right_of first k ∷ [])) ∙ ap (λ (cs : List Cell). cs ++ right_of first k ∷ []) p.1)
+  | inr not_less ↦ ([], append-nil (row_from first j) ∙ ap (row_from first) (let e : j ≡ suc k = omega (arith, h, not_less) in e))
+]
+
+abbrev values_so_far : (Cell → Value) → List Value → Cell → ℕ → List Value
+values_so_far read vs first k = vs ++ map read (row_from first k)
+
+-- an error in a row is that of the whole row
+pub error_in_row : (read : Cell → Value) (vs : List Value) (first : Cell) (j k : ℕ) (e : Value) → j ≤ k → first_error (values_so_far read vs first j) ≡ Some e → first_error (values_so_far read vs first k) ≡ Some e
+error_in_row read vs first j k e h found =
+    let p = row_parts first j k h in
+    let before = map read (row_from first j) in
+    let same : (vs ++ before) ++ map read p.0 ≡ values_so_far read vs first k =
+    append_assoc vs before (map read p.0) ∙ ap (λ (ws : List Value). vs ++ ws) (sym (map-append read (row_from first j) p.0) ∙ ap (map read) p.1) in
+    sym (ap first_error same) ∙ error_stays (vs ++ before) (map read p.0) e found
 
 -- ---- a range, row by row
 

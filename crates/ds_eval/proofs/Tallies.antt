@@ -1,14 +1,19 @@
 -- One more value in a tally.
-use Rattle.std.proofs.Common.{◌≡◌, ℕ, suc, ◌+◌, ℤ, pos, ◌+ℤ◌, ◌==◌, if◌then◌else◌, List, [], ◌∷◌, ◌++◌, length, fold, Option, Some, None, refl, sym, ap, subst, ◌∙◌, arith, length-append}
+use Rattle.std.proofs.Common.{◌≡◌, ◌⊎◌, inl, inr, ℕ, ◌+◌, ◌-◌, ◌^◌, ◌<◌, ℤ, pos, negsuc, ◌+ℤ◌, true, false, List, [], ◌∷◌, ◌++◌, length, Option, Some, None, refl, sym, ap, subst, ◌∙◌, arith, length-append}
 use Rattle.std.specs.Int.{int_min, int_max}
-use Rattle.std.proofs.lemmas.Bool.Decides.{nat_tests}
+use Rattle.std.specs.Option.{is_some}
 use Rattle.std.proofs.lemmas.List.Sums.{fold_push}
 use Rattle.ds_eval.specs.declared.value.Value.{Value}
 use Rattle.ds_eval.specs.declared.value.Value.TheVariants.{Blank, Number, DivZero, Num, Circular}
+use Rattle.ds_eval.specs.declared.tally.Totals.{Totals}
 use Rattle.ds_eval.specs.declared.tally.Tally.{Tally}
 use Rattle.ds_eval.specs.Numbers.{numbers, first_error, least, greatest}
-use Rattle.ds_eval.specs.Steps.{smaller, greater, first_or}
-use Rattle.ds_eval.specs.Tally.{IsTally}
+use Rattle.ds_eval.specs.Tally.{AreTotals, AreCounted, IsTally}
+
+-- the first error, where there is one, else the second
+abbrev first_or : Option Value → Option Value → Option Value
+first_or (Some e) o = Some e
+first_or None o = o
 
 numbers_push : (vs : List Value) (z : ℤ) → numbers (vs ++ Number z ∷ []) ≡ numbers vs ++ z ∷ []
 numbers_push [] z = refl
@@ -38,49 +43,153 @@ or_none : (o : Option Value) → first_or o None ≡ o
 or_none None = refl
 or_none (Some e) = refl
 
-some_length : (n : ℕ) (x y : ℤ) → x ≡ (if suc n == 0 then y else x)
-some_length n x y = grind (arith, nat_tests)
+-- ---- the least and the greatest number
 
-least_push : (ns : List ℤ) (z : ℤ) → least (ns ++ z ∷ []) ≡ smaller (length ns == 0) (least ns) z
-least_push [] z = refl
-least_push (n ∷ ns) z = fold_push int_min n ns z ∙ some_length (length ns) (int_min (fold int_min n ns) z) z
+least_push : (ns : List ℤ) (z : ℤ) → 0 < length ns → least (ns ++ z ∷ []) ≡ int_min (least ns) z
+least_push [] z h = absurd (omega (arith, h))
+least_push (n ∷ ns) z h = fold_push int_min n ns z
 
-greatest_push : (ns : List ℤ) (z : ℤ) → greatest (ns ++ z ∷ []) ≡ greater (length ns == 0) (greatest ns) z
-greatest_push [] z = refl
-greatest_push (n ∷ ns) z = fold_push int_max n ns z ∙ some_length (length ns) (int_max (fold int_max n ns) z) z
+greatest_push : (ns : List ℤ) (z : ℤ) → 0 < length ns → greatest (ns ++ z ∷ []) ≡ int_max (greatest ns) z
+greatest_push [] z h = absurd (omega (arith, h))
+greatest_push (n ∷ ns) z h = fold_push int_max n ns z
+
+-- the first number is less than the greatest one that there could be, or that one
+abbrev pub NoGreater : ℤ → Type 0
+NoGreater z = int_min (pos (2 ^ 63 - 1)) z ≡ z
+
+abbrev pub NoLess : ℤ → Type 0
+NoLess z = int_max (negsuc (2 ^ 63 - 1)) z ≡ z
+
+least_more : (ns : List ℤ) (z x y : ℤ) → NoGreater z → (length ns ≡ 0 → x ≡ pos (2 ^ 63 - 1)) → (0 < length ns → x ≡ least ns) → y ≡ int_min x z → y ≡ least (ns ++ z ∷ [])
+least_more [] z x y f none some e = e ∙ ap (λ (w : ℤ). int_min w z) (none refl) ∙ f
+least_more (n ∷ ns) z x y f none some e = e ∙ ap (λ (w : ℤ). int_min w z) (some (omega arith)) ∙ sym (least_push (n ∷ ns) z (omega arith))
+
+greatest_more : (ns : List ℤ) (z x y : ℤ) → NoLess z → (length ns ≡ 0 → x ≡ negsuc (2 ^ 63 - 1)) → (0 < length ns → x ≡ greatest ns) → y ≡ int_max x z → y ≡ greatest (ns ++ z ∷ [])
+greatest_more [] z x y f none some e = e ∙ ap (λ (w : ℤ). int_max w z) (none refl) ∙ f
+greatest_more (n ∷ ns) z x y f none some e = e ∙ ap (λ (w : ℤ). int_max w z) (some (omega arith)) ∙ sym (greatest_push (n ∷ ns) z (omega arith))
+
+-- ---- one more value
+
+totals_more : (ns : List ℤ) (z : ℤ) (t u : Totals) → NoGreater z → NoLess z → u.count ≡ t.count + 1 → u.sum ≡ t.sum +ℤ z → u.least ≡ int_min t.least z → u.greatest ≡ int_max t.greatest z
+    → AreTotals ns t → AreTotals (ns ++ z ∷ []) u
+totals_more ns z t u f g a b c d h = record {
+  count = a ∙ ap (λ (n : ℕ). n + 1) h.count ∙ sym (length-append ns (z ∷ []));
+  sum = b ∙ ap (λ (x : ℤ). x +ℤ z) h.sum ∙ sym (fold_push ◌+ℤ◌ (pos 0) ns z);
+  least = λ _. least_more ns z t.least u.least f h.no_least h.least c;
+  greatest = λ _. greatest_more ns z t.greatest u.greatest g h.no_greatest h.greatest d;
+  no_least = λ e. absurd (omega (arith, e, length-append ns (z ∷ [])));
+  no_greatest = λ e. absurd (omega (arith, e, length-append ns (z ∷ [])));
+}
+
+-- the totals with one more number, which is y by its bits
+pub record IsMore (z : ℤ) (t u : Totals) : Type 0 where
+  pub y : ℤ
+  pub same : y ≡ z
+  pub no_greater : NoGreater y
+  pub no_less : NoLess y
+  pub count : u.count ≡ t.count + 1
+  pub sum : u.sum ≡ t.sum +ℤ y
+  pub least : u.least ≡ int_min t.least y
+  pub greatest : u.greatest ≡ int_max t.greatest y
+
+number_totals : (vs : List Value) (z : ℤ) (t u : Totals) → IsMore z t u → AreTotals (numbers vs) t → AreTotals (numbers (vs ++ Number z ∷ [])) u
+number_totals vs z t u m h =
+    let ns = numbers vs in
+    let more : AreTotals (ns ++ z ∷ []) u =
+    subst (λ (x : ℤ). AreTotals (ns ++ x ∷ []) u) m.same (totals_more ns m.y t u m.no_greater m.no_less m.count m.sum m.least m.greatest h) in
+    subst (λ (xs : List ℤ). AreTotals xs u) (sym (numbers_push vs z)) more
+
+blank_totals : (vs : List Value) (t : Totals) → AreTotals (numbers vs) t → AreTotals (numbers (vs ++ Blank ∷ [])) t
+blank_totals vs t h = subst (λ (xs : List ℤ). AreTotals xs t) (sym (numbers_skip vs Blank refl)) h
+
+pub number_error : (vs : List Value) (z : ℤ) → first_error (vs ++ Number z ∷ []) ≡ first_error vs
+number_error vs z = error_push vs (Number z) ∙ or_none (first_error vs)
+
+pub blank_error : (vs : List Value) → first_error (vs ++ Blank ∷ []) ≡ first_error vs
+blank_error vs = error_push vs Blank ∙ or_none (first_error vs)
+
+pub number_counted : (vs : List Value) (z : ℤ) (t u : Totals) → IsMore z t u → AreCounted vs t → AreCounted (vs ++ Number z ∷ []) u
+number_counted vs z t u m h = record { no_error = number_error vs z ∙ h.no_error; sums = number_totals vs z t u m h.sums }
+
+pub blank_counted : (vs : List Value) (t : Totals) → AreCounted vs t → AreCounted (vs ++ Blank ∷ []) t
+blank_counted vs t h = record { no_error = blank_error vs ∙ h.no_error; sums = blank_totals vs t h.sums }
+
+pub number_more : (vs : List Value) (z : ℤ) (t : Tally) (u : Totals) → IsMore z t.totals u → IsTally vs t → IsTally (vs ++ Number z ∷ []) (record { totals = u; error = t.error })
+number_more vs z t u m h = record {
+  error = h.error ∙ sym (number_error vs z);
+  totals = λ none. number_totals vs z t.totals u m (h.totals (sym (number_error vs z) ∙ none));
+}
 
 pub blank_more : (vs : List Value) (t : Tally) → IsTally vs t → IsTally (vs ++ Blank ∷ []) t
-blank_more vs t h = let e = numbers_skip vs Blank refl in record {
-  count = rw e h.count;
-  sum = rw e h.sum;
-  least = rw e h.least;
-  greatest = rw e h.greatest;
-  error = h.error ∙ sym (error_push vs Blank ∙ or_none (first_error vs));
-}
+blank_more vs t h = record { error = h.error ∙ sym (blank_error vs); totals = λ none. blank_totals vs t.totals (h.totals (sym (blank_error vs) ∙ none)) }
 
-pub error_more : (vs : List Value) (v : Value) (t u : Tally) → numbers (v ∷ []) ≡ [] → first_error (v ∷ []) ≡ Some v
-    → u.count ≡ t.count → u.sum ≡ t.sum → u.least ≡ t.least → u.greatest ≡ t.greatest → u.error ≡ first_or t.error (Some v)
-    → IsTally vs t → IsTally (vs ++ v ∷ []) u
-error_more vs v t u n f a b c d e h = let k = numbers_skip vs v n in record {
-  count = rw k (a ∙ h.count);
-  sum = rw k (b ∙ h.sum);
-  least = rw k (c ∙ h.least);
-  greatest = rw k (d ∙ h.greatest);
-  error = e ∙ ap (λ (o : Option Value). first_or o (Some v)) h.error ∙ sym (error_push vs v ∙ ap (first_or (first_error vs)) f);
-}
+abbrev no_error : Option Value
+no_error = None
 
-number_added : (vs : List Value) (z : ℤ) (t u : Tally)
-    → u.count ≡ t.count + 1 → u.sum ≡ t.sum +ℤ z → u.least ≡ smaller (t.count == 0) t.least z → u.greatest ≡ greater (t.count == 0) t.greatest z → u.error ≡ t.error
-    → IsTally vs t → IsTally (vs ++ Number z ∷ []) u
-number_added vs z t u a b c d e h = let k = numbers_push vs z in record {
-  count = rw k (a ∙ ap (λ (n : ℕ). n + 1) h.count ∙ sym (length-append (numbers vs) (z ∷ [])));
-  sum = rw k (b ∙ ap (λ (x : ℤ). x +ℤ z) h.sum ∙ sym (fold_push ◌+ℤ◌ (pos 0) (numbers vs) z));
-  least = rw k (c ∙ ap (λ (n : ℕ). smaller (n == 0) t.least z) h.count ∙ ap (λ (x : ℤ). smaller (length (numbers vs) == 0) x z) h.least ∙ sym (least_push (numbers vs) z));
-  greatest = rw k (d ∙ ap (λ (n : ℕ). greater (n == 0) t.greatest z) h.count ∙ ap (λ (x : ℤ). greater (length (numbers vs) == 0) x z) h.greatest ∙ sym (greatest_push (numbers vs) z));
-  error = e ∙ h.error ∙ sym (error_push vs (Number z) ∙ or_none (first_error vs));
-}
+never_none : (o : Option Value) (v : Value) → first_or o (Some v) ≡ no_error → ⊥
+never_none None v e = cc
+never_none (Some w) v e = cc
 
-pub number_more : (vs : List Value) (z : ℤ) (t u : Tally) (y : ℤ) → y ≡ z
-    → u.count ≡ t.count + 1 → u.sum ≡ t.sum +ℤ y → u.least ≡ smaller (t.count == 0) t.least y → u.greatest ≡ greater (t.count == 0) t.greatest y → u.error ≡ t.error
-    → IsTally vs t → IsTally (vs ++ Number z ∷ []) u
-number_more vs z t u y q a b c d e h = subst (λ (x : ℤ). IsTally (vs ++ Number x ∷ []) u) q (number_added vs y t u a b c d e h)
+pub error_more : (vs : List Value) (v : Value) (t u : Tally) → first_error (v ∷ []) ≡ Some v → u.error ≡ first_or t.error (Some v) → IsTally vs t → IsTally (vs ++ v ∷ []) u
+error_more vs v t u f e h =
+    let pushed = error_push vs v ∙ ap (first_or (first_error vs)) f in
+    record {
+      error = e ∙ ap (λ (o : Option Value). first_or o (Some v)) h.error ∙ sym pushed;
+      totals = λ none. absurd (never_none (first_error vs) v (sym pushed ∙ none));
+    }
+
+-- ---- behind an error
+
+pub error_stays : (vs ws : List Value) (e : Value) → first_error vs ≡ Some e → first_error (vs ++ ws) ≡ Some e
+error_stays [] ws e h = absurd cc
+error_stays (Blank ∷ vs) ws e h = error_stays vs ws e h
+error_stays (Number y ∷ vs) ws e h = error_stays vs ws e h
+error_stays (DivZero ∷ vs) ws e h = h
+error_stays (Num ∷ vs) ws e h = h
+error_stays (Circular ∷ vs) ws e h = h
+
+-- the first error, behind values that have none
+pub first_here : (vs : List Value) (v : Value) → first_error (v ∷ []) ≡ Some v → first_error vs ≡ None → first_error (vs ++ v ∷ []) ≡ Some v
+first_here vs v f none = error_push vs v ∙ ap (λ (o : Option Value). first_or o (first_error (v ∷ []))) none ∙ f
+
+still : (vs ws : List Value) (o : Option Value) → is_some o ≡ true → o ≡ first_error vs → first_error (vs ++ ws) ≡ first_error vs
+still vs ws None e h = absurd cc
+still vs ws (Some v) e h = error_stays vs ws v (sym h) ∙ h
+
+some_error : (o : Option Value) → is_some o ≡ true → o ≡ no_error → ⊥
+some_error None e n = cc
+some_error (Some v) e n = cc
+
+-- behind an error nothing counts
+pub after_error : (vs ws : List Value) (t : Tally) → is_some t.error ≡ true → IsTally vs t → IsTally (vs ++ ws) t
+after_error vs ws t e h =
+    let same = still vs ws t.error e h.error in
+    record { error = h.error ∙ sym same; totals = λ none. absurd (some_error t.error e (h.error ∙ sym same ∙ none)) }
+
+-- ---- a tally from totals, or from the first error
+
+not_some : (o : Option Value) → is_some o ≡ false → o ≡ None
+not_some None e = refl
+not_some (Some v) e = absurd cc
+
+pub counted : (vs : List Value) (t : Tally) → is_some t.error ≡ false → IsTally vs t → AreCounted vs t.totals
+counted vs t e h = let none = sym h.error ∙ not_some t.error e in record { no_error = none; sums = h.totals none }
+
+pub tally_of : (vs : List Value) (t : Totals) → AreCounted vs t → IsTally vs (record { totals = t; error = None })
+tally_of vs t h = record { error = sym h.no_error; totals = λ none. h.sums }
+
+pub tally_stopped : (vs : List Value) (t : Totals) (e : Value) → first_error vs ≡ Some e → IsTally vs (record { totals = t; error = Some e })
+tally_stopped vs t e h = record { error = sym h; totals = λ none. absurd (let x : Some e ≡ no_error = sym h ∙ none in cc) }
+
+-- ---- which values are errors
+
+pub is_error : (v : Value) → (v ≡ DivZero) ⊎ ((v ≡ Num) ⊎ (v ≡ Circular)) → first_error (v ∷ []) ≡ Some v
+is_error DivZero e = refl
+is_error Num e = refl
+is_error Circular e = refl
+is_error Blank (inl e) = absurd cc
+is_error Blank (inr (inl e)) = absurd cc
+is_error Blank (inr (inr e)) = absurd cc
+is_error (Number z) (inl e) = absurd cc
+is_error (Number z) (inr (inl e)) = absurd cc
+is_error (Number z) (inr (inr e)) = absurd cc

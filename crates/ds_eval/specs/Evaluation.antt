@@ -13,6 +13,7 @@ use Rattle.ds_eval.specs.Numbers.{with_number, with_numbers, with_all, signed, j
 
 -- ---- what is read of the sheet
 
+-- whether the cell is one of the sheet
 abbrev pub is_inside : Shape → Cell → Bool
 is_inside shape cell = nat_lt cell.column shape.columns && nat_lt cell.row shape.rows
 
@@ -20,10 +21,11 @@ is_inside shape cell = nat_lt cell.column shape.columns && nat_lt cell.row shape
 abbrev pub look : Shape → (Cell → Value) → Cell → Value
 look shape read cell = if is_inside shape cell then read cell else Blank
 
--- how many columns and rows of the sheet a range has
+-- how many columns of the sheet a range has
 abbrev pub width : Shape → Rect → ℕ
 width shape area = min (area.last.column + 1) shape.columns - area.first.column
 
+-- how many rows of the sheet a range has
 abbrev pub height : Shape → Rect → ℕ
 height shape area = min (area.last.row + 1) shape.rows - area.first.row
 
@@ -31,6 +33,7 @@ height shape area = min (area.last.row + 1) shape.rows - area.first.row
 abbrev pub cell_of : Rect → ℕ → ℕ → Cell
 cell_of area columns k = record { column = area.first.column + k % columns; row = area.first.row + k / columns }
 
+-- so many cells of a range that is so many columns wide, row by row from the left
 abbrev pub first_cells : Rect → ℕ → ℕ → List Cell
 first_cells area columns zero = []
 first_cells area columns (suc k) = first_cells area columns k ++ cell_of area columns k ∷ []
@@ -47,11 +50,11 @@ stands_for shape read (At c) own = look shape read c ∷ []
 stands_for shape read (Area area) own = map read (cells_of shape area)
 stands_for shape read other own = own ∷ []
 
--- IF: the condition, and the branch that it chooses
+-- IF (OpenFormula 6.15.4): the branch that the condition chooses, or the error of the condition
 abbrev pub chosen : Value → Value → Value → Value
 chosen condition then_value else_value = with_number condition (λ z. if int_eq z (pos 0) then else_value else then_value)
 
--- a function, by the values that its arguments stand for and by their own ones
+-- the value of a function, by the values that its arguments stand for and by their own values
 -- (the reader gives no wrong number of arguments: that is #NUM! here, and SUM, MIN and MAX of none are 0)
 abbrev pub applied : Function → List Value → List Value → Value
 applied functions.Sum all own = with_all all (λ ns. in_range (total ns))
@@ -78,7 +81,7 @@ abbrev mutual
   formula_value shape read (Joined o f g) = with_numbers (formula_value shape read f) (formula_value shape read g) (joined o)
   formula_value shape read (Called function fs) = if nat_le (count fs) most_arguments then applied function (all_values shape read fs) (own_values shape read fs) else Num
 
-  -- the arguments' own values
+  -- the values of the arguments themselves
   pub own_values : Shape → (Cell → Value) → Formulas → List Value
   own_values shape read Nothing = []
   own_values shape read (Then f fs) = formula_value shape read f ∷ own_values shape read fs

@@ -12,26 +12,28 @@ pub record PlainInputs : Type 0 where
   pub items : List Input
   pub room : ℕ
 
--- what a cell shows that has no entry
+-- what a cell shows that is none of the inputs
 abbrev pub no_entry : Entry
 no_entry = record { value = Blank; height = 0 }
 
+-- whether the two cells are one
 abbrev pub is_same_cell : Cell → Cell → Bool
 is_same_cell c d = (c.column == d.column) && (c.row == d.row)
 
--- the entry of a cell
+-- the entry of a cell among the inputs
 abbrev pub entry_in : List Input → Cell → Entry
 entry_in [] c = no_entry
 entry_in (input ∷ inputs) c = if is_same_cell input.cell c then input.entry else entry_in inputs c
 
--- the values of the cells
+-- the values of the cells among the inputs
 abbrev pub values_in : List Input → Cell → Value
 values_in inputs c = (entry_in inputs c).value
 
--- the heights of the cells
+-- the heights of the cells among the inputs
 abbrev pub heights_in : List Input → Cell → ℕ
 heights_in inputs c = (entry_in inputs c).height
 
+-- what stands for an input where there is none
 abbrev pub no_input : Input
 no_input = record { cell = record { column = 0; row = 0 }; entry = no_entry }
 
@@ -47,10 +49,10 @@ entry_at inputs k = (slice_index_or inputs k no_input).entry
 abbrev pub with_entry : List Input → ℕ → Entry → List Input
 with_entry inputs k entry = slice_set inputs k (record { cell = cell_in inputs k; entry = entry })
 
--- the cells ascend
+-- the inputs ascend, row by row from the left
 pub record IsAscending (inputs : List Input) : Type 0 where
   pub ascend : (j k : ℕ) → j < k → k < length inputs → IsBefore (cell_in inputs j) (cell_in inputs k)
 
--- the cell is behind all of them
+-- the cell is behind all inputs
 pub record IsBehind (inputs : List Input) (cell : Cell) : Type 0 where
   pub behind : (k : ℕ) → k < length inputs → IsBefore (cell_in inputs k) cell

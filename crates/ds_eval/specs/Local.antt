@@ -17,6 +17,7 @@ abbrev pub above : List ℕ → ℕ
 above [] = 0
 above (h ∷ hs) = max (suc h) (above hs)
 
+-- one more than the height of a cell of the sheet, 0 of any other cell
 abbrev pub reference_height : Shape → (Cell → ℕ) → Cell → ℕ
 reference_height shape heights c = if is_inside shape c then suc (heights c) else 0
 
@@ -30,10 +31,12 @@ abbrev mutual
   formula_height shape heights (Joined o f g) = max (formula_height shape heights f) (formula_height shape heights g)
   formula_height shape heights (Called function fs) = formulas_height shape heights fs
 
+  -- one more than the greatest height of a cell that is written in the arguments, 0 where there is none
   pub formulas_height : Shape → (Cell → ℕ) → Formulas → ℕ
   formulas_height shape heights Nothing = 0
   formulas_height shape heights (Then f fs) = max (formula_height shape heights f) (formulas_height shape heights fs)
 
+-- one more than the greatest height of a cell that is written in the content, 0 where there is none
 abbrev pub content_height : Shape → (Cell → ℕ) → Plain → ℕ
 content_height shape heights Empty = 0
 content_height shape heights (Constant z) = 0
@@ -41,9 +44,11 @@ content_height shape heights (Computed f) = formula_height shape heights f
 
 -- ---- entries
 
+-- the values of the entries
 abbrev pub value_of : (Cell → Entry) → Cell → Value
 value_of entries c = (entries c).value
 
+-- the heights of the entries
 abbrev pub height_of : (Cell → Entry) → Cell → ℕ
 height_of entries c = (entries c).height
 

@@ -23,12 +23,14 @@ pub record IsSettled (shape : Shape) (sheet : Cell → Plain) (n : ℕ) (entry :
   pub circular : 1 ≤ n → count_of shape ≤ entry.height → entry.value ≡ Circular
   pub computed : (Walk shape sheet n c → ⊥) → entry.value ≡ value shape sheet n c
 
+-- what is known of the entries of all cells after n rounds
 pub record AreSettled (shape : Shape) (sheet : Cell → Plain) (n : ℕ) (table : List Input) : Type 0 where
   pub each : (c : Cell) → IsInside shape c → IsSettled shape sheet n (entry_in table c) c
 
--- the values of the entries
+-- the value of an entry
 abbrev pub value_of_input : Input → Value
 value_of_input input = input.entry.value
 
+-- the values of all entries, in their order
 abbrev pub shown : List Input → List Value
 shown table = map value_of_input table

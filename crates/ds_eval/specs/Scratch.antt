@@ -38,6 +38,7 @@ abbrev pub value : Shape → (Cell → Plain) → ℕ → Cell → Value
 value shape sheet zero c = first_value (sheet c)
 value shape sheet (suc n) c = content_value shape (value shape sheet n) (sheet c)
 
+-- the value, or a blank where there is none
 abbrev pub or_blank : Option Value → Value
 or_blank None = Blank
 or_blank (Some v) = v

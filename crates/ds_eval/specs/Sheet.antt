@@ -6,6 +6,7 @@ use Rattle.ds_formula.specs.Cells.{index_of}
 use Rattle.ds_formula.specs.Plain.{Plain, Empty, plain}
 use Rattle.ds_eval.specs.declared.sheet.Sheet.{Sheet}
 
+-- the plain view of a content, or an empty cell where there is none
 abbrev pub plain_or_empty : Option Content → Plain
 plain_or_empty None = Empty
 plain_or_empty (Some content) = plain content

@@ -1,13 +1,26 @@
 -- What is kept of many values while they are gone through.
-use Rattle.std.specs.Prelude.{◌≡◌, List, length}
+use Rattle.std.specs.Prelude.{◌≡◌, ◌-◌, ◌^◌, ◌<◌, ℤ, pos, negsuc, List, length, None}
 use Rattle.ds_eval.specs.declared.value.Value.{Value}
+use Rattle.ds_eval.specs.declared.tally.Totals.{Totals}
 use Rattle.ds_eval.specs.declared.tally.Tally.{Tally}
 use Rattle.ds_eval.specs.Numbers.{numbers, first_error, total, least, greatest}
 
--- the tally is that of the values
+-- there are so many numbers, with this sum, and with this least and greatest one; where there are none, these are the
+-- greatest and the least that a number could be
+pub record AreTotals (ns : List ℤ) (totals : Totals) : Type 0 where
+  pub count : totals.count ≡ length ns
+  pub sum : totals.sum ≡ total ns
+  pub least : 0 < length ns → totals.least ≡ least ns
+  pub greatest : 0 < length ns → totals.greatest ≡ greatest ns
+  pub no_least : length ns ≡ 0 → totals.least ≡ pos (2 ^ 63 - 1)
+  pub no_greatest : length ns ≡ 0 → totals.greatest ≡ negsuc (2 ^ 63 - 1)
+
+-- the values have no error, and these are the totals of their numbers
+pub record AreCounted (values : List Value) (totals : Totals) : Type 0 where
+  pub no_error : first_error values ≡ None
+  pub sums : AreTotals (numbers values) totals
+
+-- the tally is that of the values: it has the first error among them, or else the totals of their numbers
 pub record IsTally (values : List Value) (tally : Tally) : Type 0 where
-  pub count : tally.count ≡ length (numbers values)
-  pub sum : tally.sum ≡ total (numbers values)
-  pub least : tally.least ≡ least (numbers values)
-  pub greatest : tally.greatest ≡ greatest (numbers values)
   pub error : tally.error ≡ first_error values
+  pub totals : first_error values ≡ None → AreTotals (numbers values) tally.totals

@@ -21,6 +21,7 @@ pub record PlainTask : Type 0 where
 abbrev pub local_of : PlainTask → Entry
 local_of task = local task.shape task.content (entry_in task.inputs)
 
+-- a task with the entry that it was given
 pub record PlainEvaluated : Type 0 where
   pub task : PlainTask
   pub entry : Entry

@@ -144,7 +144,7 @@ fn chosen(condition: Value) -> Result<bool, Value>
     }
 }
 
-/// IF (OpenFormula, function IF): the value of one of two branches, by the condition. An error in the condition goes
+/// IF (OpenFormula 6.15.4): the value of one of two branches, by the condition. An error in the condition goes
 /// before both, and one in the other branch counts for nothing.
 pub fn choice(condition: Value, then_value: Value, else_value: Value) -> Value
     ensures { result ≡ branch condition then_value else_value }
@@ -166,7 +166,7 @@ fn modulo_numbers(a: i64, b: i64) -> Value
     }
 }
 
-/// MOD (OpenFormula 6.16, function MOD): `a - b * floor(a / b)`, and `#DIV/0!` where `b` is 0.
+/// MOD (OpenFormula 6.16.42): `a - b * floor(a / b)`, and `#DIV/0!` where `b` is 0.
 pub fn modulo(left: Value, right: Value) -> Value
     ensures { result ≡ exact.with_numbers left right exact.modulo }
 {
@@ -187,7 +187,7 @@ fn quotient_numbers(a: i64, b: i64) -> Value
     }
 }
 
-/// QUOTIENT (OpenFormula 6.16, function QUOTIENT): `a / b`, cut towards 0, and `#DIV/0!` where `b` is 0.
+/// QUOTIENT (OpenFormula 6.16.48): `a / b`, cut towards 0, and `#DIV/0!` where `b` is 0.
 pub fn quotient(left: Value, right: Value) -> Value
     ensures { result ≡ exact.with_numbers left right exact.quotient }
 {

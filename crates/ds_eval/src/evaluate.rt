@@ -195,7 +195,7 @@ fn paired(arguments: &[Tree], shape: Shape, inputs: &Inputs) -> Pair
     }
 }
 
-/// IF (OpenFormula, function IF): the value of the chosen branch, 0 for one that is left out. References in the other
+/// IF (OpenFormula 6.15.4): the value of the chosen branch, 0 for one that is left out. References in the other
 /// branch count for the height, and so it is read too; its value is dropped, an error included.
 #[cycle(evaluation)]
 fn conditional(arguments: &[Tree], shape: Shape, inputs: &Inputs) -> Entry

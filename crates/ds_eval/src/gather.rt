@@ -1,16 +1,17 @@
 //! Many cells at once: the tally of their values, and how far references lead from what refers to them.
 
-ghost use Rattle.std.specs.Prelude.{◌≡◌, ℕ, ◌+◌, ◌*◌, ◌<◌, ◌≤◌, ◌^◌, suc, min, max, List, [], ◌∷◌, ◌++◌, length, map, IfSome};
+ghost use Rattle.std.specs.Prelude.{◌≡◌, ℕ, ◌+◌, ◌*◌, ◌<◌, ◌≤◌, ◌^◌, suc, min, max, List, [], ◌∷◌, ◌++◌, length, map, IfSome, IfOk, IfErr, Some, None};
 ghost use Rattle.ds_formula.specs.Cells.{count_of};
 ghost use Rattle.ds_eval.specs.declared.value.Value as values;
 ghost use Rattle.ds_eval.specs.Evaluation as spec;
 ghost use Rattle.ds_eval.specs.Inputs.{values_in, heights_in, entry_in, cell_in};
 ghost use Rattle.ds_eval.specs.Local.{above};
 ghost use Rattle.ds_eval.specs.Rows.{right_of, row_from};
-ghost use Rattle.ds_eval.specs.Tally.{IsTally};
+ghost use Rattle.ds_eval.specs.Numbers.{first_error};
+ghost use Rattle.ds_eval.specs.Tally.{AreCounted, IsTally};
 
 use crate::inputs::{Entry, Inputs};
-use crate::tally::Tally;
+use crate::tally::{Tally, Totals};
 use crate::value::Value;
 use ds_formula::cells::{Cell, Rect, Shape};
 
@@ -43,7 +44,7 @@ impl Gathered {
     /// What is known of no cells.
     pub fn new() -> Gathered
         ensures tally { IsTally [] result.tally }
-        ensures count { result.tally.count ≡ 0 }
+        ensures count { result.tally.totals.count ≡ 0 }
         ensures height { result.height ≡ 0 }
     {
         Gathered {
@@ -54,9 +55,9 @@ impl Gathered {
 
     /// With one more value, at a height one more than its cell's.
     pub fn with(self, value: Value, height: usize) -> Gathered
-        requires { self.tally.count < 2 ^ 32 }
+        requires { self.tally.totals.count < 2 ^ 32 }
         ensures tally { (vs : List values.Value) → IsTally vs self.tally → IsTally (vs ++ value ∷ []) result.tally }
-        ensures count { result.tally.count ≤ self.tally.count + 1 }
+        ensures count { result.tally.totals.count ≤ self.tally.totals.count + 1 }
         ensures height { result.height ≡ max self.height height }
     {
         Gathered {
@@ -104,15 +105,46 @@ fn height_with_row(
     requires cells { IfSome place (λ p. (k : ℕ) → k < columns → cell_in inputs.now.items (p + k) ≡ right_of first k) }
     ensures { result ≡ max height (min most (above (map (heights_in inputs.now.items) (row_from first columns)))) }
 {
-    let mut greatest = height;
-    for k in 0..columns {
-        let next = raised(entry_right_of(inputs, place, first, k).height, most);
-        greatest = greatest.max(next);
+    if columns == 0 {
+        return height;
     }
-    greatest
+    let mut greatest: usize = 0;
+    for k in 0..columns {
+        greatest = greatest.max(entry_right_of(inputs, place, first, k).height);
+    }
+    height.max(raised(greatest, most))
 }
 
-/// The tally with the values of a row of so many columns. A loop of its own is faster than one with the heights.
+/// The totals with the values of a row of so many columns, or the first error there. A loop of its own is faster than
+/// one with the heights.
+fn totals_with_row(
+    inputs: &Inputs,
+    place: Option<usize>,
+    first: Cell,
+    columns: usize,
+    totals: Totals,
+) -> Result<Totals, Value>
+    requires columns { first.column + columns ≤ 26 }
+    requires within { IfSome place (λ p. p + columns ≤ length inputs.now.items) }
+    requires cells { IfSome place (λ p. (k : ℕ) → k < columns → cell_in inputs.now.items (p + k) ≡ right_of first k) }
+    requires count { totals.count < 2 ^ 31 }
+    ensures counted { IfOk result (λ r. (vs : List values.Value) → AreCounted vs totals → AreCounted (vs ++ map (values_in inputs.now.items) (row_from first columns)) r) }
+    ensures error { IfErr result (λ e. (vs : List values.Value) → first_error vs ≡ None → first_error (vs ++ map (values_in inputs.now.items) (row_from first columns)) ≡ Some e) }
+    ensures count { IfOk result (λ r. r.count ≤ totals.count + columns) }
+{
+    let mut sum = totals;
+    for k in 0..columns {
+        let value = entry_right_of(inputs, place, first, k).value;
+        match value {
+            Value::Number(number) => sum = sum.with(number),
+            Value::Blank => {}
+            Value::DivZero | Value::Num | Value::Circular => return Err(value),
+        }
+    }
+    Ok(sum)
+}
+
+/// The tally with the values of a row of so many columns.
 fn tally_with_row(
     inputs: &Inputs,
     place: Option<usize>,
@@ -123,15 +155,23 @@ fn tally_with_row(
     requires columns { first.column + columns ≤ 26 }
     requires within { IfSome place (λ p. p + columns ≤ length inputs.now.items) }
     requires cells { IfSome place (λ p. (k : ℕ) → k < columns → cell_in inputs.now.items (p + k) ≡ right_of first k) }
-    requires count { tally.count < 2 ^ 31 }
+    requires count { tally.totals.count < 2 ^ 31 }
     ensures tally { (vs : List values.Value) → IsTally vs tally → IsTally (vs ++ map (values_in inputs.now.items) (row_from first columns)) result }
-    ensures count { result.count ≤ tally.count + columns }
+    ensures count { result.totals.count ≤ tally.totals.count + columns }
 {
-    let mut sum = tally;
-    for k in 0..columns {
-        sum = sum.with(entry_right_of(inputs, place, first, k).value);
+    if tally.error.is_some() {
+        return tally;
     }
-    sum
+    match totals_with_row(inputs, place, first, columns, tally.totals) {
+        Ok(totals) => Tally {
+            totals,
+            error: None,
+        },
+        Err(error) => Tally {
+            totals: tally.totals,
+            error: Some(error),
+        },
+    }
 }
 
 /// With the cells of a row of so many columns, which is looked for at this place first.
@@ -144,9 +184,9 @@ fn with_row(
     gathered: Gathered,
 ) -> Gathered
     requires within { first.column + columns ≤ 26 }
-    requires count { gathered.tally.count < 2 ^ 31 }
+    requires count { gathered.tally.totals.count < 2 ^ 31 }
     ensures tally { (vs : List values.Value) → IsTally vs gathered.tally → IsTally (vs ++ map (values_in inputs.now.items) (row_from first columns)) result.tally }
-    ensures count { result.tally.count ≤ gathered.tally.count + columns }
+    ensures count { result.tally.totals.count ≤ gathered.tally.totals.count + columns }
     ensures height { result.height ≡ max gathered.height (min most (above (map (heights_in inputs.now.items) (row_from first columns)))) }
 {
     let place = inputs.row_at(first, columns, near);
@@ -158,10 +198,10 @@ fn with_row(
 
 /// With the cells of a range. From the height on at which references lead round and round no more values are read.
 pub fn with_range(shape: Shape, inputs: &Inputs, area: Rect, gathered: Gathered) -> Gathered
-    requires count { gathered.tally.count < 2 ^ 30 }
+    requires count { gathered.tally.totals.count < 2 ^ 30 }
     requires height { gathered.height ≤ count_of shape }
     ensures tally { result.height < count_of shape → (vs : List values.Value) → IsTally vs gathered.tally → IsTally (vs ++ map (values_in inputs.now.items) (spec.cells_of shape area)) result.tally }
-    ensures count { result.tally.count ≤ gathered.tally.count + 2048 }
+    ensures count { result.tally.totals.count ≤ gathered.tally.totals.count + 2048 }
     ensures height { result.height ≡ max gathered.height (min (count_of shape) (above (map (heights_in inputs.now.items) (spec.cells_of shape area)))) }
 {
     let columns = width(shape, area);
@@ -170,7 +210,7 @@ pub fn with_range(shape: Shape, inputs: &Inputs, area: Rect, gathered: Gathered)
     if columns == 0 {
         return gathered;
     }
-    let (near, apart) = inputs.rows_of(area.first, columns);
+    let (mut near, apart) = inputs.rows_of(area.first, columns);
     let mut sum = gathered;
     for row in 0..rows {
         if sum.height < most {
@@ -178,8 +218,8 @@ pub fn with_range(shape: Shape, inputs: &Inputs, area: Rect, gathered: Gathered)
                 column: area.first.column,
                 row: area.first.row + row,
             };
-            let near = near.saturating_add(row.saturating_mul(apart));
             sum = with_row(inputs, most, first, columns, near, sum);
+            near = near.saturating_add(apart);
         }
     }
     sum

@@ -3,7 +3,7 @@ use Rattle.std.proofs.Common.{◌≡◌, ℕ, ◌+◌, ◌-◌, ◌*◌, ◌<◌
 use Rattle.std.specs.Char.{is_ascii_digit}
 use Rattle.ds_formula.specs.Bytes.{number_from}
 
-from_shorter : (n : ℕ) (text : List ℕ) → length (number_from n text).1 ≤ length text
+pub from_shorter : (n : ℕ) (text : List ℕ) → length (number_from n text).1 ≤ length text
 from_shorter n [] = omega arith
 from_shorter n (b ∷ bs) =
     let more = from_shorter (10 * n + (b - 48)) bs in

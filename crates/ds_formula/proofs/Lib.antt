@@ -14,3 +14,5 @@ pub mod Digits
 pub mod Back
 pub mod Writes
 pub mod ReadsBack
+pub mod Shorter
+pub mod Exists

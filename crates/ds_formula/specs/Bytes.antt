@@ -9,6 +9,7 @@ use Rattle.ds_formula.specs.declared.fault.FaultKind.TheVariants.{BadToken, NotW
 abbrev pub Read : Type 0 → Type 0
 Read A = Result (A × List ℕ) Stop
 
+-- goes on with what was read, where there was no fault
 infixl 10 ◌>>=◌
 abbrev pub ◌>>=◌ : {A B : Type 0} → Result A Stop → (A → Result B Stop) → Result B Stop
 (Ok x) >>= f = f x
@@ -23,16 +24,17 @@ result_of view (Err e) = Err e
 abbrev pub stop_at : FaultKind → List ℕ → Stop
 stop_at kind rest = record { kind = kind; left = length rest }
 
--- the bytes don't go on as they should: they end, or the first one cannot stand there
+-- the fault where the bytes don't go on as they should: they end, or the first one cannot stand there
 abbrev pub unexpected_stop : List ℕ → Stop
 unexpected_stop [] = stop_at Unfinished []
 unexpected_stop (b ∷ bs) = stop_at BadToken (b ∷ bs)
 
+-- whether this byte is the first one
 abbrev pub begins : ℕ → List ℕ → Bool
 begins byte [] = false
 begins byte (b ∷ bs) = b == byte
 
--- space, tab, line feed and carriage return
+-- whether a byte is white space: space, tab, line feed or carriage return
 abbrev pub is_space : ℕ → Bool
 is_space b = b == 32 || b == 9 || b == 10 || b == 13
 
@@ -46,11 +48,11 @@ abbrev pub number_from : ℕ → List ℕ → ℕ × List ℕ
 number_from n [] = (n, [])
 number_from n (b ∷ bs) = if is_ascii_digit b then number_from (10 * n + (b - 48)) bs else (n, b ∷ bs)
 
--- a point or an exponent: `.`, `e` or `E`
+-- whether a number goes on as a fraction, by a point or an exponent: `.`, `e` or `E`
 abbrev pub goes_on_as_fraction : List ℕ → Bool
 goes_on_as_fraction text = begins 46 text || begins 101 text || begins 69 text
 
--- digits, at least one, of a whole number that is at most the limit
+-- the whole number at the front: digits, at least one, of a number that is at most the limit
 unfoldable pub number_at : ℕ → List ℕ → Read ℕ
 number_at limit [] = Err (unexpected_stop [])
 number_at limit (b ∷ bs) =

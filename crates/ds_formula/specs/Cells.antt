@@ -13,11 +13,11 @@ pub record IsInside (shape : Shape) (cell : Cell) : Type 0 where
   pub column : cell.column < shape.columns
   pub row : cell.row < shape.rows
 
--- its number, row by row from the left
+-- the number of a cell, row by row from the left
 abbrev pub index_of : Shape → Cell → ℕ
 index_of shape cell = cell.row * shape.columns + cell.column
 
--- the cell with this number
+-- the cell of the sheet with this number, row by row from the left
 abbrev pub cell_at : Shape → ℕ → Cell
 cell_at shape index = record { column = index % shape.columns; row = index / shape.columns }
 

@@ -29,12 +29,13 @@ level_of Greater = 0
 level_of LessOrEqual = 0
 level_of GreaterOrEqual = 0
 
--- an operand of one token
+-- the expression of an operand of one token
 abbrev pub leaf_formula : Leaf → Formula
 leaf_formula (leaves.Number n) = Literal n
 leaf_formula (leaves.Reference c) = At c
 leaf_formula (leaves.Range r left) = Area r
 
+-- how a range stands that is an operand of one token
 abbrev pub leaf_ranges : Leaf → Ranges
 leaf_ranges (leaves.Number n) = Placed
 leaf_ranges (leaves.Reference c) = Placed
@@ -59,12 +60,12 @@ mutual
     call : {text mid rest : List ℕ} {g : Function} {left : ℕ} {fs : Formulas} {r : Ranges}
         → lead_at shape text ≡ Ok (leads.Name g left, mid) → Call shape g mid fs r rest → Operand shape text (Called g fs) r rest
 
-  -- a call behind its name
+  -- what is behind the name of a call: expressions in parentheses, as many as the function takes
   pub data Call (shape : Shape) : Function → List ℕ → Formulas → Ranges → List ℕ → Type 0 where
     bracketed : {g : Function} {text inner mid rest : List ℕ} {fs : Formulas} {r : Ranges}
         → byte_at 40 (skipped text) ≡ Ok inner → Arguments shape g inner fs r mid → follow_at mid ≡ Ok (Close, rest) → takes g (count fs) ≡ true → Call shape g text fs r rest
 
-  -- expressions, parted by semicolons
+  -- the arguments of a call: expressions, parted by semicolons
   pub data Arguments (shape : Shape) : Function → List ℕ → Formulas → Ranges → List ℕ → Type 0 where
     last : {g : Function} {text rest : List ℕ} {f : Formula} {r : Ranges} → Level shape 0 text f r rest → NoSemicolon rest → Arguments shape g text (Then f Nothing) (as_argument g r) rest
     more : {g : Function} {text mid next rest : List ℕ} {f : Formula} {fs : Formulas} {r s : Ranges}

@@ -5,7 +5,7 @@ use Rattle.std.specs.Cmp.Lexicographic.{pointwise}
 use Rattle.ds_formula.specs.declared.content.Function.{Function}
 use Rattle.ds_formula.specs.declared.content.Function.TheVariants.{Sum, Min, Max, Abs, Mod, Quotient, If}
 
--- its name, in capital letters
+-- the name of a function, in capital letters (OpenFormula 6.16.61, 6.18.48, 6.18.45, 6.16.2, 6.16.42, 6.16.48, 6.15.4)
 abbrev pub name_of : Function → List ℕ
 name_of Sum = codes "SUM"
 name_of Min = codes "MIN"
@@ -31,7 +31,7 @@ function_named name =
     else (if is_name_of If name then Some If
     else None))))))
 
--- how many arguments it takes
+-- whether the function takes so many arguments
 abbrev pub takes : Function → ℕ → Bool
 takes Sum n = nat_le 1 n
 takes Min n = nat_le 1 n
@@ -41,7 +41,7 @@ takes Mod n = n == 2
 takes Quotient n = n == 2
 takes If n = (n == 2) || (n == 3)
 
--- a range may be one of its arguments
+-- whether a range may be an argument of the function
 abbrev pub takes_ranges : Function → Bool
 takes_ranges Sum = true
 takes_ranges Min = true

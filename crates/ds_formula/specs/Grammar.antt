@@ -14,37 +14,39 @@ use Rattle.ds_formula.specs.Forms.{Expression}
 use Rattle.ds_formula.specs.Turns.{AnOperand, Faulty}
 use Rattle.ds_formula.specs.Sizes.{Fits}
 
--- a number that ends the text
+-- the number that was read, where the text ends behind it
 abbrev pub alone : ℕ → List ℕ → Result ℕ Stop
 alone n [] = Ok n
 alone n (b ∷ bs) = Err (unexpected_stop (b ∷ bs))
 
--- a number and nothing behind it
+-- the number that is the whole text
 unfoldable pub whole_of : ℕ → List ℕ → Result ℕ Stop
 whole_of limit text = number_at limit text >>= λ x. alone x.0 x.1
 
--- a number, with a sign or without
+-- the constant that is the whole text: a number, with a sign or without
 unfoldable pub constant_of : List ℕ → Result ℤ Stop
 constant_of text =
     if begins 45 text
     then (whole_of (2 ^ 63) (drop 1 text) >>= λ n. Ok (neg_ℤ (pos n)))
     else (if begins 43 text then (whole_of (2 ^ 63 - 1) (drop 1 text) >>= λ n. Ok (pos n)) else (whole_of (2 ^ 63 - 1) text >>= λ n. Ok (pos n)))
 
--- what is behind these bytes, where the text begins with them
+-- the rest of the text behind these bytes, where it begins with them
 abbrev pub behind : List ℕ → List ℕ → Option (List ℕ)
 behind [] text = Some text
 behind (p ∷ ps) [] = None
 behind (p ∷ ps) (b ∷ bs) = if b == p then behind ps bs else None
 
--- a second `=` changes nothing
+-- the text without an `=` at the front: a second one changes nothing
 abbrev pub without_equals : List ℕ → List ℕ
 without_equals [] = []
 without_equals (b ∷ bs) = if b == 61 then bs else b ∷ bs
 
+-- the first text, where there is one, else the other
 abbrev pub or_else : Option (List ℕ) → Option (List ℕ) → Option (List ℕ)
 or_else (Some x) other = Some x
 or_else None other = other
 
+-- the expression behind what begins a formula: a second `=` is skipped
 abbrev pub expression_behind : Option (List ℕ) → Option (List ℕ)
 expression_behind (Some x) = Some (without_equals x)
 expression_behind None = None
@@ -83,16 +85,22 @@ pub data Faults (shape : Shape) (text : List ℕ) : TextFault → Type 0 where
   too_long : TEXT_LIMIT < length text → Faults shape text (record { kind = TooLong; offset = TEXT_LIMIT })
   within : (fault : TextFault) → length text ≤ TEXT_LIMIT → FaultsLong shape text fault → Faults shape text fault
 
+-- the answer where memory ran out
 abbrev pub no_memory : TextFault
 no_memory = record { kind = NoMemory; offset = 0 }
 
--- a content is one of the text, and a fault is, or memory ran out
+-- what may be answered to a text: its content, its fault, or that memory ran out
 abbrev pub Answers : Shape → List ℕ → Result Content TextFault → Type 0
 Answers shape text (Ok c) = Reads shape text (plain c)
 Answers shape text (Err e) = (e ≡ no_memory) ⊎ Faults shape text e
 
--- a text has one content or one fault
+-- the text has a content, or it has a fault
+abbrev pub IsAnswered : Shape → List ℕ → Type 0
+IsAnswered shape text = ((c : Plain) × Reads shape text c) ⊎ ((e : TextFault) × Faults shape text e)
+
+-- a text has one content or one fault: there is one, no second one, and not one of each
 pub record OneAnswer (shape : Shape) (text : List ℕ) : Type 0 where
+  pub some : IsAnswered shape text
   pub content : (c d : Plain) → Reads shape text c → Reads shape text d → c ≡ d
   pub fault : (e f : TextFault) → Faults shape text e → Faults shape text f → e ≡ f
   pub never_both : (c : Plain) (e : TextFault) → Reads shape text c → Faults shape text e → ⊥

@@ -5,9 +5,11 @@ use Rattle.ds_formula.specs.declared.cells.Rect.{Rect}
 use Rattle.ds_formula.specs.declared.references.TheConstants.{PLACES}
 use Rattle.ds_formula.specs.Plain.{Formula, Literal, At, Area, Signed, Joined, Called, Formulas, Nothing, Then}
 
+-- the cell with this place among all that some sheet has
 abbrev pub cell_by : ℕ → Cell
 cell_by place = record { column = place % 26; row = place / 26 }
 
+-- whether the cell is one between the corners
 abbrev pub is_within : Rect → Cell → Bool
 is_within area cell = nat_le area.first.column cell.column && nat_le cell.column area.last.column && nat_le area.first.row cell.row && nat_le cell.row area.last.row
 
@@ -21,6 +23,7 @@ abbrev mutual
   mentions (Joined o f g) c = mentions f c || mentions g c
   mentions (Called f fs) c = some_mentions fs c
 
+  -- whether the cell is written in one of the arguments
   pub some_mentions : Formulas → Cell → Bool
   some_mentions Nothing c = false
   some_mentions (Then f fs) c = mentions f c || some_mentions fs c
@@ -30,18 +33,20 @@ unfoldable pub marked_below : List Bool → ℕ → List Cell
 marked_below marks zero = []
 marked_below marks (suc n) = marked_below marks n ++ (if slice_index_or marks n false then cell_by n ∷ [] else [])
 
--- each row with a mark is one of these
+-- each row in which a cell has a mark is a marked row
 pub record AreRowsOf (marks rows : List Bool) : Type 0 where
   pub each : (k : ℕ) → k < PLACES → slice_index_or marks k false ≡ true → slice_index_or rows (k / 26) false ≡ true
 
--- the cells that pass the test have a mark too now
+-- beside the marks that were there, the cells that pass the test have one now
 pub record MarksBy (test : Cell → Bool) (old new : List Bool) : Type 0 where
   pub same_length : length new ≡ length old
   pub each : (k : ℕ) → k < PLACES → slice_index_or new k false ≡ (slice_index_or old k false || test (cell_by k))
 
+-- beside the marks that were there, the cells of the range have one now
 abbrev pub MarksArea : Rect → List Bool → List Bool → Type 0
 MarksArea area = MarksBy (is_within area)
 
+-- beside the marks that were there, the cells written in the expression have one now
 abbrev pub Marks : Formula → List Bool → List Bool → Type 0
 Marks f = MarksBy (mentions f)
 

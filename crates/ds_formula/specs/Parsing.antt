@@ -19,6 +19,7 @@ use Rattle.ds_formula.specs.Tokens.{follow_at}
 use Rattle.ds_formula.specs.Forms.{level_of}
 use Rattle.ds_formula.specs.Turns.{Bracket, Call, Due, AnOperand, ItsBracket, Faulty}
 
+-- the operator that was read, and what is behind it, where it has this level
 abbrev pub of_level : ℕ → Read Follow → Option (Operator × List ℕ)
 of_level l (Ok (Infix o, rest)) = if level_of o == l then Some (o, rest) else None
 of_level l (Ok (Close, rest)) = None
@@ -30,6 +31,7 @@ of_level l (Err s) = None
 abbrev pub operator_at : ℕ → List ℕ → Option (Operator × List ℕ)
 operator_at l text = of_level l (follow_at text)
 
+-- what is behind the token that was read, where it is a semicolon
 abbrev pub behind_semicolon : Read Follow → Option (List ℕ)
 behind_semicolon (Ok (Semicolon, rest)) = Some rest
 behind_semicolon (Ok (Infix o, rest)) = None
@@ -41,6 +43,7 @@ behind_semicolon (Err s) = None
 abbrev pub semicolon_at : List ℕ → Option (List ℕ)
 semicolon_at text = behind_semicolon (follow_at text)
 
+-- what is behind the token that was read, where it is a closing bracket; else it is a fault
 abbrev pub behind_close : List ℕ → Read Follow → Result (List ℕ) Stop
 behind_close text (Ok (Close, rest)) = Ok rest
 behind_close text (Ok (Infix o, rest)) = Err (unexpected_stop (skipped text))
@@ -52,6 +55,7 @@ behind_close text (Err s) = Err (unexpected_stop (skipped text))
 abbrev pub close_at : List ℕ → Result (List ℕ) Stop
 close_at text = behind_close text (follow_at text)
 
+-- what is behind the token that was read, where it is the end; else it is a fault
 abbrev pub behind_end : List ℕ → Read Follow → Result (List ℕ) Stop
 behind_end text (Ok (End, rest)) = Ok rest
 behind_end text (Ok (Infix o, rest)) = Err (unexpected_stop (skipped text))
@@ -63,24 +67,25 @@ behind_end text (Err s) = Err (unexpected_stop (skipped text))
 abbrev pub end_at : List ℕ → Result (List ℕ) Stop
 end_at text = behind_end text (follow_at text)
 
--- want of memory, or the first fault, whatever is open around
+-- want of memory, or the first fault where this is due, whatever is open around
 abbrev pub RefusesAt : Shape → Due → List ℕ → Refusal → Type 0
 RefusesAt shape due text Memory = Unit {0}
 RefusesAt shape due text (Stopped stop) = (open_ones : List Bracket) → Faulty shape due open_ones text stop
 
+-- want of memory, or the first fault where an operand is due, whatever is open around
 abbrev pub Refuses : Shape → List ℕ → Refusal → Type 0
 Refuses shape = RefusesAt shape AnOperand
 
--- the same behind the name of a call
+-- want of memory, or the first fault behind the name of a call, whatever is open around
 abbrev pub CallRefuses : Shape → Function → ℕ → List ℕ → Refusal → Type 0
 CallRefuses shape f place = RefusesAt shape (ItsBracket f place)
 
--- the same among the arguments of a call
+-- want of memory, or the first fault among the arguments of a call, whatever is open around
 abbrev pub ArgumentsRefuse : Shape → List ℕ → Refusal → Type 0
 ArgumentsRefuse shape text Memory = Unit {0}
 ArgumentsRefuse shape text (Stopped stop) = (f : Function) (n name : ℕ) (open_ones : List Bracket) → Faulty shape AnOperand (Call f n name ∷ open_ones) text stop
 
--- the same of a whole text
+-- want of memory, or the first fault of a whole text
 abbrev pub WholeRefuses : Shape → List ℕ → Refusal → Type 0
 WholeRefuses shape text Memory = Unit {0}
 WholeRefuses shape text (Stopped stop) = Faulty shape AnOperand [] text stop
@@ -91,7 +96,7 @@ pub record IsAccepted (ranges : Ranges) (f : Formula) (content : Plain) : Type 0
   pub fits : Fits f
   pub is : content ≡ Computed f
 
--- it may not: a range is misplaced, else it is too large
+-- an expression may be no content: a range is misplaced, else it is too large
 pub data IsRefused (text : List ℕ) (ranges : Ranges) (f : Formula) : TextFault → Type 0 where
   misplaced_range : (left : ℕ) → misplaced ranges ≡ Some left → IsRefused text ranges f (record { kind = RangeNotAllowed; offset = length text - left })
   too_large : misplaced ranges ≡ None → (Fits f → ⊥) → IsRefused text ranges f (record { kind = TooDeep; offset = 0 })

@@ -33,10 +33,12 @@ pub data Plain : Type 0 where
   Constant : ℤ → Plain
   Computed : Formula → Plain
 
+-- formulas in a list, as arguments
 abbrev pub listed : List Formula → Formulas
 listed [] = Nothing
 listed (f ∷ fs) = Then f (listed fs)
 
+-- the plain view of a tree, where those of its parts are known
 abbrev pub layer : Tree-F Formula → Formula
 layer (layers.Number n) = Literal n
 layer (layers.Reference c) = At c
@@ -55,7 +57,7 @@ plain contents.Blank = Empty
 plain (contents.Number z) = Constant z
 plain (contents.Formula t) = Computed (formula t)
 
--- how many arguments there are
+-- how many arguments a function has
 abbrev pub count : Formulas → ℕ
 count Nothing = 0
 count (Then f fs) = 1 + count fs

@@ -5,19 +5,19 @@ use Rattle.ds_formula.specs.declared.ranges.Ranges.{Ranges}
 use Rattle.ds_formula.specs.declared.ranges.Ranges.TheVariants.{Placed, Bare, Misplaced}
 use Rattle.ds_formula.specs.Functions.{takes_ranges}
 
--- where the expression is used in a place that takes no range
+-- the ranges of an expression that is used in a place that takes none
 abbrev pub used : Ranges → Ranges
 used Placed = Placed
 used (Bare left) = Misplaced left
 used (Misplaced left) = Misplaced left
 
--- those of one expression, and then those of another one
+-- the ranges of one expression and of another one behind it
 abbrev pub first_of : Ranges → Ranges → Ranges
 first_of Placed other = other
 first_of (Bare left) other = Bare left
 first_of (Misplaced left) other = Misplaced left
 
--- where the expression is a whole argument
+-- the ranges of an expression that is a whole argument of the function
 abbrev pub as_argument : Function → Ranges → Ranges
 as_argument function Placed = Placed
 as_argument function (Bare left) = if takes_ranges function then Placed else Misplaced left

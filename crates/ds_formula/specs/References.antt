@@ -9,7 +9,7 @@ use Rattle.ds_formula.specs.declared.tokens.Leaf.TheVariants.{Reference, Range}
 use Rattle.ds_formula.specs.declared.fault.FaultKind.TheVariants.{OutsideSheet}
 use Rattle.ds_formula.specs.Bytes.{Read, ◌>>=◌, stop_at, unexpected_stop, begins, number_from, byte_at}
 
--- a `$` changes nothing
+-- the text without a `$` at the front, which changes nothing
 abbrev pub without_dollar : List ℕ → List ℕ
 without_dollar [] = []
 without_dollar (b ∷ bs) = if b == 36 then bs else b ∷ bs
@@ -19,21 +19,21 @@ abbrev pub letters_from : ℕ → List ℕ → ℕ × List ℕ
 letters_from n [] = (n, [])
 letters_from n (b ∷ bs) = if is_ascii_alphabetic b then letters_from (26 * n + (to_ascii_uppercase b - 64)) bs else (n, b ∷ bs)
 
--- letters, at least one
+-- the number of the column at the front: letters, at least one
 unfoldable pub letters_at : List ℕ → Read ℕ
 letters_at [] = Err (unexpected_stop [])
 letters_at (b ∷ bs) = if is_ascii_alphabetic b then Ok (letters_from 0 (b ∷ bs)) else Err (unexpected_stop (b ∷ bs))
 
--- digits of which the first isn't 0
+-- the number of the row at the front: digits of which the first isn't 0
 unfoldable pub row_at : List ℕ → Read ℕ
 row_at [] = Err (unexpected_stop [])
 row_at (b ∷ bs) = if nat_le 49 b && nat_le b 57 then Ok (number_from 0 (b ∷ bs)) else Err (unexpected_stop (b ∷ bs))
 
--- a cell by its column and its row, each from 1, where it is one of the sheet
+-- the cell with this column and this row, each from 1, where it is one of the sheet
 abbrev pub cell_of : Shape → ℕ → ℕ → Option Cell
 cell_of shape column row = if nat_le column shape.columns && nat_le row shape.rows then Some (record { column = column - 1; row = row - 1 }) else None
 
--- a dot, a column and a row
+-- the cell at the front: a dot, a column and a row
 unfoldable pub corner_at : Shape → List ℕ → Read (Option Cell)
 corner_at shape text = do
   dot ← byte_at 46 text
@@ -66,7 +66,7 @@ behind_corner shape text one rest =
     then (corner_at shape (drop 1 rest) >>= λ other. byte_at 93 other.1 >>= λ end. both_inside text one other.0 end)
     else (byte_at 93 rest >>= λ end. inside_sheet text one end)
 
--- [.A1] or [.A1:.B3], with no white space inside
+-- the reference or range at the front: [.A1] or [.A1:.B3], with no white space inside
 unfoldable pub reference_at : Shape → List ℕ → Read Leaf
 reference_at shape text = do
   bracket ← byte_at 91 text

@@ -4,7 +4,7 @@ use Rattle.ds_formula.specs.declared.reading.TheConstants.{NODE_LIMIT, DEPTH_LIM
 use Rattle.ds_formula.specs.Plain.{Formula, Literal, At, Area, Signed, Joined, Called, Formulas, Nothing, Then}
 
 abbrev mutual
-  -- how many numbers, references, ranges, signs, operators and functions there are
+  -- how many numbers, references, ranges, signs, operators and functions an expression has
   pub nodes : Formula → ℕ
   nodes (Literal z) = 1
   nodes (At c) = 1
@@ -18,7 +18,7 @@ abbrev mutual
   nodes_of (Then f fs) = nodes f + nodes_of fs
 
 abbrev mutual
-  -- how deep they are nested: a number, a reference or a range has depth 1
+  -- how deep an expression is nested: a number, a reference or a range has depth 1
   pub depth : Formula → ℕ
   depth (Literal z) = 1
   depth (At c) = 1
@@ -31,7 +31,7 @@ abbrev mutual
   depth_of Nothing = 0
   depth_of (Then f fs) = max (depth f) (depth_of fs)
 
--- not too large
+-- the expression is not too large
 pub record Fits (f : Formula) : Type 0 where
   pub few : nodes f ≤ NODE_LIMIT
   pub shallow : depth f ≤ DEPTH_LIMIT

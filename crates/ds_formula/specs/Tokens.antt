@@ -16,7 +16,7 @@ use Rattle.ds_formula.specs.Bytes.{Read, ◌>>=◌, stop_at, unexpected_stop, sk
 use Rattle.ds_formula.specs.References.{reference_at}
 use Rattle.ds_formula.specs.Functions.{function_named}
 
--- a letter, a digit, `.` or `_`
+-- whether a byte is one of a name: a letter, a digit, `.` or `_`
 abbrev pub is_name_byte : ℕ → Bool
 is_name_byte b = is_ascii_alphabetic b || is_ascii_digit b || b == 46 || b == 95
 
@@ -30,11 +30,11 @@ abbrev pub known : List ℕ → Option Function → List ℕ → Read Lead
 known text (Some f) rest = Ok (Name f (length text), rest)
 known text None rest = Err (stop_at UnknownFunction text)
 
--- a name goes as far as bytes of a name do
+-- the function whose name is at the front: it goes as far as bytes of a name do
 unfoldable pub name_at : List ℕ → Read Lead
 name_at text = known text (function_named (take (word_length text) text)) (drop (word_length text) text)
 
--- a number, a reference, a range, `(`, a sign or a name
+-- the token at the front where an operand is due: a number, a reference, a range, `(`, a sign or a name
 unfoldable pub lead_of : Shape → List ℕ → Read Lead
 lead_of shape [] = Err (unexpected_stop [])
 lead_of shape (b ∷ bs) =
@@ -50,20 +50,21 @@ lead_of shape (b ∷ bs) =
 unfoldable pub lead_at : Shape → List ℕ → Read Lead
 lead_at shape text = lead_of shape (skipped text)
 
--- `<>`, `<=` or `<`, behind the first byte
+-- the operator `<>`, `<=` or `<`, by what is behind its first byte
 abbrev pub after_less : List ℕ → Operator × List ℕ
 after_less [] = (Less, [])
 after_less (b ∷ bs) = if b == 62 then (NotEqual, bs) else (if b == 61 then (LessOrEqual, bs) else (Less, b ∷ bs))
 
--- `>=` or `>`, behind the first byte
+-- the operator `>=` or `>`, by what is behind its first byte
 abbrev pub after_greater : List ℕ → Operator × List ℕ
 after_greater [] = (Greater, [])
 after_greater (b ∷ bs) = if b == 61 then (GreaterOrEqual, bs) else (Greater, b ∷ bs)
 
+-- an operator as a token, before the rest
 abbrev pub infix_of : Operator × List ℕ → Option (Follow × List ℕ)
 infix_of x = Some (Infix x.0, x.1)
 
--- an operator, `)` or `;`, by its first byte and the bytes behind that
+-- the token behind an operand, by its first byte and the bytes behind that: an operator, `)` or `;`
 abbrev pub follow_token : ℕ → List ℕ → Option (Follow × List ℕ)
 follow_token b bs =
     if b == 41 then Some (Close, bs)
@@ -76,11 +77,12 @@ follow_token b bs =
     else (if b == 62 then infix_of (after_greater bs)
     else None)))))))
 
+-- the token that stands before the rest; where there is none, the byte at the front is a fault
 abbrev pub found : List ℕ → Option (Follow × List ℕ) → Read Follow
 found text (Some x) = Ok x
 found text None = Err (unexpected_stop text)
 
--- an operator, `)`, `;` or the end
+-- the token at the front where an operand has ended: an operator, `)`, `;` or the end
 unfoldable pub follow_of : List ℕ → Read Follow
 follow_of [] = Ok (End, [])
 follow_of (b ∷ bs) = found (b ∷ bs) (follow_token b bs)

@@ -32,45 +32,52 @@ pub data Turn : Type 0 where
   Stops : Stop → Turn
   Ends : Turn
 
+-- a wrong number of arguments, which is a fault at the name of the function
 abbrev pub wrong_arguments : ℕ → Turn
 wrong_arguments name = Stops (record { kind = WrongArguments; left = name })
 
--- where an operand is due
+-- where an operand is due: what comes of the token there
 abbrev pub after_lead : List Bracket → Lead → List ℕ → Turn
 after_lead open_ones (Leaf l) rest = Goes AnOperator open_ones rest
 after_lead open_ones (Prefix s) rest = Goes AnOperand open_ones rest
 after_lead open_ones Open rest = Goes AnOperand (Group ∷ open_ones) rest
 after_lead open_ones (Name f left) rest = Goes (ItsBracket f left) open_ones rest
 
+-- where an operand is due: what comes of the token that was read, or of its fault
 abbrev pub by_lead : List Bracket → Read Lead → Turn
 by_lead open_ones (Ok x) = after_lead open_ones x.0 x.1
 by_lead open_ones (Err s) = Stops s
 
+-- behind a name: a bracket opens the first argument
 abbrev pub by_bracket : Function → ℕ → List Bracket → Result (List ℕ) Stop → Turn
 by_bracket f name open_ones (Ok rest) = Goes (FirstArgument name) (Call f 1 name ∷ open_ones) rest
 by_bracket f name open_ones (Err s) = Stops s
 
--- where an operand has ended, with the bytes from there on
+-- where a closing bracket comes behind an operand: it closes the group or the call that is open
 abbrev pub closed : List Bracket → List ℕ → List ℕ → Turn
 closed [] text rest = Stops (unexpected_stop (skipped text))
 closed (Group ∷ open_ones) text rest = Goes AnOperator open_ones rest
 closed (Call f n name ∷ open_ones) text rest = if takes f n then Goes AnOperator open_ones rest else wrong_arguments name
 
+-- where a semicolon comes behind an operand: the next argument of the call that is open
 abbrev pub parted : List Bracket → List ℕ → List ℕ → Turn
 parted [] text rest = Stops (unexpected_stop (skipped text))
 parted (Group ∷ open_ones) text rest = Stops (unexpected_stop (skipped text))
 parted (Call f n name ∷ open_ones) text rest = Goes AnOperand (Call f (n + 1) name ∷ open_ones) rest
 
+-- where the text ends behind an operand: no bracket may be open
 abbrev pub ended : List Bracket → List ℕ → Turn
 ended [] text = Ends
 ended (b ∷ open_ones) text = Stops (unexpected_stop (skipped text))
 
+-- where an operand has ended: what comes of the token behind it
 abbrev pub after_follow : List Bracket → List ℕ → Follow → List ℕ → Turn
 after_follow open_ones text (Infix o) rest = Goes AnOperand open_ones rest
 after_follow open_ones text Close rest = closed open_ones text rest
 after_follow open_ones text Semicolon rest = parted open_ones text rest
 after_follow open_ones text End rest = ended open_ones text
 
+-- where an operand has ended: what comes of the token that was read, or of its fault
 abbrev pub by_follow : List Bracket → List ℕ → Read Follow → Turn
 by_follow open_ones text (Ok x) = after_follow open_ones text x.0 x.1
 by_follow open_ones text (Err s) = Stops s

@@ -39,7 +39,7 @@ pub enum Sign {
     Minus,
 }
 
-/// An infix operator (OpenFormula 6.4.2 to 6.4.9).
+/// An infix operator (OpenFormula 6.4.2 to 6.4.4 and 6.4.7 to 6.4.9).
 #[derive(Clone, Copy, Debug, PartialEq, Eq)]
 pub enum Operator {
     /// `*`.

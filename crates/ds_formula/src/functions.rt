@@ -14,7 +14,7 @@ fn is_name_of(function: Function, name: &[u8]) -> bool
 }
 
 impl Function {
-    /// Its name as texts show it, in capital letters (OpenFormula 6.16.61, 6.18.45, 6.18.48, 6.16.2, 6.16.38, 6.16.48
+    /// Its name as texts show it, in capital letters (OpenFormula 6.16.61, 6.18.48, 6.18.45, 6.16.2, 6.16.42, 6.16.48
     /// and 6.15.4).
     pub fn name(self) -> &'static str
         ensures { result.now ≡ name_of self }

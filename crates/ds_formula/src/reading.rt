@@ -173,7 +173,7 @@ fn accepted(text: &[u8], parsed: Parsed) -> Result<Content, TextFault>
     Ok(Content::Formula(parsed.tree))
 }
 
-/// A text has one content or one fault, and never both.
+/// Each text has one content or one fault, and never both.
 pub fn one_answer()
     ensures { (shape : Shape) (text : List ℕ) → OneAnswer shape text }
 {}

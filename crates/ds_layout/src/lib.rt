@@ -10,6 +10,4 @@ pub mod mark;
 pub mod place;
 pub mod sheet_words;
 pub mod stored;
-#[cfg(test)]
-mod tests;
 pub mod text;

@@ -8,11 +8,11 @@ use Rattle.ds_state.specs.Fresh.{IsNew}
 use Rattle.ds_core.specs.Takes.{WorldRun}
 use Rattle.ds_core.specs.Headline.{HasHeadline}
 use Rattle.ds_core.proofs.EachRun.{runs_have_headline}
-use Rattle.ds_sched.specs.declared.ending.ScriptEnd.{ScriptEnd}
-use Rattle.ds_sched.specs.declared.ending.ScriptEnd.TheVariants as ends
-use Rattle.ds_sched.specs.declared.input.InputEnd.{InputEnd}
-use Rattle.ds_sched.specs.Lines.{AtFront, ALine, next_of}
-use Rattle.ds_sched.proofs.Known.{Appends-both}
+use Rattle.ds_streams.specs.declared.ending.ScriptEnd.{ScriptEnd}
+use Rattle.ds_streams.specs.declared.ending.ScriptEnd.TheVariants as ends
+use Rattle.ds_streams.specs.declared.input.InputEnd.{InputEnd}
+use Rattle.ds_streams.specs.Lines.{AtFront, ALine, next_of}
+use Rattle.ds_streams.proofs.Known.{Appends-both}
 use Rattle.ds_play.specs.declared.order.Begun.{Begun}
 use Rattle.ds_play.specs.declared.order.Begun.TheVariants as begun
 use Rattle.ds_play.specs.declared.script.Stop.{Stop}

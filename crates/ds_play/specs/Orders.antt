@@ -1,5 +1,5 @@
 -- The commands of a script over a world, and the lines that give them.
-use Rattle.std.specs.Prelude.{ℕ, ◌≤◌, List, [], codes, Option, Some, None, is_none, option_map, unwrap_or, Result, Ok, Err, if◌then◌else◌}
+use Rattle.std.specs.Prelude.{ℕ, ◌≤◌, ◌*◌, Bool, ◌&&◌, nat_le, List, [], codes, Option, Some, None, is_none, option_map, unwrap_or, Result, Ok, Err, if◌then◌else◌}
 use Rattle.std.specs.Str.{bytes_eq}
 use Rattle.ds_formula.specs.declared.cells.Shape.{Shape}
 use Rattle.ds_formula.specs.declared.cells.Cell.{Cell}
@@ -13,11 +13,10 @@ use Rattle.ds_state.specs.Value.{WorldValue, world_of}
 use Rattle.ds_core.specs.Requests.{PlainRequest}
 use Rattle.ds_core.specs.declared.event.Event.{Event}
 use Rattle.ds_core.specs.declared.event.Event.TheVariants as events
-use Rattle.ds_sched.specs.declared.ending.ScriptFault.{ScriptFault}
-use Rattle.ds_sched.specs.declared.ending.ScriptFault.TheVariants.{UnknownCommand, BadField, SheetNotFirst}
-use Rattle.ds_sched.specs.Lines.{word_of}
-use Rattle.ds_sched.specs.Commands.{◌>>=◌, number_field, cell_field, make_of, is_skipped}
-use Rattle.ds_sched.specs.Commands as old
+use Rattle.ds_streams.specs.declared.ending.ScriptFault.{ScriptFault}
+use Rattle.ds_streams.specs.declared.ending.ScriptFault.TheVariants.{UnknownCommand, BadField, SheetNotFirst}
+use Rattle.ds_streams.specs.Lines.{word_of}
+use Rattle.ds_streams.specs.Fields.{◌>>=◌, number_field, cell_field, is_skipped}
 use Rattle.ds_play.specs.declared.point.PointName.{PointName}
 use Rattle.ds_play.specs.declared.point.PointName.TheVariants as name
 use Rattle.ds_play.specs.declared.order.Verb.{Verb}
@@ -196,12 +195,17 @@ word_order layout rest = place_field layout rest >>= λ r. Some (Does (Word r))
 abbrev pub peek_of : Layout → Option (List ℕ) → Option Order
 peek_of layout rest = cell_field layout.shape rest >>= λ cell. alone (Peek cell.0) cell.1
 
-abbrev pub make : old.Order → Option Order
-make (old.Make columns rows processes) = Some (Make columns rows processes)
-make _ = None
+-- a sheet has so many columns and rows
+abbrev pub may_have : ℕ → ℕ → Bool
+may_have columns rows = (nat_le 1 columns && nat_le columns 26) && ((nat_le 1 rows && nat_le rows 64) && nat_le (columns * rows) 1024)
 
+-- sheet COLUMNS ROWS PROCESSES
 abbrev pub sheet_of : Option (List ℕ) → Option Order
-sheet_of rest = make_of rest >>= make
+sheet_of rest =
+    number_field 27 rest >>= λ columns.
+    number_field 65 columns.1 >>= λ rows.
+    number_field 9 rows.1 >>= λ processes.
+    if may_have columns.0 rows.0 && (nat_le 1 processes.0 && is_none processes.1) then Some (Make columns.0 rows.0 processes.0) else None
 
 abbrev pub or_bad_field : Option Order → Result Order ScriptFault
 or_bad_field None = Err BadField

@@ -2,8 +2,8 @@
 use Rattle.std.specs.Prelude.{◌≡◌, ◌⊎◌, ℕ, Bool, true, List, [], Option, Some, None, Result, Ok, Err}
 use Rattle.std.specs.Io.KnownBytes.{Appends}
 use Rattle.ds_state.specs.Value.{WorldValue}
-use Rattle.ds_sched.specs.declared.ending.ScriptEnd.{ScriptEnd}
-use Rattle.ds_sched.specs.declared.ending.ScriptEnd.TheVariants as ends
+use Rattle.ds_streams.specs.declared.ending.ScriptEnd.{ScriptEnd}
+use Rattle.ds_streams.specs.declared.ending.ScriptEnd.TheVariants as ends
 use Rattle.ds_play.specs.declared.order.Begun.{Begun}
 use Rattle.ds_play.specs.declared.order.Begun.TheVariants as begun
 use Rattle.ds_play.specs.declared.script.Stop.{Stop}

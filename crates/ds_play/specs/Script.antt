@@ -8,14 +8,14 @@ use Rattle.ds_core.specs.declared.event.Event.{Event}
 use Rattle.ds_core.specs.declared.event.Event.TheVariants.{Step}
 use Rattle.ds_core.specs.declared.reply.Reply.{Reply}
 use Rattle.ds_core.specs.declared.reply.Reply.TheVariants.{Stepped, Answered}
-use Rattle.ds_sched.specs.declared.ending.ScriptFault.{ScriptFault}
-use Rattle.ds_sched.specs.declared.ending.ScriptFault.TheVariants.{LineTooLong}
-use Rattle.ds_sched.specs.declared.ending.ScriptEnd.{ScriptEnd}
-use Rattle.ds_sched.specs.declared.ending.ScriptEnd.TheVariants as ends
-use Rattle.ds_sched.specs.declared.input.InputEnd.{InputEnd}
-use Rattle.ds_sched.specs.declared.input.InputEnd.TheVariants as inputs
-use Rattle.ds_sched.specs.Input.{EndsWith}
-use Rattle.ds_sched.specs.Lines.{AtFront, NoLine, ALine, LongLine, next_of}
+use Rattle.ds_streams.specs.declared.ending.ScriptFault.{ScriptFault}
+use Rattle.ds_streams.specs.declared.ending.ScriptFault.TheVariants.{LineTooLong}
+use Rattle.ds_streams.specs.declared.ending.ScriptEnd.{ScriptEnd}
+use Rattle.ds_streams.specs.declared.ending.ScriptEnd.TheVariants as ends
+use Rattle.ds_streams.specs.declared.input.InputEnd.{InputEnd}
+use Rattle.ds_streams.specs.declared.input.InputEnd.TheVariants as inputs
+use Rattle.ds_streams.specs.Input.{EndsWith}
+use Rattle.ds_streams.specs.Lines.{AtFront, NoLine, ALine, LongLine, next_of}
 use Rattle.ds_play.specs.declared.order.Begun.{Begun}
 use Rattle.ds_play.specs.declared.order.Begun.TheVariants as begun
 use Rattle.ds_play.specs.Orders.{Order, Make, Does, Deed, order_of}

@@ -15,9 +15,9 @@ use crate::point::{PointName, is_lacking};
 use ds_formula::cells::{Cell, Shape};
 use ds_layout::layout::Layout;
 use ds_layout::place::Place;
-use ds_sched::command::{is_skipped, named, numbered};
-use ds_sched::ending::ScriptFault;
-use ds_sched::line::word;
+use ds_streams::fields::{is_skipped, named, numbered};
+use ds_streams::ending::ScriptFault;
+use ds_streams::line::word;
 use ds_state::world::World;
 
 /// The first word of a line.

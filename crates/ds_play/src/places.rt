@@ -8,8 +8,8 @@ ghost use Rattle.ds_play.specs.Orders.{cell_only, number_only, kind_of, place_by
 use ds_formula::cells::Shape;
 use ds_layout::layout::Layout;
 use ds_layout::place::{DONE_PARTS, Place, RECORDS, TEXT_PARTS};
-use ds_sched::command::{named, numbered};
-use ds_sched::line::word;
+use ds_streams::fields::{named, numbered};
+use ds_streams::line::word;
 
 /// The first word of a place.
 #[derive(Clone, Copy, Debug, PartialEq, Eq)]

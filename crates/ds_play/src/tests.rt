@@ -1,8 +1,8 @@
 //! Scripts and what they answer, by the model of the papers.
 
 use crate::script::run_script;
-use ds_sched::ending::{ScriptEnd, ScriptFault};
-use ds_sched::streams::{Reading, Writing};
+use ds_streams::ending::{ScriptEnd, ScriptFault};
+use ds_streams::streams::{Reading, Writing};
 
 const ROWS: [(&str, &str, ScriptEnd); 17] = [
     (

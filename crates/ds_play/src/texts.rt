@@ -7,7 +7,7 @@ ghost use Rattle.ds_layout.specs.Sheet.{memory};
 ghost use Rattle.ds_state.specs.Value.{world_of};
 ghost use Rattle.ds_edit.specs.declared.answer.Answer.TheVariants.{Settled};
 ghost use Rattle.ds_core.specs.declared.reply.Reply.TheVariants.{Answered};
-ghost use Rattle.ds_sched.specs.Answers.{settled_text};
+ghost use Rattle.ds_streams.specs.Answers.{settled_text};
 ghost use Rattle.ds_play.specs.Texts.{counts_text, changed_text, last_text, unsettled_text, values_of, answer_text, reply_text, at_text, left_text, shown_text, state_text, peek_head, peek_text, word_text};
 ghost use Rattle.ds_play.specs.Plays.{halt_text};
 
@@ -19,7 +19,7 @@ use ds_eval::value::Value;
 use ds_formula::cells::{Cell, Shape};
 use ds_layout::mark::State;
 use ds_layout::place::Place;
-use ds_sched::answer::{done_line, refused_line, settled_lines};
+use ds_streams::answer::{done_line, refused_line, settled_lines};
 use ds_state::world::World;
 use std::alloc::{AllocError, Global};
 

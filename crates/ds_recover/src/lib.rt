@@ -5,5 +5,3 @@ pub mod begin;
 pub mod laws;
 pub mod machine;
 pub mod step;
-#[cfg(test)]
-mod tests;

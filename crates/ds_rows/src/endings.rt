@@ -1,7 +1,7 @@
 use crate::running::answers;
-use ds_sched::ending::{ScriptEnd, ScriptFault};
-use ds_sched::script::run_script;
-use ds_sched::streams::{Reading, Writing};
+use ds_streams::ending::{ScriptEnd, ScriptFault};
+use ds_play::script::run_script;
+use ds_streams::streams::{Reading, Writing};
 use std::alloc::AllocError;
 use std::io::{self, ErrorKind, Read, Write};
 

@@ -1,5 +1,5 @@
 use crate::running::{answers, expect_answers};
-use ds_sched::ending::ScriptEnd;
+use ds_streams::ending::ScriptEnd;
 use std::alloc::{AllocError, Global};
 
 // The name of the cell with this number on a sheet of 16 columns.

@@ -1,16 +1,10 @@
-//! Worked examples, end to end: scripts and what they answer, as tables, and runs of events on a small sheet.
+//! Scripts and what they answer, as tables.
 #![tactic(auto)]
 
-#[cfg(test)]
-mod contents;
-#[cfg(test)]
-mod drawn;
 #[cfg(test)]
 mod endings;
 #[cfg(test)]
 mod large;
-#[cfg(test)]
-mod random;
 #[cfg(test)]
 mod refusals;
 #[cfg(test)]
@@ -18,8 +12,4 @@ mod rows;
 #[cfg(test)]
 mod running;
 #[cfg(test)]
-mod runs;
-#[cfg(test)]
 mod speeds;
-#[cfg(test)]
-mod worlds;

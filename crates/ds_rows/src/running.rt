@@ -1,8 +1,8 @@
 //! Runs a script in memory.
 
-use ds_sched::ending::ScriptEnd;
-use ds_sched::script::run_script;
-use ds_sched::streams::{Reading, Writing};
+use ds_streams::ending::ScriptEnd;
+use ds_play::script::run_script;
+use ds_streams::streams::{Reading, Writing};
 use std::alloc::Global;
 use std::process::Abort;
 

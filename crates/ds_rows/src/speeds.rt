@@ -1,7 +1,7 @@
 //! The sheets that `bench/` times, with all their values: full sheets of 16 columns and 64 rows, whose values have
 //! closed forms.
 use crate::running::answers;
-use ds_sched::ending::ScriptEnd;
+use ds_streams::ending::ScriptEnd;
 use std::alloc::{AllocError, Global};
 use std::process::Abort;
 

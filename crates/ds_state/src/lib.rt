@@ -10,8 +10,6 @@ pub mod row;
 pub mod shown;
 pub mod situation;
 pub mod stage;
-#[cfg(test)]
-mod tests;
 pub mod text;
 pub mod work;
 pub mod world;

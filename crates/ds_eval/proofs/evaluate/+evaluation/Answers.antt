@@ -14,7 +14,7 @@ use Rattle.ds_eval.proofs.evaluate.+evaluation.Goals as goal
 use Rattle.ds_eval.proofs.evaluate.+evaluation.Goals.{gather-in-Reference, gather-in-Range, gather-in-Number}
 
 abbrev count_in : Gathered → ℕ
-count_in g = g.tally.count
+count_in g = g.tally.totals.count
 
 abbrev tally_of : Gathered → Tally
 tally_of g = g.tally

@@ -9,7 +9,7 @@ use Rattle.ds_eval.proofs.evaluate.+evaluation.Given as goal
 
 abbrev pub invariant-gather-loop-argument : goal.invariant-gather-loop-argument
 invariant-gather-loop-argument l = record {
-  count : l.gathered.tally.count ≤ 2048 * l.argument-index;
+  count : l.gathered.tally.totals.count ≤ 2048 * l.argument-index;
   tally : l.gathered.height < count_of l.shape → IsTally (all_values l.shape (values_in l.inputs.items) (listed (map formula (take l.argument-index l.arguments)))) l.gathered.tally;
   height : l.gathered.height ≡ min (count_of l.shape) (formulas_height l.shape (heights_in l.inputs.items) (listed (map formula (take l.argument-index l.arguments))));
 }

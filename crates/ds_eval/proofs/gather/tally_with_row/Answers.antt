@@ -1,21 +1,14 @@
-use Rattle.std.proofs.Common.{◌≡◌, ◌∙◌, ◌++◌, ◌∷◌, [], List, map, ap, subst, arith}
-use Rattle.ds_eval.specs.declared.value.Value.{Value}
-use Rattle.ds_eval.specs.declared.inputs.Entry.{Entry}
+use Rattle.std.proofs.Common.{◌∙◌, map, sym}
 use Rattle.ds_eval.specs.Inputs.{values_in}
-use Rattle.ds_eval.specs.Rows.{right_of, row_from}
-use Rattle.ds_eval.specs.Tally.{IsTally}
-use Rattle.ds_eval.proofs.Rows.{row_values}
+use Rattle.ds_eval.specs.Rows.{row_from}
+use Rattle.ds_eval.proofs.Tallies.{after_error, counted, tally_of, tally_stopped}
 use Rattle.ds_eval.proofs.gather.tally_with_row.Goals as goal
 
-pub loop-k-preserved : goal.loop-k-preserved
-loop-k-preserved c =
-    let read = values_in c.args.inputs.now.items in
-    let first = c.args.first in
-    let k = c.loop-k.k in
-    let v : c.entry_right_of.result.value ≡ read (right_of first k) = ap (λ (e : Entry). e.value) c.entry_right_of.ensures in
-    record {
-      tally = λ vs t. subst (λ (ws : List Value). IsTally ws c.with-sum.result)
-          (ap (λ (x : Value). (vs ++ map read (row_from first k)) ++ x ∷ []) v ∙ row_values read vs first k)
-          (c.with-sum.ensures.tally _ (c.loop-k.invariant.tally vs t));
-      count = omega arith;
-    }
+pub returns-then-is_some-clause-tally : goal.returns-then-is_some-clause-tally
+returns-then-is_some-clause-tally c = λ vs t. after_error vs (map (values_in c.args.inputs.now.items) (row_from c.args.first c.args.columns)) c.args.tally (sym c.is_some.ensures ∙ c.if-is_some.true) t
+
+pub returns-in-Ok-clause-tally : goal.returns-in-Ok-clause-tally
+returns-in-Ok-clause-tally c = λ vs t. tally_of _ c.in-Ok.totals (c.in-Ok.ensures.counted vs (counted vs c.args.tally (sym c.is_some.ensures ∙ c.if-is_some.false) t))
+
+pub returns-in-Err-clause-tally : goal.returns-in-Err-clause-tally
+returns-in-Err-clause-tally c = λ vs t. tally_stopped _ c.args.tally.totals c.in-Err.error (c.in-Err.ensures.error vs (counted vs c.args.tally (sym c.is_some.ensures ∙ c.if-is_some.false) t).no_error)

@@ -13,7 +13,7 @@ abbrev height_of : Gathered → ℕ
 height_of g = g.height
 
 abbrev count_in : Gathered → ℕ
-count_in g = g.tally.count
+count_in g = g.tally.totals.count
 
 pub loop-row-preserved : goal.loop-row-preserved
 loop-row-preserved c =

@@ -1,11 +1,11 @@
 use Rattle.std.proofs.Common.{◌≡◌, ◌≤◌, ℕ, List, length, take, subst, sym, ap, ◌∙◌, true, false}
 use Rattle.std.proofs.lemmas.List.{take_all}
-use Rattle.ds_sched.specs.Streams.{writer_of, write_failed}
-use Rattle.ds_sched.specs.declared.input.InputEnd.{InputEnd}
-use Rattle.ds_sched.specs.declared.input.InputEnd.TheVariants as inputs
-use Rattle.ds_sched.specs.declared.ending.ScriptEnd.{ScriptEnd}
-use Rattle.ds_sched.specs.declared.ending.ScriptEnd.TheVariants as ends
-use Rattle.ds_sched.specs.Input.{Within}
+use Rattle.ds_streams.specs.Streams.{writer_of, write_failed}
+use Rattle.ds_streams.specs.declared.input.InputEnd.{InputEnd}
+use Rattle.ds_streams.specs.declared.input.InputEnd.TheVariants as inputs
+use Rattle.ds_streams.specs.declared.ending.ScriptEnd.{ScriptEnd}
+use Rattle.ds_streams.specs.declared.ending.ScriptEnd.TheVariants as ends
+use Rattle.ds_streams.specs.Input.{Within}
 use Rattle.ds_play.specs.Script.{Writes, is_whole}
 use Rattle.ds_play.specs.Running.{RanLines}
 use Rattle.ds_play.proofs.Scripts.{writes_of}

@@ -1,6 +1,6 @@
 use Rattle.std.proofs.Common.{ℕ, ◌+◌, ◌≡◌, ◌≤◌, List, length}
 use Rattle.std.specs.Io.KnownBytes.{Appends}
-use Rattle.ds_sched.specs.Streams.{writer_of, write_failed}
+use Rattle.ds_streams.specs.Streams.{writer_of, write_failed}
 use Rattle.ds_play.proofs.Scripts.{Led}
 use Rattle.ds_play.proofs.script.run_lines.Given as goal
 

@@ -1,5 +1,5 @@
 use Rattle.std.proofs.Common.{inl}
-use Rattle.ds_sched.proofs.Known.{Appends-Keeps}
+use Rattle.ds_streams.proofs.Known.{Appends-Keeps}
 use Rattle.ds_play.proofs.script.run_within.Goals as goal
 
 pub returns-in-Ok-flush-clause-outcome : goal.returns-in-Ok-flush-clause-outcome

@@ -1,9 +1,6 @@
-use Rattle.std.proofs.Common.{rules, refl, w64, to_z, of_z, ◌≡◌, ◌⊎◌, inl, inr, [], ◌∷◌, Some}
-use Rattle.std.proofs.lemmas.Int.{to_z-of_z}
-use Rattle.ds_eval.specs.declared.value.Value.{Value}
-use Rattle.ds_eval.specs.declared.value.Value.TheVariants.{Blank, Number, DivZero, Num, Circular}
-use Rattle.ds_eval.specs.Numbers.{numbers, first_error}
-use Rattle.ds_eval.proofs.Tallies.{blank_more, number_more, error_more}
+use Rattle.std.proofs.Common.{rules, w64, to_z, of_z, ◌≡◌, arith}
+use Rattle.std.proofs.lemmas.Int.{ints, clamps, to_z-of_z}
+use Rattle.ds_eval.proofs.Tallies.{NoGreater, NoLess, IsMore, blank_more, number_more, error_more, is_error}
 use Rattle.ds_eval.proofs.tally.Tally.with.Goals as goal
 
 pub returns-in-Blank-clause-tally : goal.returns-in-Blank-clause-tally
@@ -11,23 +8,13 @@ returns-in-Blank-clause-tally c = rw c.in-Blank.is (λ vs h. blank_more vs _ h)
 
 pub returns-in-Number-clause-tally : goal.returns-in-Number-clause-tally
 returns-in-Number-clause-tally c =
-    let e = c.with_number.ensures in
-    let q : to_z w64 (of_z w64 c.in-Number.number) ≡ c.in-Number.number = to_z-of_z w64 _ (search rules) in
-    rw c.in-Number.is (λ vs h. number_more vs c.in-Number.number c.args.self c.with_number.result (to_z w64 (of_z w64 c.in-Number.number)) q e.count e.sum e.least e.greatest e.error h)
-
-is_error : (v : Value) → (v ≡ DivZero) ⊎ ((v ≡ Num) ⊎ (v ≡ Circular)) → (numbers (v ∷ []) ≡ []) × (first_error (v ∷ []) ≡ Some v)
-is_error DivZero e = (refl, refl)
-is_error Num e = (refl, refl)
-is_error Circular e = (refl, refl)
-is_error Blank (inl e) = absurd cc
-is_error Blank (inr (inl e)) = absurd cc
-is_error Blank (inr (inr e)) = absurd cc
-is_error (Number z) (inl e) = absurd cc
-is_error (Number z) (inr (inl e)) = absurd cc
-is_error (Number z) (inr (inr e)) = absurd cc
+    let e = c.with.ensures in
+    let z = c.in-Number.number in
+    let q : to_z w64 (of_z w64 z) ≡ z = to_z-of_z w64 _ (search rules) in
+    let f : NoGreater (to_z w64 (of_z w64 z)) = omega (arith, ints, clamps) in
+    let g : NoLess (to_z w64 (of_z w64 z)) = omega (arith, ints, clamps) in
+    let m : IsMore z c.args.self.totals c.with.result = record { y = to_z w64 (of_z w64 z); same = q; no_greater = f; no_less = g; count = e.count; sum = e.sum; least = e.least; greatest = e.greatest } in
+    rw c.in-Number.is (λ vs h. number_more vs z c.args.self c.with.result m h)
 
 pub returns-in-DivZero-clause-tally : goal.returns-in-DivZero-clause-tally
-returns-in-DivZero-clause-tally c =
-    let e = c.with_error.ensures in
-    let v = is_error c.args.value c.in-DivZero.is in
-    λ vs h. error_more vs c.args.value c.args.self c.with_error.result v.0 v.1 e.count e.sum e.least e.greatest e.error h
+returns-in-DivZero-clause-tally c = λ vs h. error_more vs c.args.value c.args.self _ (is_error c.args.value c.in-DivZero.is) (search rules) h

@@ -1,0 +1,15 @@
+//! Lists of events drawn at random, against recounts.
+#![tactic(auto)]
+
+#[cfg(test)]
+mod draw;
+#[cfg(test)]
+mod edits;
+#[cfg(test)]
+mod last;
+#[cfg(test)]
+mod lists;
+#[cfg(test)]
+mod recount;
+#[cfg(test)]
+mod simulation;

@@ -1,0 +1,404 @@
+//! A recount of the edits of a sheet with three processes, from events and their replies alone.
+
+use crate::last::times_counted;
+use ds_core::reply::Reply;
+use ds_edit::answer::{Answer, Told};
+use ds_formula::cells::Cell;
+use ds_state::ledger::Edit;
+use ds_state::refusal::Refusal;
+use ds_state::world::World;
+use std::alloc::{AllocError, Global};
+
+/// How many processes the sheet has.
+pub const PROCESSES: usize = 3;
+
+/// The number of a cell.
+pub fn number_of(cell: Cell) -> usize {
+    cell.row.wrapping_mul(2).wrapping_add(cell.column)
+}
+
+/// What a process does, as its replies tell.
+#[derive(Clone, Copy, Debug, PartialEq, Eq)]
+pub enum Doing {
+    /// Nothing.
+    Idle,
+    /// Nothing, and it takes no steps.
+    Stopped,
+    /// A call.
+    Busy,
+}
+
+/// An edit that has begun.
+#[derive(Clone, Copy, Debug, PartialEq, Eq)]
+struct Issued {
+    process: usize,
+    number: usize,
+    cell: usize,
+    text: &'static str,
+}
+
+/// A process: what it does, its next number, and its edit that is not answered.
+#[derive(Clone, Copy, Debug)]
+struct Seen {
+    doing: Doing,
+    next: usize,
+    open: Option<usize>,
+}
+
+/// How many answers of each kind there were.
+#[derive(Clone, Copy, Debug)]
+pub struct Counts {
+    /// Edits that were done.
+    pub done: u64,
+    /// Edits that were overtaken.
+    pub overtaken: u64,
+    /// Recoveries that told of an edit that counts.
+    pub counted: u64,
+    /// Recoveries that told of one that does not.
+    pub uncounted: u64,
+    /// Recoveries that told of none.
+    pub nothing: u64,
+    /// Works that ended so that the cell is clean.
+    pub published: u64,
+    /// Reports that were settled.
+    pub settled: u64,
+}
+
+impl Counts {
+    /// None.
+    pub fn new() -> Counts {
+        Counts {
+            done: 0,
+            overtaken: 0,
+            counted: 0,
+            uncounted: 0,
+            nothing: 0,
+            published: 0,
+            settled: 0,
+        }
+    }
+
+    fn add(&mut self, answer: Answer) {
+        match answer {
+            Answer::Done(_) => self.done = self.done.wrapping_add(1),
+            Answer::Overtaken(_, _) => self.overtaken = self.overtaken.wrapping_add(1),
+            Answer::Last(told) => if told.counts {
+                self.counted = self.counted.wrapping_add(1);
+            } else {
+                self.uncounted = self.uncounted.wrapping_add(1);
+            },
+            Answer::Nothing => self.nothing = self.nothing.wrapping_add(1),
+            Answer::Published(_) => self.published = self.published.wrapping_add(1),
+            Answer::Settled => self.settled = self.settled.wrapping_add(1),
+            _ => {}
+        }
+    }
+
+    /// Both together.
+    pub fn plus(self, other: Counts) -> Counts {
+        Counts {
+            done: self.done.wrapping_add(other.done),
+            overtaken: self.overtaken.wrapping_add(other.overtaken),
+            counted: self.counted.wrapping_add(other.counted),
+            uncounted: self.uncounted.wrapping_add(other.uncounted),
+            nothing: self.nothing.wrapping_add(other.nothing),
+            published: self.published.wrapping_add(other.published),
+            settled: self.settled.wrapping_add(other.settled),
+        }
+    }
+}
+
+/// The recount.
+#[derive(Drop)]
+pub struct Recount {
+    issued: Vec<Issued>,
+    processes: [Seen; PROCESSES],
+    // Edits that count for good, and edits that never will.
+    inside: Vec<(usize, usize)>,
+    outside: Vec<(usize, usize)>,
+    /// The answers so far.
+    pub counts: Counts,
+    /// Whether each reply was one that the rules give.
+    pub is_right: bool,
+}
+
+impl Recount {
+    /// That of a new sheet.
+    pub fn new(alloc: Global) -> Recount {
+        let seen = Seen {
+            doing: Doing::Idle,
+            next: 0,
+            open: None,
+        };
+        Recount {
+            issued: Vec::new(alloc),
+            processes: [seen; PROCESSES],
+            inside: Vec::new(alloc),
+            outside: Vec::new(alloc),
+            counts: Counts::new(),
+            is_right: true,
+        }
+    }
+
+    /// Says that this is to hold.
+    pub fn expect(&mut self, holds: bool) {
+        self.is_right = self.is_right && holds;
+    }
+
+    fn seen(&self, process: usize) -> Option<Seen> {
+        self.processes.get(process).copied()
+    }
+
+    fn put(&mut self, process: usize, seen: Seen) {
+        if let Some(place) = self.processes.get_mut(process) {
+            *place = seen;
+        }
+    }
+
+    fn set_doing(&mut self, process: usize, doing: Doing) {
+        if let Some(seen) = self.seen(process) {
+            self.put(process, Seen { doing, ..seen });
+        }
+    }
+
+    /// What the process does.
+    pub fn doing(&self, process: usize) -> Doing {
+        match self.seen(process) {
+            Some(seen) => seen.doing,
+            None => Doing::Stopped,
+        }
+    }
+
+    // Why a call can not begin, if it can not.
+    fn refusal(&self, process: usize) -> Option<Reply> {
+        match self.doing(process) {
+            Doing::Idle => None,
+            Doing::Stopped => Some(Reply::Refused(Refusal::Stopped)),
+            Doing::Busy => Some(Reply::Refused(Refusal::Busy)),
+        }
+    }
+
+    /// An edit was asked for.
+    pub fn edit(
+        &mut self,
+        process: usize,
+        cell: Cell,
+        text: &'static str,
+        reply: Reply,
+    ) -> Result<(), AllocError> {
+        if let Some(wanted) = self.refusal(process) {
+            self.expect(reply == wanted);
+            return Ok(());
+        }
+        match (reply, self.seen(process)) {
+            (Reply::Begun(number), Some(seen)) => {
+                self.expect(number == seen.next && seen.open.is_none());
+                self.issued.push(Issued {
+                    process,
+                    number,
+                    cell: number_of(cell),
+                    text,
+                })?;
+                self.put(
+                    process,
+                    Seen {
+                        doing: Doing::Busy,
+                        open: Some(number),
+                        ..seen
+                    },
+                );
+            }
+            (other, _) => {
+                self.expect(matches!(other, Reply::Refused(Refusal::Text(_))));
+                self.expect(text == "=[.C1]");
+            }
+        }
+        Ok(())
+    }
+
+    /// Work or a report was asked for.
+    pub fn enter(&mut self, process: usize, reply: Reply) {
+        match self.refusal(process) {
+            Some(wanted) => self.expect(reply == wanted),
+            None => {
+                self.expect(reply == Reply::Entered);
+                self.set_doing(process, Doing::Busy);
+            }
+        }
+    }
+
+    /// A recovery was asked for.
+    pub fn recover(&mut self, process: usize, reply: Reply) {
+        if self.doing(process) == Doing::Busy {
+            self.expect(reply == Reply::Refused(Refusal::Busy));
+        } else {
+            self.expect(reply == Reply::Entered);
+            self.set_doing(process, Doing::Busy);
+        }
+    }
+
+    /// A process stopped, or had stopped.
+    pub fn stop(&mut self, process: usize, reply: Reply) {
+        let was = self.doing(process);
+        let wanted = if was == Doing::Stopped {
+            Reply::NotEnabled
+        } else {
+            Reply::Stopped
+        };
+        self.expect(reply == wanted);
+        self.set_doing(process, Doing::Stopped);
+    }
+
+    /// All stopped.
+    pub fn crash(&mut self, reply: Reply) {
+        self.expect(reply == Reply::Crashed);
+        for process in 0..PROCESSES {
+            self.set_doing(process, Doing::Stopped);
+        }
+    }
+
+    /// A process made a step, or could not.
+    pub fn step(&mut self, world: &World, process: usize, reply: Reply) -> Result<(), AllocError> {
+        match reply {
+            Reply::Stepped => self.expect(self.doing(process) == Doing::Busy),
+            Reply::NotEnabled => {}
+            Reply::Answered(answer) => {
+                self.expect(self.doing(process) == Doing::Busy);
+                self.counts.add(answer);
+                self.set_doing(process, Doing::Idle);
+                self.answer(world, process, answer)?;
+            }
+            _ => self.expect(false),
+        }
+        Ok(())
+    }
+
+    fn answer(&mut self, world: &World, process: usize, answer: Answer) -> Result<(), AllocError> {
+        match answer {
+            Answer::Done(number) => {
+                self.close(process, number);
+                self.inside.push((process, number))?;
+            }
+            Answer::Overtaken(number, other) => {
+                self.close(process, number);
+                self.outside.push((process, number))?;
+                self.expect(times_counted(world, other.process, other.number) == 1);
+            }
+            Answer::Last(told) => self.told(world, process, told)?,
+            Answer::Nothing => {
+                self.drop_open(world, process, 0);
+            }
+            _ => {}
+        }
+        Ok(())
+    }
+
+    // The edit of this number was answered.
+    fn close(&mut self, process: usize, number: usize) {
+        if let Some(seen) = self.seen(process) {
+            self.expect(seen.open == Some(number));
+            self.put(
+                process,
+                Seen {
+                    doing: Doing::Idle,
+                    next: number.wrapping_add(1),
+                    open: None,
+                },
+            );
+        }
+    }
+
+    // The edit that was not answered was never announced: it does not count, and its number is the next one.
+    fn drop_open(&mut self, world: &World, process: usize, number: usize) {
+        if let Some(seen) = self.seen(process) {
+            match seen.open {
+                Some(open) => {
+                    self.expect(open == number);
+                    self.expect(times_counted(world, process, open) == 0);
+                }
+                None => self.expect(seen.next == number),
+            }
+            self.put(
+                process,
+                Seen {
+                    doing: Doing::Idle,
+                    next: number,
+                    open: None,
+                },
+            );
+        }
+    }
+
+    // A recovery told of an edit: the one that was not answered, or the one before it.
+    fn told(&mut self, world: &World, process: usize, told: Told) -> Result<(), AllocError> {
+        let issued = self.issue(process, told.number);
+        self.expect(issued.map(|issue| issue.cell) == Some(told.cell));
+        let open = self.seen(process).and_then(|seen| seen.open);
+        if open == Some(told.number) {
+            self.close(process, told.number);
+            if told.counts {
+                self.inside.push((process, told.number))?;
+            } else {
+                self.outside.push((process, told.number))?;
+            }
+        } else {
+            self.drop_open(world, process, told.number.wrapping_add(1));
+            let is_inside = times(&self.inside, (process, told.number)) == 1;
+            self.expect(is_inside == told.counts);
+        }
+        Ok(())
+    }
+
+    // The last edit that began with this number.
+    fn issue(&self, process: usize, number: usize) -> Option<Issued> {
+        let mut found = None;
+        for issued in &self.issued {
+            if issued.process == process && issued.number == number {
+                found = Some(*issued);
+            }
+        }
+        found
+    }
+
+    // An edit that counts is the one that began last with its number.
+    fn is_issued(&self, edit: &Edit) -> bool {
+        match self.issue(edit.process, edit.number) {
+            Some(issued) => {
+                issued.cell == edit.cell && issued.text.as_bytes() == edit.text.as_slice()
+            }
+            None => false,
+        }
+    }
+
+    /// Whether the edits that the world counts are those of the recount: each one that was answered or told as counting
+    /// stands there once, none that was answered or told as not counting does, and all others were asked for.
+    pub fn agrees(&self, world: &World) -> bool {
+        for (process, number) in &self.inside {
+            if times_counted(world, *process, *number) != 1 {
+                return false;
+            }
+        }
+        for (process, number) in &self.outside {
+            if times_counted(world, *process, *number) != 0 {
+                return false;
+            }
+        }
+        for edit in &world.counted {
+            if times_counted(world, edit.process, edit.number) != 1 || !self.is_issued(edit) {
+                return false;
+            }
+        }
+        world.done == self.counts.done && world.settled == self.counts.settled
+    }
+}
+
+// How often an edit is one of these.
+fn times(edits: &[(usize, usize)], edit: (usize, usize)) -> usize {
+    let mut count = 0usize;
+    for other in edits {
+        if *other == edit {
+            count = count.wrapping_add(1);
+        }
+    }
+    count
+}

@@ -1,0 +1,33 @@
+//! A sheet of two columns and two rows.
+
+use ds_formula::cells::{Cell, Shape};
+use ds_state::world::World;
+use std::alloc::Global;
+use std::test::Fail;
+
+/// The cell `A1`.
+pub const A1: Cell = Cell { column: 0, row: 0 };
+
+/// The cell `B1`.
+pub const B1: Cell = Cell { column: 1, row: 0 };
+
+/// The cell `A2`.
+pub const A2: Cell = Cell { column: 0, row: 1 };
+
+/// The cell `B2`.
+pub const B2: Cell = Cell { column: 1, row: 1 };
+
+/// The cells of the sheet, by their numbers.
+pub const CELLS: [Cell; 4] = [A1, B1, A2, B2];
+
+/// The sheet, new, with two processes.
+pub fn small(alloc: Global) -> Result<World, Fail> {
+    let shape = Shape::new(2, 2).ok_or("shape")?;
+    Ok(World::new(alloc, shape, 2)?)
+}
+
+/// The sheet, new, with three processes.
+pub fn small_of_three(alloc: Global) -> Result<World, Fail> {
+    let shape = Shape::new(2, 2).ok_or("shape")?;
+    Ok(World::new(alloc, shape, 3)?)
+}

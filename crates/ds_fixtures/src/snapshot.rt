@@ -1,0 +1,110 @@
+//! All that is seen of a sheet.
+
+use ds_state::situation::Situation;
+use ds_state::stage::{Point, Stage};
+use ds_state::work::{RecoverStage, ShowStage, WorkStage};
+use ds_state::world::World;
+use ds_words::words::Word;
+use std::alloc::{AllocError, Global};
+
+/// What a process does: its edit's number, or its next one's, and the stage of its call.
+#[derive(Clone, Copy, Debug, PartialEq, Eq)]
+enum Doing {
+    Idle(usize),
+    Stopped,
+    Editing(usize, Stage),
+    Working(usize, WorkStage),
+    Recovering(RecoverStage),
+    Showing(usize, ShowStage),
+}
+
+impl Doing {
+    fn of(situation: &Situation) -> Doing {
+        match situation {
+            Situation::Idle(number) => Doing::Idle(*number),
+            Situation::Stopped => Doing::Stopped,
+            Situation::Editing(call) => Doing::Editing(call.number, call.stage),
+            Situation::Working(call) => Doing::Working(call.next, call.stage),
+            Situation::Recovering(call) => Doing::Recovering(call.stage),
+            Situation::Showing(call) => Doing::Showing(call.next, call.stage),
+        }
+    }
+}
+
+/// Both sides of each word, what the processes of a sheet do, and its edits.
+#[derive(Drop)]
+pub struct Snapshot {
+    words: Vec<Word>,
+    doing: Vec<Doing>,
+    points: Vec<Option<Point>>,
+    pending: Vec<bool>,
+    counted: usize,
+    done: u64,
+    settled: u64,
+}
+
+fn words_of(alloc: Global, world: &World) -> Result<Vec<Word>, AllocError> {
+    let layout = world.words.layout();
+    let count = layout.words();
+    let mut words = Vec::with_capacity(alloc, count)?;
+    for number in 0..count {
+        words.push(world.words.word(layout.place(number)))?;
+    }
+    Ok(words)
+}
+
+fn doing_of(alloc: Global, world: &World) -> Result<Vec<Doing>, AllocError> {
+    let mut all = Vec::new(alloc);
+    for situation in &world.situations {
+        all.push(Doing::of(situation))?;
+    }
+    Ok(all)
+}
+
+fn points_of(alloc: Global, world: &World) -> Result<Vec<Option<Point>>, AllocError> {
+    let mut points = Vec::new(alloc);
+    for process in 0..world.words.layout().processes {
+        points.push(world.point_of(process))?;
+    }
+    Ok(points)
+}
+
+fn pending_of(alloc: Global, world: &World) -> Result<Vec<bool>, AllocError> {
+    let mut pending = Vec::new(alloc);
+    for issue in &world.pending {
+        pending.push(issue.is_some())?;
+    }
+    Ok(pending)
+}
+
+impl Snapshot {
+    /// What is seen of the sheet now.
+    pub fn of(alloc: Global, world: &World) -> Result<Snapshot, AllocError> {
+        let words = words_of(alloc, world)?;
+        let doing = doing_of(alloc, world)?;
+        let points = points_of(alloc, world)?;
+        let pending = pending_of(alloc, world)?;
+        Ok(Snapshot {
+            words,
+            doing,
+            points,
+            pending,
+            counted: world.counted.len(),
+            done: world.done,
+            settled: world.settled,
+        })
+    }
+
+    fn has_counts_of(&self, other: &Snapshot) -> bool {
+        self.counted == other.counted && self.done == other.done && self.settled == other.settled
+    }
+
+    /// Whether the same is seen of both.
+    pub fn is_same(&self, other: &Snapshot) -> bool {
+        self.words.as_slice() == other.words.as_slice()
+            && self.doing.as_slice() == other.doing.as_slice()
+            && self.points.as_slice() == other.points.as_slice()
+            && self.pending.as_slice() == other.pending.as_slice()
+            && self.has_counts_of(other)
+    }
+}

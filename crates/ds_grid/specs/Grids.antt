@@ -1,0 +1,146 @@
+-- What a grid of texts shows: the values of the sheet whose cells hold them.
+use Rattle.std.specs.Prelude.{◌≡◌, ◌≢◌, ◌<◌, ◌⊎◌, ℕ, Bool, List, [], length, slice_get, slice_index_or, Option, Some}
+use Rattle.csv.specs.Reading.{AreRecords, default_config, strip_bom}
+use Rattle.csv.specs.declared.parser.State.TheVariants as state
+use Rattle.ds_formula.specs.declared.cells.Shape.{Shape}
+use Rattle.ds_formula.specs.declared.cells.Cell.{Cell}
+use Rattle.ds_formula.specs.declared.content.Content.{Content}
+use Rattle.ds_formula.specs.declared.fault.TextFault.{TextFault}
+use Rattle.ds_formula.specs.Shapes.{MayHave}
+use Rattle.ds_formula.specs.Cells.{IsInside, count_of, cell_at, index_of}
+use Rattle.ds_formula.specs.Plain.{Plain, plain}
+use Rattle.ds_formula.specs.Grammar.{Reads, Faults}
+use Rattle.ds_eval.specs.declared.value.Value.{Value}
+use Rattle.ds_eval.specs.Scratch.{IsScratch}
+use Rattle.ds_streams.specs.Answers.{rows_text}
+use Rattle.ds_streams.specs.Input.{EndsWith}
+use Rattle.ds_streams.specs.declared.input.InputEnd.{InputEnd}
+use Rattle.ds_streams.specs.declared.input.InputEnd.TheVariants as inputs
+use Rattle.ds_grid.specs.declared.ending.GridFault.{GridFault}
+use Rattle.ds_grid.specs.declared.ending.GridFault.TheVariants.{EmptyGrid, BadCsv, TooLarge}
+use Rattle.ds_grid.specs.declared.ending.GridEnd.{GridEnd}
+use Rattle.ds_grid.specs.declared.ending.GridEnd.TheVariants.{Ended, Grid, CellFault, TooLong, ReadFailed, WriteFailed, NoMemory}
+
+-- ---- records
+
+-- the records of a text without a heading line
+abbrev pub IsCsv : List ℕ → List (List (List ℕ)) → Type 0
+IsCsv bytes rows = AreRecords default_config state.StartRecord (strip_bom bytes) rows
+
+-- how many fields a record has
+abbrev pub width : List (List (List ℕ)) → ℕ → ℕ
+width rows row = length (slice_index_or rows row [])
+
+-- every record has as many fields as the first one
+abbrev pub AreEven : List (List (List ℕ)) → Type 0
+AreEven rows = (row : ℕ) → row < length rows → width rows row ≡ width rows 0
+
+-- a row of the sheet for each record, and a column for each field
+pub record IsGridOf (rows : List (List (List ℕ))) (shape : Shape) : Type 0 where
+  pub even : AreEven rows
+  pub columns : shape.columns ≡ width rows 0
+  pub rows_are : shape.rows ≡ length rows
+
+-- a record has another number of fields than the first one
+pub record AreUneven (rows : List (List (List ℕ))) : Type 0 where
+  pub row : ℕ
+  pub inside : row < length rows
+  pub differs : width rows row ≢ width rows 0
+
+-- they are even, and no sheet is so large
+pub record IsTooLarge (rows : List (List (List ℕ))) : Type 0 where
+  pub even : AreEven rows
+  pub none : MayHave (width rows 0) (length rows) → ⊥
+
+-- the first of these that holds is the fault
+abbrev pub HasFault : List (List (List ℕ)) → GridFault → Type 0
+HasFault rows EmptyGrid = rows ≡ []
+HasFault rows BadCsv = AreUneven rows
+HasFault rows TooLarge = IsTooLarge rows
+
+-- ---- texts
+
+-- the text of a cell
+abbrev pub text_at : List (List (List ℕ)) → Cell → List ℕ
+text_at rows cell = slice_index_or (slice_index_or rows cell.row []) cell.column []
+
+-- these are the contents of the first cells, row by row from the left
+abbrev pub AreRead : Shape → List (List (List ℕ)) → List Content → Type 0
+AreRead shape rows contents = (index : ℕ) (content : Content) → slice_get contents index ≡ Some content → Reads shape (text_at rows (cell_at shape index)) (plain content)
+
+-- and of all of them
+pub record AllRead (shape : Shape) (rows : List (List (List ℕ))) (contents : List Content) : Type 0 where
+  pub each : AreRead shape rows contents
+  pub all : length contents ≡ count_of shape
+
+-- the text of this cell has this fault, and the text of each cell before it has a content
+pub record IsFirstFault (shape : Shape) (rows : List (List (List ℕ))) (cell : Cell) (fault : TextFault) : Type 0 where
+  pub inside : IsInside shape cell
+  pub faults : Faults shape (text_at rows cell) fault
+  pub before : (index : ℕ) → index < index_of shape cell → (content : Plain) × Reads shape (text_at rows (cell_at shape index)) content
+
+-- why the contents of a grid of this shape are not read
+abbrev pub FailsAt : Shape → List (List (List ℕ)) → GridEnd → Type 0
+FailsAt shape rows (CellFault cell fault) = IsFirstFault shape rows cell fault
+FailsAt shape rows NoMemory = Unit {0}
+FailsAt shape rows end = ⊥
+
+-- ---- the report
+
+-- the records are those of a sheet, each cell holds the content of its text, and its values from scratch are written
+pub record Shows (bytes out : List ℕ) : Type 0 where
+  pub rows : List (List (List ℕ))
+  pub csv : IsCsv bytes rows
+  pub shape : Shape
+  pub grid : IsGridOf rows shape
+  pub contents : Cell → Plain
+  pub reads : (cell : Cell) → IsInside shape cell → Reads shape (text_at rows cell) (contents cell)
+  pub values : List Value
+  pub scratch : IsScratch shape contents values
+  pub is : out ≡ rows_text shape.columns shape.rows values
+
+-- the records have this fault
+pub record HasGridFault (bytes : List ℕ) (fault : GridFault) : Type 0 where
+  pub rows : List (List (List ℕ))
+  pub csv : IsCsv bytes rows
+  pub faults : HasFault rows fault
+
+-- the records are those of a sheet, and this is the first text with a fault
+pub record HasCellFault (bytes : List ℕ) (cell : Cell) (fault : TextFault) : Type 0 where
+  pub rows : List (List (List ℕ))
+  pub csv : IsCsv bytes rows
+  pub shape : Shape
+  pub grid : IsGridOf rows shape
+  pub first : IsFirstFault shape rows cell fault
+
+-- why a grid shows no values
+abbrev pub Fails : List ℕ → GridEnd → Type 0
+Fails bytes (Grid fault) = HasGridFault bytes fault
+Fails bytes (CellFault cell fault) = HasCellFault bytes cell fault
+Fails bytes NoMemory = Unit {0}
+Fails bytes end = ⊥
+
+-- what was read, why no more was, and what was written, by how the report ended
+abbrev pub Ran : InputEnd → List ℕ → List ℕ → GridEnd → Type 0
+Ran end bytes out Ended = (end ≡ inputs.Ended) × Shows bytes out
+Ran end bytes out (Grid fault) = (end ≡ inputs.Ended) × (out ≡ []) × HasGridFault bytes fault
+Ran end bytes out (CellFault cell fault) = (end ≡ inputs.Ended) × (out ≡ []) × HasCellFault bytes cell fault
+Ran end bytes out TooLong = (end ≡ inputs.TooLong) × (out ≡ [])
+Ran end bytes out ReadFailed = (end ≡ inputs.Failed) × (out ≡ [])
+Ran end bytes out WriteFailed = Unit {0}
+Ran end bytes out NoMemory = out ≡ []
+
+-- so, with the bytes that the reader gave and what it has left
+pub record Reported (limit : ℕ) (remaining : Option (List ℕ)) (ended failed : Bool) (bytes out : List ℕ) (result : GridEnd) : Type 0 where
+  pub end : InputEnd
+  pub ends_with : EndsWith limit remaining ended failed bytes end
+  pub ran : Ran end bytes out result
+
+-- or there was no room for an input: nothing was read, and nothing written
+pub record Unread (bytes out : List ℕ) (result : GridEnd) : Type 0 where
+  pub none_read : bytes ≡ []
+  pub none_written : out ≡ []
+  pub is : result ≡ NoMemory
+
+abbrev pub Outcome : ℕ → Option (List ℕ) → Bool → Bool → List ℕ → List ℕ → GridEnd → Type 0
+Outcome limit remaining ended failed bytes out result = Reported limit remaining ended failed bytes out result ⊎ Unread bytes out result

@@ -1,0 +1,80 @@
+//! Reports a grid.
+
+ghost use Rattle.std.specs.Prelude.{◌≡◌, ◌≢◌, ◌≤◌, ◌+◌, ℕ, List, true, IfOk, IfErr, length, map};
+ghost use Rattle.std.specs.Io.KnownBytes.{Consumes, Appends};
+ghost use Rattle.ds_formula.specs.Cells.{count_of};
+ghost use Rattle.ds_eval.specs.Numbers.{value_text};
+ghost use Rattle.ds_streams.specs.Answers.{rows_text};
+ghost use Rattle.ds_streams.specs.Streams.{reader_of, bytes_given, has_ended, read_failed, writer_of, write_failed};
+ghost use Rattle.ds_grid.specs.Grids.{Shows, Fails, Outcome};
+ghost use Rattle.ds_grid.specs.declared.ending.GridEnd as GridEnd;
+ghost use Rattle.ds_grid.specs.declared.report.TheConstants.{GRID_LIMIT};
+
+use crate::ending::GridEnd;
+use crate::grid::{contents, records, shape_of};
+use ds_eval::scratch::scratch;
+use ds_eval::sheet::Sheet;
+use ds_streams::answer::value_lines;
+use ds_streams::input::{InputEnd, read_input};
+use ds_streams::streams::{Reading, Writing};
+use std::alloc::{AllocError, Global};
+use std::io::{Read, Write};
+
+/// The most bytes of a grid.
+pub const GRID_LIMIT: usize = 1_048_576;
+
+// The values of a grid, as CSV.
+fn values_of(alloc: Global, bytes: &[u8]) -> Result<Vec<u8>, GridEnd>
+    ensures shows { IfOk result (λ text. Shows bytes.now text.items) }
+    ensures fails { IfErr result (λ end. Fails bytes.now end) }
+{
+    let records = records(alloc, bytes)?;
+    let shape = shape_of(&records)?;
+    let contents = match contents(alloc, &shape, &records) {
+        Ok(contents) => contents,
+        Err(end) => return Err(end),
+    };
+    let sheet = Sheet::new(shape, contents);
+    let values = scratch(alloc, &sheet)?;
+    Ok(value_lines(Vec::new(alloc), alloc, &shape, &values)?)
+}
+
+// Writes the values and flushes the writer.
+fn write_out<W: Write>(writer: &mut Writing<W>, text: &[u8]) -> GridEnd
+    ensures end { result ≢ GridEnd.WriteFailed → result ≡ GridEnd.Ended }
+    ensures written { result ≢ GridEnd.WriteFailed → Appends (W.contents (writer_of writer.old)) (W.contents (writer_of writer.new)) text.now }
+    ensures no_failure { result ≢ GridEnd.WriteFailed → write_failed writer.new ≡ write_failed writer.old }
+    ensures write_failed { result ≡ GridEnd.WriteFailed → write_failed writer.new ≡ true }
+{
+    if writer.write_all(text).is_err() || writer.flush().is_err() {
+        return GridEnd::WriteFailed;
+    }
+    GridEnd::Ended
+}
+
+/// Reads a grid of texts as CSV, a record a row and without a heading line, evaluates the sheet that
+/// it gives, and writes the values of its cells as CSV. At most 1,048,577 bytes are read.
+pub fn report_grid<R: Read, W: Write>(
+    alloc: Global,
+    reader: &mut Reading<R>,
+    writer: &mut Writing<W>,
+) -> GridEnd
+    ensures given { bytes_given reader.new ≤ bytes_given reader.old + (GRID_LIMIT + 1) }
+    ensures no_failure { result ≢ GridEnd.WriteFailed → write_failed writer.new ≡ write_failed writer.old }
+    ensures write_failed { result ≡ GridEnd.WriteFailed → write_failed writer.new ≡ true }
+    ensures outcome { result ≢ GridEnd.WriteFailed → (bytes : List ℕ) × (out : List ℕ) × Consumes (R.remaining (reader_of reader.old)) (R.remaining (reader_of reader.new)) bytes
+        × Appends (W.contents (writer_of writer.old)) (W.contents (writer_of writer.new)) out
+        × Outcome GRID_LIMIT (R.remaining (reader_of reader.new)) (has_ended reader.new) (read_failed reader.new) bytes out result }
+{
+    let Ok(input) = read_input(alloc, reader, GRID_LIMIT) else {
+        return GridEnd::NoMemory;
+    };
+    match input.end {
+        InputEnd::TooLong => GridEnd::TooLong,
+        InputEnd::Failed => GridEnd::ReadFailed,
+        InputEnd::Ended => match values_of(alloc, &input.bytes) {
+            Ok(text) => write_out(writer, &text),
+            Err(end) => end,
+        },
+    }
+}

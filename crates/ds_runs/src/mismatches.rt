@@ -1,0 +1,75 @@
+// Rows that are not true of a new sheet: each is found out.
+
+use ds_core::reply::Reply;
+use ds_edit::answer::Answer;
+use ds_eval::value::Value;
+use ds_fixtures::mismatch::Mismatch;
+use ds_fixtures::row::{Action, Row, carry_out};
+use ds_fixtures::sheet::{A1, small};
+use ds_layout::mark::State;
+use ds_layout::place::Place;
+use ds_state::stage::Point;
+use ds_words::words::Word;
+use std::test::Fail;
+
+const BLANK: Value = Value::Blank;
+
+const ZERO: Word = Word {
+    cached: 0,
+    persisted: 0,
+};
+
+const FALSE_ROWS: [(Row, Mismatch); 18] = [
+    (
+        Row::Event(Action::Step(0), Reply::Stepped),
+        Mismatch::RepliedLast(Some(Reply::NotEnabled)),
+    ),
+    (
+        Row::Event(Action::Offer(0), Reply::Stepped),
+        Mismatch::NoTask,
+    ),
+    (
+        Row::Still(Action::Edit(0, A1, "1"), Reply::Begun(0)),
+        Mismatch::Changed,
+    ),
+    (
+        Row::Still(Action::Step(0), Reply::Stepped),
+        Mismatch::Replied(Reply::NotEnabled),
+    ),
+    (
+        Row::Steps(0, 2, Reply::NotEnabled),
+        Mismatch::RepliedLast(Some(Reply::NotEnabled)),
+    ),
+    (Row::Moves(0, 1), Mismatch::Replied(Reply::NotEnabled)),
+    (
+        Row::Call(Action::Work(0, A1), Answer::Published(true)),
+        Mismatch::Replied(Reply::Answered(Answer::NotDirty)),
+    ),
+    (
+        Row::End(0, Answer::NotDirty),
+        Mismatch::Replied(Reply::NotEnabled),
+    ),
+    (
+        Row::Settled(0, [BLANK, BLANK, BLANK, Value::Number(0)]),
+        Mismatch::Value(BLANK),
+    ),
+    (Row::Word(Place::Head(0), 1, 0), Mismatch::Word(ZERO)),
+    (Row::Word(Place::Head(0), 0, 1), Mismatch::Word(ZERO)),
+    (Row::Word(Place::Head(4), 0, 0), Mismatch::NotThere),
+    (Row::Text(A1, "1"), Mismatch::Text(0)),
+    (Row::State(A1, State::Marked), Mismatch::State(State::Clean)),
+    (Row::Point(0, Some(Point::Written)), Mismatch::Point(None)),
+    (Row::Counted(1), Mismatch::Edits(0)),
+    (Row::Done(1), Mismatch::Answers(0)),
+    (Row::Reports(1), Mismatch::Answers(0)),
+];
+
+#[test]
+fn false_rows(rt: HostRuntime) -> Result<(), Fail> {
+    for (row, mismatch) in FALSE_ROWS {
+        let mut world = small(rt.alloc())?;
+        let found = carry_out(rt.alloc(), &mut world, row);
+        assert_eq!(rt; found, Err(mismatch), "{row:?}");
+    }
+    Ok(())
+}

@@ -1,0 +1,198 @@
+// Refusals, and events that can not happen: the whole sheet is the same before and after.
+
+use ds_core::reply::Reply;
+use ds_edit::answer::Answer;
+use ds_fixtures::row::{Action, Row, play, play_on};
+use ds_fixtures::sheet::{A1, A2, small};
+use ds_formula::cells::Cell;
+use ds_formula::fault::{FaultKind, TextFault};
+use ds_layout::place::Place;
+use ds_state::refusal::Refusal;
+use ds_state::world::World;
+use std::alloc::Global;
+use std::test::Fail;
+
+const DONE: Reply = Reply::Answered(Answer::Done(0));
+
+const BUSY: Reply = Reply::Refused(Refusal::Busy);
+
+const STOPPED: Reply = Reply::Refused(Refusal::Stopped);
+
+const FULL: Reply = Reply::Refused(Refusal::RecordsFull);
+
+const NOT_WHOLE: Reply = Reply::Refused(Refusal::Text(TextFault {
+    kind: FaultKind::NotWhole,
+    offset: 2,
+}));
+
+const OUTSIDE: Reply = Reply::Refused(Refusal::Text(TextFault {
+    kind: FaultKind::OutsideSheet,
+    offset: 1,
+}));
+
+const TOO_LONG: Reply = Reply::Refused(Refusal::Text(TextFault {
+    kind: FaultKind::TooLong,
+    offset: 120,
+}));
+
+// 121 digits.
+const LONG: &str =
+    "1111111111111111111111111111111111111111111111111111111111111111111111111111111111111111111111111111111111111111111111111";
+
+// Process 0 is in an edit, and process 1 is idle.
+const REFUSED: [Row; 6] = [
+    Row::Still(Action::Edit(0, A2, "=1.5"), BUSY),
+    Row::Still(Action::Edit(1, A2, "=1.5"), NOT_WHOLE),
+    Row::Still(Action::Edit(0, A2, "=[.C1]"), BUSY),
+    Row::Still(Action::Edit(1, A2, "=[.C1]"), OUTSIDE),
+    Row::Still(Action::Edit(0, A2, LONG), BUSY),
+    Row::Still(Action::Edit(1, A2, LONG), TOO_LONG),
+];
+
+const REFUSED_BEHIND_IT: [Row; 4] = [
+    Row::Event(Action::Step(0), DONE),
+    Row::Still(Action::Edit(0, A1, "=1.5"), NOT_WHOLE),
+    Row::Still(Action::Edit(0, A1, "=[.C1]"), OUTSIDE),
+    Row::Still(Action::Edit(0, A1, LONG), TOO_LONG),
+];
+
+const BEGUN: [Row; 1] = [Row::Event(Action::Edit(0, A1, "1"), Reply::Begun(0))];
+
+fn refused_at_each_step(alloc: Global, world: &mut World) -> Result<(), Fail> {
+    play_on(alloc, world, &BEGUN)?;
+    for _ in 0..19usize {
+        play_on(alloc, world, &REFUSED)?;
+        play_on(alloc, world, &[Row::Steps(0, 1, Reply::Stepped)])?;
+    }
+    play_on(alloc, world, &REFUSED_BEHIND_IT)
+}
+
+#[test]
+fn refused(rt: HostRuntime) -> Result<(), Fail> {
+    let mut world = small(rt.alloc())?;
+    refused_at_each_step(rt.alloc(), &mut world)
+}
+
+const STOPPED_PROCESS: [Row; 9] = [
+    Row::Event(Action::Stop(1), Reply::Stopped),
+    Row::Still(Action::Edit(1, A2, "1"), STOPPED),
+    Row::Still(Action::Edit(1, A2, "=1.5"), STOPPED),
+    Row::Still(Action::Edit(1, A2, LONG), STOPPED),
+    Row::Still(Action::Step(1), Reply::NotEnabled),
+    Row::Still(Action::Stop(1), Reply::NotEnabled),
+    Row::Still(Action::Work(1, A1), STOPPED),
+    Row::Still(Action::Show(1), STOPPED),
+    Row::Event(Action::Edit(0, A1, "1"), Reply::Begun(0)),
+];
+
+#[test]
+fn refused_where_it_is_stopped(rt: HostRuntime) -> Result<(), Fail> {
+    play(rt.alloc(), &STOPPED_PROCESS)
+}
+
+// Each edit but the first finds the one before it there, and says of it that it counts and is overtaken.
+fn spend_records(alloc: Global, world: &mut World) -> Result<(), Fail> {
+    for number in 0..256usize {
+        let count = if number == 0 { 20 } else { 25 };
+        let rows = [
+            Row::Event(Action::Edit(0, A1, "1"), Reply::Begun(number)),
+            Row::Steps(0, count, Reply::Answered(Answer::Done(number))),
+        ];
+        play_on(alloc, world, &rows)?;
+    }
+    Ok(())
+}
+
+const SPENT: [Row; 15] = [
+    Row::Counted(256),
+    Row::Done(256),
+    Row::Word(Place::Head(0), 16777471, 16777471),
+    Row::Still(Action::Edit(0, A1, "2"), FULL),
+    Row::Still(Action::Edit(0, A2, ""), FULL),
+    Row::Still(Action::Edit(0, A1, "=1.5"), NOT_WHOLE),
+    Row::Word(Place::Done(0, 0), u64::MAX, u64::MAX),
+    Row::Word(Place::Done(0, 1), u64::MAX, u64::MAX),
+    Row::Word(Place::Done(0, 2), u64::MAX, u64::MAX),
+    Row::Word(Place::Done(0, 3), u64::MAX / 2, u64::MAX / 2),
+    Row::Event(Action::Edit(1, A1, "3"), Reply::Begun(0)),
+    Row::Steps(1, 25, DONE),
+    Row::Word(Place::Done(0, 3), u64::MAX, u64::MAX),
+    Row::Text(A1, "3"),
+    Row::Counted(257),
+];
+
+#[test]
+fn records_full(rt: HostRuntime) -> Result<(), Fail> {
+    let mut world = small(rt.alloc())?;
+    spend_records(rt.alloc(), &mut world)?;
+    play_on(rt.alloc(), &mut world, &SPENT)
+}
+
+const BESIDE: Cell = Cell { column: 2, row: 0 };
+
+const BELOW: Cell = Cell { column: 0, row: 2 };
+
+// Process 1 is idle, and there is no third one.
+const NOT_ENABLED: [Row; 15] = [
+    Row::Still(Action::Edit(1, BESIDE, "1"), Reply::NotEnabled),
+    Row::Still(Action::Edit(1, BELOW, "=1.5"), Reply::NotEnabled),
+    Row::Still(Action::Edit(2, A1, "1"), Reply::NotEnabled),
+    Row::Still(Action::Step(1), Reply::NotEnabled),
+    Row::Still(Action::Step(7), Reply::NotEnabled),
+    Row::Still(Action::Evict(Place::Head(4)), Reply::NotEnabled),
+    Row::Still(Action::Evict(Place::Index(0, 1)), Reply::NotEnabled),
+    Row::Still(Action::Evict(Place::Announce(2)), Reply::NotEnabled),
+    Row::Still(Action::Evict(Place::Text(0, 0, 15)), Reply::NotEnabled),
+    Row::Still(Action::Stop(2), Reply::NotEnabled),
+    Row::Still(Action::Stop(7), Reply::NotEnabled),
+    Row::Still(Action::Show(2), Reply::NotEnabled),
+    Row::Still(Action::Recover(2), Reply::NotEnabled),
+    Row::Still(Action::Work(2, A1), Reply::NotEnabled),
+    Row::Still(Action::Work(0, BESIDE), Reply::NotEnabled),
+];
+
+const IDLE: [Row; 1] = [Row::Still(Action::Step(0), Reply::NotEnabled)];
+
+// Process 0 is idle, at each of its steps, and idle again.
+fn not_enabled_at_each_step(alloc: Global, world: &mut World) -> Result<(), Fail> {
+    play_on(alloc, world, &NOT_ENABLED)?;
+    play_on(alloc, world, &IDLE)?;
+    play_on(alloc, world, &BEGUN)?;
+    for step in 0..20usize {
+        play_on(alloc, world, &NOT_ENABLED)?;
+        let wanted = if step < 19 { Reply::Stepped } else { DONE };
+        play_on(alloc, world, &[Row::Steps(0, 1, wanted)])?;
+    }
+    play_on(alloc, world, &NOT_ENABLED)?;
+    play_on(alloc, world, &IDLE)
+}
+
+#[test]
+fn not_enabled(rt: HostRuntime) -> Result<(), Fail> {
+    let mut world = small(rt.alloc())?;
+    not_enabled_at_each_step(rt.alloc(), &mut world)
+}
+
+// A process that is in a call begins no other one.
+const SECOND_CALLS: [Row; 4] = [
+    Row::Still(Action::Edit(0, A1, "1"), BUSY),
+    Row::Still(Action::Work(0, A2), BUSY),
+    Row::Still(Action::Show(0), BUSY),
+    Row::Still(Action::Recover(0), BUSY),
+];
+
+// They are refused behind this call.
+fn busy_behind(alloc: Global, first: Row) -> Result<(), Fail> {
+    let mut rows = Vec::new(alloc);
+    rows.push(first)?;
+    rows.extend_from_slice(&SECOND_CALLS)?;
+    play(alloc, &rows)
+}
+
+#[test]
+fn busy(rt: HostRuntime) -> Result<(), Fail> {
+    busy_behind(rt.alloc(), BEGUN[0])?;
+    busy_behind(rt.alloc(), Row::Event(Action::Work(0, A1), Reply::Entered))?;
+    busy_behind(rt.alloc(), Row::Event(Action::Show(0), Reply::Entered))?;
+    busy_behind(rt.alloc(), Row::Event(Action::Recover(0), Reply::Entered))
+}

@@ -1,0 +1,88 @@
+// Tasks that a work does not wait for.
+
+use ds_core::event::Event;
+use ds_core::reply::Reply;
+use ds_edit::answer::Answer;
+use ds_eval::task::Evaluated;
+use ds_fixtures::calls::evaluated;
+use ds_fixtures::row::{Action, Row, expect_unchanged, play_on};
+use ds_fixtures::sheet::{A1, small};
+use ds_layout::place::Place;
+use ds_state::world::World;
+use std::alloc::Global;
+use std::test::Fail;
+
+// Five edits of the cell to one text, the first four of them worked off, so that the fifth work holds the cell in
+// generation 9, and waits.
+const FIVE_EDITS: [Row; 12] = [
+    Row::Call(Action::Edit(0, A1, "=1+2"), Answer::Done(0)),
+    Row::Call(Action::Work(0, A1), Answer::Published(true)),
+    Row::Call(Action::Edit(0, A1, "=1+2"), Answer::Done(1)),
+    Row::Call(Action::Work(0, A1), Answer::Published(false)),
+    Row::Call(Action::Edit(0, A1, "=1+2"), Answer::Done(2)),
+    Row::Call(Action::Work(0, A1), Answer::Published(false)),
+    Row::Call(Action::Edit(0, A1, "=1+2"), Answer::Done(3)),
+    Row::Call(Action::Work(0, A1), Answer::Published(false)),
+    Row::Call(Action::Edit(0, A1, "=1+2"), Answer::Done(4)),
+    Row::Event(Action::Work(0, A1), Reply::Entered),
+    Row::Steps(0, 10, Reply::Stepped),
+    Row::Word(Place::Mark(0), 290, 290),
+];
+
+// One edit of that text, and a work that waits.
+const ONE_EDIT: [Row; 3] = [
+    Row::Call(Action::Edit(0, A1, "=1+2"), Answer::Done(0)),
+    Row::Event(Action::Work(0, A1), Reply::Entered),
+    Row::Steps(0, 10, Reply::Stepped),
+];
+
+// A new sheet after these rows.
+fn after(alloc: Global, rows: &[Row]) -> Result<World, Fail> {
+    let mut world = small(alloc)?;
+    play_on(alloc, &mut world, rows)?;
+    Ok(world)
+}
+
+// The task of the work of process 0.
+fn task_of(alloc: Global, world: &World) -> Result<Evaluated, Fail> {
+    Ok(evaluated(alloc, world, 0)?.ok_or("no task")?)
+}
+
+// A task that no work of the sheet waits for changes nothing.
+fn expect_wrong(alloc: Global, world: &mut World, task: Evaluated) -> Result<(), Fail> {
+    expect_unchanged(alloc, world, &Event::Offer(task), Reply::WrongTask)?;
+    Ok(())
+}
+
+const END: [Row; 1] = [Row::End(0, Answer::Published(true))];
+
+// The other sheet's task is wrong where no work waits, and where one waits for another task.
+fn expect_other_wrong(alloc: Global, world: &mut World, other: &World) -> Result<(), Fail> {
+    expect_wrong(alloc, world, task_of(alloc, other)?)?;
+    play_on(alloc, world, &ONE_EDIT)?;
+    expect_wrong(alloc, world, task_of(alloc, other)?)?;
+    play_on(alloc, world, &END)
+}
+
+#[test]
+fn of_another_sheet(rt: HostRuntime) -> Result<(), Fail> {
+    let other = after(rt.alloc(), &FIVE_EDITS)?;
+    assert_eq!(rt; task_of(rt.alloc(), &other)?.task().generation, 9);
+    let mut world = small(rt.alloc())?;
+    expect_other_wrong(rt.alloc(), &mut world, &other)
+}
+
+const OFFERED: [Row; 1] = [Row::Event(Action::Offer(0), Reply::Stepped)];
+
+fn expect_again_wrong(alloc: Global, world: &mut World) -> Result<(), Fail> {
+    let again = task_of(alloc, world)?;
+    play_on(alloc, world, &OFFERED)?;
+    expect_wrong(alloc, world, again)?;
+    play_on(alloc, world, &END)
+}
+
+#[test]
+fn offered_again(rt: HostRuntime) -> Result<(), Fail> {
+    let mut world = after(rt.alloc(), &ONE_EDIT)?;
+    expect_again_wrong(rt.alloc(), &mut world)
+}

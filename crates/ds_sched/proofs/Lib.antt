@@ -1,4 +1,0 @@
-pub mod Known
-pub mod Rows
-pub mod LinesLemmas
-pub mod Ends

@@ -1,0 +1,24 @@
+-- What a clause sees of a reader and a writer that remember whether a call failed.
+use Rattle.std.specs.Prelude.{ℕ, Bool}
+use Rattle.ds_streams.specs.declared.streams.Reading.{Reading}
+use Rattle.ds_streams.specs.declared.streams.Writing.{Writing}
+
+abbrev pub reader_of : {R : Type 0} → Reading R → R
+reader_of r = r.reader
+
+-- how many bytes it gave, from the first call on
+abbrev pub bytes_given : {R : Type 0} → Reading R → ℕ
+bytes_given r = r.given
+
+-- the last call that gave an answer gave no byte
+abbrev pub has_ended : {R : Type 0} → Reading R → Bool
+has_ended r = r.ended
+
+abbrev pub read_failed : {R : Type 0} → Reading R → Bool
+read_failed r = r.failed
+
+abbrev pub writer_of : {W : Type 0} → Writing W → W
+writer_of w = w.writer
+
+abbrev pub write_failed : {W : Type 0} → Writing W → Bool
+write_failed w = w.failed

@@ -1,0 +1,90 @@
+//! The text of each answer.
+
+ghost use Rattle.std.specs.Prelude.{◌≡◌, ◌++◌, IfOk, OnOk, string_bytes, length, map};
+ghost use Rattle.csv.specs.Records.{fields_of};
+ghost use Rattle.csv.specs.Writing.{row_text, default_writer};
+ghost use Rattle.ds_streams.specs.Csv.{IsReady, text_of};
+ghost use Rattle.ds_formula.specs.Cells.{count_of};
+ghost use Rattle.ds_eval.specs.Numbers.{value_text};
+ghost use Rattle.ds_streams.specs.Answers.{done_text, refused_text, rows_text, settled_text};
+
+use csv::{ByteRecord, Writer, WriterBuilder};
+use ds_eval::value::Value;
+use ds_formula::cells::Shape;
+use ds_state::refusal::Refusal;
+use std::alloc::{AllocError, Global};
+
+/// `P NUMBER done`. An error is a want of memory.
+pub fn done_line(alloc: Global, process: usize, number: usize) -> Result<String, AllocError>
+    ensures { IfOk result (λ line. string_bytes line ≡ done_text process number) }
+{
+    format!(in alloc; "{process} {number} done\n")
+}
+
+/// `P refused CODE NAME`, with code 1 `P refused 1 FAULT OFFSET`. An error is a want of memory.
+pub fn refused_line(alloc: Global, process: usize, refusal: Refusal) -> Result<String, AllocError>
+    ensures { IfOk result (λ line. string_bytes line ≡ refused_text process refusal) }
+{
+    match refusal {
+        Refusal::Text(fault) => format!(in alloc; "{process} refused 1 {fault}\n"),
+        Refusal::Busy => format!(in alloc; "{process} refused 2 Busy\n"),
+        Refusal::Stopped => format!(in alloc; "{process} refused 3 Stopped\n"),
+        Refusal::RecordsFull => format!(in alloc; "{process} refused 4 RecordsFull\n"),
+        Refusal::NoMemory => format!(in alloc; "{process} refused 5 NoMemory\n"),
+    }
+}
+
+// A record whose fields are the values' texts.
+fn record_of(alloc: Global, values: &[Value]) -> Result<ByteRecord, AllocError>
+    ensures { IfOk result (λ row. fields_of row ≡ map value_text values.now) }
+{
+    let mut row = ByteRecord::new(alloc);
+    for value in values {
+        let text = value.to_string(alloc)?;
+        row.push_field(text.as_bytes())?;
+    }
+    Ok(row)
+}
+
+// Writes one record more; every one has as many fields as the first, so that want of memory is the only error.
+fn add_record(writer: &mut Writer<Vec<u8>>, row: &ByteRecord) -> Result<(), AllocError>
+    requires { IsReady writer.old }
+    ensures ready { OnOk result (IsReady writer.new) }
+    ensures text { OnOk result (text_of writer.new ≡ text_of writer.old ++ row_text default_writer (fields_of row.now)) }
+{
+    match writer.write_byte_record(row) {
+        Ok(()) => Ok(()),
+        Err(_) => Err(AllocError),
+    }
+}
+
+/// A text, and the values behind it as CSV, a record a row. An error is a want of memory.
+pub fn value_lines(
+    text: Vec<u8>,
+    alloc: Global,
+    shape: &Shape,
+    values: &[Value],
+) -> Result<Vec<u8>, AllocError>
+    requires { length values.now ≡ count_of shape.now }
+    ensures { IfOk result (λ lines. lines.items ≡ text.items ++ rows_text shape.now.columns shape.now.rows values.now) }
+{
+    let mut writer = WriterBuilder::new().from_writer(text);
+    for row in 0..shape.rows {
+        let start = row * shape.columns;
+        let fields = record_of(alloc, &values[start..start + shape.columns])?;
+        add_record(&mut writer, &fields)?;
+    }
+    match writer.into_inner() {
+        Ok(lines) => Ok(lines),
+        Err(_) => Err(AllocError),
+    }
+}
+
+/// `settled`, and the values as CSV, a record a row. An error is a want of memory.
+pub fn settled_lines(alloc: Global, shape: &Shape, values: &[Value]) -> Result<Vec<u8>, AllocError>
+    requires { length values.now ≡ count_of shape.now }
+    ensures { IfOk result (λ text. text.items ≡ settled_text shape.now values.now) }
+{
+    let heading = Vec::from_slice(alloc, b"settled\n")?;
+    value_lines(heading, alloc, shape, values)
+}

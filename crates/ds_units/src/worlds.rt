@@ -1,0 +1,69 @@
+//! A new sheet of two columns, two rows and two processes, and words by hand.
+
+use ds_eval::value::Value;
+use ds_formula::cells::{Cell, Shape};
+use ds_layout::header::Header;
+use ds_layout::layout::Layout;
+use ds_layout::mark::State;
+use ds_layout::place::Place;
+use ds_layout::sheet_words::SheetWords;
+use ds_layout::text::part_word;
+use ds_state::shown;
+use ds_state::text::Text;
+use ds_state::world::World;
+use ds_words::access::Access;
+use std::test::Fail;
+
+#[test]
+fn new_sheet(rt: HostRuntime) -> Result<(), Fail> {
+    let cell = Cell { column: 1, row: 1 };
+    if let Some(shape) = Shape::new(2, 2) {
+        let world = World::new(rt.alloc(), shape, 2)?;
+        if shape.contains(cell) {
+            assert_eq!(rt; world.mark_of(cell).state(), State::Clean);
+            assert_eq!(rt; world.value_of(cell), Value::Blank);
+            assert_eq!(rt; world.text_of(rt.alloc(), cell)?.len(), 0);
+        }
+        assert_eq!(rt; world.is_quiet(), true);
+        assert_eq!(rt; world.done, 0);
+    }
+    Ok(())
+}
+
+#[test]
+fn texts(rt: HostRuntime) {
+    assert_eq!(rt; Text::new(&[7; 120]).map(|text| text.len()), Some(120));
+    assert_eq!(rt; Text::new(&[7; 121]).map(|text| text.len()), None);
+    assert_eq!(rt; Text::new(b"").map(|text| text.is_empty()), Some(true));
+    let bytes: &[u8] = b"=A1+B2";
+    if let Some(text) = Text::new(bytes) {
+        assert_eq!(rt; text.as_slice(), bytes);
+    }
+}
+
+fn store(words: &mut SheetWords, place: Place, value: u64) {
+    if words.layout().contains(place) {
+        words.perform(1, Access::Store(place, value));
+    }
+}
+
+#[test]
+fn record(rt: HostRuntime) -> Result<(), Fail> {
+    let text: &[u8] = b"=SUM(A1:B2)*2";
+    let layout = Shape::new(2, 2).and_then(|shape| Layout::new(shape, 2));
+    if let Some(layout) = layout {
+        let mut words = SheetWords::new(rt.alloc(), layout)?;
+        let header = Header {
+            cell: 3,
+            length: 13,
+        };
+        store(&mut words, Place::Header(1, 7), header.word());
+        store(&mut words, Place::Text(1, 7, 0), part_word(text, 0));
+        store(&mut words, Place::Text(1, 7, 1), part_word(text, 1));
+        if words.layout().processes == 2 {
+            let read = shown::record_text(&words, rt.alloc(), 1, 7)?;
+            assert_eq!(rt; read.as_slice(), text);
+        }
+    }
+    Ok(())
+}

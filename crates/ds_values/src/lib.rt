@@ -1,0 +1,5 @@
+//! Values of drawn sheets, against a second evaluation.
+#![tactic(auto)]
+
+#[cfg(test)]
+mod random;
