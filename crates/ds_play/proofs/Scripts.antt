@@ -6,6 +6,8 @@ use Rattle.std.proofs.lemmas.List.{append-nil}
 use Rattle.ds_state.specs.Value.{WorldValue, world_of, IsGood}
 use Rattle.ds_state.specs.Fresh.{IsNew}
 use Rattle.ds_core.specs.Takes.{WorldRun}
+use Rattle.ds_core.specs.Headline.{HasHeadline}
+use Rattle.ds_core.proofs.EachRun.{runs_have_headline}
 use Rattle.ds_streams.specs.declared.ending.ScriptEnd.{ScriptEnd}
 use Rattle.ds_streams.specs.declared.ending.ScriptEnd.TheVariants as ends
 use Rattle.ds_streams.specs.declared.input.InputEnd.{InputEnd}
@@ -43,6 +45,11 @@ carried_good whole script lines p out rest (begins w made) = made.good
 carried_good whole script lines p out rest (skips n q o r line behind before next asks) = carried_good whole script n q o r before
 carried_good whole script lines p out rest (makes n q o r line behind columns rows processes w before next asks made) = made.good
 carried_good whole script lines p out rest (obeys n q o r line behind deed events replies answer new before next asks plays) = carried_good whole script n q o r before
+
+pub carried_headline : (whole : Bool) (script : List ℕ) (lines : ℕ) (p : Progress) (out rest : List ℕ) → Carried whole script lines p out rest
+    → (run : WorldRun p.start p.events p.replies p.world) → HasHeadline p.start p.events p.replies p.world run
+carried_headline whole script lines p out rest carried run =
+    runs_have_headline p.start p.events p.replies p.world (carried_new whole script lines p out rest carried) (carried_good whole script lines p out rest carried) run
 
 -- ---- one line more
 

@@ -5,6 +5,7 @@ ghost use Rattle.std.specs.Io.KnownBytes.{Consumes, Appends};
 ghost use Rattle.ds_state.specs.Fresh.{IsNew};
 ghost use Rattle.ds_state.specs.Value.{world_of, IsGood};
 ghost use Rattle.ds_core.specs.Takes.{WorldRun};
+ghost use Rattle.ds_core.specs.Headline.{HasHeadline};
 ghost use Rattle.ds_streams.specs.Streams.{reader_of, writer_of, bytes_given, has_ended, read_failed, write_failed};
 ghost use Rattle.ds_streams.specs.Input.{Within};
 ghost use Rattle.ds_streams.specs.declared.ending.ScriptEnd.TheVariants as ends;
@@ -227,7 +228,7 @@ pub fn run_script<R: Read, W: Write>(
 }
 
 /// What a script does to its world is one run of `ds_core::take` from a new sheet on, whatever its
-/// events are answered: what is proved of runs (`ds_core::laws::runs_have_the_headline`) is true of scripts.
+/// events are answered; so that what is proved of runs is true of scripts, and first of all the headline.
 #[tactic(auto, using(crate::proofs::Scripts::carried_runs, crate::proofs::Scripts::carried_new, crate::proofs::Scripts::carried_good))]
 pub fn scripts_are_runs()
     ensures runs { (whole : Bool) (script : List ℕ) (lines : ℕ) (p : Progress) (out rest : List ℕ)
@@ -236,4 +237,7 @@ pub fn scripts_are_runs()
         → Carried whole script lines p out rest → IsNew (world_of p.start) }
     ensures good { (whole : Bool) (script : List ℕ) (lines : ℕ) (p : Progress) (out rest : List ℕ)
         → Carried whole script lines p out rest → IsGood p.start }
+    ensures headline { (whole : Bool) (script : List ℕ) (lines : ℕ) (p : Progress) (out rest : List ℕ)
+        → Carried whole script lines p out rest → (run : WorldRun p.start p.events p.replies p.world)
+        → HasHeadline p.start p.events p.replies p.world run }
 {}
