@@ -1,6 +1,6 @@
 use crate::running::answers;
-use ds_streams::ending::{ScriptEnd, ScriptFault};
 use ds_play::script::run_script;
+use ds_streams::ending::{ScriptEnd, ScriptFault};
 use ds_streams::streams::{Reading, Writing};
 use std::alloc::AllocError;
 use std::io::{self, ErrorKind, Read, Write};

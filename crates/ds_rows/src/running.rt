@@ -1,7 +1,7 @@
 //! Runs a script in memory.
 
-use ds_streams::ending::ScriptEnd;
 use ds_play::script::run_script;
+use ds_streams::ending::ScriptEnd;
 use ds_streams::streams::{Reading, Writing};
 use std::alloc::Global;
 use std::process::Abort;
