@@ -79,8 +79,8 @@ module _ (v v' : WorldValue) (p : ℕ) (reply : Reply) (s : RecoveryStepsBy v p 
     on : steps.effect_at s.steps.recovery s.steps.recovery.stage ≡ effects.GoesOn
     on = sym s.steps.is ∙ goes
 
-    now : (world_of v').situation p ≡ Recovering (steps.next_at s.steps.recovery s.steps.recovery.stage s.steps.word)
-    now = ap (λ q. (world_of v').situation q) (sym s.steps.mine) ∙ s.steps.steps.situation ∙ after_on s.steps.recovery s.steps.recovery.stage s.steps.word on
+    pub recovery_now : (world_of v').situation p ≡ Recovering (steps.next_at s.steps.recovery s.steps.recovery.stage s.steps.word)
+    recovery_now = ap (λ q. (world_of v').situation q) (sym s.steps.mine) ∙ s.steps.steps.situation ∙ after_on s.steps.recovery s.steps.recovery.stage s.steps.word on
 
     pub recovery_pending : (q : ℕ) → (world_of v').pending q ≡ (world_of v).pending q
     recovery_pending q = elim (cases_eq q s.steps.recovery.process) [
@@ -91,7 +91,7 @@ module _ (v v' : WorldValue) (p : ℕ) (reply : Reply) (s : RecoveryStepsBy v p 
     pub recovery_says : (q : ℕ) → SaysSame ((world_of v).situation q) ((world_of v').situation q)
     recovery_says q = elim (cases_eq q p) [
       | inl here ↦ (
-          let then_is = ap (λ x. (world_of v').situation x) here ∙ now in
+          let then_is = ap (λ x. (world_of v').situation x) here ∙ recovery_now in
           let before = ap (λ x. (world_of v).situation x) here ∙ s.steps.at in
           record { number = ap numbered then_is ∙ sym (ap numbered before); doubt = ap doubts then_is ∙ sym (ap doubts before) })
       | inr other ↦ says_same _ _ (s.steps.steps.others q (λ same. other (same ∙ s.steps.mine)))

@@ -14,6 +14,7 @@ use Rattle.ds_work.specs.declared.drive.Taken.{Taken}
 use Rattle.ds_work.specs.WorkEvents as works
 use Rattle.ds_work.specs.WorkSteps as work_steps
 use Rattle.ds_work.proofs.Next.{next_noted}
+use Rattle.ds_work.proofs.WorkAlone.{after_on}
 use Rattle.ds_core.specs.WorkEvents.{WorkStepsBy, WorkBegins, TakesEntry}
 use Rattle.ds_core.specs.declared.reply.Reply.{Reply}
 use Rattle.ds_core.proofs.Ledgers.{SaysSame, says_same, doubts, numbered}
@@ -58,10 +59,6 @@ work_says p old new s turn q = elim (cases_eq q p) [
 next_if : (b : Bool) (x y : PlainWork) (n : ℕ) → x.next ≡ n → y.next ≡ n → (if b then x else y).next ≡ n
 next_if true x y n a c = a
 next_if false x y n a c = c
-
-after_on : (e : PlainWork) (s : WorkStage) (word : ℕ) → ((end : WorkEnd) → s ≡ stages.Answer end → ⊥) → work_steps.after e s word ≡ Working (work_steps.next_at e s word)
-after_on e (stages.Answer end) word not = absurd (not end refl)
-after_on e _ word not = refl
 
 module _ (p : ℕ) (old new : WorldValue) (e : PlainWork) (mine : e.process ≡ p) (is : (world_of old).situation p ≡ Working e) where
   here : (s : Situation) → (world_of new).situation e.process ≡ s → (world_of new).situation p ≡ s

@@ -33,6 +33,7 @@ use Rattle.ds_recover.specs.RecoverySteps.{number_of, cell_from}
 use Rattle.ds_core.specs.RecoveryEvents.{RecoveryStepsBy, RecoveryBegins}
 use Rattle.ds_core.specs.Moments.{Ledger}
 use Rattle.ds_core.specs.declared.reply.Reply.{Reply}
+use Rattle.ds_core.proofs.AtRecovery.{recovery_now, recovery_pending}
 use Rattle.ds_core.proofs.Headers.{SidesStay, Spares, sides_same, sides_performed, recovery_first}
 use Rattle.ds_core.proofs.Ledgers.{IsOf, doubts}
 use Rattle.ds_core.proofs.Turns.{recovery_turn, recovery_begins_turn}
@@ -226,26 +227,12 @@ module _ (layout : Layout) (l : Ledger) (v v' : WorldValue) (p : ℕ) (reply : R
   pub recovery_header : (n : ℕ) → SidesStay (world_of v).memory (world_of v').memory (Header p n)
   recovery_header n = recovery_sides p n (world_of v) (world_of v') s.steps.recovery s.steps.word fits_own s.steps.steps.memory
 
-  after_on : (f : PlainRecovery) (x : RecoverStage) (word : ℕ) → steps.effect_at f x ≡ effects.GoesOn → steps.after f x word ≡ Recovering (steps.next_at f x word)
-  after_on f (stages.Answer how) word is = absurd (cc)
-  after_on f _ word is = refl
-
-  same_pending : (f : PlainRecovery) (x : RecoverStage) (o : Option Issue) → steps.effect_at f x ≡ effects.GoesOn → steps.pending_at o x ≡ o
-  same_pending f (stages.Answer how) o is = absurd (cc)
-  same_pending f _ o is = refl
-
   module _ (goes : s.what ≡ effects.GoesOn) where
     on : steps.effect_at s.steps.recovery s.steps.recovery.stage ≡ effects.GoesOn
     on = sym s.steps.is ∙ goes
 
-    pub recovery_now : (world_of v').situation p ≡ Recovering (steps.next_at s.steps.recovery s.steps.recovery.stage s.steps.word)
-    recovery_now = ap (λ q. (world_of v').situation q) (sym s.steps.mine) ∙ s.steps.steps.situation ∙ after_on s.steps.recovery s.steps.recovery.stage s.steps.word on
-
-    pub recovery_pending : (q : ℕ) → (world_of v').pending q ≡ (world_of v).pending q
-    recovery_pending q = elim (cases_eq q s.steps.recovery.process) [
-      | inl here ↦ ap (λ x. (world_of v').pending x) here ∙ s.steps.steps.pending ∙ same_pending s.steps.recovery s.steps.recovery.stage _ on ∙ ap (λ x. (world_of v).pending x) (sym here)
-      | inr other ↦ s.steps.steps.others_pending q other
-    ]
+    pends : (q : ℕ) → (world_of v').pending q ≡ (world_of v).pending q
+    pends = recovery_pending v v' p reply s goes
 
     -- where no edit is open, nothing is announced
     quiet_word : (world_of v).pending p ≡ None → (world_of v').memory.cached (Announce p) ≡ (world_of v).memory.cached (Announce p)
@@ -266,10 +253,10 @@ module _ (layout : Layout) (l : Ledger) (v v' : WorldValue) (p : ℕ) (reply : R
     tells_recovery_on = tells_turn p l l v v' t (recovery_turn v v' p reply h.good.sound s) (record {
       layout = s.steps.steps.layout;
       told = λ c is. (let k = t.told p c is in told_on l.counted l.counted (world_of v) (world_of v') p c k s.steps.steps.layout (recovery_header c.it.edit.number) k.counted);
-      opens = λ issue is. t.opens p issue (sym (recovery_pending p) ∙ is);
-      announced = λ doubt none. (let before = sym (recovery_pending p) ∙ none in ap (λ x. x / 4) (quiet_word before) ∙ t.announced p s.steps.there (ap doubts s.steps.at) before);
+      opens = λ issue is. t.opens p issue (sym (pends p) ∙ is);
+      announced = λ doubt none. (let before = sym (pends p) ∙ none in ap (λ x. x / 4) (quiet_word before) ∙ t.announced p s.steps.there (ap doubts s.steps.at) before);
       sees = λ f is. (
-          let same : steps.next_at s.steps.recovery s.steps.recovery.stage s.steps.word ≡ f = (let x = sym recovery_now ∙ is in cc) in
+          let same : steps.next_at s.steps.recovery s.steps.recovery.stage s.steps.word ≡ f = (let x = sym (recovery_now v v' p reply s goes) ∙ is in cc) in
           let seen = has_seen s.steps.recovery.stage _ _ (λ (was : s.steps.recovery.cell ≡ cell_told v.sheet.layout ((world_of v).memory.cached (Header p (number_of s.steps.recovery)))).
           was ∙ ap (λ (x : Layout). cell_told x ((world_of v).memory.cached (Header p (number_of s.steps.recovery)))) (sym s.steps.steps.layout)
           ∙ ap (λ x. cell_told v'.sheet.layout x) (sym (header_cached p (number_of s.steps.recovery) (world_of v) (world_of v') s.steps.recovery s.steps.word s.steps.steps.memory))) (t.sees p s.steps.recovery s.steps.at) in

@@ -9,6 +9,8 @@ ghost use Rattle.ds_formula.specs.Cells.{IsInside};
 ghost use Rattle.ds_formula.specs.Plain.{Plain, formula, plain};
 ghost use Rattle.ds_formula.specs.Refs.{Refers};
 ghost use Rattle.ds_formula.specs.Sizes.{Fits};
+ghost use Rattle.ds_formula.specs.Limits.{TEXT_MOST, NODES_MOST, DEPTH_MOST};
+ghost use Rattle.ds_formula.specs.declared.reading.TheConstants as constants;
 ghost use Rattle.ds_formula.specs.Parsing.{IsAccepted, IsRefused};
 ghost use Rattle.ds_formula.specs.Grammar.{whole_of, constant_of, without_equals, expression_of, placed, Reads, Answers, OneAnswer};
 
@@ -181,4 +183,11 @@ pub fn one_answer()
 /// Every cell written in a content that was read is one of the sheet.
 pub fn read_is_inside()
     ensures { (shape : Shape) (text : List ℕ) (content : Plain) (cell : Cell) → Reads shape text content → Refers content cell → IsInside shape cell }
+{}
+
+/// The constants of this crate are the limits of the definitions.
+pub fn constants_are_limits()
+    ensures text { constants.TEXT_LIMIT ≡ TEXT_MOST }
+    ensures nodes { constants.NODE_LIMIT ≡ NODES_MOST }
+    ensures depth { constants.DEPTH_LIMIT ≡ DEPTH_MOST }
 {}

@@ -9,6 +9,7 @@ ghost use Rattle.ds_streams.specs.Streams.{reader_of, bytes_given, has_ended, re
 ghost use Rattle.ds_grid.specs.Grids.{Shows, Fails, Outcome};
 ghost use Rattle.ds_grid.specs.declared.ending.GridEnd as GridEnd;
 ghost use Rattle.ds_grid.specs.declared.report.TheConstants.{GRID_LIMIT};
+ghost use Rattle.ds_formula.specs.Limits.{INPUT_MOST};
 
 use crate::ending::GridEnd;
 use crate::grid::{contents, records, shape_of};
@@ -78,3 +79,8 @@ pub fn report_grid<R: Read, W: Write>(
         },
     }
 }
+
+/// The constant of this crate is the limit of the definitions.
+pub fn constants_are_limits()
+    ensures { GRID_LIMIT ≡ INPUT_MOST }
+{}

@@ -1,6 +1,9 @@
 //! The numbers of the words of a sheet.
 
 ghost use Rattle.std.specs.Prelude.{◌≡◌, ◌<◌, ◌≤◌, ◌↔◌, IsTrue, IsSome, IfSome, IfOk};
+ghost use Rattle.ds_formula.specs.Limits.{EDITS_MOST, PROCESSES_MOST, TEXT_MOST};
+ghost use Rattle.ds_layout.specs.declared.place.TheConstants as places;
+ghost use Rattle.ds_layout.specs.declared.layout.TheConstants as constants;
 
 use crate::place::{DONE_PARTS, Place, RECORDS, TEXT_PARTS};
 use ds_formula::cells::Shape;
@@ -252,3 +255,10 @@ impl Layout {
         }
     }
 }
+
+/// The constants of this crate are the limits of the definitions.
+pub fn constants_are_limits()
+    ensures edits { places.RECORDS ≡ EDITS_MOST }
+    ensures text { places.TEXT_BYTES ≡ TEXT_MOST }
+    ensures processes { constants.MAX_PROCESSES ≡ PROCESSES_MOST }
+{}

@@ -13,6 +13,8 @@ ghost use Rattle.ds_play.specs.declared.script.Stop.TheVariants as stops;
 ghost use Rattle.ds_play.specs.Orders.{command_view};
 ghost use Rattle.ds_play.specs.Script.{Progress, Carried, Writes, Outcome, is_whole};
 ghost use Rattle.ds_play.specs.Running.{Obeyed, Stopped, RanLines, HidesNone, after, break_of, ending_of};
+ghost use Rattle.ds_formula.specs.Limits.{INPUT_MOST};
+ghost use Rattle.ds_play.specs.declared.script.TheConstants as constants;
 
 use crate::carry::{carry_out, new_world};
 use crate::order::{Begun, Command, read_order};
@@ -240,4 +242,9 @@ pub fn scripts_are_runs()
     ensures headline { (whole : Bool) (script : List ℕ) (lines : ℕ) (p : Progress) (out rest : List ℕ)
         → Carried whole script lines p out rest → (run : WorldRun p.start p.events p.replies p.world)
         → HasHeadline p.start p.events p.replies p.world run }
+{}
+
+/// The constant of this crate is the limit of the definitions.
+pub fn constants_are_limits()
+    ensures { constants.SCRIPT_LIMIT ≡ INPUT_MOST }
 {}

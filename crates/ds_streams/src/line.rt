@@ -2,6 +2,8 @@
 
 ghost use Rattle.std.specs.Prelude.{◌≡◌, ◌==◌, ◌<◌, position, length};
 ghost use Rattle.ds_streams.specs.Lines.{next_of, next_view, word_of, word_view, dropped_return, checked, last_of};
+ghost use Rattle.ds_formula.specs.Limits.{LINE_MOST};
+ghost use Rattle.ds_streams.specs.declared.line.TheConstants as constants;
 
 /// The most bytes of a line, without its end.
 pub const LINE_LIMIT: usize = 512;
@@ -81,3 +83,8 @@ pub fn word(bytes: &[u8]) -> (&[u8], Option<&[u8]>)
         None => (bytes, None),
     }
 }
+
+/// The constant of this crate is the limit of the definitions.
+pub fn constants_are_limits()
+    ensures { constants.LINE_LIMIT ≡ LINE_MOST }
+{}

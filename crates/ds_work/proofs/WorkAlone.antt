@@ -225,7 +225,7 @@ even_at w p e fits = by e.stage fits.knows
     by (works.Telling spread) knows = knows.hold.claim.even
     by _ knows = tt
 
-after_on : (e : PlainWork) (s : WorkStage) (word : ℕ) → ((end : WorkEnd) → s ≡ works.Answer end → ⊥) → after e s word ≡ Working (next_at e s word)
+pub after_on : (e : PlainWork) (s : WorkStage) (word : ℕ) → ((end : WorkEnd) → s ≡ works.Answer end → ⊥) → after e s word ≡ Working (next_at e s word)
 after_on e (works.Answer end) word not = absurd (not end refl)
 after_on e _ word not = refl
 
