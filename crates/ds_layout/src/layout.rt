@@ -105,7 +105,7 @@ impl Layout {
     /// How many words the sheet has, at most 53,289.
     pub fn words(&self) -> usize
         ensures value { result ≡ words_of self.now }
-        ensures at_most { result ≤ 60000 }
+        ensures at_most { result ≤ 53289 }
     {
         self.starts().words
     }
