@@ -21,7 +21,7 @@ abbrev pub IsTrueOf : World → Edit → ℕ → Outcome → Type 0
 IsTrueOf w e since Done = Contains w.counted e
 IsTrueOf w e since (Overtaken noted seen) = (Contains w.counted e → ⊥) × Overtakes w e since seen
 
--- so since its issue
+-- the outcome is true of the open edit, by what counted when it was issued
 pub record IsTrueAnswer (w : World) (e : Edit) (how : Outcome) : Type 0 where
   pub since : ℕ
   pub issued : w.pending e.process ≡ Some (record { edit = e; since = since })

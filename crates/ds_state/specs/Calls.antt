@@ -42,7 +42,7 @@ pub data Held : Type 0 where
   head_from : ℕ → Held
   mark : Held
 
--- what it holds at a stage of an edit with so many parts of its text and these references
+-- what the buffer of an edit holds at a stage: with so many parts of its text and these references
 abbrev pub held_at : ℕ → List ℕ → Stage → Held
 held_at parts refs (FlushText part) = record_words 0 (suc part)
 held_at parts refs (BackRecord left) = record_words (parts - left) (suc left)
@@ -55,28 +55,28 @@ held_at parts refs (BackMark own) = mark
 held_at parts refs (BackOutcome how) = announcing_word (ended how)
 held_at parts refs _ = empty
 
--- that of a word of the edit's record
+-- the buffer's entry of one word of the edit's record, by the number of that word
 abbrev pub record_entry : Edit → ℕ → Entry Place
 record_entry e k = entry (record_place e.process e.number k) (record_word e k)
 
--- one entry, with a value that is one of these
+-- the process's buffer holds one entry alone: of the word at this place, with a value of which `Is` holds
 pub record HasOne (w : World) (p : ℕ) (r : Place) (Is : ℕ → Type 0) : Type 0 where
   pub value : ℕ
   pub alone : w.memory.buffer p ≡ entry r value ∷ []
   pub is : Is value
 
--- bits that the cached side has, this one among them
+-- the value's bits are bits of the word's cached side, and the bit of the number is among them
 pub record IsBits (w : World) (r : Place) (number value : ℕ) : Type 0 where
   pub has : HasBit value number
   pub subset : IsSubset value (w.memory.cached r)
 
--- a head of the cell, this one or a later one
+-- the value is a head that a counted edit gave the cell: no older than `least`
 pub record IsHeadFrom (w : World) (cell least value : ℕ) : Type 0 where
   pub enough : least ≤ value
   pub by : Edit
   pub head : IsHeadBy (of_cell cell w.counted) value by
 
--- the process's buffer holds just this
+-- the buffer of the edit's process holds just what `Held` says
 abbrev pub Holds : World → Edit → Held → Type 0
 Holds w e empty = w.memory.buffer e.process ≡ []
 Holds w e (record_words first count) = w.memory.buffer e.process ≡ map (record_entry e) (range_with_len first count)
@@ -131,17 +131,18 @@ MaySay safe pending = Unit {0}
 MaySay safe (ended Done) = Unit {0}
 MaySay _ _ = ⊥
 
+-- the order of what an edit in doubt may announce: how the one before it ended, that it is pending, how it ended
 abbrev pub rank : Announced → ℕ
 rank last = 0
 rank pending = 1
 rank (ended how) = 2
 
--- once it is announced, its record stands
+-- where an edit has announced itself, its whole record stands on both sides
 abbrev pub IsWritten : World → Edit → Announced → Type 0
 IsWritten w e last = Unit {0}
 IsWritten w e _ = IsRecorded w e (record_size e) (record_size e)
 
--- an edit that its process left, when it stopped
+-- an edit in doubt: how it stands in the list, what each side of its announcement says, and its record
 pub record IsInDoubt (w : World) (p : ℕ) (issue : Issue) : Type 0 where
   pub mine : issue.edit.process ≡ p
   pub number : issue.edit.number < RECORDS
@@ -163,6 +164,7 @@ pub record IsThrough (w : World) (p : ℕ) : Type 0 where
   pub next : ℕ
   pub rest : IsAtRest w p next
 
+-- what holds of a stopped process: its open edit is in doubt, or it has none and announces how its last one ended
 abbrev pub DoubtFits : World → ℕ → Option Issue → Type 0
 DoubtFits w p None = IsThrough w p
 DoubtFits w p (Some issue) = IsInDoubt w p issue
