@@ -8,12 +8,13 @@ pub record CanPack (head : Head) : Type 0 where
   pub process : head.process < 256
   pub number : head.number < 256
 
--- an edit of a sheet with so many processes
+-- the head is one of an edit of a sheet with so many processes
 pub record IsHead (processes : ℕ) (head : Head) : Type 0 where
   pub counted : 0 < head.stamp
   pub packs : CanPack head
   pub process : head.process < processes
 
+-- the word of a head: its stamp, its process and its number
 abbrev pub head_word : Head → ℕ
 head_word head = head.stamp * 65536 + head.process * 256 + head.number
 

@@ -8,11 +8,12 @@ pub record CanPack (header : Header) : Type 0 where
   pub cell : header.cell < 2 ^ 56
   pub length : header.length < 256
 
--- a cell of a sheet with so many, and the length of a text
+-- the header has a cell of a sheet with so many, and the length of a text
 pub record IsHeader (cells : ℕ) (header : Header) : Type 0 where
   pub cell : header.cell < cells
   pub length : header.length ≤ TEXT_BYTES
 
+-- the word of a header: its cell and its length
 abbrev pub header_word : Header → ℕ
 header_word header = header.cell * 256 + header.length
 

@@ -4,11 +4,12 @@ use Rattle.ds_layout.specs.declared.mark.Mark.{Mark}
 use Rattle.ds_layout.specs.declared.mark.State.{State}
 use Rattle.ds_layout.specs.declared.mark.State.TheVariants.{Clean, Marked, Held}
 
--- 0 for nobody
+-- the code of a mark's holder: 0 for nobody
 abbrev pub holder_code : Option ℕ → ℕ
 holder_code None = 0
 holder_code (Some process) = process + 1
 
+-- the dirty bit of a mark's word
 abbrev pub dirty_bit : Bool → ℕ
 dirty_bit false = 0
 dirty_bit true = 1
@@ -18,6 +19,7 @@ pub record CanPack (mark : Mark) : Type 0 where
   pub generation : mark.generation < 2 ^ 59
   pub holder : holder_code mark.holder < 16
 
+-- the word of a mark: its generation, the code of its holder and its dirty bit
 abbrev pub mark_word : Mark → ℕ
 mark_word mark = mark.generation * 32 + holder_code mark.holder * 2 + dirty_bit mark.dirty
 
@@ -46,6 +48,7 @@ mark_of processes word = record {
   dirty = word % 2 == 1;
 }
 
+-- the state of a mark with this holder, where it has one, that is dirty or not
 abbrev pub state_by : Option ℕ → Bool → State
 state_by (Some process) dirty = Held process
 state_by None false = Clean

@@ -30,9 +30,9 @@ use Rattle.ds_state.specs.declared.stage.Stage.TheVariants.{FlushText, BackRecor
 use Rattle.ds_state.specs.declared.situation.Situation.{Situation}
 use Rattle.ds_state.specs.declared.situation.Situation.TheVariants.{Idle, Stopped, Editing, Working, Recovering, Showing}
 
--- what an edit's buffer holds: nothing; so many words of its record from this one on; its announcement; bits of the row
--- of a reference, its cell's among them; done bits, this edit's among them; a head of its cell, this one or a later one;
--- its cell's mark
+-- what an edit's buffer holds: nothing; so many words of its record from this one on; its announcement; bits of the
+-- row of a reference, its cell's among them; done bits, this edit's among them; a head of its cell, this one or a
+-- later one; its cell's mark
 pub data Held : Type 0 where
   empty : Held
   record_words : ℕ → ℕ → Held
@@ -97,7 +97,7 @@ pub record HasRefs (shape : Shape) (text refs : List ℕ) : Type 0 where
   pub reads : Reads shape text content
   pub all : (c : Cell) → Refers content c → Contains refs (index_of shape c)
 
--- an edit of the sheet, which is not answered, knows what its stage says, and its buffer holds that
+-- an edit of the sheet, which is open, knows what its stage says, and its buffer holds that
 pub record EditFits (w : World) (p : ℕ) (e : PlainEdit) : Type 0 where
   pub mine : e.process ≡ p
   pub is : IsEdit e
@@ -120,8 +120,8 @@ pub record IdleFits (w : World) (p next : ℕ) : Type 0 where
   pub cached : w.memory.cached (place.Announce p) ≡ last_announcement w.counted p next
   pub persisted : w.memory.persisted (place.Announce p) ≡ last_announcement w.counted p next
 
--- what an edit in doubt may announce, on either side: how the one before it ended, where it does not count; that it is
--- pending; how it ended, where that is settled
+-- what an edit in doubt may announce, on either side: how the one before it ended, where it does not count; that it
+-- is pending; how it ended, where that is settled
 abbrev pub MaySay : Standing → Announced → Type 0
 MaySay outside last = Unit {0}
 MaySay outside pending = Unit {0}
@@ -159,7 +159,7 @@ pub record IsInDoubt (w : World) (p : ℕ) (issue : Issue) : Type 0 where
   pub order : rank before ≤ rank now
   pub written : IsWritten w issue.edit now
 
--- a stopped process in no edit announces how its last one ended
+-- a stopped process without an open edit announces how its last one ended
 pub record IsThrough (w : World) (p : ℕ) : Type 0 where
   pub next : ℕ
   pub rest : IsAtRest w p next
@@ -185,7 +185,7 @@ pub record RecoveryFits (w : World) (p : ℕ) (e : PlainRecovery) : Type 0 where
   pub resolved : ResolvedFits w e.process e.announcement e.cell (resolved_at e.stage)
   pub buffer : RecoveryHolds w e.process e.announcement e.cell (recovery_held e.cell e.stage)
 
--- what the process does fits the world
+-- the process's call, or what it is in between two calls, fits the world
 abbrev pub CallFits : World → ℕ → Situation → Type 0
 CallFits w p (Idle next) = IdleFits w p next
 CallFits w p Stopped = StoppedFits w p

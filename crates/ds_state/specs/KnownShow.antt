@@ -115,7 +115,8 @@ pub record HasMoment (w : World) (qs ms vs ks : List ℕ) (m : Moment) : Type 0 
   pub counted : w.counted ≡ m.edits ++ more
   pub right : IsStill w.layout m → IsRight w.layout.shape m
 
--- what was noted so far: no word is older now; marks were clean, announcements not pending; values stand while marks do
+-- what a report noted so far: no word is older now; marks were clean, announcements not pending; values stand while
+-- marks do
 pub record HasNoted (w : World) (qs ms vs ks : List ℕ) : Type 0 where
   pub announcements : (q : ℕ) → q < length qs → noted qs q ≤ w.memory.cached (place.Announce q)
   pub marks : (c : ℕ) → c < length ms → noted ms c ≤ w.memory.cached (place.Mark c)

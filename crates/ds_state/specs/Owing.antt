@@ -221,7 +221,8 @@ HELD_MOST = 2 ^ 58 + 1
 abbrev pub MOST : ℕ
 MOST = 2 ^ 58 + 2
 
--- the mark's holder, where it has one, is a process of the sheet, the cell is one of the sheet, and one more generation fits
+-- the mark has no holder; or that is a process of the sheet, the cell is one of the sheet, and one more generation
+-- fits
 abbrev pub IsMark : Layout → ℕ → ℕ → Type 0
 IsMark layout cell mark = (q : ℕ) → IsHeldBy q mark → (q < layout.processes) × (cell < cells_of layout) × (mark / 32 ≤ HELD_MOST)
 

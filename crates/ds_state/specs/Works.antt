@@ -35,8 +35,8 @@ pub record PlainWork : Type 0 where
   pub row : List ℕ
   pub stage : WorkStage
 
--- the part of a text that is looked at is one of the text, the reference one of the references, the part of the row is
--- one of the row, and so many are loaded, and the cell that is told is one of the sheet
+-- the part of a text that is looked at is one of the text, the reference one of the references, the part of the row
+-- is one of the row, and so many are loaded, and the cell that is told is one of the sheet
 abbrev pub StageFits : PlainWork → WorkStage → Type 0
 StageFits e (LoadText part) = 8 * part < e.length
 StageFits e (LoadValue i) = i < length e.inputs

@@ -14,6 +14,7 @@ use Rattle.ds_state.specs.declared.refusal.Refusal.TheVariants.{Text, Busy, Stop
 abbrev pub done_text : ℕ → ℕ → List ℕ
 done_text process number = decimal process ++ (codes " " ++ (decimal number ++ codes " done\n"))
 
+-- the code and the name of a refusal
 abbrev pub refusal_text : Refusal → List ℕ
 refusal_text (Text fault) = codes "1 " ++ fault_text fault
 refusal_text Busy = codes "2 Busy"
