@@ -6,7 +6,7 @@ use Rattle.ds_state.specs.World.{Edit, World}
 use Rattle.ds_state.specs.declared.stage.Outcome.{Outcome}
 use Rattle.ds_state.specs.declared.stage.Outcome.TheVariants.{Done, Overtaken}
 
--- the word is the head of another edit of the cell, which came to count since then
+-- the word is the head of another edit of the cell, which came to count behind the first so many
 pub record Overtakes (w : World) (e : Edit) (since word : ℕ) : Type 0 where
   pub by : Edit
   pub counted : Contains (drop since w.counted) by

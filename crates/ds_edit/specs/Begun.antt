@@ -17,7 +17,7 @@ use Rattle.ds_state.specs.declared.situation.Situation.{Situation}
 use Rattle.ds_state.specs.declared.situation.Situation.TheVariants.{Idle, Stopped, Editing, Working, Recovering, Showing}
 use Rattle.ds_edit.specs.Worlds.{Begins}
 
--- the number of the edit that the process may begin
+-- the number of the edit that a process in this situation may begin, or why it may begin none
 abbrev pub next_of : Situation → Result ℕ Refusal
 next_of (Idle number) = Ok number
 next_of Stopped = Err refusal.Stopped

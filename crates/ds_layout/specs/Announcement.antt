@@ -27,7 +27,7 @@ announcement_with number code =
     else (if code == 3 then Some (record { number = number; phase = NotDone })
     else None))
 
--- what the word says: nothing where the phase is 0 or the number is no record's
+-- the announcement that the word is: none where the phase is 0 or the number is no record's
 abbrev pub announcement_of : ℕ → Option Announcement
 announcement_of word =
     if word / 4 == 0 || nat_lt RECORDS (word / 4) then None else announcement_with (word / 4 - 1) (word % 4)

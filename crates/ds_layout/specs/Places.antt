@@ -71,7 +71,7 @@ starts_for cells parts processes =
       words = done + processes * DONE_PARTS;
     }
 
--- no kind begins before the one in front of it
+-- no kind of words begins before the one in front of it
 pub record IsAscending (s : Starts) : Type 0 where
   pub heads : s.heads ≤ s.marks
   pub marks : s.marks ≤ s.values
@@ -91,7 +91,7 @@ starts_of layout = starts_for (cells_of layout) (parts_of layout) layout.process
 abbrev pub words_of : Layout → ℕ
 words_of layout = (starts_of layout).words
 
--- the number of the word at a place: by kind, then by cell or process, then number, then part
+-- the number of the word at a place, where the kinds begin so: by kind, then cell or process, then number, then part
 abbrev pub number_by : Starts → ℕ → Place → ℕ
 number_by s parts Version = 0
 number_by s parts (Head cell) = s.heads + cell

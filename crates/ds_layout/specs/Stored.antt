@@ -13,7 +13,7 @@ kind_code DivZero = 2
 kind_code Num = 3
 kind_code Circular = 4
 
--- a height and a value that go with the kind
+-- the height and the number that go with a kind, in a sheet with so many cells
 abbrev pub Goes : ℕ → Kind → ℕ → ℤ → Type 0
 Goes cells Blank height value = (height < cells) × (value ≡ pos 0)
 Goes cells Number height value = height < cells
@@ -21,7 +21,7 @@ Goes cells DivZero height value = (height < cells) × (value ≡ pos 0)
 Goes cells Num height value = (height < cells) × (value ≡ pos 0)
 Goes cells Circular height value = (height ≡ cells) × (value ≡ pos 0)
 
--- what a cell can show in a sheet with so many
+-- what a cell can show in a sheet with so many cells
 abbrev pub IsStored : ℕ → Stored → Type 0
 IsStored cells s = Goes cells s.kind s.height s.value
 

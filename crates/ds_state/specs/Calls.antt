@@ -185,7 +185,7 @@ pub record RecoveryFits (w : World) (p : ℕ) (e : PlainRecovery) : Type 0 where
   pub resolved : ResolvedFits w e.process e.announcement e.cell (resolved_at e.stage)
   pub buffer : RecoveryHolds w e.process e.announcement e.cell (recovery_held e.cell e.stage)
 
--- the process's call, or what it is in between two calls, fits the world
+-- the situation of the process fits the world
 abbrev pub CallFits : World → ℕ → Situation → Type 0
 CallFits w p (Idle next) = IdleFits w p next
 CallFits w p Stopped = StoppedFits w p

@@ -179,7 +179,7 @@ pub record IsWhen (w : World) (since count : ℕ) : Type 0 where
   pub late : since ≤ count
   pub there : count ≤ length w.counted
 
--- the head that the edit noted was that of its cell's last edit, when so many edits counted
+-- the head that the edit noted was that of its cell's last edit when it looked, since its issue
 pub record IsNoted (w : World) (e : Edit) (since : ℕ) (head : Head) : Type 0 where
   pub count : ℕ
   pub when : IsWhen w since count
@@ -190,8 +190,8 @@ pub record IsNoted (w : World) (e : Edit) (since : ℕ) (head : Head) : Type 0 w
   pub number : head.number ≡ by.number
   pub word : head_word head ≡ head_after_all (before ++ by ∷ [])
 
--- the noted head was its cell's; it or a later one is persisted; the edit that gave it, where one did, has its done
--- bit persisted
+-- the noted head was its cell's when the edit looked; it or a later one is persisted; the edit that gave it, where
+-- one did, has its done bit persisted
 pub record IsHelped (w : World) (e : Edit) (since head : ℕ) : Type 0 where
   pub count : ℕ
   pub when : IsWhen w since count

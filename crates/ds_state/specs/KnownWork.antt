@@ -59,11 +59,11 @@ pub record WorkKnown : Type 0 where
   pub own : Own
   pub evaluated : Bool
 
--- what a work knows that has loaded no word yet, or is through: only how it holds its cell
+-- what a work knows at a stage that needs no loaded word: only how it holds its cell
 abbrev pub before : Hold → WorkKnown
 before hold = record { hold = hold; loaded = nothing; own = unseen; evaluated = false }
 
--- what a work knows while it loads: its cell is held on both sides, and it is not evaluated
+-- what a work knows while it loads and waits: its cell is held on both sides, and it is not evaluated
 abbrev pub loading : Loaded → Own → WorkKnown
 loading loaded own = record { hold = held; loaded = loaded; own = own; evaluated = false }
 

@@ -134,7 +134,7 @@ pub record CellOwes (w : World) (r c x : ℕ) : Type 0 where
   pub held : IsHeld w.memory holder r
   pub still : Owes w.memory holder (w.situation holder) r c x
 
--- the two sides of the value, or the kind, of r may differ: a process that may have that so holds r on both sides
+-- some process holds r on both sides, and may have the two sides of its value, or its kind, differ
 pub record IsApart (w : World) (r : ℕ) : Type 0 where
   pub holder : ℕ
   pub held : IsHeld w.memory holder r

@@ -50,6 +50,7 @@ Inputs w side content c x u = (d : Cell) → Refers content d → IsInside w.lay
     → (u d ≡ entry_on w.layout side (index_of w.layout.shape d)) ⊎ CellOwes w (index_of w.layout.shape d) c x
 
 -- on this side the words of c are what its content gives of its references' words, but for those that owe c a mark
+-- above x
 pub record Reasons (w : World) (side : Side) (c x : ℕ) : Type 0 where
   pub content : Plain
   pub has : HasContent w c (side.head c) content

@@ -20,7 +20,7 @@ pub record IsPadded (bytes : List ℕ) (len : ℕ) : Type 0 where
   pub within : len ≤ length bytes
   pub rest : drop len bytes ≡ padding len
 
--- the text at the front of padded bytes has the length that is meant
+-- the text at the front of padded bytes is as long as they say
 pub padded_len : (bytes : List ℕ) (len : ℕ) → IsPadded bytes len → length (take len bytes) ≡ len
 padded_len bytes len h = length-take-le len bytes h.within
 

@@ -24,7 +24,7 @@ pub record WorldValue : Type 0 where
   pub settled : ℕ
   pub reports : PlainReports
 
--- the plain world: what it has of no process is what a new world has
+-- the plain world that a value stands for: what it has of no process is what a new world has
 abbrev pub world_of : WorldValue → World
 world_of v = record {
   layout = v.sheet.layout;

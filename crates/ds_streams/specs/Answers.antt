@@ -10,7 +10,7 @@ use Rattle.ds_eval.specs.Numbers.{value_text}
 use Rattle.ds_state.specs.declared.refusal.Refusal.{Refusal}
 use Rattle.ds_state.specs.declared.refusal.Refusal.TheVariants.{Text, Busy, Stopped, RecordsFull, NoMemory}
 
--- P NUMBER done
+-- the answer to an edit that is done: P NUMBER done
 abbrev pub done_text : ℕ → ℕ → List ℕ
 done_text process number = decimal process ++ (codes " " ++ (decimal number ++ codes " done\n"))
 
@@ -22,7 +22,7 @@ refusal_text Stopped = codes "3 Stopped"
 refusal_text RecordsFull = codes "4 RecordsFull"
 refusal_text NoMemory = codes "5 NoMemory"
 
--- P refused CODE NAME
+-- the answer to an edit that is refused: P refused CODE NAME
 abbrev pub refused_text : ℕ → Refusal → List ℕ
 refused_text process refusal = decimal process ++ (codes " refused " ++ (refusal_text refusal ++ codes "\n"))
 
@@ -31,6 +31,6 @@ abbrev pub rows_text : ℕ → ℕ → List Value → List ℕ
 rows_text columns zero values = []
 rows_text columns (suc rows) values = row_text default_writer (map value_text (take columns values)) ++ rows_text columns rows (drop columns values)
 
--- settled, and a record for each row of the sheet
+-- the answer to a report that is settled: settled, and a record for each row of the sheet
 abbrev pub settled_text : Shape → List Value → List ℕ
 settled_text shape values = codes "settled\n" ++ rows_text shape.columns shape.rows values

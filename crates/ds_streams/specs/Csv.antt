@@ -8,7 +8,7 @@ use Rattle.csv.specs.declared.writer.Writer.{Writer}
 abbrev pub text_of : Writer (Vec ℕ) → List ℕ
 text_of w = w.wtr.inner.items ++ w.wtr.buf
 
--- a CSV writer as it is set up by itself, at the start of a record
+-- a CSV writer with the default settings stands at the start of a record
 pub record IsReady (w : Writer (Vec ℕ)) : Type 0 where
   pub setup : writer_setup w ≡ default_writer
   pub fields : fields_written w ≡ 0

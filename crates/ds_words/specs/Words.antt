@@ -55,7 +55,7 @@ fresh_words classes processes = record {
   buffers = replicate processes [];
 }
 
--- as many words, of the same classes, and as many processes
+-- both have as many words, of the same classes, and as many processes
 pub record SameShape (old new : WordsValue) : Type 0 where
   pub classes : new.classes ≡ old.classes
   pub words : length new.words ≡ length old.words
