@@ -51,8 +51,7 @@ pub data Own : Type 0 where
   value_back : Own
   settled : Own
 
--- what a work knows: how it holds its cell, what it has loaded, the cell's value and kind, and whether it is
--- evaluated
+-- what a work knows: how it holds its cell, what it has loaded, the cell's value and kind, whether it is evaluated
 pub record WorkKnown : Type 0 where
   pub hold : Hold
   pub loaded : Loaded
@@ -137,7 +136,7 @@ WhileMarked w cell mark P = w.memory.cached (place.Mark cell) ≡ mark → P
 abbrev pub WhileEven : World → PlainWork → Type 0 → Type 0
 WhileEven w e P = WhileMarked w e.cell e.mark P
 
--- as long as the cell was not marked, the noted head is its head, or it is excused
+-- as long as the cell was not marked, the noted head is the cell's, or the cell is excused
 abbrev pub HeadStands : World → PlainWork → Type 0
 HeadStands w e = WhileEven w e ((w.memory.cached (place.Head e.cell) ≡ e.head) ⊎ IsExcused w e.cell e.mark)
 
@@ -192,8 +191,7 @@ pub record WordStands (w : World) (cell mark : ℕ) (inputs : List Input) (j val
 abbrev pub ValueStands : World → PlainWork → ℕ → ℕ → Type 0
 ValueStands w e j value = WordStands w e.cell e.mark e.inputs j value
 
--- the content is the cell's by the noted head, its references are among the inputs, and the first so many inputs
--- stand
+-- the content is the cell's by the noted head, its references are among the inputs, and the first so many stand
 pub record Gathers (w : World) (cell mark top : ℕ) (holds : Plain) (inputs : List Input) (count : ℕ) : Type 0 where
   pub head : WhileMarked w cell mark ((w.memory.cached (place.Head cell) ≡ top) ⊎ IsExcused w cell mark)
   pub content : HasContent w cell top holds

@@ -209,7 +209,7 @@ Splits w p (Working e) c head = ⊥
 Splits w p (Recovering e) c head = IsPending w p c × RecoverySplits e.stage
 Splits w p (Showing e) c head = ⊥
 
--- two cells of the sheet; the row of r has the bit of c on the cached side
+-- r and c are cells of the sheet, and the index row of r has the bit of c on the cached side
 abbrev pub IsIndexed : World → ℕ → ℕ → Type 0
 IsIndexed w r c = (r < cells_of w.layout) × (c < cells_of w.layout) × HasBit (w.memory.cached (index_place r c)) c
 
@@ -221,8 +221,7 @@ HELD_MOST = 2 ^ 58 + 1
 abbrev pub MOST : ℕ
 MOST = 2 ^ 58 + 2
 
--- the mark has no holder; or that is a process of the sheet, the cell is one of the sheet, and one more generation
--- fits
+-- a holder of the mark is a process of the sheet, the cell is one of the sheet, and one more generation fits
 abbrev pub IsMark : Layout → ℕ → ℕ → Type 0
 IsMark layout cell mark = (q : ℕ) → IsHeldBy q mark → (q < layout.processes) × (cell < cells_of layout) × (mark / 32 ≤ HELD_MOST)
 

@@ -64,7 +64,7 @@ pub record Rely (q : ℕ) (old new : World) : Type 0 where
   pub grows : (but : Place) → Grows q but old new
   pub bears : Bears old new
 
--- the process leaves the world sound, and each other process may count on what it counts on
+-- the process leaves the world sound, and what each other process may count on is kept
 pub record Keeps (p : ℕ) (old new : World) : Type 0 where
   pub sound : IsSound new
   pub others : (q : ℕ) → q ≢ p → Rely q old new

@@ -26,7 +26,7 @@ refusal_text NoMemory = codes "5 NoMemory"
 abbrev pub refused_text : ℕ → Refusal → List ℕ
 refused_text process refusal = decimal process ++ (codes " refused " ++ (refusal_text refusal ++ codes "\n"))
 
--- the values as CSV, so many a record
+-- the values as CSV, so many a record, and so many records
 abbrev pub rows_text : ℕ → ℕ → List Value → List ℕ
 rows_text columns zero values = []
 rows_text columns (suc rows) values = row_text default_writer (map value_text (take columns values)) ++ rows_text columns rows (drop columns values)

@@ -16,7 +16,7 @@ next_view lines.Nothing = NoLine
 next_view (lines.Line line rest) = ALine line.now rest.now
 next_view lines.TooLong = LongLine
 
--- a line has at most 512 bytes, without its end
+-- a line and what is behind it; a line of more than 512 bytes, without its end, is too long
 abbrev pub checked : List ℕ → List ℕ → AtFront
 checked line rest = if nat_lt 512 (length line) then LongLine else ALine line rest
 
