@@ -6,7 +6,7 @@ use Rattle.ds_state.specs.World.{Edit, World}
 use Rattle.ds_state.specs.declared.stage.Outcome.{Outcome}
 use Rattle.ds_state.specs.declared.stage.Outcome.TheVariants.{Done, Overtaken}
 
--- the word is the head of another edit of the cell, which came to count since then
+-- the word is the head of another edit of the cell, which came to count behind the first so many
 pub record Overtakes (w : World) (e : Edit) (since word : ℕ) : Type 0 where
   pub by : Edit
   pub counted : Contains (drop since w.counted) by
@@ -21,7 +21,7 @@ abbrev pub IsTrueOf : World → Edit → ℕ → Outcome → Type 0
 IsTrueOf w e since Done = Contains w.counted e
 IsTrueOf w e since (Overtaken noted seen) = (Contains w.counted e → ⊥) × Overtakes w e since seen
 
--- so since its issue
+-- the outcome is true of the open edit, by what counted when it was issued
 pub record IsTrueAnswer (w : World) (e : Edit) (how : Outcome) : Type 0 where
   pub since : ℕ
   pub issued : w.pending e.process ≡ Some (record { edit = e; since = since })

@@ -17,7 +17,7 @@ use Rattle.ds_state.specs.declared.situation.Situation.{Situation}
 use Rattle.ds_state.specs.declared.situation.Situation.TheVariants.{Idle, Stopped, Editing, Working, Recovering, Showing}
 use Rattle.ds_edit.specs.Worlds.{Begins}
 
--- the number of the edit that the process may begin
+-- the number of the edit that a process in this situation may begin, or why it may begin none
 abbrev pub next_of : Situation → Result ℕ Refusal
 next_of (Idle number) = Ok number
 next_of Stopped = Err refusal.Stopped
@@ -46,7 +46,7 @@ pub record IsAskedFor (layout : Layout) (process cell : ℕ) (text : List ℕ) (
   pub refs : HasRefs layout.shape e.text e.refs
   pub only : RefersTo layout.shape text e.refs
 
--- the process begins that edit
+-- the process begins its edit of this number, of the cell to the text
 pub record IsBegun (old : World) (process cell : ℕ) (text : List ℕ) (number : ℕ) (new : World) : Type 0 where
   pub edit : PlainEdit
   pub asked : IsAskedFor old.layout process cell text number edit
@@ -73,5 +73,6 @@ RefusesIn shape text (Working e) r = r ≡ refusal.Busy
 RefusesIn shape text (Recovering e) r = r ≡ refusal.Busy
 RefusesIn shape text (Showing e) r = r ≡ refusal.Busy
 
+-- why a process of this world may not begin an edit to the text
 abbrev pub Refuses : World → ℕ → List ℕ → Refusal → Type 0
 Refuses w process text r = RefusesIn w.layout.shape text (w.situation process) r

@@ -15,7 +15,7 @@ abbrev pub other_of : Option Head → Other
 other_of None = record { process = 0; number = 0 }
 other_of (Some head) = record { process = head.process; number = head.number }
 
--- the answer of the edit with this number
+-- the answer of the edit with this number, which ended so
 abbrev pub answer_of : ℕ → ℕ → Outcome → Answer
 answer_of processes number outcome.Done = Done number
 answer_of processes number (outcome.Overtaken noted seen) = Overtaken number (other_of (head_of processes seen))

@@ -20,17 +20,19 @@ use Rattle.ds_state.specs.declared.stage.Stage.{Stage}
 use Rattle.ds_state.specs.declared.stage.Stage.TheVariants.{StoreHeader, StoreText, FlushHeader, FlushText, BackRecord, StorePending, FlushPending, BackPending, OrIndex, FlushIndex, BackIndex, LoadHead, FlushNoted, BackNoted, OrDone, FlushDone, BackDone, Swap, FlushOwn, BackOwn, OrMark, FlushMark, BackMark, StoreOutcome, FlushOutcome, BackOutcome, Answer}
 use Rattle.ds_edit.specs.declared.machine.TheConstants.{LAST_STAMP}
 
--- the words of the edit's record, and its own part of the index row of a reference
+-- the place of the header of the edit's record
 abbrev pub header_place : PlainEdit → Place
 header_place e = place.Header e.process e.number
 
+-- the place of a part of the text in the edit's record
 abbrev pub text_place : PlainEdit → ℕ → Place
 text_place e part = place.Text e.process e.number part
 
+-- the place of the word of a reference's index row that has the bit of the edit's cell
 abbrev pub index_place : PlainEdit → ℕ → Place
 index_place e i = place.Index (slice_index_or e.refs i 0) (e.cell / 64)
 
--- the done bits of which one is the head's edit's
+-- the place of the word of done bits that has the bit of the head's edit
 abbrev pub done_place : Head → Place
 done_place head = place.Done head.process (head.number / 64)
 
@@ -72,28 +74,28 @@ access_at e (FlushOutcome how) = Flush (place.Announce e.process)
 access_at e (BackOutcome how) = Back
 access_at e (Answer how) = Nothing
 
--- the parts of the text one by one, then the header's flush
+-- the stage that stores this part of the text; behind the last part, the header's flush
 abbrev pub store_from : PlainEdit → ℕ → Stage
 store_from e part = if nat_lt part (text_parts e.text) then StoreText part else FlushHeader
 
--- the parts one by one, then each entry back
+-- the stage that flushes this part of the text; behind the last part, the first write-back
 abbrev pub flush_from : PlainEdit → ℕ → Stage
 flush_from e part = if nat_lt part (text_parts e.text) then FlushText part else BackRecord (text_parts e.text)
 
--- the entries that are left, then the announcement
+-- the stage behind a write-back, with so many entries left: the next one, or the announcement
 abbrev pub back_from : ℕ → Stage
 back_from left = if left == 0 then StorePending else BackRecord (left - 1)
 
--- the references one by one, then the head
+-- the stage that indexes this reference; behind the last one, the load of the head
 abbrev pub index_from : PlainEdit → ℕ → Stage
 index_from e i = if nat_lt i (length e.refs) then OrIndex i else LoadHead
 
--- the edit that is found is helped; where there is none, its place is taken at once
+-- the stage behind the load of the head: the edit that is found is helped; where there is none, the swap
 abbrev pub help_from : ℕ → Option Head → Stage
 help_from noted None = Swap noted
 help_from noted (Some head) = FlushNoted head
 
--- where the head is the noted one, it is the edit's own now; else the edit does not count
+-- the stage behind the swap: where the head was the noted one, it is the edit's own now; else the edit does not count
 abbrev pub swung_from : PlainEdit → ℕ → ℕ → Stage
 swung_from e noted seen = if seen == noted then FlushOwn (head_after e noted) else StoreOutcome (outcome.Overtaken noted seen)
 
@@ -127,11 +129,11 @@ next_at e (FlushOutcome how) word = BackOutcome how
 next_at e (BackOutcome how) word = Answer how
 next_at e (Answer how) word = Answer how
 
--- the edit after it
+-- the edit after its step, whose access answered the word
 abbrev pub got_at : PlainEdit → ℕ → PlainEdit
 got_at e word = record e { stage = next_at e e.stage word }
 
--- how many steps are left at most, the answer's among them
+-- how many steps are left at most at a stage, the answer's among them, with so many parts and references
 abbrev pub rank_in : ℕ → ℕ → Stage → ℕ
 rank_in parts refs StoreHeader = 22 + 3 * refs + 3 * parts
 rank_in parts refs (StoreText part) = 21 + 3 * refs + 3 * parts - part
@@ -161,6 +163,7 @@ rank_in parts refs (FlushOutcome how) = 3
 rank_in parts refs (BackOutcome how) = 2
 rank_in parts refs (Answer how) = 1
 
+-- how many steps of the edit are left at most at a stage, the answer's among them
 abbrev pub rank : PlainEdit → Stage → ℕ
 rank e stage = rank_in (text_parts e.text) (length e.refs) stage
 

@@ -20,7 +20,7 @@ abbrev pub counted_at : Edit → Stage → ℕ → List Edit
 counted_at e (Swap noted) word = if word == noted then e ∷ [] else []
 counted_at e stage word = []
 
--- what is not answered after it
+-- the process's issue after a step at this stage: none after the answer
 abbrev pub pending_at : Option Issue → Stage → Option Issue
 pending_at issue (Answer how) = None
 pending_at issue stage = issue
@@ -35,7 +35,7 @@ pub record StepsAt (e : PlainEdit) (stage : Stage) (word : ℕ) (old new : World
   pub pending : new.pending e.process ≡ pending_at (old.pending e.process) stage
   pub others_pending : (q : ℕ) → q ≢ e.process → new.pending q ≡ old.pending q
 
--- at its own stage
+-- one step of the edit at its own stage, whose access answered the word
 abbrev pub Steps : PlainEdit → ℕ → World → World → Type 0
 Steps e word old new = StepsAt e e.stage word old new
 

@@ -2,10 +2,11 @@
 use Rattle.std.specs.Prelude.{ℕ, ◌≡◌, ◌≤◌, ◌%◌, ◌^◌}
 use Rattle.std.specs.Int.{bit_at}
 
--- the bit of the number, in its word
+-- the word has the bit of the number
 abbrev pub HasBit : ℕ → ℕ → Type 0
 HasBit word number = bit_at word (number % 64) ≡ 1
 
+-- the word that has the bit of the number alone
 abbrev pub bit_of : ℕ → ℕ
 bit_of number = 2 ^ (number % 64)
 

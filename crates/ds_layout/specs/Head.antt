@@ -2,26 +2,27 @@
 use Rattle.std.specs.Prelude.{ℕ, ◌+◌, ◌*◌, ◌/◌, ◌%◌, ◌^◌, ◌<◌, ◌==◌, Bool, Option, Some, None, nat_lt, ◌&&◌, if◌then◌else◌}
 use Rattle.ds_layout.specs.declared.head.Head.{Head}
 
--- each part fits its place in the word
+-- each part of the head fits its place in the word
 pub record CanPack (head : Head) : Type 0 where
   pub stamp : head.stamp < 2 ^ 48
   pub process : head.process < 256
   pub number : head.number < 256
 
--- an edit of a sheet with so many processes
+-- the head is that of an edit of a sheet with so many processes, with a stamp from 1 on
 pub record IsHead (processes : ℕ) (head : Head) : Type 0 where
   pub counted : 0 < head.stamp
   pub packs : CanPack head
   pub process : head.process < processes
 
+-- the word of a head: its stamp, its process and its number
 abbrev pub head_word : Head → ℕ
 head_word head = head.stamp * 65536 + head.process * 256 + head.number
 
--- the parts of a word, whatever they are
+-- the parts of a head's word, whatever they are
 abbrev pub parts_of : ℕ → Head
 parts_of word = record { stamp = word / 65536; process = word / 256 % 256; number = word % 256 }
 
--- what the word says: nothing where the stamp is 0 or the process is none of the sheet
+-- the head that the word is: none where the stamp is 0 or the process is none of the sheet
 abbrev pub head_of : ℕ → ℕ → Option Head
 head_of processes word =
     let head : Head = parts_of word in

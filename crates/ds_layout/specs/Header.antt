@@ -3,20 +3,21 @@ use Rattle.std.specs.Prelude.{ℕ, ◌+◌, ◌*◌, ◌/◌, ◌%◌, ◌^◌, 
 use Rattle.ds_layout.specs.declared.place.TheConstants.{TEXT_BYTES}
 use Rattle.ds_layout.specs.declared.header.Header.{Header}
 
--- each part fits its place in the word
+-- each part of the header fits its place in the word
 pub record CanPack (header : Header) : Type 0 where
   pub cell : header.cell < 2 ^ 56
   pub length : header.length < 256
 
--- a cell of a sheet with so many, and the length of a text
+-- the header has a cell of a sheet with so many, and the length of a text
 pub record IsHeader (cells : ℕ) (header : Header) : Type 0 where
   pub cell : header.cell < cells
   pub length : header.length ≤ TEXT_BYTES
 
+-- the word of a header: its cell and its length
 abbrev pub header_word : Header → ℕ
 header_word header = header.cell * 256 + header.length
 
--- what the word says: nothing where the cell is none of the sheet or the length is more than a text's
+-- the header that the word is: none where the cell is none of the sheet or the length is more than a text's
 abbrev pub header_of : ℕ → ℕ → Option Header
 header_of cells word =
     let header : Header = record { cell = word / 256; length = word % 256 } in

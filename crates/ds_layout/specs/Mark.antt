@@ -4,28 +4,30 @@ use Rattle.ds_layout.specs.declared.mark.Mark.{Mark}
 use Rattle.ds_layout.specs.declared.mark.State.{State}
 use Rattle.ds_layout.specs.declared.mark.State.TheVariants.{Clean, Marked, Held}
 
--- 0 for nobody
+-- the code of a mark's holder: 0 for nobody
 abbrev pub holder_code : Option ℕ → ℕ
 holder_code None = 0
 holder_code (Some process) = process + 1
 
+-- the dirty bit of a mark's word
 abbrev pub dirty_bit : Bool → ℕ
 dirty_bit false = 0
 dirty_bit true = 1
 
--- each part fits its place in the word
+-- each part of the mark fits its place in the word
 pub record CanPack (mark : Mark) : Type 0 where
   pub generation : mark.generation < 2 ^ 59
   pub holder : holder_code mark.holder < 16
 
+-- the word of a mark: its generation, the code of its holder and its dirty bit
 abbrev pub mark_word : Mark → ℕ
 mark_word mark = mark.generation * 32 + holder_code mark.holder * 2 + dirty_bit mark.dirty
 
--- the holder with this code
+-- the holder that this code in a mark's word stands for: nobody for 0
 abbrev pub holder_of : ℕ → Option ℕ
 holder_of code = if code == 0 then None else Some (code - 1)
 
--- the parts of a word, whatever they are
+-- the parts of a mark's word, whatever they are
 abbrev pub parts_of : ℕ → Mark
 parts_of word = record {
   generation = word / 32;
@@ -33,7 +35,7 @@ parts_of word = record {
   dirty = word % 2 == 1;
 }
 
--- a process that is none of the sheet's is nobody
+-- the holder, where it is one of so many processes; any other one is nobody
 abbrev pub present : ℕ → Option ℕ → Option ℕ
 present processes None = None
 present processes (Some process) = if nat_lt process processes then Some process else None
@@ -46,11 +48,12 @@ mark_of processes word = record {
   dirty = word % 2 == 1;
 }
 
+-- the state of a mark with this holder, where it has one, that is dirty or not
 abbrev pub state_by : Option ℕ → Bool → State
 state_by (Some process) dirty = Held process
 state_by None false = Clean
 state_by None true = Marked
 
--- clean without a holder and not dirty, marked without a holder and dirty, else held
+-- the state of a mark: clean without a holder and not dirty, marked without a holder and dirty, else held
 abbrev pub state_of : Mark → State
 state_of mark = state_by mark.holder mark.dirty

@@ -22,6 +22,7 @@ class_of (Header process number) = Owned
 class_of (Text process number part) = Owned
 class_of (Done process part) = Bit
 
+-- how many cells the sheet has
 abbrev pub cells_of : Layout → ℕ
 cells_of layout = count_of layout.shape
 
@@ -46,7 +47,7 @@ IsPlaceOf cells parts processes (Done process part) = (process < processes) × (
 abbrev pub IsPlace : Layout → Place → Type 0
 IsPlace layout place = IsPlaceOf (cells_of layout) (parts_of layout) layout.processes place
 
--- the kinds of words, one behind the other
+-- the numbers where each kind of words begins, one kind behind the other
 abbrev pub starts_for : ℕ → ℕ → ℕ → Starts
 starts_for cells parts processes =
     let marks = 1 + cells in
@@ -70,7 +71,7 @@ starts_for cells parts processes =
       words = done + processes * DONE_PARTS;
     }
 
--- no kind begins before the one in front of it
+-- no kind of words begins before the one in front of it
 pub record IsAscending (s : Starts) : Type 0 where
   pub heads : s.heads ≤ s.marks
   pub marks : s.marks ≤ s.values
@@ -82,6 +83,7 @@ pub record IsAscending (s : Starts) : Type 0 where
   pub texts : s.texts ≤ s.done
   pub done : s.done ≤ s.words
 
+-- the numbers where each kind of the sheet's words begins
 unfoldable pub starts_of : Layout → Starts
 starts_of layout = starts_for (cells_of layout) (parts_of layout) layout.processes
 
@@ -89,7 +91,7 @@ starts_of layout = starts_for (cells_of layout) (parts_of layout) layout.process
 abbrev pub words_of : Layout → ℕ
 words_of layout = (starts_of layout).words
 
--- the number of the word at a place: by kind, then by cell or process, then number, then part
+-- the number of the word at a place, where the kinds begin so: by kind, then cell or process, then number, then part
 abbrev pub number_by : Starts → ℕ → Place → ℕ
 number_by s parts Version = 0
 number_by s parts (Head cell) = s.heads + cell
@@ -102,10 +104,11 @@ number_by s parts (Header process number) = s.headers + (process * RECORDS + num
 number_by s parts (Text process number part) = s.texts + ((process * RECORDS + number) * TEXT_PARTS + part)
 number_by s parts (Done process part) = s.done + (process * DONE_PARTS + part)
 
+-- the number of the word at a place of the sheet
 unfoldable pub number_of : Layout → Place → ℕ
 number_of layout place = number_by (starts_of layout) (parts_of layout) place
 
--- the place whose word has the number
+-- the place whose word has this number, where the kinds of words begin so
 abbrev pub place_by : Starts → ℕ → ℕ → Place
 place_by s parts n =
     if nat_lt n s.heads then Version
@@ -119,5 +122,6 @@ place_by s parts n =
     else (if nat_lt n s.done then Text ((n - s.texts) / TEXT_PARTS / RECORDS) ((n - s.texts) / TEXT_PARTS % RECORDS) ((n - s.texts) % TEXT_PARTS)
     else Done ((n - s.done) / DONE_PARTS) ((n - s.done) % DONE_PARTS)))))))))
 
+-- the place of the sheet whose word has this number
 unfoldable pub place_of : Layout → ℕ → Place
 place_of layout n = place_by (starts_of layout) (parts_of layout) n

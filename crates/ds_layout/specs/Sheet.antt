@@ -14,7 +14,7 @@ use Rattle.ds_layout.specs.declared.place.Place.TheVariants.{Version, Head, Mark
 use Rattle.ds_layout.specs.declared.layout.Layout.{Layout}
 use Rattle.ds_layout.specs.Places.{cells_of, parts_of, words_of, class_of, IsPlace, number_of, place_of}
 
--- the test of IsPlaceOf
+-- whether the place is one of a sheet with so many cells, parts of a row, and processes
 abbrev pub is_place_of : ℕ → ℕ → ℕ → Place → Bool
 is_place_of cells parts processes Version = true
 is_place_of cells parts processes (Head cell) = nat_lt cell cells
@@ -74,7 +74,7 @@ pub record HasEntry (layout : Layout) (memory : Memory Place) (p : ℕ) : Type 0
   pub oldest : memory.buffer p ≡ entry ∷ rest
   pub there : IsPlace layout entry.place
 
--- the process may flush, or write back
+-- the buffer of the process has the room for a flush, or the entry for a write-back
 abbrev pub HasBuffer : Layout → Memory Place → ℕ → Access Place → Type 0
 HasBuffer layout memory p Nothing = Unit {0}
 HasBuffer layout memory p (Load place) = Unit {0}

@@ -7,7 +7,7 @@ use Rattle.std.specs.Int.{w64, to_le_bytes, from_le_bytes}
 abbrev pub part_of : List ℕ → ℕ → List ℕ
 part_of text part = map (λ k. slice_index text (8 * part + k)) (range_with_len 0 8)
 
--- their word, the first in the lowest eight bits
+-- the word of a part of the text: its eight bytes, the first in the lowest eight bits
 abbrev pub part_word : List ℕ → ℕ → ℕ
 part_word text part = from_le_bytes w64 (part_of text part)
 

@@ -30,9 +30,9 @@ use Rattle.ds_state.specs.declared.stage.Stage.TheVariants.{FlushText, BackRecor
 use Rattle.ds_state.specs.declared.situation.Situation.{Situation}
 use Rattle.ds_state.specs.declared.situation.Situation.TheVariants.{Idle, Stopped, Editing, Working, Recovering, Showing}
 
--- what an edit's buffer holds: nothing; so many words of its record from this one on; its announcement; bits of the row
--- of a reference, its cell's among them; done bits, this edit's among them; a head of its cell, this one or a later one;
--- its cell's mark
+-- what an edit's buffer holds: nothing; so many words of its record from this one on; its announcement; bits of the
+-- row of a reference, its cell's among them; done bits, this edit's among them; a head of its cell, this one or a
+-- later one; its cell's mark
 pub data Held : Type 0 where
   empty : Held
   record_words : ℕ → ℕ → Held
@@ -42,7 +42,7 @@ pub data Held : Type 0 where
   head_from : ℕ → Held
   mark : Held
 
--- what it holds at a stage of an edit with so many parts of its text and these references
+-- what the buffer of an edit holds at a stage: with so many parts of its text and these references
 abbrev pub held_at : ℕ → List ℕ → Stage → Held
 held_at parts refs (FlushText part) = record_words 0 (suc part)
 held_at parts refs (BackRecord left) = record_words (parts - left) (suc left)
@@ -55,28 +55,28 @@ held_at parts refs (BackMark own) = mark
 held_at parts refs (BackOutcome how) = announcing_word (ended how)
 held_at parts refs _ = empty
 
--- that of a word of the edit's record
+-- the buffer's entry of one word of the edit's record, by the number of that word
 abbrev pub record_entry : Edit → ℕ → Entry Place
 record_entry e k = entry (record_place e.process e.number k) (record_word e k)
 
--- one entry, with a value that is one of these
+-- the process's buffer holds one entry alone: of the word at this place, with a value of which `Is` holds
 pub record HasOne (w : World) (p : ℕ) (r : Place) (Is : ℕ → Type 0) : Type 0 where
   pub value : ℕ
   pub alone : w.memory.buffer p ≡ entry r value ∷ []
   pub is : Is value
 
--- bits that the cached side has, this one among them
+-- the value's bits are bits of the word's cached side, and the bit of the number is among them
 pub record IsBits (w : World) (r : Place) (number value : ℕ) : Type 0 where
   pub has : HasBit value number
   pub subset : IsSubset value (w.memory.cached r)
 
--- a head of the cell, this one or a later one
+-- the value is a head that a counted edit gave the cell: no older than `least`
 pub record IsHeadFrom (w : World) (cell least value : ℕ) : Type 0 where
   pub enough : least ≤ value
   pub by : Edit
   pub head : IsHeadBy (of_cell cell w.counted) value by
 
--- the process's buffer holds just this
+-- the buffer of the edit's process holds just what `Held` says
 abbrev pub Holds : World → Edit → Held → Type 0
 Holds w e empty = w.memory.buffer e.process ≡ []
 Holds w e (record_words first count) = w.memory.buffer e.process ≡ map (record_entry e) (range_with_len first count)
@@ -97,7 +97,7 @@ pub record HasRefs (shape : Shape) (text refs : List ℕ) : Type 0 where
   pub reads : Reads shape text content
   pub all : (c : Cell) → Refers content c → Contains refs (index_of shape c)
 
--- an edit of the sheet, which is not answered, knows what its stage says, and its buffer holds that
+-- an edit of the sheet, which is open, knows what its stage says, and its buffer holds that
 pub record EditFits (w : World) (p : ℕ) (e : PlainEdit) : Type 0 where
   pub mine : e.process ≡ p
   pub is : IsEdit e
@@ -120,8 +120,8 @@ pub record IdleFits (w : World) (p next : ℕ) : Type 0 where
   pub cached : w.memory.cached (place.Announce p) ≡ last_announcement w.counted p next
   pub persisted : w.memory.persisted (place.Announce p) ≡ last_announcement w.counted p next
 
--- what an edit in doubt may announce, on either side: how the one before it ended, where it does not count; that it is
--- pending; how it ended, where that is settled
+-- what an edit in doubt may announce, on either side: how the one before it ended, where it does not count; that it
+-- is pending; how it ended, where that is settled
 abbrev pub MaySay : Standing → Announced → Type 0
 MaySay outside last = Unit {0}
 MaySay outside pending = Unit {0}
@@ -131,17 +131,18 @@ MaySay safe pending = Unit {0}
 MaySay safe (ended Done) = Unit {0}
 MaySay _ _ = ⊥
 
+-- the order of what an edit in doubt may announce: how the one before it ended, that it is pending, how it ended
 abbrev pub rank : Announced → ℕ
 rank last = 0
 rank pending = 1
 rank (ended how) = 2
 
--- once it is announced, its record stands
+-- where an edit has announced itself, its whole record stands on both sides
 abbrev pub IsWritten : World → Edit → Announced → Type 0
 IsWritten w e last = Unit {0}
 IsWritten w e _ = IsRecorded w e (record_size e) (record_size e)
 
--- an edit that its process left, when it stopped
+-- an edit in doubt: how it stands in the list, what each side of its announcement says, and its record
 pub record IsInDoubt (w : World) (p : ℕ) (issue : Issue) : Type 0 where
   pub mine : issue.edit.process ≡ p
   pub number : issue.edit.number < RECORDS
@@ -158,11 +159,12 @@ pub record IsInDoubt (w : World) (p : ℕ) (issue : Issue) : Type 0 where
   pub order : rank before ≤ rank now
   pub written : IsWritten w issue.edit now
 
--- a stopped process in no edit announces how its last one ended
+-- a stopped process without an open edit announces how its last one ended
 pub record IsThrough (w : World) (p : ℕ) : Type 0 where
   pub next : ℕ
   pub rest : IsAtRest w p next
 
+-- what holds of a stopped process: its open edit is in doubt, or it has none and announces how its last one ended
 abbrev pub DoubtFits : World → ℕ → Option Issue → Type 0
 DoubtFits w p None = IsThrough w p
 DoubtFits w p (Some issue) = IsInDoubt w p issue
@@ -183,7 +185,7 @@ pub record RecoveryFits (w : World) (p : ℕ) (e : PlainRecovery) : Type 0 where
   pub resolved : ResolvedFits w e.process e.announcement e.cell (resolved_at e.stage)
   pub buffer : RecoveryHolds w e.process e.announcement e.cell (recovery_held e.cell e.stage)
 
--- what the process does fits the world
+-- the situation of the process fits the world
 abbrev pub CallFits : World → ℕ → Situation → Type 0
 CallFits w p (Idle next) = IdleFits w p next
 CallFits w p Stopped = StoppedFits w p

@@ -2,12 +2,12 @@
 use Rattle.std.specs.Prelude.{ℕ, ◌≡◌, ◌≢◌, List, [], ◌∷◌, length, Option, Some, Contains}
 use Rattle.ds_state.specs.World.{Edit, Issue}
 
--- none stands twice
+-- no edit stands in the list twice
 abbrev pub AreDistinct : List Edit → Type 0
 AreDistinct [] = Unit {0}
 AreDistinct (e ∷ es) = (Contains es e → ⊥) × AreDistinct es
 
--- so many of the edits that count are answered
+-- among the counted edits stand so many different ones that are no longer open
 pub record HasAnswered (counted : List Edit) (pending : ℕ → Option Issue) (done : ℕ) : Type 0 where
   pub closed : List Edit
   pub as_many : length closed ≡ done

@@ -19,14 +19,14 @@ pub data Standing : Type 0 where
   inside : ℕ → Standing
   safe : Standing
 
--- what the edit announces: how the one before it ended, itself, or how it ended
+-- what the edit's process announces: how the edit before it ended, that this one is pending, or how it ended
 pub data Announced : Type 0 where
   last : Announced
   pending : Announced
   ended : Outcome → Announced
 
--- what it knows of its cell's head: nothing; the head that it noted; that this head or a later one is persisted; that
--- also the done bit of the head's edit is set; that the bit is persisted; which two heads it met
+-- what an edit knows of its cell's head: nothing; the head that it noted; that this head or a later one is persisted;
+-- that also the done bit of the head's edit is set; that the bit is persisted; which two heads it met
 pub data Noted : Type 0 where
   nothing : Noted
   head_noted : Head → Noted
@@ -35,9 +35,9 @@ pub data Noted : Type 0 where
   bit_back : ℕ → Noted
   came_late : ℕ → ℕ → Noted
 
--- so many words of its record are stored, and so many are persisted; on its announcement's cached side stands `now`,
--- on the persisted side that or `before`; its cell stands in the index rows of so many of its references, and on the
--- cached side in that of one more
+-- what an edit knows: so many words of its record are stored, and so many are persisted; on its announcement's cached
+-- side stands `now`, on the persisted side that or `before`; its cell stands in the index rows of so many of its
+-- references, and on the cached side in that of one more
 pub record Known : Type 0 where
   pub standing : Standing
   pub stored : ℕ
@@ -48,32 +48,33 @@ pub record Known : Type 0 where
   pub ored : Option ℕ
   pub head : Noted
 
--- the record is being written
+-- what an edit knows while it writes its record: so many words are stored, and so many are persisted
 abbrev pub writing : ℕ → ℕ → Known
 writing stored back = record { standing = outside; stored = stored; back = back; before = last; now = last; indexed = 0; ored = None; head = nothing }
 
--- it is written, of so many parts; the edit is being announced
+-- what an edit with so many parts knows while it announces itself: its record is written
 abbrev pub announcing : ℕ → Known
 announcing parts = record { standing = outside; stored = suc parts; back = suc parts; before = last; now = pending; indexed = 0; ored = None; head = nothing }
 
--- it is announced, and is being indexed
+-- what an edit knows while it is indexed: it is announced, and its cell stands in the rows of so many references
 abbrev pub indexing : ℕ → ℕ → Option ℕ → Known
 indexing parts i ored = record { standing = outside; stored = suc parts; back = suc parts; before = pending; now = pending; indexed = i; ored = ored; head = nothing }
 
--- it is indexed, and takes its place
+-- what an edit knows from the load of its cell's head to the write-back of the mark: it is indexed
 abbrev pub placing : ℕ → ℕ → Standing → Noted → Known
 placing parts refs standing head = record { standing = standing; stored = suc parts; back = suc parts; before = pending; now = pending; indexed = refs; ored = None; head = head }
 
--- what is known of an edit that has ended so
+-- how an edit stands that has ended so: safe after Done, outside after Overtaken
 abbrev pub standing_after : Outcome → Standing
 standing_after Done = safe
 standing_after (Overtaken noted seen) = outside
 
+-- what an edit that has ended so knows of its cell's head: after Overtaken, which two heads it met
 abbrev pub noted_after : Outcome → Noted
 noted_after Done = nothing
 noted_after (Overtaken noted seen) = came_late noted seen
 
--- it has ended
+-- what an edit knows from its outcome to its answer
 abbrev pub ending : ℕ → ℕ → Outcome → Announced → Announced → Known
 ending parts refs how before now = record { standing = standing_after how; stored = suc parts; back = suc parts; before = before; now = now; indexed = refs; ored = None; head = noted_after how }
 
@@ -122,18 +123,18 @@ pub record IsSafe (w : World) (e : Edit) : Type 0 where
   pub head : IsHeadBy (of_cell e.cell w.counted) own e
   pub persisted : own ≤ w.memory.persisted (place.Head e.cell)
 
--- so, and it is its process's last one that counts
+-- no crash takes the edit, and it is its process's last one that counts
 pub record IsSafelyIn (w : World) (e : Edit) : Type 0 where
   pub below : AreBelow w e.process (e.number + 1)
   pub safe : IsSafe w e
 
--- whether it counts is as this says
+-- whether the edit counts, and whether a crash can take it, is as `Standing` says
 abbrev pub StandsAs : World → Edit → Standing → Type 0
 StandsAs w e outside = AreBelow w e.process e.number
 StandsAs w e (inside own) = IsIn w e own
 StandsAs w e safe = IsSafelyIn w e
 
--- the first so many words of its record are stored, and the first so many are persisted
+-- of the edit's record the first so many words are stored, and the first so many are persisted
 pub record IsRecorded (w : World) (e : Edit) (stored back : ℕ) : Type 0 where
   pub cached : (k : ℕ) → k < stored → w.memory.cached (record_place e.process e.number k) ≡ record_word e k
   pub persisted : (k : ℕ) → k < back → w.memory.persisted (record_place e.process e.number k) ≡ record_word e k
@@ -144,13 +145,13 @@ abbrev pub phase_of : Outcome → Phase
 phase_of Done = phase.Done
 phase_of (Overtaken noted seen) = phase.NotDone
 
--- the word of an announcement
+-- the word of what the edit's process announces
 abbrev pub word_of : World → Edit → Announced → ℕ
 word_of w e last = last_announcement w.counted e.process e.number
 word_of w e pending = announcement e.number phase.Pending
 word_of w e (ended how) = announcement e.number (phase_of how)
 
--- its process announces `now`, and on the persisted side that or `before`
+-- the edit's process announces `now`, and on the persisted side that or `before`
 pub record IsAnnounced (w : World) (e : Edit) (before now : Announced) : Type 0 where
   pub cached : w.memory.cached (place.Announce e.process) ≡ word_of w e now
   pub persisted : (w.memory.persisted (place.Announce e.process) ≡ word_of w e before) ⊎ (w.memory.persisted (place.Announce e.process) ≡ word_of w e now)
@@ -164,7 +165,7 @@ pub record IsIndexedTo (w : World) (e : Edit) (refs : List ℕ) (count : ℕ) : 
   pub cached : (i : ℕ) → i < count → HasBit (w.memory.cached (row_of e refs i)) e.cell
   pub persisted : (i : ℕ) → i < count → HasBit (w.memory.persisted (row_of e refs i)) e.cell
 
--- on the cached side also in the row of this reference, where there is one
+-- where a reference is given, the edit's cell stands in its row on the cached side
 abbrev pub IsOred : World → Edit → List ℕ → Option ℕ → Type 0
 IsOred w e refs None = Unit {0}
 IsOred w e refs (Some i) = HasBit (w.memory.cached (row_of e refs i)) e.cell
@@ -178,7 +179,7 @@ pub record IsWhen (w : World) (since count : ℕ) : Type 0 where
   pub late : since ≤ count
   pub there : count ≤ length w.counted
 
--- the head that it noted was that of the last edit of its cell then
+-- the head that the edit noted was that of its cell's last edit when it looked, since its issue
 pub record IsNoted (w : World) (e : Edit) (since : ℕ) (head : Head) : Type 0 where
   pub count : ℕ
   pub when : IsWhen w since count
@@ -189,8 +190,8 @@ pub record IsNoted (w : World) (e : Edit) (since : ℕ) (head : Head) : Type 0 w
   pub number : head.number ≡ by.number
   pub word : head_word head ≡ head_after_all (before ++ by ∷ [])
 
--- what it noted was its cell's head, which is persisted, or a later one; its edit, where it is one, has its done bit
--- persisted
+-- the noted head was its cell's when the edit looked; it or a later one is persisted; the edit that gave it, where
+-- one did, has its done bit persisted
 pub record IsHelped (w : World) (e : Edit) (since head : ℕ) : Type 0 where
   pub count : ℕ
   pub when : IsWhen w since count
@@ -198,7 +199,7 @@ pub record IsHelped (w : World) (e : Edit) (since head : ℕ) : Type 0 where
   pub back : head ≤ w.memory.persisted (place.Head e.cell)
   pub done : (before : List Edit) (by : Edit) → of_cell_when w e.cell count ≡ before ++ by ∷ [] → IsDone w by.process by.number
 
--- what it noted was its cell's head, and what it met then is a later one
+-- the edit noted its cell's head, and then met a later one of the cell
 pub record IsLate (w : World) (e : Edit) (since noted seen : ℕ) : Type 0 where
   pub count : ℕ
   pub when : IsWhen w since count
@@ -207,11 +208,11 @@ pub record IsLate (w : World) (e : Edit) (since noted seen : ℕ) : Type 0 where
   pub by : Edit
   pub head : IsHeadBy (of_cell e.cell w.counted) seen by
 
--- this head of its cell, or a later one, is persisted
+-- this head of the edit's cell, or a later one, is persisted
 abbrev pub IsBack : World → Edit → Head → Type 0
 IsBack w e head = head_word head ≤ w.memory.persisted (place.Head e.cell)
 
--- what it knows of its cell's head is as this says
+-- what the edit knows of its cell's head holds, as `Noted` says
 abbrev pub Knows : World → Edit → ℕ → Noted → Type 0
 Knows w e since nothing = Unit {0}
 Knows w e since (head_noted head) = IsNoted w e since head
@@ -220,7 +221,7 @@ Knows w e since (bit_set head) = IsNoted w e since head × IsBack w e head × Ha
 Knows w e since (bit_back head) = IsHelped w e since head
 Knows w e since (came_late noted seen) = IsLate w e since noted seen
 
--- all that an edit knows
+-- all that an edit knows holds, as `Known` says
 pub record Knowing (w : World) (e : Edit) (refs : List ℕ) (since : ℕ) (k : Known) : Type 0 where
   pub standing : StandsAs w e k.standing
   pub recorded : IsRecorded w e k.stored k.back

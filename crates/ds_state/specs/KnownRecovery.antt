@@ -16,8 +16,8 @@ use Rattle.ds_state.specs.KnownWork.{HasMark}
 use Rattle.ds_state.specs.declared.work.RecoverStage.{RecoverStage}
 use Rattle.ds_state.specs.declared.work.RecoverStage.TheVariants.{LoadMark, FlushValue, FlushKind, BackValue, BackKind, Telling, Give, GiveDirty, FlushGiven, BackGiven, LoadHeader, LoadHead, FlushHead, BackHead, LoadDone, OrMark, FlushMark, BackMark, StoreOutcome, FlushOutcome, BackOutcome, Answer}
 
--- the cells: so many are looked at, and this one is held, with so much of its words persisted; it is so, and was marked
--- since it was looked at
+-- how far a recovery has given its cells back: so many are looked at; this one is held; its value is persisted; its
+-- kind, too; also it was marked since it was looked at; all are free
 pub data Freed : Type 0 where
   before : ℕ → Freed
   holding : ℕ → Freed
@@ -26,6 +26,7 @@ pub data Freed : Type 0 where
   outrun : ℕ → Freed
   all_free : Freed
 
+-- how far a recovery at this stage has given its cells back
 abbrev pub freed_at : RecoverStage → Freed
 freed_at (LoadMark cell) = before cell
 freed_at (FlushValue cell) = holding cell
@@ -43,16 +44,18 @@ freed_at _ = all_free
 abbrev pub HoldsFrom : World → ℕ → ℕ → Type 0
 HoldsFrom w p cell = (r : ℕ) → r < cell → IsHeldBy p (w.memory.cached (place.Mark r)) → ⊥
 
--- it holds the cell, by the mark that it saw
+-- the process holds the cell, by the mark that it saw, and no cell below it
 pub record Holding (w : World) (p mark cell : ℕ) : Type 0 where
   pub below : HoldsFrom w p cell
   pub by : IsHeldBy p mark
   pub stands : turn (w.memory.cached (place.Mark cell)) ≡ turn mark
   pub seen : mark ≤ w.memory.cached (place.Mark cell)
 
+-- the value of the cell is the same on both sides
 abbrev pub ValueAgrees : World → ℕ → Type 0
 ValueAgrees w cell = w.memory.persisted (place.Value cell) ≡ w.memory.cached (place.Value cell)
 
+-- the kind of the cell is the same on both sides
 abbrev pub KindAgrees : World → ℕ → Type 0
 KindAgrees w cell = w.memory.persisted (place.Kind cell) ≡ w.memory.cached (place.Kind cell)
 
@@ -60,6 +63,7 @@ KindAgrees w cell = w.memory.persisted (place.Kind cell) ≡ w.memory.cached (pl
 abbrev pub marked : ℕ → ℕ
 marked mark = mark / 2 * 2 + 1
 
+-- the process has given its cells back as far as `Freed` says, by the mark that it saw
 abbrev pub FreedFits : World → ℕ → ℕ → Freed → Type 0
 FreedFits w p mark (before cell) = HoldsFrom w p cell
 FreedFits w p mark (holding cell) = Holding w p mark cell
@@ -68,8 +72,9 @@ FreedFits w p mark (both_back cell) = Holding w p mark cell × ValueAgrees w cel
 FreedFits w p mark (outrun cell) = Holding w p mark cell × ValueAgrees w cell × KindAgrees w cell × (w.memory.cached (place.Mark cell) ≡ marked mark)
 FreedFits w p mark all_free = HoldsNone w p
 
--- its edit in doubt: nothing is noted; the announcement is; it is pending, and of this cell; it counts; it does not, or is
--- overtaken; it is settled; that is said on the cached side; on both sides, or nothing was ever announced
+-- what a recovery knows of its edit in doubt: nothing; the announcement; that it is pending, and of this cell; that
+-- it counts; that it does not, or is superseded; its outcome; that this is announced on the cached side; on both
+-- sides, or that there never was an announcement
 pub data Resolved : Type 0 where
   unknown : Resolved
   noted : Resolved
@@ -80,6 +85,7 @@ pub data Resolved : Type 0 where
   said : Bool → Resolved
   over : Option Bool → Resolved
 
+-- what a recovery at this stage knows of its edit in doubt
 abbrev pub resolved_at : RecoverStage → Resolved
 resolved_at LoadHeader = noted
 resolved_at LoadHead = doubted
@@ -95,18 +101,18 @@ resolved_at (BackOutcome how) = said how
 resolved_at (Answer how) = over how
 resolved_at _ = unknown
 
--- how an edit is announced that ended so
+-- the phase that announces an outcome: true for done, false for not done
 abbrev pub phase_for : Bool → Phase
 phase_for true = phase.Done
 phase_for false = phase.NotDone
 
--- the announcement tells this outcome
+-- the word announces this outcome, of a number that has a record
 pub record Tells (word : ℕ) (how : Bool) : Type 0 where
   pub number : ℕ
   pub few : number < RECORDS
   pub is : word ≡ announcement number (phase_for how)
 
--- settled: it counts for good, or it does not count
+-- the edit's outcome is settled: it counts and no crash takes it, or it does not count
 abbrev pub SettledAs : World → Edit → Bool → Type 0
 SettledAs w e true = IsSafelyIn w e
 SettledAs w e false = AreBelow w e.process e.number
@@ -130,12 +136,14 @@ pub record IsOpen (w : World) (p word : ℕ) (issue : Issue) : Type 0 where
   pub is : word ≡ announcement issue.edit.number phase.Pending
   pub cached : w.memory.cached (place.Announce p) ≡ word
 
+-- the edit in doubt, which is announced as pending by the word, is of this cell, and `P` holds of it
 pub record IsOpenAnd (w : World) (p word own : ℕ) (P : Edit → Type 0) : Type 0 where
   pub issue : Issue
   pub it : IsOpen w p word issue
   pub own_is : issue.edit.cell ≡ own
   pub and : P issue.edit
 
+-- what a recovery knows of its edit in doubt holds, as `Resolved` says, with the word and the cell that it noted
 abbrev pub ResolvedFits : World → ℕ → ℕ → ℕ → Resolved → Type 0
 ResolvedFits w p word cell unknown = Unit {0}
 ResolvedFits w p word cell noted = w.memory.cached (place.Announce p) ≡ word
@@ -147,7 +155,8 @@ ResolvedFits w p word cell (said how) = (w.memory.cached (place.Announce p) ≡ 
 ResolvedFits w p word cell (over (Some how)) = (w.memory.cached (place.Announce p) ≡ word) × (w.memory.persisted (place.Announce p) ≡ word) × Tells word how × IsItsCell w p word cell
 ResolvedFits w p word cell (over None) = (w.memory.cached (place.Announce p) ≡ word) × (w.memory.persisted (place.Announce p) ≡ word) × (word ≡ 0)
 
--- what its buffer holds: the words of the cell that it frees; marks; a head; its announcement
+-- what a recovery's buffer holds: nothing; value, kind or both of the cell that it frees; a mark; a head; its
+-- announcement
 pub data RecoveryHeld : Type 0 where
   empty : RecoveryHeld
   the_value : ℕ → RecoveryHeld
@@ -157,10 +166,12 @@ pub data RecoveryHeld : Type 0 where
   a_head : RecoveryHeld
   the_outcome : RecoveryHeld
 
+-- what a recovery's buffer holds while it tells: at a write-back, the mark of the cell that is told
 abbrev pub spread_held : Spread → RecoveryHeld
 spread_held (BackTold d) = a_mark d
 spread_held _ = empty
 
+-- what a recovery's buffer holds at a stage, where its edit in doubt is of cell c
 abbrev pub recovery_held : ℕ → RecoverStage → RecoveryHeld
 recovery_held c (FlushKind cell) = the_value cell
 recovery_held c (BackValue cell) = both_words cell
@@ -172,13 +183,15 @@ recovery_held c (BackMark how) = a_mark c
 recovery_held c (BackOutcome how) = the_outcome
 recovery_held c _ = empty
 
+-- the buffer's entry of the cell's value, with what the cached side has now
 abbrev pub value_now : World → ℕ → Entry Place
 value_now w cell = entry (place.Value cell) (w.memory.cached (place.Value cell))
 
+-- the buffer's entry of the cell's kind, with what the cached side has now
 abbrev pub kind_now : World → ℕ → Entry Place
 kind_now w cell = entry (place.Kind cell) (w.memory.cached (place.Kind cell))
 
--- a head of the cell, that of the edit in doubt or a later one
+-- the process's buffer holds one head of the cell alone: that of the edit in doubt, or a later one
 pub record HasHead (w : World) (p cell : ℕ) : Type 0 where
   pub value : ℕ
   pub alone : w.memory.buffer p ≡ entry (place.Head cell) value ∷ []
@@ -190,6 +203,7 @@ pub record HasHead (w : World) (p cell : ℕ) : Type 0 where
   pub head : IsHeadBy (of_cell cell w.counted) own issue.edit
   pub enough : own ≤ value
 
+-- the buffer of the recovery's process holds just what `RecoveryHeld` says
 abbrev pub RecoveryHolds : World → ℕ → ℕ → ℕ → RecoveryHeld → Type 0
 RecoveryHolds w p word c empty = w.memory.buffer p ≡ []
 RecoveryHolds w p word c (the_value cell) = w.memory.buffer p ≡ value_now w cell ∷ []

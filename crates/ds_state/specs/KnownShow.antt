@@ -29,31 +29,36 @@ use Rattle.ds_state.specs.declared.work.ShowEnd.TheVariants.{Settled, AtMark, At
 use Rattle.ds_state.specs.declared.work.ShowStage.{ShowStage}
 use Rattle.ds_state.specs.declared.work.ShowStage.TheVariants.{LoadAnnounce, LoadMark, LoadValue, LoadKind, AgainMark, AgainAnnounce, Answer}
 
+-- the word that was noted of the cell or process with this number, 0 where none was
 abbrev pub noted : List ℕ → ℕ → ℕ
 noted words i = slice_index_or words i 0
 
--- whether a word announces an edit as pending
+-- whether the phase is pending
 abbrev pub is_pending_phase : Phase → Bool
 is_pending_phase phase.Pending = true
 is_pending_phase phase.Done = false
 is_pending_phase phase.NotDone = false
 
+-- whether there is an announcement, and its phase is pending
 abbrev pub pends : Option Announcement → Bool
 pends None = false
 pends (Some a) = is_pending_phase a.phase
 
+-- whether a word announces an edit as pending
 abbrev pub reads_pending : ℕ → Bool
 reads_pending word = pends (announcement_of word)
 
+-- the word announces an edit as pending
 abbrev pub IsPendingWord : ℕ → Type 0
 IsPendingWord word = reads_pending word ≡ true
 
--- whether a mark's word is clean, as it is read in a sheet with so many processes
+-- whether the state of a mark is clean
 abbrev pub is_clean : State → Bool
 is_clean Clean = true
 is_clean Marked = false
 is_clean (Held p) = false
 
+-- whether a mark's word is clean, as it is read in a sheet with so many processes
 abbrev pub reads_clean : ℕ → ℕ → Bool
 reads_clean processes word = is_clean (state_of (mark_of processes word))
 
@@ -65,6 +70,7 @@ pub record Moment : Type 0 where
   pub kind : ℕ → ℕ
   pub edits : List Edit
 
+-- the moment that a world is: its words as processes see them, and the edits that count
 abbrev pub moment_of : World → Moment
 moment_of w = record {
   marks = λ c. w.memory.cached (place.Mark c);
@@ -88,16 +94,16 @@ pub record AreScratch (shape : Shape) (edits : List Edit) (values : List Value) 
   pub is : IsSheet shape edits sheet
   pub scratch : IsScratch shape sheet values
 
--- so of the moment
+-- what the moment's words show are the values from scratch of the edits that counted then
 abbrev pub IsRight : Shape → Moment → Type 0
 IsRight shape m = AreScratch shape m.edits (values_of (count_of shape) m.value m.kind)
 
--- every mark is clean, and nothing is announced as pending
+-- at the moment every mark is clean, and no announcement is pending
 pub record IsStill (layout : Layout) (m : Moment) : Type 0 where
   pub clean : (c : ℕ) → c < cells_of layout → IsClean (m.marks c)
   pub settled : (q : ℕ) → q < layout.processes → IsPendingWord (m.announced q) → ⊥
 
--- the moment, between what was noted at first and now
+-- the moment lies between what a report noted at first and now; where it is still, its values are right
 pub record HasMoment (w : World) (qs ms vs ks : List ℕ) (m : Moment) : Type 0 where
   pub marks_to : (c : ℕ) → m.marks c ≤ w.memory.cached (place.Mark c)
   pub announced_to : (q : ℕ) → m.announced q ≤ w.memory.cached (place.Announce q)
@@ -109,7 +115,8 @@ pub record HasMoment (w : World) (qs ms vs ks : List ℕ) (m : Moment) : Type 0 
   pub counted : w.counted ≡ m.edits ++ more
   pub right : IsStill w.layout m → IsRight w.layout.shape m
 
--- what was noted so far: no word is older now; marks were clean, announcements not pending; values stand while marks do
+-- what a report noted so far: no word is older now; marks were clean, announcements not pending; values stand while
+-- marks do
 pub record HasNoted (w : World) (qs ms vs ks : List ℕ) : Type 0 where
   pub announcements : (q : ℕ) → q < length qs → noted qs q ≤ w.memory.cached (place.Announce q)
   pub marks : (c : ℕ) → c < length ms → noted ms c ≤ w.memory.cached (place.Mark c)
@@ -119,29 +126,31 @@ pub record HasNoted (w : World) (qs ms vs ks : List ℕ) : Type 0 where
   pub kinds : (c : ℕ) → c < length ks → w.memory.cached (place.Mark c) ≡ noted ms c → w.memory.cached (place.Kind c) ≡ noted ks c
   pub fewer : (length ks ≤ length vs) × (length vs ≤ length ms)
 
--- so many marks and announcements that it saw again were the same at that moment
+-- so many marks and announcements that a report saw again were, at the moment, the noted ones
 pub record SawAgain (w : World) (qs ms vs ks : List ℕ) (m : Moment) (again_marks again : ℕ) : Type 0 where
   pub moment : HasMoment w qs ms vs ks m
   pub mark : (c : ℕ) → c < again_marks → m.marks c ≡ noted ms c
   pub announcement : (q : ℕ) → q < again → m.announced q ≡ noted qs q
 
--- a word that it saw at a cell's mark: it was not clean, or not the noted one
+-- the word that a report saw at a cell's mark was not clean, or not the noted one
 pub record IsOffMark (w : World) (ms : List ℕ) (c word : ℕ) : Type 0 where
   pub had : word ≤ w.memory.cached (place.Mark c)
   pub off : (IsClean word → ⊥) ⊎ ((c < length ms) × (word ≢ noted ms c))
 
--- and at a process's announcement
+-- the word that a report saw at a process's announcement was pending, or not the noted one
 pub record IsOffAnnounce (w : World) (qs : List ℕ) (q word : ℕ) : Type 0 where
   pub had : word ≤ w.memory.cached (place.Announce q)
   pub off : IsPendingWord word ⊎ ((q < length qs) × (word ≢ noted qs q))
 
--- how far it is: no moment yet; so many marks and announcements seen again; the word that ended it
+-- how far a report is: no moment yet; so many marks and announcements seen again; the mark, or the announcement, that
+-- ended it
 pub data Seen : Type 0 where
   first : Seen
   middle : ℕ → ℕ → Seen
   off_mark : ℕ → ℕ → Seen
   off_announce : ℕ → ℕ → Seen
 
+-- how far a report is at this stage, in a sheet with so many cells and processes
 abbrev pub seen_at : ℕ → ℕ → ShowStage → Seen
 seen_at cells processes (LoadAnnounce i) = first
 seen_at cells processes (LoadMark i) = first
@@ -153,14 +162,14 @@ seen_at cells processes (Answer Settled) = middle cells processes
 seen_at cells processes (Answer (AtMark c word)) = off_mark c word
 seen_at cells processes (Answer (AtAnnounce q word)) = off_announce q word
 
--- with this moment, where there is one
+-- how far a report is fits the world, with this moment where it has one
 abbrev pub SeenFits : World → List ℕ → List ℕ → List ℕ → List ℕ → Moment → Seen → Type 0
 SeenFits w qs ms vs ks m first = Unit {0}
 SeenFits w qs ms vs ks m (middle again_marks again) = SawAgain w qs ms vs ks m again_marks again
 SeenFits w qs ms vs ks m (off_mark c word) = IsOffMark w ms c word
 SeenFits w qs ms vs ks m (off_announce q word) = IsOffAnnounce w qs q word
 
--- a report of the sheet, of which this is the moment
+-- a report of the sheet fits the world, and this is its moment
 pub record ShowFitsAt (w : World) (p : ℕ) (e : PlainShow) (m : Moment) : Type 0 where
   pub mine : e.process ≡ p
   pub is : IsShow e
@@ -172,5 +181,6 @@ pub record ShowFitsAt (w : World) (p : ℕ) (e : PlainShow) (m : Moment) : Type 
   pub noted : HasNoted w e.announcements e.marks e.values e.kinds
   pub seen : SeenFits w e.announcements e.marks e.values e.kinds m (seen_at e.cells e.processes e.stage)
 
+-- a report of the sheet fits the world, with some moment
 abbrev pub ShowFits : World → ℕ → PlainShow → Type 0
 ShowFits w p e = (m : Moment) × ShowFitsAt w p e m

@@ -21,7 +21,7 @@ use Rattle.ds_state.specs.declared.work.WorkStage.{WorkStage}
 use Rattle.ds_state.specs.declared.work.WorkStage.TheVariants.{LoadMark, Claim, FlushClaim, BackClaim, LoadHead, LoadHeader, LoadText, Read, LoadValue, LoadKind, LoadOwnValue, LoadOwnKind, Wait, StoreValue, StoreKind, FlushValue, FlushKind, BackValue, BackKind, Telling, Clear, ClearDirty, Give, GiveDirty, FlushCleared, BackCleared, Answer}
 use Rattle.ds_state.specs.declared.work.Spread.TheVariants.{BackTold}
 
--- the cell's mark: it holds none; it saw this one, which nobody held; it holds the cell on the cached side; on both sides
+-- how a work holds its cell: not at all; it saw the mark, which nobody held; on the cached side; on both sides
 pub data Hold : Type 0 where
   free : Hold
   seen : Hold
@@ -30,8 +30,8 @@ pub data Hold : Type 0 where
   -- also it saw that the mark came to be dirty
   outrun : Hold
 
--- what it noted: nothing; the head; so many parts of its text; the content; the first so many references, and the value
--- of one more
+-- what a work has loaded: nothing; the head; so many parts of the text; all of it; the content; the entries of the
+-- first so many references, and the value of one more
 pub data Loaded : Type 0 where
   nothing : Loaded
   the_head : Loaded
@@ -41,7 +41,7 @@ pub data Loaded : Type 0 where
   some_inputs : ℕ → Loaded
   one_value : ℕ → ℕ → Loaded
 
--- the cell's own words: nothing; what it loaded; what it stored; what is written back
+-- what a work knows of its cell's value and kind: nothing; what it loaded; what it stored; what is written back
 pub data Own : Type 0 where
   unseen : Own
   value_seen : Own
@@ -51,23 +51,26 @@ pub data Own : Type 0 where
   value_back : Own
   settled : Own
 
+-- what a work knows: how it holds its cell, what it has loaded, the cell's value and kind, whether it is evaluated
 pub record WorkKnown : Type 0 where
   pub hold : Hold
   pub loaded : Loaded
   pub own : Own
   pub evaluated : Bool
 
+-- what a work knows at a stage that needs no loaded word: only how it holds its cell
 abbrev pub before : Hold → WorkKnown
 before hold = record { hold = hold; loaded = nothing; own = unseen; evaluated = false }
 
+-- what a work knows while it loads and waits: its cell is held on both sides, and it is not evaluated
 abbrev pub loading : Loaded → Own → WorkKnown
 loading loaded own = record { hold = held; loaded = loaded; own = own; evaluated = false }
 
--- all is loaded, of so many references, and evaluated
+-- what a work knows once it is evaluated: its cell is held, and the entries of so many references are loaded
 abbrev pub storing : ℕ → Own → WorkKnown
 storing refs own = record { hold = held; loaded = some_inputs refs; own = own; evaluated = true }
 
--- what is known at a stage, with so many references
+-- what a work with so many references knows at a stage
 abbrev pub work_known : ℕ → WorkStage → WorkKnown
 work_known refs LoadMark = before free
 work_known refs Claim = before seen
@@ -97,24 +100,27 @@ work_known refs (FlushCleared end) = before free
 work_known refs (BackCleared end) = before free
 work_known refs (Answer end) = before free
 
--- the process holds the cell, by this claim, and no other one
+-- the process holds the cell by this claim, on the cached side, and holds no other cell
 pub record Claims (w : World) (process cell mark : ℕ) : Type 0 where
   pub even : IsEven mark
   pub by : IsHeldBy process mark
   pub cached : turn (w.memory.cached (place.Mark cell)) ≡ turn mark
   pub alone : (r : ℕ) → IsHeldBy process (w.memory.cached (place.Mark r)) → r ≡ cell
 
+-- the work's process holds its cell by its claim, on the cached side
 abbrev pub HasClaimed : World → PlainWork → Type 0
 HasClaimed w e = Claims w e.process e.cell e.mark
 
--- on both sides
+-- the process holds the cell by this claim, on both sides, and holds no other cell
 pub record ClaimsBoth (w : World) (process cell mark : ℕ) : Type 0 where
   pub claim : Claims w process cell mark
   pub persisted : turn (w.memory.persisted (place.Mark cell)) ≡ turn mark
 
+-- the work's process holds its cell by its claim, on both sides
 abbrev pub HasHeld : World → PlainWork → Type 0
 HasHeld w e = ClaimsBoth w e.process e.cell e.mark
 
+-- the work holds its cell as `Hold` says
 abbrev pub HoldFits : World → PlainWork → Hold → Type 0
 HoldFits w e free = HoldsNone w e.process
 HoldFits w e seen = HoldsNone w e.process × (e.mark ≤ w.memory.cached (place.Mark e.cell)) × ((q : ℕ) → IsHeldBy q e.mark → ⊥) × (e.mark / 32 ≤ 2 ^ 58)
@@ -122,14 +128,15 @@ HoldFits w e claimed = HasClaimed w e
 HoldFits w e held = HasHeld w e
 HoldFits w e outrun = HasHeld w e × (w.memory.cached (place.Mark e.cell) ≡ e.mark + 1)
 
--- so while the cell was not marked again
+-- `P` holds as long as this is the cell's mark
 abbrev pub WhileMarked : World → ℕ → ℕ → Type 0 → Type 0
 WhileMarked w cell mark P = w.memory.cached (place.Mark cell) ≡ mark → P
 
+-- `P` holds as long as the work's cell was not marked since its claim
 abbrev pub WhileEven : World → PlainWork → Type 0 → Type 0
 WhileEven w e P = WhileMarked w e.cell e.mark P
 
--- the head is still the cell's, unless somebody owes the cell
+-- as long as the cell was not marked, the noted head is the cell's, or the cell is excused
 abbrev pub HeadStands : World → PlainWork → Type 0
 HeadStands w e = WhileEven w e ((w.memory.cached (place.Head e.cell) ≡ e.head) ⊎ IsExcused w e.cell e.mark)
 
@@ -140,6 +147,7 @@ pub record ReadsPart (w : World) (cell head count : ℕ) (noted : List ℕ) (par
   pub size : count ≡ length by.text
   pub start : noted ≡ take (8 * parts) by.text
 
+-- the noted head was given to the work's cell by a counted edit, and so many parts of its text are noted
 abbrev pub HasRead : World → PlainWork → ℕ → Type 0
 HasRead w e parts = ReadsPart w e.cell e.head e.length e.text parts
 
@@ -149,35 +157,41 @@ pub record ReadsWhole (w : World) (cell head : ℕ) (noted : List ℕ) : Type 0 
   pub gave : IsHeadBy (of_cell cell w.counted) head by
   pub text : noted ≡ by.text
 
+-- the noted head was given to the work's cell by a counted edit, and its whole text is noted
 abbrev pub HasWhole : World → PlainWork → Type 0
 HasWhole w e = ReadsWhole w e.cell e.head e.text
 
--- the head is an edit's that counts
+-- the noted head was given to the work's cell by an edit that counts
 abbrev pub IsHeadOf : World → PlainWork → Type 0
 IsHeadOf w e = (by : Edit) × IsHeadBy (of_cell e.cell w.counted) e.head by
 
+-- the number of the cell that the input at this index is of
 abbrev pub row_of : World → List Input → ℕ → ℕ
 row_of w inputs j = index_of w.layout.shape (cell_in inputs j)
 
+-- the number of the cell that the work's input at this index is of
 abbrev pub input_row : World → PlainWork → ℕ → ℕ
 input_row w e j = row_of w e.inputs j
 
--- the reference's row has the cell, and what was noted of it stands, unless it owes the cell
+-- the reference's index row has the cell, and the noted entry is what its words show, or it owes the cell a mark
 pub record EntryStands (w : World) (cell mark : ℕ) (inputs : List Input) (j : ℕ) : Type 0 where
   pub indexed : IsIndexed w (row_of w inputs j) cell
   pub stands : WhileMarked w cell mark ((entry_at inputs j ≡ entry_on w.layout (cached_side w.memory) (row_of w inputs j)) ⊎ CellOwes w (row_of w inputs j) cell mark)
 
+-- what the work noted of its reference at this index stands
 abbrev pub InputStands : World → PlainWork → ℕ → Type 0
 InputStands w e j = EntryStands w e.cell e.mark e.inputs j
 
+-- the reference's index row has the cell, and the noted value is its value, or it owes the cell a mark
 pub record WordStands (w : World) (cell mark : ℕ) (inputs : List Input) (j value : ℕ) : Type 0 where
   pub indexed : IsIndexed w (row_of w inputs j) cell
   pub stands : WhileMarked w cell mark ((value ≡ w.memory.cached (place.Value (row_of w inputs j))) ⊎ CellOwes w (row_of w inputs j) cell mark)
 
+-- the value that the work noted of its reference at this index stands
 abbrev pub ValueStands : World → PlainWork → ℕ → ℕ → Type 0
 ValueStands w e j value = WordStands w e.cell e.mark e.inputs j value
 
--- the content, its references among the inputs, and the first so many of these
+-- the content is the cell's by the noted head, its references are among the inputs, and the first so many stand
 pub record Gathers (w : World) (cell mark top : ℕ) (holds : Plain) (inputs : List Input) (count : ℕ) : Type 0 where
   pub head : WhileMarked w cell mark ((w.memory.cached (place.Head cell) ≡ top) ⊎ IsExcused w cell mark)
   pub content : HasContent w cell top holds
@@ -186,9 +200,11 @@ pub record Gathers (w : World) (cell mark top : ℕ) (holds : Plain) (inputs : L
   pub rows : (j : ℕ) → j < length inputs → IsIndexed w (row_of w inputs j) cell
   pub each : (j : ℕ) → j < count → EntryStands w cell mark inputs j
 
+-- the work has its content, and the first so many of its inputs stand
 abbrev pub HasInputs : World → PlainWork → ℕ → Type 0
 HasInputs w e count = Gathers w e.cell e.mark e.head e.content e.inputs count
 
+-- what the work has loaded stands, as `Loaded` says
 abbrev pub LoadedFits : World → PlainWork → Loaded → Type 0
 LoadedFits w e nothing = Unit {0}
 LoadedFits w e the_head = HeadStands w e × IsHeadOf w e
@@ -198,13 +214,15 @@ LoadedFits w e the_content = HasInputs w e 0
 LoadedFits w e (some_inputs count) = HasInputs w e count
 LoadedFits w e (one_value count value) = HasInputs w e count × ValueStands w e count value
 
--- the sides of the cell's own words
+-- the word at a place on one side
 abbrev pub on : (Place → ℕ) → PlainWork → Place → ℕ
 on side e r = side r
 
+-- the cached sides of value and kind of the work's cell are these two words
 abbrev pub CachedAre : World → PlainWork → ℕ → ℕ → Type 0
 CachedAre w e v k = (w.memory.cached (place.Value e.cell) ≡ v) × (w.memory.cached (place.Kind e.cell) ≡ k)
 
+-- value and kind of the work's cell are as `Own` says
 abbrev pub OwnFits : World → PlainWork → Own → Type 0
 OwnFits w e unseen = Unit {0}
 OwnFits w e value_seen = w.memory.cached (place.Value e.cell) ≡ e.value
@@ -215,19 +233,19 @@ OwnFits w e value_back = CachedAre w e (value_for e.entry) (word_for e.entry) ×
 OwnFits w e settled = CachedAre w e (value_for e.entry) (word_for e.entry)
     × (w.memory.persisted (place.Value e.cell) ≡ value_for e.entry) × (w.memory.persisted (place.Kind e.cell) ≡ word_for e.entry)
 
--- the entry is what the inputs give
+-- where the work is evaluated, its entry is what its content gives of its inputs
 abbrev pub EntryIs : World → PlainWork → Bool → Type 0
 EntryIs w e false = Unit {0}
 EntryIs w e true = e.entry ≡ local w.layout.shape e.content (entry_in e.inputs)
 
--- all that work knows
+-- all that a work knows holds, as `WorkKnown` says
 pub record WorkKnows (w : World) (e : PlainWork) (k : WorkKnown) : Type 0 where
   pub hold : HoldFits w e k.hold
   pub loaded : LoadedFits w e k.loaded
   pub own : OwnFits w e k.own
   pub evaluated : EntryIs w e k.evaluated
 
--- what its buffer holds: nothing; its claim; a mark of this cell; its cell's own words
+-- what a work's buffer holds: nothing; its claim; a mark of this cell; value, kind or both of its cell
 pub data WorkHeld : Type 0 where
   empty : WorkHeld
   claim : WorkHeld
@@ -236,6 +254,7 @@ pub data WorkHeld : Type 0 where
   both_words : WorkHeld
   the_kind : WorkHeld
 
+-- what a work's buffer holds at a stage
 abbrev pub work_held : PlainWork → WorkStage → WorkHeld
 work_held e BackClaim = claim
 work_held e FlushKind = the_value
@@ -245,28 +264,33 @@ work_held e (Telling (BackTold d)) = a_mark d
 work_held e (BackCleared end) = a_mark e.cell
 work_held e _ = empty
 
--- one entry, with a mark that the cell has had
+-- the process's buffer holds one entry alone, a mark of the cell, no newer than the cached one
 pub record HasMark (w : World) (p cell : ℕ) : Type 0 where
   pub value : ℕ
   pub alone : w.memory.buffer p ≡ entry (place.Mark cell) value ∷ []
   pub had : value ≤ w.memory.cached (place.Mark cell)
   pub is : IsMark w.layout cell value
 
+-- the process's buffer holds one entry alone, a mark of the cell that is of the turn of the claim
 pub record BuffersClaim (w : World) (process cell mark : ℕ) : Type 0 where
   pub value : ℕ
   pub alone : w.memory.buffer process ≡ entry (place.Mark cell) value ∷ []
   pub had : value ≤ w.memory.cached (place.Mark cell)
   pub claims : turn value ≡ turn mark
 
+-- the work's buffer holds one entry alone, its claim
 abbrev pub HasClaim : World → PlainWork → Type 0
 HasClaim w e = BuffersClaim w e.process e.cell e.mark
 
+-- the buffer's entry of the work's cell's value, as it was stored
 abbrev pub value_entry : PlainWork → Entry Place
 value_entry e = entry (place.Value e.cell) (value_for e.entry)
 
+-- the buffer's entry of the work's cell's kind, as it was stored
 abbrev pub kind_entry : PlainWork → Entry Place
 kind_entry e = entry (place.Kind e.cell) (word_for e.entry)
 
+-- the buffer of the work's process holds just what `WorkHeld` says
 abbrev pub WorkHolds : World → PlainWork → WorkHeld → Type 0
 WorkHolds w e empty = w.memory.buffer e.process ≡ []
 WorkHolds w e claim = HasClaim w e
@@ -283,6 +307,7 @@ pub record IsAtRest (w : World) (p next : ℕ) : Type 0 where
   pub cached : w.memory.cached (place.Announce p) ≡ last_announcement w.counted p next
   pub persisted : w.memory.persisted (place.Announce p) ≡ last_announcement w.counted p next
 
+-- a work of a cell of the sheet knows what its stage says, its buffer holds that, and its process has no open edit
 pub record WorkFits (w : World) (p : ℕ) (e : PlainWork) : Type 0 where
   pub mine : e.process ≡ p
   pub cells : cells_of w.layout ≡ e.cells

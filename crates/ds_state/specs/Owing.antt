@@ -25,17 +25,19 @@ use Rattle.ds_state.specs.declared.situation.Situation.TheVariants.{Idle, Stoppe
 abbrev pub turn : ℕ → ℕ
 turn mark = mark / 2
 
+-- a clean mark: no holder, not dirty
 abbrev pub IsClean : ℕ → Type 0
 IsClean mark = mark % 32 ≡ 0
 
--- clean, or held and not marked since
+-- a mark that is not dirty: clean, or held and not marked since
 abbrev pub IsEven : ℕ → Type 0
 IsEven mark = mark % 2 ≡ 0
 
+-- the mark's holder is this process
 abbrev pub IsHeldBy : ℕ → ℕ → Type 0
 IsHeldBy q mark = mark / 2 % 16 ≡ q + 1
 
--- an entry of a buffer
+-- a buffer's entry of the word at a place, with its class
 abbrev pub entry : Place → ℕ → Entry Place
 entry r value = record { place = r; class = class_of r; value = value }
 
@@ -48,19 +50,20 @@ pub record IsHeld (m : Memory Place) (q r : ℕ) : Type 0 where
 abbrev pub StandsIn : List ℕ → ℕ → Type 0
 StandsIn row c = HasBit (slice_index_or row (c / 64) 0) c
 
--- the process's buffer has a mark of the cell, a greater one
+-- the process's buffer holds one entry alone, a mark of the cell that is greater than x
 pub record IsBelowBuffered (m : Memory Place) (p c x : ℕ) : Type 0 where
   pub value : ℕ
   pub alone : m.buffer p ≡ entry (place.Mark c) value ∷ []
   pub below : x < value
 
--- who tells the dependents of a cell has still to tell c above x
+-- a process that tells, at this place of the row, still owes c a mark above x
 abbrev pub SpreadOwes : Memory Place → ℕ → List ℕ → Spread → ℕ → ℕ → Type 0
 SpreadOwes m p row (LoadRow part) c x = (part ≤ c / 64) ⊎ StandsIn row c
 SpreadOwes m p row (OrTold d) c x = StandsIn row c × (d ≤ c)
 SpreadOwes m p row (FlushTold d) c x = StandsIn row c × ((d < c) ⊎ ((d ≡ c) × (x < m.cached (place.Mark c))))
 SpreadOwes m p row (BackTold d) c x = StandsIn row c × ((d < c) ⊎ ((d ≡ c) × IsBelowBuffered m p c x))
 
+-- a work at this stage owes c a mark above x: from its first store until it has told c
 abbrev pub WorkOwes : Memory Place → ℕ → List ℕ → WorkStage → ℕ → ℕ → Type 0
 WorkOwes m p row works.StoreKind c x = Unit {0}
 WorkOwes m p row works.FlushValue c x = Unit {0}
@@ -70,6 +73,7 @@ WorkOwes m p row works.BackKind c x = Unit {0}
 WorkOwes m p row (works.Telling spread) c x = SpreadOwes m p row spread c x
 WorkOwes m p row _ c x = ⊥
 
+-- a recovery at this stage owes c a mark above x, by the cell r that it holds
 abbrev pub RecoveryOwes : Memory Place → ℕ → List ℕ → RecoverStage → ℕ → ℕ → ℕ → Type 0
 RecoveryOwes m p row (recoveries.LoadMark cell) r c x = Unit {0}
 RecoveryOwes m p row (recoveries.FlushValue cell) r c x = Unit {0}
@@ -83,7 +87,7 @@ RecoveryOwes m p row (recoveries.FlushGiven cell) r c x = cell ≢ r
 RecoveryOwes m p row (recoveries.BackGiven cell) r c x = cell ≢ r
 RecoveryOwes m p row _ r c x = ⊥
 
--- a holder of r in this situation owes c above x
+-- a holder of r in this situation owes c a mark above x
 abbrev pub Owes : Memory Place → ℕ → Situation → ℕ → ℕ → ℕ → Type 0
 Owes m p (Idle next) r c x = ⊥
 Owes m p Stopped r c x = Unit {0}
@@ -92,7 +96,7 @@ Owes m p (Working e) r c x = (e.cell ≡ r) × WorkOwes m p e.row e.stage c x
 Owes m p (Recovering e) r c x = RecoveryOwes m p e.row e.stage r c x
 Owes m p (Showing e) r c x = ⊥
 
--- a holder at this stage may have the sides of its cell differ
+-- a work at this stage may have the two sides of its cell's value, or kind, differ
 abbrev pub WorkParts : WorkStage → Type 0
 WorkParts works.StoreKind = Unit {0}
 WorkParts works.FlushValue = Unit {0}
@@ -101,6 +105,7 @@ WorkParts works.BackValue = Unit {0}
 WorkParts works.BackKind = Unit {0}
 WorkParts _ = ⊥
 
+-- a recovery at this stage may have the two sides of the value, or the kind, of the cell r that it holds differ
 abbrev pub RecoveryParts : RecoverStage → ℕ → Type 0
 RecoveryParts (recoveries.LoadMark cell) r = Unit {0}
 RecoveryParts (recoveries.FlushValue cell) r = Unit {0}
@@ -114,6 +119,7 @@ RecoveryParts (recoveries.FlushGiven cell) r = cell ≢ r
 RecoveryParts (recoveries.BackGiven cell) r = cell ≢ r
 RecoveryParts _ r = ⊥
 
+-- a holder of r in this situation may have the two sides of its value, or its kind, differ
 abbrev pub Parts : Situation → ℕ → Type 0
 Parts (Idle next) r = ⊥
 Parts Stopped r = Unit {0}
@@ -122,13 +128,13 @@ Parts (Working e) r = (e.cell ≡ r) × WorkParts e.stage
 Parts (Recovering e) r = RecoveryParts e.stage r
 Parts (Showing e) r = ⊥
 
--- some process holds r on both sides and owes c above x
+-- some process holds r on both sides and owes c a mark above x
 pub record CellOwes (w : World) (r c x : ℕ) : Type 0 where
   pub holder : ℕ
   pub held : IsHeld w.memory holder r
   pub still : Owes w.memory holder (w.situation holder) r c x
 
--- the sides of the words of r may differ
+-- some process holds r on both sides, and may have the two sides of its value, or its kind, differ
 pub record IsApart (w : World) (r : ℕ) : Type 0 where
   pub holder : ℕ
   pub held : IsHeld w.memory holder r
@@ -170,18 +176,19 @@ Excuses w p (Working e) c x = ⊥
 Excuses w p (Recovering e) c x = IsPending w p c × RecoveryExcuses w.memory p c e.stage x
 Excuses w p (Showing e) c x = ⊥
 
--- some process does
+-- some process of the sheet owes the cell c its edit's mark, above x
 pub record IsExcused (w : World) (c x : ℕ) : Type 0 where
   pub process : ℕ
   pub inside : process < w.layout.processes
   pub still : Excuses w process (w.situation process) c x
 
--- the process may have the sides of its cell's head differ, this one being the cached one
+-- an edit at this stage may have the two sides of its cell's head differ, this one being the cached one
 abbrev pub SplitsAt : Stage → ℕ → Type 0
 SplitsAt (edits.FlushOwn own) head = own ≡ head
 SplitsAt (edits.BackOwn own) head = own ≡ head
 SplitsAt _ head = ⊥
 
+-- a recovery at this stage may have the two sides of the head of its edit in doubt differ
 abbrev pub RecoverySplits : RecoverStage → Type 0
 RecoverySplits (recoveries.LoadDone) = ⊥
 RecoverySplits (recoveries.OrMark how) = ⊥
@@ -193,6 +200,7 @@ RecoverySplits (recoveries.BackOutcome how) = ⊥
 RecoverySplits (recoveries.Answer how) = ⊥
 RecoverySplits _ = Unit {0}
 
+-- the process may have the two sides of the head of c differ, this one being the cached one
 abbrev pub Splits : World → ℕ → Situation → ℕ → ℕ → Type 0
 Splits w p (Idle next) c head = ⊥
 Splits w p Stopped c head = IsPending w p c
@@ -201,18 +209,19 @@ Splits w p (Working e) c head = ⊥
 Splits w p (Recovering e) c head = IsPending w p c × RecoverySplits e.stage
 Splits w p (Showing e) c head = ⊥
 
--- two cells of the sheet; the row of r has the bit of c on the cached side
+-- r and c are cells of the sheet, and the index row of r has the bit of c on the cached side
 abbrev pub IsIndexed : World → ℕ → ℕ → Type 0
 IsIndexed w r c = (r < cells_of w.layout) × (c < cells_of w.layout) × HasBit (w.memory.cached (index_place r c)) c
 
--- the greatest generation of a mark that is held, and of any mark
+-- the greatest generation of a mark that is held
 abbrev pub HELD_MOST : ℕ
 HELD_MOST = 2 ^ 58 + 1
 
+-- the greatest generation of any mark
 abbrev pub MOST : ℕ
 MOST = 2 ^ 58 + 2
 
--- the mark's holder, where it has one, is a process of the sheet, the cell is one of the sheet, and one more generation fits
+-- a holder of the mark is a process of the sheet, the cell is one of the sheet, and one more generation fits
 abbrev pub IsMark : Layout → ℕ → ℕ → Type 0
 IsMark layout cell mark = (q : ℕ) → IsHeldBy q mark → (q < layout.processes) × (cell < cells_of layout) × (mark / 32 ≤ HELD_MOST)
 

@@ -9,6 +9,7 @@ use Rattle.ds_state.specs.declared.work.Spread.TheVariants.{LoadRow, OrTold, Flu
 use Rattle.ds_state.specs.declared.work.RecoverStage.{RecoverStage}
 use Rattle.ds_state.specs.declared.work.RecoverStage.TheVariants.{LoadMark, FlushValue, FlushKind, BackValue, BackKind, Telling, Give, GiveDirty, FlushGiven, BackGiven, LoadAnnounce, LoadHeader, LoadHead, FlushHead, BackHead, LoadDone, OrMark, FlushMark, BackMark, StoreOutcome, FlushOutcome, BackOutcome, Answer}
 
+-- how many words an index row has, in a sheet with so many cells
 abbrev pub row_parts : ℕ → ℕ
 row_parts cells = (cells + 63) / 64
 
@@ -16,7 +17,7 @@ row_parts cells = (cells + 63) / 64
 abbrev pub HELD_YOUNG : ℕ
 HELD_YOUNG = SEEN_MOST + 1
 
--- a cell that it gives back, by a mark whose generation has a next one
+-- a cell of the sheet that a recovery gives back, by a mark whose generation has a next one
 abbrev pub IsFreeing : ℕ → ℕ → ℕ → Type 0
 IsFreeing cells mark cell = (cell < cells) × (mark / 32 ≤ HELD_YOUNG)
 
@@ -27,17 +28,18 @@ IsSpread cells row (OrTold d) = (d < cells) × (length row ≡ row_parts cells)
 IsSpread cells row (FlushTold d) = (d < cells) × (length row ≡ row_parts cells)
 IsSpread cells row (BackTold d) = (d < cells) × (length row ≡ row_parts cells)
 
--- the announcement is one of a record
+-- the word is an announcement, of a number that has a record
 pub record IsAnnounced (word : ℕ) : Type 0 where
   pub it : Announcement
   pub reads : announcement_of word ≡ Some it
   pub some : 0 < word / 4
   pub few : word / 4 ≤ RECORDS
 
--- also its cell is one of the sheet
+-- the recovery has noted an announcement of a record, and the cell that it noted is one of the sheet
 abbrev pub IsResolving : PlainRecovery → Type 0
 IsResolving e = IsAnnounced e.announcement × (e.cell < e.cells)
 
+-- what a recovery has at a stage is of its sheet: its cell, its mark, its row and its announcement
 abbrev pub IsStage : PlainRecovery → RecoverStage → Type 0
 IsStage e (LoadMark cell) = cell < e.cells
 IsStage e (FlushValue cell) = IsFreeing e.cells e.mark cell × (length e.row ≡ 0)
@@ -64,7 +66,7 @@ IsStage e (BackOutcome how) = IsResolving e
 IsStage e (Answer None) = Unit {0}
 IsStage e (Answer (Some how)) = IsResolving e
 
--- its process is one of the sheet, and the numbers of its stage are, too
+-- a recovery's process is one of the sheet, and what it has at its stage is of the sheet
 pub record IsRecovery (e : PlainRecovery) : Type 0 where
   pub process : e.process < e.processes
   pub processes : e.processes ≤ 8

@@ -18,14 +18,15 @@ IsOwnedBy m q (Value cell) = IsHeldBy q (m.cached (Mark cell))
 IsOwnedBy m q (Kind cell) = IsHeldBy q (m.cached (Mark cell))
 IsOwnedBy m q _ = ⊥
 
--- a hold of q's, from c and v to c' and v': it stays, on both sides where it was on both, and none comes
+-- a hold of q's, where a mark's sides go from c (cached) and v to c' and v': it stays, on both sides where it was on
+-- both, and none comes
 pub record KeepsHold (q c v c' v' : ℕ) : Type 0 where
   pub cached : IsHeldBy q c → turn c' ≡ turn c
   pub persisted : IsHeldBy q c → turn v ≡ turn c → turn v' ≡ turn c
   pub came : IsHeldBy q c' → IsHeldBy q c
 
--- but for one word: q's own words keep their cached side, and their persisted side at most catches up; stamped words
--- only grow, bits only come, and the edits that come to count are others' and come behind
+-- what q may count on, but for one word: its own words keep their cached side, and their persisted side at most
+-- catches up; stamped words only grow, bits only come, and the edits that come to count are others' and come behind
 pub record Grows (q : ℕ) (but : Place) (old new : World) : Type 0 where
   pub layout : new.layout ≡ old.layout
   pub owned_cached : (r : Place) → IsOwnedBy old.memory q r → r ≢ but → new.memory.cached r ≡ old.memory.cached r
@@ -54,7 +55,8 @@ pub record Bears (old new : World) : Type 0 where
   pub kinds : (r : ℕ) → (new.memory.cached (Kind r) ≡ old.memory.cached (Kind r)) ⊎ ((c x : ℕ) → CellOwes new r c x)
   pub heads : (c : ℕ) → (new.memory.cached (Head c) ≡ old.memory.cached (Head c)) ⊎ ((x : ℕ) → IsExcused new c x)
 
--- also the situation, the issue and the buffer stay, no word of q's is left out, and what was owed is owed
+-- what q may count on while another process steps: its situation, its issue and its buffer stay, words only change as
+-- `Grows` says, and what was owed is owed
 pub record Rely (q : ℕ) (old new : World) : Type 0 where
   pub situation : new.situation q ≡ old.situation q
   pub pending : new.pending q ≡ old.pending q
@@ -62,7 +64,7 @@ pub record Rely (q : ℕ) (old new : World) : Type 0 where
   pub grows : (but : Place) → Grows q but old new
   pub bears : Bears old new
 
--- the process leaves the world sound, and each other process may count on what it counts on
+-- the process leaves the world sound, and what each other process may count on is kept
 pub record Keeps (p : ℕ) (old new : World) : Type 0 where
   pub sound : IsSound new
   pub others : (q : ℕ) → q ≢ p → Rely q old new

@@ -7,13 +7,14 @@ pub record PlainReports : Type 0 where
   pub cells : ℕ
   pub values : List (List Value)
 
--- each has room for all cells
+-- each report has room for all cells
 abbrev pub HaveRoom : ℕ → List ℕ → Type 0
 HaveRoom cells rooms = All (λ room. cells ≤ room) rooms
 
+-- the reports where no process has settled one yet: room for so many cells, and no values
 abbrev pub no_reports : ℕ → ℕ → PlainReports
 no_reports processes cells = record { cells = cells; values = replicate processes [] }
 
--- these values are the process's last settled report
+-- the reports where these values are the process's last settled one
 abbrev pub with_report : PlainReports → ℕ → List Value → PlainReports
 with_report r process values = record r { values = slice_set r.values process values }

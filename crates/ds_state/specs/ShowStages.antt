@@ -12,7 +12,7 @@ pub record HaveNoted (qs ms vs ks : List ℕ) (q m v k : ℕ) : Type 0 where
   pub values : length vs ≡ v
   pub kinds : length ks ≡ k
 
--- what its lists have at a stage, and that the stage is one of the sheet
+-- what a report's lists have at a stage, whose numbers are those of the sheet
 abbrev pub IsStage : PlainShow → ShowStage → Type 0
 IsStage e (LoadAnnounce i) = (i < e.processes) × HaveNoted e.announcements e.marks e.values e.kinds i 0 0 0
 IsStage e (LoadMark i) = (i < e.cells) × HaveNoted e.announcements e.marks e.values e.kinds e.processes i 0 0
@@ -24,6 +24,7 @@ IsStage e (Answer Settled) = HaveNoted e.announcements e.marks e.values e.kinds 
 IsStage e (Answer (AtMark c word)) = c < e.cells
 IsStage e (Answer (AtAnnounce q word)) = q < e.processes
 
+-- a report of a sheet that has cells and processes, with what its stage says
 pub record IsShow (e : PlainShow) : Type 0 where
   pub cells : 0 < e.cells
   pub processes : 0 < e.processes
@@ -36,7 +37,7 @@ pub record HasRoom (cells processes qs ms vs ks : ℕ) : Type 0 where
   pub values : cells ≤ vs
   pub kinds : cells ≤ ks
 
--- a report of a sheet, with that room
+-- a report of a sheet, with room for all that it notes
 pub record IsReady (e : PlainShow) (qs ms vs ks : ℕ) : Type 0 where
   pub is : IsShow e
   pub room : HasRoom e.cells e.processes qs ms vs ks

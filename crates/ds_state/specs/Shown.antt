@@ -34,10 +34,11 @@ use Rattle.ds_state.specs.declared.situation.Situation.TheVariants.{Idle, Stoppe
 abbrev pub mark_at : Layout → Memory Place → ℕ → Mark
 mark_at layout memory cell = mark_of layout.processes (memory.cached (place.Mark cell))
 
+-- the mark of the cell, as processes see it in this world
 abbrev pub mark_in : World → Cell → Mark
 mark_in w cell = mark_at w.layout w.memory (index_of w.layout.shape cell)
 
--- what a kind shows, with its number
+-- the value that a kind shows, where the value word has this number
 abbrev pub shown : Kind → ℤ → Value
 shown kind.Blank number = value.Blank
 shown kind.Number number = value.Number number
@@ -45,13 +46,15 @@ shown kind.DivZero number = value.DivZero
 shown kind.Num number = value.Num
 shown kind.Circular number = value.Circular
 
+-- the value that a cell's kind and number show
 abbrev pub shown_of : Stored → Value
 shown_of stored = shown stored.kind stored.value
 
--- the value of the cell, as processes see it
+-- the value of the cell with this number, as processes see it
 abbrev pub value_at : Layout → Memory Place → ℕ → Value
 value_at layout memory cell = shown_of (stored_of (cells_of layout) (memory.cached (place.Value cell)) (memory.cached (place.Kind cell)))
 
+-- the value of the cell, as processes see it in this world
 abbrev pub value_in : World → Cell → Value
 value_in w cell = value_at w.layout w.memory (index_of w.layout.shape cell)
 
@@ -59,7 +62,7 @@ value_in w cell = value_at w.layout w.memory (index_of w.layout.shape cell)
 abbrev pub values_shown : World → List Value
 values_shown w = map (λ c. value_at w.layout w.memory c) (range_with_len 0 (cells_of w.layout))
 
--- the last point that its edit has behind it, where it has one
+-- the last point that a process's edit has behind it, where it is in one and has passed one
 abbrev pub point_of : Situation → Option Point
 point_of (Idle next) = None
 point_of Stopped = None
@@ -72,7 +75,7 @@ point_of (Showing e) = None
 abbrev pub AllClean : Layout → Memory Place → Type 0
 AllClean layout memory = (cell : ℕ) → cell < cells_of layout → state_of (mark_at layout memory cell) ≡ Clean
 
--- also each edit is answered
+-- a quiet world: each edit is answered, and no cell's mark is dirty or held
 pub record IsQuiet (w : World) : Type 0 where
   pub answered : (p : ℕ) → p < w.layout.processes → w.pending p ≡ None
   pub clean : AllClean w.layout w.memory
@@ -94,6 +97,7 @@ abbrev pub headed_at : Memory Place → ℕ → ℕ → Option Header → List �
 headed_at memory process number None = []
 headed_at memory process number (Some header) = parts_at memory process number header.length ((header.length + 7) / 8)
 
+-- the text of the record with this process and number, as processes see it
 abbrev pub record_at : Layout → Memory Place → ℕ → ℕ → List ℕ
 record_at layout memory process number = headed_at memory process number (header_of (cells_of layout) (memory.cached (place.Header process number)))
 
@@ -106,6 +110,7 @@ named_at layout memory (Some head) = record_at layout memory head.process head.n
 abbrev pub text_at : Layout → Memory Place → ℕ → List ℕ
 text_at layout memory cell = named_at layout memory (head_of layout.processes (memory.cached (place.Head cell)))
 
+-- the text of the cell, as processes see it in this world
 abbrev pub text_in : World → Cell → List ℕ
 text_in w cell = text_at w.layout w.memory (index_of w.layout.shape cell)
 

@@ -5,6 +5,7 @@ use Rattle.ds_state.specs.declared.stage.Stage.TheVariants.{StoreHeader, StoreTe
 use Rattle.ds_state.specs.declared.stage.Point.{Point}
 use Rattle.ds_state.specs.declared.stage.Point.TheVariants.{Written, Announced, Indexed, Helped, Swung, Kept, Marked, Answered}
 
+-- the place of a point among the points, from 1
 abbrev pub order : Point → ℕ
 order Written = 1
 order Announced = 2
@@ -15,7 +16,7 @@ order Kept = 6
 order Marked = 7
 order Answered = 8
 
--- the last point behind the stage
+-- the last point that an edit at this stage has behind it
 abbrev pub point_at : Stage → Option Point
 point_at StoreHeader = None
 point_at (StoreText part) = None
@@ -45,9 +46,11 @@ point_at (FlushOutcome outcome) = Some Marked
 point_at (BackOutcome outcome) = Some Marked
 point_at (Answer outcome) = Some Answered
 
+-- the point is the last one that is behind, or comes before it
 abbrev pub IsPassed : Point → Option Point → Type 0
 IsPassed point None = ⊥
 IsPassed point (Some last) = order point ≤ order last
 
+-- an edit at this stage has the point behind it
 abbrev pub HasReached : Stage → Point → Type 0
 HasReached stage point = IsPassed point (point_at stage)

@@ -22,12 +22,15 @@ pub record Side : Type 0 where
   pub kind : ℕ → ℕ
   pub head : ℕ → ℕ
 
+-- the cached side of the cells' values, kinds and heads
 abbrev pub cached_side : Memory Place → Side
 cached_side m = record { value = λ c. m.cached (place.Value c); kind = λ c. m.cached (place.Kind c); head = λ c. m.cached (place.Head c) }
 
+-- the persisted side of the cells' values, kinds and heads
 abbrev pub persisted_side : Memory Place → Side
 persisted_side m = record { value = λ c. m.persisted (place.Value c); kind = λ c. m.persisted (place.Kind c); head = λ c. m.persisted (place.Head c) }
 
+-- the entry that the side's words show of the cell with this number
 abbrev pub entry_on : Layout → Side → ℕ → entries.Entry
 entry_on layout side c = shown_entry (cells_of layout) (side.value c) (side.kind c)
 
@@ -37,15 +40,17 @@ pub record HasText (w : World) (cell head : ℕ) (content : Plain) : Type 0 wher
   pub gave : IsHeadBy (of_cell cell w.counted) head by
   pub reads : Reads w.layout.shape by.text content
 
+-- the content that this head gives the cell: none where the head is 0, else that of its edit's text
 abbrev pub HasContent : World → ℕ → ℕ → Plain → Type 0
 HasContent w cell head content = ((head ≡ 0) × (content ≡ Empty)) ⊎ HasText w cell head content
 
--- u has what the content refers to, but for what owes c above x
+-- `u` has the entries that the side shows of the content's references, but for those that owe c a mark above x
 abbrev pub Inputs : World → Side → Plain → ℕ → ℕ → (Cell → entries.Entry) → Type 0
 Inputs w side content c x u = (d : Cell) → Refers content d → IsInside w.layout.shape d
     → (u d ≡ entry_on w.layout side (index_of w.layout.shape d)) ⊎ CellOwes w (index_of w.layout.shape d) c x
 
--- the words of c are what its content gives
+-- on this side the words of c are what its content gives of its references' words, but for those that owe c a mark
+-- above x
 pub record Reasons (w : World) (side : Side) (c x : ℕ) : Type 0 where
   pub content : Plain
   pub has : HasContent w c (side.head c) content
@@ -54,6 +59,7 @@ pub record Reasons (w : World) (side : Side) (c x : ℕ) : Type 0 where
   pub on_kind : side.kind c ≡ word_for (local w.layout.shape content inputs)
   pub near : Inputs w side content c x inputs
 
+-- on this side c stands: it is excused, or its words are what its content gives of its references' words
 abbrev pub Stands : World → Side → ℕ → ℕ → Type 0
 Stands w side c x = IsExcused w c x ⊎ Reasons w side c x
 
@@ -64,10 +70,11 @@ pub record IsBuffered (w : World) (c x : ℕ) : Type 0 where
   pub there : Contains (w.memory.buffer by) (entry (place.Mark c) x)
   pub no_older : w.memory.persisted (place.Mark c) ≤ x
 
+-- a mark of c that is persisted, or on its way and no older than the persisted one
 abbrev pub IsDurable : World → ℕ → ℕ → Type 0
 IsDurable w c x = (x ≡ w.memory.persisted (place.Mark c)) ⊎ IsBuffered w c x
 
--- a mark of c above which nobody may stop to owe
+-- a mark of c that is not dirty and is cached, persisted or on its way: above it what is owed stays owed
 abbrev pub Matters : World → ℕ → ℕ → Type 0
 Matters w c x = IsEven x × ((x ≡ w.memory.cached (place.Mark c)) ⊎ IsDurable w c x)
 

@@ -4,12 +4,12 @@ use Rattle.std.proofs.Common.{ap, sym, ◌∙◌}
 use Rattle.std.proofs.lemmas.List.{length-take-le, take-append-drop}
 use Rattle.ds_layout.specs.declared.place.TheConstants.{TEXT_BYTES}
 
--- bytes, and not too many
+-- the text of an edit: bytes, and not too many
 pub record IsText (text : List ℕ) : Type 0 where
   pub short : length text ≤ TEXT_BYTES
   pub bytes : All (λ b. b < 256) text
 
--- zeros, as many as such a text leaves room for
+-- zeros, as many as a text of this length leaves room for
 abbrev pub padding : ℕ → List ℕ
 padding len = replicate (TEXT_BYTES - len) 0
 
@@ -20,10 +20,11 @@ pub record IsPadded (bytes : List ℕ) (len : ℕ) : Type 0 where
   pub within : len ≤ length bytes
   pub rest : drop len bytes ≡ padding len
 
--- so the text alone gives the bytes back
+-- the text at the front of padded bytes is as long as they say
 pub padded_len : (bytes : List ℕ) (len : ℕ) → IsPadded bytes len → length (take len bytes) ≡ len
 padded_len bytes len h = length-take-le len bytes h.within
 
+-- the text at the front of padded bytes, with its padding, gives the bytes back
 pub padded_bytes : (bytes : List ℕ) (len : ℕ) → IsPadded bytes len → take len bytes ++ padding (length (take len bytes)) ≡ bytes
 padded_bytes bytes len h =
     ap (λ n. take len bytes ++ padding n) (padded_len bytes len h) ∙ ap (λ xs. take len bytes ++ xs) (sym h.rest) ∙ take-append-drop len bytes

@@ -24,7 +24,7 @@ pub record WorldValue : Type 0 where
   pub settled : ℕ
   pub reports : PlainReports
 
--- the plain world: what it has of no process is what a new world has
+-- the plain world that a value stands for: what it has of no process is what a new world has
 abbrev pub world_of : WorldValue → World
 world_of v = record {
   layout = v.sheet.layout;
@@ -43,8 +43,8 @@ pub record AreReportsOf (layout : Layout) (r : PlainReports) : Type 0 where
 abbrev pub HasCountsLeft : List Situation → ℕ → Type 0
 HasCountsLeft situations settled = settled + reports_under_way situations ≤ SETTLED_MOST
 
--- it is sound, each process has a situation, a place for its edit and one for its report, as many edits that count are
--- answered as were answered Done, and each report under way can be counted
+-- a good value: its world is sound, each process has a situation, a place for its edit and one for its report, as
+-- many edits that count are answered as were answered Done, and each report under way can be counted
 pub record IsGood (v : WorldValue) : Type 0 where
   pub sound : IsSound (world_of v)
   pub situations : length v.situations ≡ v.sheet.layout.processes
@@ -53,7 +53,7 @@ pub record IsGood (v : WorldValue) : Type 0 where
   pub answered : HasAnswered (world_of v).counted (world_of v).pending v.done
   pub counts : HasCountsLeft v.situations v.settled
 
--- also each edit that its processes can number has a place among those that count
+-- a good value, with a place in the list for each edit that its processes can number
 pub record IsReserved (v : WorldValue) (room : ℕ) : Type 0 where
   pub good : IsGood v
   pub reserved : v.sheet.layout.processes * RECORDS ≤ room

@@ -15,7 +15,7 @@ use Rattle.ds_state.specs.World.{Edit, Issue, World, record_word, record_size, o
 use Rattle.ds_state.specs.Known.{IsSafe}
 use Rattle.ds_state.specs.Owing.{MOST, IsMark, IsApart, Splits}
 
--- the persisted head is the one before the cached one, whose edit is on its way back
+-- the persisted head is the one before the cached one, whose edit is open and may have the sides differ
 pub record IsOnItsWay (w : World) (es : List Edit) (persisted : ℕ) : Type 0 where
   pub before : List Edit
   pub last : Edit
@@ -73,7 +73,7 @@ pub record IsOvertaken (w : World) (process number : ℕ) : Type 0 where
   pub after : List Edit
   pub parts : of_cell edit.cell w.counted ≡ before ++ edit ∷ next ∷ after
 
--- an overtaken edit has its bit persisted, and a bit tells that its edit is kept
+-- a superseded edit has its done bit persisted, and a done bit tells that its edit is kept
 pub record DoneFits (w : World) (process part cached persisted : ℕ) : Type 0 where
   pub sides : IsSubset persisted cached
   pub overtaken : (n : ℕ) → n / 64 ≡ part → IsOvertaken w process n → HasBit persisted n
@@ -86,7 +86,7 @@ pub record MarkFits (w : World) (cell cached persisted : ℕ) : Type 0 where
   pub holder : IsMark w.layout cell cached
   pub persisted_holder : IsMark w.layout cell persisted
 
--- a word, its cached side and its persisted side
+-- the two sides of the word at a place fit the edits that count
 abbrev pub WordFits : World → Place → ℕ → ℕ → Type 0
 WordFits w Version cached persisted = Unit {0}
 WordFits w (Head cell) cached persisted = HeadFits w cell cached persisted

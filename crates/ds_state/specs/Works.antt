@@ -14,9 +14,9 @@ use Rattle.ds_state.specs.declared.work.WorkStage.{WorkStage}
 use Rattle.ds_state.specs.declared.work.RecoverStage.{RecoverStage}
 use Rattle.ds_state.specs.declared.work.ShowStage.{ShowStage}
 
--- its process, the number of the process's next edit, the cell; the mark that it saw, then its claim; the head, the
--- length and the text that it noted, its content, the references with what they show; its own words; what the inputs
--- give; the index row of the cell
+-- a work under way: its process, the number of the process's next edit, the cell; the mark that it saw, then its
+-- claim; the head, the length and the text that it noted, its content, the references with what they show; its own
+-- words; what the inputs give; the index row of the cell
 pub record PlainWork : Type 0 where
   pub process : ℕ
   pub next : ℕ
@@ -35,8 +35,8 @@ pub record PlainWork : Type 0 where
   pub row : List ℕ
   pub stage : WorkStage
 
--- the part of a text that is looked at is one of the text, the reference one of the references, the part of the row is
--- one of the row, and so many are loaded, and the cell that is told is one of the sheet
+-- the part of a text that is looked at is one of the text, the reference one of the references, the part of the row
+-- is one of the row, and so many are loaded, and the cell that is told is one of the sheet
 abbrev pub StageFits : PlainWork → WorkStage → Type 0
 StageFits e (LoadText part) = 8 * part < e.length
 StageFits e (LoadValue i) = i < length e.inputs
@@ -47,24 +47,25 @@ StageFits e (Telling (FlushTold d)) = d < e.cells
 StageFits e (Telling (BackTold d)) = d < e.cells
 StageFits e _ = Unit {0}
 
--- the greatest generation of a mark that it may claim, and of its claim
+-- the greatest generation of a mark that a work may claim
 abbrev pub SEEN_MOST : ℕ
 SEEN_MOST = 2 ^ 58
 
--- the mark that it would claim has a generation that can be followed
+-- the mark that a work is to claim has a generation that can be followed
 abbrev pub ClaimFits : PlainWork → WorkStage → Type 0
 ClaimFits e Claim = e.mark / 32 ≤ SEEN_MOST
 ClaimFits e _ = Unit {0}
 
--- the cell's own words were those of the entry; or they were not
+-- the value and the kind that the work loaded of its cell are those of its entry
 abbrev pub IsSame : PlainWork → Type 0
 IsSame e = (e.value ≡ value_for e.entry) × (e.kind ≡ word_for e.entry)
 
+-- the value or the kind that the work loaded of its cell is not that of its entry
 abbrev pub Differs : PlainWork → Type 0
 Differs e = IsSame e → ⊥
 
--- it stores where they were not, and tells only cells whose bit the loaded row has; where it lets its cell go, it knows
--- which of both it was
+-- a work stores where its cell's words are not those of its entry, and tells only cells whose bit the loaded row has;
+-- where it lets its cell go, it knows which of both it was
 abbrev pub TellsFits : PlainWork → WorkStage → Type 0
 TellsFits e StoreValue = Differs e
 TellsFits e StoreKind = Differs e
@@ -80,7 +81,7 @@ TellsFits e (Clear true) = Differs e
 TellsFits e (Clear false) = IsSame e
 TellsFits e _ = Unit {0}
 
--- its process, cell, text and inputs are those of a sheet, whatever its words say
+-- a work's process, cell, text and inputs are those of a sheet, whatever its words say
 pub record IsWork (e : PlainWork) : Type 0 where
   pub process : e.process < e.processes
   pub processes : e.processes ≤ 8
@@ -95,13 +96,13 @@ pub record IsWork (e : PlainWork) : Type 0 where
   pub stage : StageFits e e.stage
   pub told : TellsFits e e.stage
 
--- also there is room for one input for each cell of the sheet
+-- a work of a sheet, with room for one input for each cell of the sheet
 pub record IsWorkIn (e : PlainWork) (places : ℕ) : Type 0 where
   pub is : IsWork e
   pub room : e.cells ≤ places
 
--- its process; the mark that it saw, the index row of the cell that it gives back; the announcement that it saw, and
--- the cell of that edit
+-- a recovery under way: its process; the mark that it saw, the index row of the cell that it gives back; the
+-- announcement that it saw, and the cell of that edit
 pub record PlainRecovery : Type 0 where
   pub process : ℕ
   pub cells : ℕ
@@ -112,7 +113,7 @@ pub record PlainRecovery : Type 0 where
   pub cell : ℕ
   pub stage : RecoverStage
 
--- its process, the number of the process's next edit; what it noted so far
+-- a report under way: its process, the number of the process's next edit; what it noted so far
 pub record PlainShow : Type 0 where
   pub process : ℕ
   pub next : ℕ

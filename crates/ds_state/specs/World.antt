@@ -20,7 +20,7 @@ pub record Edit : Type 0 where
   pub cell : ℕ
   pub text : List ℕ
 
--- so of an edit under way
+-- what an edit under way is to whoever asked for it
 abbrev pub edit_of : PlainEdit → Edit
 edit_of e = record { process = e.process; number = e.number; cell = e.cell; text = e.text }
 
@@ -38,22 +38,25 @@ pub record World : Type 0 where
   pub counted : List Edit
   pub pending : ℕ → Option Issue
 
--- the words of an edit's record: the header, then the parts of its text
+-- the place of a word of an edit's record: the header, then the parts of its text
 abbrev pub record_place : ℕ → ℕ → ℕ → Place
 record_place process number zero = place.Header process number
 record_place process number (suc part) = place.Text process number part
 
+-- the word of an edit's record with this number: the header, then the parts of its text
 abbrev pub record_word : Edit → ℕ → ℕ
 record_word e zero = header_word (record { cell = e.cell; length = length e.text })
 record_word e (suc part) = part_word e.text part
 
+-- how many words an edit's record has
 abbrev pub record_size : Edit → ℕ
 record_size e = text_parts e.text + 1
 
--- the word of an index row that has the cell's bit, and the word of a process's done bits that has the edit's
+-- the place of the word of an index row that has the cell's bit
 abbrev pub index_place : ℕ → ℕ → Place
 index_place row cell = place.Index row (cell / 64)
 
+-- the place of the word of a process's done bits that has the edit's
 abbrev pub done_place : ℕ → ℕ → Place
 done_place process number = place.Done process (number / 64)
 
@@ -61,7 +64,7 @@ done_place process number = place.Done process (number / 64)
 unfoldable pub of_cell : ℕ → List Edit → List Edit
 of_cell cell edits = filter (λ e. e.cell == cell) edits
 
--- the head by an edit that is its cell's so manieth, from 1
+-- the head with this stamp that the edit gives its cell
 abbrev pub head_by : ℕ → Edit → ℕ
 head_by stamp e = head_word (record { stamp = stamp; process = e.process; number = e.number })
 
@@ -85,14 +88,15 @@ pub record IsHeadBy (es : List Edit) (word : ℕ) (e : Edit) : Type 0 where
   pub parts : es ≡ before ++ e ∷ after
   pub is : word ≡ head_by (length before + 1) e
 
--- an announcement of an edit
+-- the word that announces the edit of this number, in this phase
 abbrev pub announcement : ℕ → Phase → ℕ
 announcement number p = announcement_word (record { number = number; phase = p })
 
--- how the process's edit of this number ended, where it did
+-- whether the edit is the process's one of this number
 abbrev pub is_edit_of : ℕ → ℕ → Edit → Bool
 is_edit_of process number e = (e.process == process) && (e.number == number)
 
+-- how the process's edit of this number ended: done where it stands among the edits, else not done
 abbrev pub phase_among : List Edit → ℕ → ℕ → Phase
 phase_among [] process number = phase.NotDone
 phase_among (e ∷ es) process number = if is_edit_of process number e then phase.Done else phase_among es process number

@@ -6,13 +6,14 @@ use Rattle.ds_streams.specs.declared.ending.ScriptFault.TheVariants.{UnknownComm
 use Rattle.ds_streams.specs.declared.ending.ScriptEnd.{ScriptEnd}
 use Rattle.ds_streams.specs.declared.ending.ScriptEnd.TheVariants.{Ended, Fault, TooLong, ReadFailed, WriteFailed, NoMemory}
 
+-- the name of a fault of a script
 abbrev pub name_of_fault : ScriptFault → List ℕ
 name_of_fault UnknownCommand = codes "unknown command"
 name_of_fault BadField = codes "bad field"
 name_of_fault SheetNotFirst = codes "sheet not first"
 name_of_fault LineTooLong = codes "line too long"
 
--- a fault with the number of its line
+-- the text of how a script ended: a fault with the number of its line
 abbrev pub end_text : ScriptEnd → List ℕ
 end_text Ended = codes "ended"
 end_text (Fault line kind) = codes "line " ++ (decimal line ++ (codes ": " ++ name_of_fault kind))

@@ -7,6 +7,7 @@ use Rattle.ds_formula.specs.declared.cells.Cell.{Cell}
 use Rattle.ds_formula.specs.Names.{cell_named}
 use Rattle.ds_streams.specs.Lines.{word_of}
 
+-- what the function gives of what is there, none where there is none
 infixl 10 ◌>>=◌
 abbrev pub ◌>>=◌ : {A B : Type 0} → Option A → (A → Option B) → Option B
 (Some x) >>= f = f x
@@ -14,6 +15,7 @@ None >>= f = None
 
 -- ---- words
 
+-- whether the byte is a decimal digit
 abbrev pub is_digit : ℕ → Bool
 is_digit b = nat_le 48 b && nat_le b 57
 
@@ -22,11 +24,12 @@ abbrev pub number_from : ℕ → List ℕ → ℕ × List ℕ
 number_from n [] = (n, [])
 number_from n (b ∷ bytes) = if is_digit b then number_from (10 * n + (b - 48)) bytes else (n, b ∷ bytes)
 
+-- whether there are no bytes
 abbrev pub is_empty : List ℕ → Bool
 is_empty [] = true
 is_empty (b ∷ bytes) = false
 
--- digits alone, at least one, of a number below the limit
+-- the number that a word gives: digits alone, at least one, of a number below the limit
 abbrev pub number_below : ℕ → List ℕ → Option ℕ
 number_below limit word =
     let read = number_from 0 word in
@@ -40,10 +43,11 @@ number_field limit rest = rest >>= λ bytes. number_below limit (word_of bytes).
 abbrev pub cell_field : Shape → Option (List ℕ) → Option (Cell × Option (List ℕ))
 cell_field shape rest = rest >>= λ bytes. cell_named shape (word_of bytes).0 >>= λ c. Some (c, (word_of bytes).1)
 
+-- a field and what is behind it, as plain bytes
 abbrev pub field_view : {A : Type 0} → A × Option (Bor (List ℕ)) → A × Option (List ℕ)
 field_view x = (x.0, option_map (λ r. r.now) x.1)
 
--- an empty line, or a comment
+-- whether a line is skipped: an empty one, or a comment
 abbrev pub is_skipped : List ℕ → Bool
 is_skipped [] = true
 is_skipped (b ∷ line) = b == 35

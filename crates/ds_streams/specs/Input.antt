@@ -4,13 +4,13 @@ use Rattle.std.specs.Io.KnownBytes.{IsAtEnd}
 use Rattle.ds_streams.specs.declared.input.InputEnd.{InputEnd}
 use Rattle.ds_streams.specs.declared.input.InputEnd.TheVariants.{Ended, TooLong, Failed}
 
--- the reader has ended
+-- the reader has ended, and gave no more bytes than the limit
 pub record HasEnded (limit : ℕ) (remaining : Option (List ℕ)) (ended : Bool) (bytes : List ℕ) : Type 0 where
   pub no_more : IsAtEnd remaining
   pub flag : ended ≡ true
   pub within : length bytes ≤ limit
 
--- a read failed
+-- a read failed, and the bytes before it are no more than the limit
 pub record HasFailed (limit : ℕ) (failed : Bool) (bytes : List ℕ) : Type 0 where
   pub flag : failed ≡ true
   pub within : length bytes ≤ limit

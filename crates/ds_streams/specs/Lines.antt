@@ -10,12 +10,13 @@ pub data AtFront : Type 0 where
   ALine : List ℕ → List ℕ → AtFront
   LongLine : AtFront
 
+-- what stands at the front of a script, by what the search for a line answered
 abbrev pub next_view : NextLine → AtFront
 next_view lines.Nothing = NoLine
 next_view (lines.Line line rest) = ALine line.now rest.now
 next_view lines.TooLong = LongLine
 
--- a line has at most 512 bytes, without its end
+-- a line and what is behind it; a line of more than 512 bytes, without its end, is too long
 abbrev pub checked : List ℕ → List ℕ → AtFront
 checked line rest = if nat_lt 512 (length line) then LongLine else ALine line rest
 
@@ -29,14 +30,16 @@ last_of whole [] = NoLine
 last_of true (b ∷ bytes) = checked (b ∷ bytes) []
 last_of false (b ∷ bytes) = if nat_lt 512 (length (dropped_return (b ∷ bytes))) then LongLine else NoLine
 
+-- what stands at the front of bytes whose first line feed is here, or that have none
 abbrev pub next_by : Option ℕ → Bool → List ℕ → AtFront
 next_by (Some at) whole bytes = checked (dropped_return (take at bytes)) (drop (at + 1) bytes)
 next_by None whole bytes = last_of whole bytes
 
--- the first line ends at the first line feed
+-- what stands at the front of a script, whose first line ends at the first line feed
 abbrev pub next_of : Bool → List ℕ → AtFront
 next_of whole bytes = next_by (position (λ b. b == 10) bytes) whole bytes
 
+-- the bytes before this space, and those behind it; without a space all of them
 abbrev pub word_by : Option ℕ → List ℕ → List ℕ × Option (List ℕ)
 word_by (Some at) bytes = (take at bytes, Some (drop (at + 1) bytes))
 word_by None bytes = (bytes, None)
@@ -45,5 +48,6 @@ word_by None bytes = (bytes, None)
 abbrev pub word_of : List ℕ → List ℕ × Option (List ℕ)
 word_of bytes = word_by (position (λ b. b == 32) bytes) bytes
 
+-- a word and what is behind it, as plain bytes
 abbrev pub word_view : Bor (List ℕ) × Option (Bor (List ℕ)) → List ℕ × Option (List ℕ)
 word_view w = (w.0.now, option_map (λ r. r.now) w.1)

@@ -3,22 +3,26 @@ use Rattle.std.specs.Prelude.{ℕ, Bool}
 use Rattle.ds_streams.specs.declared.streams.Reading.{Reading}
 use Rattle.ds_streams.specs.declared.streams.Writing.{Writing}
 
+-- the reader that the calls are passed on to
 abbrev pub reader_of : {R : Type 0} → Reading R → R
 reader_of r = r.reader
 
--- how many bytes it gave, from the first call on
+-- how many bytes the reader gave, from the first call on
 abbrev pub bytes_given : {R : Type 0} → Reading R → ℕ
 bytes_given r = r.given
 
--- the last call that gave an answer gave no byte
+-- whether the last call that gave an answer gave no byte
 abbrev pub has_ended : {R : Type 0} → Reading R → Bool
 has_ended r = r.ended
 
+-- whether a call to read failed
 abbrev pub read_failed : {R : Type 0} → Reading R → Bool
 read_failed r = r.failed
 
+-- the writer that the calls are passed on to
 abbrev pub writer_of : {W : Type 0} → Writing W → W
 writer_of w = w.writer
 
+-- whether a call to write failed
 abbrev pub write_failed : {W : Type 0} → Writing W → Bool
 write_failed w = w.failed

@@ -12,7 +12,7 @@ pub record Memory (P : Type 0) : Type 0 where
   pub persisted : P → ℕ
   pub buffer : ℕ → List (Entry P)
 
--- zero on both sides, with empty buffers
+-- each word is zero on both sides, and each buffer is empty
 pub record IsFresh {P : Type 0} (memory : Memory P) : Type 0 where
   pub cached : (r : P) → memory.cached r ≡ 0
   pub persisted : (r : P) → memory.persisted r ≡ 0
@@ -24,7 +24,7 @@ newer Stamped persisted buffered = max persisted buffered
 newer Bit persisted buffered = bit_or persisted buffered
 newer Owned persisted buffered = buffered
 
--- nothing happens
+-- both sides of each word, and each buffer, stay as they are
 pub record SameMemory {P : Type 0} (old new : Memory P) : Type 0 where
   pub cached : (r : P) → new.cached r ≡ old.cached r
   pub persisted : (r : P) → new.persisted r ≡ old.persisted r
@@ -63,7 +63,7 @@ pub record WritesBack {P : Type 0} (p : ℕ) (entry : Entry P) (rest : List (Ent
   pub mine : new.buffer p ≡ rest
   pub others : (q : ℕ) → q ≢ p → new.buffer q ≡ old.buffer q
 
--- so with the first entry of its buffer
+-- the process writes back the oldest entry of its buffer
 abbrev pub BacksFirst : {P : Type 0} → ℕ → Memory P → Memory P → Type 0
 BacksFirst {P} p old new = (entry : Entry P) × (rest : List (Entry P)) × WritesBack p entry rest old new
 

@@ -15,6 +15,7 @@ pub record WordsValue : Type 0 where
   pub words : List Word
   pub buffers : List (List (Entry ℕ))
 
+-- a word that is zero on both sides
 abbrev pub zero_word : Word
 zero_word = record { cached = 0; persisted = 0 }
 
@@ -22,17 +23,19 @@ zero_word = record { cached = 0; persisted = 0 }
 unfoldable pub word_at : WordsValue → ℕ → Word
 word_at v n = slice_index_or v.words n zero_word
 
--- both sides of the word changed
+-- the words with both sides of this one changed
 unfoldable pub with_word : WordsValue → ℕ → Word → WordsValue
 with_word v n w = record v { words = slice_set v.words n w }
 
--- the class of the word
+-- the class of the word with this number
 unfoldable pub class_at : WordsValue → ℕ → Class
 class_at v n = slice_index_or v.classes n Stamped
 
+-- the buffer of the process, empty where there is no such process
 unfoldable pub buffer_of : WordsValue → ℕ → List (Entry ℕ)
 buffer_of v p = slice_index_or v.buffers p []
 
+-- the words with the buffer of the process changed
 unfoldable pub with_buffer : WordsValue → ℕ → List (Entry ℕ) → WordsValue
 with_buffer v p entries = record v { buffers = slice_set v.buffers p entries }
 
@@ -44,7 +47,7 @@ memory_of v = record {
   buffer = λ p. buffer_of v p;
 }
 
--- zero on both sides, with empty buffers
+-- words of these classes that are zero on both sides, with an empty buffer for each process
 abbrev pub fresh_words : List Class → ℕ → WordsValue
 fresh_words classes processes = record {
   classes = classes;
@@ -52,18 +55,21 @@ fresh_words classes processes = record {
   buffers = replicate processes [];
 }
 
--- as many words, of the same classes, and as many processes
+-- both have as many words, of the same classes, and as many processes
 pub record SameShape (old new : WordsValue) : Type 0 where
   pub classes : new.classes ≡ old.classes
   pub words : length new.words ≡ length old.words
   pub buffers : length new.buffers ≡ length old.buffers
 
+-- there is a word with this number
 abbrev pub HasWord : WordsValue → ℕ → Type 0
 HasWord v n = n < length v.words
 
+-- there is a process with this number
 abbrev pub HasProcess : WordsValue → ℕ → Type 0
 HasProcess v p = p < length v.buffers
 
+-- the buffer of the process has room for one more entry
 abbrev pub HasRoom : WordsValue → ℕ → Type 0
 HasRoom v p = length (buffer_of v p) < BUFFER_ENTRIES
 
@@ -75,7 +81,7 @@ pub record HasEntry (v : WordsValue) (p : ℕ) : Type 0 where
   pub oldest : buffer_of v p ≡ entry ∷ rest
   pub there : HasWord v entry.place
 
--- the word is there, and the buffer has room or an entry
+-- the process may perform the access: its word is there, and the buffer has the room or the entry for it
 abbrev pub CanPerform : WordsValue → ℕ → Access ℕ → Type 0
 CanPerform v p Nothing = Unit {0}
 CanPerform v p (Load word) = HasWord v word
@@ -85,5 +91,6 @@ CanPerform v p (SwapIf word expected value) = HasWord v word
 CanPerform v p (Flush word) = HasWord v word × HasProcess v p × HasRoom v p
 CanPerform v p Back = HasEntry v p
 
+-- a word after a crash: both sides are what the persisted one was
 abbrev pub crashed : Word → Word
 crashed w = record { cached = w.persisted; persisted = w.persisted }
