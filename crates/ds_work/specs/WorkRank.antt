@@ -7,7 +7,7 @@ use Rattle.ds_state.specs.declared.work.Spread.TheVariants.{LoadRow, OrTold, Flu
 use Rattle.ds_state.specs.declared.work.WorkStage.{WorkStage}
 use Rattle.ds_state.specs.declared.work.WorkStage.TheVariants.{LoadMark, Claim, FlushClaim, BackClaim, LoadHead, LoadHeader, LoadText, Read, LoadValue, LoadKind, LoadOwnValue, LoadOwnKind, Wait, StoreValue, StoreKind, FlushValue, FlushKind, BackValue, BackKind, Telling, Clear, ClearDirty, Give, GiveDirty, FlushCleared, BackCleared, Answer}
 
--- the steps that tell the cells: one for each part of the row, three for each cell
+-- how many steps telling takes at most: one for each part of the row, three for each cell
 abbrev pub telling : PlainWork → ℕ
 telling e = 3 * e.cells + (e.cells + 63) / 64
 
@@ -45,7 +45,7 @@ left r e (FlushCleared end) = 3
 left r e (BackCleared end) = 2
 left r e (Answer end) = 1
 
--- as many at its own stage
+-- how many steps the work has left at most from its own stage on, for a content with so many references
 abbrev pub steps_left : ℕ → PlainWork → ℕ
 steps_left r e = left r e e.stage
 
