@@ -33,8 +33,8 @@ IsIssueOf shape event reply edit = ⊥
 
 -- ---- reports
 
--- the process's last report that began before this place began at that one: a moment of the call is behind the begin and
--- not behind the place
+-- the process's last report before this place began at `start`: a moment of its call is behind that begin and not
+-- behind the place
 pub record IsCall (events : List Event) (replies : List Reply) (p start k : ℕ) : Type 0 where
   pub begins : Happens events replies start (BeginShow p) Entered
   pub earlier : start < k
@@ -85,8 +85,8 @@ pub record ReportsFit (moment : ℕ → Moment) (events : List Event) (replies :
 
 -- ---- the run
 
--- the worlds are those that the processes' steps lead through, from the new world to the last one; a ledger exists at each
--- moment such that each event moves words and ledger as it may, each moment fits, and so does each report
+-- the worlds are those that the processes' steps lead through, from the new world to the last one; at each moment
+-- there is a ledger such that each event moves words and ledger as it may, and moments and reports fit
 pub record RunFits (old : WorldValue) (events : List Event) (replies : List Reply) (new : WorldValue) : Type 0 where
   pub moment : ℕ → Moment
   pub first : moment 0 ≡ record { world = old; ledger = empty_ledger }
@@ -134,8 +134,8 @@ pub record HasHeadline (old : WorldValue) (events : List Event) (replies : List 
 
 -- ---- what a caller is told
 
--- of the process and this number the list has just one edit, with the cell and text of a request whose begin before this
--- place was answered with this number
+-- of the process and this number the list has just one edit, with the cell and text of a request whose begin before
+-- this place was answered with this number
 pub record IsAcknowledged (old : WorldValue) (events : List Event) (replies : List Reply) (k p number : ℕ) (edits : List Edit) : Type 0 where
   pub request : PlainRequest
   pub start : ℕ

@@ -54,8 +54,8 @@ abbrev pub NoneTwice : List Placed → Type 0
 NoneTwice [] = Unit {0}
 NoneTwice (e ∷ es) = All (AreApart e) es × NoneTwice es
 
--- the ledger is the world's; no edit counts twice; each cell's words have the text of its last edit; and where no edit is
--- open and no cell dirty or held, each cell's words show the value from scratch
+-- the ledger is the world's; no edit counts twice; each cell's words have the text of its last edit; and where no
+-- edit is open and no cell dirty or held, each cell's words show the value from scratch
 pub record MomentFits (m : Moment) : Type 0 where
   pub counted : edits_in m.ledger ≡ m.world.counted
   pub opens : (p : ℕ) → option_map (λ (o : Open). o.it.edit) (m.ledger.opens p) ≡ option_map (λ (i : Issue). i.edit) ((world_of m.world).pending p)

@@ -22,8 +22,8 @@ pub data StepsBy (old : WorldValue) (p : ℕ) (reply : Reply) (new : WorldValue)
   reports : ReportStepsBy old p reply new → StepsBy old p reply new
   recoveries : RecoveryStepsBy old p reply new → StepsBy old p reply new
 
--- the process is in no call that can make a step: in none, or in work that waits for an entry; or the sheet has no such
--- process
+-- the process is in no call that can make a step: in none, or in work that waits for an entry; or the sheet has no
+-- such process
 pub record CanNotStep (old : WorldValue) (p : ℕ) (new : WorldValue) : Type 0 where
   pub same : new ≡ old
   pub no_edit : (edit : PlainEdit) → p < old.sheet.layout.processes → (world_of old).situation p ≡ Editing edit → ⊥

@@ -24,8 +24,8 @@ pub record IsMarkedAt (w : World) (e : PlainWork) : Type 0 where
 abbrev pub RefersToItself : (ℕ → ℕ) → PlainWork → Type 0
 RefersToItself row e = HasBit (row (e.cell / 64)) e.cell
 
--- the work ends with its value published, and the cell clean; or for want of memory; or, where it marked its own cell,
--- with that cell dirty
+-- how work that is alone may end: with its value published, and the cell clean; for want of memory; or with the cell
+-- dirty, where it marked its own cell
 abbrev pub EndsAlone : (ℕ → ℕ) → World → PlainWork → WorkEnd → Type 0
 EndsAlone row w e NotDirty = ⊥
 EndsAlone row w e Missed = ⊥

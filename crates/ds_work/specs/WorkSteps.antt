@@ -139,7 +139,8 @@ spread_next e (OrTold d) word = at e (Telling (FlushTold d))
 spread_next e (FlushTold d) word = at e (Telling (BackTold d))
 spread_next e (BackTold d) word = tell_from e (d + 1)
 
--- the work after a stage whose access answered the word; reading and waiting end by what they are given, and stay till then
+-- the work after a stage whose access answered the word; reading and waiting stay, till they end by what they are
+-- given
 abbrev pub next_at : PlainWork → WorkStage → ℕ → PlainWork
 next_at e LoadMark word = claims_from e word (state_of (mark_of e.processes word))
 next_at e Claim word = if word == e.mark then record e { mark = claim_of e.process e.mark; stage = FlushClaim } else at e (Answer Missed)
@@ -195,7 +196,7 @@ IsPlainStep Read = ⊥
 IsPlainStep Wait = ⊥
 IsPlainStep _ = Unit {0}
 
--- one step of the work at such a stage, whose access answered the word: no edit comes to count
+-- one step of the work at a stage that ends by its access, which answered the word: no edit comes to count
 pub record StepsAt (e : PlainWork) (stage : WorkStage) (word : ℕ) (old new : World) : Type 0 where
   pub plain : IsPlainStep stage
   pub layout : new.layout ≡ old.layout
@@ -244,7 +245,7 @@ pub record OffersAt (e : PlainWork) (entry : entries.Entry) (old new : World) : 
   pub turn : Turns e (offered e entry) old new
   pub is : entry ≡ local old.layout.shape e.content (entry_in e.inputs)
 
--- how many steps are left at most from a stage of telling on
+-- how many steps are left at most from a stage of telling on, before the answer's
 abbrev pub spread_rank : ℕ → ℕ → Spread → ℕ
 spread_rank cells parts (LoadRow part) = 4 + 3 * cells + (parts - part)
 spread_rank cells parts (OrTold d) = 4 + 3 * (cells - d)
