@@ -36,7 +36,7 @@ abbrev pub AreUnanswered : ℕ → List Event → List Reply → Type 0
 AreUnanswered p (event ∷ events) (reply ∷ replies) = IsUnanswered p event reply × AreUnanswered p events replies
 AreUnanswered p events replies = Unit {0}
 
--- the edit is the same one, with so many steps less to go at least
+-- the edit is the same one, with at least this many steps fewer left
 pub record GoesOn (old : PlainEdit) (steps : ℕ) (new : PlainEdit) : Type 0 where
   pub text : new.text ≡ old.text
   pub refs : new.refs ≡ old.refs
