@@ -5,6 +5,7 @@ use Rattle.ds_streams.specs.declared.ending.ScriptEnd.TheVariants.{Ended, Fault,
 use Rattle.ds_grid.specs.declared.ending.GridEnd.{GridEnd}
 use Rattle.ds_grid.specs.declared.ending.GridEnd.TheVariants as grids
 
+-- the exit status of `dsheet run`, by how the script ended
 abbrev pub status_of : ScriptEnd → ℕ
 status_of Ended = 0
 status_of (Fault line kind) = 1
@@ -13,6 +14,7 @@ status_of ReadFailed = 3
 status_of WriteFailed = 3
 status_of NoMemory = 4
 
+-- the exit status of `dsheet report`, by how the report of the grid ended
 abbrev pub grid_status_of : GridEnd → ℕ
 grid_status_of grids.Ended = 0
 grid_status_of (grids.Grid fault) = 1

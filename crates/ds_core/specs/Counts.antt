@@ -7,7 +7,7 @@ use Rattle.ds_core.specs.declared.event.Event.TheVariants.{BeginEdit, BeginWork,
 use Rattle.ds_core.specs.declared.reply.Reply.{Reply}
 use Rattle.ds_core.specs.declared.reply.Reply.TheVariants.{Begun, Entered, Refused, Stepped, Answered, WrongTask, Evicted, Stopped, Crashed, NotEnabled}
 
--- the event may be answered so
+-- the replies that an event of each kind can have; an offer and a crash are never answered NotEnabled
 abbrev pub IsReplyTo : Event → Reply → Type 0
 IsReplyTo (BeginEdit r) (Begun number) = Unit {0}
 IsReplyTo (BeginEdit r) (Refused why) = Unit {0}
@@ -29,12 +29,12 @@ IsReplyTo Crash reply = ⊥
 IsReplyTo event NotEnabled = Unit {0}
 IsReplyTo event reply = ⊥
 
--- how many edits it answers Done
+-- how many edits a reply answers Done: 1 or 0
 abbrev pub done_of : Reply → ℕ
 done_of (Answered (Done number)) = 1
 done_of reply = 0
 
--- how many reports it answers Settled
+-- how many reports a reply answers Settled: 1 or 0
 abbrev pub settled_of : Reply → ℕ
 settled_of (Answered Settled) = 1
 settled_of reply = 0

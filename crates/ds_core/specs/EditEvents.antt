@@ -11,28 +11,30 @@ use Rattle.ds_edit.specs.Endings.{answer_of, outcome_at}
 use Rattle.ds_core.specs.declared.reply.Reply.{Reply}
 use Rattle.ds_core.specs.declared.reply.Reply.TheVariants.{Stepped, Answered, NotEnabled}
 
--- what a step answers
+-- the reply to a step of the edit with this number: the answer of its outcome where it has one, else Stepped
 abbrev pub reply_with : ℕ → ℕ → Option Outcome → Reply
 reply_with processes number None = Stepped
 reply_with processes number (Some how) = Answered (answer_of processes number how)
 
+-- the reply to the step of an edit at this stage
 abbrev pub reply_at : ℕ → ℕ → Stage → Reply
 reply_at processes number s = reply_with processes number (outcome_at s)
 
--- how many edits were answered Done after it
+-- how many edits have been answered Done after a step of an edit: one more where its outcome is Done
 abbrev pub done_with : ℕ → Option Outcome → ℕ
 done_with done (Some outcome.Done) = done + 1
 done_with done _ = done
 
+-- how many edits have been answered Done after the step of an edit at this stage
 abbrev pub done_at : ℕ → Stage → ℕ
 done_at done s = done_with done (outcome_at s)
 
--- no report is answered
+-- the count of settled reports and the values kept of them are the same in both worlds
 pub record SameReports (old new : WorldValue) : Type 0 where
   pub settled : new.settled ≡ old.settled
   pub reports : new.reports ≡ old.reports
 
--- the process makes a step of its edit
+-- the process makes one step of its edit, and the reply is that of the edit's stage
 pub record EditStepsBy (old : WorldValue) (p : ℕ) (reply : Reply) (new : WorldValue) : Type 0 where
   pub there : p < old.sheet.layout.processes
   pub edit : PlainEdit
@@ -44,12 +46,12 @@ pub record EditStepsBy (old : WorldValue) (p : ℕ) (reply : Reply) (new : World
   pub done : new.done ≡ done_at old.done edit.stage
   pub reports : SameReports old new
 
--- the process has no edit under way
+-- the sheet has no such process, or the process has no edit under way; the world stays
 pub record CanNotEdit (old : WorldValue) (p : ℕ) (new : WorldValue) : Type 0 where
   pub same : new ≡ old
   pub none : (edit : PlainEdit) → p < old.sheet.layout.processes → (world_of old).situation p ≡ Editing edit → ⊥
 
--- a step of the process's edit, and its answer
+-- what a step of a process's edit does, by its reply
 abbrev pub EditStepTakes : WorldValue → ℕ → Reply → WorldValue → Type 0
 EditStepTakes old p Stepped new = EditStepsBy old p Stepped new
 EditStepTakes old p (Answered answer) new = EditStepsBy old p (Answered answer) new

@@ -21,7 +21,7 @@ use Rattle.ds_edit.specs.declared.answer.Answer.TheVariants.{Settled, Unsettled}
 use Rattle.ds_core.specs.declared.reply.Reply.{Reply}
 use Rattle.ds_core.specs.declared.reply.Reply.TheVariants.{Begun, Entered, Answered}
 
--- the event at this place among the events, and its reply
+-- this event stands at this place among the events, and this reply at the same place among the replies
 pub record Happens (events : List Event) (replies : List Reply) (k : ℕ) (event : Event) (reply : Reply) : Type 0 where
   pub event_is : slice_get events k ≡ Some event
   pub reply_is : slice_get replies k ≡ Some reply
@@ -33,14 +33,15 @@ IsIssueOf shape event reply edit = ⊥
 
 -- ---- reports
 
--- the process's last report that began before this place began at that one: a moment of the call is behind the begin and
--- not behind the place
+-- the process's last report before this place began at `start`: a moment of its call is behind that begin and not
+-- behind the place
 pub record IsCall (events : List Event) (replies : List Reply) (p start k : ℕ) : Type 0 where
   pub begins : Happens events replies start (BeginShow p) Entered
   pub earlier : start < k
   pub last : (j : ℕ) → start < j → j < k → Happens events replies j (BeginShow p) Entered → ⊥
 
--- at a moment of the call all is still, and the values are those of the edits that count then
+-- of a settled report: at a moment of its call all is still, and its values are those from scratch of the edits that
+-- count then
 pub record SettledFits (moment : ℕ → Moment) (start k : ℕ) (values : List Value) : Type 0 where
   pub at : ℕ
   pub later : start < at
@@ -54,12 +55,14 @@ IsUnrest w (place.Mark c) word = (c < cells_of w.layout) × (IsClean word → �
 IsUnrest w (place.Announce q) word = (q < w.layout.processes) × IsPendingWord word
 IsUnrest w r word = ⊥
 
+-- the place is a mark or an announcement of the sheet, which a report looks at twice
 abbrev pub IsWatched : World → Place → Type 0
 IsWatched w (place.Mark c) = c < cells_of w.layout
 IsWatched w (place.Announce q) = q < w.layout.processes
 IsWatched w r = ⊥
 
--- at a moment of the call the place held the word, which is not at rest, or not the one that it held earlier in the call
+-- of an unsettled report: at a moment of its call the place held the word, which is not at rest, or not the one that
+-- it held earlier in the call
 pub record UnsettledFits (moment : ℕ → Moment) (start k : ℕ) (r : Place) (word : ℕ) : Type 0 where
   pub at : ℕ
   pub later : start < at
@@ -73,7 +76,7 @@ pub record UnsettledFits (moment : ℕ → Moment) (start k : ℕ) (r : Place) (
 abbrev pub kept_values : WorldValue → ℕ → List Value
 kept_values v p = slice_index_or v.reports.values p []
 
--- each report that is answered fits
+-- each report that is answered settled has its values from a moment of its call, and each unsettled one its word
 pub record ReportsFit (moment : ℕ → Moment) (events : List Event) (replies : List Reply) : Type 0 where
   pub settled : (k p : ℕ) → Happens events replies k (Step p) (Answered Settled)
       → (start : ℕ) × IsCall events replies p start k × SettledFits moment start k (kept_values (moment (k + 1)).world p)
@@ -82,8 +85,8 @@ pub record ReportsFit (moment : ℕ → Moment) (events : List Event) (replies :
 
 -- ---- the run
 
--- the worlds are those that the processes' steps lead through, from the new world to the last one; a ledger exists at each
--- moment such that each event moves words and ledger as it may, each moment fits, and so does each report
+-- the worlds are those that the processes' steps lead through, from the new world to the last one; at each moment
+-- there is a ledger such that each event moves words and ledger as it may, and moments and reports fit
 pub record RunFits (old : WorldValue) (events : List Event) (replies : List Reply) (new : WorldValue) : Type 0 where
   pub moment : ℕ → Moment
   pub first : moment 0 ≡ record { world = old; ledger = empty_ledger }
@@ -131,8 +134,8 @@ pub record HasHeadline (old : WorldValue) (events : List Event) (replies : List 
 
 -- ---- what a caller is told
 
--- of the process and this number the list has just one edit, with the cell and text of a request whose begin before this
--- place was answered with this number
+-- of the process and this number the list has just one edit, with the cell and text of a request whose begin before
+-- this place was answered with this number
 pub record IsAcknowledged (old : WorldValue) (events : List Event) (replies : List Reply) (k p number : ℕ) (edits : List Edit) : Type 0 where
   pub request : PlainRequest
   pub start : ℕ
@@ -141,7 +144,8 @@ pub record IsAcknowledged (old : WorldValue) (events : List Event) (replies : Li
   pub mine : request.process ≡ p
   pub once : filter (is_edit_of p number) edits ≡ record { process = p; number = number; cell = index_of old.sheet.layout.shape request.cell; text = request.text } ∷ []
 
--- so of an edit that a recovery tells as done, and the cell that it tells is that of the request
+-- the edit that a recovery tells as done stands in the list just once, as it was asked for, and the cell that is told
+-- is that of its request
 pub record IsToldDone (old : WorldValue) (events : List Event) (replies : List Reply) (k p : ℕ) (told : Told) (edits : List Edit) : Type 0 where
   pub it : IsAcknowledged old events replies k p told.number edits
   pub cell : told.cell ≡ index_of old.sheet.layout.shape it.request.cell

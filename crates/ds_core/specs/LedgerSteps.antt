@@ -18,10 +18,11 @@ use Rattle.ds_core.specs.declared.reply.Reply.TheVariants.{Begun, Entered, Refus
 
 -- ---- the words
 
--- at most one access by the process
+-- the memory changes by one access of the process
 abbrev pub OneAccess : ℕ → Memory Place → Memory Place → Type 0
 OneAccess p old new = (access : Access Place) × (word : ℕ) × PerformsAt access p old new word
 
+-- what an event with its reply does to the words: one access, an eviction, a stop or a crash, or they stay
 abbrev pub WordsMove : Memory Place → Event → Reply → Memory Place → Type 0
 WordsMove old (Step p) Stepped new = OneAccess p old new
 WordsMove old (Step p) (Answered answer) new = OneAccess p old new
@@ -32,7 +33,7 @@ WordsMove old event reply new = SameMemory old new
 
 -- ---- the ledger
 
--- what a process has becomes this one
+-- what is noted of each process, where this is noted of one of them from now on
 abbrev pub put : {A : Type 0} → (ℕ → Option A) → ℕ → Option A → ℕ → Option A
 put f p x = λ q. if q == p then x else f q
 
@@ -41,7 +42,7 @@ abbrev pub next_number : Option Closed → ℕ
 next_number None = 0
 next_number (Some c) = c.it.edit.number + 1
 
--- it counts, or it does not
+-- the edit is in the list of counted edits; with `false`, it is not
 abbrev pub Stands : List Placed → Placed → Bool → Type 0
 Stands counted it true = Contains counted it
 Stands counted it false = Contains counted it → ⊥
@@ -70,7 +71,7 @@ pub record Closes (old : Ledger) (p number : ℕ) (doubt counts : Bool) (And : O
   pub also : And open_edit
   pub is : new ≡ record old { opens = put old.opens p None; told = put old.told p (Some (record { it = open_edit.it; counts = counts })) }
 
--- the other edit is of the same cell, and came to count since the issue
+-- the other edit, which an answer Overtaken names, is of the open edit's cell, and came to count since that one began
 pub record IsOvertakenBy (old : Ledger) (other : Other) (open_edit : Open) : Type 0 where
   pub by : Placed
   pub counts : Contains old.counted by
@@ -79,7 +80,7 @@ pub record IsOvertakenBy (old : Ledger) (other : Other) (open_edit : Open) : Typ
   pub process : by.edit.process ≡ other.process
   pub number : by.edit.number ≡ other.number
 
--- what is told of the last edit that was closed under its number
+-- what a recovery answers of the last edit that was closed under its number: Nothing where there is none
 abbrev pub told_of : Option Closed → Answer
 told_of None = Nothing
 told_of (Some c) = Last (record { number = c.it.edit.number; cell = c.it.edit.cell; counts = c.counts })
@@ -93,29 +94,30 @@ pub record Forgets (old : Ledger) (p : ℕ) (answer : Answer) (new : Ledger) : T
   pub repeats : answer ≡ told_of (old.told p)
   pub is : new ≡ record old { opens = put old.opens p None }
 
--- the process has no open edit
+-- the process has no open edit, and its recovery tells again of the last one that was closed under its number
 pub record Repeats (old : Ledger) (p : ℕ) (answer : Answer) (new : Ledger) : Type 0 where
   pub none : old.opens p ≡ None
   pub repeats : answer ≡ told_of (old.told p)
   pub is : new ≡ old
 
--- a recovery's answer resolves the edit in doubt: as told, where it tells of its number; else as not done
+-- a recovery's answer closes the edit in doubt as it is told, or forgets it, or, where no edit is open, repeats what
+-- was told
 abbrev pub Resolves : Ledger → ℕ → Answer → Ledger → Type 0
 Resolves old p (Last told) new = Closes old p told.number true told.counts (λ o. o.it.edit.cell ≡ told.cell) new ⊎ (Forgets old p (Last told) new ⊎ Repeats old p (Last told) new)
 Resolves old p answer new = Forgets old p answer new ⊎ Repeats old p answer new
 
--- an open edit, if there is one, is in doubt
+-- a process's open edit, if it has one, put in doubt
 abbrev pub in_doubt : Option Open → Option Open
 in_doubt None = None
 in_doubt (Some o) = Some (record o { doubt = true })
 
--- every open edit is in doubt, and of those that count some may be lost: open ones alone
+-- a crash: every open edit is in doubt, and of those that count some may be lost, open ones alone
 pub record Loses (old new : Ledger) : Type 0 where
   pub stays : Placed → Bool
   pub lost_open : (e : Placed) → Contains old.counted e → stays e ≡ false → (o : Open) × (old.opens e.edit.process ≡ Some o) × (o.it ≡ e)
   pub is : new ≡ record old { counted = filter stays old.counted; opens = λ p. in_doubt (old.opens p) }
 
--- a call's last step, by its answer
+-- what the answer of a call's last step does to the ledger
 abbrev pub AnswerMoves : Ledger → ℕ → Answer → Ledger → Type 0
 AnswerMoves old p (Done number) new = Closes old p number false true (λ o. Unit {0}) new
 AnswerMoves old p (Overtaken number other) new = Closes old p number false false (IsOvertakenBy old other) new
@@ -130,7 +132,7 @@ AnswerMoves old p NoMemory new = new ≡ old
 AnswerMoves old p Settled new = new ≡ old
 AnswerMoves old p (Unsettled place word) new = new ≡ old
 
--- the event at this place, with its reply; no other reply is given
+-- what the event at this place does to the ledger, by its reply; no other reply is given
 abbrev pub LedgerMoves : ℕ → Shape → Ledger → Event → Reply → Ledger → Type 0
 LedgerMoves place shape old (BeginEdit r) (Begun number) new = Issues place old (record { process = r.process; number = number; cell = index_of shape r.cell; text = r.text }) new
 LedgerMoves place shape old (BeginEdit r) (Refused why) new = new ≡ old

@@ -30,29 +30,32 @@ pub record Ledger : Type 0 where
   pub opens : ℕ → Option Open
   pub told : ℕ → Option Closed
 
+-- the ledger of a new sheet: no edit counts, none is open, none was closed
 abbrev pub empty_ledger : Ledger
 empty_ledger = record { counted = []; opens = λ p. None; told = λ p. None }
 
--- the counted edits without their places
+-- the counted edits of a ledger in their order, without the places of their begins
 abbrev pub edits_in : Ledger → List Edit
 edits_in l = map (λ (e : Placed). e.edit) l.counted
 
 -- ---- a moment
 
+-- a moment of a run: a world and its ledger
 pub record Moment : Type 0 where
   pub world : WorldValue
   pub ledger : Ledger
 
--- no two edits are of one process and number
+-- two edits are apart: not of one process and number
 abbrev pub AreApart : Placed → Placed → Type 0
 AreApart e f = f.edit.process ≡ e.edit.process → f.edit.number ≡ e.edit.number → ⊥
 
+-- no two edits of a list are of one process and number
 abbrev pub NoneTwice : List Placed → Type 0
 NoneTwice [] = Unit {0}
 NoneTwice (e ∷ es) = All (AreApart e) es × NoneTwice es
 
--- the ledger is the world's; no edit counts twice; each cell's words have the text of its last edit; and where no edit is
--- open and no cell dirty or held, each cell's words show the value from scratch
+-- the ledger is the world's; no edit counts twice; each cell's words have the text of its last edit; and where no
+-- edit is open and no cell dirty or held, each cell's words show the value from scratch
 pub record MomentFits (m : Moment) : Type 0 where
   pub counted : edits_in m.ledger ≡ m.world.counted
   pub opens : (p : ℕ) → option_map (λ (o : Open). o.it.edit) (m.ledger.opens p) ≡ option_map (λ (i : Issue). i.edit) ((world_of m.world).pending p)

@@ -15,36 +15,36 @@ use Rattle.ds_core.specs.ReportEvents.{NoSuchProcess}
 use Rattle.ds_core.specs.declared.reply.Reply.{Reply}
 use Rattle.ds_core.specs.declared.reply.Reply.TheVariants.{Entered, Refused, Stepped, Answered, NotEnabled}
 
--- what a recovery answers that ended so
+-- the answer of a recovery, by how it ended
 abbrev pub recovery_answer : RecoveryEnd → Answer
 recovery_answer ends.Nothing = Nothing
 recovery_answer (ends.Last number cell counts) = Last (record { number = number; cell = cell; counts = counts })
 
--- what its step answers
+-- the reply to a step of a recovery: Stepped, or its answer
 abbrev pub recovery_reply : Effect → Reply
 recovery_reply effects.GoesOn = Stepped
 recovery_reply (effects.Answers end) = Answered (recovery_answer end)
 
--- the process makes a step of its recovery
+-- the process makes one step of its recovery, with the reply of that step
 pub record RecoveryStepsBy (old : WorldValue) (p : ℕ) (reply : Reply) (new : WorldValue) : Type 0 where
   pub what : Effect
   pub steps : recoveries.StepsBy old p what new
   pub is : reply ≡ recovery_reply what
 
--- a recovery begins
+-- a recovery of a process of the sheet begins; counts and kept reports stay
 pub record RecoveryBegins (old : WorldValue) (p : ℕ) (new : WorldValue) : Type 0 where
   pub there : p < old.sheet.layout.processes
   pub begun : IsBegun (world_of old) p (world_of new)
   pub done : new.done ≡ old.done
   pub reports : SameReports old new
 
--- it is refused
+-- the begin of a recovery is refused for a cause that holds; the world stays
 pub record RecoveryRefused (old : WorldValue) (p : ℕ) (why : Refusal) (new : WorldValue) : Type 0 where
   pub there : p < old.sheet.layout.processes
   pub holds : Refuses (world_of old) p why
   pub same : new ≡ old
 
--- the beginning of a recovery, and its answer
+-- what the begin of a recovery does, by its reply
 abbrev pub BeginRecoverTakes : WorldValue → ℕ → Reply → WorldValue → Type 0
 BeginRecoverTakes old p Entered new = RecoveryBegins old p new
 BeginRecoverTakes old p (Refused why) new = RecoveryRefused old p why new

@@ -15,42 +15,42 @@ use Rattle.ds_core.specs.EditEvents.{SameReports}
 use Rattle.ds_core.specs.declared.reply.Reply.{Reply}
 use Rattle.ds_core.specs.declared.reply.Reply.TheVariants.{Entered, Refused, Stepped, Answered, NotEnabled}
 
--- what a report answers that ended so
+-- the answer of a report, by how it ended
 abbrev pub report_answer : ShowEnd → Answer
 report_answer ends.Settled = Settled
 report_answer (ends.AtMark cell word) = Unsettled (place.Mark cell) word
 report_answer (ends.AtAnnounce process word) = Unsettled (place.Announce process) word
 
--- what its step answers
+-- the reply to a step of a report: Stepped, or its answer
 abbrev pub report_reply : Effect → Reply
 report_reply effects.GoesOn = Stepped
 report_reply (effects.Answers end) = Answered (report_answer end)
 
--- the process makes a step of its report
+-- the process makes one step of its report, with the reply of that step
 pub record ReportStepsBy (old : WorldValue) (p : ℕ) (reply : Reply) (new : WorldValue) : Type 0 where
   pub what : Effect
   pub steps : shows.StepsBy old p what new
   pub is : reply ≡ report_reply what
 
--- a report begins
+-- a report of a process of the sheet begins; counts and kept reports stay
 pub record ReportBegins (old : WorldValue) (p : ℕ) (new : WorldValue) : Type 0 where
   pub there : p < old.sheet.layout.processes
   pub begun : IsBegun (world_of old) p (world_of new)
   pub done : new.done ≡ old.done
   pub reports : SameReports old new
 
--- it is refused
+-- the begin of a report is refused for a cause that holds; the world stays
 pub record ReportRefused (old : WorldValue) (p : ℕ) (why : Refusal) (new : WorldValue) : Type 0 where
   pub there : p < old.sheet.layout.processes
   pub holds : Refuses old p why
   pub same : new ≡ old
 
--- the sheet has no such process
+-- the sheet has no such process; the world stays
 pub record NoSuchProcess (old : WorldValue) (p : ℕ) (new : WorldValue) : Type 0 where
   pub none : p < old.sheet.layout.processes → ⊥
   pub same : new ≡ old
 
--- the beginning of a report, and its answer
+-- what the begin of a report does, by its reply
 abbrev pub BeginShowTakes : WorldValue → ℕ → Reply → WorldValue → Type 0
 BeginShowTakes old p Entered new = ReportBegins old p new
 BeginShowTakes old p (Refused why) new = ReportRefused old p why new

@@ -4,7 +4,7 @@ use Rattle.ds_state.specs.World.{Edit, World}
 use Rattle.ds_state.specs.declared.situation.Situation.{Situation}
 use Rattle.ds_state.specs.declared.situation.Situation.TheVariants.{Idle, Stopped, Editing, Working, Recovering, Showing}
 
--- the number of the process's edit, or of its next one
+-- the number of the process's edit, or of its next one; 0 where it has stopped or recovers
 abbrev pub number_in : Situation → ℕ
 number_in (Idle next) = next
 number_in Stopped = 0

@@ -15,15 +15,15 @@ use Rattle.ds_core.specs.RecoveryEvents.{RecoveryStepsBy}
 use Rattle.ds_core.specs.declared.reply.Reply.{Reply}
 use Rattle.ds_core.specs.declared.reply.Reply.TheVariants.{Stepped, Answered, Evicted, NotEnabled}
 
--- the process makes a step of its call
+-- the process makes one step of the call that it is in: an edit, a work, a report or a recovery
 pub data StepsBy (old : WorldValue) (p : ℕ) (reply : Reply) (new : WorldValue) : Type 0 where
   edits : EditStepsBy old p reply new → StepsBy old p reply new
   works : WorkStepsBy old p reply new → StepsBy old p reply new
   reports : ReportStepsBy old p reply new → StepsBy old p reply new
   recoveries : RecoveryStepsBy old p reply new → StepsBy old p reply new
 
--- the process is in no call that can make a step: in none, or in work that waits for an entry; or the sheet has no such
--- process
+-- the process is in no call that can make a step: in none, or in work that waits for an entry; or the sheet has no
+-- such process
 pub record CanNotStep (old : WorldValue) (p : ℕ) (new : WorldValue) : Type 0 where
   pub same : new ≡ old
   pub no_edit : (edit : PlainEdit) → p < old.sheet.layout.processes → (world_of old).situation p ≡ Editing edit → ⊥
@@ -31,25 +31,25 @@ pub record CanNotStep (old : WorldValue) (p : ℕ) (new : WorldValue) : Type 0 w
   pub no_report : (show : PlainShow) → p < old.sheet.layout.processes → (world_of old).situation p ≡ Showing show → ⊥
   pub no_recovery : (recovery : PlainRecovery) → p < old.sheet.layout.processes → (world_of old).situation p ≡ Recovering recovery → ⊥
 
--- a step of the process, and its answer
+-- what a step of a process does, by its reply
 abbrev pub StepTakes : WorldValue → ℕ → Reply → WorldValue → Type 0
 StepTakes old p Stepped new = StepsBy old p Stepped new
 StepTakes old p (Answered answer) new = StepsBy old p (Answered answer) new
 StepTakes old p NotEnabled new = CanNotStep old p new
 StepTakes old p _ new = ⊥
 
--- the word is evicted
+-- the word of this place is evicted; counts and kept reports stay
 pub record EvictsWord (old : WorldValue) (place : Place) (new : WorldValue) : Type 0 where
   pub evicts : Evicts place (world_of old) (world_of new)
   pub done : new.done ≡ old.done
   pub reports : SameReports old new
 
--- the sheet has no such word
+-- the sheet has no word of this place; the world stays
 pub record CanNotEvict (old : WorldValue) (place : Place) (new : WorldValue) : Type 0 where
   pub same : new ≡ old
   pub none : IsPlace old.sheet.layout place → ⊥
 
--- an eviction, and its answer
+-- what an eviction does, by its reply
 abbrev pub EvictTakes : WorldValue → Place → Reply → WorldValue → Type 0
 EvictTakes old place Evicted new = EvictsWord old place new
 EvictTakes old place NotEnabled new = CanNotEvict old place new

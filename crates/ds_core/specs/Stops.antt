@@ -17,29 +17,29 @@ pub record StopsProcess (old : WorldValue) (p : ℕ) (new : WorldValue) : Type 0
   pub done : new.done ≡ old.done
   pub reports : SameReports old new
 
--- it has stopped already, or the sheet has no such process
+-- the process has stopped already, or the sheet has no such process; the world stays
 pub record CanNotStop (old : WorldValue) (p : ℕ) (new : WorldValue) : Type 0 where
   pub same : new ≡ old
   pub none : p < old.sheet.layout.processes → (world_of old).situation p ≢ situation.Stopped → ⊥
 
--- a stop, and its answer
+-- what a stop of a process does, by its reply
 abbrev pub StopTakes : WorldValue → ℕ → Reply → WorldValue → Type 0
 StopTakes old p Stopped new = StopsProcess old p new
 StopTakes old p NotEnabled new = CanNotStop old p new
 StopTakes old p _ new = ⊥
 
--- every process stops, and what was not persisted is lost
+-- a crash: every process stops, and what was not persisted is lost; counts and kept reports stay
 pub record CrashesWorld (old new : WorldValue) : Type 0 where
   pub crashes : CrashesTo (world_of old) (world_of new)
   pub done : new.done ≡ old.done
   pub reports : SameReports old new
 
--- a crash, and its answer: it always happens
+-- what a crash does: it always happens, and is answered Crashed
 abbrev pub CrashTakes : WorldValue → Reply → WorldValue → Type 0
 CrashTakes old Crashed new = CrashesWorld old new
 CrashTakes old _ new = ⊥
 
--- an edit whose head can be looked at
+-- the edit's cell is one of the sheet, and its process and number fit into a head
 pub record HasHeadPlace (layout : Layout) (e : Edit) : Type 0 where
   pub cell : e.cell < cells_of layout
   pub process : e.process < 256

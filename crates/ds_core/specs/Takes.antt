@@ -16,37 +16,37 @@ use Rattle.ds_core.specs.declared.event.Event.TheVariants.{BeginEdit, BeginWork,
 use Rattle.ds_core.specs.declared.reply.Reply.{Reply}
 use Rattle.ds_core.specs.declared.reply.Reply.TheVariants.{Begun, Refused, NotEnabled}
 
--- the sheet has the process and the cell
+-- the sheet has the process and the cell of the request
 pub record IsOfWorld (v : WorldValue) (r : PlainRequest) : Type 0 where
   pub process : r.process < v.sheet.layout.processes
   pub cell : IsInside v.sheet.layout.shape r.cell
 
--- an edit begins
+-- the edit that is asked for begins with this number; counts and kept reports stay
 pub record EditBegins (old : WorldValue) (r : PlainRequest) (number : ℕ) (new : WorldValue) : Type 0 where
   pub named : IsOfWorld old r
   pub begun : IsBegun (world_of old) r.process (index_of old.sheet.layout.shape r.cell) r.text number (world_of new)
   pub done : new.done ≡ old.done
   pub reports : SameReports old new
 
--- it is refused
+-- the begin of an edit is refused for a cause that holds; the world stays
 pub record EditRefused (old : WorldValue) (r : PlainRequest) (why : Refusal) (new : WorldValue) : Type 0 where
   pub named : IsOfWorld old r
   pub holds : Refuses (world_of old) r.process r.text why
   pub same : new ≡ old
 
--- the sheet has no such process, or no such cell
+-- the sheet has no such process, or no such cell, as the request names; the world stays
 pub record CanNotBegin (old : WorldValue) (r : PlainRequest) (new : WorldValue) : Type 0 where
   pub unnamed : IsOfWorld old r → ⊥
   pub same : new ≡ old
 
--- the beginning of an edit, and its answer
+-- what the begin of an edit does, by its reply
 abbrev pub BeginTakes : WorldValue → PlainRequest → Reply → WorldValue → Type 0
 BeginTakes old r (Begun number) new = EditBegins old r number new
 BeginTakes old r (Refused why) new = EditRefused old r why new
 BeginTakes old r NotEnabled new = CanNotBegin old r new
 BeginTakes old r _ new = ⊥
 
--- one event, from world to world
+-- what an event does, by its reply, from world to world
 abbrev pub Takes : WorldValue → Event → Reply → WorldValue → Type 0
 Takes old (BeginEdit r) reply new = BeginTakes old r reply new
 Takes old (BeginWork p cell) reply new = BeginWorkTakes old p cell reply new
@@ -58,7 +58,7 @@ Takes old (Evict place) reply new = EvictTakes old place reply new
 Takes old (Stop p) reply new = StopTakes old p reply new
 Takes old Crash reply new = CrashTakes old reply new
 
--- the event happens so, and the world after it is good
+-- the event leads, with its reply, from the one world to the other, which is good
 pub record Fits (old : WorldValue) (event : Event) (reply : Reply) (new : WorldValue) : Type 0 where
   pub takes : Takes old event reply new
   pub good : IsGood new

@@ -16,7 +16,7 @@ use Rattle.ds_core.specs.EditEvents.{SameReports}
 use Rattle.ds_core.specs.declared.reply.Reply.{Reply}
 use Rattle.ds_core.specs.declared.reply.Reply.TheVariants.{Entered, Refused, Stepped, Answered, WrongTask, NotEnabled}
 
--- what work answers that ended so
+-- the answer of work, by how it ended
 abbrev pub work_answer : WorkEnd → Answer
 work_answer ends.NotDirty = NotDirty
 work_answer ends.Missed = Missed
@@ -25,13 +25,13 @@ work_answer (ends.Published changed) = Published changed
 work_answer ends.Again = Again
 work_answer ends.NoMemory = NoMemory
 
--- what its step answers
+-- the reply to a turn of work, by what the turn came to
 abbrev pub work_reply : Taken → Reply
 work_reply taken.NotEnabled = NotEnabled
 work_reply taken.Stepped = Stepped
 work_reply (taken.Answered end) = Answered (work_answer end)
 
--- the process makes a step of its work
+-- the process makes one step of its work, with the reply of that step; counts and kept reports stay
 pub record WorkStepsBy (old : WorldValue) (p : ℕ) (reply : Reply) (new : WorldValue) : Type 0 where
   pub what : Taken
   pub steps : works.StepsBy (world_of old) p what (world_of new)
@@ -39,30 +39,30 @@ pub record WorkStepsBy (old : WorldValue) (p : ℕ) (reply : Reply) (new : World
   pub done : new.done ≡ old.done
   pub reports : SameReports old new
 
--- the sheet has the process and the cell
+-- the sheet has the process, and the cell that it is to work on
 pub record HasWork (old : WorldValue) (p : ℕ) (cell : Cell) : Type 0 where
   pub process : p < old.sheet.layout.processes
   pub within : IsInside old.sheet.layout.shape cell
 
--- work begins
+-- work of the process on the cell begins; counts and kept reports stay
 pub record WorkBegins (old : WorldValue) (p : ℕ) (cell : Cell) (new : WorldValue) : Type 0 where
   pub named : HasWork old p cell
   pub begun : works.IsBegun (world_of old) p (index_of old.sheet.layout.shape cell) (world_of new)
   pub done : new.done ≡ old.done
   pub reports : SameReports old new
 
--- it is refused
+-- the begin of work is refused for a cause that holds; the world stays
 pub record WorkRefused (old : WorldValue) (p : ℕ) (cell : Cell) (why : Refusal) (new : WorldValue) : Type 0 where
   pub named : HasWork old p cell
   pub holds : works.Refuses (world_of old) p why
   pub same : new ≡ old
 
--- the sheet has no such process, or no such cell
+-- the sheet has no such process, or no such cell to work on; the world stays
 pub record CanNotWork (old : WorldValue) (p : ℕ) (cell : Cell) (new : WorldValue) : Type 0 where
   pub unnamed : HasWork old p cell → ⊥
   pub same : new ≡ old
 
--- the beginning of work, and its answer
+-- what the begin of work does, by its reply
 abbrev pub BeginWorkTakes : WorldValue → ℕ → Cell → Reply → WorldValue → Type 0
 BeginWorkTakes old p cell Entered new = WorkBegins old p cell new
 BeginWorkTakes old p cell (Refused why) new = WorkRefused old p cell why new
@@ -76,12 +76,12 @@ pub record TakesEntry (old : WorldValue) (value : PlainEvaluated) (new : WorldVa
   pub done : new.done ≡ old.done
   pub reports : SameReports old new
 
--- no work waits for it
+-- no work waits for the task of this offer; the world stays
 pub record IsWrongTask (old : WorldValue) (value : PlainEvaluated) (new : WorldValue) : Type 0 where
   pub none : works.WaitsFor (world_of old) value.task → ⊥
   pub same : new ≡ old
 
--- an offer, and its answer
+-- what an offer does, by its reply
 abbrev pub OfferTakes : WorldValue → PlainEvaluated → Reply → WorldValue → Type 0
 OfferTakes old value Stepped new = TakesEntry old value new
 OfferTakes old value WrongTask new = IsWrongTask old value new

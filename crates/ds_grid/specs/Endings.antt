@@ -6,12 +6,13 @@ use Rattle.ds_grid.specs.declared.ending.GridFault.TheVariants.{EmptyGrid, BadCs
 use Rattle.ds_grid.specs.declared.ending.GridEnd.{GridEnd}
 use Rattle.ds_grid.specs.declared.ending.GridEnd.TheVariants.{Ended, Grid, CellFault, TooLong, ReadFailed, WriteFailed, NoMemory}
 
+-- the text of a fault of a grid's records
 abbrev pub name_of_fault : GridFault → List ℕ
 name_of_fault EmptyGrid = codes "empty grid"
 name_of_fault BadCsv = codes "bad csv"
 name_of_fault TooLarge = codes "grid too large"
 
--- of a cell's text: `cell A1: NotWhole 2`
+-- the text of how the report of a grid ended; for the fault of a cell's text: `cell A1: NotWhole 2`
 abbrev pub end_text : GridEnd → List ℕ
 end_text Ended = codes "ended"
 end_text (Grid fault) = name_of_fault fault

@@ -23,7 +23,7 @@ use Rattle.ds_grid.specs.declared.ending.GridEnd.TheVariants.{Ended, Grid, CellF
 
 -- ---- records
 
--- the records of a text without a heading line
+-- the bytes are CSV without a heading line, and these are its records
 abbrev pub IsCsv : List ℕ → List (List (List ℕ)) → Type 0
 IsCsv bytes rows = AreRecords default_config state.StartRecord (strip_bom bytes) rows
 
@@ -35,7 +35,7 @@ width rows row = length (slice_index_or rows row [])
 abbrev pub AreEven : List (List (List ℕ)) → Type 0
 AreEven rows = (row : ℕ) → row < length rows → width rows row ≡ width rows 0
 
--- a row of the sheet for each record, and a column for each field
+-- the records fill a sheet of this shape: it has a row for each record, and a column for each field
 pub record IsGridOf (rows : List (List (List ℕ))) (shape : Shape) : Type 0 where
   pub even : AreEven rows
   pub columns : shape.columns ≡ width rows 0
@@ -47,12 +47,13 @@ pub record AreUneven (rows : List (List (List ℕ))) : Type 0 where
   pub inside : row < length rows
   pub differs : width rows row ≢ width rows 0
 
--- they are even, and no sheet is so large
+-- every record has as many fields as the first one, and no sheet is so large
 pub record IsTooLarge (rows : List (List (List ℕ))) : Type 0 where
   pub even : AreEven rows
   pub none : MayHave (width rows 0) (length rows) → ⊥
 
--- the first of these that holds is the fault
+-- why records are no grid: there are none, they are uneven, or no sheet is so large; the first that holds is the
+-- fault
 abbrev pub HasFault : List (List (List ℕ)) → GridFault → Type 0
 HasFault rows EmptyGrid = rows ≡ []
 HasFault rows BadCsv = AreUneven rows
@@ -60,15 +61,15 @@ HasFault rows TooLarge = IsTooLarge rows
 
 -- ---- texts
 
--- the text of a cell
+-- the text that the records have for a cell
 abbrev pub text_at : List (List (List ℕ)) → Cell → List ℕ
 text_at rows cell = slice_index_or (slice_index_or rows cell.row []) cell.column []
 
--- these are the contents of the first cells, row by row from the left
+-- these are the contents of the texts of the first cells, row by row from the left
 abbrev pub AreRead : Shape → List (List (List ℕ)) → List Content → Type 0
 AreRead shape rows contents = (index : ℕ) (content : Content) → slice_get contents index ≡ Some content → Reads shape (text_at rows (cell_at shape index)) (plain content)
 
--- and of all of them
+-- these are the contents of the texts of all cells, row by row from the left
 pub record AllRead (shape : Shape) (rows : List (List (List ℕ))) (contents : List Content) : Type 0 where
   pub each : AreRead shape rows contents
   pub all : length contents ≡ count_of shape
@@ -99,13 +100,13 @@ pub record Shows (bytes out : List ℕ) : Type 0 where
   pub scratch : IsScratch shape contents values
   pub is : out ≡ rows_text shape.columns shape.rows values
 
--- the records have this fault
+-- the bytes are CSV, whose records have this fault
 pub record HasGridFault (bytes : List ℕ) (fault : GridFault) : Type 0 where
   pub rows : List (List (List ℕ))
   pub csv : IsCsv bytes rows
   pub faults : HasFault rows fault
 
--- the records are those of a sheet, and this is the first text with a fault
+-- the bytes are CSV, whose records are those of a sheet, and this cell's text is the first with a fault
 pub record HasCellFault (bytes : List ℕ) (cell : Cell) (fault : TextFault) : Type 0 where
   pub rows : List (List (List ℕ))
   pub csv : IsCsv bytes rows
@@ -130,17 +131,18 @@ Ran end bytes out ReadFailed = (end ≡ inputs.Failed) × (out ≡ [])
 Ran end bytes out WriteFailed = Unit {0}
 Ran end bytes out NoMemory = out ≡ []
 
--- so, with the bytes that the reader gave and what it has left
+-- a grid that was read: how the reading of its bytes ended, and how the report did
 pub record Reported (limit : ℕ) (remaining : Option (List ℕ)) (ended failed : Bool) (bytes out : List ℕ) (result : GridEnd) : Type 0 where
   pub end : InputEnd
   pub ends_with : EndsWith limit remaining ended failed bytes end
   pub ran : Ran end bytes out result
 
--- or there was no room for an input: nothing was read, and nothing written
+-- there was no room for an input: no byte was read, and none was written
 pub record Unread (bytes out : List ℕ) (result : GridEnd) : Type 0 where
   pub none_read : bytes ≡ []
   pub none_written : out ≡ []
   pub is : result ≡ NoMemory
 
+-- what became of an input: it was read and reported as a grid, or there was no room for it
 abbrev pub Outcome : ℕ → Option (List ℕ) → Bool → Bool → List ℕ → List ℕ → GridEnd → Type 0
 Outcome limit remaining ended failed bytes out result = Reported limit remaining ended failed bytes out result ⊎ Unread bytes out result

@@ -26,9 +26,8 @@ use Rattle.ds_play.specs.Texts.{reply_text, answer_text, at_text, left_text, pee
 use Rattle.ds_play.specs.Orders.{Deed}
 use Rattle.ds_play.specs.Orders as deed
 
--- it ends with this text; it wants one event, whose reply to the process is its text; it begins a call of the process and
--- drives it to its answer; it drives the process up to here; it begins, in a pass of a settle that has so many passes
--- behind it, the process's work on a cell
+-- where a command stands: it ends with this text; wants one event; begins a call and drives it; drives the process up
+-- to here; or begins work on a cell, in a pass of a settle with so many passes left
 pub data Doing : Type 0 where
   Says : List ℕ → Doing
   Once : ℕ → Event → Doing
@@ -42,6 +41,7 @@ pub data Doing : Type 0 where
 abbrev pub evaluated : Shape → PlainWork → PlainEvaluated
 evaluated shape e = record { task = task_at shape e; entry = local_of (task_at shape e) }
 
+-- the event that a process in work wants at a stage: where the work waits, the offer of its entry; else a step
 abbrev pub wanted_at : ℕ → Shape → PlainWork → WorkStage → Event
 wanted_at p shape e Wait = events.Offer (evaluated shape e)
 wanted_at p shape e stage = events.Step p
@@ -51,7 +51,7 @@ abbrev pub wanted : ℕ → Shape → Situation → Event
 wanted p shape (Working e) = wanted_at p shape e e.stage
 wanted p shape s = events.Step p
 
--- the event that it wants
+-- the event that a command wants next; none where it has ended
 abbrev pub asks : Doing → WorldValue → Option Event
 asks (Says text) w = None
 asks (Once p event) w = Some event
@@ -61,64 +61,69 @@ asks (Works p passes cell) w = Some (events.BeginWork p (cell_at w.sheet.layout.
 
 -- ---- passes of a settle
 
+-- a settle ends with the text of how many cells are left
 abbrev pub ends : WorldValue → Doing
 ends w = Says (left_text (left_in (world_of w)))
 
--- a pass with so many behind it begins: a work on the first cell that is marked, where one is; else it is the last
+-- a pass of a settle begins with work on the first marked cell; where none is marked, the settle ends
 abbrev pub first_of : WorldValue → ℕ → ℕ → Option ℕ → Doing
 first_of w p passes None = ends w
 first_of w p passes (Some cell) = Works p passes cell
 
+-- a settle with so many passes left begins the next one; with none left it ends
 abbrev pub pass : WorldValue → ℕ → ℕ → Doing
 pass w p zero = ends w
 pass w p (suc passes) = first_of w p passes (marked_from (world_of w) (cells_of w.sheet.layout) 0)
 
--- a pass that has worked goes on behind a cell: with the next one that is marked, or with the next pass
+-- a pass of a settle goes on with the next marked cell; where none is marked, the next pass begins
 abbrev pub next_of : WorldValue → ℕ → ℕ → Option ℕ → Doing
 next_of w p passes None = pass w p passes
 next_of w p passes (Some cell) = Works p passes cell
 
+-- a pass of a settle that has worked on a cell goes on behind that cell
 abbrev pub goes_behind : WorldValue → ℕ → ℕ → ℕ → Doing
 goes_behind w p passes cell = next_of w p passes (marked_from (world_of w) (cells_of w.sheet.layout - (cell + 1)) (cell + 1))
 
 -- ---- what it does when it is told
 
--- up to the point, where the process's call does not have it behind it
+-- the process is driven up to the point; once its call has that behind it, the command ends
 abbrev pub to_point : ℕ → PointName → Situation → Doing
 to_point p name s = if has_passed s name then Says (at_text p name) else Drives p (ToPoint name)
 
--- the process has made a step
+-- what a command does after a step of the process that it drives
 abbrev pub stepped : WorldValue → ℕ → Until → Doing
 stepped w p OneStep = Says (reply_text w p Stepped)
 stepped w p (ToPoint name) = to_point p name ((world_of w).situation p)
 stepped w p ToAnswer = Drives p ToAnswer
 stepped w p (InPass passes cell) = Drives p (InPass passes cell)
 
--- its work was offered the entry, which is no step
+-- what a command does after an offer to the work of the process that it drives, which is no step
 abbrev pub offered : WorldValue → ℕ → Until → Doing
 offered w p OneStep = Drives p OneStep
 offered w p (ToPoint name) = to_point p name ((world_of w).situation p)
 offered w p ToAnswer = Drives p ToAnswer
 offered w p (InPass passes cell) = Drives p (InPass passes cell)
 
--- its call has ended, or can not go on; want of memory in a work ends a settle, each other answer lets it go on
+-- what a command does once the call that it drives has ended, or can not go on: a settle goes on behind the cell, but
+-- for want of memory
 abbrev pub ended : WorldValue → ℕ → Until → Reply → Doing
 ended w p (InPass passes cell) (Answered answers.NoMemory) = Says (answer_text w p answers.NoMemory)
 ended w p (InPass passes cell) (Answered answer) = goes_behind w p passes cell
 ended w p until reply = Says (reply_text w p reply)
 
+-- what a command does when the event of the process that it drives has this reply
 abbrev pub driven : WorldValue → ℕ → Until → Event → Reply → Doing
 driven w p until (events.Offer value) Stepped = offered w p until
 driven w p until event Stepped = stepped w p until
 driven w p until event reply = ended w p until reply
 
--- the call has begun, or not
+-- what a command does when the call that it begins has this reply: once begun, the call is driven
 abbrev pub called : WorldValue → ℕ → Until → Reply → Doing
 called w p until (Begun number) = Drives p until
 called w p until Entered = Drives p until
 called w p until reply = Says (reply_text w p reply)
 
--- what it does when the event has this reply, in the world behind it
+-- what a command does when the event has this reply, in the world behind it
 abbrev pub told : Doing → Event → Reply → WorldValue → Doing
 told (Says text) event reply w = Says text
 told (Once p asked) event reply w = Says (reply_text w p reply)
@@ -128,10 +133,11 @@ told (Works p passes cell) event reply w = called w p (InPass passes cell) reply
 
 -- ---- how it begins
 
--- at most two passes more than the sheet has cells
+-- a settle by the process, with two passes more than the sheet has cells
 abbrev pub settle : WorldValue → ℕ → Doing
 settle w p = pass w p (cells_of w.sheet.layout + 2)
 
+-- what a command does first, by the deed that its line asks for
 abbrev pub plan : WorldValue → Deed → Doing
 plan w (deed.Whole p event) = Calls p event
 plan w (deed.Begin p event) = Once p event

@@ -54,6 +54,7 @@ pub data Order : Type 0 where
   Make : ℕ → ℕ → ℕ → Order
   Does : Deed → Order
 
+-- an edit that is asked for: of this process, cell and text
 abbrev pub request : ℕ → Cell → List ℕ → PlainRequest
 request process cell text = record { process = process; cell = cell; text = text }
 
@@ -64,6 +65,7 @@ beginning process (calls.Work cell) = events.BeginWork process cell
 beginning process calls.Report = events.BeginShow process
 beginning process calls.Recovery = events.BeginRecover process
 
+-- the order that a command gives
 abbrev pub command_view : Command → Order
 command_view (commands.Sheet shape processes) = Make shape.columns shape.rows processes
 command_view (commands.Whole process call) = Does (Whole process (beginning process call))
@@ -78,7 +80,7 @@ command_view (commands.Evict place) = Does (Evict place)
 command_view (commands.Peek cell) = Does (Peek cell)
 command_view (commands.Word place) = Does (Word place)
 
--- a sheet of this layout can carry it out
+-- a sheet of this layout can carry the command out
 abbrev pub CanDo : Layout → Command → Type 0
 CanDo layout (commands.Sheet shape processes) = (1 ≤ processes) × (processes ≤ 8)
 CanDo layout (commands.Evict place) = IsPlace layout place
@@ -88,13 +90,15 @@ CanDo layout _ = Unit {0}
 
 -- ---- places
 
--- the last word: a cell's number, or a number below the limit
+-- the number of the cell in the last field of a line
 abbrev pub cell_only : Shape → Option (List ℕ) → Option ℕ
 cell_only shape rest = cell_field shape rest >>= λ cell. if is_none cell.1 then Some (index_of shape cell.0) else None
 
+-- the number below the limit in the last field of a line
 abbrev pub number_only : ℕ → Option (List ℕ) → Option ℕ
 number_only limit rest = number_field limit rest >>= λ n. if is_none n.1 then Some n.0 else None
 
+-- the kind of place that a word of a script names
 abbrev pub kind_of : List ℕ → Option PlaceKind
 kind_of word =
     if bytes_eq word (codes "head") then Some kinds.Head
@@ -108,7 +112,8 @@ kind_of word =
     else (if bytes_eq word (codes "done") then Some kinds.Done
     else None))))))))
 
--- head C, mark C, value C, kind C, index C PART, announce P, header P NUMBER, text P NUMBER PART, done P PART
+-- the place by its kind: head C, mark C, value C, kind C, index C PART, announce P, header P NUMBER,
+-- text P NUMBER PART, done P PART
 abbrev pub place_by : Layout → PlaceKind → Option (List ℕ) → Option Place
 place_by layout kinds.Head rest = cell_only layout.shape rest >>= λ c. Some (place.Head c)
 place_by layout kinds.Mark rest = cell_only layout.shape rest >>= λ c. Some (place.Mark c)
@@ -122,11 +127,13 @@ place_by layout kinds.Text rest =
     number_field layout.processes rest >>= λ p. number_field RECORDS p.1 >>= λ n. number_only TEXT_PARTS n.1 >>= λ part. Some (place.Text p.0 n.0 part)
 place_by layout kinds.Done rest = number_field layout.processes rest >>= λ p. number_only DONE_PARTS p.1 >>= λ part. Some (place.Done p.0 part)
 
+-- the place that the fields of a line name: its kind, then its numbers
 abbrev pub place_field : Layout → Option (List ℕ) → Option Place
 place_field layout rest = rest >>= λ bytes. kind_of (word_of bytes).0 >>= λ kind. place_by layout kind (word_of bytes).1
 
 -- ---- points
 
+-- the point that a word of a script names
 abbrev pub point_named : List ℕ → Option PointName
 point_named word =
     if bytes_eq word (codes "written") then Some name.Written
@@ -147,25 +154,25 @@ point_named word =
 
 -- ---- commands
 
--- nothing behind it
+-- the order for the deed, where no field is left behind it
 abbrev pub alone : Deed → Option (List ℕ) → Option Order
 alone deed rest = if is_none rest then Some (Does deed) else None
 
--- PROCESS CELL TEXT, where the text is all that follows the space behind the cell, and empty without one
+-- the fields of `set`: PROCESS CELL TEXT; the text is all behind the space after the cell, and empty without one
 abbrev pub set_of : Layout → Option (List ℕ) → Option Order
 set_of layout rest =
     number_field layout.processes rest >>= λ process.
     cell_field layout.shape process.1 >>= λ cell.
     Some (Does (Whole process.0 (events.BeginEdit (request process.0 cell.0 (unwrap_or cell.1 [])))))
 
--- PROCESS CELL
+-- the fields of `work`: PROCESS CELL
 abbrev pub work_of : Layout → Option (List ℕ) → Option Order
 work_of layout rest =
     number_field layout.processes rest >>= λ process.
     cell_field layout.shape process.1 >>= λ cell.
     alone (Whole process.0 (events.BeginWork process.0 cell.0)) cell.1
 
--- PROCESS alone
+-- the deed of a command whose one field is a process
 abbrev pub deed_of : Verb → ℕ → Option Deed
 deed_of verbs.Recover process = Some (Whole process (events.BeginRecover process))
 deed_of verbs.Report process = Some (Whole process (events.BeginShow process))
@@ -174,32 +181,37 @@ deed_of verbs.Step process = Some (Step process)
 deed_of verbs.Stop process = Some (Stop process)
 deed_of _ process = None
 
+-- the field of a command that has a process alone: PROCESS
 abbrev pub of_process : Verb → Layout → Option (List ℕ) → Option Order
 of_process verb layout rest = number_only layout.processes rest >>= λ process. deed_of verb process >>= λ deed. Some (Does deed)
 
--- PROCESS to POINT, or PROCESS alone
+-- the fields of `run` behind its process: to POINT, or none
 abbrev pub run_by : ℕ → Option (List ℕ) → Option Order
 run_by process None = Some (Does (Run process))
 run_by process (Some bytes) =
     if bytes_eq (word_of bytes).0 (codes "to") then ((word_of bytes).1 >>= λ word. point_named word >>= λ n. Some (Does (RunTo process n))) else None
 
+-- the fields of `run`: PROCESS to POINT, or PROCESS alone
 abbrev pub run_of : Layout → Option (List ℕ) → Option Order
 run_of layout rest = number_field layout.processes rest >>= λ process. run_by process.0 process.1
 
+-- the fields of `evict`: those of a place
 abbrev pub evict_of : Layout → Option (List ℕ) → Option Order
 evict_of layout rest = place_field layout rest >>= λ r. Some (Does (Evict r))
 
+-- the fields of `word`: those of a place
 abbrev pub word_order : Layout → Option (List ℕ) → Option Order
 word_order layout rest = place_field layout rest >>= λ r. Some (Does (Word r))
 
+-- the field of `peek`: CELL
 abbrev pub peek_of : Layout → Option (List ℕ) → Option Order
 peek_of layout rest = cell_field layout.shape rest >>= λ cell. alone (Peek cell.0) cell.1
 
--- a sheet has so many columns and rows
+-- whether a sheet may have so many columns and rows
 abbrev pub may_have : ℕ → ℕ → Bool
 may_have columns rows = (nat_le 1 columns && nat_le columns 26) && ((nat_le 1 rows && nat_le rows 64) && nat_le (columns * rows) 1024)
 
--- sheet COLUMNS ROWS PROCESSES
+-- the fields of `sheet`: COLUMNS ROWS PROCESSES
 abbrev pub sheet_of : Option (List ℕ) → Option Order
 sheet_of rest =
     number_field 27 rest >>= λ columns.
@@ -207,19 +219,23 @@ sheet_of rest =
     number_field 9 rows.1 >>= λ processes.
     if may_have columns.0 rows.0 && (nat_le 1 processes.0 && is_none processes.1) then Some (Make columns.0 rows.0 processes.0) else None
 
+-- the order that the fields give; where they give none, the fault BadField
 abbrev pub or_bad_field : Option Order → Result Order ScriptFault
 or_bad_field None = Err BadField
 or_bad_field (Some order) = Ok order
 
 -- ---- begin PROCESS set CELL TEXT, work CELL, show, recover; a word that is no call's is no command
 
+-- the fields of `begin PROCESS set`: CELL TEXT
 abbrev pub begin_edit_of : Layout → ℕ → Option (List ℕ) → Option Order
 begin_edit_of layout process rest =
     cell_field layout.shape rest >>= λ cell. Some (Does (Begin process (events.BeginEdit (request process cell.0 (unwrap_or cell.1 [])))))
 
+-- the field of `begin PROCESS work`: CELL
 abbrev pub begin_work_of : Layout → ℕ → Option (List ℕ) → Option Order
 begin_work_of layout process rest = cell_field layout.shape rest >>= λ cell. alone (Begin process (events.BeginWork process cell.0)) cell.1
 
+-- the call that a word behind `begin PROCESS` names
 abbrev pub call_named : List ℕ → Option CallName
 call_named word =
     if bytes_eq word (codes "set") then Some names.Edit
@@ -228,6 +244,7 @@ call_named word =
     else (if bytes_eq word (codes "recover") then Some names.Recovery
     else None)))
 
+-- the order of `begin` by the call that it names; a word that is no call's is an unknown command
 abbrev pub begin_by : Layout → ℕ → Option CallName → Option (List ℕ) → Result Order ScriptFault
 begin_by layout process None rest = Err UnknownCommand
 begin_by layout process (Some names.Edit) rest = or_bad_field (begin_edit_of layout process rest)
@@ -235,16 +252,19 @@ begin_by layout process (Some names.Work) rest = or_bad_field (begin_work_of lay
 begin_by layout process (Some names.Report) rest = or_bad_field (alone (Begin process (events.BeginShow process)) rest)
 begin_by layout process (Some names.Recovery) rest = or_bad_field (alone (Begin process (events.BeginRecover process)) rest)
 
+-- the words of `begin` behind its process: a call's name, then its fields
 abbrev pub begin_words : Layout → ℕ → Option (List ℕ) → Result Order ScriptFault
 begin_words layout process None = Err BadField
 begin_words layout process (Some bytes) = begin_by layout process (call_named (word_of bytes).0) (word_of bytes).1
 
+-- the fields of `begin`: PROCESS, then the words of a call
 abbrev pub begin_of : Layout → Option (ℕ × Option (List ℕ)) → Result Order ScriptFault
 begin_of layout None = Err BadField
 begin_of layout (Some process) = begin_words layout process.0 process.1
 
 -- ---- lines
 
+-- the command that the first word of a line names
 abbrev pub verb_of : List ℕ → Option Verb
 verb_of word =
     if bytes_eq word (codes "sheet") then Some verbs.Sheet
@@ -263,7 +283,7 @@ verb_of word =
     else (if bytes_eq word (codes "word") then Some verbs.Word
     else None)))))))))))))
 
--- the words behind the first
+-- the order that the words behind the first give, by the command
 abbrev pub fields_of : Verb → Layout → Option (List ℕ) → Result Order ScriptFault
 fields_of verbs.Sheet layout rest = or_bad_field (sheet_of rest)
 fields_of verbs.Set layout rest = or_bad_field (set_of layout rest)
@@ -280,35 +300,40 @@ fields_of verbs.Evict layout rest = or_bad_field (evict_of layout rest)
 fields_of verbs.Peek layout rest = or_bad_field (peek_of layout rest)
 fields_of verbs.Word layout rest = or_bad_field (word_order layout rest)
 
+-- the order of a line by its command: an unknown one is a fault, and so is `sheet` behind another command
 abbrev pub order_by : Option Verb → Begun → Layout → Option (List ℕ) → Result Order ScriptFault
 order_by None first layout rest = Err UnknownCommand
 order_by (Some verbs.Sheet) begun.Sheet layout rest = Err SheetNotFirst
 order_by (Some verbs.Sheet) begun.Command layout rest = Err SheetNotFirst
 order_by (Some verb) first layout rest = fields_of verb layout rest
 
--- a point that the process's call does not have is a bad field
+-- the order, checked in this world: a point that the process's call does not have is a bad field
 abbrev pub checked : WorldValue → Order → Result Order ScriptFault
 checked w (Does (RunTo process n)) = if lacks ((world_of w).situation process) n then Err BadField else Ok (Does (RunTo process n))
 checked w order = Ok order
 
+-- an order, or its fault, as what a line that is not skipped asks for
 abbrev pub some : Result Order ScriptFault → Result (Option Order) ScriptFault
 some (Ok order) = Ok (Some order)
 some (Err fault) = Err fault
 
+-- what a line asks for once its order is read: the order, checked in this world, or the fault
 abbrev pub checked_of : WorldValue → Result Order ScriptFault → Result (Option Order) ScriptFault
 checked_of w (Err fault) = Err fault
 checked_of w (Ok order) = some (checked w order)
 
--- what the line asks for at this point of a script; nothing where it is skipped; or its fault
+-- what the line asks for at this point of a script: an order; none where the line is skipped; or its fault
 abbrev pub order_of : Begun → WorldValue → List ℕ → Result (Option Order) ScriptFault
 order_of first w line =
     if is_skipped line then Ok None
     else checked_of w (order_by (verb_of (word_of line).0) first w.sheet.layout (word_of line).1)
 
+-- the order of a command that was read, or the fault
 abbrev pub read_view : Result Command ScriptFault → Result Order ScriptFault
 read_view (Ok command) = Ok (command_view command)
 read_view (Err fault) = Err fault
 
+-- the order of a line's command, if it has one, or the fault
 abbrev pub answer_view : Result (Option Command) ScriptFault → Result (Option Order) ScriptFault
 answer_view (Ok command) = Ok (option_map command_view command)
 answer_view (Err fault) = Err fault

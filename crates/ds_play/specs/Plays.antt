@@ -12,7 +12,8 @@ use Rattle.ds_play.specs.declared.drive.Until.TheVariants.{InPass}
 use Rattle.ds_play.specs.declared.drive.Halt.{Halt}
 use Rattle.ds_play.specs.declared.drive.Halt.TheVariants.{At, Replied}
 
--- each event is the one that is wanted, and what it is told goes on; up to this, which need not be the end
+-- each event is the one that the command wants, and its reply takes the command on, up to this, which need not be the
+-- end
 abbrev pub Plays : Doing → WorldValue → List Event → List Reply → Doing → WorldValue → Type 0
 Plays doing old [] [] last new = (last ≡ doing) × (new ≡ old)
 Plays doing old (event ∷ events) (reply ∷ replies) last new =
@@ -20,35 +21,36 @@ Plays doing old (event ∷ events) (reply ∷ replies) last new =
 Plays doing old [] (reply ∷ replies) last new = ⊥
 Plays doing old (event ∷ events) [] last new = ⊥
 
--- some events lead from the one to the other
+-- some events lead the command from where it stands to there, from the one world to the other
 pub record Leads (doing : Doing) (old : WorldValue) (last : Doing) (new : WorldValue) : Type 0 where
   pub events : List Event
   pub replies : List Reply
   pub plays : Plays doing old events replies last new
 
--- to its end
+-- the command is played to its end, where it has this text
 abbrev pub Played : Doing → WorldValue → List ℕ → WorldValue → Type 0
 Played doing old text new = Leads doing old (Says text) new
 
--- what is left to do where a process is driven no further
+-- what a command has left to do where its process is driven no further
 abbrev pub halted : WorldValue → ℕ → Until → Halt → Doing
 halted w p until (At name) = Says (at_text p name)
 halted w p until (Replied reply) = ended w p until reply
 
--- its text, where it isn't driven in a pass
+-- the text of a command whose process is driven no further, outside a pass of a settle
 abbrev pub halt_text : WorldValue → ℕ → Halt → List ℕ
 halt_text w p (At name) = at_text p name
 halt_text w p (Replied reply) = reply_text w p reply
 
+-- the process is driven, but not in a pass of a settle
 abbrev pub IsNoPass : Until → Type 0
 IsNoPass (InPass passes cell) = ⊥
 IsNoPass until = Unit {0}
 
--- a process that is driven makes a step: no work of its waits
+-- the process that is driven wants a step: no work of its waits
 abbrev pub WantsStep : WorldValue → ℕ → Type 0
 WantsStep w p = wanted p w.sheet.layout.shape ((world_of w).situation p) ≡ Step p
 
--- one event lets the process be driven on
+-- one event that the command wants leaves the process driven on, up to the same end
 pub record GoesOn (old : WorldValue) (p : ℕ) (until : Until) (new : WorldValue) : Type 0 where
   pub event : Event
   pub reply : Reply

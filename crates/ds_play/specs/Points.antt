@@ -13,6 +13,7 @@ use Rattle.ds_state.specs.declared.work.RecoverStage.TheVariants as recovery
 use Rattle.ds_play.specs.declared.point.PointName.{PointName}
 use Rattle.ds_play.specs.declared.point.PointName.TheVariants.{Written, Announced, Indexed, Helped, Swung, Kept, Marked, Answered, Held, Stored, Valued, Spread, Cleared, Freed}
 
+-- the name of a point in a script
 abbrev pub name_of_point : PointName → List ℕ
 name_of_point Written = codes "written"
 name_of_point Announced = codes "announced"
@@ -31,6 +32,7 @@ name_of_point Freed = codes "freed"
 
 -- ---- the points of each call, in their order, from 1
 
+-- the place of a point among those of an edit, from 1
 abbrev pub edit_order : PointName → Option ℕ
 edit_order Written = Some 1
 edit_order Announced = Some 2
@@ -42,6 +44,7 @@ edit_order Marked = Some 7
 edit_order Answered = Some 8
 edit_order _ = None
 
+-- the place of a point among those of work, from 1
 abbrev pub work_order : PointName → Option ℕ
 work_order Held = Some 1
 work_order Stored = Some 2
@@ -50,6 +53,7 @@ work_order Spread = Some 4
 work_order Cleared = Some 5
 work_order _ = None
 
+-- the place of a point among those of a recovery, from 1
 abbrev pub recovery_order : PointName → Option ℕ
 recovery_order Freed = Some 1
 recovery_order Kept = Some 2
@@ -57,6 +61,7 @@ recovery_order Marked = Some 3
 recovery_order Answered = Some 4
 recovery_order _ = None
 
+-- the place of a point among those of the process's call, if that call has it
 abbrev pub order_in : Situation → PointName → Option ℕ
 order_in (Idle next) name = None
 order_in Stopped name = None
@@ -65,6 +70,7 @@ order_in (Working e) name = work_order name
 order_in (Recovering e) name = recovery_order name
 order_in (Showing e) name = None
 
+-- whether the process is in a call
 abbrev pub is_in_call : Situation → Bool
 is_in_call (Idle next) = false
 is_in_call Stopped = false
@@ -73,17 +79,18 @@ is_in_call (Working e) = true
 is_in_call (Recovering e) = true
 is_in_call (Showing e) = true
 
--- the process is in a call that has no such point
+-- whether the process is in a call that has no such point
 abbrev pub lacks : Situation → PointName → Bool
 lacks s name = is_in_call s && is_none (order_in s name)
 
 -- ---- what a call has behind it: the order of its last point, 0 for none
 
+-- the order of the last point that an edit has behind it, 0 for none
 abbrev pub behind_point : Option Point → ℕ
 behind_point None = 0
 behind_point (Some point) = order point
 
--- of work that lets its cell go: it told the cells that refer to it, or it lacked memory before it had a value
+-- the order of the last point behind work that lets its cell go: it has told the cells, or it lacked memory
 abbrev pub behind_end : WorkEnd → ℕ
 behind_end (ends.Published changed) = 4
 behind_end ends.Again = 4
@@ -92,7 +99,7 @@ behind_end ends.NotDirty = 0
 behind_end ends.Missed = 0
 behind_end ends.Worn = 0
 
--- of work that has answered: without a claim it has reached no point, and without a value none but the claim
+-- the order of the last point behind work that has answered: without a claim none, without a value the claim
 abbrev pub behind_answer : WorkEnd → ℕ
 behind_answer (ends.Published changed) = 5
 behind_answer ends.Again = 5
@@ -101,6 +108,7 @@ behind_answer ends.NotDirty = 0
 behind_answer ends.Missed = 0
 behind_answer ends.Worn = 0
 
+-- the order of the last point that work at a stage has behind it, 0 for none
 abbrev pub behind_work : WorkStage → ℕ
 behind_work work.LoadMark = 0
 behind_work work.Claim = 0
@@ -130,11 +138,12 @@ behind_work (work.FlushCleared end) = behind_end end
 behind_work (work.BackCleared end) = behind_end end
 behind_work (work.Answer end) = behind_answer end
 
--- where no edit was announced, all cells are freed and nothing more is to be done
+-- the order of the last point behind a recovery that has answered: without an announcement, that its cells are freed
 abbrev pub behind_recovered : Option Bool → ℕ
 behind_recovered None = 1
 behind_recovered (Some counts) = 4
 
+-- the order of the last point that a recovery at a stage has behind it, 0 for none
 abbrev pub behind_recovery : RecoverStage → ℕ
 behind_recovery (recovery.LoadMark cell) = 0
 behind_recovery (recovery.FlushValue cell) = 0
@@ -160,6 +169,7 @@ behind_recovery (recovery.FlushOutcome counts) = 3
 behind_recovery (recovery.BackOutcome counts) = 3
 behind_recovery (recovery.Answer how) = behind_recovered how
 
+-- the order of the last point that the process's call has behind it, 0 for none
 abbrev pub behind_in : Situation → ℕ
 behind_in (Idle next) = 0
 behind_in Stopped = 0
@@ -168,10 +178,11 @@ behind_in (Working e) = behind_work e.stage
 behind_in (Recovering e) = behind_recovery e.stage
 behind_in (Showing e) = 0
 
+-- whether the point of this order is behind, where a call has it
 abbrev pub is_passed : Option ℕ → ℕ → Bool
 is_passed None behind = false
 is_passed (Some point) behind = nat_le point behind
 
--- its call has the point, or a later one, behind it
+-- the process's call has the point, or a later one, behind it
 abbrev pub has_passed : Situation → PointName → Bool
 has_passed s name = is_passed (order_in s name) (behind_in s)

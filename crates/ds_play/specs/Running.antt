@@ -15,23 +15,24 @@ use Rattle.ds_play.specs.Doing.{plan}
 use Rattle.ds_play.specs.Plays.{Played}
 use Rattle.ds_play.specs.Script.{IsMade, Finishes, Breaks, Lacks}
 
--- an order is carried out
+-- an order is carried out: a new sheet is made, or the deed is played to its end with this answer
 abbrev pub Obeys : WorldValue → Order → List ℕ → WorldValue → Type 0
 Obeys old (Make columns rows processes) answer new = (answer ≡ []) × IsMade columns rows processes new
 Obeys old (Does deed) answer new = Played (plan old deed) old answer new
 
+-- how a script has begun once it has carried an order out: with a sheet, or with another command
 abbrev pub after : Order → Begun
 after (Make columns rows processes) = begun.Sheet
 after (Does deed) = begun.Command
 
--- the line is skipped, and nothing changes
+-- the line is skipped: the world stays, and what was written stays
 pub record Skipped (first : Begun) (old : WorldValue) (line : List ℕ) (now : Begun) (new : WorldValue) (before then : Option (List ℕ)) : Type 0 where
   pub asks : order_of first old line ≡ Ok None
   pub still : now ≡ first
   pub same : new ≡ old
   pub nothing : then ≡ before
 
--- the line is carried out
+-- the line is carried out, and its answer is written behind what was written before
 pub record Answered (first : Begun) (old : WorldValue) (line : List ℕ) (now : Begun) (new : WorldValue) (before then : Option (List ℕ)) : Type 0 where
   pub order : Order
   pub asks : order_of first old line ≡ Ok (Some order)
@@ -40,15 +41,17 @@ pub record Answered (first : Begun) (old : WorldValue) (line : List ℕ) (now : 
   pub begun_is : now ≡ after order
   pub written : Appends before then answer
 
+-- the line is skipped, or carried out
 abbrev pub Obeyed : Begun → WorldValue → List ℕ → Begun → WorldValue → Option (List ℕ) → Option (List ℕ) → Type 0
 Obeyed first old line now new before then = Skipped first old line now new before then ⊎ Answered first old line now new before then
 
--- why a line stops a script
+-- why a line stops a script: by its fault, for want of memory, or by a write that failed
 abbrev pub Stopped : Begun → WorldValue → List ℕ → Option (List ℕ) → Option (List ℕ) → Bool → Stop → Type 0
 Stopped first w line before then failed (stops.Fault kind) = (order_of first w line ≡ Err kind) × (then ≡ before)
 Stopped first w line before then failed stops.NoMemory = then ≡ before
 Stopped first w line before then failed stops.WriteFailed = failed ≡ true
 
+-- where and why a script breaks off, by what stops it at this line
 abbrev pub break_of : ℕ → Stop → Break
 break_of line (stops.Fault kind) = breaks.Fault line kind
 break_of line stops.NoMemory = breaks.NoMemory
@@ -61,13 +64,14 @@ RanLines whole script before now failed (Err (breaks.Fault line kind)) = (out : 
 RanLines whole script before now failed (Err breaks.NoMemory) = (out : List ℕ) × Appends before now out × Lacks whole script out
 RanLines whole script before now failed (Err breaks.WriteFailed) = failed ≡ true
 
--- no write failed, but for one that ends the run
+-- no write of the lines failed, but for one that breaks the script off
 abbrev pub HidesNone : Result (Unit {0}) Break → Bool → Bool → Type 0
 HidesNone (Ok done) before now = now ≡ before
 HidesNone (Err (breaks.Fault line kind)) before now = now ≡ before
 HidesNone (Err breaks.NoMemory) before now = now ≡ before
 HidesNone (Err breaks.WriteFailed) before now = Unit {0}
 
+-- how a script ends: as its lines break off, else as its reading ended
 abbrev pub ending_of : Result (Unit {0}) Break → ScriptEnd → ScriptEnd
 ending_of (Ok done) end = end
 ending_of (Err (breaks.Fault line kind)) end = ends.Fault line kind

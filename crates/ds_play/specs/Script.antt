@@ -24,8 +24,8 @@ use Rattle.ds_play.specs.Plays.{Plays}
 
 -- ---- at a point of a script
 
--- what came before, the fresh world that its events began in, those events with their replies, and the world that they
--- led to
+-- a point of a script: how it has begun, the fresh world that its events began in, those events with their replies,
+-- and the world that they led to
 pub record Progress : Type 0 where
   pub begun : Begun
   pub start : WorldValue
@@ -44,13 +44,15 @@ pub record IsMade (columns rows processes : ℕ) (w : WorldValue) : Type 0 where
   pub settled : w.settled ≡ 0
   pub reports : w.reports ≡ no_reports processes (count_of w.sheet.layout.shape)
 
+-- the point of a script in a fresh world, before its first event
 abbrev pub begins_at : Begun → WorldValue → Progress
 begins_at first w = record { begun = first; start = w; events = []; replies = []; world = w }
 
+-- the point of a script behind these further events and replies, which led to this world
 abbrev pub goes_on : Progress → List Event → List Reply → WorldValue → Progress
 goes_on p events replies w = record { begun = begun.Command; start = p.start; events = p.events ++ events; replies = p.replies ++ replies; world = w }
 
--- what the line asks for at this point
+-- what the line asks for at this point of a script
 abbrev pub Asks : Progress → List ℕ → Option Order → Type 0
 Asks p line order = order_of p.begun p.world line ≡ Ok order
 
@@ -72,7 +74,7 @@ pub data Carried (whole : Bool) (script : List ℕ) : ℕ → Progress → List 
 
 -- ---- how it ends
 
--- no line is left
+-- the script is carried out to its end: no line is left
 pub record Finishes (whole : Bool) (script out : List ℕ) : Type 0 where
   pub lines : ℕ
   pub progress : Progress
@@ -80,13 +82,13 @@ pub record Finishes (whole : Bool) (script out : List ℕ) : Type 0 where
   pub carried : Carried whole script lines progress out rest
   pub none : next_of whole rest ≡ NoLine
 
--- the line at the front has this fault at this point
+-- the line at the front of what is left has this fault at this point
 abbrev pub FaultAt : Progress → AtFront → ScriptFault → Type 0
 FaultAt p NoLine fault = ⊥
 FaultAt p LongLine fault = fault ≡ LineTooLong
 FaultAt p (ALine line behind) fault = order_of p.begun p.world line ≡ Err fault
 
--- every line before this one is carried out, and it has this fault
+-- every line of the script before this one is carried out, and this one has the fault
 pub record Breaks (whole : Bool) (script out : List ℕ) (line : ℕ) (kind : ScriptFault) : Type 0 where
   pub lines : ℕ
   pub progress : Progress
@@ -95,7 +97,7 @@ pub record Breaks (whole : Bool) (script out : List ℕ) (line : ℕ) (kind : Sc
   pub number : line ≡ lines + 1
   pub fault : FaultAt progress (next_of whole rest) kind
 
--- some of the first lines are carried out
+-- some of the first lines of a script are carried out, with these answers
 pub record Partly (whole : Bool) (script out : List ℕ) : Type 0 where
   pub lines : ℕ
   pub progress : Progress
@@ -121,29 +123,31 @@ Writes end script out (ends.Fault line kind) = Breaks (is_whole end) script out 
 Writes end script out ends.NoMemory = Lacks (is_whole end) script out
 Writes end script out ends.WriteFailed = Unit {0}
 
--- the bytes that were read, the one witness for how reading ended, and what followed from both
+-- a script that was read: how the reading of its bytes ended, and what was written for them
 pub record Ran (limit : ℕ) (remaining : Option (List ℕ)) (ended failed : Bool) (bytes out : List ℕ) (result : ScriptEnd) : Type 0 where
   pub end : InputEnd
   pub ends_with : EndsWith limit remaining ended failed bytes end
   pub writes : Writes end (take limit bytes) out result
 
--- no room for an input: nothing was read, and nothing written
+-- there was no room for an input: no byte was read, and none was written
 pub record Unread (bytes out : List ℕ) (result : ScriptEnd) : Type 0 where
   pub none_read : bytes ≡ []
   pub none_written : out ≡ []
   pub is : result ≡ ends.NoMemory
 
+-- what became of an input: it was read and run as a script, or there was no room for it
 abbrev pub Outcome : ℕ → Option (List ℕ) → Bool → Bool → List ℕ → List ℕ → ScriptEnd → Type 0
 Outcome limit remaining ended failed bytes out result = Ran limit remaining ended failed bytes out result ⊎ Unread bytes out result
 
 -- ---- stops between two steps
 
--- one for a step that happens
+-- how many steps an event with its reply is: 1 for a step that happens, else 0
 abbrev pub step_taken : Event → Reply → ℕ
 step_taken (Step p) Stepped = 1
 step_taken (Step p) (Answered answer) = 1
 step_taken event reply = 0
 
+-- how many steps happen in a list of events with their replies
 abbrev pub steps_taken : List Event → List Reply → ℕ
 steps_taken (event ∷ events) (reply ∷ replies) = step_taken event reply + steps_taken events replies
 steps_taken events replies = 0

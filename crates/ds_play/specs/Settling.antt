@@ -7,15 +7,17 @@ use Rattle.ds_layout.specs.Places.{cells_of}
 use Rattle.ds_state.specs.Shown.{mark_at}
 use Rattle.ds_state.specs.World.{World}
 
--- what the mark of the cell says
+-- what the mark of the cell says: clean, marked or held
 abbrev pub state_at : World → ℕ → State
 state_at w cell = state_of (mark_at w.layout w.memory cell)
 
+-- whether a mark says that the cell is marked
 abbrev pub is_marked : State → Bool
 is_marked Clean = false
 is_marked Marked = true
 is_marked (Held process) = false
 
+-- whether a mark says that the cell is clean
 abbrev pub is_clean : State → Bool
 is_clean Clean = true
 is_clean Marked = false
@@ -31,5 +33,6 @@ abbrev pub left_below : World → ℕ → ℕ
 left_below w zero = 0
 left_below w (suc cell) = if is_clean (state_at w cell) then left_below w cell else suc (left_below w cell)
 
+-- how many cells of the sheet are marked or held
 abbrev pub left_in : World → ℕ
 left_in w = left_below w (cells_of w.layout)

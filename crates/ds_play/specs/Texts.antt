@@ -29,29 +29,31 @@ use Rattle.ds_play.specs.Points.{name_of_point}
 
 -- ---- answers
 
--- P NUMBER overtaken by PROCESS NUMBER
+-- the line of the answer Overtaken: P NUMBER overtaken by PROCESS NUMBER
 abbrev pub overtaken_text : ℕ → ℕ → Other → List ℕ
 overtaken_text p number by =
     decimal p ++ (codes " " ++ (decimal number ++ (codes " overtaken by " ++ (decimal by.process ++ (codes " " ++ (decimal by.number ++ codes "\n"))))))
 
--- P WORD
+-- a line of a process and a word: P WORD
 abbrev pub word_line : ℕ → List ℕ → List ℕ
 word_line p word = decimal p ++ (codes " " ++ (word ++ codes "\n"))
 
+-- the word for how an edit ended, by whether it counts
 abbrev pub counts_text : Bool → List ℕ
 counts_text true = codes "done"
 counts_text false = codes "not-done"
 
+-- the words of the answer Published, by whether the value changed
 abbrev pub changed_text : Bool → List ℕ
 changed_text true = codes "published changed"
 changed_text false = codes "published same"
 
--- P last NUMBER C done; P last NUMBER C not-done
+-- the line of the answer Last: P last NUMBER C done; P last NUMBER C not-done
 abbrev pub last_text : Shape → ℕ → Told → List ℕ
 last_text shape p told =
     decimal p ++ (codes " last " ++ (decimal told.number ++ (codes " " ++ (cell_text (cell_at shape told.cell) ++ (codes " " ++ (counts_text told.counts ++ codes "\n"))))))
 
--- unsettled mark C WORD; unsettled announce P WORD; a report watches no other words
+-- the line of the answer Unsettled: unsettled mark C WORD; unsettled announce P WORD; a report watches no other words
 abbrev pub unsettled_text : Shape → Place → ℕ → List ℕ
 unsettled_text shape (place.Mark cell) word = codes "unsettled mark " ++ (cell_text (cell_at shape cell) ++ (codes " " ++ (decimal word ++ codes "\n")))
 unsettled_text shape (place.Announce p) word = codes "unsettled announce " ++ (decimal p ++ (codes " " ++ (decimal word ++ codes "\n")))
@@ -89,38 +91,41 @@ reply_text w p Crashed = codes "crashed\n"
 reply_text w p Evicted = codes "evicted\n"
 reply_text w p NotEnabled = word_line p (codes "not-enabled")
 
--- P at POINT
+-- the line of a process that is driven up to a point: P at POINT
 abbrev pub at_text : ℕ → PointName → List ℕ
 at_text p name = decimal p ++ (codes " at " ++ (name_of_point name ++ codes "\n"))
 
--- clean; left K, with the number of cells that are marked or held
+-- the line that a settle ends with: clean; left K, with the number of cells that are marked or held
 abbrev pub left_text : ℕ → List ℕ
 left_text zero = codes "clean\n"
 left_text (suc k) = codes "left " ++ (decimal (suc k) ++ codes "\n")
 
 -- ---- what a world shows
 
+-- the word for what a mark says, with the holder of a held cell
 abbrev pub state_text : State → List ℕ
 state_text Clean = codes "clean"
 state_text Marked = codes "dirty"
 state_text (Held process) = codes "held " ++ decimal process
 
+-- the text of a value that `peek` shows: a blank one has a word, too
 abbrev pub shown_text : Value → List ℕ
 shown_text value.Blank = codes "blank"
 shown_text v = value_text v
 
--- C STATE VALUE
+-- the line of `peek` up to the value: C STATE VALUE
 abbrev pub peek_head : Cell → State → Value → List ℕ
 peek_head cell mark v = cell_text cell ++ (codes " " ++ (state_text mark ++ (codes " " ++ shown_text v)))
 
--- without a text the line ends after the value
+-- the line of `peek` behind the value: the cell's text; without a text the line ends
 abbrev pub behind_value : List ℕ → List ℕ
 behind_value [] = codes "\n"
 behind_value (b ∷ text) = codes " " ++ ((b ∷ text) ++ codes "\n")
 
+-- the line of `peek`: C STATE VALUE TEXT
 abbrev pub peek_text : World → Cell → List ℕ
 peek_text w cell = peek_head cell (state_of (mark_in w cell)) (value_in w cell) ++ behind_value (text_in w cell)
 
--- the cached and the persisted number
+-- the line of `word`: the cached and the persisted number of a place
 abbrev pub word_text : Memory Place → Place → List ℕ
 word_text m r = decimal (m.cached r) ++ (codes " " ++ (decimal (m.persisted r) ++ codes "\n"))

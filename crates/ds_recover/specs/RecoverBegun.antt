@@ -17,12 +17,12 @@ MayRecover (Working e) = ⊥
 MayRecover (Recovering e) = ⊥
 MayRecover (Showing e) = ⊥
 
--- its recovery begins
+-- the recovery of a process in no call begins
 pub record IsBegun (old : World) (p : ℕ) (new : World) : Type 0 where
   pub free : MayRecover (old.situation p)
   pub begins : BeginsRecovery (fresh p (cells_of old.layout) old.layout.processes) old new
 
--- a process in a call may not
+-- a process in a call may not recover, as it is busy
 pub record Refuses (old : World) (p : ℕ) (why : Refusal) : Type 0 where
   pub busy : why ≡ refusal.Busy
   pub calls : MayRecover (old.situation p) → ⊥

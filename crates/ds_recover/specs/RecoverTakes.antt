@@ -8,7 +8,7 @@ use Rattle.ds_recover.specs.declared.machine.Effect.{Effect}
 use Rattle.ds_recover.specs.declared.machine.Effect.TheVariants.{GoesOn, Answers}
 use Rattle.ds_recover.specs.RecoverySteps.{Steps, effect_at}
 
--- its answer resolves the edit in doubt
+-- the process's issue after a step of its recovery: the answer resolves the edit in doubt
 abbrev pub pending_by : Option Issue → Effect → Option Issue
 pending_by issue (Answers end) = None
 pending_by issue GoesOn = issue
@@ -31,6 +31,7 @@ pub record CanNotStep (old : WorldValue) (p : ℕ) (new : WorldValue) : Type 0 w
   pub same : new ≡ old
   pub none : (recovery : PlainRecovery) → p < old.sheet.layout.processes → (world_of old).situation p ≡ Recovering recovery → ⊥
 
+-- the process makes a step of its recovery; or it can make none, and the world stays
 abbrev pub StepTakes : WorldValue → ℕ → Option Effect → WorldValue → Type 0
 StepTakes old p None new = CanNotStep old p new
 StepTakes old p (Some what) new = StepsBy old p what new

@@ -34,20 +34,22 @@ use Rattle.ds_state.specs.declared.work.Spread.TheVariants.{LoadRow, OrTold, Flu
 use Rattle.ds_state.specs.declared.work.RecoverStage.{RecoverStage}
 use Rattle.ds_state.specs.declared.work.RecoverStage.TheVariants.{LoadMark, FlushValue, FlushKind, BackValue, BackKind, Telling, Give, GiveDirty, FlushGiven, BackGiven, LoadAnnounce, LoadHeader, LoadHead, FlushHead, BackHead, LoadDone, OrMark, FlushMark, BackMark, StoreOutcome, FlushOutcome, BackOutcome, Answer}
 
+-- how many parts an index row of the recovery's sheet has
 abbrev pub parts_of : PlainRecovery → ℕ
 parts_of e = (e.cells + 63) / 64
 
--- the number of the edit that it saw announced
+-- the number of the edit that the recovery saw announced
 abbrev pub number_of : PlainRecovery → ℕ
 number_of e = e.announcement / 4 - 1
 
+-- the access of a stage of telling, for a cell that is given back
 abbrev pub spread_access : ℕ → Spread → Access Place
 spread_access cell (LoadRow part) = acts.Load (place.Index cell part)
 spread_access cell (OrTold d) = acts.Or (place.Mark d) DIRTY
 spread_access cell (FlushTold d) = acts.Flush (place.Mark d)
 spread_access cell (BackTold d) = acts.Back
 
--- the access of a stage
+-- the access of a stage of a recovery
 abbrev pub access_at : PlainRecovery → RecoverStage → Access Place
 access_at e (LoadMark cell) = acts.Load (place.Mark cell)
 access_at e (FlushValue cell) = acts.Flush (place.Value cell)
@@ -73,10 +75,11 @@ access_at e (FlushOutcome how) = acts.Flush (place.Announce e.process)
 access_at e (BackOutcome how) = acts.Back
 access_at e (Answer how) = acts.Nothing
 
+-- the recovery at another stage
 abbrev pub at : PlainRecovery → RecoverStage → PlainRecovery
 at e stage = record e { stage = stage }
 
--- the stage that looks at this cell, where there is one more
+-- the stage that loads this cell's mark; behind the last cell, the announcement
 abbrev pub looks_from : ℕ → ℕ → RecoverStage
 looks_from cells cell = if nat_lt cell cells then LoadMark cell else LoadAnnounce
 
@@ -84,48 +87,56 @@ looks_from cells cell = if nat_lt cell cells then LoadMark cell else LoadAnnounc
 abbrev pub reads_held : ℕ → ℕ → Bool
 reads_held process word = if word / 2 % 16 == process + 1 then nat_lt (word / 32) (HELD_YOUNG + 1) else false
 
--- a cell is let be, or given back
+-- the recovery after it has loaded a cell's mark: it gives the cell back if the process holds it, else looks at the
+-- next
 abbrev pub holds_from : PlainRecovery → ℕ → ℕ → PlainRecovery
 holds_from e cell word =
     if reads_held e.process word
     then record e { mark = word; row = []; stage = FlushValue cell }
     else at e (looks_from e.cells (cell + 1))
 
+-- the stage that marks the cell that is found; where none is found, the one that gives this cell back
 abbrev pub told : ℕ → Option ℕ → RecoverStage
 told cell None = Give cell
 told cell (Some d) = Telling cell (OrTold d)
 
+-- the stage that marks the next cell whose bit stands in the row; behind the last, the one that gives this cell back
 abbrev pub tell_from : List ℕ → ℕ → ℕ → ℕ → RecoverStage
 tell_from row cells cell d = told cell (told_from row (cells - d) d)
 
+-- the stage that loads this part of the index row; behind the last part, the one that tells the first cell
 abbrev pub row_from : List ℕ → ℕ → ℕ → ℕ → RecoverStage
 row_from row cells cell part = if nat_lt part ((cells + 63) / 64) then Telling cell (LoadRow part) else tell_from row cells cell 0
 
+-- the recovery after a stage of telling whose access answered the word
 abbrev pub spread_next : PlainRecovery → ℕ → Spread → ℕ → PlainRecovery
 spread_next e cell (LoadRow part) word = record e { row = e.row ++ word ∷ []; stage = row_from (e.row ++ word ∷ []) e.cells cell (part + 1) }
 spread_next e cell (OrTold d) word = at e (Telling cell (FlushTold d))
 spread_next e cell (FlushTold d) word = at e (Telling cell (BackTold d))
 spread_next e cell (BackTold d) word = at e (tell_from e.row e.cells cell (d + 1))
 
--- what the announcement lets it do
+-- the recovery after it has loaded its announcement: it goes to that edit's header; without one, to its answer
 abbrev pub announced_from : PlainRecovery → ℕ → Option Announcement → PlainRecovery
 announced_from e word None = record e { announcement = word; stage = Answer None }
 announced_from e word (Some a) = record e { announcement = word; stage = LoadHeader }
 
+-- the stage behind the header, by the announced phase: pending, it looks at the head; else it persists the outcome
 abbrev pub phase_from : Phase → RecoverStage
 phase_from phase.Pending = LoadHead
 phase_from phase.Done = FlushOutcome true
 phase_from phase.NotDone = FlushOutcome false
 
+-- the stage behind the header, by the announcement; without one, the answer
 abbrev pub resolves_from : Option Announcement → RecoverStage
 resolves_from None = Answer None
 resolves_from (Some a) = phase_from a.phase
 
+-- the cell that a header names; 0 without a header
 abbrev pub cell_from : Option Header → ℕ
 cell_from None = 0
 cell_from (Some h) = h.cell
 
--- the head shows the edit, or it doesn't
+-- whether the head is that of the edit of this process and number
 abbrev pub is_shown : ℕ → ℕ → Option Head → Bool
 is_shown p n None = false
 is_shown p n (Some h) = if h.process == p then h.number == n else false
@@ -156,20 +167,21 @@ next_at e (FlushOutcome how) word = at e (BackOutcome how)
 next_at e (BackOutcome how) word = at e (Answer (Some how))
 next_at e (Answer how) word = e
 
+-- the recovery after its own stage, whose access answered the word
 abbrev pub got_at : PlainRecovery → ℕ → PlainRecovery
 got_at e word = next_at e e.stage word
 
--- the number of the process's next edit, after its answer
+-- the number of the process's next edit after a recovery: the one behind the announced one, or 0 without one
 abbrev pub next_number : ℕ → Option Bool → ℕ
 next_number word None = 0
 next_number word (Some how) = word / 4
 
--- what the process does after the step: its answer ends the call
+-- the situation of the process after a stage of its recovery: the answer ends the call
 abbrev pub after : PlainRecovery → RecoverStage → ℕ → Situation
 after e (Answer how) word = Idle (next_number e.announcement how)
 after e stage word = Recovering (next_at e stage word)
 
--- its answer resolves the edit in doubt
+-- the process's issue after a stage of its recovery: the answer resolves the edit in doubt
 abbrev pub pending_at : Option Issue → RecoverStage → Option Issue
 pending_at issue (Answer how) = None
 pending_at issue stage = issue
@@ -184,6 +196,7 @@ pub record StepsAt (e : PlainRecovery) (stage : RecoverStage) (word : ℕ) (old 
   pub pending : new.pending e.process ≡ pending_at (old.pending e.process) stage
   pub others_pending : (q : ℕ) → q ≢ e.process → new.pending q ≡ old.pending q
 
+-- one step of the recovery at its own stage, whose access answered the word
 abbrev pub Steps : PlainRecovery → ℕ → World → World → Type 0
 Steps e word old new = StepsAt e e.stage word old new
 
@@ -214,21 +227,23 @@ abbrev pub end_of : PlainRecovery → Option Bool → RecoveryEnd
 end_of e None = Nothing
 end_of e (Some how) = Last (number_of e) e.cell how
 
--- what a step at a stage does to the recovery
+-- what a step at a stage does to the recovery: it goes on, or it answers
 abbrev pub effect_at : PlainRecovery → RecoverStage → Effect
 effect_at e (Answer how) = Answers (end_of e how)
 effect_at e _ = GoesOn
 
--- steps that are left at most, the answer's among them: within a cell, then of the cells that are left
+-- how many steps are left at most from a stage of telling on, up to the next cell
 abbrev pub spread_rank : ℕ → Spread → ℕ
 spread_rank cells (LoadRow part) = 6 + 3 * cells + ((cells + 63) / 64 - part)
 spread_rank cells (OrTold d) = 6 + 3 * (cells - d)
 spread_rank cells (FlushTold d) = 5 + 3 * (cells - d)
 spread_rank cells (BackTold d) = 4 + 3 * (cells - d)
 
+-- how many steps are left at most before this cell is looked at, the answer's among them
 abbrev pub cells_rank : ℕ → ℕ → ℕ
 cells_rank cells cell = (cells - cell) * (3 * cells + 30) + 20
 
+-- how many steps of a recovery are left at most from a stage on, the answer's among them
 abbrev pub rank : ℕ → RecoverStage → ℕ
 rank cells (LoadMark cell) = cells_rank cells cell
 rank cells (FlushValue cell) = cells_rank cells (cell + 1) + 3 * cells + 29
@@ -254,23 +269,23 @@ rank cells (FlushOutcome how) = 4
 rank cells (BackOutcome how) = 3
 rank cells (Answer how) = 1
 
--- fewer steps are left after a step, but for the answer's, which is the last
+-- fewer steps of the recovery are left after a step, but for the answer's, which is the last
 abbrev pub Falls : PlainRecovery → RecoverStage → PlainRecovery → Type 0
 Falls e (Answer how) after = Unit {0}
 Falls e stage after = rank e.cells after.stage < rank e.cells stage
 
--- what the answer says of an edit in doubt: with its number it has its cell; with Done it counts for good; else it does not
--- count
+-- what a recovery's answer says of an edit in doubt: with its number it has its cell; with Done it counts for good;
+-- else it does not count
 abbrev pub ResolvesAs : World → Edit → RecoveryEnd → Type 0
 ResolvesAs w f Nothing = AreBelow w f.process f.number
 ResolvesAs w f (Last n cell true) = ((n ≡ f.number) × (f.cell ≡ cell) × IsSafelyIn w f) ⊎ ((n < f.number) × AreBelow w f.process f.number)
 ResolvesAs w f (Last n cell false) = (n ≤ f.number) × AreBelow w f.process f.number × (n ≡ f.number → f.cell ≡ cell)
 
--- it repeats how the last of the process's edits ended whose number is spent: with that number, and whether one counts
+-- the answer repeats how the process's last edit with a spent number ended: with that number, and whether one counts
 abbrev pub RepeatsAs : World → ℕ → RecoveryEnd → Type 0
 RepeatsAs w p Nothing = AreBelow w p 0
 RepeatsAs w p (Last n cell counts) = AreBelow w p (n + 1) × (phase_among w.counted p n ≡ phase_for counts)
 
--- the cell that is told next is one whose bit it found
+-- the cell that the recovery tells next is one whose bit it found in the index row
 abbrev pub TellsFound : PlainRecovery → Type 0
 TellsFound e = (cell d : ℕ) → e.stage ≡ Telling cell (OrTold d) → StandsIn e.row d

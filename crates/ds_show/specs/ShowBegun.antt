@@ -10,7 +10,7 @@ use Rattle.ds_state.specs.declared.situation.Situation.{Situation}
 use Rattle.ds_state.specs.declared.situation.Situation.TheVariants.{Idle, Stopped, Editing, Working, Recovering, Showing}
 use Rattle.ds_show.specs.ShowSteps.{Begins}
 
--- the number of the next edit of a process that may begin a report
+-- the number of the next edit of a process that may begin a report, or why it may not
 abbrev pub next_of : Situation → Result ℕ Refusal
 next_of (Idle number) = Ok number
 next_of Stopped = Err refusal.Stopped
@@ -24,8 +24,8 @@ pub record IsBegun (old : World) (p : ℕ) (new : World) : Type 0 where
   pub next : ℕ
   pub begins : Begins p next old new
 
--- why an idle process may not begin a report: so many are settled and under way that no more can be counted; else memory
--- is wanting
+-- why an idle process may not begin a report: so many are settled and under way that no more can be counted; else
+-- memory is wanting
 abbrev pub RefusesIdle : WorldValue → Refusal → Type 0
 RefusesIdle v refusal.Busy = ⊥
 RefusesIdle v refusal.Stopped = ⊥
@@ -33,7 +33,7 @@ RefusesIdle v (refusal.Text fault) = ⊥
 RefusesIdle v refusal.RecordsFull = v.settled + reports_under_way v.situations ≡ SETTLED_MOST
 RefusesIdle v refusal.NoMemory = v.settled + reports_under_way v.situations < SETTLED_MOST
 
--- why a process may not: by its situation
+-- why a process may not begin a report, by its situation
 abbrev pub RefusesIn : WorldValue → Situation → Refusal → Type 0
 RefusesIn v (Idle number) r = RefusesIdle v r
 RefusesIn v Stopped r = r ≡ refusal.Stopped
@@ -42,5 +42,6 @@ RefusesIn v (Working e) r = r ≡ refusal.Busy
 RefusesIn v (Recovering e) r = r ≡ refusal.Busy
 RefusesIn v (Showing e) r = r ≡ refusal.Busy
 
+-- why this process may not begin a report
 abbrev pub Refuses : WorldValue → ℕ → Refusal → Type 0
 Refuses v process r = RefusesIn v ((world_of v).situation process) r

@@ -26,7 +26,7 @@ pub record OwnStep (p : ℕ) (old new : World) : Type 0 where
 abbrev pub Passes : ℕ → World → World → Type 0
 Passes p old new = OwnStep p old new ⊎ Rely p old new
 
--- the report began
+-- the process's report begins in a sound world, and its begin leaves this one
 pub record HasBegun (p : ℕ) (now : World) : Type 0 where
   pub before : World
   pub next : ℕ
@@ -39,18 +39,18 @@ abbrev pub Call : ℕ → World → List World → Type 0
 Call p now [] = HasBegun p now
 Call p now (w ∷ past) = IsSound w × Passes p w now × Call p w past
 
--- a world of the call
+-- the world is one of the call
 abbrev pub IsOf : World → World → List World → Type 0
 IsOf v now [] = v ≡ now
 IsOf v now (w ∷ past) = (v ≡ now) ⊎ IsOf v w past
 
--- a world of the call, and an earlier one
+-- the second world is one of the call, and the first is an earlier one of it
 abbrev pub AreInTurn : World → World → World → List World → Type 0
 AreInTurn earlier v now [] = ⊥
 AreInTurn earlier v now (w ∷ past) = ((v ≡ now) × IsOf earlier w past) ⊎ AreInTurn earlier v w past
 
--- at one world of the call nothing was pending, every cell was clean, and these values are those from scratch of what
--- counted then; that is a front of what counts now
+-- at one world of the call no announcement was pending, every cell was clean, and these values are those from scratch
+-- of what counted then; that is a front of what counts now
 pub record WasStill (now : World) (past : List World) (values : List Value) : Type 0 where
   pub moment : World
   pub of : IsOf moment now past
@@ -66,7 +66,7 @@ pub record WasOff (now : World) (past : List World) (place : Place) (word : ℕ)
   pub held : moment.memory.cached place ≡ word
   pub why : Bad ⊎ ((earlier : World) × AreInTurn earlier moment now past × (earlier.memory.cached place ≢ word))
 
--- what an answer says
+-- what the answer of a report says of the worlds of its call
 abbrev pub IsTrueReport : World → List World → PlainShow → ShowEnd → Type 0
 IsTrueReport now past e Settled = WasStill now past (answered e)
 IsTrueReport now past e (AtMark c word) = WasOff now past (Mark c) word (IsClean word → ⊥)

@@ -7,7 +7,7 @@ use Rattle.ds_state.specs.Rely.{Rely}
 use Rattle.ds_state.specs.Sound.{IsSound}
 use Rattle.ds_show.specs.ShowRuns.{OwnStep, HasBegun}
 
--- an eviction, an offer: what processes see stays
+-- beside a report that is alone, an eviction or an offer: the cached side of each word stays
 pub record ShowsSame (p : ℕ) (old new : World) : Type 0 where
   pub rely : Rely p old new
   pub cached : (r : Place) → new.memory.cached r ≡ old.memory.cached r

@@ -19,7 +19,7 @@ use Rattle.ds_state.specs.declared.work.ShowEnd.TheVariants.{Settled, AtMark, At
 use Rattle.ds_state.specs.declared.work.ShowStage.{ShowStage}
 use Rattle.ds_state.specs.declared.work.ShowStage.TheVariants.{LoadAnnounce, LoadMark, LoadValue, LoadKind, AgainMark, AgainAnnounce, Answer}
 
--- the access of a stage
+-- the access of a stage of a report
 abbrev pub access_at : ShowStage → Access Place
 access_at (LoadAnnounce i) = acts.Load (place.Announce i)
 access_at (LoadMark i) = acts.Load (place.Mark i)
@@ -29,57 +29,71 @@ access_at (AgainMark i) = acts.Load (place.Mark i)
 access_at (AgainAnnounce i) = acts.Load (place.Announce i)
 access_at (Answer end) = acts.Nothing
 
+-- the report at another stage
 abbrev pub at : PlainShow → ShowStage → PlainShow
 at e stage = record e { stage = stage }
 
--- the words of one kind one by one, then the next kind
+-- the stage that loads this announcement; behind the last one, the first mark
 abbrev pub announce_stage : ℕ → ℕ → ShowStage
 announce_stage processes i = if nat_lt i processes then LoadAnnounce i else LoadMark 0
 
+-- the stage that loads this cell's mark; behind the last one, the first value
 abbrev pub mark_stage : ℕ → ℕ → ShowStage
 mark_stage cells i = if nat_lt i cells then LoadMark i else LoadValue 0
 
+-- the stage that loads this cell's value; behind the last one, the first mark again
 abbrev pub value_stage : ℕ → ℕ → ShowStage
 value_stage cells i = if nat_lt i cells then LoadValue i else AgainMark 0
 
+-- the stage that loads this cell's mark again; behind the last one, the first announcement again
 abbrev pub again_mark_stage : ℕ → ℕ → ShowStage
 again_mark_stage cells i = if nat_lt i cells then AgainMark i else AgainAnnounce 0
 
+-- the stage that loads this announcement again; behind the last one, the answer Settled
 abbrev pub again_announce_stage : ℕ → ℕ → ShowStage
 again_announce_stage processes i = if nat_lt i processes then AgainAnnounce i else Answer Settled
 
--- the report at that stage
+-- the report goes to this announcement; behind the last one, to the first mark
 abbrev pub announce_from : PlainShow → ℕ → PlainShow
 announce_from e i = if nat_lt i e.processes then at e (LoadAnnounce i) else at e (LoadMark 0)
 
+-- the report goes to this cell's mark; behind the last one, to the first value
 abbrev pub mark_from : PlainShow → ℕ → PlainShow
 mark_from e i = if nat_lt i e.cells then at e (LoadMark i) else at e (LoadValue 0)
 
+-- the report goes to this cell's value; behind the last one, to the first mark again
 abbrev pub value_from : PlainShow → ℕ → PlainShow
 value_from e i = if nat_lt i e.cells then at e (LoadValue i) else at e (AgainMark 0)
 
+-- the report goes to this cell's mark again; behind the last one, to the first announcement again
 abbrev pub again_mark_from : PlainShow → ℕ → PlainShow
 again_mark_from e i = if nat_lt i e.cells then at e (AgainMark i) else at e (AgainAnnounce 0)
 
+-- the report goes to this announcement again; behind the last one, to the answer Settled
 abbrev pub again_announce_from : PlainShow → ℕ → PlainShow
 again_announce_from e i = if nat_lt i e.processes then at e (AgainAnnounce i) else at e (Answer Settled)
 
+-- the report is unsettled: it is to answer with this cell's mark and the word found there
 abbrev pub off_mark : PlainShow → ℕ → ℕ → PlainShow
 off_mark e c word = at e (Answer (AtMark c word))
 
+-- the report is unsettled: it is to answer with this process's announcement and the word found there
 abbrev pub off_announce : PlainShow → ℕ → ℕ → PlainShow
 off_announce e q word = at e (Answer (AtAnnounce q word))
 
--- with one more word noted
+-- the report with one more announcement noted
 abbrev pub with_announcement : PlainShow → ℕ → PlainShow
 with_announcement e word = record e { announcements = e.announcements ++ word ∷ [] }
 
+-- the report with one more mark noted
 abbrev pub with_mark : PlainShow → ℕ → PlainShow
 with_mark e word = record e { marks = e.marks ++ word ∷ [] }
 
+-- the report with one more value noted
 abbrev pub with_value : PlainShow → ℕ → PlainShow
 with_value e word = record e { values = e.values ++ word ∷ [] }
 
+-- the report with one more kind noted
 abbrev pub with_kind : PlainShow → ℕ → PlainShow
 with_kind e word = record e { kinds = e.kinds ++ word ∷ [] }
 
@@ -93,15 +107,16 @@ next_at e (AgainMark i) word = if word == noted e.marks i then again_mark_from e
 next_at e (AgainAnnounce i) word = if word == noted e.announcements i then again_announce_from e (i + 1) else off_announce e i word
 next_at e (Answer end) word = e
 
+-- the report after its own stage, whose access answered the word
 abbrev pub got_at : PlainShow → ℕ → PlainShow
 got_at e word = next_at e e.stage word
 
--- what a step at a stage does to the report
+-- what a step at a stage does to the report: it goes on, or it answers
 abbrev pub effect_at : ShowStage → Effect
 effect_at (Answer end) = Answers end
 effect_at _ = GoesOn
 
--- what the process does after the step: its answer ends the call
+-- the situation of the process after a stage of its report: the answer ends the call
 abbrev pub after : PlainShow → ShowStage → ℕ → Situation
 after e (Answer end) word = Idle e.next
 after e stage word = Showing (next_at e stage word)
@@ -119,6 +134,7 @@ pub record StepsAt (e : PlainShow) (stage : ShowStage) (word : ℕ) (old new : W
   pub counted : new.counted ≡ old.counted
   pub pending : (q : ℕ) → new.pending q ≡ old.pending q
 
+-- one step of the report at its own stage, whose access answered the word
 abbrev pub Steps : PlainShow → ℕ → World → World → Type 0
 Steps e word old new = StepsAt e e.stage word old new
 
@@ -146,7 +162,7 @@ pub record Begins (p next : ℕ) (old new : World) : Type 0 where
   pub counted : new.counted ≡ old.counted
   pub pending : (q : ℕ) → new.pending q ≡ old.pending q
 
--- how many steps are left at most, the answer's among them
+-- how many steps of a report are left at most from a stage on, the answer's among them
 abbrev pub rank_in : ℕ → ℕ → ShowStage → ℕ
 rank_in processes cells (LoadAnnounce i) = 1 + 2 * processes + 4 * cells - i
 rank_in processes cells (LoadMark i) = 1 + processes + 4 * cells - i
@@ -156,10 +172,11 @@ rank_in processes cells (AgainMark i) = 1 + processes + cells - i
 rank_in processes cells (AgainAnnounce i) = 1 + processes - i
 rank_in processes cells (Answer end) = 1
 
+-- how many steps of a report are left at most from its own stage on, the answer's among them
 abbrev pub rank : PlainShow → ℕ
 rank e = rank_in e.processes e.cells e.stage
 
--- fewer steps are left after a step, but for the answer's, which is the last
+-- fewer steps of the report are left after a step, but for the answer's, which is the last
 abbrev pub Falls : PlainShow → ShowStage → PlainShow → Type 0
 Falls e (Answer end) after = Unit {0}
 Falls e stage after = rank after < rank (at e stage)

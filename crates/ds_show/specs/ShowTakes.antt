@@ -9,12 +9,12 @@ use Rattle.ds_show.specs.declared.machine.Effect.{Effect}
 use Rattle.ds_show.specs.declared.machine.Effect.TheVariants.{Answers}
 use Rattle.ds_show.specs.ShowSteps.{Steps, answered, effect_at}
 
--- how many reports are answered Settled by it
+-- how many reports are answered Settled by a step of a report: 1 or 0
 abbrev pub settled_by : Effect → ℕ
 settled_by (Answers Settled) = 1
 settled_by _ = 0
 
--- the values of a settled report are the process's last ones
+-- the kept reports after a step of a report: once it is settled, its values are the process's last ones
 abbrev pub reports_by : PlainReports → PlainShow → Effect → PlainReports
 reports_by r e (Answers Settled) = with_report r e.process (answered e)
 reports_by r e _ = r
@@ -37,6 +37,7 @@ pub record CanNotStep (old : WorldValue) (p : ℕ) (new : WorldValue) : Type 0 w
   pub same : new ≡ old
   pub none : (show : PlainShow) → p < old.sheet.layout.processes → (world_of old).situation p ≡ Showing show → ⊥
 
+-- the process makes a step of its report; or it can make none, and the world stays
 abbrev pub StepTakes : WorldValue → ℕ → Option Effect → WorldValue → Type 0
 StepTakes old p None new = CanNotStep old p new
 StepTakes old p (Some what) new = StepsBy old p what new

@@ -17,81 +17,98 @@ use Rattle.ds_work.specs.WorkSteps.{claim_of, next_at}
 use Rattle.ds_work.specs.declared.machine.Doing.{Doing}
 use Rattle.ds_work.specs.declared.machine.Doing.TheVariants as turns
 
--- a mark that it may claim
+-- the mark that work has noted after it loaded this word: the word, where it may be claimed, else the mark from
+-- before
 abbrev pub seen_mark : PlainWork → ℕ → State → ℕ
 seen_mark e word Clean = e.mark
 seen_mark e word (Held p) = e.mark
 seen_mark e word Marked = if nat_lt (2 ^ 58) (word / 32) then e.mark else word
 
+-- the mark that work has noted after a stage whose access found this word
 abbrev pub mark_at : PlainWork → WorkStage → ℕ → ℕ
 mark_at e LoadMark word = seen_mark e word (state_of (mark_of e.processes word))
 mark_at e Claim word = if word == e.mark then claim_of e.process e.mark else e.mark
 mark_at e _ word = e.mark
 
+-- the head that work has noted after a stage whose access found this word
 abbrev pub head_at : PlainWork → WorkStage → ℕ → ℕ
 head_at e LoadHead word = word
 head_at e _ word = e.head
 
+-- the length of a text by its header; 0 without a header
 abbrev pub length_in : Option Header → ℕ
 length_in None = 0
 length_in (Some header) = header.length
 
+-- the length of the text that work has noted after a stage whose access found this word
 abbrev pub length_at : PlainWork → WorkStage → ℕ → ℕ
 length_at e LoadHead word = 0
 length_at e LoadHeader word = length_in (header_of e.cells word)
 length_at e _ word = e.length
 
+-- the text after a stage: empty after head and header, longer by the bytes of each part that is loaded
 abbrev pub text_after : List ℕ → ℕ → WorkStage → ℕ → List ℕ
 text_after text count LoadHead word = []
 text_after text count LoadHeader word = []
 text_after text count (LoadText part) word = take count (text ++ bytes_of word)
 text_after text count _ word = text
 
+-- the text that work has noted after a stage whose access found this word
 abbrev pub text_at : PlainWork → WorkStage → ℕ → List ℕ
 text_at e stage word = text_after e.text e.length stage word
 
+-- the inputs after a stage: once its kind is loaded, an input has the entry that its cell shows
 abbrev pub inputs_after : List Input → ℕ → WorkStage → ℕ → List Input
 inputs_after inputs cells (LoadKind i value) word = with_entry inputs i (shown_entry cells value word)
 inputs_after inputs cells _ word = inputs
 
+-- the inputs that work has noted after a stage whose access found this word
 abbrev pub inputs_at : PlainWork → WorkStage → ℕ → List Input
 inputs_at e stage word = inputs_after e.inputs e.cells stage word
 
+-- the value of the work's own cell after a stage: the word, where the stage loads that value
 abbrev pub value_after : ℕ → WorkStage → ℕ → ℕ
 value_after value LoadOwnValue word = word
 value_after value _ word = value
 
+-- the value of its own cell that work has noted after a stage whose access found this word
 abbrev pub value_at : PlainWork → WorkStage → ℕ → ℕ
 value_at e stage word = value_after e.value stage word
 
+-- the kind of the work's own cell after a stage: the word, where the stage loads that kind
 abbrev pub kind_after : ℕ → WorkStage → ℕ → ℕ
 kind_after kind LoadOwnKind word = word
 kind_after kind _ word = kind
 
+-- the kind of its own cell that work has noted after a stage whose access found this word
 abbrev pub kind_at : PlainWork → WorkStage → ℕ → ℕ
 kind_at e stage word = kind_after e.kind stage word
 
+-- the words of the index row after a stage: none when telling begins, one more for each part that is loaded
 abbrev pub row_after : List ℕ → WorkStage → ℕ → List ℕ
 row_after row BackKind word = []
 row_after row (Telling (LoadRow part)) word = row ++ word ∷ []
 row_after row _ word = row
 
+-- the words of its cell's index row that work has noted after a stage whose access found this word
 abbrev pub row_at : PlainWork → WorkStage → ℕ → List ℕ
 row_at e stage word = row_after e.row stage word
 
--- there is room for what is noted
+-- a stage that loads a kind has an input to note it in
 abbrev pub FitsInputs : List Input → WorkStage → Type 0
 FitsInputs inputs (LoadKind i value) = i < length inputs
 FitsInputs inputs _ = Unit {0}
 
+-- a stage that loads a part of the index row has room for it: at most 16 are noted
 abbrev pub FitsRow : List ℕ → WorkStage → Type 0
 FitsRow row (Telling (LoadRow part)) = length row < 16
 FitsRow row _ = Unit {0}
 
+-- the stage of work behind this one, whose access found this word
 abbrev pub stage_at : PlainWork → WorkStage → ℕ → WorkStage
 stage_at e stage word = (next_at e stage word).stage
 
--- what the process does by its turn at a stage
+-- what the process does by its turn at a stage: it reads the content, waits, answers, or makes a step
 abbrev pub turn_at : WorkStage → Doing
 turn_at Read = turns.Reads
 turn_at Wait = turns.Waits

@@ -8,17 +8,17 @@ use Rattle.ds_eval.specs.Inputs.{no_entry}
 use Rattle.ds_state.specs.Works.{PlainWork}
 use Rattle.ds_work.specs.WorkSteps.{IsContent, read_from, lacks}
 
--- a reference that was not looked at yet
+-- the input of a reference that work has not looked at yet
 abbrev pub unseen : Cell → Input
 unseen cell = record { cell = cell; entry = no_entry }
 
--- the content is the text's, and its references are those on the sheet, in reading order
+-- the work f is e with the content of its text, and with that content's references on the sheet, in reading order
 pub record HasRead (shape : Shape) (e f : PlainWork) : Type 0 where
   pub content : Plain
   pub inputs : List Input
   pub is : IsContent shape e.text content inputs
   pub after : f ≡ read_from e content inputs
 
--- it has the content, or memory was refused
+-- after its reading the work has the content of its text, or memory was refused
 abbrev pub IsReading : Shape → PlainWork → PlainWork → Type 0
 IsReading shape e f = HasRead shape e f ⊎ (f ≡ lacks e)

@@ -15,17 +15,17 @@ use Rattle.ds_work.specs.declared.drive.Taken.{Taken}
 use Rattle.ds_work.specs.declared.drive.Taken.TheVariants.{NotEnabled, Stepped, Answered}
 use Rattle.ds_work.specs.WorkAnswers.{mark_now, state_now}
 
--- the cell is marked, and its mark has generations left
+-- the work's cell is marked, and its mark has generations left
 pub record IsMarkedAt (w : World) (e : PlainWork) : Type 0 where
   pub marked : state_now w e ≡ Marked
   pub young : mark_now w e / 32 ≤ SEEN_MOST
 
--- the cell stands in its own row: its text refers to it, or did
+-- the work's cell stands in its own index row: its text refers to it, or did
 abbrev pub RefersToItself : (ℕ → ℕ) → PlainWork → Type 0
 RefersToItself row e = HasBit (row (e.cell / 64)) e.cell
 
--- the work ends with its value published, and the cell clean; or for want of memory; or, where it marked its own cell,
--- with that cell dirty
+-- how work that is alone may end: with its value published, and the cell clean; for want of memory; or with the cell
+-- dirty, where it marked its own cell
 abbrev pub EndsAlone : (ℕ → ℕ) → World → PlainWork → WorkEnd → Type 0
 EndsAlone row w e NotDirty = ⊥
 EndsAlone row w e Missed = ⊥
@@ -34,15 +34,15 @@ EndsAlone row w e (Published changed) = IsClean (mark_now w e)
 EndsAlone row w e Again = RefersToItself row e
 EndsAlone row w e NoMemory = Unit {0}
 
--- the mark is the one that it noted; or it has marked its own cell since
+-- the mark of the work's cell is the one that it noted; or the work has marked its own cell since
 abbrev pub MarkStays : (ℕ → ℕ) → World → PlainWork → Type 0
 MarkStays row w e = (mark_now w e ≡ e.mark) ⊎ ((mark_now w e ≡ e.mark + 1) × RefersToItself row e)
 
--- the words that it has loaded are the row's
+-- the words of the index row that the work has loaded are those of `row`
 abbrev pub IsRow : (ℕ → ℕ) → PlainWork → Type 0
 IsRow row e = (part : ℕ) → part < length e.row → slice_index_or e.row part 0 ≡ row part
 
--- what it sees at a stage
+-- what work that is alone sees of its cell's mark at each stage, and what it has loaded of the index row
 abbrev pub IsAloneAt : (ℕ → ℕ) → World → PlainWork → WorkStage → Type 0
 IsAloneAt row w e LoadMark = IsMarkedAt w e
 IsAloneAt row w e Claim = mark_now w e ≡ e.mark
@@ -72,12 +72,12 @@ IsAloneAt row w e (FlushCleared end) = EndsAlone row w e end
 IsAloneAt row w e (BackCleared end) = EndsAlone row w e end
 IsAloneAt row w e (Answer end) = EndsAlone row w e end
 
--- so of the work at its own stage, in a world with that row
+-- work that is alone, at its own stage, in a world where its cell's index row has these words
 pub record IsAlone (row : ℕ → ℕ) (w : World) (e : PlainWork) : Type 0 where
   pub at : IsAloneAt row w e e.stage
   pub index : (part : ℕ) → w.memory.cached (place.Index e.cell part) ≡ row part
 
--- what a turn of it leaves: it goes on alone, or it has ended so
+-- what a turn of work that is alone leaves: it goes on alone, or it has ended so and its process is idle
 abbrev pub GoesAlone : (ℕ → ℕ) → PlainWork → World → Taken → Type 0
 GoesAlone row e w NotEnabled = Unit {0}
 GoesAlone row e w Stepped = (f : PlainWork) × (f.cell ≡ e.cell) × (f.process ≡ e.process) × (w.situation e.process ≡ Working f) × IsAlone row w f

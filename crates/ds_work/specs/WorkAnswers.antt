@@ -18,21 +18,22 @@ use Rattle.ds_state.specs.declared.work.WorkEnd.TheVariants.{NotDirty, Missed, W
 use Rattle.ds_state.specs.declared.work.WorkStage.{WorkStage}
 use Rattle.ds_state.specs.declared.work.WorkStage.TheVariants.{LoadMark, Claim, Clear, ClearDirty, Give, GiveDirty, FlushCleared, BackCleared, Answer}
 
--- the work is decided: it is to answer this
+-- the stage is one behind the letting go: the work is to answer this
 abbrev pub IsDecided : WorkStage → WorkEnd → Type 0
 IsDecided (FlushCleared e) end = e ≡ end
 IsDecided (BackCleared e) end = e ≡ end
 IsDecided (Answer e) end = e ≡ end
 IsDecided _ end = ⊥
 
--- the mark of its cell, as processes see it
+-- the mark of the work's cell, as processes see it
 abbrev pub mark_now : World → PlainWork → ℕ
 mark_now w e = w.memory.cached (place.Mark e.cell)
 
+-- what the mark of the work's cell says, as processes see it: clean, held or marked
 abbrev pub state_now : World → PlainWork → State
 state_now w e = state_of (mark_of e.processes (mark_now w e))
 
--- its mark is clean now, and its words are those of the entry
+-- the work's cell is let go clean, and its value and kind are those of the work's entry
 pub record IsPublished (e : PlainWork) (new : World) : Type 0 where
   pub clean : mark_now new e ≡ let_go e.mark
   pub value : new.memory.cached (place.Value e.cell) ≡ value_for e.entry
@@ -55,7 +56,8 @@ IsTrueAnswer e (BackCleared before) old new end = before ≡ end
 IsTrueAnswer e (Answer before) old new end = before ≡ end
 IsTrueAnswer e _ old new end = ⊥
 
--- it adds to no word but the mark of a cell whose bit stands in the row that it has loaded, and there the dirty bit alone
+-- an access of work adds to no word but the mark of a cell whose bit stands in the row that it has loaded, and there
+-- the dirty bit alone
 abbrev pub OrsOnly : PlainWork → Access Place → Type 0
 OrsOnly e (acts.Or r bits) = (d : ℕ) × (r ≡ place.Mark d) × (bits ≡ DIRTY) × StandsIn e.row d
 OrsOnly e _ = Unit {0}

@@ -22,7 +22,7 @@ use Rattle.ds_work.specs.declared.drive.Taken.TheVariants.{NotEnabled, Stepped, 
 
 -- ---- beginnings
 
--- the number of the next edit of a process that may begin work
+-- the number of the next edit of a process that may begin work, or why it may not
 abbrev pub next_of : Situation → Result ℕ Refusal
 next_of (Idle number) = Ok number
 next_of Stopped = Err refusal.Stopped
@@ -58,12 +58,13 @@ RefusesIn (Working e) r = r ≡ refusal.Busy
 RefusesIn (Recovering e) r = r ≡ refusal.Busy
 RefusesIn (Showing e) r = r ≡ refusal.Busy
 
+-- why this process may not begin work
 abbrev pub Refuses : World → ℕ → Refusal → Type 0
 Refuses w process r = RefusesIn (w.situation process) r
 
 -- ---- tasks and offers
 
--- what a work that waits is to be given
+-- the task that a work waits for: process, cell, generation, shape, content and inputs
 abbrev pub task_at : Shape → PlainWork → PlainTask
 task_at shape e = record {
   process = e.process;
@@ -80,13 +81,13 @@ pub record Waits (w : World) (process : ℕ) (e : PlainWork) : Type 0 where
   pub works : w.situation process ≡ Working e
   pub waits : e.stage ≡ Wait
 
--- it waits for the entry of just this task
+-- a work of the task's process waits for the entry of just this task
 pub record WaitsFor (w : World) (task : PlainTask) : Type 0 where
   pub work : PlainWork
   pub waits : Waits w task.process work
   pub is : task ≡ task_at w.layout.shape work
 
--- a work that waited for it is given the entry of its task
+-- the process's work, which waited, is given this entry for its task
 pub record IsOffered (old : World) (process : ℕ) (entry : Entry) (new : World) : Type 0 where
   pub work : PlainWork
   pub waits : Waits old process work
@@ -109,6 +110,7 @@ pub record IsIn (w : World) (process : ℕ) (e : PlainWork) : Type 0 where
   pub works : w.situation process ≡ Working e
   pub is : IsWork e
 
+-- the process takes one turn of the work that it is in
 pub record StepsBy (old : World) (process : ℕ) (taken : Taken) (new : World) : Type 0 where
   pub inside : process < old.layout.processes
   pub work : PlainWork
@@ -121,6 +123,7 @@ pub record StepsBy (old : World) (process : ℕ) (taken : Taken) (new : World) :
 abbrev pub CanNotStep : World → ℕ → Type 0
 CanNotStep w process = (e : PlainWork) → process < w.layout.processes → w.situation process ≡ Working e → e.stage ≡ Wait
 
+-- the process takes one turn of its work; or, answered NotEnabled, it can not make a step of work
 abbrev pub StepTakes : World → ℕ → Taken → World → Type 0
 StepTakes old process NotEnabled new = CanNotStep old process
 StepTakes old process taken new = StepsBy old process taken new

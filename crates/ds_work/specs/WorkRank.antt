@@ -7,12 +7,12 @@ use Rattle.ds_state.specs.declared.work.Spread.TheVariants.{LoadRow, OrTold, Flu
 use Rattle.ds_state.specs.declared.work.WorkStage.{WorkStage}
 use Rattle.ds_state.specs.declared.work.WorkStage.TheVariants.{LoadMark, Claim, FlushClaim, BackClaim, LoadHead, LoadHeader, LoadText, Read, LoadValue, LoadKind, LoadOwnValue, LoadOwnKind, Wait, StoreValue, StoreKind, FlushValue, FlushKind, BackValue, BackKind, Telling, Clear, ClearDirty, Give, GiveDirty, FlushCleared, BackCleared, Answer}
 
--- the steps that tell the cells: one for each part of the row, three for each cell
+-- how many steps telling takes at most: one for each part of the row, three for each cell
 abbrev pub telling : PlainWork → ℕ
 telling e = 3 * e.cells + (e.cells + 63) / 64
 
--- how many steps are left at most, the answer's among them: before the content is read, for a content with so many
--- references; an offer counts as one
+-- how many steps of work are left at most from a stage on, the answer's among them: before the content is read, for a
+-- content with so many references; an offer counts as one
 abbrev pub left : ℕ → PlainWork → WorkStage → ℕ
 left r e LoadMark = 36 + telling e + 2 * r
 left r e Claim = 35 + telling e + 2 * r
@@ -45,11 +45,12 @@ left r e (FlushCleared end) = 3
 left r e (BackCleared end) = 2
 left r e (Answer end) = 1
 
--- as many at its own stage
+-- how many steps the work has left at most from its own stage on, for a content with so many references
 abbrev pub steps_left : ℕ → PlainWork → ℕ
 steps_left r e = left r e e.stage
 
--- fewer steps are left after a step, but for the answer's, which is the last; reading and waiting are no such steps
+-- fewer steps of the work are left after a step, but for the answer's, which is the last; reading and waiting are no
+-- such steps
 abbrev pub Falls : ℕ → PlainWork → PlainWork → WorkStage → Type 0
 Falls r e f Read = Unit {0}
 Falls r e f Wait = Unit {0}

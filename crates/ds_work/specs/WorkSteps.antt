@@ -38,27 +38,30 @@ use Rattle.ds_state.specs.declared.work.WorkEnd.TheVariants.{NotDirty, Missed, W
 use Rattle.ds_state.specs.declared.work.WorkStage.{WorkStage}
 use Rattle.ds_state.specs.declared.work.WorkStage.TheVariants.{LoadMark, Claim, FlushClaim, BackClaim, LoadHead, LoadHeader, LoadText, Read, LoadValue, LoadKind, LoadOwnValue, LoadOwnKind, Wait, StoreValue, StoreKind, FlushValue, FlushKind, BackValue, BackKind, Telling, Clear, ClearDirty, Give, GiveDirty, FlushCleared, BackCleared, Answer}
 
--- the mark of a claim of a mark that is not held
+-- the mark by which a process claims a cell: of the next generation, held by the process, not dirty
 abbrev pub claim_of : ℕ → ℕ → ℕ
 claim_of process mark = (mark / 32 + 1) * 32 + (process + 1) * 2
 
+-- how many parts an index row of the work's sheet has
 abbrev pub parts_of : PlainWork → ℕ
 parts_of e = (e.cells + 63) / 64
 
+-- how many parts the text of the work has
 abbrev pub text_parts : PlainWork → ℕ
 text_parts e = (e.length + 7) / 8
 
--- the cell of the input with this number
+-- the index of the cell of the input with this number
 abbrev pub input_place : Shape → PlainWork → ℕ → ℕ
 input_place shape e i = index_of shape (cell_in e.inputs i)
 
+-- the access of a stage of telling
 abbrev pub spread_access : PlainWork → Spread → Access Place
 spread_access e (LoadRow part) = acts.Load (place.Index e.cell part)
 spread_access e (OrTold d) = acts.Or (place.Mark d) DIRTY
 spread_access e (FlushTold d) = acts.Flush (place.Mark d)
 spread_access e (BackTold d) = acts.Back
 
--- the access of a stage
+-- the access of a stage of work
 abbrev pub access_at : Shape → PlainWork → WorkStage → Access Place
 access_at shape e LoadMark = acts.Load (place.Mark e.cell)
 access_at shape e Claim = acts.SwapIf (place.Mark e.cell) e.mark (claim_of e.process e.mark)
@@ -88,46 +91,56 @@ access_at shape e (FlushCleared end) = acts.Flush (place.Mark e.cell)
 access_at shape e (BackCleared end) = acts.Back
 access_at shape e (Answer end) = acts.Nothing
 
+-- the work at another stage
 abbrev pub at : PlainWork → WorkStage → PlainWork
 at e stage = record e { stage = stage }
 
--- what a mark lets work do
+-- the work after it has loaded its cell's mark: marked, it claims the cell; else it answers
 abbrev pub claims_from : PlainWork → ℕ → State → PlainWork
 claims_from e word Clean = at e (Answer NotDirty)
 claims_from e word (Held p) = at e (Answer Missed)
 claims_from e word Marked = if nat_lt (2 ^ 58) (word / 32) then at e (Answer Worn) else record e { mark = word; stage = Claim }
 
+-- the work after it has loaded its cell's head: it goes to that edit's header; without an edit the text is empty
 abbrev pub head_from : PlainWork → ℕ → Option Head → PlainWork
 head_from e word None = record e { head = word; length = 0; text = []; stage = Read }
 head_from e word (Some head) = record e { head = word; length = 0; text = []; stage = LoadHeader }
 
+-- the work goes to this part of the text; behind the last part, to the reading of the content
 abbrev pub text_from : PlainWork → ℕ → PlainWork
 text_from e part = if nat_lt part (text_parts e) then at e (LoadText part) else at e Read
 
+-- the work after it has loaded a header: it goes to the first part of the text; without a header the text is empty
 abbrev pub header_from : PlainWork → Option Header → PlainWork
 header_from e None = record e { length = 0; text = []; stage = Read }
 header_from e (Some header) = text_from (record e { length = header.length; text = [] }) 0
 
+-- the work goes to value and kind of this input; behind the last input, to those of its own cell
 abbrev pub input_from : PlainWork → ℕ → PlainWork
 input_from e i = if nat_lt i (length e.inputs) then at e (LoadValue i) else at e LoadOwnValue
 
+-- the work goes to mark the cell that is found; where none is found, to let its own cell go
 abbrev pub told : PlainWork → Option ℕ → PlainWork
 told e None = at e (Clear true)
 told e (Some d) = at e (Telling (OrTold d))
 
+-- the work goes to mark the next cell, from this one on, whose bit stands in the row; behind the last, to let go
 abbrev pub tell_from : PlainWork → ℕ → PlainWork
 tell_from e d = told e (told_from e.row (e.cells - d) d)
 
+-- the work goes to this part of the index row; behind the last part, to the first cell to tell
 abbrev pub row_from : PlainWork → ℕ → PlainWork
 row_from e part = if nat_lt part (parts_of e) then at e (Telling (LoadRow part)) else tell_from e 0
 
+-- the work after a stage of telling whose access answered the word
 abbrev pub spread_next : PlainWork → Spread → ℕ → PlainWork
 spread_next e (LoadRow part) word = row_from (record e { row = e.row ++ word ∷ [] }) (part + 1)
 spread_next e (OrTold d) word = at e (Telling (FlushTold d))
 spread_next e (FlushTold d) word = at e (Telling (BackTold d))
 spread_next e (BackTold d) word = tell_from e (d + 1)
 
--- the work after a stage whose access answered the word; reading and waiting end by what they are given, and stay till then
+-- the work after a stage whose access answered the word; reading and waiting stay, till they end by what they are
+-- given
 abbrev pub next_at : PlainWork → WorkStage → ℕ → PlainWork
 next_at e LoadMark word = claims_from e word (state_of (mark_of e.processes word))
 next_at e Claim word = if word == e.mark then record e { mark = claim_of e.process e.mark; stage = FlushClaim } else at e (Answer Missed)
@@ -157,21 +170,22 @@ next_at e (FlushCleared end) word = at e (BackCleared end)
 next_at e (BackCleared end) word = at e (Answer end)
 next_at e (Answer end) word = at e (Answer end)
 
--- the content is read, with its references, none of which is looked at yet; or that lacked memory
+-- the work with its content read: it has the references, none of which is looked at yet
 abbrev pub read_from : PlainWork → Plain → List Input → PlainWork
 read_from e content inputs = input_from (record e { content = content; inputs = inputs }) 0
 
+-- the work whose reading lacked memory: it goes to give its cell back dirty
 abbrev pub lacks : PlainWork → PlainWork
 lacks e = at e Give
 
--- the entry is offered: where the words are the cell's own, nothing is stored
+-- the work that is offered an entry: it stores the entry's words, but where they are the cell's own
 abbrev pub offered : PlainWork → entries.Entry → PlainWork
 offered e entry = record e {
   entry = entry;
   stage = if (e.value == value_for entry) && (e.kind == word_for entry) then Clear false else StoreValue;
 }
 
--- what the process does after the step: its answer ends the call
+-- the situation of the process after a stage of its work: the answer ends the call
 abbrev pub after : PlainWork → WorkStage → ℕ → Situation
 after e (Answer end) word = Idle e.next
 after e stage word = Working (next_at e stage word)
@@ -182,7 +196,7 @@ IsPlainStep Read = ⊥
 IsPlainStep Wait = ⊥
 IsPlainStep _ = Unit {0}
 
--- one step of the work at such a stage, whose access answered the word: no edit comes to count
+-- one step of the work at a stage that ends by its access, which answered the word: no edit comes to count
 pub record StepsAt (e : PlainWork) (stage : WorkStage) (word : ℕ) (old new : World) : Type 0 where
   pub plain : IsPlainStep stage
   pub layout : new.layout ≡ old.layout
@@ -192,7 +206,7 @@ pub record StepsAt (e : PlainWork) (stage : WorkStage) (word : ℕ) (old new : W
   pub counted : new.counted ≡ old.counted
   pub pending : (q : ℕ) → new.pending q ≡ old.pending q
 
--- the process's turn, which touches no word: what the work comes to be is said
+-- a turn of the process that touches no word: its work comes to be `f`
 pub record Turns (e f : PlainWork) (old new : World) : Type 0 where
   pub layout : new.layout ≡ old.layout
   pub memory : SameMemory old.memory new.memory
@@ -201,7 +215,7 @@ pub record Turns (e f : PlainWork) (old new : World) : Type 0 where
   pub counted : new.counted ≡ old.counted
   pub pending : (q : ℕ) → new.pending q ≡ old.pending q
 
--- work begins on a cell: its process was idle
+-- work begins on a cell; its process was idle
 pub record BeginsWork (next : ℕ) (e : PlainWork) (old new : World) : Type 0 where
   pub turn : Turns e (at e LoadMark) old new
   pub was : old.situation e.process ≡ Idle next
@@ -210,28 +224,28 @@ pub record BeginsWork (next : ℕ) (e : PlainWork) (old new : World) : Type 0 wh
   pub processes : old.layout.processes ≡ e.processes
   pub cell : e.cell < e.cells
 
--- the content of the text, and its references on the sheet, in reading order
+-- the content of a text, and that content's references on the sheet, in reading order
 pub record IsContent (shape : Shape) (text : List ℕ) (content : Plain) (inputs : List Input) : Type 0 where
   pub reads : Reads shape text content
   pub ascending : IsAscending inputs
   pub all : (d : Cell) → Refers content d → IsInside shape d → (j : ℕ) × (j < length inputs) × (cell_in inputs j ≡ d)
   pub only : (j : ℕ) → j < length inputs → Refers content (cell_in inputs j) × IsInside shape (cell_in inputs j)
 
--- the content is read
+-- the work reads the content of its text, with the references
 pub record ReadsAt (e : PlainWork) (content : Plain) (inputs : List Input) (old new : World) : Type 0 where
   pub turn : Turns e (read_from e content inputs) old new
   pub is : IsContent old.layout.shape e.text content inputs
 
--- that lacked memory
+-- the work lacks the memory to read the content of its text
 abbrev pub LacksAt : PlainWork → World → World → Type 0
 LacksAt e old new = Turns e (lacks e) old new
 
--- the entry that the inputs give is offered
+-- the work is offered the entry that its content gives on its inputs
 pub record OffersAt (e : PlainWork) (entry : entries.Entry) (old new : World) : Type 0 where
   pub turn : Turns e (offered e entry) old new
   pub is : entry ≡ local old.layout.shape e.content (entry_in e.inputs)
 
--- steps that are left at most: the answer's among them
+-- how many steps are left at most from a stage of telling on, before the answer's
 abbrev pub spread_rank : ℕ → ℕ → Spread → ℕ
 spread_rank cells parts (LoadRow part) = 4 + 3 * cells + (parts - part)
 spread_rank cells parts (OrTold d) = 4 + 3 * (cells - d)
