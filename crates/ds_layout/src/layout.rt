@@ -76,7 +76,7 @@ impl Layout {
     fn starts(&self) -> Starts
         ensures value { result ≡ starts_of self.now }
         ensures ascending { IsAscending result }
-        ensures at_most { result.words ≤ 60000 }
+        ensures at_most { result.words ≤ 53289 }
     {
         let cells = self.cells();
         let heads = 1;

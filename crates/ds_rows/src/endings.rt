@@ -9,7 +9,7 @@ use std::io::{self, ErrorKind, Read, Write};
 const FAULTS: [(&str, &str, usize, ScriptFault); 18] = [
     ("fly\n", "", 1, ScriptFault::UnknownCommand),
     (
-        "settle 0\n# x\n\nwork 0 A1\n",
+        "settle 0\n# x\n\nwalk 0 A1\n",
         "clean\n",
         4,
         ScriptFault::UnknownCommand,

@@ -74,8 +74,8 @@ fn records(rt: HostRuntime) -> Result<(), AllocError> {
         script.push_str("set 0 A1 1\n")?;
         expected.push_str(format!(in alloc; "0 {number} done\n")?.as_str())?;
     }
-    script.push_str("set 0 A1 2\nset 0 A1 =1.5\nreport 0\n")?;
-    expected.push_str("0 refused 4 RecordsFull\n0 refused 1 NotWhole 2\nsettled\n1,\n,\n")?;
+    script.push_str("set 0 A1 2\nset 0 A1 =1.5\nsettle 0\nreport 0\n")?;
+    expected.push_str("0 refused 4 RecordsFull\n0 refused 1 NotWhole 2\nclean\nsettled\n1,\n,\n")?;
     expect_answers(&rt, script.as_str(), expected.as_str());
     Ok(())
 }

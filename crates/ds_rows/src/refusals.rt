@@ -64,8 +64,8 @@ const ACCEPTED: [(&str, &str); 26] = [
 #[test]
 fn accepted(rt: HostRuntime) -> std::io::Result<()> {
     for (text, value) in ACCEPTED {
-        let script = format!(in rt.alloc(); "set 0 A1 {text}\nreport 0\n")?;
-        let expected = format!(in rt.alloc(); "0 0 done\nsettled\n{value},\n,\n")?;
+        let script = format!(in rt.alloc(); "set 0 A1 {text}\nsettle 0\nreport 0\n")?;
+        let expected = format!(in rt.alloc(); "0 0 done\nclean\nsettled\n{value},\n,\n")?;
         expect_answers(&rt, script.as_str(), expected.as_str());
     }
     Ok(())

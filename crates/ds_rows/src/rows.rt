@@ -88,12 +88,12 @@ const SCRIPTS: [(&str, &str); 7] = [
     ("# a comment\n\n#\n", ""),
     ("settle 0\r\n\r\nreport 1\r\n", "clean\nsettled\n,\n,\n"),
     (
-        "sheet 3 1 1\nset 0 c1 7\nset 0 b1 =c1\nreport 0",
-        "0 0 done\n0 refused 1 UnknownFunction 1\nsettled\n,,7\n",
+        "sheet 3 1 1\nset 0 c1 7\nset 0 b1 =c1\nsettle 0\nreport 0",
+        "0 0 done\n0 refused 1 UnknownFunction 1\nclean\nsettled\n,,7\n",
     ),
     (
-        "set 00 a1 +007\nset 01 B2 =+[.b1]\nreport 0\n",
-        "0 0 done\n1 0 done\nsettled\n7,\n,0\n",
+        "set 00 a1 +007\nset 01 B2 =+[.b1]\nsettle 1\nreport 0\n",
+        "0 0 done\n1 0 done\nclean\nsettled\n7,\n,0\n",
     ),
 ];
 
