@@ -244,10 +244,3 @@ LacksAt e old new = Turns e (lacks e) old new
 pub record OffersAt (e : PlainWork) (entry : entries.Entry) (old new : World) : Type 0 where
   pub turn : Turns e (offered e entry) old new
   pub is : entry ≡ local old.layout.shape e.content (entry_in e.inputs)
-
--- how many steps are left at most from a stage of telling on, before the answer's
-abbrev pub spread_rank : ℕ → ℕ → Spread → ℕ
-spread_rank cells parts (LoadRow part) = 4 + 3 * cells + (parts - part)
-spread_rank cells parts (OrTold d) = 4 + 3 * (cells - d)
-spread_rank cells parts (FlushTold d) = 3 + 3 * (cells - d)
-spread_rank cells parts (BackTold d) = 2 + 3 * (cells - d)
