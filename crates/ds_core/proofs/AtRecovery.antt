@@ -24,17 +24,17 @@ use Rattle.ds_core.proofs.Ledgers.{IsOf, IsOpenAs, SaysSame, says_same, doubts, 
 -- ---- it begins: an open edit of its process is in doubt
 
 module _ (layout : Layout) (l : Ledger) (v v' : WorldValue) (h : IsOf layout l v) (good : IsGood v') (p : ℕ) (b : RecoveryBegins v p v') where
-  doubted : (s : Situation) → (world_of v).situation p ≡ s → MayRecover s → (issue : Issue) → (world_of v).pending p ≡ Some issue → doubts s ≡ true
-  doubted (Idle n) is free issue at = absurd (let f = subst (λ (x : Situation). CallFits (world_of v) p x) is (h.good.sound.calls p b.there) in no_some ((world_of v).pending p) issue f.pending at)
+  doubted : (s : Situation) → (world_of v).situation p ≡ s → MayRecover s → (issue : Issue) → (world_of v).open_edits p ≡ Some issue → doubts s ≡ true
+  doubted (Idle n) is free issue at = absurd (let f = subst (λ (x : Situation). CallFits (world_of v) p x) is (h.good.sound.calls p b.there) in no_some ((world_of v).open_edits p) issue f.open_edits at)
   doubted Stopped is free issue at = refl
   doubted (Editing e) is free issue at = absurd free
   doubted (Working e) is free issue at = absurd free
   doubted (Recovering e) is free issue at = absurd free
   doubted (Showing e) is free issue at = absurd free
 
-  same_doubt : (q : ℕ) (issue : Issue) → (world_of v).pending q ≡ Some issue → doubts ((world_of v).situation q) ≡ doubts ((world_of v').situation q)
+  same_doubt : (q : ℕ) (issue : Issue) → (world_of v).open_edits q ≡ Some issue → doubts ((world_of v).situation q) ≡ doubts ((world_of v').situation q)
   same_doubt q issue was = elim (cases_eq q p) [
-    | inl here ↦ ap (λ x. doubts ((world_of v).situation x)) here ∙ doubted ((world_of v).situation p) refl b.begun.free issue (ap (λ x. (world_of v).pending x) (sym here) ∙ was)
+    | inl here ↦ ap (λ x. doubts ((world_of v).situation x)) here ∙ doubted ((world_of v).situation p) refl b.begun.free issue (ap (λ x. (world_of v).open_edits x) (sym here) ∙ was)
         ∙ sym (ap doubts (ap (λ x. (world_of v').situation x) here ∙ b.begun.begins.situation))
     | inr other ↦ ap doubts (sym (b.begun.begins.others q other))
   ]
@@ -44,8 +44,8 @@ module _ (layout : Layout) (l : Ledger) (v v' : WorldValue) (h : IsOf layout l v
     good = good;
     same = b.begun.begins.layout ∙ h.same;
     counted = h.counted ∙ sym b.begun.begins.counted;
-    none = λ q is. h.none q (sym (b.begun.begins.pending q) ∙ is);
-    some = λ q issue is. (let was = sym (b.begun.begins.pending q) ∙ is in subst (λ (x : Bool). IsOpenAs l issue q x) (same_doubt q issue was) (h.some q issue was));
+    none = λ q is. h.none q (sym (b.begun.begins.open_edits q) ∙ is);
+    some = λ q issue is. (let was = sym (b.begun.begins.open_edits q) ∙ is in subst (λ (x : Bool). IsOpenAs l issue q x) (same_doubt q issue was) (h.some q issue was));
     numbers = λ q n is. elim (cases_eq q p) [
       | inl here ↦ absurd (let bad : None ≡ Some n = sym (ap numbered (ap (λ x. (world_of v').situation x) here ∙ b.begun.begins.situation)) ∙ is in cc)
       | inr other ↦ h.numbers q n (ap numbered (sym (b.begun.begins.others q other)) ∙ is)
@@ -58,7 +58,7 @@ after_on : (f : PlainRecovery) (x : RecoverStage) (word : ℕ) → steps.effect_
 after_on f (stages.Answer how) word is = absurd (cc)
 after_on f _ word is = refl
 
-same_pending : (f : PlainRecovery) (x : RecoverStage) (o : Option Issue) → steps.effect_at f x ≡ effects.GoesOn → steps.pending_at o x ≡ o
+same_pending : (f : PlainRecovery) (x : RecoverStage) (o : Option Issue) → steps.effect_at f x ≡ effects.GoesOn → steps.open_edit_at o x ≡ o
 same_pending f (stages.Answer how) o is = absurd (cc)
 same_pending f _ o is = refl
 
@@ -82,10 +82,10 @@ module _ (v v' : WorldValue) (p : ℕ) (reply : Reply) (s : RecoveryStepsBy v p 
     pub recovery_now : (world_of v').situation p ≡ Recovering (steps.next_at s.steps.recovery s.steps.recovery.stage s.steps.word)
     recovery_now = ap (λ q. (world_of v').situation q) (sym s.steps.mine) ∙ s.steps.steps.situation ∙ after_on s.steps.recovery s.steps.recovery.stage s.steps.word on
 
-    pub recovery_pending : (q : ℕ) → (world_of v').pending q ≡ (world_of v).pending q
+    pub recovery_pending : (q : ℕ) → (world_of v').open_edits q ≡ (world_of v).open_edits q
     recovery_pending q = elim (cases_eq q s.steps.recovery.process) [
-      | inl here ↦ ap (λ x. (world_of v').pending x) here ∙ s.steps.steps.pending ∙ same_pending s.steps.recovery s.steps.recovery.stage _ on ∙ ap (λ x. (world_of v).pending x) (sym here)
-      | inr other ↦ s.steps.steps.others_pending q other
+      | inl here ↦ ap (λ x. (world_of v').open_edits x) here ∙ s.steps.steps.open_edits ∙ same_pending s.steps.recovery s.steps.recovery.stage _ on ∙ ap (λ x. (world_of v).open_edits x) (sym here)
+      | inr other ↦ s.steps.steps.others_open_edits q other
     ]
 
     pub recovery_says : (q : ℕ) → SaysSame ((world_of v).situation q) ((world_of v').situation q)

@@ -44,13 +44,13 @@ use Rattle.ds_core.specs.WorkEvents.{work_reply, WorkStepsBy}
 use Rattle.ds_core.specs.RecoveryEvents.{recovery_reply, RecoveryStepsBy}
 use Rattle.ds_core.specs.Steps.{edits, works, reports, recoveries}
 use Rattle.ds_core.specs.Takes.{Takes}
-use Rattle.ds_core.specs.Own.{left_in, steps_left}
+use Rattle.ds_core.specs.Own.{IsInCall, left_in, steps_left}
 use Rattle.ds_core.specs.Counts.{done_of, settled_of, IsReplyTo, KeepsReports}
 use Rattle.ds_core.specs.declared.event.Event.{Event}
 use Rattle.ds_core.specs.declared.event.Event.TheVariants.{BeginEdit, BeginWork, BeginShow, BeginRecover, Step, Offer, Evict, Stop, Crash}
 use Rattle.ds_core.specs.declared.reply.Reply.{Reply}
 use Rattle.ds_core.specs.declared.reply.Reply.TheVariants.{Begun, Entered, Refused, Stepped, Answered, WrongTask, Evicted, Stopped, Crashed, NotEnabled}
-use Rattle.ds_core.proofs.Bound.{Later, own}
+use Rattle.ds_core.proofs.Bound.{edit_goes_on}
 
 -- what an event with this answer adds
 pub record Adds (old : WorldValue) (event : Event) (reply : Reply) (new : WorldValue) : Type 0 where
@@ -190,14 +190,19 @@ adds old new (Offer value) _ h = absurd h
 adds old new Crash Crashed h = adds_none old new Crash Crashed tt (none old new h.done) refl h.reports
 adds old new Crash _ h = absurd h
 
+-- the process is still in a call, with fewer steps left
+pub record StepsOn (p : ℕ) (old new : WorldValue) : Type 0 where
+  pub calls : IsInCall ((world_of new).situation p)
+  pub fewer : steps_left p new < steps_left p old
+
 -- a step that does not answer leaves fewer
-edit_falls : (old new : WorldValue) (p : ℕ) → IsSound (world_of old) → EditStepsBy old p Stepped new → steps_left p new < steps_left p old
+edit_falls : (old new : WorldValue) (p : ℕ) → IsSound (world_of old) → EditStepsBy old p Stepped new → StepsOn p old new
 edit_falls old new p sound h =
-    let l : Later p h.edit 1 new = own p h.edit old new sound h.there h.at h in
-    let few = l.2.fewer in
+    let g = edit_goes_on old new p sound h in
+    let few = g.fewer in
     let a : steps_left p old ≡ rank h.edit h.edit.stage = ap left_in h.at in
-    let b : steps_left p new ≡ rank l.0 l.0.stage = ap left_in l.1 in
-    omega (arith, few, a, b)
+    let b : steps_left p new ≡ rank g.edit g.edit.stage = ap left_in g.edits in
+    record { calls = subst IsInCall (sym g.edits) tt; fewer = omega (arith, few, a, b) }
 
 goes_on : (what : Effect) → Stepped ≡ report_reply what → what ≡ effects.GoesOn
 goes_on effects.GoesOn is = refl
@@ -211,7 +216,7 @@ falls_on : (e : PlainShow) (s : ShowStage) (f : PlainShow) → steps.effect_at s
 falls_on e (stages.Answer end) f is h = absurd (cc)
 falls_on e _ f is h = h
 
-report_falls : (old new : WorldValue) (p : ℕ) → IsSound (world_of old) → ReportStepsBy old p Stepped new → steps_left p new < steps_left p old
+report_falls : (old new : WorldValue) (p : ℕ) → IsSound (world_of old) → ReportStepsBy old p Stepped new → StepsOn p old new
 report_falls old new p sound h =
     let e : PlainShow = h.steps.show in
     let goes : steps.effect_at e.stage ≡ effects.GoesOn = sym h.steps.is ∙ goes_on h.what h.is in
@@ -220,19 +225,19 @@ report_falls old new p sound h =
     let fall : steps.rank (steps.next_at e e.stage h.steps.word) < steps.rank e = falls_on e e.stage (steps.next_at e e.stage h.steps.word) goes (keeping.falls e e.stage h.steps.word fits.1.is.stage) in
     let a : steps_left p old ≡ steps.rank e = ap left_in h.steps.at in
     let b : steps_left p new ≡ steps.rank (steps.next_at e e.stage h.steps.word) = ap left_in now in
-    omega (arith, fall, a, b)
+    record { calls = subst IsInCall (sym now) tt; fewer = omega (arith, fall, a, b) }
 
-work_falls : (old new : WorldValue) (p : ℕ) → IsSound (world_of old) → WorkStepsBy old p Stepped new → steps_left p new < steps_left p old
+work_falls : (old new : WorldValue) (p : ℕ) → IsSound (world_of old) → WorkStepsBy old p Stepped new → StepsOn p old new
 work_falls old new p sound h = by h.what h.steps h.is
   where
-    by : (what : Taken) → work_events.StepsBy (world_of old) p what (world_of new) → Stepped ≡ work_reply what → steps_left p new < steps_left p old
+    by : (what : Taken) → work_events.StepsBy (world_of old) p what (world_of new) → Stepped ≡ work_reply what → StepsOn p old new
     by taken.Stepped s is =
         let g = turns_fall p (world_of old) (world_of new) sound s in
         let less = g.fewer in
         let a : steps_left p old ≡ work_ranks.steps_left s.work.cells s.work = ap left_in s.works in
         let b : steps_left p new ≡ work_ranks.steps_left g.work.cells g.work = ap left_in g.works in
         let c : work_ranks.steps_left g.work.cells g.work ≡ work_ranks.steps_left s.work.cells g.work = ap (λ r. work_ranks.steps_left r g.work) g.cells in
-        omega (arith, less, a, b, c)
+        record { calls = subst IsInCall (sym g.works) tt; fewer = omega (arith, less, a, b, c) }
     by taken.NotEnabled s is = absurd (cc)
     by (taken.Answered end) s is = absurd (cc)
 
@@ -249,7 +254,7 @@ recovery_lower : (e f : PlainRecovery) (s : RecoverStage) → recover_steps.effe
 recovery_lower e f (recover_stages.Answer how) is h = absurd (cc)
 recovery_lower e f _ is h = h
 
-recovery_falls : (old new : WorldValue) (p : ℕ) → IsSound (world_of old) → RecoveryStepsBy old p Stepped new → steps_left p new < steps_left p old
+recovery_falls : (old new : WorldValue) (p : ℕ) → IsSound (world_of old) → RecoveryStepsBy old p Stepped new → StepsOn p old new
 recovery_falls old new p sound h =
     let e : PlainRecovery = h.steps.recovery in
     let f : PlainRecovery = recover_steps.next_at e e.stage h.steps.word in
@@ -263,15 +268,15 @@ recovery_falls old new p sound h =
     let a : steps_left p old ≡ recover_steps.rank e.cells e.stage = ap left_in h.steps.at in
     let b : steps_left p new ≡ recover_steps.rank f.cells f.stage = ap left_in now in
     let c = ap (λ n. recover_steps.rank n f.stage) cells in
-    omega (arith, fall, a, b, c)
+    record { calls = subst IsInCall (sym now) tt; fewer = omega (arith, fall, a, b, c) }
 
-pub falls : (old new : WorldValue) (p : ℕ) → IsSound (world_of old) → Takes old (Step p) Stepped new → steps_left p new < steps_left p old
-falls old new p sound (edits h) = edit_falls old new p sound h
-falls old new p sound (works h) = work_falls old new p sound h
-falls old new p sound (reports h) = report_falls old new p sound h
-falls old new p sound (recoveries h) = recovery_falls old new p sound h
+pub steps_on : (old new : WorldValue) (p : ℕ) → IsSound (world_of old) → Takes old (Step p) Stepped new → StepsOn p old new
+steps_on old new p sound (edits h) = edit_falls old new p sound h
+steps_on old new p sound (works h) = work_falls old new p sound h
+steps_on old new p sound (reports h) = report_falls old new p sound h
+steps_on old new p sound (recoveries h) = recovery_falls old new p sound h
 
 -- so of whatever event this is
 pub falls_by : (old new : WorldValue) (event : Event) (reply : Reply) → IsSound (world_of old) → Takes old event reply new → (p : ℕ) → event ≡ Step p → reply ≡ Stepped → steps_left p new < steps_left p old
 falls_by old new event reply sound takes p is stepped =
-    falls old new p sound (subst (λ (r : Reply). Takes old (Step p) r new) stepped (subst (λ (x : Event). Takes old x reply new) is takes))
+    (steps_on old new p sound (subst (λ (r : Reply). Takes old (Step p) r new) stepped (subst (λ (x : Event). Takes old x reply new) is takes))).fewer

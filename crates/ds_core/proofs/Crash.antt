@@ -40,7 +40,7 @@ in_cell es e there = to_filter (λ (f : Edit). f.cell == e.cell) es e there (eq-
 
 pub record IsOpenEdit (w : World) (e : Edit) : Type 0 where
   pub issue : Issue
-  pub issued : w.pending e.process ≡ Some issue
+  pub issued : w.open_edits e.process ≡ Some issue
   pub same : issue.edit ≡ e
 
 module _ (w : World) (sound : IsSound w) (e : Edit) (there : Contains w.counted e) where
@@ -63,7 +63,7 @@ module _ (w : World) (sound : IsSound w) (e : Edit) (there : Contains w.counted 
         | inl early ↦ absurd (let l = last_greater b.before b.last e increasing early process in omega arith)
         | inr last ↦ contains_one b.last e last
       ] in
-      record { issue = b.issue; issued = ap (λ q. w.pending q) (sym process) ∙ b.pending; same = b.same ∙ one }
+      record { issue = b.issue; issued = ap (λ q. w.open_edits q) (sym process) ∙ b.open_edits; same = b.same ∙ one }
 
   pub lost_open : keep w.memory e ≡ false → IsOpenEdit w e
   lost_open lost = elim (sound.words (Head e.cell)).sides [
@@ -92,7 +92,7 @@ contains_edit [] e h = absurd (let l = h.1 in omega arith)
 contains_edit (x ∷ es) e (zero, lt, is) = (zero, omega arith, ap (λ (f : Placed). f.edit) is)
 contains_edit (x ∷ es) e (suc k, lt, is) = let r = contains_edit es e (k, omega arith, is) in (suc r.0, (let l = r.1 in omega arith), r.2)
 
-module _ (w w' : World) (sound : IsSound w) (l : Ledger) (counted : edits_in l ≡ w.counted) (known : (p : ℕ) (issue : Issue) → w.pending p ≡ Some issue → IsKnownAs l p issue) (crash : CrashesTo w w') where
+module _ (w w' : World) (sound : IsSound w) (l : Ledger) (counted : edits_in l ≡ w.counted) (known : (p : ℕ) (issue : Issue) → w.open_edits p ≡ Some issue → IsKnownAs l p issue) (crash : CrashesTo w w') where
   abbrev pub after_crash : Ledger
   after_crash = record l { counted = filter (λ (e : Placed). keep w.memory e.edit) l.counted; opens = λ p. in_doubt (l.opens p) }
 

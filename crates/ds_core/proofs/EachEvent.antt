@@ -177,14 +177,14 @@ module _ (place : ℕ) (layout : Layout) (l : Ledger) (v v' : WorldValue) (h : I
           ledger = l;
           fits = record { layout = kept ∙ sym h.same; takes = edits t; words = access p Stepped t; ledger = inl refl };
           after = stays layout l v v' h good kept s all;
-          tells = tells_edit_on layout l v v' h tells p Stepped t (s.pending p) ((all p).doubt ∙ sure p Stepped t);
+          tells = tells_edit_on layout l v v' h tells p Stepped t (s.open_edits p) ((all p).doubt ∙ sure p Stepped t);
         }
         | inr s ↦ record {
           ledger = pushed layout l v v' h good kept p s all (sure p Stepped t);
           fits = record { layout = kept ∙ sym h.same; takes = edits t; words = access p Stepped t; ledger = inr (counts_fit layout l v v' h good kept p s all (sure p Stepped t)) };
           after = push_of layout l v v' h good kept p s all (sure p Stepped t);
           tells = (let own = own layout l v v' h good kept p s all (sure p Stepped t) in
-              tells_counted layout l v v' h tells p Stepped t (s.pending p) ((all p).doubt ∙ sure p Stepped t) (pushed layout l v v' h good kept p s all (sure p Stepped t)) own.o.it refl (λ q. refl)
+              tells_counted layout l v v' h tells p Stepped t (s.open_edits p) ((all p).doubt ∙ sure p Stepped t) (pushed layout l v v' h good kept p s all (sure p Stepped t)) own.o.it refl (λ q. refl)
               s.issue s.open_is own.edit);
         }
       ]
@@ -239,14 +239,14 @@ module _ (place : ℕ) (layout : Layout) (l : Ledger) (v v' : WorldValue) (h : I
       answered_by p found.0 t.edit.number answer found.2 t (answers_at t.edit.stage found.0 found.1) refl
 
   -- a turn of a process that leaves the list, its issues, and what each process says of its edits
-  silent : (event : Event) (reply : Reply) → Takes v event reply v' → v'.counted ≡ v.counted → ((q : ℕ) → (world_of v').pending q ≡ (world_of v).pending q) → ((q : ℕ) → SaysSame ((world_of v).situation q) ((world_of v').situation q))
+  silent : (event : Event) (reply : Reply) → Takes v event reply v' → v'.counted ≡ v.counted → ((q : ℕ) → (world_of v').open_edits q ≡ (world_of v).open_edits q) → ((q : ℕ) → SaysSame ((world_of v).situation q) ((world_of v').situation q))
       → WordsMove (world_of v).memory event reply (world_of v').memory → LedgerMoves place layout.shape l event reply l → Tells l v' → Next place layout l v event reply v'
   silent event reply t counted pending all words ledger told =
       let kept = kept_layout event reply t in
       record {
         ledger = l;
         fits = record { layout = kept ∙ sym h.same; takes = t; words = words; ledger = ledger };
-        after = stays layout l v v' h good kept (record { counted = counted; pending = pending }) all;
+        after = stays layout l v v' h good kept (record { counted = counted; open_edits = pending }) all;
         tells = told;
       }
 
@@ -254,13 +254,13 @@ module _ (place : ℕ) (layout : Layout) (l : Ledger) (v v' : WorldValue) (h : I
   reports_begin : (p : ℕ) → ReportBegins v p v' → Next place layout l v (BeginShow p) Entered v'
   reports_begin p t =
       let b = t.begun.begins in
-      silent (BeginShow p) Entered t b.counted b.pending (λ q. elim (cases_eq q p) [
+      silent (BeginShow p) Entered t b.counted b.open_edits (λ q. elim (cases_eq q p) [
         | inl here ↦ (
             let now = ap (λ x. (world_of v').situation x) here ∙ b.situation in
             let before = ap (λ x. (world_of v).situation x) here ∙ b.idle in
             record { number = ap numbered now ∙ sym (ap numbered before); doubt = ap doubts now ∙ sym (ap doubts before) })
         | inr other ↦ says_same _ _ (b.others q other)
-      ]) b.memory refl (tells_quiet l v v' p tells (report_begins_turn v v' p h.good.sound t) b.layout (λ c is. sides_same (world_of v).memory (world_of v').memory (Header p c.it.edit.number) b.memory) (b.pending p) (ap doubts b.situation))
+      ]) b.memory refl (tells_quiet l v v' p tells (report_begins_turn v v' p h.good.sound t) b.layout (λ c is. sides_same (world_of v).memory (world_of v').memory (Header p c.it.edit.number) b.memory) (b.open_edits p) (ap doubts b.situation))
 
   -- a report makes a step
   module _ (p : ℕ) (reply : Reply) (t : ReportStepsBy v p reply v') where
@@ -287,14 +287,14 @@ module _ (place : ℕ) (layout : Layout) (l : Ledger) (v v' : WorldValue) (h : I
     ]
 
     report_tells : Tells l v'
-    report_tells = tells_quiet l v v' p tells (report_turn v v' p reply h.good.sound t) t.steps.steps.layout (λ c is. report_sides p c.it.edit.number v v' reply t) (t.steps.steps.pending p) ((report_says p).doubt ∙ ap doubts t.steps.at)
+    report_tells = tells_quiet l v v' p tells (report_turn v v' p reply h.good.sound t) t.steps.steps.layout (λ c is. report_sides p c.it.edit.number v v' reply t) (t.steps.steps.open_edits p) ((report_says p).doubt ∙ ap doubts t.steps.at)
 
   report_stepped : (p : ℕ) → ReportStepsBy v p Stepped v' → Next place layout l v (Step p) Stepped v'
-  report_stepped p t = silent (Step p) Stepped (reports t) t.steps.steps.counted t.steps.steps.pending (report_says p Stepped t) (report_access p Stepped t) (inl refl) (report_tells p Stepped t)
+  report_stepped p t = silent (Step p) Stepped (reports t) t.steps.steps.counted t.steps.steps.open_edits (report_says p Stepped t) (report_access p Stepped t) (inl refl) (report_tells p Stepped t)
 
   report_answered : (p : ℕ) (answer : replies.Answer) → ReportStepsBy v p (Answered answer) v' → Next place layout l v (Step p) (Answered answer) v'
   report_answered p answer t =
-      silent (Step p) (Answered answer) (reports t) t.steps.steps.counted t.steps.steps.pending (report_says p (Answered answer) t) (report_access p (Answered answer) t) (nothing t.what answer t.is) (report_tells p (Answered answer) t)
+      silent (Step p) (Answered answer) (reports t) t.steps.steps.counted t.steps.steps.open_edits (report_says p (Answered answer) t) (report_access p (Answered answer) t) (nothing t.what answer t.is) (report_tells p (Answered answer) t)
     where
       nothing : (what : Effect) (answer : replies.Answer) → Answered answer ≡ report_reply what → AnswerMoves l p answer l
       nothing effects.GoesOn answer is = absurd (cc)
@@ -304,30 +304,30 @@ module _ (place : ℕ) (layout : Layout) (l : Ledger) (v v' : WorldValue) (h : I
 
   -- work begins, is offered an entry, makes a step
   work_tells : (p : ℕ) → (k : LeavesEdits p v v') → (a : StaysAtWork p v v') → ((n : ℕ) → SidesStay (world_of v).memory (world_of v').memory (Header p n)) → Tells l v'
-  work_tells p k a sides = tells_quiet l v v' p tells k.turn k.layout (λ c is. sides c.it.edit.number) (k.pending p) (at_work_sure a.number _ a.now)
+  work_tells p k a sides = tells_quiet l v v' p tells k.turn k.layout (λ c is. sides c.it.edit.number) (k.open_edits p) (at_work_sure a.number _ a.now)
 
   work_begins : (p : ℕ) (cell : _) → WorkBegins v p cell v' → Next place layout l v (BeginWork p cell) Entered v'
   work_begins p cell t =
       let k = work_begins_leaves v v' p cell h.good.sound t in
-      silent (BeginWork p cell) Entered t k.counted k.pending (work_says p v v' (work_begins_stays p v v' cell t) k.turn) t.begun.begins.turn.memory refl
+      silent (BeginWork p cell) Entered t k.counted k.open_edits (work_says p v v' (work_begins_stays p v v' cell t) k.turn) t.begun.begins.turn.memory refl
       (work_tells p k (work_begins_stays p v v' cell t) (λ n. sides_same (world_of v).memory (world_of v').memory (Header p n) t.begun.begins.turn.memory))
 
   offers : (value : _) → TakesEntry v value v' → Next place layout l v (Offer value) Stepped v'
   offers value t =
       let k = offer_leaves v v' value h.good.sound t in
-      silent (Offer value) Stepped t k.counted k.pending (work_says value.task.process v v' (offer_stays v v' value t) k.turn) t.offered.offers.turn.memory refl
+      silent (Offer value) Stepped t k.counted k.open_edits (work_says value.task.process v v' (offer_stays v v' value t) k.turn) t.offered.offers.turn.memory refl
       (work_tells value.task.process k (offer_stays v v' value t) (λ n. sides_same (world_of v).memory (world_of v').memory (Header value.task.process n) t.offered.offers.turn.memory))
 
   work_stepped : (p : ℕ) → WorkStepsBy v p Stepped v' → Next place layout l v (Step p) Stepped v'
   work_stepped p t =
       let k = work_leaves v v' p Stepped h.good.sound t in
-      silent (Step p) Stepped (works t) k.counted k.pending (work_says p v v' (work_stays p v v' Stepped t) k.turn) k.words (inl refl)
+      silent (Step p) Stepped (works t) k.counted k.open_edits (work_says p v v' (work_stays p v v' Stepped t) k.turn) k.words (inl refl)
       (work_tells p k (work_stays p v v' Stepped t) (λ n. work_sides_of p n v v' Stepped h.good.sound t))
 
   work_answered : (p : ℕ) (answer : replies.Answer) → WorkStepsBy v p (Answered answer) v' → Next place layout l v (Step p) (Answered answer) v'
   work_answered p answer t =
       let k = work_leaves v v' p (Answered answer) h.good.sound t in
-      silent (Step p) (Answered answer) (works t) k.counted k.pending (work_says p v v' (work_stays p v v' (Answered answer) t) k.turn) k.words (nothing t.what answer t.is)
+      silent (Step p) (Answered answer) (works t) k.counted k.open_edits (work_says p v v' (work_stays p v v' (Answered answer) t) k.turn) k.words (nothing t.what answer t.is)
       (work_tells p k (work_stays p v v' (Answered answer) t) (λ n. work_sides_of p n v v' (Answered answer) h.good.sound t))
     where
       nothing : (what : Taken) (answer : replies.Answer) → Answered answer ≡ work_reply what → AnswerMoves l p answer l
@@ -378,7 +378,7 @@ module _ (place : ℕ) (layout : Layout) (l : Ledger) (v v' : WorldValue) (h : I
       record {
         ledger = l;
         fits = record { layout = kept ∙ sym h.same; takes = t; words = t.evicts.memory; ledger = refl };
-        after = stays layout l v v' h good kept (record { counted = t.evicts.counted; pending = t.evicts.pending }) (λ q. says_same _ _ (t.evicts.situation q));
+        after = stays layout l v v' h good kept (record { counted = t.evicts.counted; open_edits = t.evicts.open_edits }) (λ q. says_same _ _ (t.evicts.situation q));
         tells = tells_evicted l v v' word tells t.evicts;
       }
 

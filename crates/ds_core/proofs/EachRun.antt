@@ -59,14 +59,14 @@ first_ledger v good new = record {
   same = refl;
   counted = sym new.counted;
   none = λ p is. refl;
-  some = λ p issue is. absurd (no_some ((world_of v).pending p) issue (new.pending p) is);
+  some = λ p issue is. absurd (no_some ((world_of v).open_edits p) issue (new.open_edits p) is);
   numbers = λ p n is. one_some (numbered ((world_of v).situation p)) n 0 is (ap numbered (new.situation p));
 }
 
 first_tells : (v : WorldValue) → IsNew (world_of v) → Tells empty_ledger v
 first_tells v new = record {
   told = λ p c is. absurd (no_some None c refl is);
-  opens = λ p issue is. absurd (no_some ((world_of v).pending p) issue (new.pending p) is);
+  opens = λ p issue is. absurd (no_some ((world_of v).open_edits p) issue (new.open_edits p) is);
   announced = λ p lt doubt none. absurd (let bad : false ≡ true = sym (ap doubts (new.situation p)) ∙ doubt in cc);
   sees = λ p e is. absurd (let bad : Idle 0 ≡ Recovering e = sym (new.situation p) ∙ is in cc);
 }

@@ -32,7 +32,7 @@ use Rattle.ds_state.proofs.Few.{counted_few}
 use Rattle.ds_state.proofs.Underway.{no_more}
 use Rattle.ds_state.specs.Underway.{reports_in}
 use Rattle.ds_edit.specs.Steps.{access_at}
-use Rattle.ds_edit.specs.Worlds.{Steps, after, counted_at, pending_at}
+use Rattle.ds_edit.specs.Worlds.{Steps, after, counted_at, open_edit_at}
 use Rattle.ds_edit.proofs.Sound.{step_sound}
 use Rattle.ds_edit.proofs.Possible.{can_perform}
 use Rattle.ds_core.specs.EditEvents.{reply_at, reply_with, done_at, done_with, EditStepsBy, EditStepTakes}
@@ -65,7 +65,7 @@ pub answers_at : (s : Stage) (how : Outcome) → outcome_at s ≡ Some how → s
 answers_at (Answer how') how is = let same : how' ≡ how = cc in ap (λ h. Answer h) same
 answers_at _ how is = absurd (cc)
 
-pub goes_on_at : (s : Stage) (issue : Option Issue) → outcome_at s ≡ None → pending_at issue s ≡ issue
+pub goes_on_at : (s : Stage) (issue : Option Issue) → outcome_at s ≡ None → open_edit_at issue s ≡ issue
 goes_on_at (Answer how) issue is = absurd (cc)
 goes_on_at _ issue is = refl
 
@@ -89,8 +89,8 @@ module _ (v : WorldValue) (g : IsGood v) (p : ℕ) (e : PlainEdit) (at : IsEditi
   pub perform_at : CanPerform v.sheet.layout (memory v.sheet) p (access_at e e.stage)
   perform_at = subst (λ (q : ℕ). CanPerform v.sheet.layout (memory v.sheet) q (access_at e e.stage)) mine (can_perform e (world_of v) g.sound low_own here)
 
-  pub pending_there : p < length v.pending
-  pending_there = let l = low in let s = g.pending in omega arith
+  pub pending_there : p < length v.open_edits
+  pending_there = let l = low in let s = g.open_edits in omega arith
 
   pub processes_are : e.processes ≡ v.sheet.layout.processes
   processes_are = sym fits.sheet.processes
@@ -102,7 +102,7 @@ module _ (v : WorldValue) (g : IsGood v) (p : ℕ) (e : PlainEdit) (at : IsEditi
       sheet = sheet;
       situations = set v.situations p (after e e.stage word);
       counted = v.counted ++ counted_at (edit_of e) e.stage word;
-      pending = set v.pending p (pending_at (get_or v.pending p None) e.stage);
+      open_edits = set v.open_edits p (open_edit_at (get_or v.open_edits p None) e.stage);
       done = done_at v.done e.stage;
     }
 
@@ -114,9 +114,9 @@ module _ (v : WorldValue) (g : IsGood v) (p : ℕ) (e : PlainEdit) (at : IsEditi
       situation = ap (λ q. get_or (set v.situations p (after e e.stage word)) q (Idle 0)) mine ∙ get_or-set_same v.situations p (after e e.stage word) (Idle 0) at.there;
       others = λ q ne. get_or-set_other v.situations p q (after e e.stage word) (Idle 0) (λ same. ne (same ∙ sym mine));
       counted = refl;
-      pending = ap (λ q. get_or (set v.pending p (pending_at (get_or v.pending p None) e.stage)) q None) mine ∙ get_or-set_same v.pending p (pending_at (get_or v.pending p None) e.stage) None pending_there
-          ∙ ap (λ q. pending_at (get_or v.pending q None) e.stage) (sym mine);
-      others_pending = λ q ne. get_or-set_other v.pending p q (pending_at (get_or v.pending p None) e.stage) None (λ same. ne (same ∙ sym mine));
+      open_edits = ap (λ q. get_or (set v.open_edits p (open_edit_at (get_or v.open_edits p None) e.stage)) q None) mine ∙ get_or-set_same v.open_edits p (open_edit_at (get_or v.open_edits p None) e.stage) None pending_there
+          ∙ ap (λ q. open_edit_at (get_or v.open_edits q None) e.stage) (sym mine);
+      others_open_edits = λ q ne. get_or-set_other v.open_edits p q (open_edit_at (get_or v.open_edits p None) e.stage) None (λ same. ne (same ∙ sym mine));
     }
 
     next_sound : IsSound (world_of next)
@@ -127,32 +127,32 @@ module _ (v : WorldValue) (g : IsGood v) (p : ℕ) (e : PlainEdit) (at : IsEditi
     unfolding next
     grown f there = Contains-append_left v.counted (counted_at (edit_of e) e.stage word) f there
 
-    open_own : (world_of v).pending e.process ≡ Some (record { edit = edit_of e; since = fits.since })
-    open_own = ap (λ q. (world_of v).pending q) mine ∙ fits.pending
+    open_own : (world_of v).open_edits e.process ≡ Some (record { edit = edit_of e; since = fits.since })
+    open_own = ap (λ q. (world_of v).open_edits q) mine ∙ fits.open_edits
 
-    goes_on : outcome_at e.stage ≡ None → (f : Edit) (issue : Issue) → Contains v.counted f → (world_of next).pending f.process ≡ Some issue → issue.edit ≡ f → (world_of v).pending f.process ≡ Some issue
+    goes_on : outcome_at e.stage ≡ None → (f : Edit) (issue : Issue) → Contains v.counted f → (world_of next).open_edits f.process ≡ Some issue → issue.edit ≡ f → (world_of v).open_edits f.process ≡ Some issue
     goes_on none f issue there now is = elim (cases_eq f.process e.process) [
-      | inl same ↦ ap (λ q. (world_of v).pending q) same ∙ sym (ap (λ q. (world_of next).pending q) same ∙ steps.pending ∙ goes_on_at e.stage _ none) ∙ now
-      | inr other ↦ sym (steps.others_pending f.process other) ∙ now
+      | inl same ↦ ap (λ q. (world_of v).open_edits q) same ∙ sym (ap (λ q. (world_of next).open_edits q) same ∙ steps.open_edits ∙ goes_on_at e.stage _ none) ∙ now
+      | inr other ↦ sym (steps.others_open_edits f.process other) ∙ now
     ]
 
-    closed : (how : Outcome) → e.stage ≡ Answer how → (world_of next).pending e.process ≡ None
-    closed how last = steps.pending ∙ ap (λ s. pending_at ((world_of v).pending e.process) s) last
+    closed : (how : Outcome) → e.stage ≡ Answer how → (world_of next).open_edits e.process ≡ None
+    closed how last = steps.open_edits ∙ ap (λ s. open_edit_at ((world_of v).open_edits e.process) s) last
 
-    answered_on : (how : Outcome) → e.stage ≡ Answer how → (f : Edit) (issue : Issue) → Contains v.counted f → (world_of next).pending f.process ≡ Some issue → issue.edit ≡ f → (world_of v).pending f.process ≡ Some issue
+    answered_on : (how : Outcome) → e.stage ≡ Answer how → (f : Edit) (issue : Issue) → Contains v.counted f → (world_of next).open_edits f.process ≡ Some issue → issue.edit ≡ f → (world_of v).open_edits f.process ≡ Some issue
     answered_on how last f issue there now is = elim (cases_eq f.process e.process) [
-      | inl same ↦ (let bad : Some issue ≡ None = sym now ∙ ap (λ q. (world_of next).pending q) same ∙ closed how last in absurd (cc))
-      | inr other ↦ sym (steps.others_pending f.process other) ∙ now
+      | inl same ↦ (let bad : Some issue ≡ None = sym now ∙ ap (λ q. (world_of next).open_edits q) same ∙ closed how last in absurd (cc))
+      | inr other ↦ sym (steps.others_open_edits f.process other) ∙ now
     ]
 
-    by_answer : (how : Outcome) → e.stage ≡ Answer how → HasAnswered (world_of next).counted (world_of next).pending (done_with v.done (Some how))
+    by_answer : (how : Outcome) → e.stage ≡ Answer how → HasAnswered (world_of next).counted (world_of next).open_edits (done_with v.done (Some how))
     by_answer outcome.Done last =
         let t : IsTrueAnswer (world_of v) (edit_of e) outcome.Done = answer_true e outcome.Done (world_of v) g.sound low_own last here in
-        one_answered v.counted (world_of next).counted (world_of v).pending (world_of next).pending v.done (edit_of e) fits.since grown (answered_on outcome.Done last) open_own (closed outcome.Done last) t.holds g.answered
-    by_answer (outcome.Overtaken noted seen) last = still_answered v.counted (world_of next).counted (world_of v).pending (world_of next).pending v.done grown (answered_on (outcome.Overtaken noted seen) last) g.answered
+        one_answered v.counted (world_of next).counted (world_of v).open_edits (world_of next).open_edits v.done (edit_of e) fits.since grown (answered_on outcome.Done last) open_own (closed outcome.Done last) t.holds g.answered
+    by_answer (outcome.Overtaken noted seen) last = still_answered v.counted (world_of next).counted (world_of v).open_edits (world_of next).open_edits v.done grown (answered_on (outcome.Overtaken noted seen) last) g.answered
 
-    by_outcome : (o : Option Outcome) → outcome_at e.stage ≡ o → HasAnswered (world_of next).counted (world_of next).pending (done_with v.done o)
-    by_outcome None is = still_answered v.counted (world_of next).counted (world_of v).pending (world_of next).pending v.done grown (goes_on is) g.answered
+    by_outcome : (o : Option Outcome) → outcome_at e.stage ≡ o → HasAnswered (world_of next).counted (world_of next).open_edits (done_with v.done o)
+    by_outcome None is = still_answered v.counted (world_of next).counted (world_of v).open_edits (world_of next).open_edits v.done grown (goes_on is) g.answered
     by_outcome (Some how) is = by_answer how (answers_at e.stage how is)
 
     pub next_kept : (room more : ℕ) → v.sheet.layout.processes * RECORDS ≤ room → room ≤ more → IsReserved next more
@@ -161,7 +161,7 @@ module _ (v : WorldValue) (g : IsGood v) (p : ℕ) (e : PlainEdit) (at : IsEditi
       good = record {
         sound = next_sound;
         situations = length-set v.situations p (after e e.stage word) ∙ g.situations ∙ ap (λ (l : Layout). l.processes) (sym layout);
-        pending = length-set v.pending p (pending_at (get_or v.pending p None) e.stage) ∙ g.pending ∙ ap (λ (l : Layout). l.processes) (sym layout);
+        open_edits = length-set v.open_edits p (open_edit_at (get_or v.open_edits p None) e.stage) ∙ g.open_edits ∙ ap (λ (l : Layout). l.processes) (sym layout);
         reports = rw layout g.reports;
         answered = by_outcome (outcome_at e.stage) refl;
         counts = no_more v.situations p (after e e.stage word) v.settled _ at.there (no_report e e.stage word) g.counts;
@@ -203,27 +203,27 @@ module _ (v : WorldValue) (g : IsGood v) (p : ℕ) (e : PlainEdit) (at : IsEditi
     -- a world of these parts is that world
     pub next_is : (situation : Situation) (counted : List Edit) (open_issue : Option Issue) (done : ℕ)
         → situation ≡ after e e.stage word → counted ≡ v.counted ++ counted_at (edit_of e) e.stage word
-        → open_issue ≡ pending_at (get_or v.pending p None) e.stage → done ≡ done_at v.done e.stage
-        → (let w : WorldValue = record v { sheet = sheet; situations = set v.situations p situation; counted = counted; pending = set v.pending p open_issue; done = done } in w) ≡ next
+        → open_issue ≡ open_edit_at (get_or v.open_edits p None) e.stage → done ≡ done_at v.done e.stage
+        → (let w : WorldValue = record v { sheet = sheet; situations = set v.situations p situation; counted = counted; open_edits = set v.open_edits p open_issue; done = done } in w) ≡ next
     unfolding next
     next_is situation counted open_issue done a b c d =
-        let made : Situation → List Edit → Option Issue → ℕ → WorldValue = λ s es i n. record v { sheet = sheet; situations = set v.situations p s; counted = es; pending = set v.pending p i; done = n } in
+        let made : Situation → List Edit → Option Issue → ℕ → WorldValue = λ s es i n. record v { sheet = sheet; situations = set v.situations p s; counted = es; open_edits = set v.open_edits p i; done = n } in
         ap (λ s. made s counted open_issue done) a
         ∙ ap (λ es. made (after e e.stage word) es open_issue done) b
         ∙ ap (λ i. made (after e e.stage word) (v.counted ++ counted_at (edit_of e) e.stage word) i done) c
-        ∙ ap (λ n. made (after e e.stage word) (v.counted ++ counted_at (edit_of e) e.stage word) (pending_at (get_or v.pending p None) e.stage) n) d
+        ∙ ap (λ n. made (after e e.stage word) (v.counted ++ counted_at (edit_of e) e.stage word) (open_edit_at (get_or v.open_edits p None) e.stage) n) d
 
 -- an eviction
 pub evict_kept : (v : WorldValue) (sheet : SheetValue) (place : Place) (room : ℕ) → IsReserved v room → sheet.layout ≡ v.sheet.layout → EvictsAt place (memory v.sheet) (memory sheet)
     → IsReserved (record v { sheet = sheet }) room × Evicts place (world_of v) (world_of (record v { sheet = sheet }))
 evict_kept v sheet place room k layout m =
-    let e : Evicts place (world_of v) (world_of (record v { sheet = sheet })) = record { layout = layout; memory = m; situation = λ q. refl; counted = refl; pending = λ q. refl } in
+    let e : Evicts place (world_of v) (world_of (record v { sheet = sheet })) = record { layout = layout; memory = m; situation = λ q. refl; counted = refl; open_edits = λ q. refl } in
     let same = ap (λ (l : Layout). l.processes) layout in (
       record {
         good = record {
           sound = (evict_sound place (world_of v) (world_of (record v { sheet = sheet })) k.good.sound (buffered (world_of v) k.good.sound) e).0;
           situations = k.good.situations ∙ sym same;
-          pending = k.good.pending ∙ sym same;
+          open_edits = k.good.open_edits ∙ sym same;
           reports = rw layout k.good.reports;
           answered = k.good.answered;
           counts = k.good.counts;

@@ -98,8 +98,8 @@ pub record IsOf (layout : Layout) (l : Ledger) (v : WorldValue) : Type 0 where
   pub good : IsGood v
   pub same : v.sheet.layout ≡ layout
   pub counted : edits_in l ≡ v.counted
-  pub none : (p : ℕ) → (world_of v).pending p ≡ None → l.opens p ≡ None
-  pub some : (p : ℕ) (issue : Issue) → (world_of v).pending p ≡ Some issue → IsOpenAs l issue p (doubts ((world_of v).situation p))
+  pub none : (p : ℕ) → (world_of v).open_edits p ≡ None → l.opens p ≡ None
+  pub some : (p : ℕ) (issue : Issue) → (world_of v).open_edits p ≡ Some issue → IsOpenAs l issue p (doubts ((world_of v).situation p))
   pub numbers : (p n : ℕ) → numbered ((world_of v).situation p) ≡ Some n → n ≡ next_number (l.told p)
 
 -- a situation that says the same of its process's edits
@@ -119,13 +119,13 @@ one_some x a b p q = let e : Some a ≡ Some b = sym p ∙ q in cc
 pub fits_of : (layout : Layout) (l : Ledger) (v : WorldValue) → IsOf layout l v → MomentFits (record { world = v; ledger = l })
 fits_of layout l v h = record {
   counted = h.counted;
-  opens = λ p. open_of p ((world_of v).pending p) refl;
+  opens = λ p. open_of p ((world_of v).open_edits p) refl;
   once = none_twice l.counted (subst (λ (es : List Edit). Increasing es) (sym h.counted) h.good.sound.increasing);
   texts = λ c lt. text_right (world_of v) c h.good.sound ∙ ap (λ es. last_text (of_cell c es)) (sym h.counted);
   values = λ quiet. subst (λ (es : List Edit). AreScratch v.sheet.layout.shape es (values_shown (world_of v))) (sym h.counted) (quiet_shows (world_of v) h.good.sound quiet);
 }
   where
-    open_of : (p : ℕ) (x : Option Issue) → (world_of v).pending p ≡ x → option_map (λ (o : Open). o.it.edit) (l.opens p) ≡ option_map (λ (i : Issue). i.edit) ((world_of v).pending p)
+    open_of : (p : ℕ) (x : Option Issue) → (world_of v).open_edits p ≡ x → option_map (λ (o : Open). o.it.edit) (l.opens p) ≡ option_map (λ (i : Issue). i.edit) ((world_of v).open_edits p)
     open_of p None is = ap (λ x. option_map (λ (o : Open). o.it.edit) x) (h.none p is) ∙ ap (λ x. option_map (λ (i : Issue). i.edit) x) (sym is)
     open_of p (Some issue) is = let o = h.some p issue is in ap (λ x. option_map (λ (o : Open). o.it.edit) x) o.is ∙ ap (λ e. Some e) o.edit ∙ ap (λ x. option_map (λ (i : Issue). i.edit) x) (sym is)
 
@@ -145,8 +145,8 @@ module _ (layout : Layout) (l : Ledger) (v v' : WorldValue) (h : IsOf layout l v
     good = good;
     same = same;
     counted = h.counted ∙ sym s.counted;
-    none = λ p is. h.none p (sym (s.pending p) ∙ is);
-    some = λ p issue is. subst (λ (b : Bool). As l issue p b) (sym (n p).doubt) (h.some p issue (sym (s.pending p) ∙ is));
+    none = λ p is. h.none p (sym (s.open_edits p) ∙ is);
+    some = λ p issue is. subst (λ (b : Bool). As l issue p b) (sym (n p).doubt) (h.some p issue (sym (s.open_edits p) ∙ is));
     numbers = λ p k is. h.numbers p k (sym (n p).number ∙ is);
   }
 
@@ -172,9 +172,9 @@ module _ (layout : Layout) (l : Ledger) (v v' : WorldValue) (h : IsOf layout l v
       running = λ sure. (let r = a.running sure in record { since = r.since; more = r.more; grown = r.grown });
     }
 
-    opens_here : (q : ℕ) → q ≡ edit.process → (issue : Issue) → (world_of v').pending q ≡ Some issue → As issued issue q false
+    opens_here : (q : ℕ) → q ≡ edit.process → (issue : Issue) → (world_of v').open_edits q ≡ Some issue → As issued issue q false
     opens_here q here issue is =
-        let one : issue ≡ record { edit = edit; since = length v.counted } = one_some ((world_of v').pending q) issue (record { edit = edit; since = length v.counted }) is (ap (λ x. (world_of v').pending x) here ∙ s.issued) in
+        let one : issue ≡ record { edit = edit; since = length v.counted } = one_some ((world_of v').open_edits q) issue (record { edit = edit; since = length v.counted }) is (ap (λ x. (world_of v').open_edits x) here ∙ s.issued) in
         record {
           o = it;
           is = ap (λ x. put l.opens edit.process (Some it) x) here ∙ put_here l.opens edit.process (Some it);
@@ -195,7 +195,7 @@ module _ (layout : Layout) (l : Ledger) (v v' : WorldValue) (h : IsOf layout l v
       same = same;
       counted = h.counted ∙ sym s.counted;
       none = λ q is. elim (cases_eq q edit.process) [
-        | inl here ↦ absurd (no_some ((world_of v').pending q) _ is (ap (λ x. (world_of v').pending x) here ∙ s.issued))
+        | inl here ↦ absurd (no_some ((world_of v').open_edits q) _ is (ap (λ x. (world_of v').open_edits x) here ∙ s.issued))
         | inr other ↦ put_other l.opens edit.process (Some it) q other ∙ h.none q (sym (s.others q other) ∙ is)
       ];
       some = λ q issue is. elim (cases_eq q edit.process) [
@@ -243,8 +243,8 @@ module _ (layout : Layout) (l : Ledger) (v v' : WorldValue) (h : IsOf layout l v
       good = good;
       same = same;
       counted = map-append (λ (e : Placed). e.edit) l.counted (own.o.it ∷ []) ∙ ap (λ es. es ++ own.o.it.edit ∷ []) h.counted ∙ ap (λ e. v.counted ++ e ∷ []) own.edit ∙ sym s.counted;
-      none = λ q is. h.none q (sym (s.pending q) ∙ is);
-      some = λ q issue is. subst (λ (b : Bool). As pushed issue q b) (sym (n q).doubt) (grows q issue _ (h.some q issue (sym (s.pending q) ∙ is)));
+      none = λ q is. h.none q (sym (s.open_edits q) ∙ is);
+      some = λ q issue is. subst (λ (b : Bool). As pushed issue q b) (sym (n q).doubt) (grows q issue _ (h.some q issue (sym (s.open_edits q) ∙ is)));
       numbers = λ q k is. h.numbers q k (sym (n q).number ∙ is);
     }
 
@@ -285,7 +285,7 @@ module _ (layout : Layout) (l : Ledger) (v v' : WorldValue) (h : IsOf layout l v
         | inr other ↦ put_other l.opens p None q other ∙ h.none q (sym (s.others q other) ∙ is)
       ];
       some = λ q issue is. elim (cases_eq q p) [
-        | inl here ↦ absurd (no_some ((world_of v').pending q) issue (ap (λ x. (world_of v').pending x) here ∙ s.closed) is)
+        | inl here ↦ absurd (no_some ((world_of v').open_edits q) issue (ap (λ x. (world_of v').open_edits x) here ∙ s.closed) is)
         | inr other ↦ (let a = h.some q issue (sym (s.others q other) ∙ is) in subst (λ (b : Bool). As closed issue q b) (sym (others q other).doubt) (record {
           o = a.o;
           is = put_other l.opens p None q other ∙ a.is;
@@ -344,11 +344,11 @@ module _ (layout : Layout) (l : Ledger) (v v' : WorldValue) (h : IsOf layout l v
       good = good;
       same = same;
       counted = h.counted ∙ sym s.counted;
-      none = λ q is. (let was = h.none q (sym (s.pending q) ∙ is) in elim (cases_eq q p) [
+      none = λ q is. (let was = h.none q (sym (s.open_edits q) ∙ is) in elim (cases_eq q p) [
         | inl here ↦ in_doubt_here q here ∙ ap in_doubt was
         | inr other ↦ put_other l.opens p (in_doubt (l.opens p)) q other ∙ was
       ]);
-      some = λ q issue is. (let a = h.some q issue (sym (s.pending q) ∙ is) in elim (cases_eq q p) [
+      some = λ q issue is. (let a = h.some q issue (sym (s.open_edits q) ∙ is) in elim (cases_eq q p) [
         | inl here ↦ subst (λ (b : Bool). As doubted issue q b) (sym (ap (λ x. doubts ((world_of v').situation x)) here ∙ ap doubts s.situation)) (record {
           o = record a.o { doubt = true };
           is = in_doubt_here q here ∙ ap in_doubt a.is;
@@ -376,7 +376,7 @@ module _ (layout : Layout) (l : Ledger) (v v' : WorldValue) (h : IsOf layout l v
 
   -- a crash: every open edit is in doubt, and some are lost
   module _ (c : CrashesTo (world_of v) (world_of v')) where
-    pub known : (p : ℕ) (issue : Issue) → (world_of v).pending p ≡ Some issue → IsKnownAs l p issue
+    pub known : (p : ℕ) (issue : Issue) → (world_of v).open_edits p ≡ Some issue → IsKnownAs l p issue
     known p issue is = let a = h.some p issue is in record { o = a.o; is = a.is; edit = a.edit; only = a.only }
 
     abbrev pub left : Ledger
@@ -385,10 +385,10 @@ module _ (layout : Layout) (l : Ledger) (v v' : WorldValue) (h : IsOf layout l v
     pub left_loses : Loses l left
     left_loses = crash_loses (world_of v) (world_of v') h.good.sound l h.counted known c
 
-    real : (p : ℕ) (issue : Issue) → (world_of v).pending p ≡ Some issue → p < v.sheet.layout.processes
+    real : (p : ℕ) (issue : Issue) → (world_of v).open_edits p ≡ Some issue → p < v.sheet.layout.processes
     real p issue is = elim (cases_lt p v.sheet.layout.processes) [
       | inl lt ↦ lt
-      | inr ge ↦ absurd (no_some ((world_of v).pending p) issue (get_or_past v.pending p None (let n = h.good.pending in omega arith)) is)
+      | inr ge ↦ absurd (no_some ((world_of v).open_edits p) issue (get_or_past v.open_edits p None (let n = h.good.open_edits in omega arith)) is)
     ]
 
     pub crash_of : IsOf layout left v'
@@ -396,9 +396,9 @@ module _ (layout : Layout) (l : Ledger) (v v' : WorldValue) (h : IsOf layout l v
       good = good;
       same = same;
       counted = crash_counted (world_of v) (world_of v') h.good.sound l h.counted known c;
-      none = λ p is. ap in_doubt (h.none p (sym (c.pending p) ∙ is));
+      none = λ p is. ap in_doubt (h.none p (sym (c.open_edits p) ∙ is));
       some = λ p issue is. (
-          let was : (world_of v).pending p ≡ Some issue = sym (c.pending p) ∙ is in
+          let was : (world_of v).open_edits p ≡ Some issue = sym (c.open_edits p) ∙ is in
           let a = h.some p issue was in
           subst (λ (b : Bool). As left issue p b) (sym (ap doubts (c.situation p (real p issue was)))) (record {
             o = record a.o { doubt = true };

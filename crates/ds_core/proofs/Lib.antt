@@ -4,6 +4,8 @@ pub mod Moves
 pub mod Turns
 pub mod Bound
 pub mod Counts
+pub mod CallSteps
+pub mod WorkOwnSteps
 pub mod Runs
 pub mod Solo
 pub mod LoneWork

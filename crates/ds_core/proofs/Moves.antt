@@ -17,7 +17,7 @@ use Rattle.ds_state.specs.declared.stage.Stage.{Stage}
 use Rattle.ds_state.specs.declared.stage.Stage.TheVariants.{Swap, Answer}
 use Rattle.ds_state.specs.declared.situation.Situation.{Situation}
 use Rattle.ds_state.specs.declared.situation.Situation.TheVariants.{Editing}
-use Rattle.ds_edit.specs.Worlds.{Begins, counted_at, pending_at}
+use Rattle.ds_edit.specs.Worlds.{Begins, counted_at, open_edit_at}
 use Rattle.ds_edit.specs.Answers.{IsTrueAnswer, IsTrueOf}
 use Rattle.ds_edit.specs.Begun.{IsBegun}
 use Rattle.ds_edit.proofs.Truth.{answer_true}
@@ -33,7 +33,7 @@ counts_at e (Swap noted) word is = (noted, refl)
 counts_at e _ word is = absurd (cc)
 
 pub same_stays : (old new : WorldValue) → new ≡ old → Stays (world_of old) (world_of new)
-same_stays old new same = subst (λ (v : WorldValue). Stays (world_of old) (world_of v)) (sym same) (record { counted = refl; pending = λ q. refl })
+same_stays old new same = subst (λ (v : WorldValue). Stays (world_of old) (world_of v)) (sym same) (record { counted = refl; open_edits = λ q. refl })
 
 not_below : (w : World) (e : Edit) → AreBelow w e.process e.number → Contains w.counted e → ⊥
 not_below w e below there = let l = All-contains (λ (f : Edit). f.process ≡ e.process → f.number < e.number) w.counted e below there refl in omega arith
@@ -50,9 +50,9 @@ begins_move old new sound process cell text number h =
     let low : e.process < old.layout.processes = rw h.asked.sheet.processes h.asked.is.process in
     let idle : IdleFits old e.process e.number = subst (λ (x : Situation). CallFits old e.process x) b.idle (sound.calls e.process low) in
     let i : Issues old (edit_of e) new = record {
-      none = idle.pending;
-      issued = b.pending;
-      others = b.others_pending;
+      none = idle.open_edits;
+      issued = b.open_edits;
+      others = b.others_open_edits;
       fresh = not_below old (edit_of e) idle.below;
       counted = b.counted;
     } in
@@ -74,20 +74,20 @@ module _ (old new : WorldValue) (g : IsSound (world_of old)) (p : ℕ) (reply : 
   fits : EditFits (world_of old) h.edit.process h.edit
   fits = subst (λ (x : Situation). CallFits (world_of old) h.edit.process x) here (g.calls h.edit.process low)
 
-  open_here : (world_of old).pending p ≡ Some (record { edit = E; since = fits.since })
-  open_here = ap (λ q. (world_of old).pending q) (sym h.mine) ∙ fits.pending
+  open_here : (world_of old).open_edits p ≡ Some (record { edit = E; since = fits.since })
+  open_here = ap (λ q. (world_of old).open_edits q) (sym h.mine) ∙ fits.open_edits
 
-  pending_there : (q : ℕ) → outcome_at h.edit.stage ≡ None → (world_of new).pending q ≡ (world_of old).pending q
+  pending_there : (q : ℕ) → outcome_at h.edit.stage ≡ None → (world_of new).open_edits q ≡ (world_of old).open_edits q
   pending_there q goes = elim (cases_eq q h.edit.process) [
-    | inl same ↦ rw same (h.steps.pending ∙ goes_on_at h.edit.stage _ goes)
-    | inr other ↦ h.steps.others_pending q other
+    | inl same ↦ rw same (h.steps.open_edits ∙ goes_on_at h.edit.stage _ goes)
+    | inr other ↦ h.steps.others_open_edits q other
   ]
 
   steps_on : outcome_at h.edit.stage ≡ None → Stays (world_of old) (world_of new) ⊎ Counts (world_of old) p (world_of new)
   steps_on goes = elim (counted_cases E h.edit.stage h.word) [
     | inl none ↦ inl (record {
       counted = h.steps.counted ∙ ap (λ es. old.counted ++ es) none ∙ append-nil old.counted;
-      pending = λ q. pending_there q goes;
+      open_edits = λ q. pending_there q goes;
     })
     | inr one ↦ inr (
         let swaps = counts_at E h.edit.stage h.word one in
@@ -99,7 +99,7 @@ module _ (old new : WorldValue) (g : IsSound (world_of old)) (p : ℕ) (reply : 
           mine = h.mine;
           not_yet = not_below (world_of old) E knows.standing;
           counted = h.steps.counted ∙ ap (λ es. old.counted ++ es) one;
-          pending = λ q. pending_there q goes;
+          open_edits = λ q. pending_there q goes;
         })
   ]
 
@@ -109,15 +109,15 @@ module _ (old new : WorldValue) (g : IsSound (world_of old)) (p : ℕ) (reply : 
     open_is = open_here;
     number_is = refl;
     is = is;
-    closed = ap (λ q. (world_of new).pending q) (sym h.mine) ∙ h.steps.pending ∙ ap (λ s. pending_at ((world_of old).pending h.edit.process) s) at;
-    others = λ q ne. h.steps.others_pending q (λ same. ne (same ∙ h.mine));
+    closed = ap (λ q. (world_of new).open_edits q) (sym h.mine) ∙ h.steps.open_edits ∙ ap (λ s. open_edit_at ((world_of old).open_edits h.edit.process) s) at;
+    others = λ q ne. h.steps.others_open_edits q (λ same. ne (same ∙ h.mine));
     counted = h.steps.counted ∙ ap (λ s. old.counted ++ counted_at E s h.word) at ∙ append-nil old.counted;
   }
 
   true_here : (how : Outcome) → h.edit.stage ≡ Answer how → IsTrueOf (world_of old) E fits.since how
   true_here how at =
       let t : IsTrueAnswer (world_of old) E how = answer_true h.edit how (world_of old) g low at here in
-      let since : t.since ≡ fits.since = same_since (record { edit = E; since = t.since }) (record { edit = E; since = fits.since }) (sym t.issued ∙ fits.pending) in
+      let since : t.since ≡ fits.since = same_since (record { edit = E; since = t.since }) (record { edit = E; since = fits.since }) (sym t.issued ∙ fits.open_edits) in
       subst (λ (n : ℕ). IsTrueOf (world_of old) E n how) since t.holds
 
   answers : (how : Outcome) → h.edit.stage ≡ Answer how → StepMoves (world_of old) p (Answered (answer_of old.sheet.layout.processes h.edit.number how)) (world_of new)

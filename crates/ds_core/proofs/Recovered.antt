@@ -206,8 +206,8 @@ tells_recovery_begun layout l v v' p h t b =
     tells_turn p l l v v' t (recovery_begins_turn v v' p h.good.sound b) (record {
       layout = g.layout;
       told = λ c is. (let k = t.told p c is in told_on l.counted l.counted (world_of v) (world_of v') p c k g.layout (sides_same (world_of v).memory (world_of v').memory (Header p c.it.edit.number) g.memory) k.counted);
-      opens = λ issue is. t.opens p issue (sym (g.pending p) ∙ is);
-      announced = λ doubt none. ap (λ x. x / 4) (g.memory.cached (Announce p)) ∙ announces_now (world_of v) h.good.sound p b.there (sym (g.pending p) ∙ none) (l.told p) (λ n is. h.numbers p n is) (λ d. t.announced p b.there d (sym (g.pending p) ∙ none));
+      opens = λ issue is. t.opens p issue (sym (g.open_edits p) ∙ is);
+      announced = λ doubt none. ap (λ x. x / 4) (g.memory.cached (Announce p)) ∙ announces_now (world_of v) h.good.sound p b.there (sym (g.open_edits p) ∙ none) (l.told p) (λ n is. h.numbers p n is) (λ d. t.announced p b.there d (sym (g.open_edits p) ∙ none));
       sees = λ e is. (let same : steps.at (steps.fresh p (cells_of v.sheet.layout) v.sheet.layout.processes) (stages.LoadMark 0) ≡ e = (let x = sym g.situation ∙ is in cc) in
           subst (λ (x : PlainRecovery). SeesCell (world_of v') p x) same tt);
     }) (λ q ne. refl) (λ q c ne is. (t.told q c is).counted)
@@ -231,16 +231,16 @@ module _ (layout : Layout) (l : Ledger) (v v' : WorldValue) (p : ℕ) (reply : R
     on : steps.effect_at s.steps.recovery s.steps.recovery.stage ≡ effects.GoesOn
     on = sym s.steps.is ∙ goes
 
-    pends : (q : ℕ) → (world_of v').pending q ≡ (world_of v).pending q
+    pends : (q : ℕ) → (world_of v').open_edits q ≡ (world_of v).open_edits q
     pends = recovery_pending v v' p reply s goes
 
     -- where no edit is open, nothing is announced
-    quiet_word : (world_of v).pending p ≡ None → (world_of v').memory.cached (Announce p) ≡ (world_of v).memory.cached (Announce p)
+    quiet_word : (world_of v).open_edits p ≡ None → (world_of v').memory.cached (Announce p) ≡ (world_of v).memory.cached (Announce p)
     quiet_word none = elim (plain_or_store s.steps.recovery s.steps.recovery.stage) [
       | inl plain ↦ cached_stays s.steps.recovery.process (steps.access_at s.steps.recovery s.steps.recovery.stage) (world_of v).memory (world_of v').memory s.steps.word (Announce p) plain (λ c is. cc) s.steps.steps.memory
       | inr (how, at) ↦ (
           let r = subst (λ (x : RecoverStage). ResolvedFits (world_of v) s.steps.recovery.process s.steps.recovery.announcement s.steps.recovery.cell (resolved_at x)) at recovery_fits.resolved in
-          let open_there : (world_of v).pending p ≡ Some r.issue = ap (λ x. (world_of v).pending x) (sym s.steps.mine) ∙ r.it.issued in
+          let open_there : (world_of v).open_edits p ≡ Some r.issue = ap (λ x. (world_of v).open_edits x) (sym s.steps.mine) ∙ r.it.issued in
           absurd (let bad : None ≡ Some r.issue = sym none ∙ open_there in cc))
     ]
 

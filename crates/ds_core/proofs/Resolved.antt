@@ -110,7 +110,7 @@ pub record IsResolved (layout : Layout) (l : Ledger) (p : ℕ) (answer : Answer)
 module _ (layout : Layout) (l l' : Ledger) (v v' : WorldValue) (h : IsOf layout l v) (good : IsGood v') (p next : ℕ) (same : v'.sheet.layout ≡ layout) (list : l'.counted ≡ l.counted) (counted : v'.counted ≡ v.counted)
     (gone : l'.opens p ≡ None) (opens : (q : ℕ) → q ≢ p → l'.opens q ≡ l.opens q) (told : (q : ℕ) → q ≢ p → l'.told q ≡ l.told q)
     (now : (world_of v').situation p ≡ Idle next) (others : (q : ℕ) → q ≢ p → (world_of v').situation q ≡ (world_of v).situation q)
-    (none : (world_of v').pending p ≡ None) (pends : (q : ℕ) → q ≢ p → (world_of v').pending q ≡ (world_of v).pending q) (number : next ≡ next_number (l'.told p)) where
+    (none : (world_of v').open_edits p ≡ None) (pends : (q : ℕ) → q ≢ p → (world_of v').open_edits q ≡ (world_of v).open_edits q) (number : next ≡ next_number (l'.told p)) where
   open_on : (q : ℕ) (issue : Issue) (b : Bool) → q ≢ p → IsOpenAs l issue q b → IsOpenAs l' issue q b
   open_on q issue b ne a = record {
     o = a.o;
@@ -132,7 +132,7 @@ module _ (layout : Layout) (l l' : Ledger) (v v' : WorldValue) (h : IsOf layout 
       | inr other ↦ opens q other ∙ h.none q (sym (pends q other) ∙ is)
     ];
     some = λ q issue is. elim (cases_eq q p) [
-      | inl here ↦ absurd (no_some ((world_of v').pending q) issue (ap (λ x. (world_of v').pending x) here ∙ none) is)
+      | inl here ↦ absurd (no_some ((world_of v').open_edits q) issue (ap (λ x. (world_of v').open_edits x) here ∙ none) is)
       | inr other ↦ subst (λ (b : Bool). IsOpenAs l' issue q b) (ap doubts (sym (others q other))) (open_on q issue _ other (h.some q issue (sym (pends q other) ∙ is)))
     ];
     numbers = λ q n is. elim (cases_eq q p) [
@@ -206,14 +206,14 @@ module _ (layout : Layout) (l : Ledger) (v v' : WorldValue) (h : IsOf layout l v
   sure : doubts ((world_of v').situation p) ≡ false
   sure = ap doubts now
 
-  gone : (world_of v').pending p ≡ None
-  gone = ap (λ q. (world_of v').pending q) (sym s.steps.mine) ∙ s.steps.steps.pending ∙ ap (λ (x : RecoverStage). steps.pending_at ((world_of v).pending s.steps.recovery.process) x) found.at
+  gone : (world_of v').open_edits p ≡ None
+  gone = ap (λ q. (world_of v').open_edits q) (sym s.steps.mine) ∙ s.steps.steps.open_edits ∙ ap (λ (x : RecoverStage). steps.open_edit_at ((world_of v).open_edits s.steps.recovery.process) x) found.at
 
   others : (q : ℕ) → q ≢ p → (world_of v').situation q ≡ (world_of v).situation q
   others q ne = s.steps.steps.others q (λ same. ne (same ∙ s.steps.mine))
 
-  pends : (q : ℕ) → q ≢ p → (world_of v').pending q ≡ (world_of v).pending q
-  pends q ne = s.steps.steps.others_pending q (λ same. ne (same ∙ s.steps.mine))
+  pends : (q : ℕ) → q ≢ p → (world_of v').open_edits q ≡ (world_of v).open_edits q
+  pends q ne = s.steps.steps.others_open_edits q (λ same. ne (same ∙ s.steps.mine))
 
   cached_word : (world_of v).memory.cached (Announce p) ≡ s.steps.recovery.announcement
   cached_word = announced_word s.steps.recovery.announcement found.how (world_of v) p s.steps.recovery.cell resolved
@@ -263,9 +263,9 @@ module _ (layout : Layout) (l : Ledger) (v v' : WorldValue) (h : IsOf layout l v
     quiet_tells = tells_on p l l' v v' t (turn_leaves p v v' (recovery_turn v v' p (Answered answer) h.good.sound s)) s.steps.steps.layout told
         (λ q c is. subst (λ (es : List Placed). IsCounted es c.it c.counts) (sym list) (t.told q c is).counted)
         (λ c is. sides_same (world_of v).memory (world_of v').memory (Header p c.it.edit.number) memory)
-        (λ issue is. absurd (no_some ((world_of v').pending p) issue gone is)) sure
+        (λ issue is. absurd (no_some ((world_of v').open_edits p) issue gone is)) sure
 
-  repeats : (world_of v).pending p ≡ None → IsResolved layout l p answer v'
+  repeats : (world_of v).open_edits p ≡ None → IsResolved layout l p answer v'
   repeats none =
       let same = next_word ∙ t.announced p s.steps.there (ap doubts s.steps.at) none in
       record {
@@ -275,7 +275,7 @@ module _ (layout : Layout) (l : Ledger) (v v' : WorldValue) (h : IsOf layout l v
         tells = quiet_tells l refl (h.none p none) (λ q ne. refl) (λ q. refl) same;
       }
 
-  module _ (issue : Issue) (is : (world_of v).pending p ≡ Some issue) where
+  module _ (issue : Issue) (is : (world_of v).open_edits p ≡ Some issue) where
     own : IsOpenAs l issue p true
     own = subst (λ (b : Bool). IsOpenAs l issue p b) (ap doubts s.steps.at) (h.some p issue is)
 
@@ -389,9 +389,9 @@ module _ (layout : Layout) (l : Ledger) (v v' : WorldValue) (h : IsOf layout l v
         let number : suc issue.edit.number ≡ (world_of v).memory.cached (Announce p) / 4 = sym (announced_number issue.edit.number (phase_of end)) ∙ ap (λ x. x / 4) (sym c) in
         is_closed some.0 some.1 (omega arith) written (stands_so doubt.standing end some.0 said doubt.stands same)
 
-  by_pending : (o : Option Issue) → (world_of v).pending p ≡ o → IsResolved layout l p answer v'
+  by_pending : (o : Option Issue) → (world_of v).open_edits p ≡ o → IsResolved layout l p answer v'
   by_pending None is = repeats is
   by_pending (Some issue) is = by_announced issue is (doubt issue is).now (doubt issue is).said (doubt issue is).cached (doubt issue is).written
 
   pub resolves : IsResolved layout l p answer v'
-  resolves = by_pending ((world_of v).pending p) refl
+  resolves = by_pending ((world_of v).open_edits p) refl

@@ -43,7 +43,7 @@ module _ (v : WorldValue) (sheet : SheetValue) (p room : ℕ) (k : IsReserved v 
     situation = get_or-set_same v.situations p situation.Stopped (situation.Idle 0) there;
     others = λ q ne. get_or-set_other v.situations p q situation.Stopped (situation.Idle 0) ne;
     counted = refl;
-    pending = λ q. refl;
+    open_edits = λ q. refl;
   }
 
   pub stop_reserved : IsReserved (stopped v sheet p) room
@@ -51,7 +51,7 @@ module _ (v : WorldValue) (sheet : SheetValue) (p room : ℕ) (k : IsReserved v 
     good = record {
       sound = (stop_keeps p (world_of v) (world_of (stopped v sheet p)) k.good.sound stop_there stops_in).sound;
       situations = length-set v.situations p situation.Stopped ∙ k.good.situations ∙ sym processes;
-      pending = k.good.pending ∙ sym processes;
+      open_edits = k.good.open_edits ∙ sym processes;
       reports = rw layout k.good.reports;
       answered = k.good.answered;
       counts = no_more v.situations p situation.Stopped v.settled SETTLED_MOST there refl k.good.counts;
@@ -91,11 +91,11 @@ module _ (v : WorldValue) (sheet : SheetValue) (situations : List Situation) (ro
     memory = crash;
     situation = λ q lt. all q (let s = k.good.situations in omega arith);
     counted = refl;
-    pending = λ q. refl;
+    open_edits = λ q. refl;
   }
 
   -- what was answered is not lost: only an open edit is
-  stays : (e : Edit) → Contains v.counted e → ((issue : Issue) → (world_of v).pending e.process ≡ Some issue → issue.edit ≢ e) → Contains (survivors (memory v.sheet) v.counted) e
+  stays : (e : Edit) → Contains v.counted e → ((issue : Issue) → (world_of v).open_edits e.process ≡ Some issue → issue.edit ≢ e) → Contains (survivors (memory v.sheet) v.counted) e
   unfolding survivors
   stays e there closed = to_filter (λ (f : Edit). if is_lost (memory v.sheet) f then false else true) v.counted e there (kept ((if is_lost (memory v.sheet) e then false else true)) refl)
     where
@@ -103,7 +103,7 @@ module _ (v : WorldValue) (sheet : SheetValue) (situations : List Situation) (ro
       kept true is = is
       kept false is = (let o = lost_open (world_of v) k.good.sound e there is in absurd (closed o.issue o.issued o.same))
 
-  answered : HasAnswered (survivors (memory v.sheet) v.counted) (world_of v).pending v.done
+  answered : HasAnswered (survivors (memory v.sheet) v.counted) (world_of v).open_edits v.done
   answered = let a = k.good.answered in record {
     closed = a.closed;
     as_many = a.as_many;
@@ -117,7 +117,7 @@ module _ (v : WorldValue) (sheet : SheetValue) (situations : List Situation) (ro
     good = record {
       sound = crash_sound (world_of v) (world_of (crashed v sheet situations)) k.good.sound crashes_to;
       situations = count ∙ k.good.situations ∙ sym same_processes;
-      pending = k.good.pending ∙ sym same_processes;
+      open_edits = k.good.open_edits ∙ sym same_processes;
       reports = rw layout k.good.reports;
       answered = answered;
       counts = (let none = none_stopped situations all in let c = k.good.counts in omega arith);

@@ -45,11 +45,11 @@ rest_word w p zero h = let c = h.cached in omega arith
 rest_word w p (suc n) h = ap (λ x. x / 4) h.cached ∙ announced_number n (phase_among w.counted p n)
 
 -- where no edit is open, both sides announce the same, and the number behind the last closed edit's
-module _ (w : World) (sound : IsSound w) (p : ℕ) (low : p < w.layout.processes) (none : w.pending p ≡ None) where
+module _ (w : World) (sound : IsSound w) (p : ℕ) (low : p < w.layout.processes) (none : w.open_edits p ≡ None) where
   sides_of : (s : Situation) → w.situation p ≡ s → w.memory.persisted (Announce p) ≡ w.memory.cached (Announce p)
   sides_of (Idle next) is = let f = subst (λ (x : Situation). CallFits w p x) is (sound.calls p low) in f.persisted ∙ sym f.cached
   sides_of Stopped is = let f = subst (λ (x : Situation). CallFits w p x) is (sound.calls p low) in let d = subst (λ (o : Option Issue). DoubtFits w p o) none f.doubt in d.rest.persisted ∙ sym d.rest.cached
-  sides_of (Editing e) is = absurd (let f = subst (λ (x : Situation). CallFits w p x) is (sound.calls p low) in let bad : None ≡ Some (record { edit = edit_of e; since = f.since }) = sym none ∙ f.pending in cc)
+  sides_of (Editing e) is = absurd (let f = subst (λ (x : Situation). CallFits w p x) is (sound.calls p low) in let bad : None ≡ Some (record { edit = edit_of e; since = f.since }) = sym none ∙ f.open_edits in cc)
   sides_of (Working e) is = let f = subst (λ (x : Situation). CallFits w p x) is (sound.calls p low) in subst (λ q. w.memory.persisted (Announce q) ≡ w.memory.cached (Announce q)) f.mine (f.rest.persisted ∙ sym f.rest.cached)
   sides_of (Recovering e) is = let f = subst (λ (x : Situation). CallFits w p x) is (sound.calls p low) in let d = subst (λ (o : Option Issue). DoubtFits w p o) none f.doubt in d.rest.persisted ∙ sym d.rest.cached
   sides_of (Showing e) is = let f = subst (λ (x : Situation). CallFits w p x) is (sound.calls p low) in subst (λ q. w.memory.persisted (Announce q) ≡ w.memory.cached (Announce q)) f.1.mine (f.1.rest.persisted ∙ sym f.1.rest.cached)
@@ -59,9 +59,9 @@ module _ (w : World) (sound : IsSound w) (p : ℕ) (low : p < w.layout.processes
 
   module _ (told : Option Closed) (numbers : (n : ℕ) → numbered (w.situation p) ≡ Some n → n ≡ next_number told) (carried : doubts (w.situation p) ≡ true → Announces w p told) where
     by_situation : (s : Situation) → w.situation p ≡ s → Announces w p told
-    by_situation (Idle next) is = let f = subst (λ (x : Situation). CallFits w p x) is (sound.calls p low) in rest_word w p next (record { number = f.number; pending = f.pending; below = f.below; cached = f.cached; persisted = f.persisted }) ∙ numbers next (ap numbered is)
+    by_situation (Idle next) is = let f = subst (λ (x : Situation). CallFits w p x) is (sound.calls p low) in rest_word w p next (record { number = f.number; open_edits = f.open_edits; below = f.below; cached = f.cached; persisted = f.persisted }) ∙ numbers next (ap numbered is)
     by_situation Stopped is = carried (ap doubts is)
-    by_situation (Editing e) is = absurd (let f = subst (λ (x : Situation). CallFits w p x) is (sound.calls p low) in let bad : None ≡ Some (record { edit = edit_of e; since = f.since }) = sym none ∙ f.pending in cc)
+    by_situation (Editing e) is = absurd (let f = subst (λ (x : Situation). CallFits w p x) is (sound.calls p low) in let bad : None ≡ Some (record { edit = edit_of e; since = f.since }) = sym none ∙ f.open_edits in cc)
     by_situation (Working e) is = let f = subst (λ (x : Situation). CallFits w p x) is (sound.calls p low) in ap (λ q. w.memory.cached (Announce q) / 4) (sym f.mine) ∙ rest_word w e.process e.next f.rest ∙ numbers e.next (ap numbered is)
     by_situation (Recovering e) is = carried (ap doubts is)
     by_situation (Showing e) is = let f = subst (λ (x : Situation). CallFits w p x) is (sound.calls p low) in ap (λ q. w.memory.cached (Announce q) / 4) (sym f.1.mine) ∙ rest_word w e.process e.next f.1.rest ∙ numbers e.next (ap numbered is)
@@ -87,8 +87,8 @@ header_is p n _ = inr (λ is. cc)
 pub tells_evicted : (l : Ledger) (v v' : WorldValue) (r : Place) → Tells l v → Evicts r (world_of v) (world_of v') → Tells l v'
 tells_evicted l v v' r t e = record {
   told = λ p c is. (let k = t.told p c is in told_on l.counted l.counted (world_of v) (world_of v') p c k e.layout (sides_evicted r (world_of v).memory (world_of v').memory (Header p c.it.edit.number) e.memory (header_is p c.it.edit.number r)) k.counted);
-  opens = λ p issue is. t.opens p issue (sym (e.pending p) ∙ is);
-  announced = λ p lt doubt none. ap (λ x. x / 4) (e.memory.cached (Announce p)) ∙ t.announced p (rw (sym e.layout) lt) (ap doubts (sym (e.situation p)) ∙ doubt) (sym (e.pending p) ∙ none);
+  opens = λ p issue is. t.opens p issue (sym (e.open_edits p) ∙ is);
+  announced = λ p lt doubt none. ap (λ x. x / 4) (e.memory.cached (Announce p)) ∙ t.announced p (rw (sym e.layout) lt) (ap doubts (sym (e.situation p)) ∙ doubt) (sym (e.open_edits p) ∙ none);
   sees = λ p f is. has_seen f.stage _ _ (λ was. was ∙ ap (λ (x : Layout). cell_told x ((world_of v).memory.cached (Header p (number_of f)))) (sym e.layout) ∙ ap (λ x. cell_told v'.sheet.layout x) (sym (e.memory.cached (Header p (number_of f))))) (t.sees p f (sym (e.situation p) ∙ is));
 }
 
@@ -107,9 +107,9 @@ tells_stopped layout l v v' h t p s l' counted told =
       layout = s.stops.layout;
       told = λ c is. (let k = t.told p c (sym (same p) ∙ is) in
           told_on l.counted l'.counted (world_of v) (world_of v') p c k s.stops.layout (sides_stopped p (world_of v).memory (world_of v').memory (Header p c.it.edit.number) s.stops.memory) (subst (λ (es : List Placed). IsCounted es c.it c.counts) (sym counted) k.counted));
-      opens = λ issue is. t.opens p issue (sym (s.stops.pending p) ∙ is) ∙ ap next_number (sym (same p));
+      opens = λ issue is. t.opens p issue (sym (s.stops.open_edits p) ∙ is) ∙ ap next_number (sym (same p));
       announced = λ doubt none. ap (λ x. x / 4) (s.stops.memory.cached (Announce p))
-          ∙ announces_now (world_of v) h.good.sound p s.there (sym (s.stops.pending p) ∙ none) (l.told p) (λ n is. h.numbers p n is) (λ d. t.announced p s.there d (sym (s.stops.pending p) ∙ none)) ∙ ap next_number (sym (same p));
+          ∙ announces_now (world_of v) h.good.sound p s.there (sym (s.stops.open_edits p) ∙ none) (l.told p) (λ n is. h.numbers p n is) (λ d. t.announced p s.there d (sym (s.stops.open_edits p) ∙ none)) ∙ ap next_number (sym (same p));
       sees = λ e is. absurd (let bad : Stopped ≡ Recovering e = sym s.stops.situation ∙ is in cc);
     }) (λ q ne. same q) (λ q c ne is. subst (λ (es : List Placed). IsCounted es c.it c.counts) (sym counted) (t.told q c is).counted)
 
@@ -121,9 +121,9 @@ module _ (layout : Layout) (l : Ledger) (v v' : WorldValue) (h : IsOf layout l v
 
   -- a closed edit is not open
   not_open : (p : ℕ) (k : Closed) (o : Open) → l.told p ≡ Some k → l.opens p ≡ Some o → o.it ≡ k.it → ⊥
-  not_open p k o told is same = by ((world_of v).pending p) refl
+  not_open p k o told is same = by ((world_of v).open_edits p) refl
     where
-      by : (x : Option Issue) → (world_of v).pending p ≡ x → ⊥
+      by : (x : Option Issue) → (world_of v).open_edits p ≡ x → ⊥
       by None none = (let bad : None ≡ Some o = sym (h.none p none) ∙ is in cc)
       by (Some issue) some =
           let a = h.some p issue some in
@@ -148,10 +148,10 @@ module _ (layout : Layout) (l : Ledger) (v v' : WorldValue) (h : IsOf layout l v
   tells_crashed = record {
     told = λ p k is. (let was = sym (told_same p) ∙ is in
         told_on l.counted l'.counted (world_of v) (world_of v') p k (t.told p k was) c.layout (sides_crashed (world_of v).memory (world_of v').memory (Header p k.it.edit.number) c.memory) (left_counted p k was));
-    opens = λ p issue is. t.opens p issue (sym (c.pending p) ∙ is) ∙ ap next_number (sym (told_same p));
+    opens = λ p issue is. t.opens p issue (sym (c.open_edits p) ∙ is) ∙ ap next_number (sym (told_same p));
     announced = λ p lt doubt none. (
         let low : p < v.sheet.layout.processes = rw (sym c.layout) lt in
-        let none_before = sym (c.pending p) ∙ none in
+        let none_before = sym (c.open_edits p) ∙ none in
         ap (λ x. x / 4) (c.memory.cached (Announce p) ∙ sides_agree (world_of v) h.good.sound p low none_before)
         ∙ announces_now (world_of v) h.good.sound p low none_before (l.told p) (λ n is. h.numbers p n is) (λ d. t.announced p low d none_before) ∙ ap next_number (sym (told_same p)));
     sees = λ p e is. elim (cases_lt p v.sheet.layout.processes) [
@@ -166,7 +166,7 @@ module _ (layout : Layout) (l : Ledger) (v v' : WorldValue) (h : IsOf layout l v
 module _ (q : ℕ) (l l' : Ledger) (v v' : WorldValue) (t : Tells l v) (leaves : LeavesOthers q v v') (layout : v'.sheet.layout ≡ v.sheet.layout) (told : (p : ℕ) → l'.told p ≡ l.told p)
     (counted : (p : ℕ) (c : Closed) → l.told p ≡ Some c → IsCounted l'.counted c.it c.counts)
     (sides : (c : Closed) → l.told q ≡ Some c → SidesStay (world_of v).memory (world_of v').memory (Header q c.it.edit.number))
-    (opens : (issue : Issue) → (world_of v').pending q ≡ Some issue → issue.edit.number ≡ next_number (l.told q)) (sure : doubts ((world_of v').situation q) ≡ false) where
+    (opens : (issue : Issue) → (world_of v').open_edits q ≡ Some issue → issue.edit.number ≡ next_number (l.told q)) (sure : doubts ((world_of v').situation q) ≡ false) where
   pub tells_on : Tells l' v'
   tells_on = tells_left q l l' v v' t leaves (record {
     layout = layout;
@@ -178,14 +178,14 @@ module _ (q : ℕ) (l l' : Ledger) (v v' : WorldValue) (t : Tells l v) (leaves :
 
 -- which leaves the ledger
 pub tells_quiet : (l : Ledger) (v v' : WorldValue) (q : ℕ) → Tells l v → IsTurn q v v' → v'.sheet.layout ≡ v.sheet.layout → ((c : Closed) → l.told q ≡ Some c → SidesStay (world_of v).memory (world_of v').memory (Header q c.it.edit.number))
-    → (world_of v').pending q ≡ (world_of v).pending q → doubts ((world_of v').situation q) ≡ false → Tells l v'
+    → (world_of v').open_edits q ≡ (world_of v).open_edits q → doubts ((world_of v').situation q) ≡ false → Tells l v'
 tells_quiet l v v' q t turn layout sides pending sure =
     tells_on q l l v v' t (turn_leaves q v v' turn) layout (λ p. refl) (λ p c is. (t.told p c is).counted) sides (λ issue is. t.opens q issue (sym pending ∙ is)) sure
 
 -- which closes this edit, and leaves the list
 module _ (q : ℕ) (l l' : Ledger) (v v' : WorldValue) (t : Tells l v) (turn : IsTurn q v v') (layout : v'.sheet.layout ≡ v.sheet.layout) (c : Closed) (here : l'.told q ≡ Some c) (others : (p : ℕ) → p ≢ q → l'.told p ≡ l.told p)
     (counted : l'.counted ≡ l.counted) (is_told : IsTold l.counted (world_of v) q c) (sides : SidesStay (world_of v).memory (world_of v').memory (Header q c.it.edit.number))
-    (none : (world_of v').pending q ≡ None) (sure : doubts ((world_of v').situation q) ≡ false) where
+    (none : (world_of v').open_edits q ≡ None) (sure : doubts ((world_of v').situation q) ≡ false) where
   on_list : (d : Closed) → IsCounted l.counted d.it d.counts → IsCounted l'.counted d.it d.counts
   on_list d h = subst (λ (es : List Placed). IsCounted es d.it d.counts) (sym counted) h
 
@@ -195,7 +195,7 @@ module _ (q : ℕ) (l l' : Ledger) (v v' : WorldValue) (t : Tells l v) (turn : I
     told = λ d is. (
         let same : c ≡ d = one_some (l'.told q) c d here is in
         subst (λ (x : Closed). IsTold l'.counted (world_of v') q x) same (told_on l.counted l'.counted (world_of v) (world_of v') q c is_told layout sides (on_list c is_told.counted)));
-    opens = λ issue is. absurd (no_some ((world_of v').pending q) issue none is);
+    opens = λ issue is. absurd (no_some ((world_of v').open_edits q) issue none is);
     announced = λ doubt open_none. not_doubted ((world_of v').situation q) _ sure doubt;
     sees = λ e is. not_recovering ((world_of v').situation q) e _ sure is;
   }) others (λ p d ne is. on_list d (t.told p d is).counted)

@@ -85,8 +85,8 @@ Announces w p told = w.memory.cached (Announce p) / 4 ≡ next_number told
 
 pub record Tells (l : Ledger) (v : WorldValue) : Type 0 where
   pub told : (p : ℕ) (c : Closed) → l.told p ≡ Some c → IsTold l.counted (world_of v) p c
-  pub opens : (p : ℕ) (issue : Issue) → (world_of v).pending p ≡ Some issue → issue.edit.number ≡ next_number (l.told p)
-  pub announced : (p : ℕ) → p < v.sheet.layout.processes → doubts ((world_of v).situation p) ≡ true → (world_of v).pending p ≡ None → Announces (world_of v) p (l.told p)
+  pub opens : (p : ℕ) (issue : Issue) → (world_of v).open_edits p ≡ Some issue → issue.edit.number ≡ next_number (l.told p)
+  pub announced : (p : ℕ) → p < v.sheet.layout.processes → doubts ((world_of v).situation p) ≡ true → (world_of v).open_edits p ≡ None → Announces (world_of v) p (l.told p)
   pub sees : (p : ℕ) (e : PlainRecovery) → (world_of v).situation p ≡ Recovering e → SeesCell (world_of v) p e
 
 -- ---- how it lasts
@@ -112,14 +112,14 @@ counted_more es more it false h front cases new = λ f there a b. elim (cases f 
 pub record OwnTold (q : ℕ) (l' : Ledger) (v v' : WorldValue) : Type 0 where
   pub layout : v'.sheet.layout ≡ v.sheet.layout
   pub told : (c : Closed) → l'.told q ≡ Some c → IsTold l'.counted (world_of v') q c
-  pub opens : (issue : Issue) → (world_of v').pending q ≡ Some issue → issue.edit.number ≡ next_number (l'.told q)
-  pub announced : doubts ((world_of v').situation q) ≡ true → (world_of v').pending q ≡ None → Announces (world_of v') q (l'.told q)
+  pub opens : (issue : Issue) → (world_of v').open_edits q ≡ Some issue → issue.edit.number ≡ next_number (l'.told q)
+  pub announced : doubts ((world_of v').situation q) ≡ true → (world_of v').open_edits q ≡ None → Announces (world_of v') q (l'.told q)
   pub sees : (e : PlainRecovery) → (world_of v').situation q ≡ Recovering e → SeesCell (world_of v') q e
 
 -- what it leaves of the others' words and of their edits
 pub record LeavesOthers (q : ℕ) (v v' : WorldValue) : Type 0 where
   pub situation : (p : ℕ) → p ≢ q → (world_of v').situation p ≡ (world_of v).situation p
-  pub pending : (p : ℕ) → p ≢ q → (world_of v').pending p ≡ (world_of v).pending p
+  pub open_edits : (p : ℕ) → p ≢ q → (world_of v').open_edits p ≡ (world_of v).open_edits p
   pub announced : (p : ℕ) → p ≢ q → (world_of v').memory.cached (Announce p) ≡ (world_of v).memory.cached (Announce p)
   pub header : (p n : ℕ) → p ≢ q → (world_of v').memory.cached (Header p n) ≡ (world_of v).memory.cached (Header p n)
   pub sides : (p n : ℕ) → p ≢ q → SidesStay (world_of v).memory (world_of v').memory (Header p n)
@@ -127,7 +127,7 @@ pub record LeavesOthers (q : ℕ) (v v' : WorldValue) : Type 0 where
 pub turn_leaves : (q : ℕ) (v v' : WorldValue) → IsTurn q v v' → LeavesOthers q v v'
 turn_leaves q v v' turn = record {
   situation = λ p ne. turn.others p ne;
-  pending = λ p ne. (turn.keeps.others p ne).pending;
+  open_edits = λ p ne. (turn.keeps.others p ne).open_edits;
   announced = λ p ne. ((turn.keeps.others p ne).grows Version).owned_cached (Announce p) refl (λ x. cc);
   header = λ p n ne. ((turn.keeps.others p ne).grows Version).owned_cached (Header p n) refl (λ x. cc);
   sides = λ p n ne. sides_relied p n (world_of v) (world_of v') (turn.keeps.others p ne);
@@ -144,13 +144,13 @@ module _ (q : ℕ) (l l' : Ledger) (v v' : WorldValue) (t : Tells l v) (leaves :
           told_on l.counted l'.counted (world_of v) (world_of v') p c (t.told p c was) own.layout (leaves.sides p c.it.edit.number other) (counted p c other was))
     ];
     opens = λ p issue is. elim (cases_eq p q) [
-      | inl here ↦ own.opens issue (ap (λ x. (world_of v').pending x) (sym here) ∙ is) ∙ ap next_number (ap l'.told (sym here))
-      | inr other ↦ t.opens p issue (sym (leaves.pending p other) ∙ is) ∙ ap next_number (sym (same p other))
+      | inl here ↦ own.opens issue (ap (λ x. (world_of v').open_edits x) (sym here) ∙ is) ∙ ap next_number (ap l'.told (sym here))
+      | inr other ↦ t.opens p issue (sym (leaves.open_edits p other) ∙ is) ∙ ap next_number (sym (same p other))
     ];
     announced = λ p lt doubt none. elim (cases_eq p q) [
-      | inl here ↦ subst (λ x. (world_of v').memory.cached (Announce x) / 4 ≡ next_number (l'.told x)) (sym here) (own.announced (ap (λ x. doubts ((world_of v').situation x)) (sym here) ∙ doubt) (ap (λ x. (world_of v').pending x) (sym here) ∙ none))
+      | inl here ↦ subst (λ x. (world_of v').memory.cached (Announce x) / 4 ≡ next_number (l'.told x)) (sym here) (own.announced (ap (λ x. doubts ((world_of v').situation x)) (sym here) ∙ doubt) (ap (λ x. (world_of v').open_edits x) (sym here) ∙ none))
       | inr other ↦ (
-          let before = t.announced p (rw (sym own.layout) lt) (ap doubts (sym (leaves.situation p other)) ∙ doubt) (sym (leaves.pending p other) ∙ none) in
+          let before = t.announced p (rw (sym own.layout) lt) (ap doubts (sym (leaves.situation p other)) ∙ doubt) (sym (leaves.open_edits p other) ∙ none) in
           ap (λ x. x / 4) (leaves.announced p other) ∙ before ∙ ap next_number (sym (same p other)))
     ];
     sees = λ p e is. elim (cases_eq p q) [

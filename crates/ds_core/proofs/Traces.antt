@@ -9,33 +9,33 @@ use Rattle.ds_core.specs.declared.reply.Reply.TheVariants.{Stepped, Answered}
 -- nothing
 pub record Stays (old new : World) : Type 0 where
   pub counted : new.counted ≡ old.counted
-  pub pending : (q : ℕ) → new.pending q ≡ old.pending q
+  pub open_edits : (q : ℕ) → new.open_edits q ≡ old.open_edits q
 
 -- the process, which had none, has an edit that is not answered; it does not count yet
 pub record Issues (old : World) (edit : Edit) (new : World) : Type 0 where
-  pub none : old.pending edit.process ≡ None
-  pub issued : new.pending edit.process ≡ Some (record { edit = edit; since = length old.counted })
-  pub others : (q : ℕ) → q ≢ edit.process → new.pending q ≡ old.pending q
+  pub none : old.open_edits edit.process ≡ None
+  pub issued : new.open_edits edit.process ≡ Some (record { edit = edit; since = length old.counted })
+  pub others : (q : ℕ) → q ≢ edit.process → new.open_edits q ≡ old.open_edits q
   pub fresh : Contains old.counted edit → ⊥
   pub counted : new.counted ≡ old.counted
 
 -- the process's edit, which did not count, comes to count
 pub record Counts (old : World) (p : ℕ) (new : World) : Type 0 where
   pub issue : Issue
-  pub open_is : old.pending p ≡ Some issue
+  pub open_is : old.open_edits p ≡ Some issue
   pub mine : issue.edit.process ≡ p
   pub not_yet : Contains old.counted issue.edit → ⊥
   pub counted : new.counted ≡ old.counted ++ issue.edit ∷ []
-  pub pending : (q : ℕ) → new.pending q ≡ old.pending q
+  pub open_edits : (q : ℕ) → new.open_edits q ≡ old.open_edits q
 
 -- the process's edit of this number is answered
 pub record Closes (old : World) (p number : ℕ) (Is : Issue → Type 0) (new : World) : Type 0 where
   pub issue : Issue
-  pub open_is : old.pending p ≡ Some issue
+  pub open_is : old.open_edits p ≡ Some issue
   pub number_is : issue.edit.number ≡ number
   pub is : Is issue
-  pub closed : new.pending p ≡ None
-  pub others : (q : ℕ) → q ≢ p → new.pending q ≡ old.pending q
+  pub closed : new.open_edits p ≡ None
+  pub others : (q : ℕ) → q ≢ p → new.open_edits q ≡ old.open_edits q
   pub counted : new.counted ≡ old.counted
 
 -- the other edit is of the same cell, and came to count since the issue; this one does not count

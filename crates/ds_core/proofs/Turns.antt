@@ -70,7 +70,7 @@ pub record LeavesEdits (q : ℕ) (old new : WorldValue) : Type 0 where
   pub turn : IsTurn q old new
   pub layout : new.sheet.layout ≡ old.sheet.layout
   pub counted : new.counted ≡ old.counted
-  pub pending : (r : ℕ) → (world_of new).pending r ≡ (world_of old).pending r
+  pub open_edits : (r : ℕ) → (world_of new).open_edits r ≡ (world_of old).open_edits r
   pub words : OneAccess q (world_of old).memory (world_of new).memory
 
 module _ (old new : WorldValue) (q : ℕ) (sound : IsSound (world_of old)) (e : PlainWork) (inside : q < old.sheet.layout.processes) (mine : e.process ≡ q) (is : (world_of old).situation q ≡ Working e) where
@@ -89,7 +89,7 @@ module _ (old new : WorldValue) (q : ℕ) (sound : IsSound (world_of old)) (e : 
     };
     layout = t.layout;
     counted = t.counted;
-    pending = t.pending;
+    open_edits = t.open_edits;
     words = (work_steps.access_at old.sheet.layout.shape e s, word, subst (λ p. PerformsAt (work_steps.access_at old.sheet.layout.shape e s) p (world_of old).memory (world_of new).memory word) mine t.memory);
   }
 
@@ -98,7 +98,7 @@ module _ (old new : WorldValue) (q : ℕ) (sound : IsSound (world_of old)) (e : 
     turn = record { there = inside; keeps = subst (λ p. Keeps p (world_of old) (world_of new)) mine keeps; others = λ r ne. t.others r (λ same. ne (same ∙ mine)) };
     layout = t.layout;
     counted = t.counted;
-    pending = t.pending;
+    open_edits = t.open_edits;
     words = (Nothing, 0, (refl, t.memory));
   }
 
@@ -123,7 +123,7 @@ work_begins_leaves old new q cell sound h =
       };
       layout = b.turn.layout;
       counted = b.turn.counted;
-      pending = b.turn.pending;
+      open_edits = b.turn.open_edits;
       words = (Nothing, 0, (refl, b.turn.memory));
     }
 
@@ -141,7 +141,7 @@ offer_leaves old new value sound h =
       };
       layout = o.offers.turn.layout;
       counted = o.offers.turn.counted;
-      pending = o.offers.turn.pending;
+      open_edits = o.offers.turn.open_edits;
       words = (Nothing, 0, (refl, o.offers.turn.memory));
     }
 

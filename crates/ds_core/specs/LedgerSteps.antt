@@ -22,14 +22,32 @@ use Rattle.ds_core.specs.declared.reply.Reply.TheVariants.{Begun, Entered, Refus
 abbrev pub OneAccess : ℕ → Memory Place → Memory Place → Type 0
 OneAccess p old new = (access : Access Place) × (word : ℕ) × PerformsAt access p old new word
 
--- what an event with its reply does to the words: one access, an eviction, a stop or a crash, or they stay
+-- what an event does to the words, by its reply: one access, an eviction, a stop or a crash, or they stay; no other
+-- reply is given
 abbrev pub WordsMove : Memory Place → Event → Reply → Memory Place → Type 0
+WordsMove old (BeginEdit r) (Begun number) new = SameMemory old new
+WordsMove old (BeginEdit r) (Refused why) new = SameMemory old new
+WordsMove old (BeginEdit r) NotEnabled new = SameMemory old new
+WordsMove old (BeginWork p cell) Entered new = SameMemory old new
+WordsMove old (BeginWork p cell) (Refused why) new = SameMemory old new
+WordsMove old (BeginWork p cell) NotEnabled new = SameMemory old new
+WordsMove old (BeginShow p) Entered new = SameMemory old new
+WordsMove old (BeginShow p) (Refused why) new = SameMemory old new
+WordsMove old (BeginShow p) NotEnabled new = SameMemory old new
+WordsMove old (BeginRecover p) Entered new = SameMemory old new
+WordsMove old (BeginRecover p) (Refused why) new = SameMemory old new
+WordsMove old (BeginRecover p) NotEnabled new = SameMemory old new
 WordsMove old (Step p) Stepped new = OneAccess p old new
 WordsMove old (Step p) (Answered answer) new = OneAccess p old new
+WordsMove old (Step p) NotEnabled new = SameMemory old new
+WordsMove old (Offer value) Stepped new = SameMemory old new
+WordsMove old (Offer value) WrongTask new = SameMemory old new
 WordsMove old (Evict place) Evicted new = EvictsAt place old new
+WordsMove old (Evict place) NotEnabled new = SameMemory old new
 WordsMove old (Stop p) Stopped new = StopsAt p old new
+WordsMove old (Stop p) NotEnabled new = SameMemory old new
 WordsMove old Crash Crashed new = Crashes old new
-WordsMove old event reply new = SameMemory old new
+WordsMove old event reply new = ⊥
 
 -- ---- the ledger
 

@@ -58,7 +58,7 @@ NoneTwice (e ∷ es) = All (AreApart e) es × NoneTwice es
 -- edit is open and no cell dirty or held, each cell's words show the value from scratch
 pub record MomentFits (m : Moment) : Type 0 where
   pub counted : edits_in m.ledger ≡ m.world.counted
-  pub opens : (p : ℕ) → option_map (λ (o : Open). o.it.edit) (m.ledger.opens p) ≡ option_map (λ (i : Issue). i.edit) ((world_of m.world).pending p)
+  pub opens : (p : ℕ) → option_map (λ (o : Open). o.it.edit) (m.ledger.opens p) ≡ option_map (λ (i : Issue). i.edit) ((world_of m.world).open_edits p)
   pub once : NoneTwice m.ledger.counted
   pub texts : (c : ℕ) → c < cells_of m.world.sheet.layout → text_at m.world.sheet.layout (world_of m.world).memory c ≡ last_text (of_cell c (edits_in m.ledger))
   pub values : IsQuiet (world_of m.world) → AreScratch m.world.sheet.layout.shape (edits_in m.ledger) (values_shown (world_of m.world))

@@ -1,9 +1,9 @@
 -- How many steps a process makes in a run.
-use Rattle.std.specs.Prelude.{ℕ, ◌≡◌, ◌≤◌, ◌+◌, ◌==◌, List, ◌∷◌, if◌then◌else◌}
-use Rattle.ds_state.specs.Edits.{PlainEdit}
+use Rattle.std.specs.Prelude.{ℕ, ◌≡◌, ◌<◌, ◌+◌, ◌*◌, ◌/◌, ◌==◌, List, [], ◌∷◌, if◌then◌else◌, length}
+use Rattle.ds_state.specs.Works.{PlainWork}
 use Rattle.ds_state.specs.Value.{WorldValue, world_of}
 use Rattle.ds_state.specs.declared.situation.Situation.{Situation}
-use Rattle.ds_state.specs.declared.situation.Situation.TheVariants.{Editing, Working, Recovering, Showing}
+use Rattle.ds_state.specs.declared.situation.Situation.TheVariants.{Idle, Stopped, Editing, Working, Recovering, Showing}
 use Rattle.ds_edit.specs.Steps.{rank}
 use Rattle.ds_work.specs.WorkRank as works
 use Rattle.ds_show.specs.ShowSteps as shows
@@ -11,36 +11,30 @@ use Rattle.ds_recover.specs.RecoverySteps as recoveries
 use Rattle.ds_core.specs.declared.event.Event.{Event}
 use Rattle.ds_core.specs.declared.event.Event.TheVariants.{Step, Stop, Crash}
 use Rattle.ds_core.specs.declared.reply.Reply.{Reply}
-use Rattle.ds_core.specs.declared.reply.Reply.TheVariants.{Stepped, Answered, Stopped}
+use Rattle.ds_core.specs.declared.reply.Reply.TheVariants as reply
 
 -- how many steps of the process an event with its reply is: 1 for a step of it that happens, else 0
 abbrev pub own_step : ℕ → Event → Reply → ℕ
-own_step p (Step q) Stepped = if q == p then 1 else 0
-own_step p (Step q) (Answered answer) = if q == p then 1 else 0
-own_step p event reply = 0
+own_step p (Step q) reply.Stepped = if q == p then 1 else 0
+own_step p (Step q) (reply.Answered answer) = if q == p then 1 else 0
+own_step p event _ = 0
 
 -- how many steps the process makes in a list of events with their replies
 abbrev pub own_steps : ℕ → List Event → List Reply → ℕ
-own_steps p (event ∷ events) (reply ∷ replies) = own_step p event reply + own_steps p events replies
+own_steps p (event ∷ events) (r ∷ replies) = own_step p event r + own_steps p events replies
 own_steps p events replies = 0
 
 -- the event, with its reply, neither answers the process nor stops it
 abbrev pub IsUnanswered : ℕ → Event → Reply → Type 0
-IsUnanswered p (Step q) (Answered answer) = q ≡ p → ⊥
-IsUnanswered p (Stop q) Stopped = q ≡ p → ⊥
-IsUnanswered p Crash reply = ⊥
-IsUnanswered p event reply = Unit {0}
+IsUnanswered p (Step q) (reply.Answered answer) = q ≡ p → ⊥
+IsUnanswered p (Stop q) reply.Stopped = q ≡ p → ⊥
+IsUnanswered p Crash _ = ⊥
+IsUnanswered p event _ = Unit {0}
 
 -- no event of a list answers the process or stops it
 abbrev pub AreUnanswered : ℕ → List Event → List Reply → Type 0
-AreUnanswered p (event ∷ events) (reply ∷ replies) = IsUnanswered p event reply × AreUnanswered p events replies
+AreUnanswered p (event ∷ events) (r ∷ replies) = IsUnanswered p event r × AreUnanswered p events replies
 AreUnanswered p events replies = Unit {0}
-
--- the edit is the same one, with at least this many steps fewer left
-pub record GoesOn (old : PlainEdit) (steps : ℕ) (new : PlainEdit) : Type 0 where
-  pub text : new.text ≡ old.text
-  pub refs : new.refs ≡ old.refs
-  pub fewer : steps + rank new new.stage ≤ rank old old.stage
 
 -- how many steps the call of a situation has left at most, with the one that answers; 0 outside a call
 abbrev pub left_in : Situation → ℕ
@@ -53,3 +47,30 @@ left_in situation = 0
 -- how many steps the process's call has left at most, with the one that answers; 0 outside a call
 abbrev pub steps_left : ℕ → WorldValue → ℕ
 steps_left p v = left_in ((world_of v).situation p)
+
+-- the process is in a call: an edit, a work, a recovery or a report
+abbrev pub IsInCall : Situation → Type 0
+IsInCall (Idle number) = ⊥
+IsInCall Stopped = ⊥
+IsInCall (Editing e) = Unit {0}
+IsInCall (Working e) = Unit {0}
+IsInCall (Recovering e) = Unit {0}
+IsInCall (Showing e) = Unit {0}
+
+-- the event neither stops the process nor crashes the machine
+abbrev pub IsUnhalted : ℕ → Event → Type 0
+IsUnhalted p (Stop q) = q ≡ p → ⊥
+IsUnhalted p Crash = ⊥
+IsUnhalted p event = Unit {0}
+
+-- no event of a list stops the process or crashes the machine
+abbrev pub AreUnhalted : ℕ → List Event → Type 0
+AreUnhalted p [] = Unit {0}
+AreUnhalted p (event ∷ events) = IsUnhalted p event × AreUnhalted p events
+
+-- the process is in the work that this one has come to be, so many steps of its own later: fewer than two for each
+-- reference that it has read, three for each cell, one for each part of an index row, and 36
+pub record WorkGoesOn (p : ℕ) (e : PlainWork) (steps : ℕ) (new : WorldValue) : Type 0 where
+  pub work : PlainWork
+  pub works : (world_of new).situation p ≡ Working work
+  pub few : steps < 2 * length work.inputs + 3 * e.cells + (e.cells + 63) / 64 + 36

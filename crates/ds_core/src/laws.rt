@@ -1,27 +1,28 @@
 //! What is true of each run, as functions that do nothing. `run` gives the run that they speak of.
 
-ghost use Rattle.std.specs.Prelude.{◌≡◌, ◌<◌, ◌≤◌, ◌+◌, ◌*◌, ℕ, List, length, Contains, true, false};
+ghost use Rattle.std.specs.Prelude.{◌≡◌, ◌<◌, ◌≤◌, ◌+◌, ◌*◌, ◌/◌, ℕ, List, length, Contains, true, false};
 ghost use Rattle.ds_state.specs.Edits.{PlainEdit};
 ghost use Rattle.ds_state.specs.World.{Edit, World};
 ghost use Rattle.ds_state.specs.Fresh.{IsNew};
 ghost use Rattle.ds_state.specs.Value.{WorldValue, world_of, IsGood};
 ghost use Rattle.ds_state.specs.Sound.{IsSound};
 ghost use Rattle.ds_state.specs.declared.stage.Stage.TheVariants.{StoreHeader};
-ghost use Rattle.ds_state.specs.declared.situation.Situation.TheVariants.{Editing, Working};
+ghost use Rattle.ds_state.specs.declared.situation.Situation.TheVariants.{Editing, Working, Recovering, Showing};
 ghost use Rattle.ds_core.specs.declared.event.Event.{Event};
 ghost use Rattle.ds_core.specs.declared.event.Event.TheVariants.{Step};
 ghost use Rattle.ds_edit.specs.declared.answer.Other.{Other};
 ghost use Rattle.ds_edit.specs.declared.answer.Told.{Told};
+ghost use Rattle.ds_edit.specs.declared.answer.Answer.{Answer};
 ghost use Rattle.ds_edit.specs.declared.answer.Answer.TheVariants.{Done, Overtaken, Last};
 ghost use Rattle.ds_core.specs.declared.reply.Reply.TheVariants.{Answered};
 ghost use Rattle.ds_core.specs.declared.reply.Reply.{Reply};
 ghost use Rattle.ds_core.specs.Takes.{Takes, WorldRun};
 ghost use Rattle.ds_core.specs.Headline.{Happens, RunFits, Headline, HasHeadline, IsAcknowledged, IsToldDone};
-ghost use Rattle.ds_core.specs.Own.{own_steps, AreUnanswered};
+ghost use Rattle.ds_core.specs.Own.{own_steps, steps_left, AreUnanswered, AreUnhalted, IsInCall, WorkGoesOn};
 ghost use Rattle.ds_state.specs.Spent.{IsSpent};
 ghost use Rattle.ds_core.specs.Spent.{IsOut};
-ghost use Rattle.ds_core.specs.Solo.{IsSolo, AreDoneOnly, IsLone, AreLoneReplies, StandsInOwnRow};
-ghost use Rattle.ds_state.specs.Works.{PlainWork};
+ghost use Rattle.ds_core.specs.Solo.{IsSolo, AreDoneOnly, IsLone, IsLoneAnswer, AreLoneReplies, StandsInOwnRow};
+ghost use Rattle.ds_state.specs.Works.{PlainWork, PlainShow, PlainRecovery};
 ghost use Rattle.ds_state.specs.Owing.{IsClean};
 ghost use Rattle.ds_state.specs.declared.work.WorkStage.TheVariants.{LoadMark};
 ghost use Rattle.ds_layout.specs.declared.place.Place.TheVariants.{Mark};
@@ -39,13 +40,53 @@ pub fn overtaken_edits_stay_out()
 
 /// From its beginning until it is answered, an edit with r references makes fewer than 3r + 67 steps
 /// of its own, and one more that answers, whatever the other processes do between them.
-#[tactic(auto, using(crate::proofs::Bound::few_own))]
+#[tactic(auto, using(crate::proofs::CallSteps::edit_few))]
 pub fn own_steps_are_few()
     ensures { (old : WorldValue) (events : List Event) (replies : List Reply) (new : WorldValue)
         (p : ℕ) (e : PlainEdit) → IsSound (world_of old) → p < old.sheet.layout.processes
         → (world_of old).situation p ≡ Editing e → WorldRun old events replies new
         → AreUnanswered p events replies
         → own_steps p events replies < 67 + 3 * length e.refs }
+{}
+
+/// From its beginning until it is answered, work on a sheet of N cells whose content has r references
+/// makes fewer than 2r + 3N + 52 steps of its own, and one more that answers, whatever the other
+/// processes do between them; 52 stands for the parts of an index row, at most 16, and 36.
+#[tactic(auto, using(crate::proofs::WorkOwnSteps::works_go_on))]
+pub fn work_own_steps_are_few()
+    ensures { (old : WorldValue) (events : List Event) (replies : List Reply) (new : WorldValue)
+        (p : ℕ) (e : PlainWork) → IsSound (world_of old)
+        → (world_of old).situation p ≡ Working e → e.stage ≡ LoadMark → WorldRun old events replies new
+        → AreUnanswered p events replies → WorkGoesOn p e (own_steps p events replies) new }
+{}
+
+/// A call that is not answered has made fewer steps of its own than it had left, whatever the other
+/// processes do between them; a report has at most 2P + 4N + 1 left, a recovery N(3N + 30) + 20, on a
+/// sheet of N cells for P processes.
+#[tactic(auto, using(crate::proofs::CallSteps::short, crate::proofs::CallSteps::report_left, crate::proofs::CallSteps::recovery_left))]
+pub fn calls_are_short()
+    ensures fewer { (old : WorldValue) (events : List Event) (replies : List Reply) (new : WorldValue)
+        (p : ℕ) → IsSound (world_of old) → p < old.sheet.layout.processes
+        → IsInCall ((world_of old).situation p) → WorldRun old events replies new
+        → AreUnanswered p events replies → own_steps p events replies < steps_left p old }
+    ensures report { (v : WorldValue) (p : ℕ) (e : PlainShow) → (world_of v).situation p ≡ Showing e
+        → steps_left p v ≤ 2 * e.processes + 4 * e.cells + 1 }
+    ensures recovery { (v : WorldValue) (p : ℕ) (e : PlainRecovery) → IsSound (world_of v)
+        → p < v.sheet.layout.processes → (world_of v).situation p ≡ Recovering e
+        → steps_left p v ≤ e.cells * (3 * e.cells + 30) + 20 }
+{}
+
+/// Calls are wait-free (Herlihy, "Wait-Free Synchronization", TOPLAS 1991): one that makes as many
+/// steps of its own as it has left is answered, whatever the other processes do between them, but
+/// where its process is stopped or a crash comes. Work makes no step while it waits for the entry of
+/// its task.
+#[tactic(auto, using(crate::proofs::CallSteps::wait_free))]
+pub fn calls_are_answered()
+    ensures { (old : WorldValue) (events : List Event) (replies : List Reply) (new : WorldValue)
+        (p : ℕ) → IsSound (world_of old) → p < old.sheet.layout.processes
+        → IsInCall ((world_of old).situation p) → WorldRun old events replies new
+        → AreUnhalted p events → steps_left p old ≤ own_steps p events replies
+        → (k : ℕ) × (answer : Answer) × Happens events replies k (Step p) (Answered answer) }
 {}
 
 /// An edit that is alone from its beginning on, but for evictions, is done.
@@ -133,4 +174,19 @@ pub fn lone_works_publish()
         → WorldRun old events replies new → IsLone p events
         → AreLoneReplies (IsClean ((world_of new).memory.cached (Mark e.cell)))
         (StandsInOwnRow (world_of old) e.cell) replies }
+{}
+
+/// Work on a marked cell that is alone from its beginning on, and makes as many steps as work on a
+/// sheet of N cells can need, 5N and one for each part of an index row and 36, is answered; and the
+/// answer is one of `lone_works_publish`.
+#[tactic(auto, using(crate::proofs::Alone::lone_answered))]
+pub fn lone_works_are_answered()
+    ensures { (old : WorldValue) (events : List Event) (replies : List Reply) (new : WorldValue)
+        (p : ℕ) (e : PlainWork) → IsSound (world_of old) → p < old.sheet.layout.processes
+        → (world_of old).situation p ≡ Working e → e.stage ≡ LoadMark → IsMarkedAt (world_of old) e
+        → WorldRun old events replies new → IsLone p events
+        → 5 * e.cells + (e.cells + 63) / 64 + 36 ≤ own_steps p events replies
+        → (k : ℕ) × (answer : Answer) × Happens events replies k (Step p) (Answered answer)
+        × IsLoneAnswer (IsClean ((world_of new).memory.cached (Mark e.cell)))
+        (StandsInOwnRow (world_of old) e.cell) answer }
 {}

@@ -4,7 +4,7 @@ ghost use Rattle.std.specs.Prelude.{◌≡◌, ◌<◌, ◌≤◌, ◌++◌, ℕ
 ghost use Rattle.ds_state.specs.Edits.{PlainEdit};
 ghost use Rattle.ds_state.specs.declared.stage.Stage.TheVariants.{Swap};
 ghost use Rattle.ds_state.specs.declared.situation.Situation.TheVariants.{Editing};
-ghost use Rattle.ds_edit.specs.Worlds.{after, counted_at, pending_at};
+ghost use Rattle.ds_edit.specs.Worlds.{after, counted_at, open_edit_at};
 ghost use Rattle.ds_core.specs.EditEvents.{reply_at, done_at, EditStepTakes};
 ghost use Rattle.ds_core.specs.ReportEvents.{report_answer, report_reply};
 ghost use Rattle.ds_core.specs.WorkEvents.{work_answer, work_reply};
@@ -67,11 +67,11 @@ fn count(counted: &mut Vec<Edit>, edit: Edit, stage: Stage, word: u64)
 }
 
 // The edit is answered, where this was its last step.
-fn close(pending: &mut Option<Issue>, stage: Stage)
-    ensures { pending.new ≡ pending_at pending.old stage }
+fn close(open_edit: &mut Option<Issue>, stage: Stage)
+    ensures { open_edit.new ≡ open_edit_at open_edit.old stage }
 {
     if let Stage::Answer(_) = stage {
-        *pending = None;
+        *open_edit = None;
     }
 }
 
@@ -111,7 +111,7 @@ fn edit_step(world: &mut World, process: usize) -> Reply
     let word = world.words.perform(process, access);
     go_on(&mut world.situations[process], word);
     count(&mut world.counted, edit, stage, word);
-    close(&mut world.pending[process], stage);
+    close(&mut world.open_edits[process], stage);
     world.done = done_after(world.done, stage);
     reply(processes, edit.number, stage)
 }

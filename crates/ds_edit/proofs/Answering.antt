@@ -59,7 +59,7 @@ step_answer e word old new sound how at fits t =
     (λ l. subst (λ (x : Situation). CallFits new e.process x) (sym t.situation) (record {
       number = (let n = fits.is.number in omega arith);
       holds_none = λ r by. fits.holds_none r (subst (λ (x : ℕ). IsHeldBy e.process x) (m.cached (place.Mark r)) by);
-      pending = t.pending;
+      open_edits = t.open_edits;
       buffer = m.buffer e.process ∙ fits.buffer;
       below = rw tn.counted (ended_below old E how stands);
       cached = m.cached (place.Announce e.process) ∙ fits.knows.announced.cached ∙ sym next ∙ ap (λ es. last_announcement es e.process (e.number + 1)) (sym tn.counted);
@@ -70,7 +70,7 @@ step_answer e word old new sound how at fits t =
 pub begin_sound : (e : PlainEdit) (old new : World) → IsSound old → IsEdit e → IsSheetOf old.layout e → HasRefs old.layout.shape e.text e.refs → Begins e old new → Keeps e.process old new
 begin_sound e old new sound is sheet refs b =
     let E : Edit = edit_of e in
-    let tn : Turn e.process old new = record { layout = b.layout; counted = b.counted; situations = b.others; pendings = b.others_pending } in
+    let tn : Turn e.process old new = record { layout = b.layout; counted = b.counted; situations = b.others; pendings = b.others_open_edits } in
     let moves : Moves e.process place.Version old new = same_moves e.process old new tn b.memory in
     let low : e.process < old.layout.processes = rw sheet.processes is.process in
     let idle : IdleFits old e.process e.number = subst (λ (x : Situation). CallFits old e.process x) b.idle (sound.calls e.process low) in
@@ -97,7 +97,7 @@ begin_sound e old new sound is sheet refs b =
       sheet = record { cells = rw b.layout sheet.cells; processes = rw b.layout sheet.processes };
       refs = rw b.layout refs;
       since = length old.counted;
-      pending = b.pending;
+      open_edits = b.open_edits;
       issued = (let same = ap length b.counted in omega arith);
       holds_none = λ r by. idle.holds_none r (subst (λ (x : ℕ). IsHeldBy e.process x) (b.memory.cached (place.Mark r)) by);
       knows = subst (λ (x : Stage). Knowing new E e.refs (length old.counted) (known_at (text_parts e.text) (length e.refs) x)) (sym b.first) knows;

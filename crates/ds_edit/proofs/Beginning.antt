@@ -34,15 +34,15 @@ use Rattle.ds_edit.proofs.Answering.{begin_sound}
 abbrev pub issued : WorldValue → PlainEdit → WorldValue
 issued v e = record v {
   situations = set v.situations e.process (Editing e);
-  pending = set v.pending e.process (Some (record { edit = edit_of e; since = length v.counted }));
+  open_edits = set v.open_edits e.process (Some (record { edit = edit_of e; since = length v.counted }));
 }
 
 module _ (v : WorldValue) (e : PlainEdit) (room : ℕ) (kept : IsReserved v room) (is : IsEdit e) (sheet : IsSheetOf v.sheet.layout e) (idle : IsIdle (world_of v) e.process e.number) (first : e.stage ≡ StoreHeader) where
   has_situation : e.process < length v.situations
   has_situation = let s = kept.good.situations in let p = sheet.processes in let l = is.process in omega arith
 
-  has_pending : e.process < length v.pending
-  has_pending = let s = kept.good.pending in let p = sheet.processes in let l = is.process in omega arith
+  has_pending : e.process < length v.open_edits
+  has_pending = let s = kept.good.open_edits in let p = sheet.processes in let l = is.process in omega arith
 
   pub issued_begins : Begins e (world_of v) (world_of (issued v e))
   issued_begins = record {
@@ -53,8 +53,8 @@ module _ (v : WorldValue) (e : PlainEdit) (room : ℕ) (kept : IsReserved v room
     situation = get_or-set_same v.situations e.process (Editing e) (Idle 0) has_situation;
     others = λ q ne. get_or-set_other v.situations e.process q (Editing e) (Idle 0) ne;
     counted = refl;
-    pending = get_or-set_same v.pending e.process (Some (record { edit = edit_of e; since = length v.counted })) None has_pending;
-    others_pending = λ q ne. get_or-set_other v.pending e.process q (Some (record { edit = edit_of e; since = length v.counted })) None ne;
+    open_edits = get_or-set_same v.open_edits e.process (Some (record { edit = edit_of e; since = length v.counted })) None has_pending;
+    others_open_edits = λ q ne. get_or-set_other v.open_edits e.process q (Some (record { edit = edit_of e; since = length v.counted })) None ne;
   }
 
   low : e.process < v.sheet.layout.processes
@@ -64,27 +64,27 @@ module _ (v : WorldValue) (e : PlainEdit) (room : ℕ) (kept : IsReserved v room
   was_idle = subst (λ (x : Situation). CallFits (world_of v) e.process x) idle (kept.good.sound.calls e.process low)
 
   -- the edit does not count, so it is none that was answered
-  issued_open : (f : Edit) (issue : Issue) → Contains v.counted f → (world_of (issued v e)).pending f.process ≡ Some issue → issue.edit ≡ f → (world_of v).pending f.process ≡ Some issue
+  issued_open : (f : Edit) (issue : Issue) → Contains v.counted f → (world_of (issued v e)).open_edits f.process ≡ Some issue → issue.edit ≡ f → (world_of v).open_edits f.process ≡ Some issue
   issued_open f issue there at is = elim (cases_eq f.process e.process) [
     | inl mine ↦ (
-        let now : Some issue ≡ Some (record { edit = edit_of e; since = length v.counted }) = sym at ∙ ap (λ q. (world_of (issued v e)).pending q) mine ∙ issued_begins.pending in
+        let now : Some issue ≡ Some (record { edit = edit_of e; since = length v.counted }) = sym at ∙ ap (λ q. (world_of (issued v e)).open_edits q) mine ∙ issued_begins.open_edits in
         let one : issue ≡ record { edit = edit_of e; since = length v.counted } = cc in
         let same : f ≡ edit_of e = sym is ∙ ap (λ (i : Issue). i.edit) one in
         let l = All-contains (λ (x : Edit). x.process ≡ e.process → x.number < e.number) v.counted f was_idle.below there mine in
         let k = ap (λ (x : Edit). x.number) same in
         absurd (omega (arith, l, k)))
-    | inr other ↦ sym (issued_begins.others_pending f.process other) ∙ at
+    | inr other ↦ sym (issued_begins.others_open_edits f.process other) ∙ at
   ]
 
-  issued_answered : HasAnswered v.counted (world_of (issued v e)).pending v.done
-  issued_answered = still_answered v.counted v.counted (world_of v).pending (world_of (issued v e)).pending v.done (λ f there. there) issued_open kept.good.answered
+  issued_answered : HasAnswered v.counted (world_of (issued v e)).open_edits v.done
+  issued_answered = still_answered v.counted v.counted (world_of v).open_edits (world_of (issued v e)).open_edits v.done (λ f there. there) issued_open kept.good.answered
 
   pub issued_kept : HasRefs v.sheet.layout.shape e.text e.refs → IsReserved (issued v e) room
   issued_kept refs = record {
     good = record {
       sound = (begin_sound e (world_of v) (world_of (issued v e)) kept.good.sound is sheet refs issued_begins).sound;
       situations = length-set v.situations e.process (Editing e) ∙ kept.good.situations;
-      pending = length-set v.pending e.process (Some (record { edit = edit_of e; since = length v.counted })) ∙ kept.good.pending;
+      open_edits = length-set v.open_edits e.process (Some (record { edit = edit_of e; since = length v.counted })) ∙ kept.good.open_edits;
       reports = kept.good.reports;
       answered = issued_answered;
       counts = no_more v.situations e.process (Editing e) v.settled _ has_situation refl kept.good.counts;

@@ -137,14 +137,14 @@ module _ (e : PlainEdit) (word : ℕ) (old new : World) (sound : IsSound old) wh
         let mine : of_cell e.cell new.counted ≡ es ++ E ∷ [] = ap (λ xs. of_cell e.cell xs) counted ∙ of_cell-append e.cell old.counted (E ∷ []) ∙ ap (λ xs. es ++ xs) (of_cell-own E) in
         let own_is : own ≡ head_after_all (of_cell e.cell new.counted) = next_head noted is ∙ ap head_after_all (sym mine) in
         let issue : Issue = record { edit = E; since = fits.since } in
-        let pends : new.pending e.process ≡ Some issue = t.pending ∙ fits.pending in
+        let pends : new.open_edits e.process ≡ Some issue = t.open_edits ∙ fits.open_edits in
         let counts : Counts E issue old new = record {
           layout = t.layout;
           counted = counted;
           memory = subst (λ (x : ℕ). StoresAt (place.Head e.cell) x old.memory new.memory) own_is m;
           situations = t.others;
-          pendings = t.others_pending;
-          pending = pends;
+          pendings = t.others_open_edits;
+          open_edits = pends;
           same = refl;
           owes = subst (λ (s : Situation). Splits new e.process s e.cell (head_after_all (of_cell e.cell new.counted))) (sym there) (refl, own_is);
         } in
@@ -188,7 +188,7 @@ module _ (e : PlainEdit) (word : ℕ) (old new : World) (sound : IsSound old) wh
           sheet = record { cells = rw t.layout fits.sheet.cells; processes = rw t.layout fits.sheet.processes };
           refs = rw t.layout fits.refs;
           since = fits.since;
-          pending = pends;
+          open_edits = pends;
           issued = (let l = ap length counted in let i = fits.issued in omega (arith, length-append old.counted (E ∷ [])));
           holds_none = λ r by. fits.holds_none r (subst (λ (x : ℕ). IsHeldBy e.process x) (m.elsewhere (place.Mark r) (λ same'. cc)) by);
           knows = knows;
@@ -291,7 +291,7 @@ module _ (e : PlainEdit) (word : ℕ) (old new : World) (sound : IsSound old) wh
       let value_most : one.value ≤ c = let l = by_most es one.value one.is.by small_es one.is.head in let is = cached_is in omega arith in
       let went : new.situation e.process ≡ Editing (on e (OrMark own)) = goes e (BackOwn own) word old new t plain in
       let keeps_other : (cell : ℕ) → place.Head cell ≢ there → KeepsOwing old new cell = λ cell ne f issue its is was_same before last_of owes. elim (cases_eq f.process e.process) [
-        | inr other ↦ (t.others_pending f.process other ∙ is, others_split moves t.others f.process other f.cell _ owes)
+        | inr other ↦ (t.others_open_edits f.process other ∙ is, others_split moves t.others f.process other f.cell _ owes)
         | inl mine ↦ absurd (
             let k : Splits old e.process (Editing (on e (BackOwn own))) f.cell (head_after_all (of_cell cell old.counted)) =
             subst (λ (x : Situation). Splits old e.process x f.cell (head_after_all (of_cell cell old.counted))) at (subst (λ (q : ℕ). Splits old q (old.situation q) f.cell (head_after_all (of_cell cell old.counted))) mine owes) in
@@ -319,7 +319,7 @@ module _ (e : PlainEdit) (word : ℕ) (old new : World) (sound : IsSound old) wh
                 parts = ap (λ xs. of_cell e.cell xs) tn.counted ∙ w.parts;
                 is = now ∙ stays ∙ w.is;
                 issue = w.issue;
-                pending = t.others_pending w.last.process other ∙ w.pending;
+                open_edits = t.others_open_edits w.last.process other ∙ w.open_edits;
                 same = w.same;
                 owes = subst (λ (xs : List Edit). Splits new w.last.process (new.situation w.last.process) w.last.cell (head_after_all (of_cell e.cell xs))) (sym tn.counted) (others_split moves t.others w.last.process other w.last.cell _ w.owes);
               })

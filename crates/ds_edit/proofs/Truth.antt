@@ -121,7 +121,7 @@ answer_true e how w sound low first at =
     let fits : EditFits w e.process e = subst (λ (x : Situation). CallFits w e.process x) at (sound.calls e.process low) in
     record {
       since = fits.since;
-      issued = fits.pending;
+      issued = fits.open_edits;
       holds = true_of w sound (edit_of e) fits.since how e.refs (text_parts e.text) (length e.refs)
           (subst (λ (x : Stage). Knowing w (edit_of e) e.refs fits.since (known_at (text_parts e.text) (length e.refs) x)) first fits.knows);
     }

@@ -15,7 +15,7 @@ use Rattle.ds_state.specs.declared.situation.Situation.{Situation}
 use Rattle.ds_state.specs.declared.situation.Situation.TheVariants.{Editing}
 use Rattle.ds_state.proofs.Accesses.{Turn}
 use Rattle.ds_edit.specs.Steps.{next_at}
-use Rattle.ds_edit.specs.Worlds.{StepsAt, counted_at, pending_at, after}
+use Rattle.ds_edit.specs.Worlds.{StepsAt, counted_at, open_edit_at, after}
 use Rattle.ds_edit.proofs.Stays.{stays}
 
 -- the edit at a stage
@@ -33,7 +33,7 @@ Holds_on w e s = Holds w (edit_of e) (held_at (text_parts e.text) e.refs s)
 pub record IsPlainStep (e : PlainEdit) (s : Stage) (word : ℕ) : Type 0 where
   pub goes_on : after e s word ≡ Editing (on e (next_at e s word))
   pub counts : counted_at (edit_of e) s word ≡ []
-  pub pends : (issue : Option Issue) → pending_at issue s ≡ issue
+  pub pends : (issue : Option Issue) → open_edit_at issue s ≡ issue
 
 module _ (e : PlainEdit) (s : Stage) (word : ℕ) (old new : World) (t : StepsAt e s word old new) where
   pub turn : counted_at (edit_of e) s word ≡ [] → Turn e.process old new
@@ -41,14 +41,14 @@ module _ (e : PlainEdit) (s : Stage) (word : ℕ) (old new : World) (t : StepsAt
     layout = t.layout;
     counted = t.counted ∙ ap (λ es. old.counted ++ es) none ∙ append-nil old.counted;
     situations = t.others;
-    pendings = t.others_pending;
+    pendings = t.others_open_edits;
   }
 
   pub goes : IsPlainStep e s word → new.situation e.process ≡ Editing (on e (next_at e s word))
   goes plain = t.situation ∙ plain.goes_on
 
-  pub stays_open : IsPlainStep e s word → new.pending e.process ≡ old.pending e.process
-  stays_open plain = t.pending ∙ plain.pends (old.pending e.process)
+  pub stays_open : IsPlainStep e s word → new.open_edits e.process ≡ old.open_edits e.process
+  stays_open plain = t.open_edits ∙ plain.pends (old.open_edits e.process)
 
   -- what fits the next stage, where that is known and held
   pub fits_next : (fits : EditFits old e.process (on e s)) → IsPlainStep e s word → word < 2 ^ 64 → HoldsNone new e.process
@@ -69,7 +69,7 @@ module _ (e : PlainEdit) (s : Stage) (word : ℕ) (old new : World) (t : StepsAt
     sheet = record { cells = rw t.layout fits.sheet.cells; processes = rw t.layout fits.sheet.processes };
     refs = rw t.layout fits.refs;
     since = fits.since;
-    pending = t.pending ∙ plain.pends (old.pending e.process) ∙ fits.pending;
+    open_edits = t.open_edits ∙ plain.pends (old.open_edits e.process) ∙ fits.open_edits;
     issued = (let l = ap length (turn plain.counts).counted in let i = fits.issued in omega arith);
     holds_none = free;
     knows = knows;

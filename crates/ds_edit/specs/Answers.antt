@@ -24,5 +24,5 @@ IsTrueOf w e since (Overtaken noted seen) = (Contains w.counted e → ⊥) × Ov
 -- the outcome is true of the open edit, by what counted when it was issued
 pub record IsTrueAnswer (w : World) (e : Edit) (how : Outcome) : Type 0 where
   pub since : ℕ
-  pub issued : w.pending e.process ≡ Some (record { edit = e; since = since })
+  pub issued : w.open_edits e.process ≡ Some (record { edit = e; since = since })
   pub holds : IsTrueOf w e since how

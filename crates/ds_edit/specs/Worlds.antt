@@ -21,9 +21,9 @@ counted_at e (Swap noted) word = if word == noted then e ∷ [] else []
 counted_at e stage word = []
 
 -- the process's issue after a step at this stage: none after the answer
-abbrev pub pending_at : Option Issue → Stage → Option Issue
-pending_at issue (Answer how) = None
-pending_at issue stage = issue
+abbrev pub open_edit_at : Option Issue → Stage → Option Issue
+open_edit_at issue (Answer how) = None
+open_edit_at issue stage = issue
 
 -- one step of the edit at a stage, whose access answered the word
 pub record StepsAt (e : PlainEdit) (stage : Stage) (word : ℕ) (old new : World) : Type 0 where
@@ -32,8 +32,8 @@ pub record StepsAt (e : PlainEdit) (stage : Stage) (word : ℕ) (old new : World
   pub situation : new.situation e.process ≡ after e stage word
   pub others : (q : ℕ) → q ≢ e.process → new.situation q ≡ old.situation q
   pub counted : new.counted ≡ old.counted ++ counted_at (edit_of e) stage word
-  pub pending : new.pending e.process ≡ pending_at (old.pending e.process) stage
-  pub others_pending : (q : ℕ) → q ≢ e.process → new.pending q ≡ old.pending q
+  pub open_edits : new.open_edits e.process ≡ open_edit_at (old.open_edits e.process) stage
+  pub others_open_edits : (q : ℕ) → q ≢ e.process → new.open_edits q ≡ old.open_edits q
 
 -- one step of the edit at its own stage, whose access answered the word
 abbrev pub Steps : PlainEdit → ℕ → World → World → Type 0
@@ -48,5 +48,5 @@ pub record Begins (e : PlainEdit) (old new : World) : Type 0 where
   pub situation : new.situation e.process ≡ Editing e
   pub others : (q : ℕ) → q ≢ e.process → new.situation q ≡ old.situation q
   pub counted : new.counted ≡ old.counted
-  pub pending : new.pending e.process ≡ Some (record { edit = edit_of e; since = length old.counted })
-  pub others_pending : (q : ℕ) → q ≢ e.process → new.pending q ≡ old.pending q
+  pub open_edits : new.open_edits e.process ≡ Some (record { edit = edit_of e; since = length old.counted })
+  pub others_open_edits : (q : ℕ) → q ≢ e.process → new.open_edits q ≡ old.open_edits q

@@ -124,7 +124,7 @@ fn issue(world: &mut World, call: EditCall)
     let process = call.process;
     let edit = Edit::of(&call);
     let since = world.counted.len();
-    world.pending[process] = Some(Issue { edit, since });
+    world.open_edits[process] = Some(Issue { edit, since });
     put(&mut world.situations, process, Situation::Editing(call));
 }
 

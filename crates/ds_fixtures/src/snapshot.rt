@@ -37,7 +37,7 @@ pub struct Snapshot {
     words: Vec<Word>,
     doing: Vec<Doing>,
     points: Vec<Option<Point>>,
-    pending: Vec<bool>,
+    open_edits: Vec<bool>,
     counted: usize,
     done: u64,
     settled: u64,
@@ -69,12 +69,12 @@ fn points_of(alloc: Global, world: &World) -> Result<Vec<Option<Point>>, AllocEr
     Ok(points)
 }
 
-fn pending_of(alloc: Global, world: &World) -> Result<Vec<bool>, AllocError> {
-    let mut pending = Vec::new(alloc);
-    for issue in &world.pending {
-        pending.push(issue.is_some())?;
+fn have_open_edits(alloc: Global, world: &World) -> Result<Vec<bool>, AllocError> {
+    let mut open_edits = Vec::new(alloc);
+    for issue in &world.open_edits {
+        open_edits.push(issue.is_some())?;
     }
-    Ok(pending)
+    Ok(open_edits)
 }
 
 impl Snapshot {
@@ -83,12 +83,12 @@ impl Snapshot {
         let words = words_of(alloc, world)?;
         let doing = doing_of(alloc, world)?;
         let points = points_of(alloc, world)?;
-        let pending = pending_of(alloc, world)?;
+        let open_edits = have_open_edits(alloc, world)?;
         Ok(Snapshot {
             words,
             doing,
             points,
-            pending,
+            open_edits,
             counted: world.counted.len(),
             done: world.done,
             settled: world.settled,
@@ -104,7 +104,7 @@ impl Snapshot {
         self.words.as_slice() == other.words.as_slice()
             && self.doing.as_slice() == other.doing.as_slice()
             && self.points.as_slice() == other.points.as_slice()
-            && self.pending.as_slice() == other.pending.as_slice()
+            && self.open_edits.as_slice() == other.open_edits.as_slice()
             && self.has_counts_of(other)
     }
 }

@@ -37,7 +37,7 @@ held_from p old new g r k =
     let by = k.by in
     record { by = omega arith; same = omega arith }
 
-pub pends_from : (p : ℕ) (old new : World) → Grows p Version old new → new.pending p ≡ old.pending p → (c : ℕ) → IsPending old p c → IsPending new p c
+pub pends_from : (p : ℕ) (old new : World) → Grows p Version old new → new.open_edits p ≡ old.open_edits p → (c : ℕ) → IsPending old p c → IsPending new p c
 pends_from p old new g pending c k = record {
   issue = k.issue;
   issued = pending ∙ k.issued;
@@ -93,7 +93,7 @@ module _ (p : ℕ) (place : Place) (value : ℕ) (rest : List (Entry Place)) (ol
 
 module _ (e : PlainRecovery) (mark : ℕ) (row : List ℕ) (word : ℕ) (cell : ℕ) (s s' : RecoverStage) (old new : World) (sound : IsSound old)
     (was : old.situation e.process ≡ Recovering (record e { stage = s })) (fits : RecoveryFits old e.process (record e { stage = s })) (real : e.process < old.layout.processes)
-    (tn : Turn e.process old new) (is : new.situation e.process ≡ Recovering (on e mark row word cell s')) (pending : new.pending e.process ≡ old.pending e.process)
+    (tn : Turn e.process old new) (is : new.situation e.process ≡ Recovering (on e mark row word cell s')) (pending : new.open_edits e.process ≡ old.open_edits e.process)
     (passes : Passes e.process e.row s row s' old new) where
   -- a write-back of what is no head
   pub backs : (place : Place) (value : ℕ) (rest : List (Entry Place)) (m : WritesBack e.process (entry place value) rest old.memory new.memory) (fitting : EntryFits old place (old.memory.cached place) value)
@@ -165,7 +165,7 @@ module _ (p d : ℕ) (old new : World) (tn : Turn p old new) (m : OrsAt (Mark d)
 
 module _ (e : PlainRecovery) (mark : ℕ) (row : List ℕ) (word : ℕ) (cell : ℕ) (s s' : RecoverStage) (old new : World) (sound : IsSound old)
     (was : old.situation e.process ≡ Recovering (record e { stage = s })) (fits : RecoveryFits old e.process (record e { stage = s })) (real : e.process < old.layout.processes)
-    (tn : Turn e.process old new) (is : new.situation e.process ≡ Recovering (on e mark row word cell s')) (pending : new.pending e.process ≡ old.pending e.process)
+    (tn : Turn e.process old new) (is : new.situation e.process ≡ Recovering (on e mark row word cell s')) (pending : new.open_edits e.process ≡ old.open_edits e.process)
     (passes : Passes e.process e.row s row s' old new) where
   pub ors : (d : ℕ) → OrsAt (Mark d) DIRTY old.memory new.memory
       → (FreedFits new e.process e.mark (freed_at s) → FreedFits new e.process mark (freed_at s'))

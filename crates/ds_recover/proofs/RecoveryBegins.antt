@@ -43,7 +43,7 @@ module _ (v : WorldValue) (e : PlainRecovery) (room : ℕ) (kept : IsReserved v 
     situation = get_or-set_same v.situations e.process (Recovering e) (Idle 0) there ∙ ap (λ (x : PlainRecovery). Recovering x) first;
     others = λ q ne. get_or-set_other v.situations e.process q (Recovering e) (Idle 0) ne;
     counted = refl;
-    pending = λ q. refl;
+    open_edits = λ q. refl;
   }
 
   pub entered_kept : IsReserved (entered v e) room
@@ -51,7 +51,7 @@ module _ (v : WorldValue) (e : PlainRecovery) (room : ℕ) (kept : IsReserved v 
     good = record {
       sound = (begun_keeps e.process (world_of v) (world_of (entered v e)) kept.good.sound low (record { free = may; begins = began })).sound;
       situations = length-set v.situations e.process (Recovering e) ∙ kept.good.situations;
-      pending = kept.good.pending;
+      open_edits = kept.good.open_edits;
       reports = kept.good.reports;
       answered = kept.good.answered;
       counts = no_more v.situations e.process (Recovering e) v.settled _ there refl kept.good.counts;

@@ -135,9 +135,9 @@ rests_some w p (Some issue) word how h is k = at_now h.now h.said h.cached
           cached = subst (λ (x : ℕ). w.memory.cached (Announce p) ≡ last_announcement w.counted p x) n (c ∙ l.0 ∙ ap (λ (q : ℕ). last_announcement w.counted q (suc e.number)) h.mine);
         }
 
-pub rests : (w : World) (p word cell : ℕ) (how : Option Bool) → DoubtFits w p (w.pending p) → ResolvedFits w p word cell (over how) → Rests w p (next_number word how)
-rests w p word cell None h k = rests_none w p (w.pending p) h (let a = k.0 in let b = k.2 in omega arith)
-rests w p word cell (Some how) h k = rests_some w p (w.pending p) word how h k.0 k.2
+pub rests : (w : World) (p word cell : ℕ) (how : Option Bool) → DoubtFits w p (w.open_edits p) → ResolvedFits w p word cell (over how) → Rests w p (next_number word how)
+rests w p word cell None h k = rests_none w p (w.open_edits p) h (let a = k.0 in let b = k.2 in omega arith)
+rests w p word cell (Some how) h k = rests_some w p (w.open_edits p) word how h k.0 k.2
 
 over_persisted : (w : World) (p word cell : ℕ) (how : Option Bool) → ResolvedFits w p word cell (over how) → w.memory.persisted (Announce p) ≡ w.memory.cached (Announce p)
 over_persisted w p word cell None k = k.1 ∙ sym k.0
@@ -185,7 +185,7 @@ module _ (e : PlainRecovery) (how : Option Bool) (word : ℕ) (old new : World) 
       record {
         number = rest.number;
         holds_none = λ r by. fits.freed r (subst (λ (x : ℕ). IsHeldBy p x) (m.cached (Mark r)) by);
-        pending = t.pending;
+        open_edits = t.open_edits;
         buffer = m.buffer p ∙ fits.buffer;
         below = below_stable p Version old new g n rest.below;
         cached = m.cached (Announce p) ∙ rest.cached ∙ sym (last_stable p Version old new g n);
@@ -209,7 +209,7 @@ module _ (e : PlainRecovery) (old new : World) (sound : IsSound old) (real : e.p
   q = e.process
 
   tb : Turn q old new
-  tb = record { layout = b.layout; counted = b.counted; situations = b.others; pendings = λ x ne. b.pending x }
+  tb = record { layout = b.layout; counted = b.counted; situations = b.others; pendings = λ x ne. b.open_edits x }
 
   mb : Moves q Version old new
   mb = same_moves q old new tb b.memory
@@ -217,12 +217,12 @@ module _ (e : PlainRecovery) (old new : World) (sound : IsSound old) (real : e.p
   gb : Grows q Version old new
   gb = grows_own q Version old new mb tb.counted
 
-  begun : old.memory.buffer q ≡ [] → DoubtFits old q (old.pending q) → RecoveryFits new q (at e (LoadMark 0))
+  begun : old.memory.buffer q ≡ [] → DoubtFits old q (old.open_edits q) → RecoveryFits new q (at e (LoadMark 0))
   begun empty doubt = record {
     mine = refl;
     cells = rw tb.layout cells;
     processes = rw tb.layout processes;
-    doubt = subst (λ (o : Option Issue). DoubtFits new q o) (sym (b.pending q)) (doubt_grows Version old new q gb (b.pending q) (λ x. cc) (λ n k. record_no_version q n k) (old.pending q) doubt);
+    doubt = subst (λ (o : Option Issue). DoubtFits new q o) (sym (b.open_edits q)) (doubt_grows Version old new q gb (b.open_edits q) (λ x. cc) (λ n k. record_no_version q n k) (old.open_edits q) doubt);
     freed = λ r l by. omega arith;
     resolved = tt;
     buffer = b.memory.buffer q ∙ empty;
@@ -236,7 +236,7 @@ module _ (e : PlainRecovery) (old new : World) (sound : IsSound old) (real : e.p
   from_stopped was =
       let stopped : StoppedFits old q = subst (λ (s : Situation). CallFits old q s) was (sound.calls q real) in
       let held : (r : ℕ) → _ = held_on q old new mb in
-      let pends : (c : ℕ) → IsPending old q c → IsPending new q c = pends_on q old new mb (b.pending q) in
+      let pends : (c : ℕ) → IsPending old q c → IsPending new q c = pends_on q old new mb (b.open_edits q) in
       let my : Mine q Version old new mb = record {
         owes = λ r c x bit matters h o. record { holder = q; held = held r h; still = subst (λ (s : Situation). Owes new.memory q s r c x) (sym b.situation) tt };
         excuses = λ l c x matters o. record { process = q; inside = rw tb.layout l; still = subst (λ (s : Situation). Excuses new q s c x) (sym b.situation) (pends c (subst (λ (s : Situation). Excuses old q s c x) was o), tt) };
@@ -253,7 +253,7 @@ module _ (e : PlainRecovery) (old new : World) (sound : IsSound old) (real : e.p
         | inl eq ↦ record { holder = q; held = held cell (subst (λ (k : ℕ). Rattle.ds_state.specs.Owing.IsHeld old.memory k cell) eq a.held); still = subst (λ (s : Situation). Parts s cell) (sym b.situation) tt }
       ]))
       (λ cell f issue its pending' same before last_of owes'. (
-        b.pending f.process ∙ pending',
+        b.open_edits f.process ∙ pending',
         elim (cases_eq f.process q) [
           | inl eq ↦ (
               let k : IsPending old q f.cell = subst (λ (s : Situation). Splits old q s f.cell (head_after_all (of_cell cell old.counted))) was (subst (λ (x : ℕ). Splits old x (old.situation x) f.cell (head_after_all (of_cell cell old.counted))) eq owes') in
@@ -273,9 +273,9 @@ module _ (e : PlainRecovery) (old new : World) (sound : IsSound old) (real : e.p
       let parts : (r : ℕ) → Parts (old.situation q) r → ⊥ = λ r o. subst (λ (s : Situation). Parts s r) was o in
       let splits : (c head : ℕ) → Splits old q (old.situation q) c head → ⊥ = λ c head o. subst (λ (s : Situation). Splits old q s c head) was o in
       let f : Framed old new = silent_framed q old new mb tb.counted sound (buffered old sound) owes excuses parts splits b.memory.buffer in
-      let through : IsThrough old q = record { next = next; rest = record { number = idle.number; pending = idle.pending; below = idle.below; cached = idle.cached; persisted = idle.persisted } } in
+      let through : IsThrough old q = record { next = next; rest = record { number = idle.number; open_edits = idle.open_edits; below = idle.below; cached = idle.cached; persisted = idle.persisted } } in
       quiet_sound q old new tb sound mb f.bears f.stand f.apart (silent_keeps q old new mb tb.counted sound (buffered old sound) owes excuses parts splits b.memory.buffer)
-      (λ l. subst (λ (s : Situation). CallFits new q s) (sym b.situation) (begun idle.buffer (subst (λ (o : Option Issue). DoubtFits old q o) (sym idle.pending) through)))
+      (λ l. subst (λ (s : Situation). CallFits new q s) (sym b.situation) (begun idle.buffer (subst (λ (o : Option Issue). DoubtFits old q o) (sym idle.open_edits) through)))
 
   pub begin_keeps : (old.situation q ≡ Stopped) ⊎ ((next : ℕ) × (old.situation q ≡ Idle next)) → Keeps q old new
   begin_keeps (inl was) = from_stopped was

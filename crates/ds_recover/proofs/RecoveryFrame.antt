@@ -40,10 +40,10 @@ pub record Passes (p : ℕ) (row : List ℕ) (s : RecoverStage) (row' : List ℕ
   pub owes : (r c x : ℕ) → IsIndexed old r c → Matters new c x → IsHeld old.memory p r → RecoveryOwes old.memory p row s r c x → IsHeld new.memory p r × RecoveryOwes new.memory p row' s' r c x
   pub excuses : (c x : ℕ) → Matters new c x → IsPending old p c → RecoveryExcuses old.memory p c s x → IsPending new p c × RecoveryExcuses new.memory p c s' x
   pub parts : (r : ℕ) → IsHeld old.memory p r → RecoveryParts s r → (IsHeld new.memory p r × RecoveryParts s' r) ⊎ AgreesOn new r
-  pub splits : (f : Edit) (before : List Edit) → of_cell f.cell old.counted ≡ before ++ f ∷ [] → (issue : Issue) → old.pending p ≡ Some issue → issue.edit ≡ f → IsPending old p f.cell → RecoverySplits s → IsPending new p f.cell × RecoverySplits s'
+  pub splits : (f : Edit) (before : List Edit) → of_cell f.cell old.counted ≡ before ++ f ∷ [] → (issue : Issue) → old.open_edits p ≡ Some issue → issue.edit ≡ f → IsPending old p f.cell → RecoverySplits s → IsPending new p f.cell × RecoverySplits s'
 
 pub turn_of : (e : PlainRecovery) (s : RecoverStage) (word : ℕ) (old new : World) → StepsAt e s word old new → Turn e.process old new
-turn_of e s word old new t = record { layout = t.layout; counted = t.counted; situations = t.others; pendings = t.others_pending }
+turn_of e s word old new t = record { layout = t.layout; counted = t.counted; situations = t.others; pendings = t.others_open_edits }
 
 -- where the marks and the announcement of the process stay
 pub held_on : (p : ℕ) (old new : World) → Moves p Version old new → (r : ℕ) → IsHeld old.memory p r → IsHeld new.memory p r
@@ -54,7 +54,7 @@ held_on p old new m r k =
     let same = k.same in
     record { by = omega arith; same = omega arith }
 
-pub pends_on : (p : ℕ) (old new : World) → Moves p Version old new → new.pending p ≡ old.pending p → (c : ℕ) → IsPending old p c → IsPending new p c
+pub pends_on : (p : ℕ) (old new : World) → Moves p Version old new → new.open_edits p ≡ old.open_edits p → (c : ℕ) → IsPending old p c → IsPending new p c
 pends_on p old new m pending c k = record {
   issue = k.issue;
   issued = pending ∙ k.issued;
@@ -68,7 +68,7 @@ pub simple_passes : (p : ℕ) (row : List ℕ) (s : RecoverStage) (row' : List �
     → ((r c x : ℕ) → IsIndexed old r c → Matters new c x → IsHeld old.memory p r → RecoveryOwes old.memory p row s r c x → RecoveryOwes new.memory p row' s' r c x)
     → ((c x : ℕ) → Matters new c x → IsPending old p c → RecoveryExcuses old.memory p c s x → RecoveryExcuses new.memory p c s' x)
     → ((r : ℕ) → IsHeld old.memory p r → RecoveryParts s r → RecoveryParts s' r)
-    → ((f : Edit) (before : List Edit) → of_cell f.cell old.counted ≡ before ++ f ∷ [] → (issue : Issue) → old.pending p ≡ Some issue → issue.edit ≡ f → IsPending old p f.cell → RecoverySplits s → RecoverySplits s')
+    → ((f : Edit) (before : List Edit) → of_cell f.cell old.counted ≡ before ++ f ∷ [] → (issue : Issue) → old.open_edits p ≡ Some issue → issue.edit ≡ f → IsPending old p f.cell → RecoverySplits s → RecoverySplits s')
     → Passes p row s row' s' old new
 simple_passes p row s row' s' old new held pends owes excuses parts splits = record {
   owes = λ r c x bit matters k o. (held r k, owes r c x bit matters k o);
@@ -108,15 +108,15 @@ module _ (e : PlainRecovery) (mark : ℕ) (row : List ℕ) (word : ℕ) (cell : 
       ]
     ]
 
-    pub recovery_keeps : new.pending e.process ≡ old.pending e.process → (c : ℕ) → KeepsOwing old new c
+    pub recovery_keeps : new.open_edits e.process ≡ old.open_edits e.process → (c : ℕ) → KeepsOwing old new c
     recovery_keeps pending c f issue its pends was_same before last_of owes = elim (cases_eq f.process e.process) [
       | inl eq ↦ (
           let k : Splits old e.process (Recovering (record e { stage = s })) f.cell (head_after_all (of_cell c old.counted)) =
           subst (λ (x : Situation). Splits old e.process x f.cell (head_after_all (of_cell c old.counted))) was (subst (λ (q : ℕ). Splits old q (old.situation q) f.cell (head_after_all (of_cell c old.counted))) eq owes) in
-          let n = passes.splits f before (ap (λ (y : ℕ). of_cell y old.counted) its ∙ last_of) issue (ap old.pending (sym eq) ∙ pends) was_same k.0 k.1 in
+          let n = passes.splits f before (ap (λ (y : ℕ). of_cell y old.counted) its ∙ last_of) issue (ap old.open_edits (sym eq) ∙ pends) was_same k.0 k.1 in
           let now : Splits new e.process (new.situation e.process) f.cell (head_after_all (of_cell c old.counted)) =
           subst (λ (x : Situation). Splits new e.process x f.cell (head_after_all (of_cell c old.counted))) (sym is) (n.0, n.1) in
-          (ap new.pending eq ∙ pending ∙ ap old.pending (sym eq) ∙ pends, subst (λ (q : ℕ). Splits new q (new.situation q) f.cell (head_after_all (of_cell c old.counted))) (sym eq) now))
+          (ap new.open_edits eq ∙ pending ∙ ap old.open_edits (sym eq) ∙ pends, subst (λ (q : ℕ). Splits new q (new.situation q) f.cell (head_after_all (of_cell c old.counted))) (sym eq) now))
       | inr ne ↦ (
         moves.pendings f.process ne ∙ pends,
         subst (λ (x : Situation). Splits new f.process x f.cell (head_after_all (of_cell c old.counted))) (sym (moves.situations f.process ne))
@@ -125,8 +125,8 @@ module _ (e : PlainRecovery) (mark : ℕ) (row : List ℕ) (word : ℕ) (cell : 
     ]
 
   -- what it knows after the step, where its own words stay
-  pub recovery_fits : RecoveryFits old e.process (record e { stage = s }) → new.layout ≡ old.layout → new.pending e.process ≡ old.pending e.process
-      → DoubtFits new e.process (old.pending e.process)
+  pub recovery_fits : RecoveryFits old e.process (record e { stage = s }) → new.layout ≡ old.layout → new.open_edits e.process ≡ old.open_edits e.process
+      → DoubtFits new e.process (old.open_edits e.process)
       → FreedFits new e.process mark (freed_at s') → ResolvedFits new e.process word cell (resolved_at s')
       → RecoveryHolds new e.process word cell (recovery_held cell s') → IsStage (on e mark row word cell s') s' → RecoveryFits new e.process (on e mark row word cell s')
   recovery_fits fits layout pending doubt freed resolved buffer rows = record {
@@ -143,13 +143,13 @@ module _ (e : PlainRecovery) (mark : ℕ) (row : List ℕ) (word : ℕ) (cell : 
 -- steps that give no cell back and announce nothing
 module _ (e : PlainRecovery) (mark : ℕ) (row : List ℕ) (word : ℕ) (cell : ℕ) (s s' : RecoverStage) (old new : World) (sound : IsSound old)
     (was : old.situation e.process ≡ Recovering (record e { stage = s })) (fits : RecoveryFits old e.process (record e { stage = s })) (real : e.process < old.layout.processes)
-    (tn : Turn e.process old new) (is : new.situation e.process ≡ Recovering (on e mark row word cell s')) (pending : new.pending e.process ≡ old.pending e.process)
+    (tn : Turn e.process old new) (is : new.situation e.process ≡ Recovering (on e mark row word cell s')) (pending : new.open_edits e.process ≡ old.open_edits e.process)
     (passes : Passes e.process e.row s row s' old new) where
   pub stays : Grows e.process Version old new → (FreedFits new e.process e.mark (freed_at s) → FreedFits new e.process mark (freed_at s'))
       → (ResolvedFits new e.process e.announcement e.cell (resolved_at s) → ResolvedFits new e.process word cell (resolved_at s'))
       → RecoveryHolds new e.process word cell (recovery_held cell s') → IsStage (on e mark row word cell s') s' → RecoveryFits new e.process (on e mark row word cell s')
   stays g freed resolved buffer rows = recovery_fits e mark row word cell s s' old new was is fits tn.layout pending
-      (doubt_grows Version old new e.process g pending (λ x. cc) (λ n k. record_no_version e.process n k) (old.pending e.process) fits.doubt)
+      (doubt_grows Version old new e.process g pending (λ x. cc) (λ n k. record_no_version e.process n k) (old.open_edits e.process) fits.doubt)
       (freed (freed_stable old new e.process g e.mark (freed_at s) fits.freed))
       (resolved (resolved_stable old new e.process g pending e.announcement e.cell (resolved_at s) fits.resolved))
       buffer rows

@@ -83,7 +83,7 @@ module _ (e : PlainRecovery) (word : ℕ) (old new : World) (sound : IsSound old
     | inl won ↦ elim (eqb_tells word e.mark) [
       | inr apart ↦ absurd (apart.1 won.0)
       | inl same ↦ give_keeps e c (Give c) old new sound (λ r d x o. o) (λ r o. o) was fits fits.freed.0 fits.buffer fits.is.stage (turn_of e (Give c) word old new t)
-          (t.situation ∙ ap (λ (b : Bool). Recovering (if b then at e (FlushGiven c) else at e (GiveDirty c))) same.0) t.pending won.1
+          (t.situation ∙ ap (λ (b : Bool). Recovering (if b then at e (FlushGiven c) else at e (GiveDirty c))) same.0) t.open_edits won.1
     ]
     | inr lost ↦ elim (eqb_tells word e.mark) [
       | inl same ↦ absurd (lost.0 same.1)
@@ -92,8 +92,8 @@ module _ (e : PlainRecovery) (word : ℕ) (old new : World) (sound : IsSound old
           let tn : Turn p old new = turn_of e (Give c) word old new t in
           let moves : Moves p Version old new = same_moves p old new tn m in
           loads e e.mark e.row e.announcement e.cell (Give c) (GiveDirty c) old new sound was fits real tn
-          (t.situation ∙ ap (λ (b : Bool). Recovering (if b then at e (FlushGiven c) else at e (GiveDirty c))) apart.0) t.pending
-          (simple_passes p e.row (Give c) e.row (GiveDirty c) old new (held_on p old new moves) (pends_on p old new moves t.pending)
+          (t.situation ∙ ap (λ (b : Bool). Recovering (if b then at e (FlushGiven c) else at e (GiveDirty c))) apart.0) t.open_edits
+          (simple_passes p e.row (Give c) e.row (GiveDirty c) old new (held_on p old new moves) (pends_on p old new moves t.open_edits)
           (λ r d x bit matters held o. o) (λ d x matters k o. tt) (λ r held o. o) (λ f before last_of issue issued same k o. tt))
           m (λ h. (h.0, h.1, h.2, outrun_is m (apart.1) h.0)) (λ h. h) (m.buffer p ∙ fits.buffer) fits.is.stage)
     ]
@@ -112,7 +112,7 @@ module _ (e : PlainRecovery) (word : ℕ) (old new : World) (sound : IsSound old
 
   pub step_give_dirty : (c : ℕ) → old.situation e.process ≡ Recovering (at e (GiveDirty c)) → RecoveryFits old e.process (at e (GiveDirty c)) → StepsAt e (GiveDirty c) word old new → Keeps e.process old new
   step_give_dirty c was fits t = elim t.memory.1 [
-    | inl won ↦ give_keeps e c (GiveDirty c) old new sound (λ r d x o. o) (λ r o. o) was fits fits.freed.0 fits.buffer fits.is.stage (turn_of e (GiveDirty c) word old new t) t.situation t.pending won.1
+    | inl won ↦ give_keeps e c (GiveDirty c) old new sound (λ r d x o. o) (λ r o. o) was fits fits.freed.0 fits.buffer fits.is.stage (turn_of e (GiveDirty c) word old new t) t.situation t.open_edits won.1
     | inr lost ↦ absurd (lost.0 (t.memory.0 ∙ fits.freed.3))
   ]
 
@@ -121,8 +121,8 @@ module _ (e : PlainRecovery) (word : ℕ) (old new : World) (sound : IsSound old
       let m : FlushesAt p (Mark c) (class_of (Mark c)) old.memory new.memory = t.memory.1 in
       let tn : Turn p old new = turn_of e (FlushGiven c) word old new t in
       let moves : Moves p Version old new = flush_moves p old new tn (Mark c) (class_of (Mark c)) m in
-      flushes e e.mark e.row e.announcement e.cell (FlushGiven c) (BackGiven c) old new sound was fits real tn t.situation t.pending
-      (simple_passes p e.row (FlushGiven c) e.row (BackGiven c) old new (held_on p old new moves) (pends_on p old new moves t.pending)
+      flushes e e.mark e.row e.announcement e.cell (FlushGiven c) (BackGiven c) old new sound was fits real tn t.situation t.open_edits
+      (simple_passes p e.row (FlushGiven c) e.row (BackGiven c) old new (held_on p old new moves) (pends_on p old new moves t.open_edits)
       (λ r d x bit matters held o. o) (λ d x matters k o. tt) (λ r held o. o) (λ f before last_of issue issued same k o. tt))
       (Mark c) m (λ h. h) (λ h. h)
       (record { value = old.memory.cached (Mark c); alone = m.mine ∙ ap (λ xs. xs ++ entry (Mark c) (old.memory.cached (Mark c)) ∷ []) fits.buffer; had = (let k = m.cached (Mark c) in omega arith); is = λ q by. rw tn.layout ((sound.words (Mark c)).holder q by) }) fits.is.stage
@@ -136,8 +136,8 @@ module _ (e : PlainRecovery) (word : ℕ) (old new : World) (sound : IsSound old
       let m : FlushesAt p (Value c) (class_of (Value c)) old.memory new.memory = t.memory.1 in
       let tn : Turn p old new = turn_of e (FlushValue c) word old new t in
       let moves : Moves p Version old new = flush_moves p old new tn (Value c) (class_of (Value c)) m in
-      flushes e e.mark e.row e.announcement e.cell (FlushValue c) (FlushKind c) old new sound was fits real tn t.situation t.pending
-      (simple_passes p e.row (FlushValue c) e.row (FlushKind c) old new (held_on p old new moves) (pends_on p old new moves t.pending)
+      flushes e e.mark e.row e.announcement e.cell (FlushValue c) (FlushKind c) old new sound was fits real tn t.situation t.open_edits
+      (simple_passes p e.row (FlushValue c) e.row (FlushKind c) old new (held_on p old new moves) (pends_on p old new moves t.open_edits)
       (λ r d x bit matters held o. tt) (λ d x matters k o. tt) (λ r held o. tt) (λ f before last_of issue issued same k o. tt))
       (Value c) m (λ h. h) (λ h. h)
       (m.mine ∙ ap (λ xs. xs ++ entry (Value c) (old.memory.cached (Value c)) ∷ []) fits.buffer ∙ ap (λ (v : ℕ). entry (Value c) v ∷ []) (sym (m.cached (Value c)))) fits.is.stage
@@ -147,8 +147,8 @@ module _ (e : PlainRecovery) (word : ℕ) (old new : World) (sound : IsSound old
       let m : FlushesAt p (Kind c) (class_of (Kind c)) old.memory new.memory = t.memory.1 in
       let tn : Turn p old new = turn_of e (FlushKind c) word old new t in
       let moves : Moves p Version old new = flush_moves p old new tn (Kind c) (class_of (Kind c)) m in
-      flushes e e.mark e.row e.announcement e.cell (FlushKind c) (BackValue c) old new sound was fits real tn t.situation t.pending
-      (simple_passes p e.row (FlushKind c) e.row (BackValue c) old new (held_on p old new moves) (pends_on p old new moves t.pending)
+      flushes e e.mark e.row e.announcement e.cell (FlushKind c) (BackValue c) old new sound was fits real tn t.situation t.open_edits
+      (simple_passes p e.row (FlushKind c) e.row (BackValue c) old new (held_on p old new moves) (pends_on p old new moves t.open_edits)
       (λ r d x bit matters held o. tt) (λ d x matters k o. tt) (λ r held o. tt) (λ f before last_of issue issued same k o. tt))
       (Kind c) m (λ h. h) (λ h. h)
       (m.mine ∙ ap (λ xs. xs ++ entry (Kind c) (old.memory.cached (Kind c)) ∷ []) fits.buffer
@@ -161,8 +161,8 @@ module _ (e : PlainRecovery) (word : ℕ) (old new : World) (sound : IsSound old
       let m : SameMemory old.memory new.memory = t.memory.1 in
       let tn : Turn p old new = turn_of e (LoadMark c) word old new t in
       let moves : Moves p Version old new = same_moves p old new tn m in
-      loads e e.mark e.row e.announcement e.cell (LoadMark c) (LoadMark (c + 1)) old new sound was fits real tn is t.pending
-      (simple_passes p e.row (LoadMark c) e.row (LoadMark (c + 1)) old new (held_on p old new moves) (pends_on p old new moves t.pending)
+      loads e e.mark e.row e.announcement e.cell (LoadMark c) (LoadMark (c + 1)) old new sound was fits real tn is t.open_edits
+      (simple_passes p e.row (LoadMark c) e.row (LoadMark (c + 1)) old new (held_on p old new moves) (pends_on p old new moves t.open_edits)
       (λ r d x bit matters held o. tt) (λ d x matters k o. tt) (λ r held o. tt) (λ f before last_of issue issued same k o. tt))
       m (λ h r l by. elim (cases_eq r c) [
         | inl eq ↦ other (ap (λ (x : ℕ). x / 2 % 16) (t.memory.0 ∙ sym (m.cached (Mark c)) ∙ ap (λ (y : ℕ). new.memory.cached (Mark y)) (sym eq)) ∙ by)
@@ -177,8 +177,8 @@ module _ (e : PlainRecovery) (word : ℕ) (old new : World) (sound : IsSound old
         | inr ne ↦ fits.freed r (omega arith) by
       ] in
       let free : HoldsNone old p = none_left old (c + 1) sound fits.cells (ltb-false (c + 1) e.cells none) from in
-      loads e e.mark e.row e.announcement e.cell (LoadMark c) LoadAnnounce old new sound was fits real tn is t.pending
-      (simple_passes p e.row (LoadMark c) e.row LoadAnnounce old new (held_on p old new moves) (pends_on p old new moves t.pending)
+      loads e e.mark e.row e.announcement e.cell (LoadMark c) LoadAnnounce old new sound was fits real tn is t.open_edits
+      (simple_passes p e.row (LoadMark c) e.row LoadAnnounce old new (held_on p old new moves) (pends_on p old new moves t.open_edits)
       (λ r d x bit matters held o. absurd (free r held.by)) (λ d x matters k o. tt) (λ r held o. absurd (free r held.by)) (λ f before last_of issue issued same k o. tt))
       m (λ h r by. free r (subst (λ (x : ℕ). IsHeldBy p x) (m.cached (Mark r)) by)) (λ h. h) (m.buffer p ∙ fits.buffer) tt
 
@@ -192,8 +192,8 @@ module _ (e : PlainRecovery) (word : ℕ) (old new : World) (sound : IsSound old
         let moves : Moves p Version old new = same_moves p old new tn m in
         let now : new.memory.cached (Mark c) ≡ word = m.cached (Mark c) ∙ sym t.memory.0 in
         loads e word [] e.announcement e.cell (LoadMark c) (FlushValue c) old new sound was fits real tn
-        (t.situation ∙ ap (λ (b : Bool). Recovering (if b then record e { mark = word; row = []; stage = FlushValue c } else at e (if nat_lt (c + 1) e.cells then LoadMark (c + 1) else LoadAnnounce))) mine.0) t.pending
-        (simple_passes p e.row (LoadMark c) [] (FlushValue c) old new (held_on p old new moves) (pends_on p old new moves t.pending)
+        (t.situation ∙ ap (λ (b : Bool). Recovering (if b then record e { mark = word; row = []; stage = FlushValue c } else at e (if nat_lt (c + 1) e.cells then LoadMark (c + 1) else LoadAnnounce))) mine.0) t.open_edits
+        (simple_passes p e.row (LoadMark c) [] (FlushValue c) old new (held_on p old new moves) (pends_on p old new moves t.open_edits)
         (λ r d x bit matters held o. tt) (λ d x matters k o. tt) (λ r held o. tt) (λ f before last_of issue issued same k o. tt))
         m (λ h. record { below = h; by = mine.1; stands = ap (λ (x : ℕ). x / 2) now; seen = omega arith }) (λ h. h) (m.buffer p ∙ fits.buffer) ((fits.is.stage, mine.2), refl))
   ]
@@ -214,8 +214,8 @@ module _ (e : PlainRecovery) (word : ℕ) (old new : World) (sound : IsSound old
       let m : WritesBack p (entry (Mark c) one.value) [] old.memory new.memory = first_back (entry (Mark c) one.value) [] one.alone t.memory.1 in
       let tn : Turn p old new = turn_of e (BackGiven c) word old new t in
       let g : Grows p Version old new = grown_back p (Mark c) one.value [] old new sound tn m (one.had, one.is) (λ o. absurd o) in
-      backs e e.mark e.row e.announcement e.cell (BackGiven c) (LoadMark (c + 1)) old new sound was fits real tn is t.pending
-      (simple_passes p e.row (BackGiven c) e.row (LoadMark (c + 1)) old new (held_from p old new g) (pends_from p old new g t.pending)
+      backs e e.mark e.row e.announcement e.cell (BackGiven c) (LoadMark (c + 1)) old new sound was fits real tn is t.open_edits
+      (simple_passes p e.row (BackGiven c) e.row (LoadMark (c + 1)) old new (held_from p old new g) (pends_from p old new g t.open_edits)
       (λ r d x bit matters held o. tt) (λ d x matters k o. tt) (λ r held o. tt) (λ f before last_of issue issued same k o. tt))
       (Mark c) one.value [] m (one.had, one.is) (λ o. absurd o) (λ d at. cc) (λ r at. absurd (elim at [ inl x ↦ cc | inr x ↦ cc ])) (λ r at. absurd (elim at [ inl x ↦ cc | inr x ↦ cc ]))
       (λ moves my. back_any p (Mark c) one.value old new moves sound (buffered old sound) my (text_same old new moves.layout tn.counted) real m)
@@ -226,8 +226,8 @@ module _ (e : PlainRecovery) (word : ℕ) (old new : World) (sound : IsSound old
       let tn : Turn p old new = turn_of e (BackGiven c) word old new t in
       let g : Grows p Version old new = grown_back p (Mark c) one.value [] old new sound tn m (one.had, one.is) (λ o. absurd o) in
       let free : HoldsNone old p = none_left old (c + 1) sound fits.cells (ltb-false (c + 1) e.cells none) fits.freed in
-      backs e e.mark e.row e.announcement e.cell (BackGiven c) LoadAnnounce old new sound was fits real tn is t.pending
-      (simple_passes p e.row (BackGiven c) e.row LoadAnnounce old new (held_from p old new g) (pends_from p old new g t.pending)
+      backs e e.mark e.row e.announcement e.cell (BackGiven c) LoadAnnounce old new sound was fits real tn is t.open_edits
+      (simple_passes p e.row (BackGiven c) e.row LoadAnnounce old new (held_from p old new g) (pends_from p old new g t.open_edits)
       (λ r d x bit matters held o. absurd (free r held.by)) (λ d x matters k o. tt) (λ r held o. absurd (free r held.by)) (λ f before last_of issue issued same k o. tt))
       (Mark c) one.value [] m (one.had, one.is) (λ o. absurd o) (λ d at. cc) (λ r at. absurd (elim at [ inl x ↦ cc | inr x ↦ cc ])) (λ r at. absurd (elim at [ inl x ↦ cc | inr x ↦ cc ]))
       (λ moves my. back_any p (Mark c) one.value old new moves sound (buffered old sound) my (text_same old new moves.layout tn.counted) real m)

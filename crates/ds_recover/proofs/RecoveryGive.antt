@@ -36,7 +36,7 @@ module _ (e : PlainRecovery) (c : ℕ) (s : RecoverStage) (old new : World) (sou
     (owed : (r d x : ℕ) → RecoveryOwes old.memory e.process e.row s r d x → c ≢ r) (parted : (r : ℕ) → RecoveryParts s r → c ≢ r)
     (was : old.situation e.process ≡ Recovering (record e { stage = s })) (fits : RecoveryFits old e.process (record e { stage = s })) (h : Holding old e.process e.mark c)
     (empty : old.memory.buffer e.process ≡ []) (free : IsFreeing e.cells e.mark c)
-    (tn : Turn e.process old new) (is : new.situation e.process ≡ Recovering (record e { stage = FlushGiven c })) (pending : new.pending e.process ≡ old.pending e.process)
+    (tn : Turn e.process old new) (is : new.situation e.process ≡ Recovering (record e { stage = FlushGiven c })) (pending : new.open_edits e.process ≡ old.open_edits e.process)
     (store : StoresAt (Mark c) (given e.mark) old.memory new.memory) where
   abbrev p : ℕ
   p = e.process
@@ -132,5 +132,5 @@ module _ (e : PlainRecovery) (c : ℕ) (s : RecoverStage) (old new : World) (sou
       (λ d ne. recovery_keeps e e.mark e.row e.announcement e.cell s (FlushGiven c) old new was is (Mark c) moves passes pending d) mark_fits
       (λ l. subst (λ (t : Situation). CallFits new p t) (sym is)
       (recovery_fits e e.mark e.row e.announcement e.cell s (FlushGiven c) old new was is fits tn.layout pending
-      (doubt_grows (Mark c) old new p g pending (λ x. cc) (λ n k. record_no_mark p n k c) (old.pending p) fits.doubt)
+      (doubt_grows (Mark c) old new p g pending (λ x. cc) (λ n k. record_no_mark p n k c) (old.open_edits p) fits.doubt)
       freed tt (store.buffer p ∙ empty) free))

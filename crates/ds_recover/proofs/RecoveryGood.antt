@@ -18,8 +18,8 @@ use Rattle.ds_state.specs.declared.situation.Situation.TheVariants.{Idle, Recove
 use Rattle.ds_state.proofs.Dones.{still_answered}
 use Rattle.ds_state.proofs.Underway.{no_more}
 use Rattle.ds_recover.specs.declared.machine.Effect.{Effect}
-use Rattle.ds_recover.specs.RecoverySteps.{Steps, access_at, after, effect_at, pending_at}
-use Rattle.ds_recover.specs.RecoverTakes.{pending_by, StepsBy}
+use Rattle.ds_recover.specs.RecoverySteps.{Steps, access_at, after, effect_at, open_edit_at}
+use Rattle.ds_recover.specs.RecoverTakes.{open_edit_by, StepsBy}
 use Rattle.ds_recover.proofs.RecoveryLaws.{steps as steps_keep}
 use Rattle.ds_recover.proofs.RecoveryPossible.{possible}
 
@@ -36,12 +36,12 @@ no_report e (Answer how) word = refl
 no_report e _ word = refl
 
 -- what the effect says of the edit in doubt is what the stage says
-pub resolved_by : (e : PlainRecovery) (s : RecoverStage) (issue : Option Issue) → pending_by issue (effect_at e s) ≡ pending_at issue s
+pub resolved_by : (e : PlainRecovery) (s : RecoverStage) (issue : Option Issue) → open_edit_by issue (effect_at e s) ≡ open_edit_at issue s
 resolved_by e (Answer how) issue = refl
 resolved_by e _ issue = refl
 
 -- what is open after it was open before
-was_open : (s : RecoverStage) (o : Option Issue) (issue : Issue) → pending_at o s ≡ Some issue → o ≡ Some issue
+was_open : (s : RecoverStage) (o : Option Issue) (issue : Issue) → open_edit_at o s ≡ Some issue → o ≡ Some issue
 was_open (Answer how) o issue is = absurd (cc)
 was_open _ o issue is = is
 
@@ -65,8 +65,8 @@ module _ (v : WorldValue) (g : IsGood v) (p : ℕ) (e : PlainRecovery) (at : IsR
   pub perform_at : CanPerform v.sheet.layout (memory v.sheet) p (access_at e e.stage)
   perform_at = subst (λ (q : ℕ). CanPerform v.sheet.layout (memory v.sheet) q (access_at e e.stage)) mine (possible e (world_of v) low_own (subst (λ (q : ℕ). RecoveryFits (world_of v) q e) (sym mine) fits))
 
-  pub pending_there : p < length v.pending
-  pending_there = let l = low in let s = g.pending in omega arith
+  pub pending_there : p < length v.open_edits
+  pending_there = let l = low in let s = g.open_edits in omega arith
 
   module _ (word : ℕ) (sheet : SheetValue) (layout : sheet.layout ≡ v.sheet.layout) (performs : PerformsAt (access_at e e.stage) p (memory v.sheet) (memory sheet) word) where
     -- the world after the step
@@ -74,7 +74,7 @@ module _ (v : WorldValue) (g : IsGood v) (p : ℕ) (e : PlainRecovery) (at : IsR
     next = record v {
       sheet = sheet;
       situations = set v.situations p (after e e.stage word);
-      pending = set v.pending p (pending_at (get_or v.pending p None) e.stage);
+      open_edits = set v.open_edits p (open_edit_at (get_or v.open_edits p None) e.stage);
     }
 
     pub steps : Steps e word (world_of v) (world_of next)
@@ -85,15 +85,15 @@ module _ (v : WorldValue) (g : IsGood v) (p : ℕ) (e : PlainRecovery) (at : IsR
       situation = ap (λ q. get_or (set v.situations p (after e e.stage word)) q (Idle 0)) mine ∙ get_or-set_same v.situations p (after e e.stage word) (Idle 0) at.there;
       others = λ q ne. get_or-set_other v.situations p q (after e e.stage word) (Idle 0) (λ same. ne (same ∙ sym mine));
       counted = refl;
-      pending = ap (λ q. get_or (set v.pending p (pending_at (get_or v.pending p None) e.stage)) q None) mine ∙ get_or-set_same v.pending p (pending_at (get_or v.pending p None) e.stage) None pending_there
-          ∙ ap (λ q. pending_at (get_or v.pending q None) e.stage) (sym mine);
-      others_pending = λ q ne. get_or-set_other v.pending p q (pending_at (get_or v.pending p None) e.stage) None (λ same. ne (same ∙ sym mine));
+      open_edits = ap (λ q. get_or (set v.open_edits p (open_edit_at (get_or v.open_edits p None) e.stage)) q None) mine ∙ get_or-set_same v.open_edits p (open_edit_at (get_or v.open_edits p None) e.stage) None pending_there
+          ∙ ap (λ q. open_edit_at (get_or v.open_edits q None) e.stage) (sym mine);
+      others_open_edits = λ q ne. get_or-set_other v.open_edits p q (open_edit_at (get_or v.open_edits p None) e.stage) None (λ same. ne (same ∙ sym mine));
     }
 
-    open_before : (f : Edit) (issue : Issue) → Contains v.counted f → (world_of next).pending f.process ≡ Some issue → issue.edit ≡ f → (world_of v).pending f.process ≡ Some issue
+    open_before : (f : Edit) (issue : Issue) → Contains v.counted f → (world_of next).open_edits f.process ≡ Some issue → issue.edit ≡ f → (world_of v).open_edits f.process ≡ Some issue
     open_before f issue there now is = elim (cases_eq f.process e.process) [
-      | inl same ↦ ap (λ q. (world_of v).pending q) same ∙ was_open e.stage ((world_of v).pending e.process) issue (sym steps.pending ∙ sym (ap (λ q. (world_of next).pending q) same) ∙ now)
-      | inr other ↦ sym (steps.others_pending f.process other) ∙ now
+      | inl same ↦ ap (λ q. (world_of v).open_edits q) same ∙ was_open e.stage ((world_of v).open_edits e.process) issue (sym steps.open_edits ∙ sym (ap (λ q. (world_of next).open_edits q) same) ∙ now)
+      | inr other ↦ sym (steps.others_open_edits f.process other) ∙ now
     ]
 
     pub next_kept : (room : ℕ) → IsReserved v room → IsReserved next room
@@ -102,9 +102,9 @@ module _ (v : WorldValue) (g : IsGood v) (p : ℕ) (e : PlainRecovery) (at : IsR
       good = record {
         sound = (steps_keep e word (world_of v) (world_of next) g.sound low_own here steps).sound;
         situations = length-set v.situations p (after e e.stage word) ∙ g.situations ∙ ap (λ (l : Layout). l.processes) (sym layout);
-        pending = length-set v.pending p (pending_at (get_or v.pending p None) e.stage) ∙ g.pending ∙ ap (λ (l : Layout). l.processes) (sym layout);
+        open_edits = length-set v.open_edits p (open_edit_at (get_or v.open_edits p None) e.stage) ∙ g.open_edits ∙ ap (λ (l : Layout). l.processes) (sym layout);
         reports = rw layout g.reports;
-        answered = still_answered v.counted v.counted (world_of v).pending (world_of next).pending v.done (λ f there. there) open_before g.answered;
+        answered = still_answered v.counted v.counted (world_of v).open_edits (world_of next).open_edits v.done (λ f there. there) open_before g.answered;
         counts = no_more v.situations p (after e e.stage word) v.settled _ at.there (no_report e e.stage word) g.counts;
       };
       reserved = (let same = ap (λ (l : Layout). l.processes) layout in let r = kept.reserved in omega arith);
@@ -126,9 +126,9 @@ module _ (v : WorldValue) (g : IsGood v) (p : ℕ) (e : PlainRecovery) (at : IsR
     }
 
     -- a world of these parts is that world
-    pub next_is : (situation : Situation) (open_issue : Option Issue) → situation ≡ after e e.stage word → open_issue ≡ pending_at (get_or v.pending p None) e.stage
-        → (let w : WorldValue = record v { sheet = sheet; situations = set v.situations p situation; pending = set v.pending p open_issue } in w) ≡ next
+    pub next_is : (situation : Situation) (open_issue : Option Issue) → situation ≡ after e e.stage word → open_issue ≡ open_edit_at (get_or v.open_edits p None) e.stage
+        → (let w : WorldValue = record v { sheet = sheet; situations = set v.situations p situation; open_edits = set v.open_edits p open_issue } in w) ≡ next
     unfolding next
     next_is situation open_issue a b =
-        let made : Situation → Option Issue → WorldValue = λ s i. record v { sheet = sheet; situations = set v.situations p s; pending = set v.pending p i } in
+        let made : Situation → Option Issue → WorldValue = λ s i. record v { sheet = sheet; situations = set v.situations p s; open_edits = set v.open_edits p i } in
         ap (λ s. made s open_issue) a ∙ ap (λ i. made (after e e.stage word) i) b

@@ -76,8 +76,8 @@ module _ (e : PlainRecovery) (word : ℕ) (old new : World) (sound : IsSound old
       let own : ℕ = h.and.0 in
       let stands : IsHeadBy (of_cell e.cell old.counted) own h.issue.edit = subst (λ (c : ℕ). IsHeadBy (of_cell c old.counted) own h.issue.edit) h.own_is h.and.1.head in
       let n : NowHead old e.cell own = now_head old sound e.cell own h.issue.edit stands in
-      flushes e e.mark e.row e.announcement e.cell FlushHead BackHead old new sound was fits real tn t.situation t.pending
-      (simple_passes p e.row FlushHead e.row BackHead old new (held_on p old new moves) (pends_on p old new moves t.pending)
+      flushes e e.mark e.row e.announcement e.cell FlushHead BackHead old new sound was fits real tn t.situation t.open_edits
+      (simple_passes p e.row FlushHead e.row BackHead old new (held_on p old new moves) (pends_on p old new moves t.open_edits)
       (λ r d x bit matters held o. o) (λ d x matters k o. tt) (λ r held o. o) (λ f before last_of issue issued same k o. tt))
       (Head e.cell) m (λ k. k) (λ k. k)
       (record {
@@ -86,7 +86,7 @@ module _ (e : PlainRecovery) (word : ℕ) (old new : World) (sound : IsSound old
         by = n.by;
         gave = subst (λ (es : List Edit). IsHeadBy (of_cell e.cell es) (old.memory.cached (Head e.cell)) n.by) (sym tn.counted) n.gave;
         issue = h.issue;
-        issued = t.pending ∙ h.it.issued;
+        issued = t.open_edits ∙ h.it.issued;
         own = own;
         head = subst (λ (es : List Edit). IsHeadBy (of_cell e.cell es) own h.issue.edit) (sym tn.counted) stands;
         enough = n.enough;
@@ -133,7 +133,7 @@ module _ (e : PlainRecovery) (word : ℕ) (old new : World) (sound : IsSound old
     still_excused : p < old.layout.processes → (d x : ℕ) → Excuses old p (old.situation p) d x → IsExcused new d x
     still_excused l d x o =
         let k : Excuses old p (Recovering (at e BackHead)) d x = subst (λ (s : Situation). Excuses old p s d x) was o in
-        record { process = p; inside = rw tn.layout l; still = subst (λ (s : Situation). Excuses new p s d x) (sym went) (pends_from p old new g t.pending d k.0, tt) }
+        record { process = p; inside = rw tn.layout l; still = subst (λ (s : Situation). Excuses new p s d x) (sym went) (pends_from p old new g t.open_edits d k.0, tt) }
 
     excused_on : (d x : ℕ) → IsExcused old d x → IsExcused new d x
     excused_on d x o = elim (cases_eq o.process p) [
@@ -163,9 +163,9 @@ module _ (e : PlainRecovery) (word : ℕ) (old new : World) (sound : IsSound old
 
     keeps_other : (d : ℕ) → Head d ≢ there → KeepsOwing old new d
     keeps_other d ne f issue its is same before last_of owes = elim (cases_eq f.process p) [
-      | inr other ↦ (t.others_pending f.process other ∙ is, others_split f.process other f.cell _ owes)
+      | inr other ↦ (t.others_open_edits f.process other ∙ is, others_split f.process other f.cell _ owes)
       | inl eq ↦ absurd (
-          let mine : issue ≡ h.issue = same_issue (ap old.pending (sym eq) ∙ is) h.it.issued in
+          let mine : issue ≡ h.issue = same_issue (ap old.open_edits (sym eq) ∙ is) h.it.issued in
           let at_cell : d ≡ e.cell = sym its ∙ ap (λ (x : Edit). x.cell) (sym same) ∙ ap (λ (i : Issue). i.edit.cell) mine ∙ h.own_is in
           ne (ap (λ (x : ℕ). Head x) at_cell))
     ]
@@ -202,7 +202,7 @@ module _ (e : PlainRecovery) (word : ℕ) (old new : World) (sound : IsSound old
         | inl same ↦ inl (let k = m.cached there in let v = value_most in let n = now in omega arith)
         | inr w ↦ elim (cases_eq w.last.process p) [
           | inl mine ↦ inl (
-              let is_mine : w.issue ≡ one.issue = same_issue (ap old.pending (sym mine) ∙ w.pending) one.issued in
+              let is_mine : w.issue ≡ one.issue = same_issue (ap old.open_edits (sym mine) ∙ w.open_edits) one.issued in
               let owed : one.own ≡ head_after_all es = own_last w.before w.last w.parts (sym w.same ∙ ap (λ (i : Issue). i.edit) is_mine) in
               let is = cached_is in
               let q = persisted_most old es (old.memory.cached there) (old.memory.persisted there) small_es cached_is (inr w) in
@@ -218,7 +218,7 @@ module _ (e : PlainRecovery) (word : ℕ) (old new : World) (sound : IsSound old
               parts = ap (λ xs. of_cell e.cell xs) tn.counted ∙ w.parts;
               is = now ∙ stays' ∙ w.is;
               issue = w.issue;
-              pending = t.others_pending w.last.process other ∙ w.pending;
+              open_edits = t.others_open_edits w.last.process other ∙ w.open_edits;
               same = w.same;
               owes = subst (λ (xs : List Edit). Splits new w.last.process (new.situation w.last.process) w.last.cell (head_after_all (of_cell e.cell xs))) (sym tn.counted) (others_split w.last.process other w.last.cell _ w.owes);
             })
@@ -237,10 +237,10 @@ module _ (e : PlainRecovery) (word : ℕ) (old new : World) (sound : IsSound old
 
     resolved : ResolvedFits new p e.announcement e.cell (settled true)
     resolved =
-        let k : IsOpenAnd new p e.announcement e.cell (λ f. (own : ℕ) × IsIn new f own) = resolved_stable old new p g t.pending e.announcement e.cell Rattle.ds_state.specs.KnownRecovery.is_head fits.resolved in
+        let k : IsOpenAnd new p e.announcement e.cell (λ f. (own : ℕ) × IsIn new f own) = resolved_stable old new p g t.open_edits e.announcement e.cell Rattle.ds_state.specs.KnownRecovery.is_head fits.resolved in
         record {
           issue = h.issue;
-          it = record { issued = t.pending ∙ h.it.issued; process = h.it.process; number = h.it.number; is = h.it.is; cached = m.cached (Announce p) ∙ h.it.cached };
+          it = record { issued = t.open_edits ∙ h.it.issued; process = h.it.process; number = h.it.number; is = h.it.is; cached = m.cached (Announce p) ∙ h.it.cached };
           own_is = h.own_is;
           and = record {
             below = subst (λ (xs : List Edit). Rattle.std.specs.Prelude.All (λ f. f.process ≡ h.issue.edit.process → f.number < h.issue.edit.number + 1) xs) (sym tn.counted) h.and.1.below;
@@ -256,7 +256,7 @@ module _ (e : PlainRecovery) (word : ℕ) (old new : World) (sound : IsSound old
           mine = refl;
           cells = rw tn.layout fits.cells;
           processes = rw tn.layout fits.processes;
-          doubt = subst (λ (o : Option Issue). DoubtFits new p o) (sym t.pending) (doubt_grows Version old new p g t.pending (λ x. cc) (λ n k. record_no_version p n k) (old.pending p) fits.doubt);
+          doubt = subst (λ (o : Option Issue). DoubtFits new p o) (sym t.open_edits) (doubt_grows Version old new p g t.open_edits (λ x. cc) (λ n k. record_no_version p n k) (old.open_edits p) fits.doubt);
           freed = λ r by. fits.freed r (subst (λ (x : ℕ). IsHeldBy p x) (m.cached (Mark r)) by);
           resolved = resolved;
           buffer = m.mine;

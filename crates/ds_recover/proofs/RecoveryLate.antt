@@ -48,8 +48,8 @@ module _ (e : PlainRecovery) (word : ℕ) (old new : World) (sound : IsSound old
       let g : Grows p Version old new = grown_or p e.cell old new tn m in
       let moves : Moves p (Mark e.cell) old new = moved_or p e.cell old new tn m in
       let is = or_dirty (old.memory.cached (Mark e.cell)) in
-      ors e e.mark e.row e.announcement e.cell (OrMark how) (FlushMark how) old new sound was fits real tn t.situation t.pending
-      (simple_passes p e.row (OrMark how) e.row (FlushMark how) old new (held_from p old new g) (pends_from p old new g t.pending)
+      ors e e.mark e.row e.announcement e.cell (OrMark how) (FlushMark how) old new sound was fits real tn t.situation t.open_edits
+      (simple_passes p e.row (OrMark how) e.row (FlushMark how) old new (held_from p old new g) (pends_from p old new g t.open_edits)
       (λ r c x bit matters held o. o)
       (λ c x matters k o. (
       let same : e.cell ≡ c = its_cell old p e.announcement e.cell c (λ f. SettledAs old f how) fits.resolved k in
@@ -65,8 +65,8 @@ module _ (e : PlainRecovery) (word : ℕ) (old new : World) (sound : IsSound old
       let tn : Turn p old new = turn_of e (FlushMark how) word old new t in
       let g : Grows p Version old new = grows_own p Version old new (flush_moves p old new tn (Mark e.cell) (class_of (Mark e.cell)) m) tn.counted in
       let alone : new.memory.buffer p ≡ entry (Mark e.cell) (old.memory.cached (Mark e.cell)) ∷ [] = m.mine ∙ ap (λ xs. xs ++ entry (Mark e.cell) (old.memory.cached (Mark e.cell)) ∷ []) fits.buffer in
-      flushes e e.mark e.row e.announcement e.cell (FlushMark how) (BackMark how) old new sound was fits real tn t.situation t.pending
-      (simple_passes p e.row (FlushMark how) e.row (BackMark how) old new (held_from p old new g) (pends_from p old new g t.pending)
+      flushes e e.mark e.row e.announcement e.cell (FlushMark how) (BackMark how) old new sound was fits real tn t.situation t.open_edits
+      (simple_passes p e.row (FlushMark how) e.row (BackMark how) old new (held_from p old new g) (pends_from p old new g t.open_edits)
       (λ r c x bit matters held o. o)
       (λ c x matters k o. (
       let same : e.cell ≡ c = its_cell old p e.announcement e.cell c (λ f. SettledAs old f how) fits.resolved k in
@@ -81,8 +81,8 @@ module _ (e : PlainRecovery) (word : ℕ) (old new : World) (sound : IsSound old
       let m : WritesBack p (entry (Mark e.cell) one.value) [] old.memory new.memory = first_back (entry (Mark e.cell) one.value) [] one.alone t.memory.1 in
       let tn : Turn p old new = turn_of e (BackMark how) word old new t in
       let g : Grows p Version old new = grown_back p (Mark e.cell) one.value [] old new sound tn m (one.had, one.is) (λ o. absurd o) in
-      backs e e.mark e.row e.announcement e.cell (BackMark how) (StoreOutcome how) old new sound was fits real tn t.situation t.pending
-      (simple_passes p e.row (BackMark how) e.row (StoreOutcome how) old new (held_from p old new g) (pends_from p old new g t.pending)
+      backs e e.mark e.row e.announcement e.cell (BackMark how) (StoreOutcome how) old new sound was fits real tn t.situation t.open_edits
+      (simple_passes p e.row (BackMark how) e.row (StoreOutcome how) old new (held_from p old new g) (pends_from p old new g t.open_edits)
       (λ r c x bit matters held o. o)
       (λ c x matters k o. absurd (
       let same : e.cell ≡ c = its_cell old p e.announcement e.cell c (λ f. SettledAs old f how) fits.resolved k in
@@ -113,8 +113,8 @@ module _ (e : PlainRecovery) (word : ℕ) (old new : World) (sound : IsSound old
       let m : FlushesAt p (Announce p) (class_of (Announce p)) old.memory new.memory = t.memory.1 in
       let tn : Turn p old new = turn_of e (FlushOutcome how) word old new t in
       let g : Grows p Version old new = grows_own p Version old new (flush_moves p old new tn (Announce p) (class_of (Announce p)) m) tn.counted in
-      flushes e e.mark e.row e.announcement e.cell (FlushOutcome how) (BackOutcome how) old new sound was fits real tn t.situation t.pending
-      (simple_passes p e.row (FlushOutcome how) e.row (BackOutcome how) old new (held_from p old new g) (pends_from p old new g t.pending)
+      flushes e e.mark e.row e.announcement e.cell (FlushOutcome how) (BackOutcome how) old new sound was fits real tn t.situation t.open_edits
+      (simple_passes p e.row (FlushOutcome how) e.row (BackOutcome how) old new (held_from p old new g) (pends_from p old new g t.open_edits)
       (λ r c x bit matters held o. o) (λ c x matters k o. o) (λ r held o. o) (λ f before last_of issue issued same k o. o))
       (Announce p) m (λ h. h) (λ h. h)
       (m.mine ∙ ap (λ xs. xs ++ entry (Announce p) (old.memory.cached (Announce p)) ∷ []) fits.buffer ∙ ap (λ (v : ℕ). entry (Announce p) v ∷ []) fits.resolved.0) fits.is.stage
@@ -124,8 +124,8 @@ module _ (e : PlainRecovery) (word : ℕ) (old new : World) (sound : IsSound old
       let m : WritesBack p (entry (Announce p) e.announcement) [] old.memory new.memory = first_back (entry (Announce p) e.announcement) [] fits.buffer t.memory.1 in
       let tn : Turn p old new = turn_of e (BackOutcome how) word old new t in
       let g : Grows p Version old new = grown_back p (Announce p) e.announcement [] old new sound tn m (sym fits.resolved.0) (λ o. sym fits.resolved.0) in
-      backs e e.mark e.row e.announcement e.cell (BackOutcome how) (Answer (Some how)) old new sound was fits real tn t.situation t.pending
-      (simple_passes p e.row (BackOutcome how) e.row (Answer (Some how)) old new (held_from p old new g) (pends_from p old new g t.pending)
+      backs e e.mark e.row e.announcement e.cell (BackOutcome how) (Answer (Some how)) old new sound was fits real tn t.situation t.open_edits
+      (simple_passes p e.row (BackOutcome how) e.row (Answer (Some how)) old new (held_from p old new g) (pends_from p old new g t.open_edits)
       (λ r c x bit matters held o. o) (λ c x matters k o. o) (λ r held o. o) (λ f before last_of issue issued same k o. o))
       (Announce p) e.announcement [] m (sym fits.resolved.0) (λ o. sym fits.resolved.0) (λ c at. cc) (λ r at. absurd (no_value r at)) (λ r at. absurd (no_value r at))
       (λ moves my. no_new_marks p (Announce p) old new moves (λ c at. cc) (was_there p (Announce p) e.announcement [] old new sound tn m (sym fits.resolved.0) (λ o. sym fits.resolved.0)))

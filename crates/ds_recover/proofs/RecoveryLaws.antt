@@ -32,7 +32,7 @@ pub accesses : (e : PlainRecovery) (w : World) → IsSound w → e.process < w.l
 accesses e w sound real is = possible e w real (fits_of e w sound real is)
 
 pub answers : (e : PlainRecovery) (how : Option Bool) (w : World) (issue : Issue) → IsSound w → e.process < w.layout.processes → w.situation e.process ≡ Recovering e → e.stage ≡ Answer how
-    → w.pending e.process ≡ Some issue → ResolvesAs w issue.edit (end_of e how)
+    → w.open_edits e.process ≡ Some issue → ResolvesAs w issue.edit (end_of e how)
 answers e how w issue sound real is last open_is =
     answer_resolves e how w issue (subst (λ (s : RecoverStage). RecoveryFits w e.process (record e { stage = s })) last (fits_of e w sound real is)) open_is
 

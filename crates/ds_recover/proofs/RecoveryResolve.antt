@@ -72,17 +72,17 @@ module _ (e : PlainRecovery) (word : ℕ) (old new : World) (sound : IsSound old
 
     no_pending : announcement_of word ≡ None → (c : ℕ) → IsPending old p c → ⊥
     no_pending is c k =
-        let none = unannounced old p (old.pending p) fits.doubt (ap announcement_of (sym t.memory.0) ∙ is) in
+        let none = unannounced old p (old.open_edits p) fits.doubt (ap announcement_of (sym t.memory.0) ∙ is) in
         let there = k.cached in
         let zero' = none.0 in
         omega arith
 
     go : (a : Option Announcement) → announcement_of word ≡ a → Keeps p old new
-    go None is = loads e e.mark e.row word e.cell LoadAnnounce (Answer None) old new sound was fits real tn (t.situation ∙ ap (λ o. Recovering (announced_from e word o)) is) t.pending
-        (simple_passes p e.row LoadAnnounce e.row (Answer None) old new (held_on p old new moves) (pends_on p old new moves t.pending)
+    go None is = loads e e.mark e.row word e.cell LoadAnnounce (Answer None) old new sound was fits real tn (t.situation ∙ ap (λ o. Recovering (announced_from e word o)) is) t.open_edits
+        (simple_passes p e.row LoadAnnounce e.row (Answer None) old new (held_on p old new moves) (pends_on p old new moves t.open_edits)
         (λ r c x bit matters held o. o) (λ c x matters k o. no_pending is c k) (λ r held o. o) (λ f before last_of issue issued same k o. no_pending is f.cell k))
         m (λ h. h) (λ h. (
-        let none = unannounced old p (old.pending p) fits.doubt (ap announcement_of (sym t.memory.0) ∙ is) in
+        let none = unannounced old p (old.open_edits p) fits.doubt (ap announcement_of (sym t.memory.0) ∙ is) in
         let seen = t.memory.0 in
         let a = none.0 in
         let b = none.1 in
@@ -90,8 +90,8 @@ module _ (e : PlainRecovery) (word : ℕ) (old new : World) (sound : IsSound old
         let v = m.persisted (Announce p) in
         (omega arith, omega arith, omega arith)))
         (m.buffer p ∙ fits.buffer) tt
-    go (Some a) is = loads e e.mark e.row word e.cell LoadAnnounce LoadHeader old new sound was fits real tn (t.situation ∙ ap (λ o. Recovering (announced_from e word o)) is) t.pending
-        (simple_passes p e.row LoadAnnounce e.row LoadHeader old new (held_on p old new moves) (pends_on p old new moves t.pending)
+    go (Some a) is = loads e e.mark e.row word e.cell LoadAnnounce LoadHeader old new sound was fits real tn (t.situation ∙ ap (λ o. Recovering (announced_from e word o)) is) t.open_edits
+        (simple_passes p e.row LoadAnnounce e.row LoadHeader old new (held_on p old new moves) (pends_on p old new moves t.open_edits)
         (λ r c x bit matters held o. o) (λ c x matters k o. tt) (λ r held o. o) (λ f before last_of issue issued same k o. tt))
         m (λ h. h) (λ h. m.cached (Announce p) ∙ sym t.memory.0)
         (m.buffer p ∙ fits.buffer) (announced_of word a is)
@@ -123,13 +123,13 @@ module _ (e : PlainRecovery) (word : ℕ) (old new : World) (sound : IsSound old
 
     its_cell : (how : Bool) (a : Announcement) → announcement_of e.announcement ≡ Some a → a.phase ≡ phase_for how → IsItsCell new p e.announcement c'
     its_cell how a is phase' issue open_is own =
-        let doubt : IsInDoubt old p issue = subst (λ (o : Option Issue). DoubtFits old p o) (sym t.pending ∙ open_is) fits.doubt in
+        let doubt : IsInDoubt old p issue = subst (λ (o : Option Issue). DoubtFits old p o) (sym t.open_edits ∙ open_is) fits.doubt in
         sym (ap (λ (n : ℕ). cell_from (header_of n word)) (sym fits.cells) ∙ ended_reads old p e.announcement how issue doubt seen (tells how a is phase') own word t.memory.0)
 
     done_ends : (a : Announcement) → announcement_of e.announcement ≡ Some a → a.phase ≡ phase.Done → Keeps p old new
     done_ends a is phase' = loads e e.mark e.row e.announcement c' LoadHeader (FlushOutcome true) old new sound was fits real tn'
-        (t.situation ∙ ap (λ (s : RecoverStage). Recovering (on e e.mark e.row e.announcement c' s)) (ap resolves_from is ∙ ap phase_from phase')) t.pending
-        (simple_passes p e.row LoadHeader e.row (FlushOutcome true) old new (held_on p old new moves') (pends_on p old new moves' t.pending)
+        (t.situation ∙ ap (λ (s : RecoverStage). Recovering (on e e.mark e.row e.announcement c' s)) (ap resolves_from is ∙ ap phase_from phase')) t.open_edits
+        (simple_passes p e.row LoadHeader e.row (FlushOutcome true) old new (held_on p old new moves') (pends_on p old new moves' t.open_edits)
         (λ r c x bit matters held o. o) (λ c x matters k o. none c k) (λ r held o. o) (λ f before last_of issue issued same k o. none f.cell k))
         m' (λ h. h) (λ h. (h, tells true a is phase', its_cell true a is phase')) (m'.buffer p ∙ fits.buffer) (fits.is.stage, cell_below e.cells word fits.is.some)
       where
@@ -138,8 +138,8 @@ module _ (e : PlainRecovery) (word : ℕ) (old new : World) (sound : IsSound old
 
     lost_ends : (a : Announcement) → announcement_of e.announcement ≡ Some a → a.phase ≡ phase.NotDone → Keeps p old new
     lost_ends a is phase' = loads e e.mark e.row e.announcement c' LoadHeader (FlushOutcome false) old new sound was fits real tn'
-        (t.situation ∙ ap (λ (s : RecoverStage). Recovering (on e e.mark e.row e.announcement c' s)) (ap resolves_from is ∙ ap phase_from phase')) t.pending
-        (simple_passes p e.row LoadHeader e.row (FlushOutcome false) old new (held_on p old new moves') (pends_on p old new moves' t.pending)
+        (t.situation ∙ ap (λ (s : RecoverStage). Recovering (on e e.mark e.row e.announcement c' s)) (ap resolves_from is ∙ ap phase_from phase')) t.open_edits
+        (simple_passes p e.row LoadHeader e.row (FlushOutcome false) old new (held_on p old new moves') (pends_on p old new moves' t.open_edits)
         (λ r c x bit matters held o. o) (λ c x matters k o. none c k) (λ r held o. o) (λ f before last_of issue issued same k o. none f.cell k))
         m' (λ h. h) (λ h. (h, tells false a is phase', its_cell false a is phase')) (m'.buffer p ∙ fits.buffer) (fits.is.stage, cell_below e.cells word fits.is.some)
       where
@@ -148,8 +148,8 @@ module _ (e : PlainRecovery) (word : ℕ) (old new : World) (sound : IsSound old
 
     none_ends : announcement_of e.announcement ≡ None → Keeps p old new
     none_ends is = loads e e.mark e.row e.announcement c' LoadHeader (Answer None) old new sound was fits real tn'
-        (t.situation ∙ ap (λ (s : RecoverStage). Recovering (on e e.mark e.row e.announcement c' s)) (ap resolves_from is)) t.pending
-        (simple_passes p e.row LoadHeader e.row (Answer None) old new (held_on p old new moves') (pends_on p old new moves' t.pending)
+        (t.situation ∙ ap (λ (s : RecoverStage). Recovering (on e e.mark e.row e.announcement c' s)) (ap resolves_from is)) t.open_edits
+        (simple_passes p e.row LoadHeader e.row (Answer None) old new (held_on p old new moves') (pends_on p old new moves' t.open_edits)
         (λ r c x bit matters held o. o) (λ c x matters k o. none c k) (λ r held o. o) (λ f before last_of issue issued same k o. none f.cell k))
         m' (λ h. h) (λ h. (
         let z = zero' in
@@ -161,20 +161,20 @@ module _ (e : PlainRecovery) (word : ℕ) (old new : World) (sound : IsSound old
         (omega arith, omega arith, omega arith))) (m'.buffer p ∙ fits.buffer) tt
       where
         zero' : (old.memory.cached (Announce p) ≡ 0) × (old.memory.persisted (Announce p) ≡ 0)
-        zero' = unannounced old p (old.pending p) fits.doubt (ap announcement_of seen ∙ is)
+        zero' = unannounced old p (old.open_edits p) fits.doubt (ap announcement_of seen ∙ is)
 
         none : (c : ℕ) → IsPending old p c → ⊥
         none c k = let d = zero'.0 in let x = k.cached in omega arith
 
     goes_on : (a : Announcement) → announcement_of e.announcement ≡ Some a → a.phase ≡ phase.Pending → Keeps p old new
     goes_on a is phase' = loads e e.mark e.row e.announcement c' LoadHeader LoadHead old new sound was fits real tn'
-        (t.situation ∙ ap (λ (s : RecoverStage). Recovering (on e e.mark e.row e.announcement c' s)) (ap resolves_from is ∙ ap phase_from phase')) t.pending
-        (simple_passes p e.row LoadHeader e.row LoadHead old new (held_on p old new moves') (pends_on p old new moves' t.pending)
+        (t.situation ∙ ap (λ (s : RecoverStage). Recovering (on e e.mark e.row e.announcement c' s)) (ap resolves_from is ∙ ap phase_from phase')) t.open_edits
+        (simple_passes p e.row LoadHeader e.row LoadHead old new (held_on p old new moves') (pends_on p old new moves' t.open_edits)
         (λ r c x bit matters held o. o) (λ c x matters k o. tt) (λ r held o. o) (λ f before last_of issue issued same k o. tt))
         m' (λ h. h) (λ h. record {
           issue = found.issue;
           it = record {
-            issued = t.pending ∙ found.issued;
+            issued = t.open_edits ∙ found.issued;
             process = found.doubt.mine;
             number = found.doubt.number;
             is = word_is ∙ ap (λ (n : ℕ). announcement n phase.Pending) (sym found.number);
@@ -187,8 +187,8 @@ module _ (e : PlainRecovery) (word : ℕ) (old new : World) (sound : IsSound old
         word_is : e.announcement ≡ announcement a.number phase.Pending
         word_is = sym (IsAnnouncement-announcement_of e.announcement a is).1 ∙ ap (λ (f : Phase). announcement a.number f) phase'
 
-        found : IsDoubted old p a.number (old.pending p)
-        found = pending_open old p a.number (old.pending p) fits.doubt (seen ∙ word_is)
+        found : IsDoubted old p a.number (old.open_edits p)
+        found = pending_open old p a.number (old.open_edits p) fits.doubt (seen ∙ word_is)
 
         there : word ≡ old.memory.cached (Header p found.issue.edit.number)
         there = t.memory.0 ∙ ap (λ (n : ℕ). old.memory.cached (Header p n)) (let k : number_of e ≡ a.number = (let w = word_is in omega arith) in k ∙ sym found.number)
@@ -240,22 +240,22 @@ module _ (e : PlainRecovery) (word : ℕ) (old new : World) (sound : IsSound old
     open_on : (P : Edit → Type 0) → P f → IsOpenAnd new p e.announcement e.cell P
     open_on P and = record {
       issue = h.issue;
-      it = record { issued = t.pending ∙ h.it.issued; process = h.it.process; number = h.it.number; is = h.it.is; cached = mh.cached (Announce p) ∙ h.it.cached };
+      it = record { issued = t.open_edits ∙ h.it.issued; process = h.it.process; number = h.it.number; is = h.it.is; cached = mh.cached (Announce p) ∙ h.it.cached };
       own_is = h.own_is;
       and = and;
     }
 
     head_goes : (b : Bool) → shown ≡ b → Keeps p old new
     head_goes true is = loads e e.mark e.row e.announcement e.cell LoadHead FlushHead old new sound was fits real th
-        (t.situation ∙ ap (λ (b : Bool). Recovering (if b then at e FlushHead else at e LoadDone)) is) t.pending
-        (simple_passes p e.row LoadHead e.row FlushHead old new (held_on p old new movesh) (pends_on p old new movesh t.pending)
+        (t.situation ∙ ap (λ (b : Bool). Recovering (if b then at e FlushHead else at e LoadDone)) is) t.open_edits
+        (simple_passes p e.row LoadHead e.row FlushHead old new (held_on p old new movesh) (pends_on p old new movesh t.open_edits)
         (λ r c x bit matters held o. o) (λ c x matters k o. tt) (λ r held o. o) (λ g before last_of issue issued same k o. tt))
         mh (λ k. k) (λ k. open_on (λ g. (own : ℕ) × IsIn new g own) (
         let found = shown_in old sound p h.issue doubt word at_head (sym shown_is ∙ is) in
         (found.0, in_same old new t.counted f found.0 found.1))) (mh.buffer p ∙ fits.buffer) fits.is.stage
     head_goes false is = loads e e.mark e.row e.announcement e.cell LoadHead LoadDone old new sound was fits real th
-        (t.situation ∙ ap (λ (b : Bool). Recovering (if b then at e FlushHead else at e LoadDone)) is) t.pending
-        (simple_passes p e.row LoadHead e.row LoadDone old new (held_on p old new movesh) (pends_on p old new movesh t.pending)
+        (t.situation ∙ ap (λ (b : Bool). Recovering (if b then at e FlushHead else at e LoadDone)) is) t.open_edits
+        (simple_passes p e.row LoadHead e.row LoadDone old new (held_on p old new movesh) (pends_on p old new movesh t.open_edits)
         (λ r c x bit matters held o. o) (λ c x matters k o. tt) (λ r held o. o)
         (λ g before last_of issue issued same k o. absurd (
         let is_f : g ≡ f = sym same ∙ ap (λ (i : Issue). i.edit) (same_issue issued h.it.issued) in
@@ -303,7 +303,7 @@ module _ (e : PlainRecovery) (word : ℕ) (old new : World) (sound : IsSound old
     settled_on : (how : Bool) → SettledAs old g how → IsOpenAnd new p e.announcement e.cell (λ f. SettledAs new f how)
     settled_on how and = record {
       issue = d.issue;
-      it = record { issued = t.pending ∙ d.it.issued; process = d.it.process; number = d.it.number; is = d.it.is; cached = md.cached (Announce p) ∙ d.it.cached };
+      it = record { issued = t.open_edits ∙ d.it.issued; process = d.it.process; number = d.it.number; is = d.it.is; cached = md.cached (Announce p) ∙ d.it.cached };
       own_is = d.own_is;
       and = at_now how and;
     }
@@ -314,13 +314,13 @@ module _ (e : PlainRecovery) (word : ℕ) (old new : World) (sound : IsSound old
 
     bit_goes : (b : Bool) → set ≡ b → Keeps p old new
     bit_goes true is = loads e e.mark e.row e.announcement e.cell LoadDone (OrMark true) old new sound was fits real td
-        (t.situation ∙ ap (λ (b : Bool). Recovering (if b then at e (OrMark true) else at e (OrMark false))) is) t.pending
-        (simple_passes p e.row LoadDone e.row (OrMark true) old new (held_on p old new movesd) (pends_on p old new movesd t.pending)
+        (t.situation ∙ ap (λ (b : Bool). Recovering (if b then at e (OrMark true) else at e (OrMark false))) is) t.open_edits
+        (simple_passes p e.row LoadDone e.row (OrMark true) old new (held_on p old new movesd) (pends_on p old new movesd t.open_edits)
         (λ r c x bit matters held o. o) (λ c x matters k o. tt) (λ r held o. o) (λ g before last_of issue issued same k o. o))
         md (λ k. k) (λ k. settled_on true (bit_tells old sound g d.it.number d.and (sym bits_is ∙ eqb-true (bit_at word (number_of e % 64)) 1 is))) (md.buffer p ∙ fits.buffer) fits.is.stage
     bit_goes false is = loads e e.mark e.row e.announcement e.cell LoadDone (OrMark false) old new sound was fits real td
-        (t.situation ∙ ap (λ (b : Bool). Recovering (if b then at e (OrMark true) else at e (OrMark false))) is) t.pending
-        (simple_passes p e.row LoadDone e.row (OrMark false) old new (held_on p old new movesd) (pends_on p old new movesd t.pending)
+        (t.situation ∙ ap (λ (b : Bool). Recovering (if b then at e (OrMark true) else at e (OrMark false))) is) t.open_edits
+        (simple_passes p e.row LoadDone e.row (OrMark false) old new (held_on p old new movesd) (pends_on p old new movesd t.open_edits)
         (λ r c x bit matters held o. o) (λ c x matters k o. tt) (λ r held o. o) (λ g before last_of issue issued same k o. o))
         md (λ k. k) (λ k. settled_on false (no_bit_tells old sound g d.and (λ has. (
         let bad : true ≡ false = sym (eq-eqb (bit_at word (number_of e % 64)) 1 (bits_is ∙ has)) ∙ is in

@@ -149,8 +149,8 @@ module _ (e : PlainRecovery) (how : Bool) (word : ℕ) (old new : World) (sound 
   gf : Grows f.process (Announce p) old new
   gf = subst (λ (q : ℕ). Grows q (Announce p) old new) (sym h.it.process) g
 
-  doubted : IsDoubted old p f.number (old.pending p)
-  doubted = pending_open old p f.number (old.pending p) fits.doubt (h.it.cached ∙ h.it.is)
+  doubted : IsDoubted old p f.number (old.open_edits p)
+  doubted = pending_open old p f.number (old.open_edits p) fits.doubt (h.it.cached ∙ h.it.is)
 
   mine_is : doubted.issue ≡ h.issue
   mine_is = let both : Some doubted.issue ≡ Some h.issue = sym doubted.issued ∙ h.it.issued in cc
@@ -186,13 +186,13 @@ module _ (e : PlainRecovery) (how : Bool) (word : ℕ) (old new : World) (sound 
   step_store_outcome = moves_sound p (Announce p) old new moves tn.counted sound (bears p (Announce p) old new moves sound my)
       (all_stand p (Announce p) old new moves sound (buffered old sound) my (text_same old new moves.layout tn.counted) marks)
       (recovery_apart e e.mark e.row said_word e.cell (StoreOutcome how) (FlushOutcome how) old new was went (Announce p) moves passes)
-      (λ d ne. recovery_keeps e e.mark e.row said_word e.cell (StoreOutcome how) (FlushOutcome how) old new was went (Announce p) moves passes t.pending d) word_fits
+      (λ d ne. recovery_keeps e e.mark e.row said_word e.cell (StoreOutcome how) (FlushOutcome how) old new was went (Announce p) moves passes t.open_edits d) word_fits
       (λ l. subst (λ (s : Situation). CallFits new p s) (sym went)
-      (recovery_fits e e.mark e.row said_word e.cell (StoreOutcome how) (FlushOutcome how) old new was went fits tn.layout t.pending
+      (recovery_fits e e.mark e.row said_word e.cell (StoreOutcome how) (FlushOutcome how) old new was went fits tn.layout t.open_edits
       (subst (λ (o : Option Issue). DoubtFits new p o) (sym h.it.issued) in_doubt)
       (λ r by. fits.freed r (subst (λ (x : ℕ). IsHeldBy p x) (store.elsewhere (Mark r) (λ x. cc)) by)) (
         store.there,
         record { number = number_of e; few = (let n = number_is in let k = h.it.number in omega arith); is = refl },
-        λ issue is same. (let mine : issue ≡ h.issue = same_issue is (t.pending ∙ h.it.issued) in ap (λ (i : Issue). i.edit.cell) mine ∙ h.own_is),
+        λ issue is same. (let mine : issue ≡ h.issue = same_issue is (t.open_edits ∙ h.it.issued) in ap (λ (i : Issue). i.edit.cell) mine ∙ h.own_is),
       )
       (store.buffer p ∙ fits.buffer) (said_announced (number_of e) how (let n = fits.is.stage.0.few in let k = fits.is.stage.0.some in omega arith), fits.is.stage.1)))

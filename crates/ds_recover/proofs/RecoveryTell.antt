@@ -60,17 +60,17 @@ module _ (e : PlainRecovery) (word : ℕ) (old new : World) (sound : IsSound old
       let m : WritesBack p (value_now old c) (kind_now old c ∷ []) old.memory new.memory = first_back (value_now old c) (kind_now old c ∷ []) fits.buffer t.memory.1 in
       let tn : Turn p old new = turn_of e (BackValue c) word old new t in
       let g : Grows p Version old new = grown_back p (Value c) v (kind_now old c ∷ []) old new sound tn m refl (λ o. refl) in
-      let passes : Passes p e.row (BackValue c) e.row (BackKind c) old new = simple_passes p e.row (BackValue c) e.row (BackKind c) old new (held_from p old new g) (pends_from p old new g t.pending)
+      let passes : Passes p e.row (BackValue c) e.row (BackKind c) old new = simple_passes p e.row (BackValue c) e.row (BackKind c) old new (held_from p old new g) (pends_from p old new g t.open_edits)
       (λ r d x bit matters held o. tt) (λ d x matters k o. tt) (λ r held o. tt) (λ f before last_of issue issued same k o. tt) in
       let agree : ValueAgrees new c = m.there ∙ sym (m.cached (Value c)) in
       let there : (d x q : ℕ) → Contains (new.memory.buffer q) (entry (Mark d) x) → Contains (old.memory.buffer q) (entry (Mark d) x) = was_there p (Value c) v (kind_now old c ∷ []) old new sound tn m refl (λ o. refl) in
       let holds : new.memory.buffer p ≡ kind_now new c ∷ [] = m.mine ∙ ap (λ (y : ℕ). entry (Kind c) y ∷ []) (sym (m.cached (Kind c))) in
       elim (sound.words (Value c)) [
-        | inl same ↦ backs_none e e.mark e.row e.announcement e.cell (BackValue c) (BackKind c) old new sound was fits real tn t.situation t.pending passes (Value c) v (kind_now old c ∷ []) m (sym same) there g
+        | inl same ↦ backs_none e e.mark e.row e.announcement e.cell (BackValue c) (BackKind c) old new sound was fits real tn t.situation t.open_edits passes (Value c) v (kind_now old c ∷ []) m (sym same) there g
             (λ h. (h, agree)) (λ h. h) holds fits.is.stage
         | inr a ↦ (
             let both : IsHeld old.memory p c = apart_held c fits.freed a in
-            backs e e.mark e.row e.announcement e.cell (BackValue c) (BackKind c) old new sound was fits real tn t.situation t.pending passes (Value c) v (kind_now old c ∷ []) m refl (λ o. refl) (λ d at. cc)
+            backs e e.mark e.row e.announcement e.cell (BackValue c) (BackKind c) old new sound was fits real tn t.situation t.open_edits passes (Value c) v (kind_now old c ∷ []) m refl (λ o. refl) (λ d at. cc)
             (λ r at by d x. subst (λ (y : ℕ). CellOwes new y d x) (same_value c r at) (record { holder = p; held = held_from p old new g c both; still = subst (λ (s : Situation). Owes new.memory p s c d x) (sym t.situation) tt }))
             (λ r at by. subst (λ (y : ℕ). IsHeld old.memory p y) (same_value c r at) both)
             (λ moves my. no_new_marks p (Value c) old new moves (λ d at. cc) there)
@@ -87,20 +87,20 @@ module _ (e : PlainRecovery) (word : ℕ) (old new : World) (sound : IsSound old
       let agree' : ValueAgrees new c = m.elsewhere (Value c) (λ x. cc) ∙ fits.freed.1 ∙ sym (m.cached (Value c)) in
       let passes : Passes p e.row (BackKind c) e.row (Telling c (LoadRow 0)) old new = record {
         owes = λ r d x bit matters k o. (held_from p old new g r k, inr (inl (omega arith)));
-        excuses = λ d x matters k o. (pends_from p old new g t.pending d k, tt);
+        excuses = λ d x matters k o. (pends_from p old new g t.open_edits d k, tt);
         parts = λ r k o. elim (cases_eq c r) [
           | inl eq ↦ inr (subst (λ (y : ℕ). ValueAgrees new y × KindAgrees new y) eq (agree', agree))
           | inr ne ↦ inl (held_from p old new g r k, ne)
         ];
-        splits = λ f before last_of issue issued same k o. (pends_from p old new g t.pending f.cell k, tt);
+        splits = λ f before last_of issue issued same k o. (pends_from p old new g t.open_edits f.cell k, tt);
       } in
       let there : (d x q : ℕ) → Contains (new.memory.buffer q) (entry (Mark d) x) → Contains (old.memory.buffer q) (entry (Mark d) x) = was_there p (Kind c) v [] old new sound tn m refl (λ o. refl) in
       elim (sound.words (Kind c)) [
-        | inl same ↦ backs_none e e.mark e.row e.announcement e.cell (BackKind c) (Telling c (LoadRow 0)) old new sound was fits real tn t.situation t.pending passes (Kind c) v [] m (sym same) there g
+        | inl same ↦ backs_none e e.mark e.row e.announcement e.cell (BackKind c) (Telling c (LoadRow 0)) old new sound was fits real tn t.situation t.open_edits passes (Kind c) v [] m (sym same) there g
             (λ h. (h.0, h.1, agree)) (λ h. h) m.mine (fits.is.stage.0, ((let n = fits.is.some in omega arith), fits.is.stage.1))
         | inr a ↦ (
             let both : IsHeld old.memory p c = apart_held c fits.freed.0 a in
-            backs e e.mark e.row e.announcement e.cell (BackKind c) (Telling c (LoadRow 0)) old new sound was fits real tn t.situation t.pending passes (Kind c) v [] m refl (λ o. refl) (λ d at. cc)
+            backs e e.mark e.row e.announcement e.cell (BackKind c) (Telling c (LoadRow 0)) old new sound was fits real tn t.situation t.open_edits passes (Kind c) v [] m refl (λ o. refl) (λ d at. cc)
             (λ r at by d x. subst (λ (y : ℕ). CellOwes new y d x) (same_kind c r at) (record { holder = p; held = held_from p old new g c both; still = subst (λ (s : Situation). Owes new.memory p s c d x) (sym t.situation) (inr (inl (omega arith))) }))
             (λ r at by. subst (λ (y : ℕ). IsHeld old.memory p y) (same_kind c r at) both)
             (λ moves my. no_new_marks p (Kind c) old new moves (λ d at. cc) there)
@@ -119,8 +119,8 @@ module _ (e : PlainRecovery) (word : ℕ) (old new : World) (sound : IsSound old
       let g : Grows p Version old new = grown_or p d old new tn m in
       let moves : Moves p (Mark d) old new = moved_or p d old new tn m in
       let is = or_dirty (old.memory.cached (Mark d)) in
-      ors e e.mark e.row e.announcement e.cell (Telling c (OrTold d)) (Telling c (FlushTold d)) old new sound was fits real tn t.situation t.pending
-      (simple_passes p e.row (Telling c (OrTold d)) e.row (Telling c (FlushTold d)) old new (held_from p old new g) (pends_from p old new g t.pending)
+      ors e e.mark e.row e.announcement e.cell (Telling c (OrTold d)) (Telling c (FlushTold d)) old new sound was fits real tn t.situation t.open_edits
+      (simple_passes p e.row (Telling c (OrTold d)) e.row (Telling c (FlushTold d)) old new (held_from p old new g) (pends_from p old new g t.open_edits)
       (λ r y x bit matters held o. other_or c r _ _ (λ eq k. (
         k.0,
         elim (cases_eq d y) [
@@ -143,8 +143,8 @@ module _ (e : PlainRecovery) (word : ℕ) (old new : World) (sound : IsSound old
       let tn : Turn p old new = turn_of e (Telling c (FlushTold d)) word old new t in
       let moves : Moves p Version old new = flush_moves p old new tn (Mark d) (class_of (Mark d)) m in
       let alone : new.memory.buffer p ≡ entry (Mark d) (old.memory.cached (Mark d)) ∷ [] = m.mine ∙ ap (λ xs. xs ++ entry (Mark d) (old.memory.cached (Mark d)) ∷ []) fits.buffer in
-      flushes e e.mark e.row e.announcement e.cell (Telling c (FlushTold d)) (Telling c (BackTold d)) old new sound was fits real tn t.situation t.pending
-      (simple_passes p e.row (Telling c (FlushTold d)) e.row (Telling c (BackTold d)) old new (held_on p old new moves) (pends_on p old new moves t.pending)
+      flushes e e.mark e.row e.announcement e.cell (Telling c (FlushTold d)) (Telling c (BackTold d)) old new sound was fits real tn t.situation t.open_edits
+      (simple_passes p e.row (Telling c (FlushTold d)) e.row (Telling c (BackTold d)) old new (held_on p old new moves) (pends_on p old new moves t.open_edits)
       (λ r y x bit matters held o. other_or c r _ _ (λ eq k. flush_passes p e.row d old new alone y x k) o)
       (λ y x matters k o. tt) (λ r held o. o) (λ f before last_of issue issued same k o. tt))
       (Mark d) m (λ h. h) (λ h. h)
@@ -176,8 +176,8 @@ module _ (e : PlainRecovery) (word : ℕ) (old new : World) (sound : IsSound old
       left y x matters k = back_passes p e.row d (d + 1) one.value old new one.alone enough behind (λ z l b. omega arith) y x matters k
 
       go : (o : Option ℕ) → told_from e.row (e.cells - (d + 1)) (d + 1) ≡ o → new.situation p ≡ Recovering (at e (told c o)) → Keeps p old new
-      go None none is = backs e e.mark e.row e.announcement e.cell (Telling c (BackTold d)) (Give c) old new sound was fits real tn is t.pending
-          (simple_passes p e.row (Telling c (BackTold d)) e.row (Give c) old new (held_from p old new g) (pends_from p old new g t.pending)
+      go None none is = backs e e.mark e.row e.announcement e.cell (Telling c (BackTold d)) (Give c) old new sound was fits real tn is t.open_edits
+          (simple_passes p e.row (Telling c (BackTold d)) e.row (Give c) old new (held_from p old new g) (pends_from p old new g t.open_edits)
           (λ r y x bit matters held o. elim o [
             | inl ne ↦ ne
             | inr k ↦ absurd (let l = left y x matters k in tells_none e.row e.cells (d + 1) y none (let b = bit.1 in let n = fits.cells in omega arith) l.0 l.1)
@@ -186,8 +186,8 @@ module _ (e : PlainRecovery) (word : ℕ) (old new : World) (sound : IsSound old
           (Mark d) one.value [] m (one.had, one.is) (λ o. absurd o) (λ y at. cc) (λ r at. absurd (no_value d r at)) (λ r at. absurd (no_value d r at))
           (λ moves my. back_any p (Mark d) one.value old new moves sound (buffered old sound) my (text_same old new moves.layout tn.counted) real m)
           (λ h. h) (λ h. h) m.mine fits.is.stage.0
-      go (Some d') some is = backs e e.mark e.row e.announcement e.cell (Telling c (BackTold d)) (Telling c (OrTold d')) old new sound was fits real tn is t.pending
-          (simple_passes p e.row (Telling c (BackTold d)) e.row (Telling c (OrTold d')) old new (held_from p old new g) (pends_from p old new g t.pending)
+      go (Some d') some is = backs e e.mark e.row e.announcement e.cell (Telling c (BackTold d)) (Telling c (OrTold d')) old new sound was fits real tn is t.open_edits
+          (simple_passes p e.row (Telling c (BackTold d)) e.row (Telling c (OrTold d')) old new (held_from p old new g) (pends_from p old new g t.open_edits)
           (λ r y x bit matters held o. elim o [
             | inl ne ↦ inl ne
             | inr k ↦ inr (let l = left y x matters k in (l.0, tells_some e.row e.cells (d + 1) d' y some (let b = bit.1 in let n = fits.cells in omega arith) l.0 l.1))
@@ -217,8 +217,8 @@ module _ (e : PlainRecovery) (word : ℕ) (old new : World) (sound : IsSound old
       left r y x eq bit k = row_passes p e.row c part word old new fits.is.stage.1.1 t.memory.0 y x (subst (λ (z : ℕ). IsIndexed old z y) (sym eq) bit) k
 
       go : (o : Option ℕ) → told_from (e.row ++ word ∷ []) (e.cells - 0) 0 ≡ o → (e.cells + 63) / 64 ≤ part + 1 → new.situation p ≡ Recovering (record e { row = e.row ++ word ∷ []; stage = told c o }) → Keeps p old new
-      go None none last is = loads e e.mark (e.row ++ word ∷ []) e.announcement e.cell (Telling c (LoadRow part)) (Give c) old new sound was fits real tn is t.pending
-          (simple_passes p e.row (Telling c (LoadRow part)) (e.row ++ word ∷ []) (Give c) old new (held_on p old new moves) (pends_on p old new moves t.pending)
+      go None none last is = loads e e.mark (e.row ++ word ∷ []) e.announcement e.cell (Telling c (LoadRow part)) (Give c) old new sound was fits real tn is t.open_edits
+          (simple_passes p e.row (Telling c (LoadRow part)) (e.row ++ word ∷ []) (Give c) old new (held_on p old new moves) (pends_on p old new moves t.open_edits)
           (λ r y x bit matters held o. elim o [
             | inl ne ↦ ne
             | inr k ↦ elim (cases_eq c r) [
@@ -231,8 +231,8 @@ module _ (e : PlainRecovery) (word : ℕ) (old new : World) (sound : IsSound old
           ])
           (λ y x matters k o. tt) (λ r held o. o) (λ f before last_of issue issued same k o. tt))
           m (λ h. h) (λ h. h) (m.buffer p ∙ fits.buffer) fits.is.stage.0
-      go (Some d') some last is = loads e e.mark (e.row ++ word ∷ []) e.announcement e.cell (Telling c (LoadRow part)) (Telling c (OrTold d')) old new sound was fits real tn is t.pending
-          (simple_passes p e.row (Telling c (LoadRow part)) (e.row ++ word ∷ []) (Telling c (OrTold d')) old new (held_on p old new moves) (pends_on p old new moves t.pending)
+      go (Some d') some last is = loads e e.mark (e.row ++ word ∷ []) e.announcement e.cell (Telling c (LoadRow part)) (Telling c (OrTold d')) old new sound was fits real tn is t.open_edits
+          (simple_passes p e.row (Telling c (LoadRow part)) (e.row ++ word ∷ []) (Telling c (OrTold d')) old new (held_on p old new moves) (pends_on p old new moves t.open_edits)
           (λ r y x bit matters held o. other_or c r _ _ (λ eq k. elim (left r y x eq bit k) [
             | inl later ↦ absurd (let b = bit.1 in let n = fits.cells in omega arith)
             | inr there ↦ (there, tells_some (e.row ++ word ∷ []) e.cells 0 d' y some (let b = bit.1 in let n = fits.cells in omega arith) there (omega arith))
@@ -241,8 +241,8 @@ module _ (e : PlainRecovery) (word : ℕ) (old new : World) (sound : IsSound old
           m (λ h. h) (λ h. h) (m.buffer p ∙ fits.buffer) (fits.is.stage.0, ((let l = told_below (e.row ++ word ∷ []) (e.cells - 0) 0 d' some in let n = fits.is.some in omega arith), (let k = fits.is.stage.1.0 in let s = fits.is.stage.1.1 in omega (arith, length-append e.row (word ∷ [])))))
 
       by : (b : Bool) → nat_lt (part + 1) ((e.cells + 63) / 64) ≡ b → new.situation p ≡ Recovering (record e { row = e.row ++ word ∷ []; stage = if b then Telling c (LoadRow (part + 1)) else told c (told_from (e.row ++ word ∷ []) (e.cells - 0) 0) }) → Keeps p old new
-      by true more is = loads e e.mark (e.row ++ word ∷ []) e.announcement e.cell (Telling c (LoadRow part)) (Telling c (LoadRow (part + 1))) old new sound was fits real tn is t.pending
-          (simple_passes p e.row (Telling c (LoadRow part)) (e.row ++ word ∷ []) (Telling c (LoadRow (part + 1))) old new (held_on p old new moves) (pends_on p old new moves t.pending)
+      by true more is = loads e e.mark (e.row ++ word ∷ []) e.announcement e.cell (Telling c (LoadRow part)) (Telling c (LoadRow (part + 1))) old new sound was fits real tn is t.open_edits
+          (simple_passes p e.row (Telling c (LoadRow part)) (e.row ++ word ∷ []) (Telling c (LoadRow (part + 1))) old new (held_on p old new moves) (pends_on p old new moves t.open_edits)
           (λ r y x bit matters held o. other_or c r _ _ (λ eq k. left r y x eq bit k) o)
           (λ y x matters k o. tt) (λ r held o. o) (λ f before last_of issue issued same k o. tt))
           m (λ h. h) (λ h. h) (m.buffer p ∙ fits.buffer) (fits.is.stage.0, (ltb-true (part + 1) ((e.cells + 63) / 64) more, (let s = fits.is.stage.1.1 in omega (arith, length-append e.row (word ∷ [])))))

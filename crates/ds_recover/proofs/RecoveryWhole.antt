@@ -82,9 +82,9 @@ smaller w f e true less h = inr (less, h)
 smaller w f e false less h = (omega arith, h, λ same. absurd (omega arith))
 
 -- the answer resolves the edit in doubt
-pub answer_resolves : (e : PlainRecovery) (how : Option Bool) (w : World) (issue : Issue) → RecoveryFits w e.process (at e (Answer how)) → w.pending e.process ≡ Some issue → ResolvesAs w issue.edit (end_of e how)
+pub answer_resolves : (e : PlainRecovery) (how : Option Bool) (w : World) (issue : Issue) → RecoveryFits w e.process (at e (Answer how)) → w.open_edits e.process ≡ Some issue → ResolvesAs w issue.edit (end_of e how)
 answer_resolves e None w issue fits is =
-    let r = rests_none w e.process (w.pending e.process) fits.doubt (let a = fits.resolved.0 in let b = fits.resolved.2 in omega arith) in
+    let r = rests_none w e.process (w.open_edits e.process) fits.doubt (let a = fits.resolved.0 in let b = fits.resolved.2 in omega arith) in
     let h : IsInDoubt w e.process issue = subst (λ (o : Option Issue). DoubtFits w e.process o) is fits.doubt in
     below_all w issue.edit (subst (λ (q : ℕ). AreBelow w q 0) (sym h.mine) r.below)
 answer_resolves e (Some how) w issue fits is = by h.now h.said h.cached

@@ -9,9 +9,9 @@ use Rattle.ds_recover.specs.declared.machine.Effect.TheVariants.{GoesOn, Answers
 use Rattle.ds_recover.specs.RecoverySteps.{Steps, effect_at}
 
 -- the process's issue after a step of its recovery: the answer resolves the edit in doubt
-abbrev pub pending_by : Option Issue → Effect → Option Issue
-pending_by issue (Answers end) = None
-pending_by issue GoesOn = issue
+abbrev pub open_edit_by : Option Issue → Effect → Option Issue
+open_edit_by issue (Answers end) = None
+open_edit_by issue GoesOn = issue
 
 -- the process makes a step of its recovery
 pub record StepsBy (old : WorldValue) (p : ℕ) (what : Effect) (new : WorldValue) : Type 0 where

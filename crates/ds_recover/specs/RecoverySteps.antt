@@ -182,9 +182,9 @@ after e (Answer how) word = Idle (next_number e.announcement how)
 after e stage word = Recovering (next_at e stage word)
 
 -- the process's issue after a stage of its recovery: the answer resolves the edit in doubt
-abbrev pub pending_at : Option Issue → RecoverStage → Option Issue
-pending_at issue (Answer how) = None
-pending_at issue stage = issue
+abbrev pub open_edit_at : Option Issue → RecoverStage → Option Issue
+open_edit_at issue (Answer how) = None
+open_edit_at issue stage = issue
 
 -- one step of the recovery at a stage, whose access answered the word: no edit comes to count
 pub record StepsAt (e : PlainRecovery) (stage : RecoverStage) (word : ℕ) (old new : World) : Type 0 where
@@ -193,8 +193,8 @@ pub record StepsAt (e : PlainRecovery) (stage : RecoverStage) (word : ℕ) (old 
   pub situation : new.situation e.process ≡ after e stage word
   pub others : (q : ℕ) → q ≢ e.process → new.situation q ≡ old.situation q
   pub counted : new.counted ≡ old.counted
-  pub pending : new.pending e.process ≡ pending_at (old.pending e.process) stage
-  pub others_pending : (q : ℕ) → q ≢ e.process → new.pending q ≡ old.pending q
+  pub open_edits : new.open_edits e.process ≡ open_edit_at (old.open_edits e.process) stage
+  pub others_open_edits : (q : ℕ) → q ≢ e.process → new.open_edits q ≡ old.open_edits q
 
 -- one step of the recovery at its own stage, whose access answered the word
 abbrev pub Steps : PlainRecovery → ℕ → World → World → Type 0
@@ -220,7 +220,7 @@ pub record BeginsRecovery (e : PlainRecovery) (old new : World) : Type 0 where
   pub situation : new.situation e.process ≡ Recovering (at e (LoadMark 0))
   pub others : (q : ℕ) → q ≢ e.process → new.situation q ≡ old.situation q
   pub counted : new.counted ≡ old.counted
-  pub pending : (q : ℕ) → new.pending q ≡ old.pending q
+  pub open_edits : (q : ℕ) → new.open_edits q ≡ old.open_edits q
 
 -- what the recovery answers, where it found an announcement and settled how that edit ended
 abbrev pub end_of : PlainRecovery → Option Bool → RecoveryEnd

@@ -63,7 +63,7 @@ pub fn steps_are_few()
 pub fn answers_resolve()
     ensures { (e : PlainRecovery) (how : Option Bool) (w : World) (issue : Issue) → IsSound w
         → e.process < w.layout.processes → w.situation e.process ≡ Recovering e → e.stage ≡ Answer how
-        → w.pending e.process ≡ Some issue → ResolvesAs w issue.edit (end_of e how) }
+        → w.open_edits e.process ≡ Some issue → ResolvesAs w issue.edit (end_of e how) }
 {}
 
 /// The answer repeats how the last of the process's edits ended whose number is spent, whether one is

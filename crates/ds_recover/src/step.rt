@@ -5,7 +5,7 @@ ghost use Rattle.ds_state.specs.Works.{PlainRecovery};
 ghost use Rattle.ds_state.specs.declared.work.RecoverStage.TheVariants.{Answer};
 ghost use Rattle.ds_state.specs.declared.situation.Situation.TheVariants.{Recovering};
 ghost use Rattle.ds_recover.specs.RecoverySteps.{after, next_number};
-ghost use Rattle.ds_recover.specs.RecoverTakes.{StepTakes, pending_by};
+ghost use Rattle.ds_recover.specs.RecoverTakes.{StepTakes, open_edit_by};
 
 use crate::machine::{Effect, effect_of, got, number, want};
 use ds_state::ledger::Issue;
@@ -53,11 +53,11 @@ fn go_on(situation: &mut Situation, word: u64)
 }
 
 // The edit in doubt is resolved, where this was the last step.
-fn close(pending: &mut Option<Issue>, what: Effect)
-    ensures { pending.new ≡ pending_by pending.old what }
+fn close(open_edit: &mut Option<Issue>, what: Effect)
+    ensures { open_edit.new ≡ open_edit_by open_edit.old what }
 {
     if let Effect::Answers(_) = what {
-        *pending = None;
+        *open_edit = None;
     }
 }
 
@@ -76,6 +76,6 @@ pub fn step(world: &mut World, process: usize) -> Option<Effect>
     let (what, access) = (effect_of(call), want(call));
     let word = world.words.perform(process, access);
     go_on(&mut world.situations[process], word);
-    close(&mut world.pending[process], what);
+    close(&mut world.open_edits[process], what);
     Some(what)
 }

@@ -35,7 +35,7 @@ module _ (v : WorldValue) (e : PlainShow) (room : ℕ) (kept : IsReserved v room
     situation = get_or-set_same v.situations e.process (Showing e) (Idle 0) there ∙ ap (λ (x : PlainShow). Showing x) first;
     others = λ q ne. get_or-set_other v.situations e.process q (Showing e) (Idle 0) ne;
     counted = refl;
-    pending = λ q. refl;
+    open_edits = λ q. refl;
   }
 
   pub entered_kept : IsReserved (entered v e) room
@@ -43,7 +43,7 @@ module _ (v : WorldValue) (e : PlainShow) (room : ℕ) (kept : IsReserved v room
     good = record {
       sound = (begin_keeps e.process e.next (world_of v) (world_of (entered v e)) kept.good.sound low entered_begins).sound;
       situations = length-set v.situations e.process (Showing e) ∙ kept.good.situations;
-      pending = kept.good.pending;
+      open_edits = kept.good.open_edits;
       reports = kept.good.reports;
       answered = kept.good.answered;
       counts = (let one = after_set v.situations e.process (Showing e) (Idle 0) there in omega arith);

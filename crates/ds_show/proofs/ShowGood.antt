@@ -102,7 +102,7 @@ module _ (v : WorldValue) (g : IsGood v) (p : ℕ) (e : PlainShow) (at : IsShowi
       situation = ap (λ q. get_or (set v.situations p (after e e.stage word)) q (Idle 0)) mine ∙ get_or-set_same v.situations p (after e e.stage word) (Idle 0) at.there;
       others = λ q ne. get_or-set_other v.situations p q (after e e.stage word) (Idle 0) (λ same. ne (same ∙ sym mine));
       counted = refl;
-      pending = λ q. refl;
+      open_edits = λ q. refl;
     }
 
     pub next_kept : (room : ℕ) → IsReserved v room → IsReserved next room
@@ -111,7 +111,7 @@ module _ (v : WorldValue) (g : IsGood v) (p : ℕ) (e : PlainShow) (at : IsShowi
       good = record {
         sound = (steps_keep e word (world_of v) (world_of next) g.sound low_own here steps).sound;
         situations = length-set v.situations p (after e e.stage word) ∙ g.situations ∙ ap (λ (l : Layout). l.processes) (sym layout);
-        pending = g.pending ∙ ap (λ (l : Layout). l.processes) (sym layout);
+        open_edits = g.open_edits ∙ ap (λ (l : Layout). l.processes) (sym layout);
         reports = reports_kept sheet.layout v.reports e (effect_at e.stage) (rw layout g.reports);
         answered = g.answered;
         counts = (let h = one_less (after e e.stage word) in let k = settles_one e e.stage word in let c = g.counts in omega arith);

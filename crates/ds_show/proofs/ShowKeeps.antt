@@ -83,7 +83,7 @@ module _ (e : PlainShow) (s : ShowStage) (word : ℕ) (old new : World) (sound :
   same = touches_nothing s e.process word old new t.memory
 
   turn : Turn e.process old new
-  turn = record { layout = t.layout; counted = t.counted; situations = t.others; pendings = λ q ne. t.pending q }
+  turn = record { layout = t.layout; counted = t.counted; situations = t.others; pendings = λ q ne. t.open_edits q }
 
   owes : (r c x : ℕ) → Owes old.memory e.process (old.situation e.process) r c x → ⊥
   owes r c x o = subst (λ (y : Situation). Owes old.memory e.process y r c x) was o
@@ -102,16 +102,16 @@ module _ (e : PlainShow) (s : ShowStage) (word : ℕ) (old new : World) (sound :
 
   -- what it knows goes on, with its moment
   pub known_next : (m : Moment) → ShowFitsAt old e.process (on e s) m → ShowFitsAt new e.process (next_at (on e s) s word) (moment_after old m s)
-  known_next m fits = show_goes old new e.process (next_at (on e s) s word) (moment_after old m s) grows (t.pending e.process) (same.buffer e.process)
+  known_next m fits = show_goes old new e.process (next_at (on e s) s word) (moment_after old m s) grows (t.open_edits e.process) (same.buffer e.process)
       (advance old e.process sound e m s word (sees_word s e.process word old new t.memory) fits)
 
   idle_next : (m : Moment) → ShowFitsAt old e.process (on e s) m → IdleFits new e.process e.next
   idle_next m fits =
-      let rest : IsAtRest new e.process e.next = rest_same e.process old new grows e.next (t.pending e.process) fits.rest in
+      let rest : IsAtRest new e.process e.next = rest_same e.process old new grows e.next (t.open_edits e.process) fits.rest in
       record {
         number = rest.number;
         holds_none = λ r by. fits.holds_none r ((grows.holds r (λ x. cc)).came by);
-        pending = rest.pending;
+        open_edits = rest.open_edits;
         buffer = same.buffer e.process ∙ fits.buffer;
         below = rest.below;
         cached = rest.cached;
@@ -133,14 +133,14 @@ module _ (p next : ℕ) (old new : World) (sound : IsSound old) (real : p < old.
   idle = subst (λ (s : Situation). CallFits old p s) b.idle (sound.calls p real)
 
   begin_turn : Turn p old new
-  begin_turn = record { layout = b.layout; counted = b.counted; situations = b.others; pendings = λ q ne. b.pending q }
+  begin_turn = record { layout = b.layout; counted = b.counted; situations = b.others; pendings = λ q ne. b.open_edits q }
 
   begin_grows : Grows p Version old new
   begin_grows = grows_own p Version old new (same_moves p old new begin_turn b.memory) b.counted
 
   pub begin_known : ShowFitsAt new p (fresh p next (cells_of old.layout) old.layout.processes) (moment_of new)
   begin_known =
-      let rest : IsAtRest new p next = rest_same p old new begin_grows next (b.pending p) (record { number = idle.number; pending = idle.pending; below = idle.below; cached = idle.cached; persisted = idle.persisted }) in
+      let rest : IsAtRest new p next = rest_same p old new begin_grows next (b.open_edits p) (record { number = idle.number; open_edits = idle.open_edits; below = idle.below; cached = idle.cached; persisted = idle.persisted }) in
       record {
         mine = refl;
         is = record {

@@ -208,7 +208,7 @@ module _ (p : ℕ) where
       let t : Told p w past e = told w past call e (sym rely.situation ∙ is) in
       record {
         m = t.m;
-        fits = show_goes w now p e t.m (rely.grows Version) rely.pending rely.buffer t.fits;
+        fits = show_goes w now p e t.m (rely.grows Version) rely.open_edits rely.buffer t.fits;
         recalls = older_all now w past e t.recalls;
         moment = older_moment now w past t.m t.moment;
       }
@@ -278,7 +278,7 @@ grows_same q but w = record {
 pub rely_same : (q : ℕ) (w : World) → Rely q w w
 rely_same q w = record {
   situation = refl;
-  pending = refl;
+  open_edits = refl;
   buffer = refl;
   grows = λ but. grows_same q but w;
   bears = record {

@@ -132,7 +132,7 @@ pub record StepsAt (e : PlainShow) (stage : ShowStage) (word : ℕ) (old new : W
   pub situation : new.situation e.process ≡ after e stage word
   pub others : (q : ℕ) → q ≢ e.process → new.situation q ≡ old.situation q
   pub counted : new.counted ≡ old.counted
-  pub pending : (q : ℕ) → new.pending q ≡ old.pending q
+  pub open_edits : (q : ℕ) → new.open_edits q ≡ old.open_edits q
 
 -- one step of the report at its own stage, whose access answered the word
 abbrev pub Steps : PlainShow → ℕ → World → World → Type 0
@@ -160,7 +160,7 @@ pub record Begins (p next : ℕ) (old new : World) : Type 0 where
   pub situation : new.situation p ≡ Showing (fresh p next (cells_of old.layout) old.layout.processes)
   pub others : (q : ℕ) → q ≢ p → new.situation q ≡ old.situation q
   pub counted : new.counted ≡ old.counted
-  pub pending : (q : ℕ) → new.pending q ≡ old.pending q
+  pub open_edits : (q : ℕ) → new.open_edits q ≡ old.open_edits q
 
 -- how many steps of a report are left at most from a stage on, the answer's among them
 abbrev pub rank_in : ℕ → ℕ → ShowStage → ℕ

@@ -29,7 +29,7 @@ pub record Turn (p : ℕ) (old new : World) : Type 0 where
   pub layout : new.layout ≡ old.layout
   pub counted : new.counted ≡ old.counted
   pub situations : (q : ℕ) → q ≢ p → new.situation q ≡ old.situation q
-  pub pendings : (q : ℕ) → q ≢ p → new.pending q ≡ old.pending q
+  pub pendings : (q : ℕ) → q ≢ p → new.open_edits q ≡ old.open_edits q
 
 module _ (p : ℕ) (old new : World) (t : Turn p old new) where
   pub same_moves : SameMemory old.memory new.memory → Moves p Version old new
@@ -137,7 +137,7 @@ module _ (place : Place) (old new : World) (s : IsSound old) (buffered : Buffere
   nobody = old.layout.processes
 
   abbrev t : Turn nobody old new
-  t = record { layout = v.layout; counted = v.counted; situations = λ q ne. v.situation q; pendings = λ q ne. v.pending q }
+  t = record { layout = v.layout; counted = v.counted; situations = λ q ne. v.situation q; pendings = λ q ne. v.open_edits q }
 
   evicted : Backs nobody old new t place (old.memory.cached place)
   evicted = evicted_backs nobody old new t place v.memory
@@ -187,7 +187,7 @@ module _ (place : Place) (old new : World) (s : IsSound old) (buffered : Buffere
 
   keeps_owing : (cell : ℕ) → KeepsOwing old new cell
   keeps_owing cell e issue its is same before last_of owes = (
-    v.pending e.process ∙ is,
+    v.open_edits e.process ∙ is,
     subst (λ (x : Situation). Splits new e.process x e.cell (head_after_all (of_cell cell old.counted))) (sym (v.situation e.process))
         (splits_last old new e.process (λ c. marks_grow nobody place old new moves c) (v.memory.buffer e.process) (λ c k. pends e.process c k) (old.situation e.process) e.cell _ owes),
   )
@@ -195,7 +195,7 @@ module _ (place : Place) (old new : World) (s : IsSound old) (buffered : Buffere
       pends : (h c : ℕ) → IsPending old h c → IsPending new h c
       pends h c k = record {
         issue = k.issue;
-        issued = v.pending h ∙ k.issued;
+        issued = v.open_edits h ∙ k.issued;
         cell = k.cell;
         cached = v.memory.cached (Announce h) ∙ k.cached;
         persisted = elim (place_cases (Announce h) place) [

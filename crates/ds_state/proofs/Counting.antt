@@ -33,8 +33,8 @@ pub record Counts (e : Edit) (issue : Issue) (old new : World) : Type 0 where
   pub counted : new.counted ≡ old.counted ++ e ∷ []
   pub memory : StoresAt (Head e.cell) (head_after_all (of_cell e.cell new.counted)) old.memory new.memory
   pub situations : (q : ℕ) → q ≢ e.process → new.situation q ≡ old.situation q
-  pub pendings : (q : ℕ) → q ≢ e.process → new.pending q ≡ old.pending q
-  pub pending : new.pending e.process ≡ Some issue
+  pub pendings : (q : ℕ) → q ≢ e.process → new.open_edits q ≡ old.open_edits q
+  pub open_edits : new.open_edits e.process ≡ Some issue
   pub same : issue.edit ≡ e
   pub owes : Splits new e.process (new.situation e.process) e.cell (head_after_all (of_cell e.cell new.counted))
 
@@ -149,7 +149,7 @@ module _ (e : Edit) (issue : Issue) (old new : World) (c : Counts e issue old ne
   rely_other s q ne = record {
     bears = bears e.process (Head e.cell) old new moves s mine;
     situation = c.situations q ne;
-    pending = c.pendings q ne;
+    open_edits = c.pendings q ne;
     buffer = c.memory.buffer q;
     grows = λ but. grows_other q but ne;
   }
@@ -210,7 +210,7 @@ module _ (e : Edit) (issue : Issue) (old new : World) (c : Counts e issue old ne
                 parts = same ∙ b.parts;
                 is = b.is;
                 issue = b.issue;
-                pending = c.pendings b.last.process other ∙ b.pending;
+                open_edits = c.pendings b.last.process other ∙ b.open_edits;
                 same = b.same;
                 owes = subst (λ (es : List Edit). Splits new b.last.process (new.situation b.last.process) b.last.cell (head_after_all es)) (sym same)
                     (subst (λ (x : Situation). Splits new b.last.process x b.last.cell (head_after_all (of_cell cell old.counted))) (sym (c.situations b.last.process other))
@@ -272,7 +272,7 @@ module _ (e : Edit) (issue : Issue) (old new : World) (c : Counts e issue old ne
       parts = own_cell;
       is = c.memory.persisted (Head e.cell) ∙ may.back;
       issue = issue;
-      pending = c.pending;
+      open_edits = c.open_edits;
       same = c.same;
       owes = c.owes;
     });

@@ -154,14 +154,14 @@ module _ (old new : World) (sound : IsSound old) (crash : CrashesTo old new) whe
   rest_left : (p next : ℕ) → IsAtRest old p next → IsAtRest new p next
   rest_left p next h = record {
     number = h.number;
-    pending = crash.pending p ∙ h.pending;
+    open_edits = crash.open_edits p ∙ h.open_edits;
     below = below_left p next h.below;
     cached = crash.memory.cached (Announce p) ∙ h.persisted ∙ sym (last_left p next h.number h.persisted);
     persisted = crash.memory.persisted (Announce p) ∙ h.persisted ∙ sym (last_left p next h.number h.persisted);
   }
 
-  through : (p next : ℕ) → old.pending p ≡ None → IsAtRest old p next → DoubtFits new p (new.pending p)
-  through p next none h = subst (λ (o : Option Issue). DoubtFits new p o) (sym (crash.pending p ∙ none)) (record { next = next; rest = rest_left p next h })
+  through : (p next : ℕ) → old.open_edits p ≡ None → IsAtRest old p next → DoubtFits new p (new.open_edits p)
+  through p next none h = subst (λ (o : Option Issue). DoubtFits new p o) (sym (crash.open_edits p ∙ none)) (record { next = next; rest = rest_left p next h })
 
   -- an edit whose head is not persisted is gone
   gone : (e : Edit) (own : ℕ) → IsIn old e own → old.memory.persisted (Head e.cell) < own → Contains new.counted e → ⊥
@@ -271,24 +271,24 @@ module _ (old new : World) (sound : IsSound old) (crash : CrashesTo old new) whe
     make : (a : Announced) → MaySay known.standing a → old.memory.persisted (Announce E.process) ≡ word_of old E a → IsWritten old E a → IsInDoubt new p (record { edit = E; since = h.since })
     make a said is w = in_doubt p (record { edit = E; since = h.since }) known.standing a h.mine h.is.number (rw h.sheet.cells h.is.cell) h.is.text.short h.knows.standing said (ap (λ (q : ℕ). old.memory.persisted (Announce q)) (sym h.mine) ∙ is) w
 
-    editing_left : DoubtFits new p (new.pending p)
-    editing_left = subst (λ (x : Option Issue). DoubtFits new p x) (sym (crash.pending p ∙ h.pending)) (elim h.knows.announced.persisted [
+    editing_left : DoubtFits new p (new.open_edits p)
+    editing_left = subst (λ (x : Option Issue). DoubtFits new p x) (sym (crash.open_edits p ∙ h.open_edits)) (elim h.knows.announced.persisted [
       | inl b ↦ make known.before says.0 b (written_before old E known.before known.now says.2 written)
       | inr n ↦ make known.now says.1 n written
     ])
 
-  doubt_left : (p : ℕ) (o : Option Issue) → old.pending p ≡ o → DoubtFits old p o → DoubtFits new p (new.pending p)
+  doubt_left : (p : ℕ) (o : Option Issue) → old.open_edits p ≡ o → DoubtFits old p o → DoubtFits new p (new.open_edits p)
   doubt_left p None is k = through p k.next is k.rest
-  doubt_left p (Some issue) is k = subst (λ (x : Option Issue). DoubtFits new p x) (sym (crash.pending p ∙ is))
+  doubt_left p (Some issue) is k = subst (λ (x : Option Issue). DoubtFits new p x) (sym (crash.open_edits p ∙ is))
       (in_doubt p issue k.standing k.before k.mine k.number k.cell k.text k.stands k.said_before k.persisted (written_before old issue.edit k.before k.now k.order k.written))
 
-  stopped_left : (p : ℕ) (s : Situation) → CallFits old p s → DoubtFits new p (new.pending p)
-  stopped_left p (Idle next) h = through p next h.pending (record { number = h.number; pending = h.pending; below = h.below; cached = h.cached; persisted = h.persisted })
-  stopped_left p Stopped h = doubt_left p (old.pending p) refl h.doubt
+  stopped_left : (p : ℕ) (s : Situation) → CallFits old p s → DoubtFits new p (new.open_edits p)
+  stopped_left p (Idle next) h = through p next h.open_edits (record { number = h.number; open_edits = h.open_edits; below = h.below; cached = h.cached; persisted = h.persisted })
+  stopped_left p Stopped h = doubt_left p (old.open_edits p) refl h.doubt
   stopped_left p (Editing e) h = editing_left p e h
-  stopped_left p (Working e) h = through p e.next (ap old.pending (sym h.mine) ∙ h.rest.pending) (subst (λ (q : ℕ). IsAtRest old q e.next) h.mine h.rest)
-  stopped_left p (Recovering e) h = doubt_left p (old.pending p) refl h.doubt
-  stopped_left p (Showing e) h = through p e.next (ap old.pending (sym h.1.mine) ∙ h.1.rest.pending) (subst (λ (q : ℕ). IsAtRest old q e.next) h.1.mine h.1.rest)
+  stopped_left p (Working e) h = through p e.next (ap old.open_edits (sym h.mine) ∙ h.rest.open_edits) (subst (λ (q : ℕ). IsAtRest old q e.next) h.mine h.rest)
+  stopped_left p (Recovering e) h = doubt_left p (old.open_edits p) refl h.doubt
+  stopped_left p (Showing e) h = through p e.next (ap old.open_edits (sym h.1.mine) ∙ h.1.rest.open_edits) (subst (λ (q : ℕ). IsAtRest old q e.next) h.1.mine h.1.rest)
 
   pub crash_sound : IsSound new
   crash_sound = record {

@@ -9,7 +9,7 @@ use Rattle.ds_layout.proofs.OrBits.{IsSubset-same, HasBit-subset}
 use Rattle.ds_state.specs.World.{Edit, World, of_cell, IsHeadBy}
 use Rattle.ds_state.specs.Known.{IsSafe}
 use Rattle.ds_state.specs.Crashes.{is_lost, survivors, CrashesTo}
-use Rattle.ds_state.specs.Words.{WordFits, IsKept, IsOvertaken}
+use Rattle.ds_state.specs.Words.{WordFits, IsKept, IsSuperseded}
 use Rattle.ds_state.specs.Sound.{IsSound, Increasing, IsOfSheet}
 use Rattle.ds_state.proofs.Heads.{Small, small_counted, small_of_cell, head_grows, by_cases}
 use Rattle.ds_state.proofs.Crashing.{Leaves}
@@ -56,7 +56,7 @@ module _ (old new : World) (sound : IsSound old) (crash : CrashesTo old new) whe
   kept_left q n h = record { edit = h.edit; process_is = h.process_is; number_is = h.number_is; safe = safe_left h.edit h.safe }
 
   -- an overtaken edit was so
-  was_overtaken : (q n : ℕ) → IsOvertaken new q n → IsOvertaken old q n
+  was_overtaken : (q n : ℕ) → IsSuperseded new q n → IsSuperseded old q n
   was_overtaken q n o = elim (l.cells o.edit.cell) [
     | inl same ↦ record { edit = o.edit; process_is = o.process_is; number_is = o.number_is; before = o.before; next = o.next; after = o.after; parts = sym same ∙ o.parts }
     | inr lost ↦ record {

@@ -44,7 +44,7 @@ pends_while w p (Editing e) c x fits o = both (announced e.stage o.1 fits.knows.
         let mine : e.process ≡ p = fits.mine in
         record {
           issue = record { edit = edit_of e; since = fits.since };
-          issued = fits.pending;
+          issued = fits.open_edits;
           cell = o.0;
           cached = ap (λ (q : ℕ). w.memory.cached (Announce q)) (sym mine) ∙ a.cached;
           persisted = elim a.persisted [
@@ -60,7 +60,7 @@ module _ (old new : World) (sound : IsSound old) (crash : CrashesTo old new) (le
   pends : (q c : ℕ) → IsPending old q c → IsPending new q c
   pends q c k = record {
     issue = k.issue;
-    issued = crash.pending q ∙ k.issued;
+    issued = crash.open_edits q ∙ k.issued;
     cell = k.cell;
     cached = crash.memory.cached (Announce q) ∙ k.persisted;
     persisted = crash.memory.persisted (Announce q) ∙ k.persisted;

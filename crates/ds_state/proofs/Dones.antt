@@ -47,12 +47,12 @@ pub dones_few : (counted : List Edit) (pending : ℕ → Option Issue) (done : �
 dones_few counted pending done h = subst (λ (n : ℕ). n ≤ length counted) h.as_many (distinct_few h.closed counted h.once h.count)
 
 pub few_dones : (v : WorldValue) → IsGood v → v.done ≤ length v.counted
-few_dones v g = dones_few (world_of v).counted (world_of v).pending v.done g.answered
+few_dones v g = dones_few (world_of v).counted (world_of v).open_edits v.done g.answered
 
 -- at most 2,048
 pub few_done : (v : WorldValue) → IsGood v → v.done ≤ 2048
 few_done v g =
-    let a = dones_few (world_of v).counted (world_of v).pending v.done g.answered in
+    let a = dones_few (world_of v).counted (world_of v).open_edits v.done g.answered in
     let b = counted_few (world_of v) g.sound in
     let l = v.sheet.layout.limited in
     omega (arith, a, b, l)

@@ -86,14 +86,14 @@ module _ (p : ℕ) (e : PlainEdit) (s s' : Stage) (place : Place) (old new : Wor
     | inl eq ↦ absurd (subst (λ (x : Situation). Parts x cell) was (subst (λ (q : ℕ). Parts (old.situation q) cell) eq a.still))
   ]
 
-  pub edit_keeps : new.pending p ≡ old.pending p → ((head : ℕ) → SplitsAt s head → SplitsAt s' head) → (cell : ℕ) → KeepsOwing old new cell
+  pub edit_keeps : new.open_edits p ≡ old.open_edits p → ((head : ℕ) → SplitsAt s head → SplitsAt s' head) → (cell : ℕ) → KeepsOwing old new cell
   edit_keeps pending splits cell f issue its pends was_same before parts owes = elim (cases_eq f.process p) [
     | inl eq ↦ (
         let k : Splits old p (Editing (edit_on e s)) f.cell (head_after_all (of_cell cell old.counted)) =
         subst (λ (x : Situation). Splits old p x f.cell (head_after_all (of_cell cell old.counted))) was (subst (λ (q : ℕ). Splits old q (old.situation q) f.cell (head_after_all (of_cell cell old.counted))) eq owes) in
         let now : Splits new p (new.situation p) f.cell (head_after_all (of_cell cell old.counted)) =
         subst (λ (x : Situation). Splits new p x f.cell (head_after_all (of_cell cell old.counted))) (sym is) (k.0, splits _ k.1) in
-        (ap new.pending eq ∙ pending ∙ ap old.pending (sym eq) ∙ pends, subst (λ (q : ℕ). Splits new q (new.situation q) f.cell (head_after_all (of_cell cell old.counted))) (sym eq) now))
+        (ap new.open_edits eq ∙ pending ∙ ap old.open_edits (sym eq) ∙ pends, subst (λ (q : ℕ). Splits new q (new.situation q) f.cell (head_after_all (of_cell cell old.counted))) (sym eq) now))
     | inr ne ↦ (
       moves.pendings f.process ne ∙ pends,
       subst (λ (x : Situation). Splits new f.process x f.cell (head_after_all (of_cell cell old.counted))) (sym (moves.situations f.process ne))
@@ -118,7 +118,7 @@ heads_back old new c v' sound layout keeps now between = elim between [
     | inl agree ↦ inl (now ∙ caught ∙ sym agree)
     | inr b ↦ inr (λ x. (
         let its : b.last.cell ≡ c = cell_of-middle c old.counted b.before b.last [] b.parts in
-        let k = keeps b.last b.issue its b.pending b.same b.before b.parts b.owes in
+        let k = keeps b.last b.issue its b.open_edits b.same b.before b.parts b.owes in
         record {
           process = b.last.process;
           inside = rw layout (of_sheet_middle old sound.of_sheet c b.before b.last [] b.parts).process;

@@ -69,17 +69,17 @@ pub record Moves (p : ℕ) (place : Place) (old new : World) : Type 0 where
   pub here : MovesWord old.memory p place (old.memory.cached place) (old.memory.persisted place) (new.memory.cached place) (new.memory.persisted place)
   pub buffers : (q : ℕ) → q ≢ p → new.memory.buffer q ≡ old.memory.buffer q
   pub situations : (q : ℕ) → q ≢ p → new.situation q ≡ old.situation q
-  pub pendings : (q : ℕ) → q ≢ p → new.pending q ≡ old.pending q
+  pub pendings : (q : ℕ) → q ≢ p → new.open_edits q ≡ old.open_edits q
 
 abbrev pub Moved : ℕ → World → World → Place → Type 0
 Moved p old new r = MovesWord old.memory p r (old.memory.cached r) (old.memory.persisted r) (new.memory.cached r) (new.memory.persisted r)
 
 -- whoever may have the sides of this cell's head differ may still
 abbrev pub KeepsOwing : World → World → ℕ → Type 0
-KeepsOwing old new cell = (e : Edit) (issue : Issue) → e.cell ≡ cell → old.pending e.process ≡ Some issue → issue.edit ≡ e
+KeepsOwing old new cell = (e : Edit) (issue : Issue) → e.cell ≡ cell → old.open_edits e.process ≡ Some issue → issue.edit ≡ e
     → (before : List Edit) → of_cell cell old.counted ≡ before ++ e ∷ []
     → Splits old e.process (old.situation e.process) e.cell (head_after_all (of_cell cell old.counted))
-    → (new.pending e.process ≡ Some issue) × Splits new e.process (new.situation e.process) e.cell (head_after_all (of_cell cell old.counted))
+    → (new.open_edits e.process ≡ Some issue) × Splits new e.process (new.situation e.process) e.cell (head_after_all (of_cell cell old.counted))
 
 -- where the sides of a cell's words may differ, they still may, or they agree
 abbrev pub KeepsApart : World → World → Type 0
@@ -149,7 +149,7 @@ module _ (p : ℕ) (place : Place) (old new : World) (m : Moves p place old new)
   rely_other b q ne = record {
     bears = b;
     situation = m.situations q ne;
-    pending = m.pendings q ne;
+    open_edits = m.pendings q ne;
     buffer = m.buffers q ne;
     grows = λ but. grows_by q but (λ r o apart. owned_catches p place old new m q ne r o) (λ cell apart. (each_moved p place old new m (Mark cell)).holds q ne);
   }
@@ -173,14 +173,14 @@ module _ (p : ℕ) (place : Place) (old new : World) (m : Moves p place old new)
       | inl same ↦ inl same
       | inr b ↦ inr (
           let its : b.last.cell ≡ cell = cell_of-middle cell old.counted b.before b.last [] b.parts in
-          let k = keeps cell refl b.last b.issue its b.pending b.same b.before b.parts b.owes in
+          let k = keeps cell refl b.last b.issue its b.open_edits b.same b.before b.parts b.owes in
           record {
             before = b.before;
             last = b.last;
             parts = ap (λ es. of_cell cell es) same ∙ b.parts;
             is = b.is;
             issue = b.issue;
-            pending = k.0;
+            open_edits = k.0;
             same = b.same;
             owes = subst (λ (es : List Edit). Splits new b.last.process (new.situation b.last.process) b.last.cell (head_after_all (of_cell cell es))) (sym same) k.1;
           })

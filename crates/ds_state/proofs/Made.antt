@@ -25,14 +25,14 @@ all_same (suc n) (suc q) x = all_same n q x
 
 -- of these parts
 abbrev pub made : SheetValue → ℕ → WorldValue
-made sheet processes = record { sheet = sheet; situations = replicate processes (Idle 0); counted = []; pending = replicate processes None; done = 0; settled = 0; reports = no_reports processes (cells_of sheet.layout) }
+made sheet processes = record { sheet = sheet; situations = replicate processes (Idle 0); counted = []; open_edits = replicate processes None; done = 0; settled = 0; reports = no_reports processes (cells_of sheet.layout) }
 
 pub made_new : (sheet : SheetValue) (processes : ℕ) → IsFresh (memory sheet) → IsNew (world_of (made sheet processes))
 made_new sheet processes fresh = record {
   memory = fresh;
   situation = λ p. all_same processes p (Idle 0);
   counted = refl;
-  pending = λ p. all_same {X = Option Issue} processes p None;
+  open_edits = λ p. all_same {X = Option Issue} processes p None;
 }
 
 pub made_kept : (sheet : SheetValue) (processes room : ℕ) → IsFresh (memory sheet) → sheet.layout.processes ≡ processes → processes * RECORDS ≤ room → IsReserved (made sheet processes) room
@@ -40,7 +40,7 @@ made_kept sheet processes room fresh same enough = record {
   good = record {
     sound = new_sound (world_of (made sheet processes)) (made_new sheet processes fresh);
     situations = length-replicate processes (Idle 0) ∙ sym same;
-    pending = length-replicate {A = Option Issue} processes None ∙ sym same;
+    open_edits = length-replicate {A = Option Issue} processes None ∙ sym same;
     answered = record { closed = []; as_many = refl; once = tt; count = λ e inside. inside; answered = λ e issue inside at is. absurd (let l = inside.1 in omega arith) };
     reports = record { cells = refl; processes = length-replicate {A = List Value} processes [] ∙ sym same };
     counts = (let none = none_idle processes 0 in omega arith);

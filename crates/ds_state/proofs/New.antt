@@ -20,7 +20,7 @@ use Rattle.ds_layout.specs.declared.place.Place.{Place}
 use Rattle.ds_layout.specs.declared.place.Place.TheVariants.{Version, Head, Mark, Value, Kind, Index, Announce, Header, Text, Done}
 use Rattle.ds_layout.specs.Bits.{HasBit, IsSubset}
 use Rattle.ds_state.specs.World.{Edit, World, of_cell, head_after_all}
-use Rattle.ds_state.specs.Words.{WordFits, IsOvertaken}
+use Rattle.ds_state.specs.Words.{WordFits, IsSuperseded}
 use Rattle.ds_state.specs.Calls.{CallFits}
 use Rattle.ds_state.specs.Fresh.{IsNew}
 use Rattle.ds_state.specs.Sound.{IsSound, IsOfSheet, Increasing}
@@ -30,7 +30,7 @@ no_head : (cell : ℕ) (edits : List Edit) → edits ≡ [] → head_after_all (
 unfolding head_after_all of_cell
 no_head cell edits e = subst (λ (es : List Edit). head_after_all (of_cell cell es) ≡ 0) (sym e) refl
 
-no_overtaken : (w : World) (p n : ℕ) → w.counted ≡ [] → IsOvertaken w p n → ⊥
+no_overtaken : (w : World) (p n : ℕ) → w.counted ≡ [] → IsSuperseded w p n → ⊥
 unfolding of_cell
 no_overtaken w p n z h =
     let e : of_cell h.edit.cell w.counted ≡ [] = ap (λ es. of_cell h.edit.cell es) z in
@@ -94,7 +94,7 @@ new_sound w is =
       calls = λ p l. subst (λ (s : Situation). CallFits w p s) (sym (is.situation p)) (record {
         number = omega arith;
         holds_none = λ r by. absurd (let z = fresh.cached (Mark r) in omega arith);
-        pending = is.pending p;
+        open_edits = is.open_edits p;
         buffer = fresh.buffer p;
         below = none_in (λ f. f.process ≡ p → f.number < 0) w.counted is.counted;
         cached = fresh.cached (Announce p);

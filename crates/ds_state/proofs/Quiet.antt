@@ -6,8 +6,8 @@ use Rattle.ds_layout.specs.Sheet.{memory}
 use Rattle.ds_state.specs.Value.{WorldValue, world_of, IsGood}
 use Rattle.ds_state.specs.Shown.{AllClean, IsQuiet}
 
-pub quiet_by : (v : WorldValue) → IsGood v → All (λ issue. issue ≡ None) v.pending → AllClean v.sheet.layout (memory v.sheet) → IsQuiet (world_of v)
-quiet_by v g none clean = record { answered = λ p lt. let size = g.pending in none p None (omega arith); clean = clean }
+pub quiet_by : (v : WorldValue) → IsGood v → All (λ issue. issue ≡ None) v.open_edits → AllClean v.sheet.layout (memory v.sheet) → IsQuiet (world_of v)
+quiet_by v g none clean = record { answered = λ p lt. let size = g.open_edits in none p None (omega arith); clean = clean }
 
-pub answered_by : (v : WorldValue) → IsGood v → IsQuiet (world_of v) → All (λ issue. issue ≡ None) v.pending
-answered_by v g q = λ k d lt. let size = g.pending in get_or_default v.pending k d None lt ∙ q.answered k (omega arith)
+pub answered_by : (v : WorldValue) → IsGood v → IsQuiet (world_of v) → All (λ issue. issue ≡ None) v.open_edits
+answered_by v g q = λ k d lt. let size = g.open_edits in get_or_default v.open_edits k d None lt ∙ q.answered k (omega arith)

@@ -23,12 +23,12 @@ none_some : (o : Option Issue) (i : Issue) → o ≡ None → o ≡ Some i → �
 none_some o i a b = let e : None ≡ Some i = sym a ∙ b in cc
 
 -- no process without an open edit owes its cell
-no_excuse : (w : World) (p : ℕ) (s : Situation) (c x : ℕ) → w.pending p ≡ None → CallFits w p s → Excuses w p s c x → ⊥
+no_excuse : (w : World) (p : ℕ) (s : Situation) (c x : ℕ) → w.open_edits p ≡ None → CallFits w p s → Excuses w p s c x → ⊥
 no_excuse w p (Idle next) c x none h o = o
-no_excuse w p Stopped c x none h o = none_some (w.pending p) o.issue none o.issued
-no_excuse w p (Editing e) c x none h o = none_some (w.pending p) (record { edit = edit_of e; since = h.since }) none h.pending
+no_excuse w p Stopped c x none h o = none_some (w.open_edits p) o.issue none o.issued
+no_excuse w p (Editing e) c x none h o = none_some (w.open_edits p) (record { edit = edit_of e; since = h.since }) none h.open_edits
 no_excuse w p (Working e) c x none h o = o
-no_excuse w p (Recovering e) c x none h o = none_some (w.pending p) o.0.issue none o.0.issued
+no_excuse w p (Recovering e) c x none h o = none_some (w.open_edits p) o.0.issue none o.0.issued
 no_excuse w p (Showing e) c x none h o = o
 
 pub quiet_right : (w : World) → IsSound w → IsCalm w → (c : ℕ) → IsLocalAt w c

@@ -47,10 +47,10 @@ not_pending es p (suc n) l is = elim (ended es p n) [
     reads : (f : Phase) → pends (Some (record { number = n; phase = f })) ≡ false → phase_among es p n ≡ f → pends (announcement_of (announcement n (phase_among es p n))) ≡ false
     reads f over same = ap (λ (x : Phase). pends (announcement_of (announcement n x))) same ∙ ap pends (announcement_of-announcement_word (record { number = n; phase = f }) (omega arith)) ∙ over
 
-says : (w : World) (p : ℕ) (s : Situation) → w.pending p ≡ None → CallFits w p s → (next : ℕ) × (next ≤ RECORDS) × (w.memory.cached (Announce p) ≡ last_announcement w.counted p next)
+says : (w : World) (p : ℕ) (s : Situation) → w.open_edits p ≡ None → CallFits w p s → (next : ℕ) × (next ≤ RECORDS) × (w.memory.cached (Announce p) ≡ last_announcement w.counted p next)
 says w p (Idle next) none h = (next, h.number, h.cached)
 says w p Stopped none h = let t = subst (λ (o : Option Issue). DoubtFits w p o) none h.doubt in (t.next, t.rest.number, t.rest.cached)
-says w p (Editing e) none h = absurd (let e : None ≡ Some (record { edit = edit_of e; since = h.since }) = sym none ∙ h.pending in cc)
+says w p (Editing e) none h = absurd (let e : None ≡ Some (record { edit = edit_of e; since = h.since }) = sym none ∙ h.open_edits in cc)
 says w p (Working e) none h = (e.next, h.rest.number, subst (λ (q : ℕ). w.memory.cached (Announce q) ≡ last_announcement w.counted q e.next) h.mine h.rest.cached)
 says w p (Recovering e) none h = let t = subst (λ (o : Option Issue). DoubtFits w p o) none h.doubt in (t.next, t.rest.number, t.rest.cached)
 says w p (Showing e) none h = (e.next, h.1.rest.number, subst (λ (q : ℕ). w.memory.cached (Announce q) ≡ last_announcement w.counted q e.next) h.1.mine h.1.rest.cached)

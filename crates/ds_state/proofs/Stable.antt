@@ -144,14 +144,14 @@ written_stable but old new e g apart pending h = recorded_stable but old new e g
 written_stable but old new e g apart (ended how) h = recorded_stable but old new e g apart (record_size e) (record_size e) h
 
 -- how a process's last edit ended, or is in doubt, stays where its announcement and its records do
-pub doubt_grows : (but : Place) (old new : World) (q : ℕ) → Grows q but old new → new.pending q ≡ old.pending q → Announce q ≢ but → ((n k : ℕ) → record_place q n k ≢ but)
+pub doubt_grows : (but : Place) (old new : World) (q : ℕ) → Grows q but old new → new.open_edits q ≡ old.open_edits q → Announce q ≢ but → ((n k : ℕ) → record_place q n k ≢ but)
     → (o : Option Issue) → DoubtFits old q o → DoubtFits new q o
 doubt_grows but old new q g pends announce record' None h = record { next = h.next; rest = rest_at h.next h.rest }
   where
     rest_at : (next : ℕ) → IsAtRest old q next → IsAtRest new q next
     rest_at next k = record {
       number = k.number;
-      pending = pends ∙ k.pending;
+      open_edits = pends ∙ k.open_edits;
       below = below_stable q but old new g next k.below;
       cached = g.owned_cached (Announce q) refl announce ∙ k.cached ∙ sym (last_stable q but old new g next);
       persisted = elim (g.owned_persisted (Announce q) refl announce) [
@@ -200,7 +200,7 @@ doubt_grows but old new q g' pends announce record' (Some issue) h =
     ]
 
 doubt_stable : (old new : World) (q : ℕ) → Rely q old new → (o : Option Issue) → DoubtFits old q o → DoubtFits new q o
-doubt_stable old new q r o h = doubt_grows Version old new q (r.grows Version) r.pending (λ same. cc) (λ n k. record_no_version q n k) o h
+doubt_stable old new q r o h = doubt_grows Version old new q (r.grows Version) r.open_edits (λ same. cc) (λ n k. record_no_version q n k) o h
 
 -- what a call knows stays while another process steps
 pub call_stable : (old new : World) (q : ℕ) (s : Situation) → Rely q old new → CallFits old q s → CallFits new q s
@@ -209,7 +209,7 @@ call_stable old new q (Idle next) r h =
     record {
       number = h.number;
       holds_none = λ x by. h.holds_none x ((g.holds x (λ same. cc)).came by);
-      pending = r.pending ∙ h.pending;
+      open_edits = r.open_edits ∙ h.open_edits;
       buffer = r.buffer ∙ h.buffer;
       below = below_stable q Version old new g next h.below;
       cached = g.owned_cached (Announce q) refl (λ same. cc) ∙ h.cached ∙ sym (last_stable q Version old new g next);
@@ -218,7 +218,7 @@ call_stable old new q (Idle next) r h =
         | inr caught ↦ caught ∙ h.cached ∙ sym (last_stable q Version old new g next)
       ];
     }
-call_stable old new q Stopped r h = record { buffer = r.buffer ∙ h.buffer; doubt = subst (λ (o : Option Issue). DoubtFits new q o) (sym r.pending) (doubt_stable old new q r (old.pending q) h.doubt) }
+call_stable old new q Stopped r h = record { buffer = r.buffer ∙ h.buffer; doubt = subst (λ (o : Option Issue). DoubtFits new q o) (sym r.open_edits) (doubt_stable old new q r (old.open_edits q) h.doubt) }
 call_stable old new q (Editing e) r h =
     let g : Grows e.process Version old new = Grows_at q e.process Version old new (sym h.mine) (r.grows Version) in
     let l = longer e.process Version old new g in
@@ -229,7 +229,7 @@ call_stable old new q (Editing e) r h =
       sheet = sheet_stable old new e g.layout h.sheet;
       refs = refs_stable old new e g.layout h.refs;
       since = h.since;
-      pending = r.pending ∙ h.pending;
+      open_edits = r.open_edits ∙ h.open_edits;
       issued = omega arith;
       holds_none = λ x by. h.holds_none x ((g.holds x (λ same. cc)).came by);
       knows = knowing_stable Version old new (edit_of e) g (record_no_version e.process e.number) (λ same. cc) e.refs h.since (known_at (text_parts e.text) (length e.refs) e.stage) h.knows;
@@ -238,12 +238,12 @@ call_stable old new q (Editing e) r h =
 call_stable old new q (Working e) r h = work_stable old new q e r h
 call_stable old new q (Recovering e) r h =
     let g : Grows e.process Version old new = Grows_at q e.process Version old new (sym h.mine) (r.grows Version) in
-    let pends : new.pending e.process ≡ old.pending e.process = ap new.pending h.mine ∙ r.pending ∙ ap old.pending (sym h.mine) in
+    let pends : new.open_edits e.process ≡ old.open_edits e.process = ap new.open_edits h.mine ∙ r.open_edits ∙ ap old.open_edits (sym h.mine) in
     record {
       mine = h.mine;
       cells = rw g.layout h.cells;
       processes = rw g.layout h.processes;
-      doubt = subst (λ (o : Option Issue). DoubtFits new q o) (sym r.pending) (doubt_stable old new q r (old.pending q) h.doubt);
+      doubt = subst (λ (o : Option Issue). DoubtFits new q o) (sym r.open_edits) (doubt_stable old new q r (old.open_edits q) h.doubt);
       freed = freed_stable old new e.process g e.mark (freed_at e.stage) h.freed;
       resolved = resolved_stable old new e.process g pends e.announcement e.cell (resolved_at e.stage) h.resolved;
       buffer = held_stable old new e.process g pends (ap new.memory.buffer h.mine ∙ r.buffer ∙ ap old.memory.buffer (sym h.mine)) e.announcement e.cell (recovery_held e.cell e.stage)

@@ -52,7 +52,7 @@ module _ (old new : World) (p : ℕ) (g : Grows p Version old new) where
   announce_kept : (word : ℕ) → old.memory.cached (Announce p) ≡ word → old.memory.persisted (Announce p) ≡ word → new.memory.persisted (Announce p) ≡ word
   announce_kept word a b = elim (g.owned_persisted (Announce p) refl (λ x. cc)) [ inl same ↦ same ∙ b | inr up ↦ up ∙ a ]
 
-  module _ (pending : new.pending p ≡ old.pending p) where
+  module _ (pending : new.open_edits p ≡ old.open_edits p) where
     open_stable : (word : ℕ) (issue : Issue) → IsOpen old p word issue → IsOpen new p word issue
     open_stable word issue h = record { issued = pending ∙ h.issued; process = h.process; number = h.number; is = h.is; cached = announce_same ∙ h.cached }
 

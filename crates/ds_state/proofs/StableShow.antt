@@ -50,10 +50,10 @@ module _ (q : ℕ) (old new : World) (g : Grows q Version old new) where
     seen_stable m (off_mark c word) h = record { had = at_most h.had (g.marks_cached c); off = h.off }
     seen_stable m (off_announce p word) h = record { had = at_most h.had (g.announces_cached p); off = h.off }
 
-  pub rest_same : (next : ℕ) → new.pending q ≡ old.pending q → IsAtRest old q next → IsAtRest new q next
+  pub rest_same : (next : ℕ) → new.open_edits q ≡ old.open_edits q → IsAtRest old q next → IsAtRest new q next
   rest_same next same h = record {
     number = h.number;
-    pending = same ∙ h.pending;
+    open_edits = same ∙ h.open_edits;
     below = below_stable q Version old new g next h.below;
     cached = g.owned_cached (Announce q) refl (λ x. cc) ∙ h.cached ∙ sym (last_stable q Version old new g next);
     persisted = elim (g.owned_persisted (Announce q) refl (λ x. cc)) [
@@ -63,7 +63,7 @@ module _ (q : ℕ) (old new : World) (g : Grows q Version old new) where
   }
 
 -- all that a report knows, with its moment
-pub show_goes : (old new : World) (q : ℕ) (e : PlainShow) (m : Moment) → Grows q Version old new → new.pending q ≡ old.pending q → new.memory.buffer q ≡ old.memory.buffer q
+pub show_goes : (old new : World) (q : ℕ) (e : PlainShow) (m : Moment) → Grows q Version old new → new.open_edits q ≡ old.open_edits q → new.memory.buffer q ≡ old.memory.buffer q
     → ShowFitsAt old q e m → ShowFitsAt new q e m
 show_goes old new q e m g' pending buffer h =
     let g : Grows e.process Version old new = subst (λ (x : ℕ). Grows x Version old new) (sym h.mine) g' in
@@ -72,7 +72,7 @@ show_goes old new q e m g' pending buffer h =
       is = h.is;
       cells = rw g.layout h.cells;
       processes = rw g.layout h.processes;
-      rest = rest_same e.process old new g e.next (ap new.pending h.mine ∙ pending ∙ ap old.pending (sym h.mine)) h.rest;
+      rest = rest_same e.process old new g e.next (ap new.open_edits h.mine ∙ pending ∙ ap old.open_edits (sym h.mine)) h.rest;
       holds_none = λ x by. h.holds_none x ((g.holds x (λ y. cc)).came by);
       buffer = ap new.memory.buffer h.mine ∙ buffer ∙ ap old.memory.buffer (sym h.mine) ∙ h.buffer;
       noted = noted_stable e.process old new g e.announcements e.marks e.values e.kinds h.noted;
@@ -80,4 +80,4 @@ show_goes old new q e m g' pending buffer h =
     }
 
 pub show_stable : (old new : World) (q : ℕ) (e : PlainShow) → Rely q old new → ShowFits old q e → ShowFits new q e
-show_stable old new q e r (m, h) = (m, show_goes old new q e m (r.grows Version) r.pending r.buffer h)
+show_stable old new q e r (m, h) = (m, show_goes old new q e m (r.grows Version) r.open_edits r.buffer h)

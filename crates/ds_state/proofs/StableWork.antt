@@ -183,10 +183,10 @@ module _ (but : Place) (old new : World) (e : PlainWork) (g : Grows e.process bu
   work_holds_stable same both_words h = same ∙ h
   work_holds_stable same the_kind h = same ∙ h
 
-  pub rest_stable : Announce e.process ≢ but → new.pending e.process ≡ old.pending e.process → IsAtRest old e.process e.next → IsAtRest new e.process e.next
+  pub rest_stable : Announce e.process ≢ but → new.open_edits e.process ≡ old.open_edits e.process → IsAtRest old e.process e.next → IsAtRest new e.process e.next
   rest_stable apart same h = record {
     number = h.number;
-    pending = same ∙ h.pending;
+    open_edits = same ∙ h.open_edits;
     below = below_stable e.process but old new g e.next h.below;
     cached = g.owned_cached (Announce e.process) refl apart ∙ h.cached ∙ sym (last_stable e.process but old new g e.next);
     persisted = elim (g.owned_persisted (Announce e.process) refl apart) [
@@ -230,7 +230,7 @@ module _ (old new : World) (q : ℕ) (e : PlainWork) (r : Rely q old new) where
         cells = rw g.layout h.cells;
         processes = rw g.layout h.processes;
         cell = h.cell;
-        rest = rest_stable Version old new e g r.bears (λ same. cc) (ap new.pending h.mine ∙ r.pending ∙ ap old.pending (sym h.mine)) h.rest;
+        rest = rest_stable Version old new e g r.bears (λ same. cc) (ap new.open_edits h.mine ∙ r.open_edits ∙ ap old.open_edits (sym h.mine)) h.rest;
         knows = knows_stable Version old new e g r.bears (λ x same. cc) (λ same. cc) (λ same. cc) (work_known (length e.inputs) e.stage) (held_or_none (length e.inputs) e.stage) h.knows;
         buffer = work_holds_stable Version old new e g r.bears (ap new.memory.buffer h.mine ∙ r.buffer ∙ ap old.memory.buffer (sym h.mine)) (work_held e e.stage) h.buffer;
         at = h.at;

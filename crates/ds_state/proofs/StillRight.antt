@@ -40,13 +40,13 @@ use Rattle.ds_state.specs.Calm.{IsLocalAt}
 use Rattle.ds_state.proofs.Shows.{local_back}
 
 -- the number of an issue that is pending is that of a record
-issue_number : (w : World) (p : ℕ) (s : Situation) (i : Issue) → w.pending p ≡ Some i → CallFits w p s → i.edit.number < RECORDS
-issue_number w p (Idle next) i is h = absurd (let e : None ≡ Some i = sym h.pending ∙ is in cc)
+issue_number : (w : World) (p : ℕ) (s : Situation) (i : Issue) → w.open_edits p ≡ Some i → CallFits w p s → i.edit.number < RECORDS
+issue_number w p (Idle next) i is h = absurd (let e : None ≡ Some i = sym h.open_edits ∙ is in cc)
 issue_number w p Stopped i is h = (subst (λ (o : Option Issue). DoubtFits w p o) is h.doubt).number
-issue_number w p (Editing e) i is h = let same : record { edit = edit_of e; since = h.since } ≡ i = (let both : Some (record { edit = edit_of e; since = h.since }) ≡ Some i = sym h.pending ∙ is in cc) in subst (λ (x : Issue). x.edit.number < RECORDS) same h.is.number
-issue_number w p (Working e) i is h = absurd (let e : None ≡ Some i = sym h.rest.pending ∙ ap w.pending h.mine ∙ is in cc)
+issue_number w p (Editing e) i is h = let same : record { edit = edit_of e; since = h.since } ≡ i = (let both : Some (record { edit = edit_of e; since = h.since }) ≡ Some i = sym h.open_edits ∙ is in cc) in subst (λ (x : Issue). x.edit.number < RECORDS) same h.is.number
+issue_number w p (Working e) i is h = absurd (let e : None ≡ Some i = sym h.rest.open_edits ∙ ap w.open_edits h.mine ∙ is in cc)
 issue_number w p (Recovering e) i is h = (subst (λ (o : Option Issue). DoubtFits w p o) is h.doubt).number
-issue_number w p (Showing e) i is h = absurd (let e : None ≡ Some i = sym h.1.rest.pending ∙ ap w.pending h.1.mine ∙ is in cc)
+issue_number w p (Showing e) i is h = absurd (let e : None ≡ Some i = sym h.1.rest.open_edits ∙ ap w.open_edits h.1.mine ∙ is in cc)
 
 -- an announcement of a record's number, as it reads
 pub pending_reads : (n : ℕ) → n < RECORDS → IsPendingWord (announcement n phase.Pending)

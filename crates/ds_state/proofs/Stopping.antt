@@ -33,14 +33,14 @@ module _ (p : ℕ) (old new : World) (sound : IsSound old) (real : p < old.layou
     here = tt;
     buffers = stop.memory.others;
     situations = stop.others;
-    pendings = λ q ne. stop.pending q;
+    pendings = λ q ne. stop.open_edits q;
   }
 
   fits : CallFits old p (old.situation p)
   fits = sound.calls p real
 
   pends : (c : ℕ) → IsPending old p c → IsPending new p c
-  pends c k = record { issue = k.issue; issued = stop.pending p ∙ k.issued; cell = k.cell; cached = stop.memory.cached (Announce p) ∙ k.cached; persisted = stop.memory.persisted (Announce p) ∙ k.persisted }
+  pends c k = record { issue = k.issue; issued = stop.open_edits p ∙ k.issued; cell = k.cell; cached = stop.memory.cached (Announce p) ∙ k.cached; persisted = stop.memory.persisted (Announce p) ∙ k.persisted }
 
   held : (r : ℕ) → IsHeld old.memory p r → IsHeld new.memory p r
   held r h =
@@ -77,7 +77,7 @@ module _ (p : ℕ) (old new : World) (sound : IsSound old) (real : p < old.layou
 
   keeps : (cell : ℕ) → KeepsOwing old new cell
   keeps cell f issue its is same before last_of owes = (
-    stop.pending f.process ∙ is,
+    stop.open_edits f.process ∙ is,
     elim (cases_eq f.process p) [
       | inl eq ↦ (
           let was : Splits old p (old.situation p) f.cell (head_after_all (of_cell cell old.counted)) = subst (λ (q : ℕ). Splits old q (old.situation q) f.cell (head_after_all (of_cell cell old.counted))) eq owes in
@@ -96,14 +96,14 @@ module _ (p : ℕ) (old new : World) (sound : IsSound old) (real : p < old.layou
   rest : (next : ℕ) → IsAtRest old p next → IsAtRest new p next
   rest next h = record {
     number = h.number;
-    pending = stop.pending p ∙ h.pending;
+    open_edits = stop.open_edits p ∙ h.open_edits;
     below = below_stable p Version old new grows next h.below;
     cached = stop.memory.cached (Announce p) ∙ h.cached ∙ sym (last_stable p Version old new grows next);
     persisted = stop.memory.persisted (Announce p) ∙ h.persisted ∙ sym (last_stable p Version old new grows next);
   }
 
-  through : (next : ℕ) → IsAtRest old p next → DoubtFits new p (new.pending p)
-  through next h = subst (λ (o : Option Issue). DoubtFits new p o) (sym (stop.pending p ∙ h.pending)) (record { next = next; rest = rest next h })
+  through : (next : ℕ) → IsAtRest old p next → DoubtFits new p (new.open_edits p)
+  through next h = subst (λ (o : Option Issue). DoubtFits new p o) (sym (stop.open_edits p ∙ h.open_edits)) (record { next = next; rest = rest next h })
 
   module _ (e : PlainEdit) (h : EditFits old p e) where
     abbrev E : Edit
@@ -143,15 +143,15 @@ module _ (p : ℕ) (old new : World) (sound : IsSound old) (real : p < old.layou
       written = written;
     }
 
-    editing : DoubtFits new p (new.pending p)
-    editing = subst (λ (o : Option Issue). DoubtFits new p o) (sym (stop.pending p ∙ h.pending)) (elim h.knows.announced.persisted [
+    editing : DoubtFits new p (new.open_edits p)
+    editing = subst (λ (o : Option Issue). DoubtFits new p o) (sym (stop.open_edits p ∙ h.open_edits)) (elim h.knows.announced.persisted [
       | inl b ↦ doubt known.before says.0 says.2 b
       | inr n ↦ doubt known.now says.1 (omega arith) n
     ])
 
-  recovering : (o : Option Issue) → old.pending p ≡ o → DoubtFits old p o → DoubtFits new p (new.pending p)
+  recovering : (o : Option Issue) → old.open_edits p ≡ o → DoubtFits old p o → DoubtFits new p (new.open_edits p)
   recovering None is k = through k.next k.rest
-  recovering (Some issue) is k = subst (λ (o : Option Issue). DoubtFits new p o) (sym (stop.pending p ∙ is)) (
+  recovering (Some issue) is k = subst (λ (o : Option Issue). DoubtFits new p o) (sym (stop.open_edits p ∙ is)) (
       let f : Edit = issue.edit in
       let g : Grows f.process Version old new = subst (λ (q : ℕ). Grows q Version old new) (sym k.mine) grows in
       record {
@@ -171,12 +171,12 @@ module _ (p : ℕ) (old new : World) (sound : IsSound old) (real : p < old.layou
         written = written_stable Version old new f g (record_no_version f.process f.number) k.now k.written;
       })
 
-  left : (s : Situation) → old.situation p ≡ s → CallFits old p s → DoubtFits new p (new.pending p)
-  left (Idle next) at h = through next (record { number = h.number; pending = h.pending; below = h.below; cached = h.cached; persisted = h.persisted })
+  left : (s : Situation) → old.situation p ≡ s → CallFits old p s → DoubtFits new p (new.open_edits p)
+  left (Idle next) at h = through next (record { number = h.number; open_edits = h.open_edits; below = h.below; cached = h.cached; persisted = h.persisted })
   left Stopped at h = absurd (stop.runs at)
   left (Editing e) at h = editing e h
   left (Working e) at h = through e.next (subst (λ (q : ℕ). IsAtRest old q e.next) h.mine h.rest)
-  left (Recovering e) at h = recovering (old.pending p) refl h.doubt
+  left (Recovering e) at h = recovering (old.open_edits p) refl h.doubt
   left (Showing e) at h = through e.next (subst (λ (q : ℕ). IsAtRest old q e.next) h.1.mine h.1.rest)
 
   pub stop_keeps : Keeps p old new

@@ -104,7 +104,7 @@ pub record EditFits (w : World) (p : ℕ) (e : PlainEdit) : Type 0 where
   pub sheet : IsSheetOf w.layout e
   pub refs : HasRefs w.layout.shape e.text e.refs
   pub since : ℕ
-  pub pending : w.pending p ≡ Some (record { edit = edit_of e; since = since })
+  pub open_edits : w.open_edits p ≡ Some (record { edit = edit_of e; since = since })
   pub issued : since ≤ length w.counted
   pub holds_none : HoldsNone w e.process
   pub knows : Knowing w (edit_of e) e.refs since (known_at (text_parts e.text) (length e.refs) e.stage)
@@ -114,7 +114,7 @@ pub record EditFits (w : World) (p : ℕ) (e : PlainEdit) : Type 0 where
 pub record IdleFits (w : World) (p next : ℕ) : Type 0 where
   pub number : next ≤ RECORDS
   pub holds_none : HoldsNone w p
-  pub pending : w.pending p ≡ None
+  pub open_edits : w.open_edits p ≡ None
   pub buffer : w.memory.buffer p ≡ []
   pub below : AreBelow w p next
   pub cached : w.memory.cached (place.Announce p) ≡ last_announcement w.counted p next
@@ -172,7 +172,7 @@ DoubtFits w p (Some issue) = IsInDoubt w p issue
 -- a stopped process has an empty buffer; its edit, where it has one, is in doubt
 pub record StoppedFits (w : World) (p : ℕ) : Type 0 where
   pub buffer : w.memory.buffer p ≡ []
-  pub doubt : DoubtFits w p (w.pending p)
+  pub doubt : DoubtFits w p (w.open_edits p)
 
 -- a recovery: its edit is in doubt throughout; it gives its cells back, then it settles that edit
 pub record RecoveryFits (w : World) (p : ℕ) (e : PlainRecovery) : Type 0 where
@@ -180,7 +180,7 @@ pub record RecoveryFits (w : World) (p : ℕ) (e : PlainRecovery) : Type 0 where
   pub is : IsRecovery e
   pub cells : cells_of w.layout ≡ e.cells
   pub processes : w.layout.processes ≡ e.processes
-  pub doubt : DoubtFits w p (w.pending p)
+  pub doubt : DoubtFits w p (w.open_edits p)
   pub freed : FreedFits w e.process e.mark (freed_at e.stage)
   pub resolved : ResolvedFits w e.process e.announcement e.cell (resolved_at e.stage)
   pub buffer : RecoveryHolds w e.process e.announcement e.cell (recovery_held e.cell e.stage)

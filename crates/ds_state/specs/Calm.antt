@@ -11,7 +11,7 @@ use Rattle.ds_state.specs.Standing.{cached_side, entry_on, HasContent}
 -- every mark is clean, and every edit is answered
 pub record IsCalm (w : World) : Type 0 where
   pub clean : (c : ℕ) → IsClean (w.memory.cached (Mark c))
-  pub answered : (p : ℕ) → p < w.layout.processes → w.pending p ≡ None
+  pub answered : (p : ℕ) → p < w.layout.processes → w.open_edits p ≡ None
 
 -- what the cell shows is what its content gives of what the others show
 pub record IsLocalAt (w : World) (c : ℕ) : Type 0 where

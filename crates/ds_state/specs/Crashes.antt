@@ -21,7 +21,7 @@ pub record CrashesTo (old new : World) : Type 0 where
   pub memory : Crashes old.memory new.memory
   pub situation : (q : ℕ) → q < old.layout.processes → new.situation q ≡ Stopped
   pub counted : new.counted ≡ survivors old.memory old.counted
-  pub pending : (q : ℕ) → new.pending q ≡ old.pending q
+  pub open_edits : (q : ℕ) → new.open_edits q ≡ old.open_edits q
 
 -- a process that has not stopped stops
 pub record StopsIn (p : ℕ) (old new : World) : Type 0 where
@@ -31,4 +31,4 @@ pub record StopsIn (p : ℕ) (old new : World) : Type 0 where
   pub situation : new.situation p ≡ Stopped
   pub others : (q : ℕ) → q ≢ p → new.situation q ≡ old.situation q
   pub counted : new.counted ≡ old.counted
-  pub pending : (q : ℕ) → new.pending q ≡ old.pending q
+  pub open_edits : (q : ℕ) → new.open_edits q ≡ old.open_edits q

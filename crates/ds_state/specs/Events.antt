@@ -10,4 +10,4 @@ pub record Evicts (place : Place) (old new : World) : Type 0 where
   pub memory : EvictsAt place old.memory new.memory
   pub situation : (q : ℕ) → new.situation q ≡ old.situation q
   pub counted : new.counted ≡ old.counted
-  pub pending : (q : ℕ) → new.pending q ≡ old.pending q
+  pub open_edits : (q : ℕ) → new.open_edits q ≡ old.open_edits q

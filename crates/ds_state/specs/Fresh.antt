@@ -9,4 +9,4 @@ pub record IsNew (w : World) : Type 0 where
   pub memory : IsFresh w.memory
   pub situation : (p : ℕ) → w.situation p ≡ Idle 0
   pub counted : w.counted ≡ []
-  pub pending : (p : ℕ) → w.pending p ≡ None
+  pub open_edits : (p : ℕ) → w.open_edits p ≡ None

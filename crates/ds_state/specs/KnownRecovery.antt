@@ -11,7 +11,7 @@ use Rattle.ds_state.specs.World.{of_cell, IsHeadBy}
 use Rattle.ds_state.specs.declared.work.Spread.{Spread}
 use Rattle.ds_state.specs.declared.work.Spread.TheVariants.{BackTold}
 use Rattle.ds_state.specs.Known.{AreBelow, IsIn, IsSafelyIn}
-use Rattle.ds_state.specs.Owing.{entry, IsHeldBy, HoldsNone, turn}
+use Rattle.ds_state.specs.Owing.{entry, IsHeldBy, HoldsNone, tenure}
 use Rattle.ds_state.specs.KnownWork.{HasMark}
 use Rattle.ds_state.specs.declared.work.RecoverStage.{RecoverStage}
 use Rattle.ds_state.specs.declared.work.RecoverStage.TheVariants.{LoadMark, FlushValue, FlushKind, BackValue, BackKind, Telling, Give, GiveDirty, FlushGiven, BackGiven, LoadHeader, LoadHead, FlushHead, BackHead, LoadDone, OrMark, FlushMark, BackMark, StoreOutcome, FlushOutcome, BackOutcome, Answer}
@@ -48,7 +48,7 @@ HoldsFrom w p cell = (r : ℕ) → r < cell → IsHeldBy p (w.memory.cached (pla
 pub record Holding (w : World) (p mark cell : ℕ) : Type 0 where
   pub below : HoldsFrom w p cell
   pub by : IsHeldBy p mark
-  pub stands : turn (w.memory.cached (place.Mark cell)) ≡ turn mark
+  pub stands : tenure (w.memory.cached (place.Mark cell)) ≡ tenure mark
   pub seen : mark ≤ w.memory.cached (place.Mark cell)
 
 -- the value of the cell is the same on both sides
@@ -126,11 +126,11 @@ pub record IsPassed (w : World) (e : Edit) : Type 0 where
 
 -- the cell is that of the edit in doubt, where the word announces that edit
 abbrev pub IsItsCell : World → ℕ → ℕ → ℕ → Type 0
-IsItsCell w p word cell = (issue : Issue) → w.pending p ≡ Some issue → issue.edit.number + 1 ≡ word / 4 → issue.edit.cell ≡ cell
+IsItsCell w p word cell = (issue : Issue) → w.open_edits p ≡ Some issue → issue.edit.number + 1 ≡ word / 4 → issue.edit.cell ≡ cell
 
 -- the edit in doubt, which is announced as pending by the word
 pub record IsOpen (w : World) (p word : ℕ) (issue : Issue) : Type 0 where
-  pub issued : w.pending p ≡ Some issue
+  pub issued : w.open_edits p ≡ Some issue
   pub process : issue.edit.process ≡ p
   pub number : issue.edit.number < RECORDS
   pub is : word ≡ announcement issue.edit.number phase.Pending
@@ -198,7 +198,7 @@ pub record HasHead (w : World) (p cell : ℕ) : Type 0 where
   pub by : Edit
   pub gave : IsHeadBy (of_cell cell w.counted) value by
   pub issue : Issue
-  pub issued : w.pending p ≡ Some issue
+  pub issued : w.open_edits p ≡ Some issue
   pub own : ℕ
   pub head : IsHeadBy (of_cell cell w.counted) own issue.edit
   pub enough : own ≤ value

@@ -15,7 +15,7 @@ use Rattle.ds_layout.specs.Places.{cells_of}
 use Rattle.ds_state.specs.Works.{PlainWork, StageFits}
 use Rattle.ds_state.specs.World.{Edit, World, of_cell, IsHeadBy, last_announcement}
 use Rattle.ds_state.specs.Known.{AreBelow}
-use Rattle.ds_state.specs.Owing.{entry, turn, IsEven, IsHeldBy, CellOwes, IsExcused, IsIndexed, IsMark, HoldsNone}
+use Rattle.ds_state.specs.Owing.{entry, tenure, IsEven, IsHeldBy, CellOwes, IsExcused, IsIndexed, IsMark, HoldsNone}
 use Rattle.ds_state.specs.Standing.{HasContent, cached_side, entry_on, value_for, word_for}
 use Rattle.ds_state.specs.declared.work.WorkStage.{WorkStage}
 use Rattle.ds_state.specs.declared.work.WorkStage.TheVariants.{LoadMark, Claim, FlushClaim, BackClaim, LoadHead, LoadHeader, LoadText, Read, LoadValue, LoadKind, LoadOwnValue, LoadOwnKind, Wait, StoreValue, StoreKind, FlushValue, FlushKind, BackValue, BackKind, Telling, Clear, ClearDirty, Give, GiveDirty, FlushCleared, BackCleared, Answer}
@@ -104,7 +104,7 @@ work_known refs (Answer end) = before free
 pub record Claims (w : World) (process cell mark : ℕ) : Type 0 where
   pub even : IsEven mark
   pub by : IsHeldBy process mark
-  pub cached : turn (w.memory.cached (place.Mark cell)) ≡ turn mark
+  pub cached : tenure (w.memory.cached (place.Mark cell)) ≡ tenure mark
   pub alone : (r : ℕ) → IsHeldBy process (w.memory.cached (place.Mark r)) → r ≡ cell
 
 -- the work's process holds its cell by its claim, on the cached side
@@ -114,7 +114,7 @@ HasClaimed w e = Claims w e.process e.cell e.mark
 -- the process holds the cell by this claim, on both sides, and holds no other cell
 pub record ClaimsBoth (w : World) (process cell mark : ℕ) : Type 0 where
   pub claim : Claims w process cell mark
-  pub persisted : turn (w.memory.persisted (place.Mark cell)) ≡ turn mark
+  pub persisted : tenure (w.memory.persisted (place.Mark cell)) ≡ tenure mark
 
 -- the work's process holds its cell by its claim, on both sides
 abbrev pub HasHeld : World → PlainWork → Type 0
@@ -271,12 +271,12 @@ pub record HasMark (w : World) (p cell : ℕ) : Type 0 where
   pub had : value ≤ w.memory.cached (place.Mark cell)
   pub is : IsMark w.layout cell value
 
--- the process's buffer holds one entry alone, a mark of the cell that is of the turn of the claim
+-- the process's buffer holds one entry alone, a mark of the cell that is of the tenure of the claim
 pub record BuffersClaim (w : World) (process cell mark : ℕ) : Type 0 where
   pub value : ℕ
   pub alone : w.memory.buffer process ≡ entry (place.Mark cell) value ∷ []
   pub had : value ≤ w.memory.cached (place.Mark cell)
-  pub claims : turn value ≡ turn mark
+  pub claims : tenure value ≡ tenure mark
 
 -- the work's buffer holds one entry alone, its claim
 abbrev pub HasClaim : World → PlainWork → Type 0
@@ -302,7 +302,7 @@ WorkHolds w e the_kind = w.memory.buffer e.process ≡ kind_entry e ∷ []
 -- a process in no edit: none is open, and it announces how its last one ended
 pub record IsAtRest (w : World) (p next : ℕ) : Type 0 where
   pub number : next ≤ RECORDS
-  pub pending : w.pending p ≡ None
+  pub open_edits : w.open_edits p ≡ None
   pub below : AreBelow w p next
   pub cached : w.memory.cached (place.Announce p) ≡ last_announcement w.counted p next
   pub persisted : w.memory.persisted (place.Announce p) ≡ last_announcement w.counted p next

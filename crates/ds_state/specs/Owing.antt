@@ -20,10 +20,10 @@ use Rattle.ds_state.specs.declared.work.RecoverStage.TheVariants as recoveries
 use Rattle.ds_state.specs.declared.situation.Situation.{Situation}
 use Rattle.ds_state.specs.declared.situation.Situation.TheVariants.{Idle, Stopped, Editing, Working, Recovering, Showing}
 
--- A mark is generation * 32 + holder * 2 + dirty, where holder 0 is nobody and q + 1 is process q. Its turn is its
+-- A mark is generation * 32 + holder * 2 + dirty, where holder 0 is nobody and q + 1 is process q. Its tenure is its
 -- generation with its holder.
-abbrev pub turn : ℕ → ℕ
-turn mark = mark / 2
+abbrev pub tenure : ℕ → ℕ
+tenure mark = mark / 2
 
 -- a clean mark: no holder, not dirty
 abbrev pub IsClean : ℕ → Type 0
@@ -41,10 +41,10 @@ IsHeldBy q mark = mark / 2 % 16 ≡ q + 1
 abbrev pub entry : Place → ℕ → Entry Place
 entry r value = record { place = r; class = class_of r; value = value }
 
--- both sides of the mark of r are of one turn of q
+-- both sides of the mark of r are of one tenure of q
 pub record IsHeld (m : Memory Place) (q r : ℕ) : Type 0 where
   pub by : IsHeldBy q (m.cached (place.Mark r))
-  pub same : turn (m.persisted (place.Mark r)) ≡ turn (m.cached (place.Mark r))
+  pub same : tenure (m.persisted (place.Mark r)) ≡ tenure (m.cached (place.Mark r))
 
 -- the cell's bit stands in the parts of a row that were loaded
 abbrev pub StandsIn : List ℕ → ℕ → Type 0
@@ -143,7 +143,7 @@ pub record IsApart (w : World) (r : ℕ) : Type 0 where
 -- both sides announce that the process's edit, of this cell, is pending
 pub record IsPending (w : World) (p c : ℕ) : Type 0 where
   pub issue : Issue
-  pub issued : w.pending p ≡ Some issue
+  pub issued : w.open_edits p ≡ Some issue
   pub cell : issue.edit.cell ≡ c
   pub cached : w.memory.cached (place.Announce p) ≡ announcement issue.edit.number phase.Pending
   pub persisted : w.memory.persisted (place.Announce p) ≡ announcement issue.edit.number phase.Pending

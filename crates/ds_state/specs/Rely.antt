@@ -5,7 +5,7 @@ use Rattle.ds_layout.specs.declared.place.Place.{Place}
 use Rattle.ds_layout.specs.declared.place.Place.TheVariants.{Head, Mark, Value, Kind, Index, Announce, Header, Text, Done}
 use Rattle.ds_layout.specs.Bits.{IsSubset}
 use Rattle.ds_state.specs.World.{Edit, World}
-use Rattle.ds_state.specs.Owing.{turn, IsClean, IsHeldBy, IsIndexed, CellOwes, IsExcused}
+use Rattle.ds_state.specs.Owing.{tenure, IsClean, IsHeldBy, IsIndexed, CellOwes, IsExcused}
 use Rattle.ds_state.specs.Standing.{Matters}
 use Rattle.ds_state.specs.Sound.{IsSound}
 
@@ -21,8 +21,8 @@ IsOwnedBy m q _ = ⊥
 -- a hold of q's, where a mark's sides go from c (cached) and v to c' and v': it stays, on both sides where it was on
 -- both, and none comes
 pub record KeepsHold (q c v c' v' : ℕ) : Type 0 where
-  pub cached : IsHeldBy q c → turn c' ≡ turn c
-  pub persisted : IsHeldBy q c → turn v ≡ turn c → turn v' ≡ turn c
+  pub cached : IsHeldBy q c → tenure c' ≡ tenure c
+  pub persisted : IsHeldBy q c → tenure v ≡ tenure c → tenure v' ≡ tenure c
   pub came : IsHeldBy q c' → IsHeldBy q c
 
 -- what q may count on, but for one word: its own words keep their cached side, and their persisted side at most
@@ -59,7 +59,7 @@ pub record Bears (old new : World) : Type 0 where
 -- `Grows` says, and what was owed is owed
 pub record Rely (q : ℕ) (old new : World) : Type 0 where
   pub situation : new.situation q ≡ old.situation q
-  pub pending : new.pending q ≡ old.pending q
+  pub open_edits : new.open_edits q ≡ old.open_edits q
   pub buffer : new.memory.buffer q ≡ old.memory.buffer q
   pub grows : (but : Place) → Grows q but old new
   pub bears : Bears old new

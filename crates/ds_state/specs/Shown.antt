@@ -77,7 +77,7 @@ AllClean layout memory = (cell : ℕ) → cell < cells_of layout → state_of (m
 
 -- a quiet world: each edit is answered, and no cell's mark is dirty or held
 pub record IsQuiet (w : World) : Type 0 where
-  pub answered : (p : ℕ) → p < w.layout.processes → w.pending p ≡ None
+  pub answered : (p : ℕ) → p < w.layout.processes → w.open_edits p ≡ None
   pub clean : AllClean w.layout w.memory
 
 -- the text of the last of the edits, empty without one

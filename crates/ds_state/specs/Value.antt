@@ -19,7 +19,7 @@ pub record WorldValue : Type 0 where
   pub sheet : SheetValue
   pub situations : List Situation
   pub counted : List Edit
-  pub pending : List (Option Issue)
+  pub open_edits : List (Option Issue)
   pub done : ℕ
   pub settled : ℕ
   pub reports : PlainReports
@@ -31,7 +31,7 @@ world_of v = record {
   memory = memory v.sheet;
   situation = λ p. slice_index_or v.situations p (Idle 0);
   counted = v.counted;
-  pending = λ p. slice_index_or v.pending p None;
+  open_edits = λ p. slice_index_or v.open_edits p None;
 }
 
 -- one report for each process, of as many cells as the sheet has
@@ -48,9 +48,9 @@ HasCountsLeft situations settled = settled + reports_under_way situations ≤ SE
 pub record IsGood (v : WorldValue) : Type 0 where
   pub sound : IsSound (world_of v)
   pub situations : length v.situations ≡ v.sheet.layout.processes
-  pub pending : length v.pending ≡ v.sheet.layout.processes
+  pub open_edits : length v.open_edits ≡ v.sheet.layout.processes
   pub reports : AreReportsOf v.sheet.layout v.reports
-  pub answered : HasAnswered (world_of v).counted (world_of v).pending v.done
+  pub answered : HasAnswered (world_of v).counted (world_of v).open_edits v.done
   pub counts : HasCountsLeft v.situations v.settled
 
 -- a good value, with a place in the list for each edit that its processes can number

@@ -22,7 +22,7 @@ pub record IsOnItsWay (w : World) (es : List Edit) (persisted : ℕ) : Type 0 wh
   pub parts : es ≡ before ++ last ∷ []
   pub is : persisted ≡ head_after_all before
   pub issue : Issue
-  pub pending : w.pending last.process ≡ Some issue
+  pub open_edits : w.open_edits last.process ≡ Some issue
   pub same : issue.edit ≡ last
   pub owes : Splits w last.process (w.situation last.process) last.cell (head_after_all es)
 
@@ -64,7 +64,7 @@ RecordFits w process number k cached persisted = (e : Edit) → Contains w.count
     → (cached ≡ record_word e k) × (persisted ≡ record_word e k)
 
 -- the edit of this process and number counts, and is not its cell's last
-pub record IsOvertaken (w : World) (process number : ℕ) : Type 0 where
+pub record IsSuperseded (w : World) (process number : ℕ) : Type 0 where
   pub edit : Edit
   pub process_is : edit.process ≡ process
   pub number_is : edit.number ≡ number
@@ -76,7 +76,7 @@ pub record IsOvertaken (w : World) (process number : ℕ) : Type 0 where
 -- a superseded edit has its done bit persisted, and a done bit tells that its edit is kept
 pub record DoneFits (w : World) (process part cached persisted : ℕ) : Type 0 where
   pub sides : IsSubset persisted cached
-  pub overtaken : (n : ℕ) → n / 64 ≡ part → IsOvertaken w process n → HasBit persisted n
+  pub overtaken : (n : ℕ) → n / 64 ≡ part → IsSuperseded w process n → HasBit persisted n
   pub told : (n : ℕ) → n < RECORDS → n / 64 ≡ part → HasBit cached n → IsKept w process n
 
 -- a mark is no newer on its persisted side, and its holder is a process of the sheet

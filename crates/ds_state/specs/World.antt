@@ -36,7 +36,7 @@ pub record World : Type 0 where
   pub memory : Memory Place
   pub situation : ℕ → Situation
   pub counted : List Edit
-  pub pending : ℕ → Option Issue
+  pub open_edits : ℕ → Option Issue
 
 -- the place of a word of an edit's record: the header, then the parts of its text
 abbrev pub record_place : ℕ → ℕ → ℕ → Place

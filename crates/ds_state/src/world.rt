@@ -27,7 +27,7 @@ pub struct World {
     /// The edits that count, in their order. It has room for all that can come.
     pub counted: Vec<Edit>,
     /// The edit of each process that is not answered.
-    pub pending: Vec<Option<Issue>>,
+    pub open_edits: Vec<Option<Issue>>,
     /// How many edits were answered Done.
     pub done: u64,
     /// How many reports were answered Settled.
@@ -50,7 +50,7 @@ impl Model for World {
       sheet = w.words;
       situations = w.situations.items;
       counted = w.counted.items;
-      pending = w.pending.items;
+      open_edits = w.open_edits.items;
       done = w.done;
       settled = w.settled;
       reports = w.reports;
@@ -60,7 +60,7 @@ impl Model for World {
       sheet = w.words;
       situations = w.situations.items;
       counted = w.counted.items;
-      pending = w.pending.items;
+      open_edits = w.open_edits.items;
       done = w.done;
       settled = w.settled;
       reports = w.reports;
@@ -79,10 +79,10 @@ fn idle(alloc: Global, processes: usize) -> Result<Vec<Situation>, AllocError>
     Ok(situations)
 }
 
-fn all_answered(pending: &[Option<Issue>]) -> bool
-    ensures { IsTrue result ↔ All (λ issue. issue ≡ None) pending.now }
+fn all_answered(open_edits: &[Option<Issue>]) -> bool
+    ensures { IsTrue result ↔ All (λ issue. issue ≡ None) open_edits.now }
 {
-    pending.iter().all(|issue| issue.is_none())
+    open_edits.iter().all(|issue| issue.is_none())
 }
 
 impl World {
@@ -106,13 +106,13 @@ impl World {
         let words = SheetWords::new(alloc, layout)?;
         let situations = idle(alloc, processes)?;
         let counted = Vec::with_capacity(alloc, processes * RECORDS)?;
-        let pending = vec![in alloc; None; processes]?;
+        let open_edits = vec![in alloc; None; processes]?;
         let reports = Reports::new(alloc, processes, shape.count())?;
         Ok(World {
             words,
             situations,
             counted,
-            pending,
+            open_edits,
             done: 0,
             settled: 0,
             reports,
@@ -130,7 +130,7 @@ impl World {
     pub fn is_quiet(&self) -> bool
         ensures { IsTrue result ↔ IsQuiet (world_of self.now) }
     {
-        all_answered(&self.pending) && shown::are_clean(&self.words)
+        all_answered(&self.open_edits) && shown::are_clean(&self.words)
     }
 
     /// The mark of a cell, as processes see it.

@@ -59,7 +59,7 @@ module _ (v : WorldValue) (p : ℕ) (sheet : SheetValue) (s : Situation) (layout
     good = record {
       sound = keeps.sound;
       situations = length-set v.situations p s ∙ h.good.situations ∙ ap (λ (l : Layout). l.processes) (sym layout);
-      pending = h.good.pending ∙ ap (λ (l : Layout). l.processes) (sym layout);
+      open_edits = h.good.open_edits ∙ ap (λ (l : Layout). l.processes) (sym layout);
       reports = record {
         cells = h.good.reports.cells ∙ ap (λ (l : Layout). cells_of l) (sym layout);
         processes = h.good.reports.processes ∙ ap (λ (l : Layout). l.processes) (sym layout);
@@ -82,7 +82,7 @@ module _ (v : WorldValue) (e : PlainWork) (next : ℕ) (room : ℕ) (kept : IsRe
       situation = situation_is v e.process v.sheet (Working e) refl low kept.good ∙ first;
       others = λ q ne. others_are v e.process v.sheet (Working e) refl low q ne;
       counted = refl;
-      pending = λ q. refl;
+      open_edits = λ q. refl;
     };
     was = idle;
     next_is = asked.next_is;
@@ -149,7 +149,7 @@ module _ (v : WorldValue) (g : IsGood v) (p : ℕ) (e : PlainWork) (low : p < v.
     situation = ap (λ q. (world_of (put v p v.sheet (Working f))).situation q) mine ∙ situation_is v p v.sheet (Working f) refl low g;
     others = λ q ne. others_are v p v.sheet (Working f) refl low q (λ same. ne (same ∙ sym mine));
     counted = refl;
-    pending = λ q. refl;
+    open_edits = λ q. refl;
   }
 
   -- the entry of its task is offered
@@ -176,7 +176,7 @@ module _ (v : WorldValue) (g : IsGood v) (p : ℕ) (e : PlainWork) (low : p < v.
       situation = ap (λ q. (world_of (put v p sheet s)).situation q) mine ∙ situation_is v p sheet s layout low g ∙ is;
       others = λ q ne. others_are v p sheet s layout low q (λ same. ne (same ∙ sym mine));
       counted = refl;
-      pending = λ q. refl;
+      open_edits = λ q. refl;
     }
 
     pub step_kept : (s : Situation) → s ≡ after e e.stage word → IsPlainStep e.stage → (room : ℕ) → IsReserved v room → IsReserved (put v p sheet s) room

@@ -82,5 +82,5 @@ offer_keep e entry old new sound real was t = offers_keep e old new sound real e
 
 pub begins_keep : (next : ℕ) (e : PlainWork) (old new : World) → IsSound old → e.process < old.layout.processes → BeginsWork next e old new → Keeps e.process old new
 begins_keep next e old new sound real b = begin_work_keeps e.process next e old new sound real
-    (record { layout = b.turn.layout; counted = b.turn.counted; situations = b.turn.others; pendings = λ q ne. b.turn.pending q })
-    b.turn.memory (b.turn.pending e.process) b.was b.turn.situation refl b.next_is b.cells b.processes b.cell
+    (record { layout = b.turn.layout; counted = b.turn.counted; situations = b.turn.others; pendings = λ q ne. b.turn.open_edits q })
+    b.turn.memory (b.turn.open_edits e.process) b.was b.turn.situation refl b.next_is b.cells b.processes b.cell

@@ -21,25 +21,25 @@ use Rattle.ds_work.proofs.Gathered.{content_few}
 use Rattle.ds_work.proofs.Next.{next_noted}
 use Rattle.ds_work.proofs.Ranks.{each_falls}
 
-after_goes : (e : PlainWork) (s : WorkStage) (word : ℕ) → ((end : WorkEnd) → s ≡ Answer end → ⊥) → after e s word ≡ Working (next_at e s word)
+pub after_goes : (e : PlainWork) (s : WorkStage) (word : ℕ) → ((end : WorkEnd) → s ≡ Answer end → ⊥) → after e s word ≡ Working (next_at e s word)
 after_goes e (Answer end) word na = absurd (na end refl)
 after_goes e _ word na = refl
 
-falls_plain : (r : ℕ) (e f : PlainWork) (s : WorkStage) → Falls r e f s → IsPlainStep s → ((end : WorkEnd) → s ≡ Answer end → ⊥) → steps_left r f < left r e s
+pub falls_plain : (r : ℕ) (e f : PlainWork) (s : WorkStage) → Falls r e f s → IsPlainStep s → ((end : WorkEnd) → s ≡ Answer end → ⊥) → steps_left r f < left r e s
 falls_plain r e f Read h plain na = absurd plain
 falls_plain r e f Wait h plain na = absurd plain
 falls_plain r e f (Answer end) h plain na = absurd (na end refl)
 falls_plain r e f _ h plain na = h
 
 -- reading leaves fewer, also where more references were counted on
-reading_less : (r : ℕ) (e : PlainWork) (content : Plain) (inputs : List Input) → length inputs ≤ r → steps_left r (read_from e content inputs) < left r e Read
+pub reading_less : (r : ℕ) (e : PlainWork) (content : Plain) (inputs : List Input) → length inputs ≤ r → steps_left r (read_from e content inputs) < left r e Read
 reading_less r e content inputs few = go (nat_lt 0 (length inputs))
   where
     go : (b : Bool) → steps_left r (if b then record e { content = content; inputs = inputs; stage = LoadValue 0 } else record e { content = content; inputs = inputs; stage = LoadOwnValue }) < left r e Read
     go true = omega (arith, few)
     go false = omega arith
 
-read_cells : (e : PlainWork) (content : Plain) (inputs : List Input) → (read_from e content inputs).cells ≡ e.cells
+pub read_cells : (e : PlainWork) (content : Plain) (inputs : List Input) → (read_from e content inputs).cells ≡ e.cells
 read_cells e content inputs = go (nat_lt 0 (length inputs))
   where
     go : (b : Bool) → (if b then record e { content = content; inputs = inputs; stage = LoadValue 0 } else record e { content = content; inputs = inputs; stage = LoadOwnValue }).cells ≡ e.cells

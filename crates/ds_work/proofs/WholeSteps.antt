@@ -54,7 +54,7 @@ module _ (p : ℕ) (e : PlainWork) (place : Place) (old new : World) (moves : Mo
 module _ (p : ℕ) (e : PlainWork) (changed : Bool) (old new : World) (sound : IsSound old) (turn : Turn p old new)
     (fits : WorkFits old p (on e (works.Clear changed))) (was : old.situation p ≡ Working (on e (works.Clear changed)))
     (is : new.situation p ≡ Working (on e (works.FlushCleared (Published changed))))
-    (pending : new.pending p ≡ old.pending p)
+    (pending : new.open_edits p ≡ old.open_edits p)
     (at : old.memory.cached (Mark e.cell) ≡ e.mark) (store : StoresAt (Mark e.cell) (let_go e.mark) old.memory new.memory) where
   free : (q : ℕ) → IsHeldBy q (let_go e.mark) → ⊥
   free q by = omega arith
@@ -113,7 +113,7 @@ module _ (p : ℕ) (e : PlainWork) (changed : Bool) (old new : World) (sound : I
         cells = rw moves.layout fits.cells;
         processes = rw moves.layout fits.processes;
         cell = fits.cell;
-        rest = rest_stable (Mark e.cell) old new e g' b (λ same. cc) (ap new.pending fits.mine ∙ pending ∙ ap old.pending (sym fits.mine)) fits.rest;
+        rest = rest_stable (Mark e.cell) old new e g' b (λ same. cc) (ap new.open_edits fits.mine ∙ pending ∙ ap old.open_edits (sym fits.mine)) fits.rest;
         knows = record {
           hold = none;
           loaded = tt;
@@ -137,7 +137,7 @@ module _ (p : ℕ) (e : PlainWork) (changed : Bool) (old new : World) (sound : I
       (λ l. subst (λ (s : Situation). CallFits new p s) (sym is) call)
 
 -- work begins
-pub begin_work_keeps : (p next : ℕ) (e : PlainWork) (old new : World) → IsSound old → p < old.layout.processes → Turn p old new → SameMemory old.memory new.memory → new.pending p ≡ old.pending p
+pub begin_work_keeps : (p next : ℕ) (e : PlainWork) (old new : World) → IsSound old → p < old.layout.processes → Turn p old new → SameMemory old.memory new.memory → new.open_edits p ≡ old.open_edits p
     → old.situation p ≡ Idle next → new.situation p ≡ Working (on e works.LoadMark)
     → e.process ≡ p → e.next ≡ next → cells_of old.layout ≡ e.cells → old.layout.processes ≡ e.processes → e.cell < e.cells → Keeps p old new
 begin_work_keeps p next e old new sound real turn m pending was is mine number cells processes cell =
@@ -151,7 +151,7 @@ begin_work_keeps p next e old new sound real turn m pending was is mine number c
     let g : Grows p Version old new = grows_own p Version old new moves turn.counted in
     let rest : IsAtRest new p next = record {
       number = idle.number;
-      pending = pending ∙ idle.pending;
+      open_edits = pending ∙ idle.open_edits;
       below = below_stable p Version old new g next idle.below;
       cached = m.cached (Announce p) ∙ idle.cached ∙ sym (last_stable p Version old new g next);
       persisted = m.persisted (Announce p) ∙ idle.persisted ∙ sym (last_stable p Version old new g next);
@@ -190,7 +190,7 @@ inputs_on w e s s' n h = record {
 -- the store of the value
 module _ (p : ℕ) (e : PlainWork) (old new : World) (sound : IsSound old) (turn : Turn p old new)
     (fits : WorkFits old p (on e works.StoreValue)) (was : old.situation p ≡ Working (on e works.StoreValue)) (is : new.situation p ≡ Working (on e works.StoreKind))
-    (pending : new.pending p ≡ old.pending p) (store : StoresAt (Value e.cell) (value_for e.entry) old.memory new.memory) where
+    (pending : new.open_edits p ≡ old.open_edits p) (store : StoresAt (Value e.cell) (value_for e.entry) old.memory new.memory) where
   held_p : IsHeld old.memory p e.cell
   held_p = subst (λ (q : ℕ). IsHeld old.memory q e.cell) fits.mine (held_both old (on e works.StoreValue) fits.knows.hold)
 
@@ -224,7 +224,7 @@ module _ (p : ℕ) (e : PlainWork) (old new : World) (sound : IsSound old) (turn
         cells = rw store_moved.layout fits.cells;
         processes = rw store_moved.layout fits.processes;
         cell = fits.cell;
-        rest = rest_stable (Value e.cell) old new e' g' store_bears (λ same. cc) (ap new.pending fits.mine ∙ pending ∙ ap old.pending (sym fits.mine)) fits.rest;
+        rest = rest_stable (Value e.cell) old new e' g' store_bears (λ same. cc) (ap new.open_edits fits.mine ∙ pending ∙ ap old.open_edits (sym fits.mine)) fits.rest;
         knows = record {
           hold = held_on new e works.StoreValue works.StoreKind (held_stable (Value e.cell) old new e' g' store_bears (λ r same. cc) fits.knows.hold);
           loaded = inputs_on new e works.StoreValue works.StoreKind (length e.inputs) (inputs_stable (Value e.cell) old new e' g' store_bears fits.knows.hold.claim (length e.inputs) fits.knows.loaded);

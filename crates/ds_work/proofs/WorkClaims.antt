@@ -12,7 +12,7 @@ use Rattle.ds_layout.specs.declared.mark.State.TheVariants.{Clean, Marked, Held}
 use Rattle.ds_layout.specs.Mark.{mark_of, state_of, holder_of, present, state_by}
 use Rattle.ds_state.specs.Works.{PlainWork}
 use Rattle.ds_state.specs.World.{World}
-use Rattle.ds_state.specs.Owing.{entry, turn, IsHeldBy, IsHeld, IsMark}
+use Rattle.ds_state.specs.Owing.{entry, tenure, IsHeldBy, IsHeld, IsMark}
 use Rattle.ds_state.specs.KnownWork.{BuffersClaim, WorkFits}
 use Rattle.ds_work.specs.WorkSteps.{claim_of, StepsAt, claims_from}
 use Rattle.ds_state.specs.Words.{MarkFits}
@@ -47,7 +47,7 @@ marked_free w cell word mark marked q by =
 
 module _ (e : PlainWork) (word : ℕ) (old new : World) (sound : IsSound old) (real : e.process < old.layout.processes) where
   turn_of : (s : WorkStage) → StepsAt e s word old new → Turn e.process old new
-  turn_of s t = record { layout = t.layout; counted = t.counted; situations = t.others; pendings = λ q ne. t.pending q }
+  turn_of s t = record { layout = t.layout; counted = t.counted; situations = t.others; pendings = λ q ne. t.open_edits q }
 
   -- ---- the mark, and the claim
 
@@ -58,7 +58,7 @@ module _ (e : PlainWork) (word : ℕ) (old new : World) (sound : IsSound old) (r
       seen = t.memory.0
 
       ends : (end : WorkEnd) → claims_from e word (state_of (mark_of e.processes word)) ≡ on e (works.Answer end) → Keeps e.process old new
-      ends end is = frame.loads e works.LoadMark (on e (works.Answer end)) old new sound real was (t.situation ∙ ap (λ (x : PlainWork). Working x) is) (turn_of _ t) (t.pending e.process) fits tt t.memory.1
+      ends end is = frame.loads e works.LoadMark (on e (works.Answer end)) old new sound real was (t.situation ∙ ap (λ (x : PlainWork). Working x) is) (turn_of _ t) (t.open_edits e.process) fits tt t.memory.1
           (λ c x bit matters o. absurd o) (λ o. absurd o) (λ k. record { hold = k.hold; loaded = tt; own = tt; evaluated = tt }) (λ h. h)
 
       marked : state_of (mark_of e.processes word) ≡ Marked → (b : Bool) → nat_lt (2 ^ 58) (word / 32) ≡ b → Keeps e.process old new
@@ -66,7 +66,7 @@ module _ (e : PlainWork) (word : ℕ) (old new : World) (sound : IsSound old) (r
       marked st false worn =
           frame.loads e works.LoadMark (record e { mark = word; stage = works.Claim }) old new sound real was
           (t.situation ∙ ap (λ (y : State). Working (claims_from e word y)) st ∙ ap (λ (b : Bool). Working (if b then on e (works.Answer Worn) else record e { mark = word; stage = works.Claim })) worn)
-          (turn_of _ t) (t.pending e.process) fits tt t.memory.1
+          (turn_of _ t) (t.open_edits e.process) fits tt t.memory.1
           (λ c x bit matters o. absurd o) (λ o. absurd o)
           (λ k. record {
             hold = (k.hold, (let same = t.memory.1.cached (Mark e.cell) in let at = seen in omega arith), marked_free old e.cell word (rw seen (sound.words (Mark e.cell)).holder) (rw fits.processes st), (let is : nat_lt (2 ^ 58) (word / 32) ≡ false = worn in grind (arith, nat_tests)));
@@ -89,7 +89,7 @@ module _ (e : PlainWork) (word : ℕ) (old new : World) (sound : IsSound old) (r
       loses : word ≢ e.mark → SameMemory old.memory new.memory → Keeps e.process old new
       loses ne m = frame.loads e works.Claim (on e (works.Answer Missed)) old new sound real was
           (t.situation ∙ ap (λ (b : Bool). Working (if b then record e { mark = claim_of e.process e.mark; stage = works.FlushClaim } else on e (works.Answer Missed))) (ne_eqb word e.mark ne))
-          (turn_of _ t) (t.pending e.process) fits tt m
+          (turn_of _ t) (t.open_edits e.process) fits tt m
           (λ c x bit matters o. absurd o) (λ o. absurd o) (λ k. record { hold = k.hold.0; loaded = tt; own = tt; evaluated = tt }) (λ h. h)
 
       wins : word ≡ e.mark → StoresAt (Mark e.cell) (claim_of e.process e.mark) old.memory new.memory → Keeps e.process old new
@@ -109,7 +109,7 @@ module _ (e : PlainWork) (word : ℕ) (old new : World) (sound : IsSound old) (r
           } in
           frame.stores e works.Claim (record e { mark = n; stage = works.FlushClaim }) old new sound real was
           (t.situation ∙ ap (λ (b : Bool). Working (if b then record e { mark = n; stage = works.FlushClaim } else on e (works.Answer Missed))) (eq_true e.mark is))
-          (turn_of _ t) (t.pending e.process) fits tt (Mark e.cell) n (λ x. cc) moved m
+          (turn_of _ t) (t.open_edits e.process) fits tt (Mark e.cell) n (λ x. cc) moved m
           (λ moves. claim_mine e.process e e n old new was by m moves)
           (λ moves mine. mark_marks e.process e.cell n old new m moves (λ clean. clean_free n e.process clean by)
           (λ r c x bit matters held o. mine.owes r c x bit matters held o) (λ l c x matters o. mine.excuses l c x matters o))
@@ -124,7 +124,7 @@ module _ (e : PlainWork) (word : ℕ) (old new : World) (sound : IsSound old) (r
             hold = record {
               even = even;
               by = by;
-              cached = ap turn m.there;
+              cached = ap tenure m.there;
               alone = λ r h. elim (cases_eq r e.cell) [
                 | inl eq ↦ eq
                 | inr ne ↦ absurd (fits.knows.hold.0 r (subst (λ (y : ℕ). IsHeldBy e.process y) (m.elsewhere (Mark r) (λ x. ne cc)) h))
@@ -141,7 +141,7 @@ module _ (e : PlainWork) (word : ℕ) (old new : World) (sound : IsSound old) (r
   alone r none m = m.mine ∙ ap (λ (xs : List (Entry Place)). xs ++ entry r (old.memory.cached r) ∷ []) none
 
   pub flush_claim : WorkFits old e.process (on e works.FlushClaim) → old.situation e.process ≡ Working (on e works.FlushClaim) → StepsAt e works.FlushClaim word old new → Keeps e.process old new
-  flush_claim fits was t = frame.flushes e works.FlushClaim (on e works.BackClaim) old new sound real was t.situation (turn_of _ t) (t.pending e.process) fits tt (Mark e.cell) t.memory.1
+  flush_claim fits was t = frame.flushes e works.FlushClaim (on e works.BackClaim) old new sound real was t.situation (turn_of _ t) (t.open_edits e.process) fits tt (Mark e.cell) t.memory.1
       (λ c x bit matters o. absurd o) (λ o. absurd o) (λ k. record { hold = k.hold; loaded = tt; own = tt; evaluated = tt })
       (λ g. record {
         value = old.memory.cached (Mark e.cell);
@@ -169,11 +169,11 @@ module _ (e : PlainWork) (word : ℕ) (old new : World) (sound : IsSound old) (r
       let claims = b.claims in
       let cached = fits.knows.hold.cached in
       let by = fits.knows.hold.by in
-      let mark_turn : turn (new.memory.persisted (Mark e.cell)) ≡ turn e.mark = omega (arith, there, least.1, most, claims, cached) in
+      let mark_turn : tenure (new.memory.persisted (Mark e.cell)) ≡ tenure e.mark = omega (arith, there, least.1, most, claims, cached) in
       let of : IsMark old.layout e.cell b.value = (λ q h. let k = old_fits.holder q (omega (arith, h, claims, cached)) in let top = k.2 in (k.0, k.1, omega (arith, top, claims, cached))) in
-      frame.backs e works.BackClaim (on e works.LoadHead) old new sound real was t.situation (turn_of _ t) (t.pending e.process) fits tt (Mark e.cell) b.value [] m (had, of)
+      frame.backs e works.BackClaim (on e works.LoadHead) old new sound real was t.situation (turn_of _ t) (t.open_edits e.process) fits tt (Mark e.cell) b.value [] m (had, of)
       (λ o. absurd o)
-      (λ moves. frame.quiet_mine e works.BackClaim (on e works.LoadHead) old new sound real was t.situation (turn_of _ t) (t.pending e.process) fits tt (Mark e.cell) moves
+      (λ moves. frame.quiet_mine e works.BackClaim (on e works.LoadHead) old new sound real was t.situation (turn_of _ t) (t.open_edits e.process) fits tt (Mark e.cell) moves
       (λ c at. elim at [ inl x ↦ cc | inr x ↦ cc ]) (λ c at. cc) (λ h. held mark_turn) (λ c x bit matters o. absurd o))
       (λ cell at. let same : cell ≡ e.cell = cc in rw same (omega (arith, there, least.0), omega (arith, there, most)))
       (λ h. held mark_turn) (λ o. absurd o)
@@ -184,7 +184,7 @@ module _ (e : PlainWork) (word : ℕ) (old new : World) (sound : IsSound old) (r
         evaluated = tt;
       }) m.mine
     where
-      held : turn (new.memory.persisted (Mark e.cell)) ≡ turn e.mark → IsHeld new.memory e.process e.cell
+      held : tenure (new.memory.persisted (Mark e.cell)) ≡ tenure e.mark → IsHeld new.memory e.process e.cell
       held at =
           let b : BuffersClaim old e.process e.cell e.mark = fits.buffer in
           let m : WritesBack e.process (entry (Mark e.cell) b.value) [] old.memory new.memory = back_first (entry (Mark e.cell) b.value) [] b.alone t.memory.1 in

@@ -36,7 +36,7 @@ use Rattle.ds_work.proofs.WorkFrame as frame
 
 -- a held cell is let go, dirty
 module _ (e : PlainWork) (s : WorkStage) (end : WorkEnd) (old new : World) (sound : IsSound old) (real : e.process < old.layout.processes)
-    (was : old.situation e.process ≡ Working (on e s)) (is : new.situation e.process ≡ Working (on e (works.FlushCleared end))) (tn : Turn e.process old new) (pending : new.pending e.process ≡ old.pending e.process)
+    (was : old.situation e.process ≡ Working (on e s)) (is : new.situation e.process ≡ Working (on e (works.FlushCleared end))) (tn : Turn e.process old new) (pending : new.open_edits e.process ≡ old.open_edits e.process)
     (fits : WorkFits old e.process (on e s)) (held : ClaimsBoth old e.process e.cell e.mark) (empty : old.memory.buffer e.process ≡ [])
     (owes : (c x : ℕ) → WorkOwes old.memory e.process e.row s c x → ⊥) (parts : WorkParts s → ⊥)
     (store : StoresAt (Mark e.cell) (let_go e.mark + 1) old.memory new.memory) where
@@ -91,7 +91,7 @@ module _ (e : PlainWork) (s : WorkStage) (end : WorkEnd) (old new : World) (soun
 
 module _ (e : PlainWork) (word : ℕ) (old new : World) (sound : IsSound old) (real : e.process < old.layout.processes) where
   turn_of : (s : WorkStage) → StepsAt e s word old new → Turn e.process old new
-  turn_of s t = record { layout = t.layout; counted = t.counted; situations = t.others; pendings = λ q ne. t.pending q }
+  turn_of s t = record { layout = t.layout; counted = t.counted; situations = t.others; pendings = λ q ne. t.open_edits q }
 
   eq_true : (n : ℕ) → word ≡ n → (word == n) ≡ true
   eq_true n is = grind (arith, nat_tests)
@@ -116,17 +116,17 @@ module _ (e : PlainWork) (word : ℕ) (old new : World) (sound : IsSound old) (r
   clear changed fits was t = elim t.memory.1 [
     | inl won ↦ clear_keeps e.process e changed old new sound (turn_of _ t) fits was
         (t.situation ∙ ap (λ (b : Bool). Working (if b then on e (works.FlushCleared (Published changed)) else on e works.ClearDirty)) (eq_true e.mark won.0))
-        (t.pending e.process) (sym t.memory.0 ∙ won.0) won.1
+        (t.open_edits e.process) (sym t.memory.0 ∙ won.0) won.1
     | inr lost ↦ frame.loads e (works.Clear changed) (on e works.ClearDirty) old new sound real was
         (t.situation ∙ ap (λ (b : Bool). Working (if b then on e (works.FlushCleared (Published changed)) else on e works.ClearDirty)) (ne_eqb word e.mark lost.0))
-        (turn_of _ t) (t.pending e.process) fits tt lost.1
+        (turn_of _ t) (t.open_edits e.process) fits tt lost.1
         (λ c x bit matters o. absurd o) (λ o. absurd o)
         (λ k. record { hold = (k.hold, outran k.hold (λ at. lost.0 (t.memory.0 ∙ sym (lost.1.cached (Mark e.cell)) ∙ at))); loaded = tt; own = tt; evaluated = tt }) (λ h. h)
   ]
 
   pub clear_dirty : WorkFits old e.process (on e works.ClearDirty) → old.situation e.process ≡ Working (on e works.ClearDirty) → StepsAt e works.ClearDirty word old new → Keeps e.process old new
   clear_dirty fits was t = elim t.memory.1 [
-    | inl won ↦ release e works.ClearDirty Again old new sound real was t.situation (turn_of _ t) (t.pending e.process) fits fits.knows.hold.0 fits.buffer (λ c x o. o) (λ o. o) won.1
+    | inl won ↦ release e works.ClearDirty Again old new sound real was t.situation (turn_of _ t) (t.open_edits e.process) fits fits.knows.hold.0 fits.buffer (λ c x o. o) (λ o. o) won.1
     | inr lost ↦ absurd (lost.0 (t.memory.0 ∙ fits.knows.hold.1))
   ]
 
@@ -134,17 +134,17 @@ module _ (e : PlainWork) (word : ℕ) (old new : World) (sound : IsSound old) (r
   give fits was t = elim t.memory.1 [
     | inl won ↦ release e works.Give NoMemory old new sound real was
         (t.situation ∙ ap (λ (b : Bool). Working (if b then on e (works.FlushCleared NoMemory) else on e works.GiveDirty)) (eq_true e.mark won.0))
-        (turn_of _ t) (t.pending e.process) fits fits.knows.hold fits.buffer (λ c x o. o) (λ o. o) won.1
+        (turn_of _ t) (t.open_edits e.process) fits fits.knows.hold fits.buffer (λ c x o. o) (λ o. o) won.1
     | inr lost ↦ frame.loads e works.Give (on e works.GiveDirty) old new sound real was
         (t.situation ∙ ap (λ (b : Bool). Working (if b then on e (works.FlushCleared NoMemory) else on e works.GiveDirty)) (ne_eqb word e.mark lost.0))
-        (turn_of _ t) (t.pending e.process) fits tt lost.1
+        (turn_of _ t) (t.open_edits e.process) fits tt lost.1
         (λ c x bit matters o. absurd o) (λ o. absurd o)
         (λ k. record { hold = (k.hold, outran k.hold (λ at. lost.0 (t.memory.0 ∙ sym (lost.1.cached (Mark e.cell)) ∙ at))); loaded = tt; own = tt; evaluated = tt }) (λ h. h)
   ]
 
   pub give_dirty : WorkFits old e.process (on e works.GiveDirty) → old.situation e.process ≡ Working (on e works.GiveDirty) → StepsAt e works.GiveDirty word old new → Keeps e.process old new
   give_dirty fits was t = elim t.memory.1 [
-    | inl won ↦ release e works.GiveDirty NoMemory old new sound real was t.situation (turn_of _ t) (t.pending e.process) fits fits.knows.hold.0 fits.buffer (λ c x o. o) (λ o. o) won.1
+    | inl won ↦ release e works.GiveDirty NoMemory old new sound real was t.situation (turn_of _ t) (t.open_edits e.process) fits fits.knows.hold.0 fits.buffer (λ c x o. o) (λ o. o) won.1
     | inr lost ↦ absurd (lost.0 (t.memory.0 ∙ fits.knows.hold.1))
   ]
 
@@ -153,7 +153,7 @@ module _ (e : PlainWork) (word : ℕ) (old new : World) (sound : IsSound old) (r
   pub flush_cleared : (end : WorkEnd) → WorkFits old e.process (on e (works.FlushCleared end)) → old.situation e.process ≡ Working (on e (works.FlushCleared end)) → StepsAt e (works.FlushCleared end) word old new → Keeps e.process old new
   flush_cleared end fits was t =
       let m : FlushesAt e.process (Mark e.cell) (class_of (Mark e.cell)) old.memory new.memory = t.memory.1 in
-      frame.flushes e (works.FlushCleared end) (on e (works.BackCleared end)) old new sound real was t.situation (turn_of _ t) (t.pending e.process) fits tt (Mark e.cell) m
+      frame.flushes e (works.FlushCleared end) (on e (works.BackCleared end)) old new sound real was t.situation (turn_of _ t) (t.open_edits e.process) fits tt (Mark e.cell) m
       (λ c x bit matters o. absurd o) (λ o. absurd o) (λ k. record { hold = k.hold; loaded = tt; own = tt; evaluated = tt })
       (λ g. record {
         value = old.memory.cached (Mark e.cell);
@@ -175,9 +175,9 @@ module _ (e : PlainWork) (word : ℕ) (old new : World) (sound : IsSound old) (r
       let there : new.memory.persisted (Mark e.cell) ≡ max (old.memory.persisted (Mark e.cell)) b.value = m.there in
       let least = max_both (old.memory.persisted (Mark e.cell)) b.value in
       let most = max_most (old.memory.persisted (Mark e.cell)) b.value (old.memory.cached (Mark e.cell)) (sound.words (Mark e.cell)).behind b.had in
-      frame.backs e (works.BackCleared end) (on e (works.Answer end)) old new sound real was t.situation (turn_of _ t) (t.pending e.process) fits tt (Mark e.cell) b.value [] m (b.had, b.is)
+      frame.backs e (works.BackCleared end) (on e (works.Answer end)) old new sound real was t.situation (turn_of _ t) (t.open_edits e.process) fits tt (Mark e.cell) b.value [] m (b.had, b.is)
       (λ o. absurd o)
-      (λ moves. frame.quiet_mine e (works.BackCleared end) (on e (works.Answer end)) old new sound real was t.situation (turn_of _ t) (t.pending e.process) fits tt (Mark e.cell) moves
+      (λ moves. frame.quiet_mine e (works.BackCleared end) (on e (works.Answer end)) old new sound real was t.situation (turn_of _ t) (t.open_edits e.process) fits tt (Mark e.cell) moves
       (λ c at. elim at [ inl x ↦ cc | inr x ↦ cc ]) (λ c at. cc) (λ h. absurd (fits.knows.hold e.cell h.by)) (λ c x bit matters o. absurd o))
       (λ cell at. let same : cell ≡ e.cell = cc in rw same (omega (arith, there, least.0), omega (arith, there, most)))
       (λ h. absurd (fits.knows.hold e.cell h.by)) (λ o. absurd o)
@@ -195,12 +195,12 @@ module _ (e : PlainWork) (word : ℕ) (old new : World) (sound : IsSound old) (r
       let splits : (c head : ℕ) → Splits old e.process (old.situation e.process) c head → ⊥ = (λ c head o. subst (λ (s : Situation). Splits old e.process s c head) was o) in
       let f : Framed old new = silent_framed e.process old new moves tn.counted sound (buffered old sound) owes excuses parts splits m.buffer in
       let g : Grows e.process Version old new = grows_own e.process Version old new moves tn.counted in
-      let rest : IsAtRest new e.process e.next = rest_stable Version old new (on e (works.Answer end)) g f.bears (λ x. cc) (t.pending e.process) fits.rest in
+      let rest : IsAtRest new e.process e.next = rest_stable Version old new (on e (works.Answer end)) g f.bears (λ x. cc) (t.open_edits e.process) fits.rest in
       quiet_sound e.process old new tn sound moves f.bears f.stand f.apart (silent_keeps e.process old new moves tn.counted sound (buffered old sound) owes excuses parts splits m.buffer)
       (λ l. subst (λ (s : Situation). CallFits new e.process s) (sym t.situation) (record {
         number = rest.number;
         holds_none = λ r by. fits.knows.hold r (subst (λ (x : ℕ). IsHeldBy e.process x) (m.cached (Mark r)) by);
-        pending = rest.pending;
+        open_edits = rest.open_edits;
         buffer = m.buffer e.process ∙ fits.buffer;
         below = rest.below;
         cached = rest.cached;

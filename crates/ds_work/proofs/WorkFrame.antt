@@ -43,7 +43,7 @@ Agrees w c = (w.memory.persisted (Value c) ≡ w.memory.cached (Value c)) × (w.
 
 module _ (e : PlainWork) (s : WorkStage) (f : PlainWork) (old new : World) (sound : IsSound old) (real : e.process < old.layout.processes)
     (was : old.situation e.process ≡ Working (on e s)) (is : new.situation e.process ≡ Working (kin e f))
-    (tn : Turn e.process old new) (pending : new.pending e.process ≡ old.pending e.process) (fits : WorkFits old e.process (on e s)) (fit_at : StageFits (kin e f) f.stage) where
+    (tn : Turn e.process old new) (pending : new.open_edits e.process ≡ old.open_edits e.process) (fits : WorkFits old e.process (on e s)) (fit_at : StageFits (kin e f) f.stage) where
   -- what is owed is owed after
   abbrev pub Passes : Type 0
   Passes = (c x : ℕ) → IsIndexed old e.cell c → Matters new c x → WorkOwes old.memory e.process e.row s c x → WorkOwes new.memory e.process f.row f.stage c x

@@ -67,7 +67,7 @@ joined text part word h is within =
 
 module _ (e : PlainWork) (word : ℕ) (old new : World) (sound : IsSound old) (real : e.process < old.layout.processes) where
   turn_of : (s : WorkStage) → StepsAt e s word old new → Turn e.process old new
-  turn_of s t = record { layout = t.layout; counted = t.counted; situations = t.others; pendings = λ q ne. t.pending q }
+  turn_of s t = record { layout = t.layout; counted = t.counted; situations = t.others; pendings = λ q ne. t.open_edits q }
 
   -- ---- the head
 
@@ -77,7 +77,7 @@ module _ (e : PlainWork) (word : ℕ) (old new : World) (sound : IsSound old) (r
         let zero' : word ≡ 0 = seen ∙ ap head_after_all empty ∙ nothing_head in
         let none : head_of e.processes word ≡ None = ap (λ (n : ℕ). head_of e.processes n) zero' in
         frame.loads e works.LoadHead (record e { head = word; length = 0; text = []; stage = works.Read }) old new sound real was
-        (t.situation ∙ ap (λ (o : Option heads.Head). Working (head_from e word o)) none) (turn_of _ t) (t.pending e.process) fits tt t.memory.1
+        (t.situation ∙ ap (λ (o : Option heads.Head). Working (head_from e word o)) none) (turn_of _ t) (t.open_edits e.process) fits tt t.memory.1
         (λ c x bit matters o. absurd o) (λ o. absurd o)
         (λ k. record { hold = k.hold; loaded = (λ at. inl here, inl (zero', refl)); own = tt; evaluated = tt }) (λ h. h))
     | inr b ↦ (
@@ -86,7 +86,7 @@ module _ (e : PlainWork) (word : ℕ) (old new : World) (sound : IsSound old) (r
         let by : IsHeadBy (of_cell e.cell old.counted) word b.1 =
         subst (λ (n : ℕ). IsHeadBy (of_cell e.cell old.counted) n b.1) (sym seen) (subst (λ (es : List Edit). IsHeadBy es (head_after_all es) b.1) (sym b.2) (by_last b.0 b.1)) in
         frame.loads e works.LoadHead (record e { head = word; length = 0; text = []; stage = works.LoadHeader }) old new sound real was
-        (t.situation ∙ ap (λ (o : Option heads.Head). Working (head_from e word o)) some) (turn_of _ t) (t.pending e.process) fits tt t.memory.1
+        (t.situation ∙ ap (λ (o : Option heads.Head). Working (head_from e word o)) some) (turn_of _ t) (t.open_edits e.process) fits tt t.memory.1
         (λ c x bit matters o. absurd o) (λ o. absurd o)
         (λ k. record { hold = k.hold; loaded = (λ at. inl here, (b.1, rw t.counted by)); own = tt; evaluated = tt }) (λ h. h))
   ]
@@ -131,7 +131,7 @@ module _ (e : PlainWork) (word : ℕ) (old new : World) (sound : IsSound old) (r
             let more = ltb-true 0 ((length by.text + 7) / 8) some in
             frame.loads e works.LoadHeader (record e { length = length by.text; text = []; stage = works.LoadText 0 }) old new sound real was
             (is ∙ ap (λ (b : Bool). Working (if b then record e { length = length by.text; text = []; stage = works.LoadText 0 } else record e { length = length by.text; text = []; stage = works.Read })) some)
-            (turn_of _ t) (t.pending e.process) fits (omega arith) t.memory.1
+            (turn_of _ t) (t.open_edits e.process) fits (omega arith) t.memory.1
             (λ c x bit matters o. absurd o) (λ o. absurd o)
             (λ k. record { hold = k.hold; loaded = (k.loaded.0, record { by = by; gave = rw t.counted gave; size = refl; start = refl }); own = tt; evaluated = tt }) (λ h. h)
         by_length by gave is false none =
@@ -139,7 +139,7 @@ module _ (e : PlainWork) (word : ℕ) (old new : World) (sound : IsSound old) (r
             let empty : length by.text ≡ 0 = omega arith in
             frame.loads e works.LoadHeader (record e { length = length by.text; text = []; stage = works.Read }) old new sound real was
             (is ∙ ap (λ (b : Bool). Working (if b then record e { length = length by.text; text = []; stage = works.LoadText 0 } else record e { length = length by.text; text = []; stage = works.Read })) none)
-            (turn_of _ t) (t.pending e.process) fits tt t.memory.1
+            (turn_of _ t) (t.open_edits e.process) fits tt t.memory.1
             (λ c x bit matters o. absurd o) (λ o. absurd o)
             (λ k. record { hold = k.hold; loaded = (k.loaded.0, inr (record { by = by; gave = rw t.counted gave; text = sym (nothing by.text empty) })); own = tt; evaluated = tt }) (λ h. h)
           where
@@ -175,21 +175,21 @@ module _ (e : PlainWork) (word : ℕ) (old new : World) (sound : IsSound old) (r
             let more = ltb-true (part + 1) ((e.length + 7) / 8) some in
             frame.loads e (works.LoadText part) (record e { text = take e.length (e.text ++ bytes_of word); stage = works.LoadText (part + 1) }) old new sound real was
             (t.situation ∙ ap (λ (b : Bool). Working (if b then record e { text = take e.length (e.text ++ bytes_of word); stage = works.LoadText (part + 1) } else record e { text = take e.length (e.text ++ bytes_of word); stage = works.Read })) some)
-            (turn_of _ t) (t.pending e.process) fits (omega arith) t.memory.1
+            (turn_of _ t) (t.open_edits e.process) fits (omega arith) t.memory.1
             (λ c x bit matters o. absurd o) (λ o. absurd o)
             (λ k. record { hold = k.hold; loaded = (k.loaded.0, record { by = by; gave = rw t.counted gave; size = size; start = text }); own = tt; evaluated = tt }) (λ h. h)
         by_length by gave size text false none =
             let few = ltb-false (part + 1) ((e.length + 7) / 8) none in
             frame.loads e (works.LoadText part) (record e { text = take e.length (e.text ++ bytes_of word); stage = works.Read }) old new sound real was
             (t.situation ∙ ap (λ (b : Bool). Working (if b then record e { text = take e.length (e.text ++ bytes_of word); stage = works.LoadText (part + 1) } else record e { text = take e.length (e.text ++ bytes_of word); stage = works.Read })) none)
-            (turn_of _ t) (t.pending e.process) fits tt t.memory.1
+            (turn_of _ t) (t.open_edits e.process) fits tt t.memory.1
             (λ c x bit matters o. absurd o) (λ o. absurd o)
             (λ k. record { hold = k.hold; loaded = (k.loaded.0, inr (record { by = by; gave = rw t.counted gave; text = text ∙ take_all (8 * (part + 1)) by.text (omega arith) })); own = tt; evaluated = tt }) (λ h. h)
 
   -- ---- what the references show
 
   pub load_value : (i : ℕ) → WorkFits old e.process (on e (works.LoadValue i)) → old.situation e.process ≡ Working (on e (works.LoadValue i)) → StepsAt e (works.LoadValue i) word old new → Keeps e.process old new
-  load_value i fits was t = frame.loads e (works.LoadValue i) (on e (works.LoadKind i word)) old new sound real was t.situation (turn_of _ t) (t.pending e.process) fits fits.at t.memory.1
+  load_value i fits was t = frame.loads e (works.LoadValue i) (on e (works.LoadKind i word)) old new sound real was t.situation (turn_of _ t) (t.open_edits e.process) fits fits.at t.memory.1
       (λ c x bit matters o. absurd o) (λ o. absurd o)
       (λ k. record {
         hold = k.hold;
@@ -259,7 +259,7 @@ module _ (e : PlainWork) (word : ℕ) (old new : World) (sound : IsSound old) (r
     go : (b : Bool) → nat_lt (i + 1) (length more) ≡ b → Keeps e.process old new
     go true some = frame.loads e (works.LoadKind i value) (record e { inputs = more; stage = works.LoadValue (i + 1) }) old new sound real was
         (t.situation ∙ ap (λ (b : Bool). Working (if b then record e { inputs = more; stage = works.LoadValue (i + 1) } else record e { inputs = more; stage = works.LoadOwnValue })) some)
-        (turn_of _ t) (t.pending e.process) fits (ltb-true (i + 1) (length more) some) t.memory.1
+        (turn_of _ t) (t.open_edits e.process) fits (ltb-true (i + 1) (length more) some) t.memory.1
         (λ c x bit matters o. absurd o) (λ o. absurd o)
         (λ k. record { hold = k.hold; loaded = gathers k.loaded.0 k.loaded.1; own = tt; evaluated = tt }) (λ h. h)
     go false none =
@@ -267,7 +267,7 @@ module _ (e : PlainWork) (word : ℕ) (old new : World) (sound : IsSound old) (r
         let all : i + 1 ≡ length more = (let l = fits.at in let s = size in omega arith) in
         frame.loads e (works.LoadKind i value) (record e { inputs = more; stage = works.LoadOwnValue }) old new sound real was
         (t.situation ∙ ap (λ (b : Bool). Working (if b then record e { inputs = more; stage = works.LoadValue (i + 1) } else record e { inputs = more; stage = works.LoadOwnValue })) none)
-        (turn_of _ t) (t.pending e.process) fits tt t.memory.1
+        (turn_of _ t) (t.open_edits e.process) fits tt t.memory.1
         (λ c x bit matters o. absurd o) (λ o. absurd o)
         (λ k. record { hold = k.hold; loaded = subst (λ (n : ℕ). Gathers new e.cell e.mark e.head e.content more n) all (gathers k.loaded.0 k.loaded.1); own = tt; evaluated = tt }) (λ h. h)
 

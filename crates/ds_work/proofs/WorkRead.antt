@@ -27,14 +27,14 @@ use Rattle.ds_work.proofs.WorkFrame as frame
 
 module _ (e : PlainWork) (old new : World) (sound : IsSound old) (real : e.process < old.layout.processes) where
   turns : (f : PlainWork) → Turns e f old new → Turn e.process old new
-  turns f t = record { layout = t.layout; counted = t.counted; situations = t.others; pendings = λ q ne. t.pending q }
+  turns f t = record { layout = t.layout; counted = t.counted; situations = t.others; pendings = λ q ne. t.open_edits q }
 
   pub lacks_keeps : WorkFits old e.process (on e works.Read) → old.situation e.process ≡ Working (on e works.Read) → LacksAt e old new → Keeps e.process old new
-  lacks_keeps fits was t = frame.loads e works.Read (on e works.Give) old new sound real was t.situation (turns _ t) (t.pending e.process) fits tt t.memory
+  lacks_keeps fits was t = frame.loads e works.Read (on e works.Give) old new sound real was t.situation (turns _ t) (t.open_edits e.process) fits tt t.memory
       (λ c x bit matters o. absurd o) (λ o. absurd o) (λ k. record { hold = k.hold; loaded = tt; own = tt; evaluated = tt }) (λ h. h)
 
   pub offers_keep : (entry : entries.Entry) → WorkFits old e.process (on e works.Wait) → old.situation e.process ≡ Working (on e works.Wait) → OffersAt e entry old new → Keeps e.process old new
-  offers_keep entry fits was t = offer_keeps e entry old new sound real was t.turn.situation (turns _ t.turn) (t.turn.pending e.process) fits t.turn.memory t.is
+  offers_keep entry fits was t = offer_keeps e entry old new sound real was t.turn.situation (turns _ t.turn) (t.turn.open_edits e.process) fits t.turn.memory t.is
 
   module _ (content : Plain) (inputs : List Input) (fits : WorkFits old e.process (on e works.Read)) (was : old.situation e.process ≡ Working (on e works.Read)) (t : ReadsAt e content inputs old new) where
     abbrev shape_is : new.layout ≡ old.layout
@@ -64,7 +64,7 @@ module _ (e : PlainWork) (old new : World) (sound : IsSound old) (real : e.proce
         go : (b : Bool) → nat_lt 0 (length inputs) ≡ b → Keeps e.process old new
         go true some = frame.loads e works.Read (record e { content = content; inputs = inputs; stage = works.LoadValue 0 }) old new sound real was
             (t.turn.situation ∙ ap (λ (b : Bool). Working (if b then record e { content = content; inputs = inputs; stage = works.LoadValue 0 } else record e { content = content; inputs = inputs; stage = works.LoadOwnValue })) some)
-            (turns _ t.turn) (t.turn.pending e.process) fits (ltb-true 0 (length inputs) some) t.turn.memory
+            (turns _ t.turn) (t.turn.open_edits e.process) fits (ltb-true 0 (length inputs) some) t.turn.memory
             (λ c x bit matters o. absurd o) (λ o. absurd o)
             (λ k. record {
               hold = k.hold;
@@ -81,7 +81,7 @@ module _ (e : PlainWork) (old new : World) (sound : IsSound old) (real : e.proce
             }) (λ h. h)
         go false none = frame.loads e works.Read (record e { content = content; inputs = inputs; stage = works.LoadOwnValue }) old new sound real was
             (t.turn.situation ∙ ap (λ (b : Bool). Working (if b then record e { content = content; inputs = inputs; stage = works.LoadValue 0 } else record e { content = content; inputs = inputs; stage = works.LoadOwnValue })) none)
-            (turns _ t.turn) (t.turn.pending e.process) fits tt t.turn.memory
+            (turns _ t.turn) (t.turn.open_edits e.process) fits tt t.turn.memory
             (λ c x bit matters o. absurd o) (λ o. absurd o)
             (λ k. record {
               hold = k.hold;

@@ -204,7 +204,7 @@ pub record StepsAt (e : PlainWork) (stage : WorkStage) (word : ℕ) (old new : W
   pub situation : new.situation e.process ≡ after e stage word
   pub others : (q : ℕ) → q ≢ e.process → new.situation q ≡ old.situation q
   pub counted : new.counted ≡ old.counted
-  pub pending : (q : ℕ) → new.pending q ≡ old.pending q
+  pub open_edits : (q : ℕ) → new.open_edits q ≡ old.open_edits q
 
 -- a turn of the process that touches no word: its work comes to be `f`
 pub record Turns (e f : PlainWork) (old new : World) : Type 0 where
@@ -213,7 +213,7 @@ pub record Turns (e f : PlainWork) (old new : World) : Type 0 where
   pub situation : new.situation e.process ≡ Working f
   pub others : (q : ℕ) → q ≢ e.process → new.situation q ≡ old.situation q
   pub counted : new.counted ≡ old.counted
-  pub pending : (q : ℕ) → new.pending q ≡ old.pending q
+  pub open_edits : (q : ℕ) → new.open_edits q ≡ old.open_edits q
 
 -- work begins on a cell; its process was idle
 pub record BeginsWork (next : ℕ) (e : PlainWork) (old new : World) : Type 0 where

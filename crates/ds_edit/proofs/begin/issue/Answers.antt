@@ -8,7 +8,7 @@ use Rattle.ds_edit.proofs.begin.issue.Goals as goal
 
 pub invariant_of-world : goal.invariant_of-world
 invariant_of-world c =
-    let v : WorldValue = record { sheet = c.world.inside.words; situations = c.world.inside.situations.items; counted = c.world.inside.counted.items; pending = c.world.inside.pending.items; done = c.world.inside.done; settled = c.world.inside.settled; reports = c.world.inside.reports } in
+    let v : WorldValue = record { sheet = c.world.inside.words; situations = c.world.inside.situations.items; counted = c.world.inside.counted.items; open_edits = c.world.inside.open_edits.items; done = c.world.inside.done; settled = c.world.inside.settled; reports = c.world.inside.reports } in
     let e : PlainEdit = c.args.call in
     let process : c.call.inside.process ≡ e.process = ap (λ (x : PlainEdit). x.process) c.call.view_is in
     let long : vec_len c.world.inside.counted ≡ length v.counted = omega (arith, c.world.inside.counted.ok.0) in

@@ -13,21 +13,21 @@ use Rattle.ds_show.proofs.step.step.Goals as goal
 
 pub perform-word-requires : goal.perform-word-requires
 perform-word-requires c =
-    let v : WorldValue = record { sheet = c.world.inside.words; situations = c.world.inside.situations.items; counted = c.world.inside.counted.items; pending = c.world.inside.pending.items; done = c.world.inside.done; settled = c.world.inside.settled; reports = c.world.inside.reports } in
+    let v : WorldValue = record { sheet = c.world.inside.words; situations = c.world.inside.situations.items; counted = c.world.inside.counted.items; open_edits = c.world.inside.open_edits.items; done = c.world.inside.done; settled = c.world.inside.settled; reports = c.world.inside.reports } in
     let e : PlainShow = c.in-Some.call.now in
     let at : IsShowing v c.args.process e = showing_from v c.args.process e c.index.result.now (omega arith) c.index.ensures c.in-Some.ensures.some in
     rw c.want-access.ensures (perform_at v c.world.invariant.good c.args.process e at)
 
 pub settled_after-world-inside-requires : goal.settled_after-world-inside-requires
 settled_after-world-inside-requires c =
-    let v : WorldValue = record { sheet = c.world.inside.words; situations = c.world.inside.situations.items; counted = c.world.inside.counted.items; pending = c.world.inside.pending.items; done = c.world.inside.done; settled = c.world.inside.settled; reports = c.world.inside.reports } in
+    let v : WorldValue = record { sheet = c.world.inside.words; situations = c.world.inside.situations.items; counted = c.world.inside.counted.items; open_edits = c.world.inside.open_edits.items; done = c.world.inside.done; settled = c.world.inside.settled; reports = c.world.inside.reports } in
     let e : PlainShow = c.in-Some.call.now in
     let at : IsShowing v c.args.process e = showing_from v c.args.process e c.index.result.now (omega arith) c.index.ensures c.in-Some.ensures.some in
     can_count v c.world.invariant.good c.args.process e at
 
 pub invariant_of-world : goal.invariant_of-world
 invariant_of-world c =
-    let v : WorldValue = record { sheet = c.world.inside.words; situations = c.world.inside.situations.items; counted = c.world.inside.counted.items; pending = c.world.inside.pending.items; done = c.world.inside.done; settled = c.world.inside.settled; reports = c.world.inside.reports } in
+    let v : WorldValue = record { sheet = c.world.inside.words; situations = c.world.inside.situations.items; counted = c.world.inside.counted.items; open_edits = c.world.inside.open_edits.items; done = c.world.inside.done; settled = c.world.inside.settled; reports = c.world.inside.reports } in
     let p : ℕ = c.args.process in
     let e : PlainShow = c.in-Some.call.now in
     let word : ℕ = c.perform-word.result in
@@ -40,7 +40,7 @@ invariant_of-world c =
 
 pub returns : goal.returns
 returns c =
-    let v : WorldValue = record { sheet = c.world.inside.words; situations = c.world.inside.situations.items; counted = c.world.inside.counted.items; pending = c.world.inside.pending.items; done = c.world.inside.done; settled = c.world.inside.settled; reports = c.world.inside.reports } in
+    let v : WorldValue = record { sheet = c.world.inside.words; situations = c.world.inside.situations.items; counted = c.world.inside.counted.items; open_edits = c.world.inside.open_edits.items; done = c.world.inside.done; settled = c.world.inside.settled; reports = c.world.inside.reports } in
     let p : ℕ = c.args.process in
     let e : PlainShow = c.in-Some.call.now in
     let word : ℕ = c.perform-word.result in

@@ -9,7 +9,7 @@ use Rattle.ds_work.proofs.begin.start.Goals as goal
 
 pub invariant_of-world : goal.invariant_of-world
 invariant_of-world c =
-    let v : WorldValue = record { sheet = c.world.inside.words; situations = c.world.inside.situations.items; counted = c.world.inside.counted.items; pending = c.world.inside.pending.items; done = c.world.inside.done; settled = c.world.inside.settled; reports = c.world.inside.reports } in
+    let v : WorldValue = record { sheet = c.world.inside.words; situations = c.world.inside.situations.items; counted = c.world.inside.counted.items; open_edits = c.world.inside.open_edits.items; done = c.world.inside.done; settled = c.world.inside.settled; reports = c.world.inside.reports } in
     let e : PlainWork = c.args.call in
     let process : c.call.inside.process ≡ e.process = ap (λ (x : PlainWork). x.process) c.call.view_is in
     let asked : IsAskedFor v.sheet.layout e.process c.args.next (index_of v.sheet.layout.shape c.args.cell) e = subst (λ (x : WorldValue). IsAskedFor x.sheet.layout e.process c.args.next (index_of x.sheet.layout.shape c.args.cell) e) (sym c.world.view_is) c.requires.asked in

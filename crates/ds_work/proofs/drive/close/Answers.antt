@@ -12,7 +12,7 @@ use Rattle.ds_work.proofs.drive.close.Goals as goal
 
 pub invariant_of-world : goal.invariant_of-world
 invariant_of-world c =
-    let v : WorldValue = record { sheet = c.world.inside.words; situations = c.world.inside.situations.items; counted = c.world.inside.counted.items; pending = c.world.inside.pending.items; done = c.world.inside.done; settled = c.world.inside.settled; reports = c.world.inside.reports } in
+    let v : WorldValue = record { sheet = c.world.inside.words; situations = c.world.inside.situations.items; counted = c.world.inside.counted.items; open_edits = c.world.inside.open_edits.items; done = c.world.inside.done; settled = c.world.inside.settled; reports = c.world.inside.reports } in
     let p : ℕ = c.args.process in
     let e : PlainWork = c.requires.0 in
     let is_in : IsIn (world_of v) p e = subst (λ (w : WorldValue). IsIn (world_of w) p e) (sym c.world.view_is) c.requires.1 in
@@ -27,7 +27,7 @@ invariant_of-world c =
 
 pub returns-clause-takes : goal.returns-clause-takes
 returns-clause-takes c =
-    let v : WorldValue = record { sheet = c.world.inside.words; situations = c.world.inside.situations.items; counted = c.world.inside.counted.items; pending = c.world.inside.pending.items; done = c.world.inside.done; settled = c.world.inside.settled; reports = c.world.inside.reports } in
+    let v : WorldValue = record { sheet = c.world.inside.words; situations = c.world.inside.situations.items; counted = c.world.inside.counted.items; open_edits = c.world.inside.open_edits.items; done = c.world.inside.done; settled = c.world.inside.settled; reports = c.world.inside.reports } in
     let p : ℕ = c.args.process in
     let e : PlainWork = c.requires.0 in
     let is_in : IsIn (world_of v) p e = subst (λ (w : WorldValue). IsIn (world_of w) p e) (sym c.world.view_is) c.requires.1 in

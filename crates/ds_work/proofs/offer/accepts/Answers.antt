@@ -13,7 +13,7 @@ use Rattle.ds_work.proofs.offer.accepts.Goals as goal
 
 pub invariant_of-world : goal.invariant_of-world
 invariant_of-world c =
-    let v : WorldValue = record { sheet = c.world.inside.words; situations = c.world.inside.situations.items; counted = c.world.inside.counted.items; pending = c.world.inside.pending.items; done = c.world.inside.done; settled = c.world.inside.settled; reports = c.world.inside.reports } in
+    let v : WorldValue = record { sheet = c.world.inside.words; situations = c.world.inside.situations.items; counted = c.world.inside.counted.items; open_edits = c.world.inside.open_edits.items; done = c.world.inside.done; settled = c.world.inside.settled; reports = c.world.inside.reports } in
     let task : PlainTask = c.args.evaluated.now.task in
     let p : ℕ = task.process in
     let for : WaitsFor (world_of v) task = subst (λ (w : WorldValue). WaitsFor (world_of w) task) (sym c.world.view_is) (subst (λ (t : PlainTask). WaitsFor (world_of c.args.world.now) t) c.task.ensures (c.if-not-waits_for.ensures.yes refl)) in
@@ -28,7 +28,7 @@ invariant_of-world c =
 
 pub returns-clause-offered : goal.returns-clause-offered
 returns-clause-offered c =
-    let v : WorldValue = record { sheet = c.world.inside.words; situations = c.world.inside.situations.items; counted = c.world.inside.counted.items; pending = c.world.inside.pending.items; done = c.world.inside.done; settled = c.world.inside.settled; reports = c.world.inside.reports } in
+    let v : WorldValue = record { sheet = c.world.inside.words; situations = c.world.inside.situations.items; counted = c.world.inside.counted.items; open_edits = c.world.inside.open_edits.items; done = c.world.inside.done; settled = c.world.inside.settled; reports = c.world.inside.reports } in
     let task : PlainTask = c.args.evaluated.now.task in
     let p : ℕ = task.process in
     let for : WaitsFor (world_of v) task = subst (λ (w : WorldValue). WaitsFor (world_of w) task) (sym c.world.view_is) (subst (λ (t : PlainTask). WaitsFor (world_of c.args.world.now) t) c.task.ensures (c.if-not-waits_for.ensures.yes refl)) in

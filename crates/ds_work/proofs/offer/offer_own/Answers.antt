@@ -12,7 +12,7 @@ use Rattle.ds_work.proofs.offer.offer_own.Goals as goal
 
 pub invariant_of-world : goal.invariant_of-world
 invariant_of-world c =
-    let v : WorldValue = record { sheet = c.world.inside.words; situations = c.world.inside.situations.items; counted = c.world.inside.counted.items; pending = c.world.inside.pending.items; done = c.world.inside.done; settled = c.world.inside.settled; reports = c.world.inside.reports } in
+    let v : WorldValue = record { sheet = c.world.inside.words; situations = c.world.inside.situations.items; counted = c.world.inside.counted.items; open_edits = c.world.inside.open_edits.items; done = c.world.inside.done; settled = c.world.inside.settled; reports = c.world.inside.reports } in
     let p : ℕ = c.args.process in
     let low : p < v.sheet.layout.processes = (let n = c.world.invariant.good.situations in let len = c.len.ensures in let lt = c.if-process-len.false in omega (arith, n, len, lt)) in
     let waits = c.in-Some.ensures.waits in
@@ -25,7 +25,7 @@ invariant_of-world c =
 
 pub returns-clause-offered : goal.returns-clause-offered
 returns-clause-offered c = λ yes.
-    let v : WorldValue = record { sheet = c.world.inside.words; situations = c.world.inside.situations.items; counted = c.world.inside.counted.items; pending = c.world.inside.pending.items; done = c.world.inside.done; settled = c.world.inside.settled; reports = c.world.inside.reports } in
+    let v : WorldValue = record { sheet = c.world.inside.words; situations = c.world.inside.situations.items; counted = c.world.inside.counted.items; open_edits = c.world.inside.open_edits.items; done = c.world.inside.done; settled = c.world.inside.settled; reports = c.world.inside.reports } in
     let p : ℕ = c.args.process in
     let low : p < v.sheet.layout.processes = (let n = c.world.invariant.good.situations in let len = c.len.ensures in let lt = c.if-process-len.false in omega (arith, n, len, lt)) in
     let waits = c.in-Some.ensures.waits in

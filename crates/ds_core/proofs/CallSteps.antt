@@ -1,0 +1,336 @@
+-- A call that nothing stops is answered within the steps that it has left.
+use Rattle.std.proofs.Common.{ℕ, ◌≡◌, ◌≢◌, ◌<◌, ◌≤◌, ◌+◌, ◌*◌, ◌/◌, ◌==◌, ◌⊎◌, List, [], ◌∷◌, refl, ap, sym, ◌∙◌, subst, arith, inl, inr, suc, length, Some, false}
+use Rattle.std.specs.Prelude.{if◌then◌else◌}
+use Rattle.std.proofs.lemmas.Bool.Decides.{eqb_tells}
+use Rattle.ds_state.specs.Edits.{PlainEdit}
+use Rattle.ds_state.specs.Works.{PlainWork, PlainShow, PlainRecovery}
+use Rattle.ds_state.specs.Value.{WorldValue, world_of}
+use Rattle.ds_state.specs.World.{World}
+use Rattle.ds_state.specs.Calls.{CallFits}
+use Rattle.ds_state.specs.ShowStages.{IsStage}
+use Rattle.ds_state.specs.Sound.{IsSound}
+use Rattle.ds_state.specs.declared.situation.Situation.{Situation}
+use Rattle.ds_state.specs.declared.situation.Situation.TheVariants.{Idle, Stopped, Editing, Working, Recovering, Showing}
+use Rattle.ds_state.specs.declared.work.WorkStage.{WorkStage}
+use Rattle.ds_state.specs.declared.work.WorkStage.TheVariants as works
+use Rattle.ds_state.specs.declared.work.Spread.TheVariants as spreads
+use Rattle.ds_state.specs.declared.work.ShowStage.{ShowStage}
+use Rattle.ds_state.specs.declared.work.ShowStage.TheVariants as shows
+use Rattle.ds_state.specs.declared.work.RecoverStage.{RecoverStage}
+use Rattle.ds_state.specs.declared.work.RecoverStage.TheVariants as recoveries
+use Rattle.ds_edit.proofs.Stays.{each_some, each_few}
+use Rattle.ds_work.specs.WorkRank.{left}
+use Rattle.ds_work.specs.WorkSteps.{offered}
+use Rattle.ds_work.proofs.Ranks.{offer_falls}
+use Rattle.ds_show.specs.ShowSteps.{rank_in}
+use Rattle.ds_show.proofs.ShowLaws as show_laws
+use Rattle.ds_recover.specs.RecoverBegun.{MayRecover}
+use Rattle.ds_recover.specs.RecoverySteps.{rank}
+use Rattle.ds_recover.proofs.RecoveryRank as recovery_ranks
+use Rattle.ds_edit.specs.declared.answer.Answer.{Answer}
+use Rattle.ds_core.specs.Steps as steps
+use Rattle.ds_core.specs.Takes.{Takes, WorldRun}
+use Rattle.ds_core.specs.WorkEvents.{TakesEntry}
+use Rattle.ds_core.specs.Headline.{Happens}
+use Rattle.ds_eval.specs.Tasks.{PlainEvaluated}
+use Rattle.ds_core.specs.Own.{own_step, own_steps, IsUnanswered, AreUnanswered, IsUnhalted, AreUnhalted, IsInCall, left_in, steps_left}
+use Rattle.ds_core.specs.declared.event.Event.{Event}
+use Rattle.ds_core.specs.declared.event.Event.TheVariants.{BeginEdit, BeginWork, BeginShow, BeginRecover, Step, Offer, Evict, Stop, Crash}
+use Rattle.ds_core.specs.declared.reply.Reply.{Reply}
+use Rattle.ds_core.specs.declared.reply.Reply.TheVariants as reply
+use Rattle.ds_core.proofs.Turns.{IsTurn, edit_turn, report_turn, recovery_turn, work_leaves, work_begins_leaves, offer_leaves}
+use Rattle.ds_core.proofs.Bound.{same_layout, run_layout, run_sound}
+use Rattle.ds_core.proofs.Counts.{steps_on}
+
+-- a step of a process, whatever call it is in, is a turn of it
+pub step_turn : (old new : WorldValue) (q : ℕ) (r : Reply) → IsSound (world_of old) → steps.StepsBy old q r new → IsTurn q old new
+step_turn old new q r sound (steps.edits h) = edit_turn old new q r sound h
+step_turn old new q r sound (steps.works h) = (work_leaves old new q r sound h).turn
+step_turn old new q r sound (steps.reports h) = report_turn old new q r sound h
+step_turn old new q r sound (steps.recoveries h) = recovery_turn old new q r sound h
+
+not_free : (s : Situation) → IsInCall s → MayRecover s → ⊥
+not_free (Idle n) calls free = calls
+not_free Stopped calls free = calls
+not_free (Editing e) calls free = free
+not_free (Working e) calls free = free
+not_free (Recovering e) calls free = free
+not_free (Showing e) calls free = free
+
+not_own : (p q : ℕ) → q ≢ p → (q == p) ≡ false
+not_own p q ne = elim (eqb_tells q p) [ inl same ↦ absurd (ne same.1) | inr differs ↦ differs.0 ]
+
+-- what an event is to a process in a call, which it neither answers nor halts: nothing, a step of its own, or an offer
+-- to its work
+pub data OwnMove (p : ℕ) (old new : WorldValue) : ℕ → Type 0 where
+  stays : (world_of new).situation p ≡ (world_of old).situation p → OwnMove p old new 0
+  steps_once : steps.StepsBy old p reply.Stepped new → OwnMove p old new 1
+  is_offered : (value : PlainEvaluated) → value.task.process ≡ p → TakesEntry old value new → OwnMove p old new 0
+
+module _ (p : ℕ) (old new : WorldValue) (sound : IsSound (world_of old)) (calls : IsInCall ((world_of old).situation p)) where
+  unchanged : new ≡ old → OwnMove p old new 0
+  unchanged same = stays (ap (λ (v : WorldValue). (world_of v).situation p) same)
+
+  busy : (n : ℕ) → (world_of old).situation p ≡ Idle n → ⊥
+  busy n is = subst IsInCall is calls
+
+  others : (q : ℕ) → q ≢ p → ((r : ℕ) → r ≢ q → (world_of new).situation r ≡ (world_of old).situation r) → OwnMove p old new 0
+  others q ne rest = stays (rest p (λ same. ne (sym same)))
+
+  by_step : (q : ℕ) → steps.StepsBy old q reply.Stepped new → OwnMove p old new (own_step p (Step q) reply.Stepped)
+  by_step q h = elim (eqb_tells q p) [
+    | inl same ↦ rw same.0 (steps_once (subst (λ (x : ℕ). steps.StepsBy old x reply.Stepped new) same.1 h))
+    | inr other ↦ rw other.0 (others q other.1 (step_turn old new q reply.Stepped sound h).others)
+  ]
+
+  by_answer : (q : ℕ) (answer : Answer) → q ≢ p → steps.StepsBy old q (reply.Answered answer) new → OwnMove p old new (own_step p (Step q) (reply.Answered answer))
+  by_answer q answer ne h = subst (λ b. OwnMove p old new (if b then 1 else 0)) (sym (not_own p q ne)) (others q ne (step_turn old new q (reply.Answered answer) sound h).others)
+
+  -- a beginning of another process
+  begins : (q n : ℕ) → (world_of old).situation q ≡ Idle n → ((r : ℕ) → r ≢ q → (world_of new).situation r ≡ (world_of old).situation r) → OwnMove p old new 0
+  begins q n idle rest = others q (λ same. busy n (ap (λ x. (world_of old).situation x) (sym same) ∙ idle)) rest
+
+  by_offer : (value : PlainEvaluated) → TakesEntry old value new → OwnMove p old new 0
+  by_offer value h = elim (eqb_tells value.task.process p) [
+    | inl same ↦ is_offered value same.1 h
+    | inr other ↦ others value.task.process other.1 (offer_leaves old new value sound h).turn.others
+  ]
+
+  pub own_move : (event : Event) (r : Reply) → Takes old event r new → IsUnanswered p event r → OwnMove p old new (own_step p event r)
+  own_move (BeginEdit q) (reply.Begun number) h u = begins h.begun.edit.process h.begun.edit.number h.begun.begins.idle h.begun.begins.others
+  own_move (BeginEdit q) (reply.Refused why) h u = unchanged h.same
+  own_move (BeginEdit q) reply.NotEnabled h u = unchanged h.same
+  own_move (BeginEdit q) _ h u = absurd h
+  own_move (BeginWork q cell) reply.Entered h u = begins q h.begun.next (ap (λ x. (world_of old).situation x) (sym h.begun.process_is) ∙ h.begun.begins.was) (work_begins_leaves old new q cell sound h).turn.others
+  own_move (BeginWork q cell) (reply.Refused why) h u = unchanged h.same
+  own_move (BeginWork q cell) reply.NotEnabled h u = unchanged h.same
+  own_move (BeginWork q cell) _ h u = absurd h
+  own_move (BeginShow q) reply.Entered h u = begins q h.begun.next h.begun.begins.idle h.begun.begins.others
+  own_move (BeginShow q) (reply.Refused why) h u = unchanged h.same
+  own_move (BeginShow q) reply.NotEnabled h u = unchanged h.same
+  own_move (BeginShow q) _ h u = absurd h
+  own_move (BeginRecover q) reply.Entered h u = others q (λ same. not_free ((world_of old).situation p) calls (subst (λ x. MayRecover ((world_of old).situation x)) same h.begun.free)) h.begun.begins.others
+  own_move (BeginRecover q) (reply.Refused why) h u = unchanged h.same
+  own_move (BeginRecover q) reply.NotEnabled h u = unchanged h.same
+  own_move (BeginRecover q) _ h u = absurd h
+  own_move (Step q) reply.Stepped h u = by_step q h
+  own_move (Step q) (reply.Answered answer) h u = by_answer q answer u h
+  own_move (Step q) reply.NotEnabled h u = unchanged h.same
+  own_move (Step q) _ h u = absurd h
+  own_move (Offer value) reply.Stepped h u = by_offer value h
+  own_move (Offer value) reply.WrongTask h u = unchanged h.same
+  own_move (Offer value) _ h u = absurd h
+  own_move (Evict place) reply.Evicted h u = stays (h.evicts.situation p)
+  own_move (Evict place) reply.NotEnabled h u = unchanged h.same
+  own_move (Evict place) _ h u = absurd h
+  own_move (Stop q) reply.Stopped h u = others q u h.stops.others
+  own_move (Stop q) reply.NotEnabled h u = unchanged h.same
+  own_move (Stop q) _ h u = absurd h
+  own_move Crash r h u = absurd u
+
+-- ---- a step left, for each of them
+
+-- the process is still in its call, so many steps of its own later
+record StaysIn (p steps : ℕ) (old new : WorldValue) : Type 0 where
+  calls : IsInCall ((world_of new).situation p)
+  fewer : steps + steps_left p new ≤ steps_left p old
+
+stays_in : (p n : ℕ) (old new : WorldValue) → IsSound (world_of old) → IsInCall ((world_of old).situation p) → OwnMove p old new n → StaysIn p n old new
+stays_in p n old new sound calls (stays same) = let l = ap left_in same in record { calls = subst IsInCall (sym same) calls; fewer = omega (arith, l) }
+stays_in p n old new sound calls (steps_once h) = let s = steps_on old new p sound h in let f = s.fewer in record { calls = s.calls; fewer = omega (arith, f) }
+stays_in p n old new sound calls (is_offered value mine h) =
+    let o = h.offered in
+    let was : (world_of old).situation p ≡ Working o.work = ap (λ x. (world_of old).situation x) (sym mine) ∙ o.waits.works in
+    let now : (world_of new).situation p ≡ Working (offered o.work value.entry) = ap (λ x. (world_of new).situation x) (sym (o.mine ∙ mine)) ∙ o.offers.turn.situation in
+    let a : steps_left p old ≡ left o.work.cells o.work works.Wait = ap left_in was ∙ ap (λ s. left o.work.cells o.work s) o.waits.waits in
+    let b : steps_left p new ≡ left_in (Working (offered o.work value.entry)) = ap left_in now in
+    let fall = offer_falls o.work.cells o.work value.entry in
+    record { calls = subst IsInCall (sym now) tt; fewer = omega (arith, a, b, fall) }
+
+-- a call that is not answered goes on through a run
+goes_on : (events : List Event) (replies : List Reply) (old new : WorldValue) (p : ℕ) → IsSound (world_of old) → p < old.sheet.layout.processes → IsInCall ((world_of old).situation p)
+    → WorldRun old events replies new → AreUnanswered p events replies → StaysIn p (own_steps p events replies) old new
+goes_on [] [] old new p sound low calls run u = stays_in p 0 old new sound calls (unchanged p old new sound calls run)
+goes_on (event ∷ events) (r ∷ replies) old new p sound low calls run u =
+    let first = stays_in p (own_step p event r) old run.0 sound calls (own_move p old run.0 sound calls event r run.1.takes u.0) in
+    let rest = goes_on events replies run.0 new p run.1.good.sound (rw (same_layout old run.0 event r run.1.takes) low) first.calls run.2 u.1 in
+    let a = first.fewer in
+    let b = rest.fewer in
+    record { calls = rest.calls; fewer = omega (arith, a, b) }
+goes_on [] (r ∷ replies) old new p sound low calls run u = absurd run
+goes_on (event ∷ events) [] old new p sound low calls run u = absurd run
+
+-- ---- a call has a step left, and few
+
+pub work_some : (r : ℕ) (e : PlainWork) (s : WorkStage) → 0 < left r e s
+work_some r e works.LoadMark = omega arith
+work_some r e works.Claim = omega arith
+work_some r e works.FlushClaim = omega arith
+work_some r e works.BackClaim = omega arith
+work_some r e works.LoadHead = omega arith
+work_some r e works.LoadHeader = omega arith
+work_some r e (works.LoadText part) = omega arith
+work_some r e works.Read = omega arith
+work_some r e (works.LoadValue i) = omega arith
+work_some r e (works.LoadKind i value) = omega arith
+work_some r e works.LoadOwnValue = omega arith
+work_some r e works.LoadOwnKind = omega arith
+work_some r e works.Wait = omega arith
+work_some r e works.StoreValue = omega arith
+work_some r e works.StoreKind = omega arith
+work_some r e works.FlushValue = omega arith
+work_some r e works.FlushKind = omega arith
+work_some r e works.BackValue = omega arith
+work_some r e works.BackKind = omega arith
+work_some r e (works.Telling (spreads.LoadRow part)) = omega arith
+work_some r e (works.Telling (spreads.OrTold d)) = omega arith
+work_some r e (works.Telling (spreads.FlushTold d)) = omega arith
+work_some r e (works.Telling (spreads.BackTold d)) = omega arith
+work_some r e (works.Clear changed) = omega arith
+work_some r e works.ClearDirty = omega arith
+work_some r e works.Give = omega arith
+work_some r e works.GiveDirty = omega arith
+work_some r e (works.FlushCleared end) = omega arith
+work_some r e (works.BackCleared end) = omega arith
+work_some r e (works.Answer end) = omega arith
+
+show_some : (e : PlainShow) (s : ShowStage) → IsStage e s → 0 < rank_in e.processes e.cells s
+show_some e (shows.LoadAnnounce i) h = let low = h.0 in omega (arith, low)
+show_some e (shows.LoadMark i) h = let low = h.0 in omega (arith, low)
+show_some e (shows.LoadValue i) h = let low = h.0 in omega (arith, low)
+show_some e (shows.LoadKind i) h = let low = h.0 in omega (arith, low)
+show_some e (shows.AgainMark i) h = let low = h.0 in omega (arith, low)
+show_some e (shows.AgainAnnounce i) h = let low = h.0 in omega (arith, low)
+show_some e (shows.Answer end) h = omega arith
+
+recovery_some : (cells : ℕ) (s : RecoverStage) → 0 < rank cells s
+recovery_some cells (recoveries.LoadMark cell) = omega arith
+recovery_some cells (recoveries.FlushValue cell) = omega arith
+recovery_some cells (recoveries.FlushKind cell) = omega arith
+recovery_some cells (recoveries.BackValue cell) = omega arith
+recovery_some cells (recoveries.BackKind cell) = omega arith
+recovery_some cells (recoveries.Telling cell (spreads.LoadRow part)) = omega arith
+recovery_some cells (recoveries.Telling cell (spreads.OrTold d)) = omega arith
+recovery_some cells (recoveries.Telling cell (spreads.FlushTold d)) = omega arith
+recovery_some cells (recoveries.Telling cell (spreads.BackTold d)) = omega arith
+recovery_some cells (recoveries.Give cell) = omega arith
+recovery_some cells (recoveries.GiveDirty cell) = omega arith
+recovery_some cells (recoveries.FlushGiven cell) = omega arith
+recovery_some cells (recoveries.BackGiven cell) = omega arith
+recovery_some cells recoveries.LoadAnnounce = omega arith
+recovery_some cells recoveries.LoadHeader = omega arith
+recovery_some cells recoveries.LoadHead = omega arith
+recovery_some cells recoveries.FlushHead = omega arith
+recovery_some cells recoveries.BackHead = omega arith
+recovery_some cells recoveries.LoadDone = omega arith
+recovery_some cells (recoveries.OrMark how) = omega arith
+recovery_some cells (recoveries.FlushMark how) = omega arith
+recovery_some cells (recoveries.BackMark how) = omega arith
+recovery_some cells (recoveries.StoreOutcome how) = omega arith
+recovery_some cells (recoveries.FlushOutcome how) = omega arith
+recovery_some cells (recoveries.BackOutcome how) = omega arith
+recovery_some cells (recoveries.Answer how) = omega arith
+
+some_left : (w : World) (p : ℕ) (s : Situation) → CallFits w p s → IsInCall s → 0 < left_in s
+some_left w p (Idle n) fits calls = absurd calls
+some_left w p Stopped fits calls = absurd calls
+some_left w p (Editing e) fits calls = each_some e fits.is
+some_left w p (Working e) fits calls = work_some e.cells e e.stage
+some_left w p (Recovering e) fits calls = recovery_some e.cells e.stage
+some_left w p (Showing e) fits calls = show_some e e.stage fits.1.is.stage
+
+-- a call that is not answered has made fewer steps than it had left
+pub short : (old : WorldValue) (events : List Event) (replies : List Reply) (new : WorldValue) (p : ℕ) → IsSound (world_of old) → p < old.sheet.layout.processes → IsInCall ((world_of old).situation p)
+    → WorldRun old events replies new → AreUnanswered p events replies → own_steps p events replies < steps_left p old
+short old events replies new p sound low calls run u =
+    let on = goes_on events replies old new p sound low calls run u in
+    let sound' = run_sound events replies old new sound run in
+    let some = some_left (world_of new) p ((world_of new).situation p) (sound'.calls p (rw (run_layout events replies old new run) low)) on.calls in
+    let few = on.fewer in
+    omega (arith, some, few)
+
+-- what is left of a call at most
+pub edit_left : (v : WorldValue) (p : ℕ) (e : PlainEdit) → IsSound (world_of v) → p < v.sheet.layout.processes → (world_of v).situation p ≡ Editing e → steps_left p v ≤ 67 + 3 * length e.refs
+edit_left v p e sound low at =
+    let fits = subst (λ (x : Situation). CallFits (world_of v) p x) at (sound.calls p low) in
+    let few = each_few e fits.is in
+    let is : steps_left p v ≡ left_in (Editing e) = ap left_in at in
+    omega (arith, few, is)
+
+pub work_left : (v : WorldValue) (p : ℕ) (e : PlainWork) → (world_of v).situation p ≡ Working e → e.stage ≡ works.LoadMark → steps_left p v ≤ 5 * e.cells + (e.cells + 63) / 64 + 36
+work_left v p e at first =
+    let is : steps_left p v ≡ left e.cells e works.LoadMark = ap left_in at ∙ ap (λ s. left e.cells e s) first in
+    omega (arith, is)
+
+pub report_left : (v : WorldValue) (p : ℕ) (e : PlainShow) → (world_of v).situation p ≡ Showing e → steps_left p v ≤ 2 * e.processes + 4 * e.cells + 1
+report_left v p e at =
+    let few = show_laws.each_few e in
+    let is : steps_left p v ≡ left_in (Showing e) = ap left_in at in
+    omega (arith, few, is)
+
+pub recovery_left : (v : WorldValue) (p : ℕ) (e : PlainRecovery) → IsSound (world_of v) → p < v.sheet.layout.processes → (world_of v).situation p ≡ Recovering e → steps_left p v ≤ e.cells * (3 * e.cells + 30) + 20
+recovery_left v p e sound low at =
+    let fits = subst (λ (x : Situation). CallFits (world_of v) p x) at (sound.calls p low) in
+    let few = recovery_ranks.each_few e fits.is in
+    let is : steps_left p v ≡ left_in (Recovering e) = ap left_in at in
+    omega (arith, few, is)
+
+-- ---- it is answered
+
+pub record IsAnswered (p : ℕ) (event : Event) (r : Reply) : Type 0 where
+  pub answer : Answer
+  pub event_is : event ≡ Step p
+  pub reply_is : r ≡ reply.Answered answer
+
+one : (p : ℕ) (event : Event) (r : Reply) → IsUnhalted p event → IsUnanswered p event r ⊎ IsAnswered p event r
+one p (Step q) (reply.Answered a) on = elim (eqb_tells q p) [
+  | inl same ↦ inr (record { answer = a; event_is = ap (λ i. Step i) same.1; reply_is = refl })
+  | inr other ↦ inl other.1
+]
+one p (Step q) _ on = inl tt
+one p (BeginEdit q) r on = inl tt
+one p (BeginWork q cell) r on = inl tt
+one p (BeginShow q) r on = inl tt
+one p (BeginRecover q) r on = inl tt
+one p (Offer value) r on = inl tt
+one p (Evict word) r on = inl tt
+one p (Stop q) reply.Stopped on = inl on
+one p (Stop q) _ on = inl tt
+one p Crash r on = absurd on
+
+-- the first answer to the process in a run
+pub record FindsAnswer (p : ℕ) (events : List Event) (replies : List Reply) : Type 0 where
+  pub k : ℕ
+  pub answer : Answer
+  pub happens : Happens events replies k (Step p) (reply.Answered answer)
+
+first_answer : (p : ℕ) (events : List Event) (replies : List Reply) → AreUnhalted p events → AreUnanswered p events replies ⊎ FindsAnswer p events replies
+first_answer p [] replies on = inl tt
+first_answer p (event ∷ events) [] on = inl tt
+first_answer p (event ∷ events) (r ∷ replies) on = elim (one p event r on.0) [
+  | inl no_answer ↦ elim (first_answer p events replies on.1) [
+    | inl rest ↦ inl (no_answer, rest)
+    | inr f ↦ inr (record { k = suc f.k; answer = f.answer; happens = record { event_is = f.happens.event_is; reply_is = f.happens.reply_is } })
+  ]
+  | inr a ↦ inr (record { k = 0; answer = a.answer; happens = record { event_is = ap (λ e. Some e) a.event_is; reply_is = ap (λ x. Some x) a.reply_is } })
+]
+
+pub answered : (old : WorldValue) (events : List Event) (replies : List Reply) (new : WorldValue) (p : ℕ) → IsSound (world_of old) → p < old.sheet.layout.processes → IsInCall ((world_of old).situation p)
+    → WorldRun old events replies new → AreUnhalted p events → steps_left p old ≤ own_steps p events replies → FindsAnswer p events replies
+answered old events replies new p sound low calls run on enough = elim (first_answer p events replies on) [
+  | inl never ↦ absurd (let few = short old events replies new p sound low calls run never in omega arith)
+  | inr f ↦ f
+]
+
+pub wait_free : (old : WorldValue) (events : List Event) (replies : List Reply) (new : WorldValue) (p : ℕ) → IsSound (world_of old) → p < old.sheet.layout.processes → IsInCall ((world_of old).situation p)
+    → WorldRun old events replies new → AreUnhalted p events → steps_left p old ≤ own_steps p events replies → (k : ℕ) × (answer : Answer) × Happens events replies k (Step p) (reply.Answered answer)
+wait_free old events replies new p sound low calls run on enough =
+    let f = answered old events replies new p sound low calls run on enough in
+    (f.k, f.answer, f.happens)
+
+pub edit_few : (old : WorldValue) (events : List Event) (replies : List Reply) (new : WorldValue) (p : ℕ) (e : PlainEdit) → IsSound (world_of old) → p < old.sheet.layout.processes → (world_of old).situation p ≡ Editing e
+    → WorldRun old events replies new → AreUnanswered p events replies → own_steps p events replies < 67 + 3 * length e.refs
+edit_few old events replies new p e sound low at run u =
+    let few = edit_left old p e sound low at in
+    let fewer = short old events replies new p sound low (subst IsInCall (sym at) tt) run u in
+    omega (arith, few, fewer)
