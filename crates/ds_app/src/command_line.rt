@@ -1,6 +1,6 @@
 //! The command line, by `clap`.
 
-use clap::{Command, Error};
+use clap::{Arg, ArgAction, Command, Error};
 use std::alloc::{AllocError, Global};
 
 /// What the words ask for.
@@ -8,9 +8,14 @@ use std::alloc::{AllocError, Global};
 pub enum Action {
     /// `dsheet run`: a script on standard input.
     Run,
+    /// `dsheet run --stops`: the same, crashed behind each of its steps.
+    Stops,
     /// `dsheet report`: a grid on standard input.
     Report,
 }
+
+/// The flag of `run` that crashes the sheet behind each step.
+const STOPS: &str = "stops";
 
 /// The program's version.
 const VERSION: &str = "0.1.0";
@@ -50,8 +55,13 @@ Limits: 26 columns, 64 rows, 1024 cells; 8 processes, 256 edits of each;
 120 bytes a text, 512 a line, 1048576 a script.
 Empty lines and lines that begin with # are skipped. The answers come when the input has ended.
 
-Example:
+With --stops the script is run once for each of its steps, up to that step, and its own answers
+are not written. There the sheet crashes, and what is told behind that is: stop K, then the lines
+of recover for each process, of settle 0 and of report 0.
+
+Examples:
   printf 'set 0 A1 =1+2\\nsettle 0\\nreport 0\\n' | dsheet run
+  printf 'set 0 A1 7\\n' | dsheet run --stops
 
 Exit status: 0 ended; 1 a fault in a line, which is named; 2 wrong words on the
 command line; 3 a failed read or write, or a script over 1048576 bytes; 4 no memory.";
@@ -79,9 +89,14 @@ Examples:
   printf '1,=[.A1]*20\\n' | dsheet report";
 
 fn run_command<'a>(alloc: Global) -> Result<Command<'a>, AllocError> {
+    let stops = Arg::new(alloc, STOPS)
+        .long(STOPS)
+        .action(ArgAction::SetTrue)
+        .help("Crashes the sheet behind each step, and writes what is told then");
     Command::new(alloc, "run")
         .about("Runs a script from standard input and writes its answers to standard output")
         .after_help(RUN_HELP)
+        .arg(stops)?
         .bin_name("dsheet run")
 }
 
@@ -104,11 +119,13 @@ fn program<'a>(alloc: Global) -> Result<Command<'a>, AllocError> {
         .subcommand(report_command(alloc)?)
 }
 
-/// What the words ask for, of which the first is the program's name; `clap`'s error for help and for wrong words.
+/// What the words ask for, of which the first is the program's name; the error is `clap`'s, for help and for wrong
+/// words.
 pub fn parse(alloc: Global, words: &[String]) -> Result<Action, Error> {
     let matches = program(alloc)?.try_get_matches_from(words)?;
-    match matches.subcommand_name() {
-        Some("report") => Ok(Action::Report),
+    match matches.subcommand() {
+        Some(("report", _)) => Ok(Action::Report),
+        Some((_, run)) if run.get_flag(STOPS) => Ok(Action::Stops),
         _ => Ok(Action::Run),
     }
 }

@@ -10,8 +10,10 @@ use clap::Error;
 use clap::error::ErrorKind;
 use ds_grid::ending::GridEnd;
 use ds_grid::report::report_grid;
-use ds_play::script::run_script;
+use ds_play::script::{SCRIPT_LIMIT, run_script};
+use ds_stops::stops::stop_at_each;
 use ds_streams::ending::ScriptEnd;
+use ds_streams::input::{InputEnd, read_input};
 use ds_streams::streams::{Reading, Writing};
 use std::io::{self, BufWriter};
 use std::process::ExitCode;
@@ -26,6 +28,15 @@ const STREAM_FAILED: u8 = 3;
 /// The status of want of memory.
 const NO_MEMORY: u8 = 4;
 
+// Tells on standard error how a script ended, where that is not as it should.
+fn tell(rt: &impl Eprint, end: &ScriptEnd) {
+    let _told = match end {
+        ScriptEnd::Ended => Ok(()),
+        ScriptEnd::Fault { line: _, kind: _ } => eprintln!(rt; "{end}"),
+        _ => eprintln!(rt; "dsheet: {end}"),
+    };
+}
+
 // `dsheet run`: a script from standard input, answers to standard output, the fault to standard error.
 fn run<R: AllocGlobal + Input + Print + Eprint>(rt: &R) -> u8 {
     let Ok(buffered) = BufWriter::new(rt.alloc(), io::writer(rt)) else {
@@ -34,11 +45,28 @@ fn run<R: AllocGlobal + Input + Print + Eprint>(rt: &R) -> u8 {
     let mut reader = Reading::new(rt.reader());
     let mut writer = Writing::new(buffered);
     let end = run_script(rt.alloc(), &mut reader, &mut writer);
-    let _told = match end {
-        ScriptEnd::Ended => Ok(()),
-        ScriptEnd::Fault { line: _, kind: _ } => eprintln!(rt; "{end}"),
-        _ => eprintln!(rt; "dsheet: {end}"),
+    tell(rt, &end);
+    script_status(&end)
+}
+
+// `dsheet run --stops`: a script from standard input, what is told behind each of its steps to standard output, the
+// fault to standard error.
+fn stops<R: AllocGlobal + Input + Print + Eprint>(rt: &R) -> u8 {
+    let Ok(buffered) = BufWriter::new(rt.alloc(), io::writer(rt)) else {
+        return NO_MEMORY;
     };
+    let mut reader = Reading::new(rt.reader());
+    let Ok(input) = read_input(rt.alloc(), &mut reader, SCRIPT_LIMIT) else {
+        return NO_MEMORY;
+    };
+    let mut writer = Writing::new(buffered);
+    let end = match input.end {
+        InputEnd::Failed => ScriptEnd::ReadFailed,
+        InputEnd::Ended | InputEnd::TooLong => {
+            stop_at_each(rt.alloc(), &input.bytes, &mut writer)
+        }
+    };
+    tell(rt, &end);
     script_status(&end)
 }
 
@@ -86,6 +114,7 @@ fn dispatch<R: AllocGlobal + Env + Input + Print + Eprint>(rt: &R) -> u8 {
     };
     match parse(rt.alloc(), words.as_slice()) {
         Ok(Action::Run) => run(rt),
+        Ok(Action::Stops) => stops(rt),
         Ok(Action::Report) => report(rt),
         Err(error) => explain(rt, &error),
     }

@@ -29,16 +29,16 @@ use Rattle.ds_play.proofs.Played.{one}
 -- ---- an offer
 
 module _ (old new : WorldValue) (p : ℕ) (until : Until) (given : (entry : Entry) × IsOffered (world_of old) p entry (world_of new)) (good : IsGood new) (done : new.done ≡ old.done) (settled : new.settled ≡ old.settled) (reports : new.reports ≡ old.reports) where
-  abbrev event : Event
-  event = Offer (evaluated old.sheet.layout.shape given.1.work)
+  abbrev pub offer_event : Event
+  offer_event = Offer (evaluated old.sheet.layout.shape given.1.work)
 
-  asked : asks (Drives p until) old ≡ Some event
-  asked =
+  pub offer_asked : asks (Drives p until) old ≡ Some offer_event
+  offer_asked =
       ap (λ (s : Situation). Some (wanted p old.sheet.layout.shape s)) given.1.waits.works
       ∙ ap (λ (s : WorkStage). Some (wanted_at p old.sheet.layout.shape given.1.work s)) given.1.waits.waits
 
-  fits : Fits old event Stepped new
-  fits = record {
+  pub offer_fits : Fits old offer_event Stepped new
+  offer_fits = record {
     takes = record {
       waited = record { work = given.1.work; waits = subst (λ (q : ℕ). Waits (world_of old) q given.1.work) (sym given.1.mine) given.1.waits; is = refl };
       offered = record {
@@ -54,10 +54,10 @@ module _ (old new : WorldValue) (p : ℕ) (until : Until) (given : (entry : Entr
   }
 
   pub offer_halts : (halt : Halt) → offered new p until ≡ halted new p until halt → Leads (Drives p until) old (halted new p until halt) new
-  offer_halts halt is = one (Drives p until) (halted new p until halt) old new event Stepped asked fits is
+  offer_halts halt is = one (Drives p until) (halted new p until halt) old new offer_event Stepped offer_asked offer_fits is
 
   pub offer_goes : offered new p until ≡ Drives p until → GoesOn old p until new
-  offer_goes is = record { event = event; reply = Stepped; asked = asked; fits = fits; on = is }
+  offer_goes is = record { event = offer_event; reply = Stepped; asked = offer_asked; fits = offer_fits; on = is }
 
   pub offer_fewer : steps_left p new < steps_left p old
   offer_fewer =

@@ -52,8 +52,8 @@ fn happen(alloc: Global, world: &mut World, event: &Event) -> Reply
     take(alloc, world, event)
 }
 
-// A call begins, or is refused.
-fn begins(alloc: Global, world: &mut World, process: usize, call: Call<'_>) -> Reply
+/// A call begins, or is refused: the reply to the event that begins it. An edit's text is not copied.
+pub fn begins(alloc: Global, world: &mut World, process: usize, call: Call<'_>) -> Reply
     ensures { Fits world.old (beginning process call.entry) result world.new }
 {
     match call {

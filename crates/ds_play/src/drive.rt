@@ -92,7 +92,8 @@ fn after_step(world: &World, process: usize, until: Until) -> Option<Halt>
     }
 }
 
-fn step_once(alloc: Global, world: &mut World, process: usize) -> Reply
+/// One step of the process, if it can make one.
+pub fn step_once(alloc: Global, world: &mut World, process: usize) -> Reply
     ensures fits { Fits world.old (Step process) result world.new }
     ensures fewer { result ≡ Stepped → steps_left process world.new < steps_left process world.old }
 {

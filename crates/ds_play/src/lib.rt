@@ -8,6 +8,4 @@ pub mod places;
 pub mod point;
 pub mod script;
 pub mod settle;
-#[cfg(test)]
-mod tests;
 pub mod texts;

@@ -54,8 +54,8 @@ impl From<AllocError> for Stop {
     }
 }
 
-// What has come before the next line, where the last one was this command.
-fn begun_by(command: Command<'_>) -> Begun
+/// What has come before the next line, where the last one was this command.
+pub fn begun_by(command: Command<'_>) -> Begun
     ensures { result ≡ after (command_view command.entry) }
 {
     match command {

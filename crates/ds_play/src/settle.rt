@@ -39,8 +39,8 @@ fn is_marked(world: &World, cell: usize) -> bool
     }
 }
 
-// The first cell that is marked, from this one on.
-fn next_marked(world: &World, from: usize) -> Option<usize>
+/// The first cell that is marked, from this one on.
+pub fn next_marked(world: &World, from: usize) -> Option<usize>
     requires { from ≤ cells_of world.now.sheet.layout }
     ensures value { result ≡ marked_from (world_of world.now) (cells_of world.now.sheet.layout - from) from }
     ensures above { IfSome result (λ cell. from ≤ cell) }
@@ -82,8 +82,8 @@ fn ends_with(halt: Halt) -> Option<Halt>
     }
 }
 
-// Work on the cell with this number begins, or is refused.
-fn begin(alloc: Global, world: &mut World, process: usize, cell: usize) -> Reply
+/// Work on the cell with this number begins, or is refused.
+pub fn begin(alloc: Global, world: &mut World, process: usize, cell: usize) -> Reply
     requires { cell < cells_of world.old.sheet.layout }
     ensures { Fits world.old (BeginWork process (cell_at world.old.sheet.layout.shape cell)) result world.new }
 {

@@ -1,0 +1,7 @@
+pub mod Turning
+pub mod Playing
+pub mod Opening
+pub mod Carrying
+pub mod Lines
+pub mod Telling
+pub mod Ending

@@ -1,0 +1,139 @@
+-- A script, line by line, up to a step.
+use Rattle.std.proofs.Common.{ℕ, suc, ◌+◌, ◌≡◌, ◌<◌, ◌∙◌, inl, inr, Bool, List, [], ◌∷◌, ◌++◌, Ok, Err, refl, sym, ap, subst, arith}
+use Rattle.std.specs.Prelude.{Option, Some, None, Result}
+use Rattle.ds_state.specs.Value.{WorldValue}
+use Rattle.ds_core.specs.declared.event.Event.TheVariants.{Step}
+use Rattle.ds_streams.specs.declared.ending.ScriptFault.{ScriptFault}
+use Rattle.ds_streams.specs.declared.ending.ScriptFault.TheVariants.{LineTooLong}
+use Rattle.ds_streams.specs.Lines.{AtFront, NoLine, ALine, LongLine, next_of}
+use Rattle.ds_play.specs.declared.order.Begun.{Begun}
+use Rattle.ds_play.specs.declared.order.Begun.TheVariants as begun
+use Rattle.ds_play.specs.Orders.{Order, Make, Does, order_of}
+use Rattle.ds_play.specs.Running.{after}
+use Rattle.ds_play.specs.Script.{Progress, IsMade, begins_at, goes_on, Carried, begins, skips, makes, obeys, FaultAt, StandsAt, steps_taken}
+use Rattle.ds_play.proofs.Scripts.{carried_runs}
+use Rattle.ds_stops.specs.declared.reach.Point.{Point}
+use Rattle.ds_stops.specs.declared.reach.Stop.{Stop}
+use Rattle.ds_stops.specs.declared.reach.Stop.TheVariants as stops
+use Rattle.ds_stops.specs.Stops.{EndsBefore, BreaksBefore}
+use Rattle.ds_stops.specs.Reaching.{EndsOrder, HaltsOrder, PassesLine, StopsLine, Reaches, stop_of}
+use Rattle.ds_stops.proofs.Playing.{count_on}
+
+-- the lines led here, in a run that has taken so many steps
+pub record Led (whole : Bool) (script : List ℕ) (lines : ℕ) (point : Point) (w : WorldValue) (rest : List ℕ) : Type 0 where
+  pub progress : Progress
+  pub begun_is : progress.begun ≡ point.begun
+  pub world_is : progress.world ≡ w
+  pub count : steps_taken progress.events progress.replies ≡ point.taken
+  pub out : List ℕ
+  pub carried : Carried whole script lines progress out rest
+
+pub begins_led : (whole : Bool) (script : List ℕ) (w : WorldValue) → IsMade 2 2 2 w → Led whole script 0 (record { begun = begun.Nothing; taken = 0 }) w script
+begins_led whole script w made = record { progress = begins_at begun.Nothing w; begun_is = refl; world_is = refl; count = refl; out = []; carried = begins w made }
+
+-- ---- one line more
+
+ends_led : (whole : Bool) (script : List ℕ) (lines : ℕ) (p : Progress) (out rest line behind : List ℕ) (order : Order) (taken : ℕ) (now : Point) (new : WorldValue)
+    → Carried whole script lines p out rest → next_of whole rest ≡ ALine line behind → order_of p.begun p.world line ≡ Ok (Some order) → now.begun ≡ after order
+    → steps_taken p.events p.replies ≡ taken → EndsOrder p.world order taken now.taken new → Led whole script (suc lines) now new behind
+ends_led whole script lines p out rest line behind (Make columns rows processes) taken now new carried next asks begun_is count h = record {
+  progress = begins_at begun.Sheet new;
+  begun_is = sym begun_is;
+  world_is = refl;
+  count = sym h.0;
+  out = out;
+  carried = makes lines p out rest line behind columns rows processes new carried next asks h.1;
+}
+ends_led whole script lines p out rest line behind (Does deed) taken now new carried next asks begun_is count h = record {
+  progress = goes_on p h.events h.replies new;
+  begun_is = sym begun_is;
+  world_is = refl;
+  count = let both = count_on p.events p.replies h.events h.replies p.start p.world (carried_runs whole script lines p out rest carried) in
+      let own = h.count in omega (arith, both, count, own);
+  out = out ++ h.text;
+  carried = obeys lines p out rest line behind deed h.events h.replies h.text new carried next asks h.plays;
+}
+
+module _ (whole : Bool) (script : List ℕ) (lines : ℕ) (point : Point) (w : WorldValue) (rest line behind : List ℕ) (led : Led whole script lines point w rest) (next : next_of whole rest ≡ ALine line behind) where
+  -- what the line asks for at the point that the lines led to
+  asked : (r : Result (Option Order) ScriptFault) → order_of point.begun w line ≡ r → order_of led.progress.begun led.progress.world line ≡ r
+  asked r is = ap (λ (b : Begun). order_of b led.progress.world line) led.begun_is ∙ ap (λ (v : WorldValue). order_of point.begun v line) led.world_is ∙ is
+
+  pub line_more : (now : Point) (new : WorldValue) → PassesLine w point line now new → Led whole script (suc lines) now new behind
+  line_more now new (inl s) = record {
+    progress = led.progress;
+    begun_is = led.begun_is ∙ sym (ap (λ (x : Point). x.begun) s.still);
+    world_is = led.world_is ∙ sym s.same;
+    count = led.count ∙ sym (ap (λ (x : Point). x.taken) s.still);
+    out = led.out;
+    carried = skips lines led.progress led.out rest line behind led.carried next (asked (Ok None) s.asks);
+  }
+  line_more now new (inr e) =
+      ends_led whole script lines led.progress led.out rest line behind e.order point.taken now new led.carried next (asked (Ok (Some e.order)) e.asks) e.begun_is led.count
+      (subst (λ (v : WorldValue). EndsOrder v e.order point.taken now.taken new) (sym led.world_is) e.ends)
+
+  stands : (order : Order) (last : ℕ) (new : WorldValue) → order_of led.progress.begun led.progress.world line ≡ Ok (Some order) → HaltsOrder led.progress.world order point.taken last new → StandsAt whole script last new
+  stands (Make columns rows processes) last new asks h = absurd h
+  stands (Does deed) last new asks h = record {
+    lines = lines;
+    progress = led.progress;
+    out = led.out;
+    rest = rest;
+    line = line;
+    behind = behind;
+    carried = led.carried;
+    next = next;
+    deed = deed;
+    asks = asks;
+    events = h.events;
+    replies = h.replies;
+    p = h.p;
+    reply = h.reply;
+    doing = h.last;
+    plays = h.plays;
+    taken = h.taken;
+    so_many = let both = count_on led.progress.events led.progress.replies (h.events ++ Step h.p ∷ []) (h.replies ++ h.reply ∷ []) led.progress.start led.progress.world (carried_runs whole script lines led.progress led.out rest led.carried) in
+        let own = h.count in
+        let before = led.count in omega (arith, both, before, own);
+  }
+
+  -- a line that stops the run
+  pub line_stops : (last : ℕ) (new : WorldValue) (stop : Stop) → point.taken < last → StopsLine w point line last new stop → Reaches whole script last new (stop_of (lines + 1) stop)
+  line_stops last new stops.Reached below h = stands h.order last new (asked (Ok (Some h.order)) h.asks) (subst (λ (v : WorldValue). HaltsOrder v h.order point.taken last new) (sym led.world_is) h.halts)
+  line_stops last new (stops.Fault kind) below h = record {
+    out = led.out;
+    breaks = record {
+      lines = lines;
+      progress = led.progress;
+      rest = rest;
+      carried = led.carried;
+      number = refl;
+      fault = subst (λ (f : AtFront). FaultAt led.progress f kind) (sym next) (asked (Err kind) h);
+    };
+    fewer = let count = led.count in omega (arith, count, below);
+  }
+  line_stops last new stops.NoMemory below h = tt
+
+-- ---- its end
+
+module _ (whole : Bool) (script : List ℕ) (lines : ℕ) (point : Point) (w : WorldValue) (rest : List ℕ) (last : ℕ) (led : Led whole script lines point w rest) (below : point.taken < last) where
+  pub ends_short : next_of whole rest ≡ NoLine → EndsBefore whole script last
+  ends_short none = record {
+    out = led.out;
+    finishes = record { lines = lines; progress = led.progress; rest = rest; carried = led.carried; none = none };
+    fewer = let count = led.count in omega (arith, count, below);
+  }
+
+  pub breaks_long : next_of whole rest ≡ LongLine → BreaksBefore whole script last (lines + 1) LineTooLong
+  breaks_long long = record {
+    out = led.out;
+    breaks = record {
+      lines = lines;
+      progress = led.progress;
+      rest = rest;
+      carried = led.carried;
+      number = refl;
+      fault = subst (λ (f : AtFront). FaultAt led.progress f LineTooLong) (sym long) refl;
+    };
+    fewer = let count = led.count in omega (arith, count, below);
+  }

@@ -1,0 +1,3 @@
+pub mod Stops
+pub mod Turns
+pub mod Reaching

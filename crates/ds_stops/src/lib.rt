@@ -1,0 +1,8 @@
+//! A stop at each step of a script.
+#![tactic(auto)]
+
+pub mod block;
+pub mod play;
+pub mod reach;
+pub mod stops;
+pub mod turn;

@@ -1,0 +1,116 @@
+//! Plays commands up to a step.
+
+ghost use Rattle.std.specs.Prelude.{◌≡◌, ◌<◌, ◌+◌, ◌-◌, ◌^◌, IfSome, IfNone, IfOk};
+ghost use Rattle.ds_play.specs.Orders.{CanDo, beginning, command_view};
+ghost use Rattle.ds_play.specs.Doing.{Calls, settle};
+ghost use Rattle.ds_stops.specs.Turns.{IsWithin, Remains, doing_of, steps_of};
+ghost use Rattle.ds_stops.specs.Reaching.{Opens, OpensOrder, Ends, Halts, EndsOrder, HaltsOrder, taken_before};
+
+use crate::turn::{Left, after_begin, next_pass, take_turn, to_point};
+use ds_play::carry::{begins, carry_out};
+use ds_play::drive::Until;
+use ds_play::order::{Call, Command};
+use ds_state::world::World;
+use std::alloc::{AllocError, Global};
+
+// A call begins, or is refused.
+fn call(alloc: Global, world: &mut World, process: usize, call: Call<'_>) -> Option<Left>
+    ensures opens { Opens (Calls process (beginning process call.entry)) world.old result world.new }
+    ensures within { IfSome result (IsWithin world.new) }
+{
+    let reply = begins(alloc, world, process, call);
+    after_begin(process, Until::ToAnswer, reply)
+}
+
+// A settle, with two passes more than the sheet has cells.
+fn settle(world: &World, process: usize) -> Option<Left>
+    ensures remains { Remains result (settle world.now process) }
+    ensures within { IfSome result (IsWithin world.now) }
+{
+    let cells = world.words.layout().cells();
+    next_pass(world, process, cells + 2)
+}
+
+// Carries a command out up to its first step, and gives what is left of it then. An error is a want of memory.
+fn open(alloc: Global, world: &mut World, command: Command<'_>) -> Result<Option<Left>, AllocError>
+    requires { CanDo world.old.sheet.layout command }
+    ensures opens { IfOk result (λ left. OpensOrder world.old (command_view command.entry) left world.new) }
+    ensures within { IfOk result (λ left. IfSome left (IsWithin world.new)) }
+{
+    match command {
+        Command::Whole(process, begun) => Ok(call(alloc, world, process, begun)),
+        Command::Settle(process) => Ok(settle(world, process)),
+        Command::Step(process) => Ok(Some(Left::Drives(process, Until::OneStep))),
+        Command::RunTo(process, name) => Ok(to_point(world, process, name)),
+        Command::Run(process) => Ok(Some(Left::Drives(process, Until::ToAnswer))),
+        command => {
+            let _text = carry_out(alloc, world, command)?;
+            Ok(None)
+        }
+    }
+}
+
+// How many steps a run has taken behind an event, which was a step of it or not.
+fn count(taken: u64, stepped: bool) -> u64
+    requires { taken < 2 ^ 64 - 1 }
+    ensures { result ≡ taken + steps_of stepped }
+{
+    if stepped { taken + 1 } else { taken }
+}
+
+// Plays a command on, in a run that has taken so many steps before it and goes up to the last one: how many it has
+// taken once the command has ended; none where it stands at the last one.
+fn play(alloc: Global, world: &mut World, first: Left, before: u64, last: u64) -> Option<u64>
+    requires within { IsWithin world.old first }
+    requires below { before < last }
+    ensures ends { IfSome result (λ now. Ends (doing_of first) world.old before now world.new) }
+    ensures below { IfSome result (λ now. now < last) }
+    ensures halts { IfNone result (Halts (doing_of first) world.old before last world.new) }
+{
+    let mut taken = before;
+    let mut left = first;
+    'turns: loop {
+        let turn = take_turn(alloc, world, left);
+        taken = count(taken, turn.stepped);
+        if taken == last {
+            return None;
+        }
+        match turn.left {
+            Some(next) => left = next,
+            None => return Some(taken),
+        }
+    }
+}
+
+// How many steps a run has taken before the command, which had taken so many: a new sheet begins a new run.
+fn before(command: Command<'_>, taken: u64) -> u64
+    ensures { result ≡ taken_before (command_view command.entry) taken }
+{
+    match command {
+        Command::Sheet(_, _) => 0,
+        _ => taken,
+    }
+}
+
+/// Carries a command out in a run that has taken so many steps and goes up to the last one: how many it has taken once
+/// the command has ended; none where it stands at the last one, in the command or at its end. An error is a want of
+/// memory.
+pub fn carry_up_to(
+    alloc: Global,
+    world: &mut World,
+    command: Command<'_>,
+    taken: u64,
+    last: u64,
+) -> Result<Option<u64>, AllocError>
+    requires can { CanDo world.old.sheet.layout command }
+    requires below { taken < last }
+    ensures ends { IfOk result (λ r. IfSome r (λ now. EndsOrder world.old (command_view command.entry) taken now world.new)) }
+    ensures below { IfOk result (λ r. IfSome r (λ now. now < last)) }
+    ensures halts { IfOk result (λ r. IfNone r (HaltsOrder world.old (command_view command.entry) taken last world.new)) }
+{
+    let taken = before(command, taken);
+    match open(alloc, world, command)? {
+        Some(left) => Ok(play(alloc, world, left, taken, last)),
+        None => Ok(Some(taken)),
+    }
+}

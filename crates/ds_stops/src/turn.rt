@@ -1,0 +1,227 @@
+//! A command, event by event.
+
+ghost use Rattle.std.specs.Prelude.{◌≡◌, ◌<◌, IfSome};
+ghost use Rattle.ds_layout.specs.Places.{cells_of};
+ghost use Rattle.ds_state.specs.Value.{WorldValue, world_of};
+ghost use Rattle.ds_core.specs.declared.reply.Reply.TheVariants.{Answered};
+ghost use Rattle.ds_play.specs.declared.drive.Until.TheVariants.{InPass, ToPoint};
+ghost use Rattle.ds_play.specs.Doing.{called, offered, stepped, ended, pass, goes_behind, to_point};
+ghost use Rattle.ds_play.specs.Plays.{WantsStep};
+ghost use Rattle.ds_stops.specs.Turns.{Remains, IsWithin, TakesTurn};
+
+use ds_core::reply::Reply;
+use ds_edit::answer::Answer;
+use ds_play::drive::{Until, has_come, step_once};
+use ds_play::point::PointName;
+use ds_play::settle::{begin, next_marked};
+use ds_state::world::World;
+use ds_work::offer::offer_own;
+use std::alloc::Global;
+
+/// What is left of a command that has not ended.
+#[derive(Clone, Copy, Debug)]
+pub enum Left {
+    /// The process is driven.
+    Drives(usize, Until),
+    /// A settle of the process, with so many passes left behind this one, works on the cell with this number, and goes
+    /// on behind it.
+    Works {
+        /// The process.
+        process: usize,
+        /// How many passes are left behind this one.
+        passes: usize,
+        /// The cell, by its number.
+        cell: usize,
+    },
+}
+
+/// One event of a command.
+#[derive(Clone, Copy, Debug)]
+pub struct Turn {
+    /// Whether it was a step that was taken.
+    pub stepped: bool,
+    /// What is left of the command behind it; none where the command has ended.
+    pub left: Option<Left>,
+}
+
+/// What is left of a command that drives a process up to a point: nothing where that is behind.
+pub fn to_point(world: &World, process: usize, name: PointName) -> Option<Left>
+    ensures remains { Remains result (to_point process name ((world_of world.now).situation process)) }
+    ensures within { IfSome result (IsWithin world.now) }
+    ensures same { IfSome result (λ next. next ≡ Left.Drives process (ToPoint name)) }
+{
+    if has_come(world, process, name) {
+        None
+    } else {
+        Some(Left::Drives(process, Until::ToPoint(name)))
+    }
+}
+
+/// What is left of a settle with so many passes left: work on the first marked cell, if there is one.
+pub fn next_pass(world: &World, process: usize, passes: usize) -> Option<Left>
+    ensures remains { Remains result (pass world.now process passes) }
+    ensures within { IfSome result (IsWithin world.now) }
+{
+    if passes == 0 {
+        return None;
+    }
+    let cell = next_marked(world, 0)?;
+    Some(Left::Works {
+        process,
+        passes: passes - 1,
+        cell,
+    })
+}
+
+// What is left of a settle that has worked on the cell: the next marked one, else the next pass.
+fn behind(world: &World, process: usize, passes: usize, cell: usize) -> Option<Left>
+    requires { cell < cells_of world.now.sheet.layout }
+    ensures remains { Remains result (goes_behind world.now process passes cell) }
+    ensures within { IfSome result (IsWithin world.now) }
+{
+    match next_marked(world, cell + 1) {
+        Some(cell) => Some(Left::Works {
+            process,
+            passes,
+            cell,
+        }),
+        None => next_pass(world, process, passes),
+    }
+}
+
+/// What is left once the beginning of a call was answered: once begun, the process is driven.
+pub fn after_begin(process: usize, until: Until, reply: Reply) -> Option<Left>
+    ensures remains { (w : WorldValue) → Remains result (called w process until reply) }
+    ensures same { IfSome result (λ next. next ≡ Left.Drives process until) }
+{
+    match reply {
+        Reply::Begun(_) | Reply::Entered => Some(Left::Drives(process, until)),
+        _ => None,
+    }
+}
+
+// What is left once the process's work was offered its entry.
+fn after_offer(world: &World, process: usize, until: Until) -> Option<Left>
+    requires { IsWithin world.now (Left.Drives process until) }
+    ensures remains { Remains result (offered world.now process until) }
+    ensures within { IfSome result (IsWithin world.now) }
+    ensures same { IfSome result (λ next. next ≡ Left.Drives process until) }
+{
+    match until {
+        Until::ToPoint(name) => to_point(world, process, name),
+        Until::OneStep | Until::ToAnswer | Until::InPass { passes: _, cell: _ } => {
+            Some(Left::Drives(process, until))
+        }
+    }
+}
+
+// What is left once the process has made a step.
+fn after_step(world: &World, process: usize, until: Until) -> Option<Left>
+    requires { IsWithin world.now (Left.Drives process until) }
+    ensures remains { Remains result (stepped world.now process until) }
+    ensures within { IfSome result (IsWithin world.now) }
+{
+    match until {
+        Until::OneStep => None,
+        Until::ToPoint(name) => to_point(world, process, name),
+        Until::ToAnswer | Until::InPass { passes: _, cell: _ } => {
+            Some(Left::Drives(process, until))
+        }
+    }
+}
+
+// What is left of a settle once its work on the cell was answered: it goes on, but for want of memory.
+fn after_work(
+    world: &World,
+    process: usize,
+    passes: usize,
+    cell: usize,
+    answer: Answer,
+) -> Option<Left>
+    requires { cell < cells_of world.now.sheet.layout }
+    ensures remains { Remains result (ended world.now process (InPass passes cell) (Answered answer)) }
+    ensures within { IfSome result (IsWithin world.now) }
+{
+    match answer {
+        Answer::NoMemory => None,
+        _ => behind(world, process, passes, cell),
+    }
+}
+
+// What is left once the process's call was answered.
+fn after_answer(world: &World, process: usize, until: Until, answer: Answer) -> Option<Left>
+    requires { IsWithin world.now (Left.Drives process until) }
+    ensures remains { Remains result (ended world.now process until (Answered answer)) }
+    ensures within { IfSome result (IsWithin world.now) }
+{
+    match until {
+        Until::OneStep | Until::ToPoint(_) | Until::ToAnswer => None,
+        Until::InPass { passes, cell } => after_work(world, process, passes, cell, answer),
+    }
+}
+
+// Work of a settle begins, or is refused.
+fn begin_work(alloc: Global, world: &mut World, process: usize, passes: usize, cell: usize) -> Turn
+    requires { cell < cells_of world.old.sheet.layout }
+    ensures { TakesTurn (Left.Works process passes cell) world.old result world.new }
+{
+    let reply = begin(alloc, world, process, cell);
+    Turn {
+        stepped: false,
+        left: after_begin(process, Until::InPass { passes, cell }, reply),
+    }
+}
+
+// The process makes a step, if it can.
+fn step(alloc: Global, world: &mut World, process: usize, until: Until) -> Turn
+    requires wants { WantsStep world.old process }
+    requires within { IsWithin world.old (Left.Drives process until) }
+    ensures { TakesTurn (Left.Drives process until) world.old result world.new }
+{
+    match step_once(alloc, world, process) {
+        Reply::Stepped => Turn {
+            stepped: true,
+            left: after_step(world, process, until),
+        },
+        Reply::Answered(answer) => Turn {
+            stepped: true,
+            left: after_answer(world, process, until, answer),
+        },
+        _ => Turn {
+            stepped: false,
+            left: None,
+        },
+    }
+}
+
+// The process's work is offered the entry that it waits for, or else the process makes a step.
+fn go(alloc: Global, world: &mut World, process: usize, until: Until) -> Turn
+    requires { IsWithin world.old (Left.Drives process until) }
+    ensures { TakesTurn (Left.Drives process until) world.old result world.new }
+{
+    world.is_always_good();
+    if offer_own(world, process) {
+        world.is_always_good();
+        Turn {
+            stepped: false,
+            left: after_offer(world, process, until),
+        }
+    } else {
+        step(alloc, world, process, until)
+    }
+}
+
+/// Takes the next event of a command.
+pub fn take_turn(alloc: Global, world: &mut World, left: Left) -> Turn
+    requires { IsWithin world.old left }
+    ensures { TakesTurn left world.old result world.new }
+{
+    match left {
+        Left::Drives(process, until) => go(alloc, world, process, until),
+        Left::Works {
+            process,
+            passes,
+            cell,
+        } => begin_work(alloc, world, process, passes, cell),
+    }
+}
