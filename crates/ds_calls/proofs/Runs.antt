@@ -1,0 +1,62 @@
+-- Whole calls and settles as runs.
+use Rattle.std.proofs.Common.{ℕ, ◌≡◌, List, [], ◌∷◌, ◌++◌, refl, subst}
+use Rattle.std.specs.Prelude.{Result}
+use Rattle.ds_state.specs.Value.{WorldValue}
+use Rattle.ds_state.specs.declared.refusal.Refusal.{Refusal}
+use Rattle.ds_edit.specs.declared.answer.Answer.{Answer}
+use Rattle.ds_core.specs.Takes.{WorldRun}
+use Rattle.ds_core.specs.declared.event.Event.{Event}
+use Rattle.ds_core.specs.declared.event.Event.TheVariants.{Step}
+use Rattle.ds_core.specs.declared.reply.Reply.{Reply}
+use Rattle.ds_core.specs.declared.reply.Reply.TheVariants.{Refused, Stepped, Answered}
+use Rattle.ds_core.proofs.Runs.{run_more}
+use Rattle.ds_core.proofs.Bound.{run_layout}
+use Rattle.ds_calls.specs.declared.settle.Turn.{Turn}
+use Rattle.ds_calls.specs.Wanted.{wants}
+use Rattle.ds_calls.specs.Whole.{Goes, stays, goes, Finishes, Whole, finishes, refused, IsRun}
+use Rattle.ds_calls.specs.Settling.{Settling, begins, works}
+
+-- ---- runs
+
+pub no_events : (old : WorldValue) → IsRun old old
+no_events old = record { events = []; replies = []; run = refl }
+
+on : (events : List Event) (replies : List Reply) (events' : List Event) (replies' : List Reply) (old mid new : WorldValue)
+    → WorldRun old events replies mid → WorldRun mid events' replies' new → WorldRun old (events ++ events') (replies ++ replies') new
+on [] [] events' replies' old mid new h k = subst (λ (v : WorldValue). WorldRun v events' replies' new) h k
+on (event ∷ events) (reply ∷ replies) events' replies' old mid new h k = (h.0, h.1, on events replies events' replies' h.0 mid new h.2 k)
+on [] (reply ∷ replies) events' replies' old mid new h k = absurd h
+on (event ∷ events) [] events' replies' old mid new h k = absurd h
+
+pub runs_on : (old mid new : WorldValue) → IsRun old mid → IsRun mid new → IsRun old new
+runs_on old mid new h k = record { events = h.events ++ k.events; replies = h.replies ++ k.replies; run = on h.events h.replies k.events k.replies old mid new h.run k.run }
+
+pub same_run : (old new : WorldValue) → new ≡ old → IsRun old new
+same_run old new is = record { events = []; replies = []; run = is }
+
+pub run_keeps_layout : (old new : WorldValue) → IsRun old new → new.sheet.layout ≡ old.sheet.layout
+run_keeps_layout old new h = run_layout h.events h.replies old new h.run
+
+-- ---- calls
+
+goes_runs : (p : ℕ) (first : WorldValue) (events : List Event) (replies : List Reply) (new : WorldValue) → Goes p first events replies new → WorldRun first events replies new
+goes_runs p first events replies new stays = refl
+goes_runs p first events replies new (goes es rs old n so_far fits) = run_more first old new es (wants old p) rs Stepped (goes_runs p first es rs old so_far) fits
+
+pub finishes_runs : (p : ℕ) (old : WorldValue) (answer : Answer) (new : WorldValue) → Finishes p old answer new → IsRun old new
+finishes_runs p old answer new h = record {
+  events = h.events ++ Step p ∷ [];
+  replies = h.replies ++ Answered answer ∷ [];
+  run = run_more old h.last new h.events (Step p) h.replies (Answered answer) (goes_runs p old h.events h.replies h.last h.goes) h.answers;
+}
+
+pub whole_runs : (p : ℕ) (event : Event) (old : WorldValue) (result : Result Answer Refusal) (new : WorldValue) → Whole p event old result new → IsRun old new
+whole_runs p event old result new (finishes reply mid n answer begun fits h) =
+    let r = finishes_runs p mid answer new h in record { events = event ∷ r.events; replies = reply ∷ r.replies; run = (mid, fits, r.run) }
+whole_runs p event old result new (refused why n fits) = record { events = event ∷ []; replies = Refused why ∷ []; run = (new, fits, refl) }
+
+-- ---- settles
+
+pub settling_runs : (p : ℕ) (first : WorldValue) (turn : Turn) (new : WorldValue) → Settling p first turn new → IsRun first new
+settling_runs p first turn new begins = no_events first
+settling_runs p first turn new (works passes cell old n result so_far whole) = runs_on first old new (settling_runs p first _ old so_far) (whole_runs p _ old result new whole)

@@ -1,0 +1,26 @@
+use Rattle.std.proofs.Common.{ℕ, ◌+◌, ◌<◌, sym, ap, subst, ◌∙◌}
+use Rattle.ds_layout.specs.declared.layout.Layout.{Layout}
+use Rattle.ds_calls.specs.declared.settle.Turn.{Turn}
+use Rattle.ds_calls.specs.Settling.{pass, Settling, begins, works}
+use Rattle.ds_calls.proofs.settle.settle.Goals as goal
+
+pub works-init : goal.works-init
+works-init c =
+    record {
+      settling = subst (λ (t : Turn). Settling c.args.process c.args.world.now t c.args.world.now) (sym (c.pass-turn.ensures.value ∙ ap (λ (n : ℕ). pass c.args.world.now (n + 2)) c.cells.ensures.value)) begins;
+      there = c.requires;
+      inside = c.pass-turn.ensures.inside;
+      free = λ h. h;
+    }
+
+pub works-preserved : goal.works-preserved
+works-preserved c =
+    let i = c.works.invariant in
+    let w = c.work-turn.ensures.works in
+    record {
+      settling = subst (λ (t : Turn). Settling c.args.process c.args.world.now t c.work-turn.new.world) (sym w.next_is)
+          (works c.in-Works.passes c.in-Works.cell c.works.world c.work-turn.new.world w.result (subst (λ (t : Turn). Settling c.args.process c.args.world.now t c.works.world) c.in-Works.is i.settling) w.whole);
+      there = subst (λ (l : Layout). c.args.process < l.processes) (sym w.layout) i.there;
+      inside = c.work-turn.ensures.inside;
+      free = λ h. w.free (i.free h);
+    }

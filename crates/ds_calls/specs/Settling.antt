@@ -1,0 +1,69 @@
+-- A settle: whole works on the cells that are marked, in passes.
+use Rattle.std.specs.Prelude.{ℕ, zero, suc, ◌≡◌, ◌<◌, ◌+◌, ◌-◌, ◌*◌, Option, Some, None, Result, Ok, Err}
+use Rattle.ds_formula.specs.Cells.{cell_at}
+use Rattle.ds_layout.specs.Places.{cells_of}
+use Rattle.ds_state.specs.Value.{WorldValue, world_of}
+use Rattle.ds_state.specs.declared.refusal.Refusal.{Refusal}
+use Rattle.ds_edit.specs.declared.answer.Answer.{Answer}
+use Rattle.ds_edit.specs.declared.answer.Answer.TheVariants as answers
+use Rattle.ds_core.specs.declared.event.Event.TheVariants.{BeginWork}
+use Rattle.ds_calls.specs.declared.settle.SettleEnd.TheVariants.{Left, Refused, NoMemory}
+use Rattle.ds_calls.specs.declared.settle.Turn.{Turn}
+use Rattle.ds_calls.specs.declared.settle.Turn.TheVariants.{Ends, Works}
+use Rattle.ds_calls.specs.Marked.{marked_from, left_in}
+use Rattle.ds_calls.specs.Whole.{Whole, KeepsFree}
+
+-- a settle ends with the number of cells that are left
+abbrev pub ends : WorldValue → Turn
+ends w = Ends (Left (left_in (world_of w)))
+
+-- a pass begins with work on the first marked cell; where none is marked, the settle ends
+abbrev pub first_of : WorldValue → ℕ → Option ℕ → Turn
+first_of w passes None = ends w
+first_of w passes (Some cell) = Works passes cell
+
+-- a settle with so many passes left begins the next one; with none left it ends
+abbrev pub pass : WorldValue → ℕ → Turn
+pass w zero = ends w
+pass w (suc passes) = first_of w passes (marked_from (world_of w) (cells_of w.sheet.layout) 0)
+
+-- a pass goes on with the next marked cell; where none is marked, the next pass begins
+abbrev pub next_of : WorldValue → ℕ → Option ℕ → Turn
+next_of w passes None = pass w passes
+next_of w passes (Some cell) = Works passes cell
+
+-- a pass that has worked on a cell goes on behind that cell
+abbrev pub goes_behind : WorldValue → ℕ → ℕ → Turn
+goes_behind w passes cell = next_of w passes (marked_from (world_of w) (cells_of w.sheet.layout - (cell + 1)) (cell + 1))
+
+-- what a settle does once a work of its has ended so: it ends where the begin was refused or memory was wanting, else
+-- it goes on behind the cell
+abbrev pub worked : WorldValue → ℕ → ℕ → Result Answer Refusal → Turn
+worked w passes cell (Err why) = Ends (Refused why)
+worked w passes cell (Ok answers.NoMemory) = Ends NoMemory
+worked w passes cell (Ok answer) = goes_behind w passes cell
+
+-- a settle by the process has come to this turn: it began with two passes more than the sheet has cells, and each work
+-- so far was a whole one
+pub data Settling (p : ℕ) (first : WorldValue) : Turn → WorldValue → Type 0 where
+  begins : Settling p first (pass first (cells_of first.sheet.layout + 2)) first
+  works : (passes cell : ℕ) (old new : WorldValue) (result : Result Answer Refusal) → Settling p first (Works passes cell) old
+      → Whole p (BeginWork p (cell_at old.sheet.layout.shape cell)) old result new → Settling p first (worked new passes cell result) new
+
+-- a number that grows less with each work of a settle on a sheet of so many cells
+abbrev pub works_left : ℕ → Turn → ℕ
+works_left cells (Ends end) = 0
+works_left cells (Works passes cell) = 1 + passes * (cells + 1) + (cells - cell)
+
+-- the cell that the settle works on next is one of so many
+abbrev pub IsInTurn : ℕ → Turn → Type 0
+IsInTurn cells (Ends end) = Unit {0}
+IsInTurn cells (Works passes cell) = cell < cells
+
+-- a whole work of the process on the cell, and what the settle does next
+pub record WorksOnce (p passes cell : ℕ) (old : WorldValue) (next : Turn) (new : WorldValue) : Type 0 where
+  pub result : Result Answer Refusal
+  pub whole : Whole p (BeginWork p (cell_at old.sheet.layout.shape cell)) old result new
+  pub next_is : next ≡ worked new passes cell result
+  pub layout : new.sheet.layout ≡ old.sheet.layout
+  pub free : KeepsFree p old new

@@ -1,0 +1,130 @@
+//! Whole calls: an edit, work, a report, a recovery.
+
+ghost use Rattle.std.specs.Prelude.{◌≡◌};
+ghost use Rattle.ds_core.specs.declared.event.Event.TheVariants.{BeginEdit, BeginWork, BeginShow, BeginRecover};
+ghost use Rattle.ds_core.specs.Takes.{IsOfWorld, Fits, BeginTakes};
+ghost use Rattle.ds_core.specs.WorkEvents.{HasWork};
+ghost use Rattle.ds_calls.specs.Kinds.{IsEditAnswer, IsWorkAnswer, IsReportAnswer, IsRecoveryAnswer};
+ghost use Rattle.ds_calls.specs.Whole.{HasProcess, IsWhole, request};
+ghost use Rattle.ds_calls.specs.Driven.{CanGoOn, BeginsCall, IsDriven};
+
+use crate::finish::finish;
+use ds_core::event::Event;
+use ds_core::reply::Reply;
+use ds_core::take::take;
+use ds_edit::answer::Answer;
+use ds_formula::cells::Cell;
+use ds_state::refusal::Refusal;
+use ds_state::world::World;
+use std::alloc::Global;
+
+// An edit begins, or is refused: as by the event, which would own the text.
+fn edit_takes(alloc: Global, world: &mut World, process: usize, cell: Cell, text: &[u8]) -> Reply
+    requires { IsOfWorld world.old (request process cell text.now) }
+    ensures { BeginTakes world.old (request process cell text.now) result world.new }
+{
+    match ds_edit::begin::begin(alloc, world, process, cell, text) {
+        Ok(number) => Reply::Begun(number),
+        Err(refusal) => Reply::Refused(refusal),
+    }
+}
+
+fn begin_edit(alloc: Global, world: &mut World, process: usize, cell: Cell, text: &[u8]) -> Reply
+    requires { IsOfWorld world.old (request process cell text.now) }
+    ensures fits { Fits world.old (BeginEdit (request process cell text.now)) result world.new }
+    ensures begins { BeginsCall IsEditAnswer world.old process world.new result }
+{
+    let reply = edit_takes(alloc, world, process, cell, text);
+    world.is_always_good();
+    reply
+}
+
+fn begin_work(alloc: Global, world: &mut World, process: usize, cell: Cell) -> Reply
+    requires { HasWork world.old process cell }
+    ensures fits { Fits world.old (BeginWork process cell) result world.new }
+    ensures begins { BeginsCall IsWorkAnswer world.old process world.new result }
+{
+    let event = Event::BeginWork(process, cell);
+    take(alloc, world, &event)
+}
+
+fn begin_report(alloc: Global, world: &mut World, process: usize) -> Reply
+    requires { HasProcess world.old process }
+    ensures fits { Fits world.old (BeginShow process) result world.new }
+    ensures begins { BeginsCall IsReportAnswer world.old process world.new result }
+{
+    let event = Event::BeginShow(process);
+    take(alloc, world, &event)
+}
+
+fn begin_recovery(alloc: Global, world: &mut World, process: usize) -> Reply
+    requires { HasProcess world.old process }
+    ensures fits { Fits world.old (BeginRecover process) result world.new }
+    ensures begins { BeginsCall IsRecoveryAnswer world.old process world.new result }
+{
+    let event = Event::BeginRecover(process);
+    take(alloc, world, &event)
+}
+
+// What a call comes to whose begin has this reply: it is driven to its answer, or it was refused.
+fn driven(alloc: Global, world: &mut World, process: usize, reply: Reply) -> Result<Answer, Refusal>
+    requires { CanGoOn world.old process reply }
+    ensures { IsDriven process reply world.old result world.new }
+{
+    match reply {
+        Reply::Begun(_) | Reply::Entered => Ok(finish(alloc, world, process)),
+        Reply::Refused(refusal) => Err(refusal),
+        _ => unreachable!(),
+    }
+}
+
+/// A whole edit of the cell to the text by a process of the sheet. Where its begin is refused, the
+/// world is as it was.
+pub fn whole_edit(
+    alloc: Global,
+    world: &mut World,
+    process: usize,
+    cell: Cell,
+    text: &[u8],
+) -> Result<Answer, Refusal>
+    requires { IsOfWorld world.old (request process cell text.now) }
+    ensures { IsWhole IsEditAnswer process (BeginEdit (request process cell text.now)) world.old result world.new }
+{
+    let reply = begin_edit(alloc, world, process, cell, text);
+    driven(alloc, world, process, reply)
+}
+
+/// Whole work on a cell of the sheet by a process of it, with its evaluation. Where its begin is
+/// refused, the world is as it was.
+pub fn whole_work(
+    alloc: Global,
+    world: &mut World,
+    process: usize,
+    cell: Cell,
+) -> Result<Answer, Refusal>
+    requires { HasWork world.old process cell }
+    ensures { IsWhole IsWorkAnswer process (BeginWork process cell) world.old result world.new }
+{
+    let reply = begin_work(alloc, world, process, cell);
+    driven(alloc, world, process, reply)
+}
+
+/// A whole report by a process of the sheet. Where it is settled, its values are the process's last
+/// ones that the world keeps. Where its begin is refused, the world is as it was.
+pub fn whole_report(alloc: Global, world: &mut World, process: usize) -> Result<Answer, Refusal>
+    requires { HasProcess world.old process }
+    ensures { IsWhole IsReportAnswer process (BeginShow process) world.old result world.new }
+{
+    let reply = begin_report(alloc, world, process);
+    driven(alloc, world, process, reply)
+}
+
+/// A whole recovery of a process of the sheet, stopped or idle. Where its begin is refused, the world
+/// is as it was.
+pub fn whole_recovery(alloc: Global, world: &mut World, process: usize) -> Result<Answer, Refusal>
+    requires { HasProcess world.old process }
+    ensures { IsWhole IsRecoveryAnswer process (BeginRecover process) world.old result world.new }
+{
+    let reply = begin_recovery(alloc, world, process);
+    driven(alloc, world, process, reply)
+}

@@ -1,0 +1,74 @@
+//! Drives a call to its answer.
+
+ghost use Rattle.std.specs.Prelude.{◌≡◌, ◌<◌, IfSome, IfNone};
+ghost use Rattle.ds_state.specs.Value.{world_of};
+ghost use Rattle.ds_core.specs.declared.event.Event.TheVariants.{Step};
+ghost use Rattle.ds_core.specs.declared.reply.Reply.TheVariants.{Stepped};
+ghost use Rattle.ds_core.specs.Takes.{Fits};
+ghost use Rattle.ds_core.specs.Own.{steps_left};
+ghost use Rattle.ds_calls.specs.Kinds.{AnswersTo};
+ghost use Rattle.ds_calls.specs.Whole.{IsCalling, IsIdle, Finishes};
+ghost use Rattle.ds_calls.specs.Driven.{IsNotWaiting, GoesOn, IsAnswered};
+
+use ds_core::event::Event;
+use ds_core::reply::Reply;
+use ds_core::take::take;
+use ds_edit::answer::Answer;
+use ds_state::world::World;
+use ds_work::offer::offer_own;
+use std::alloc::Global;
+
+fn step_once(alloc: Global, world: &mut World, process: usize) -> Reply
+    ensures fits { Fits world.old (Step process) result world.new }
+    ensures fewer { result ≡ Stepped → steps_left process world.new < steps_left process world.old }
+{
+    let event = Event::Step(process);
+    take(alloc, world, &event)
+}
+
+// One step, and the answer where it is the last one.
+fn step(alloc: Global, world: &mut World, process: usize) -> Option<Answer>
+    requires calling { IsCalling world.old process }
+    requires waits { IsNotWaiting world.old process }
+    ensures answers { IfSome result (λ answer. IsAnswered world.old process answer world.new) }
+    ensures goes { IfNone result (GoesOn world.old process world.new) }
+    ensures fewer { IfNone result (steps_left process world.new < steps_left process world.old) }
+{
+    world.is_always_good();
+    match step_once(alloc, world, process) {
+        Reply::Stepped => None,
+        Reply::Answered(answer) => Some(answer),
+        _ => unreachable!(),
+    }
+}
+
+// An offer or a step, and the answer where it is the last one.
+fn go(alloc: Global, world: &mut World, process: usize) -> Option<Answer>
+    requires { IsCalling world.old process }
+    ensures answers { IfSome result (λ answer. IsAnswered world.old process answer world.new) }
+    ensures goes { IfNone result (GoesOn world.old process world.new) }
+    ensures fewer { IfNone result (steps_left process world.new < steps_left process world.old) }
+{
+    world.is_always_good();
+    if offer_own(world, process) {
+        world.is_always_good();
+        None
+    } else {
+        step(alloc, world, process)
+    }
+}
+
+/// Lets a process go on with the call that it is in, to its answer. Where its work waits, it is
+/// offered the entry that it waits for, evaluated in place, which takes no memory.
+pub fn finish(alloc: Global, world: &mut World, process: usize) -> Answer
+    requires { IsCalling world.old process }
+    ensures finishes { Finishes process world.old result world.new }
+    ensures answers { AnswersTo ((world_of world.old).situation process) result }
+    ensures idle { IsIdle world.new process }
+{
+    'steps: loop {
+        if let Some(answer) = go(alloc, world, process) {
+            return answer;
+        }
+    }
+}

@@ -1,0 +1,132 @@
+//! Works on all cells that are marked, in passes, until a pass finds none.
+
+ghost use Rattle.std.specs.Prelude.{◌≡◌, ◌<◌, ◌≤◌, ◌+◌, ◌*◌};
+ghost use Rattle.ds_formula.specs.Cells.{cell_at};
+ghost use Rattle.ds_layout.specs.Places.{cells_of};
+ghost use Rattle.ds_core.specs.declared.event.Event.TheVariants.{BeginWork};
+ghost use Rattle.ds_calls.specs.declared.settle.Turn.TheVariants.{Ends, Works};
+ghost use Rattle.ds_calls.specs.Kinds.{IsWorkAnswer};
+ghost use Rattle.ds_calls.specs.Whole.{HasProcess, KeepsFree, IsWhole};
+ghost use Rattle.ds_calls.specs.Settling.{ends, pass, goes_behind, worked, Settling, works_left, IsInTurn, WorksOnce};
+
+use crate::call::whole_work;
+use crate::marked::{cells, left, next_marked};
+use ds_edit::answer::Answer;
+use ds_state::refusal::Refusal;
+use ds_state::world::World;
+use std::alloc::Global;
+
+/// How a settle ended.
+#[derive(Clone, Copy, Debug, PartialEq, Eq)]
+pub enum SettleEnd {
+    /// So many cells are marked or held; 0 where all are clean.
+    Left(usize),
+    /// The begin of a work of its was refused, for this cause.
+    Refused(Refusal),
+    /// A work of its lacked memory, and gave its cell back dirty.
+    NoMemory,
+}
+
+/// What a settle does next.
+#[derive(Clone, Copy, Debug, PartialEq, Eq)]
+pub enum Turn {
+    /// It ends.
+    Ends(SettleEnd),
+    /// A whole work on a cell.
+    Works {
+        /// How many passes are left behind this one.
+        passes: usize,
+        /// The cell, by its number.
+        cell: usize,
+    },
+}
+
+// No work is due, or no pass is left.
+fn ended(world: &World) -> Turn
+    ensures { result ≡ ends world.now }
+{
+    Turn::Ends(SettleEnd::Left(left(world)))
+}
+
+// The next pass begins, with so many left.
+fn pass(world: &World, passes: usize) -> Turn
+    ensures value { result ≡ pass world.now passes }
+    ensures few { works_left (cells_of world.now.sheet.layout) result ≤ passes * (cells_of world.now.sheet.layout + 1) }
+    ensures inside { IsInTurn (cells_of world.now.sheet.layout) result }
+{
+    if passes == 0 {
+        return ended(world);
+    }
+    match next_marked(world, 0) {
+        Some(cell) => Turn::Works {
+            passes: passes - 1,
+            cell,
+        },
+        None => ended(world),
+    }
+}
+
+// A pass goes on behind a cell.
+fn goes_behind(world: &World, passes: usize, cell: usize) -> Turn
+    requires { cell < cells_of world.now.sheet.layout }
+    ensures value { result ≡ goes_behind world.now passes cell }
+    ensures fewer { works_left (cells_of world.now.sheet.layout) result < works_left (cells_of world.now.sheet.layout) (Works passes cell) }
+    ensures inside { IsInTurn (cells_of world.now.sheet.layout) result }
+{
+    match next_marked(world, cell + 1) {
+        Some(next) => Turn::Works { passes, cell: next },
+        None => pass(world, passes),
+    }
+}
+
+// What a settle does once a work of its has ended so.
+fn worked(world: &World, passes: usize, cell: usize, answered: Result<Answer, Refusal>) -> Turn
+    requires { cell < cells_of world.now.sheet.layout }
+    ensures value { result ≡ worked world.now passes cell answered }
+    ensures fewer { works_left (cells_of world.now.sheet.layout) result < works_left (cells_of world.now.sheet.layout) (Works passes cell) }
+    ensures inside { IsInTurn (cells_of world.now.sheet.layout) result }
+{
+    match answered {
+        Err(refusal) => Turn::Ends(SettleEnd::Refused(refusal)),
+        Ok(Answer::NoMemory) => Turn::Ends(SettleEnd::NoMemory),
+        Ok(_) => goes_behind(world, passes, cell),
+    }
+}
+
+// A whole work on the cell with this number.
+fn work_on(alloc: Global, world: &mut World, process: usize, cell: usize) -> Result<Answer, Refusal>
+    requires process { HasProcess world.old process }
+    requires cell { cell < cells_of world.old.sheet.layout }
+    ensures { IsWhole IsWorkAnswer process (BeginWork process (cell_at world.old.sheet.layout.shape cell)) world.old result world.new }
+{
+    let shape = world.words.layout().shape;
+    whole_work(alloc, world, process, shape.cell(cell))
+}
+
+// A whole work of a settle, and what the settle does next.
+fn work(alloc: Global, world: &mut World, process: usize, passes: usize, cell: usize) -> Turn
+    requires process { HasProcess world.old process }
+    requires cell { cell < cells_of world.old.sheet.layout }
+    ensures works { WorksOnce process passes cell world.old result world.new }
+    ensures fewer { works_left (cells_of world.new.sheet.layout) result < works_left (cells_of world.old.sheet.layout) (Works passes cell) }
+    ensures inside { IsInTurn (cells_of world.new.sheet.layout) result }
+{
+    let answered = work_on(alloc, world, process, cell);
+    worked(world, passes, cell, answered)
+}
+
+/// Works on each cell that is marked when its turn comes, ascending, in at most two passes more than
+/// the sheet has cells, until a pass finds none; each work is a whole one by a process of the sheet.
+pub fn settle(alloc: Global, world: &mut World, process: usize) -> SettleEnd
+    requires { HasProcess world.old process }
+    ensures settles { Settling process world.old (Ends result) world.new }
+    ensures free { KeepsFree process world.old world.new }
+{
+    let mut turn = pass(world, cells(world) + 2);
+    'works: loop {
+        match turn {
+            Turn::Ends(end) => return end,
+            Turn::Works { passes, cell } => turn = work(alloc, world, process, passes, cell),
+        }
+    }
+}

@@ -1,0 +1,7 @@
+pub mod Floats
+pub mod LineLemmas
+pub mod Answered
+pub mod RowLemmas
+pub mod Sessions
+pub mod Runs
+pub mod Worlds

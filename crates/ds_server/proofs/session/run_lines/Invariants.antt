@@ -1,0 +1,24 @@
+use Rattle.std.proofs.Common.{◌≡◌, ℕ, ◌+◌, ◌≤◌, ◌<◌, List, length}
+use Rattle.std.specs.Prelude.{vec_capacity}
+use Rattle.std.specs.Io.KnownBytes.{Consumes, Appends}
+use Rattle.ds_streams.specs.Streams.{reader_of, writer_of, bytes_given, write_failed}
+use Rattle.ds_server.specs.Boards.{Seated}
+use Rattle.ds_server.specs.Session.{Session}
+use Rattle.ds_server.proofs.session.run_lines.Given as goal
+
+abbrev pub invariant-lines : goal.invariant-lines
+invariant-lines g l = record {
+  bytes : List ℕ;
+  out : List ℕ;
+  consumed : Consumes (g.R.Read.remaining (reader_of l.fn.reader)) (g.R.Read.remaining (reader_of l.reader)) bytes;
+  written : Appends (g.W.Write.contents (writer_of l.fn.writer)) (g.W.Write.contents (writer_of l.writer)) out;
+  session : Session g.B.Board.rules l.most l.fn.board bytes l.board l.joined out;
+  seated : Seated g.B.Board.rules l.joined l.board;
+  counted : length bytes + l.left ≡ l.limit;
+  room : l.most < vec_capacity l.line;
+  given : bytes_given l.reader ≤ bytes_given l.fn.reader + length bytes;
+  failed : write_failed l.writer ≡ write_failed l.fn.writer;
+}
+
+abbrev pub decreases-lines : goal.decreases-lines
+decreases-lines g l = l.left

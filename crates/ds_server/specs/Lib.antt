@@ -1,0 +1,12 @@
+pub mod Limits
+pub mod Calls
+pub mod Replies
+pub mod Boards
+pub mod Lines
+pub mod Requests
+pub mod Asked
+pub mod Texts
+pub mod Session
+pub mod Endings
+pub mod Worlds
+pub mod Telling

@@ -1,0 +1,102 @@
+-- What a line asks for.
+use Rattle.std.specs.Prelude.{◌≡◌, ℕ, ◌<◌, nat_lt, List, codes, Option, Some, None, Result, Ok, Err, if◌then◌else◌}
+use Rattle.std.specs.Str.{bytes_eq, IsUtf8}
+use Rattle.serde_json.specs.Data.{Data}
+use Rattle.serde_json.specs.Read.{read}
+use Rattle.serde_json.specs.Find.{get, as_str, as_number, as_u64}
+use Rattle.ds_formula.specs.declared.cells.Shape.{Shape}
+use Rattle.ds_formula.specs.Cells.{IsInside}
+use Rattle.ds_formula.specs.Names.{cell_named}
+use Rattle.ds_server.specs.declared.request.Verb.{Verb}
+use Rattle.ds_server.specs.declared.request.Verb.TheVariants as verb
+use Rattle.ds_server.specs.declared.request.LineFault.{LineFault}
+use Rattle.ds_server.specs.declared.request.LineFault.TheVariants as fault
+use Rattle.ds_server.specs.Calls.{Call, Join, Set, Report, Last, Leave}
+
+-- ---- JSON
+
+-- the line is JSON of this value, by the grammar of RFC 8259 in UTF-8; of equal keys of an object the last one stands
+abbrev pub IsJson : List ℕ → Data → Type 0
+IsJson line value = IsUtf8 line × (read line ≡ Some value)
+
+-- the line is no JSON
+abbrev pub IsNoJson : List ℕ → Type 0
+IsNoJson line = IsUtf8 line → read line ≡ None
+
+-- ---- fields
+
+-- what the function gives of what is there, none where there is none
+infixl 10 ◌>>=◌
+abbrev pub ◌>>=◌ : {A B : Type 0} → Option A → (A → Option B) → Option B
+(Some x) >>= f = f x
+None >>= f = None
+
+-- the text of the field with this key, where the value is an object whose field that is, and it is a text
+abbrev pub text_field : List ℕ → Data → Option (List ℕ)
+text_field key value = get key value >>= as_str
+
+-- the number of the field with this key: a whole one from 0 to 2^64 - 1
+abbrev pub number_field : List ℕ → Data → Option ℕ
+number_field key value = (get key value >>= as_number) >>= as_u64
+
+-- the verb that a word names
+abbrev pub verb_named : List ℕ → Option Verb
+verb_named word =
+    if bytes_eq word (codes "join") then Some verb.Join
+    else (if bytes_eq word (codes "set") then Some verb.Set
+    else (if bytes_eq word (codes "report") then Some verb.Report
+    else (if bytes_eq word (codes "last") then Some verb.Last
+    else None)))
+
+-- ---- calls
+
+-- the join of a process, where the board has it
+abbrev pub join_by : ℕ → ℕ → Option Call
+join_by processes process = if nat_lt process processes then Some (Join process) else None
+
+-- the join that the fields ask for
+abbrev pub join_in : ℕ → Data → Option Call
+join_in processes value = number_field (codes "process") value >>= join_by processes
+
+-- the edit by the process that the fields ask for: a cell of the sheet, and a text
+abbrev pub set_in : Shape → ℕ → Data → Option Call
+set_in shape process value = (text_field (codes "cell") value >>= cell_named shape) >>= λ cell. text_field (codes "text") value >>= λ text. Some (Set process cell text)
+
+-- the call, where the fields have one
+abbrev pub or_bad_field : Option Call → Result Call LineFault
+or_bad_field None = Err fault.BadField
+or_bad_field (Some call) = Ok call
+
+-- the call of the verb and the fields, by the process that the session has joined, if any: a join where it has none,
+-- else one of that process
+abbrev pub call_by : Shape → ℕ → Option ℕ → Verb → Data → Result Call LineFault
+call_by shape processes None verb.Join value = or_bad_field (join_in processes value)
+call_by shape processes (Some process) verb.Join value = Err fault.AlreadyJoined
+call_by shape processes None verb value = Err fault.NotJoined
+call_by shape processes (Some process) verb.Set value = or_bad_field (set_in shape process value)
+call_by shape processes (Some process) verb.Report value = Ok (Report process)
+call_by shape processes (Some process) verb.Last value = Ok (Last process)
+
+-- the call, where the word behind `op` names a verb
+abbrev pub call_with : Shape → ℕ → Option ℕ → Data → Option Verb → Result Call LineFault
+call_with shape processes joined value None = Err fault.UnknownOp
+call_with shape processes joined value (Some verb) = call_by shape processes joined verb value
+
+-- the call, where the field `op` is a text
+abbrev pub call_op : Shape → ℕ → Option ℕ → Data → Option (List ℕ) → Result Call LineFault
+call_op shape processes joined value None = Err fault.BadField
+call_op shape processes joined value (Some op) = call_with shape processes joined value (verb_named op)
+
+-- the call that a value asks for, or the first fault: no text behind `op`, an unknown one, not joined or already
+-- joined, a bad field
+abbrev pub call_of : Shape → ℕ → Option ℕ → Data → Result Call LineFault
+call_of shape processes joined value = call_op shape processes joined value (text_field (codes "op") value)
+
+-- the call is one that a session may make which has joined this process, if any: a join of a process of the board, or
+-- a call of its own process, of a cell of the sheet
+abbrev pub IsCallOf : Shape → ℕ → Option ℕ → Call → Type 0
+IsCallOf shape processes joined (Join process) = (joined ≡ None) × (process < processes)
+IsCallOf shape processes joined (Set process cell text) = (joined ≡ Some process) × IsInside shape cell
+IsCallOf shape processes joined (Report process) = joined ≡ Some process
+IsCallOf shape processes joined (Last process) = joined ≡ Some process
+IsCallOf shape processes joined (Leave process) = ⊥

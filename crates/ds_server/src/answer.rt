@@ -1,0 +1,260 @@
+//! The line of each answer.
+
+ghost use Rattle.std.specs.Prelude.{◌≡◌, IfOk, string_bytes};
+ghost use Rattle.serde_json.specs.View.{view};
+ghost use Rattle.serde_json.specs.Written.{compact_text};
+ghost use Rattle.ds_formula.specs.Cells.{cell_at};
+ghost use Rattle.ds_formula.specs.Names.{cell_text};
+ghost use Rattle.ds_server.specs.Texts.{code_of_fault, name_of_fault, outcome_text, told_data, last_data, other_data, row_data, rows_data, place_text, joined_data, done_data, overtaken_data, settled_data, unsettled_data, tells_data, error_data, text_fault_data, refusal_data, said_data, said_text};
+ghost use Rattle.ds_server.specs.Telling.{reply_view};
+
+use crate::board::CallRefusal;
+use crate::request::LineFault;
+use ds_edit::answer::{Other, Told};
+use ds_eval::value::Value;
+use ds_formula::cells::{Cell, Shape};
+use ds_formula::fault::TextFault;
+use ds_layout::place::Place;
+use serde_json::{Value as Json, json};
+use std::alloc::{AllocError, Global};
+
+/// What a line is answered.
+#[derive(Debug, Drop)]
+pub enum Reply {
+    /// The process is the session's; its last edit that was announced, if any.
+    Joined(usize, Option<Told>),
+    /// The edit of this number counts.
+    Done(usize),
+    /// The edit of this number does not count: the other edit stood in its place.
+    Overtaken(usize, Other),
+    /// The values of the cells, row by row from the left.
+    Settled(Vec<Value>),
+    /// This mark or announcement, whose word the report saw, was not at rest.
+    Unsettled(Place, u64),
+    /// The last edit of the process that was announced, if any.
+    Tells(Option<Told>),
+    /// The board refuses the call.
+    Refused(CallRefusal),
+    /// The line is no call.
+    Faulted(LineFault),
+}
+
+impl LineFault {
+    fn code(self) -> u64
+        ensures { result ≡ code_of_fault self }
+    {
+        match self {
+            LineFault::NotJson => 1,
+            LineFault::UnknownOp => 2,
+            LineFault::BadField => 3,
+            LineFault::LineTooLong => 5,
+            LineFault::NotJoined => 6,
+            LineFault::AlreadyJoined => 7,
+            LineFault::NoMemory => 15,
+        }
+    }
+
+    fn name(self) -> &'static str
+        ensures { result.now ≡ name_of_fault self }
+    {
+        match self {
+            LineFault::NotJson => "not-json",
+            LineFault::UnknownOp => "unknown-op",
+            LineFault::BadField => "bad-field",
+            LineFault::LineTooLong => "line-too-long",
+            LineFault::NotJoined => "not-joined",
+            LineFault::AlreadyJoined => "already-joined",
+            LineFault::NoMemory => "no-memory",
+        }
+    }
+}
+
+// The cell with this number; of a number that no cell has, some cell.
+fn cell_at(shape: &Shape, index: usize) -> Cell
+    ensures { result ≡ cell_at shape.now index }
+{
+    Cell {
+        column: index % shape.columns,
+        row: index / shape.columns,
+    }
+}
+
+fn cell_name(alloc: Global, shape: &Shape, index: usize) -> Result<String, AllocError>
+    ensures { IfOk result (λ text. string_bytes text ≡ cell_text (cell_at shape.now index)) }
+{
+    cell_at(shape, index).to_string(alloc)
+}
+
+fn outcome(counts: bool) -> &'static str
+    ensures { result.now ≡ outcome_text counts }
+{
+    if counts { "done" } else { "not-done" }
+}
+
+fn told_value(alloc: Global, shape: &Shape, told: Told) -> Result<Json, AllocError>
+    ensures { IfOk result (λ v. view v ≡ told_data shape.now told) }
+{
+    let cell = Json::String(cell_name(alloc, shape, told.cell)?);
+    json!(in alloc; {"cell": cell, "number": (told.number as u64), "outcome": (outcome(told.counts))})
+}
+
+fn last_value(alloc: Global, shape: &Shape, last: Option<Told>) -> Result<Json, AllocError>
+    ensures { IfOk result (λ v. view v ≡ last_data shape.now last) }
+{
+    match last {
+        None => Ok(Json::Null),
+        Some(told) => told_value(alloc, shape, told),
+    }
+}
+
+fn other_value(alloc: Global, other: Other) -> Result<Json, AllocError>
+    ensures { IfOk result (λ v. view v ≡ other_data other) }
+{
+    json!(in alloc; {"number": (other.number as u64), "process": (other.process as u64)})
+}
+
+fn row_value(alloc: Global, values: &[Value]) -> Result<Json, AllocError>
+    ensures { IfOk result (λ v. view v ≡ row_data values.now) }
+{
+    let mut items = Vec::with_capacity(alloc, values.len())?;
+    for value in values {
+        items.push(Json::String(value.to_string(alloc)?))?;
+    }
+    Ok(Json::Array(items))
+}
+
+fn rows_value(alloc: Global, shape: &Shape, values: &[Value]) -> Result<Json, AllocError>
+    ensures { IfOk result (λ v. view v ≡ rows_data shape.now values.now) }
+{
+    let mut rows = Vec::with_capacity(alloc, shape.rows)?;
+    let mut rest = values;
+    for row in 0..shape.rows {
+        let _row = row;
+        let (first, behind) = rest.split_at(shape.columns.min(rest.len()));
+        rows.push(row_value(alloc, first)?)?;
+        rest = behind;
+    }
+    Ok(Json::Array(rows))
+}
+
+// The place of a word that was not at rest: `mark A1`, `announce 0`.
+fn place_name(alloc: Global, shape: &Shape, place: Place) -> Result<String, AllocError>
+    ensures { IfOk result (λ text. string_bytes text ≡ place_text shape.now place) }
+{
+    match place {
+        Place::Mark(cell) => {
+            let cell = cell_at(shape, cell);
+            format!(in alloc; "mark {cell}")
+        }
+        Place::Announce(process) => format!(in alloc; "announce {process}"),
+        _ => Ok(String::new(alloc)),
+    }
+}
+
+fn joined_value(
+    alloc: Global,
+    shape: &Shape,
+    process: usize,
+    last: Option<Told>,
+) -> Result<Json, AllocError>
+    ensures { IfOk result (λ v. view v ≡ joined_data shape.now process last) }
+{
+    let last = last_value(alloc, shape, last)?;
+    json!(in alloc; {"last": last, "ok": "join", "process": (process as u64)})
+}
+
+fn done_value(alloc: Global, number: usize) -> Result<Json, AllocError>
+    ensures { IfOk result (λ v. view v ≡ done_data number) }
+{
+    json!(in alloc; {"number": (number as u64), "ok": "done"})
+}
+
+fn overtaken_value(alloc: Global, number: usize, by: Other) -> Result<Json, AllocError>
+    ensures { IfOk result (λ v. view v ≡ overtaken_data number by) }
+{
+    let by = other_value(alloc, by)?;
+    json!(in alloc; {"by": by, "number": (number as u64), "ok": "overtaken"})
+}
+
+fn settled_value(alloc: Global, shape: &Shape, values: &[Value]) -> Result<Json, AllocError>
+    ensures { IfOk result (λ v. view v ≡ settled_data shape.now values.now) }
+{
+    let rows = rows_value(alloc, shape, values)?;
+    json!(in alloc; {"ok": "settled", "rows": rows})
+}
+
+fn unsettled_value(
+    alloc: Global,
+    shape: &Shape,
+    place: Place,
+    word: u64,
+) -> Result<Json, AllocError>
+    ensures { IfOk result (λ v. view v ≡ unsettled_data shape.now place word) }
+{
+    let place = Json::String(place_name(alloc, shape, place)?);
+    json!(in alloc; {"ok": "unsettled", "place": place, "word": word})
+}
+
+fn tells_value(alloc: Global, shape: &Shape, last: Option<Told>) -> Result<Json, AllocError>
+    ensures { IfOk result (λ v. view v ≡ tells_data shape.now last) }
+{
+    let last = last_value(alloc, shape, last)?;
+    json!(in alloc; {"last": last, "ok": "last"})
+}
+
+fn error_value(alloc: Global, code: u64, name: &str) -> Result<Json, AllocError>
+    ensures { IfOk result (λ v. view v ≡ error_data code name.now) }
+{
+    json!(in alloc; {"code": code, "error": name})
+}
+
+fn text_fault_value(alloc: Global, at: TextFault) -> Result<Json, AllocError>
+    ensures { IfOk result (λ v. view v ≡ text_fault_data at) }
+{
+    json!(in alloc; {"code": 11, "error": "text", "fault": (at.kind.name()), "offset": (at.offset as u64)})
+}
+
+fn refusal_value(alloc: Global, refusal: CallRefusal) -> Result<Json, AllocError>
+    ensures { IfOk result (λ v. view v ≡ refusal_data refusal) }
+{
+    match refusal {
+        CallRefusal::ProcessTaken => error_value(alloc, 4, "process-taken"),
+        CallRefusal::Text(at) => text_fault_value(alloc, at),
+        CallRefusal::Stopped => error_value(alloc, 13, "stopped"),
+        CallRefusal::RecordsFull => error_value(alloc, 14, "records-full"),
+        CallRefusal::NoMemory => error_value(alloc, 15, "no-memory"),
+    }
+}
+
+fn reply_value(alloc: Global, shape: &Shape, reply: &Reply) -> Result<Json, AllocError>
+    ensures { IfOk result (λ v. view v ≡ said_data shape.now (reply_view reply.now)) }
+{
+    match reply {
+        Reply::Joined(process, last) => joined_value(alloc, shape, *process, *last),
+        Reply::Done(number) => done_value(alloc, *number),
+        Reply::Overtaken(number, by) => overtaken_value(alloc, *number, *by),
+        Reply::Settled(values) => settled_value(alloc, shape, values),
+        Reply::Unsettled(place, word) => unsettled_value(alloc, shape, *place, *word),
+        Reply::Tells(last) => tells_value(alloc, shape, *last),
+        Reply::Refused(refusal) => refusal_value(alloc, *refusal),
+        Reply::Faulted(fault) => error_value(alloc, fault.code(), fault.name()),
+    }
+}
+
+// The text of a reply, without its line feed.
+#[tactic(auto, using(crate::proofs::Floats::said_no_float))]
+fn reply_text(alloc: Global, shape: &Shape, reply: &Reply) -> Result<String, AllocError>
+    ensures { IfOk result (λ t. string_bytes t ≡ compact_text (said_data shape.now (reply_view reply.now))) }
+{
+    let value = reply_value(alloc, shape, reply)?;
+    value.to_string(alloc)
+}
+
+/// The line that a reply is written as. An error is a want of memory.
+pub fn reply_line(alloc: Global, shape: &Shape, reply: &Reply) -> Result<Vec<u8>, AllocError>
+    ensures { IfOk result (λ v. v.items ≡ said_text shape.now (reply_view reply.now)) }
+{
+    let mut line = reply_text(alloc, shape, reply)?.into_bytes();
+    line.push(b'\n')?;
+    Ok(line)
+}

@@ -1,0 +1,147 @@
+//! Reads what a line asks for.
+
+ghost use Rattle.std.specs.Prelude.{◌≡◌, option_map, IfOk, IfSome};
+ghost use Rattle.serde_json.specs.View.{view};
+ghost use Rattle.ds_server.specs.Requests.{verb_named, text_field, number_field, join_in, set_in, call_of, IsCallOf};
+ghost use Rattle.ds_server.specs.Asked.{ReadsJson, request_view, option_view, result_view};
+ghost use Rattle.std.specs.Prelude.{None, Some};
+
+use ds_formula::cells::{Cell, Shape};
+use serde_json::Value;
+use std::alloc::Global;
+
+/// Why a line is no call of a board. After a fault the board is as it was.
+#[derive(Clone, Copy, Debug, PartialEq, Eq)]
+pub enum LineFault {
+    /// The line is no JSON. Code 1.
+    NotJson,
+    /// The field `op` names no call. Code 2.
+    UnknownOp,
+    /// The line is no object, or a field is missing, of a wrong kind or out of the sheet. Code 3.
+    BadField,
+    /// The line has more than 4,096 bytes. Code 5.
+    LineTooLong,
+    /// The session has not joined a process. Code 6.
+    NotJoined,
+    /// The session has joined a process. Code 7.
+    AlreadyJoined,
+    /// An allocation failed while the line was read. Code 15.
+    NoMemory,
+}
+
+/// What the field `op` names.
+#[derive(Clone, Copy, Debug, PartialEq, Eq)]
+pub enum Verb {
+    /// To take a process.
+    Join,
+    /// To edit a cell.
+    Set,
+    /// To settle and report.
+    Report,
+    /// To tell of the last edit.
+    Last,
+}
+
+/// What a line asks for.
+#[derive(Clone, Copy, Debug)]
+pub enum Request<'a> {
+    /// To take this process.
+    Join(usize),
+    /// An edit by the process of the cell to the text.
+    Set(usize, Cell, &'a [u8]),
+    /// A settle and a report by the process.
+    Report(usize),
+    /// A recovery of the process.
+    Last(usize),
+}
+
+/// Reads a line as JSON. A fault is `NotJson` where it is none, and `NoMemory` for want of memory.
+pub fn read_json(alloc: Global, line: &[u8]) -> Result<Value, LineFault>
+    ensures { ReadsJson line.now result }
+{
+    match Value::from_slice(alloc, line) {
+        Ok(value) => Ok(value),
+        Err(error) if error.is_memory() => Err(LineFault::NoMemory),
+        Err(_) => Err(LineFault::NotJson),
+    }
+}
+
+fn verb_named(word: &str) -> Option<Verb>
+    ensures { result ≡ verb_named word.now }
+{
+    match word {
+        "join" => Some(Verb::Join),
+        "set" => Some(Verb::Set),
+        "report" => Some(Verb::Report),
+        "last" => Some(Verb::Last),
+        _ => None,
+    }
+}
+
+fn text_of<'a>(value: &'a Value, key: &str) -> Option<&'a str>
+    ensures { option_map (λ s. s.now) result ≡ text_field key.now (view value.now) }
+{
+    value.get(key).and_then(Value::as_str)
+}
+
+fn number_of(value: &Value, key: &str) -> Option<u64>
+    ensures { result ≡ number_field key.now (view value.now) }
+{
+    value.get(key).and_then(Value::as_u64)
+}
+
+// The join of a process, where the board has it.
+fn join_request<'a>(value: &Value, shape: &Shape, processes: usize) -> Option<Request<'a>>
+    ensures value { option_view result ≡ join_in processes (view value.now) }
+    ensures fits { IfSome result (λ r. IsCallOf shape.now processes None (request_view r)) }
+{
+    let process = number_of(value, "process")?;
+    if process < processes as u64 {
+        Some(Request::Join(process as usize))
+    } else {
+        None
+    }
+}
+
+// The edit by a process of a cell of the sheet.
+fn set_request<'a>(
+    value: &'a Value,
+    shape: &Shape,
+    processes: usize,
+    process: usize,
+) -> Option<Request<'a>>
+    ensures value { option_view result ≡ set_in shape.now process (view value.now) }
+    ensures fits { IfSome result (λ r. IsCallOf shape.now processes (Some process) (request_view r)) }
+{
+    let cell = shape.named(text_of(value, "cell")?.as_bytes())?;
+    let text = text_of(value, "text")?;
+    Some(Request::Set(process, cell, text.as_bytes()))
+}
+
+/// What the value asks for, by the process that the session has joined, if any; or its first fault.
+pub fn read_request<'a>(
+    value: &'a Value,
+    shape: &Shape,
+    processes: usize,
+    joined: Option<usize>,
+) -> Result<Request<'a>, LineFault>
+    ensures value { result_view result ≡ call_of shape.now processes joined (view value.now) }
+    ensures fits { IfOk result (λ r. IsCallOf shape.now processes joined (request_view r)) }
+{
+    let Some(op) = text_of(value, "op") else {
+        return Err(LineFault::BadField);
+    };
+    match (verb_named(op), joined) {
+        (None, _) => Err(LineFault::UnknownOp),
+        (Some(Verb::Join), None) => join_request(value, shape, processes).ok_or(
+            LineFault::BadField,
+        ),
+        (Some(Verb::Join), Some(_)) => Err(LineFault::AlreadyJoined),
+        (Some(_), None) => Err(LineFault::NotJoined),
+        (Some(Verb::Set), Some(process)) => {
+            set_request(value, shape, processes, process).ok_or(LineFault::BadField)
+        }
+        (Some(Verb::Report), Some(process)) => Ok(Request::Report(process)),
+        (Some(Verb::Last), Some(process)) => Ok(Request::Last(process)),
+    }
+}

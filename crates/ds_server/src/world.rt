@@ -1,0 +1,164 @@
+//! A world as a board, and the law that sessions over a world are runs of it.
+
+ghost use Rattle.std.specs.Prelude.{◌≡◌, ℕ, List, OnOk};
+ghost use Rattle.ds_state.specs.Value.{WorldValue, world_of, IsGood};
+ghost use Rattle.ds_state.specs.Fresh.{IsNew};
+ghost use Rattle.ds_recover.specs.RecoverBegun.{MayRecover};
+ghost use Rattle.ds_core.specs.Takes.{IsOfWorld};
+ghost use Rattle.ds_core.specs.Headline.{HasHeadline};
+ghost use Rattle.ds_calls.specs.Whole.{HasProcess, KeepsFree, IsRun, request};
+ghost use Rattle.ds_server.specs.declared.session.SessionEnd.{SessionEnd};
+ghost use Rattle.ds_server.specs.Calls.{Join, Set, Report, Last, Leave};
+ghost use Rattle.ds_server.specs.Replies.{Left, joined_view, set_view, report_view, last_view};
+ghost use Rattle.ds_server.specs.Session.{Outcome};
+ghost use Rattle.ds_server.specs.Worlds.{refused_by, values_of, Copies, Does, IsSeated, world_rules, HasRecovered, HasEdited, HasReported};
+
+use crate::board::{Board, CallRefusal, EditEnd, ReportEnd};
+use ds_calls::call::{whole_edit, whole_recovery, whole_report};
+use ds_calls::settle::{SettleEnd, settle};
+use ds_edit::answer::{Answer, Told};
+use ds_formula::cells::{Cell, Shape};
+use ds_state::refusal::Refusal;
+use ds_state::world::World;
+use std::alloc::Global;
+
+impl From<Refusal> for CallRefusal {
+    ghost from_gives = { λ why r. r ≡ refused_by why };
+
+    fn from(refusal: Refusal) -> CallRefusal {
+        match refusal {
+            Refusal::Text(fault) => CallRefusal::Text(fault),
+            Refusal::Busy => CallRefusal::ProcessTaken,
+            Refusal::Stopped => CallRefusal::Stopped,
+            Refusal::RecordsFull => CallRefusal::RecordsFull,
+            Refusal::NoMemory => CallRefusal::NoMemory,
+        }
+    }
+}
+
+// A whole recovery, and what it tells.
+fn recovered(alloc: Global, world: &mut World, process: usize) -> Result<Option<Told>, CallRefusal>
+    requires { HasProcess world.old process }
+    ensures recovered { HasRecovered process world.old result world.new }
+    ensures seated { OnOk result (IsSeated world.new process) }
+    ensures free { KeepsFree process world.old world.new }
+{
+    match whole_recovery(alloc, world, process) {
+        Ok(Answer::Last(told)) => Ok(Some(told)),
+        Ok(Answer::Nothing) => Ok(None),
+        Ok(_) => unreachable!(),
+        Err(refusal) => Err(CallRefusal::from(refusal)),
+    }
+}
+
+// A whole edit, and how it ended.
+fn edited(
+    alloc: Global,
+    world: &mut World,
+    process: usize,
+    cell: Cell,
+    text: &[u8],
+) -> Result<EditEnd, CallRefusal>
+    requires { IsOfWorld world.old (request process cell text.now) }
+    ensures edited { HasEdited process cell text.now world.old result world.new }
+    ensures free { KeepsFree process world.old world.new }
+{
+    match whole_edit(alloc, world, process, cell, text) {
+        Ok(Answer::Done(number)) => Ok(EditEnd::Done(number)),
+        Ok(Answer::Overtaken(number, by)) => Ok(EditEnd::Overtaken(number, by)),
+        Ok(_) => unreachable!(),
+        Err(refusal) => Err(CallRefusal::from(refusal)),
+    }
+}
+
+// The values of the process's last settled report.
+fn copied(alloc: Global, world: &World, process: usize) -> Result<ReportEnd, CallRefusal>
+    requires { HasProcess world.now process }
+    ensures { Copies (values_of world.now process) result }
+{
+    world.is_always_good();
+    match Vec::from_slice(alloc, world.reports.of(process)) {
+        Ok(values) => Ok(ReportEnd::Settled(values)),
+        Err(_) => Err(CallRefusal::NoMemory),
+    }
+}
+
+// A whole report, and how it ended.
+fn reported(alloc: Global, world: &mut World, process: usize) -> Result<ReportEnd, CallRefusal>
+    requires { HasProcess world.old process }
+    ensures reported { HasReported process world.old result world.new }
+    ensures free { KeepsFree process world.old world.new }
+{
+    match whole_report(alloc, world, process) {
+        Ok(Answer::Settled) => copied(alloc, world, process),
+        Ok(Answer::Unsettled(place, word)) => Ok(ReportEnd::Unsettled(place, word)),
+        Ok(_) => unreachable!(),
+        Err(refusal) => Err(CallRefusal::from(refusal)),
+    }
+}
+
+// A settle, and then a whole report.
+fn settled(alloc: Global, world: &mut World, process: usize) -> Result<ReportEnd, CallRefusal>
+    requires { HasProcess world.old process }
+    ensures does { Does world.old (Report process) (report_view result) world.new }
+    ensures free { KeepsFree process world.old world.new }
+{
+    match settle(alloc, world, process) {
+        SettleEnd::Left(_) => reported(alloc, world, process),
+        SettleEnd::Refused(refusal) => Err(CallRefusal::from(refusal)),
+        SettleEnd::NoMemory => Err(CallRefusal::NoMemory),
+    }
+}
+
+/// A session acts on a world by whole calls, with no other event between theirs. A process that is in
+/// a call can not be joined.
+impl Board for World {
+    ghost use Rattle.ds_server.specs.Worlds.{world_rules};
+
+    ghost rules = { world_rules };
+
+    fn shape(&self) -> Shape {
+        self.words.layout().shape
+    }
+
+    fn processes(&self) -> usize {
+        self.words.layout().processes
+    }
+
+    fn join(&mut self, alloc: Global, process: usize) -> Result<Option<Told>, CallRefusal> {
+        recovered(alloc, self, process)
+    }
+
+    fn set(
+        &mut self,
+        alloc: Global,
+        process: usize,
+        cell: Cell,
+        text: &[u8],
+    ) -> Result<EditEnd, CallRefusal> {
+        edited(alloc, self, process, cell, text)
+    }
+
+    fn report(&mut self, alloc: Global, process: usize) -> Result<ReportEnd, CallRefusal> {
+        settled(alloc, self, process)
+    }
+
+    fn last(&mut self, alloc: Global, process: usize) -> Result<Option<Told>, CallRefusal> {
+        recovered(alloc, self, process)
+    }
+
+    fn leave(&mut self, process: usize) {
+        let _process = process;
+    }
+}
+
+/// What a session does to its world is a run of `ds_core::take`, whatever its lines are; so what is
+/// proved of runs is true of sessions, one after another on one world, and first of all the headline.
+#[tactic(auto, using(crate::proofs::Runs::outcome_runs, crate::proofs::Runs::outcome_headline))]
+pub fn sessions_are_runs()
+    ensures runs { (most limit : ℕ) (first last : WorldValue) (bytes out : List ℕ) (end : SessionEnd)
+        → Outcome world_rules most limit first bytes out last end → IsRun first last }
+    ensures headline { (most limit : ℕ) (start first last : WorldValue) (bytes out : List ℕ) (end : SessionEnd)
+        → IsNew (world_of start) → IsGood start → IsRun start first → Outcome world_rules most limit first bytes out last end
+        → (run : IsRun start last) × HasHeadline start run.events run.replies last run.run }
+{}
