@@ -1,0 +1,3 @@
+pub mod Rights
+pub mod Deals
+pub mod Crossing

@@ -1,0 +1,54 @@
+-- The calls of a process, and the replies to their steps.
+use Rattle.std.specs.Prelude.{Option, Some, None}
+use Rattle.ds_state.specs.declared.situation.Situation.{Situation}
+use Rattle.ds_state.specs.declared.situation.Situation.TheVariants as situations
+use Rattle.ds_edit.specs.declared.answer.Answer.{Answer}
+use Rattle.ds_edit.specs.declared.answer.Answer.TheVariants as answers
+use Rattle.ds_core.specs.declared.event.Event.{Event}
+use Rattle.ds_core.specs.declared.event.Event.TheVariants.{Step}
+use Rattle.ds_core.specs.declared.reply.Reply.{Reply}
+use Rattle.ds_core.specs.declared.reply.Reply.TheVariants.{Stepped, Answered, NotEnabled}
+use Rattle.ds_crew.specs.declared.steps.Call.{Call}
+use Rattle.ds_crew.specs.declared.steps.Call.TheVariants.{Edit, Work, Report, Recovery}
+
+-- the call that a process is in, by its situation
+abbrev pub call_in : Situation → Option Call
+call_in (situations.Idle number) = None
+call_in situations.Stopped = None
+call_in (situations.Editing e) = Some Edit
+call_in (situations.Working e) = Some Work
+call_in (situations.Recovering e) = Some Recovery
+call_in (situations.Showing e) = Some Report
+
+-- the replies that a step of each call can have
+abbrev pub IsStepOf : Call → Reply → Type 0
+IsStepOf call Stepped = Unit {0}
+IsStepOf call NotEnabled = Unit {0}
+IsStepOf Edit (Answered (answers.Done number)) = Unit {0}
+IsStepOf Edit (Answered (answers.Overtaken number other)) = Unit {0}
+IsStepOf Work (Answered answers.NotDirty) = Unit {0}
+IsStepOf Work (Answered answers.Missed) = Unit {0}
+IsStepOf Work (Answered answers.Worn) = Unit {0}
+IsStepOf Work (Answered (answers.Published changed)) = Unit {0}
+IsStepOf Work (Answered answers.Again) = Unit {0}
+IsStepOf Work (Answered answers.NoMemory) = Unit {0}
+IsStepOf Report (Answered answers.Settled) = Unit {0}
+IsStepOf Report (Answered (answers.Unsettled place word)) = Unit {0}
+IsStepOf Recovery (Answered (answers.Last told)) = Unit {0}
+IsStepOf Recovery (Answered answers.Nothing) = Unit {0}
+IsStepOf call reply = ⊥
+
+-- the answer is one of work
+abbrev pub IsWorkAnswer : Answer → Type 0
+IsWorkAnswer answer = IsStepOf Work (Answered answer)
+
+-- the event is no step: it begins a call, offers an entry, or is of no process's call
+abbrev pub IsNoStep : Event → Type 0
+IsNoStep (Step p) = ⊥
+IsNoStep event = Unit {0}
+
+-- the call answers neither edits nor reports
+abbrev pub CountsNothing : Call → Type 0
+CountsNothing Edit = ⊥
+CountsNothing Report = ⊥
+CountsNothing call = Unit {0}

@@ -1,0 +1,55 @@
+-- What passes hold, and how they stand to a world.
+use Rattle.std.specs.Prelude.{ℕ, zero, suc, ◌≡◌, ◌≢◌, ◌⊎◌, ◌<◌, List, [], ◌∷◌, length, Option, Some, None, slice_index_or, sum_by}
+use Rattle.ds_eval.specs.declared.value.Value.{Value}
+use Rattle.ds_state.specs.Reports.{PlainReports}
+use Rattle.ds_state.specs.Value.{WorldValue}
+use Rattle.ds_crew.specs.Kept.{report_of}
+
+-- a process, the values of its last settled report, and its shares of the counts of Done and of Settled answers
+pub record PlainPass : Type 0 where
+  pub process : ℕ
+  pub last : List Value
+  pub dones : ℕ
+  pub settleds : ℕ
+
+-- the Done answers that all passes have counted
+abbrev pub dones_of : List PlainPass → ℕ
+dones_of passes = sum_by (λ p. p.dones) passes
+
+-- the Settled answers that all passes have counted
+abbrev pub settleds_of : List PlainPass → ℕ
+settleds_of passes = sum_by (λ p. p.settleds) passes
+
+-- the count that the pass of a process begins with: the first one's is what the world has counted, the others' is 0
+abbrev pub first_count : ℕ → ℕ → ℕ
+first_count count zero = count
+first_count count (suc n) = 0
+
+-- the pass of a process at its making
+abbrev pub first_pass : WorldValue → ℕ → PlainPass
+first_pass w process = record {
+  process = process;
+  last = report_of w.reports process;
+  dones = first_count w.done process;
+  settleds = first_count w.settled process;
+}
+
+-- these are the values of each process's last settled report
+pub record AreLasts (w : WorldValue) (lasts : List (List Value)) : Type 0 where
+  pub count : length lasts ≡ w.sheet.layout.processes
+  pub each : (process : ℕ) → process < length lasts → slice_index_or lasts process [] ≡ report_of w.reports process
+
+-- the passes of a world at their making: one for each process
+pub record AreFirstPasses (w : WorldValue) (passes : List PlainPass) : Type 0 where
+  pub count : length passes ≡ w.sheet.layout.processes
+  pub each : (process : ℕ) (d : PlainPass) → process < length passes → slice_index_or passes process d ≡ first_pass w process
+
+-- the pass keeps other values than these reports
+abbrev pub IsStray : PlainReports → PlainPass → Type 0
+IsStray reports pass = report_of reports pass.process ≢ pass.last
+
+-- the process of the first pass of the list that keeps other values than these reports, if one does
+abbrev pub FirstStray : PlainReports → List PlainPass → Option ℕ → Type 0
+FirstStray reports [] stray = stray ≡ None
+FirstStray reports (pass ∷ passes) stray =
+    (IsStray reports pass × (stray ≡ Some pass.process)) ⊎ ((report_of reports pass.process ≡ pass.last) × FirstStray reports passes stray)

@@ -1,0 +1,162 @@
+//! What lies under the lock.
+
+ghost use Rattle.std.specs.Prelude.{◌≡◌, ◌+◌, ◌<◌, ◌≤◌, length, vec_capacity};
+ghost use Rattle.ds_layout.specs.Places.{cells_of};
+ghost use Rattle.ds_edit.specs.declared.answer.Answer.TheVariants.{Settled};
+ghost use Rattle.ds_core.specs.Takes.{Fits};
+ghost use Rattle.ds_core.specs.Counts.{done_of, settled_of, IsReplyTo};
+ghost use Rattle.ds_core.specs.declared.reply.Reply.TheVariants.{Answered};
+ghost use Rattle.ds_crew.specs.Calls.{CountsNothing, IsNoStep, IsStepOf};
+ghost use Rattle.ds_crew.specs.Kept.{StepsIn, last_after, report_of};
+ghost use Rattle.ds_crew.specs.declared.steps.Call.TheVariants.{Edit, Report};
+
+use crate::steps::{Call, step};
+use ds_core::event::Event;
+use ds_core::reply::Reply;
+use ds_core::take::take;
+use ds_edit::answer::Answer;
+use ds_eval::task::Task;
+use ds_eval::value::Value;
+use ds_state::world::World;
+use ds_work::offer::{TaskFault, task_of};
+use std::alloc::Global;
+use std::sync::ledger::{Book, Ledger, Share};
+
+/// What lies under the lock: a world, and a book for each of its counts. The world is sound, and what
+/// it counts is what the books do, whenever the lock is free.
+#[derive(Drop)]
+pub(crate) struct Kept<L: Ledger, M: Ledger> {
+    pub(crate) world: World,
+    pub(crate) dones: Book<L>,
+    pub(crate) settleds: Book<M>,
+    ghost done: { world.done ≡ dones.total },
+    ghost settled: { world.settled ≡ settleds.total },
+}
+
+/// A world with its books.
+pub(crate) fn kept_of<L: Ledger, M: Ledger>(
+    world: World,
+    dones: Book<L>,
+    settleds: Book<M>,
+) -> Kept<L, M>
+    requires done { world.done ≡ dones.total }
+    requires settled { world.settled ≡ settleds.total }
+    ensures { result.world ≡ world }
+{
+    Kept {
+        world,
+        dones,
+        settleds,
+    }
+}
+
+// Puts these values in the place of others, in room that is there.
+fn replace(values: &mut Vec<Value>, by: &[Value])
+    requires { length by.now ≤ vec_capacity values.old }
+    ensures { values.new.items ≡ by.now }
+{
+    values.clear();
+    for value in by {
+        values.push_reserved(*value);
+    }
+}
+
+impl<L: Ledger, M: Ledger> Kept<L, M> {
+    /// One event that is no step: it counts nothing.
+    pub(crate) fn happen(&mut self, alloc: Global, event: &Event) -> Reply
+        requires { IsNoStep event.now }
+        ensures fits { Fits self.old.world event.now result self.new.world }
+        ensures reply { IsReplyTo event.now result }
+    {
+        take(alloc, &mut self.world, event)
+    }
+
+    /// A step of work or of a recovery: it counts nothing.
+    pub(crate) fn step(&mut self, alloc: Global, process: usize, call: Call) -> Reply
+        requires { CountsNothing call }
+        ensures steps { StepsIn call process self.old.world result self.new.world }
+        ensures reply { IsStepOf call result }
+    {
+        step(alloc, &mut self.world, process, call)
+    }
+
+    /// A step of an edit: a Done is counted in the share.
+    pub(crate) fn step_edit(&mut self, alloc: Global, process: usize, share: &mut Share<L>) -> Reply
+        requires { 0 < share.old.parts }
+        ensures steps { StepsIn Edit process self.old.world result self.new.world }
+        ensures reply { IsStepOf Edit result }
+        ensures amount { share.new.amount ≡ share.old.amount + done_of result }
+        ensures parts { share.new.parts ≡ share.old.parts }
+    {
+        let Kept {
+            world,
+            dones,
+            settleds: _,
+        } = self;
+        let reply = step(alloc, world, process, Call::Edit);
+        if let Reply::Answered(Answer::Done(_)) = reply {
+            dones.add(share, 1);
+        }
+        reply
+    }
+
+    /// A step of a report: a Settled is counted in the share, and its values are the last ones from
+    /// then on. `NotEnabled` also where the last ones have too little room, or the sheet another number
+    /// of cells.
+    pub(crate) fn step_report(
+        &mut self,
+        alloc: Global,
+        process: usize,
+        cells: usize,
+        share: &mut Share<M>,
+        last: &mut Vec<Value>,
+    ) -> Reply
+        requires { 0 < share.old.parts }
+        ensures steps { cells_of self.old.world.sheet.layout ≡ cells → cells ≤ vec_capacity last.old
+            → StepsIn Report process self.old.world result self.new.world }
+        ensures reply { IsStepOf Report result }
+        ensures amount { share.new.amount ≡ share.old.amount + settled_of result }
+        ensures parts { share.new.parts ≡ share.old.parts }
+        ensures last { last.new.items ≡ last_after result (report_of self.new.world.reports process) last.old.items }
+        ensures full { result ≡ Answered Settled → length last.new.items ≡ cells }
+    {
+        let Kept {
+            world,
+            dones: _,
+            settleds,
+        } = self;
+        if world.words.layout().cells() != cells || last.capacity() < cells {
+            return Reply::NotEnabled;
+        }
+        let reply = step(alloc, world, process, Call::Report);
+        if let Reply::Answered(Answer::Settled) = reply {
+            settleds.add(share, 1);
+            replace(last, world.reports.of(process));
+        }
+        reply
+    }
+
+    /// The task that a process's work waits for, in memory of its own.
+    pub(crate) fn task(&self, alloc: Global, process: usize) -> Result<Task, TaskFault> {
+        task_of(alloc, &self.world, process)
+    }
+
+    /// The world, whose counts are those of shares with all parts.
+    pub(crate) fn closed(self, dones: Share<L>, settleds: Share<M>) -> World
+        requires dones { dones.parts ≡ L.parts }
+        requires settleds { settleds.parts ≡ M.parts }
+        ensures done { result.done ≡ dones.amount }
+        ensures settled { result.settled ≡ settleds.amount }
+        ensures reports { result.reports ≡ self.world.reports }
+    {
+        let Kept {
+            world,
+            dones: mut book,
+            settleds: mut reports,
+        } = self;
+        let (mut dones, mut settleds) = (dones, settleds);
+        book.audit(&mut dones);
+        reports.audit(&mut settleds);
+        world
+    }
+}

@@ -1,0 +1,8 @@
+use Rattle.std.proofs.Crossing.{crosses}
+use denote.Param.Send.{sendable}
+use Rattle.ds_crew.proofs.Crossing.{sheet_sync}
+use Rattle.ds_crews.proofs.Crossing.{edits_send}
+use Rattle.ds_crews.proofs.counts.fn.edit_in_threads.scope.Goals as goal
+
+pub spawn-requires-send-F : goal.spawn-requires-send-F
+spawn-requires-send-F g c κs within = search (sendable, crosses, sheet_sync, edits_send) depth 40
