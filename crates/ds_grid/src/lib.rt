@@ -4,5 +4,3 @@
 pub mod ending;
 pub mod grid;
 pub mod report;
-#[cfg(test)]
-mod tests;

@@ -1,9 +1,9 @@
+use crate::faulty::{Failing, Full};
 use crate::running::answers;
 use ds_play::script::run_script;
 use ds_streams::ending::{ScriptEnd, ScriptFault};
 use ds_streams::streams::{Reading, Writing};
 use std::alloc::AllocError;
-use std::io::{self, ErrorKind, Read, Write};
 
 // A script, what it answers before its fault, the line of the fault, and its kind.
 const FAULTS: [(&str, &str, usize, ScriptFault); 18] = [
@@ -93,30 +93,6 @@ fn long_scripts(rt: HostRuntime) -> Result<(), AllocError> {
     Ok(())
 }
 
-// Gives one byte a call, and fails at a call.
-#[derive(Drop)]
-struct Failing<'a> {
-    bytes: &'a [u8],
-    calls: usize,
-}
-
-impl Read for Failing<'_> {
-    fn read(&mut self, buffer: &mut [u8]) -> io::Result<usize> {
-        if self.calls == 0 {
-            return Err(io::Error::from(ErrorKind::Other));
-        }
-        self.calls -= 1;
-        match (self.bytes, buffer) {
-            ([first, rest @ ..], [place, ..]) => {
-                *place = *first;
-                self.bytes = rest;
-                Ok(1)
-            }
-            _ => Ok(0),
-        }
-    }
-}
-
 // A reader that fails at its k-th call, for each k: the lines whole before that are carried out.
 #[test]
 fn failing_readers(rt: HostRuntime) {
@@ -143,29 +119,6 @@ fn failing_readers(rt: HostRuntime) {
         };
         assert_eq!(rt; end, end_expected, "{calls}");
         assert!(rt; text.as_slice() == expected, "{calls}");
-    }
-}
-
-// Takes so many bytes, one a call, and then fails.
-#[derive(Drop)]
-struct Full {
-    room: usize,
-}
-
-impl Write for Full {
-    fn write(&mut self, bytes: &[u8]) -> io::Result<usize> {
-        if self.room == 0 {
-            return Err(io::Error::from(ErrorKind::Other));
-        }
-        self.room -= 1;
-        Ok(bytes.len().min(1))
-    }
-
-    fn flush(&mut self) -> io::Result<()> {
-        if self.room == 0 {
-            return Err(io::Error::from(ErrorKind::Other));
-        }
-        Ok(())
     }
 }
 

@@ -2,7 +2,15 @@
 #![tactic(auto)]
 
 #[cfg(test)]
+mod calls;
+#[cfg(test)]
 mod endings;
+#[cfg(test)]
+mod faulty;
+#[cfg(test)]
+mod grids;
+#[cfg(test)]
+mod inputs;
 #[cfg(test)]
 mod large;
 #[cfg(test)]
