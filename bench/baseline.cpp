@@ -1,7 +1,7 @@
-// The job of `dsheet run` as a plain program does it: what bench/run.sh compares times with.
+// The job of `dsheet report` as a plain program does it: what bench/run.sh compares times with.
 //
-// It reads a script, parses each formula into a tree, evaluates each formula once, behind the cells that it refers to,
-// with circular references found on the way, and prints the answers. Faults of a text are not told apart.
+// It reads a grid of texts as CSV, parses each formula into a tree, evaluates each formula once, behind the cells that it
+// refers to, with circular references found on the way, and prints the values as CSV. Faults of a text are not told apart.
 #include <cctype>
 #include <cstdint>
 #include <cstdio>
@@ -377,13 +377,70 @@ class Evaluation {
     }
 };
 
-// ---- scripts
+// ---- grids
 
-std::string output;
+// The texts of a grid, row by row: fields parted by commas, in quotes where they have some; empty lines are skipped.
+class Grid {
+  public:
+    explicit Grid(std::string_view csv) : rest(csv) {
+        while (!rest.empty()) {
+            if (rest.front() == '\n') {
+                rest.remove_prefix(1);
+                continue;
+            }
+            rows.emplace_back();
+            do rows.back().push_back(field());
+            while (take(','));
+            take('\n');
+        }
+    }
 
-void write_values(const Sheet &sheet) {
+    Sheet sheet() const {
+        Sheet sheet;
+        sheet.rows = int(rows.size());
+        sheet.columns = 0;
+        for (auto &row : rows) sheet.columns = std::max(sheet.columns, int(row.size()));
+        sheet.contents = std::vector<Content>(size_t(sheet.columns) * sheet.rows);
+        return sheet;
+    }
+
+    // gives each text's content to its cell; whether all texts have one
+    bool fill(Sheet &sheet) const {
+        for (size_t row = 0; row < rows.size(); row++)
+            for (size_t column = 0; column < rows[row].size(); column++)
+                if (!read_content(rows[row][column], sheet, sheet.contents[row * sheet.columns + column])) return false;
+        return true;
+    }
+
+  private:
+    std::string_view rest;
+    std::vector<std::vector<std::string>> rows;
+
+    bool take(char c) {
+        if (rest.empty() || rest.front() != c) return false;
+        rest.remove_prefix(1);
+        return true;
+    }
+
+    std::string field() {
+        std::string text;
+        if (!take('"')) {
+            size_t size = std::min(rest.find_first_of(",\n"), rest.size());
+            text = rest.substr(0, size);
+            rest.remove_prefix(size);
+            return text;
+        }
+        for (; !rest.empty(); rest.remove_prefix(1)) {
+            if (take('"') && (rest.empty() || rest.front() != '"')) break;
+            text += rest.front();
+        }
+        return text;
+    }
+};
+
+std::string values_of(const Sheet &sheet) {
     Evaluation evaluation(sheet);
-    output += "settled\n";
+    std::string output;
     for (size_t cell = 0; cell < sheet.contents.size(); cell++) {
         Value value = evaluation.all()[cell];
         switch (value.kind) {
@@ -395,62 +452,18 @@ void write_values(const Sheet &sheet) {
         }
         output += (cell + 1) % sheet.columns == 0 ? '\n' : ',';
     }
-}
-
-int number_of(std::string_view &line) {
-    int number = 0;
-    while (!line.empty() && isdigit(line[0])) number = number * 10 + line[0] - '0', line.remove_prefix(1);
-    if (!line.empty() && line[0] == ' ') line.remove_prefix(1);
-    return number;
-}
-
-void set(Sheet &sheet, std::vector<int> &numbers, std::vector<std::string> &texts, std::string_view line) {
-    int process = number_of(line);
-    size_t column = size_t(toupper(line[0]) - 'A');
-    line.remove_prefix(1);
-    size_t row = size_t(number_of(line) - 1);
-    Content content;
-    if (!read_content(line, sheet, content)) {
-        output += std::to_string(process) + " refused\n";
-    } else if (numbers[process] == 256) {
-        output += std::to_string(process) + " refused 4 RecordsFull\n";
-    } else {
-        texts.emplace_back(line);
-        sheet.contents[row * sheet.columns + column] = std::move(content);
-        output += std::to_string(process) + " " + std::to_string(numbers[process]++) + " done\n";
-    }
-}
-
-void carry_out(std::string_view script) {
-    Sheet sheet;
-    std::vector<int> numbers(2);
-    std::vector<std::string> texts;
-    while (!script.empty()) {
-        std::string_view line = script.substr(0, script.find('\n'));
-        script.remove_prefix(std::min(script.size(), line.size() + 1));
-        std::string_view word = line.substr(0, line.find(' '));
-        std::string_view rest = line.substr(std::min(line.size(), word.size() + 1));
-        if (word == "sheet") {
-            sheet.columns = number_of(rest);
-            sheet.rows = number_of(rest);
-            sheet.contents = std::vector<Content>(size_t(sheet.columns) * sheet.rows);
-            numbers = std::vector<int>(number_of(rest));
-        } else if (word == "set") {
-            set(sheet, numbers, texts, rest);
-        } else if (word == "settle") {
-            output += "clean\n";
-        } else if (word == "report") {
-            write_values(sheet);
-        }
-    }
+    return output;
 }
 
 } // namespace
 
 int main() {
-    std::string script;
+    std::string csv;
     char buffer[1 << 16];
-    while (size_t count = fread(buffer, 1, sizeof buffer, stdin)) script.append(buffer, count);
-    carry_out(script);
+    while (size_t count = fread(buffer, 1, sizeof buffer, stdin)) csv.append(buffer, count);
+    Grid grid(csv);
+    Sheet sheet = grid.sheet();
+    if (!grid.fill(sheet)) return 1;
+    std::string output = values_of(sheet);
     return fwrite(output.data(), 1, output.size(), stdout) == output.size() ? 0 : 3;
 }

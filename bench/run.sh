@@ -1,15 +1,24 @@
 #!/bin/sh
-# Times of whole runs of `dsheet run`, beside those of a plain program that does the same (baseline.cpp): the median of
-# interleaved runs (11, or as many as the first argument says), and ratios to the plain program and to the run of an empty
-# script. What both programs answer is compared first.
+# Times of whole runs of the program, as medians of interleaved runs (11, or as many as the first argument says):
+# `dsheet report` on grids, beside a plain program that does the same (baseline.cpp); `dsheet run` on scripts that set the
+# same sheets, settle and report, beside `dsheet report` and ssconvert, where that is installed; and whole edits and works
+# of `dsheet run`, beside a plain program that makes the same steps (steps.cpp). Answers are compared first.
 # Run it after a build: ./dsheet --help >/dev/null; bench/run.sh
 set -eu
 here=$(CDPATH= cd -- "$(dirname -- "$0")" && pwd)
 program=$here/../crates/ds_app/out/ds_app
+runs=${1:-11}
 work=$(mktemp -d)
 trap 'rm -rf "$work"' EXIT
 mkdir "$work/sheets"
-${CXX:-c++} -O2 -static-libstdc++ -static-libgcc -std=c++17 -o "$work/baseline" "$here/baseline.cpp"
+for name in baseline steps; do
+    ${CXX:-c++} -O2 -static-libstdc++ -static-libgcc -std=c++17 -o "$work/$name" "$here/$name.cpp"
+done
 export PYTHONDONTWRITEBYTECODE=1
-python3 "$here/sheets.py" "$work/sheets" >/dev/null
-python3 "$here/times.py" "$program" "$work/baseline" "$work/sheets" "${1:-11}"
+python3 "$here/sheets.py" "$work/sheets"
+python3 "$here/calls.py" "$work/sheets"
+python3 "$here/times.py" plain "$program" "$work/baseline" "$work/sheets" "$runs"
+echo
+python3 "$here/times.py" scripts "$program" "$work/sheets" "$runs"
+echo
+python3 "$here/times.py" calls "$program" "$work/steps" "$work/sheets" "$runs"

@@ -1,5 +1,5 @@
 #!/usr/bin/env python3
-"""Writes the scripts that bench/run.sh times into a folder: python3 bench/sheets.py FOLDER"""
+"""Writes the sheets that bench/ times into a folder, each as a grid and as a script: python3 bench/sheets.py FOLDER"""
 import random
 import sys
 
@@ -12,10 +12,10 @@ def name(number, columns=COLUMNS):
     return f"{chr(ord('A') + number % columns)}{number // columns + 1}"
 
 
-def script(texts, columns=COLUMNS, rows=ROWS, processes=4):
-    """A script that sets the cells to the texts, settles and reports."""
-    sets = [f"set {k // 256} {name(k, columns)} {text}" for k, text in enumerate(texts)]
-    return "\n".join([f"sheet {columns} {rows} {processes}", *sets, "settle 0", "report 0", ""])
+def grid(texts, columns=COLUMNS):
+    """The texts, row by row, as CSV."""
+    rows = [texts[k:k + columns] for k in range(0, len(texts), columns)]
+    return "".join(",".join(row) + "\n" for row in rows)
 
 
 def chain(order):
@@ -45,35 +45,41 @@ def budget():
     return texts
 
 
+def script(texts, columns=COLUMNS):
+    """A script that sets the cells to the texts that are not blank, settles and reports."""
+    rows = -(-len(texts) // columns)
+    sets = [f"set {k // 256} {name(k, columns)} {text}" for k, text in enumerate(texts) if text]
+    return "\n".join([f"sheet {columns} {rows} 4", *sets, "settle 0", "report 0", ""])
+
+
 def sheets():
-    """The texts of each sheet by its name; the first eight are those that have a target."""
+    """The texts and the columns of each sheet by its name; the eight behind the first are those that have a target."""
     places = list(range(COUNT))
     shuffled = random.Random(5).sample(places, COUNT)
     all_above = ["1" if k < COLUMNS else f"=SUM([.A1:.P{k // COLUMNS}])" for k in places]
-    yield "chain", script(chain(places))
-    yield "chain_backwards", script(chain(places[::-1]))
-    yield "chain_shuffled", script(chain(shuffled))
-    yield "sums_of_two", script(["1", "1"] + [f"=[.A{k - 1}]+[.A{k}]" for k in range(2, 40)], 1, 40, 1)
-    yield "row_sums", script(["1" if k < COLUMNS else f"=SUM([.A{k // COLUMNS}:.P{k // COLUMNS}])" for k in places])
-    yield "all_above", script(all_above)
-    yield "all_above_one_circle", script(all_above[:-1] + ["=[.P64]+SUM([.A1:.P63])"])
-    yield "constants", script([str(7 * k - 3000) for k in range(1000)])
-    yield "budget", script(budget())
-    yield "circle_in_constants", script(["=[.A1]"] + [str(7 * k - 3000) for k in places[1:]])
-    yield "all_circular", script(["=SUM([.A1:.P63])"] * COUNT)
-    yield "all_circular_ten_times", script(["=SUM(" + ";".join(["[.A1:.P64]"] * 10) + ")"] * COUNT)
-    yield "below", script(below(1))
-    yield "below_nine_times", script(below(9))
+    yield "one_cell", ["0"], 1
+    yield "chain", chain(places), COLUMNS
+    yield "chain_backwards", chain(places[::-1]), COLUMNS
+    yield "chain_shuffled", chain(shuffled), COLUMNS
+    yield "sums_of_two", ["1", "1"] + [f"=[.A{k - 1}]+[.A{k}]" for k in range(2, 40)], 1
+    yield "row_sums", ["1" if k < COLUMNS else f"=SUM([.A{k // COLUMNS}:.P{k // COLUMNS}])" for k in places], COLUMNS
+    yield "all_above", all_above, COLUMNS
+    yield "all_above_one_circle", all_above[:-1] + ["=[.P64]+SUM([.A1:.P63])"], COLUMNS
+    yield "constants", [str(7 * k - 3000) for k in range(1000)] + [""] * 24, COLUMNS
+    yield "budget", budget(), COLUMNS
+    yield "circle_in_constants", ["=[.A1]"] + [str(7 * k - 3000) for k in places[1:]], COLUMNS
+    yield "all_circular", ["=SUM([.A1:.P63])"] * COUNT, COLUMNS
+    yield "all_circular_ten_times", ["=SUM(" + ";".join(["[.A1:.P64]"] * 10) + ")"] * COUNT, COLUMNS
+    yield "below", below(1), COLUMNS
+    yield "below_nine_times", below(9), COLUMNS
 
 
 def main():
     folder = sys.argv[1]
-    with open(f"{folder}/empty", "w"):
-        pass
-    for label, text in sheets():
-        with open(f"{folder}/{label}", "w") as file:
-            file.write(text)
-        print(label)
+    for label, texts, columns in sheets():
+        for ending, form in (("csv", grid), ("script", script)):
+            with open(f"{folder}/{label}.{ending}", "w") as file:
+                file.write(form(texts, columns))
 
 
 if __name__ == "__main__":

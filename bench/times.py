@@ -1,49 +1,101 @@
 #!/usr/bin/env python3
-"""Prints how long two programs take for each script of a folder: times.py PROGRAM BASELINE FOLDER RUNS"""
+"""Prints how long programs take for the sheets of a folder, as medians of interleaved runs, and ratios.
+
+times.py plain PROGRAM BASELINE FOLDER RUNS     `dsheet report` beside the plain program, on every grid
+times.py scripts PROGRAM FOLDER RUNS            `dsheet run` beside `dsheet report`, and ssconvert where there is one
+times.py calls PROGRAM BASELINE FOLDER RUNS     `dsheet run` beside the plain program of the steps, on scripts of calls
+"""
 import os
+import shutil
 import statistics
 import subprocess
 import sys
 import time
 
 sys.path.insert(0, os.path.dirname(os.path.abspath(__file__)))
+import calls
 import sheets
 
 
 def answer(command, path):
-    with open(path, "rb") as script:
-        return subprocess.run(command, stdin=script, stdout=subprocess.PIPE, check=True).stdout
+    with open(path, "rb") as file:
+        return subprocess.run(command, stdin=file, stdout=subprocess.PIPE, check=True).stdout
 
 
 def seconds(command, path):
     """How long one run takes, from its start to its end."""
-    with open(path, "rb") as script, open(os.devnull, "wb") as sink:
+    with open(path, "rb") as file, open(os.devnull, "wb") as sink:
         start = time.perf_counter()
-        process = subprocess.Popen(command, stdin=script, stdout=sink)
+        process = subprocess.Popen(command, stdin=file, stdout=sink, stderr=sink)
         process.wait()
         return time.perf_counter() - start
 
 
-def main():
-    program, baseline, folder, runs = [sys.argv[1], "run"], [sys.argv[2]], sys.argv[3], int(sys.argv[4])
-    names = ["empty"] + [label for label, _ in sheets.sheets()]
-    for name in names:
-        path = f"{folder}/{name}"
-        if answer(program, path) != answer(baseline, path):
-            sys.exit(f"{name}: the programs answer differently")
-    times = {(which, name): [] for name in names for which in (0, 1)}
+def measured(jobs, runs):
+    """The median and the least of each job's times in milliseconds; the jobs take turns."""
+    times = {key: [] for key in jobs}
     for _ in range(runs):
-        for name in names:
-            for which, command in enumerate((program, baseline)):
-                times[which, name].append(seconds(command, f"{folder}/{name}"))
-    median = {key: statistics.median(values) * 1000 for key, values in times.items()}
-    least = {key: min(values) * 1000 for key, values in times.items()}
-    print("| Sheet | dsheet, ms | plain program, ms | ratio | ratio of the least | times an empty script |")
+        for key, (command, path) in jobs.items():
+            times[key].append(seconds(command, path) * 1000)
+    return {key: (statistics.median(values), min(values)) for key, values in times.items()}
+
+
+def same_answers(program, baseline, path):
+    if answer(program, path) != answer(baseline, path):
+        sys.exit(f"{path}: the programs answer differently")
+
+
+def plain(program, baseline, folder, runs):
+    names = [label for label, _, _ in sheets.sheets()]
+    both = ([program, "report"], [baseline])
+    for name in names:
+        same_answers(*both, f"{folder}/{name}.csv")
+    times = measured({(which, name): (both[which], f"{folder}/{name}.csv") for name in names for which in (0, 1)}, runs)
+    print("| Sheet | dsheet, ms | plain program, ms | ratio | ratio of the least | times one cell |")
     print("|---|---|---|---|---|---|")
     for name in names:
-        ours, plain = median[0, name], median[1, name]
-        ratio, best = ours / plain, least[0, name] / least[1, name]
-        print(f"| {name} | {ours:.2f} | {plain:.2f} | {ratio:.2f} | {best:.2f} | {ours / median[0, 'empty']:.1f} |")
+        (ours, our_least), (theirs, their_least) = times[0, name], times[1, name]
+        one = times[0, "one_cell"][0]
+        print(f"| {name} | {ours:.2f} | {theirs:.2f} | {ours / theirs:.2f} | {our_least / their_least:.2f} | {ours / one:.1f} |")
+
+
+def scripts(program, folder, runs):
+    names = ["chain", "chain_backwards", "chain_shuffled", "all_above", "constants"]
+    jobs = {("report", name): ([program, "report"], f"{folder}/{name}.csv") for name in names}
+    jobs.update({("run", name): ([program, "run"], f"{folder}/{name}.script") for name in names})
+    other = shutil.which("ssconvert")
+    if other:
+        jobs.update({("other", name): ([other, f"{folder}/{name}.csv", f"{folder}/{name}.out.csv"], os.devnull) for name in names})
+    else:
+        print("ssconvert is not here (Debian: apt-get install gnumeric); its column stays empty")
+    times = measured(jobs, runs)
+    print("| Sheet | report, ms | run, ms | run to report | ssconvert, ms | report to ssconvert |")
+    print("|---|---|---|---|---|---|")
+    for name in names:
+        report, run = times["report", name][0], times["run", name][0]
+        others = f"{times['other', name][0]:.0f} | {report / times['other', name][0]:.3f}" if other else " | "
+        print(f"| {name} | {report:.2f} | {run:.2f} | {run / report:.1f} | {others} |")
+
+
+def of_calls(program, baseline, folder, runs):
+    names = [name for name, _, _, _ in calls.scripts()]
+    both = ([program, "run"], [baseline])
+    for name in names:
+        same_answers(*both, f"{folder}/{name}.script")
+    jobs = {(which, name, part): (both[which], f"{folder}/{name}.{part}") for name in names for which in (0, 1) for part in ("script", "before")}
+    times = measured(jobs, runs)
+    print("| Script | calls | dsheet, microseconds a call | plain program | ratio |")
+    print("|---|---|---|---|---|")
+    for name, _, _, count in calls.scripts():
+        each = [(times[which, name, "script"][1] - times[which, name, "before"][1]) * 1000 / count for which in (0, 1)]
+        print(f"| {name} | {count} | {each[0]:.2f} | {each[1]:.2f} | {each[0] / each[1]:.1f} |")
+
+
+def main():
+    if len(sys.argv) < 2:
+        sys.exit(__doc__)
+    kind, *paths, runs = sys.argv[1:]
+    {"plain": plain, "scripts": scripts, "calls": of_calls}[kind](*paths, int(runs))
 
 
 if __name__ == "__main__":
