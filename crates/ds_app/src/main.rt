@@ -2,9 +2,11 @@
 #![tactic(auto)]
 
 mod command_line;
+mod progress;
 mod status;
 
 use crate::command_line::{Action, parse};
+use crate::progress::Progress;
 use crate::status::{grid_status, script_status};
 use clap::Error;
 use clap::error::ErrorKind;
@@ -15,7 +17,7 @@ use ds_stops::stops::stop_at_each;
 use ds_streams::ending::ScriptEnd;
 use ds_streams::input::{InputEnd, read_input};
 use ds_streams::streams::{Reading, Writing};
-use std::io::{self, BufWriter};
+use std::io::{self, BufWriter, IsTerminal};
 use std::process::ExitCode;
 use std::rt::Env;
 
@@ -50,8 +52,8 @@ fn run<R: AllocGlobal + Input + Print + Eprint>(rt: &R) -> u8 {
 }
 
 // `dsheet run --stops`: a script from standard input, what is told behind each of its steps to standard output, the
-// fault to standard error.
-fn stops<R: AllocGlobal + Input + Print + Eprint>(rt: &R) -> u8 {
+// fault to standard error; there it shows how far it is, where that is asked for.
+fn stops<R: AllocGlobal + Input + Print + Eprint>(rt: &R, shows: bool) -> u8 {
     let Ok(buffered) = BufWriter::new(rt.alloc(), io::writer(rt)) else {
         return NO_MEMORY;
     };
@@ -59,7 +61,7 @@ fn stops<R: AllocGlobal + Input + Print + Eprint>(rt: &R) -> u8 {
     let Ok(input) = read_input(rt.alloc(), &mut reader, SCRIPT_LIMIT) else {
         return NO_MEMORY;
     };
-    let mut writer = Writing::new(buffered);
+    let mut writer = Writing::new(Progress::new(buffered, rt, shows));
     let end = match input.end {
         InputEnd::Failed => ScriptEnd::ReadFailed,
         InputEnd::Ended | InputEnd::TooLong => {
@@ -100,7 +102,8 @@ fn explain(rt: &(impl Print + Eprint), error: &Error) -> u8 {
     }
 }
 
-fn dispatch<R: AllocGlobal + Env + Input + Print + Eprint>(rt: &R) -> u8 {
+// Standard error is a terminal, or not.
+fn dispatch<R: AllocGlobal + Env + Input + Print + Eprint>(rt: &R, is_terminal: bool) -> u8 {
     let arguments = match std::env::args(rt) {
         Ok(arguments) => arguments,
         Err(error) if error.kind() == io::ErrorKind::OutOfMemory => return NO_MEMORY,
@@ -114,12 +117,12 @@ fn dispatch<R: AllocGlobal + Env + Input + Print + Eprint>(rt: &R) -> u8 {
     };
     match parse(rt.alloc(), words.as_slice()) {
         Ok(Action::Run) => run(rt),
-        Ok(Action::Stops) => stops(rt),
+        Ok(Action::Stops) => stops(rt, is_terminal),
         Ok(Action::Report) => report(rt),
         Err(error) => explain(rt, &error),
     }
 }
 
 fn main(rt: HostRuntime) -> ExitCode {
-    ExitCode::from(dispatch(&rt))
+    ExitCode::from(dispatch(&rt, rt.stderr().is_terminal()))
 }

@@ -1,19 +1,24 @@
 //! Numbers, cells, texts and places drawn at random.
 
+use crate::grid::Grid;
 use ds_fixtures::sheet::{A1, A2, B1, B2};
 use ds_formula::cells::Cell;
 use ds_layout::place::Place;
 
-/// A generator of numbers.
+/// The cell `A3`.
+const A3: Cell = Cell { column: 0, row: 2 };
+
+/// A generator of numbers, and the sheet that it draws for.
 #[derive(Clone, Copy, Debug)]
 pub struct Draw {
     state: u64,
+    grid: Grid,
 }
 
 impl Draw {
     /// The generator that begins so.
-    pub fn new(state: u64) -> Draw {
-        Draw { state }
+    pub fn new(state: u64, grid: Grid) -> Draw {
+        Draw { state, grid }
     }
 
     /// A number below the bound.
@@ -27,30 +32,33 @@ impl Draw {
 
     /// A1 more often than the others, so that edits meet.
     pub fn cell(&mut self) -> Cell {
-        match self.below(8) {
-            0 => A2,
-            1 => B2,
-            2 => B1,
+        match (self.grid, self.below(8)) {
+            (_, 0) => A2,
+            (Grid::Square, 1) => B2,
+            (Grid::Square, 2) => B1,
+            (Grid::Column, 1) => A3,
             _ => A1,
         }
     }
 
     /// One of them has a fault.
     pub fn text(&mut self) -> &'static str {
-        match self.below(7) {
-            0 => "",
-            1 => "7",
-            2 => "-9223372036854775808",
-            3 => "=[.A1]",
-            4 => "=[.B2]*[.A1]+[.A2]",
-            5 => "=[.C1]",
-            _ => "=SUM([.A1:.B2];1)",
+        match (self.grid, self.below(7)) {
+            (_, 0) => "",
+            (_, 1) => "7",
+            (_, 2) => "-9223372036854775808",
+            (_, 3) => "=[.A1]",
+            (Grid::Square, 4) => "=[.B2]*[.A1]+[.A2]",
+            (Grid::Column, 4) => "=[.A3]*[.A1]+[.A2]",
+            (_, 5) => "=[.C1]",
+            (Grid::Square, _) => "=SUM([.A1:.B2];1)",
+            (Grid::Column, _) => "=SUM([.A1:.A3];1)",
         }
     }
 
     /// A word of a sheet with so many processes.
     pub fn place(&mut self, processes: u64) -> Place {
-        let cell = self.below(4);
+        let cell = self.below(self.grid.cells());
         let process = self.below(processes);
         let number = self.below(4);
         match self.below(11) {

@@ -1,6 +1,7 @@
 // Lists of events of edits: after each event, the texts of the cells are those of the last edits that count.
 
 use crate::draw::Draw;
+use crate::grid::Grid;
 use crate::last::{are_last_texts, times_counted};
 use ds_core::event::Event;
 use ds_core::reply::Reply;
@@ -107,7 +108,7 @@ fn play(
 
 #[test]
 fn ten_lists(rt: HostRuntime) -> Result<(), Fail> {
-    let mut draw = Draw::new(2026);
+    let mut draw = Draw::new(2026, Grid::Square);
     let mut done = 0usize;
     let mut overtaken = 0usize;
     for _ in 0..10usize {

@@ -1,6 +1,5 @@
 //! The last edits that count.
 
-use ds_fixtures::sheet::CELLS;
 use ds_state::world::World;
 use std::alloc::{AllocError, Global};
 
@@ -28,7 +27,9 @@ pub fn times_counted(world: &World, process: usize, number: usize) -> usize {
 
 /// Whether each cell has the text of its last edit that counts.
 pub fn are_last_texts(alloc: Global, world: &World) -> Result<bool, AllocError> {
-    for (number, cell) in CELLS.into_iter().enumerate() {
+    let shape = world.words.layout().shape;
+    for number in 0..shape.count() {
+        let cell = shape.cell(number);
         if !world.words.layout().shape.contains(cell) {
             return Ok(false);
         }

@@ -6,10 +6,14 @@ mod draw;
 #[cfg(test)]
 mod edits;
 #[cfg(test)]
+mod grid;
+#[cfg(test)]
 mod last;
 #[cfg(test)]
 mod lists;
 #[cfg(test)]
 mod recount;
+#[cfg(test)]
+mod script;
 #[cfg(test)]
 mod simulation;

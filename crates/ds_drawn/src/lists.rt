@@ -1,7 +1,8 @@
 // Lists of all events drawn at random, for three processes: the edits that count are those of a recount, and at each
-// quiet moment the values are those of an evaluation from scratch. A list that fails is printed.
+// quiet moment the values are those of an evaluation from scratch. A list that fails is printed as a script.
 
 use crate::draw::Draw;
+use crate::grid::Grid;
 use crate::recount::{Counts, Doing, Recount};
 use crate::simulation::{Drawn, Meeting, Simulation};
 use std::process::Abort;
@@ -49,24 +50,22 @@ fn draw_next(draw: &mut Draw, recount: &Recount) -> Drawn {
     }
 }
 
-// Plays a list of so many drawn events, and a calm end; it is printed where it fails.
+// Plays a list of so many drawn events, and a calm end; it is printed as a script where it fails.
 fn play(
     rt: &(impl Abort + AllocGlobal),
     simulation: &mut Simulation,
     draw: &mut Draw,
     count: usize,
 ) -> Result<(), Fail> {
-    let mut list = Vec::new(rt.alloc());
     for left in (0..count).rev() {
         let drawn = if left == 0 {
             Drawn::Calm
         } else {
             draw_next(draw, &simulation.recount)
         };
-        list.push(drawn)?;
         simulation.happen(drawn)?;
         simulation.check()?;
-        assert!(rt; simulation.recount.is_right, "{list:?}");
+        assert!(rt; simulation.recount.is_right, "{}", simulation.script.text());
     }
     Ok(())
 }
@@ -96,19 +95,39 @@ impl Met {
     }
 }
 
-#[test]
-fn sixty_four_lists(rt: HostRuntime) -> Result<(), Fail> {
-    let mut draw = Draw::new(20261122);
+// So many lists of so many drawn events on new sheets, and what they met.
+fn play_all(
+    rt: &(impl Abort + AllocGlobal),
+    draw: &mut Draw,
+    grid: Grid,
+    lists: usize,
+    events: usize,
+) -> Result<Met, Fail> {
     let mut met = Met {
         counts: Counts::new(),
         late: 0,
         quiet: 0,
     };
-    for _ in 0..64usize {
-        let mut simulation = Simulation::new(rt.alloc())?;
-        play(&rt, &mut simulation, &mut draw, 110)?;
+    for _ in 0..lists {
+        let mut simulation = Simulation::new(rt.alloc(), grid)?;
+        play(rt, &mut simulation, draw, events)?;
         met.add(&simulation);
     }
+    Ok(met)
+}
+
+#[test]
+fn sixty_four_lists(rt: HostRuntime) -> Result<(), Fail> {
+    let mut draw = Draw::new(20261122, Grid::Square);
+    let met = play_all(&rt, &mut draw, Grid::Square, 64, 110)?;
+    assert!(rt; met.is_all(), "{met:?}");
+    Ok(())
+}
+
+#[test]
+fn sixteen_lists_of_a_column(rt: HostRuntime) -> Result<(), Fail> {
+    let mut draw = Draw::new(20261123, Grid::Column);
+    let met = play_all(&rt, &mut draw, Grid::Column, 16, 400)?;
     assert!(rt; met.is_all(), "{met:?}");
     Ok(())
 }

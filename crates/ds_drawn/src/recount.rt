@@ -1,5 +1,6 @@
 //! A recount of the edits of a sheet with three processes, from events and their replies alone.
 
+use crate::grid::Grid;
 use crate::last::times_counted;
 use ds_core::reply::Reply;
 use ds_edit::answer::{Answer, Told};
@@ -11,11 +12,6 @@ use std::alloc::{AllocError, Global};
 
 /// How many processes the sheet has.
 pub const PROCESSES: usize = 3;
-
-/// The number of a cell.
-pub fn number_of(cell: Cell) -> usize {
-    cell.row.wrapping_mul(2).wrapping_add(cell.column)
-}
 
 /// What a process does, as its replies tell.
 #[derive(Clone, Copy, Debug, PartialEq, Eq)]
@@ -111,6 +107,7 @@ impl Counts {
 /// The recount.
 #[derive(Drop)]
 pub struct Recount {
+    grid: Grid,
     issued: Vec<Issued>,
     processes: [Seen; PROCESSES],
     // Edits that count for good, and edits that never will.
@@ -124,13 +121,14 @@ pub struct Recount {
 
 impl Recount {
     /// That of a new sheet.
-    pub fn new(alloc: Global) -> Recount {
+    pub fn new(alloc: Global, grid: Grid) -> Recount {
         let seen = Seen {
             doing: Doing::Idle,
             next: 0,
             open: None,
         };
         Recount {
+            grid,
             issued: Vec::new(alloc),
             processes: [seen; PROCESSES],
             inside: Vec::new(alloc),
@@ -196,7 +194,7 @@ impl Recount {
                 self.issued.push(Issued {
                     process,
                     number,
-                    cell: number_of(cell),
+                    cell: self.grid.number_of(cell),
                     text,
                 })?;
                 self.put(

@@ -1,7 +1,9 @@
 //! A sheet of three processes on which drawn events happen, and its recount.
 
+use crate::grid::Grid;
 use crate::last::{are_last_texts, last_text};
-use crate::recount::{Doing, PROCESSES, Recount, number_of};
+use crate::recount::{Doing, PROCESSES, Recount};
+use crate::script::Script;
 use ds_core::event::Event;
 use ds_core::reply::Reply;
 use ds_core::take::take;
@@ -9,7 +11,6 @@ use ds_eval::scratch::scratch;
 use ds_eval::sheet::Sheet;
 use ds_eval::task::Evaluated;
 use ds_fixtures::calls::{edit, evaluated, settle};
-use ds_fixtures::sheet::{CELLS, small_of_three};
 use ds_formula::cells::Cell;
 use ds_formula::reading::read_content;
 use ds_layout::place::Place;
@@ -67,13 +68,16 @@ pub enum Drawn {
     Calm,
 }
 
-/// A sheet, its recount, and the task that was offered last.
+/// A sheet, its recount, the script of what happened, and the task that was offered last.
 #[derive(Drop)]
 pub struct Simulation {
     alloc: Global,
+    grid: Grid,
     world: World,
     /// The recount.
     pub recount: Recount,
+    /// The script.
+    pub script: Script,
     kept: Option<Evaluated>,
     /// How many offers came too late.
     pub late: u64,
@@ -86,12 +90,14 @@ const STEPS: usize = 500;
 
 impl Simulation {
     /// A new sheet.
-    pub fn new(alloc: Global) -> Result<Simulation, Fail> {
-        let world = small_of_three(alloc)?;
+    pub fn new(alloc: Global, grid: Grid) -> Result<Simulation, Fail> {
+        let world = grid.world(alloc)?;
         Ok(Simulation {
             alloc,
+            grid,
             world,
-            recount: Recount::new(alloc),
+            recount: Recount::new(alloc, grid),
+            script: Script::new(alloc, grid)?,
             kept: None,
             late: 0,
             quiet: 0,
@@ -104,6 +110,9 @@ impl Simulation {
 
     fn step(&mut self, process: usize) -> Result<Reply, Fail> {
         let reply = self.take(&Event::Step(process));
+        if reply != Reply::NotEnabled {
+            self.script.by("step", process)?;
+        }
         self.recount.step(&self.world, process, reply)?;
         Ok(reply)
     }
@@ -129,45 +138,64 @@ impl Simulation {
     }
 
     // Its work does not wait for it any more.
-    fn offer_late(&mut self) {
+    fn offer_late(&mut self) -> Result<(), Fail> {
         if let Some(entry) = self.kept.take() {
+            self.script.late()?;
             let reply = self.take(&Event::Offer(entry));
             self.recount.expect(reply == Reply::WrongTask);
             self.late = self.late.wrapping_add(1);
         }
+        Ok(())
     }
 
     fn edit(&mut self, process: usize, cell: Cell, text: &'static str) -> Result<(), Fail> {
+        self.script.edit(process, cell, text)?;
         let event = edit(self.alloc, process, cell, text)?;
         let reply = self.take(&event);
         self.recount.edit(process, cell, text, reply)?;
         Ok(())
     }
 
-    // Work or a report begins.
-    fn enter(&mut self, process: usize, event: &Event) {
-        let reply = self.take(event);
+    fn work(&mut self, process: usize, cell: Cell) -> Result<(), Fail> {
+        self.script.work(process, cell)?;
+        let reply = self.take(&Event::BeginWork(process, cell));
         self.recount.enter(process, reply);
+        Ok(())
     }
 
-    fn recover(&mut self, process: usize) {
+    fn show(&mut self, process: usize) -> Result<(), Fail> {
+        self.script.begin(process, "show")?;
+        let reply = self.take(&Event::BeginShow(process));
+        self.recount.enter(process, reply);
+        Ok(())
+    }
+
+    fn recover(&mut self, process: usize) -> Result<(), Fail> {
+        self.script.begin(process, "recover")?;
         let reply = self.take(&Event::BeginRecover(process));
         self.recount.recover(process, reply);
+        Ok(())
     }
 
-    fn stop(&mut self, process: usize) {
+    fn stop(&mut self, process: usize) -> Result<(), Fail> {
+        self.script.by("stop", process)?;
         let reply = self.take(&Event::Stop(process));
         self.recount.stop(process, reply);
+        Ok(())
     }
 
-    fn crash(&mut self) {
+    fn crash(&mut self) -> Result<(), Fail> {
+        self.script.crash()?;
         let reply = self.take(&Event::Crash);
         self.recount.crash(reply);
+        Ok(())
     }
 
-    fn evict(&mut self, place: Place) {
+    fn evict(&mut self, place: Place) -> Result<(), Fail> {
+        self.script.evict(place)?;
         let reply = self.take(&Event::Evict(place));
         self.recount.expect(reply == Reply::Evicted);
+        Ok(())
     }
 
     fn finish(&mut self, process: usize) -> Result<(), Fail> {
@@ -186,7 +214,7 @@ impl Simulation {
     fn rest(&mut self, process: usize) -> Result<(), Fail> {
         self.finish(process)?;
         if self.recount.doing(process) == Doing::Stopped {
-            self.recover(process);
+            self.recover(process)?;
             self.finish(process)?;
         }
         Ok(())
@@ -196,6 +224,7 @@ impl Simulation {
         for process in 0..PROCESSES {
             self.rest(process)?;
         }
+        self.script.by("settle", 0)?;
         let settled = settle(self.alloc, &mut self.world, 0)?;
         let is_quiet = self.world.is_quiet();
         self.recount.expect(settled && is_quiet);
@@ -230,23 +259,18 @@ impl Simulation {
     fn lose(&mut self, meeting: Meeting) -> Result<(), Fail> {
         self.meet(meeting)?;
         self.swing(meeting.process, meeting.steps)?;
-        self.enter(
-            meeting.other,
-            &Event::BeginWork(meeting.other, meeting.cell),
-        );
+        self.work(meeting.other, meeting.cell)?;
         self.finish(meeting.other)?;
-        self.crash();
-        Ok(())
+        self.crash()
     }
 
     fn help(&mut self, meeting: Meeting) -> Result<(), Fail> {
         self.meet(meeting)?;
         self.swing(meeting.process, meeting.steps)?;
-        self.edit(meeting.other, meeting.cell, "=[.B2]+1")?;
+        self.edit(meeting.other, meeting.cell, "=[.A2]+1")?;
         self.swing(meeting.other, STEPS)?;
-        self.evict(Place::Head(number_of(meeting.cell)));
-        self.crash();
-        Ok(())
+        self.evict(Place::Head(self.grid.number_of(meeting.cell)))?;
+        self.crash()
     }
 
     fn race(&mut self, meeting: Meeting) -> Result<(), Fail> {
@@ -260,22 +284,21 @@ impl Simulation {
     /// What is drawn happens.
     pub fn happen(&mut self, drawn: Drawn) -> Result<(), Fail> {
         match drawn {
-            Drawn::Edit(process, cell, text) => self.edit(process, cell, text)?,
-            Drawn::Work(process, cell) => self.enter(process, &Event::BeginWork(process, cell)),
-            Drawn::Show(process) => self.enter(process, &Event::BeginShow(process)),
+            Drawn::Edit(process, cell, text) => self.edit(process, cell, text),
+            Drawn::Work(process, cell) => self.work(process, cell),
+            Drawn::Show(process) => self.show(process),
             Drawn::Recover(process) => self.recover(process),
-            Drawn::Steps(process, count) => self.steps(process, count)?,
-            Drawn::Offer(process) => self.offer(process)?,
+            Drawn::Steps(process, count) => self.steps(process, count),
+            Drawn::Offer(process) => self.offer(process),
             Drawn::Late => self.offer_late(),
             Drawn::Evict(place) => self.evict(place),
             Drawn::Stop(process) => self.stop(process),
             Drawn::Crash => self.crash(),
-            Drawn::Loss(meeting) => self.lose(meeting)?,
-            Drawn::Race(meeting) => self.race(meeting)?,
-            Drawn::Help(meeting) => self.help(meeting)?,
-            Drawn::Calm => self.calm()?,
+            Drawn::Loss(meeting) => self.lose(meeting),
+            Drawn::Race(meeting) => self.race(meeting),
+            Drawn::Help(meeting) => self.help(meeting),
+            Drawn::Calm => self.calm(),
         }
-        Ok(())
     }
 
     /// The ledger is that of the recount, each text is the last one that counts, and the values of a quiet sheet are
@@ -298,7 +321,7 @@ impl Simulation {
 fn sheet_of(alloc: Global, world: &World) -> Result<Option<Sheet>, Fail> {
     let shape = world.words.layout().shape;
     let mut contents = Vec::new(alloc);
-    for number in 0..CELLS.len() {
+    for number in 0..shape.count() {
         contents.push(read_content(alloc, &shape, last_text(world, number))?)?;
     }
     if contents.len() != shape.count() {
@@ -313,8 +336,13 @@ fn are_right_values(alloc: Global, world: &World) -> Result<bool, Fail> {
         return Ok(false);
     };
     let values = scratch(alloc, &sheet)?;
-    for (cell, value) in CELLS.into_iter().zip(&values) {
-        if !world.words.layout().shape.contains(cell) || world.value_of(cell) != *value {
+    let shape = world.words.layout().shape;
+    for number in 0..shape.count() {
+        let cell = shape.cell(number);
+        if !world.words.layout().shape.contains(cell) {
+            return Ok(false);
+        }
+        if values.get(number) != Some(&world.value_of(cell)) {
             return Ok(false);
         }
     }

@@ -1,7 +1,6 @@
 //! Calls from their begin to their end.
 
 use crate::mismatch::Mismatch;
-use crate::sheet::CELLS;
 use ds_core::event::{Event, Request};
 use ds_core::reply::Reply;
 use ds_core::take::take;
@@ -88,7 +87,9 @@ fn is_marked(world: &World, cell: Cell) -> bool {
 /// A process works on each cell that is marked when its turn comes. Whether there was one.
 fn pass(alloc: Global, world: &mut World, process: usize) -> Result<bool, Mismatch> {
     let mut found = false;
-    for cell in CELLS {
+    let shape = world.words.layout().shape;
+    for number in 0..shape.count() {
+        let cell = shape.cell(number);
         if is_marked(world, cell) {
             found = true;
             whole(alloc, world, process, &Event::BeginWork(process, cell))?;

@@ -1,4 +1,4 @@
-//! A sheet of two columns and two rows.
+//! A sheet of two columns and two rows, and one of a column and three rows.
 
 use ds_formula::cells::{Cell, Shape};
 use ds_state::world::World;
@@ -29,5 +29,11 @@ pub fn small(alloc: Global) -> Result<World, Fail> {
 /// The sheet, new, with three processes.
 pub fn small_of_three(alloc: Global) -> Result<World, Fail> {
     let shape = Shape::new(2, 2).ok_or("shape")?;
+    Ok(World::new(alloc, shape, 3)?)
+}
+
+/// A sheet of one column and three rows, new, with three processes.
+pub fn column_of_three(alloc: Global) -> Result<World, Fail> {
+    let shape = Shape::new(1, 3).ok_or("shape")?;
     Ok(World::new(alloc, shape, 3)?)
 }
