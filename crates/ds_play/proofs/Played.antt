@@ -1,5 +1,5 @@
 -- Plays, one after another.
-use Rattle.std.proofs.Common.{ℕ, ◌≡◌, List, [], ◌∷◌, ◌++◌, refl, sym, ap, ◌∙◌, subst, Some}
+use Rattle.std.proofs.Common.{ℕ, ◌≡◌, List, [], ◌∷◌, ◌++◌, refl, sym, subst, Some}
 use Rattle.std.specs.Prelude.{Result, Ok, Err, IfOk}
 use Rattle.std.specs.Global.{Vec}
 use Rattle.ds_state.specs.Value.{WorldValue}
@@ -37,9 +37,6 @@ leads_on a b c old mid new h k = record {
 
 pub stays : (a b : Doing) (w : WorldValue) → b ≡ a → Leads a w b w
 stays a b w same = record { events = []; replies = []; plays = (same, refl) }
-
-pub leads_to : (a b c : Doing) (old new : WorldValue) → Leads a old b new → b ≡ c → Leads a old c new
-leads_to a b c old new h is = subst (λ (d : Doing). Leads a old d new) is h
 
 pub leads_from : (a b c : Doing) (old new : WorldValue) → a ≡ b → Leads b old c new → Leads a old c new
 leads_from a b c old new is h = subst (λ (d : Doing). Leads d old c new) (sym is) h

@@ -1,5 +1,5 @@
 -- A settle of whole calls, as a command.
-use Rattle.std.proofs.Common.{ℕ, ◌≡◌, ◌<◌, ◌++◌, List, [], ◌∷◌, Some, refl, ap, sym}
+use Rattle.std.proofs.Common.{ℕ, ◌≡◌, ◌<◌, List, Some, refl, ap}
 use Rattle.std.specs.Prelude.{Result, Ok}
 use Rattle.ds_formula.specs.declared.cells.Cell.{Cell}
 use Rattle.ds_formula.specs.Cells.{cell_at}

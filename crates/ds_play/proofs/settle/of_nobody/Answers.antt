@@ -1,4 +1,4 @@
-use Rattle.std.proofs.Common.{◌≡◌, List, ℕ, refl, sym, ap, arith}
+use Rattle.std.proofs.Common.{List, ℕ, refl, sym, ap, arith}
 use Rattle.ds_formula.specs.Cells.{cell_at}
 use Rattle.ds_core.specs.declared.event.Event.TheVariants.{BeginWork}
 use Rattle.ds_calls.specs.declared.settle.Turn.{Turn}
