@@ -18,23 +18,21 @@ use Rattle.ds_core.specs.declared.event.Event.TheVariants.{Step, Offer}
 use Rattle.ds_core.specs.declared.reply.Reply.TheVariants.{Stepped}
 use Rattle.ds_calls.specs.Wanted.{wanted, wanted_at, wants, evaluated}
 use Rattle.ds_calls.specs.Kinds.{AnswersTo}
-use Rattle.ds_calls.specs.Whole.{HasProcess}
-use Rattle.ds_calls.specs.Driven.{IsNotWaiting, GoesOn}
+use Rattle.ds_calls.specs.Driven.{GoesOn}
 
 -- ---- an offer
 
-module _ (old new : WorldValue) (p : ℕ) (given : (entry : Entry) × IsOffered (world_of old) p entry (world_of new)) (there : HasProcess old p) (good : IsGood new) (done : new.done ≡ old.done) (settled : new.settled ≡ old.settled) (reports : new.reports ≡ old.reports) where
-  abbrev event : Event
-  event = Offer (evaluated old.sheet.layout.shape given.1.work)
+module _ (old new : WorldValue) (p : ℕ) (given : (entry : Entry) × IsOffered (world_of old) p entry (world_of new)) (good : IsGood new) (done : new.done ≡ old.done) (settled : new.settled ≡ old.settled) (reports : new.reports ≡ old.reports) where
+  abbrev pub offer_event : Event
+  offer_event = Offer (evaluated old.sheet.layout.shape given.1.work)
 
-  asked : event ≡ wants old p
-  asked = sym (
+  pub offer_wanted : wants old p ≡ offer_event
+  offer_wanted =
       ap (λ (s : Situation). wanted p old.sheet.layout.shape s) given.1.waits.works
       ∙ ap (λ (s : WorkStage). wanted_at p old.sheet.layout.shape given.1.work s) given.1.waits.waits
-      )
 
-  fits : Fits old event Stepped new
-  fits = record {
+  pub offer_fits : Fits old offer_event Stepped new
+  offer_fits = record {
     takes = record {
       waited = record { work = given.1.work; waits = subst (λ (q : ℕ). Waits (world_of old) q given.1.work) (sym given.1.mine) given.1.waits; is = refl };
       offered = record {
@@ -54,8 +52,8 @@ module _ (old new : WorldValue) (p : ℕ) (given : (entry : Entry) × IsOffered 
 
   pub offer_goes : GoesOn old p new
   offer_goes = record {
-    fits = subst (λ (e : Event). Fits old e Stepped new) asked fits;
-    calling = record { there = subst (λ n. p < n) (sym (ap (λ y. y.processes) given.1.offers.turn.layout)) there; calls = subst IsInCall (sym behind) tt };
+    fits = subst (λ (e : Event). Fits old e Stepped new) (sym offer_wanted) offer_fits;
+    calling = record { there = subst (λ n. p < n) (sym (ap (λ y. y.processes) given.1.offers.turn.layout)) given.1.waits.inside; calls = subst IsInCall (sym behind) tt };
     same = λ answer h. subst (λ (s : Situation). AnswersTo s answer) (sym given.1.waits.works) (subst (λ (s : Situation). AnswersTo s answer) behind h);
   }
 
@@ -78,5 +76,5 @@ wants_in : (v : WorldValue) (p : ℕ) (s : Situation) → (world_of v).situation
 wants_in v p (Working e) is none = wants_at v p e e.stage refl (none e is)
 wants_in v p s is none = refl
 
-pub wants_step : (v : WorldValue) (p : ℕ) → HasProcess v p → IsNotWaiting v p → wants v p ≡ Step p
-wants_step v p there none = wants_in v p ((world_of v).situation p) refl (λ e works waits. none e (record { inside = there; works = works; waits = waits }))
+pub wants_step : (v : WorldValue) (p : ℕ) → ((e : PlainWork) → (world_of v).situation p ≡ Working e → e.stage ≡ Wait → ⊥) → wants v p ≡ Step p
+wants_step v p none = wants_in v p ((world_of v).situation p) refl none

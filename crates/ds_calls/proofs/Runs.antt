@@ -21,15 +21,16 @@ use Rattle.ds_calls.specs.Settling.{Settling, begins, works}
 pub no_events : (old : WorldValue) → IsRun old old
 no_events old = record { events = []; replies = []; run = refl }
 
-on : (events : List Event) (replies : List Reply) (events' : List Event) (replies' : List Reply) (old mid new : WorldValue)
+-- one run behind another
+pub run_both : (events : List Event) (replies : List Reply) (events' : List Event) (replies' : List Reply) (old mid new : WorldValue)
     → WorldRun old events replies mid → WorldRun mid events' replies' new → WorldRun old (events ++ events') (replies ++ replies') new
-on [] [] events' replies' old mid new h k = subst (λ (v : WorldValue). WorldRun v events' replies' new) h k
-on (event ∷ events) (reply ∷ replies) events' replies' old mid new h k = (h.0, h.1, on events replies events' replies' h.0 mid new h.2 k)
-on [] (reply ∷ replies) events' replies' old mid new h k = absurd h
-on (event ∷ events) [] events' replies' old mid new h k = absurd h
+run_both [] [] events' replies' old mid new h k = subst (λ (v : WorldValue). WorldRun v events' replies' new) h k
+run_both (event ∷ events) (reply ∷ replies) events' replies' old mid new h k = (h.0, h.1, run_both events replies events' replies' h.0 mid new h.2 k)
+run_both [] (reply ∷ replies) events' replies' old mid new h k = absurd h
+run_both (event ∷ events) [] events' replies' old mid new h k = absurd h
 
 pub runs_on : (old mid new : WorldValue) → IsRun old mid → IsRun mid new → IsRun old new
-runs_on old mid new h k = record { events = h.events ++ k.events; replies = h.replies ++ k.replies; run = on h.events h.replies k.events k.replies old mid new h.run k.run }
+runs_on old mid new h k = record { events = h.events ++ k.events; replies = h.replies ++ k.replies; run = run_both h.events h.replies k.events k.replies old mid new h.run k.run }
 
 pub same_run : (old new : WorldValue) → new ≡ old → IsRun old new
 same_run old new is = record { events = []; replies = []; run = is }

@@ -12,6 +12,7 @@ use Rattle.ds_state.specs.declared.stage.Stage.TheVariants as stages
 use Rattle.ds_state.specs.declared.work.WorkEnd.{WorkEnd}
 use Rattle.ds_state.specs.declared.work.WorkEnd.TheVariants as work_ends
 use Rattle.ds_state.specs.declared.work.ShowEnd.TheVariants as show_ends
+use Rattle.ds_state.specs.declared.work.WorkStage.TheVariants as work_stages
 use Rattle.ds_state.specs.declared.work.ShowStage.{ShowStage}
 use Rattle.ds_state.specs.declared.work.ShowStage.TheVariants as show_stages
 use Rattle.ds_state.specs.declared.work.RecoverStage.{RecoverStage}
@@ -38,6 +39,7 @@ use Rattle.ds_core.specs.declared.event.Event.TheVariants.{Step}
 use Rattle.ds_core.specs.declared.reply.Reply.{Reply}
 use Rattle.ds_core.specs.declared.reply.Reply.TheVariants.{Stepped, Answered, NotEnabled}
 use Rattle.ds_core.proofs.Bound.{edit_goes_on, same_layout}
+use Rattle.ds_calls.specs.Wanted.{wants}
 use Rattle.ds_calls.specs.Kinds.{IsEditAnswer, IsWorkAnswer, IsReportAnswer, IsRecoveryAnswer, AnswersTo}
 use Rattle.ds_calls.specs.Whole.{HasProcess, IsCalling, IsIdle}
 use Rattle.ds_calls.specs.Driven.{IsNotWaiting, GoesOn, IsAnswered}
@@ -102,7 +104,7 @@ pub step_goes : (old new : WorldValue) (p : ℕ) → IsSound (world_of old) → 
 step_goes old new p sound calling waits fits =
     let s = step_stays old new p sound fits.takes in
     record {
-      fits = subst (λ (e : Event). Fits old e Stepped new) (sym (wants_step old p calling.there waits)) fits;
+      fits = subst (λ (e : Event). Fits old e Stepped new) (sym (wants_step old p (λ e working wait. waits e (record { inside = calling.there; works = working; waits = wait })))) fits;
       calling = record { there = subst (λ (n : ℕ). p < n) (sym (ap (λ y. y.processes) (same_layout old new (Step p) Stepped fits.takes))) calling.there; calls = s.calls };
       same = s.same;
     }
@@ -199,6 +201,32 @@ step_ends old new p answer (recoveries h) = recovery_ends_in old new p answer h
 
 pub step_answers : (old new : WorldValue) (p : ℕ) (answer : Answer) → Fits old (Step p) (Answered answer) new → IsAnswered old p answer new
 step_answers old new p answer fits = let g = step_ends old new p answer fits.takes in record { fits = fits; to = g.to; idle = g.idle }
+
+-- ---- a step that answers is what the process wants
+
+work_not_waiting : (old new : WorldValue) (p : ℕ) (answer : Answer) → WorkStepsBy old p (Answered answer) new → (e : PlainWork) → (world_of old).situation p ≡ Working e → e.stage ≡ work_stages.Wait → ⊥
+work_not_waiting old new p answer h e working waits = by h.what h.steps h.is
+  where
+    turned : (w : PlainWork) (end : WorkEnd) → (world_of old).situation p ≡ Working w → work_events.TakesTurn w (world_of old) (world_of new) (taken.Answered end) → ⊥
+    turned w end at (work_events.answers _ at_answer s) =
+        let same : Working w ≡ Working e = sym at ∙ working in
+        let stage : w.stage ≡ work_stages.Wait = cc in
+        let bad : work_stages.Answer end ≡ work_stages.Wait = sym at_answer ∙ stage in
+        absurd (cc)
+
+    by : (what : Taken) → work_events.StepsBy (world_of old) p what (world_of new) → Answered answer ≡ work_reply what → ⊥
+    by (taken.Answered end) s is = turned s.work end s.works s.turn
+    by taken.NotEnabled s is = absurd (cc)
+    by taken.Stepped s is = absurd (cc)
+
+not_waiting : (old new : WorldValue) (p : ℕ) (answer : Answer) → StepsBy old p (Answered answer) new → (e : PlainWork) → (world_of old).situation p ≡ Working e → e.stage ≡ work_stages.Wait → ⊥
+not_waiting old new p answer (edits h) e at waits = absurd (let bad : Editing h.edit ≡ Working e = sym h.at ∙ at in cc)
+not_waiting old new p answer (works h) e at waits = work_not_waiting old new p answer h e at waits
+not_waiting old new p answer (reports h) e at waits = absurd (let bad : Showing h.steps.show ≡ Working e = sym h.steps.at ∙ at in cc)
+not_waiting old new p answer (recoveries h) e at waits = absurd (let bad : Recovering h.steps.recovery ≡ Working e = sym h.steps.at ∙ at in cc)
+
+pub answered_wants : (old new : WorldValue) (p : ℕ) (answer : Answer) → Fits old (Step p) (Answered answer) new → wants old p ≡ Step p
+answered_wants old new p answer fits = wants_step old p (not_waiting old new p answer fits.takes)
 
 -- ---- a process in a call that does not wait can step
 

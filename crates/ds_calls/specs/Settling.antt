@@ -43,10 +43,14 @@ worked w passes cell (Err why) = Ends (Refused why)
 worked w passes cell (Ok answers.NoMemory) = Ends NoMemory
 worked w passes cell (Ok answer) = goes_behind w passes cell
 
+-- a settle begins, with two passes more than the sheet has cells
+abbrev pub first_turn : WorldValue → Turn
+first_turn w = pass w (cells_of w.sheet.layout + 2)
+
 -- a settle by the process has come to this turn: it began with two passes more than the sheet has cells, and each work
 -- so far was a whole one
 pub data Settling (p : ℕ) (first : WorldValue) : Turn → WorldValue → Type 0 where
-  begins : Settling p first (pass first (cells_of first.sheet.layout + 2)) first
+  begins : Settling p first (first_turn first) first
   works : (passes cell : ℕ) (old new : WorldValue) (result : Result Answer Refusal) → Settling p first (Works passes cell) old
       → Whole p (BeginWork p (cell_at old.sheet.layout.shape cell)) old result new → Settling p first (worked new passes cell result) new
 

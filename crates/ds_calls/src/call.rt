@@ -29,7 +29,15 @@ fn edit_takes(alloc: Global, world: &mut World, process: usize, cell: Cell, text
     }
 }
 
-fn begin_edit(alloc: Global, world: &mut World, process: usize, cell: Cell, text: &[u8]) -> Reply
+/// An edit of a process of the sheet begins, or is refused: the reply to the event that begins it. The text is not
+/// copied into that event.
+pub fn begin_edit(
+    alloc: Global,
+    world: &mut World,
+    process: usize,
+    cell: Cell,
+    text: &[u8],
+) -> Reply
     requires { IsOfWorld world.old (request process cell text.now) }
     ensures fits { Fits world.old (BeginEdit (request process cell text.now)) result world.new }
     ensures begins { BeginsCall IsEditAnswer world.old process world.new result }

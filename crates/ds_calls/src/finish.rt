@@ -18,7 +18,8 @@ use ds_state::world::World;
 use ds_work::offer::offer_own;
 use std::alloc::Global;
 
-fn step_once(alloc: Global, world: &mut World, process: usize) -> Reply
+/// One step of the process, if it can make one.
+pub fn step_once(alloc: Global, world: &mut World, process: usize) -> Reply
     ensures fits { Fits world.old (Step process) result world.new }
     ensures fewer { result ≡ Stepped → steps_left process world.new < steps_left process world.old }
 {

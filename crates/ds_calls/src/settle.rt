@@ -7,7 +7,7 @@ ghost use Rattle.ds_core.specs.declared.event.Event.TheVariants.{BeginWork};
 ghost use Rattle.ds_calls.specs.declared.settle.Turn.TheVariants.{Ends, Works};
 ghost use Rattle.ds_calls.specs.Kinds.{IsWorkAnswer};
 ghost use Rattle.ds_calls.specs.Whole.{HasProcess, KeepsFree, IsWhole};
-ghost use Rattle.ds_calls.specs.Settling.{ends, pass, goes_behind, worked, Settling, works_left, IsInTurn, WorksOnce};
+ghost use Rattle.ds_calls.specs.Settling.{ends, pass, first_turn, goes_behind, worked, Settling, works_left, IsInTurn, WorksOnce};
 
 use crate::call::whole_work;
 use crate::marked::{cells, left, next_marked};
@@ -66,6 +66,15 @@ fn pass(world: &World, passes: usize) -> Turn
     }
 }
 
+/// A settle begins, with two passes more than the sheet has cells: with work on the first marked cell,
+/// if there is one.
+pub fn first_turn(world: &World) -> Turn
+    ensures value { result ≡ first_turn world.now }
+    ensures inside { IsInTurn (cells_of world.now.sheet.layout) result }
+{
+    pass(world, cells(world) + 2)
+}
+
 // A pass goes on behind a cell.
 fn goes_behind(world: &World, passes: usize, cell: usize) -> Turn
     requires { cell < cells_of world.now.sheet.layout }
@@ -79,8 +88,9 @@ fn goes_behind(world: &World, passes: usize, cell: usize) -> Turn
     }
 }
 
-// What a settle does once a work of its has ended so.
-fn worked(world: &World, passes: usize, cell: usize, answered: Result<Answer, Refusal>) -> Turn
+/// What a settle does, with so many passes left behind this one, once its work on the cell has ended
+/// so: it ends where the begin was refused or memory was wanting, else it goes on behind the cell.
+pub fn worked(world: &World, passes: usize, cell: usize, answered: Result<Answer, Refusal>) -> Turn
     requires { cell < cells_of world.now.sheet.layout }
     ensures value { result ≡ worked world.now passes cell answered }
     ensures fewer { works_left (cells_of world.now.sheet.layout) result < works_left (cells_of world.now.sheet.layout) (Works passes cell) }
@@ -122,7 +132,7 @@ pub fn settle(alloc: Global, world: &mut World, process: usize) -> SettleEnd
     ensures settles { Settling process world.old (Ends result) world.new }
     ensures free { KeepsFree process world.old world.new }
 {
-    let mut turn = pass(world, cells(world) + 2);
+    let mut turn = first_turn(world);
     'works: loop {
         match turn {
             Turn::Ends(end) => return end,

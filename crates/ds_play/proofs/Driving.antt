@@ -1,83 +1,42 @@
 -- Offers and steps of a process that is driven.
-use Rattle.std.proofs.Common.{ℕ, ◌≡◌, ◌<◌, refl, sym, ap, ◌∙◌, subst, Some, arith, inl, inr}
+use Rattle.std.proofs.Common.{ℕ, ◌≡◌, ◌<◌, refl, sym, ap, ◌∙◌, Some, arith, inl, inr}
 use Rattle.std.specs.Prelude.{Option, None, IfSome, IfNone}
 use Rattle.std.proofs.lemmas.Bool.{cases_lt}
 use Rattle.std.proofs.lemmas.List.{get_or_past}
 use Rattle.ds_eval.specs.declared.inputs.Entry.{Entry}
 use Rattle.ds_state.specs.Value.{WorldValue, world_of, IsGood}
 use Rattle.ds_state.specs.Works.{PlainWork}
-use Rattle.ds_state.specs.declared.situation.Situation.{Situation}
 use Rattle.ds_state.specs.declared.situation.Situation.TheVariants.{Idle, Working}
-use Rattle.ds_state.specs.declared.work.WorkStage.{WorkStage}
-use Rattle.ds_state.specs.declared.work.WorkStage.TheVariants.{Wait}
-use Rattle.ds_work.specs.WorkSteps as steps
 use Rattle.ds_work.specs.WorkEvents.{Waits, IsOffered}
-use Rattle.ds_work.specs.WorkRank as ranks
-use Rattle.ds_work.proofs.Ranks.{offer_falls}
-use Rattle.ds_core.specs.Own.{left_in, steps_left}
 use Rattle.ds_core.specs.Takes.{Fits}
 use Rattle.ds_core.specs.declared.event.Event.{Event}
-use Rattle.ds_core.specs.declared.event.Event.TheVariants.{Step, Offer}
+use Rattle.ds_core.specs.declared.event.Event.TheVariants.{Step}
 use Rattle.ds_core.specs.declared.reply.Reply.{Reply}
 use Rattle.ds_core.specs.declared.reply.Reply.TheVariants.{Stepped}
+use Rattle.ds_calls.proofs.Driving as calls
+use Rattle.ds_calls.proofs.Driving.{offer_event, offer_wanted, offer_fits}
 use Rattle.ds_play.specs.declared.drive.Until.{Until}
 use Rattle.ds_play.specs.declared.drive.Halt.{Halt}
-use Rattle.ds_play.specs.Doing.{Drives, asks, wanted, wanted_at, evaluated, offered, stepped, driven, ended}
+use Rattle.ds_play.specs.Doing.{Drives, asks, offered, stepped, driven, ended}
 use Rattle.ds_play.specs.Plays.{Leads, GoesOn, WantsStep, halted}
 use Rattle.ds_play.proofs.Played.{one}
 
 -- ---- an offer
 
 module _ (old new : WorldValue) (p : ℕ) (until : Until) (given : (entry : Entry) × IsOffered (world_of old) p entry (world_of new)) (good : IsGood new) (done : new.done ≡ old.done) (settled : new.settled ≡ old.settled) (reports : new.reports ≡ old.reports) where
-  abbrev pub offer_event : Event
-  offer_event = Offer (evaluated old.sheet.layout.shape given.1.work)
+  abbrev event : Event
+  event = offer_event old new p given good done settled reports
 
-  pub offer_asked : asks (Drives p until) old ≡ Some offer_event
-  offer_asked =
-      ap (λ (s : Situation). Some (wanted p old.sheet.layout.shape s)) given.1.waits.works
-      ∙ ap (λ (s : WorkStage). Some (wanted_at p old.sheet.layout.shape given.1.work s)) given.1.waits.waits
-
-  pub offer_fits : Fits old offer_event Stepped new
-  offer_fits = record {
-    takes = record {
-      waited = record { work = given.1.work; waits = subst (λ (q : ℕ). Waits (world_of old) q given.1.work) (sym given.1.mine) given.1.waits; is = refl };
-      offered = record {
-        work = given.1.work;
-        waits = subst (λ (q : ℕ). Waits (world_of old) q given.1.work) (sym given.1.mine) given.1.waits;
-        mine = refl;
-        offers = subst (λ (x : Entry). steps.OffersAt given.1.work x (world_of old) (world_of new)) given.1.offers.is given.1.offers;
-      };
-      done = done;
-      reports = record { settled = settled; reports = reports };
-    };
-    good = good;
-  }
+  pub offer_asked : asks (Drives p until) old ≡ Some event
+  offer_asked = ap (λ (e : Event). Some e) (offer_wanted old new p given good done settled reports)
 
   pub offer_halts : (halt : Halt) → offered new p until ≡ halted new p until halt → Leads (Drives p until) old (halted new p until halt) new
-  offer_halts halt is = one (Drives p until) (halted new p until halt) old new offer_event Stepped offer_asked offer_fits is
+  offer_halts halt is = one (Drives p until) (halted new p until halt) old new event Stepped offer_asked (offer_fits old new p given good done settled reports) is
 
   pub offer_goes : offered new p until ≡ Drives p until → GoesOn old p until new
-  offer_goes is = record { event = offer_event; reply = Stepped; asked = offer_asked; fits = offer_fits; on = is }
-
-  pub offer_fewer : steps_left p new < steps_left p old
-  offer_fewer =
-      let w : PlainWork = given.1.work in
-      let behind : steps_left p new ≡ left_in (Working (steps.offered w given.0)) =
-      ap left_in (ap (λ (q : ℕ). (world_of new).situation q) (sym given.1.mine) ∙ given.1.offers.turn.situation) in
-      let before : steps_left p old ≡ ranks.left w.cells w Wait =
-      ap left_in given.1.waits.works ∙ ap (λ (s : WorkStage). ranks.left w.cells w s) given.1.waits.waits in
-      let few = offer_falls w.cells w given.0 in
-      omega (arith, behind, before, few)
+  offer_goes is = record { event = event; reply = Stepped; asked = offer_asked; fits = offer_fits old new p given good done settled reports; on = is }
 
 -- ---- a step
-
-wants_at : (v : WorldValue) (p : ℕ) (e : PlainWork) (s : WorkStage) → e.stage ≡ s → (e.stage ≡ Wait → ⊥) → wanted_at p v.sheet.layout.shape e s ≡ Step p
-wants_at v p e Wait is none = absurd (none is)
-wants_at v p e s is none = refl
-
-wants_in : (v : WorldValue) (p : ℕ) (s : Situation) → (world_of v).situation p ≡ s → ((e : PlainWork) → (world_of v).situation p ≡ Working e → e.stage ≡ Wait → ⊥) → wanted p v.sheet.layout.shape s ≡ Step p
-wants_in v p (Working e) is none = wants_at v p e e.stage refl (none e is)
-wants_in v p s is none = refl
 
 -- the process is one of the sheet
 inside : (v : WorldValue) (p : ℕ) (e : PlainWork) → IsGood v → (world_of v).situation p ≡ Working e → p < v.sheet.layout.processes
@@ -87,8 +46,7 @@ inside v p e good is = elim (cases_lt p v.sheet.layout.processes) [
 ]
 
 pub wants_step : (v : WorldValue) (p : ℕ) → IsGood v → ((e : PlainWork) → Waits (world_of v) p e → ⊥) → WantsStep v p
-wants_step v p good none =
-    wants_in v p ((world_of v).situation p) refl (λ e works waits. none e (record { inside = inside v p e good works; works = works; waits = waits }))
+wants_step v p good none = calls.wants_step v p (λ e works waits. none e (record { inside = inside v p e good works; works = works; waits = waits }))
 
 driven_by : (w : WorldValue) (p : ℕ) (until : Until) (reply : Reply) → (reply ≡ Stepped → ⊥) → driven w p until (Step p) reply ≡ ended w p until reply
 driven_by w p until Stepped other = absurd (other refl)

@@ -1,12 +1,11 @@
 -- Plays, one after another.
-use Rattle.std.proofs.Common.{ℕ, ◌≡◌, List, [], ◌∷◌, ◌++◌, refl, sym, ap, ◌∙◌, subst, Some}
+use Rattle.std.proofs.Common.{ℕ, ◌≡◌, List, [], ◌∷◌, ◌++◌, refl, sym, subst, Some}
 use Rattle.std.specs.Prelude.{Result, Ok, Err, IfOk}
 use Rattle.std.specs.Global.{Vec}
 use Rattle.ds_state.specs.Value.{WorldValue}
 use Rattle.ds_core.specs.Takes.{Fits, WorldRun}
 use Rattle.ds_core.specs.declared.event.Event.{Event}
 use Rattle.ds_core.specs.declared.reply.Reply.{Reply}
-use Rattle.ds_core.proofs.Bound.{same_layout}
 use Rattle.ds_play.specs.declared.drive.Until.{Until}
 use Rattle.ds_play.specs.Doing.{Doing, Says, Drives, asks, told}
 use Rattle.ds_play.specs.Plays.{Plays, Leads, Played, GoesOn}
@@ -27,23 +26,6 @@ play_runs (event ∷ events) (reply ∷ replies) a b old new h = (h.0, h.2, play
 play_runs [] (reply ∷ replies) a b old new h = absurd h
 play_runs (event ∷ events) [] a b old new h = absurd h
 
-pub runs_on : (events : List Event) (replies : List Reply) (events' : List Event) (replies' : List Reply) (old mid new : WorldValue)
-    → WorldRun old events replies mid → WorldRun mid events' replies' new → WorldRun old (events ++ events') (replies ++ replies') new
-runs_on [] [] events' replies' old mid new h k = subst (λ (v : WorldValue). WorldRun v events' replies' new) h k
-runs_on (event ∷ events) (reply ∷ replies) events' replies' old mid new h k = (h.0, h.1, runs_on events replies events' replies' h.0 mid new h.2 k)
-runs_on [] (reply ∷ replies) events' replies' old mid new h k = absurd h
-runs_on (event ∷ events) [] events' replies' old mid new h k = absurd h
-
--- it keeps the sheet's layout
-run_layout : (events : List Event) (replies : List Reply) (old new : WorldValue) → WorldRun old events replies new → new.sheet.layout ≡ old.sheet.layout
-run_layout [] [] old new run = ap (λ (v : WorldValue). v.sheet.layout) run
-run_layout (event ∷ events) (reply ∷ replies) old new run = run_layout events replies run.0 new run.2 ∙ same_layout old run.0 event reply run.1.takes
-run_layout [] (reply ∷ replies) old new run = absurd run
-run_layout (event ∷ events) [] old new run = absurd run
-
-pub leads_layout : (a b : Doing) (old new : WorldValue) → Leads a old b new → new.sheet.layout ≡ old.sheet.layout
-leads_layout a b old new h = run_layout h.events h.replies old new (play_runs h.events h.replies a b old new h.plays)
-
 -- ---- where plays lead
 
 pub leads_on : (a b c : Doing) (old mid new : WorldValue) → Leads a old b mid → Leads b mid c new → Leads a old c new
@@ -55,9 +37,6 @@ leads_on a b c old mid new h k = record {
 
 pub stays : (a b : Doing) (w : WorldValue) → b ≡ a → Leads a w b w
 stays a b w same = record { events = []; replies = []; plays = (same, refl) }
-
-pub leads_to : (a b c : Doing) (old new : WorldValue) → Leads a old b new → b ≡ c → Leads a old c new
-leads_to a b c old new h is = subst (λ (d : Doing). Leads a old d new) is h
 
 pub leads_from : (a b c : Doing) (old new : WorldValue) → a ≡ b → Leads b old c new → Leads a old c new
 leads_from a b c old new is h = subst (λ (d : Doing). Leads d old c new) (sym is) h

@@ -8,6 +8,7 @@ use Rattle.ds_state.specs.Fresh.{IsNew}
 use Rattle.ds_core.specs.Takes.{WorldRun}
 use Rattle.ds_core.specs.Headline.{HasHeadline}
 use Rattle.ds_core.proofs.EachRun.{runs_have_headline}
+use Rattle.ds_calls.proofs.Runs.{run_both}
 use Rattle.ds_streams.specs.declared.ending.ScriptEnd.{ScriptEnd}
 use Rattle.ds_streams.specs.declared.ending.ScriptEnd.TheVariants as ends
 use Rattle.ds_streams.specs.declared.input.InputEnd.{InputEnd}
@@ -23,7 +24,7 @@ use Rattle.ds_play.specs.Orders.{Order, Make, Does}
 use Rattle.ds_play.specs.Doing.{Says, plan}
 use Rattle.ds_play.specs.Script.{Progress, Asks, begins_at, goes_on, Carried, begins, skips, makes, obeys, Finishes, FaultAt, Breaks, Lacks, is_whole, Writes}
 use Rattle.ds_play.specs.Running.{Obeys, Obeyed, Stopped, after, break_of, RanLines, HidesNone, ending_of}
-use Rattle.ds_play.proofs.Played.{play_runs, runs_on}
+use Rattle.ds_play.proofs.Played.{play_runs}
 
 -- ---- runs
 
@@ -32,7 +33,7 @@ carried_runs whole script lines p out rest (begins w made) = refl
 carried_runs whole script lines p out rest (skips n q o r line behind before next asks) = carried_runs whole script n q o r before
 carried_runs whole script lines p out rest (makes n q o r line behind columns rows processes w before next asks made) = refl
 carried_runs whole script lines p out rest (obeys n q o r line behind deed events replies answer new before next asks plays) =
-    runs_on q.events q.replies events replies q.start q.world new (carried_runs whole script n q o r before) (play_runs events replies (plan q.world deed) (Says answer) q.world new plays)
+    run_both q.events q.replies events replies q.start q.world new (carried_runs whole script n q o r before) (play_runs events replies (plan q.world deed) (Says answer) q.world new plays)
 
 pub carried_new : (whole : Bool) (script : List ℕ) (lines : ℕ) (p : Progress) (out rest : List ℕ) → Carried whole script lines p out rest → IsNew (world_of p.start)
 carried_new whole script lines p out rest (begins w made) = made.new

@@ -1,27 +1,25 @@
 -- What a command does, event by event, and the text that it ends with.
-use Rattle.std.specs.Prelude.{ℕ, zero, suc, ◌+◌, ◌-◌, List, Option, Some, None, if◌then◌else◌}
-use Rattle.ds_formula.specs.declared.cells.Shape.{Shape}
+use Rattle.std.specs.Prelude.{ℕ, List, Option, Some, None, Ok, if◌then◌else◌}
 use Rattle.ds_formula.specs.Cells.{cell_at}
-use Rattle.ds_eval.specs.Tasks.{PlainEvaluated, local_of}
 use Rattle.ds_layout.specs.Sheet.{memory}
-use Rattle.ds_layout.specs.Places.{cells_of}
 use Rattle.ds_state.specs.Value.{WorldValue, world_of}
-use Rattle.ds_state.specs.Works.{PlainWork}
-use Rattle.ds_state.specs.declared.work.WorkStage.{WorkStage}
-use Rattle.ds_state.specs.declared.work.WorkStage.TheVariants.{Wait}
 use Rattle.ds_state.specs.declared.situation.Situation.{Situation}
-use Rattle.ds_state.specs.declared.situation.Situation.TheVariants.{Working}
 use Rattle.ds_edit.specs.declared.answer.Answer.TheVariants as answers
-use Rattle.ds_work.specs.WorkEvents.{task_at}
 use Rattle.ds_core.specs.declared.event.Event.{Event}
 use Rattle.ds_core.specs.declared.event.Event.TheVariants as events
 use Rattle.ds_core.specs.declared.reply.Reply.{Reply}
 use Rattle.ds_core.specs.declared.reply.Reply.TheVariants.{Begun, Entered, Stepped, Answered}
+use Rattle.ds_core.specs.declared.reply.Reply.TheVariants as replies
+use Rattle.ds_calls.specs.declared.settle.SettleEnd.{SettleEnd}
+use Rattle.ds_calls.specs.declared.settle.SettleEnd.TheVariants.{Left, Refused, NoMemory}
+use Rattle.ds_calls.specs.declared.settle.Turn.{Turn}
+use Rattle.ds_calls.specs.declared.settle.Turn.TheVariants as turns
+use Rattle.ds_calls.specs.Wanted.{wants}
+use Rattle.ds_calls.specs.Settling.{first_turn, worked}
 use Rattle.ds_play.specs.declared.point.PointName.{PointName}
 use Rattle.ds_play.specs.declared.drive.Until.{Until}
 use Rattle.ds_play.specs.declared.drive.Until.TheVariants.{OneStep, ToPoint, ToAnswer, InPass}
 use Rattle.ds_play.specs.Points.{has_passed}
-use Rattle.ds_play.specs.Settling.{marked_from, left_in}
 use Rattle.ds_play.specs.Texts.{reply_text, answer_text, at_text, left_text, peek_text, word_text}
 use Rattle.ds_play.specs.Orders.{Deed}
 use Rattle.ds_play.specs.Orders as deed
@@ -37,52 +35,27 @@ pub data Doing : Type 0 where
 
 -- ---- what it wants
 
--- the task of a work that waits, evaluated
-abbrev pub evaluated : Shape → PlainWork → PlainEvaluated
-evaluated shape e = record { task = task_at shape e; entry = local_of (task_at shape e) }
-
--- the event that a process in work wants at a stage: where the work waits, the offer of its entry; else a step
-abbrev pub wanted_at : ℕ → Shape → PlainWork → WorkStage → Event
-wanted_at p shape e Wait = events.Offer (evaluated shape e)
-wanted_at p shape e stage = events.Step p
-
--- a process that is driven makes a step; where its work waits, it is offered the entry that it waits for
-abbrev pub wanted : ℕ → Shape → Situation → Event
-wanted p shape (Working e) = wanted_at p shape e e.stage
-wanted p shape s = events.Step p
-
 -- the event that a command wants next; none where it has ended
 abbrev pub asks : Doing → WorldValue → Option Event
 asks (Says text) w = None
 asks (Once p event) w = Some event
 asks (Calls p event) w = Some event
-asks (Drives p until) w = Some (wanted p w.sheet.layout.shape ((world_of w).situation p))
+asks (Drives p until) w = Some (wants w p)
 asks (Works p passes cell) w = Some (events.BeginWork p (cell_at w.sheet.layout.shape cell))
 
--- ---- passes of a settle
+-- ---- turns of a settle
 
--- a settle ends with the text of how many cells are left
-abbrev pub ends : WorldValue → Doing
-ends w = Says (left_text (left_in (world_of w)))
+-- the text of how a settle by the process ended, in the world that it leaves: how many cells are left, or the refusal of
+-- a begin, or the answer of a work that lacked memory
+abbrev pub end_text : WorldValue → ℕ → SettleEnd → List ℕ
+end_text w p (Left count) = left_text count
+end_text w p (Refused why) = reply_text w p (replies.Refused why)
+end_text w p NoMemory = answer_text w p answers.NoMemory
 
--- a pass of a settle begins with work on the first marked cell; where none is marked, the settle ends
-abbrev pub first_of : WorldValue → ℕ → ℕ → Option ℕ → Doing
-first_of w p passes None = ends w
-first_of w p passes (Some cell) = Works p passes cell
-
--- a settle with so many passes left begins the next one; with none left it ends
-abbrev pub pass : WorldValue → ℕ → ℕ → Doing
-pass w p zero = ends w
-pass w p (suc passes) = first_of w p passes (marked_from (world_of w) (cells_of w.sheet.layout) 0)
-
--- a pass of a settle goes on with the next marked cell; where none is marked, the next pass begins
-abbrev pub next_of : WorldValue → ℕ → ℕ → Option ℕ → Doing
-next_of w p passes None = pass w p passes
-next_of w p passes (Some cell) = Works p passes cell
-
--- a pass of a settle that has worked on a cell goes on behind that cell
-abbrev pub goes_behind : WorldValue → ℕ → ℕ → ℕ → Doing
-goes_behind w p passes cell = next_of w p passes (marked_from (world_of w) (cells_of w.sheet.layout - (cell + 1)) (cell + 1))
+-- where a settle by the process stands at this turn: it ends with a text, or works on a cell
+abbrev pub at_turn : WorldValue → ℕ → Turn → Doing
+at_turn w p (turns.Ends end) = Says (end_text w p end)
+at_turn w p (turns.Works passes cell) = Works p passes cell
 
 -- ---- what it does when it is told
 
@@ -104,11 +77,9 @@ offered w p (ToPoint name) = to_point p name ((world_of w).situation p)
 offered w p ToAnswer = Drives p ToAnswer
 offered w p (InPass passes cell) = Drives p (InPass passes cell)
 
--- what a command does once the call that it drives has ended, or can not go on: a settle goes on behind the cell, but
--- for want of memory
+-- what a command does once the call that it drives has ended, or can not go on: a settle takes its next turn
 abbrev pub ended : WorldValue → ℕ → Until → Reply → Doing
-ended w p (InPass passes cell) (Answered answers.NoMemory) = Says (answer_text w p answers.NoMemory)
-ended w p (InPass passes cell) (Answered answer) = goes_behind w p passes cell
+ended w p (InPass passes cell) (Answered answer) = at_turn w p (worked w passes cell (Ok answer))
 ended w p until reply = Says (reply_text w p reply)
 
 -- what a command does when the event of the process that it drives has this reply
@@ -135,7 +106,7 @@ told (Works p passes cell) event reply w = called w p (InPass passes cell) reply
 
 -- a settle by the process, with two passes more than the sheet has cells
 abbrev pub settle : WorldValue → ℕ → Doing
-settle w p = pass w p (cells_of w.sheet.layout + 2)
+settle w p = at_turn w p (first_turn w)
 
 -- what a command does first, by the deed that its line asks for
 abbrev pub plan : WorldValue → Deed → Doing

@@ -1,7 +1,6 @@
 pub mod Points
 pub mod Orders
 pub mod Texts
-pub mod Settling
 pub mod Doing
 pub mod Plays
 pub mod Script

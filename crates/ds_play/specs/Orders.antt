@@ -10,9 +10,9 @@ use Rattle.ds_layout.specs.declared.place.Place.TheVariants as place
 use Rattle.ds_layout.specs.declared.layout.Layout.{Layout}
 use Rattle.ds_layout.specs.Places.{parts_of, IsPlace}
 use Rattle.ds_state.specs.Value.{WorldValue, world_of}
-use Rattle.ds_core.specs.Requests.{PlainRequest}
 use Rattle.ds_core.specs.declared.event.Event.{Event}
 use Rattle.ds_core.specs.declared.event.Event.TheVariants as events
+use Rattle.ds_calls.specs.Whole.{request}
 use Rattle.ds_streams.specs.declared.ending.ScriptFault.{ScriptFault}
 use Rattle.ds_streams.specs.declared.ending.ScriptFault.TheVariants.{UnknownCommand, BadField, SheetNotFirst}
 use Rattle.ds_streams.specs.Lines.{word_of}
@@ -53,10 +53,6 @@ pub data Deed : Type 0 where
 pub data Order : Type 0 where
   Make : ℕ → ℕ → ℕ → Order
   Does : Deed → Order
-
--- an edit that is asked for: of this process, cell and text
-abbrev pub request : ℕ → Cell → List ℕ → PlainRequest
-request process cell text = record { process = process; cell = cell; text = text }
 
 -- the event that begins a call of the process
 abbrev pub beginning : ℕ → Call → Event

@@ -1,11 +1,12 @@
 -- A command from event to event.
 use Rattle.std.specs.Prelude.{ℕ, ◌≡◌, List, [], ◌∷◌, Some}
-use Rattle.ds_state.specs.Value.{WorldValue, world_of}
+use Rattle.ds_state.specs.Value.{WorldValue}
 use Rattle.ds_core.specs.Takes.{Fits}
 use Rattle.ds_core.specs.declared.event.Event.{Event}
 use Rattle.ds_core.specs.declared.event.Event.TheVariants.{Step}
 use Rattle.ds_core.specs.declared.reply.Reply.{Reply}
-use Rattle.ds_play.specs.Doing.{Doing, Says, Drives, asks, told, ended, wanted}
+use Rattle.ds_calls.specs.Wanted.{wants}
+use Rattle.ds_play.specs.Doing.{Doing, Says, Drives, asks, told, ended}
 use Rattle.ds_play.specs.Texts.{at_text, reply_text}
 use Rattle.ds_play.specs.declared.drive.Until.{Until}
 use Rattle.ds_play.specs.declared.drive.Until.TheVariants.{InPass}
@@ -48,7 +49,7 @@ IsNoPass until = Unit {0}
 
 -- the process that is driven wants a step: no work of its waits
 abbrev pub WantsStep : WorldValue → ℕ → Type 0
-WantsStep w p = wanted p w.sheet.layout.shape ((world_of w).situation p) ≡ Step p
+WantsStep w p = wants w p ≡ Step p
 
 -- one event that the command wants leaves the process driven on, up to the same end
 pub record GoesOn (old : WorldValue) (p : ℕ) (until : Until) (new : WorldValue) : Type 0 where

@@ -2,8 +2,10 @@
 
 ghost use Rattle.std.specs.Prelude.{◌≡◌, ◌≤◌, IfOk};
 ghost use Rattle.ds_state.specs.Value.{world_of};
-ghost use Rattle.ds_core.specs.Takes.{BeginTakes, Fits};
-ghost use Rattle.ds_play.specs.Orders.{CanDo, command_view, beginning, request};
+ghost use Rattle.ds_core.specs.Takes.{Fits};
+ghost use Rattle.ds_core.specs.declared.event.Event.TheVariants.{BeginEdit};
+ghost use Rattle.ds_calls.specs.Whole.{request};
+ghost use Rattle.ds_play.specs.Orders.{CanDo, command_view, beginning};
 ghost use Rattle.ds_play.specs.Doing.{Once, Calls, Drives, to_point};
 ghost use Rattle.ds_play.specs.Plays.{Played, IsNoPass};
 ghost use Rattle.ds_play.specs.Script.{IsMade};
@@ -14,6 +16,7 @@ use crate::order::{Call, Command};
 use crate::point::PointName;
 use crate::settle::settle;
 use crate::texts::{at_line, halt_bytes, peek_line, reply_bytes, word_line};
+use ds_calls::call::begin_edit;
 use ds_core::event::Event;
 use ds_core::reply::Reply;
 use ds_core::take::take;
@@ -32,18 +35,16 @@ pub fn new_world(alloc: Global, shape: Shape, processes: usize) -> Result<World,
     Ok(world)
 }
 
-// An edit begins, or is refused: as by the event, which would own the text.
+// An edit begins, or is refused.
 fn edits(alloc: Global, world: &mut World, process: usize, cell: Cell, text: &[u8]) -> Reply
-    ensures { BeginTakes world.old (request process cell text.now) result world.new }
+    ensures { Fits world.old (BeginEdit (request process cell text.now)) result world.new }
 {
     let layout = world.words.layout();
     if process >= layout.processes || !layout.shape.contains(cell) {
+        world.is_always_good();
         return Reply::NotEnabled;
     }
-    match ds_edit::begin::begin(alloc, world, process, cell, text) {
-        Ok(number) => Reply::Begun(number),
-        Err(refusal) => Reply::Refused(refusal),
-    }
+    begin_edit(alloc, world, process, cell, text)
 }
 
 fn happen(alloc: Global, world: &mut World, event: &Event) -> Reply
@@ -57,11 +58,7 @@ pub fn begins(alloc: Global, world: &mut World, process: usize, call: Call<'_>) 
     ensures { Fits world.old (beginning process call.entry) result world.new }
 {
     match call {
-        Call::Edit(cell, text) => {
-            let reply = edits(alloc, world, process, cell, text);
-            world.is_always_good();
-            reply
-        }
+        Call::Edit(cell, text) => edits(alloc, world, process, cell, text),
         Call::Work(cell) => happen(alloc, world, &Event::BeginWork(process, cell)),
         Call::Report => happen(alloc, world, &Event::BeginShow(process)),
         Call::Recovery => happen(alloc, world, &Event::BeginRecover(process)),

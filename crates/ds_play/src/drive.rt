@@ -2,9 +2,6 @@
 
 ghost use Rattle.std.specs.Prelude.{◌≡◌, ◌<◌, IfSome, IfNone};
 ghost use Rattle.ds_state.specs.Value.{world_of};
-ghost use Rattle.ds_core.specs.declared.event.Event.TheVariants.{Step};
-ghost use Rattle.ds_core.specs.declared.reply.Reply.TheVariants.{Stepped};
-ghost use Rattle.ds_core.specs.Takes.{Fits};
 ghost use Rattle.ds_core.specs.Own.{steps_left};
 ghost use Rattle.ds_play.specs.declared.drive.Until.TheVariants.{ToPoint};
 ghost use Rattle.ds_play.specs.Points.{has_passed};
@@ -12,9 +9,8 @@ ghost use Rattle.ds_play.specs.Doing.{Drives, offered, stepped, to_point};
 ghost use Rattle.ds_play.specs.Plays.{Leads, GoesOn, WantsStep, halted};
 
 use crate::point::{PointName, is_past};
-use ds_core::event::Event;
+use ds_calls::finish::step_once;
 use ds_core::reply::Reply;
-use ds_core::take::take;
 use ds_state::world::World;
 use ds_work::offer::offer_own;
 use std::alloc::Global;
@@ -90,15 +86,6 @@ fn after_step(world: &World, process: usize, until: Until) -> Option<Halt>
         Until::ToPoint(name) => at_point(world, process, name),
         Until::ToAnswer | Until::InPass { passes: _, cell: _ } => None,
     }
-}
-
-/// One step of the process, if it can make one.
-pub fn step_once(alloc: Global, world: &mut World, process: usize) -> Reply
-    ensures fits { Fits world.old (Step process) result world.new }
-    ensures fewer { result ≡ Stepped → steps_left process world.new < steps_left process world.old }
-{
-    let event = Event::Step(process);
-    take(alloc, world, &event)
 }
 
 // One step, and why it is the last one, where it is.

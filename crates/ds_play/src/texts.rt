@@ -9,10 +9,12 @@ ghost use Rattle.ds_edit.specs.declared.answer.Answer.TheVariants.{Settled};
 ghost use Rattle.ds_core.specs.declared.reply.Reply.TheVariants.{Answered};
 ghost use Rattle.ds_streams.specs.Answers.{settled_text};
 ghost use Rattle.ds_play.specs.Texts.{counts_text, changed_text, last_text, unsettled_text, values_of, answer_text, reply_text, at_text, left_text, shown_text, state_text, peek_head, peek_text, word_text};
+ghost use Rattle.ds_play.specs.Doing.{end_text};
 ghost use Rattle.ds_play.specs.Plays.{halt_text};
 
 use crate::drive::Halt;
 use crate::point::PointName;
+use ds_calls::settle::SettleEnd;
 use ds_core::reply::Reply;
 use ds_edit::answer::{Answer, Told};
 use ds_eval::value::Value;
@@ -197,14 +199,35 @@ pub fn halt_bytes(
     }
 }
 
-/// `clean`, or `left K` where so many cells are left. An error is a want of memory.
-pub fn left_line(alloc: Global, left: usize) -> Result<String, AllocError>
+// `clean`, or `left K` where so many cells are left.
+fn left_line(alloc: Global, left: usize) -> Result<String, AllocError>
     ensures { IfOk result (λ line. string_bytes line ≡ left_text left) }
 {
     if left == 0 {
         format!(in alloc; "clean\n")
     } else {
         format!(in alloc; "left {left}\n")
+    }
+}
+
+/// The text of how a settle of a process ended, in the world behind it: `clean`, or `left K` where so
+/// many cells are left; or of the reply that ended it. An error is a want of memory.
+pub fn end_bytes(
+    alloc: Global,
+    world: &World,
+    process: usize,
+    end: SettleEnd,
+) -> Result<Vec<u8>, AllocError>
+    ensures { IfOk result (λ text. text.items ≡ end_text world.now process end) }
+{
+    match end {
+        SettleEnd::Left(left) => Ok(left_line(alloc, left)?.into_bytes()),
+        SettleEnd::Refused(refusal) => {
+            reply_bytes(alloc, world, process, Reply::Refused(refusal))
+        }
+        SettleEnd::NoMemory => {
+            reply_bytes(alloc, world, process, Reply::Answered(Answer::NoMemory))
+        }
     }
 }
 

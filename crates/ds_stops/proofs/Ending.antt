@@ -11,7 +11,8 @@ use Rattle.ds_core.proofs.EachRun.{runs_have_headline}
 use Rattle.ds_state.specs.Fresh.{IsNew}
 use Rattle.ds_play.specs.Orders.{Deed}
 use Rattle.ds_play.specs.Doing.{Says, plan}
-use Rattle.ds_play.proofs.Played.{play_runs, runs_on}
+use Rattle.ds_calls.proofs.Runs.{run_both}
+use Rattle.ds_play.proofs.Played.{play_runs}
 use Rattle.ds_play.proofs.Scripts.{carried_runs, carried_new, carried_good}
 use Rattle.ds_streams.specs.declared.ending.ScriptEnd.{ScriptEnd}
 use Rattle.ds_streams.specs.declared.ending.ScriptEnd.TheVariants as ends
@@ -62,14 +63,14 @@ not_read limit script out end (inr h) = not_read_with false (take limit script) 
 turn_runs : (start : WorldValue) (deeds : List Deed) (events : List Event) (replies : List Reply) (answers : List ℕ) (w : WorldValue) → InTurn start deeds events replies answers w → WorldRun start events replies w
 turn_runs start deeds events replies answers w no_deed = refl
 turn_runs start deeds events replies answers w (one_deed_more before es rs ts v deed own told answer new h plays) =
-    runs_on es rs own told start v new (turn_runs start before es rs ts v h) (play_runs own told (plan v deed) (Says answer) v new plays)
+    run_both es rs own told start v new (turn_runs start before es rs ts v h) (play_runs own told (plan v deed) (Says answer) v new plays)
 
 module _ (whole : Bool) (script : List ℕ) (k : ℕ) (text : List ℕ) (b : IsBlock whole script k text) where
   pub block_runs : WorldRun b.stands.progress.start (block_events b) (block_replies b) b.new
   block_runs =
-      runs_on (b.stands.progress.events ++ (b.stands.events ++ events.Step b.stands.p ∷ [])) (b.stands.progress.replies ++ (b.stands.replies ++ b.stands.reply ∷ []))
+      run_both (b.stands.progress.events ++ (b.stands.events ++ events.Step b.stands.p ∷ [])) (b.stands.progress.replies ++ (b.stands.replies ++ b.stands.reply ∷ []))
       (events.Crash ∷ b.events) (Crashed ∷ b.replies) b.stands.progress.start b.world b.new
-      (runs_on b.stands.progress.events b.stands.progress.replies (b.stands.events ++ events.Step b.stands.p ∷ []) (b.stands.replies ++ b.stands.reply ∷ []) b.stands.progress.start b.stands.progress.world b.world
+      (run_both b.stands.progress.events b.stands.progress.replies (b.stands.events ++ events.Step b.stands.p ∷ []) (b.stands.replies ++ b.stands.reply ∷ []) b.stands.progress.start b.stands.progress.world b.world
       (carried_runs whole script b.stands.lines b.stands.progress b.stands.out b.stands.rest b.stands.carried)
       (play_runs (b.stands.events ++ events.Step b.stands.p ∷ []) (b.stands.replies ++ b.stands.reply ∷ []) (plan b.stands.progress.world b.stands.deed) b.stands.doing b.stands.progress.world b.world b.stands.plays))
       (b.crashed, b.crash, turn_runs b.crashed _ b.events b.replies b.answers b.new b.behind)

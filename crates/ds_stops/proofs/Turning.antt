@@ -13,7 +13,6 @@ use Rattle.ds_state.specs.declared.situation.Situation.TheVariants.{Working}
 use Rattle.ds_state.specs.declared.work.WorkStage.{WorkStage}
 use Rattle.ds_state.specs.declared.work.WorkStage.TheVariants.{Wait, Clear, StoreValue}
 use Rattle.ds_edit.specs.declared.answer.Answer.{Answer}
-use Rattle.ds_edit.specs.declared.answer.Answer.TheVariants as answers
 use Rattle.ds_work.specs.WorkSteps as steps
 use Rattle.ds_work.specs.WorkEvents.{IsOffered}
 use Rattle.ds_core.specs.Takes.{Fits}
@@ -22,13 +21,15 @@ use Rattle.ds_core.specs.declared.event.Event.TheVariants.{Step, BeginWork}
 use Rattle.ds_core.specs.declared.reply.Reply.{Reply}
 use Rattle.ds_core.specs.declared.reply.Reply.TheVariants.{Stepped, Answered}
 use Rattle.ds_core.proofs.Bound.{same_layout}
+use Rattle.ds_calls.specs.Wanted.{wanted, wanted_at}
+use Rattle.ds_calls.proofs.Driving.{offer_event, offer_fits}
 use Rattle.ds_play.specs.declared.point.PointName.{PointName}
 use Rattle.ds_play.specs.declared.drive.Until.{Until}
 use Rattle.ds_play.specs.declared.drive.Until.TheVariants.{OneStep, ToPoint, ToAnswer, InPass}
-use Rattle.ds_play.specs.Texts.{answer_text, reply_text}
-use Rattle.ds_play.specs.Doing.{Says, wanted, wanted_at, called, offered, stepped, driven, ended, goes_behind}
+use Rattle.ds_play.specs.Texts.{reply_text}
+use Rattle.ds_play.specs.Doing.{Says, called, offered, stepped, driven, ended}
 use Rattle.ds_play.specs.Plays.{WantsStep}
-use Rattle.ds_play.proofs.Driving.{offer_event, offer_asked, offer_fits, if_some}
+use Rattle.ds_play.proofs.Driving.{offer_asked, if_some}
 use Rattle.ds_play.specs.Script.{step_taken}
 use Rattle.ds_stops.specs.declared.turn.Left.{Left}
 use Rattle.ds_stops.specs.declared.turn.Left.TheVariants as left
@@ -48,16 +49,6 @@ pub within_by : (w : WorldValue) (p : ℕ) (until : Until) (passes cell : ℕ) �
 within_by w p until passes cell is h = subst (λ (u : Until). IsWithin w (left.Drives p u)) is h
 
 -- ---- answers
-
--- a settle whose work lacked memory ends
-pub lacks : (w : WorldValue) (p passes cell : ℕ) (answer : Answer) → answer ≡ answers.NoMemory → Remains None (ended w p (InPass passes cell) (Answered answer))
-lacks w p passes cell answer none =
-    (answer_text w p answers.NoMemory, ap (λ (a : Answer). ended w p (InPass passes cell) (Answered a)) none)
-
--- one whose work was answered otherwise goes on behind the cell
-pub goes_on : (w : WorldValue) (p passes cell : ℕ) (answer : Answer) → (answer ≡ answers.NoMemory → ⊥) → goes_behind w p passes cell ≡ ended w p (InPass passes cell) (Answered answer)
-goes_on w p passes cell answers.NoMemory none = absurd (none refl)
-goes_on w p passes cell answer none = refl
 
 -- a process that is not driven in a pass ends with its answer
 pub answered : (w : WorldValue) (p : ℕ) (until : Until) (answer : Answer) → (until ≡ OneStep) ⊎ (((name : PointName) × (until ≡ ToPoint name)) ⊎ (until ≡ ToAnswer)) → Remains None (ended w p until (Answered answer))
@@ -113,10 +104,10 @@ pub offers : (old new : WorldValue) (p : ℕ) (until : Until) (next : Option Lef
     → Remains next (offered new p until) → IfSome next (IsWithin new) → IfSome next (λ l. l ≡ left.Drives p until)
     → TakesTurn (left.Drives p until) old (record { stepped = false; left = next }) new
 offers old new p until next given good done settled reports remains within same = record {
-  event = offer_event old new p until given good done settled reports;
+  event = offer_event old new p given good done settled reports;
   reply = Stepped;
   asked = offer_asked old new p until given good done settled reports;
-  fits = offer_fits old new p until given good done settled reports;
+  fits = offer_fits old new p given good done settled reports;
   is = refl;
   remains = remains;
   within = within;

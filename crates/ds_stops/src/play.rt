@@ -6,7 +6,8 @@ ghost use Rattle.ds_play.specs.Doing.{Calls, settle};
 ghost use Rattle.ds_stops.specs.Turns.{IsWithin, Remains, doing_of, steps_of};
 ghost use Rattle.ds_stops.specs.Reaching.{Opens, OpensOrder, Ends, Halts, EndsOrder, HaltsOrder, taken_before};
 
-use crate::turn::{Left, after_begin, next_pass, take_turn, to_point};
+use crate::turn::{Left, after_begin, left_of, take_turn, to_point};
+use ds_calls::settle::first_turn;
 use ds_play::carry::{begins, carry_out};
 use ds_play::drive::Until;
 use ds_play::order::{Call, Command};
@@ -27,8 +28,7 @@ fn settle(world: &World, process: usize) -> Option<Left>
     ensures remains { Remains result (settle world.now process) }
     ensures within { IfSome result (IsWithin world.now) }
 {
-    let cells = world.words.layout().cells();
-    next_pass(world, process, cells + 2)
+    left_of(process, first_turn(world))
 }
 
 // Carries a command out up to its first step, and gives what is left of it then. An error is a want of memory.

@@ -5,15 +5,18 @@ ghost use Rattle.ds_layout.specs.Places.{cells_of};
 ghost use Rattle.ds_state.specs.Value.{WorldValue, world_of};
 ghost use Rattle.ds_core.specs.declared.reply.Reply.TheVariants.{Answered};
 ghost use Rattle.ds_play.specs.declared.drive.Until.TheVariants.{InPass, ToPoint};
-ghost use Rattle.ds_play.specs.Doing.{called, offered, stepped, ended, pass, goes_behind, to_point};
+ghost use Rattle.ds_calls.specs.Settling.{IsInTurn};
+ghost use Rattle.ds_play.specs.Doing.{at_turn, called, offered, stepped, ended, to_point};
 ghost use Rattle.ds_play.specs.Plays.{WantsStep};
 ghost use Rattle.ds_stops.specs.Turns.{Remains, IsWithin, TakesTurn};
 
+use ds_calls::finish::step_once;
+use ds_calls::settle;
 use ds_core::reply::Reply;
 use ds_edit::answer::Answer;
-use ds_play::drive::{Until, has_come, step_once};
+use ds_play::drive::{Until, has_come};
 use ds_play::point::PointName;
-use ds_play::settle::{begin, next_marked};
+use ds_play::settle::begin;
 use ds_state::world::World;
 use ds_work::offer::offer_own;
 use std::alloc::Global;
@@ -57,35 +60,18 @@ pub fn to_point(world: &World, process: usize, name: PointName) -> Option<Left>
     }
 }
 
-/// What is left of a settle with so many passes left: work on the first marked cell, if there is one.
-pub fn next_pass(world: &World, process: usize, passes: usize) -> Option<Left>
-    ensures remains { Remains result (pass world.now process passes) }
-    ensures within { IfSome result (IsWithin world.now) }
+/// What is left of a settle by the process at this turn of its: nothing where it ends.
+pub fn left_of(process: usize, turn: settle::Turn) -> Option<Left>
+    ensures remains { (w : WorldValue) → Remains result (at_turn w process turn) }
+    ensures within { (w : WorldValue) → IsInTurn (cells_of w.sheet.layout) turn → IfSome result (IsWithin w) }
 {
-    if passes == 0 {
-        return None;
-    }
-    let cell = next_marked(world, 0)?;
-    Some(Left::Works {
-        process,
-        passes: passes - 1,
-        cell,
-    })
-}
-
-// What is left of a settle that has worked on the cell: the next marked one, else the next pass.
-fn behind(world: &World, process: usize, passes: usize, cell: usize) -> Option<Left>
-    requires { cell < cells_of world.now.sheet.layout }
-    ensures remains { Remains result (goes_behind world.now process passes cell) }
-    ensures within { IfSome result (IsWithin world.now) }
-{
-    match next_marked(world, cell + 1) {
-        Some(cell) => Some(Left::Works {
+    match turn {
+        settle::Turn::Ends(_) => None,
+        settle::Turn::Works { passes, cell } => Some(Left::Works {
             process,
             passes,
             cell,
         }),
-        None => next_pass(world, process, passes),
     }
 }
 
@@ -130,7 +116,7 @@ fn after_step(world: &World, process: usize, until: Until) -> Option<Left>
     }
 }
 
-// What is left of a settle once its work on the cell was answered: it goes on, but for want of memory.
+// What is left of a settle once its work on the cell was answered.
 fn after_work(
     world: &World,
     process: usize,
@@ -142,10 +128,8 @@ fn after_work(
     ensures remains { Remains result (ended world.now process (InPass passes cell) (Answered answer)) }
     ensures within { IfSome result (IsWithin world.now) }
 {
-    match answer {
-        Answer::NoMemory => None,
-        _ => behind(world, process, passes, cell),
-    }
+    let next = settle::worked(world, passes, cell, Ok(answer));
+    left_of(process, next)
 }
 
 // What is left once the process's call was answered.

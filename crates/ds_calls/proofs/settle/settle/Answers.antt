@@ -1,15 +1,15 @@
-use Rattle.std.proofs.Common.{ℕ, ◌+◌, ◌<◌, sym, ap, subst, ◌∙◌}
+use Rattle.std.proofs.Common.{◌<◌, sym, subst}
 use Rattle.ds_layout.specs.declared.layout.Layout.{Layout}
 use Rattle.ds_calls.specs.declared.settle.Turn.{Turn}
-use Rattle.ds_calls.specs.Settling.{pass, Settling, begins, works}
+use Rattle.ds_calls.specs.Settling.{Settling, begins, works}
 use Rattle.ds_calls.proofs.settle.settle.Goals as goal
 
 pub works-init : goal.works-init
 works-init c =
     record {
-      settling = subst (λ (t : Turn). Settling c.args.process c.args.world.now t c.args.world.now) (sym (c.pass-turn.ensures.value ∙ ap (λ (n : ℕ). pass c.args.world.now (n + 2)) c.cells.ensures.value)) begins;
+      settling = subst (λ (t : Turn). Settling c.args.process c.args.world.now t c.args.world.now) (sym c.first_turn-turn.ensures.value) begins;
       there = c.requires;
-      inside = c.pass-turn.ensures.inside;
+      inside = c.first_turn-turn.ensures.inside;
       free = λ h. h;
     }
 

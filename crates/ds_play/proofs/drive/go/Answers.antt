@@ -3,7 +3,8 @@ use Rattle.ds_state.specs.Value.{WorldValue}
 use Rattle.ds_core.specs.Own.{steps_left}
 use Rattle.ds_play.specs.Doing.{Drives, offered}
 use Rattle.ds_play.specs.Plays.{Leads, GoesOn, WantsStep, halted}
-use Rattle.ds_play.proofs.Driving.{if_some, if_none, offer_halts, offer_goes, offer_fewer, wants_step}
+use Rattle.ds_calls.proofs.Driving.{offer_fewer}
+use Rattle.ds_play.proofs.Driving.{if_some, if_none, offer_halts, offer_goes, wants_step}
 use Rattle.ds_play.proofs.drive.go.Goals as goal
 
 pub step-requires : goal.step-requires
@@ -28,5 +29,5 @@ pub returns-then-offer_own-clause-fewer : goal.returns-then-offer_own-clause-few
 returns-then-offer_own-clause-fewer c =
     if_none c.after_offer.result (offered c.offer_own.new.world c.args.process c.args.until ≡ Drives c.args.process c.args.until)
     (steps_left c.args.process c.offer_own.new.world < steps_left c.args.process c.args.world.now)
-    (λ is. offer_fewer c.args.world.now c.offer_own.new.world c.args.process c.args.until (c.if-offer_own.ensures.offered refl) c.is_always_good-then-offer_own.ensures
+    (λ is. offer_fewer c.args.world.now c.offer_own.new.world c.args.process (c.if-offer_own.ensures.offered refl) c.is_always_good-then-offer_own.ensures
     c.offer_own.ensures.done c.offer_own.ensures.settled c.offer_own.ensures.reports) c.after_offer.ensures.goes

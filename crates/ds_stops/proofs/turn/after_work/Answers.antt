@@ -1,12 +1,12 @@
 use Rattle.std.proofs.Common.{subst}
-use Rattle.ds_play.specs.Doing.{Doing}
+use Rattle.ds_calls.specs.declared.settle.Turn.{Turn}
+use Rattle.ds_play.specs.Doing.{at_turn}
 use Rattle.ds_stops.specs.Turns.{Remains}
-use Rattle.ds_stops.proofs.Turning.{lacks, goes_on}
 use Rattle.ds_stops.proofs.turn.after_work.Goals as goal
 
-pub returns-in-NoMemory : goal.returns-in-NoMemory
-returns-in-NoMemory c = record { remains = lacks c.args.world.now c.args.process c.args.passes c.args.cell c.args.answer c.in-NoMemory.is; within = tt }
+pub returns-clause-remains : goal.returns-clause-remains
+returns-clause-remains c =
+    subst (λ (t : Turn). Remains c.left_of.result (at_turn c.args.world.now c.args.process t)) c.worked-next.ensures.value (c.left_of.ensures.remains c.args.world.now)
 
-pub returns-in_default-clause-remains : goal.returns-in_default-clause-remains
-returns-in_default-clause-remains c =
-    subst (λ (d : Doing). Remains c.behind.result d) (goes_on c.args.world.now c.args.process c.args.passes c.args.cell c.args.answer c.in_default.not-NoMemory) c.behind.ensures.remains
+pub returns-clause-within : goal.returns-clause-within
+returns-clause-within c = c.left_of.ensures.within c.args.world.now c.worked-next.ensures.inside

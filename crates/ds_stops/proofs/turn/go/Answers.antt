@@ -1,7 +1,8 @@
 use Rattle.std.proofs.Common.{refl, subst, sym}
 use Rattle.ds_state.specs.Value.{WorldValue}
 use Rattle.ds_play.specs.Plays.{WantsStep}
-use Rattle.ds_play.proofs.Driving.{offer_event, offer_fits, wants_step}
+use Rattle.ds_calls.proofs.Driving.{offer_event, offer_fits}
+use Rattle.ds_play.proofs.Driving.{wants_step}
 use Rattle.ds_core.specs.declared.reply.Reply.TheVariants.{Stepped}
 use Rattle.ds_stops.specs.declared.turn.Left.TheVariants.{Drives}
 use Rattle.ds_stops.proofs.Turning.{offers, stays_within}
@@ -14,9 +15,9 @@ step-requires-clause-wants c =
 pub after_offer-requires : goal.after_offer-requires
 after_offer-requires c =
     stays_within c.args.world.now c.offer_own.new.world
-    (offer_event c.args.world.now c.offer_own.new.world c.args.process c.args.until (c.if-offer_own.ensures.offered refl) c.is_always_good-then-offer_own.ensures c.offer_own.ensures.done c.offer_own.ensures.settled c.offer_own.ensures.reports)
+    (offer_event c.args.world.now c.offer_own.new.world c.args.process (c.if-offer_own.ensures.offered refl) c.is_always_good-then-offer_own.ensures c.offer_own.ensures.done c.offer_own.ensures.settled c.offer_own.ensures.reports)
     Stepped (Drives c.args.process c.args.until)
-    (offer_fits c.args.world.now c.offer_own.new.world c.args.process c.args.until (c.if-offer_own.ensures.offered refl) c.is_always_good-then-offer_own.ensures c.offer_own.ensures.done c.offer_own.ensures.settled c.offer_own.ensures.reports)
+    (offer_fits c.args.world.now c.offer_own.new.world c.args.process (c.if-offer_own.ensures.offered refl) c.is_always_good-then-offer_own.ensures c.offer_own.ensures.done c.offer_own.ensures.settled c.offer_own.ensures.reports)
     c.requires
 
 pub returns-then-offer_own : goal.returns-then-offer_own
