@@ -1,6 +1,7 @@
 //! The command line, by `clap`.
 
-use clap::{Arg, ArgAction, Command, Error};
+use crate::serving::{OutOfLimits, Serving, serving};
+use clap::{Arg, ArgAction, Command, Error, value_parser};
 use std::alloc::{AllocError, Global};
 
 /// What the words ask for.
@@ -12,6 +13,17 @@ pub enum Action {
     Stops,
     /// `dsheet report`: a grid on standard input.
     Report,
+    /// `dsheet serve`: sessions over connections.
+    Serve(Serving),
+}
+
+/// Why the words ask for nothing.
+#[derive(Debug, Drop)]
+pub enum OptionsFault {
+    /// They are not of the command line, or ask for help. `clap` says what they are.
+    CommandLine(Error),
+    /// The value of an option is out of its limits.
+    OutOfLimits(OutOfLimits),
 }
 
 /// The flag of `run` that crashes the sheet behind each step.
@@ -83,10 +95,36 @@ Example:
 Exit status: 0 ended; 1 a fault in the grid; 2 wrong words on the command line;
 3 a failed read or write, or a grid over 1048576 bytes; 4 no memory.";
 
+const SERVE_HELP: &str = "\
+Serves so many connections, each in its thread, and then ends. The last processes are the workers': they go
+round the cells and work on those that are marked; no session can join them.
+
+The protocol: a line of JSON in, a line of JSON out, before the next line is read. Cells are texts, as \"A1\".
+  {\"op\":\"join\",\"process\":0}                   takes a process, and tells of its last edit, as last does
+  {\"op\":\"set\",\"cell\":\"A1\",\"text\":\"=1+2\"}      an edit
+  {\"op\":\"report\"}                             works until no cell is marked, and reports all values
+  {\"op\":\"last\"}                               tells whether the process's last edit counts
+are answered, on a new sheet:
+  {\"last\":null,\"ok\":\"join\",\"process\":0}
+  {\"number\":0,\"ok\":\"done\"}
+  {\"ok\":\"settled\",\"rows\":[[\"3\",\"\"],[\"\",\"\"]]}
+  {\"last\":{\"cell\":\"A1\",\"number\":0,\"outcome\":\"done\"},\"ok\":\"last\"}
+Refusals have a code: 1 not-json, 2 unknown-op, 3 bad-field, 4 process-taken, 5 line-too-long (over 4096
+bytes), 6 not-joined, 7 already-joined, 11 text, 13 stopped, 14 records-full, 15 no-memory. They change nothing.
+A session is of at most 1048576 bytes; at its end its process is free again.
+
+Example:
+  dsheet serve --listen 127.0.0.1:8080 &
+  nc -N 127.0.0.1 8080 < examples/session
+
+Exit status: 0 ended; 2 wrong words on the command line; 3 the address can not be listened on; 4 no memory.
+Each session that does not end with its input is one line on standard error.";
+
 const HELP: &str = "\
 Examples:
   printf 'set 0 A1 =1+2\\nsettle 0\\nreport 0\\n' | dsheet run
-  printf '1,=[.A1]*20\\n' | dsheet report";
+  printf '1,=[.A1]*20\\n' | dsheet report
+  dsheet serve --listen 127.0.0.1:8080";
 
 fn run_command<'a>(alloc: Global) -> Result<Command<'a>, AllocError> {
     let stops = Arg::new(alloc, STOPS)
@@ -107,6 +145,39 @@ fn report_command<'a>(alloc: Global) -> Result<Command<'a>, AllocError> {
         .bin_name("dsheet report")
 }
 
+// An option with a number from 0 to 65,535.
+fn number_option<'a>(alloc: Global, name: &'a str, default: &'a str, help: &'a str) -> Arg<'a> {
+    Arg::new(alloc, name)
+        .long(name)
+        .value_name("N")
+        .value_parser(value_parser!(u16))
+        .default_value(default)
+        .help(help)
+}
+
+fn serve_command<'a>(alloc: Global) -> Result<Command<'a>, AllocError> {
+    let listen = Arg::new(alloc, "listen")
+        .long("listen")
+        .value_name("ADDRESS")
+        .required(true)
+        .help("The address and the port, as 127.0.0.1:8080");
+    Command::new(alloc, "serve")
+        .about("Serves a sheet to clients, each a session of JSON lines over a connection")
+        .after_help(SERVE_HELP)
+        .arg(listen)?
+        .arg(number_option(alloc, "columns", "2", "Columns of the sheet, 1 to 26"))?
+        .arg(number_option(alloc, "rows", "2", "Rows of the sheet, 1 to 64"))?
+        .arg(number_option(alloc, "processes", "2", "Processes, 1 to 8"))?
+        .arg(number_option(alloc, "workers", "0", "Workers, fewer than the processes"))?
+        .arg(number_option(
+            alloc,
+            "sessions",
+            "1",
+            "Connections that are served, at least 1",
+        ))?
+        .bin_name("dsheet serve")
+}
+
 fn program<'a>(alloc: Global) -> Result<Command<'a>, AllocError> {
     Command::new(alloc, "dsheet")
         .version(VERSION)
@@ -116,14 +187,31 @@ fn program<'a>(alloc: Global) -> Result<Command<'a>, AllocError> {
         .arg_required_else_help(true)
         .bin_name("dsheet")?
         .subcommand(run_command(alloc)?)?
-        .subcommand(report_command(alloc)?)
+        .subcommand(report_command(alloc)?)?
+        .subcommand(serve_command(alloc)?)
 }
 
-/// What the words ask for, of which the first is the program's name; the error is `clap`'s, for help and for wrong
-/// words.
-pub fn parse(alloc: Global, words: &[String]) -> Result<Action, Error> {
+impl From<Error> for OptionsFault {
+    fn from(error: Error) -> OptionsFault {
+        OptionsFault::CommandLine(error)
+    }
+}
+
+impl From<AllocError> for OptionsFault {
+    fn from(error: AllocError) -> OptionsFault {
+        OptionsFault::CommandLine(Error::from(error))
+    }
+}
+
+/// What the words ask for, of which the first is the program's name; an error is `clap`'s for help and for wrong words,
+/// or names the option that is out of its limits.
+pub fn options(alloc: Global, words: &[String]) -> Result<Action, OptionsFault> {
     let matches = program(alloc)?.try_get_matches_from(words)?;
     match matches.subcommand() {
+        Some(("serve", found)) => match serving(found) {
+            Ok(serving) => Ok(Action::Serve(serving)),
+            Err(limit) => Err(OptionsFault::OutOfLimits(limit)),
+        },
         Some(("report", _)) => Ok(Action::Report),
         Some((_, run)) if run.get_flag(STOPS) => Ok(Action::Stops),
         _ => Ok(Action::Run),
