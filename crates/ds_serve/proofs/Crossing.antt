@@ -1,4 +1,4 @@
--- That a queue of passes may be shared by threads, and that a connection may move to one.
+-- That a queue of passes may be shared by threads, and a connection may move to one.
 use Rattle.std.proofs.Crossing.{crosses}
 use denote.Param.Send.{IsSend, IsSync, sendable}
 use denote.RattleType.{RattleType}

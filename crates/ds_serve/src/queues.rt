@@ -35,3 +35,15 @@ pub fn gathered<L: Ledger, M: Ledger, R: Wait>(
     }
     Ok(passes)
 }
+
+/// Puts a pass back into the queue of its process, where the row has one for it.
+pub(crate) fn put_back<L: Ledger, M: Ledger, R: Wait>(
+    rt: &R,
+    queues: &[ArrayQueue<Pass<L, M>>],
+    pass: Pass<L, M>,
+) {
+    let process = pass.process();
+    if process < queues.len() {
+        let _ = queues[process].push(rt, pass);
+    }
+}

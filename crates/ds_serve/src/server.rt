@@ -3,7 +3,7 @@
 ghost use Rattle.std.specs.Prelude.{◌≡◌, ◌≤◌};
 
 use crate::desk::Desk;
-use crate::queues::queues;
+use crate::queues::{gathered, put_back, queues as own_queues};
 use crate::worker::work_on;
 use crossbeam_queue::ArrayQueue;
 use ds_crew::locked::LockedSheet;
@@ -17,9 +17,8 @@ use std::alloc::Global;
 use std::io::{self, BufReader, ErrorKind};
 use std::marker::Brand;
 use std::net::{TcpListener, TcpStream};
-use std::sync::Wait;
-use std::sync::atomic::{AtomicBool, Ordering};
 use std::sync::ledger::{Blank, Ledger};
+use std::sync::{Mutex, Wait};
 use std::thread;
 use std::thread::Threads;
 use std::time::Clock;
@@ -84,9 +83,38 @@ fn accept<L: Ledger + Send + Sync, M: Ledger + Send + Sync, R: Threads + Wait + 
     })
 }
 
+// The same, while a worker goes round with each pass of these queues.
+fn serve_beside<
+    L: Ledger + Send + Sync,
+    M: Ledger + Send + Sync,
+    R: Threads + Wait + Clock + Log + Sync,
+>(
+    rt: &R,
+    alloc: Global,
+    listener: &TcpListener,
+    sheet: &LockedSheet<L, M>,
+    queues: &[ArrayQueue<Pass<L, M>>],
+    taken: &[ArrayQueue<Pass<L, M>>],
+    sessions: usize,
+) -> io::Result<()> {
+    let stop = Mutex::new(false);
+    let told = &stop;
+    thread::scope(thread::scope_env(), rt, |scope| -> io::Result<()> {
+        for place in 0..taken.len() {
+            let _ = scope.spawn(move || work_on(rt, alloc, sheet, taken, place, told));
+        }
+        let result = accept(rt, alloc, listener, sheet, queues, sessions);
+        *told.lock(rt) = true;
+        result
+    })
+}
+
 /// Serves so many connections, each in its thread, while a worker goes round for each of the last
-/// processes, this many; returns when all have ended. An error is that of the listener: the
-/// connections that were taken before it are served to their ends.
+/// processes, this many; returns when all have ended. The workers' passes are taken before the first
+/// connection, and put back behind the last.
+///
+/// An error is that of the listener, and the connections that were taken before it are served to their
+/// ends; or want of memory before the first connection, with which the workers' passes are lost.
 pub fn serve_sheet<
     L: Ledger + Send + Sync,
     M: Ledger + Send + Sync,
@@ -100,20 +128,17 @@ pub fn serve_sheet<
     workers: usize,
     sessions: usize,
 ) -> io::Result<()> {
-    let stop = AtomicBool::new(false);
-    let told = &stop;
     let first = queues.len().saturating_sub(workers);
-    thread::scope(thread::scope_env(), rt, |scope| -> io::Result<()> {
-        for place in first..queues.len() {
-            let queue = &queues[place];
-            if let Some(pass) = queue.pop(rt) {
-                let _ = scope.spawn(move || work_on(rt, alloc, sheet, queue, pass, told));
-            }
+    let passes = gathered(rt, alloc, &queues[first..])?;
+    let taken = own_queues(rt, alloc, passes)?;
+    let taken = taken.as_slice();
+    let result = serve_beside(rt, alloc, listener, sheet, queues, taken, sessions);
+    for queue in taken {
+        if let Some(pass) = queue.pop(rt) {
+            put_back(rt, queues, pass);
         }
-        let result = accept(rt, alloc, listener, sheet, queues, sessions);
-        told.store(true, Ordering::SeqCst);
-        result
-    })
+    }
+    result
 }
 
 // So of a world, with these blanks.
@@ -138,7 +163,7 @@ fn serve_world<
     let Ok((sheet, passes)) = LockedSheet::<L, M>::make(alloc, world, dones, settleds) else {
         return Err(io::Error::from(ErrorKind::OutOfMemory));
     };
-    let queues = queues(rt, alloc, passes)?;
+    let queues = own_queues(rt, alloc, passes)?;
     serve_sheet(
         rt,
         alloc,

@@ -6,9 +6,8 @@ use ds_crew::locked::LockedSheet;
 use ds_crew::pass::Pass;
 use ds_state::refusal::Refusal;
 use std::alloc::Global;
-use std::sync::Wait;
-use std::sync::atomic::{AtomicBool, Ordering};
 use std::sync::ledger::Ledger;
+use std::sync::{Mutex, Wait};
 use std::thread;
 use std::time::{Clock, Duration};
 
@@ -37,19 +36,24 @@ fn round<L: Ledger, M: Ledger, R: Wait>(
     from > 0
 }
 
-/// Goes round the cells with the pass until it is told to stop, and rests where it finds none that is
-/// marked; then the pass is put back.
+/// Takes the pass of the queue at this place, if there is one, and goes round the cells with it until it is told to
+/// stop. It rests where it finds none that is marked. In the end the pass is in the queue again.
 pub(crate) fn work_on<L: Ledger, M: Ledger, R: Wait + Clock>(
     rt: &R,
     alloc: Global,
     sheet: &LockedSheet<L, M>,
-    queue: &ArrayQueue<Pass<L, M>>,
-    pass: Pass<L, M>,
-    stop: &AtomicBool,
+    queues: &[ArrayQueue<Pass<L, M>>],
+    place: usize,
+    stop: &Mutex<bool>,
 ) {
-    let mut pass = pass;
+    let Some(queue) = queues.get(place) else {
+        return;
+    };
+    let Some(mut pass) = queue.pop(rt) else {
+        return;
+    };
     for _ in rt.forever() {
-        if stop.load(Ordering::SeqCst) {
+        if *stop.lock(rt) {
             break;
         }
         if !round(rt, alloc, sheet, &mut pass) {
