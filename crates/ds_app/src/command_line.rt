@@ -1,7 +1,12 @@
 //! The command line, by `clap`.
 
-use crate::serving::{OutOfLimits, Serving, serving};
-use clap::{Arg, ArgAction, Command, Error, value_parser};
+ghost use Rattle.std.specs.Prelude.{◌≡◌, ◌↔◌, IfOk, IsTrue, Some, codes, false, map};
+ghost use Rattle.std.specs.String.{string_bytes};
+ghost use Rattle.clap.specs.Words.{app_of, found_of, one_of, rows_of, rule_of};
+ghost use Rattle.ds_app.specs.CommandLines.{Asks, IsAskedBy, IsCommand, dsheet, listen as listen_rule, number_option as number_rule, report_command as report_app, run_command as run_app, serve_command as serve_app};
+
+use crate::serving::{OutOfLimits, Serving, read_serving};
+use clap::{Arg, ArgAction, ArgMatches, Command, Error, value_parser};
 use std::alloc::{AllocError, Global};
 
 /// What the words ask for.
@@ -22,6 +27,8 @@ pub enum Action {
 pub enum OptionsFault {
     /// They are not of the command line, or ask for help. `clap` says what they are.
     CommandLine(Error),
+    /// They name no command.
+    NoCommand,
     /// The value of an option is out of its limits.
     OutOfLimits(OutOfLimits),
 }
@@ -110,14 +117,15 @@ are answered, on a new sheet:
   {\"ok\":\"settled\",\"rows\":[[\"3\",\"\"],[\"\",\"\"]]}
   {\"last\":{\"cell\":\"A1\",\"number\":0,\"outcome\":\"done\"},\"ok\":\"last\"}
 Refusals have a code: 1 not-json, 2 unknown-op, 3 bad-field, 4 process-taken, 5 line-too-long (over 4096
-bytes), 6 not-joined, 7 already-joined, 11 text, 13 stopped, 14 records-full, 15 no-memory. They change nothing.
+bytes), 6 not-joined, 7 already-joined, 11 text, 13 stopped, 14 records-full, 15 no-memory. They change no text.
 A session is of at most 1048576 bytes; at its end its process is free again.
 
 Example:
   dsheet serve --listen 127.0.0.1:8080 &
   nc -N 127.0.0.1 8080 < examples/session
 
-Exit status: 0 ended; 2 wrong words on the command line; 3 the address can not be listened on; 4 no memory.
+Exit status: 0 ended; 2 wrong words on the command line; 3 the address can not be listened on, or no connection
+taken from it; 4 no memory.
 Each session that does not end with its input is one line on standard error.";
 
 const HELP: &str = "\
@@ -126,19 +134,22 @@ Examples:
   printf '1,=[.A1]*20\\n' | dsheet report
   dsheet serve --listen 127.0.0.1:8080";
 
-fn run_command<'a>(alloc: Global) -> Result<Command<'a>, AllocError> {
+fn run_command<'a>(alloc: Global) -> Result<Command<'a>, AllocError>
+    ensures { IfOk result (IsCommand run_app) }
+{
     let stops = Arg::new(alloc, STOPS)
         .long(STOPS)
         .action(ArgAction::SetTrue)
         .help("Crashes the sheet behind each step, and writes what is told then");
-    Command::new(alloc, "run")
+    let command = Command::new(alloc, "run")
         .about("Runs a script from standard input and writes its answers to standard output")
-        .after_help(RUN_HELP)
-        .arg(stops)?
-        .bin_name("dsheet run")
+        .after_help(RUN_HELP);
+    command.arg(stops)?.bin_name("dsheet run")
 }
 
-fn report_command<'a>(alloc: Global) -> Result<Command<'a>, AllocError> {
+fn report_command<'a>(alloc: Global) -> Result<Command<'a>, AllocError>
+    ensures { IfOk result (IsCommand report_app) }
+{
     Command::new(alloc, "report")
         .about("Reads a grid of texts from standard input and writes its values to standard output")
         .after_help(REPORT_HELP)
@@ -146,7 +157,10 @@ fn report_command<'a>(alloc: Global) -> Result<Command<'a>, AllocError> {
 }
 
 // An option with a number from 0 to 65,535.
-fn number_option<'a>(alloc: Global, name: &'a str, default: &'a str, help: &'a str) -> Arg<'a> {
+fn number_option<'a>(alloc: Global, name: &'a str, default: &'a str, help: &'a str) -> Arg<'a>
+    ensures rule { rule_of result ≡ number_rule name.now default.now }
+    ensures local { result.global ≡ false }
+{
     Arg::new(alloc, name)
         .long(name)
         .value_name("N")
@@ -155,40 +169,48 @@ fn number_option<'a>(alloc: Global, name: &'a str, default: &'a str, help: &'a s
         .help(help)
 }
 
-fn serve_command<'a>(alloc: Global) -> Result<Command<'a>, AllocError> {
-    let listen = Arg::new(alloc, "listen")
+// The option of `serve` that has to be there.
+fn listen_option<'a>(alloc: Global) -> Arg<'a>
+    ensures rule { rule_of result ≡ listen_rule }
+    ensures local { result.global ≡ false }
+{
+    Arg::new(alloc, "listen")
         .long("listen")
         .value_name("ADDRESS")
         .required(true)
-        .help("The address and the port, as 127.0.0.1:8080");
-    Command::new(alloc, "serve")
-        .about("Serves a sheet to clients, each a session of JSON lines over a connection")
-        .after_help(SERVE_HELP)
-        .arg(listen)?
-        .arg(number_option(alloc, "columns", "2", "Columns of the sheet, 1 to 26"))?
-        .arg(number_option(alloc, "rows", "2", "Rows of the sheet, 1 to 64"))?
-        .arg(number_option(alloc, "processes", "2", "Processes, 1 to 8"))?
-        .arg(number_option(alloc, "workers", "0", "Workers, fewer than the processes"))?
-        .arg(number_option(
-            alloc,
-            "sessions",
-            "1",
-            "Connections that are served, at least 1",
-        ))?
-        .bin_name("dsheet serve")
+        .help("The address and the port, as 127.0.0.1:8080")
 }
 
-fn program<'a>(alloc: Global) -> Result<Command<'a>, AllocError> {
-    Command::new(alloc, "dsheet")
+fn serve_command<'a>(alloc: Global) -> Result<Command<'a>, AllocError>
+    ensures { IfOk result (IsCommand serve_app) }
+{
+    let columns = number_option(alloc, "columns", "2", "Columns of the sheet, 1 to 26");
+    let rows = number_option(alloc, "rows", "2", "Rows of the sheet, 1 to 64");
+    let processes = number_option(alloc, "processes", "2", "Processes, 1 to 8");
+    let workers = number_option(alloc, "workers", "0", "Workers, fewer than the processes");
+    let sessions_help = "Connections that are served, at least 1";
+    let sessions = number_option(alloc, "sessions", "1", sessions_help);
+    let command = Command::new(alloc, "serve")
+        .about("Serves a sheet to clients, each a session of JSON lines over a connection")
+        .after_help(SERVE_HELP);
+    let sheet = command.arg(listen_option(alloc))?.arg(columns)?.arg(rows)?;
+    let server = sheet.arg(processes)?.arg(workers)?.arg(sessions)?;
+    server.bin_name("dsheet serve")
+}
+
+fn program<'a>(alloc: Global) -> Result<Command<'a>, AllocError>
+    ensures { IfOk result (IsCommand dsheet) }
+{
+    let command = Command::new(alloc, "dsheet")
         .version(VERSION)
         .about("The calculator of a shared spreadsheet that survives crashes")
         .after_help(HELP)
         .subcommand_required(true)
-        .arg_required_else_help(true)
-        .bin_name("dsheet")?
-        .subcommand(run_command(alloc)?)?
-        .subcommand(report_command(alloc)?)?
-        .subcommand(serve_command(alloc)?)
+        .arg_required_else_help(true);
+    let (run, report) = (run_command(alloc)?, report_command(alloc)?);
+    let serve = serve_command(alloc)?;
+    let two = command.subcommand(run)?.subcommand(report)?;
+    two.subcommand(serve)?.bin_name("dsheet")
 }
 
 impl From<Error> for OptionsFault {
@@ -203,17 +225,37 @@ impl From<AllocError> for OptionsFault {
     }
 }
 
-/// What the words ask for, of which the first is the program's name; an error is `clap`'s for help and for wrong words,
-/// or names the option that is out of its limits.
-pub fn options(alloc: Global, words: &[String]) -> Result<Action, OptionsFault> {
-    let matches = program(alloc)?.try_get_matches_from(words)?;
-    match matches.subcommand() {
-        Some(("serve", found)) => match serving(found) {
+// Whether the sheet is to be crashed behind each step.
+fn is_stops(found: &ArgMatches<'_>) -> bool
+    ensures { IsTrue result ↔ (one_of (codes "stops") (rows_of (found_of found.now)) ≡ Some (codes "true")) }
+{
+    found.get_one::<bool>(STOPS) == Some(true)
+}
+
+// What a subcommand with these matches asks for.
+fn asked(name: &str, found: &ArgMatches<'_>) -> Result<Action, OptionsFault>
+    ensures { IfOk result (Asks name.now (rows_of (found_of found.now))) }
+{
+    match name {
+        "run" if is_stops(found) => Ok(Action::Stops),
+        "run" => Ok(Action::Run),
+        "report" => Ok(Action::Report),
+        "serve" => match read_serving(found) {
             Ok(serving) => Ok(Action::Serve(serving)),
             Err(limit) => Err(OptionsFault::OutOfLimits(limit)),
         },
-        Some(("report", _)) => Ok(Action::Report),
-        Some((_, run)) if run.get_flag(STOPS) => Ok(Action::Stops),
-        _ => Ok(Action::Run),
+        _ => Err(OptionsFault::NoCommand),
+    }
+}
+
+/// What the words ask for, of which the first is the program's name; an error is `clap`'s for help and for wrong words,
+/// or names the option that is out of its limits.
+pub fn options(alloc: Global, words: &[String]) -> Result<Action, OptionsFault>
+    ensures { IfOk result (IsAskedBy (map string_bytes words.now)) }
+{
+    let matches = program(alloc)?.try_get_matches_from(words)?;
+    match matches.subcommand() {
+        Some((name, found)) => asked(name, found),
+        None => Err(OptionsFault::NoCommand),
     }
 }

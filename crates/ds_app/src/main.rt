@@ -129,6 +129,10 @@ fn dispatch<
         Ok(Action::Report) => report(rt),
         Ok(Action::Serve(serving)) => serve(rt, serving),
         Err(OptionsFault::CommandLine(error)) => explain(rt, &error),
+        Err(OptionsFault::NoCommand) => {
+            let _told = eprintln!(rt; "dsheet: no command");
+            WRONG_WORDS
+        }
         Err(OptionsFault::OutOfLimits(limit)) => {
             let _told = eprintln!(rt; "dsheet: {limit}");
             WRONG_WORDS

@@ -1,6 +1,6 @@
 //! `dsheet serve`.
 
-ghost use Rattle.ds_app.specs.Servings.{IsServing};
+ghost use Rattle.ds_app.specs.Servings.{IsWithinLimits};
 
 use crate::serving::Serving;
 use crate::status::{NO_MEMORY, STREAM_FAILED};
@@ -23,7 +23,7 @@ pub fn serve<
         + Net<Stream = TcpStream, Listener = TcpListener>
         + Sync,
 >(rt: &R, serving: Serving) -> u8
-    requires { IsServing serving }
+    requires { IsWithinLimits serving }
 {
     let Serving {
         listen,

@@ -1,7 +1,9 @@
 //! What `dsheet serve` is to serve.
 
-ghost use Rattle.std.specs.Prelude.{IfOk};
-ghost use Rattle.ds_app.specs.Servings.{IsServing};
+ghost use Rattle.std.specs.Prelude.{IfOk, IfSome, codes};
+ghost use Rattle.clap.specs.Matches.{found_of};
+ghost use Rattle.clap.specs.Walk.{rows_of};
+ghost use Rattle.ds_app.specs.Servings.{IsAddressOf, IsNumberOf, IsServing};
 
 use clap::ArgMatches;
 use ds_formula::cells::Shape;
@@ -43,46 +45,59 @@ pub enum OutOfLimits {
     Sessions,
 }
 
-// The number of an option, which has a default.
-fn number(matches: &ArgMatches<'_>, id: &str) -> usize {
-    match matches.get_one::<u16>(id) {
-        Some(number) => number as usize,
-        None => 0,
+// The number of an option; none where it has none.
+fn number(matches: &ArgMatches<'_>, name: &str) -> Option<usize>
+    ensures { IfSome result (IsNumberOf (rows_of (found_of matches.now)) name.now) }
+{
+    match matches.get_one::<u16>(name) {
+        Some(number) => Some(number as usize),
+        None => None,
     }
 }
 
-// The address of an option.
-fn address(matches: &ArgMatches<'_>) -> Result<SocketAddr, OutOfLimits> {
+// The address of the option `--listen`; none where it has none.
+fn address(matches: &ArgMatches<'_>) -> Option<SocketAddr>
+    ensures { IfSome result (IsAddressOf (rows_of (found_of matches.now)) (codes "listen")) }
+{
     let Some(text) = matches.get_str("listen") else {
-        return Err(OutOfLimits::Listen);
+        return None;
     };
     match text.parse::<SocketAddr>() {
-        Ok(address) => Ok(address),
-        Err(_) => Err(OutOfLimits::Listen),
+        Ok(address) => Some(address),
+        Err(_) => None,
     }
+}
+
+// The shape that two options ask for; none where it is none of a sheet.
+fn read_shape(matches: &ArgMatches<'_>) -> Option<Shape>
+    ensures { IfSome result (λ s. IsNumberOf (rows_of (found_of matches.now)) (codes "columns") s.columns
+        × IsNumberOf (rows_of (found_of matches.now)) (codes "rows") s.rows) }
+{
+    Shape::new(number(matches, "columns")?, number(matches, "rows")?)
 }
 
 /// The server that the options of `dsheet serve` ask for. An error names the first option that is out of its limits.
-pub fn serving(matches: &ArgMatches<'_>) -> Result<Serving, OutOfLimits>
-    ensures { IfOk result IsServing }
+pub fn read_serving(matches: &ArgMatches<'_>) -> Result<Serving, OutOfLimits>
+    ensures { IfOk result (IsServing (rows_of (found_of matches.now))) }
 {
-    let listen = address(matches)?;
-    let (columns, rows) = (number(matches, "columns"), number(matches, "rows"));
-    let Some(shape) = Shape::new(columns, rows) else {
+    let Some(listen) = address(matches) else {
+        return Err(OutOfLimits::Listen);
+    };
+    let Some(shape) = read_shape(matches) else {
         return Err(OutOfLimits::Shape);
     };
-    let processes = number(matches, "processes");
-    if processes < 1 || processes > 8 {
-        return Err(OutOfLimits::Processes);
-    }
-    let workers = number(matches, "workers");
-    if workers >= processes {
-        return Err(OutOfLimits::Workers);
-    }
-    let sessions = number(matches, "sessions");
-    if sessions < 1 {
-        return Err(OutOfLimits::Sessions);
-    }
+    let processes = match number(matches, "processes") {
+        Some(processes) if 1 <= processes && processes <= 8 => processes,
+        _ => return Err(OutOfLimits::Processes),
+    };
+    let workers = match number(matches, "workers") {
+        Some(workers) if workers < processes => workers,
+        _ => return Err(OutOfLimits::Workers),
+    };
+    let sessions = match number(matches, "sessions") {
+        Some(sessions) if 1 <= sessions => sessions,
+        _ => return Err(OutOfLimits::Sessions),
+    };
     Ok(Serving {
         listen,
         shape,
