@@ -2,7 +2,7 @@
 
 ghost use Rattle.std.specs.Prelude.{◌≡◌, IfOk};
 
-use crate::serving::{Served, serve};
+use crate::serving::{Clients, Served, serve};
 use ds_formula::cells::Shape;
 use ds_state::world::World;
 use std::alloc::{AllocError, Global};
@@ -35,7 +35,7 @@ fn is_right(served: &Served, answers: &str, done: u64) -> bool {
 #[derive(Clone, Copy)]
 struct Row {
     workers: usize,
-    clients: &'static [&'static [u8]],
+    clients: Clients,
     answers: &'static str,
     done: u64,
 }
@@ -46,39 +46,70 @@ const FIRST: &[u8] =
 const FIRST_ANSWERS: &str =
     "{\"last\":null,\"ok\":\"join\",\"process\":0}\n{\"number\":0,\"ok\":\"done\"}\n{\"ok\":\"settled\",\"rows\":[[\"3\",\"\"],[\"\",\"\"]]}\n{\"last\":{\"cell\":\"A1\",\"number\":0,\"outcome\":\"done\"},\"ok\":\"last\"}\n";
 
-const ROWS: [Row; 4] = [
+// A fast client gives a cell the numbers from 1 to 20.
+const FAST: &[u8] =
+    b"{\"op\":\"join\",\"process\":0}\n{\"op\":\"set\",\"cell\":\"A1\",\"text\":\"1\"}\n{\"op\":\"set\",\"cell\":\"A1\",\"text\":\"2\"}\n{\"op\":\"set\",\"cell\":\"A1\",\"text\":\"3\"}\n{\"op\":\"set\",\"cell\":\"A1\",\"text\":\"4\"}\n{\"op\":\"set\",\"cell\":\"A1\",\"text\":\"5\"}\n{\"op\":\"set\",\"cell\":\"A1\",\"text\":\"6\"}\n{\"op\":\"set\",\"cell\":\"A1\",\"text\":\"7\"}\n{\"op\":\"set\",\"cell\":\"A1\",\"text\":\"8\"}\n{\"op\":\"set\",\"cell\":\"A1\",\"text\":\"9\"}\n{\"op\":\"set\",\"cell\":\"A1\",\"text\":\"10\"}\n{\"op\":\"set\",\"cell\":\"A1\",\"text\":\"11\"}\n{\"op\":\"set\",\"cell\":\"A1\",\"text\":\"12\"}\n{\"op\":\"set\",\"cell\":\"A1\",\"text\":\"13\"}\n{\"op\":\"set\",\"cell\":\"A1\",\"text\":\"14\"}\n{\"op\":\"set\",\"cell\":\"A1\",\"text\":\"15\"}\n{\"op\":\"set\",\"cell\":\"A1\",\"text\":\"16\"}\n{\"op\":\"set\",\"cell\":\"A1\",\"text\":\"17\"}\n{\"op\":\"set\",\"cell\":\"A1\",\"text\":\"18\"}\n{\"op\":\"set\",\"cell\":\"A1\",\"text\":\"19\"}\n{\"op\":\"set\",\"cell\":\"A1\",\"text\":\"20\"}\n";
+
+const FAST_ANSWERS: &str =
+    "{\"last\":null,\"ok\":\"join\",\"process\":1}\n{\"last\":null,\"ok\":\"join\",\"process\":0}\n{\"number\":0,\"ok\":\"done\"}\n{\"number\":1,\"ok\":\"done\"}\n{\"number\":2,\"ok\":\"done\"}\n{\"number\":3,\"ok\":\"done\"}\n{\"number\":4,\"ok\":\"done\"}\n{\"number\":5,\"ok\":\"done\"}\n{\"number\":6,\"ok\":\"done\"}\n{\"number\":7,\"ok\":\"done\"}\n{\"number\":8,\"ok\":\"done\"}\n{\"number\":9,\"ok\":\"done\"}\n{\"number\":10,\"ok\":\"done\"}\n{\"number\":11,\"ok\":\"done\"}\n{\"number\":12,\"ok\":\"done\"}\n{\"number\":13,\"ok\":\"done\"}\n{\"number\":14,\"ok\":\"done\"}\n{\"number\":15,\"ok\":\"done\"}\n{\"number\":16,\"ok\":\"done\"}\n{\"number\":17,\"ok\":\"done\"}\n{\"number\":18,\"ok\":\"done\"}\n{\"number\":19,\"ok\":\"done\"}\n{\"number\":0,\"ok\":\"done\"}\n{\"ok\":\"settled\",\"rows\":[[\"20\",\"21\"],[\"\",\"\"]]}\n";
+
+const ROWS: [Row; 6] = [
     Row {
         workers: 0,
-        clients: &[FIRST],
+        clients: Clients::Each(&[FIRST]),
         answers: FIRST_ANSWERS,
         done: 1,
     },
     // A worker has process 1.
     Row {
         workers: 1,
-        clients: &[
+        clients: Clients::Each(&[
             b"{\"op\":\"join\",\"process\":1}\n{\"op\":\"join\",\"process\":2}\n{\"op\":\"report\"}\n",
             b"{\"op\":\"join\",\"process\":0}\n{\"op\":\"join\",\"process\":0}\n",
-        ],
+        ]),
         answers: "{\"code\":4,\"error\":\"process-taken\"}\n{\"code\":3,\"error\":\"bad-field\"}\n{\"code\":6,\"error\":\"not-joined\"}\n{\"last\":null,\"ok\":\"join\",\"process\":0}\n{\"code\":7,\"error\":\"already-joined\"}\n",
         done: 0,
     },
     // The first client goes in mid-line; its process is free again, and tells what it has done.
     Row {
         workers: 0,
-        clients: &[
+        clients: Clients::Each(&[
             b"{\"op\":\"join\",\"process\":0}\n{\"op\":\"set\",\"cell\":\"B2\",\"text\":\"7\"}\n{\"op\":\"set\",\"cell\":\"A1\",\"te",
             b"{\"op\":\"join\",\"process\":0}\n{\"op\":\"report\"}\n",
-        ],
+        ]),
         answers: "{\"last\":null,\"ok\":\"join\",\"process\":0}\n{\"number\":0,\"ok\":\"done\"}\n{\"last\":{\"cell\":\"B2\",\"number\":0,\"outcome\":\"done\"},\"ok\":\"join\",\"process\":0}\n{\"ok\":\"settled\",\"rows\":[[\"\",\"\"],[\"\",\"7\"]]}\n",
         done: 1,
     },
     // Nothing is said, and then nothing that is JSON.
     Row {
         workers: 0,
-        clients: &[b"", b"\n{\n\xff\n[]\n"],
+        clients: Clients::Each(&[b"", b"\n{\n\xff\n[]\n"]),
         answers: "{\"code\":1,\"error\":\"not-json\"}\n{\"code\":1,\"error\":\"not-json\"}\n{\"code\":1,\"error\":\"not-json\"}\n{\"code\":3,\"error\":\"bad-field\"}\n",
         done: 0,
+    },
+    // While the slow client waits, the fast one makes twenty edits and ends.
+    Row {
+        workers: 0,
+        clients: Clients::Beside {
+            slow: [
+                b"{\"op\":\"join\",\"process\":1}\n",
+                b"{\"op\":\"set\",\"cell\":\"B1\",\"text\":\"=[.A1]+1\"}\n{\"op\":\"report\"}\n",
+            ],
+            fast: FAST,
+        },
+        answers: FAST_ANSWERS,
+        done: 21,
+    },
+    // The first client reads nothing. Its process is free again, and its edit stands.
+    Row {
+        workers: 0,
+        clients: Clients::Unread {
+            lines: b"{\"op\":\"join\",\"process\":0}\n{\"op\":\"set\",\"cell\":\"B2\",\"text\":\"7\"}\n{\"op\":\"report\"}\n",
+            join: b"{\"op\":\"join\",\"process\":0}\n",
+            rest: b"{\"op\":\"report\"}\n",
+        },
+        answers: "{\"last\":{\"cell\":\"B2\",\"number\":0,\"outcome\":\"done\"},\"ok\":\"join\",\"process\":0}\n{\"ok\":\"settled\",\"rows\":[[\"\",\"\"],[\"\",\"7\"]]}\n",
+        done: 1,
     },
 ];
 
@@ -102,13 +133,16 @@ fn serve_loopback(rt: HostRuntime) -> Result<(), Fail> {
     Ok(())
 }
 
+// One of many clients, which makes one edit.
+const ONE: &[u8] =
+    b"{\"op\":\"join\",\"process\":0}\n{\"op\":\"set\",\"cell\":\"A1\",\"text\":\"1\"}\n";
+
+const MANY: [&[u8]; 200] = [ONE; 200];
+
 // 200 clients one after another, each with an edit: all of them are done.
 #[test]
 fn two_hundred_clients(rt: HostRuntime) -> Result<(), Fail> {
     let alloc = rt.alloc();
-    let lines =
-        b"{\"op\":\"join\",\"process\":0}\n{\"op\":\"set\",\"cell\":\"A1\",\"text\":\"1\"}\n".as_slice();
-    let clients = [lines; 200];
     let world = world(alloc)?;
     let served = serve::<Brand, Brand, _>(
         &rt,
@@ -117,7 +151,7 @@ fn two_hundred_clients(rt: HostRuntime) -> Result<(), Fail> {
         Blank::new(2),
         Blank::new(2),
         1,
-        clients.as_slice(),
+        Clients::Each(&MANY),
     )?;
     let is_done = match &served.closed {
         Some(closed) => closed.world.done == 200 && closed.stray.is_none(),

@@ -1,4 +1,4 @@
-//! A server with its clients, one after another.
+//! A server with its clients.
 
 ghost use Rattle.std.specs.Prelude.{◌≡◌};
 
@@ -18,6 +18,49 @@ use std::test::Fail;
 use std::thread;
 use std::thread::Threads;
 use std::time::Clock;
+
+/// How many bytes of an answer are read at most.
+const LINE_MOST: usize = 4096;
+
+/// How often a client tries to join a process.
+const TRIES: usize = 100_000;
+
+/// What a client is answered whose process is another session's.
+const PROCESS_TAKEN: &[u8] = b"{\"code\":4,\"error\":\"process-taken\"}\n";
+
+/// What clients say, and when.
+#[derive(Clone, Copy)]
+pub enum Clients {
+    /// One client after another says all of its lines, and then reads what it is answered.
+    Each(&'static [&'static [u8]]),
+    /// A slow client says its first line and reads the answer; then a fast one says all of its lines, reads, and ends;
+    /// then the slow one says the rest.
+    Beside {
+        slow: [&'static [u8]; 2],
+        fast: &'static [u8],
+    },
+    /// A client says its lines and reads nothing. Another one joins until the process is free, and says the rest.
+    Unread {
+        lines: &'static [u8],
+        join: &'static [u8],
+        rest: &'static [u8],
+    },
+}
+
+impl Clients {
+    // How many connections they make.
+    fn count(&self) -> usize {
+        match self {
+            Clients::Each(clients) => clients.len(),
+            Clients::Beside { slow: _, fast: _ } => 2,
+            Clients::Unread {
+                lines: _,
+                join: _,
+                rest: _,
+            } => 2,
+        }
+    }
+}
 
 /// What a server and its clients came to.
 #[derive(Drop)]
@@ -42,16 +85,106 @@ fn talk<R: Net<Stream = TcpStream>>(
     Ok(())
 }
 
-// So one after another.
+// The next line that a client is answered, with its end.
+fn next_line(stream: &mut TcpStream, answers: &mut Vec<u8>) -> io::Result<()> {
+    let mut byte = [0u8];
+    for _ in 0..LINE_MOST {
+        if stream.read(&mut byte)? == 0 {
+            break;
+        }
+        answers.push(byte[0])?;
+        if byte[0] == b'\n' {
+            break;
+        }
+    }
+    Ok(())
+}
+
+// One client after another.
+fn talk_each<R: Net<Stream = TcpStream>>(
+    rt: &R,
+    at: SocketAddr,
+    clients: &[&[u8]],
+    answers: &mut Vec<u8>,
+) -> io::Result<()> {
+    for lines in clients {
+        talk(rt, at, lines, answers)?;
+    }
+    Ok(())
+}
+
+// A client says its first line and is answered; another one says all of its lines and is answered; then the first says
+// the rest.
+fn talk_beside<R: Net<Stream = TcpStream>>(
+    rt: &R,
+    at: SocketAddr,
+    slow: [&[u8]; 2],
+    fast: &[u8],
+    answers: &mut Vec<u8>,
+) -> io::Result<()> {
+    let mut stream = TcpStream::connect(rt, at)?;
+    stream.write_all(slow[0])?;
+    next_line(&mut stream, answers)?;
+    talk(rt, at, fast, answers)?;
+    stream.write_all(slow[1])?;
+    stream.shutdown(Shutdown::Write)?;
+    stream.read_to_end(answers)?;
+    Ok(())
+}
+
+// What a client is answered that joins again and again until its process is free, and then says the rest.
+fn talk_at_last<R: Net<Stream = TcpStream>>(
+    rt: &R,
+    alloc: Global,
+    at: SocketAddr,
+    join: &[u8],
+    rest: &[u8],
+) -> io::Result<Vec<u8>> {
+    let mut stream = TcpStream::connect(rt, at)?;
+    let mut answers = Vec::new(alloc);
+    for _ in 0..TRIES {
+        answers.clear();
+        stream.write_all(join)?;
+        next_line(&mut stream, &mut answers)?;
+        if answers.as_slice() != PROCESS_TAKEN {
+            break;
+        }
+    }
+    stream.write_all(rest)?;
+    stream.shutdown(Shutdown::Write)?;
+    stream.read_to_end(&mut answers)?;
+    Ok(answers)
+}
+
+// A client says its lines and reads nothing; another one takes its process when it is free, and says the rest.
+fn talk_unread<R: Net<Stream = TcpStream>>(
+    rt: &R,
+    alloc: Global,
+    at: SocketAddr,
+    lines: &[u8],
+    join: &[u8],
+    rest: &[u8],
+) -> io::Result<Vec<u8>> {
+    let mut stream = TcpStream::connect(rt, at)?;
+    stream.write_all(lines)?;
+    stream.shutdown(Shutdown::Write)?;
+    talk_at_last(rt, alloc, at, join, rest)
+}
+
+// What the clients are answered.
 fn talk_all<R: Net<Stream = TcpStream>>(
     rt: &R,
     alloc: Global,
     at: SocketAddr,
-    clients: &[&[u8]],
+    clients: Clients,
 ) -> io::Result<Vec<u8>> {
     let mut answers = Vec::new(alloc);
-    for lines in clients {
-        talk(rt, at, lines, &mut answers)?;
+    match clients {
+        Clients::Each(clients) => talk_each(rt, at, clients, &mut answers)?,
+        Clients::Beside { slow, fast } => talk_beside(rt, at, slow, fast, &mut answers)?,
+        Clients::Unread { lines, join, rest } => {
+            return talk_unread(rt, alloc, at, lines, join, rest);
+        }
     }
     Ok(answers)
 }
@@ -67,11 +200,11 @@ fn run<
     sheet: &LockedSheet<L, M>,
     queues: &[ArrayQueue<Pass<L, M>>],
     workers: usize,
-    clients: &[&[u8]],
+    clients: Clients,
 ) -> Result<Vec<u8>, Fail> {
     let listener = TcpListener::bind(rt, "127.0.0.1:0")?;
     let at = listener.local_addr()?;
-    let count = clients.len();
+    let count = clients.count();
     let (served, answers) = thread::join(
         rt,
         || serve_sheet(rt, alloc, &listener, sheet, queues, workers, count),
@@ -81,7 +214,7 @@ fn run<
     Ok(answers?)
 }
 
-/// Serves clients one after another, with so many workers on the last processes, and closes the sheet.
+/// Serves the clients, with so many workers on the last processes, and closes the sheet.
 pub fn serve<
     L: Ledger + Send + Sync,
     M: Ledger + Send + Sync,
@@ -93,7 +226,7 @@ pub fn serve<
     dones: Blank,
     settleds: Blank,
     workers: usize,
-    clients: &[&[u8]],
+    clients: Clients,
 ) -> Result<Served, Fail>
     requires names { (dones.name ≡ L.name) × (settleds.name ≡ M.name) }
     requires parts { (dones.parts ≡ L.parts) × (settleds.parts ≡ M.parts) }
