@@ -1,6 +1,12 @@
 //! The command line, by `clap`.
 
-use clap::{Arg, ArgAction, Command, Error};
+ghost use Rattle.std.specs.Prelude.{◌≡◌, ◌↔◌, IfOk, IsTrue, Some, codes, false, map};
+ghost use Rattle.std.specs.String.{string_bytes};
+ghost use Rattle.clap.specs.Words.{app_of, found_of, one_of, rows_of, rule_of};
+ghost use Rattle.ds_app.specs.CommandLines.{Asks, IsAskedBy, IsCommand, dsheet, listen as listen_rule, number_option as number_rule, report_command as report_app, run_command as run_app, serve_command as serve_app};
+
+use crate::serving::{OutOfLimits, Serving, read_serving};
+use clap::{Arg, ArgAction, ArgMatches, Command, Error, value_parser};
 use std::alloc::{AllocError, Global};
 
 /// What the words ask for.
@@ -12,6 +18,19 @@ pub enum Action {
     Stops,
     /// `dsheet report`: a grid on standard input.
     Report,
+    /// `dsheet serve`: sessions over connections.
+    Serve(Serving),
+}
+
+/// Why the words ask for nothing.
+#[derive(Debug, Drop)]
+pub enum OptionsFault {
+    /// They are not of the command line, or ask for help. `clap` says what they are.
+    CommandLine(Error),
+    /// They name no command.
+    NoCommand,
+    /// The value of an option is out of its limits.
+    OutOfLimits(OutOfLimits),
 }
 
 /// The flag of `run` that crashes the sheet behind each step.
@@ -83,49 +102,160 @@ Example:
 Exit status: 0 ended; 1 a fault in the grid; 2 wrong words on the command line;
 3 a failed read or write, or a grid over 1048576 bytes; 4 no memory.";
 
+const SERVE_HELP: &str = "\
+Serves so many connections, each in its thread, and then ends. The last processes are the workers': they go
+round the cells and work on those that are marked; no session can join them.
+
+The protocol: a line of JSON in, a line of JSON out, before the next line is read. Cells are texts, as \"A1\".
+  {\"op\":\"join\",\"process\":0}                   takes a process, and tells of its last edit, as last does
+  {\"op\":\"set\",\"cell\":\"A1\",\"text\":\"=1+2\"}      an edit
+  {\"op\":\"report\"}                             works until no cell is marked, and reports all values
+  {\"op\":\"last\"}                               tells whether the process's last edit counts
+are answered, on a new sheet:
+  {\"last\":null,\"ok\":\"join\",\"process\":0}
+  {\"number\":0,\"ok\":\"done\"}
+  {\"ok\":\"settled\",\"rows\":[[\"3\",\"\"],[\"\",\"\"]]}
+  {\"last\":{\"cell\":\"A1\",\"number\":0,\"outcome\":\"done\"},\"ok\":\"last\"}
+Refusals have a code: 1 not-json, 2 unknown-op, 3 bad-field, 4 process-taken, 5 line-too-long (over 4096
+bytes), 6 not-joined, 7 already-joined, 11 text, 13 stopped, 14 records-full, 15 no-memory. They change no text.
+A session is of at most 1048576 bytes; at its end its process is free again.
+
+Example:
+  dsheet serve --listen 127.0.0.1:8080 &
+  nc -N 127.0.0.1 8080 < examples/serve/session
+
+Exit status: 0 ended; 2 wrong words on the command line; 3 the address can not be listened on, or no connection
+taken from it; 4 no memory.
+Each session that does not end with its input is one line on standard error.";
+
 const HELP: &str = "\
 Examples:
   printf 'set 0 A1 =1+2\\nsettle 0\\nreport 0\\n' | dsheet run
-  printf '1,=[.A1]*20\\n' | dsheet report";
+  printf '1,=[.A1]*20\\n' | dsheet report
+  dsheet serve --listen 127.0.0.1:8080";
 
-fn run_command<'a>(alloc: Global) -> Result<Command<'a>, AllocError> {
+fn run_command<'a>(alloc: Global) -> Result<Command<'a>, AllocError>
+    ensures { IfOk result (IsCommand run_app) }
+{
     let stops = Arg::new(alloc, STOPS)
         .long(STOPS)
         .action(ArgAction::SetTrue)
         .help("Crashes the sheet behind each step, and writes what is told then");
-    Command::new(alloc, "run")
+    let command = Command::new(alloc, "run")
         .about("Runs a script from standard input and writes its answers to standard output")
-        .after_help(RUN_HELP)
-        .arg(stops)?
-        .bin_name("dsheet run")
+        .after_help(RUN_HELP);
+    command.arg(stops)?.bin_name("dsheet run")
 }
 
-fn report_command<'a>(alloc: Global) -> Result<Command<'a>, AllocError> {
+fn report_command<'a>(alloc: Global) -> Result<Command<'a>, AllocError>
+    ensures { IfOk result (IsCommand report_app) }
+{
     Command::new(alloc, "report")
         .about("Reads a grid of texts from standard input and writes its values to standard output")
         .after_help(REPORT_HELP)
         .bin_name("dsheet report")
 }
 
-fn program<'a>(alloc: Global) -> Result<Command<'a>, AllocError> {
-    Command::new(alloc, "dsheet")
+// An option with a number from 0 to 65,535.
+fn number_option<'a>(alloc: Global, name: &'a str, default: &'a str, help: &'a str) -> Arg<'a>
+    ensures rule { rule_of result ≡ number_rule name.now default.now }
+    ensures local { result.global ≡ false }
+{
+    Arg::new(alloc, name)
+        .long(name)
+        .value_name("N")
+        .value_parser(value_parser!(u16))
+        .default_value(default)
+        .help(help)
+}
+
+// The option of `serve` that has to be there.
+fn listen_option<'a>(alloc: Global) -> Arg<'a>
+    ensures rule { rule_of result ≡ listen_rule }
+    ensures local { result.global ≡ false }
+{
+    Arg::new(alloc, "listen")
+        .long("listen")
+        .value_name("ADDRESS")
+        .required(true)
+        .help("The address and the port, as 127.0.0.1:8080")
+}
+
+fn serve_command<'a>(alloc: Global) -> Result<Command<'a>, AllocError>
+    ensures { IfOk result (IsCommand serve_app) }
+{
+    let columns = number_option(alloc, "columns", "2", "Columns of the sheet, 1 to 26");
+    let rows = number_option(alloc, "rows", "2", "Rows of the sheet, 1 to 64");
+    let processes = number_option(alloc, "processes", "2", "Processes, 1 to 8");
+    let workers = number_option(alloc, "workers", "0", "Workers, fewer than the processes");
+    let sessions_help = "Connections that are served, at least 1";
+    let sessions = number_option(alloc, "sessions", "1", sessions_help);
+    let command = Command::new(alloc, "serve")
+        .about("Serves a sheet to clients, each a session of JSON lines over a connection")
+        .after_help(SERVE_HELP);
+    let sheet = command.arg(listen_option(alloc))?.arg(columns)?.arg(rows)?;
+    let server = sheet.arg(processes)?.arg(workers)?.arg(sessions)?;
+    server.bin_name("dsheet serve")
+}
+
+fn program<'a>(alloc: Global) -> Result<Command<'a>, AllocError>
+    ensures { IfOk result (IsCommand dsheet) }
+{
+    let command = Command::new(alloc, "dsheet")
         .version(VERSION)
         .about("The calculator of a shared spreadsheet that survives crashes")
         .after_help(HELP)
         .subcommand_required(true)
-        .arg_required_else_help(true)
-        .bin_name("dsheet")?
-        .subcommand(run_command(alloc)?)?
-        .subcommand(report_command(alloc)?)
+        .arg_required_else_help(true);
+    let (run, report) = (run_command(alloc)?, report_command(alloc)?);
+    let serve = serve_command(alloc)?;
+    let two = command.subcommand(run)?.subcommand(report)?;
+    two.subcommand(serve)?.bin_name("dsheet")
 }
 
-/// What the words ask for, of which the first is the program's name; the error is `clap`'s, for help and for wrong
-/// words.
-pub fn parse(alloc: Global, words: &[String]) -> Result<Action, Error> {
+impl From<Error> for OptionsFault {
+    fn from(error: Error) -> OptionsFault {
+        OptionsFault::CommandLine(error)
+    }
+}
+
+impl From<AllocError> for OptionsFault {
+    fn from(error: AllocError) -> OptionsFault {
+        OptionsFault::CommandLine(Error::from(error))
+    }
+}
+
+// Whether the sheet is to be crashed behind each step.
+fn is_stops(found: &ArgMatches<'_>) -> bool
+    ensures { IsTrue result ↔ (one_of (codes "stops") (rows_of (found_of found.now)) ≡ Some (codes "true")) }
+{
+    found.get_one::<bool>(STOPS) == Some(true)
+}
+
+// What a subcommand with these matches asks for.
+fn asked(name: &str, found: &ArgMatches<'_>) -> Result<Action, OptionsFault>
+    ensures { IfOk result (Asks name.now (rows_of (found_of found.now))) }
+{
+    match name {
+        "run" if is_stops(found) => Ok(Action::Stops),
+        "run" => Ok(Action::Run),
+        "report" => Ok(Action::Report),
+        "serve" => match read_serving(found) {
+            Ok(serving) => Ok(Action::Serve(serving)),
+            Err(limit) => Err(OptionsFault::OutOfLimits(limit)),
+        },
+        _ => Err(OptionsFault::NoCommand),
+    }
+}
+
+/// What the words ask for, of which the first is the program's name; an error is `clap`'s for help and for wrong words,
+/// or names the option that is out of its limits.
+pub fn options(alloc: Global, words: &[String]) -> Result<Action, OptionsFault>
+    ensures { IfOk result (IsAskedBy (map string_bytes words.now)) }
+{
     let matches = program(alloc)?.try_get_matches_from(words)?;
     match matches.subcommand() {
-        Some(("report", _)) => Ok(Action::Report),
-        Some((_, run)) if run.get_flag(STOPS) => Ok(Action::Stops),
-        _ => Ok(Action::Run),
+        Some((name, found)) => asked(name, found),
+        None => Err(OptionsFault::NoCommand),
     }
 }

@@ -3,11 +3,14 @@
 
 mod command_line;
 mod progress;
+mod serve;
+mod serving;
 mod status;
 
-use crate::command_line::{Action, parse};
+use crate::command_line::{Action, OptionsFault, options};
 use crate::progress::Progress;
-use crate::status::{grid_status, script_status};
+use crate::serve::serve;
+use crate::status::{NO_MEMORY, STREAM_FAILED, WRONG_WORDS, grid_status, script_status};
 use clap::Error;
 use clap::error::ErrorKind;
 use ds_grid::ending::GridEnd;
@@ -17,18 +20,14 @@ use ds_stops::stops::stop_at_each;
 use ds_streams::ending::ScriptEnd;
 use ds_streams::input::{InputEnd, read_input};
 use ds_streams::streams::{Reading, Writing};
+use log::Log;
 use std::io::{self, BufWriter, IsTerminal};
+use std::net::{Net, TcpListener, TcpStream};
 use std::process::ExitCode;
 use std::rt::Env;
-
-/// The status of wrong words on the command line.
-const WRONG_WORDS: u8 = 2;
-
-/// The status of a failed read or write.
-const STREAM_FAILED: u8 = 3;
-
-/// The status of want of memory.
-const NO_MEMORY: u8 = 4;
+use std::sync::Wait;
+use std::thread::Threads;
+use std::time::Clock;
 
 // Tells on standard error how a script ended, where that is not as it should.
 fn tell(rt: &impl Eprint, end: &ScriptEnd) {
@@ -103,7 +102,19 @@ fn explain(rt: &(impl Print + Eprint), error: &Error) -> u8 {
 }
 
 // Standard error is a terminal, or not.
-fn dispatch<R: AllocGlobal + Env + Input + Print + Eprint>(rt: &R, is_terminal: bool) -> u8 {
+fn dispatch<
+    R: AllocGlobal
+        + Env
+        + Input
+        + Print
+        + Eprint
+        + Threads
+        + Wait
+        + Clock
+        + Log
+        + Net<Stream = TcpStream, Listener = TcpListener>
+        + Sync,
+>(rt: &R, is_terminal: bool) -> u8 {
     let arguments = match std::env::args(rt) {
         Ok(arguments) => arguments,
         Err(error) if error.kind() == io::ErrorKind::OutOfMemory => return NO_MEMORY,
@@ -115,11 +126,20 @@ fn dispatch<R: AllocGlobal + Env + Input + Print + Eprint>(rt: &R, is_terminal: 
     let Ok(words) = arguments.collect::<Vec<String>>(rt.alloc()) else {
         return NO_MEMORY;
     };
-    match parse(rt.alloc(), words.as_slice()) {
+    match options(rt.alloc(), words.as_slice()) {
         Ok(Action::Run) => run(rt),
         Ok(Action::Stops) => stops(rt, is_terminal),
         Ok(Action::Report) => report(rt),
-        Err(error) => explain(rt, &error),
+        Ok(Action::Serve(serving)) => serve(rt, serving),
+        Err(OptionsFault::CommandLine(error)) => explain(rt, &error),
+        Err(OptionsFault::NoCommand) => {
+            let _told = eprintln!(rt; "dsheet: no command");
+            WRONG_WORDS
+        }
+        Err(OptionsFault::OutOfLimits(limit)) => {
+            let _told = eprintln!(rt; "dsheet: {limit}");
+            WRONG_WORDS
+        }
     }
 }
 

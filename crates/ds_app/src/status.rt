@@ -6,6 +6,15 @@ ghost use Rattle.ds_app.specs.Statuses.{status_of, grid_status_of};
 use ds_grid::ending::GridEnd;
 use ds_streams::ending::ScriptEnd;
 
+/// The status of wrong words on the command line, and of options out of their limits.
+pub const WRONG_WORDS: u8 = 2;
+
+/// The status of a failed read or write, and of an address that can not be listened on.
+pub const STREAM_FAILED: u8 = 3;
+
+/// The status of want of memory.
+pub const NO_MEMORY: u8 = 4;
+
 /// The status that tells how a script ended: 0 ended, 1 a fault in a line, 3 a failed read or write or a script over
 /// its limit, 4 want of memory.
 pub fn script_status(end: &ScriptEnd) -> u8

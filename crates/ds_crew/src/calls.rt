@@ -1,6 +1,6 @@
 //! The calls of a locked sheet: each event under the lock, each evaluation outside of it.
 
-ghost use Rattle.std.specs.Prelude.{◌≡◌, ◌+◌};
+ghost use Rattle.std.specs.Prelude.{◌≡◌, ◌<◌, ◌+◌, IfSome};
 ghost use Rattle.ds_layout.specs.Places.{cells_of};
 ghost use Rattle.ds_core.specs.Counts.{IsReplyTo, done_of};
 ghost use Rattle.ds_crew.specs.Calls.{CountsNothing, IsNoStep, IsStepOf, IsWorkAnswer};
@@ -78,6 +78,19 @@ impl<L: Ledger, M: Ledger> LockedSheet<L, M> {
         self.kept
             .lock(rt)
             .step_report(alloc, *process, cells, settleds, last)
+    }
+
+    /// The first cell that is marked, from this one on, by its number; none where the sheet has none.
+    /// No event.
+    pub fn next_marked<R: Wait>(&self, rt: &R, from: usize) -> Option<usize>
+        ensures { IfSome result (λ cell. cell < cells_of self.now.layout) }
+    {
+        let cell = self.kept.lock(rt).next_marked(from)?;
+        if cell < self.layout.cells() {
+            Some(cell)
+        } else {
+            None
+        }
     }
 
     // The task that the work of a process waits for: no event.

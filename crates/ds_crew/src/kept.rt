@@ -17,6 +17,8 @@ use ds_core::take::take;
 use ds_edit::answer::Answer;
 use ds_eval::task::Task;
 use ds_eval::value::Value;
+use ds_layout::mark::State;
+use ds_state::shown::mark;
 use ds_state::world::World;
 use ds_work::offer::{TaskFault, task_of};
 use std::alloc::Global;
@@ -139,6 +141,16 @@ impl<L: Ledger, M: Ledger> Kept<L, M> {
     /// The task that a process's work waits for, in memory of its own.
     pub(crate) fn task(&self, alloc: Global, process: usize) -> Result<Task, TaskFault> {
         task_of(alloc, &self.world, process)
+    }
+
+    /// The first cell that is marked, from this one on, by its number.
+    pub(crate) fn next_marked(&self, from: usize) -> Option<usize> {
+        for cell in from..self.world.words.layout().cells() {
+            if mark(&self.world.words, cell).state() == State::Marked {
+                return Some(cell);
+            }
+        }
+        None
     }
 
     /// The world, whose counts are those of shares with all parts.

@@ -1,0 +1,79 @@
+-- What the getters of `clap` read, by the rows of the matches.
+use Rattle.std.proofs.Common.{◌≡◌, ◌∙◌, sym, subst, refl, ap, ap₂, codes, Bool, true, false, Option, Some, None, Result, Ok, Err, List, ℕ, option_map, ◌↔◌, IsTrue}
+use Rattle.std.specs.Option.{option_eq}
+use mathlib.Core.Bool.{beq}
+use Rattle.std.specs.Str.Parse.{ParsesUnsigned, ParsesBool}
+use Rattle.std.specs.Borrow.{Bor}
+use Rattle.std.specs.Prelude.{Box}
+use Rattle.std.specs.Box.{box_value}
+use Rattle.clap.specs.Simple.{subcommand_rows}
+use Rattle.clap.specs.declared.parser.matches.SubCommand.{SubCommand}
+use Rattle.clap.specs.declared.parser.matches.ArgMatches.TheViews.{out-SubCommand}
+use Rattle.ds_app.specs.Servings.{IsNumberOf}
+use Rattle.clap.specs.Words.{Row, Text, found_of, first_of, first_value, one_of, one_text, rows_of, ReadsOne}
+use Rattle.clap.specs.declared.parser.matches.Found.{Found}
+use Rattle.clap.proofs.WalkLemmas.{first_value-rows, one_text-rows}
+
+-- a text that a getter gave stands in the rows
+pub text_of : (f : Found) (name : Text) (r : Option (Bor Text)) (x : Bor Text) → option_map (λ s. s.now) r ≡ first_value f name → r ≡ Some x
+    → first_of name (rows_of f) ≡ Some x.now
+text_of f name r x gives is = sym (first_value-rows f name) ∙ sym gives ∙ ap (option_map (λ (s : Bor Text). s.now)) is
+
+-- what a typed getter gave is read from a text of the rows
+pub read_of : {T E : Type 0} (gives : List ℕ → Result T E → Type 0) (f : Found) (name : Text) (r : Option T) (x : T)
+    → (one_text f name ≡ None → r ≡ None) → ((t : List ℕ) → one_text f name ≡ Some t → ReadsOne gives t r) → r ≡ Some x
+    → (t : Text) × (one_of name (rows_of f) ≡ Some t) × gives t (Ok x)
+read_of {T = T} gives f name r x none value is = go (one_text f name) refl where
+  go : (o : Option Text) → one_text f name ≡ o → (t : Text) × (one_of name (rows_of f) ≡ Some t) × gives t (Ok x)
+  go None e = let bad : Some x ≡ None = sym is ∙ none e in cc
+  go (Some t) e = (t, sym (one_text-rows f name) ∙ e, subst (ReadsOne gives t) is (value t e))
+
+-- a number of 16 bits that was read of an option
+pub number_of : {E : Type 0} (gives : List ℕ → Result ℕ E → Type 0) → ((t : List ℕ) (r : Result ℕ E) → gives t r → ParsesUnsigned {E = E} 16 10 t r)
+    → (f : Found) (name : Text) (r : Option ℕ) (x : ℕ) → (one_text f name ≡ None → r ≡ None)
+    → ((t : List ℕ) → one_text f name ≡ Some t → ReadsOne gives t r) → r ≡ Some x → IsNumberOf (rows_of f) name x
+number_of {E = E} gives parses f name r x none value is =
+    let read = read_of gives f name r x none value is in
+    let number : ParsesUnsigned {E = E} 16 10 read.0 (Ok x) = parses read.0 (Ok x) read.2 in
+    record { text = read.0; has = read.1; numeral = number.0.0; value = number.1 }
+
+-- a flag that was read as set
+pub set_of : {E : Type 0} (gives : List ℕ → Result Bool E → Type 0) → ((t : List ℕ) (r : Result Bool E) → gives t r → ParsesBool {E = E} t r)
+    → (f : Found) (name : Text) (r : Option Bool) → (one_text f name ≡ None → r ≡ None)
+    → ((t : List ℕ) → one_text f name ≡ Some t → ReadsOne gives t r) → r ≡ Some true → one_of name (rows_of f) ≡ Some (codes "true")
+set_of {E = E} gives parses f name r none value is =
+    let read = read_of gives f name r true none value is in
+    let spelled : ParsesBool {E = E} read.0 (Ok true) = parses read.0 (Ok true) read.2 in
+    read.1 ∙ ap Some spelled
+
+-- a flag that is set is read so
+pub reads_set : {E : Type 0} (gives : List ℕ → Result Bool E → Type 0) → ((t : List ℕ) (r : Result Bool E) → gives t r → ParsesBool {E = E} t r)
+    → (f : Found) (name : Text) (r : Option Bool)
+    → ((t : List ℕ) → one_text f name ≡ Some t → ReadsOne gives t r) → one_of name (rows_of f) ≡ Some (codes "true") → r ≡ Some true
+reads_set {E = E} gives parses f name r value set = go r (value (codes "true") (one_text-rows f name ∙ set)) where
+  go : (o : Option Bool) → ReadsOne gives (codes "true") o → o ≡ Some true
+  go None h = absurd ((parses (codes "true") (Err h.0) h.1).0 refl)
+  go (Some true) h = refl
+  go (Some false) h = let bad = parses (codes "true") (Ok false) h in cc
+
+-- whether a flag was read as set
+pub flag_of : {E : Type 0} (gives : List ℕ → Result Bool E → Type 0) → ((t : List ℕ) (r : Result Bool E) → gives t r → ParsesBool {E = E} t r)
+    → (f : Found) (name : Text) (r : Option Bool) (b : Bool) → (one_text f name ≡ None → r ≡ None)
+    → ((t : List ℕ) → one_text f name ≡ Some t → ReadsOne gives t r) → b ≡ option_eq beq r (Some true)
+    → IsTrue b ↔ (one_of name (rows_of f) ≡ Some (codes "true"))
+flag_of gives parses f name r b none value is =
+    (λ set. set_of gives parses f name r none value (go r (subst IsTrue is set)), λ set. subst IsTrue (sym (is ∙ ap (λ o. option_eq beq o (Some true)) (reads_set gives parses f name r value set))) refl) where
+  go : (o : Option Bool) → IsTrue (option_eq beq o (Some true)) → o ≡ Some true
+  go None h = cc
+  go (Some true) h = refl
+  go (Some false) h = cc
+
+-- the subcommand that was entered, by its name and its rows
+pub entered_is : {Z : Type 0} (o : Option (Box SubCommand Z)) (name : Text) (rows : List Row)
+    → Some name ≡ option_map (λ b. (out-SubCommand (box_value b)).name.now) o → Some rows ≡ option_map (λ p. p.1) (subcommand_rows o)
+    → subcommand_rows o ≡ Some (name, rows)
+entered_is None name rows is have = cc
+entered_is (Some b) name rows is have =
+    let same_name : (out-SubCommand (box_value b)).name.now ≡ name = cc in
+    let same_rows : rows_of (found_of (out-SubCommand (box_value b)).matches) ≡ rows = cc in
+    ap₂ (λ (x : Text) (y : List Row). Some (x, y)) same_name same_rows

@@ -1,0 +1,21 @@
+use Rattle.std.proofs.Common.{◌≡◌, ◌∙◌, ap, map, refl, sym, true, Some, List, ℕ}
+use Rattle.std.proofs.lemmas.Result.{IfOk-weaker}
+use Rattle.std.specs.String.{string_bytes}
+use Rattle.clap.specs.Simple.{is_simple, subcommand_of, subcommand_rows_of}
+use Rattle.clap.specs.Words.{Text, app_of, found_of, rows_of}
+use Rattle.clap.specs.declared.parser.matches.ArgMatches.TheViews.{out-ArgMatches}
+use Rattle.ds_app.specs.CommandLines.{dsheet}
+use Rattle.ds_app.proofs.Matched.{entered_is}
+use Rattle.ds_app.proofs.command_line.options.Goals as goal
+
+pub returns-in-Some : goal.returns-in-Some
+returns-in-Some c =
+    let m = c.in_ok-matches.matches in
+    let program_is : app_of c.in_ok-program.field-0 ≡ dsheet = c.in_ok-program.ensures.is in
+    let words : List Text = map string_bytes c.args.words.now in
+    let simple : is_simple (app_of c.in_ok-program.field-0) ≡ true = ap is_simple program_is in
+    let entered : subcommand_rows_of m ≡ subcommand_of (app_of c.in_ok-program.field-0) words = (c.in_ok-matches.ensures.matches simple).1 in
+    let named = entered_is (out-ArgMatches m).subcommand c.in-Some.name.now (rows_of (found_of c.in-Some.found.now)) c.in-Some.ensures.name c.in-Some.ensures.rows in
+    let asked : subcommand_of dsheet words ≡ Some (c.in-Some.name.now, rows_of (found_of c.in-Some.found.now)) =
+    sym (ap (λ a. subcommand_of a words) program_is) ∙ sym entered ∙ named in
+    IfOk-weaker c.asked.result _ _ (λ action h. (c.in-Some.name.now, rows_of (found_of c.in-Some.found.now), asked, h)) c.asked.ensures

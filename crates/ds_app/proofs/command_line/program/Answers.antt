@@ -1,0 +1,17 @@
+use Rattle.std.proofs.Common.{◌≡◌, ◌∙◌, ap, rules}
+use Rattle.std.proofs.lemmas.Result.{IfOk-weaker}
+use Rattle.clap.specs.Simple.{app_of_fields}
+use Rattle.ds_app.specs.CommandLines.{IsCommand, dsheet_alone}
+use Rattle.ds_app.proofs.Grown.{grown_below, has_globals}
+use Rattle.ds_app.proofs.command_line.program.Goals as goal
+
+pub returns : goal.returns
+returns c =
+    let alone : IsCommand dsheet_alone c.arg_required_else_help-command.result = search rules in
+    let one = grown_below _ _ _ _ _ c.in_ok-subcommand.ensures alone c.in_ok-run.ensures in
+    let two = grown_below _ _ _ _ _ c.in_ok-two.ensures one c.in_ok-report.ensures in
+    let three = grown_below _ _ _ _ _ c.in_ok-subcommand-2.ensures two c.in_ok-serve.ensures in
+    IfOk-weaker c.bin_name.result _ _ (λ r h. record {
+      is = ap app_of_fields h.0 ∙ three.is;
+      local = ap has_globals h.0 ∙ three.local;
+    }) c.bin_name.ensures

@@ -1,0 +1,73 @@
+-- The command line of `dsheet`, and what its words ask for.
+use Rattle.std.specs.Prelude.{◌≡◌, List, [], ◌∷◌, Some, false, true, codes, pos}
+use Rattle.clap.specs.Words.{App, app_of, Row, Rule, Text, new_app, new_rule, one_of, subcommand_of, with_rule, with_subcommand}
+use Rattle.clap.specs.declared.builder.command.Command.{Command}
+use Rattle.clap.specs.declared.builder.command.Command.TheViews.{out-Command as fields_of}
+use Rattle.clap.specs.declared.builder.action.ArgAction.TheVariants.{SetTrue}
+use Rattle.clap.specs.declared.builder.value_parser.ValueParser.TheVariants.{Signed}
+use Rattle.ds_app.specs.declared.command_line.Action.{Action}
+use Rattle.ds_app.specs.declared.command_line.Action.TheVariants.{Run, Stops, Report, Serve}
+use Rattle.ds_app.specs.Servings.{IsServing}
+
+-- `clap`'s command is this one, with no global argument
+pub record IsCommand (app : App) (command : Command) : Type 0 where
+  pub is : app_of command ≡ app
+  pub local : (fields_of command).has_globals ≡ false
+
+-- the flag `--stops`
+abbrev pub stops : Rule
+stops = record (new_rule (codes "stops")) { long = Some (codes "stops"); action = Some SetTrue }
+
+-- the option `--listen` with one value, which has to be there
+abbrev pub listen : Rule
+listen = record (new_rule (codes "listen")) { long = Some (codes "listen"); value_names = 1; required = true }
+
+-- an option of this name with one value, which is a number of 16 bits, and this one where it is not there
+abbrev pub number_option : Text → Text → Rule
+number_option name default = record (new_rule name) {
+  long = Some name;
+  value_names = 1;
+  parser = Some (Signed (pos 0) (pos 65535));
+  defaults = default ∷ [];
+}
+
+-- `dsheet run [--stops]`
+abbrev pub run_command : App
+run_command = with_rule (new_app (codes "run")) stops
+
+-- `dsheet report`
+abbrev pub report_command : App
+report_command = new_app (codes "report")
+
+-- `dsheet serve --listen ADDRESS [--columns N] [--rows N] [--processes N] [--workers N] [--sessions N]`
+abbrev pub serve_command : App
+serve_command = with_rule
+    (with_rule (with_rule (with_rule (with_rule (with_rule (new_app (codes "serve")) listen)
+    (number_option (codes "columns") (codes "2"))) (number_option (codes "rows") (codes "2")))
+    (number_option (codes "processes") (codes "2"))) (number_option (codes "workers") (codes "0")))
+    (number_option (codes "sessions") (codes "1"))
+
+-- the program, which has a version and wants one of its three subcommands
+abbrev pub dsheet_alone : App
+dsheet_alone = record (new_app (codes "dsheet")) {
+  top = record (new_app (codes "dsheet")).top {
+    has_version = true;
+    subcommand_required = true;
+    arg_required_else_help = true;
+  };
+}
+
+-- the program with its subcommands
+abbrev pub dsheet : App
+dsheet = with_subcommand (with_subcommand (with_subcommand dsheet_alone run_command.top) report_command.top) serve_command.top
+
+-- a subcommand of this name with these matches asks for this
+abbrev pub Asks : Text → List Row → Action → Type 0
+Asks name rows Run = (name ≡ codes "run") × (one_of (codes "stops") rows ≡ Some (codes "true") → ⊥)
+Asks name rows Stops = (name ≡ codes "run") × (one_of (codes "stops") rows ≡ Some (codes "true"))
+Asks name rows Report = name ≡ codes "report"
+Asks name rows (Serve serving) = (name ≡ codes "serve") × IsServing rows serving
+
+-- the words of the command line ask for this, by the subcommand and the matches that `clap` reads from them
+abbrev pub IsAskedBy : List Text → Action → Type 0
+IsAskedBy words action = (name : Text) × (rows : List Row) × (subcommand_of dsheet words ≡ Some (name, rows)) × Asks name rows action

@@ -1,0 +1,108 @@
+//! What `dsheet serve` is to serve.
+
+ghost use Rattle.std.specs.Prelude.{IfOk, IfSome, codes};
+ghost use Rattle.clap.specs.Matches.{found_of};
+ghost use Rattle.clap.specs.Walk.{rows_of};
+ghost use Rattle.ds_app.specs.Servings.{IsAddressOf, IsNumberOf, IsServing};
+
+use clap::ArgMatches;
+use ds_formula::cells::Shape;
+use std::net::SocketAddr;
+use thiserror::Error;
+
+/// A server: where it listens, its sheet, and how long it serves.
+#[derive(Clone, Copy, Debug, PartialEq, Eq)]
+pub struct Serving {
+    /// The address and the port that it listens on.
+    pub listen: SocketAddr,
+    /// The shape of its sheet, at most 26 columns, 64 rows and 1,024 cells.
+    pub shape: Shape,
+    /// How many processes the sheet has, 1 to 8.
+    pub processes: usize,
+    /// How many of them, the last ones, work on marked cells: fewer than there are.
+    pub workers: usize,
+    /// How many connections it serves before it ends, 1 to 65,535.
+    pub sessions: usize,
+}
+
+/// Which value of an option is out of its limits.
+#[derive(Clone, Copy, Debug, PartialEq, Eq, Drop, Error)]
+pub enum OutOfLimits {
+    /// The address is none with a port.
+    #[error("--listen: no address with a port, as 127.0.0.1:8080")]
+    Listen,
+    /// The sheet is too large, or has no cell.
+    #[error("--columns, --rows: from 1 to 26 and from 1 to 64, and at most 1024 cells")]
+    Shape,
+    /// The sheet has too many processes, or none.
+    #[error("--processes: from 1 to 8")]
+    Processes,
+    /// There are as many workers as processes, or more.
+    #[error("--workers: fewer than the processes")]
+    Workers,
+    /// No connection is to be served.
+    #[error("--sessions: at least 1")]
+    Sessions,
+}
+
+// The number of an option; none where it has none.
+fn number(matches: &ArgMatches<'_>, name: &str) -> Option<usize>
+    ensures { IfSome result (IsNumberOf (rows_of (found_of matches.now)) name.now) }
+{
+    match matches.get_one::<u16>(name) {
+        Some(number) => Some(number as usize),
+        None => None,
+    }
+}
+
+// The address of the option `--listen`; none where it has none.
+fn address(matches: &ArgMatches<'_>) -> Option<SocketAddr>
+    ensures { IfSome result (IsAddressOf (rows_of (found_of matches.now)) (codes "listen")) }
+{
+    let Some(text) = matches.get_str("listen") else {
+        return None;
+    };
+    match text.parse::<SocketAddr>() {
+        Ok(address) => Some(address),
+        Err(_) => None,
+    }
+}
+
+// The shape that two options ask for; none where it is none of a sheet.
+fn read_shape(matches: &ArgMatches<'_>) -> Option<Shape>
+    ensures { IfSome result (λ s. IsNumberOf (rows_of (found_of matches.now)) (codes "columns") s.columns
+        × IsNumberOf (rows_of (found_of matches.now)) (codes "rows") s.rows) }
+{
+    Shape::new(number(matches, "columns")?, number(matches, "rows")?)
+}
+
+/// The server that the options of `dsheet serve` ask for. An error names the first option that is out of its limits.
+pub fn read_serving(matches: &ArgMatches<'_>) -> Result<Serving, OutOfLimits>
+    ensures { IfOk result (IsServing (rows_of (found_of matches.now))) }
+{
+    let Some(listen) = address(matches) else {
+        return Err(OutOfLimits::Listen);
+    };
+    let Some(shape) = read_shape(matches) else {
+        return Err(OutOfLimits::Shape);
+    };
+    let processes = match number(matches, "processes") {
+        Some(processes) if 1 <= processes && processes <= 8 => processes,
+        _ => return Err(OutOfLimits::Processes),
+    };
+    let workers = match number(matches, "workers") {
+        Some(workers) if workers < processes => workers,
+        _ => return Err(OutOfLimits::Workers),
+    };
+    let sessions = match number(matches, "sessions") {
+        Some(sessions) if 1 <= sessions => sessions,
+        _ => return Err(OutOfLimits::Sessions),
+    };
+    Ok(Serving {
+        listen,
+        shape,
+        processes,
+        workers,
+        sessions,
+    })
+}

@@ -1,0 +1,198 @@
+//! A board that is a locked sheet.
+
+ghost use Rattle.std.specs.Prelude.{◌≡◌, ◌<◌, ◌≤◌, ℕ, List, length, vec_capacity, Some};
+ghost use Rattle.ds_crew.specs.Passes.{PlainPass};
+ghost use Rattle.ds_crew.specs.Ends.{after_edit};
+ghost use Rattle.ds_server.specs.Calls.{Set, Report};
+ghost use Rattle.ds_server.specs.Replies.{set_view, report_view};
+ghost use Rattle.ds_serve.specs.Desks.{Deals};
+
+use crate::settle::settle;
+use crossbeam_queue::ArrayQueue;
+use ds_crew::ended::{Edited, Recovered, Shown};
+use ds_crew::locked::LockedSheet;
+use ds_crew::pass::Pass;
+use ds_edit::answer::Told;
+use ds_eval::value::Value;
+use ds_formula::cells::{Cell, Shape};
+use ds_server::board::{Board, CallRefusal, EditEnd, ReportEnd};
+use std::alloc::Global;
+use std::sync::Wait;
+use std::sync::ledger::Ledger;
+
+/// What one session sees of a locked sheet: the passes that nobody has, and the one that it has taken.
+#[derive(Drop)]
+pub struct Desk<'a, L: Ledger, M: Ledger, R: Wait> {
+    rt: &'a R,
+    sheet: &'a LockedSheet<L, M>,
+    queues: &'a [ArrayQueue<Pass<L, M>>],
+    pass: Option<Pass<L, M>>,
+}
+
+impl<'a, L: Ledger, M: Ledger, R: Wait> Desk<'a, L, M, R> {
+    /// Before a process is joined. Each process has a queue, which holds its pass while nobody has it.
+    pub fn new(
+        rt: &'a R,
+        sheet: &'a LockedSheet<L, M>,
+        queues: &'a [ArrayQueue<Pass<L, M>>],
+    ) -> Desk<'a, L, M, R> {
+        Desk {
+            rt,
+            sheet,
+            queues,
+            pass: None,
+        }
+    }
+}
+
+// What a recovery tells, or why it was refused.
+fn told(recovered: Recovered) -> Result<Option<Told>, CallRefusal> {
+    match recovered {
+        Recovered::Last(told) => Ok(Some(told)),
+        Recovered::Nothing => Ok(None),
+        Recovered::Refused(why) => Err(CallRefusal::from(why)),
+        Recovered::NotEnabled => Err(CallRefusal::ProcessTaken),
+    }
+}
+
+// How an edit ended, or why it was refused. Its receipt is dropped.
+fn ended(edited: Edited) -> Result<EditEnd, CallRefusal>
+    ensures { (pass : PlainPass) (cell : Cell) (text : List ℕ) → Deals (Some pass) (Set pass.process cell text) (set_view result) (Some (after_edit pass edited)) }
+{
+    match edited {
+        Edited::Done(receipt) => Ok(EditEnd::Done(receipt.number)),
+        Edited::Overtaken { number, by } => Ok(EditEnd::Overtaken(number, by)),
+        Edited::Refused(why) => Err(CallRefusal::from(why)),
+        Edited::NotEnabled => Err(CallRefusal::ProcessTaken),
+    }
+}
+
+// A whole edit, whose text is copied.
+fn edited<L: Ledger, M: Ledger, R: Wait>(
+    rt: &R,
+    alloc: Global,
+    sheet: &LockedSheet<L, M>,
+    pass: &mut Pass<L, M>,
+    cell: Cell,
+    text: &[u8],
+) -> Result<EditEnd, CallRefusal>
+    ensures { Deals (Some pass.old) (Set pass.old.process cell text.now) (set_view result) (Some pass.new) }
+{
+    let Ok(text) = Vec::from_slice(alloc, text) else {
+        return Err(CallRefusal::NoMemory);
+    };
+    ended(sheet.edit(rt, alloc, pass, cell, text))
+}
+
+// Puts the values into room that is there.
+fn fill(room: &mut Vec<Value>, values: &[Value])
+    requires { length values.now ≤ vec_capacity room.old }
+    ensures { room.new.items ≡ values.now }
+{
+    room.clear();
+    for value in values {
+        room.push_reserved(*value);
+    }
+}
+
+// A settle and a report, whose values are copied into room that is taken before.
+fn reported<L: Ledger, M: Ledger, R: Wait>(
+    rt: &R,
+    alloc: Global,
+    sheet: &LockedSheet<L, M>,
+    pass: &mut Pass<L, M>,
+) -> Result<ReportEnd, CallRefusal>
+    ensures { Deals (Some pass.old) (Report pass.old.process) (report_view result) (Some pass.new) }
+{
+    settle(rt, alloc, sheet, pass)?;
+    let Ok(mut values) = Vec::with_capacity(alloc, sheet.layout().cells()) else {
+        return Err(CallRefusal::NoMemory);
+    };
+    match sheet.show(rt, alloc, pass) {
+        Shown::Settled => {
+            fill(&mut values, pass.last());
+            Ok(ReportEnd::Settled(values))
+        }
+        Shown::Unsettled(place, word) => Ok(ReportEnd::Unsettled(place, word)),
+        Shown::Refused(why) => Err(CallRefusal::from(why)),
+        Shown::NotEnabled => Err(CallRefusal::ProcessTaken),
+    }
+}
+
+/// A session over a locked sheet has the pass of the process that it has joined.
+impl<'a, L: Ledger, M: Ledger, R: Wait> Board for Desk<'a, L, M, R> {
+    ghost use Rattle.ds_serve.specs.Desks.{IsPassOf, Deals};
+    ghost use Rattle.std.specs.Prelude.{length};
+
+    ghost rules = { record {
+      shape = λ d. d.sheet.now.layout.shape;
+      processes = λ d. length d.queues.now;
+      sits = λ d p. IsPassOf d.pass p;
+      does = λ old call said new. Deals old.pass call said new.pass;
+    } };
+
+    fn shape(&self) -> Shape {
+        self.sheet.layout().shape
+    }
+
+    fn processes(&self) -> usize {
+        self.queues.len()
+    }
+
+    fn join(&mut self, alloc: Global, process: usize) -> Result<Option<Told>, CallRefusal> {
+        if self.pass.is_some() {
+            return Err(CallRefusal::ProcessTaken);
+        }
+        match self.queues[process].pop(self.rt) {
+            Some(mut pass) if pass.process() == process => {
+                let recovered = self.sheet.recover(self.rt, alloc, &mut pass);
+                match told(recovered) {
+                    Ok(last) => {
+                        self.pass = Some(pass);
+                        Ok(last)
+                    }
+                    Err(why) => {
+                        let _ = self.queues[process].push(self.rt, pass);
+                        Err(why)
+                    }
+                }
+            }
+            _ => Err(CallRefusal::ProcessTaken),
+        }
+    }
+
+    fn set(
+        &mut self,
+        alloc: Global,
+        _process: usize,
+        cell: Cell,
+        text: &[u8],
+    ) -> Result<EditEnd, CallRefusal> {
+        let Some(pass) = &mut self.pass else {
+            unreachable!()
+        };
+        edited(self.rt, alloc, self.sheet, pass, cell, text)
+    }
+
+    fn report(&mut self, alloc: Global, _process: usize) -> Result<ReportEnd, CallRefusal> {
+        let Some(pass) = &mut self.pass else {
+            unreachable!()
+        };
+        reported(self.rt, alloc, self.sheet, pass)
+    }
+
+    fn last(&mut self, alloc: Global, _process: usize) -> Result<Option<Told>, CallRefusal> {
+        let Some(pass) = &mut self.pass else {
+            unreachable!()
+        };
+        told(self.sheet.recover(self.rt, alloc, pass))
+    }
+
+    fn leave(&mut self, process: usize) {
+        if let Some(pass) = self.pass.take() {
+            if process < self.queues.len() {
+                let _ = self.queues[process].push(self.rt, pass);
+            }
+        }
+    }
+}
