@@ -63,10 +63,10 @@ pub flag_of : {E : Type 0} (gives : List ℕ → Result Bool E → Type 0) → (
     → IsTrue b ↔ (one_of name (rows_of f) ≡ Some (codes "true"))
 flag_of gives parses f name r b none value is =
     (λ set. set_of gives parses f name r none value (go r (subst IsTrue is set)), λ set. subst IsTrue (sym (is ∙ ap (λ o. option_eq beq o (Some true)) (reads_set gives parses f name r value set))) refl) where
-  go : (o : Option Bool) → IsTrue (option_eq beq o (Some true)) → o ≡ Some true
-  go None h = cc
-  go (Some true) h = refl
-  go (Some false) h = cc
+      go : (o : Option Bool) → IsTrue (option_eq beq o (Some true)) → o ≡ Some true
+      go None h = cc
+      go (Some true) h = refl
+      go (Some false) h = cc
 
 -- the subcommand that was entered, by its name and its rows
 pub entered_is : {Z : Type 0} (o : Option (Box SubCommand Z)) (name : Text) (rows : List Row)

@@ -122,7 +122,7 @@ A session is of at most 1048576 bytes; at its end its process is free again.
 
 Example:
   dsheet serve --listen 127.0.0.1:8080 &
-  nc -N 127.0.0.1 8080 < examples/serve/session
+  printf '{\"op\":\"join\",\"process\":0}\\n{\"op\":\"report\"}\\n' | nc -N 127.0.0.1 8080
 
 Exit status: 0 ended; 2 wrong words on the command line; 3 the address can not be listened on, or no connection
 taken from it; 4 no memory.

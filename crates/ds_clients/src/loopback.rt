@@ -91,20 +91,18 @@ const ROWS: [Row; 6] = [
     Row {
         workers: 0,
         clients: Clients::Beside {
-            slow: [
-                b"{\"op\":\"join\",\"process\":1}\n",
-                b"{\"op\":\"set\",\"cell\":\"B1\",\"text\":\"=[.A1]+1\"}\n{\"op\":\"report\"}\n",
-            ],
+            first: b"{\"op\":\"join\",\"process\":1}\n",
             fast: FAST,
+            rest: b"{\"op\":\"set\",\"cell\":\"B1\",\"text\":\"=[.A1]+1\"}\n{\"op\":\"report\"}\n",
         },
         answers: FAST_ANSWERS,
         done: 21,
     },
-    // The first client reads nothing. Its process is free again, and its edit stands.
+    // The first client reads nothing but the answer to its join. Its process is free again, and its edit stands.
     Row {
         workers: 0,
         clients: Clients::Unread {
-            lines: b"{\"op\":\"join\",\"process\":0}\n{\"op\":\"set\",\"cell\":\"B2\",\"text\":\"7\"}\n{\"op\":\"report\"}\n",
+            lines: b"{\"op\":\"set\",\"cell\":\"B2\",\"text\":\"7\"}\n{\"op\":\"report\"}\n",
             join: b"{\"op\":\"join\",\"process\":0}\n",
             rest: b"{\"op\":\"report\"}\n",
         },

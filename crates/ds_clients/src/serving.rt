@@ -36,10 +36,12 @@ pub enum Clients {
     /// A slow client says its first line and reads the answer; then a fast one says all of its lines, reads, and ends;
     /// then the slow one says the rest.
     Beside {
-        slow: [&'static [u8]; 2],
+        first: &'static [u8],
         fast: &'static [u8],
+        rest: &'static [u8],
     },
-    /// A client says its lines and reads nothing. Another one joins until the process is free, and says the rest.
+    /// A client joins, says its lines and reads nothing more. Another one joins until the process is free, and says
+    /// the rest.
     Unread {
         lines: &'static [u8],
         join: &'static [u8],
@@ -52,7 +54,11 @@ impl Clients {
     fn count(&self) -> usize {
         match self {
             Clients::Each(clients) => clients.len(),
-            Clients::Beside { slow: _, fast: _ } => 2,
+            Clients::Beside {
+                first: _,
+                fast: _,
+                rest: _,
+            } => 2,
             Clients::Unread {
                 lines: _,
                 join: _,
@@ -118,15 +124,16 @@ fn talk_each<R: Net<Stream = TcpStream>>(
 fn talk_beside<R: Net<Stream = TcpStream>>(
     rt: &R,
     at: SocketAddr,
-    slow: [&[u8]; 2],
+    first: &[u8],
     fast: &[u8],
+    rest: &[u8],
     answers: &mut Vec<u8>,
 ) -> io::Result<()> {
     let mut stream = TcpStream::connect(rt, at)?;
-    stream.write_all(slow[0])?;
+    stream.write_all(first)?;
     next_line(&mut stream, answers)?;
     talk(rt, at, fast, answers)?;
-    stream.write_all(slow[1])?;
+    stream.write_all(rest)?;
     stream.shutdown(Shutdown::Write)?;
     stream.read_to_end(answers)?;
     Ok(())
@@ -156,7 +163,8 @@ fn talk_at_last<R: Net<Stream = TcpStream>>(
     Ok(answers)
 }
 
-// A client says its lines and reads nothing; another one takes its process when it is free, and says the rest.
+// A client joins, says its lines and reads nothing more; another one takes its process when it is free, and says the
+// rest.
 fn talk_unread<R: Net<Stream = TcpStream>>(
     rt: &R,
     alloc: Global,
@@ -166,6 +174,9 @@ fn talk_unread<R: Net<Stream = TcpStream>>(
     rest: &[u8],
 ) -> io::Result<Vec<u8>> {
     let mut stream = TcpStream::connect(rt, at)?;
+    let mut joined = Vec::new(alloc);
+    stream.write_all(join)?;
+    next_line(&mut stream, &mut joined)?;
     stream.write_all(lines)?;
     stream.shutdown(Shutdown::Write)?;
     talk_at_last(rt, alloc, at, join, rest)
@@ -181,7 +192,9 @@ fn talk_all<R: Net<Stream = TcpStream>>(
     let mut answers = Vec::new(alloc);
     match clients {
         Clients::Each(clients) => talk_each(rt, at, clients, &mut answers)?,
-        Clients::Beside { slow, fast } => talk_beside(rt, at, slow, fast, &mut answers)?,
+        Clients::Beside { first, fast, rest } => {
+            talk_beside(rt, at, first, fast, rest, &mut answers)?
+        }
         Clients::Unread { lines, join, rest } => {
             return talk_unread(rt, alloc, at, lines, join, rest);
         }
