@@ -218,10 +218,10 @@ fn run<
     let listener = TcpListener::bind(rt, "127.0.0.1:0")?;
     let at = listener.local_addr()?;
     let count = clients.count();
-    let (served, answers) = thread::join(
+    let (answers, served) = thread::join(
         rt,
-        || serve_sheet(rt, alloc, &listener, sheet, queues, workers, count),
         || talk_all(rt, alloc, at, clients),
+        || serve_sheet(rt, alloc, &listener, sheet, queues, workers, count),
     );
     served?;
     Ok(answers?)
