@@ -1,7 +1,0 @@
-//! Clients of a server, over loopback.
-#![tactic(auto)]
-
-#[cfg(test)]
-mod loopback;
-#[cfg(test)]
-mod serving;
