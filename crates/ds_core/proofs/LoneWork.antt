@@ -1,7 +1,7 @@
 -- Work that is alone publishes its value, or says why it does not.
 use Rattle.std.proofs.Common.{ℕ, ◌≡◌, ◌<◌, ◌/◌, ◌⊎◌, List, [], ◌∷◌, refl, ap, sym, ◌∙◌, subst, inl, inr}
 use Rattle.ds_layout.specs.declared.place.Place.TheVariants.{Mark, Index}
-use Rattle.ds_state.specs.Owing.{IsClean}
+use Rattle.ds_layout.specs.Mark.{IsClean}
 use Rattle.ds_state.specs.Works.{PlainWork, PlainShow, PlainRecovery}
 use Rattle.ds_state.specs.Edits.{PlainEdit}
 use Rattle.ds_state.specs.Sound.{IsSound}

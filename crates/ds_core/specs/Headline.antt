@@ -7,7 +7,7 @@ use Rattle.ds_layout.specs.declared.place.Place.{Place}
 use Rattle.ds_layout.specs.declared.place.Place.TheVariants as place
 use Rattle.ds_layout.specs.Places.{cells_of}
 use Rattle.ds_state.specs.World.{Edit, World, is_edit_of}
-use Rattle.ds_state.specs.Owing.{IsClean}
+use Rattle.ds_layout.specs.Mark.{IsClean}
 use Rattle.ds_state.specs.KnownShow.{IsStill, IsPendingWord, AreScratch, moment_of}
 use Rattle.ds_state.specs.Value.{WorldValue, world_of}
 use Rattle.ds_core.specs.Takes.{Takes, WorldRun, world_at}

@@ -1,5 +1,6 @@
 -- How many steps a process makes in a run.
 use Rattle.std.specs.Prelude.{ℕ, ◌≡◌, ◌<◌, ◌+◌, ◌*◌, ◌/◌, ◌==◌, List, [], ◌∷◌, if◌then◌else◌, length}
+use Rattle.ds_layout.specs.Bits.{parts_for}
 use Rattle.ds_state.specs.Works.{PlainWork}
 use Rattle.ds_state.specs.Value.{WorldValue, world_of}
 use Rattle.ds_state.specs.declared.situation.Situation.{Situation}
@@ -73,4 +74,4 @@ AreUnhalted p (event ∷ events) = IsUnhalted p event × AreUnhalted p events
 pub record WorkGoesOn (p : ℕ) (e : PlainWork) (steps : ℕ) (new : WorldValue) : Type 0 where
   pub work : PlainWork
   pub works : (world_of new).situation p ≡ Working work
-  pub few : steps < 2 * length work.inputs + 3 * e.cells + (e.cells + 63) / 64 + 36
+  pub few : steps < 2 * length work.inputs + 3 * e.cells + parts_for e.cells + 36

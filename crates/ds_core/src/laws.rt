@@ -23,9 +23,10 @@ ghost use Rattle.ds_state.specs.Spent.{IsSpent};
 ghost use Rattle.ds_core.specs.Spent.{IsOut};
 ghost use Rattle.ds_core.specs.Solo.{IsSolo, AreDoneOnly, IsLone, IsLoneAnswer, AreLoneReplies, StandsInOwnRow};
 ghost use Rattle.ds_state.specs.Works.{PlainWork, PlainShow, PlainRecovery};
-ghost use Rattle.ds_state.specs.Owing.{IsClean};
+ghost use Rattle.ds_layout.specs.Mark.{IsClean};
 ghost use Rattle.ds_state.specs.declared.work.WorkStage.TheVariants.{LoadMark};
 ghost use Rattle.ds_layout.specs.declared.place.Place.TheVariants.{Mark};
+ghost use Rattle.ds_layout.specs.Bits.{parts_for};
 ghost use Rattle.ds_work.specs.WorkAlone.{IsMarkedAt};
 
 /// An edit that is answered Overtaken does not count then and never will: its number is spent, and
@@ -185,7 +186,7 @@ pub fn lone_works_are_answered()
         (p : ℕ) (e : PlainWork) → IsSound (world_of old) → p < old.sheet.layout.processes
         → (world_of old).situation p ≡ Working e → e.stage ≡ LoadMark → IsMarkedAt (world_of old) e
         → WorldRun old events replies new → IsLone p events
-        → 5 * e.cells + (e.cells + 63) / 64 + 36 ≤ own_steps p events replies
+        → 5 * e.cells + parts_for e.cells + 36 ≤ own_steps p events replies
         → (k : ℕ) × (answer : Answer) × Happens events replies k (Step p) (Answered answer)
         × IsLoneAnswer (IsClean ((world_of new).memory.cached (Mark e.cell)))
         (StandsInOwnRow (world_of old) e.cell) answer }

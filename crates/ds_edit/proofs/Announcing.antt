@@ -10,7 +10,8 @@ use Rattle.ds_state.specs.World.{Edit, edit_of, World, record_place, announcemen
 use Rattle.ds_layout.specs.declared.announcement.Phase.{Phase}
 use Rattle.ds_state.specs.Known.{Known, Announced, last, pending, ended, indexing, word_of, Knowing, IsAnnounced, StandsAs, standing_after}
 use Rattle.ds_state.specs.Calls.{EditFits}
-use Rattle.ds_state.specs.Owing.{HoldsNone, IsHeldBy, SplitsAt, EditOwes}
+use Rattle.ds_state.specs.Owing.{HoldsNone, SplitsAt, EditOwes}
+use Rattle.ds_layout.specs.Mark.{IsHeldBy}
 use Rattle.ds_state.proofs.Buffers.{buffered}
 use Rattle.ds_state.proofs.Bearing.{Mine, MyMarks, stored_marks}
 use Rattle.ds_state.proofs.EditSteps.{edit_mine}

@@ -17,7 +17,8 @@ use Rattle.ds_state.specs.declared.stage.Stage.TheVariants.{Answer}
 use Rattle.ds_state.specs.declared.situation.Situation.{Situation}
 use Rattle.ds_state.specs.declared.situation.Situation.TheVariants.{Editing}
 use Rattle.ds_state.proofs.Outcomes.{among, not_among}
-use Rattle.ds_state.specs.Owing.{IsHeldBy, Owes, Excuses, Parts, Splits}
+use Rattle.ds_state.specs.Owing.{Owes, Excuses, Parts, Splits}
+use Rattle.ds_layout.specs.Mark.{IsHeldBy}
 use Rattle.ds_state.proofs.Buffers.{buffered}
 use Rattle.ds_state.proofs.EditFrame.{Framed, silent_framed, silent_keeps}
 use Rattle.ds_state.proofs.Frames.{Moves, KeepsOwing}

@@ -14,7 +14,8 @@ use Rattle.ds_state.specs.Known.{writing, outside, last, AreBelow, Knowing}
 use Rattle.ds_state.specs.Calls.{record_words, record_entry, Holds, EditFits}
 use Rattle.std.specs.Prelude.{Contains}
 use Rattle.ds_words.specs.declared.access.Entry.{Entry}
-use Rattle.ds_state.specs.Owing.{entry, HoldsNone, IsHeldBy, SplitsAt, EditOwes}
+use Rattle.ds_state.specs.Owing.{entry, HoldsNone, SplitsAt, EditOwes}
+use Rattle.ds_layout.specs.Mark.{IsHeldBy}
 use Rattle.ds_state.proofs.Buffers.{buffered}
 use Rattle.ds_state.proofs.Bearing.{Mine, MyMarks, no_new_marks, stored_marks, text_same}
 use Rattle.ds_state.proofs.EditSteps.{edit_mine}

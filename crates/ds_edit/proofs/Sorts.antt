@@ -11,7 +11,8 @@ use Rattle.ds_state.specs.Known.{known_at}
 use Rattle.ds_words.specs.declared.access.Entry.{Entry}
 use Rattle.std.specs.Prelude.{Contains}
 use Rattle.std.proofs.Common.{List, ◌⊎◌}
-use Rattle.ds_state.specs.Owing.{entry, HoldsNone, IsHeldBy, IsClean, SplitsAt, EditOwes, IsExcused}
+use Rattle.ds_state.specs.Owing.{entry, HoldsNone, SplitsAt, EditOwes, IsExcused}
+use Rattle.ds_layout.specs.Mark.{IsHeldBy, IsClean}
 use Rattle.ds_state.specs.Standing.{Matters}
 use Rattle.ds_state.specs.Calls.{EditFits}
 use Rattle.std.proofs.Common.{inl}

@@ -27,7 +27,8 @@ use Rattle.ds_state.proofs.Heads.{Small, small_counted, small_of_cell, of_cell-a
 use Rattle.ds_state.proofs.Few.{of_cell_few}
 use Rattle.ds_state.proofs.Noted.{when_rest, when_same}
 use Rattle.ds_state.proofs.Stable.{knowing_stable, record_no_version}
-use Rattle.ds_state.specs.Owing.{IsHeldBy, IsMark, Owes, Excuses, Splits}
+use Rattle.ds_state.specs.Owing.{IsMark, Owes, Excuses, Splits}
+use Rattle.ds_layout.specs.Mark.{IsHeldBy}
 use Rattle.ds_state.specs.declared.stage.Outcome.TheVariants as outcome
 use Rattle.ds_state.proofs.Buffers.{buffered}
 use Rattle.ds_state.proofs.Dirty.{or_dirty, or_moves, or_mark_fits}
@@ -40,7 +41,7 @@ use Rattle.ds_state.proofs.Accesses.{Turn, store_moves, Backs, written_backs, ba
 use Rattle.ds_state.proofs.Counting.{Counts, MayCount, counts_sound}
 use Rattle.ds_edit.specs.Steps.{head_after}
 use Rattle.ds_edit.specs.Worlds.{StepsAt}
-use Rattle.ds_edit.specs.declared.machine.TheConstants.{LAST_STAMP}
+use Rattle.ds_layout.specs.declared.head.TheConstants.{LAST_STAMP}
 use Rattle.ds_edit.proofs.Turns.{on, Known_on, IsPlainStep, turn, goes, fits_next, back_first}
 use Rattle.ds_edit.proofs.Sorts.{flushes, backs, ors}
 use Rattle.ds_edit.proofs.Placing.{head_now}

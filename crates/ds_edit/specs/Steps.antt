@@ -8,17 +8,16 @@ use Rattle.ds_layout.specs.declared.mark.TheConstants.{DIRTY}
 use Rattle.ds_layout.specs.declared.head.Head.{Head}
 use Rattle.ds_layout.specs.declared.announcement.Phase.{Phase}
 use Rattle.ds_layout.specs.declared.announcement.Phase.TheVariants as phase
-use Rattle.ds_layout.specs.Head.{head_word, head_of}
+use Rattle.ds_layout.specs.Head.{head_word, head_of, next_head}
 use Rattle.ds_layout.specs.Header.{header_word}
 use Rattle.ds_layout.specs.Text.{part_word}
 use Rattle.ds_layout.specs.Announcement.{announcement_word}
-use Rattle.ds_layout.specs.Bits.{bit_of}
+use Rattle.ds_layout.specs.Bits.{bit_of, part_with}
 use Rattle.ds_state.specs.Edits.{PlainEdit, text_parts}
 use Rattle.ds_state.specs.Known.{phase_of}
 use Rattle.ds_state.specs.declared.stage.Outcome.TheVariants as outcome
 use Rattle.ds_state.specs.declared.stage.Stage.{Stage}
 use Rattle.ds_state.specs.declared.stage.Stage.TheVariants.{StoreHeader, StoreText, FlushHeader, FlushText, BackRecord, StorePending, FlushPending, BackPending, OrIndex, FlushIndex, BackIndex, LoadHead, FlushNoted, BackNoted, OrDone, FlushDone, BackDone, Swap, FlushOwn, BackOwn, OrMark, FlushMark, BackMark, StoreOutcome, FlushOutcome, BackOutcome, Answer}
-use Rattle.ds_edit.specs.declared.machine.TheConstants.{LAST_STAMP}
 
 -- the place of the header of the edit's record
 abbrev pub header_place : PlainEdit → Place
@@ -30,15 +29,15 @@ text_place e part = place.Text e.process e.number part
 
 -- the place of the word of a reference's index row that has the bit of the edit's cell
 abbrev pub index_place : PlainEdit → ℕ → Place
-index_place e i = place.Index (slice_index_or e.refs i 0) (e.cell / 64)
+index_place e i = place.Index (slice_index_or e.refs i 0) (part_with e.cell)
 
 -- the place of the word of done bits that has the bit of the head's edit
 abbrev pub done_place : Head → Place
-done_place head = place.Done head.process (head.number / 64)
+done_place head = place.Done head.process (part_with head.number)
 
--- the head that follows this one, by the edit; the last stamp is followed by itself
+-- the word of the head that follows this one, of the edit
 abbrev pub head_after : PlainEdit → ℕ → ℕ
-head_after e noted = head_word (record { stamp = min (noted / 65536 + 1) LAST_STAMP; process = e.process; number = e.number })
+head_after e noted = head_word (next_head noted e.process e.number)
 
 -- the announcement of the edit in this phase
 abbrev pub announced : PlainEdit → Phase → ℕ

@@ -95,7 +95,7 @@ pub fn prepared(
 {
     let (content, refs) = references(alloc, &layout.shape, number, text)?;
     let text = Text::new(text).unwrap();
-    text.is_text();
+    text.is_always_a_text();
     let call = EditCall {
         process,
         number,

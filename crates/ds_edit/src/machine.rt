@@ -21,10 +21,6 @@ use ds_state::edit::EditCall;
 use ds_state::stage::{Outcome, Stage};
 use ds_words::access::Access;
 
-/// The greatest stamp of a head. The heads of a sheet stay far below it: each process edits at most
-/// 256 times.
-pub const LAST_STAMP: u64 = (1 << 48) - 1;
-
 fn parts(call: &EditCall) -> usize
     ensures { result ≡ text_parts call.now.text }
 {
@@ -73,12 +69,7 @@ fn header_word(call: &EditCall) -> u64
 fn head_after(call: &EditCall, noted: u64) -> u64
     ensures { result ≡ head_after call.now noted }
 {
-    let head = Head {
-        stamp: (noted / 65536 + 1).min(LAST_STAMP),
-        process: call.process,
-        number: call.number,
-    };
-    head.word()
+    Head::next(noted, call.process, call.number).word()
 }
 
 fn phase_of(outcome: Outcome) -> Phase

@@ -1,6 +1,7 @@
 -- The head of a cell.
-use Rattle.std.specs.Prelude.{ℕ, ◌+◌, ◌*◌, ◌/◌, ◌%◌, ◌^◌, ◌<◌, ◌==◌, Bool, Option, Some, None, nat_lt, ◌&&◌, if◌then◌else◌}
+use Rattle.std.specs.Prelude.{ℕ, ◌+◌, ◌*◌, ◌/◌, ◌%◌, ◌^◌, ◌<◌, ◌==◌, Bool, Option, Some, None, min, nat_lt, ◌&&◌, if◌then◌else◌}
 use Rattle.ds_layout.specs.declared.head.Head.{Head}
+use Rattle.ds_layout.specs.declared.head.TheConstants.{LAST_STAMP}
 
 -- each part of the head fits its place in the word
 pub record CanPack (head : Head) : Type 0 where
@@ -21,6 +22,10 @@ head_word head = head.stamp * 65536 + head.process * 256 + head.number
 -- the parts of a head's word, whatever they are
 abbrev pub parts_of : ℕ → Head
 parts_of word = record { stamp = word / 65536; process = word / 256 % 256; number = word % 256 }
+
+-- the head that follows the one in this word, of an edit of the process: the last stamp is followed by itself
+abbrev pub next_head : ℕ → ℕ → ℕ → Head
+next_head word process number = record { stamp = min (word / 65536 + 1) LAST_STAMP; process = process; number = number }
 
 -- the head that the word is: none where the stamp is 0 or the process is none of the sheet
 abbrev pub head_of : ℕ → ℕ → Option Head

@@ -1,3 +1,4 @@
+pub mod Bits
 pub mod Places
 pub mod Head
 pub mod Mark
@@ -5,5 +6,4 @@ pub mod Stored
 pub mod Announcement
 pub mod Header
 pub mod Text
-pub mod Bits
 pub mod Sheet

@@ -1,5 +1,5 @@
 -- The mark of a cell.
-use Rattle.std.specs.Prelude.{ℕ, ◌+◌, ◌-◌, ◌*◌, ◌/◌, ◌%◌, ◌^◌, ◌<◌, ◌==◌, nat_lt, Option, Some, None, Bool, true, false, if◌then◌else◌}
+use Rattle.std.specs.Prelude.{ℕ, ◌≡◌, ◌+◌, ◌-◌, ◌*◌, ◌/◌, ◌%◌, ◌^◌, ◌<◌, ◌==◌, nat_lt, Option, Some, None, Bool, true, false, if◌then◌else◌}
 use Rattle.ds_layout.specs.declared.mark.Mark.{Mark}
 use Rattle.ds_layout.specs.declared.mark.State.{State}
 use Rattle.ds_layout.specs.declared.mark.State.TheVariants.{Clean, Marked, Held}
@@ -39,6 +39,38 @@ parts_of word = record {
 abbrev pub present : ℕ → Option ℕ → Option ℕ
 present processes None = None
 present processes (Some process) = if nat_lt process processes then Some process else None
+
+-- the generation in a mark's word
+abbrev pub generation_of : ℕ → ℕ
+generation_of word = word / 32
+
+-- the tenure in a mark's word: its generation with its holder
+abbrev pub tenure : ℕ → ℕ
+tenure word = word / 2
+
+-- the word of a clean mark: no holder, not dirty
+abbrev pub IsClean : ℕ → Type 0
+IsClean word = word % 32 ≡ 0
+
+-- the word of a mark that is not dirty: clean, or held and not marked since
+abbrev pub IsEven : ℕ → Type 0
+IsEven word = word % 2 ≡ 0
+
+-- the word of a mark whose holder is this process
+abbrev pub IsHeldBy : ℕ → ℕ → Type 0
+IsHeldBy q word = word / 2 % 16 ≡ q + 1
+
+-- whether it is the word of a mark whose holder is this process
+abbrev pub is_held_by : ℕ → ℕ → Bool
+is_held_by q word = word / 2 % 16 == q + 1
+
+-- the word of the next generation after this one, held by nobody and clean
+abbrev pub freed_after : ℕ → ℕ
+freed_after word = (generation_of word + 1) * 32
+
+-- the word of the next generation after this one, held by the process and clean
+abbrev pub held_after : ℕ → ℕ → ℕ
+held_after process word = (generation_of word + 1) * 32 + (process + 1) * 2
 
 -- what a mark's word says in a sheet with so many processes
 abbrev pub mark_of : ℕ → ℕ → Mark

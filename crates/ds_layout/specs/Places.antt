@@ -7,6 +7,7 @@ use Rattle.ds_layout.specs.declared.place.TheConstants.{RECORDS, TEXT_PARTS, DON
 use Rattle.ds_layout.specs.declared.place.Place.{Place}
 use Rattle.ds_layout.specs.declared.place.Place.TheVariants.{Version, Head, Mark, Value, Kind, Index, Announce, Header, Text, Done}
 use Rattle.ds_layout.specs.declared.layout.Layout.{Layout}
+use Rattle.ds_layout.specs.Bits.{parts_for}
 use Rattle.ds_layout.specs.declared.layout.Starts.{Starts}
 
 -- the class of the word at a place
@@ -28,7 +29,7 @@ cells_of layout = count_of layout.shape
 
 -- how many words the index row of a cell has, one bit a cell
 abbrev pub parts_of : Layout → ℕ
-parts_of layout = (cells_of layout + 63) / 64
+parts_of layout = parts_for (cells_of layout)
 
 -- the place is one of a sheet with so many cells, parts of a row, and processes
 abbrev pub IsPlaceOf : ℕ → ℕ → ℕ → Place → Type 0

@@ -1,7 +1,11 @@
 -- The words of a text.
-use Rattle.std.specs.Prelude.{ℕ, ◌+◌, ◌*◌, List, map, slice_index}
+use Rattle.std.specs.Prelude.{ℕ, ◌+◌, ◌*◌, ◌/◌, List, map, slice_index}
 use Rattle.std.specs.List.{range_with_len}
 use Rattle.std.specs.Int.{w64, to_le_bytes, from_le_bytes}
+
+-- how many words a text of so many bytes takes, eight bytes in each
+abbrev pub parts_for : ℕ → ℕ
+parts_for bytes = (bytes + 7) / 8
 
 -- eight bytes of the text, 0 past its end
 abbrev pub part_of : List ℕ → ℕ → List ℕ

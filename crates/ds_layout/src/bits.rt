@@ -1,11 +1,11 @@
 //! One bit for each of many numbers, 64 in a word.
 
-ghost use Rattle.std.specs.Prelude.{◌≡◌, ◌≢◌, ℕ, ◌/◌, ◌↔◌, IsTrue, bit_or};
-ghost use Rattle.ds_layout.specs.Bits.{HasBit, bit_of};
+ghost use Rattle.std.specs.Prelude.{◌≡◌, ◌≢◌, ℕ, ◌↔◌, IsTrue, bit_or};
+ghost use Rattle.ds_layout.specs.Bits.{HasBit, bit_of, part_with};
 
 /// The part, a word, in which the bit of a number stands.
 pub fn part(number: usize) -> usize
-    ensures { result ≡ number / 64 }
+    ensures { result ≡ part_with number }
 {
     number / 64
 }
@@ -15,7 +15,7 @@ pub fn bit(number: usize) -> u64
     ensures value { result ≡ bit_of number }
     ensures sets { (word : ℕ) → HasBit (bit_or word result) number }
     ensures keeps { (word other : ℕ) → HasBit word other → HasBit (bit_or word result) other }
-    ensures alone { (word other : ℕ) → other / 64 ≡ number / 64 → other ≢ number
+    ensures alone { (word other : ℕ) → part_with other ≡ part_with number → other ≢ number
         → HasBit (bit_or word result) other → HasBit word other }
 {
     1u64 << (number % 64)

@@ -1,7 +1,11 @@
 //! The head of a cell: its last counted edit.
 
 ghost use Rattle.std.specs.Prelude.{◌≡◌, ℕ, ◌<◌, IfSome};
-ghost use Rattle.ds_layout.specs.Head.{CanPack, IsHead, parts_of, head_word, head_of, names_edit};
+ghost use Rattle.ds_layout.specs.Head.{CanPack, IsHead, parts_of, next_head, head_word, head_of, names_edit};
+
+/// The greatest stamp of a head. The heads of a sheet stay far below it: each process edits at most
+/// 256 times.
+pub const LAST_STAMP: u64 = (1 << 48) - 1;
 
 /// An edit of a cell, by its process and its number there. The stamp counts the edits of the cell,
 /// from 1.
@@ -39,6 +43,18 @@ impl Head {
             stamp: word / 65536,
             process: (word / 256 % 256) as usize,
             number: (word % 256) as usize,
+        }
+    }
+
+    /// The head of an edit of a process, below 256, by its number there, below 256, which follows the
+    /// head in a word: its stamp is one greater, up to the greatest that there is.
+    pub fn next(word: u64, process: usize, number: usize) -> Head
+        ensures { result ≡ next_head word process number }
+    {
+        Head {
+            stamp: (word / 65536 + 1).min(LAST_STAMP),
+            process,
+            number,
         }
     }
 

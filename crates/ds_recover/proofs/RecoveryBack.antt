@@ -12,7 +12,8 @@ use Rattle.ds_layout.proofs.PlaceCases.{place_cases}
 use Rattle.ds_state.specs.Works.{PlainRecovery}
 use Rattle.ds_state.specs.RecoverStages.{IsStage}
 use Rattle.ds_state.specs.World.{World}
-use Rattle.ds_state.specs.Owing.{entry, IsClean, IsHeldBy, IsHeld, IsPending, CellOwes}
+use Rattle.ds_state.specs.Owing.{entry, IsHeld, IsPending, CellOwes}
+use Rattle.ds_layout.specs.Mark.{IsClean, IsHeldBy}
 use Rattle.ds_state.specs.KnownRecovery.{FreedFits, freed_at, ResolvedFits, resolved_at, RecoveryHolds, recovery_held}
 use Rattle.ds_state.specs.Calls.{CallFits, RecoveryFits}
 use Rattle.ds_state.specs.Words.{WordFits}

@@ -18,7 +18,8 @@ use Rattle.ds_state.specs.Works.{PlainRecovery}
 use Rattle.ds_state.specs.World.{Edit, Issue, World, of_cell, head_after_all, announcement, last_announcement, phase_among}
 use Rattle.ds_state.specs.Known.{Standing, outside, inside, safe, Announced, last, pending, ended, word_of, phase_of, AreBelow, StandsAs}
 use Rattle.ds_state.specs.declared.stage.Outcome.TheVariants as outcome
-use Rattle.ds_state.specs.Owing.{entry, IsHeldBy, HoldsNone, Owes, Parts, IsPending, Excuses, Splits}
+use Rattle.ds_state.specs.Owing.{entry, HoldsNone, Owes, Parts, IsPending, Excuses, Splits}
+use Rattle.ds_layout.specs.Mark.{IsHeldBy}
 use Rattle.ds_state.specs.Calls.{CallFits, MaySay, IsThrough, DoubtFits, IdleFits, StoppedFits, RecoveryFits}
 use Rattle.ds_state.specs.KnownRecovery.{Tells, ResolvedFits, over}
 use Rattle.ds_state.specs.Rely.{Grows, Keeps}

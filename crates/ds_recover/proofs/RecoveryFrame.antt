@@ -10,7 +10,8 @@ use Rattle.ds_layout.specs.declared.place.Place.TheVariants.{Version, Head, Mark
 use Rattle.ds_state.specs.Works.{PlainRecovery}
 use Rattle.ds_state.specs.RecoverStages.{IsStage}
 use Rattle.ds_state.specs.World.{Edit, Issue, World, of_cell, head_after_all}
-use Rattle.ds_state.specs.Owing.{entry, IsHeldBy, IsHeld, Owes, RecoveryOwes, Parts, RecoveryParts, CellOwes, IsPending, Excuses, RecoveryExcuses, IsExcused, Splits, RecoverySplits, IsIndexed}
+use Rattle.ds_state.specs.Owing.{entry, IsHeld, Owes, RecoveryOwes, Parts, RecoveryParts, CellOwes, IsPending, Excuses, RecoveryExcuses, IsExcused, Splits, RecoverySplits, IsIndexed}
+use Rattle.ds_layout.specs.Mark.{IsHeldBy}
 use Rattle.ds_state.specs.Standing.{Matters}
 use Rattle.ds_state.specs.KnownRecovery.{ValueAgrees, KindAgrees, FreedFits, freed_at, ResolvedFits, resolved_at, RecoveryHolds, recovery_held}
 use Rattle.ds_state.specs.Calls.{CallFits, DoubtFits, RecoveryFits}

@@ -10,7 +10,8 @@ use Rattle.ds_layout.specs.declared.place.Place.TheVariants.{Version, Mark, Valu
 use Rattle.ds_state.specs.Works.{PlainRecovery}
 use Rattle.ds_state.specs.RecoverStages.{HELD_YOUNG}
 use Rattle.ds_state.specs.World.{World}
-use Rattle.ds_state.specs.Owing.{entry, HoldsNone, IsHeldBy, StandsIn}
+use Rattle.ds_state.specs.Owing.{entry, HoldsNone, StandsIn}
+use Rattle.ds_layout.specs.Mark.{IsHeldBy}
 use Rattle.ds_state.specs.KnownWork.{HasMark}
 use Rattle.ds_state.specs.KnownRecovery.{HoldsFrom, Holding, marked, value_now, kind_now}
 use Rattle.ds_state.specs.Calls.{RecoveryFits}

@@ -6,7 +6,8 @@ use Rattle.ds_layout.specs.declared.place.Place.TheVariants.{Head, Mark, Value, 
 use Rattle.ds_state.specs.Works.{PlainRecovery}
 use Rattle.ds_state.specs.RecoverStages.{IsFreeing}
 use Rattle.ds_state.specs.World.{World}
-use Rattle.ds_state.specs.Owing.{HELD_MOST, IsMark, IsClean, IsHeldBy, IsHeld, RecoveryOwes, RecoveryParts, IsPending}
+use Rattle.ds_state.specs.Owing.{HELD_MOST, IsMark, IsHeld, RecoveryOwes, RecoveryParts, IsPending}
+use Rattle.ds_layout.specs.Mark.{IsClean, IsHeldBy}
 use Rattle.ds_state.specs.KnownRecovery.{Holding, HoldsFrom}
 use Rattle.ds_state.specs.Calls.{CallFits, RecoveryFits}
 use Rattle.ds_state.specs.Words.{WordFits}

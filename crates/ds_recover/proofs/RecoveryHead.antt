@@ -9,7 +9,8 @@ use Rattle.ds_layout.specs.declared.place.Place.TheVariants.{Version, Head, Mark
 use Rattle.ds_state.specs.Works.{PlainRecovery}
 use Rattle.ds_state.specs.World.{Edit, Issue, World, of_cell, head_after_all, IsHeadBy}
 use Rattle.ds_state.specs.Known.{IsIn}
-use Rattle.ds_state.specs.Owing.{entry, IsHeldBy, Owes, Parts, Excuses, IsExcused, Splits}
+use Rattle.ds_state.specs.Owing.{entry, Owes, Parts, Excuses, IsExcused, Splits}
+use Rattle.ds_layout.specs.Mark.{IsHeldBy}
 use Rattle.ds_state.specs.KnownRecovery.{HasHead, IsOpenAnd, SettledAs, ResolvedFits, settled}
 use Rattle.ds_state.specs.Calls.{CallFits, DoubtFits, RecoveryFits}
 use Rattle.ds_state.specs.Words.{WordFits}

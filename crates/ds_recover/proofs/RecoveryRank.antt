@@ -10,7 +10,8 @@ use Rattle.ds_layout.specs.declared.announcement.Phase.TheVariants as phase
 use Rattle.ds_layout.specs.Announcement.{announcement_of}
 use Rattle.ds_layout.specs.Head.{head_of}
 use Rattle.ds_state.specs.Works.{PlainRecovery}
-use Rattle.ds_state.specs.RecoverStages.{row_parts, IsStage, IsRecovery}
+use Rattle.ds_state.specs.RecoverStages.{IsStage, IsRecovery}
+use Rattle.ds_layout.specs.Bits.{parts_for}
 use Rattle.ds_state.specs.Telling.{told_from}
 use Rattle.ds_state.proofs.Telling.{ToldFits, first_told}
 use Rattle.ds_recover.specs.RecoverySteps.{rank, cells_rank, looks_from, told, tell_from, resolves_from, announced_from, is_shown, number_of, reads_held, next_at, Falls}
@@ -49,9 +50,9 @@ tells_by cells cell n d n' row (Some k) fits l = let a = fits.0 in omega arith
 tells_lower : (cells cell d n : ℕ) (row : List ℕ) → cells_rank cells (cell + 1) + (6 + 3 * (cells - d)) ≤ n → rank cells (tell_from row cells cell d) ≤ n
 tells_lower cells cell d n row l = tells_by cells cell (cells - d) d n row (told_from row (cells - d) d) (first_told row (cells - d) d) l
 
-row_by : (cells cell part : ℕ) (row : List ℕ) (b : Bool) → nat_lt (part + 1) (row_parts cells) ≡ b → part < row_parts cells
+row_by : (cells cell part : ℕ) (row : List ℕ) (b : Bool) → nat_lt (part + 1) (parts_for cells) ≡ b → part < parts_for cells
     → rank cells (if b then Telling cell (LoadRow (part + 1)) else tell_from row cells cell 0) < rank cells (Telling cell (LoadRow part))
-row_by cells cell part row true is l = let m = ltb-true (part + 1) (row_parts cells) is in omega arith
+row_by cells cell part row true is l = let m = ltb-true (part + 1) (parts_for cells) is in omega arith
 row_by cells cell part row false is l =
     let k = tells_lower cells cell 0 (cells_rank cells (cell + 1) + (6 + 3 * cells)) row (omega arith) in
     omega arith
@@ -82,7 +83,7 @@ falls e (FlushValue c) word most h = omega arith
 falls e (FlushKind c) word most h = omega arith
 falls e (BackValue c) word most h = omega arith
 falls e (BackKind c) word most h = omega arith
-falls e (Telling c (LoadRow part)) word most h = row_by e.cells c part (e.row ++ word ∷ []) (nat_lt (part + 1) (row_parts e.cells)) refl h.1.0
+falls e (Telling c (LoadRow part)) word most h = row_by e.cells c part (e.row ++ word ∷ []) (nat_lt (part + 1) (parts_for e.cells)) refl h.1.0
 falls e (Telling c (OrTold d)) word most h = omega arith
 falls e (Telling c (FlushTold d)) word most h = omega arith
 falls e (Telling c (BackTold d)) word most h =

@@ -9,7 +9,7 @@ use Rattle.ds_layout.specs.declared.announcement.Phase.TheVariants as phase
 use Rattle.ds_layout.specs.Announcement.{announcement_of}
 use Rattle.ds_layout.specs.Head.{head_of}
 use Rattle.ds_state.specs.Works.{PlainRecovery}
-use Rattle.ds_state.specs.RecoverStages.{row_parts}
+use Rattle.ds_layout.specs.Bits.{parts_for}
 use Rattle.ds_state.specs.World.{World, announcement, last_announcement, phase_among}
 use Rattle.ds_state.specs.Known.{AreBelow}
 use Rattle.ds_state.specs.Owing.{StandsIn}
@@ -92,7 +92,7 @@ found e (FlushValue c) word h = λ cell k is. absurd (cc)
 found e (FlushKind c) word h = λ cell k is. absurd (cc)
 found e (BackValue c) word h = λ cell k is. absurd (cc)
 found e (BackKind c) word h = λ cell k is. absurd (cc)
-found e (Telling c (LoadRow part)) word h = λ cell k is. rows_found (e.row ++ word ∷ []) e.cells c (part + 1) (nat_lt (part + 1) (row_parts e.cells)) cell k is
+found e (Telling c (LoadRow part)) word h = λ cell k is. rows_found (e.row ++ word ∷ []) e.cells c (part + 1) (nat_lt (part + 1) (parts_for e.cells)) cell k is
 found e (Telling c (OrTold d)) word h = λ cell k is. absurd (cc)
 found e (Telling c (FlushTold d)) word h = λ cell k is. absurd (cc)
 found e (Telling c (BackTold d)) word h = λ cell k is. tells_found e.row (e.cells - (d + 1)) (d + 1) c (told_from e.row (e.cells - (d + 1)) (d + 1)) refl cell k is

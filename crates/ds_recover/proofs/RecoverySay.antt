@@ -12,7 +12,7 @@ use Rattle.ds_state.specs.World.{Edit, Issue, World, record_size, record_place, 
 use Rattle.ds_state.specs.Known.{Standing, outside, inside, safe, Announced, last, pending, ended, word_of, StandsAs, IsRecorded}
 use Rattle.ds_state.specs.declared.stage.Outcome.{Outcome}
 use Rattle.ds_state.specs.declared.stage.Outcome.TheVariants as outcome
-use Rattle.ds_state.specs.Owing.{IsHeldBy}
+use Rattle.ds_layout.specs.Mark.{IsHeldBy}
 use Rattle.ds_state.specs.Calls.{CallFits, MaySay, rank, IsWritten, IsInDoubt, DoubtFits, RecoveryFits}
 use Rattle.ds_state.specs.KnownRecovery.{phase_for, IsOpenAnd, SettledAs}
 use Rattle.ds_state.specs.Words.{WordFits, IsKept}

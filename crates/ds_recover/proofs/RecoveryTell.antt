@@ -8,7 +8,8 @@ use Rattle.ds_layout.specs.declared.mark.TheConstants.{DIRTY}
 use Rattle.ds_layout.specs.declared.place.Place.TheVariants.{Version, Mark, Value, Kind}
 use Rattle.ds_state.specs.Works.{PlainRecovery}
 use Rattle.ds_state.specs.World.{World}
-use Rattle.ds_state.specs.Owing.{entry, IsHeldBy, IsHeld, IsApart, CellOwes, IsIndexed, SpreadOwes, Owes}
+use Rattle.ds_state.specs.Owing.{entry, IsHeld, IsApart, CellOwes, IsIndexed, SpreadOwes, Owes}
+use Rattle.ds_layout.specs.Mark.{IsHeldBy}
 use Rattle.ds_state.specs.Standing.{Matters}
 use Rattle.ds_state.specs.KnownWork.{HasMark}
 use Rattle.ds_state.specs.KnownRecovery.{Holding, ValueAgrees, KindAgrees, value_now, kind_now}

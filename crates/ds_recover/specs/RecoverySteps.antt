@@ -16,6 +16,8 @@ use Rattle.ds_layout.specs.Announcement.{announcement_of}
 use Rattle.ds_layout.specs.Head.{head_of}
 use Rattle.ds_layout.specs.Header.{header_of}
 use Rattle.ds_layout.specs.Sheet.{PerformsAt}
+use Rattle.ds_layout.specs.Bits.{parts_for, bit_in}
+use Rattle.ds_layout.specs.Mark.{is_held_by, generation_of}
 use Rattle.ds_state.specs.Works.{PlainRecovery}
 use Rattle.ds_state.specs.RecoverStages.{HELD_YOUNG}
 use Rattle.ds_state.specs.World.{Edit, Issue, World, announcement, done_place, phase_among}
@@ -36,7 +38,7 @@ use Rattle.ds_state.specs.declared.work.RecoverStage.TheVariants.{LoadMark, Flus
 
 -- how many parts an index row of the recovery's sheet has
 abbrev pub parts_of : PlainRecovery → ℕ
-parts_of e = (e.cells + 63) / 64
+parts_of e = parts_for e.cells
 
 -- the number of the edit that the recovery saw announced
 abbrev pub number_of : PlainRecovery → ℕ
@@ -85,7 +87,7 @@ looks_from cells cell = if nat_lt cell cells then LoadMark cell else LoadAnnounc
 
 -- whether a mark says that the process holds the cell; no mark that is held has a greater generation
 abbrev pub reads_held : ℕ → ℕ → Bool
-reads_held process word = if word / 2 % 16 == process + 1 then nat_lt (word / 32) (HELD_YOUNG + 1) else false
+reads_held process word = if is_held_by process word then nat_lt (generation_of word) (HELD_YOUNG + 1) else false
 
 -- the recovery after it has loaded a cell's mark: it gives the cell back if the process holds it, else looks at the
 -- next
@@ -106,7 +108,7 @@ tell_from row cells cell d = told cell (told_from row (cells - d) d)
 
 -- the stage that loads this part of the index row; behind the last part, the one that tells the first cell
 abbrev pub row_from : List ℕ → ℕ → ℕ → ℕ → RecoverStage
-row_from row cells cell part = if nat_lt part ((cells + 63) / 64) then Telling cell (LoadRow part) else tell_from row cells cell 0
+row_from row cells cell part = if nat_lt part (parts_for cells) then Telling cell (LoadRow part) else tell_from row cells cell 0
 
 -- the recovery after a stage of telling whose access answered the word
 abbrev pub spread_next : PlainRecovery → ℕ → Spread → ℕ → PlainRecovery
@@ -158,7 +160,7 @@ next_at e LoadHeader word = record e { cell = cell_from (header_of e.cells word)
 next_at e LoadHead word = if is_shown e.process (number_of e) (head_of e.processes word) then at e FlushHead else at e LoadDone
 next_at e FlushHead word = at e BackHead
 next_at e BackHead word = at e (OrMark true)
-next_at e LoadDone word = if bit_at word (number_of e % 64) == 1 then at e (OrMark true) else at e (OrMark false)
+next_at e LoadDone word = if bit_in word (number_of e) == 1 then at e (OrMark true) else at e (OrMark false)
 next_at e (OrMark how) word = at e (FlushMark how)
 next_at e (FlushMark how) word = at e (BackMark how)
 next_at e (BackMark how) word = at e (StoreOutcome how)
@@ -234,7 +236,7 @@ effect_at e _ = GoesOn
 
 -- how many steps are left at most from a stage of telling on, up to the next cell
 abbrev pub spread_rank : ℕ → Spread → ℕ
-spread_rank cells (LoadRow part) = 6 + 3 * cells + ((cells + 63) / 64 - part)
+spread_rank cells (LoadRow part) = 6 + 3 * cells + (parts_for cells - part)
 spread_rank cells (OrTold d) = 6 + 3 * (cells - d)
 spread_rank cells (FlushTold d) = 5 + 3 * (cells - d)
 spread_rank cells (BackTold d) = 4 + 3 * (cells - d)

@@ -2,9 +2,11 @@
 
 ghost use Rattle.std.specs.Prelude.{◌≡◌, ◌<◌, ◌≤◌, ◌+◌, ◌-◌, ◌/◌, ℕ, length};
 ghost use Rattle.ds_layout.specs.Head.{head_of};
+ghost use Rattle.ds_layout.specs.Bits.{parts_for};
+ghost use Rattle.ds_layout.specs.Mark.{generation_of};
 ghost use Rattle.ds_state.specs.World.{announcement};
 ghost use Rattle.ds_state.specs.Telling.{let_go, told_from};
-ghost use Rattle.ds_state.specs.RecoverStages.{IsStage, IsAnnounced, IsResolving, HELD_YOUNG, row_parts};
+ghost use Rattle.ds_state.specs.RecoverStages.{IsStage, IsAnnounced, IsResolving, HELD_YOUNG};
 ghost use Rattle.ds_state.specs.KnownRecovery.{phase_for, marked};
 ghost use Rattle.ds_state.specs.declared.work.Spread.TheVariants.{LoadRow, BackTold};
 ghost use Rattle.ds_state.specs.declared.work.RecoverStage.TheVariants.{LoadMark, Telling, Give, BackGiven, LoadAnnounce, LoadHeader, LoadHead, LoadDone, StoreOutcome};
@@ -77,7 +79,7 @@ fn outcome(call: &RecoverCall, counts: bool) -> u64
 
 // The mark that gives a held cell back, dirty: of the next generation, held by nobody.
 fn given(mark: u64, processes: usize) -> u64
-    requires { mark / 32 ≤ HELD_YOUNG }
+    requires { generation_of mark ≤ HELD_YOUNG }
     ensures { result ≡ let_go mark + 1 }
 {
     let held = Mark::read(mark, processes);
@@ -181,7 +183,7 @@ fn looks_from(cells: usize, cell: usize) -> RecoverStage
 
 // The first cell from this one on whose bit stands in the row.
 fn told_from(row: &[u64], cells: usize, from: usize) -> Option<usize>
-    requires { length row.now ≡ row_parts cells }
+    requires { length row.now ≡ parts_for cells }
     ensures { result ≡ told_from row.now (cells - from) from }
 {
     for cell in from..cells {
@@ -193,7 +195,7 @@ fn told_from(row: &[u64], cells: usize, from: usize) -> Option<usize>
 }
 
 fn tell_from(row: &[u64], cells: usize, cell: usize, from: usize) -> RecoverStage
-    requires { length row.now ≡ row_parts cells }
+    requires { length row.now ≡ parts_for cells }
     ensures { result ≡ tell_from row.now cells cell from }
 {
     match told_from(row, cells, from) {
@@ -203,7 +205,7 @@ fn tell_from(row: &[u64], cells: usize, cell: usize, from: usize) -> RecoverStag
 }
 
 fn row_from(row: &[u64], cells: usize, cell: usize, part: usize) -> RecoverStage
-    requires { row_parts cells ≤ part → length row.now ≡ row_parts cells }
+    requires { parts_for cells ≤ part → length row.now ≡ parts_for cells }
     ensures { result ≡ row_from row.now cells cell part }
 {
     if part < cells.div_ceil(64) {

@@ -15,7 +15,8 @@ use Rattle.ds_state.specs.Calls.{CallFits}
 use Rattle.ds_state.specs.Words.{WordFits}
 use Rattle.ds_state.specs.Sound.{IsSound}
 use Rattle.ds_state.specs.Events.{Evicts}
-use Rattle.ds_state.specs.Owing.{IsHeldBy, IsPending, IsExcused, Splits}
+use Rattle.ds_state.specs.Owing.{IsPending, IsExcused, Splits}
+use Rattle.ds_layout.specs.Mark.{IsHeldBy}
 use Rattle.ds_state.specs.declared.situation.Situation.{Situation}
 use Rattle.ds_state.specs.Standing.{AllStand}
 use Rattle.ds_state.specs.Rely.{IsOwnedBy, KeepsHold, Grows, Bears, Keeps, Rely}

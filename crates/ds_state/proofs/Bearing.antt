@@ -13,7 +13,8 @@ use Rattle.ds_layout.specs.declared.place.Place.TheVariants.{Head, Mark, Value, 
 use Rattle.ds_layout.specs.declared.layout.Layout.{Layout}
 use Rattle.ds_layout.proofs.PlaceCases.{place_cases}
 use Rattle.ds_state.specs.World.{Edit, World, of_cell, IsHeadBy}
-use Rattle.ds_state.specs.Owing.{entry, IsClean, IsEven, IsHeldBy, IsHeld, IsBelowBuffered, SpreadOwes, WorkOwes, RecoveryOwes, Owes, WorkParts, RecoveryParts, Parts, CellOwes, IsApart, IsPending, EditOwes, RecoveryExcuses, Excuses, IsExcused, SplitsAt, RecoverySplits, Splits, IsIndexed}
+use Rattle.ds_state.specs.Owing.{entry, IsHeld, IsBelowBuffered, SpreadOwes, WorkOwes, RecoveryOwes, Owes, WorkParts, RecoveryParts, Parts, CellOwes, IsApart, IsPending, EditOwes, RecoveryExcuses, Excuses, IsExcused, SplitsAt, RecoverySplits, Splits, IsIndexed}
+use Rattle.ds_layout.specs.Mark.{IsClean, IsEven, IsHeldBy}
 use Rattle.ds_state.specs.Standing.{Side, cached_side, persisted_side, HasContent, Stands, IsBuffered, IsDurable, Matters, AllStand}
 use Rattle.ds_state.specs.Words.{IsOnItsWay}
 use Rattle.ds_state.specs.Rely.{Bears}

@@ -2,9 +2,9 @@
 use Rattle.std.proofs.Common.{ℕ, ◌≡◌, ◌<◌, ◌+◌, ◌-◌, ◌/◌, ◌%◌, ◌==◌, refl, ap, sym, ◌∙◌, arith, Some, None, zero, suc, true, false}
 use Rattle.std.specs.Prelude.{Bool, Option}
 use Rattle.std.proofs.lemmas.Bool.{eqb-false, false≢true, ne_eqb, lt-ltb}
-use Rattle.ds_layout.specs.Mark.{state_by, holder_of, present}
+use Rattle.ds_layout.specs.Mark.{state_by, holder_of, present, IsClean}
 use Rattle.ds_state.specs.World.{World}
-use Rattle.ds_state.specs.Owing.{IsClean, IsMark}
+use Rattle.ds_state.specs.Owing.{IsMark}
 use Rattle.ds_state.specs.KnownShow.{is_clean, reads_clean}
 
 none_clean : (dirty : Bool) → is_clean (state_by None dirty) ≡ true → dirty ≡ false

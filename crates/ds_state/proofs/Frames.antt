@@ -10,7 +10,8 @@ use Rattle.ds_layout.proofs.OrBits.{IsSubset-same}
 use Rattle.ds_layout.proofs.PlaceCases.{place_cases}
 use Rattle.ds_state.specs.World.{Edit, Issue, World, of_cell, head_after_all}
 use Rattle.ds_words.specs.Memory.{Memory}
-use Rattle.ds_state.specs.Owing.{IsClean, IsHeldBy, IsApart, Splits}
+use Rattle.ds_state.specs.Owing.{IsApart, Splits}
+use Rattle.ds_layout.specs.Mark.{IsClean, IsHeldBy}
 use Rattle.ds_state.specs.Standing.{AllStand}
 use Rattle.ds_state.specs.Calls.{CallFits}
 use Rattle.ds_state.specs.Words.{IsKept, WordFits}

@@ -3,7 +3,7 @@ use Rattle.std.proofs.Common.{ℕ, ◌≡◌, ◌<◌, List, ◌++◌, refl, ap,
 use Rattle.ds_layout.specs.declared.place.Place.TheVariants.{Version, Mark, Announce}
 use Rattle.ds_state.specs.Works.{PlainShow}
 use Rattle.ds_state.specs.World.{Edit, World}
-use Rattle.ds_state.specs.Owing.{IsClean}
+use Rattle.ds_layout.specs.Mark.{IsClean}
 use Rattle.ds_state.specs.KnownWork.{IsAtRest}
 use Rattle.ds_state.specs.KnownShow.{noted, Moment, HasMoment, HasNoted, Seen, first, middle, off_mark, off_announce, seen_at, SeenFits, ShowFitsAt, ShowFits}
 use Rattle.ds_state.specs.Rely.{Grows, Rely}

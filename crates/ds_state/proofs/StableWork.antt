@@ -9,7 +9,8 @@ use Rattle.ds_layout.specs.declared.layout.Layout.{Layout}
 use Rattle.ds_layout.proofs.OrBits.{HasBit-subset}
 use Rattle.ds_state.specs.Works.{PlainWork}
 use Rattle.ds_state.specs.World.{World, index_place}
-use Rattle.ds_state.specs.Owing.{HoldsNone, IsHeldBy, CellOwes, IsIndexed}
+use Rattle.ds_state.specs.Owing.{HoldsNone, CellOwes, IsIndexed}
+use Rattle.ds_layout.specs.Mark.{IsHeldBy}
 use Rattle.ds_state.specs.Standing.{HasContent, Matters}
 use Rattle.ds_state.specs.KnownWork.{Hold, free, seen, claimed, held, outrun, Loaded, nothing, the_head, some_text, whole_text, the_content, some_inputs, one_value, Own, unseen, value_seen, both_seen, value_stored, both_stored, value_back, settled, WorkKnown, work_known, HasClaimed, HasHeld, HoldFits, HeadStands, IsHeadOf, input_row, InputStands, ValueStands, HasInputs, LoadedFits, OwnFits, EntryIs, WorkKnows, WorkHeld, empty, claim, a_mark, the_value, both_words, the_kind, work_held, WorkHolds, IsAtRest, WorkFits}
 use Rattle.ds_state.specs.declared.work.WorkStage.{WorkStage}

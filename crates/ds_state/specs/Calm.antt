@@ -5,7 +5,7 @@ use Rattle.ds_formula.specs.Plain.{Plain}
 use Rattle.ds_eval.specs.Local.{local}
 use Rattle.ds_layout.specs.declared.place.Place.TheVariants.{Head, Mark}
 use Rattle.ds_state.specs.World.{World}
-use Rattle.ds_state.specs.Owing.{IsClean}
+use Rattle.ds_layout.specs.Mark.{IsClean}
 use Rattle.ds_state.specs.Standing.{cached_side, entry_on, HasContent}
 
 -- every mark is clean, and every edit is answered

@@ -2,6 +2,7 @@
 use Rattle.std.specs.Prelude.{ℕ, ◌+◌, ◌/◌, ◌<◌, ◌≤◌, List, length, All}
 use Rattle.ds_layout.specs.declared.place.TheConstants.{RECORDS}
 use Rattle.ds_layout.specs.Head.{IsHead}
+use Rattle.ds_layout.specs.Text.{parts_for}
 use Rattle.ds_state.specs.Text.{IsText}
 use Rattle.ds_state.specs.declared.stage.Stage.{Stage}
 use Rattle.ds_state.specs.declared.stage.Stage.TheVariants.{StoreText, FlushText, BackRecord, OrIndex, FlushIndex, BackIndex, FlushNoted, BackNoted, OrDone, FlushDone, BackDone}
@@ -20,7 +21,7 @@ pub record PlainEdit : Type 0 where
 
 -- how many words a text needs
 abbrev pub text_parts : List ℕ → ℕ
-text_parts text = (length text + 7) / 8
+text_parts text = parts_for (length text)
 
 -- the numbers in a stage are those of parts, references and heads of the sheet
 abbrev pub IsStageOf : ℕ → ℕ → ℕ → Stage → Type 0

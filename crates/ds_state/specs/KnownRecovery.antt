@@ -11,7 +11,8 @@ use Rattle.ds_state.specs.World.{of_cell, IsHeadBy}
 use Rattle.ds_state.specs.declared.work.Spread.{Spread}
 use Rattle.ds_state.specs.declared.work.Spread.TheVariants.{BackTold}
 use Rattle.ds_state.specs.Known.{AreBelow, IsIn, IsSafelyIn}
-use Rattle.ds_state.specs.Owing.{entry, IsHeldBy, HoldsNone, tenure}
+use Rattle.ds_state.specs.Owing.{entry, HoldsNone}
+use Rattle.ds_layout.specs.Mark.{IsHeldBy, tenure}
 use Rattle.ds_state.specs.KnownWork.{HasMark}
 use Rattle.ds_state.specs.declared.work.RecoverStage.{RecoverStage}
 use Rattle.ds_state.specs.declared.work.RecoverStage.TheVariants.{LoadMark, FlushValue, FlushKind, BackValue, BackKind, Telling, Give, GiveDirty, FlushGiven, BackGiven, LoadHeader, LoadHead, FlushHead, BackHead, LoadDone, OrMark, FlushMark, BackMark, StoreOutcome, FlushOutcome, BackOutcome, Answer}

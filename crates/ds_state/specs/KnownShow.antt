@@ -16,13 +16,12 @@ use Rattle.ds_layout.specs.declared.layout.Layout.{Layout}
 use Rattle.ds_layout.specs.declared.mark.State.{State}
 use Rattle.ds_layout.specs.declared.mark.State.TheVariants.{Clean, Marked, Held}
 use Rattle.ds_layout.specs.Announcement.{announcement_of}
-use Rattle.ds_layout.specs.Mark.{mark_of, state_of}
+use Rattle.ds_layout.specs.Mark.{mark_of, state_of, IsClean, IsHeldBy}
 use Rattle.ds_layout.specs.Places.{cells_of}
 use Rattle.ds_state.specs.Works.{PlainShow}
 use Rattle.ds_state.specs.ShowStages.{IsShow}
 use Rattle.ds_state.specs.World.{Edit, World, of_cell}
 use Rattle.ds_state.specs.Shown.{last_text}
-use Rattle.ds_state.specs.Owing.{IsClean, IsHeldBy}
 use Rattle.ds_state.specs.Standing.{shown_entry}
 use Rattle.ds_state.specs.KnownWork.{IsAtRest}
 use Rattle.ds_state.specs.declared.work.ShowEnd.TheVariants.{Settled, AtMark, AtAnnounce}

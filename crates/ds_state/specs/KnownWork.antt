@@ -15,7 +15,8 @@ use Rattle.ds_layout.specs.Places.{cells_of}
 use Rattle.ds_state.specs.Works.{PlainWork, StageFits}
 use Rattle.ds_state.specs.World.{Edit, World, of_cell, IsHeadBy, last_announcement}
 use Rattle.ds_state.specs.Known.{AreBelow}
-use Rattle.ds_state.specs.Owing.{entry, tenure, IsEven, IsHeldBy, CellOwes, IsExcused, IsIndexed, IsMark, HoldsNone}
+use Rattle.ds_state.specs.Owing.{entry, CellOwes, IsExcused, IsIndexed, IsMark, HoldsNone}
+use Rattle.ds_layout.specs.Mark.{tenure, IsEven, IsHeldBy, generation_of}
 use Rattle.ds_state.specs.Standing.{HasContent, cached_side, entry_on, value_for, word_for}
 use Rattle.ds_state.specs.declared.work.WorkStage.{WorkStage}
 use Rattle.ds_state.specs.declared.work.WorkStage.TheVariants.{LoadMark, Claim, FlushClaim, BackClaim, LoadHead, LoadHeader, LoadText, Read, LoadValue, LoadKind, LoadOwnValue, LoadOwnKind, Wait, StoreValue, StoreKind, FlushValue, FlushKind, BackValue, BackKind, Telling, Clear, ClearDirty, Give, GiveDirty, FlushCleared, BackCleared, Answer}
@@ -123,7 +124,7 @@ HasHeld w e = ClaimsBoth w e.process e.cell e.mark
 -- the work holds its cell as `Hold` says
 abbrev pub HoldFits : World → PlainWork → Hold → Type 0
 HoldFits w e free = HoldsNone w e.process
-HoldFits w e seen = HoldsNone w e.process × (e.mark ≤ w.memory.cached (place.Mark e.cell)) × ((q : ℕ) → IsHeldBy q e.mark → ⊥) × (e.mark / 32 ≤ 2 ^ 58)
+HoldFits w e seen = HoldsNone w e.process × (e.mark ≤ w.memory.cached (place.Mark e.cell)) × ((q : ℕ) → IsHeldBy q e.mark → ⊥) × (generation_of e.mark ≤ 2 ^ 58)
 HoldFits w e claimed = HasClaimed w e
 HoldFits w e held = HasHeld w e
 HoldFits w e outrun = HasHeld w e × (w.memory.cached (place.Mark e.cell) ≡ e.mark + 1)

@@ -7,7 +7,8 @@ use Rattle.ds_layout.specs.declared.place.Place.TheVariants as place
 use Rattle.ds_layout.specs.declared.layout.Layout.{Layout}
 use Rattle.ds_layout.specs.declared.announcement.Phase.TheVariants as phase
 use Rattle.ds_layout.specs.Places.{class_of, cells_of}
-use Rattle.ds_layout.specs.Bits.{HasBit}
+use Rattle.ds_layout.specs.Bits.{HasBit, part_with}
+use Rattle.ds_layout.specs.Mark.{tenure, IsHeldBy, generation_of}
 use Rattle.ds_state.specs.World.{Issue, World, announcement, index_place}
 use Rattle.ds_state.specs.declared.stage.Stage.{Stage}
 use Rattle.ds_state.specs.declared.stage.Stage.TheVariants as edits
@@ -20,23 +21,6 @@ use Rattle.ds_state.specs.declared.work.RecoverStage.TheVariants as recoveries
 use Rattle.ds_state.specs.declared.situation.Situation.{Situation}
 use Rattle.ds_state.specs.declared.situation.Situation.TheVariants.{Idle, Stopped, Editing, Working, Recovering, Showing}
 
--- A mark is generation * 32 + holder * 2 + dirty, where holder 0 is nobody and q + 1 is process q. Its tenure is its
--- generation with its holder.
-abbrev pub tenure : ℕ → ℕ
-tenure mark = mark / 2
-
--- a clean mark: no holder, not dirty
-abbrev pub IsClean : ℕ → Type 0
-IsClean mark = mark % 32 ≡ 0
-
--- a mark that is not dirty: clean, or held and not marked since
-abbrev pub IsEven : ℕ → Type 0
-IsEven mark = mark % 2 ≡ 0
-
--- the mark's holder is this process
-abbrev pub IsHeldBy : ℕ → ℕ → Type 0
-IsHeldBy q mark = mark / 2 % 16 ≡ q + 1
-
 -- a buffer's entry of the word at a place, with its class
 abbrev pub entry : Place → ℕ → Entry Place
 entry r value = record { place = r; class = class_of r; value = value }
@@ -48,7 +32,7 @@ pub record IsHeld (m : Memory Place) (q r : ℕ) : Type 0 where
 
 -- the cell's bit stands in the parts of a row that were loaded
 abbrev pub StandsIn : List ℕ → ℕ → Type 0
-StandsIn row c = HasBit (slice_index_or row (c / 64) 0) c
+StandsIn row c = HasBit (slice_index_or row (part_with c) 0) c
 
 -- the process's buffer holds one entry alone, a mark of the cell that is greater than x
 pub record IsBelowBuffered (m : Memory Place) (p c x : ℕ) : Type 0 where
@@ -58,7 +42,7 @@ pub record IsBelowBuffered (m : Memory Place) (p c x : ℕ) : Type 0 where
 
 -- a process that tells, at this place of the row, still owes c a mark above x
 abbrev pub SpreadOwes : Memory Place → ℕ → List ℕ → Spread → ℕ → ℕ → Type 0
-SpreadOwes m p row (LoadRow part) c x = (part ≤ c / 64) ⊎ StandsIn row c
+SpreadOwes m p row (LoadRow part) c x = (part ≤ part_with c) ⊎ StandsIn row c
 SpreadOwes m p row (OrTold d) c x = StandsIn row c × (d ≤ c)
 SpreadOwes m p row (FlushTold d) c x = StandsIn row c × ((d < c) ⊎ ((d ≡ c) × (x < m.cached (place.Mark c))))
 SpreadOwes m p row (BackTold d) c x = StandsIn row c × ((d < c) ⊎ ((d ≡ c) × IsBelowBuffered m p c x))
@@ -223,7 +207,7 @@ MOST = 2 ^ 58 + 2
 
 -- a holder of the mark is a process of the sheet, the cell is one of the sheet, and one more generation fits
 abbrev pub IsMark : Layout → ℕ → ℕ → Type 0
-IsMark layout cell mark = (q : ℕ) → IsHeldBy q mark → (q < layout.processes) × (cell < cells_of layout) × (mark / 32 ≤ HELD_MOST)
+IsMark layout cell mark = (q : ℕ) → IsHeldBy q mark → (q < layout.processes) × (cell < cells_of layout) × (generation_of mark ≤ HELD_MOST)
 
 -- the process holds no cell
 abbrev pub HoldsNone : World → ℕ → Type 0

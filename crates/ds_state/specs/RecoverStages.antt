@@ -3,15 +3,13 @@ use Rattle.std.specs.Prelude.{ℕ, ◌≡◌, ◌<◌, ◌≤◌, ◌+◌, ◌/�
 use Rattle.ds_layout.specs.declared.place.TheConstants.{RECORDS}
 use Rattle.ds_layout.specs.declared.announcement.Announcement.{Announcement}
 use Rattle.ds_layout.specs.Announcement.{announcement_of}
+use Rattle.ds_layout.specs.Bits.{parts_for}
+use Rattle.ds_layout.specs.Mark.{generation_of}
 use Rattle.ds_state.specs.Works.{PlainRecovery, SEEN_MOST}
 use Rattle.ds_state.specs.declared.work.Spread.{Spread}
 use Rattle.ds_state.specs.declared.work.Spread.TheVariants.{LoadRow, OrTold, FlushTold, BackTold}
 use Rattle.ds_state.specs.declared.work.RecoverStage.{RecoverStage}
 use Rattle.ds_state.specs.declared.work.RecoverStage.TheVariants.{LoadMark, FlushValue, FlushKind, BackValue, BackKind, Telling, Give, GiveDirty, FlushGiven, BackGiven, LoadAnnounce, LoadHeader, LoadHead, FlushHead, BackHead, LoadDone, OrMark, FlushMark, BackMark, StoreOutcome, FlushOutcome, BackOutcome, Answer}
-
--- how many words an index row has, in a sheet with so many cells
-abbrev pub row_parts : ℕ → ℕ
-row_parts cells = (cells + 63) / 64
 
 -- the greatest generation of a mark that a process holds
 abbrev pub HELD_YOUNG : ℕ
@@ -19,14 +17,14 @@ HELD_YOUNG = SEEN_MOST + 1
 
 -- a cell of the sheet that a recovery gives back, by a mark whose generation has a next one
 abbrev pub IsFreeing : ℕ → ℕ → ℕ → Type 0
-IsFreeing cells mark cell = (cell < cells) × (mark / 32 ≤ HELD_YOUNG)
+IsFreeing cells mark cell = (cell < cells) × (generation_of mark ≤ HELD_YOUNG)
 
 -- the row is loaded part by part; then all of it is there, and cells of the sheet are told
 abbrev pub IsSpread : ℕ → List ℕ → Spread → Type 0
-IsSpread cells row (LoadRow part) = (part < row_parts cells) × (length row ≡ part)
-IsSpread cells row (OrTold d) = (d < cells) × (length row ≡ row_parts cells)
-IsSpread cells row (FlushTold d) = (d < cells) × (length row ≡ row_parts cells)
-IsSpread cells row (BackTold d) = (d < cells) × (length row ≡ row_parts cells)
+IsSpread cells row (LoadRow part) = (part < parts_for cells) × (length row ≡ part)
+IsSpread cells row (OrTold d) = (d < cells) × (length row ≡ parts_for cells)
+IsSpread cells row (FlushTold d) = (d < cells) × (length row ≡ parts_for cells)
+IsSpread cells row (BackTold d) = (d < cells) × (length row ≡ parts_for cells)
 
 -- the word is an announcement, of a number that has a record
 pub record IsAnnounced (word : ℕ) : Type 0 where

@@ -5,7 +5,8 @@ use Rattle.ds_layout.specs.declared.place.Place.{Place}
 use Rattle.ds_layout.specs.declared.place.Place.TheVariants.{Head, Mark, Value, Kind, Index, Announce, Header, Text, Done}
 use Rattle.ds_layout.specs.Bits.{IsSubset}
 use Rattle.ds_state.specs.World.{Edit, World}
-use Rattle.ds_state.specs.Owing.{tenure, IsClean, IsHeldBy, IsIndexed, CellOwes, IsExcused}
+use Rattle.ds_state.specs.Owing.{IsIndexed, CellOwes, IsExcused}
+use Rattle.ds_layout.specs.Mark.{tenure, IsClean, IsHeldBy}
 use Rattle.ds_state.specs.Standing.{Matters}
 use Rattle.ds_state.specs.Sound.{IsSound}
 

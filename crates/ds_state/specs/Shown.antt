@@ -21,7 +21,7 @@ use Rattle.ds_layout.specs.declared.head.Head.{Head}
 use Rattle.ds_layout.specs.declared.header.Header.{Header}
 use Rattle.ds_layout.specs.Head.{head_of}
 use Rattle.ds_layout.specs.Header.{header_word, header_of}
-use Rattle.ds_layout.specs.Text.{part_word, bytes_of}
+use Rattle.ds_layout.specs.Text.{part_word, bytes_of, parts_for}
 use Rattle.ds_state.specs.Edits.{text_parts}
 use Rattle.ds_state.specs.Stages.{point_at}
 use Rattle.ds_state.specs.Text.{IsText}
@@ -95,7 +95,7 @@ parts_at memory process number count (suc part) =
 -- the text that a record's header gives it; a word that is no header of the sheet gives none
 abbrev pub headed_at : Memory Place → ℕ → ℕ → Option Header → List ℕ
 headed_at memory process number None = []
-headed_at memory process number (Some header) = parts_at memory process number header.length ((header.length + 7) / 8)
+headed_at memory process number (Some header) = parts_at memory process number header.length (parts_for header.length)
 
 -- the text of the record with this process and number, as processes see it
 abbrev pub record_at : Layout → Memory Place → ℕ → ℕ → List ℕ

@@ -14,7 +14,8 @@ use Rattle.ds_layout.specs.declared.layout.Layout.{Layout}
 use Rattle.ds_layout.specs.Places.{cells_of}
 pub use Rattle.ds_state.specs.EntryWords.{shown, shown_of, shown_entry, kind_for, number_for, stored_for, value_for, word_for}
 use Rattle.ds_state.specs.World.{Edit, World, of_cell, IsHeadBy}
-use Rattle.ds_state.specs.Owing.{entry, IsClean, IsEven, CellOwes, IsExcused}
+use Rattle.ds_state.specs.Owing.{entry, CellOwes, IsExcused}
+use Rattle.ds_layout.specs.Mark.{IsClean, IsEven}
 
 -- one side of the words of the cells
 pub record Side : Type 0 where

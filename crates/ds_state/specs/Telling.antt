@@ -1,12 +1,13 @@
 -- Letting a cell go, and which cell is told next.
 use Rattle.std.specs.Prelude.{ℕ, ◌+◌, ◌*◌, ◌/◌, ◌%◌, ◌==◌, if◌then◌else◌, List, slice_index_or, Option, Some, None, zero, suc}
-use Rattle.std.specs.Int.{bit_at}
+use Rattle.ds_layout.specs.Bits.{bit_in, part_with}
+use Rattle.ds_layout.specs.Mark.{freed_after}
 
 -- the mark that lets a held cell go, clean: of the next generation, held by nobody
 abbrev pub let_go : ℕ → ℕ
-let_go mark = (mark / 32 + 1) * 32
+let_go mark = freed_after mark
 
 -- the first cell from this one on whose bit stands in the row, among so many
 abbrev pub told_from : List ℕ → ℕ → ℕ → Option ℕ
 told_from row zero d = None
-told_from row (suc more) d = if bit_at (slice_index_or row (d / 64) 0) (d % 64) == 1 then Some d else told_from row more (d + 1)
+told_from row (suc more) d = if bit_in (slice_index_or row (part_with d) 0) d == 1 then Some d else told_from row more (d + 1)

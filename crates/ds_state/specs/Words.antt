@@ -10,7 +10,8 @@ use Rattle.ds_layout.specs.declared.place.TheConstants.{RECORDS}
 use Rattle.ds_layout.specs.declared.place.Place.{Place}
 use Rattle.ds_layout.specs.declared.place.Place.TheVariants.{Version, Head, Mark, Value, Kind, Index, Announce, Header, Text, Done}
 use Rattle.ds_layout.specs.declared.announcement.Phase.TheVariants as phase
-use Rattle.ds_layout.specs.Bits.{HasBit, IsSubset}
+use Rattle.ds_layout.specs.Bits.{HasBit, IsSubset, part_with}
+use Rattle.ds_layout.specs.Mark.{generation_of}
 use Rattle.ds_state.specs.World.{Edit, Issue, World, record_word, record_size, of_cell, head_after_all, announcement}
 use Rattle.ds_state.specs.Known.{IsSafe}
 use Rattle.ds_state.specs.Owing.{MOST, IsMark, IsApart, Splits}
@@ -42,7 +43,7 @@ pub record RefersTo (shape : Shape) (text : List ℕ) (row : ℕ) : Type 0 where
 -- each counted edit that refers to the cell has its own cell's bit in the row
 pub record IndexFits (w : World) (row part cached persisted : ℕ) : Type 0 where
   pub sides : IsSubset persisted cached
-  pub counted : (e : Edit) → Contains w.counted e → e.cell / 64 ≡ part → RefersTo w.layout.shape e.text row
+  pub counted : (e : Edit) → Contains w.counted e → part_with e.cell ≡ part → RefersTo w.layout.shape e.text row
       → HasBit cached e.cell × HasBit persisted e.cell
 
 -- the edit of this process and number is one that no crash takes
@@ -76,13 +77,13 @@ pub record IsSuperseded (w : World) (process number : ℕ) : Type 0 where
 -- a superseded edit has its done bit persisted, and a done bit tells that its edit is kept
 pub record DoneFits (w : World) (process part cached persisted : ℕ) : Type 0 where
   pub sides : IsSubset persisted cached
-  pub overtaken : (n : ℕ) → n / 64 ≡ part → IsSuperseded w process n → HasBit persisted n
-  pub told : (n : ℕ) → n < RECORDS → n / 64 ≡ part → HasBit cached n → IsKept w process n
+  pub overtaken : (n : ℕ) → part_with n ≡ part → IsSuperseded w process n → HasBit persisted n
+  pub told : (n : ℕ) → n < RECORDS → part_with n ≡ part → HasBit cached n → IsKept w process n
 
 -- a mark is no newer on its persisted side, and its holder is a process of the sheet
 pub record MarkFits (w : World) (cell cached persisted : ℕ) : Type 0 where
   pub behind : persisted ≤ cached
-  pub few : cached / 32 ≤ MOST
+  pub few : generation_of cached ≤ MOST
   pub holder : IsMark w.layout cell cached
   pub persisted_holder : IsMark w.layout cell persisted
 

@@ -1,10 +1,11 @@
 -- Work, a recovery and a report under way, without where they lie in memory.
 use Rattle.std.specs.Prelude.{ℕ, ◌+◌, ◌*◌, ◌/◌, ◌^◌, ◌≡◌, ◌<◌, ◌≤◌, List, length, slice_index_or, true, false}
-use Rattle.ds_layout.specs.Bits.{HasBit}
+use Rattle.ds_layout.specs.Bits.{HasBit, part_with, parts_for}
 use Rattle.ds_state.specs.EntryWords.{value_for, word_for}
 use Rattle.ds_formula.specs.Refs.{IsPossible}
 use Rattle.ds_eval.specs.Inputs.{cell_in}
 use Rattle.ds_layout.specs.declared.place.TheConstants.{TEXT_BYTES}
+use Rattle.ds_layout.specs.Mark.{generation_of}
 use Rattle.ds_state.specs.declared.work.Spread.TheVariants.{LoadRow, OrTold, FlushTold, BackTold}
 use Rattle.ds_state.specs.declared.work.WorkStage.TheVariants.{Claim, LoadText, LoadValue, LoadKind, StoreValue, StoreKind, FlushValue, FlushKind, BackValue, BackKind, Telling, Clear}
 use Rattle.ds_formula.specs.Plain.{Plain}
@@ -41,7 +42,7 @@ abbrev pub StageFits : PlainWork → WorkStage → Type 0
 StageFits e (LoadText part) = 8 * part < e.length
 StageFits e (LoadValue i) = i < length e.inputs
 StageFits e (LoadKind i value) = i < length e.inputs
-StageFits e (Telling (LoadRow part)) = (length e.row ≡ part) × (part < (e.cells + 63) / 64)
+StageFits e (Telling (LoadRow part)) = (length e.row ≡ part) × (part < parts_for e.cells)
 StageFits e (Telling (OrTold d)) = d < e.cells
 StageFits e (Telling (FlushTold d)) = d < e.cells
 StageFits e (Telling (BackTold d)) = d < e.cells
@@ -53,7 +54,7 @@ SEEN_MOST = 2 ^ 58
 
 -- the mark that a work is to claim has a generation that can be followed
 abbrev pub ClaimFits : PlainWork → WorkStage → Type 0
-ClaimFits e Claim = e.mark / 32 ≤ SEEN_MOST
+ClaimFits e Claim = generation_of e.mark ≤ SEEN_MOST
 ClaimFits e _ = Unit {0}
 
 -- the value and the kind that the work loaded of its cell are those of its entry
@@ -74,7 +75,7 @@ TellsFits e FlushKind = Differs e
 TellsFits e BackValue = Differs e
 TellsFits e BackKind = Differs e
 TellsFits e (Telling (LoadRow part)) = Differs e
-TellsFits e (Telling (OrTold d)) = Differs e × HasBit (slice_index_or e.row (d / 64) 0) d
+TellsFits e (Telling (OrTold d)) = Differs e × HasBit (slice_index_or e.row (part_with d) 0) d
 TellsFits e (Telling (FlushTold d)) = Differs e
 TellsFits e (Telling (BackTold d)) = Differs e
 TellsFits e (Clear true) = Differs e
@@ -87,7 +88,7 @@ pub record IsWork (e : PlainWork) : Type 0 where
   pub processes : e.processes ≤ 8
   pub cell : e.cell < e.cells
   pub cells : e.cells ≤ 1024
-  pub young : e.mark / 32 ≤ SEEN_MOST + 1
+  pub young : generation_of e.mark ≤ SEEN_MOST + 1
   pub short : e.length ≤ TEXT_BYTES
   pub text : length e.text ≤ e.length
   pub possible : (j : ℕ) → j < length e.inputs → IsPossible (cell_in e.inputs j)

@@ -10,6 +10,7 @@ use Rattle.ds_layout.specs.Announcement.{announcement_word}
 use Rattle.ds_layout.specs.Head.{head_word}
 use Rattle.ds_layout.specs.Header.{header_word}
 use Rattle.ds_layout.specs.Text.{part_word}
+use Rattle.ds_layout.specs.Bits.{part_with}
 use Rattle.ds_state.specs.Edits.{PlainEdit, text_parts}
 use Rattle.ds_state.specs.declared.situation.Situation.{Situation}
 
@@ -54,11 +55,11 @@ record_size e = text_parts e.text + 1
 
 -- the place of the word of an index row that has the cell's bit
 abbrev pub index_place : ℕ → ℕ → Place
-index_place row cell = place.Index row (cell / 64)
+index_place row cell = place.Index row (part_with cell)
 
 -- the place of the word of a process's done bits that has the edit's
 abbrev pub done_place : ℕ → ℕ → Place
-done_place process number = place.Done process (number / 64)
+done_place process number = place.Done process (part_with number)
 
 -- the edits of one cell
 unfoldable pub of_cell : ℕ → List Edit → List Edit

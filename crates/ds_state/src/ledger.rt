@@ -38,7 +38,7 @@ impl Edit {
         ensures value { result ≡ edit_of call.now }
         ensures text { IsText result.text }
     {
-        call.text.is_text();
+        call.text.is_always_a_text();
         Edit {
             process: call.process,
             number: call.number,

@@ -4,6 +4,7 @@ ghost use Rattle.std.specs.Prelude.{◌≡◌, ◌<◌, ◌≤◌, ◌↔◌, �
 ghost use Rattle.ds_layout.specs.declared.place.TheConstants.{RECORDS, TEXT_BYTES};
 ghost use Rattle.ds_layout.specs.Places.{cells_of};
 ghost use Rattle.ds_layout.specs.Sheet.{memory};
+ghost use Rattle.ds_layout.specs.Text.{parts_for};
 ghost use Rattle.ds_state.specs.Shown.{mark_at, shown_of, value_at, AllClean, parts_at, record_at, text_at};
 
 use ds_eval::value::Value;
@@ -108,7 +109,7 @@ fn parts<W: SheetReader>(
     requires process { process < (W.sheet words.now).processes }
     requires number { number < RECORDS }
     requires count { count ≤ TEXT_BYTES }
-    ensures { IfOk result (λ v. v.items ≡ parts_at (W.seen words.now) process number count ((count + 7) / 8)) }
+    ensures { IfOk result (λ v. v.items ≡ parts_at (W.seen words.now) process number count (parts_for count)) }
 {
     let mut bytes = Vec::with_capacity(alloc, count)?;
     for part in 0..count.div_ceil(8) {

@@ -63,8 +63,8 @@ impl Text {
         self.len += 1;
     }
 
-    /// It is a text: at most 120 bytes.
-    pub fn is_text(&self)
+    /// A law: a text has at most 120 bytes, always.
+    pub fn is_always_a_text(&self)
         ensures { IsText self.now }
     {
         let _bytes = &self.bytes;

@@ -11,7 +11,8 @@ use Rattle.ds_layout.specs.declared.place.Place.{Place}
 use Rattle.ds_layout.specs.declared.place.Place.TheVariants.{Version, Mark, Value, Announce}
 use Rattle.ds_state.specs.Works.{PlainWork}
 use Rattle.ds_state.specs.World.{World, of_cell, head_after_all}
-use Rattle.ds_state.specs.Owing.{HELD_MOST, HoldsNone, IsHeldBy, IsHeld, IsApart, Parts, Splits, Excuses, IsMark}
+use Rattle.ds_state.specs.Owing.{HELD_MOST, HoldsNone, IsHeld, IsApart, Parts, Splits, Excuses, IsMark}
+use Rattle.ds_layout.specs.Mark.{IsHeldBy}
 use Rattle.ds_state.specs.KnownWork.{WorkFits, IsAtRest}
 use Rattle.ds_state.specs.Words.{WordFits}
 use Rattle.ds_state.specs.Calls.{CallFits}

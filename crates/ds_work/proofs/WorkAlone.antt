@@ -14,13 +14,12 @@ use Rattle.ds_layout.specs.declared.head.Head.{Head}
 use Rattle.ds_layout.specs.declared.header.Header.{Header}
 use Rattle.ds_layout.specs.Bits.{HasBit}
 use Rattle.ds_layout.specs.Places.{class_of}
-use Rattle.ds_layout.specs.Mark.{mark_of, state_of}
+use Rattle.ds_layout.specs.Mark.{mark_of, state_of, IsEven, IsClean}
 use Rattle.ds_layout.specs.Head.{head_of}
 use Rattle.ds_layout.specs.Header.{header_of}
 use Rattle.ds_layout.specs.Text.{bytes_of}
 use Rattle.ds_layout.specs.Sheet.{PerformsAt}
 use Rattle.ds_state.specs.Works.{PlainWork, TellsFits, StageFits}
-use Rattle.ds_state.specs.Owing.{IsEven, IsClean}
 use Rattle.ds_state.specs.KnownWork.{WorkFits, WorkKnows, work_known}
 use Rattle.ds_state.specs.Calls.{CallFits}
 use Rattle.ds_state.specs.Sound.{IsSound}

@@ -9,10 +9,10 @@ use Rattle.ds_layout.specs.declared.place.Place.{Place}
 use Rattle.ds_layout.specs.declared.place.Place.TheVariants.{Mark}
 use Rattle.ds_layout.specs.declared.mark.State.{State}
 use Rattle.ds_layout.specs.declared.mark.State.TheVariants.{Clean, Marked, Held}
-use Rattle.ds_layout.specs.Mark.{mark_of, state_of, holder_of, present, state_by}
+use Rattle.ds_layout.specs.Mark.{mark_of, state_of, holder_of, present, state_by, tenure, IsHeldBy}
 use Rattle.ds_state.specs.Works.{PlainWork}
 use Rattle.ds_state.specs.World.{World}
-use Rattle.ds_state.specs.Owing.{entry, tenure, IsHeldBy, IsHeld, IsMark}
+use Rattle.ds_state.specs.Owing.{entry, IsHeld, IsMark}
 use Rattle.ds_state.specs.KnownWork.{BuffersClaim, WorkFits}
 use Rattle.ds_work.specs.WorkSteps.{claim_of, StepsAt, claims_from}
 use Rattle.ds_state.specs.Words.{MarkFits}

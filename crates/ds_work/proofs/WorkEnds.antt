@@ -9,7 +9,8 @@ use Rattle.ds_layout.specs.declared.place.Place.{Place}
 use Rattle.ds_layout.specs.declared.place.Place.TheVariants.{Version, Mark}
 use Rattle.ds_state.specs.Works.{PlainWork}
 use Rattle.ds_state.specs.World.{World}
-use Rattle.ds_state.specs.Owing.{entry, IsHeldBy, HoldsNone, WorkOwes, WorkParts, Owes, Parts, Splits, Excuses}
+use Rattle.ds_state.specs.Owing.{entry, HoldsNone, WorkOwes, WorkParts, Owes, Parts, Splits, Excuses}
+use Rattle.ds_layout.specs.Mark.{IsHeldBy}
 use Rattle.ds_state.specs.Calls.{CallFits}
 use Rattle.ds_state.specs.KnownWork.{ClaimsBoth, HasMark, WorkFits, IsAtRest}
 use Rattle.ds_state.specs.Telling.{let_go}

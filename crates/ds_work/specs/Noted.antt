@@ -6,7 +6,7 @@ use Rattle.ds_layout.specs.declared.header.Header.{Header}
 use Rattle.ds_layout.specs.declared.mark.State.{State}
 use Rattle.ds_layout.specs.declared.mark.State.TheVariants.{Clean, Marked, Held}
 use Rattle.ds_layout.specs.Header.{header_of}
-use Rattle.ds_layout.specs.Mark.{mark_of, state_of}
+use Rattle.ds_layout.specs.Mark.{mark_of, state_of, generation_of}
 use Rattle.ds_layout.specs.Text.{bytes_of}
 use Rattle.ds_state.specs.Works.{PlainWork}
 use Rattle.ds_state.specs.Standing.{shown_entry}
@@ -22,7 +22,7 @@ use Rattle.ds_work.specs.declared.machine.Doing.TheVariants as turns
 abbrev pub seen_mark : PlainWork → ℕ → State → ℕ
 seen_mark e word Clean = e.mark
 seen_mark e word (Held p) = e.mark
-seen_mark e word Marked = if nat_lt (2 ^ 58) (word / 32) then e.mark else word
+seen_mark e word Marked = if nat_lt (2 ^ 58) (generation_of word) then e.mark else word
 
 -- the mark that work has noted after a stage whose access found this word
 abbrev pub mark_at : PlainWork → WorkStage → ℕ → ℕ

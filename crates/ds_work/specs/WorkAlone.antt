@@ -1,11 +1,11 @@
 -- Work that is alone: what it sees of its cell's mark. `row` has the words of its cell's index row.
 use Rattle.std.specs.Prelude.{ℕ, ◌≡◌, ◌<◌, ◌≤◌, ◌⊎◌, ◌+◌, ◌/◌, length, slice_index_or}
-use Rattle.ds_layout.specs.Bits.{HasBit}
+use Rattle.ds_layout.specs.Bits.{HasBit, part_with}
 use Rattle.ds_layout.specs.declared.place.Place.TheVariants as place
 use Rattle.ds_layout.specs.declared.mark.State.TheVariants.{Marked}
 use Rattle.ds_state.specs.Works.{PlainWork, SEEN_MOST}
 use Rattle.ds_state.specs.World.{World}
-use Rattle.ds_state.specs.Owing.{IsClean}
+use Rattle.ds_layout.specs.Mark.{IsClean, generation_of}
 use Rattle.ds_state.specs.declared.work.WorkEnd.{WorkEnd}
 use Rattle.ds_state.specs.declared.work.WorkEnd.TheVariants.{NotDirty, Missed, Worn, Published, Again, NoMemory}
 use Rattle.ds_state.specs.declared.work.WorkStage.{WorkStage}
@@ -18,11 +18,11 @@ use Rattle.ds_work.specs.WorkAnswers.{mark_now, state_now}
 -- the work's cell is marked, and its mark has generations left
 pub record IsMarkedAt (w : World) (e : PlainWork) : Type 0 where
   pub marked : state_now w e ≡ Marked
-  pub young : mark_now w e / 32 ≤ SEEN_MOST
+  pub young : generation_of (mark_now w e) ≤ SEEN_MOST
 
 -- the work's cell stands in its own index row: its text refers to it, or did
 abbrev pub RefersToItself : (ℕ → ℕ) → PlainWork → Type 0
-RefersToItself row e = HasBit (row (e.cell / 64)) e.cell
+RefersToItself row e = HasBit (row (part_with e.cell)) e.cell
 
 -- how work that is alone may end: with its value published, and the cell clean; for want of memory; or with the cell
 -- dirty, where it marked its own cell

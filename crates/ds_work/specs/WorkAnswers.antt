@@ -7,7 +7,7 @@ use Rattle.ds_layout.specs.declared.place.Place.{Place}
 use Rattle.ds_layout.specs.declared.mark.State.{State}
 use Rattle.ds_layout.specs.declared.mark.State.TheVariants.{Clean, Marked, Held}
 use Rattle.ds_layout.specs.declared.place.Place.TheVariants as place
-use Rattle.ds_layout.specs.Mark.{mark_of, state_of}
+use Rattle.ds_layout.specs.Mark.{mark_of, state_of, generation_of}
 use Rattle.ds_state.specs.Works.{PlainWork, SEEN_MOST}
 use Rattle.ds_state.specs.Owing.{StandsIn}
 use Rattle.ds_state.specs.World.{World}
@@ -45,7 +45,7 @@ pub record IsPublished (e : PlainWork) (new : World) : Type 0 where
 abbrev pub IsTrueAnswer : PlainWork → WorkStage → World → World → WorkEnd → Type 0
 IsTrueAnswer e LoadMark old new NotDirty = state_now old e ≡ Clean
 IsTrueAnswer e LoadMark old new Missed = (q : ℕ) × (state_now old e ≡ Held q)
-IsTrueAnswer e LoadMark old new Worn = (state_now old e ≡ Marked) × (SEEN_MOST < mark_now old e / 32)
+IsTrueAnswer e LoadMark old new Worn = (state_now old e ≡ Marked) × (SEEN_MOST < generation_of (mark_now old e))
 IsTrueAnswer e Claim old new Missed = mark_now old e ≢ e.mark
 IsTrueAnswer e (Clear changed) old new end = (end ≡ Published changed) × IsPublished e new
 IsTrueAnswer e ClearDirty old new end = (end ≡ Again) × (mark_now old e ≡ e.mark + 1) × (mark_now new e ≡ let_go e.mark + 1)

@@ -8,6 +8,7 @@ use Rattle.ds_eval.specs.declared.inputs.Input.{Input}
 use Rattle.ds_eval.specs.Tasks.{PlainTask}
 use Rattle.ds_layout.specs.declared.layout.Layout.{Layout}
 use Rattle.ds_layout.specs.Places.{cells_of}
+use Rattle.ds_layout.specs.Mark.{generation_of}
 use Rattle.ds_state.specs.Works.{PlainWork, IsWork}
 use Rattle.ds_state.specs.World.{World}
 use Rattle.ds_state.specs.declared.refusal.Refusal.{Refusal}
@@ -69,7 +70,7 @@ abbrev pub task_at : Shape → PlainWork → PlainTask
 task_at shape e = record {
   process = e.process;
   cell = cell_at shape e.cell;
-  generation = e.mark / 32;
+  generation = generation_of e.mark;
   shape = shape;
   content = e.content;
   inputs = e.inputs;

@@ -1,5 +1,7 @@
 -- How many steps of its own a work has left.
 use Rattle.std.specs.Prelude.{ℕ, ◌≡◌, ◌+◌, ◌-◌, ◌*◌, ◌/◌, ◌<◌, length}
+use Rattle.ds_layout.specs.Bits.{parts_for}
+use Rattle.ds_layout.specs.Text as text_words
 use Rattle.ds_state.specs.World.{World}
 use Rattle.ds_state.specs.declared.situation.Situation.TheVariants.{Working}
 use Rattle.ds_state.specs.Works.{PlainWork}
@@ -9,7 +11,7 @@ use Rattle.ds_state.specs.declared.work.WorkStage.TheVariants.{LoadMark, Claim, 
 
 -- how many steps telling takes at most: one for each part of the row, three for each cell
 abbrev pub telling : PlainWork → ℕ
-telling e = 3 * e.cells + (e.cells + 63) / 64
+telling e = 3 * e.cells + parts_for e.cells
 
 -- how many steps of work are left at most from a stage on, the answer's among them: before the content is read, for a
 -- content with so many references; an offer counts as one
@@ -20,7 +22,7 @@ left r e FlushClaim = 34 + telling e + 2 * r
 left r e BackClaim = 33 + telling e + 2 * r
 left r e LoadHead = 32 + telling e + 2 * r
 left r e LoadHeader = 31 + telling e + 2 * r
-left r e (LoadText part) = 15 + telling e + 2 * r + ((e.length + 7) / 8 - part)
+left r e (LoadText part) = 15 + telling e + 2 * r + (text_words.parts_for e.length - part)
 left r e Read = 15 + telling e + 2 * r
 left r e (LoadValue i) = 14 + telling e + 2 * (length e.inputs - i)
 left r e (LoadKind i value) = 13 + telling e + 2 * (length e.inputs - i)
@@ -33,7 +35,7 @@ left r e FlushValue = 9 + telling e
 left r e FlushKind = 8 + telling e
 left r e BackValue = 7 + telling e
 left r e BackKind = 6 + telling e
-left r e (Telling (LoadRow part)) = 5 + 3 * e.cells + ((e.cells + 63) / 64 - part)
+left r e (Telling (LoadRow part)) = 5 + 3 * e.cells + (parts_for e.cells - part)
 left r e (Telling (OrTold d)) = 5 + 3 * (e.cells - d)
 left r e (Telling (FlushTold d)) = 4 + 3 * (e.cells - d)
 left r e (Telling (BackTold d)) = 3 + 3 * (e.cells - d)

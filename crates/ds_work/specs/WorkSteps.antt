@@ -22,10 +22,13 @@ use Rattle.ds_layout.specs.declared.mark.State.TheVariants.{Clean, Marked, Held}
 use Rattle.ds_layout.specs.declared.mark.TheConstants.{DIRTY}
 use Rattle.ds_layout.specs.Head.{head_of}
 use Rattle.ds_layout.specs.Header.{header_of}
-use Rattle.ds_layout.specs.Mark.{mark_of, state_of}
+use Rattle.ds_layout.specs.Mark.{mark_of, state_of, held_after, generation_of}
 use Rattle.ds_layout.specs.Text.{bytes_of}
 use Rattle.ds_layout.specs.Sheet.{PerformsAt}
 use Rattle.ds_layout.specs.Places.{cells_of}
+use Rattle.ds_layout.specs.Bits.{parts_for}
+use Rattle.ds_layout.specs.Head as head_parts
+use Rattle.ds_layout.specs.Text as text_words
 use Rattle.ds_state.specs.Telling.{let_go, told_from}
 use Rattle.ds_state.specs.Works.{PlainWork}
 use Rattle.ds_state.specs.Standing.{shown_entry, value_for, word_for}
@@ -40,19 +43,27 @@ use Rattle.ds_state.specs.declared.work.WorkStage.TheVariants.{LoadMark, Claim, 
 
 -- the mark by which a process claims a cell: of the next generation, held by the process, not dirty
 abbrev pub claim_of : ℕ → ℕ → ℕ
-claim_of process mark = (mark / 32 + 1) * 32 + (process + 1) * 2
+claim_of process mark = held_after process mark
 
 -- how many parts an index row of the work's sheet has
 abbrev pub parts_of : PlainWork → ℕ
-parts_of e = (e.cells + 63) / 64
+parts_of e = parts_for e.cells
 
 -- how many parts the text of the work has
 abbrev pub text_parts : PlainWork → ℕ
-text_parts e = (e.length + 7) / 8
+text_parts e = text_words.parts_for e.length
 
 -- the index of the cell of the input with this number
 abbrev pub input_place : Shape → PlainWork → ℕ → ℕ
 input_place shape e i = index_of shape (cell_in e.inputs i)
+
+-- the place of the header of the record that a head's word names
+abbrev pub record_header : ℕ → Place
+record_header word = let head : Head = head_parts.parts_of word in place.Header head.process head.number
+
+-- the place of a part of the text of the record that a head's word names
+abbrev pub record_text : ℕ → ℕ → Place
+record_text word part = let head : Head = head_parts.parts_of word in place.Text head.process head.number part
 
 -- the access of a stage of telling
 abbrev pub spread_access : PlainWork → Spread → Access Place
@@ -68,8 +79,8 @@ access_at shape e Claim = acts.SwapIf (place.Mark e.cell) e.mark (claim_of e.pro
 access_at shape e FlushClaim = acts.Flush (place.Mark e.cell)
 access_at shape e BackClaim = acts.Back
 access_at shape e LoadHead = acts.Load (place.Head e.cell)
-access_at shape e LoadHeader = acts.Load (place.Header (e.head / 256 % 256) (e.head % 256))
-access_at shape e (LoadText part) = acts.Load (place.Text (e.head / 256 % 256) (e.head % 256) part)
+access_at shape e LoadHeader = acts.Load (record_header e.head)
+access_at shape e (LoadText part) = acts.Load (record_text e.head part)
 access_at shape e Read = acts.Nothing
 access_at shape e (LoadValue i) = acts.Load (place.Value (input_place shape e i))
 access_at shape e (LoadKind i value) = acts.Load (place.Kind (input_place shape e i))
@@ -99,7 +110,7 @@ at e stage = record e { stage = stage }
 abbrev pub claims_from : PlainWork → ℕ → State → PlainWork
 claims_from e word Clean = at e (Answer NotDirty)
 claims_from e word (Held p) = at e (Answer Missed)
-claims_from e word Marked = if nat_lt (2 ^ 58) (word / 32) then at e (Answer Worn) else record e { mark = word; stage = Claim }
+claims_from e word Marked = if nat_lt (2 ^ 58) (generation_of word) then at e (Answer Worn) else record e { mark = word; stage = Claim }
 
 -- the work after it has loaded its cell's head: it goes to that edit's header; without an edit the text is empty
 abbrev pub head_from : PlainWork → ℕ → Option Head → PlainWork

@@ -3,8 +3,7 @@
 ghost use Rattle.std.specs.Prelude.{◌≡◌, ◌+◌, ◌-◌, ◌*◌, ◌/◌, ◌%◌, ◌<◌, ◌≤◌, ◌++◌, length, take, IsTrue, ◌↔◌};
 ghost use Rattle.ds_layout.specs.Head.{head_of};
 ghost use Rattle.ds_layout.specs.Header.{header_of};
-ghost use Rattle.ds_layout.specs.Mark.{mark_of, state_of, holder_code, dirty_bit};
-ghost use Rattle.ds_layout.specs.declared.place.Place.TheVariants as place;
+ghost use Rattle.ds_layout.specs.Mark.{mark_of, state_of, holder_code, dirty_bit, mark_word, generation_of};
 ghost use Rattle.ds_state.specs.Standing.{stored_for, shown_entry};
 ghost use Rattle.ds_state.specs.Owing.{StandsIn};
 ghost use Rattle.ds_state.specs.Telling.{let_go, told_from};
@@ -12,7 +11,7 @@ ghost use Rattle.ds_layout.specs.declared.place.TheConstants.{TEXT_BYTES};
 ghost use Rattle.ds_state.specs.Works.{PlainWork, StageFits, SEEN_MOST};
 ghost use Rattle.ds_state.specs.declared.work.WorkStage.TheVariants.{LoadMark, Claim, Clear, Give, Telling};
 ghost use Rattle.ds_state.specs.declared.work.Spread.TheVariants.{LoadRow};
-ghost use Rattle.ds_work.specs.WorkSteps.{claim_of, parts_of, input_place, access_at, next_at, claims_from, head_from, header_from, text_from, input_from, told, tell_from, row_from, spread_access, spread_next};
+ghost use Rattle.ds_work.specs.WorkSteps.{record_header, record_text, claim_of, parts_of, input_place, access_at, next_at, claims_from, head_from, header_from, text_from, input_from, told, tell_from, row_from, spread_access, spread_next};
 ghost use Rattle.ds_work.specs.Noted.{mark_at, head_at, length_at, text_after, inputs_after, value_after, kind_after, row_after, stage_at, turn_at, FitsInputs, FitsRow};
 
 use ds_eval::inputs::{Entry, Inputs};
@@ -60,9 +59,9 @@ pub fn turn(call: &WorkCall) -> Doing
 
 // The mark that follows one: of the next generation, with this holder.
 fn following(mark: u64, holder: Option<usize>, dirty: bool) -> u64
-    requires young { mark / 32 ≤ SEEN_MOST + 1 }
+    requires young { generation_of mark ≤ SEEN_MOST + 1 }
     requires holder { holder_code holder < 16 }
-    ensures { result ≡ (mark / 32 + 1) * 32 + holder_code holder * 2 + dirty_bit dirty }
+    ensures { result ≡ mark_word (record { generation = generation_of mark + 1; holder = holder; dirty = dirty }) }
 {
     let generation = Mark::read(mark, 0).generation + 1;
     let next = Mark {
@@ -105,7 +104,7 @@ fn input(call: &WorkCall, shape: Shape, i: usize) -> usize
 
 // A part of the text of the record that the noted head names.
 fn record_text(call: &WorkCall, part: usize) -> Place
-    ensures { result ≡ place.Text (call.now.head / 256 % 256) (call.now.head % 256) part }
+    ensures { result ≡ record_text call.now.head part }
 {
     let head = Head::parts(call.head);
     Place::Text {
@@ -117,7 +116,7 @@ fn record_text(call: &WorkCall, part: usize) -> Place
 
 // Its header.
 fn record_header(call: &WorkCall) -> Place
-    ensures { result ≡ place.Header (call.now.head / 256 % 256) (call.now.head % 256) }
+    ensures { result ≡ record_header call.now.head }
 {
     let head = Head::parts(call.head);
     Place::Header(head.process, head.number)

@@ -1,6 +1,7 @@
 //! The task of a work that waits, and the offer of its entry.
 
 ghost use Rattle.std.specs.Prelude.{◌≡◌, ◌<◌, ◌≤◌, ◌/◌, IsTrue, IsFalse, IfOk, IfErr, IfSome, IfNone, OnOk, OnErr};
+ghost use Rattle.ds_layout.specs.Mark.{generation_of};
 ghost use Rattle.ds_formula.specs.Cells.{count_of};
 ghost use Rattle.ds_eval.specs.Inputs.{entry_in};
 ghost use Rattle.ds_eval.specs.Local as evaluation;
@@ -51,7 +52,7 @@ fn waiting(situation: &Situation) -> Option<&WorkCall>
 
 // The generation of the claim under which it holds its cell.
 fn generation(call: &WorkCall) -> u64
-    ensures { result ≡ call.now.mark / 32 }
+    ensures { result ≡ generation_of call.now.mark }
 {
     Mark::read(call.mark, call.processes).generation
 }
