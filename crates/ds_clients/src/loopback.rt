@@ -1,0 +1,160 @@
+// Clients of a server of two columns, two rows and two processes: what they are answered, and the sheet at the end.
+
+ghost use Rattle.std.specs.Prelude.{◌≡◌, IfOk};
+
+use crate::serving::{Clients, Served, serve};
+use ds_formula::cells::Shape;
+use ds_state::world::World;
+use std::alloc::{AllocError, Global};
+use std::marker::Brand;
+use std::sync::ledger::Blank;
+use std::test::Fail;
+
+fn world(alloc: Global) -> Result<World, AllocError>
+    ensures { IfOk result (λ w. w.sheet.layout.processes ≡ 2) }
+{
+    let shape = Shape {
+        columns: 2,
+        rows: 2,
+    };
+    World::new(alloc, shape, 2)
+}
+
+// The answers are these; each pass is back, none keeps other values than the sheet, and so many edits were done.
+fn is_right(served: &Served, answers: &str, done: u64) -> bool {
+    match &served.closed {
+        Some(closed) => {
+            let is_same = served.answers.as_slice() == answers.as_bytes();
+            is_same && closed.world.done == done && closed.stray.is_none()
+        }
+        None => false,
+    }
+}
+
+// What clients say, one after another, with so many workers; what they are answered; and how many edits are done.
+#[derive(Clone, Copy)]
+struct Row {
+    workers: usize,
+    clients: Clients,
+    answers: &'static str,
+    done: u64,
+}
+
+const FIRST: &[u8] =
+    b"{\"op\":\"join\",\"process\":0}\n{\"op\":\"set\",\"cell\":\"A1\",\"text\":\"=1+2\"}\n{\"op\":\"report\"}\n{\"op\":\"last\"}\n";
+
+const FIRST_ANSWERS: &str =
+    "{\"last\":null,\"ok\":\"join\",\"process\":0}\n{\"number\":0,\"ok\":\"done\"}\n{\"ok\":\"settled\",\"rows\":[[\"3\",\"\"],[\"\",\"\"]]}\n{\"last\":{\"cell\":\"A1\",\"number\":0,\"outcome\":\"done\"},\"ok\":\"last\"}\n";
+
+// A fast client gives a cell the numbers from 1 to 20.
+const FAST: &[u8] =
+    b"{\"op\":\"join\",\"process\":0}\n{\"op\":\"set\",\"cell\":\"A1\",\"text\":\"1\"}\n{\"op\":\"set\",\"cell\":\"A1\",\"text\":\"2\"}\n{\"op\":\"set\",\"cell\":\"A1\",\"text\":\"3\"}\n{\"op\":\"set\",\"cell\":\"A1\",\"text\":\"4\"}\n{\"op\":\"set\",\"cell\":\"A1\",\"text\":\"5\"}\n{\"op\":\"set\",\"cell\":\"A1\",\"text\":\"6\"}\n{\"op\":\"set\",\"cell\":\"A1\",\"text\":\"7\"}\n{\"op\":\"set\",\"cell\":\"A1\",\"text\":\"8\"}\n{\"op\":\"set\",\"cell\":\"A1\",\"text\":\"9\"}\n{\"op\":\"set\",\"cell\":\"A1\",\"text\":\"10\"}\n{\"op\":\"set\",\"cell\":\"A1\",\"text\":\"11\"}\n{\"op\":\"set\",\"cell\":\"A1\",\"text\":\"12\"}\n{\"op\":\"set\",\"cell\":\"A1\",\"text\":\"13\"}\n{\"op\":\"set\",\"cell\":\"A1\",\"text\":\"14\"}\n{\"op\":\"set\",\"cell\":\"A1\",\"text\":\"15\"}\n{\"op\":\"set\",\"cell\":\"A1\",\"text\":\"16\"}\n{\"op\":\"set\",\"cell\":\"A1\",\"text\":\"17\"}\n{\"op\":\"set\",\"cell\":\"A1\",\"text\":\"18\"}\n{\"op\":\"set\",\"cell\":\"A1\",\"text\":\"19\"}\n{\"op\":\"set\",\"cell\":\"A1\",\"text\":\"20\"}\n";
+
+const FAST_ANSWERS: &str =
+    "{\"last\":null,\"ok\":\"join\",\"process\":1}\n{\"last\":null,\"ok\":\"join\",\"process\":0}\n{\"number\":0,\"ok\":\"done\"}\n{\"number\":1,\"ok\":\"done\"}\n{\"number\":2,\"ok\":\"done\"}\n{\"number\":3,\"ok\":\"done\"}\n{\"number\":4,\"ok\":\"done\"}\n{\"number\":5,\"ok\":\"done\"}\n{\"number\":6,\"ok\":\"done\"}\n{\"number\":7,\"ok\":\"done\"}\n{\"number\":8,\"ok\":\"done\"}\n{\"number\":9,\"ok\":\"done\"}\n{\"number\":10,\"ok\":\"done\"}\n{\"number\":11,\"ok\":\"done\"}\n{\"number\":12,\"ok\":\"done\"}\n{\"number\":13,\"ok\":\"done\"}\n{\"number\":14,\"ok\":\"done\"}\n{\"number\":15,\"ok\":\"done\"}\n{\"number\":16,\"ok\":\"done\"}\n{\"number\":17,\"ok\":\"done\"}\n{\"number\":18,\"ok\":\"done\"}\n{\"number\":19,\"ok\":\"done\"}\n{\"number\":0,\"ok\":\"done\"}\n{\"ok\":\"settled\",\"rows\":[[\"20\",\"21\"],[\"\",\"\"]]}\n";
+
+const ROWS: [Row; 6] = [
+    Row {
+        workers: 0,
+        clients: Clients::Each(&[FIRST]),
+        answers: FIRST_ANSWERS,
+        done: 1,
+    },
+    // A worker has process 1.
+    Row {
+        workers: 1,
+        clients: Clients::Each(&[
+            b"{\"op\":\"join\",\"process\":1}\n{\"op\":\"join\",\"process\":2}\n{\"op\":\"report\"}\n",
+            b"{\"op\":\"join\",\"process\":0}\n{\"op\":\"join\",\"process\":0}\n",
+        ]),
+        answers: "{\"code\":4,\"error\":\"process-taken\"}\n{\"code\":3,\"error\":\"bad-field\"}\n{\"code\":6,\"error\":\"not-joined\"}\n{\"last\":null,\"ok\":\"join\",\"process\":0}\n{\"code\":7,\"error\":\"already-joined\"}\n",
+        done: 0,
+    },
+    // The first client goes in mid-line; its process is free again, and tells what it has done.
+    Row {
+        workers: 0,
+        clients: Clients::Each(&[
+            b"{\"op\":\"join\",\"process\":0}\n{\"op\":\"set\",\"cell\":\"B2\",\"text\":\"7\"}\n{\"op\":\"set\",\"cell\":\"A1\",\"te",
+            b"{\"op\":\"join\",\"process\":0}\n{\"op\":\"report\"}\n",
+        ]),
+        answers: "{\"last\":null,\"ok\":\"join\",\"process\":0}\n{\"number\":0,\"ok\":\"done\"}\n{\"last\":{\"cell\":\"B2\",\"number\":0,\"outcome\":\"done\"},\"ok\":\"join\",\"process\":0}\n{\"ok\":\"settled\",\"rows\":[[\"\",\"\"],[\"\",\"7\"]]}\n",
+        done: 1,
+    },
+    // Nothing is said, and then nothing that is JSON.
+    Row {
+        workers: 0,
+        clients: Clients::Each(&[b"", b"\n{\n\xff\n[]\n"]),
+        answers: "{\"code\":1,\"error\":\"not-json\"}\n{\"code\":1,\"error\":\"not-json\"}\n{\"code\":1,\"error\":\"not-json\"}\n{\"code\":3,\"error\":\"bad-field\"}\n",
+        done: 0,
+    },
+    // While the slow client waits, the fast one makes twenty edits and ends.
+    Row {
+        workers: 0,
+        clients: Clients::Beside {
+            first: b"{\"op\":\"join\",\"process\":1}\n",
+            fast: FAST,
+            rest: b"{\"op\":\"set\",\"cell\":\"B1\",\"text\":\"=[.A1]+1\"}\n{\"op\":\"report\"}\n",
+        },
+        answers: FAST_ANSWERS,
+        done: 21,
+    },
+    // The first client reads nothing but the answer to its join. Its process is free again, and its edit stands.
+    Row {
+        workers: 0,
+        clients: Clients::Unread {
+            lines: b"{\"op\":\"set\",\"cell\":\"B2\",\"text\":\"7\"}\n{\"op\":\"report\"}\n",
+            join: b"{\"op\":\"join\",\"process\":0}\n",
+            rest: b"{\"op\":\"report\"}\n",
+        },
+        answers: "{\"last\":{\"cell\":\"B2\",\"number\":0,\"outcome\":\"done\"},\"ok\":\"join\",\"process\":0}\n{\"ok\":\"settled\",\"rows\":[[\"\",\"\"],[\"\",\"7\"]]}\n",
+        done: 1,
+    },
+];
+
+#[test]
+fn serve_loopback(rt: HostRuntime) -> Result<(), Fail> {
+    let alloc = rt.alloc();
+    for row in ROWS {
+        let world = world(alloc)?;
+        let served = serve::<Brand, Brand, _>(
+            &rt,
+            alloc,
+            world,
+            Blank::new(2),
+            Blank::new(2),
+            row.workers,
+            row.clients,
+        )?;
+        let got = str::from_utf8(served.answers.as_slice()).unwrap_or("?");
+        assert!(rt; is_right(&served, row.answers, row.done), "{got}");
+    }
+    Ok(())
+}
+
+// One of many clients, which makes one edit.
+const ONE: &[u8] =
+    b"{\"op\":\"join\",\"process\":0}\n{\"op\":\"set\",\"cell\":\"A1\",\"text\":\"1\"}\n";
+
+const MANY: [&[u8]; 200] = [ONE; 200];
+
+// 200 clients one after another, each with an edit: all of them are done.
+#[test]
+fn two_hundred_clients(rt: HostRuntime) -> Result<(), Fail> {
+    let alloc = rt.alloc();
+    let world = world(alloc)?;
+    let served = serve::<Brand, Brand, _>(
+        &rt,
+        alloc,
+        world,
+        Blank::new(2),
+        Blank::new(2),
+        1,
+        Clients::Each(&MANY),
+    )?;
+    let is_done = match &served.closed {
+        Some(closed) => closed.world.done == 200 && closed.stray.is_none(),
+        None => false,
+    };
+    assert!(rt; is_done);
+    Ok(())
+}

@@ -1,0 +1,261 @@
+//! A server with its clients.
+
+ghost use Rattle.std.specs.Prelude.{◌≡◌};
+
+use crossbeam_queue::ArrayQueue;
+use ds_crew::locked::{Closed, LockedSheet};
+use ds_crew::pass::Pass;
+use ds_serve::queues::{gathered, queues};
+use ds_serve::server::serve_sheet;
+use ds_state::world::World;
+use log::Log;
+use std::alloc::Global;
+use std::io::{self, Read, Write};
+use std::net::{Net, Shutdown, SocketAddr, TcpListener, TcpStream};
+use std::sync::Wait;
+use std::sync::ledger::{Blank, Ledger};
+use std::test::Fail;
+use std::thread;
+use std::thread::Threads;
+use std::time::Clock;
+
+/// How many bytes of an answer are read at most.
+const LINE_MOST: usize = 4096;
+
+/// How often a client tries to join a process.
+const TRIES: usize = 100_000;
+
+/// What a client is answered whose process is another session's.
+const PROCESS_TAKEN: &[u8] = b"{\"code\":4,\"error\":\"process-taken\"}\n";
+
+/// What clients say, and when.
+#[derive(Clone, Copy)]
+pub enum Clients {
+    /// One client after another says all of its lines, and then reads what it is answered.
+    Each(&'static [&'static [u8]]),
+    /// A slow client says its first line and reads the answer; then a fast one says all of its lines, reads, and ends;
+    /// then the slow one says the rest.
+    Beside {
+        first: &'static [u8],
+        fast: &'static [u8],
+        rest: &'static [u8],
+    },
+    /// A client joins, says its lines and reads nothing more. Another one joins until the process is free, and says
+    /// the rest.
+    Unread {
+        lines: &'static [u8],
+        join: &'static [u8],
+        rest: &'static [u8],
+    },
+}
+
+impl Clients {
+    // How many connections they make.
+    fn count(&self) -> usize {
+        match self {
+            Clients::Each(clients) => clients.len(),
+            Clients::Beside {
+                first: _,
+                fast: _,
+                rest: _,
+            } => 2,
+            Clients::Unread {
+                lines: _,
+                join: _,
+                rest: _,
+            } => 2,
+        }
+    }
+}
+
+/// What a server and its clients came to.
+#[derive(Drop)]
+pub struct Served {
+    /// What the clients were answered, one behind the other.
+    pub answers: Vec<u8>,
+    /// The sheet, and whether a pass keeps other values than it; none where a pass was lost.
+    pub closed: Option<Closed>,
+}
+
+// What one client is answered, which says all of its lines and then reads.
+fn talk<R: Net<Stream = TcpStream>>(
+    rt: &R,
+    at: SocketAddr,
+    lines: &[u8],
+    answers: &mut Vec<u8>,
+) -> io::Result<()> {
+    let mut stream = TcpStream::connect(rt, at)?;
+    stream.write_all(lines)?;
+    stream.shutdown(Shutdown::Write)?;
+    stream.read_to_end(answers)?;
+    Ok(())
+}
+
+// The next line that a client is answered, with its end.
+fn next_line(stream: &mut TcpStream, answers: &mut Vec<u8>) -> io::Result<()> {
+    let mut byte = [0u8];
+    for _ in 0..LINE_MOST {
+        if stream.read(&mut byte)? == 0 {
+            break;
+        }
+        answers.push(byte[0])?;
+        if byte[0] == b'\n' {
+            break;
+        }
+    }
+    Ok(())
+}
+
+// One client after another.
+fn talk_each<R: Net<Stream = TcpStream>>(
+    rt: &R,
+    at: SocketAddr,
+    clients: &[&[u8]],
+    answers: &mut Vec<u8>,
+) -> io::Result<()> {
+    for lines in clients {
+        talk(rt, at, lines, answers)?;
+    }
+    Ok(())
+}
+
+// A client says its first line and is answered; another one says all of its lines and is answered; then the first says
+// the rest.
+fn talk_beside<R: Net<Stream = TcpStream>>(
+    rt: &R,
+    at: SocketAddr,
+    first: &[u8],
+    fast: &[u8],
+    rest: &[u8],
+    answers: &mut Vec<u8>,
+) -> io::Result<()> {
+    let mut stream = TcpStream::connect(rt, at)?;
+    stream.write_all(first)?;
+    next_line(&mut stream, answers)?;
+    talk(rt, at, fast, answers)?;
+    stream.write_all(rest)?;
+    stream.shutdown(Shutdown::Write)?;
+    stream.read_to_end(answers)?;
+    Ok(())
+}
+
+// What a client is answered that joins again and again until its process is free, and then says the rest.
+fn talk_at_last<R: Net<Stream = TcpStream>>(
+    rt: &R,
+    alloc: Global,
+    at: SocketAddr,
+    join: &[u8],
+    rest: &[u8],
+) -> io::Result<Vec<u8>> {
+    let mut stream = TcpStream::connect(rt, at)?;
+    let mut answers = Vec::new(alloc);
+    for _ in 0..TRIES {
+        answers.clear();
+        stream.write_all(join)?;
+        next_line(&mut stream, &mut answers)?;
+        if answers.as_slice() != PROCESS_TAKEN {
+            break;
+        }
+    }
+    stream.write_all(rest)?;
+    stream.shutdown(Shutdown::Write)?;
+    stream.read_to_end(&mut answers)?;
+    Ok(answers)
+}
+
+// A client joins, says its lines and reads nothing more; another one takes its process when it is free, and says the
+// rest.
+fn talk_unread<R: Net<Stream = TcpStream>>(
+    rt: &R,
+    alloc: Global,
+    at: SocketAddr,
+    lines: &[u8],
+    join: &[u8],
+    rest: &[u8],
+) -> io::Result<Vec<u8>> {
+    let mut stream = TcpStream::connect(rt, at)?;
+    let mut joined = Vec::new(alloc);
+    stream.write_all(join)?;
+    next_line(&mut stream, &mut joined)?;
+    stream.write_all(lines)?;
+    stream.shutdown(Shutdown::Write)?;
+    talk_at_last(rt, alloc, at, join, rest)
+}
+
+// What the clients are answered.
+fn talk_all<R: Net<Stream = TcpStream>>(
+    rt: &R,
+    alloc: Global,
+    at: SocketAddr,
+    clients: Clients,
+) -> io::Result<Vec<u8>> {
+    let mut answers = Vec::new(alloc);
+    match clients {
+        Clients::Each(clients) => talk_each(rt, at, clients, &mut answers)?,
+        Clients::Beside { first, fast, rest } => {
+            talk_beside(rt, at, first, fast, rest, &mut answers)?
+        }
+        Clients::Unread { lines, join, rest } => {
+            return talk_unread(rt, alloc, at, lines, join, rest);
+        }
+    }
+    Ok(answers)
+}
+
+// The server runs in a thread, the clients in another.
+fn run<
+    L: Ledger + Send + Sync,
+    M: Ledger + Send + Sync,
+    R: Threads + Wait + Clock + Log + Net<Stream = TcpStream, Listener = TcpListener> + Sync,
+>(
+    rt: &R,
+    alloc: Global,
+    sheet: &LockedSheet<L, M>,
+    queues: &[ArrayQueue<Pass<L, M>>],
+    workers: usize,
+    clients: Clients,
+) -> Result<Vec<u8>, Fail> {
+    let listener = TcpListener::bind(rt, "127.0.0.1:0")?;
+    let at = listener.local_addr()?;
+    let count = clients.count();
+    let (answers, served) = thread::join(
+        rt,
+        || talk_all(rt, alloc, at, clients),
+        || serve_sheet(rt, alloc, &listener, sheet, queues, workers, count),
+    );
+    served?;
+    Ok(answers?)
+}
+
+/// Serves the clients, with so many workers on the last processes, and closes the sheet.
+pub fn serve<
+    L: Ledger + Send + Sync,
+    M: Ledger + Send + Sync,
+    R: Threads + Wait + Clock + Log + Net<Stream = TcpStream, Listener = TcpListener> + Sync,
+>(
+    rt: &R,
+    alloc: Global,
+    world: World,
+    dones: Blank,
+    settleds: Blank,
+    workers: usize,
+    clients: Clients,
+) -> Result<Served, Fail>
+    requires names { (dones.name ≡ L.name) × (settleds.name ≡ M.name) }
+    requires parts { (dones.parts ≡ L.parts) × (settleds.parts ≡ M.parts) }
+    requires processes { (L.parts ≡ world.sheet.layout.processes) × (M.parts ≡ world.sheet.layout.processes) }
+{
+    let processes = world.words.layout().processes;
+    let Ok((sheet, passes)) = LockedSheet::<L, M>::make(alloc, world, dones, settleds) else {
+        return Err(Fail::from("no memory"));
+    };
+    let queues = queues(rt, alloc, passes)?;
+    let answers = run(rt, alloc, &sheet, queues.as_slice(), workers, clients)?;
+    let back = gathered(rt, alloc, queues.as_slice())?;
+    let closed = if back.len() == processes && processes > 0 {
+        Some(sheet.close(back))
+    } else {
+        None
+    };
+    Ok(Served { answers, closed })
+}
