@@ -8,7 +8,7 @@ use Rattle.ds_layout.specs.declared.place.Place.{Place}
 use Rattle.ds_layout.specs.declared.place.Place.TheVariants.{Version, Mark, Announce, Index, Done}
 use Rattle.ds_state.specs.Works.{PlainShow}
 use Rattle.ds_state.specs.World.{Edit, World}
-use Rattle.ds_state.specs.Owing.{IsClean}
+use Rattle.ds_layout.specs.Mark.{IsClean}
 use Rattle.ds_state.specs.KnownShow.{noted, reads_pending, reads_clean, IsPendingWord, Moment, moment_of, ShowFitsAt}
 use Rattle.ds_state.specs.ShowStages.{IsStage}
 use Rattle.ds_layout.specs.Places.{cells_of}

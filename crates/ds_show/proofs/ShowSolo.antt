@@ -6,7 +6,7 @@ use Rattle.ds_layout.specs.declared.place.Place.TheVariants.{Version, Mark, Anno
 use Rattle.ds_layout.specs.Places.{cells_of}
 use Rattle.ds_state.specs.Works.{PlainShow}
 use Rattle.ds_state.specs.World.{World}
-use Rattle.ds_state.specs.Owing.{IsClean}
+use Rattle.ds_layout.specs.Mark.{IsClean}
 use Rattle.ds_state.specs.KnownShow.{noted, reads_clean, reads_pending, IsPendingWord, moment_of, IsStill}
 use Rattle.ds_state.specs.ShowStages.{IsStage}
 use Rattle.ds_show.specs.ShowSteps.{fresh, next_at}

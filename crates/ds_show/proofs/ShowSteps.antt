@@ -6,7 +6,8 @@ use Rattle.std.proofs.lemmas.List.{append-nil}
 use Rattle.ds_layout.specs.declared.place.Place.TheVariants.{Mark, Value, Kind, Announce}
 use Rattle.ds_state.specs.Works.{PlainShow}
 use Rattle.ds_state.specs.World.{World}
-use Rattle.ds_state.specs.Owing.{IsClean, IsMark}
+use Rattle.ds_state.specs.Owing.{IsMark}
+use Rattle.ds_layout.specs.Mark.{IsClean}
 use Rattle.ds_state.specs.KnownShow.{noted, reads_clean, reads_pending, IsPendingWord, Moment, moment_of, HasNoted, SawAgain, seen_at, SeenFits, ShowFitsAt}
 use Rattle.ds_state.specs.ShowStages.{IsStage}
 use Rattle.ds_show.specs.ShowSteps.{next_at}

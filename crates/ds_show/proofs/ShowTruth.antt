@@ -5,7 +5,7 @@ use Rattle.ds_eval.specs.Scratch.{IsScratch}
 use Rattle.ds_layout.specs.Places.{cells_of}
 use Rattle.ds_state.specs.Works.{PlainShow}
 use Rattle.ds_state.specs.World.{Edit, World}
-use Rattle.ds_state.specs.Owing.{IsClean}
+use Rattle.ds_layout.specs.Mark.{IsClean}
 use Rattle.ds_state.specs.Standing.{shown_entry}
 use Rattle.ds_state.specs.KnownShow.{noted, IsPendingWord, Moment, values_of, AreScratch, IsStill, IsRight, SawAgain, seen_at, SeenFits, ShowFitsAt}
 use Rattle.ds_state.specs.ShowStages.{IsStage, HaveNoted}

@@ -5,7 +5,7 @@ use Rattle.ds_layout.specs.declared.place.Place.{Place}
 use Rattle.ds_layout.specs.declared.place.Place.TheVariants.{Mark, Announce}
 use Rattle.ds_state.specs.Works.{PlainShow}
 use Rattle.ds_state.specs.World.{Edit, World}
-use Rattle.ds_state.specs.Owing.{IsClean}
+use Rattle.ds_layout.specs.Mark.{IsClean}
 use Rattle.ds_state.specs.KnownShow.{IsPendingWord, moment_of, AreScratch, IsStill}
 use Rattle.ds_show.specs.ShowSteps.{Steps, Begins, answered}
 use Rattle.ds_state.specs.Rely.{Rely}
