@@ -20,6 +20,8 @@ use Rattle.ds_state.specs.declared.work.RecoverStage.TheVariants as recover_stag
 use Rattle.ds_edit.specs.Worlds as edit_worlds
 use Rattle.ds_edit.specs.declared.answer.Answer.{Answer}
 use Rattle.ds_work.specs.WorkEvents as work_events
+use Rattle.ds_state.specs.World.{World}
+use Rattle.ds_work.specs.WorkSteps.{IsPlainStep}
 use Rattle.ds_work.specs.declared.drive.Taken.{Taken}
 use Rattle.ds_work.specs.declared.drive.Taken.TheVariants as taken
 use Rattle.ds_work.proofs.Turning.{turns_fall}
@@ -44,6 +46,27 @@ use Rattle.ds_calls.specs.Kinds.{IsEditAnswer, IsWorkAnswer, IsReportAnswer, IsR
 use Rattle.ds_calls.specs.Whole.{HasProcess, IsCalling, IsIdle}
 use Rattle.ds_calls.specs.Driven.{IsNotWaiting, GoesOn, IsAnswered}
 use Rattle.ds_calls.proofs.Driving.{wants_step}
+
+-- ---- a step is what the process wants
+
+-- a work that takes a turn does not wait
+never_waits : (e : PlainWork) (old new : World) (what : Taken) → work_events.TakesTurn e old new what → e.stage ≡ work_stages.Wait → ⊥
+never_waits e old new what (work_events.steps word s none) is = subst IsPlainStep is s.plain
+never_waits e old new what (work_events.reads content inputs at r) is = absurd (let bad : work_stages.Read ≡ work_stages.Wait = sym at ∙ is in cc)
+never_waits e old new what (work_events.lacked at l) is = absurd (let bad : work_stages.Read ≡ work_stages.Wait = sym at ∙ is in cc)
+never_waits e old new what (work_events.answers end at s) is = absurd (let bad : work_stages.Answer end ≡ work_stages.Wait = sym at ∙ is in cc)
+
+not_waiting : (old new : WorldValue) (p : ℕ) (reply : Reply) → StepsBy old p reply new → (e : PlainWork) → (world_of old).situation p ≡ Working e → e.stage ≡ work_stages.Wait → ⊥
+not_waiting old new p reply (edits h) e at waits = absurd (let bad : Editing h.edit ≡ Working e = sym h.at ∙ at in cc)
+not_waiting old new p reply (works h) e at waits =
+    let same : Working h.steps.work ≡ Working e = sym h.steps.works ∙ at in
+    let is : h.steps.work ≡ e = cc in
+    never_waits h.steps.work (world_of old) (world_of new) h.what h.steps.turn (ap (λ (w : PlainWork). w.stage) is ∙ waits)
+not_waiting old new p reply (reports h) e at waits = absurd (let bad : Showing h.steps.show ≡ Working e = sym h.steps.at ∙ at in cc)
+not_waiting old new p reply (recoveries h) e at waits = absurd (let bad : Recovering h.steps.recovery ≡ Working e = sym h.steps.at ∙ at in cc)
+
+pub answered_wants : (old new : WorldValue) (p : ℕ) (answer : Answer) → Fits old (Step p) (Answered answer) new → wants old p ≡ Step p
+answered_wants old new p answer fits = wants_step old p (not_waiting old new p (Answered answer) fits.takes)
 
 -- ---- a step that goes on
 
@@ -100,11 +123,11 @@ step_stays old new p sound (works h) = work_stays old new p sound h
 step_stays old new p sound (reports h) = report_stays old new p h
 step_stays old new p sound (recoveries h) = recovery_stays old new p h
 
-pub step_goes : (old new : WorldValue) (p : ℕ) → IsSound (world_of old) → IsCalling old p → IsNotWaiting old p → Fits old (Step p) Stepped new → GoesOn old p new
-step_goes old new p sound calling waits fits =
+pub step_goes : (old new : WorldValue) (p : ℕ) → IsSound (world_of old) → IsCalling old p → Fits old (Step p) Stepped new → GoesOn old p new
+step_goes old new p sound calling fits =
     let s = step_stays old new p sound fits.takes in
     record {
-      fits = subst (λ (e : Event). Fits old e Stepped new) (sym (wants_step old p (λ e working wait. waits e (record { inside = calling.there; works = working; waits = wait })))) fits;
+      fits = subst (λ (e : Event). Fits old e Stepped new) (sym (wants_step old p (not_waiting old new p Stepped fits.takes))) fits;
       calling = record { there = subst (λ (n : ℕ). p < n) (sym (ap (λ y. y.processes) (same_layout old new (Step p) Stepped fits.takes))) calling.there; calls = s.calls };
       same = s.same;
     }
@@ -202,32 +225,6 @@ step_ends old new p answer (recoveries h) = recovery_ends_in old new p answer h
 pub step_answers : (old new : WorldValue) (p : ℕ) (answer : Answer) → Fits old (Step p) (Answered answer) new → IsAnswered old p answer new
 step_answers old new p answer fits = let g = step_ends old new p answer fits.takes in record { fits = fits; to = g.to; idle = g.idle }
 
--- ---- a step that answers is what the process wants
-
-work_not_waiting : (old new : WorldValue) (p : ℕ) (answer : Answer) → WorkStepsBy old p (Answered answer) new → (e : PlainWork) → (world_of old).situation p ≡ Working e → e.stage ≡ work_stages.Wait → ⊥
-work_not_waiting old new p answer h e working waits = by h.what h.steps h.is
-  where
-    turned : (w : PlainWork) (end : WorkEnd) → (world_of old).situation p ≡ Working w → work_events.TakesTurn w (world_of old) (world_of new) (taken.Answered end) → ⊥
-    turned w end at (work_events.answers _ at_answer s) =
-        let same : Working w ≡ Working e = sym at ∙ working in
-        let stage : w.stage ≡ work_stages.Wait = cc in
-        let bad : work_stages.Answer end ≡ work_stages.Wait = sym at_answer ∙ stage in
-        absurd (cc)
-
-    by : (what : Taken) → work_events.StepsBy (world_of old) p what (world_of new) → Answered answer ≡ work_reply what → ⊥
-    by (taken.Answered end) s is = turned s.work end s.works s.turn
-    by taken.NotEnabled s is = absurd (cc)
-    by taken.Stepped s is = absurd (cc)
-
-not_waiting : (old new : WorldValue) (p : ℕ) (answer : Answer) → StepsBy old p (Answered answer) new → (e : PlainWork) → (world_of old).situation p ≡ Working e → e.stage ≡ work_stages.Wait → ⊥
-not_waiting old new p answer (edits h) e at waits = absurd (let bad : Editing h.edit ≡ Working e = sym h.at ∙ at in cc)
-not_waiting old new p answer (works h) e at waits = work_not_waiting old new p answer h e at waits
-not_waiting old new p answer (reports h) e at waits = absurd (let bad : Showing h.steps.show ≡ Working e = sym h.steps.at ∙ at in cc)
-not_waiting old new p answer (recoveries h) e at waits = absurd (let bad : Recovering h.steps.recovery ≡ Working e = sym h.steps.at ∙ at in cc)
-
-pub answered_wants : (old new : WorldValue) (p : ℕ) (answer : Answer) → Fits old (Step p) (Answered answer) new → wants old p ≡ Step p
-answered_wants old new p answer fits = wants_step old p (not_waiting old new p answer fits.takes)
-
 -- ---- a process in a call that does not wait can step
 
 can_step : (old new : WorldValue) (p : ℕ) (s : Situation) → (world_of old).situation p ≡ s → IsInCall s → HasProcess old p → IsNotWaiting old p → CanNotStep old p new → ⊥
@@ -238,8 +235,17 @@ can_step old new p (Working e) is calls there waits h = waits e (record { inside
 can_step old new p (Recovering e) is calls there waits h = h.no_recovery e there is
 can_step old new p (Showing e) is calls there waits h = h.no_report e there is
 
-pub no_other_reply : (old new : WorldValue) (p : ℕ) (reply : Reply) → IsCalling old p → IsNotWaiting old p → Fits old (Step p) reply new → reply ≢ Stepped → ((answer : Answer) → reply ≢ Answered answer) → ⊥
-no_other_reply old new p Stepped calling waits fits ns na = ns refl
-no_other_reply old new p (Answered answer) calling waits fits ns na = na answer refl
-no_other_reply old new p NotEnabled calling waits fits ns na = can_step old new p ((world_of old).situation p) refl calling.calls calling.there waits fits.takes
-no_other_reply old new p _ calling waits fits ns na = absurd fits.takes
+-- a process in a call whose step has another reply can make none, and waits
+can_not : (old new : WorldValue) (p : ℕ) (reply : Reply) → Fits old (Step p) reply new → reply ≢ Stepped → ((answer : Answer) → reply ≢ Answered answer) → CanNotStep old p new
+can_not old new p Stepped fits ns na = absurd (ns refl)
+can_not old new p (Answered answer) fits ns na = absurd (na answer refl)
+can_not old new p NotEnabled fits ns na = fits.takes
+can_not old new p _ fits ns na = absurd fits.takes
+
+-- a process in a call, whose step has this reply, which is none of a step that it made
+module _ (old new : WorldValue) (p : ℕ) (reply : Reply) (calling : IsCalling old p) (fits : Fits old (Step p) reply new) (ns : reply ≢ Stepped) (na : (answer : Answer) → reply ≢ Answered answer) where
+  pub unstepped : new ≡ old
+  unstepped = (can_not old new p reply fits ns na).same
+
+  pub must_wait : IsNotWaiting old p → ⊥
+  must_wait none = can_step old new p ((world_of old).situation p) refl calling.calls calling.there none (can_not old new p reply fits ns na)

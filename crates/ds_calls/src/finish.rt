@@ -1,6 +1,6 @@
 //! Drives a call to its answer.
 
-ghost use Rattle.std.specs.Prelude.{◌≡◌, ◌<◌, IfSome, IfNone};
+ghost use Rattle.std.specs.Prelude.{◌≡◌, ◌<◌, IsTrue, IsFalse, IfSome, IfNone};
 ghost use Rattle.ds_state.specs.Value.{world_of};
 ghost use Rattle.ds_core.specs.declared.event.Event.TheVariants.{Step};
 ghost use Rattle.ds_core.specs.declared.reply.Reply.TheVariants.{Stepped};
@@ -10,6 +10,7 @@ ghost use Rattle.ds_calls.specs.Kinds.{AnswersTo};
 ghost use Rattle.ds_calls.specs.Whole.{IsCalling, IsIdle, Finishes};
 ghost use Rattle.ds_calls.specs.Driven.{IsNotWaiting, GoesOn, IsAnswered};
 
+use ds_core::advance::advance;
 use ds_core::event::Event;
 use ds_core::reply::Reply;
 use ds_core::take::take;
@@ -27,10 +28,22 @@ pub fn step_once(alloc: Global, world: &mut World, process: usize) -> Reply
     take(alloc, world, &event)
 }
 
-// One step, and the answer where it is the last one.
-fn step(alloc: Global, world: &mut World, process: usize) -> Option<Answer>
+// The work of a process whose call can make no step waits: it is offered the entry that it waits for.
+fn offer(world: &mut World, process: usize)
     requires calling { IsCalling world.old process }
-    requires waits { IsNotWaiting world.old process }
+    requires waits { IsNotWaiting world.old process → ⊥ }
+    ensures goes { GoesOn world.old process world.new }
+    ensures fewer { steps_left process world.new < steps_left process world.old }
+{
+    if !offer_own(world, process) {
+        unreachable!();
+    }
+    world.is_always_good();
+}
+
+// A step, or an offer where the work waits, and the answer where it is the last one. Steps come first: few stages wait.
+fn go(alloc: Global, world: &mut World, process: usize) -> Option<Answer>
+    requires { IsCalling world.old process }
     ensures answers { IfSome result (λ answer. IsAnswered world.old process answer world.new) }
     ensures goes { IfNone result (GoesOn world.old process world.new) }
     ensures fewer { IfNone result (steps_left process world.new < steps_left process world.old) }
@@ -39,24 +52,22 @@ fn step(alloc: Global, world: &mut World, process: usize) -> Option<Answer>
     match step_once(alloc, world, process) {
         Reply::Stepped => None,
         Reply::Answered(answer) => Some(answer),
-        _ => unreachable!(),
+        _ => {
+            offer(world, process);
+            None
+        }
     }
 }
 
-// An offer or a step, and the answer where it is the last one.
-fn go(alloc: Global, world: &mut World, process: usize) -> Option<Answer>
+// A step that needs no reply, and whether there was one.
+fn advances(world: &mut World, process: usize) -> bool
     requires { IsCalling world.old process }
-    ensures answers { IfSome result (λ answer. IsAnswered world.old process answer world.new) }
-    ensures goes { IfNone result (GoesOn world.old process world.new) }
-    ensures fewer { IfNone result (steps_left process world.new < steps_left process world.old) }
+    ensures goes { IsTrue result → GoesOn world.old process world.new }
+    ensures fewer { IsTrue result → steps_left process world.new < steps_left process world.old }
+    ensures unchanged { IsFalse result → world.new ≡ world.old }
 {
     world.is_always_good();
-    if offer_own(world, process) {
-        world.is_always_good();
-        None
-    } else {
-        step(alloc, world, process)
-    }
+    advance(world, process)
 }
 
 /// Lets a process go on with the call that it is in, to its answer. Where its work waits, it is
@@ -68,8 +79,10 @@ pub fn finish(alloc: Global, world: &mut World, process: usize) -> Answer
     ensures idle { IsIdle world.new process }
 {
     'steps: loop {
-        if let Some(answer) = go(alloc, world, process) {
-            return answer;
+        if !advances(world, process) {
+            if let Some(answer) = go(alloc, world, process) {
+                return answer;
+            }
         }
     }
 }

@@ -35,13 +35,9 @@ use Rattle.ds_edit.specs.Steps.{access_at}
 use Rattle.ds_edit.specs.Worlds.{Steps, after, counted_at, open_edit_at}
 use Rattle.ds_edit.proofs.Sound.{step_sound}
 use Rattle.ds_edit.proofs.Possible.{can_perform}
-use Rattle.ds_core.specs.EditEvents.{reply_at, reply_with, done_at, done_with, EditStepsBy, EditStepTakes}
+use Rattle.ds_core.specs.EditEvents.{IsEditing, reply_at, reply_with, done_at, done_with, EditStepsBy, EditStepTakes}
+use Rattle.ds_core.specs.declared.reply.Reply.TheVariants.{Stepped}
 use Rattle.ds_edit.specs.Endings.{outcome_at}
-
--- the process's edit
-pub record IsEditing (v : WorldValue) (p : ℕ) (e : PlainEdit) : Type 0 where
-  pub there : p < length v.situations
-  pub is : (world_of v).situation p ≡ Editing e
 
 pub editing_from : (v : WorldValue) (p : ℕ) (e : PlainEdit) (read : Situation) → p < length v.situations → read ≡ get_or v.situations p read → read ≡ Editing e → IsEditing v p e
 editing_from v p e read lt is here = record { there = lt; is = get_or_default v.situations p (Idle 0) read lt ∙ sym is ∙ here }
@@ -64,6 +60,10 @@ no_report e _ word = refl
 pub answers_at : (s : Stage) (how : Outcome) → outcome_at s ≡ Some how → s ≡ Answer how
 answers_at (Answer how') how is = let same : how' ≡ how = cc in ap (λ h. Answer h) same
 answers_at _ how is = absurd (cc)
+
+pub stepped_at : (processes number : ℕ) (s : Stage) → ((how : Outcome) → s ≡ Answer how → ⊥) → reply_at processes number s ≡ Stepped
+stepped_at processes number (Answer how) none = absurd (none how refl)
+stepped_at processes number _ none = refl
 
 pub goes_on_at : (s : Stage) (issue : Option Issue) → outcome_at s ≡ None → open_edit_at issue s ≡ issue
 goes_on_at (Answer how) issue is = absurd (cc)

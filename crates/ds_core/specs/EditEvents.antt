@@ -1,5 +1,5 @@
 -- A step of an edit, from world to world.
-use Rattle.std.specs.Prelude.{ℕ, ◌≡◌, ◌<◌, ◌+◌, Option, Some, None}
+use Rattle.std.specs.Prelude.{ℕ, ◌≡◌, ◌<◌, ◌+◌, length, Option, Some, None}
 use Rattle.ds_state.specs.Edits.{PlainEdit}
 use Rattle.ds_state.specs.Value.{WorldValue, world_of}
 use Rattle.ds_state.specs.declared.stage.Outcome.{Outcome}
@@ -33,6 +33,11 @@ done_at done s = done_with done (outcome_at s)
 pub record SameReports (old new : WorldValue) : Type 0 where
   pub settled : new.settled ≡ old.settled
   pub reports : new.reports ≡ old.reports
+
+-- the process is one of the sheet, and is in this edit
+pub record IsEditing (v : WorldValue) (p : ℕ) (e : PlainEdit) : Type 0 where
+  pub there : p < length v.situations
+  pub is : (world_of v).situation p ≡ Editing e
 
 -- the process makes one step of its edit, and the reply is that of the edit's stage
 pub record EditStepsBy (old : WorldValue) (p : ℕ) (reply : Reply) (new : WorldValue) : Type 0 where

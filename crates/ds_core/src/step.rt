@@ -1,11 +1,14 @@
 //! A step of a process, and an eviction.
 
-ghost use Rattle.std.specs.Prelude.{◌≡◌, ◌<◌, ◌≤◌, ◌++◌, ℕ, IfSome, IfNone, length, vec_capacity};
+ghost use Rattle.std.specs.Prelude.{◌≡◌, ◌<◌, ◌≤◌, ◌++◌, ℕ, IsTrue, IsFalse, IfSome, IfNone, length, vec_capacity};
 ghost use Rattle.ds_state.specs.Edits.{PlainEdit};
 ghost use Rattle.ds_state.specs.declared.stage.Stage.TheVariants.{Swap};
 ghost use Rattle.ds_state.specs.declared.situation.Situation.TheVariants.{Editing};
+ghost use Rattle.ds_state.specs.World.{edit_of};
+ghost use Rattle.ds_edit.specs.Steps.{access_at};
 ghost use Rattle.ds_edit.specs.Worlds.{after, counted_at, open_edit_at};
-ghost use Rattle.ds_core.specs.EditEvents.{reply_at, done_at, EditStepTakes};
+ghost use Rattle.ds_core.specs.EditEvents.{IsEditing, reply_at, done_at, EditStepTakes};
+ghost use Rattle.ds_core.specs.declared.reply.Reply.TheVariants.{Stepped};
 ghost use Rattle.ds_core.specs.ReportEvents.{report_answer, report_reply};
 ghost use Rattle.ds_core.specs.WorkEvents.{work_answer, work_reply};
 ghost use Rattle.ds_core.specs.RecoveryEvents.{recovery_answer, recovery_reply};
@@ -23,6 +26,7 @@ use ds_state::situation::Situation;
 use ds_state::stage::{Outcome, Stage};
 use ds_state::work::{ShowEnd, WorkEnd};
 use ds_state::world::World;
+use ds_words::access::Access;
 use ds_work::drive::Taken;
 use std::alloc::Global;
 
@@ -53,15 +57,17 @@ fn go_on(situation: &mut Situation, word: u64)
     }
 }
 
-// The edit counts, where its swap found the head that it had noted.
-fn count(counted: &mut Vec<Edit>, edit: Edit, stage: Stage, word: u64)
+// The edit of a process counts, where its swap found the head that it had noted.
+fn count(counted: &mut Vec<Edit>, situation: &Situation, stage: Stage, word: u64)
     requires { (noted : ℕ) → stage ≡ Swap noted → word ≡ noted → length counted.old.items < vec_capacity counted.old }
-    ensures items { counted.new.items ≡ counted.old.items ++ counted_at edit stage word }
+    ensures items { (e : PlainEdit) → situation.now ≡ Editing e → counted.new.items ≡ counted.old.items ++ counted_at (edit_of e) stage word }
     ensures capacity { vec_capacity counted.new ≡ vec_capacity counted.old }
 {
     if let Stage::Swap(noted) = stage {
         if word == noted {
-            counted.push_reserved(edit);
+            if let Situation::Editing(call) = situation {
+                counted.push_reserved(Edit::of(call));
+            }
         }
     }
 }
@@ -95,6 +101,18 @@ fn reply(processes: usize, number: usize, stage: Stage) -> Reply
     }
 }
 
+// A process makes the step of its edit that is at this stage, by this access.
+fn edit_on(world: &mut World, process: usize, stage: Stage, access: Access<Place>)
+    requires { (e : PlainEdit) × IsEditing world.old process e × (stage ≡ e.stage) × (access ≡ access_at e e.stage) }
+    ensures { (e : PlainEdit) → IsEditing world.old process e → EditStepTakes world.old process (reply_at world.old.sheet.layout.processes e.number stage) world.new }
+{
+    let word = world.words.perform(process, access);
+    count(&mut world.counted, &world.situations[process], stage, word);
+    go_on(&mut world.situations[process], word);
+    close(&mut world.open_edits[process], stage);
+    world.done = done_after(world.done, stage);
+}
+
 // A process makes the next step of its edit. Where it has none, or the sheet has no such process,
 // the step can not happen and nothing changes.
 fn edit_step(world: &mut World, process: usize) -> Reply
@@ -106,14 +124,30 @@ fn edit_step(world: &mut World, process: usize) -> Reply
     let Some(call) = call_of(&world.situations[process]) else {
         return Reply::NotEnabled;
     };
-    let (edit, stage, access) = (Edit::of(call), call.stage, want(call));
+    let (number, stage, access) = (call.number, call.stage, want(call));
     let processes = call.processes;
-    let word = world.words.perform(process, access);
-    go_on(&mut world.situations[process], word);
-    count(&mut world.counted, edit, stage, word);
-    close(&mut world.open_edits[process], stage);
-    world.done = done_after(world.done, stage);
-    reply(processes, edit.number, stage)
+    edit_on(world, process, stage, access);
+    reply(processes, number, stage)
+}
+
+// A process makes the next step of its edit, where it has one that is not its answer, and says so;
+// else nothing changes.
+pub(crate) fn edit_advances(world: &mut World, process: usize) -> bool
+    ensures steps { IsTrue result → EditStepTakes world.old process Stepped world.new }
+    ensures unchanged { IsFalse result → world.new ≡ world.old }
+{
+    if process >= world.situations.len() {
+        return false;
+    }
+    let Some(call) = call_of(&world.situations[process]) else {
+        return false;
+    };
+    let (stage, access) = (call.stage, want(call));
+    if let Stage::Answer(_) = stage {
+        return false;
+    }
+    edit_on(world, process, stage, access);
+    true
 }
 
 // What a report answers that ended so.

@@ -16,7 +16,7 @@ use ds_layout::head::Head;
 use ds_layout::header::Header;
 use ds_layout::mark::DIRTY;
 use ds_layout::place::Place;
-use ds_layout::text::part_word;
+use ds_layout::text::{part_word, text_parts};
 use ds_state::edit::EditCall;
 use ds_state::stage::{Outcome, Stage};
 use ds_words::access::Access;
@@ -24,7 +24,7 @@ use ds_words::access::Access;
 fn parts(call: &EditCall) -> usize
     ensures { result ≡ text_parts call.now.text }
 {
-    call.text.len().div_ceil(8)
+    text_parts(call.text.len())
 }
 
 fn header(call: &EditCall) -> Place

@@ -1,5 +1,5 @@
 -- One bit for each of many numbers, 64 in a word.
-use Rattle.std.specs.Prelude.{ℕ, ◌≡◌, ◌≤◌, ◌+◌, ◌/◌, ◌%◌, ◌^◌}
+use Rattle.std.specs.Prelude.{ℕ, ◌≡◌, ◌<◌, ◌≤◌, ◌+◌, ◌/◌, ◌%◌, ◌^◌, List, slice_index_or}
 use Rattle.std.specs.Int.{bit_at}
 
 -- the part, a word, in which the bit of a number stands
@@ -17,6 +17,20 @@ bit_in word number = bit_at word (number % 64)
 -- the word has the bit of the number
 abbrev pub HasBit : ℕ → ℕ → Type 0
 HasBit word number = bit_in word number ≡ 1
+
+-- the words have the bit of the number; a word that is not there has none
+abbrev pub HaveBit : List ℕ → ℕ → Type 0
+HaveBit words number = HasBit (slice_index_or words (part_with number) 0) number
+
+-- the words have no bit of a number from the first on and below the second
+abbrev pub HaveNoBit : List ℕ → ℕ → ℕ → Type 0
+HaveNoBit words start end = (number : ℕ) → start ≤ number → number < end → HaveBit words number → ⊥
+
+-- the first number from this one on whose bit the words have
+pub record IsFirstBit (words : List ℕ) (start first : ℕ) : Type 0 where
+  pub from : start ≤ first
+  pub has : HaveBit words first
+  pub none : HaveNoBit words start first
 
 -- the word that has the bit of the number alone
 abbrev pub bit_of : ℕ → ℕ

@@ -1,13 +1,20 @@
 //! One bit for each of many numbers, 64 in a word.
 
-ghost use Rattle.std.specs.Prelude.{◌≡◌, ◌≢◌, ℕ, ◌↔◌, IsTrue, bit_or};
-ghost use Rattle.ds_layout.specs.Bits.{HasBit, bit_of, part_with};
+ghost use Rattle.std.specs.Prelude.{◌≡◌, ◌≢◌, ◌<◌, ◌≤◌, ℕ, ◌↔◌, IsTrue, IfSome, IfNone, bit_or};
+ghost use Rattle.ds_layout.specs.Bits.{HasBit, HaveBit, HaveNoBit, IsFirstBit, bit_of, part_with, parts_for};
 
 /// The part, a word, in which the bit of a number stands.
 pub fn part(number: usize) -> usize
     ensures { result ≡ part_with number }
 {
     number / 64
+}
+
+/// How many words the bits of so many numbers take.
+pub fn parts(numbers: usize) -> usize
+    ensures { result ≡ parts_for numbers }
+{
+    numbers.div_ceil(64)
 }
 
 /// The word with the bit of a number alone.
@@ -26,4 +33,66 @@ pub fn has_bit(word: u64, number: usize) -> bool
     ensures { IsTrue result ↔ HasBit word number }
 {
     word >> (number % 64) & 1 == 1
+}
+
+// Whether the words have the bit of a number. A word that is not there has none.
+fn have_bit(words: &[u64], number: usize) -> bool
+    ensures { IsTrue result ↔ HaveBit words.now number }
+{
+    let at = part(number);
+    at < words.len() && has_bit(words[at], number)
+}
+
+// Whether the word with the bit of a number has no bits at all.
+fn is_blank(words: &[u64], number: usize) -> bool
+    ensures { IsTrue result → (other : ℕ) → part_with other ≡ part_with number → HaveBit words.now other → ⊥ }
+{
+    let at = part(number);
+    at >= words.len() || words[at] == 0
+}
+
+// The number behind those that have their bits in the same word, at most the end.
+fn word_end(number: usize, end: usize) -> usize
+    requires { number < end }
+    ensures { (number < result) × (result ≤ end) × ((other : ℕ) → number ≤ other → other < result → part_with other ≡ part_with number) }
+{
+    let left = 64 - number % 64;
+    if end - number < left {
+        end
+    } else {
+        number + left
+    }
+}
+
+// The first of these numbers whose bit the words have, bit by bit.
+fn first_between(words: &[u64], start: usize, end: usize) -> Option<usize>
+    requires { start ≤ end }
+    ensures first { IfSome result (λ first. (first < end) × IsFirstBit words.now start first) }
+    ensures none { IfNone result (HaveNoBit words.now start end) }
+{
+    for number in start..end {
+        if have_bit(words, number) {
+            return Some(number);
+        }
+    }
+    None
+}
+
+/// The first number from this one on, and below the end, whose bit the words have. A word without
+/// bits is passed over whole; one that is not there has none.
+pub fn first_bit(words: &[u64], start: usize, end: usize) -> Option<usize>
+    ensures first { IfSome result (λ first. (first < end) × IsFirstBit words.now start first) }
+    ensures none { IfNone result (HaveNoBit words.now start end) }
+{
+    let mut number = start;
+    while number < end {
+        let stop = word_end(number, end);
+        if !is_blank(words, number) {
+            if let Some(first) = first_between(words, number, stop) {
+                return Some(first);
+            }
+        }
+        number = stop;
+    }
+    None
 }

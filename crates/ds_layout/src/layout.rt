@@ -5,6 +5,7 @@ ghost use Rattle.ds_formula.specs.Limits.{EDITS_MOST, PROCESSES_MOST, TEXT_MOST}
 ghost use Rattle.ds_layout.specs.declared.place.TheConstants as places;
 ghost use Rattle.ds_layout.specs.declared.layout.TheConstants as constants;
 
+use crate::bits;
 use crate::place::{DONE_PARTS, Place, RECORDS, TEXT_PARTS};
 use ds_formula::cells::Shape;
 use ds_words::access::{Access, Class};
@@ -70,7 +71,7 @@ impl Layout {
         ensures value { result ≡ parts_of self.now }
         ensures at_most { result ≤ 16 }
     {
-        self.cells().div_ceil(64)
+        bits::parts(self.cells())
     }
 
     fn starts(&self) -> Starts

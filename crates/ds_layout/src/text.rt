@@ -1,9 +1,16 @@
 //! The words of a text, eight bytes each.
 
 ghost use Rattle.std.specs.Prelude.{◌≡◌, ◌<◌, slice_index};
-ghost use Rattle.ds_layout.specs.Text.{part_of, part_word, bytes_of};
+ghost use Rattle.ds_layout.specs.Text.{parts_for, part_of, part_word, bytes_of};
 
 use crate::place::TEXT_PARTS;
+
+/// How many words a text of so many bytes takes.
+pub fn text_parts(bytes: usize) -> usize
+    ensures { result ≡ parts_for bytes }
+{
+    bytes.div_ceil(8)
+}
 
 /// The byte there, or 0 past the end.
 fn byte_or_zero(text: &[u8], at: usize) -> u8

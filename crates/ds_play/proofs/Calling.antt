@@ -1,8 +1,9 @@
 -- Calls that begin, and points that are behind.
-use Rattle.std.proofs.Common.{ℕ, ◌≡◌, ◌⊎◌, refl, ap, inl, inr}
+use Rattle.std.proofs.Common.{ℕ, ◌≡◌, ◌⊎◌, refl, ap, sym, subst, inl, inr}
 use Rattle.ds_state.specs.Value.{WorldValue}
 use Rattle.ds_core.specs.declared.reply.Reply.{Reply}
 use Rattle.ds_core.specs.declared.reply.Reply.TheVariants.{Begun, Entered}
+use Rattle.ds_calls.specs.Whole.{HasBegun}
 use Rattle.ds_play.specs.declared.drive.Until.{Until}
 use Rattle.ds_play.specs.declared.drive.Until.TheVariants.{OneStep, ToPoint, ToAnswer, InPass}
 use Rattle.ds_play.specs.declared.drive.Halt.{Halt}
@@ -14,6 +15,10 @@ use Rattle.ds_play.specs.Plays.{IsNoPass, halted, halt_text}
 pub begun_by : (w : WorldValue) (p : ℕ) (until : Until) (reply : Reply) → ((n : ℕ) × (reply ≡ Begun n)) ⊎ (reply ≡ Entered) → called w p until reply ≡ Drives p until
 begun_by w p until reply (inl h) = ap (λ (r : Reply). called w p until r) h.1
 begun_by w p until reply (inr h) = ap (λ (r : Reply). called w p until r) h
+
+pub has_begun : (reply : Reply) → ((n : ℕ) × (reply ≡ Begun n)) ⊎ (reply ≡ Entered) → HasBegun reply
+has_begun reply (inl h) = subst HasBegun (sym h.1) tt
+has_begun reply (inr h) = subst HasBegun (sym h) tt
 
 pub refused_by : (w : WorldValue) (p : ℕ) (until : Until) (reply : Reply) → ((n : ℕ) → reply ≡ Begun n → ⊥) → (reply ≡ Entered → ⊥) → called w p until reply ≡ Says (reply_text w p reply)
 refused_by w p until (Begun n) a b = absurd (a n refl)

@@ -1,4 +1,4 @@
--- A settle of whole calls, as a command.
+-- Whole calls, and a settle of them, as commands.
 use Rattle.std.proofs.Common.{ℕ, ◌≡◌, ◌<◌, List, Some, refl, ap}
 use Rattle.std.specs.Prelude.{Result, Ok}
 use Rattle.ds_formula.specs.declared.cells.Cell.{Cell}
@@ -14,37 +14,49 @@ use Rattle.ds_core.specs.declared.reply.Reply.TheVariants.{Begun, Entered, Refus
 use Rattle.ds_calls.specs.declared.settle.Turn.{Turn}
 use Rattle.ds_calls.specs.Wanted.{wants}
 use Rattle.ds_calls.specs.Whole as whole
-use Rattle.ds_calls.specs.Whole.{Goes, Finishes, Whole, HasBegun}
+use Rattle.ds_calls.specs.Whole.{Goes, Finishes, Whole, HasBegun, IsCalling, request}
 use Rattle.ds_calls.specs.Settling as settling
 use Rattle.ds_calls.specs.Settling.{Settling, worked}
 use Rattle.ds_calls.proofs.Stepping.{answered_wants}
+use Rattle.ds_calls.proofs.Begins.{edit_begins, work_begins, report_begins, recovery_begins}
 use Rattle.ds_play.specs.declared.drive.Until.{Until}
-use Rattle.ds_play.specs.declared.drive.Until.TheVariants.{InPass}
+use Rattle.ds_play.specs.declared.drive.Until.TheVariants.{InPass, ToAnswer}
+use Rattle.ds_play.specs.declared.order.Call.{Call}
+use Rattle.ds_play.specs.declared.order.Call.TheVariants as calls
+use Rattle.ds_play.specs.Orders.{beginning}
 use Rattle.ds_play.specs.Texts.{reply_text}
-use Rattle.ds_play.specs.Doing.{Says, Drives, Works, called, driven, at_turn, settle}
+use Rattle.ds_play.specs.Doing.{Says, Calls, Drives, Works, called, driven, ended, at_turn, settle}
 use Rattle.ds_play.specs.Plays.{Leads}
 use Rattle.ds_play.proofs.Played.{leads_on, stays, one}
 
--- ---- a call that goes on in a pass
+-- ---- a call that goes on to its answer
 
-drives_on : (w : WorldValue) (p passes cell : ℕ) (event : Event) → driven w p (InPass passes cell) event Stepped ≡ Drives p (InPass passes cell)
-drives_on w p passes cell (Offer value) = refl
-drives_on w p passes cell event = refl
+-- neither a step nor an offer ends the drive up to here
+abbrev pub GoesOnAlways : ℕ → Until → Type 0
+GoesOnAlways p until = (w : WorldValue) (event : Event) → driven w p until event Stepped ≡ Drives p until
 
-goes_leads : (p passes cell : ℕ) (first : WorldValue) (events : List Event) (replies : List Reply) (new : WorldValue) → Goes p first events replies new
-    → Leads (Drives p (InPass passes cell)) first (Drives p (InPass passes cell)) new
-goes_leads p passes cell first events replies new whole.stays = stays (Drives p (InPass passes cell)) (Drives p (InPass passes cell)) first refl
-goes_leads p passes cell first events replies new (whole.goes es rs old n so_far fits) =
-    leads_on (Drives p (InPass passes cell)) (Drives p (InPass passes cell)) (Drives p (InPass passes cell)) first old new (goes_leads p passes cell first es rs old so_far)
-    (one (Drives p (InPass passes cell)) (Drives p (InPass passes cell)) old new (wants old p) Stepped refl fits (drives_on new p passes cell (wants old p)))
+on_in_pass : (p passes cell : ℕ) → GoesOnAlways p (InPass passes cell)
+on_in_pass p passes cell w (Offer value) = refl
+on_in_pass p passes cell w event = refl
 
-finishes_leads : (p passes cell : ℕ) (old : WorldValue) (answer : Answer) (new : WorldValue) → Finishes p old answer new
-    → Leads (Drives p (InPass passes cell)) old (at_turn new p (worked new passes cell (Ok answer))) new
-finishes_leads p passes cell old answer new h =
-    leads_on (Drives p (InPass passes cell)) (Drives p (InPass passes cell)) (at_turn new p (worked new passes cell (Ok answer))) old h.last new
-    (goes_leads p passes cell old h.events h.replies h.last h.goes)
-    (one (Drives p (InPass passes cell)) (at_turn new p (worked new passes cell (Ok answer))) h.last new (Step p) (Answered answer)
-    (ap (λ (e : Event). Some e) (answered_wants h.last new p answer h.answers)) h.answers refl)
+on_to_answer : (p : ℕ) → GoesOnAlways p ToAnswer
+on_to_answer p w (Offer value) = refl
+on_to_answer p w event = refl
+
+module _ (p : ℕ) (until : Until) (on : GoesOnAlways p until) where
+  goes_leads : (first : WorldValue) (events : List Event) (replies : List Reply) (new : WorldValue) → Goes p first events replies new
+      → Leads (Drives p until) first (Drives p until) new
+  goes_leads first events replies new whole.stays = stays (Drives p until) (Drives p until) first refl
+  goes_leads first events replies new (whole.goes es rs old n so_far fits) =
+      leads_on (Drives p until) (Drives p until) (Drives p until) first old new (goes_leads first es rs old so_far)
+      (one (Drives p until) (Drives p until) old new (wants old p) Stepped refl fits (on new (wants old p)))
+
+  finishes_leads : (old : WorldValue) (answer : Answer) (new : WorldValue) → Finishes p old answer new → Leads (Drives p until) old (ended new p until (Answered answer)) new
+  finishes_leads old answer new h =
+      leads_on (Drives p until) (Drives p until) (ended new p until (Answered answer)) old h.last new
+      (goes_leads old h.events h.replies h.last h.goes)
+      (one (Drives p until) (ended new p until (Answered answer)) h.last new (Step p) (Answered answer)
+      (ap (λ (e : Event). Some e) (answered_wants h.last new p answer h.answers)) h.answers refl)
 
 -- ---- a whole work
 
@@ -58,9 +70,30 @@ whole_leads : (p passes cell : ℕ) (old : WorldValue) (result : Result Answer R
 whole_leads p passes cell old result new (whole.finishes reply mid n answer begun fits h) =
     leads_on (Works p passes cell) (Drives p (InPass passes cell)) (at_turn new p (worked new passes cell (Ok answer))) old mid new
     (one (Works p passes cell) (Drives p (InPass passes cell)) old mid (BeginWork p (cell_at old.sheet.layout.shape cell)) reply refl fits (begun_drives mid p (InPass passes cell) reply begun))
-    (finishes_leads p passes cell mid answer new h)
+    (finishes_leads p (InPass passes cell) (on_in_pass p passes cell) mid answer new h)
 whole_leads p passes cell old result new (whole.refused why n fits) =
     one (Works p passes cell) (Says (reply_text new p (Refused why))) old new (BeginWork p (cell_at old.sheet.layout.shape cell)) (Refused why) refl fits refl
+
+-- ---- a whole call
+
+-- a call that begins so, and goes on to its answer
+pub call_leads : (old mid new : WorldValue) (p : ℕ) (event : Event) (reply : Reply) (answer : Answer) → Fits old event reply mid → called mid p ToAnswer reply ≡ Drives p ToAnswer → Finishes p mid answer new
+    → Leads (Calls p event) old (Says (reply_text new p (Answered answer))) new
+call_leads old mid new p event reply answer fits begun h =
+    leads_on (Calls p event) (Drives p ToAnswer) (Says (reply_text new p (Answered answer))) old mid new
+    (one (Calls p event) (Drives p ToAnswer) old mid event reply refl fits begun) (finishes_leads p ToAnswer (on_to_answer p) mid answer new h)
+
+-- a call that has begun is one of a process of the sheet
+pub starts : (old new : WorldValue) (p : ℕ) (call : Call) (reply : Reply) → Fits old (beginning p call) reply new → HasBegun reply → IsCalling new p
+starts old new p (calls.Edit cell text) (Begun number) fits h = (edit_begins old new (request p cell text.now) (Begun number) fits.takes.named fits).0
+starts old new p (calls.Edit cell text) Entered fits h = absurd fits.takes
+starts old new p (calls.Work cell) Entered fits h = (work_begins old new p cell Entered fits.takes.named fits).0
+starts old new p (calls.Work cell) (Begun number) fits h = absurd fits.takes
+starts old new p calls.Report Entered fits h = (report_begins old new p Entered fits.takes.there fits).0
+starts old new p calls.Report (Begun number) fits h = absurd fits.takes
+starts old new p calls.Recovery Entered fits h = (recovery_begins old new p Entered fits.takes.there fits).0
+starts old new p calls.Recovery (Begun number) fits h = absurd fits.takes
+starts old new p call _ fits h = absurd h
 
 -- ---- a settle
 

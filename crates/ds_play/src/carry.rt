@@ -17,6 +17,7 @@ use crate::point::PointName;
 use crate::settle::settle;
 use crate::texts::{at_line, halt_bytes, peek_line, reply_bytes, word_line};
 use ds_calls::call::begin_edit;
+use ds_calls::finish::finish;
 use ds_core::event::Event;
 use ds_core::reply::Reply;
 use ds_core::take::take;
@@ -105,7 +106,7 @@ fn run(
     halt_bytes(alloc, world, process, halt)
 }
 
-// A whole call.
+// A whole call, as sessions make it.
 fn whole(
     alloc: Global,
     world: &mut World,
@@ -115,7 +116,10 @@ fn whole(
     ensures { IfOk result (λ answer. Played (Calls process (beginning process call.entry)) world.old answer.items world.new) }
 {
     match begins(alloc, world, process, call) {
-        Reply::Begun(_) | Reply::Entered => run(alloc, world, process, Until::ToAnswer),
+        Reply::Begun(_) | Reply::Entered => {
+            let answer = finish(alloc, world, process);
+            reply_bytes(alloc, world, process, Reply::Answered(answer))
+        }
         reply => reply_bytes(alloc, world, process, reply),
     }
 }

@@ -18,16 +18,6 @@ use Rattle.ds_recover.proofs.RecoveryFree.{told_below}
 pub dirty : (mark : ℕ) → bit_or mark DIRTY ≡ marked mark
 dirty mark = or_dirty mark
 
--- the cell's bit stands: it is told; it does not: a later one is
-tells_more : (row : List ℕ) (more d : ℕ) (n : ℕ) → n ≡ suc more → (b : Bool) → (bit_at (slice_index_or row (d / 64) 0) (d % 64) == 1) ≡ b → told_from row n d ≡ (if b then Some d else told_from row more (d + 1))
-tells_more row more d n is b bit = ap (λ (m : ℕ). told_from row m d) is ∙ ap (λ (x : Bool). if x then Some d else told_from row more (d + 1)) bit
-
-pub tells_this : (row : List ℕ) (cells d : ℕ) → d < cells → bit_at (slice_index_or row (d / 64) 0) (d % 64) ≡ 1 → told_from row (cells - d) d ≡ Some d
-tells_this row cells d l bit = tells_more row (cells - (d + 1)) d (cells - d) (omega arith) true (eq-eqb _ 1 bit)
-
-pub tells_later : (row : List ℕ) (cells d : ℕ) → d < cells → bit_at (slice_index_or row (d / 64) 0) (d % 64) ≢ 1 → told_from row (cells - d) d ≡ told_from row (cells - (d + 1)) (d + 1)
-tells_later row cells d l bit = tells_more row (cells - (d + 1)) d (cells - d) (omega arith) false (ne_eqb _ 1 bit)
-
 -- ---- the stages that follow are of the sheet
 
 -- a cell that is told next is one of the sheet

@@ -183,15 +183,9 @@ fn looks_from(cells: usize, cell: usize) -> RecoverStage
 
 // The first cell from this one on whose bit stands in the row.
 fn told_from(row: &[u64], cells: usize, from: usize) -> Option<usize>
-    requires { length row.now ≡ parts_for cells }
     ensures { result ≡ told_from row.now (cells - from) from }
 {
-    for cell in from..cells {
-        if bits::has_bit(row[bits::part(cell)], cell) {
-            return Some(cell);
-        }
-    }
-    None
+    bits::first_bit(row, from, cells)
 }
 
 fn tell_from(row: &[u64], cells: usize, cell: usize, from: usize) -> RecoverStage
@@ -208,7 +202,7 @@ fn row_from(row: &[u64], cells: usize, cell: usize, part: usize) -> RecoverStage
     requires { parts_for cells ≤ part → length row.now ≡ parts_for cells }
     ensures { result ≡ row_from row.now cells cell part }
 {
-    if part < cells.div_ceil(64) {
+    if part < bits::parts(cells) {
         RecoverStage::Telling(cell, Spread::LoadRow(part))
     } else {
         tell_from(row, cells, cell, 0)

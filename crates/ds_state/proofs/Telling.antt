@@ -1,11 +1,11 @@
 -- Telling the cells that refer to one: each step of whoever holds the cell passes on what is still owed.
-use Rattle.std.proofs.Common.{ℕ, ◌≡◌, ◌<◌, ◌≤◌, ◌+◌, ◌/◌, ◌%◌, ◌==◌, ◌⊎◌, Bool, true, false, if◌then◌else◌, List, [], ◌∷◌, ◌++◌, Option, Some, None, refl, ap, sym, ◌∙◌, subst, arith, length, inl, inr, zero, suc}
-use Rattle.std.specs.Prelude.{Contains, slice_index_or, bit_or}
+use Rattle.std.proofs.Common.{ℕ, ◌≡◌, ◌<◌, ◌≤◌, ◌+◌, ◌-◌, ◌/◌, ◌%◌, ◌==◌, ◌⊎◌, Bool, true, false, if◌then◌else◌, List, [], ◌∷◌, ◌++◌, Option, Some, None, refl, ap, sym, ◌∙◌, subst, arith, length, inl, inr, zero, suc}
+use Rattle.std.specs.Prelude.{Contains, slice_index_or, bit_or, IfSome, IfNone}
 use Rattle.std.specs.Int.{bit_at}
 use Rattle.std.proofs.lemmas.Bool.{cases_eq, eqb-true, eqb-false}
 use Rattle.ds_words.specs.Memory.{StoresAt}
 use Rattle.ds_words.specs.declared.access.Entry.{Entry}
-use Rattle.ds_layout.specs.Bits.{HasBit}
+use Rattle.ds_layout.specs.Bits.{HasBit, HaveNoBit, IsFirstBit}
 use Rattle.ds_layout.specs.declared.mark.TheConstants.{DIRTY}
 use Rattle.ds_layout.specs.declared.place.Place.{Place}
 use Rattle.ds_layout.specs.declared.place.Place.TheVariants.{Mark, Index}
@@ -43,6 +43,19 @@ told_stands row (suc n) d k is = go (bit_at (slice_index_or row (d / 64) 0) (d %
     go : (b : Bool) → (bit_at (slice_index_or row (d / 64) 0) (d % 64) == 1) ≡ b → (if b then Some d else told_from row n (d + 1)) ≡ Some k → (told_from row n (d + 1) ≡ Some k → StandsIn row k) → StandsIn row k
     go true hit is again = subst (λ (y : ℕ). StandsIn row y) (let same : d ≡ k = cc in same) (eqb-true (bit_at (slice_index_or row (d / 64) 0) (d % 64)) 1 hit)
     go false miss is again = again is
+
+-- the first cell of the sheet from this one on whose bit the row has is told next
+pub told_is : (row : List ℕ) (cells d : ℕ) (o : Option ℕ) → IfSome o (λ k. (k < cells) × IsFirstBit row d k) → IfNone o (HaveNoBit row d cells) → o ≡ told_from row (cells - d) d
+told_is row cells d o some none = go (told_from row (cells - d) d) refl (first_told row (cells - d) d) o some none
+  where
+    go : (told : Option ℕ) → told_from row (cells - d) d ≡ told → ToldFits row (cells - d) d told → (o : Option ℕ) → IfSome o (λ k. (k < cells) × IsFirstBit row d k) → IfNone o (HaveNoBit row d cells) → o ≡ told_from row (cells - d) d
+    go None is fits None some none = sym is
+    go None is fits (Some k) some none = absurd (fits k some.1.from (let low = some.0 in let l = some.1.from in omega arith) some.1.has)
+    go (Some j) is fits None some none = absurd (none j fits.0 (let l = fits.0 in let m = fits.1 in omega arith) (told_stands row (cells - d) d j is))
+    go (Some j) is fits (Some k) some none = elim (cases_eq j k) [
+      | inl eq ↦ ap (λ n. Some n) (sym eq) ∙ sym is
+      | inr ne ↦ absurd (some.1.none j fits.0 (let m = fits.2 k some.1.from some.1.has in omega arith) (told_stands row (cells - d) d j is))
+    ]
 
 pub or_hold : (q c v : ℕ) → KeepsHold q c v (bit_or c DIRTY) v
 or_hold q c v = let is = or_dirty c in record { cached = λ h. omega arith; persisted = λ h k. k; came = λ h. omega arith }

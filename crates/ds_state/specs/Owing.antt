@@ -7,7 +7,7 @@ use Rattle.ds_layout.specs.declared.place.Place.TheVariants as place
 use Rattle.ds_layout.specs.declared.layout.Layout.{Layout}
 use Rattle.ds_layout.specs.declared.announcement.Phase.TheVariants as phase
 use Rattle.ds_layout.specs.Places.{class_of, cells_of}
-use Rattle.ds_layout.specs.Bits.{HasBit, part_with}
+use Rattle.ds_layout.specs.Bits.{HasBit, HaveBit, part_with}
 use Rattle.ds_layout.specs.Mark.{tenure, IsHeldBy, generation_of}
 use Rattle.ds_state.specs.World.{Issue, World, announcement, index_place}
 use Rattle.ds_state.specs.declared.stage.Stage.{Stage}
@@ -32,7 +32,7 @@ pub record IsHeld (m : Memory Place) (q r : ℕ) : Type 0 where
 
 -- the cell's bit stands in the parts of a row that were loaded
 abbrev pub StandsIn : List ℕ → ℕ → Type 0
-StandsIn row c = HasBit (slice_index_or row (part_with c) 0) c
+StandsIn row c = HaveBit row c
 
 -- the process's buffer holds one entry alone, a mark of the cell that is greater than x
 pub record IsBelowBuffered (m : Memory Place) (p c x : ℕ) : Type 0 where

@@ -15,7 +15,7 @@ use ds_layout::mark::{Mark, State};
 use ds_layout::place::Place;
 use ds_layout::sheet_words::SheetWords;
 use ds_layout::stored::{Kind, Stored};
-use ds_layout::text::part_bytes;
+use ds_layout::text::{part_bytes, text_parts};
 use std::alloc::{AllocError, Global};
 
 /// The words of a sheet, as they can be read by their places.
@@ -112,7 +112,7 @@ fn parts<W: SheetReader>(
     ensures { IfOk result (λ v. v.items ≡ parts_at (W.seen words.now) process number count (parts_for count)) }
 {
     let mut bytes = Vec::with_capacity(alloc, count)?;
-    for part in 0..count.div_ceil(8) {
+    for part in 0..text_parts(count) {
         let word = words.load(Place::Text {
             process,
             number,

@@ -10,7 +10,6 @@ pub mod WorkRead
 pub mod EachWork
 pub mod WorkNamed
 pub mod Next
-pub mod Rows
 pub mod Gathered
 pub mod Driving
 pub mod Ranks

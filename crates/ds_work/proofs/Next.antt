@@ -1,5 +1,5 @@
 -- The work after a step, field by field; it stays a work of its sheet.
-use Rattle.std.proofs.Common.{ℕ, ◌≡◌, ◌≤◌, ◌+◌, ◌-◌, ◌/◌, ◌^◌, ◌==◌, Bool, true, false, if◌then◌else◌, nat_lt, List, [], ◌∷◌, ◌++◌, take, Option, Some, None, refl, ap, sym, subst, arith, length, length-append}
+use Rattle.std.proofs.Common.{ℕ, ◌≡◌, ◌≤◌, ◌+◌, ◌-◌, ◌/◌, ◌^◌, ◌==◌, Bool, true, false, if◌then◌else◌, nat_lt, List, [], ◌∷◌, ◌++◌, take, Option, Some, None, refl, ap, sym, ◌∙◌, subst, arith, length, length-append}
 use Rattle.std.proofs.lemmas.Bool.{ltb-true, ltb-false}
 use Rattle.std.proofs.lemmas.List.{length-take, length-set}
 use Rattle.ds_formula.specs.declared.cells.Cell.{Cell}
@@ -27,7 +27,7 @@ use Rattle.ds_state.specs.declared.work.WorkEnd.TheVariants.{NotDirty, Missed, W
 use Rattle.ds_state.specs.declared.work.WorkStage.TheVariants.{LoadMark, Claim, FlushClaim, BackClaim, LoadHead, LoadHeader, LoadText, Read, LoadValue, LoadKind, LoadOwnValue, LoadOwnKind, Wait, StoreValue, StoreKind, FlushValue, FlushKind, BackValue, BackKind, Telling, Clear, ClearDirty, Give, GiveDirty, FlushCleared, BackCleared, Answer}
 use Rattle.ds_state.specs.declared.work.Spread.TheVariants.{LoadRow, OrTold, FlushTold, BackTold}
 use Rattle.ds_work.specs.WorkSteps.{at, claim_of, next_at, claims_from, head_from, header_from, text_from, told, tell_from}
-use Rattle.ds_work.specs.Noted.{mark_at, head_at, length_at, length_in, text_after, text_at, inputs_after, inputs_at, value_after, value_at, kind_after, kind_at, row_after, row_at, stage_at, seen_mark}
+use Rattle.ds_work.specs.Noted.{mark_at, head_at, length_at, length_in, text_after, text_at, inputs_after, inputs_at, value_after, value_at, kind_after, kind_at, row_after, row_at, stage_at, seen_mark, notes}
 
 -- the work with these changes
 abbrev pub noted : PlainWork → WorkStage → ℕ → PlainWork
@@ -319,6 +319,42 @@ pub made : (e v : PlainWork) (word mark head count value kind : ℕ) (text row :
     → value ≡ value_after v.value v.stage word → kind ≡ kind_after v.kind v.stage word
     → record v { mark = mark; head = head; length = count; text = text; inputs = inputs; value = value; kind = kind; row = row; stage = stage } ≡ next_at e e.stage word
 made e v word mark head count value kind text row inputs stage same a b c d f g h i j = rw (f, g, h, i, j, same, a, b, c, d) (sym (next_noted e word e.stage))
+
+-- the next work, where nothing is noted
+pub plain_next : (e : PlainWork) (word : ℕ) (s : WorkStage) → notes s ≡ false → at e (stage_at e s word) ≡ next_at e s word
+plain_next e word FlushClaim is = sym (next_noted e word FlushClaim)
+plain_next e word BackClaim is = sym (next_noted e word BackClaim)
+plain_next e word Read is = sym (next_noted e word Read)
+plain_next e word (LoadValue i) is = sym (next_noted e word (LoadValue i))
+plain_next e word Wait is = sym (next_noted e word Wait)
+plain_next e word StoreValue is = sym (next_noted e word StoreValue)
+plain_next e word StoreKind is = sym (next_noted e word StoreKind)
+plain_next e word FlushValue is = sym (next_noted e word FlushValue)
+plain_next e word FlushKind is = sym (next_noted e word FlushKind)
+plain_next e word BackValue is = sym (next_noted e word BackValue)
+plain_next e word (Telling (OrTold d)) is = sym (next_noted e word (Telling (OrTold d)))
+plain_next e word (Telling (FlushTold d)) is = sym (next_noted e word (Telling (FlushTold d)))
+plain_next e word (Telling (BackTold d)) is = sym (next_noted e word (Telling (BackTold d)))
+plain_next e word (Clear changed) is = sym (next_noted e word (Clear changed))
+plain_next e word ClearDirty is = sym (next_noted e word ClearDirty)
+plain_next e word Give is = sym (next_noted e word Give)
+plain_next e word GiveDirty is = sym (next_noted e word GiveDirty)
+plain_next e word (FlushCleared end) is = sym (next_noted e word (FlushCleared end))
+plain_next e word (BackCleared end) is = sym (next_noted e word (BackCleared end))
+plain_next e word (Answer end) is = sym (next_noted e word (Answer end))
+plain_next e word LoadMark is = absurd (cc)
+plain_next e word Claim is = absurd (cc)
+plain_next e word LoadHead is = absurd (cc)
+plain_next e word LoadHeader is = absurd (cc)
+plain_next e word (LoadText part) is = absurd (cc)
+plain_next e word (LoadKind i value) is = absurd (cc)
+plain_next e word LoadOwnValue is = absurd (cc)
+plain_next e word LoadOwnKind is = absurd (cc)
+plain_next e word BackKind is = absurd (cc)
+plain_next e word (Telling (LoadRow part)) is = absurd (cc)
+
+pub goes_on : (e v : PlainWork) (word : ℕ) (stage : WorkStage) → v ≡ e → notes e.stage ≡ false → stage ≡ stage_at e e.stage word → at v stage ≡ next_at e e.stage word
+goes_on e v word stage same plain is = ap (λ (x : PlainWork). at x stage) same ∙ ap (λ (s : WorkStage). at e s) is ∙ plain_next e word e.stage plain
 
 pub next_within : (e : PlainWork) (word room : ℕ) → IsWork e → e.cells ≤ room → IsWorkIn (next_at e e.stage word) room
 next_within e word room h fits = record { is = next_is e word e.stage h; room = subst (λ (n : ℕ). n ≤ room) (sym (ap (λ (x : PlainWork). x.cells) (next_noted e word e.stage))) fits }

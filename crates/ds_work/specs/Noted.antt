@@ -1,5 +1,5 @@
 -- What a step of work changes, field by field, and what the process does by its turn.
-use Rattle.std.specs.Prelude.{ℕ, ◌/◌, ◌==◌, ◌^◌, nat_lt, if◌then◌else◌, ◌<◌, List, [], ◌∷◌, ◌++◌, length, take, Option, Some, None}
+use Rattle.std.specs.Prelude.{ℕ, ◌/◌, ◌==◌, ◌^◌, nat_lt, if◌then◌else◌, ◌<◌, List, [], ◌∷◌, ◌++◌, length, take, Option, Some, None, Bool, true, false}
 use Rattle.ds_eval.specs.declared.inputs.Input.{Input}
 use Rattle.ds_eval.specs.Inputs.{with_entry}
 use Rattle.ds_layout.specs.declared.header.Header.{Header}
@@ -16,6 +16,20 @@ use Rattle.ds_state.specs.declared.work.WorkStage.TheVariants.{LoadMark, Claim, 
 use Rattle.ds_work.specs.WorkSteps.{claim_of, next_at}
 use Rattle.ds_work.specs.declared.machine.Doing.{Doing}
 use Rattle.ds_work.specs.declared.machine.Doing.TheVariants as turns
+
+-- whether work notes what the access of a stage finds, beside the stage that comes next
+abbrev pub notes : WorkStage → Bool
+notes LoadMark = true
+notes Claim = true
+notes LoadHead = true
+notes LoadHeader = true
+notes (LoadText part) = true
+notes (LoadKind i value) = true
+notes LoadOwnValue = true
+notes LoadOwnKind = true
+notes BackKind = true
+notes (Telling (LoadRow part)) = true
+notes stage = false
 
 -- the mark that work has noted after it loaded this word: the word, where it may be claimed, else the mark from
 -- before

@@ -1,6 +1,6 @@
 //! A step of a process that works.
 
-ghost use Rattle.std.specs.Prelude.{◌≡◌, ◌<◌, IfSome, IfNone};
+ghost use Rattle.std.specs.Prelude.{◌≡◌, ◌<◌, IsTrue, IsFalse, IfSome, IfNone};
 ghost use Rattle.ds_formula.specs.Cells.{count_of};
 ghost use Rattle.ds_state.specs.Works.{PlainWork};
 ghost use Rattle.ds_state.specs.Value.{world_of};
@@ -44,6 +44,13 @@ fn work_of(situation: &Situation) -> Option<&WorkCall>
         Situation::Idle(_) | Situation::Stopped | Situation::Editing(_) => None,
         Situation::Recovering(_) | Situation::Showing(_) => None,
     }
+}
+
+// Whether its next step is an access.
+fn goes_on(call: &WorkCall) -> bool
+    ensures { IsTrue result → turn_at call.now.stage ≡ Steps }
+{
+    turn(call) == Doing::Steps
 }
 
 // The work goes on with the word that its access answered.
@@ -134,4 +141,29 @@ pub fn step(alloc: Global, world: &mut World, process: usize) -> Taken
             Taken::Answered(end)
         }
     }
+}
+
+/// A process makes the next step of its work, where that takes no memory and is not its answer, and
+/// says so: it is the one that `step` would make. Else nothing changes.
+pub fn advances(world: &mut World, process: usize) -> bool
+    ensures takes { IsTrue result → StepsBy (world_of world.old) process Stepped (world_of world.new) }
+    ensures unchanged { IsFalse result → world.new ≡ world.old }
+    ensures done { world.new.done ≡ world.old.done }
+    ensures settled { world.new.settled ≡ world.old.settled }
+    ensures reports { world.new.reports ≡ world.old.reports }
+{
+    if process >= world.situations.len() {
+        return false;
+    }
+    let shape = world.words.layout().shape;
+    let Some(call) = work_of(&world.situations[process]) else {
+        return false;
+    };
+    if !goes_on(call) {
+        return false;
+    }
+    works_are_of_a_sheet(call);
+    let access = want(call, shape);
+    step_on(world, process, access);
+    true
 }

@@ -1,6 +1,6 @@
 //! The machine of work: the access of each stage, and the stage that follows it.
 
-ghost use Rattle.std.specs.Prelude.{◌≡◌, ◌+◌, ◌-◌, ◌*◌, ◌/◌, ◌%◌, ◌<◌, ◌≤◌, ◌++◌, length, take, IsTrue, ◌↔◌};
+ghost use Rattle.std.specs.Prelude.{◌≡◌, false, ◌+◌, ◌-◌, ◌*◌, ◌/◌, ◌%◌, ◌<◌, ◌≤◌, ◌++◌, length, take, IsTrue, ◌↔◌};
 ghost use Rattle.ds_layout.specs.Head.{head_of};
 ghost use Rattle.ds_layout.specs.Header.{header_of};
 ghost use Rattle.ds_layout.specs.Mark.{mark_of, state_of, holder_code, dirty_bit, mark_word, generation_of};
@@ -12,7 +12,7 @@ ghost use Rattle.ds_state.specs.Works.{PlainWork, StageFits, SEEN_MOST};
 ghost use Rattle.ds_state.specs.declared.work.WorkStage.TheVariants.{LoadMark, Claim, Clear, Give, Telling};
 ghost use Rattle.ds_state.specs.declared.work.Spread.TheVariants.{LoadRow};
 ghost use Rattle.ds_work.specs.WorkSteps.{record_header, record_text, claim_of, parts_of, input_place, access_at, next_at, claims_from, head_from, header_from, text_from, input_from, told, tell_from, row_from, spread_access, spread_next};
-ghost use Rattle.ds_work.specs.Noted.{mark_at, head_at, length_at, text_after, inputs_after, value_after, kind_after, row_after, stage_at, turn_at, FitsInputs, FitsRow};
+ghost use Rattle.ds_work.specs.Noted.{mark_at, head_at, length_at, text_after, inputs_after, value_after, kind_after, row_after, stage_at, notes, turn_at, FitsInputs, FitsRow};
 
 use ds_eval::inputs::{Entry, Inputs};
 use ds_eval::value::Value;
@@ -23,7 +23,7 @@ use ds_layout::header::Header;
 use ds_layout::mark::{DIRTY, Mark, State};
 use ds_layout::place::Place;
 use ds_layout::stored::{Kind, Stored};
-use ds_layout::text::part_bytes;
+use ds_layout::text::{part_bytes, text_parts};
 use ds_state::row::Row;
 use ds_state::text::Text;
 use ds_state::work::{Spread, WorkCall, WorkEnd, WorkStage};
@@ -225,7 +225,7 @@ fn text_from(length: usize, part: usize) -> WorkStage
     requires { length ≤ TEXT_BYTES }
     ensures { (e : PlainWork) → e.length ≡ length → result ≡ (text_from e part).stage }
 {
-    if part < length.div_ceil(8) {
+    if part < text_parts(length) {
         WorkStage::LoadText(part)
     } else {
         WorkStage::Read
@@ -252,25 +252,11 @@ pub(crate) fn input_from(count: usize, i: usize) -> WorkStage
     }
 }
 
-// Whether the row has the bit of a cell. A part that it has not has no bits.
-fn stands(row: &[u64], cell: usize) -> bool
-    ensures { IsTrue result ↔ StandsIn row.now cell }
-{
-    let part = bits::part(cell);
-    part < row.len() && bits::has_bit(row[part], cell)
-}
-
 // The first cell from this one on whose bit the row has.
 fn told_from(row: &[u64], cells: usize, from: usize) -> Option<usize>
-    requires { from ≤ cells }
     ensures { result ≡ told_from row.now (cells - from) from }
 {
-    for cell in from..cells {
-        if stands(row, cell) {
-            return Some(cell);
-        }
-    }
-    None
+    bits::first_bit(row, from, cells)
 }
 
 // The next cell that is told; where all are told, the cell is let go.
@@ -289,7 +275,7 @@ fn row_from(call: &WorkCall, part: usize, word: u64) -> WorkStage
     requires loaded { length call.now.row ≡ part }
     ensures { result ≡ (spread_next call.now (LoadRow part) word).stage }
 {
-    let parts = call.cells.div_ceil(64);
+    let parts = bits::parts(call.cells);
     if part + 1 < parts {
         return WorkStage::Telling(Spread::LoadRow(part + 1));
     }
@@ -494,9 +480,21 @@ fn noted_kind(kind: u64, stage: WorkStage, word: u64) -> u64
     }
 }
 
-/// The work goes on with the word that its access answered, whatever that is. Where it reads, waits
-/// or answers, it stays as it is.
-pub fn got(call: &mut WorkCall, word: u64)
+// Whether work notes what the access of a stage finds.
+fn notes(stage: WorkStage) -> bool
+    ensures { result ≡ notes stage }
+{
+    match stage {
+        WorkStage::LoadMark | WorkStage::Claim | WorkStage::LoadHead => true,
+        WorkStage::LoadHeader | WorkStage::LoadText(_) | WorkStage::LoadKind(_, _) => true,
+        WorkStage::LoadOwnValue | WorkStage::LoadOwnKind | WorkStage::BackKind => true,
+        WorkStage::Telling(Spread::LoadRow(_)) => true,
+        _ => false,
+    }
+}
+
+// The work goes on, and notes what it found.
+fn note(call: &mut WorkCall, word: u64)
     ensures { call.new ≡ next_at call.old call.old.stage word }
 {
     let stage = call.stage;
@@ -513,4 +511,24 @@ pub fn got(call: &mut WorkCall, word: u64)
     call.value = noted_value(call.value, stage, word);
     call.kind = noted_kind(call.kind, stage, word);
     call.stage = next;
+}
+
+// The work goes on, and keeps what it has noted.
+fn go_on(call: &mut WorkCall, word: u64)
+    requires { notes call.old.stage ≡ false }
+    ensures { call.new ≡ next_at call.old call.old.stage word }
+{
+    call.stage = next(call, word);
+}
+
+/// The work goes on with the word that its access answered, whatever that is. Where it reads, waits
+/// or answers, it stays as it is.
+pub fn got(call: &mut WorkCall, word: u64)
+    ensures { call.new ≡ next_at call.old call.old.stage word }
+{
+    if notes(call.stage) {
+        note(call, word);
+    } else {
+        go_on(call, word);
+    }
 }

@@ -14,6 +14,6 @@ returns c =
     let f : PlainWork = record c.args.call.now { row = c.args.call.now.row ++ c.args.word ∷ [] } in
     let row = ap (λ (x : PlainWork). x.row) c.call.view_is in
     let cells = ap (λ (x : PlainWork). x.cells) c.call.view_is in
-    let none : nat_lt (c.args.part + 1) ((f.cells + 63) / 64) ≡ false = let parts = c.div_ceil-parts.ensures in let past = c.if-part-parts.false in grind (arith, nat_tests) in
+    let none : nat_lt (c.args.part + 1) ((f.cells + 63) / 64) ≡ false = let parts = c.parts-parts.ensures in let past = c.if-part-parts.false in grind (arith, nat_tests) in
     c.tell_from.ensures f (ap (λ (xs : List ℕ). xs ++ c.args.word ∷ []) (sym (c.copy-row.ensures ∙ row)) ∙ sym (c.as_slice.ensures ∙ c.push.ensures)) refl
     ∙ ap (λ (b : Bool). (if b then at f (Telling (LoadRow (c.args.part + 1))) else tell_from f 0).stage) (sym none)

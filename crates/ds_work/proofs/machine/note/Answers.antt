@@ -3,7 +3,7 @@ use Rattle.ds_formula.specs.Plain.{plain}
 use Rattle.ds_state.specs.Works.{PlainWork, IsWork, IsWorkIn}
 use Rattle.ds_work.specs.WorkSteps.{next_at}
 use Rattle.ds_work.proofs.Next.{made, next_within}
-use Rattle.ds_work.proofs.machine.got.Goals as goal
+use Rattle.ds_work.proofs.machine.note.Goals as goal
 
 made_so : (c : goal.After-next-1) → record { process = c.call.inside.process; next = c.call.inside.next; cell = c.call.inside.cell; cells = c.call.inside.cells; processes = c.call.inside.processes; mark = c.noted_mark-mark.result; head = c.noted_head-head.result; length = c.noted_length-count.result; text = c.note_text.new.text; content = plain c.call.inside.content; inputs = c.note_input.new.inputs.items; value = c.noted_value-call-inside.result; kind = c.noted_kind-call-inside.result; entry = c.call.inside.entry; row = c.note_row.new.row; stage = c.next-next.result }
     ≡ next_at c.args.call.now c.args.call.now.stage c.args.word
