@@ -14,6 +14,15 @@ use denote.Hole.{as_row}
 use denote.Struct.Field.{usize-field, u64-field}
 use denote.Struct.Declared.{row}
 use denote.Struct.Record.{declared}
+use Rattle.http_server.proofs.log.Log.TheSendSync.{the_send as log_send}
+use Rattle.ds_core.specs.contracts.event.Event as Event
+use Rattle.ds_core.specs.contracts.event.Request as Request
+use Rattle.ds_core.specs.contracts.reply.Reply as Reply
+use Rattle.ds_eval.specs.contracts.task.Task as Task
+use Rattle.ds_eval.specs.contracts.task.Evaluated as Evaluated
+use Rattle.ds_eval.specs.contracts.task.Task.TheInside as task
+use Rattle.ds_formula.specs.contracts.cells.Cell as Cell
+use Rattle.ds_formula.specs.contracts.cells.Shape as Shape
 use Rattle.ds_state.specs.contracts.edit.EditCall.TheInside as edit
 use Rattle.ds_state.specs.contracts.work.WorkCall.TheInside as work
 use Rattle.ds_formula.proofs.content.Tree.TheLaws.TheKnot.{crosses as trees}
@@ -186,6 +195,45 @@ Reports-send = search (sendable, crosses) depth 20
 pub world_send : IsSend World.the_row
 world_send = search (sendable, crosses, SheetWords-send, Situation-send, Edit-send, Issue-send, Reports-send) depth 60 fits 100000
 
+Cell-send : IsSend Cell.the_row
+Cell-send = search (sendable, crosses) depth 20
+
+Shape-send : IsSend Shape.the_row
+Shape-send = search (sendable, crosses) depth 20
+
+Task-inside : IsSend (row (declared task.struct task.the_propositions))
+Task-inside = declared_send (declared task.struct task.the_propositions) (
+  usize-send,
+  (
+    Cell-send,
+    (
+      u64-send,
+      (
+        Shape-send,
+        (
+          Content-send,
+          (as_row_send Inputs.the_field Inputs-send, tt),
+        ),
+      ),
+    ),
+  ),
+)
+
+Task-send : IsSend Task.the_row
+Task-send = view_send (row (declared task.struct task.the_propositions)) _ _ _ _ Task-inside
+
+Evaluated-send : IsSend Evaluated.the_row
+Evaluated-send = search (sendable, crosses, Task-send, Entry-send) depth 60 fits 100000
+
+Request-send : IsSend Request.the_row
+Request-send = search (sendable, crosses) depth 40
+
+Event-send : IsSend Event.the_row
+Event-send = search (sendable, crosses, Request-send, Evaluated-send) depth 60 fits 100000
+
+Reply-send : IsSend Reply.the_row
+Reply-send = search (sendable, crosses) depth 60 fits 100000
+
 module _ (L M : RattleType) (l : Ghosts L.Denot) (m : Ghosts M.Denot) where
   pub kept_send : IsSend (Kept.the_row L M l m)
   kept_send = search (sendable, crosses, world_send, book_send) depth 40
@@ -194,4 +242,4 @@ module _ (L M : RattleType) (l : Ghosts L.Denot) (m : Ghosts M.Denot) where
   sheet_sync = search (sendable, crosses, kept_send) depth 40
 
   pub pass_send : IsSend (Pass.the_row L M l m)
-  pass_send = search (sendable, crosses, share_send) depth 40
+  pass_send = search (sendable, crosses, share_send, log_send, Event-send, Reply-send) depth 40

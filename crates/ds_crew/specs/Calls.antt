@@ -7,7 +7,7 @@ use Rattle.ds_edit.specs.declared.answer.Answer.TheVariants as answers
 use Rattle.ds_core.specs.declared.event.Event.{Event}
 use Rattle.ds_core.specs.declared.event.Event.TheVariants.{Step}
 use Rattle.ds_core.specs.declared.reply.Reply.{Reply}
-use Rattle.ds_core.specs.declared.reply.Reply.TheVariants.{Stepped, Answered, NotEnabled}
+use Rattle.ds_core.specs.declared.reply.Reply.TheVariants.{Stepped, Answered, NotEnabled, Refused}
 use Rattle.ds_crew.specs.declared.steps.Call.{Call}
 use Rattle.ds_crew.specs.declared.steps.Call.TheVariants.{Edit, Work, Report, Recovery}
 
@@ -37,6 +37,13 @@ IsStepOf Report (Answered (answers.Unsettled place word)) = Unit {0}
 IsStepOf Recovery (Answered (answers.Last told)) = Unit {0}
 IsStepOf Recovery (Answered answers.Nothing) = Unit {0}
 IsStepOf call reply = ⊥
+
+-- the last replies that each call can have: its answer; or, of its beginning, that it is refused or not enabled
+abbrev pub IsEndOf : Call → Reply → Type 0
+IsEndOf call (Answered answer) = IsStepOf call (Answered answer)
+IsEndOf call (Refused why) = Unit {0}
+IsEndOf call NotEnabled = Unit {0}
+IsEndOf call reply = ⊥
 
 -- the answer is one of work
 abbrev pub IsWorkAnswer : Answer → Type 0

@@ -1,17 +1,19 @@
 -- What the ends of locked calls say, and what they do to a pass.
-use Rattle.std.specs.Prelude.{ℕ, ◌≡◌, ◌+◌, List, [], length}
+use Rattle.std.specs.Prelude.{ℕ, ◌≡◌, ◌+◌, List, length}
 use Rattle.ds_formula.specs.declared.cells.Cell.{Cell}
 use Rattle.ds_edit.specs.declared.answer.Answer.TheVariants.{Settled}
+use Rattle.ds_edit.specs.declared.answer.Answer.TheVariants as answers
 use Rattle.ds_core.specs.declared.event.Event.{Event}
-use Rattle.ds_core.specs.declared.event.Event.TheVariants.{BeginEdit}
+use Rattle.ds_core.specs.declared.event.Event.TheVariants.{BeginEdit, BeginRecover, BeginShow}
 use Rattle.ds_core.specs.declared.reply.Reply.{Reply}
 use Rattle.ds_core.specs.declared.reply.Reply.TheVariants.{Answered}
-use Rattle.ds_crew.specs.declared.calls.EditEnd.{EditEnd}
-use Rattle.ds_crew.specs.declared.calls.EditEnd.TheVariants as ends
+use Rattle.ds_core.specs.declared.reply.Reply.TheVariants as replies
 use Rattle.ds_crew.specs.Receipts.{PlainReceipt}
-use Rattle.ds_crew.specs.Passes.{PlainPass}
+use Rattle.ds_crew.specs.Passes.{PlainPass, asked}
 use Rattle.ds_crew.specs.declared.ended.Edited.{Edited}
 use Rattle.ds_crew.specs.declared.ended.Edited.TheVariants as edited
+use Rattle.ds_crew.specs.declared.ended.Recovered.{Recovered}
+use Rattle.ds_crew.specs.declared.ended.Recovered.TheVariants as recovered
 use Rattle.ds_crew.specs.declared.ended.Shown.{Shown}
 use Rattle.ds_crew.specs.declared.ended.Shown.TheVariants as shown
 
@@ -31,24 +33,44 @@ abbrev pub AfterStep : ℕ → PlainPass → Reply → PlainPass → Type 0
 AfterStep cells old (Answered Settled) new = IsSettled cells old new
 AfterStep cells old reply new = new ≡ old
 
--- the pass after an edit: a Done is counted in its share, and all else stays
-abbrev pub after_edit : PlainPass → Edited → PlainPass
-after_edit pass end = record pass { dones = pass.dones + done_by end }
+-- the last reply of an edit that ended so
+abbrev pub edit_reply : Edited → Reply
+edit_reply (edited.Done receipt) = Answered (answers.Done receipt.number)
+edit_reply (edited.Overtaken number by) = Answered (answers.Overtaken number by)
+edit_reply (edited.Refused why) = replies.Refused why
+edit_reply edited.NotEnabled = replies.NotEnabled
 
--- how many edits the end of an edit's steps answers Done: 1 or 0
-abbrev pub ended_done : EditEnd → ℕ
-ended_done (ends.Done number) = 1
-ended_done end = 0
+-- the last reply of a report that ended so
+abbrev pub show_reply : Shown → Reply
+show_reply shown.Settled = Answered Settled
+show_reply (shown.Unsettled place word) = Answered (answers.Unsettled place word)
+show_reply (shown.Refused why) = replies.Refused why
+show_reply shown.NotEnabled = replies.NotEnabled
+
+-- the last reply of a recovery that ended so
+abbrev pub recovery_reply : Recovered → Reply
+recovery_reply (recovered.Last told) = Answered (answers.Last told)
+recovery_reply recovered.Nothing = Answered answers.Nothing
+recovery_reply (recovered.Refused why) = replies.Refused why
+recovery_reply recovered.NotEnabled = replies.NotEnabled
+
+-- the beginning of the pass's edit of this cell to this text
+abbrev pub edit_begin : PlainPass → Cell → List ℕ → Event
+edit_begin pass cell text = BeginEdit (record { process = pass.process; cell = cell; text = text })
+
+-- the pass after an edit of this cell to this text: it has the edit as its last call, a Done is counted in its share,
+-- and all else stays
+abbrev pub after_edit : Cell → List ℕ → PlainPass → Edited → PlainPass
+after_edit cell text pass end = record (asked pass (edit_begin pass cell text) (edit_reply end)) { dones = pass.dones + done_by end }
+
+-- the pass after a recovery: it has the recovery as its last call, and all else stays
+abbrev pub after_recovery : PlainPass → Recovered → PlainPass
+after_recovery pass end = asked pass (BeginRecover pass.process) (recovery_reply end)
 
 -- the beginning of an edit
 abbrev pub IsBegin : Event → Type 0
 IsBegin (BeginEdit request) = Unit {0}
 IsBegin event = ⊥
-
--- the text of the edit that an event begins
-abbrev pub text_in : Event → List ℕ
-text_in (BeginEdit request) = request.text
-text_in event = []
 
 -- the receipt names this process, this cell and this text
 pub record Names (process : ℕ) (cell : Cell) (text : List ℕ) (receipt : PlainReceipt) : Type 0 where
@@ -61,8 +83,13 @@ abbrev pub HasReceipt : ℕ → Cell → List ℕ → Edited → Type 0
 HasReceipt process cell text (edited.Done receipt) = Names process cell text receipt
 HasReceipt process cell text end = Unit {0}
 
--- the pass after a report of a sheet with so many cells: a Settled is counted, and the pass then keeps a value for each
--- cell; else all stays
+-- an edit that is answered Done has a receipt of what was asked for by the event that began it
+abbrev pub HasReceiptOf : Event → Edited → Type 0
+HasReceiptOf (BeginEdit request) end = HasReceipt request.process request.cell request.text end
+HasReceiptOf begin end = ⊥
+
+-- the pass after a report of a sheet with so many cells: it has the report as its last call; a Settled is counted, and
+-- the pass then keeps a value for each cell; else all else stays
 abbrev pub AfterReport : ℕ → PlainPass → Shown → PlainPass → Type 0
-AfterReport cells old shown.Settled new = IsSettled cells old new
-AfterReport cells old end new = new ≡ old
+AfterReport cells old shown.Settled new = IsSettled cells (asked old (BeginShow old.process) (Answered Settled)) new
+AfterReport cells old end new = new ≡ asked old (BeginShow old.process) (show_reply end)

@@ -1,16 +1,25 @@
 -- What passes hold, and how they stand to a world.
-use Rattle.std.specs.Prelude.{ℕ, zero, suc, ◌≡◌, ◌≢◌, ◌⊎◌, ◌<◌, List, [], ◌∷◌, length, Option, Some, None, slice_index_or, sum_by}
+use Rattle.std.specs.Prelude.{ℕ, zero, suc, ◌≡◌, ◌≢◌, ◌⊎◌, ◌<◌, List, [], ◌∷◌, length, ◌++◌, Option, Some, None, slice_index_or, sum_by}
 use Rattle.ds_eval.specs.declared.value.Value.{Value}
 use Rattle.ds_state.specs.Reports.{PlainReports}
 use Rattle.ds_state.specs.Value.{WorldValue}
+use Rattle.ds_core.specs.declared.event.Event.{Event}
+use Rattle.ds_core.specs.declared.reply.Reply.{Reply}
 use Rattle.ds_crew.specs.Kept.{report_of}
 
--- a process, the values of its last settled report, and its shares of the counts of Done and of Settled answers
+-- a process, the values of its last settled report, its shares of the counts of Done and of Settled answers, and the
+-- edits, reports and recoveries that the pass was used for, in order: of each the event that began it, and its last
+-- reply
 pub record PlainPass : Type 0 where
   pub process : ℕ
   pub last : List Value
   pub dones : ℕ
   pub settleds : ℕ
+  pub calls : List (Event × Reply)
+
+-- the pass, once it was used for one call more, which this event began, and which had this as its last reply
+abbrev pub asked : PlainPass → Event → Reply → PlainPass
+asked pass begin reply = record pass { calls = pass.calls ++ (begin, reply) ∷ [] }
 
 -- the Done answers that all passes have counted
 abbrev pub dones_of : List PlainPass → ℕ
@@ -32,6 +41,7 @@ first_pass w process = record {
   last = report_of w.reports process;
   dones = first_count w.done process;
   settleds = first_count w.settled process;
+  calls = [];
 }
 
 -- these are the values of each process's last settled report

@@ -3,9 +3,10 @@
 ghost use Rattle.std.specs.Prelude.{◌≡◌, ◌<◌, ◌+◌, IfSome};
 ghost use Rattle.ds_layout.specs.Places.{cells_of};
 ghost use Rattle.ds_core.specs.Counts.{IsReplyTo, done_of};
-ghost use Rattle.ds_crew.specs.Calls.{CountsNothing, IsNoStep, IsStepOf, IsWorkAnswer};
-ghost use Rattle.ds_crew.specs.Ends.{AfterReport, AfterStep, HasReceipt, IsBegin, after_edit, done_by, ended_done, text_in};
-ghost use Rattle.ds_crew.specs.declared.steps.Call.TheVariants.{Edit, Report};
+ghost use Rattle.ds_core.specs.declared.event.Event.TheVariants.{BeginRecover};
+ghost use Rattle.ds_crew.specs.Calls.{CountsNothing, IsEndOf, IsNoStep, IsStepOf, IsWorkAnswer};
+ghost use Rattle.ds_crew.specs.Ends.{AfterReport, AfterStep, HasReceipt, HasReceiptOf, IsBegin, after_edit, after_recovery, edit_reply, recovery_reply, show_reply};
+ghost use Rattle.ds_crew.specs.declared.steps.Call.TheVariants.{Edit, Recovery, Report};
 
 use crate::ended::{Edited, Receipt, Recovered, Shown, Worked};
 use crate::locked::LockedSheet;
@@ -14,7 +15,7 @@ use crate::steps::Call;
 use crate::workers::{Gate, Open};
 use ds_core::event::{Event, Request};
 use ds_core::reply::Reply;
-use ds_edit::answer::{Answer, Other};
+use ds_edit::answer::Answer;
 use ds_eval::task::{Task, evaluate};
 use ds_formula::cells::Cell;
 use ds_state::work::WorkEnd;
@@ -22,14 +23,6 @@ use ds_work::offer::TaskFault;
 use std::alloc::Global;
 use std::sync::Wait;
 use std::sync::ledger::Ledger;
-
-// How the steps of an edit ended.
-#[derive(Clone, Copy, Debug)]
-enum EditEnd {
-    Done(usize),
-    Overtaken(usize, Other),
-    NotEnabled,
-}
 
 // Each of these takes the lock for one event, and for nothing else.
 impl<L: Ledger, M: Ledger> LockedSheet<L, M> {
@@ -59,6 +52,7 @@ impl<L: Ledger, M: Ledger> LockedSheet<L, M> {
             last: _,
             dones,
             settleds: _,
+            calls: _,
         } = pass;
         self.kept.lock(rt).step_edit(alloc, *process, dones)
     }
@@ -74,6 +68,7 @@ impl<L: Ledger, M: Ledger> LockedSheet<L, M> {
             last,
             dones: _,
             settleds,
+            calls: _,
         } = pass;
         self.kept
             .lock(rt)
@@ -99,48 +94,78 @@ impl<L: Ledger, M: Ledger> LockedSheet<L, M> {
     }
 }
 
-// What the end of its steps makes of an edit: its receipt has the text of the event that began it.
-fn edited_by(process: usize, cell: Cell, event: Event, end: EditEnd) -> Edited
-    requires { IsBegin event }
-    ensures done { done_by result ≡ ended_done end }
-    ensures receipt { HasReceipt process cell (text_in event) result }
+// How an edit ended, by the event that began it and the last reply: its receipt has what was asked for.
+fn edited_by(begin: Event, reply: Reply) -> Edited
+    requires begin { IsBegin begin }
+    requires end { IsEndOf Edit reply }
+    ensures reply { edit_reply result ≡ reply }
+    ensures receipt { HasReceiptOf begin result }
 {
-    match end {
-        EditEnd::Done(number) => match event {
+    match reply {
+        Reply::Answered(Answer::Done(number)) => match begin {
             Event::BeginEdit(request) => Edited::Done(Receipt {
-                process,
+                process: request.process,
                 number,
-                cell,
+                cell: request.cell,
                 text: request.text,
             }),
             _ => unreachable!(),
         },
-        EditEnd::Overtaken(number, by) => Edited::Overtaken { number, by },
-        EditEnd::NotEnabled => Edited::NotEnabled,
+        Reply::Answered(Answer::Overtaken(number, by)) => Edited::Overtaken { number, by },
+        Reply::Refused(why) => Edited::Refused(why),
+        Reply::NotEnabled => Edited::NotEnabled,
+        _ => unreachable!(),
+    }
+}
+
+// How a report ended, by its last reply.
+fn shown_by(reply: Reply) -> Shown
+    requires { IsEndOf Report reply }
+    ensures { show_reply result ≡ reply }
+{
+    match reply {
+        Reply::Answered(Answer::Settled) => Shown::Settled,
+        Reply::Answered(Answer::Unsettled(place, word)) => Shown::Unsettled(place, word),
+        Reply::Refused(why) => Shown::Refused(why),
+        Reply::NotEnabled => Shown::NotEnabled,
+        _ => unreachable!(),
+    }
+}
+
+// How a recovery ended, by its last reply.
+fn recovered_by(reply: Reply) -> Recovered
+    requires { IsEndOf Recovery reply }
+    ensures { recovery_reply result ≡ reply }
+{
+    match reply {
+        Reply::Answered(Answer::Last(told)) => Recovered::Last(told),
+        Reply::Answered(Answer::Nothing) => Recovered::Nothing,
+        Reply::Refused(why) => Recovered::Refused(why),
+        Reply::NotEnabled => Recovered::NotEnabled,
+        _ => unreachable!(),
     }
 }
 
 impl<L: Ledger, M: Ledger> LockedSheet<L, M> {
-    // The steps of an edit, until its answer.
-    fn finish_edit<R: Wait>(&self, rt: &R, alloc: Global, pass: &mut Pass<L, M>) -> EditEnd
-        ensures { pass.new ≡ record pass.old { dones = pass.old.dones + ended_done result } }
+    // The steps of an edit, until its last reply.
+    fn finish_edit<R: Wait>(&self, rt: &R, alloc: Global, pass: &mut Pass<L, M>) -> Reply
+        ensures end { IsEndOf Edit result }
+        ensures pass { pass.new ≡ record pass.old { dones = pass.old.dones + done_of result } }
     {
         for _ in rt.forever() {
             match self.step_edit(rt, alloc, pass) {
                 Reply::Stepped => {}
-                Reply::Answered(Answer::Done(number)) => return EditEnd::Done(number),
-                Reply::Answered(Answer::Overtaken(number, by)) => {
-                    return EditEnd::Overtaken(number, by);
-                }
-                Reply::NotEnabled => return EditEnd::NotEnabled,
+                Reply::Answered(answer) => return Reply::Answered(answer),
+                Reply::NotEnabled => return Reply::NotEnabled,
                 _ => unreachable!(),
             }
         }
         unreachable!()
     }
 
-    /// Gives a cell a text: a whole edit by the pass's process. A Done is counted in the pass's share,
-    /// and has a receipt of the process, the cell and the text; any other end drops the text.
+    /// Gives a cell a text: a whole edit by the pass's process, which the pass remembers, with its end. A
+    /// Done is counted in the pass's share, and has a receipt of the process, the cell and the text; any
+    /// other end drops the text.
     pub fn edit<R: Wait>(
         &self,
         rt: &R,
@@ -149,55 +174,55 @@ impl<L: Ledger, M: Ledger> LockedSheet<L, M> {
         cell: Cell,
         text: Vec<u8>,
     ) -> Edited
-        ensures pass { pass.new ≡ after_edit pass.old result }
+        ensures pass { pass.new ≡ after_edit cell text.items pass.old result }
         ensures receipt { HasReceipt pass.old.process cell text.items result }
     {
-        let process = pass.process;
-        let event = Event::BeginEdit(Request {
-            process,
+        let begin = Event::BeginEdit(Request {
+            process: pass.process,
             cell,
             text,
         });
-        match self.happen(rt, alloc, &event) {
-            Reply::Begun(_) => {}
-            Reply::Refused(why) => return Edited::Refused(why),
-            Reply::NotEnabled => return Edited::NotEnabled,
+        let reply = match self.happen(rt, alloc, &begin) {
+            Reply::Begun(_) => self.finish_edit(rt, alloc, pass),
+            Reply::Refused(why) => Reply::Refused(why),
+            Reply::NotEnabled => Reply::NotEnabled,
             _ => unreachable!(),
-        }
-        let end = self.finish_edit(rt, alloc, pass);
-        edited_by(process, cell, event, end)
+        };
+        pass.remember(&begin, &reply);
+        edited_by(begin, reply)
     }
 
-    // The steps of a report, until its answer.
-    fn finish_report<R: Wait>(&self, rt: &R, alloc: Global, pass: &mut Pass<L, M>) -> Shown
-        ensures { AfterReport (cells_of self.now.layout) pass.old result pass.new }
+    // The steps of a report, until its last reply.
+    fn finish_report<R: Wait>(&self, rt: &R, alloc: Global, pass: &mut Pass<L, M>) -> Reply
+        ensures end { IsEndOf Report result }
+        ensures pass { AfterStep (cells_of self.now.layout) pass.old result pass.new }
     {
         for _ in rt.forever() {
             match self.step_report(rt, alloc, pass) {
                 Reply::Stepped => {}
-                Reply::Answered(Answer::Settled) => return Shown::Settled,
-                Reply::Answered(Answer::Unsettled(place, word)) => {
-                    return Shown::Unsettled(place, word);
-                }
-                Reply::NotEnabled => return Shown::NotEnabled,
+                Reply::Answered(answer) => return Reply::Answered(answer),
+                Reply::NotEnabled => return Reply::NotEnabled,
                 _ => unreachable!(),
             }
         }
         unreachable!()
     }
 
-    /// Reports the values of all cells: a whole report by the pass's process. A Settled is counted in
-    /// the pass's share, and its values are those that the pass then keeps: `Pass::last`. Any other end
-    /// leaves the pass as it was.
+    /// Reports the values of all cells: a whole report by the pass's process, which the pass remembers,
+    /// with its end. A Settled is counted in the pass's share, and its values are those that the pass then
+    /// keeps: `Pass::last`. Any other end leaves both as they were.
     pub fn show<R: Wait>(&self, rt: &R, alloc: Global, pass: &mut Pass<L, M>) -> Shown
         ensures { AfterReport (cells_of self.now.layout) pass.old result pass.new }
     {
-        match self.happen(rt, alloc, &Event::BeginShow(pass.process)) {
+        let begin = Event::BeginShow(pass.process);
+        let reply = match self.happen(rt, alloc, &begin) {
             Reply::Entered => self.finish_report(rt, alloc, pass),
-            Reply::Refused(why) => Shown::Refused(why),
-            Reply::NotEnabled => Shown::NotEnabled,
+            Reply::Refused(why) => Reply::Refused(why),
+            Reply::NotEnabled => Reply::NotEnabled,
             _ => unreachable!(),
-        }
+        };
+        pass.remember(&begin, &reply);
+        shown_by(reply)
     }
 }
 
@@ -291,34 +316,48 @@ impl<L: Ledger, M: Ledger> LockedSheet<L, M> {
         self.work_as(rt, alloc, pass.process, cell, &Open)
     }
 
-    // A whole recovery by a process.
-    pub(crate) fn recover_as<R: Wait>(&self, rt: &R, alloc: Global, process: usize) -> Recovered {
-        match self.happen(rt, alloc, &Event::BeginRecover(process)) {
+    // A whole recovery by a process, from the event that begins it to its last reply.
+    pub(crate) fn recover_as<R: Wait>(
+        &self,
+        rt: &R,
+        alloc: Global,
+        process: usize,
+        begin: &Event,
+    ) -> Reply
+        requires { begin.now ≡ BeginRecover process }
+        ensures { IsEndOf Recovery result }
+    {
+        match self.happen(rt, alloc, begin) {
             Reply::Entered => self.finish_recovery(rt, alloc, process),
-            Reply::Refused(why) => Recovered::Refused(why),
-            Reply::NotEnabled => Recovered::NotEnabled,
+            Reply::Refused(why) => Reply::Refused(why),
+            Reply::NotEnabled => Reply::NotEnabled,
             _ => unreachable!(),
         }
     }
 
-    // The steps of a recovery, until its answer.
-    fn finish_recovery<R: Wait>(&self, rt: &R, alloc: Global, process: usize) -> Recovered {
+    // The steps of a recovery, until its last reply.
+    fn finish_recovery<R: Wait>(&self, rt: &R, alloc: Global, process: usize) -> Reply
+        ensures { IsEndOf Recovery result }
+    {
         for _ in rt.forever() {
             match self.step(rt, alloc, process, Call::Recovery) {
                 Reply::Stepped => {}
-                Reply::Answered(Answer::Last(told)) => return Recovered::Last(told),
-                Reply::Answered(Answer::Nothing) => return Recovered::Nothing,
-                Reply::NotEnabled => return Recovered::NotEnabled,
+                Reply::Answered(answer) => return Reply::Answered(answer),
+                Reply::NotEnabled => return Reply::NotEnabled,
                 _ => unreachable!(),
             }
         }
         unreachable!()
     }
 
-    /// Recovers the pass's process, stopped or idle. A recovery counts nothing: the pass stays.
+    /// Recovers the pass's process, stopped or idle. The pass remembers the recovery, with its end, and
+    /// counts nothing.
     pub fn recover<R: Wait>(&self, rt: &R, alloc: Global, pass: &mut Pass<L, M>) -> Recovered
-        ensures { pass.new ≡ pass.old }
+        ensures { pass.new ≡ after_recovery pass.old result }
     {
-        self.recover_as(rt, alloc, pass.process)
+        let begin = Event::BeginRecover(pass.process);
+        let reply = self.recover_as(rt, alloc, pass.process, &begin);
+        pass.remember(&begin, &reply);
+        recovered_by(reply)
     }
 }

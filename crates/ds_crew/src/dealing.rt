@@ -79,6 +79,7 @@ pub(crate) fn gather<L: Ledger, M: Ledger>(passes: Vec<Pass<L, M>>) -> Option<(S
         last: _,
         mut dones,
         mut settleds,
+        calls: _,
     } = passes.pop()?;
     while let Some(pass) = passes.pop() {
         let Pass {
@@ -86,6 +87,7 @@ pub(crate) fn gather<L: Ledger, M: Ledger>(passes: Vec<Pass<L, M>>) -> Option<(S
             last: _,
             dones: more,
             settleds: others,
+            calls: _,
         } = pass;
         dones.merge(more);
         settleds.merge(others);

@@ -5,6 +5,7 @@ ghost use Rattle.std.specs.Prelude.{◌≡◌, ◌≤◌, length};
 use crate::ended::Worked;
 use crate::locked::LockedSheet;
 use crate::pass::Pass;
+use ds_core::event::Event;
 use ds_formula::cells::Cell;
 use ds_state::refusal::Refusal;
 use std::alloc::Global;
@@ -44,7 +45,8 @@ fn round<L: Ledger, M: Ledger, G: Gate, R: Wait>(
     for index in 0..shape.count() {
         let worked = sheet.work_as(rt, alloc, process, shape.cell(index), gate);
         if worked == Worked::Refused(Refusal::Stopped) {
-            let _recovered = sheet.recover_as(rt, alloc, process);
+            let begin = Event::BeginRecover(process);
+            let _reply = sheet.recover_as(rt, alloc, process, &begin);
         }
     }
 }

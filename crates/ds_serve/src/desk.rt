@@ -2,10 +2,10 @@
 
 ghost use Rattle.std.specs.Prelude.{◌≡◌, ◌<◌, ◌≤◌, ℕ, List, length, vec_capacity, Some};
 ghost use Rattle.ds_crew.specs.Passes.{PlainPass};
-ghost use Rattle.ds_crew.specs.Ends.{after_edit};
-ghost use Rattle.ds_server.specs.Calls.{Set, Report};
-ghost use Rattle.ds_server.specs.Replies.{set_view, report_view};
-ghost use Rattle.ds_serve.specs.Desks.{Deals};
+ghost use Rattle.ds_crew.specs.Ends.{after_edit, after_recovery, recovery_reply};
+ghost use Rattle.ds_server.specs.Calls.{Last, Set, Report};
+ghost use Rattle.ds_server.specs.Replies.{last_view, set_view, report_view};
+ghost use Rattle.ds_serve.specs.Desks.{Deals, IsToldBy};
 
 use crate::settle::settle;
 use crossbeam_queue::ArrayQueue;
@@ -46,7 +46,10 @@ impl<'a, L: Ledger, M: Ledger, R: Wait> Desk<'a, L, M, R> {
 }
 
 // What a recovery tells, or why it was refused.
-fn told(recovered: Recovered) -> Result<Option<Told>, CallRefusal> {
+fn told(recovered: Recovered) -> Result<Option<Told>, CallRefusal>
+    ensures told { IsToldBy (recovery_reply recovered) result }
+    ensures deals { (pass : PlainPass) → Deals (Some pass) (Last pass.process) (last_view result) (Some (after_recovery pass recovered)) }
+{
     match recovered {
         Recovered::Last(told) => Ok(Some(told)),
         Recovered::Nothing => Ok(None),
@@ -57,7 +60,7 @@ fn told(recovered: Recovered) -> Result<Option<Told>, CallRefusal> {
 
 // How an edit ended, or why it was refused. Its receipt is dropped.
 fn ended(edited: Edited) -> Result<EditEnd, CallRefusal>
-    ensures { (pass : PlainPass) (cell : Cell) (text : List ℕ) → Deals (Some pass) (Set pass.process cell text) (set_view result) (Some (after_edit pass edited)) }
+    ensures { (pass : PlainPass) (cell : Cell) (text : List ℕ) → Deals (Some pass) (Set pass.process cell text) (set_view result) (Some (after_edit cell text pass edited)) }
 {
     match edited {
         Edited::Done(receipt) => Ok(EditEnd::Done(receipt.number)),
