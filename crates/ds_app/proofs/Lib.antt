@@ -1,2 +1,3 @@
 mod Matched
 mod Grown
+mod Refused

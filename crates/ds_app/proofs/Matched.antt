@@ -1,15 +1,17 @@
 -- What the getters of `clap` read, by the rows of the matches.
-use Rattle.std.proofs.Common.{◌≡◌, ◌∙◌, sym, subst, refl, ap, ap₂, codes, Bool, true, false, Option, Some, None, Result, Ok, Err, List, ℕ, option_map, ◌↔◌, IsTrue}
+use Rattle.std.proofs.Common.{◌≡◌, ◌∙◌, sym, subst, refl, ap, ap₂, codes, Bool, true, false, Option, Some, None, Result, Ok, Err, List, ℕ, option_map, ◌↔◌, ◌<◌, IsTrue}
 use Rattle.std.specs.Option.{option_eq}
 use mathlib.Core.Bool.{beq}
-use Rattle.std.specs.Str.Parse.{ParsesUnsigned, ParsesBool}
+use Rattle.std.specs.Str.Parse.{IsNumeral, ParsesUnsigned, ParsesBool, digits_value, without_leading_plus}
 use Rattle.std.specs.Borrow.{Bor}
 use Rattle.std.specs.Prelude.{Box}
 use Rattle.std.specs.Box.{box_value}
 use Rattle.clap.specs.Simple.{subcommand_rows}
 use Rattle.clap.specs.declared.parser.matches.SubCommand.{SubCommand}
 use Rattle.clap.specs.declared.parser.matches.ArgMatches.TheViews.{out-SubCommand}
-use Rattle.ds_app.specs.Servings.{IsNumberOf}
+use Rattle.std.specs.Net.Grammar.{IsSocketText}
+use Rattle.std.specs.declared.net.socket_addr.SocketAddr.{SocketAddr}
+use Rattle.ds_app.specs.Servings.{HasNoAddress, HasNoNumber, IsNumberOf}
 use Rattle.clap.specs.Words.{Row, Text, found_of, first_of, first_value, one_of, one_text, rows_of, ReadsOne}
 use Rattle.clap.specs.declared.parser.matches.Found.{Found}
 use Rattle.clap.proofs.WalkLemmas.{first_value-rows, one_text-rows}
@@ -36,6 +38,36 @@ number_of {E = E} gives parses f name r x none value is =
     let read = read_of gives f name r x none value is in
     let number : ParsesUnsigned {E = E} 16 10 read.0 (Ok x) = parses read.0 (Ok x) read.2 in
     record { text = read.0; has = read.1; numeral = number.0.0; value = number.1 }
+
+-- an option of which no number of 16 bits was read has none
+pub no_number_of : {E : Type 0} (gives : List ℕ → Result ℕ E → Type 0) → ((t : List ℕ) (r : Result ℕ E) → gives t r → ParsesUnsigned {E = E} 16 10 t r)
+    → (f : Found) (name : Text) (r : Option ℕ)
+    → ((t : List ℕ) → one_text f name ≡ Some t → ReadsOne gives t r) → r ≡ None → HasNoNumber (rows_of f) name
+no_number_of {E = E} gives parses f name r value is n below has =
+    let read : ReadsOne gives has.text None = subst (ReadsOne gives has.text) is (value has.text (one_text-rows f name ∙ has.has)) in
+    let refused : IsNumeral 10 (without_leading_plus has.text) × (digits_value 10 (without_leading_plus has.text) < 65536) → ⊥ = parses has.text (Err read.0) read.1 in
+    refused (has.numeral, subst (λ k. k < 65536) has.value below)
+
+-- an option has one number
+pub one_number : (rows : List Row) (name : Text) (m n : ℕ) → IsNumberOf rows name m → IsNumberOf rows name n → m ≡ n
+one_number rows name m n a b =
+    let same : Some a.text ≡ Some b.text = sym a.has ∙ b.has in
+    let text : a.text ≡ b.text = cc in
+    a.value ∙ ap (λ t. digits_value 10 (without_leading_plus t)) text ∙ sym b.value
+
+-- an option that has no text has no address
+pub no_text_of : (f : Found) (name : Text) (r : Option (Bor Text)) → option_map (λ s. s.now) r ≡ first_value f name → r ≡ None → HasNoAddress (rows_of f) name
+no_text_of f name r gives is a has =
+    let none : first_value f name ≡ None = sym gives ∙ ap (option_map (λ (s : Bor Text). s.now)) is in
+    let bad : Some has.text ≡ None = sym has.has ∙ sym (first_value-rows f name) ∙ none in cc
+
+-- an option whose text spells no address has none
+pub no_address_of : (f : Found) (name : Text) (r : Option (Bor Text)) (x : Bor Text) → option_map (λ s. s.now) r ≡ first_value f name → r ≡ Some x
+    → ((a : SocketAddr) → IsSocketText x.now a → ⊥) → HasNoAddress (rows_of f) name
+no_address_of f name r x gives is none a has =
+    let same : Some x.now ≡ Some has.text = sym (text_of f name r x gives is) ∙ has.has in
+    let text : x.now ≡ has.text = cc in
+    none a (subst (λ t. IsSocketText t a) (sym text) has.spells)
 
 -- a flag that was read as set
 pub set_of : {E : Type 0} (gives : List ℕ → Result Bool E → Type 0) → ((t : List ℕ) (r : Result Bool E) → gives t r → ParsesBool {E = E} t r)

@@ -1,13 +1,16 @@
 -- The command line of `dsheet`, and what its words ask for.
-use Rattle.std.specs.Prelude.{◌≡◌, List, [], ◌∷◌, Some, false, true, codes, pos}
-use Rattle.clap.specs.Words.{App, app_of, Row, Rule, Text, new_app, new_rule, one_of, subcommand_of, with_rule, with_subcommand}
+use Rattle.std.specs.Prelude.{◌≡◌, ◌≢◌, List, [], ◌∷◌, Option, Some, None, false, true, codes, pos}
+use Rattle.clap.specs.Words.{App, app_of, Row, Rule, Text, HasKind, fault_of, kind_of, new_app, new_rule, one_of, subcommand_of, with_rule, with_subcommand}
+use Rattle.clap.specs.declared.error.kind.ErrorKind.TheVariants.{OutOfMemory}
 use Rattle.clap.specs.declared.builder.command.Command.{Command}
 use Rattle.clap.specs.declared.builder.command.Command.TheViews.{out-Command as fields_of}
 use Rattle.clap.specs.declared.builder.action.ArgAction.TheVariants.{SetTrue}
 use Rattle.clap.specs.declared.builder.value_parser.ValueParser.TheVariants.{Signed}
 use Rattle.ds_app.specs.declared.command_line.Action.{Action}
 use Rattle.ds_app.specs.declared.command_line.Action.TheVariants.{Run, Stops, Report, Serve}
-use Rattle.ds_app.specs.Servings.{IsServing}
+use Rattle.ds_app.specs.declared.command_line.OptionsFault.{OptionsFault}
+use Rattle.ds_app.specs.declared.command_line.OptionsFault.TheVariants.{CommandLine, NoCommand, OutOfLimits}
+use Rattle.ds_app.specs.Servings.{IsOutOfLimits, IsServing}
 
 -- `clap`'s command is this one, with no global argument
 pub record IsCommand (app : App) (command : Command) : Type 0 where
@@ -71,3 +74,27 @@ Asks name rows (Serve serving) = (name ≡ codes "serve") × IsServing rows serv
 -- the words of the command line ask for this, by the subcommand and the matches that `clap` reads from them
 abbrev pub IsAskedBy : List Text → Action → Type 0
 IsAskedBy words action = (name : Text) × (rows : List Row) × (subcommand_of dsheet words ≡ Some (name, rows)) × Asks name rows action
+
+-- a subcommand of this name with these matches asks for nothing, for this fault: it is none of the three, or an option of
+-- `serve` is out of its limits
+abbrev pub AsksNothing : Text → List Row → OptionsFault → Type 0
+AsksNothing name rows (CommandLine error) = ⊥
+AsksNothing name rows NoCommand = (name ≢ codes "run") × (name ≢ codes "report") × (name ≢ codes "serve")
+AsksNothing name rows (OutOfLimits limit) = (name ≡ codes "serve") × IsOutOfLimits rows limit
+
+-- there is no subcommand, or it asks for nothing, for this fault
+abbrev pub NamesNothing : Option (Text × List Row) → OptionsFault → Type 0
+NamesNothing (Some entered) fault = AsksNothing entered.0 entered.1 fault
+NamesNothing None NoCommand = Unit {0}
+NamesNothing None fault = ⊥
+
+-- the words of the command line ask for nothing, for this fault: memory ran out, or `clap` gives the error for a fault
+-- of the words; or the subcommand that it reads from them asks for nothing
+abbrev pub IsRefusedFor : List Text → OptionsFault → Type 0
+IsRefusedFor words (CommandLine error) = HasKind (fault_of dsheet words) error
+IsRefusedFor words fault = NamesNothing (subcommand_of dsheet words) fault
+
+-- the error says that memory ran out
+abbrev pub IsWanting : OptionsFault → Type 0
+IsWanting (CommandLine error) = kind_of error ≡ OutOfMemory
+IsWanting fault = ⊥

@@ -4,6 +4,9 @@ use Rattle.std.specs.Str.Parse.{IsNumeral, digits_value, without_leading_plus}
 use Rattle.std.specs.Net.Grammar.{IsSocketText}
 use Rattle.std.specs.declared.net.socket_addr.SocketAddr.{SocketAddr}
 use Rattle.clap.specs.Words.{Row, Text, first_of, one_of}
+use Rattle.ds_formula.specs.Shapes.{MayHave}
+use Rattle.ds_app.specs.declared.serving.OutOfLimits.{OutOfLimits}
+use Rattle.ds_app.specs.declared.serving.OutOfLimits.TheVariants as limits
 use Rattle.ds_app.specs.declared.serving.Serving.{Serving}
 
 -- the option of this name has a decimal number as its value, and it is this one
@@ -36,3 +39,35 @@ pub record IsServing (matches : List Row) (s : Serving) : Type 0 where
   pub workers : IsNumberOf matches (codes "workers") s.workers
   pub sessions : IsNumberOf matches (codes "sessions") s.sessions
   pub within : IsWithinLimits s
+
+-- the option of this name has no number of 16 bits as its value
+abbrev pub HasNoNumber : List Row → Text → Type 0
+HasNoNumber rows name = (n : ℕ) → n < 65536 → IsNumberOf rows name n → ⊥
+
+-- the option of this name has no address with a port as its value
+abbrev pub HasNoAddress : List Row → Text → Type 0
+HasNoAddress rows name = (a : SocketAddr) → IsAddressOf rows name a → ⊥
+
+-- the options name no shape of a sheet
+abbrev pub HasNoShape : List Row → Type 0
+HasNoShape matches = (columns rows : ℕ) → IsNumberOf matches (codes "columns") columns → IsNumberOf matches (codes "rows") rows → MayHave columns rows → ⊥
+
+-- the option has no number of processes from 1 to 8
+abbrev pub HasNoProcesses : List Row → Type 0
+HasNoProcesses matches = (processes : ℕ) → IsNumberOf matches (codes "processes") processes → 1 ≤ processes → processes ≤ 8 → ⊥
+
+-- the options have no number of workers below that of the processes, which is from 1 to 8
+abbrev pub HasNoWorkers : List Row → Type 0
+HasNoWorkers matches = (processes workers : ℕ) → IsNumberOf matches (codes "processes") processes → processes ≤ 8 → IsNumberOf matches (codes "workers") workers → workers < processes → ⊥
+
+-- the option has no number of connections from 1 to 65,535
+abbrev pub HasNoSessions : List Row → Type 0
+HasNoSessions matches = (sessions : ℕ) → IsNumberOf matches (codes "sessions") sessions → 1 ≤ sessions → sessions < 65536 → ⊥
+
+-- the options that an error names have no values within the limits
+abbrev pub IsOutOfLimits : List Row → OutOfLimits → Type 0
+IsOutOfLimits matches limits.Listen = HasNoAddress matches (codes "listen")
+IsOutOfLimits matches limits.Shape = HasNoShape matches
+IsOutOfLimits matches limits.Processes = HasNoProcesses matches
+IsOutOfLimits matches limits.Workers = HasNoWorkers matches
+IsOutOfLimits matches limits.Sessions = HasNoSessions matches

@@ -1,9 +1,10 @@
 //! The command line, by `clap`.
 
-ghost use Rattle.std.specs.Prelude.{◌≡◌, ◌↔◌, IfOk, IsTrue, Some, codes, false, map};
+ghost use Rattle.std.specs.Prelude.{◌≡◌, ◌↔◌, IfErr, IfOk, IsTrue, Some, [], codes, false, map};
 ghost use Rattle.std.specs.String.{string_bytes};
-ghost use Rattle.clap.specs.Words.{app_of, found_of, one_of, rows_of, rule_of};
-ghost use Rattle.ds_app.specs.CommandLines.{Asks, IsAskedBy, IsCommand, dsheet, listen as listen_rule, number_option as number_rule, report_command as report_app, run_command as run_app, serve_command as serve_app};
+ghost use Rattle.clap.specs.Words.{app_of, fault_of, found_of, one_of, rows_of, rule_of};
+ghost use Rattle.ds_app.specs.declared.command_line.OptionsFault.TheVariants.{CommandLine};
+ghost use Rattle.ds_app.specs.CommandLines.{Asks, AsksNothing, IsAskedBy, IsCommand, IsRefusedFor, IsWanting, dsheet, listen as listen_rule, number_option as number_rule, report_command as report_app, run_command as run_app, serve_command as serve_app};
 
 use crate::serving::{OutOfLimits, Serving, read_serving};
 use clap::{Arg, ArgAction, ArgMatches, Command, Error, value_parser};
@@ -214,12 +215,16 @@ fn program<'a>(alloc: Global) -> Result<Command<'a>, AllocError>
 }
 
 impl From<Error> for OptionsFault {
+    ghost from_gives = { λ error fault. fault ≡ CommandLine error };
+
     fn from(error: Error) -> OptionsFault {
         OptionsFault::CommandLine(error)
     }
 }
 
 impl From<AllocError> for OptionsFault {
+    ghost from_gives = { λ _ fault. IsWanting fault };
+
     fn from(error: AllocError) -> OptionsFault {
         OptionsFault::CommandLine(Error::from(error))
     }
@@ -234,7 +239,8 @@ fn is_stops(found: &ArgMatches<'_>) -> bool
 
 // What a subcommand with these matches asks for.
 fn asked(name: &str, found: &ArgMatches<'_>) -> Result<Action, OptionsFault>
-    ensures { IfOk result (Asks name.now (rows_of (found_of found.now))) }
+    ensures action { IfOk result (Asks name.now (rows_of (found_of found.now))) }
+    ensures fault { IfErr result (AsksNothing name.now (rows_of (found_of found.now))) }
 {
     match name {
         "run" if is_stops(found) => Ok(Action::Stops),
@@ -251,7 +257,9 @@ fn asked(name: &str, found: &ArgMatches<'_>) -> Result<Action, OptionsFault>
 /// What the words ask for, of which the first is the program's name; an error is `clap`'s for help and for wrong words,
 /// or names the option that is out of its limits.
 pub fn options(alloc: Global, words: &[String]) -> Result<Action, OptionsFault>
-    ensures { IfOk result (IsAskedBy (map string_bytes words.now)) }
+    ensures action { IfOk result (IsAskedBy (map string_bytes words.now)) }
+    ensures accepted { IfOk result (λ _. fault_of dsheet (map string_bytes words.now) ≡ []) }
+    ensures fault { IfErr result (IsRefusedFor (map string_bytes words.now)) }
 {
     let matches = program(alloc)?.try_get_matches_from(words)?;
     match matches.subcommand() {

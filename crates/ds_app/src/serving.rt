@@ -1,9 +1,9 @@
 //! What `dsheet serve` is to serve.
 
-ghost use Rattle.std.specs.Prelude.{IfOk, IfSome, codes};
+ghost use Rattle.std.specs.Prelude.{◌≡◌, IfErr, IfOk, IfSome, None, codes};
 ghost use Rattle.clap.specs.Matches.{found_of};
 ghost use Rattle.clap.specs.Walk.{rows_of};
-ghost use Rattle.ds_app.specs.Servings.{IsAddressOf, IsNumberOf, IsServing};
+ghost use Rattle.ds_app.specs.Servings.{HasNoAddress, HasNoNumber, HasNoShape, IsAddressOf, IsNumberOf, IsOutOfLimits, IsServing};
 
 use clap::ArgMatches;
 use ds_formula::cells::Shape;
@@ -47,7 +47,8 @@ pub enum OutOfLimits {
 
 // The number of an option; none where it has none.
 fn number(matches: &ArgMatches<'_>, name: &str) -> Option<usize>
-    ensures { IfSome result (IsNumberOf (rows_of (found_of matches.now)) name.now) }
+    ensures some { IfSome result (IsNumberOf (rows_of (found_of matches.now)) name.now) }
+    ensures none { result ≡ None → HasNoNumber (rows_of (found_of matches.now)) name.now }
 {
     match matches.get_one::<u16>(name) {
         Some(number) => Some(number as usize),
@@ -57,7 +58,8 @@ fn number(matches: &ArgMatches<'_>, name: &str) -> Option<usize>
 
 // The address of the option `--listen`; none where it has none.
 fn address(matches: &ArgMatches<'_>) -> Option<SocketAddr>
-    ensures { IfSome result (IsAddressOf (rows_of (found_of matches.now)) (codes "listen")) }
+    ensures some { IfSome result (IsAddressOf (rows_of (found_of matches.now)) (codes "listen")) }
+    ensures none { result ≡ None → HasNoAddress (rows_of (found_of matches.now)) (codes "listen") }
 {
     let Some(text) = matches.get_str("listen") else {
         return None;
@@ -70,15 +72,19 @@ fn address(matches: &ArgMatches<'_>) -> Option<SocketAddr>
 
 // The shape that two options ask for; none where it is none of a sheet.
 fn read_shape(matches: &ArgMatches<'_>) -> Option<Shape>
-    ensures { IfSome result (λ s. IsNumberOf (rows_of (found_of matches.now)) (codes "columns") s.columns
+    ensures some { IfSome result (λ s. IsNumberOf (rows_of (found_of matches.now)) (codes "columns") s.columns
         × IsNumberOf (rows_of (found_of matches.now)) (codes "rows") s.rows) }
+    ensures none { result ≡ None → HasNoShape (rows_of (found_of matches.now)) }
 {
-    Shape::new(number(matches, "columns")?, number(matches, "rows")?)
+    let columns = number(matches, "columns")?;
+    let rows = number(matches, "rows")?;
+    Shape::new(columns, rows)
 }
 
 /// The server that the options of `dsheet serve` ask for. An error names the first option that is out of its limits.
 pub fn read_serving(matches: &ArgMatches<'_>) -> Result<Serving, OutOfLimits>
-    ensures { IfOk result (IsServing (rows_of (found_of matches.now))) }
+    ensures serving { IfOk result (IsServing (rows_of (found_of matches.now))) }
+    ensures limit { IfErr result (IsOutOfLimits (rows_of (found_of matches.now))) }
 {
     let Some(listen) = address(matches) else {
         return Err(OutOfLimits::Listen);

@@ -1,7 +1,9 @@
 //! Serves connections, each in its thread.
 
-ghost use Rattle.std.specs.Prelude.{◌≡◌, ◌≤◌};
+ghost use Rattle.std.specs.Prelude.{◌≡◌, ◌≤◌, IfErr};
+ghost use Rattle.ds_serve.specs.Accepting.{IsOfListener};
 
+use crate::accepting::next_connection;
 use crate::desk::Desk;
 use crate::queues::{gathered, put_back, queues as own_queues};
 use crate::worker::work_on;
@@ -65,22 +67,36 @@ fn served<L: Ledger, M: Ledger, R: Wait + Log>(
     }
 }
 
-// Serves so many connections, each in its thread, and returns when all have ended.
-fn accept<L: Ledger + Send + Sync, M: Ledger + Send + Sync, R: Threads + Wait + Log + Sync>(
+// Serves so many connections, each in its thread, and returns when all have ended. One that no thread can be started for
+// is dropped, with a line in the log.
+fn accept<L: Ledger + Send + Sync, M: Ledger + Send + Sync, R: Threads + Wait + Clock + Log + Sync>(
     rt: &R,
     alloc: Global,
     listener: &TcpListener,
     sheet: &LockedSheet<L, M>,
     queues: &[ArrayQueue<Pass<L, M>>],
     sessions: usize,
-) -> io::Result<()> {
-    thread::scope(thread::scope_env(), rt, |scope| -> io::Result<()> {
-        for _session in 0..sessions {
-            let (stream, _) = listener.accept()?;
-            let _ = scope.spawn(move || served(rt, alloc, sheet, queues, stream));
-        }
-        Ok(())
-    })
+) -> io::Result<()>
+    ensures { IfErr result IsOfListener }
+{
+    thread::scope(
+        thread::scope_env(),
+        rt,
+        |scope| -> io::Result<()>
+            ensures { IfErr result IsOfListener }
+        {
+            for _session in 0..sessions {
+                let stream = next_connection(rt, listener)?;
+                if scope
+                    .spawn(move || served(rt, alloc, sheet, queues, stream))
+                    .is_err()
+                {
+                    warn!(rt; "session: no thread");
+                }
+            }
+            Ok(())
+        },
+    )
 }
 
 // The same, while a worker goes round with each pass of these queues.
@@ -96,25 +112,36 @@ fn serve_beside<
     queues: &[ArrayQueue<Pass<L, M>>],
     taken: &[ArrayQueue<Pass<L, M>>],
     sessions: usize,
-) -> io::Result<()> {
+) -> io::Result<()>
+    ensures { IfErr result IsOfListener }
+{
     let stop = Mutex::new(false);
     let told = &stop;
-    thread::scope(thread::scope_env(), rt, |scope| -> io::Result<()> {
-        for place in 0..taken.len() {
-            let _ = scope.spawn(move || work_on(rt, alloc, sheet, taken, place, told));
-        }
-        let result = accept(rt, alloc, listener, sheet, queues, sessions);
-        *told.lock(rt) = true;
-        result
-    })
+    thread::scope(
+        thread::scope_env(),
+        rt,
+        |scope| -> io::Result<()>
+            ensures { IfErr result IsOfListener }
+        {
+            for place in 0..taken.len() {
+                let _ = scope.spawn(move || work_on(rt, alloc, sheet, taken, place, told));
+            }
+            let result = accept(rt, alloc, listener, sheet, queues, sessions);
+            *told.lock(rt) = true;
+            result
+        },
+    )
 }
 
 /// Serves so many connections, each in its thread, while a worker goes round for each of the last
 /// processes, this many; returns when all have ended. The workers' passes are taken before the first
 /// connection, and put back behind the last.
 ///
-/// An error is that of the listener, and the connections that were taken before it are served to their
-/// ends; or want of memory before the first connection, with which the workers' passes are lost.
+/// A connection that breaks off before it is taken, and a failure to take one that does not last, are a line
+/// in the log each, and do not end the server. An error is that of the listener, which has failed for good:
+/// 101 times one behind another, with a rest of a tenth of a second behind each, and never for a connection
+/// alone; the connections that were taken before it are served to their ends. Or it is want of memory before
+/// the first connection, with which the workers' passes are lost.
 pub fn serve_sheet<
     L: Ledger + Send + Sync,
     M: Ledger + Send + Sync,
@@ -127,7 +154,9 @@ pub fn serve_sheet<
     queues: &[ArrayQueue<Pass<L, M>>],
     workers: usize,
     sessions: usize,
-) -> io::Result<()> {
+) -> io::Result<()>
+    ensures { IfErr result IsOfListener }
+{
     let first = queues.len().saturating_sub(workers);
     let passes = gathered(rt, alloc, &queues[first..])?;
     let taken = own_queues(rt, alloc, passes)?;
@@ -159,6 +188,7 @@ fn serve_world<
     requires names { (dones.name ≡ L.name) × (settleds.name ≡ M.name) }
     requires parts { (dones.parts ≡ L.parts) × (settleds.parts ≡ M.parts) }
     requires processes { (L.parts ≡ world.sheet.layout.processes) × (M.parts ≡ world.sheet.layout.processes) }
+    ensures { IfErr result IsOfListener }
 {
     let Ok((sheet, passes)) = LockedSheet::<L, M>::make(alloc, world, dones, settleds) else {
         return Err(io::Error::from(ErrorKind::OutOfMemory));
@@ -177,7 +207,8 @@ fn serve_world<
 
 /// Serves a new sheet of this shape with 1 to 8 processes: so many connections, each in its thread,
 /// while the last processes, so many, are workers. Returns when all have ended. An error is that of the
-/// listener, or want of memory before the first connection is taken.
+/// listener, which has failed for good (`serve_sheet` says when), or want of memory before the first
+/// connection is taken; no connection that breaks off ends the server.
 pub fn serve<R: Threads + Wait + Clock + Log + Sync>(
     rt: &R,
     alloc: Global,
@@ -189,6 +220,7 @@ pub fn serve<R: Threads + Wait + Clock + Log + Sync>(
 ) -> io::Result<()>
     requires some { 1 ≤ processes }
     requires most { processes ≤ 8 }
+    ensures { IfErr result IsOfListener }
 {
     let Ok(world) = World::new(alloc, shape, processes) else {
         return Err(io::Error::from(ErrorKind::OutOfMemory));

@@ -1,4 +1,4 @@
-use Rattle.std.proofs.Common.{◌≡◌, ◌∙◌, ap, rules, codes}
+use Rattle.std.proofs.Common.{◌∙◌, ap, rules, codes}
 use Rattle.std.proofs.lemmas.Result.{IfOk-weaker}
 use Rattle.clap.specs.Words.{new_app}
 use Rattle.ds_app.specs.CommandLines.{IsCommand}
