@@ -159,3 +159,28 @@ status=0
 wait "$server" || status=$?
 cp "$log" "$said"
 expect "two clients and a worker" "$status" 0 ""
+
+# A server with descriptors for one connection alone: the next one waits until the first has ended, and is served then.
+draw_port
+(
+    for descriptor in 3 4 5 6 7 8 9; do
+        eval "exec $descriptor>&-"
+    done
+    ulimit -n 5
+    exec timeout "$whole" "$program" serve --listen "127.0.0.1:$port" --sessions 2 2>"$log"
+) &
+server=$!
+connect
+echo '{"op":"join","process":0}' >&3
+answers 1 | cmp - <(echo '{"last":null,"ok":"join","process":0}')
+exec 4<&3-
+connect
+echo '{"op":"join","process":1}' >&3
+sleep 0.3
+exec 4>&-
+answers 1 | cmp - <(echo '{"last":null,"ok":"join","process":1}')
+exec 3>&-
+status=0
+wait "$server" || status=$?
+cp "$log" "$said"
+expect "no descriptor for a second client" "$status" 0 ".*accept: .*"
