@@ -92,6 +92,15 @@ expect "no process without a worker" "$status" 2 "dsheet: --workers: .*"
 on /dev/null serve --listen 127.0.0.1:0 --columns many
 expect "a number that is none" "$status" 2 "error: invalid value 'many' .*"
 
+# The most seconds that a server may take, and that it may take for one answer.
+whole=60
+answer=20
+
+# A port below those that the system gives out by itself.
+draw_port() {
+    port=$((20000 + RANDOM % 12000))
+}
+
 # Connects to the server as file descriptor 3, which takes a moment to listen.
 connect() {
     for _ in $(seq 200); do
@@ -104,30 +113,42 @@ connect() {
     exit 1
 }
 
+# Prints the next lines of the answers, this many.
+answers() {
+    local line
+    for _ in $(seq "$1"); do
+        if ! IFS= read -r -t "$answer" -u 3 line; then
+            echo "the server on $port does not answer in $answer seconds: $(head -c 300 "$log")" >&2
+            exit 1
+        fi
+        printf '%s\n' "$line"
+    done
+}
+
 # Says the lines of a file, and prints so many lines of the answers.
 talk() {
     connect
     cat "examples/serve/$1" >&3
-    head -n "$2" <&3
+    answers "$2"
     exec 3>&-
 }
 
-port=$((20000 + RANDOM % 20000))
-"$program" serve --listen "127.0.0.1:$port" --sessions 1 2>"$log" &
+draw_port
+timeout "$whole" "$program" serve --listen "127.0.0.1:$port" --sessions 1 2>"$log" &
 server=$!
 connect
 on /dev/null serve --listen "127.0.0.1:$port"
 expect "an address that is taken" "$status" 3 "dsheet: 127.0.0.1:$port: .*"
 cat examples/serve/session >&3
-head -n 4 <&3 | cmp - examples/serve/session.answers
+answers 4 | cmp - examples/serve/session.answers
 exec 3>&-
 status=0
 wait "$server" || status=$?
 cp "$log" "$said"
 expect "a session" "$status" 0 ""
 
-port=$((20000 + RANDOM % 20000))
-"$program" serve --listen "127.0.0.1:$port" --processes 3 --workers 1 --sessions 3 2>"$log" &
+draw_port
+timeout "$whole" "$program" serve --listen "127.0.0.1:$port" --processes 3 --workers 1 --sessions 3 2>"$log" &
 server=$!
 (talk first 3) >/dev/null &
 first=$!
@@ -138,3 +159,28 @@ status=0
 wait "$server" || status=$?
 cp "$log" "$said"
 expect "two clients and a worker" "$status" 0 ""
+
+# A server with descriptors for one connection alone: the next one waits until the first has ended, and is served then.
+draw_port
+(
+    for descriptor in 3 4 5 6 7 8 9; do
+        eval "exec $descriptor>&-"
+    done
+    ulimit -n 5
+    exec timeout "$whole" "$program" serve --listen "127.0.0.1:$port" --sessions 2 2>"$log"
+) &
+server=$!
+connect
+echo '{"op":"join","process":0}' >&3
+answers 1 | cmp - <(echo '{"last":null,"ok":"join","process":0}')
+exec 4<&3-
+connect
+echo '{"op":"join","process":1}' >&3
+sleep 0.3
+exec 4>&-
+answers 1 | cmp - <(echo '{"last":null,"ok":"join","process":1}')
+exec 3>&-
+status=0
+wait "$server" || status=$?
+cp "$log" "$said"
+expect "no descriptor for a second client" "$status" 0 ".*accept: .*"
