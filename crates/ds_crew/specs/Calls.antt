@@ -38,7 +38,8 @@ IsStepOf Recovery (Answered (answers.Last told)) = Unit {0}
 IsStepOf Recovery (Answered answers.Nothing) = Unit {0}
 IsStepOf call reply = ⊥
 
--- the last replies that each call can have: its answer; or, of its beginning, that it is refused or not enabled
+-- the last replies that each call can have: its answer; that its beginning is refused; or that its beginning, or a step of
+-- it, is not enabled
 abbrev pub IsEndOf : Call → Reply → Type 0
 IsEndOf call (Answered answer) = IsStepOf call (Answered answer)
 IsEndOf call (Refused why) = Unit {0}

@@ -30,7 +30,7 @@ abbrev pub told_answer : Option Told → Reply
 told_answer (Some told) = Answered (answers.Last told)
 told_answer None = Answered answers.Nothing
 
--- the reply to a call's beginning, where the session is told that the call is refused for this cause
+-- the last reply of a call, where the session is told that the call is refused for this cause
 abbrev pub Refuses : Reply → CallRefusal → Type 0
 Refuses (replies.Refused cause) why = why ≡ refused_by cause
 Refuses replies.NotEnabled why = why ≡ ProcessTaken
@@ -41,7 +41,7 @@ abbrev pub IsToldBy : Reply → Result (Option Told) CallRefusal → Type 0
 IsToldBy reply (Ok last) = reply ≡ told_answer last
 IsToldBy reply (Err why) = Refuses reply why
 
--- the pass was used for one call more, which this event began, and whose beginning was refused for this cause
+-- the pass was used for one call more, which this event began, and which was refused for this cause
 pub record IsRefusedAt (pass : PlainPass) (begin : Event) (why : CallRefusal) (new : Option PlainPass) : Type 0 where
   pub reply : Reply
   pub refuses : Refuses reply why
