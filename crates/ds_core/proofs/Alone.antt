@@ -1,5 +1,5 @@
 -- A call that is alone, and makes enough steps, is answered as it may be.
-use Rattle.std.proofs.Common.{ℕ, ◌≡◌, ◌<◌, ◌≤◌, ◌+◌, ◌*◌, ◌/◌, List, [], ◌∷◌, refl, ap, sym, subst, arith, zero, suc, length, Some}
+use Rattle.std.proofs.Common.{ℕ, ◌≡◌, ◌<◌, ◌≤◌, ◌+◌, ◌*◌, ◌/◌, List, [], ◌∷◌, sym, subst, arith, zero, suc, length, Some}
 use Rattle.std.specs.Prelude.{slice_get}
 use Rattle.ds_layout.specs.declared.place.Place.TheVariants.{Mark}
 use Rattle.ds_state.specs.Edits.{PlainEdit}
@@ -16,12 +16,12 @@ use Rattle.ds_core.specs.Own.{own_steps, IsUnhalted, AreUnhalted, IsInCall}
 use Rattle.ds_core.specs.Solo.{IsSoloEvent, IsSolo, IsDoneOnly, AreDoneOnly, IsLoneEvent, IsLone, IsLoneAnswer, IsLoneReply, AreLoneReplies, StandsInOwnRow}
 use Rattle.ds_core.specs.Headline.{Happens}
 use Rattle.ds_core.specs.declared.event.Event.{Event}
-use Rattle.ds_core.specs.declared.event.Event.TheVariants.{BeginEdit, BeginWork, BeginShow, BeginRecover, Step, Offer, Evict, Stop, Crash}
+use Rattle.ds_core.specs.declared.event.Event.TheVariants.{Step, Stop, Crash}
 use Rattle.ds_edit.specs.declared.answer.Answer.{Answer}
 use Rattle.ds_edit.specs.declared.answer.Answer.TheVariants.{Done}
 use Rattle.ds_core.specs.declared.reply.Reply.{Reply}
 use Rattle.ds_core.specs.declared.reply.Reply.TheVariants.{Answered}
-use Rattle.ds_core.proofs.CallSteps.{FindsAnswer, answered, edit_left, work_left}
+use Rattle.ds_core.proofs.CallSteps.{answered, edit_left, work_left}
 use Rattle.ds_core.proofs.Solo.{solo_done}
 use Rattle.ds_core.proofs.LoneWork.{lone_publishes}
 

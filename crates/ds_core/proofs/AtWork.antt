@@ -6,8 +6,6 @@ use Rattle.ds_state.specs.Works.{PlainWork, PlainShow}
 use Rattle.ds_state.specs.Value.{WorldValue, world_of}
 use Rattle.ds_state.specs.declared.situation.Situation.{Situation}
 use Rattle.ds_state.specs.declared.situation.Situation.TheVariants.{Idle, Working, Showing}
-use Rattle.ds_state.specs.declared.work.WorkEnd.{WorkEnd}
-use Rattle.ds_state.specs.declared.work.WorkStage.{WorkStage}
 use Rattle.ds_state.specs.declared.work.WorkStage.TheVariants as stages
 use Rattle.ds_eval.specs.Tasks.{PlainEvaluated}
 use Rattle.ds_work.specs.declared.drive.Taken.{Taken}

@@ -1,7 +1,7 @@
 -- What one step leaves of an edit; what runs keep.
 use Rattle.std.proofs.Common.{ℕ, ◌≡◌, ◌<◌, List, [], ◌∷◌, refl, ap, sym, ◌∙◌, subst, Some, None}
 use Rattle.std.specs.Prelude.{Option}
-use Rattle.ds_state.specs.Edits.{PlainEdit, IsEdit}
+use Rattle.ds_state.specs.Edits.{PlainEdit}
 use Rattle.ds_state.specs.World.{World}
 use Rattle.ds_state.specs.Works.{PlainWork}
 use Rattle.ds_work.specs.declared.drive.Taken.{Taken}

@@ -14,15 +14,13 @@ use Rattle.ds_layout.specs.Header.{header_of}
 use Rattle.ds_layout.specs.Head.{head_of}
 use Rattle.ds_layout.specs.Places.{cells_of}
 use Rattle.ds_layout.specs.Sheet.{PerformsAt}
-use Rattle.ds_state.specs.World.{Issue, World, announcement}
+use Rattle.ds_state.specs.World.{World, announcement}
 use Rattle.ds_state.specs.Works.{PlainRecovery}
 use Rattle.ds_state.specs.Value.{WorldValue, world_of}
 use Rattle.ds_state.specs.Calls.{CallFits, RecoveryFits}
 use Rattle.ds_state.specs.KnownRecovery.{recovery_held, phase_for, ResolvedFits, resolved_at}
 use Rattle.std.specs.Int.{bit_at}
-use Rattle.std.proofs.lemmas.Bool.{cases_eq}
 use Rattle.ds_state.specs.declared.situation.Situation.{Situation}
-use Rattle.ds_state.specs.declared.situation.Situation.TheVariants.{Recovering}
 use Rattle.ds_state.specs.declared.work.Spread.{Spread}
 use Rattle.ds_state.specs.declared.work.Spread.TheVariants as spreads
 use Rattle.ds_state.specs.declared.work.RecoverStage.{RecoverStage}

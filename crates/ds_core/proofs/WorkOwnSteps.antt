@@ -1,5 +1,5 @@
 -- How many steps of its own a work makes, by the references of its content.
-use Rattle.std.proofs.Common.{ℕ, ◌≡◌, ◌<◌, ◌≤◌, ◌+◌, ◌-◌, ◌*◌, ◌/◌, ◌==◌, ◌&&◌, Bool, true, false, if◌then◌else◌, nat_lt, List, [], ◌∷◌, ◌++◌, Option, Some, None, refl, ap, sym, ◌∙◌, subst, arith, length}
+use Rattle.std.proofs.Common.{ℕ, ◌≡◌, ◌≤◌, ◌+◌, ◌-◌, ◌/◌, ◌==◌, ◌&&◌, Bool, true, false, if◌then◌else◌, nat_lt, List, [], ◌∷◌, ◌++◌, Option, Some, None, refl, ap, sym, ◌∙◌, subst, arith, length}
 use Rattle.std.proofs.lemmas.List.{length-set}
 use Rattle.ds_formula.specs.Plain.{Plain}
 use Rattle.ds_eval.specs.declared.inputs.Entry.{Entry}
@@ -24,7 +24,7 @@ use Rattle.ds_work.specs.Noted.{inputs_at}
 use Rattle.ds_work.proofs.Next.{next_noted}
 use Rattle.ds_work.proofs.Ranks.{each_falls, offer_falls}
 use Rattle.ds_work.proofs.Turning.{after_goes, falls_plain, reading_less, read_cells}
-use Rattle.ds_core.specs.WorkEvents.{WorkStepsBy, TakesEntry, work_reply}
+use Rattle.ds_core.specs.WorkEvents.{work_reply}
 use Rattle.ds_core.specs.Steps as steps
 use Rattle.ds_core.specs.Takes.{WorldRun}
 use Rattle.ds_core.specs.Own.{own_step, own_steps, AreUnanswered, IsInCall, WorkGoesOn}

@@ -1,8 +1,7 @@
 -- What a recovery reads of words, and which cell it tells next.
-use Rattle.std.proofs.Common.{ℕ, ◌≡◌, ◌≢◌, ◌<◌, ◌≤◌, ◌+◌, ◌-◌, ◌/◌, ◌%◌, ◌==◌, List, length, refl, ap, ◌∙◌, arith, suc, true, false, Some, None}
-use Rattle.std.specs.Prelude.{Bool, Option, bit_or, nat_lt, if◌then◌else◌, slice_index_or}
-use Rattle.std.specs.Int.{bit_at}
-use Rattle.std.proofs.lemmas.Bool.{ne_eqb, eq-eqb, ltb-true, ltb-false}
+use Rattle.std.proofs.Common.{ℕ, ◌≡◌, ◌≤◌, ◌-◌, length, refl, arith, true, false, Some, None}
+use Rattle.std.specs.Prelude.{Bool, Option, bit_or, nat_lt, if◌then◌else◌}
+use Rattle.std.proofs.lemmas.Bool.{ltb-true, ltb-false}
 use Rattle.ds_layout.specs.declared.mark.TheConstants.{DIRTY}
 use Rattle.ds_state.specs.KnownRecovery.{marked}
 use Rattle.ds_state.specs.Telling.{told_from}

@@ -1,5 +1,5 @@
 -- An edit under way, without where it lies in memory.
-use Rattle.std.specs.Prelude.{ℕ, ◌+◌, ◌/◌, ◌<◌, ◌≤◌, List, length, All}
+use Rattle.std.specs.Prelude.{ℕ, ◌<◌, ◌≤◌, List, length, All}
 use Rattle.ds_layout.specs.declared.place.TheConstants.{RECORDS}
 use Rattle.ds_layout.specs.Head.{IsHead}
 use Rattle.ds_layout.specs.Text.{parts_for}

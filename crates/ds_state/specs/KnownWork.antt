@@ -1,5 +1,5 @@
 -- What work knows at each of its stages, and what its buffer holds.
-use Rattle.std.specs.Prelude.{ℕ, ◌≡◌, ◌<◌, ◌≤◌, ◌+◌, ◌*◌, ◌/◌, ◌^◌, ◌⊎◌, List, [], ◌∷◌, length, take, Bool, true, false, None}
+use Rattle.std.specs.Prelude.{ℕ, ◌≡◌, ◌<◌, ◌≤◌, ◌+◌, ◌*◌, ◌^◌, ◌⊎◌, List, [], ◌∷◌, length, take, Bool, true, false, None}
 use Rattle.ds_words.specs.declared.access.Entry.{Entry}
 use Rattle.ds_formula.specs.Cells.{IsInside, index_of}
 use Rattle.ds_formula.specs.declared.cells.Cell.{Cell}

@@ -1,5 +1,5 @@
 -- What a world shows.
-use Rattle.std.specs.Prelude.{ℕ, ℤ, ◌≡◌, ◌<◌, ◌+◌, ◌-◌, ◌*◌, ◌/◌, ◌++◌, List, [], ◌∷◌, length, map, take, min, Option, Some, None, zero, suc}
+use Rattle.std.specs.Prelude.{ℕ, ℤ, ◌≡◌, ◌<◌, ◌-◌, ◌*◌, ◌++◌, List, [], ◌∷◌, length, map, take, min, Option, Some, None, zero, suc}
 use Rattle.std.specs.List.{range_with_len}
 use Rattle.ds_formula.specs.Cells.{index_of}
 use Rattle.ds_formula.specs.declared.cells.Cell.{Cell}

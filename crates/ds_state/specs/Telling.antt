@@ -1,5 +1,5 @@
 -- Letting a cell go, and which cell is told next.
-use Rattle.std.specs.Prelude.{ℕ, ◌+◌, ◌*◌, ◌/◌, ◌%◌, ◌==◌, if◌then◌else◌, List, slice_index_or, Option, Some, None, zero, suc}
+use Rattle.std.specs.Prelude.{ℕ, ◌+◌, ◌==◌, if◌then◌else◌, List, slice_index_or, Option, Some, None, zero, suc}
 use Rattle.ds_layout.specs.Bits.{bit_in, part_with}
 use Rattle.ds_layout.specs.Mark.{freed_after}
 

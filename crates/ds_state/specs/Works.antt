@@ -1,5 +1,5 @@
 -- Work, a recovery and a report under way, without where they lie in memory.
-use Rattle.std.specs.Prelude.{ℕ, ◌+◌, ◌*◌, ◌/◌, ◌^◌, ◌≡◌, ◌<◌, ◌≤◌, List, length, slice_index_or, true, false}
+use Rattle.std.specs.Prelude.{ℕ, ◌+◌, ◌*◌, ◌^◌, ◌≡◌, ◌<◌, ◌≤◌, List, length, slice_index_or, true, false}
 use Rattle.ds_layout.specs.Bits.{HasBit, part_with, parts_for}
 use Rattle.ds_state.specs.EntryWords.{value_for, word_for}
 use Rattle.ds_formula.specs.Refs.{IsPossible}

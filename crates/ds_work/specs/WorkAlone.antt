@@ -1,5 +1,5 @@
 -- Work that is alone: what it sees of its cell's mark. `row` has the words of its cell's index row.
-use Rattle.std.specs.Prelude.{ℕ, ◌≡◌, ◌<◌, ◌≤◌, ◌⊎◌, ◌+◌, ◌/◌, length, slice_index_or}
+use Rattle.std.specs.Prelude.{ℕ, ◌≡◌, ◌<◌, ◌≤◌, ◌⊎◌, ◌+◌, length, slice_index_or}
 use Rattle.ds_layout.specs.Bits.{HasBit, part_with}
 use Rattle.ds_layout.specs.declared.place.Place.TheVariants as place
 use Rattle.ds_layout.specs.declared.mark.State.TheVariants.{Marked}

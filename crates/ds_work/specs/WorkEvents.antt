@@ -1,5 +1,5 @@
 -- The events of works, from world to world: beginnings, steps, offers.
-use Rattle.std.specs.Prelude.{ℕ, ◌≡◌, ◌<◌, ◌/◌, List, Result, Ok, Err}
+use Rattle.std.specs.Prelude.{ℕ, ◌≡◌, ◌<◌, List, Result, Ok, Err}
 use Rattle.ds_formula.specs.declared.cells.Shape.{Shape}
 use Rattle.ds_formula.specs.Cells.{cell_at}
 use Rattle.ds_formula.specs.Plain.{Plain}

@@ -1,5 +1,5 @@
 -- How many steps of its own a work has left.
-use Rattle.std.specs.Prelude.{ℕ, ◌≡◌, ◌+◌, ◌-◌, ◌*◌, ◌/◌, ◌<◌, length}
+use Rattle.std.specs.Prelude.{ℕ, ◌≡◌, ◌+◌, ◌-◌, ◌*◌, ◌<◌, length}
 use Rattle.ds_layout.specs.Bits.{parts_for}
 use Rattle.ds_layout.specs.Text as text_words
 use Rattle.ds_state.specs.World.{World}

@@ -1,4 +1,4 @@
-use Rattle.std.proofs.Common.{ℕ, ◌≡◌, arith, ap, sym, ◌∙◌, subst}
+use Rattle.std.proofs.Common.{ℕ, ◌≡◌, arith, ap, subst}
 use Rattle.ds_state.specs.Edits.{PlainEdit}
 use Rattle.ds_state.specs.Value.{WorldValue}
 use Rattle.ds_core.specs.EditEvents.{IsEditing, EditStepTakes}

@@ -3,10 +3,9 @@ use Rattle.std.specs.Prelude.{Option, None, vec_capacity}
 use Rattle.std.proofs.lemmas.List.{get_or_default}
 use Rattle.ds_layout.specs.Sheet.{PerformsAt, memory}
 use Rattle.ds_state.specs.Edits.{PlainEdit}
-use Rattle.ds_state.specs.Value.{WorldValue, world_of, IsReserved}
+use Rattle.ds_state.specs.Value.{WorldValue, IsReserved}
 use Rattle.ds_state.specs.World.{Issue, edit_of}
 use Rattle.ds_state.specs.declared.stage.Stage.{Stage}
-use Rattle.ds_state.specs.declared.situation.Situation.{Situation}
 use Rattle.ds_state.specs.declared.situation.Situation.TheVariants.{Idle, Editing}
 use Rattle.ds_edit.specs.Steps.{access_at}
 use Rattle.ds_edit.specs.Worlds.{after, counted_at, open_edit_at}

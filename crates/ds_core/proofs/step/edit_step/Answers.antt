@@ -1,7 +1,6 @@
 use Rattle.std.proofs.Common.{ℕ, ◌≡◌, arith, ap, sym, ◌∙◌, subst}
 use Rattle.ds_state.specs.Edits.{PlainEdit}
 use Rattle.ds_state.specs.Value.{WorldValue}
-use Rattle.ds_state.specs.declared.stage.Stage.{Stage}
 use Rattle.ds_core.specs.EditEvents.{IsEditing, EditStepTakes, reply_at}
 use Rattle.ds_core.specs.declared.reply.Reply.{Reply}
 use Rattle.ds_core.proofs.Good.{editing_from, processes_are}

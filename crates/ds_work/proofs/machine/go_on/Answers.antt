@@ -1,4 +1,4 @@
-use Rattle.std.proofs.Common.{ℕ, ◌≡◌, ◌≤◌, sym, subst}
+use Rattle.std.proofs.Common.{◌≡◌, ◌≤◌, sym, subst}
 use Rattle.ds_formula.specs.Plain.{plain}
 use Rattle.ds_state.specs.Works.{PlainWork, IsWork, IsWorkIn}
 use Rattle.ds_work.specs.WorkSteps.{next_at}
