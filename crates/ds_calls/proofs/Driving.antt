@@ -8,7 +8,7 @@ use Rattle.ds_state.specs.declared.situation.Situation.TheVariants.{Working}
 use Rattle.ds_state.specs.declared.work.WorkStage.{WorkStage}
 use Rattle.ds_state.specs.declared.work.WorkStage.TheVariants.{Wait}
 use Rattle.ds_work.specs.WorkSteps as steps
-use Rattle.ds_work.specs.WorkEvents.{Waits, IsOffered}
+use Rattle.ds_work.specs.WorkTakes.{Waits, IsOffered}
 use Rattle.ds_work.specs.WorkRank as ranks
 use Rattle.ds_work.proofs.Ranks.{offer_falls}
 use Rattle.ds_core.specs.Own.{IsInCall, left_in, steps_left}

@@ -17,9 +17,9 @@ use Rattle.ds_state.specs.declared.work.ShowStage.{ShowStage}
 use Rattle.ds_state.specs.declared.work.ShowStage.TheVariants as show_stages
 use Rattle.ds_state.specs.declared.work.RecoverStage.{RecoverStage}
 use Rattle.ds_state.specs.declared.work.RecoverStage.TheVariants as recover_stages
-use Rattle.ds_edit.specs.Worlds as edit_worlds
+use Rattle.ds_edit.specs.EditTakes as edit_worlds
 use Rattle.ds_edit.specs.declared.answer.Answer.{Answer}
-use Rattle.ds_work.specs.WorkEvents as work_events
+use Rattle.ds_work.specs.WorkTakes as work_events
 use Rattle.ds_state.specs.World.{World}
 use Rattle.ds_work.specs.WorkSteps.{IsPlainStep}
 use Rattle.ds_work.specs.declared.drive.Taken.{Taken}
@@ -28,12 +28,12 @@ use Rattle.ds_work.proofs.Turning.{turns_fall}
 use Rattle.ds_show.specs.ShowSteps as show_steps
 use Rattle.ds_recover.specs.RecoverySteps as recovery_steps
 use Rattle.ds_recover.specs.declared.machine.RecoveryEnd.TheVariants as recovery_ends
-use Rattle.ds_edit.specs.Endings.{answer_of}
+use Rattle.ds_edit.specs.EditEndings.{answer_of}
 use Rattle.ds_core.specs.EditEvents.{EditStepsBy, reply_at}
 use Rattle.ds_core.specs.WorkEvents.{WorkStepsBy, work_reply, work_answer}
 use Rattle.ds_core.specs.ReportEvents.{ReportStepsBy, report_reply, report_answer}
 use Rattle.ds_core.specs.RecoveryEvents.{RecoveryStepsBy, recovery_reply, recovery_answer}
-use Rattle.ds_core.specs.Steps.{StepsBy, edits, works, reports, recoveries, CanNotStep}
+use Rattle.ds_core.specs.StepEvents.{StepsBy, edits, works, reports, recoveries, CanNotStep}
 use Rattle.ds_core.specs.Own.{IsInCall}
 use Rattle.ds_core.specs.Takes.{Fits}
 use Rattle.ds_core.specs.declared.event.Event.{Event}

@@ -9,7 +9,7 @@ use Rattle.ds_state.specs.declared.situation.Situation.TheVariants.{Idle, Workin
 use Rattle.ds_state.specs.declared.work.WorkStage.TheVariants as stages
 use Rattle.ds_eval.specs.Tasks.{PlainEvaluated}
 use Rattle.ds_work.specs.declared.drive.Taken.{Taken}
-use Rattle.ds_work.specs.WorkEvents as works
+use Rattle.ds_work.specs.WorkTakes as works
 use Rattle.ds_work.specs.WorkSteps as work_steps
 use Rattle.ds_work.proofs.Next.{next_noted}
 use Rattle.ds_work.proofs.WorkAlone.{after_on}

@@ -5,21 +5,21 @@ use Rattle.ds_state.specs.Edits.{PlainEdit}
 use Rattle.ds_state.specs.World.{World}
 use Rattle.ds_state.specs.Works.{PlainWork}
 use Rattle.ds_work.specs.declared.drive.Taken.{Taken}
-use Rattle.ds_work.specs.WorkEvents as work_events
+use Rattle.ds_work.specs.WorkTakes as work_events
 use Rattle.ds_state.specs.Value.{WorldValue, world_of}
-use Rattle.ds_state.specs.Calls.{CallFits, EditFits}
+use Rattle.ds_state.specs.CallsFit.{CallFits, EditFits}
 use Rattle.ds_state.specs.Sound.{IsSound}
 use Rattle.ds_state.specs.declared.stage.Outcome.{Outcome}
 use Rattle.ds_state.specs.declared.stage.Stage.{Stage}
 use Rattle.ds_state.specs.declared.stage.Stage.TheVariants.{Answer}
 use Rattle.ds_state.specs.declared.situation.Situation.{Situation}
 use Rattle.ds_state.specs.declared.situation.Situation.TheVariants.{Editing}
-use Rattle.ds_edit.specs.Steps.{rank, next_at, Falls}
-use Rattle.ds_edit.specs.Worlds.{after}
-use Rattle.ds_edit.specs.Endings.{outcome_at}
+use Rattle.ds_edit.specs.EditSteps.{rank, next_at, Falls}
+use Rattle.ds_edit.specs.EditTakes.{after}
+use Rattle.ds_edit.specs.EditEndings.{outcome_at}
 use Rattle.ds_edit.proofs.Stays.{each_falls}
 use Rattle.ds_core.specs.EditEvents.{reply_with, EditStepsBy}
-use Rattle.ds_core.specs.Steps.{edits, works, reports, recoveries}
+use Rattle.ds_core.specs.StepEvents.{edits, works, reports, recoveries}
 use Rattle.ds_core.specs.Takes.{Takes, WorldRun}
 use Rattle.ds_core.specs.declared.event.Event.{Event}
 use Rattle.ds_core.specs.declared.event.Event.TheVariants.{BeginEdit, BeginWork, BeginShow, BeginRecover, Step, Offer, Evict, Stop, Crash}

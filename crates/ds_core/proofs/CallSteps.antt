@@ -6,7 +6,7 @@ use Rattle.ds_state.specs.Edits.{PlainEdit}
 use Rattle.ds_state.specs.Works.{PlainWork, PlainShow, PlainRecovery}
 use Rattle.ds_state.specs.Value.{WorldValue, world_of}
 use Rattle.ds_state.specs.World.{World}
-use Rattle.ds_state.specs.Calls.{CallFits}
+use Rattle.ds_state.specs.CallsFit.{CallFits}
 use Rattle.ds_state.specs.ShowStages.{IsStage}
 use Rattle.ds_state.specs.Sound.{IsSound}
 use Rattle.ds_state.specs.declared.situation.Situation.{Situation}
@@ -28,7 +28,7 @@ use Rattle.ds_recover.specs.RecoverBegun.{MayRecover}
 use Rattle.ds_recover.specs.RecoverySteps.{rank}
 use Rattle.ds_recover.proofs.RecoveryRank as recovery_ranks
 use Rattle.ds_edit.specs.declared.answer.Answer.{Answer}
-use Rattle.ds_core.specs.Steps as steps
+use Rattle.ds_core.specs.StepEvents as steps
 use Rattle.ds_core.specs.Takes.{Takes, WorldRun}
 use Rattle.ds_core.specs.WorkEvents.{TakesEntry}
 use Rattle.ds_core.specs.Headline.{Happens}

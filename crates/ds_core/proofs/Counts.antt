@@ -6,7 +6,7 @@ use Rattle.ds_state.specs.Value.{WorldValue, world_of}
 use Rattle.ds_state.specs.Sound.{IsSound}
 use Rattle.ds_state.specs.Reports.{PlainReports}
 use Rattle.ds_state.specs.Works.{PlainShow}
-use Rattle.ds_state.specs.Calls.{CallFits}
+use Rattle.ds_state.specs.CallsFit.{CallFits}
 use Rattle.ds_state.specs.declared.work.ShowEnd.TheVariants as ends
 use Rattle.ds_state.specs.declared.work.ShowStage.{ShowStage}
 use Rattle.ds_state.specs.declared.work.ShowStage.TheVariants as stages
@@ -14,8 +14,8 @@ use Rattle.ds_state.specs.declared.situation.Situation.{Situation}
 use Rattle.ds_state.specs.declared.situation.Situation.TheVariants.{Recovering, Showing}
 use Rattle.ds_state.specs.declared.stage.Outcome.{Outcome}
 use Rattle.ds_state.specs.declared.stage.Outcome.TheVariants as outcome
-use Rattle.ds_edit.specs.Steps.{rank}
-use Rattle.ds_edit.specs.Endings.{outcome_at}
+use Rattle.ds_edit.specs.EditSteps.{rank}
+use Rattle.ds_edit.specs.EditEndings.{outcome_at}
 use Rattle.ds_edit.specs.declared.answer.Answer.TheVariants.{Settled}
 use Rattle.ds_show.specs.declared.machine.Effect.{Effect}
 use Rattle.ds_show.specs.declared.machine.Effect.TheVariants as effects
@@ -35,14 +35,14 @@ use Rattle.ds_recover.specs.declared.machine.RecoveryEnd.TheVariants as recovery
 use Rattle.ds_recover.specs.RecoverySteps as recover_steps
 use Rattle.ds_recover.proofs.RecoveryRank.{each_falls}
 use Rattle.ds_layout.specs.Places.{cells_of}
-use Rattle.ds_work.specs.WorkEvents as work_events
+use Rattle.ds_work.specs.WorkTakes as work_events
 use Rattle.ds_work.specs.WorkRank as work_ranks
 use Rattle.ds_work.proofs.Turning.{turns_fall}
 use Rattle.ds_core.proofs.Turns.{recovery_turn}
 use Rattle.ds_core.specs.ReportEvents.{report_reply, ReportStepsBy}
 use Rattle.ds_core.specs.WorkEvents.{work_reply, WorkStepsBy}
 use Rattle.ds_core.specs.RecoveryEvents.{recovery_reply, RecoveryStepsBy}
-use Rattle.ds_core.specs.Steps.{edits, works, reports, recoveries}
+use Rattle.ds_core.specs.StepEvents.{edits, works, reports, recoveries}
 use Rattle.ds_core.specs.Takes.{Takes}
 use Rattle.ds_core.specs.Own.{IsInCall, left_in, steps_left}
 use Rattle.ds_core.specs.Counts.{done_of, settled_of, IsReplyTo, KeepsReports}

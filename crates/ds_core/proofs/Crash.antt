@@ -8,7 +8,7 @@ use Rattle.ds_words.specs.Memory.{Memory}
 use Rattle.ds_layout.specs.declared.place.Place.{Place}
 use Rattle.ds_layout.specs.declared.place.Place.TheVariants.{Head}
 use Rattle.ds_state.specs.World.{Edit, Issue, World, of_cell, head_after_all, head_by}
-use Rattle.ds_state.specs.Words.{IsOnItsWay}
+use Rattle.ds_state.specs.WordsFit.{IsOnItsWay}
 use Rattle.ds_state.specs.Crashes.{is_lost, survivors, CrashesTo}
 use Rattle.ds_state.specs.Sound.{IsSound, Increasing}
 use Rattle.ds_state.proofs.Heads.{IsSmall, Small, small_counted, small_of_cell, head_push}

@@ -7,7 +7,7 @@ use Rattle.ds_layout.specs.declared.place.Place.{Place}
 use Rattle.ds_layout.specs.declared.place.Place.TheVariants.{Header}
 use Rattle.ds_layout.specs.declared.layout.Layout.{Layout}
 use Rattle.ds_layout.specs.Head.{head_of}
-use Rattle.ds_layout.specs.Sheet.{PerformsAt}
+use Rattle.ds_layout.specs.SheetMemory.{PerformsAt}
 use Rattle.ds_formula.specs.Cells.{index_of}
 use Rattle.ds_state.specs.Edits.{PlainEdit}
 use Rattle.ds_state.specs.World.{Edit}
@@ -24,14 +24,14 @@ use Rattle.ds_state.specs.declared.work.ShowStage.TheVariants as stages
 use Rattle.ds_show.specs.declared.machine.Effect.{Effect}
 use Rattle.ds_show.specs.declared.machine.Effect.TheVariants as effects
 use Rattle.ds_show.specs.ShowSteps as shows
-use Rattle.ds_edit.specs.Steps.{access_at}
-use Rattle.ds_edit.specs.Endings.{answer_of, outcome_at, other_of}
+use Rattle.ds_edit.specs.EditSteps.{access_at}
+use Rattle.ds_edit.specs.EditEndings.{answer_of, outcome_at, other_of}
 use Rattle.ds_edit.specs.declared.answer.Other.{Other}
 use Rattle.ds_edit.specs.declared.answer.Answer as replies
 use Rattle.ds_edit.specs.declared.answer.Answer.TheVariants.{Done, Overtaken}
 use Rattle.ds_core.specs.EditEvents.{EditStepsBy}
 use Rattle.ds_core.specs.ReportEvents.{report_reply, ReportBegins, ReportStepsBy}
-use Rattle.ds_core.specs.Steps.{edits, works, reports, recoveries}
+use Rattle.ds_core.specs.StepEvents.{edits, works, reports, recoveries}
 use Rattle.ds_core.specs.WorkEvents.{work_reply, WorkStepsBy, WorkBegins, TakesEntry}
 use Rattle.ds_core.specs.RecoveryEvents.{recovery_reply, RecoveryStepsBy, RecoveryBegins}
 use Rattle.ds_work.specs.declared.drive.Taken.{Taken}

@@ -9,18 +9,18 @@ use Rattle.ds_words.specs.Memory.{EvictsAt}
 use Rattle.ds_layout.specs.declared.layout.Layout.{Layout}
 use Rattle.ds_layout.specs.declared.place.TheConstants.{RECORDS}
 use Rattle.ds_layout.specs.declared.place.Place.{Place}
-use Rattle.ds_layout.specs.Sheet.{SheetValue, memory, CanPerform, PerformsAt}
+use Rattle.ds_layout.specs.SheetMemory.{SheetValue, memory, CanPerform, PerformsAt}
 use Rattle.ds_state.specs.Edits.{PlainEdit}
 use Rattle.ds_state.specs.World.{Edit, Issue, edit_of}
 use Rattle.ds_state.specs.Value.{WorldValue, world_of, IsGood, IsReserved}
-use Rattle.ds_state.specs.Calls.{CallFits, EditFits}
+use Rattle.ds_state.specs.CallsFit.{CallFits, EditFits}
 use Rattle.ds_state.specs.Events.{Evicts}
 use Rattle.ds_state.specs.Sound.{IsSound}
 use Rattle.ds_state.specs.declared.stage.Outcome.{Outcome}
 use Rattle.ds_state.specs.declared.stage.Outcome.TheVariants as outcome
 use Rattle.ds_state.specs.Dones.{HasAnswered}
 use Rattle.ds_state.proofs.Dones.{still_answered, one_answered}
-use Rattle.ds_edit.specs.Answers.{IsTrueAnswer}
+use Rattle.ds_edit.specs.EditAnswers.{IsTrueAnswer}
 use Rattle.ds_edit.proofs.Truth.{answer_true}
 use Rattle.ds_state.specs.declared.stage.Stage.{Stage}
 use Rattle.ds_state.specs.declared.stage.Stage.TheVariants.{Swap, Answer}
@@ -31,13 +31,13 @@ use Rattle.ds_state.proofs.Buffers.{buffered}
 use Rattle.ds_state.proofs.Few.{counted_few}
 use Rattle.ds_state.proofs.Underway.{no_more}
 use Rattle.ds_state.specs.Underway.{reports_in}
-use Rattle.ds_edit.specs.Steps.{access_at}
-use Rattle.ds_edit.specs.Worlds.{Steps, after, counted_at, open_edit_at}
+use Rattle.ds_edit.specs.EditSteps.{access_at}
+use Rattle.ds_edit.specs.EditTakes.{Steps, after, counted_at, open_edit_at}
 use Rattle.ds_edit.proofs.Sound.{step_sound}
 use Rattle.ds_edit.proofs.Possible.{can_perform}
 use Rattle.ds_core.specs.EditEvents.{IsEditing, reply_at, reply_with, done_at, done_with, EditStepsBy, EditStepTakes}
 use Rattle.ds_core.specs.declared.reply.Reply.TheVariants.{Stepped}
-use Rattle.ds_edit.specs.Endings.{outcome_at}
+use Rattle.ds_edit.specs.EditEndings.{outcome_at}
 
 pub editing_from : (v : WorldValue) (p : ℕ) (e : PlainEdit) (read : Situation) → p < length v.situations → read ≡ get_or v.situations p read → read ≡ Editing e → IsEditing v p e
 editing_from v p e read lt is here = record { there = lt; is = get_or_default v.situations p (Idle 0) read lt ∙ sym is ∙ here }

@@ -8,13 +8,13 @@ use Rattle.ds_words.specs.declared.access.Access.TheVariants as acts
 use Rattle.ds_words.specs.declared.access.Entry.{Entry}
 use Rattle.ds_layout.specs.declared.place.Place.{Place}
 use Rattle.ds_layout.specs.declared.place.Place.TheVariants.{Header, Version}
-use Rattle.ds_layout.specs.Sheet.{PerformsAt}
+use Rattle.ds_layout.specs.SheetMemory.{PerformsAt}
 use Rattle.ds_state.specs.Edits.{PlainEdit, text_parts}
 use Rattle.ds_state.specs.Works.{PlainWork}
 use Rattle.ds_state.specs.World.{Edit, World, edit_of}
 use Rattle.ds_state.specs.Rely.{Rely}
-use Rattle.ds_state.specs.Calls.{Held, Holds, held_at, record_entry}
-use Rattle.ds_state.specs.Calls as held
+use Rattle.ds_state.specs.CallsFit.{Held, Holds, held_at, record_entry}
+use Rattle.ds_state.specs.CallsFit as held
 use Rattle.ds_state.specs.KnownWork.{WorkHeld, WorkHolds, work_held}
 use Rattle.ds_state.specs.KnownWork as works
 use Rattle.ds_state.specs.KnownRecovery.{RecoveryHeld, RecoveryHolds}
@@ -25,7 +25,7 @@ use Rattle.ds_state.specs.declared.work.WorkStage.{WorkStage}
 use Rattle.ds_state.specs.declared.work.WorkStage.TheVariants as work_stages
 use Rattle.ds_state.specs.declared.work.Spread.{Spread}
 use Rattle.ds_state.specs.declared.work.Spread.TheVariants as spreads
-use Rattle.ds_edit.specs.Steps as edits
+use Rattle.ds_edit.specs.EditSteps as edits
 use Rattle.ds_work.specs.WorkSteps as work_steps
 
 -- each side is one of the two that the word had

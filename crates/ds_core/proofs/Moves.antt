@@ -9,7 +9,7 @@ use Rattle.ds_state.specs.Edits.{PlainEdit, text_parts}
 use Rattle.ds_state.specs.World.{Edit, Issue, World, edit_of}
 use Rattle.ds_state.specs.Known.{AreBelow, Knowing, known_at}
 use Rattle.ds_state.specs.Value.{WorldValue, world_of}
-use Rattle.ds_state.specs.Calls.{CallFits, EditFits, IdleFits}
+use Rattle.ds_state.specs.CallsFit.{CallFits, EditFits, IdleFits}
 use Rattle.ds_state.specs.Sound.{IsSound}
 use Rattle.ds_state.specs.declared.stage.Outcome.{Outcome}
 use Rattle.ds_state.specs.declared.stage.Outcome.TheVariants as outcome
@@ -17,12 +17,12 @@ use Rattle.ds_state.specs.declared.stage.Stage.{Stage}
 use Rattle.ds_state.specs.declared.stage.Stage.TheVariants.{Swap, Answer}
 use Rattle.ds_state.specs.declared.situation.Situation.{Situation}
 use Rattle.ds_state.specs.declared.situation.Situation.TheVariants.{Editing}
-use Rattle.ds_edit.specs.Worlds.{Begins, counted_at, open_edit_at}
-use Rattle.ds_edit.specs.Answers.{IsTrueAnswer, IsTrueOf}
+use Rattle.ds_edit.specs.EditTakes.{Begins, counted_at, open_edit_at}
+use Rattle.ds_edit.specs.EditAnswers.{IsTrueAnswer, IsTrueOf}
 use Rattle.ds_edit.specs.Begun.{IsBegun}
 use Rattle.ds_edit.proofs.Truth.{answer_true}
 use Rattle.ds_core.specs.EditEvents.{reply_with, EditStepsBy}
-use Rattle.ds_edit.specs.Endings.{answer_of, other_of, outcome_at}
+use Rattle.ds_edit.specs.EditEndings.{answer_of, other_of, outcome_at}
 use Rattle.ds_core.proofs.Traces.{Stays, Issues, Counts, Closes, StepMoves}
 use Rattle.ds_core.specs.declared.reply.Reply.{Reply}
 use Rattle.ds_core.specs.declared.reply.Reply.TheVariants.{Answered}

@@ -4,10 +4,10 @@ use Rattle.std.specs.Prelude.{Option, Contains}
 use Rattle.ds_words.specs.Memory.{SameMemory}
 use Rattle.ds_layout.specs.declared.announcement.Phase.TheVariants as phase
 use Rattle.ds_layout.specs.declared.place.Place.TheVariants.{Announce}
-use Rattle.ds_layout.specs.Sheet.{PerformsAt}
+use Rattle.ds_layout.specs.SheetMemory.{PerformsAt}
 use Rattle.ds_state.specs.World.{Edit, phase_among}
 use Rattle.ds_state.specs.Works.{PlainRecovery}
-use Rattle.ds_state.specs.Calls.{RecoveryFits}
+use Rattle.ds_state.specs.CallsFit.{RecoveryFits}
 use Rattle.ds_state.specs.KnownRecovery.{ResolvedFits, resolved_at, over}
 use Rattle.ds_state.specs.Sound.{IsSound}
 use Rattle.ds_state.specs.Spent.{IsSpent}
@@ -19,7 +19,7 @@ use Rattle.ds_state.specs.declared.work.RecoverStage.{RecoverStage}
 use Rattle.ds_state.specs.declared.work.RecoverStage.TheVariants as stages
 use Rattle.ds_state.specs.declared.work.ShowEnd.TheVariants as ends
 use Rattle.ds_state.specs.declared.work.WorkEnd.TheVariants as work_ends
-use Rattle.ds_edit.specs.Endings.{answer_of, outcome_at}
+use Rattle.ds_edit.specs.EditEndings.{answer_of, outcome_at}
 use Rattle.ds_edit.specs.declared.answer.Told.{Told}
 use Rattle.ds_edit.specs.declared.answer.Answer.TheVariants.{Last}
 use Rattle.ds_show.specs.declared.machine.Effect.{Effect}
@@ -31,8 +31,8 @@ use Rattle.ds_recover.proofs.RecoveryLaws.{fits_of, repeated}
 use Rattle.ds_core.specs.RecoveryEvents.{recovery_answer, recovery_reply, RecoveryStepsBy}
 use Rattle.ds_core.specs.ReportEvents.{report_reply}
 use Rattle.ds_core.specs.WorkEvents.{work_reply}
-use Rattle.ds_core.specs.Spent.{IsOut}
-use Rattle.ds_core.specs.Steps.{edits, works, reports, recoveries}
+use Rattle.ds_core.specs.SpentNumbers.{IsOut}
+use Rattle.ds_core.specs.StepEvents.{edits, works, reports, recoveries}
 use Rattle.ds_core.specs.Takes.{Takes, WorldRun}
 use Rattle.ds_core.specs.declared.event.Event.{Event}
 use Rattle.ds_core.specs.declared.event.Event.TheVariants.{Step}

@@ -10,7 +10,7 @@ use Rattle.ds_state.specs.World.{Edit, World}
 use Rattle.ds_state.specs.Reports.{PlainReports}
 use Rattle.ds_state.specs.declared.stage.Outcome.{Outcome}
 use Rattle.ds_state.specs.declared.stage.Outcome.TheVariants as outcome
-use Rattle.ds_edit.specs.Endings.{outcome_at}
+use Rattle.ds_edit.specs.EditEndings.{outcome_at}
 use Rattle.ds_edit.specs.declared.answer.Answer as call_answers
 use Rattle.ds_edit.specs.declared.answer.Answer.TheVariants.{Settled, Unsettled}
 use Rattle.ds_show.specs.declared.machine.Effect.{Effect}
@@ -30,20 +30,20 @@ use Rattle.ds_state.specs.declared.work.ShowEnd.TheVariants as ends
 use Rattle.ds_state.specs.declared.work.ShowStage.{ShowStage}
 use Rattle.ds_state.specs.declared.work.ShowStage.TheVariants as stages
 use Rattle.ds_state.specs.Rely.{Rely}
-use Rattle.ds_state.specs.Calls.{CallFits}
+use Rattle.ds_state.specs.CallsFit.{CallFits}
 use Rattle.ds_state.specs.Value.{WorldValue, world_of, IsGood}
 use Rattle.ds_state.specs.declared.situation.Situation.{Situation}
 use Rattle.ds_state.specs.declared.situation.Situation.TheVariants as situation
 use Rattle.ds_state.specs.declared.situation.Situation.TheVariants.{Idle, Editing, Recovering, Showing}
 use Rattle.ds_state.proofs.Accesses.{evict_sound}
 use Rattle.ds_state.proofs.Buffers.{buffered}
-use Rattle.ds_edit.specs.Worlds as edit_steps
+use Rattle.ds_edit.specs.EditTakes as edit_steps
 use Rattle.ds_edit.proofs.Answering.{begin_sound}
 use Rattle.ds_show.specs.ShowRuns.{Passes, HasBegun, Call, IsOf, AreInTurn, WasStill, WasOff, IsTrueReport}
 use Rattle.ds_show.proofs.ShowRuns.{rely_same, answer_true}
 use Rattle.ds_core.specs.EditEvents.{reply_with, EditStepsBy}
 use Rattle.ds_core.specs.ReportEvents.{report_answer, report_reply, ReportStepsBy, ReportBegins}
-use Rattle.ds_core.specs.Steps.{StepsBy, edits, works, reports, recoveries}
+use Rattle.ds_core.specs.StepEvents.{StepsBy, edits, works, reports, recoveries}
 use Rattle.ds_core.specs.WorkEvents.{work_reply}
 use Rattle.ds_core.specs.RecoveryEvents.{recovery_reply, RecoveryStepsBy}
 use Rattle.ds_work.specs.declared.drive.Taken.{Taken}

@@ -8,11 +8,11 @@ use Rattle.ds_layout.specs.declared.announcement.Phase.{Phase}
 use Rattle.ds_layout.specs.declared.announcement.Phase.TheVariants as phase
 use Rattle.ds_layout.specs.declared.place.Place.TheVariants.{Header, Announce}
 use Rattle.ds_layout.specs.declared.layout.Layout.{Layout}
-use Rattle.ds_layout.specs.Sheet.{PerformsAt}
+use Rattle.ds_layout.specs.SheetMemory.{PerformsAt}
 use Rattle.ds_state.specs.World.{Edit, Issue, World, announcement, last_announcement, phase_among, record_size, is_edit_of}
 use Rattle.ds_state.specs.Works.{PlainRecovery}
 use Rattle.ds_state.specs.Known.{Standing, outside, inside, safe, Announced, last, pending, ended, word_of, phase_of, AreBelow, StandsAs, IsRecorded}
-use Rattle.ds_state.specs.Calls.{CallFits, MaySay, DoubtFits, IsInDoubt, IsWritten, RecoveryFits}
+use Rattle.ds_state.specs.CallsFit.{CallFits, MaySay, DoubtFits, IsInDoubt, IsWritten, RecoveryFits}
 use Rattle.ds_state.specs.KnownRecovery.{Tells as Announced_as, ResolvedFits, resolved_at, over, phase_for}
 use Rattle.ds_state.specs.Value.{WorldValue, world_of, IsGood}
 use Rattle.ds_state.specs.declared.situation.Situation.{Situation}

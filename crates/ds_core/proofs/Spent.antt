@@ -7,7 +7,7 @@ use Rattle.ds_state.specs.Edits.{text_parts}
 use Rattle.ds_state.specs.World.{Edit, edit_of}
 use Rattle.ds_state.specs.Known.{AreBelow, Knowing, known_at}
 use Rattle.ds_state.specs.Value.{WorldValue, world_of}
-use Rattle.ds_state.specs.Calls.{CallFits, EditFits}
+use Rattle.ds_state.specs.CallsFit.{CallFits, EditFits}
 use Rattle.ds_state.specs.Sound.{IsSound}
 use Rattle.ds_state.specs.declared.stage.Outcome.{Outcome}
 use Rattle.ds_state.specs.declared.stage.Outcome.TheVariants as outcome
@@ -15,11 +15,11 @@ use Rattle.ds_state.specs.declared.stage.Stage.{Stage}
 use Rattle.ds_state.specs.declared.stage.Stage.TheVariants.{Answer}
 use Rattle.ds_state.specs.declared.situation.Situation.{Situation}
 use Rattle.ds_state.specs.declared.situation.Situation.TheVariants.{Editing}
-use Rattle.ds_edit.specs.Worlds.{counted_at}
+use Rattle.ds_edit.specs.EditTakes.{counted_at}
 use Rattle.ds_core.specs.EditEvents.{EditStepsBy}
-use Rattle.ds_edit.specs.Endings.{answer_of, outcome_at}
+use Rattle.ds_edit.specs.EditEndings.{answer_of, outcome_at}
 use Rattle.ds_core.specs.Takes.{Takes, WorldRun}
-use Rattle.ds_core.specs.Spent.{IsOut}
+use Rattle.ds_core.specs.SpentNumbers.{IsOut}
 use Rattle.ds_state.specs.Spent.{IsSpent}
 use Rattle.ds_state.specs.Rely.{Keeps}
 use Rattle.ds_state.proofs.Spent.{spent_grown, spent_stays, spent_evicted, spent_crashed, swap_unspent, answer_spent}
@@ -46,7 +46,7 @@ use Rattle.ds_recover.specs.declared.machine.Effect.TheVariants as recovery_effe
 use Rattle.ds_recover.specs.declared.machine.RecoveryEnd.TheVariants as recovery_ends
 use Rattle.ds_core.specs.WorkEvents.{work_reply, WorkStepsBy}
 use Rattle.ds_core.specs.RecoveryEvents.{recovery_reply, RecoveryStepsBy}
-use Rattle.ds_core.specs.Steps.{edits, works, reports, recoveries}
+use Rattle.ds_core.specs.StepEvents.{edits, works, reports, recoveries}
 use Rattle.ds_core.proofs.Turns.{IsTurn, LeavesEdits, edit_turn, report_turn, report_begins_turn, stop_turn, work_leaves, work_begins_leaves, offer_leaves, recovery_turn, recovery_begins_turn}
 use Rattle.ds_core.proofs.Solo.{some_outcome}
 

@@ -6,7 +6,7 @@ use Rattle.ds_recover.specs.declared.machine.Effect.TheVariants.{GoesOn, Answers
 use Rattle.ds_recover.specs.declared.machine.RecoveryEnd.TheVariants as ends
 use Rattle.ds_recover.specs.RecoverTakes as recover_takes
 use Rattle.ds_core.specs.RecoveryEvents.{recovery_reply}
-use Rattle.ds_core.specs.Steps.{StepTakes, recoveries}
+use Rattle.ds_core.specs.StepEvents.{StepTakes, recoveries}
 
 pub recovers : (old new : WorldValue) (p : ℕ) (what : Effect) → recover_takes.StepsBy old p what new → StepTakes old p (recovery_reply what) new
 recovers old new p GoesOn h = recoveries (record { what = GoesOn; steps = h; is = refl })

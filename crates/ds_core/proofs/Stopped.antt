@@ -5,7 +5,7 @@ use Rattle.std.proofs.Math.ListN.{length-set}
 use Rattle.std.proofs.lemmas.List.{get_or-set_same, get_or-set_other}
 use Rattle.ds_words.specs.Memory.{StopsAt, Crashes}
 use Rattle.ds_layout.specs.declared.layout.Layout.{Layout}
-use Rattle.ds_layout.specs.Sheet.{SheetValue, memory}
+use Rattle.ds_layout.specs.SheetMemory.{SheetValue, memory}
 use Rattle.ds_state.specs.World.{Edit, Issue}
 use Rattle.ds_state.specs.Value.{WorldValue, world_of, IsGood, IsReserved}
 use Rattle.ds_state.specs.Dones.{HasAnswered}
@@ -18,7 +18,7 @@ use Rattle.ds_state.specs.declared.reports.TheConstants.{SETTLED_MOST}
 use Rattle.ds_state.proofs.Underway.{no_more}
 use Rattle.ds_state.proofs.Stopping.{stop_keeps}
 use Rattle.ds_state.proofs.CrashSound.{crash_sound}
-use Rattle.ds_core.specs.Stops.{HasHeadPlace}
+use Rattle.ds_core.specs.StopEvents.{HasHeadPlace}
 use Rattle.ds_core.proofs.Closing.{to_filter}
 use Rattle.ds_core.proofs.Crash.{lost_open}
 

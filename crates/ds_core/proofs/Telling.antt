@@ -12,7 +12,7 @@ use Rattle.ds_state.specs.World.{Edit, Issue, World, edit_of}
 use Rattle.ds_state.specs.Works.{PlainRecovery}
 use Rattle.ds_state.specs.Value.{WorldValue, world_of, IsGood}
 use Rattle.ds_state.specs.Sound.{IsSound}
-use Rattle.ds_state.specs.Calls.{CallFits, DoubtFits}
+use Rattle.ds_state.specs.CallsFit.{CallFits, DoubtFits}
 use Rattle.ds_state.specs.KnownWork.{IsAtRest}
 use Rattle.ds_state.specs.Crashes.{CrashesTo}
 use Rattle.ds_state.specs.Events.{Evicts}
@@ -25,7 +25,7 @@ use Rattle.ds_recover.specs.RecoverySteps.{cell_from, number_of}
 use Rattle.ds_layout.proofs.Packed.{header_of-header_word}
 use Rattle.ds_layout.specs.declared.place.TheConstants.{TEXT_BYTES}
 use Rattle.ds_state.specs.Known.{AreBelow, IsRecorded}
-use Rattle.ds_core.specs.Stops.{StopsProcess}
+use Rattle.ds_core.specs.StopEvents.{StopsProcess}
 use Rattle.ds_core.specs.Moments.{Placed, Open, Closed, Ledger, edits_in}
 use Rattle.ds_core.specs.LedgerSteps.{next_number, Loses}
 use Rattle.ds_core.proofs.Closing.{of_filter, to_filter}

@@ -3,9 +3,9 @@ use Rattle.std.proofs.Common.{ℕ, ◌≡◌, ◌<◌, subst}
 use Rattle.ds_words.specs.Memory.{Memory, SameMemory}
 use Rattle.ds_layout.specs.declared.place.Place.{Place}
 use Rattle.ds_layout.specs.declared.place.Place.TheVariants.{Header}
-use Rattle.ds_layout.specs.Sheet.{PerformsAt}
+use Rattle.ds_layout.specs.SheetMemory.{PerformsAt}
 use Rattle.ds_state.specs.Works.{PlainWork}
-use Rattle.ds_state.specs.Calls.{CallFits}
+use Rattle.ds_state.specs.CallsFit.{CallFits}
 use Rattle.ds_state.specs.KnownWork.{WorkFits}
 use Rattle.ds_state.specs.Sound.{IsSound}
 use Rattle.ds_state.specs.Value.{WorldValue, world_of}
@@ -15,7 +15,7 @@ use Rattle.ds_state.specs.declared.work.ShowStage.{ShowStage}
 use Rattle.ds_state.specs.declared.work.ShowStage.TheVariants as stages
 use Rattle.ds_show.specs.ShowSteps as shows
 use Rattle.ds_work.specs.declared.drive.Taken.{Taken}
-use Rattle.ds_work.specs.WorkEvents as works
+use Rattle.ds_work.specs.WorkTakes as works
 use Rattle.ds_core.specs.ReportEvents.{ReportStepsBy}
 use Rattle.ds_core.specs.WorkEvents.{WorkStepsBy}
 use Rattle.ds_core.specs.declared.reply.Reply.{Reply}

@@ -4,18 +4,18 @@ use Rattle.std.specs.Prelude.{Contains}
 use Rattle.std.proofs.lemmas.List.Elements.{Contains-append_cases, Contains-append_left}
 use Rattle.ds_words.specs.Memory.{SameMemory}
 use Rattle.ds_layout.specs.declared.place.Place.TheVariants.{Header}
-use Rattle.ds_layout.specs.Sheet.{PerformsAt}
+use Rattle.ds_layout.specs.SheetMemory.{PerformsAt}
 use Rattle.ds_state.specs.Edits.{text_parts}
 use Rattle.ds_state.specs.World.{Edit, Issue, edit_of}
 use Rattle.ds_state.specs.Known.{AreBelow, Knowing, known_at}
-use Rattle.ds_state.specs.Calls.{CallFits, EditFits}
+use Rattle.ds_state.specs.CallsFit.{CallFits, EditFits}
 use Rattle.ds_state.specs.Value.{WorldValue, world_of}
 use Rattle.ds_state.specs.declared.situation.Situation.{Situation}
 use Rattle.ds_state.specs.declared.stage.Outcome.{Outcome}
 use Rattle.ds_state.specs.declared.stage.Outcome.TheVariants as outcome
 use Rattle.ds_state.specs.declared.stage.Stage.{Stage}
 use Rattle.ds_state.specs.declared.stage.Stage.TheVariants.{Answer}
-use Rattle.ds_edit.specs.Steps.{access_at}
+use Rattle.ds_edit.specs.EditSteps.{access_at}
 use Rattle.ds_core.specs.EditEvents.{EditStepsBy}
 use Rattle.ds_core.specs.Moments.{Placed, Closed, Ledger}
 use Rattle.ds_core.specs.LedgerSteps.{next_number}

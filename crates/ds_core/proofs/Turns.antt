@@ -12,10 +12,10 @@ use Rattle.ds_state.specs.declared.work.WorkStage.{WorkStage}
 use Rattle.ds_state.specs.declared.work.WorkStage.TheVariants as stages
 use Rattle.ds_state.specs.declared.situation.Situation.TheVariants.{Working}
 use Rattle.ds_words.specs.declared.access.Access.TheVariants.{Nothing}
-use Rattle.ds_layout.specs.Sheet.{PerformsAt}
+use Rattle.ds_layout.specs.SheetMemory.{PerformsAt}
 use Rattle.ds_eval.specs.Tasks.{PlainEvaluated}
 use Rattle.ds_work.specs.declared.drive.Taken.{Taken}
-use Rattle.ds_work.specs.WorkEvents as works
+use Rattle.ds_work.specs.WorkTakes as works
 use Rattle.ds_work.specs.WorkSteps as work_steps
 use Rattle.ds_work.proofs.EachWork.{work_steps_keep, reads_keep, lacks_keep, offer_keep, begins_keep}
 use Rattle.ds_recover.proofs.RecoveryLaws as recoveries
@@ -24,7 +24,7 @@ use Rattle.ds_core.specs.WorkEvents.{WorkStepsBy, WorkBegins, TakesEntry}
 use Rattle.ds_core.specs.RecoveryEvents.{RecoveryStepsBy, RecoveryBegins}
 use Rattle.ds_core.specs.LedgerSteps.{OneAccess}
 use Rattle.ds_core.specs.ReportEvents.{ReportStepsBy, ReportBegins}
-use Rattle.ds_core.specs.Stops.{StopsProcess}
+use Rattle.ds_core.specs.StopEvents.{StopsProcess}
 use Rattle.ds_core.specs.declared.reply.Reply.{Reply}
 
 -- a begin, a step or a stop of a process of the sheet

@@ -17,7 +17,7 @@ use Rattle.ds_state.specs.declared.work.WorkStage.TheVariants.{LoadMark, Claim, 
 use Rattle.ds_state.specs.declared.work.Spread.TheVariants.{LoadRow, OrTold, FlushTold, BackTold}
 use Rattle.ds_work.specs.declared.drive.Taken.{Taken}
 use Rattle.ds_work.specs.declared.drive.Taken.TheVariants as taken
-use Rattle.ds_work.specs.WorkEvents as work_events
+use Rattle.ds_work.specs.WorkTakes as work_events
 use Rattle.ds_work.specs.WorkRank.{left, steps_left}
 use Rattle.ds_work.specs.WorkSteps.{next_at, read_from, lacks, offered, told}
 use Rattle.ds_work.specs.Noted.{inputs_at}
@@ -25,7 +25,7 @@ use Rattle.ds_work.proofs.Next.{next_noted}
 use Rattle.ds_work.proofs.Ranks.{each_falls, offer_falls}
 use Rattle.ds_work.proofs.Turning.{after_goes, falls_plain, reading_less, read_cells}
 use Rattle.ds_core.specs.WorkEvents.{work_reply}
-use Rattle.ds_core.specs.Steps as steps
+use Rattle.ds_core.specs.StepEvents as steps
 use Rattle.ds_core.specs.Takes.{WorldRun}
 use Rattle.ds_core.specs.Own.{own_step, own_steps, AreUnanswered, IsInCall, WorkGoesOn}
 use Rattle.ds_core.specs.declared.event.Event.{Event}

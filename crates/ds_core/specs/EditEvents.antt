@@ -6,8 +6,8 @@ use Rattle.ds_state.specs.declared.stage.Outcome.{Outcome}
 use Rattle.ds_state.specs.declared.stage.Outcome.TheVariants as outcome
 use Rattle.ds_state.specs.declared.stage.Stage.{Stage}
 use Rattle.ds_state.specs.declared.situation.Situation.TheVariants.{Editing}
-use Rattle.ds_edit.specs.Worlds as edits
-use Rattle.ds_edit.specs.Endings.{answer_of, outcome_at}
+use Rattle.ds_edit.specs.EditTakes as edits
+use Rattle.ds_edit.specs.EditEndings.{answer_of, outcome_at}
 use Rattle.ds_core.specs.declared.reply.Reply.{Reply}
 use Rattle.ds_core.specs.declared.reply.Reply.TheVariants.{Stepped, Answered, NotEnabled}
 

@@ -3,13 +3,13 @@ pub mod EditEvents
 pub mod ReportEvents
 pub mod WorkEvents
 pub mod RecoveryEvents
-pub mod Steps
-pub mod Stops
+pub mod StepEvents
+pub mod StopEvents
 pub mod Takes
 pub mod Counts
 pub mod Own
 pub mod Solo
-pub mod Spent
+pub mod SpentNumbers
 pub mod Moments
 pub mod LedgerSteps
 pub mod Headline

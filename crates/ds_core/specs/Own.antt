@@ -5,7 +5,7 @@ use Rattle.ds_state.specs.Works.{PlainWork}
 use Rattle.ds_state.specs.Value.{WorldValue, world_of}
 use Rattle.ds_state.specs.declared.situation.Situation.{Situation}
 use Rattle.ds_state.specs.declared.situation.Situation.TheVariants.{Idle, Stopped, Editing, Working, Recovering, Showing}
-use Rattle.ds_edit.specs.Steps.{rank}
+use Rattle.ds_edit.specs.EditSteps.{rank}
 use Rattle.ds_work.specs.WorkRank as works
 use Rattle.ds_show.specs.ShowSteps as shows
 use Rattle.ds_recover.specs.RecoverySteps as recoveries

@@ -9,8 +9,8 @@ use Rattle.ds_core.specs.EditEvents.{SameReports}
 use Rattle.ds_core.specs.ReportEvents.{BeginShowTakes}
 use Rattle.ds_core.specs.WorkEvents.{BeginWorkTakes, OfferTakes}
 use Rattle.ds_core.specs.RecoveryEvents.{BeginRecoverTakes}
-use Rattle.ds_core.specs.Steps.{StepTakes, EvictTakes}
-use Rattle.ds_core.specs.Stops.{StopTakes, CrashTakes}
+use Rattle.ds_core.specs.StepEvents.{StepTakes, EvictTakes}
+use Rattle.ds_core.specs.StopEvents.{StopTakes, CrashTakes}
 use Rattle.ds_core.specs.declared.event.Event.{Event}
 use Rattle.ds_core.specs.declared.event.Event.TheVariants.{BeginEdit, BeginWork, BeginShow, BeginRecover, Step, Offer, Evict, Stop, Crash}
 use Rattle.ds_core.specs.declared.reply.Reply.{Reply}

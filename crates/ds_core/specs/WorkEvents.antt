@@ -11,7 +11,7 @@ use Rattle.ds_edit.specs.declared.answer.Answer.{Answer}
 use Rattle.ds_edit.specs.declared.answer.Answer.TheVariants.{NotDirty, Missed, Worn, Published, Again, NoMemory}
 use Rattle.ds_work.specs.declared.drive.Taken.{Taken}
 use Rattle.ds_work.specs.declared.drive.Taken.TheVariants as taken
-use Rattle.ds_work.specs.WorkEvents as works
+use Rattle.ds_work.specs.WorkTakes as works
 use Rattle.ds_core.specs.EditEvents.{SameReports}
 use Rattle.ds_core.specs.declared.reply.Reply.{Reply}
 use Rattle.ds_core.specs.declared.reply.Reply.TheVariants.{Entered, Refused, Stepped, Answered, WrongTask, NotEnabled}

@@ -20,7 +20,7 @@ ghost use Rattle.ds_core.specs.Takes.{Takes, WorldRun};
 ghost use Rattle.ds_core.specs.Headline.{Happens, RunFits, Headline, HasHeadline, IsAcknowledged, IsToldDone};
 ghost use Rattle.ds_core.specs.Own.{own_steps, steps_left, AreUnanswered, AreUnhalted, IsInCall, WorkGoesOn};
 ghost use Rattle.ds_state.specs.Spent.{IsSpent};
-ghost use Rattle.ds_core.specs.Spent.{IsOut};
+ghost use Rattle.ds_core.specs.SpentNumbers.{IsOut};
 ghost use Rattle.ds_core.specs.Solo.{IsSolo, AreDoneOnly, IsLone, IsLoneAnswer, AreLoneReplies, StandsInOwnRow};
 ghost use Rattle.ds_state.specs.Works.{PlainWork, PlainShow, PlainRecovery};
 ghost use Rattle.ds_layout.specs.Mark.{IsClean};

@@ -5,14 +5,14 @@ ghost use Rattle.ds_state.specs.Edits.{PlainEdit};
 ghost use Rattle.ds_state.specs.declared.stage.Stage.TheVariants.{Swap};
 ghost use Rattle.ds_state.specs.declared.situation.Situation.TheVariants.{Editing};
 ghost use Rattle.ds_state.specs.World.{edit_of};
-ghost use Rattle.ds_edit.specs.Steps.{access_at};
-ghost use Rattle.ds_edit.specs.Worlds.{after, counted_at, open_edit_at};
+ghost use Rattle.ds_edit.specs.EditSteps.{access_at};
+ghost use Rattle.ds_edit.specs.EditTakes.{after, counted_at, open_edit_at};
 ghost use Rattle.ds_core.specs.EditEvents.{IsEditing, reply_at, done_at, EditStepTakes};
 ghost use Rattle.ds_core.specs.declared.reply.Reply.TheVariants.{Stepped};
 ghost use Rattle.ds_core.specs.ReportEvents.{report_answer, report_reply};
 ghost use Rattle.ds_core.specs.WorkEvents.{work_answer, work_reply};
 ghost use Rattle.ds_core.specs.RecoveryEvents.{recovery_answer, recovery_reply};
-ghost use Rattle.ds_core.specs.Steps.{StepTakes, EvictTakes};
+ghost use Rattle.ds_core.specs.StepEvents.{StepTakes, EvictTakes};
 
 use crate::reply::Reply;
 use ds_edit::answer::{Answer, Told};

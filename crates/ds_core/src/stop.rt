@@ -1,10 +1,10 @@
 //! Stops and crashes.
 
 ghost use Rattle.std.specs.Prelude.{◌≡◌, ◌<◌, ◌==◌, ℕ, All, length, slice_index_or, vec_capacity, vec_len};
-ghost use Rattle.ds_layout.specs.Sheet.{memory};
+ghost use Rattle.ds_layout.specs.SheetMemory.{memory};
 ghost use Rattle.ds_state.specs.Crashes.{is_lost, survivors};
 ghost use Rattle.ds_state.specs.declared.situation.Situation as situation;
-ghost use Rattle.ds_core.specs.Stops.{StopTakes, CrashTakes, HasHeadPlace};
+ghost use Rattle.ds_core.specs.StopEvents.{StopTakes, CrashTakes, HasHeadPlace};
 
 use crate::reply::Reply;
 use ds_layout::head::Head;

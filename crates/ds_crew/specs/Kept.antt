@@ -10,7 +10,7 @@ use Rattle.ds_core.specs.Takes.{Fits}
 use Rattle.ds_core.specs.declared.event.Event.TheVariants.{Step}
 use Rattle.ds_core.specs.declared.reply.Reply.{Reply}
 use Rattle.ds_core.specs.declared.reply.Reply.TheVariants.{Answered, NotEnabled}
-use Rattle.ds_crew.specs.Calls.{call_in}
+use Rattle.ds_crew.specs.LockedCalls.{call_in}
 use Rattle.ds_crew.specs.declared.steps.Call.{Call}
 
 -- the values of the process's last settled report; none where it has had none, or the sheet has no such process

@@ -1,5 +1,5 @@
 pub mod Receipts
-pub mod Calls
+pub mod LockedCalls
 pub mod Kept
 pub mod Passes
 pub mod Ends

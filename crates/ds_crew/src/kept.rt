@@ -6,7 +6,7 @@ ghost use Rattle.ds_edit.specs.declared.answer.Answer.TheVariants.{Settled};
 ghost use Rattle.ds_core.specs.Takes.{Fits};
 ghost use Rattle.ds_core.specs.Counts.{done_of, settled_of, IsReplyTo};
 ghost use Rattle.ds_core.specs.declared.reply.Reply.TheVariants.{Answered};
-ghost use Rattle.ds_crew.specs.Calls.{CountsNothing, IsNoStep, IsStepOf};
+ghost use Rattle.ds_crew.specs.LockedCalls.{CountsNothing, IsNoStep, IsStepOf};
 ghost use Rattle.ds_crew.specs.Kept.{StepsIn, last_after, report_of};
 ghost use Rattle.ds_crew.specs.declared.steps.Call.TheVariants.{Edit, Report};
 

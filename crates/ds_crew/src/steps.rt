@@ -5,7 +5,7 @@ ghost use Rattle.ds_state.specs.Value.{world_of};
 ghost use Rattle.ds_edit.specs.declared.answer.Answer.TheVariants.{Settled};
 ghost use Rattle.ds_core.specs.Counts.{done_of, settled_of};
 ghost use Rattle.ds_core.specs.declared.reply.Reply.TheVariants.{Answered};
-ghost use Rattle.ds_crew.specs.Calls.{call_in, IsStepOf};
+ghost use Rattle.ds_crew.specs.LockedCalls.{call_in, IsStepOf};
 ghost use Rattle.ds_crew.specs.Kept.{HasReport, StepsIn};
 
 use ds_core::event::Event;

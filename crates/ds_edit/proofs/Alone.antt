@@ -7,7 +7,7 @@ use Rattle.ds_layout.specs.Places.{class_of}
 use Rattle.ds_layout.specs.declared.place.Place.TheVariants as place
 use Rattle.ds_layout.specs.declared.head.Head.{Head}
 use Rattle.ds_layout.specs.Head.{head_of}
-use Rattle.ds_layout.specs.Sheet.{PerformsAt}
+use Rattle.ds_layout.specs.SheetMemory.{PerformsAt}
 use Rattle.ds_layout.proofs.Packed.{IsHead-head_of}
 use Rattle.ds_state.specs.Edits.{PlainEdit, text_parts}
 use Rattle.ds_state.specs.World.{World, of_cell}
@@ -17,7 +17,7 @@ use Rattle.ds_state.specs.declared.stage.Stage.TheVariants.{StoreHeader, StoreTe
 use Rattle.ds_state.proofs.Heads.{small_counted, small_of_cell, head_high}
 use Rattle.ds_state.proofs.Few.{of_cell_few}
 use Rattle.ds_edit.specs.Alone.{IsAloneAt}
-use Rattle.ds_edit.specs.Steps.{access_at, next_at, help_from}
+use Rattle.ds_edit.specs.EditSteps.{access_at, next_at, help_from}
 use Rattle.ds_edit.proofs.Stays.{branches}
 
 head_small : (w : World) → IsSound w → (cell : ℕ) → w.memory.cached (place.Head cell) < 2 ^ 64

@@ -9,14 +9,14 @@ use Rattle.ds_state.specs.Edits.{PlainEdit, text_parts}
 use Rattle.ds_state.specs.World.{Edit, edit_of, World, record_place, announcement, last_announcement, phase_among}
 use Rattle.ds_layout.specs.declared.announcement.Phase.{Phase}
 use Rattle.ds_state.specs.Known.{Known, Announced, last, pending, ended, indexing, word_of, Knowing, IsAnnounced, StandsAs, standing_after}
-use Rattle.ds_state.specs.Calls.{EditFits}
+use Rattle.ds_state.specs.CallsFit.{EditFits}
 use Rattle.ds_state.specs.Owing.{HoldsNone, SplitsAt, EditOwes}
 use Rattle.ds_layout.specs.Mark.{IsHeldBy}
 use Rattle.ds_state.proofs.Buffers.{buffered}
 use Rattle.ds_state.proofs.Bearing.{Mine, MyMarks, stored_marks}
 use Rattle.ds_state.proofs.EditSteps.{edit_mine}
 use Rattle.ds_state.proofs.EditFrame.{Framed, edit_keeps, edit_framed}
-use Rattle.ds_state.specs.Words.{IsKept, WordFits}
+use Rattle.ds_state.specs.WordsFit.{IsKept, WordFits}
 use Rattle.ds_state.specs.Rely.{Grows, Keeps}
 use Rattle.ds_state.specs.Sound.{IsSound}
 use Rattle.ds_state.specs.declared.stage.Outcome.{Outcome}
@@ -27,8 +27,8 @@ use Rattle.ds_state.specs.declared.situation.Situation.TheVariants.{Editing}
 use Rattle.ds_state.proofs.Stable.{standing_stable, recorded_stable, word_stable, indexed_stable, ored_stable, head_stable}
 use Rattle.ds_state.proofs.Frames.{Moves, KeepsOwing, grows_own, word_bears, moves_sound}
 use Rattle.ds_state.proofs.Accesses.{Turn, store_moves}
-use Rattle.ds_edit.specs.Steps.{next_at, index_from}
-use Rattle.ds_edit.specs.Worlds.{StepsAt}
+use Rattle.ds_edit.specs.EditSteps.{next_at, index_from}
+use Rattle.ds_edit.specs.EditTakes.{StepsAt}
 use Rattle.ds_edit.proofs.Stays.{branches}
 use Rattle.ds_edit.proofs.Turns.{on, Known_on, Holds_on, IsPlainStep, turn, goes, stays_open, fits_next}
 

@@ -7,7 +7,7 @@ use Rattle.ds_layout.specs.declared.announcement.Phase.{Phase}
 use Rattle.ds_state.specs.Edits.{PlainEdit, IsEdit, text_parts}
 use Rattle.ds_state.specs.World.{Edit, edit_of, World, phase_among, last_announcement, announcement}
 use Rattle.ds_state.specs.Known.{AreBelow, Knowing, StandsAs, standing_after, phase_of, word_of, ended, known_at, writing}
-use Rattle.ds_state.specs.Calls.{EditFits, IdleFits, CallFits, IsSheetOf, HasRefs, held_at, Holds}
+use Rattle.ds_state.specs.CallsFit.{EditFits, IdleFits, CallFits, IsSheetOf, HasRefs, held_at, Holds}
 use Rattle.ds_state.specs.Sound.{IsSound}
 use Rattle.ds_state.specs.Rely.{Keeps}
 use Rattle.ds_state.specs.declared.stage.Outcome.{Outcome}
@@ -23,7 +23,7 @@ use Rattle.ds_state.proofs.Buffers.{buffered}
 use Rattle.ds_state.proofs.EditFrame.{Framed, silent_framed, silent_keeps}
 use Rattle.ds_state.proofs.Frames.{Moves, KeepsOwing}
 use Rattle.ds_state.proofs.Accesses.{Turn, same_moves, quiet_sound}
-use Rattle.ds_edit.specs.Worlds.{StepsAt, Begins}
+use Rattle.ds_edit.specs.EditTakes.{StepsAt, Begins}
 use Rattle.ds_edit.proofs.Turns.{on, turn}
 
 -- how the edit ended stands in the list

@@ -19,14 +19,14 @@ use Rattle.ds_state.specs.Dones.{HasAnswered}
 use Rattle.ds_state.proofs.Dones.{still_answered}
 use Rattle.ds_state.proofs.Underway.{no_more}
 use Rattle.std.proofs.lemmas.Bool.{cases_eq}
-use Rattle.ds_state.specs.Calls.{CallFits, IdleFits, IsSheetOf, HasRefs}
+use Rattle.ds_state.specs.CallsFit.{CallFits, IdleFits, IsSheetOf, HasRefs}
 use Rattle.ds_state.specs.Value.{WorldValue, world_of, IsGood, IsReserved}
 use Rattle.ds_state.specs.declared.refusal.Refusal.{Refusal}
 use Rattle.ds_state.specs.declared.refusal.Refusal.TheVariants as refusal
 use Rattle.ds_state.specs.declared.stage.Stage.TheVariants.{StoreHeader}
 use Rattle.ds_state.specs.declared.situation.Situation.{Situation}
 use Rattle.ds_state.specs.declared.situation.Situation.TheVariants.{Idle, Stopped, Editing, Working, Recovering, Showing}
-use Rattle.ds_edit.specs.Worlds.{Begins}
+use Rattle.ds_edit.specs.EditTakes.{Begins}
 use Rattle.ds_edit.specs.Begun.{next_of, RefersTo, IsAskedFor, IsIdle, Refuses}
 use Rattle.ds_edit.proofs.Answering.{begin_sound}
 

@@ -3,12 +3,12 @@ use Rattle.std.proofs.Common.{ℕ, ◌/◌, ◌<◌, length, slice_index_or, ari
 use Rattle.std.proofs.lemmas.List.Elements.{All-get_or}
 use Rattle.ds_layout.specs.declared.layout.Layout.{Layout}
 use Rattle.ds_layout.specs.Places.{cells_of, parts_of}
-use Rattle.ds_layout.specs.Sheet.{NamesPlace}
+use Rattle.ds_layout.specs.SheetMemory.{NamesPlace}
 use Rattle.ds_state.specs.Edits.{PlainEdit, IsEdit, IsStage}
 use Rattle.ds_state.specs.declared.stage.Stage.{Stage}
 use Rattle.ds_state.specs.declared.stage.Stage.TheVariants.{StoreHeader, StoreText, FlushHeader, FlushText, BackRecord, StorePending, FlushPending, BackPending, OrIndex, FlushIndex, BackIndex, LoadHead, FlushNoted, BackNoted, OrDone, FlushDone, BackDone, Swap, FlushOwn, BackOwn, OrMark, FlushMark, BackMark, StoreOutcome, FlushOutcome, BackOutcome, Answer}
-use Rattle.ds_edit.specs.Steps.{access_at}
-use Rattle.ds_state.specs.Calls.{IsSheetOf}
+use Rattle.ds_edit.specs.EditSteps.{access_at}
+use Rattle.ds_state.specs.CallsFit.{IsSheetOf}
 
 pub index_place : (layout : Layout) (e : PlainEdit) (i : ℕ) → IsSheetOf layout e → IsEdit e → i < length e.refs
     → (slice_index_or e.refs i 0 < cells_of layout) × (e.cell / 64 < parts_of layout)

@@ -13,8 +13,8 @@ use Rattle.ds_layout.proofs.OrBits.{HasBit-or_bit, HasBit-subset, IsSubset-same,
 use Rattle.ds_state.specs.Edits.{PlainEdit, text_parts}
 use Rattle.ds_state.specs.World.{Edit, edit_of, World, record_place, done_place, of_cell, of_cell_when, head_after_all, IsHeadBy}
 use Rattle.ds_state.specs.Known.{placing, outside, nothing, head_noted, head_back, bit_set, bit_back, Knowing, Knows, IsWhen, IsNoted, IsHelped, IsLate, IsDone}
-use Rattle.ds_state.specs.Calls.{HasOne, IsHeadFrom, IsBits, EditFits}
-use Rattle.ds_state.specs.Words.{IsKept}
+use Rattle.ds_state.specs.CallsFit.{HasOne, IsHeadFrom, IsBits, EditFits}
+use Rattle.ds_state.specs.WordsFit.{IsKept}
 use Rattle.ds_state.specs.Rely.{Keeps}
 use Rattle.ds_state.specs.Sound.{IsSound}
 use Rattle.ds_state.specs.declared.stage.Outcome.TheVariants as outcome
@@ -26,8 +26,8 @@ use Rattle.ds_state.proofs.Few.{of_cell_few}
 use Rattle.ds_state.proofs.Noted.{last_cases, last_same, when_now, when_rest, noted_by, when_most, head_reads}
 use Rattle.ds_state.proofs.Frames.{word_bears, kept_stable}
 use Rattle.ds_state.proofs.Sides.{done_or_fits}
-use Rattle.ds_edit.specs.Steps.{next_at, help_from}
-use Rattle.ds_edit.specs.Worlds.{StepsAt}
+use Rattle.ds_edit.specs.EditSteps.{next_at, help_from}
+use Rattle.ds_edit.specs.EditTakes.{StepsAt}
 use Rattle.ds_edit.proofs.Turns.{on, Known_on, Holds_on, IsPlainStep, turn}
 use Rattle.ds_edit.proofs.Sorts.{loads, flushes, backs, ors}
 

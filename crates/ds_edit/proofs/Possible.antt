@@ -9,18 +9,18 @@ use Rattle.ds_layout.specs.declared.place.Place.{Place}
 use Rattle.ds_layout.specs.declared.place.Place.TheVariants as place
 use Rattle.ds_layout.specs.declared.layout.Layout.{Layout}
 use Rattle.ds_layout.specs.Places.{IsPlace}
-use Rattle.ds_layout.specs.Sheet.{CanPerform, HasBuffer, HasEntry}
+use Rattle.ds_layout.specs.SheetMemory.{CanPerform, HasBuffer, HasEntry}
 use Rattle.ds_state.specs.Edits.{PlainEdit, text_parts}
 use Rattle.ds_state.specs.World.{edit_of, World, record_place, index_place, done_place}
 use Rattle.ds_state.specs.Known.{word_of, pending, ended}
 use Rattle.ds_state.specs.Owing.{entry}
-use Rattle.ds_state.specs.Calls.{EditFits, CallFits, record_entry}
+use Rattle.ds_state.specs.CallsFit.{EditFits, CallFits, record_entry}
 use Rattle.ds_state.specs.Sound.{IsSound}
 use Rattle.ds_state.specs.declared.stage.Stage.{Stage}
 use Rattle.ds_state.specs.declared.stage.Stage.TheVariants.{StoreHeader, StoreText, FlushHeader, FlushText, BackRecord, StorePending, FlushPending, BackPending, OrIndex, FlushIndex, BackIndex, LoadHead, FlushNoted, BackNoted, OrDone, FlushDone, BackDone, Swap, FlushOwn, BackOwn, OrMark, FlushMark, BackMark, StoreOutcome, FlushOutcome, BackOutcome, Answer}
 use Rattle.ds_state.specs.declared.situation.Situation.{Situation}
 use Rattle.ds_state.specs.declared.situation.Situation.TheVariants.{Editing}
-use Rattle.ds_edit.specs.Steps.{access_at}
+use Rattle.ds_edit.specs.EditSteps.{access_at}
 use Rattle.ds_edit.proofs.Named as named
 use Rattle.ds_edit.proofs.Turns.{on}
 

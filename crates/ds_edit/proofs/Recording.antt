@@ -11,7 +11,7 @@ use Rattle.ds_layout.specs.declared.place.Place.TheVariants.{Version, Head, Mark
 use Rattle.ds_state.specs.Edits.{PlainEdit, text_parts}
 use Rattle.ds_state.specs.World.{Edit, edit_of, World, record_place, record_word}
 use Rattle.ds_state.specs.Known.{writing, outside, last, AreBelow, Knowing}
-use Rattle.ds_state.specs.Calls.{record_words, record_entry, Holds, EditFits}
+use Rattle.ds_state.specs.CallsFit.{record_words, record_entry, Holds, EditFits}
 use Rattle.std.specs.Prelude.{Contains}
 use Rattle.ds_words.specs.declared.access.Entry.{Entry}
 use Rattle.ds_state.specs.Owing.{entry, HoldsNone, SplitsAt, EditOwes}
@@ -20,7 +20,7 @@ use Rattle.ds_state.proofs.Buffers.{buffered}
 use Rattle.ds_state.proofs.Bearing.{Mine, MyMarks, no_new_marks, stored_marks, text_same}
 use Rattle.ds_state.proofs.EditSteps.{edit_mine}
 use Rattle.ds_state.proofs.EditFrame.{Framed, edit_keeps, edit_framed, flush_any}
-use Rattle.ds_state.specs.Words.{WordFits}
+use Rattle.ds_state.specs.WordsFit.{WordFits}
 use Rattle.ds_state.specs.Rely.{Grows, Keeps}
 use Rattle.ds_state.specs.Sound.{IsSound}
 use Rattle.ds_state.specs.declared.stage.Stage.{Stage}
@@ -31,8 +31,8 @@ use Rattle.ds_state.proofs.Lasting.{record_owned}
 use Rattle.ds_state.proofs.Frames.{MovesWord, Moves, KeepsOwing, grows_own, moves_sound}
 use Rattle.ds_state.proofs.Sides.{IsBetween}
 use Rattle.ds_state.proofs.Accesses.{Turn, store_moves, flush_moves, quiet_sound, Backs, back_moves, back_grows, back_sound}
-use Rattle.ds_edit.specs.Steps.{next_at, store_from, flush_from, back_from}
-use Rattle.ds_edit.specs.Worlds.{StepsAt}
+use Rattle.ds_edit.specs.EditSteps.{next_at, store_from, flush_from, back_from}
+use Rattle.ds_edit.specs.EditTakes.{StepsAt}
 use Rattle.ds_edit.proofs.Stays.{branches}
 use Rattle.ds_edit.proofs.Turns.{on, Known_on, Holds_on, IsPlainStep, turn, goes, stays_open, fits_next}
 

@@ -14,14 +14,14 @@ use Rattle.std.proofs.Common.{List, ◌⊎◌}
 use Rattle.ds_state.specs.Owing.{entry, HoldsNone, SplitsAt, EditOwes, IsExcused}
 use Rattle.ds_layout.specs.Mark.{IsHeldBy, IsClean}
 use Rattle.ds_state.specs.Standing.{Matters}
-use Rattle.ds_state.specs.Calls.{EditFits}
+use Rattle.ds_state.specs.CallsFit.{EditFits}
 use Rattle.std.proofs.Common.{inl}
 use Rattle.ds_layout.proofs.PlaceCases.{place_cases}
 use Rattle.ds_state.proofs.Buffers.{buffered}
 use Rattle.ds_state.proofs.Bearing.{Mine, MyMarks, no_new_marks, stored_marks, text_same}
 use Rattle.ds_state.proofs.EditSteps.{edit_mine}
 use Rattle.ds_state.proofs.EditFrame.{Framed, edit_keeps, edit_framed, flush_any, back_any, heads_back}
-use Rattle.ds_state.specs.Words.{WordFits}
+use Rattle.ds_state.specs.WordsFit.{WordFits}
 use Rattle.ds_state.specs.Rely.{IsOwnedBy, KeepsHold, Grows, Keeps}
 use Rattle.ds_state.specs.Sound.{IsSound}
 use Rattle.ds_state.specs.declared.stage.Stage.{Stage}
@@ -31,8 +31,8 @@ use Rattle.ds_state.proofs.Stable.{knowing_stable, record_no_version}
 use Rattle.ds_state.proofs.Frames.{MovesWord, Moves, KeepsOwing, grows_own, moves_sound}
 use Rattle.ds_state.proofs.Sides.{EntryFits, IsBetween, newer_between}
 use Rattle.ds_state.proofs.Accesses.{Turn, same_moves, store_moves, flush_moves, quiet_sound, Backs, written_backs, back_moves, back_grows, back_sound}
-use Rattle.ds_edit.specs.Steps.{next_at}
-use Rattle.ds_edit.specs.Worlds.{StepsAt}
+use Rattle.ds_edit.specs.EditSteps.{next_at}
+use Rattle.ds_edit.specs.EditTakes.{StepsAt}
 use Rattle.ds_edit.proofs.Turns.{on, Known_on, Holds_on, IsPlainStep, turn, goes, stays_open, fits_next, back_first}
 
 module _ (e : PlainEdit) (s : Stage) (word : ℕ) (old new : World) (sound : IsSound old)

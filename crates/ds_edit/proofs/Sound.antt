@@ -13,7 +13,7 @@ use Rattle.ds_state.specs.Edits.{PlainEdit, text_parts}
 use Rattle.ds_state.specs.World.{Edit, edit_of, World, record_place, index_place}
 use Rattle.ds_state.specs.Known.{ended, pending, word_of, known_at}
 use Rattle.ds_state.specs.Owing.{entry}
-use Rattle.ds_state.specs.Calls.{record_entry, HasOne, IsBits, EditFits, CallFits}
+use Rattle.ds_state.specs.CallsFit.{record_entry, HasOne, IsBits, EditFits, CallFits}
 use Rattle.ds_state.specs.Rely.{Keeps}
 use Rattle.ds_state.specs.Sound.{IsSound}
 use Rattle.ds_state.specs.declared.stage.Outcome.{Outcome}
@@ -23,7 +23,7 @@ use Rattle.ds_state.specs.declared.situation.Situation.{Situation}
 use Rattle.ds_state.specs.declared.situation.Situation.TheVariants.{Editing}
 use Rattle.ds_state.proofs.Frames.{word_bears}
 use Rattle.ds_state.proofs.Sides.{row_or_fits}
-use Rattle.ds_edit.specs.Worlds.{StepsAt, Steps}
+use Rattle.ds_edit.specs.EditTakes.{StepsAt, Steps}
 use Rattle.ds_edit.proofs.Turns.{turn, on, back_first}
 use Rattle.ds_edit.proofs.Sorts.{flushes, backs, ors}
 use Rattle.ds_edit.proofs.Recording as recording

@@ -8,7 +8,7 @@ use Rattle.ds_layout.proofs.Packed.{IsHead-head_of}
 use Rattle.ds_state.specs.Edits.{PlainEdit, text_parts, IsStage, IsEdit}
 use Rattle.ds_state.specs.declared.stage.Stage.{Stage}
 use Rattle.ds_state.specs.declared.stage.Stage.TheVariants.{StoreHeader, StoreText, FlushHeader, FlushText, BackRecord, StorePending, FlushPending, BackPending, OrIndex, FlushIndex, BackIndex, LoadHead, FlushNoted, BackNoted, OrDone, FlushDone, BackDone, Swap, FlushOwn, BackOwn, OrMark, FlushMark, BackMark, StoreOutcome, FlushOutcome, BackOutcome, Answer}
-use Rattle.ds_edit.specs.Steps.{next_at, got_at, help_from, rank, Falls}
+use Rattle.ds_edit.specs.EditSteps.{next_at, got_at, help_from, rank, Falls}
 
 -- what holds of both branches holds of a test
 pub branches : (P : Stage → Type 0) (b : Bool) (x y : Stage) → (b ≡ true → P x) → (b ≡ false → P y) → P (if b then x else y)

@@ -16,8 +16,8 @@ use Rattle.ds_state.specs.Edits.{PlainEdit, text_parts}
 use Rattle.ds_state.specs.World.{Edit, edit_of, Issue, World, record_place, index_place, of_cell, of_cell_when, head_after_all, IsHeadBy}
 use Rattle.ds_state.specs.Known.{placing, inside, nothing, AreBelow, IsIn, IsHelped, row_of}
 use Rattle.ds_state.specs.Owing.{entry}
-use Rattle.ds_state.specs.Calls.{HasOne, IsHeadFrom, EditFits, HasRefs}
-use Rattle.ds_state.specs.Words.{RefersTo, WordFits}
+use Rattle.ds_state.specs.CallsFit.{HasOne, IsHeadFrom, EditFits, HasRefs}
+use Rattle.ds_state.specs.WordsFit.{RefersTo, WordFits}
 use Rattle.ds_state.specs.Rely.{Keeps}
 use Rattle.ds_state.specs.Sound.{IsSound}
 use Rattle.ds_state.specs.declared.stage.Stage.TheVariants.{Swap, FlushOwn, BackOwn, OrMark, FlushMark, BackMark}
@@ -39,8 +39,8 @@ use Rattle.ds_state.proofs.Frames.{Moves, KeepsOwing, word_bears, moves_sound}
 use Rattle.ds_state.proofs.Sides.{IsBetween, newer_between}
 use Rattle.ds_state.proofs.Accesses.{Turn, store_moves, Backs, written_backs, back_moves, back_grows}
 use Rattle.ds_state.proofs.Counting.{Counts, MayCount, counts_sound}
-use Rattle.ds_edit.specs.Steps.{head_after}
-use Rattle.ds_edit.specs.Worlds.{StepsAt}
+use Rattle.ds_edit.specs.EditSteps.{head_after}
+use Rattle.ds_edit.specs.EditTakes.{StepsAt}
 use Rattle.ds_layout.specs.declared.head.TheConstants.{LAST_STAMP}
 use Rattle.ds_edit.proofs.Turns.{on, Known_on, IsPlainStep, turn, goes, fits_next, back_first}
 use Rattle.ds_edit.proofs.Sorts.{flushes, backs, ors}

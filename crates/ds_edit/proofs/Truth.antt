@@ -9,7 +9,7 @@ use Rattle.ds_layout.proofs.Packed.{head_of-head_word}
 use Rattle.ds_state.specs.Edits.{PlainEdit, text_parts}
 use Rattle.ds_state.specs.World.{Edit, edit_of, World, of_cell, of_cell_when, IsHeadBy}
 use Rattle.ds_state.specs.Known.{IsLate, known_at, Knowing}
-use Rattle.ds_state.specs.Calls.{EditFits, CallFits}
+use Rattle.ds_state.specs.CallsFit.{EditFits, CallFits}
 use Rattle.ds_state.specs.Sound.{IsSound, IsOfSheet}
 use Rattle.ds_state.specs.declared.stage.Outcome.{Outcome}
 use Rattle.ds_state.specs.declared.stage.Outcome.TheVariants as outcome
@@ -21,7 +21,7 @@ use Rattle.ds_state.proofs.Heads.{Small, small_counted, small_of_cell, small_bef
 use Rattle.ds_state.proofs.Few.{of_cell_few}
 use Rattle.ds_state.proofs.Noted.{when_rest, of_sheet_middle}
 use Rattle.ds_state.proofs.Outcomes.{kept, dropped}
-use Rattle.ds_edit.specs.Answers.{Overtakes, IsTrueOf, IsTrueAnswer}
+use Rattle.ds_edit.specs.EditAnswers.{Overtakes, IsTrueOf, IsTrueAnswer}
 
 -- an element of two lists joined is one of the first, or one of the second
 in_either : (xs ys before : List Edit) (e : Edit) (after : List Edit) → xs ++ ys ≡ before ++ e ∷ after

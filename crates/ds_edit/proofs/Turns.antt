@@ -8,14 +8,14 @@ use Rattle.ds_layout.specs.declared.place.Place.{Place}
 use Rattle.ds_state.specs.Edits.{PlainEdit, text_parts}
 use Rattle.ds_state.specs.World.{edit_of, Issue, World}
 use Rattle.ds_state.specs.Known.{known_at, Knowing}
-use Rattle.ds_state.specs.Calls.{held_at, Holds, EditFits, CallFits}
+use Rattle.ds_state.specs.CallsFit.{held_at, Holds, EditFits, CallFits}
 use Rattle.ds_state.specs.Owing.{HoldsNone}
 use Rattle.ds_state.specs.declared.stage.Stage.{Stage}
 use Rattle.ds_state.specs.declared.situation.Situation.{Situation}
 use Rattle.ds_state.specs.declared.situation.Situation.TheVariants.{Editing}
 use Rattle.ds_state.proofs.Accesses.{Turn}
-use Rattle.ds_edit.specs.Steps.{next_at}
-use Rattle.ds_edit.specs.Worlds.{StepsAt, counted_at, open_edit_at, after}
+use Rattle.ds_edit.specs.EditSteps.{next_at}
+use Rattle.ds_edit.specs.EditTakes.{StepsAt, counted_at, open_edit_at, after}
 use Rattle.ds_edit.proofs.Stays.{stays}
 
 -- the edit at a stage

@@ -10,12 +10,12 @@ use Rattle.ds_layout.specs.declared.place.TheConstants.{RECORDS}
 use Rattle.ds_layout.specs.declared.layout.Layout.{Layout}
 use Rattle.ds_state.specs.Edits.{PlainEdit, IsEdit}
 use Rattle.ds_state.specs.World.{edit_of, World}
-use Rattle.ds_state.specs.Calls.{IsSheetOf, HasRefs}
+use Rattle.ds_state.specs.CallsFit.{IsSheetOf, HasRefs}
 use Rattle.ds_state.specs.declared.refusal.Refusal.{Refusal}
 use Rattle.ds_state.specs.declared.refusal.Refusal.TheVariants as refusal
 use Rattle.ds_state.specs.declared.situation.Situation.{Situation}
 use Rattle.ds_state.specs.declared.situation.Situation.TheVariants.{Idle, Stopped, Editing, Working, Recovering, Showing}
-use Rattle.ds_edit.specs.Worlds.{Begins}
+use Rattle.ds_edit.specs.EditTakes.{Begins}
 
 -- the number of the edit that a process in this situation may begin, or why it may begin none
 abbrev pub next_of : Situation → Result ℕ Refusal

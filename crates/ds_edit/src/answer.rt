@@ -2,7 +2,7 @@
 
 ghost use Rattle.std.specs.Prelude.{◌≡◌};
 ghost use Rattle.ds_layout.specs.Head.{head_of};
-ghost use Rattle.ds_edit.specs.Endings.{other_of, answer_of};
+ghost use Rattle.ds_edit.specs.EditEndings.{other_of, answer_of};
 
 use ds_layout::head::Head;
 use ds_layout::place::Place;

@@ -8,10 +8,10 @@ ghost use Rattle.ds_formula.specs.Refs.{Refers};
 ghost use Rattle.ds_formula.specs.Grammar.{Reads};
 ghost use Rattle.ds_layout.specs.declared.place.TheConstants.{RECORDS};
 ghost use Rattle.ds_state.specs.Value.{world_of};
-ghost use Rattle.ds_state.specs.Calls.{IsSheetOf, HasRefs};
+ghost use Rattle.ds_state.specs.CallsFit.{IsSheetOf, HasRefs};
 ghost use Rattle.ds_state.specs.Edits.{IsEdit};
 ghost use Rattle.ds_state.specs.declared.stage.Stage.TheVariants.{StoreHeader};
-ghost use Rattle.ds_edit.specs.Worlds.{Begins};
+ghost use Rattle.ds_edit.specs.EditTakes.{Begins};
 ghost use Rattle.ds_edit.specs.Begun.{next_of, AreNumbers, RefersTo, IsAskedFor, IsBegun, IsIdle, RefusesIdle, Refuses};
 
 use ds_formula::cells::{Cell, Shape};

@@ -5,14 +5,14 @@ ghost use Rattle.ds_state.specs.Edits.{PlainEdit, IsEdit};
 ghost use Rattle.ds_state.specs.World.{World, edit_of};
 ghost use Rattle.ds_state.specs.Sound.{IsSound};
 ghost use Rattle.ds_state.specs.Rely.{Keeps};
-ghost use Rattle.ds_state.specs.Calls.{IsSheetOf, HasRefs};
+ghost use Rattle.ds_state.specs.CallsFit.{IsSheetOf, HasRefs};
 ghost use Rattle.ds_state.specs.declared.stage.Outcome.{Outcome};
 ghost use Rattle.ds_state.specs.declared.stage.Stage.TheVariants.{Answer};
 ghost use Rattle.ds_state.specs.declared.situation.Situation.TheVariants.{Editing};
-ghost use Rattle.ds_edit.specs.Worlds.{Steps, Begins};
-ghost use Rattle.ds_edit.specs.Answers.{IsTrueAnswer};
-ghost use Rattle.ds_edit.specs.Steps.{access_at};
-ghost use Rattle.ds_layout.specs.Sheet.{CanPerform};
+ghost use Rattle.ds_edit.specs.EditTakes.{Steps, Begins};
+ghost use Rattle.ds_edit.specs.EditAnswers.{IsTrueAnswer};
+ghost use Rattle.ds_edit.specs.EditSteps.{access_at};
+ghost use Rattle.ds_layout.specs.SheetMemory.{CanPerform};
 
 /// Each step of an edit, whatever the word that its access answers, leaves a sound sheet sound, and
 /// leaves each other process what it may count on.

@@ -6,9 +6,9 @@ ghost use Rattle.ds_state.specs.Known.{phase_of};
 ghost use Rattle.ds_layout.specs.Head.{head_of};
 ghost use Rattle.ds_layout.specs.Header.{header_word};
 ghost use Rattle.ds_layout.specs.declared.layout.Layout.{Layout};
-ghost use Rattle.ds_layout.specs.Sheet.{NamesPlace};
-ghost use Rattle.ds_state.specs.Calls.{IsSheetOf};
-ghost use Rattle.ds_edit.specs.Steps.{access_at, next_at, got_at, head_after, announced, index_place, done_place, header_place, text_place, store_from, flush_from, back_from, index_from, help_from, swung_from, rank, Falls};
+ghost use Rattle.ds_layout.specs.SheetMemory.{NamesPlace};
+ghost use Rattle.ds_state.specs.CallsFit.{IsSheetOf};
+ghost use Rattle.ds_edit.specs.EditSteps.{access_at, next_at, got_at, head_after, announced, index_place, done_place, header_place, text_place, store_from, flush_from, back_from, index_from, help_from, swung_from, rank, Falls};
 
 use ds_layout::announcement::{Announcement, Phase};
 use ds_layout::bits;

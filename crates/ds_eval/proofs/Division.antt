@@ -5,7 +5,7 @@ use Rattle.std.proofs.lemmas.Bool.{cases_lt}
 use Rattle.std.proofs.lemmas.Bool.Decides.{nat_tests}
 use Rattle.std.proofs.lemmas.Nat.{mod-mul-add}
 use Rattle.ds_eval.specs.Numbers.{floor_div}
-use Rattle.ds_eval.specs.Steps.{floor_mod, size_of_rest}
+use Rattle.ds_eval.specs.CodeSteps.{floor_mod, size_of_rest}
 
 -- what lacks up to the next multiple, by what is left
 next_rest : (n d : ℕ) → 0 < d → ((suc (n % d) < d) × (suc n % d ≡ suc (n % d))) ⊎ ((suc (n % d) ≡ d) × (suc n % d ≡ 0))

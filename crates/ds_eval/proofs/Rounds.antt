@@ -15,7 +15,7 @@ use Rattle.ds_eval.specs.declared.inputs.Input.{Input}
 use Rattle.ds_formula.specs.Refs.{IsBefore}
 use Rattle.ds_eval.specs.Inputs.{entry_in, entry_at, cell_in, with_entry, no_input, IsBehind}
 use Rattle.ds_eval.specs.declared.sheet.Sheet.{Sheet}
-use Rattle.ds_eval.specs.Sheet.{contents_of, plain_or_empty}
+use Rattle.ds_eval.specs.SheetContents.{contents_of, plain_or_empty}
 use Rattle.ds_eval.specs.Scratch.{Walk, value, at, IsScratch}
 use Rattle.ds_eval.specs.Local.{content_height, local, value_of, height_of, IsLocal, IsShown}
 use Rattle.ds_eval.specs.Rounds.{IsTable, IsSettled, AreSettled, shown}

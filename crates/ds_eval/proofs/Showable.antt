@@ -22,7 +22,7 @@ use Rattle.ds_eval.specs.declared.value.Value.{Value}
 use Rattle.ds_eval.specs.declared.value.Value.TheVariants.{Blank, Number, DivZero, Num, Circular}
 use Rattle.ds_eval.specs.declared.inputs.Entry.{Entry}
 use Rattle.ds_eval.specs.Numbers.{in_range, is_i64, truth, signed, joined, absolute, modulo, quotient, floor_rest, total, least, greatest, with_number, with_all, numbers, first_error, error_or}
-use Rattle.ds_eval.specs.Steps.{size_of_rest, with_sign, is_negative, same}
+use Rattle.ds_eval.specs.CodeSteps.{size_of_rest, with_sign, is_negative, same}
 use Rattle.ds_eval.specs.Evaluation.{is_inside, look, cells_of, stands_for, chosen, applied, most_arguments, formula_value, own_values, all_values, content_value}
 use Rattle.ds_eval.specs.Local.{content_height, entry_at, local, value_of, height_of}
 use Rattle.ds_eval.specs.Showable.{IsOrdinary, CanShow, ordinary, round}

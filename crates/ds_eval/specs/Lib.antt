@@ -5,9 +5,9 @@ pub mod Local
 pub mod Inputs
 pub mod Rows
 pub mod Tally
-pub mod Steps
+pub mod CodeSteps
 pub mod Rounds
-pub mod Sheet
+pub mod SheetContents
 pub mod Code
 pub mod Tasks
 pub mod Showable

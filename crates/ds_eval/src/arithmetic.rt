@@ -3,7 +3,7 @@
 ghost use Rattle.std.specs.Prelude.{◌≡◌, ◌≢◌, ◌<◌, ◌^◌, pos};
 ghost use Rattle.ds_eval.specs.Numbers as exact;
 ghost use Rattle.ds_eval.specs.Evaluation.{chosen as branch};
-ghost use Rattle.ds_eval.specs.Steps.{exactly, number_or_error, size_of_rest, with_sign, is_chosen};
+ghost use Rattle.ds_eval.specs.CodeSteps.{exactly, number_or_error, size_of_rest, with_sign, is_chosen};
 
 use crate::value::Value;
 use ds_formula::content::{Operator, Sign};

@@ -3,7 +3,7 @@
 ghost use Rattle.std.specs.Prelude.{◌≡◌, ℕ, ◌<◌, suc, false, IfOk};
 ghost use Rattle.ds_formula.specs.Cells.{count_of};
 ghost use Rattle.ds_eval.specs.Inputs.{entry_in};
-ghost use Rattle.ds_eval.specs.Sheet.{contents_of};
+ghost use Rattle.ds_eval.specs.SheetContents.{contents_of};
 ghost use Rattle.ds_eval.specs.Scratch.{IsScratch};
 ghost use Rattle.ds_eval.specs.Local.{IsLocal};
 ghost use Rattle.ds_eval.specs.Rounds.{IsTable, AreSettled, shown};

@@ -13,7 +13,7 @@ use Rattle.ds_formula.specs.Plain.{plain}
 use Rattle.ds_formula.specs.Grammar.{Reads, Faults, Answers}
 use Rattle.ds_grid.specs.declared.ending.GridEnd.TheVariants as ends
 use Rattle.ds_eval.specs.declared.sheet.Sheet.{Sheet}
-use Rattle.ds_eval.specs.Sheet.{contents_of, plain_or_empty}
+use Rattle.ds_eval.specs.SheetContents.{contents_of, plain_or_empty}
 use Rattle.ds_eval.proofs.Walks.{index_below, cell_back}
 use Rattle.ds_grid.specs.declared.ending.GridEnd.{GridEnd}
 use Rattle.ds_grid.specs.Grids.{width, text_at, IsCsv, IsGridOf, AreRead, AllRead, IsFirstFault, FailsAt, Fails, Ran}

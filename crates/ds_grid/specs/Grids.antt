@@ -12,7 +12,7 @@ use Rattle.ds_formula.specs.Plain.{Plain, plain}
 use Rattle.ds_formula.specs.Grammar.{Reads, Faults}
 use Rattle.ds_eval.specs.declared.value.Value.{Value}
 use Rattle.ds_eval.specs.Scratch.{IsScratch}
-use Rattle.ds_streams.specs.Answers.{rows_text}
+use Rattle.ds_streams.specs.AnswerTexts.{rows_text}
 use Rattle.ds_streams.specs.Input.{EndsWith}
 use Rattle.ds_streams.specs.declared.input.InputEnd.{InputEnd}
 use Rattle.ds_streams.specs.declared.input.InputEnd.TheVariants as inputs

@@ -64,7 +64,7 @@ impl<T: Drop> From<AllocFailed<T>> for GridEnd {
 
 impl fmt::Display for GridFault {
     ghost use Rattle.std.specs.Prelude.{Some};
-    ghost use Rattle.ds_grid.specs.Endings.{name_of_fault};
+    ghost use Rattle.ds_grid.specs.GridEndings.{name_of_fault};
 
     ghost output = { λ fault. Some (name_of_fault fault) };
 
@@ -79,7 +79,7 @@ impl fmt::Display for GridFault {
 
 impl fmt::Display for GridEnd {
     ghost use Rattle.std.specs.Prelude.{Some};
-    ghost use Rattle.ds_grid.specs.Endings.{end_text};
+    ghost use Rattle.ds_grid.specs.GridEndings.{end_text};
 
     ghost output = { λ end. Some (end_text end) };
 

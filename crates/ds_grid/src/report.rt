@@ -4,7 +4,7 @@ ghost use Rattle.std.specs.Prelude.{◌≡◌, ◌≢◌, ◌≤◌, ◌+◌, �
 ghost use Rattle.std.specs.Io.KnownBytes.{Consumes, Appends};
 ghost use Rattle.ds_formula.specs.Cells.{count_of};
 ghost use Rattle.ds_eval.specs.Numbers.{value_text};
-ghost use Rattle.ds_streams.specs.Answers.{rows_text};
+ghost use Rattle.ds_streams.specs.AnswerTexts.{rows_text};
 ghost use Rattle.ds_streams.specs.Streams.{reader_of, bytes_given, has_ended, read_failed, writer_of, write_failed};
 ghost use Rattle.ds_grid.specs.Grids.{Shows, Fails, Outcome};
 ghost use Rattle.ds_grid.specs.declared.ending.GridEnd as GridEnd;

@@ -26,7 +26,7 @@ use Rattle.ds_layout.specs.Stored.{Goes, IsStored, kind_word, value_word, stored
 use Rattle.ds_layout.specs.Announcement.{IsAnnouncement, announcement_word, announcement_of, announcement_with, phase_code}
 use Rattle.ds_layout.specs.Header as headers
 use Rattle.ds_layout.specs.Header.{IsHeader, header_word, header_of}
-use Rattle.ds_layout.specs.Text.{part_of, part_word, bytes_of}
+use Rattle.ds_layout.specs.TextWords.{part_of, part_word, bytes_of}
 
 both : (a b : Bool) → a ≡ true → b ≡ true → (a && b) ≡ true
 both a b e f = ap (λ t. t && b) e ∙ f

@@ -16,7 +16,7 @@ use Rattle.ds_layout.specs.declared.place.Place.{Place}
 use Rattle.ds_layout.specs.declared.place.Place.TheVariants.{Version, Head, Mark, Value, Kind, Index, Announce, Header, Text, Done}
 use Rattle.ds_layout.specs.declared.layout.Layout.{Layout}
 use Rattle.ds_layout.specs.Places.{cells_of, parts_of, class_of, IsPlaceOf, IsPlace, number_of, place_of, words_of}
-use Rattle.ds_layout.specs.Sheet.{is_place_of, is_place, side_at, entry_at, memory_at, access_at, HasEntry, CanPerform, HasClasses, IsLaidOut, SheetValue, memory, PerformsAt}
+use Rattle.ds_layout.specs.SheetMemory.{is_place_of, is_place, side_at, entry_at, memory_at, access_at, HasEntry, CanPerform, HasClasses, IsLaidOut, SheetValue, memory, PerformsAt}
 use Rattle.ds_layout.proofs.Places.{place_of-number_of, number_of-place_of, number_of_alone, number_of_below}
 
 and-true : (a b : Bool) → a ≡ true → b ≡ true → (a && b) ≡ true

@@ -5,5 +5,5 @@ pub mod Mark
 pub mod Stored
 pub mod Announcement
 pub mod Header
-pub mod Text
-pub mod Sheet
+pub mod TextWords
+pub mod SheetMemory

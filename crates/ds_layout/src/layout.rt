@@ -43,7 +43,7 @@ struct Starts {
 impl Layout {
     ghost use Rattle.ds_layout.specs.Places.{cells_of, parts_of, IsAscending, starts_of, words_of, IsPlace, number_of, place_of};
     ghost use Rattle.ds_layout.specs.declared.place.Place.{Place};
-    ghost use Rattle.ds_layout.specs.Sheet.{HasClasses, NamesPlace, access_at};
+    ghost use Rattle.ds_layout.specs.SheetMemory.{HasClasses, NamesPlace, access_at};
 
     /// A layout for 1 to 8 processes; `None` for another number.
     pub fn new(shape: Shape, processes: usize) -> Option<Layout>

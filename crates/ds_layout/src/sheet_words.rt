@@ -3,7 +3,7 @@
 ghost use Rattle.std.specs.Prelude.{◌≡◌, ◌<◌, IfOk};
 ghost use Rattle.ds_words.specs.Memory.{IsFresh, EvictsAt, Crashes, StopsAt};
 ghost use Rattle.ds_layout.specs.Places.{IsPlace};
-ghost use Rattle.ds_layout.specs.Sheet.{CanPerform, PerformsAt, memory};
+ghost use Rattle.ds_layout.specs.SheetMemory.{CanPerform, PerformsAt, memory};
 
 use crate::layout::Layout;
 use crate::place::Place;
@@ -20,7 +20,7 @@ pub struct SheetWords {
 }
 
 impl Model for SheetWords {
-    ghost use Rattle.ds_layout.specs.Sheet.{SheetValue, IsLaidOut};
+    ghost use Rattle.ds_layout.specs.SheetMemory.{SheetValue, IsLaidOut};
 
     ghost Value = { SheetValue };
 

@@ -1,7 +1,7 @@
 //! The words of a text, eight bytes each.
 
 ghost use Rattle.std.specs.Prelude.{◌≡◌, ◌<◌, slice_index};
-ghost use Rattle.ds_layout.specs.Text.{parts_for, part_of, part_word, bytes_of};
+ghost use Rattle.ds_layout.specs.TextWords.{parts_for, part_of, part_word, bytes_of};
 
 use crate::place::TEXT_PARTS;
 

@@ -8,7 +8,7 @@ use Rattle.ds_play.specs.declared.drive.Until.{Until}
 use Rattle.ds_play.specs.declared.drive.Until.TheVariants.{OneStep, ToPoint, ToAnswer, InPass}
 use Rattle.ds_play.specs.declared.drive.Halt.{Halt}
 use Rattle.ds_play.specs.declared.drive.Halt.TheVariants.{At, Replied}
-use Rattle.ds_play.specs.Texts.{reply_text}
+use Rattle.ds_play.specs.ScriptTexts.{reply_text}
 use Rattle.ds_play.specs.Doing.{Says, Drives, called}
 use Rattle.ds_play.specs.Plays.{IsNoPass, halted, halt_text}
 

@@ -7,7 +7,7 @@ use Rattle.ds_eval.specs.declared.inputs.Entry.{Entry}
 use Rattle.ds_state.specs.Value.{WorldValue, world_of, IsGood}
 use Rattle.ds_state.specs.Works.{PlainWork}
 use Rattle.ds_state.specs.declared.situation.Situation.TheVariants.{Idle, Working}
-use Rattle.ds_work.specs.WorkEvents.{Waits, IsOffered}
+use Rattle.ds_work.specs.WorkTakes.{Waits, IsOffered}
 use Rattle.ds_core.specs.Takes.{Fits}
 use Rattle.ds_core.specs.declared.event.Event.{Event}
 use Rattle.ds_core.specs.declared.event.Event.TheVariants.{Step}

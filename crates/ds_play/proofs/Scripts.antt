@@ -12,7 +12,7 @@ use Rattle.ds_calls.proofs.Runs.{run_both}
 use Rattle.ds_streams.specs.declared.ending.ScriptEnd.{ScriptEnd}
 use Rattle.ds_streams.specs.declared.ending.ScriptEnd.TheVariants as ends
 use Rattle.ds_streams.specs.declared.input.InputEnd.{InputEnd}
-use Rattle.ds_streams.specs.Lines.{AtFront, ALine, next_of}
+use Rattle.ds_streams.specs.ScriptLines.{AtFront, ALine, next_of}
 use Rattle.ds_streams.proofs.Known.{Appends-both}
 use Rattle.ds_play.specs.declared.order.Begun.{Begun}
 use Rattle.ds_play.specs.declared.order.Begun.TheVariants as begun

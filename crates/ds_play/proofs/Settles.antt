@@ -24,7 +24,7 @@ use Rattle.ds_play.specs.declared.drive.Until.TheVariants.{InPass, ToAnswer}
 use Rattle.ds_play.specs.declared.order.Call.{Call}
 use Rattle.ds_play.specs.declared.order.Call.TheVariants as calls
 use Rattle.ds_play.specs.Orders.{beginning}
-use Rattle.ds_play.specs.Texts.{reply_text}
+use Rattle.ds_play.specs.ScriptTexts.{reply_text}
 use Rattle.ds_play.specs.Doing.{Says, Calls, Drives, Works, called, driven, ended, at_turn, settle}
 use Rattle.ds_play.specs.Plays.{Leads}
 use Rattle.ds_play.proofs.Played.{leads_on, stays, one}

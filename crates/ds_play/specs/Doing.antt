@@ -1,7 +1,7 @@
 -- What a command does, event by event, and the text that it ends with.
 use Rattle.std.specs.Prelude.{ℕ, List, Option, Some, None, Ok, if◌then◌else◌}
 use Rattle.ds_formula.specs.Cells.{cell_at}
-use Rattle.ds_layout.specs.Sheet.{memory}
+use Rattle.ds_layout.specs.SheetMemory.{memory}
 use Rattle.ds_state.specs.Value.{WorldValue, world_of}
 use Rattle.ds_state.specs.declared.situation.Situation.{Situation}
 use Rattle.ds_edit.specs.declared.answer.Answer.TheVariants as answers
@@ -20,7 +20,7 @@ use Rattle.ds_play.specs.declared.point.PointName.{PointName}
 use Rattle.ds_play.specs.declared.drive.Until.{Until}
 use Rattle.ds_play.specs.declared.drive.Until.TheVariants.{OneStep, ToPoint, ToAnswer, InPass}
 use Rattle.ds_play.specs.Points.{has_passed}
-use Rattle.ds_play.specs.Texts.{reply_text, answer_text, at_text, left_text, peek_text, word_text}
+use Rattle.ds_play.specs.ScriptTexts.{reply_text, answer_text, at_text, left_text, peek_text, word_text}
 use Rattle.ds_play.specs.Orders.{Deed}
 use Rattle.ds_play.specs.Orders as deed
 

@@ -1,6 +1,6 @@
 pub mod Points
 pub mod Orders
-pub mod Texts
+pub mod ScriptTexts
 pub mod Doing
 pub mod Plays
 pub mod Script

@@ -15,7 +15,7 @@ use Rattle.ds_core.specs.declared.event.Event.TheVariants as events
 use Rattle.ds_calls.specs.Whole.{request}
 use Rattle.ds_streams.specs.declared.ending.ScriptFault.{ScriptFault}
 use Rattle.ds_streams.specs.declared.ending.ScriptFault.TheVariants.{UnknownCommand, BadField, SheetNotFirst}
-use Rattle.ds_streams.specs.Lines.{word_of}
+use Rattle.ds_streams.specs.ScriptLines.{word_of}
 use Rattle.ds_streams.specs.Fields.{◌>>=◌, number_field, cell_field, is_skipped}
 use Rattle.ds_play.specs.declared.point.PointName.{PointName}
 use Rattle.ds_play.specs.declared.point.PointName.TheVariants as name

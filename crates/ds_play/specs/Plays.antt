@@ -7,7 +7,7 @@ use Rattle.ds_core.specs.declared.event.Event.TheVariants.{Step}
 use Rattle.ds_core.specs.declared.reply.Reply.{Reply}
 use Rattle.ds_calls.specs.Wanted.{wants}
 use Rattle.ds_play.specs.Doing.{Doing, Says, Drives, asks, told, ended}
-use Rattle.ds_play.specs.Texts.{at_text, reply_text}
+use Rattle.ds_play.specs.ScriptTexts.{at_text, reply_text}
 use Rattle.ds_play.specs.declared.drive.Until.{Until}
 use Rattle.ds_play.specs.declared.drive.Until.TheVariants.{InPass}
 use Rattle.ds_play.specs.declared.drive.Halt.{Halt}

@@ -15,7 +15,7 @@ use Rattle.ds_streams.specs.declared.ending.ScriptEnd.TheVariants as ends
 use Rattle.ds_streams.specs.declared.input.InputEnd.{InputEnd}
 use Rattle.ds_streams.specs.declared.input.InputEnd.TheVariants as inputs
 use Rattle.ds_streams.specs.Input.{EndsWith}
-use Rattle.ds_streams.specs.Lines.{AtFront, NoLine, ALine, LongLine, next_of}
+use Rattle.ds_streams.specs.ScriptLines.{AtFront, NoLine, ALine, LongLine, next_of}
 use Rattle.ds_play.specs.declared.order.Begun.{Begun}
 use Rattle.ds_play.specs.declared.order.Begun.TheVariants as begun
 use Rattle.ds_play.specs.Orders.{Order, Make, Does, Deed, order_of}

@@ -3,12 +3,12 @@
 ghost use Rattle.std.specs.Prelude.{◌≡◌, ◌≢◌, IfOk, string_bytes};
 ghost use Rattle.ds_formula.specs.Cells.{IsInside, cell_at};
 ghost use Rattle.ds_layout.specs.Places.{IsPlace};
-ghost use Rattle.ds_layout.specs.Sheet.{memory};
+ghost use Rattle.ds_layout.specs.SheetMemory.{memory};
 ghost use Rattle.ds_state.specs.Value.{world_of};
 ghost use Rattle.ds_edit.specs.declared.answer.Answer.TheVariants.{Settled};
 ghost use Rattle.ds_core.specs.declared.reply.Reply.TheVariants.{Answered};
-ghost use Rattle.ds_streams.specs.Answers.{settled_text};
-ghost use Rattle.ds_play.specs.Texts.{counts_text, changed_text, last_text, unsettled_text, values_of, answer_text, reply_text, at_text, left_text, shown_text, state_text, peek_head, peek_text, word_text};
+ghost use Rattle.ds_streams.specs.AnswerTexts.{settled_text};
+ghost use Rattle.ds_play.specs.ScriptTexts.{counts_text, changed_text, last_text, unsettled_text, values_of, answer_text, reply_text, at_text, left_text, shown_text, state_text, peek_head, peek_text, word_text};
 ghost use Rattle.ds_play.specs.Doing.{end_text};
 ghost use Rattle.ds_play.specs.Plays.{halt_text};
 

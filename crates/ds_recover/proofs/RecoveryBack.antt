@@ -15,8 +15,8 @@ use Rattle.ds_state.specs.World.{World}
 use Rattle.ds_state.specs.Owing.{entry, IsHeld, IsPending, CellOwes}
 use Rattle.ds_layout.specs.Mark.{IsClean, IsHeldBy}
 use Rattle.ds_state.specs.KnownRecovery.{FreedFits, freed_at, ResolvedFits, resolved_at, RecoveryHolds, recovery_held}
-use Rattle.ds_state.specs.Calls.{CallFits, RecoveryFits}
-use Rattle.ds_state.specs.Words.{WordFits}
+use Rattle.ds_state.specs.CallsFit.{CallFits, RecoveryFits}
+use Rattle.ds_state.specs.WordsFit.{WordFits}
 use Rattle.ds_state.specs.Rely.{IsOwnedBy, KeepsHold, Grows, Keeps}
 use Rattle.ds_state.specs.Sound.{IsSound}
 use Rattle.ds_state.specs.declared.work.RecoverStage.{RecoverStage}

@@ -19,8 +19,8 @@ use Rattle.ds_state.specs.World.{Edit, Issue, World, of_cell, head_after_all, an
 use Rattle.ds_state.specs.Known.{IsRecorded, Standing, outside, inside, safe, Announced, last, pending, ended, word_of, phase_of, AreBelow, IsIn, IsSafe, IsSafelyIn, StandsAs}
 use Rattle.ds_state.specs.declared.stage.Outcome.TheVariants as outcome
 use Rattle.ds_state.specs.KnownRecovery.{Tells, IsPassed}
-use Rattle.ds_state.specs.Calls.{MaySay, rank, IsInDoubt, IsThrough, DoubtFits}
-use Rattle.ds_state.specs.Words.{IsKept}
+use Rattle.ds_state.specs.CallsFit.{MaySay, rank, IsInDoubt, IsThrough, DoubtFits}
+use Rattle.ds_state.specs.WordsFit.{IsKept}
 use Rattle.ds_state.specs.Sound.{IsSound}
 use Rattle.ds_recover.specs.RecoverySteps.{is_shown, cell_from}
 use Rattle.ds_state.proofs.Noted.{last_cases, head_reads}
@@ -120,14 +120,14 @@ recorded_reads w p issue h written word is =
     ap (λ (x : ℕ). cell_from (header_of (cells_of w.layout) x)) there ∙ ap cell_from back
 
 pub header_reads : (w : World) (p : ℕ) (issue : Issue) → (h : IsInDoubt w p issue) → h.now ≡ pending → (word : ℕ) → word ≡ w.memory.cached (Header p issue.edit.number) → cell_from (header_of (cells_of w.layout) word) ≡ issue.edit.cell
-header_reads w p issue h now word is = recorded_reads w p issue h (subst (λ (a : Announced). Rattle.ds_state.specs.Calls.IsWritten w issue.edit a) now h.written) word is
+header_reads w p issue h now word is = recorded_reads w p issue h (subst (λ (a : Announced). Rattle.ds_state.specs.CallsFit.IsWritten w issue.edit a) now h.written) word is
 
 -- where the announcement is the edit's own, and tells how it ended, its record stands
 ended_written : (w : World) (p word : ℕ) (how : Bool) (issue : Issue) (h : IsInDoubt w p issue) → w.memory.cached (Announce p) ≡ word → Tells word how → issue.edit.number + 1 ≡ word / 4
     → IsRecorded w issue.edit (record_size issue.edit) (record_size issue.edit)
 ended_written w p word how issue h there tells own = by h.now h.cached h.written
   where
-    by : (a : Announced) → w.memory.cached (Announce p) ≡ word_of w issue.edit a → Rattle.ds_state.specs.Calls.IsWritten w issue.edit a → IsRecorded w issue.edit (record_size issue.edit) (record_size issue.edit)
+    by : (a : Announced) → w.memory.cached (Announce p) ≡ word_of w issue.edit a → Rattle.ds_state.specs.CallsFit.IsWritten w issue.edit a → IsRecorded w issue.edit (record_size issue.edit) (record_size issue.edit)
     by last c written = absurd (let n : issue.edit.number ≡ word / 4 = last_number w issue.edit.process issue.edit.number word how (sym c ∙ there) tells in omega arith)
     by pending c written = written
     by (ended end) c written = written

@@ -20,7 +20,7 @@ use Rattle.ds_state.specs.Known.{Standing, outside, inside, safe, Announced, las
 use Rattle.ds_state.specs.declared.stage.Outcome.TheVariants as outcome
 use Rattle.ds_state.specs.Owing.{entry, HoldsNone, Owes, Parts, IsPending, Excuses, Splits}
 use Rattle.ds_layout.specs.Mark.{IsHeldBy}
-use Rattle.ds_state.specs.Calls.{CallFits, MaySay, IsThrough, DoubtFits, IdleFits, StoppedFits, RecoveryFits}
+use Rattle.ds_state.specs.CallsFit.{CallFits, MaySay, IsThrough, DoubtFits, IdleFits, StoppedFits, RecoveryFits}
 use Rattle.ds_state.specs.KnownRecovery.{Tells, ResolvedFits, over}
 use Rattle.ds_state.specs.Rely.{Grows, Keeps}
 use Rattle.ds_state.specs.Sound.{IsSound}

@@ -14,7 +14,7 @@ use Rattle.ds_state.specs.Owing.{entry, IsHeld, Owes, RecoveryOwes, Parts, Recov
 use Rattle.ds_layout.specs.Mark.{IsHeldBy}
 use Rattle.ds_state.specs.Standing.{Matters}
 use Rattle.ds_state.specs.KnownRecovery.{ValueAgrees, KindAgrees, FreedFits, freed_at, ResolvedFits, resolved_at, RecoveryHolds, recovery_held}
-use Rattle.ds_state.specs.Calls.{CallFits, DoubtFits, RecoveryFits}
+use Rattle.ds_state.specs.CallsFit.{CallFits, DoubtFits, RecoveryFits}
 use Rattle.ds_state.specs.Rely.{Grows, Keeps}
 use Rattle.ds_state.specs.Sound.{IsSound}
 use Rattle.ds_recover.specs.RecoverySteps.{StepsAt}

@@ -14,7 +14,7 @@ use Rattle.ds_state.specs.Owing.{entry, HoldsNone, StandsIn}
 use Rattle.ds_layout.specs.Mark.{IsHeldBy}
 use Rattle.ds_state.specs.KnownWork.{HasMark}
 use Rattle.ds_state.specs.KnownRecovery.{HoldsFrom, Holding, marked, value_now, kind_now}
-use Rattle.ds_state.specs.Calls.{RecoveryFits}
+use Rattle.ds_state.specs.CallsFit.{RecoveryFits}
 use Rattle.ds_state.specs.Rely.{Grows, Keeps}
 use Rattle.ds_state.specs.Sound.{IsSound}
 use Rattle.ds_state.specs.Telling.{told_from}

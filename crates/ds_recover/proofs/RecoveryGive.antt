@@ -9,8 +9,8 @@ use Rattle.ds_state.specs.World.{World}
 use Rattle.ds_state.specs.Owing.{HELD_MOST, IsMark, IsHeld, RecoveryOwes, RecoveryParts, IsPending}
 use Rattle.ds_layout.specs.Mark.{IsClean, IsHeldBy}
 use Rattle.ds_state.specs.KnownRecovery.{Holding, HoldsFrom}
-use Rattle.ds_state.specs.Calls.{CallFits, RecoveryFits}
-use Rattle.ds_state.specs.Words.{WordFits}
+use Rattle.ds_state.specs.CallsFit.{CallFits, RecoveryFits}
+use Rattle.ds_state.specs.WordsFit.{WordFits}
 use Rattle.ds_state.specs.Telling.{let_go}
 use Rattle.ds_state.specs.Rely.{Grows, Keeps}
 use Rattle.ds_state.specs.Sound.{IsSound}

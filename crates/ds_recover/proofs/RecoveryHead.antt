@@ -12,8 +12,8 @@ use Rattle.ds_state.specs.Known.{IsIn}
 use Rattle.ds_state.specs.Owing.{entry, Owes, Parts, Excuses, IsExcused, Splits}
 use Rattle.ds_layout.specs.Mark.{IsHeldBy}
 use Rattle.ds_state.specs.KnownRecovery.{HasHead, IsOpenAnd, SettledAs, ResolvedFits, settled}
-use Rattle.ds_state.specs.Calls.{CallFits, DoubtFits, RecoveryFits}
-use Rattle.ds_state.specs.Words.{WordFits}
+use Rattle.ds_state.specs.CallsFit.{CallFits, DoubtFits, RecoveryFits}
+use Rattle.ds_state.specs.WordsFit.{WordFits}
 use Rattle.ds_state.specs.Rely.{Grows, Keeps}
 use Rattle.ds_state.specs.Sound.{IsSound, Increasing}
 use Rattle.ds_recover.specs.RecoverySteps.{StepsAt, at}

@@ -13,7 +13,7 @@ use Rattle.ds_state.specs.Owing.{entry, IsPending, IsBelowBuffered}
 use Rattle.ds_state.specs.Standing.{Matters}
 use Rattle.ds_state.specs.KnownWork.{HasMark}
 use Rattle.ds_state.specs.KnownRecovery.{IsOpenAnd, SettledAs}
-use Rattle.ds_state.specs.Calls.{RecoveryFits}
+use Rattle.ds_state.specs.CallsFit.{RecoveryFits}
 use Rattle.ds_state.specs.Rely.{Grows, Keeps}
 use Rattle.ds_state.specs.Sound.{IsSound}
 use Rattle.ds_recover.specs.RecoverySteps.{StepsAt, at}

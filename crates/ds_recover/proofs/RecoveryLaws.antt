@@ -1,11 +1,11 @@
 -- The laws of recoveries, at a recovery's own stage.
 use Rattle.std.proofs.Common.{ℕ, ◌≡◌, ◌<◌, ap, ◌∙◌, subst, Some}
 use Rattle.std.specs.Prelude.{Option, Bool}
-use Rattle.ds_layout.specs.Sheet.{CanPerform}
+use Rattle.ds_layout.specs.SheetMemory.{CanPerform}
 use Rattle.ds_state.specs.Works.{PlainRecovery}
 use Rattle.ds_state.specs.World.{Issue, World}
 use Rattle.ds_state.specs.Owing.{HoldsNone}
-use Rattle.ds_state.specs.Calls.{CallFits, IdleFits, RecoveryFits}
+use Rattle.ds_state.specs.CallsFit.{CallFits, IdleFits, RecoveryFits}
 use Rattle.ds_state.specs.Rely.{Keeps}
 use Rattle.ds_state.specs.Sound.{IsSound}
 use Rattle.ds_state.specs.declared.situation.Situation.{Situation}

@@ -6,13 +6,13 @@ use Rattle.ds_layout.specs.declared.layout.Layout.{Layout}
 use Rattle.ds_layout.specs.declared.place.Place.{Place}
 use Rattle.ds_layout.specs.declared.place.Place.TheVariants as place
 use Rattle.ds_layout.specs.Places.{cells_of, IsPlace}
-use Rattle.ds_layout.specs.Sheet.{NamesPlace, HasEntry, HasBuffer, CanPerform}
+use Rattle.ds_layout.specs.SheetMemory.{NamesPlace, HasEntry, HasBuffer, CanPerform}
 use Rattle.ds_state.specs.Works.{PlainRecovery}
 use Rattle.ds_state.specs.RecoverStages.{IsStage, IsRecovery}
 use Rattle.ds_state.specs.World.{World}
 use Rattle.ds_state.specs.Owing.{entry}
 use Rattle.ds_state.specs.KnownRecovery.{RecoveryHolds, recovery_held, value_now, kind_now}
-use Rattle.ds_state.specs.Calls.{RecoveryFits}
+use Rattle.ds_state.specs.CallsFit.{RecoveryFits}
 use Rattle.ds_state.specs.declared.work.Spread.TheVariants.{LoadRow, OrTold, FlushTold, BackTold}
 use Rattle.ds_state.specs.declared.work.RecoverStage.{RecoverStage}
 use Rattle.ds_state.specs.declared.work.RecoverStage.TheVariants.{LoadMark, FlushValue, FlushKind, BackValue, BackKind, Telling, Give, GiveDirty, FlushGiven, BackGiven, LoadAnnounce, LoadHeader, LoadHead, FlushHead, BackHead, LoadDone, OrMark, FlushMark, BackMark, StoreOutcome, FlushOutcome, BackOutcome, Answer}

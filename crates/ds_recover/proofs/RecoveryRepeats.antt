@@ -14,7 +14,7 @@ use Rattle.ds_state.specs.World.{World, announcement, last_announcement, phase_a
 use Rattle.ds_state.specs.Known.{AreBelow}
 use Rattle.ds_state.specs.Owing.{StandsIn}
 use Rattle.ds_state.specs.KnownRecovery.{phase_for, Tells}
-use Rattle.ds_state.specs.Calls.{RecoveryFits}
+use Rattle.ds_state.specs.CallsFit.{RecoveryFits}
 use Rattle.ds_state.specs.Telling.{told_from}
 use Rattle.ds_state.specs.declared.work.Spread.TheVariants.{LoadRow, OrTold, FlushTold, BackTold}
 use Rattle.ds_state.specs.declared.work.RecoverStage.{RecoverStage}

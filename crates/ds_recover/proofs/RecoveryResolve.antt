@@ -19,7 +19,7 @@ use Rattle.ds_state.specs.RecoverStages.{IsAnnounced}
 use Rattle.ds_state.specs.World.{Edit, Issue, World, of_cell, announcement, done_place}
 use Rattle.ds_state.specs.Known.{AreBelow, IsIn}
 use Rattle.ds_state.specs.Owing.{IsPending}
-use Rattle.ds_state.specs.Calls.{RecoveryFits, IsInDoubt, DoubtFits}
+use Rattle.ds_state.specs.CallsFit.{RecoveryFits, IsInDoubt, DoubtFits}
 use Rattle.ds_state.specs.KnownRecovery.{IsItsCell, Tells, phase_for, IsOpenAnd, IsPassed, SettledAs}
 use Rattle.ds_state.specs.Rely.{Keeps}
 use Rattle.ds_state.specs.Sound.{IsSound}

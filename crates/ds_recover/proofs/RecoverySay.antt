@@ -13,9 +13,9 @@ use Rattle.ds_state.specs.Known.{Standing, outside, inside, safe, Announced, las
 use Rattle.ds_state.specs.declared.stage.Outcome.{Outcome}
 use Rattle.ds_state.specs.declared.stage.Outcome.TheVariants as outcome
 use Rattle.ds_layout.specs.Mark.{IsHeldBy}
-use Rattle.ds_state.specs.Calls.{CallFits, MaySay, rank, IsWritten, IsInDoubt, DoubtFits, RecoveryFits}
+use Rattle.ds_state.specs.CallsFit.{CallFits, MaySay, rank, IsWritten, IsInDoubt, DoubtFits, RecoveryFits}
 use Rattle.ds_state.specs.KnownRecovery.{phase_for, IsOpenAnd, SettledAs}
-use Rattle.ds_state.specs.Words.{WordFits, IsKept}
+use Rattle.ds_state.specs.WordsFit.{WordFits, IsKept}
 use Rattle.ds_state.specs.Rely.{Grows, Keeps}
 use Rattle.ds_state.specs.Sound.{IsSound}
 use Rattle.ds_recover.specs.RecoverySteps.{StepsAt, at, number_of}

@@ -9,7 +9,7 @@ use Rattle.ds_state.specs.World.{Edit, Issue, World, announcement}
 use Rattle.ds_state.specs.Known.{Standing, outside, inside, safe, Announced, last, pending, ended, word_of, AreBelow, StandsAs}
 use Rattle.ds_state.specs.declared.stage.Outcome.TheVariants as outcome
 use Rattle.ds_state.specs.KnownRecovery.{Tells}
-use Rattle.ds_state.specs.Calls.{CallFits, MaySay, IsInDoubt, DoubtFits, RecoveryFits}
+use Rattle.ds_state.specs.CallsFit.{CallFits, MaySay, IsInDoubt, DoubtFits, RecoveryFits}
 use Rattle.ds_state.specs.Rely.{Keeps}
 use Rattle.ds_state.specs.Sound.{IsSound}
 use Rattle.ds_recover.specs.RecoverySteps.{StepsAt, at, number_of, end_of, ResolvesAs}

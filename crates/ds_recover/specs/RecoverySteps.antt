@@ -14,7 +14,7 @@ use Rattle.ds_layout.specs.declared.mark.TheConstants.{DIRTY}
 use Rattle.ds_layout.specs.Announcement.{announcement_of}
 use Rattle.ds_layout.specs.Head.{head_of}
 use Rattle.ds_layout.specs.Header.{header_of}
-use Rattle.ds_layout.specs.Sheet.{PerformsAt}
+use Rattle.ds_layout.specs.SheetMemory.{PerformsAt}
 use Rattle.ds_layout.specs.Bits.{parts_for, bit_in}
 use Rattle.ds_layout.specs.Mark.{is_held_by, generation_of}
 use Rattle.ds_state.specs.Works.{PlainRecovery}

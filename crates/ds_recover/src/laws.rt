@@ -3,7 +3,7 @@
 ghost use Rattle.std.specs.Prelude.{ℕ, ◌≡◌, ◌<◌, ◌≤◌, ◌+◌, ◌*◌, Bool, Option, Some};
 ghost use Rattle.ds_layout.specs.declared.layout.Layout.{Layout};
 ghost use Rattle.ds_layout.specs.Places.{cells_of};
-ghost use Rattle.ds_layout.specs.Sheet.{CanPerform, NamesPlace};
+ghost use Rattle.ds_layout.specs.SheetMemory.{CanPerform, NamesPlace};
 ghost use Rattle.ds_state.specs.World.{Issue, World};
 ghost use Rattle.ds_state.specs.Owing.{HoldsNone};
 ghost use Rattle.ds_state.specs.Sound.{IsSound};

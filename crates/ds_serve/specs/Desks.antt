@@ -12,8 +12,8 @@ use Rattle.ds_core.specs.declared.reply.Reply.TheVariants as replies
 use Rattle.ds_crew.specs.Passes.{PlainPass, asked}
 use Rattle.ds_server.specs.declared.board.CallRefusal.{CallRefusal}
 use Rattle.ds_server.specs.declared.board.CallRefusal.TheVariants.{NoMemory, ProcessTaken}
-use Rattle.ds_server.specs.Worlds.{refused_by}
-use Rattle.ds_server.specs.Calls.{Call, Join, Set, Report, Last, Leave}
+use Rattle.ds_server.specs.WorldBoards.{refused_by}
+use Rattle.ds_server.specs.BoardCalls.{Call, Join, Set, Report, Last, Leave}
 use Rattle.ds_server.specs.Replies.{Said, Joined, Done, Overtaken, Settled, Unsettled, Tells, Left, Refused}
 
 -- the session has the pass of this process

@@ -3,7 +3,7 @@
 ghost use Rattle.std.specs.Prelude.{◌≡◌, ◌<◌, ◌≤◌, ℕ, List, length, vec_capacity, Some};
 ghost use Rattle.ds_crew.specs.Passes.{PlainPass};
 ghost use Rattle.ds_crew.specs.Ends.{after_edit, after_recovery, recovery_reply};
-ghost use Rattle.ds_server.specs.Calls.{Last, Set, Report};
+ghost use Rattle.ds_server.specs.BoardCalls.{Last, Set, Report};
 ghost use Rattle.ds_server.specs.Replies.{last_view, set_view, report_view};
 ghost use Rattle.ds_serve.specs.Desks.{Deals, IsToldBy};
 

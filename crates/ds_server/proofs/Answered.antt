@@ -4,10 +4,10 @@ use Rattle.serde_json.specs.Data.{Data}
 use Rattle.ds_formula.specs.declared.cells.Shape.{Shape}
 use Rattle.ds_server.specs.declared.request.LineFault.{LineFault}
 use Rattle.ds_server.specs.declared.request.LineFault.TheVariants as faults
-use Rattle.ds_server.specs.Calls.{Call}
+use Rattle.ds_server.specs.BoardCalls.{Call}
 use Rattle.ds_server.specs.Replies.{Said, Faulted}
 use Rattle.ds_server.specs.Boards.{Rules}
-use Rattle.ds_server.specs.Requests.{call_of}
+use Rattle.ds_server.specs.LineRequests.{call_of}
 use Rattle.ds_server.specs.Asked.{ReadsJson}
 use Rattle.ds_server.specs.Session.{Obeys, refuses, calls, Answers, no_json, no_memory}
 

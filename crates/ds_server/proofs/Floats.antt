@@ -7,7 +7,7 @@ use Rattle.ds_eval.specs.declared.value.Value.{Value}
 use Rattle.ds_server.specs.declared.board.CallRefusal.{CallRefusal}
 use Rattle.ds_server.specs.declared.board.CallRefusal.TheVariants as refusal
 use Rattle.ds_server.specs.Replies.{Said, Joined, Done, Overtaken, Settled, Unsettled, Tells, Left, Refused, Faulted}
-use Rattle.ds_server.specs.Texts.{value_data, row_data, rows_of, said_data, refusal_data}
+use Rattle.ds_server.specs.SessionTexts.{value_data, row_data, rows_of, said_data, refusal_data}
 
 row_no_float : (values : List Value) → items_have_float (items_of (map value_data values)) ≡ false
 row_no_float [] = refl

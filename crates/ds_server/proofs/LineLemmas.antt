@@ -1,6 +1,6 @@
 -- One byte more of a line.
 use Rattle.std.proofs.Common.{◌≡◌, ◌≢◌, ℕ, ◌+◌, ◌-◌, ◌<◌, List, [], ◌∷◌, ◌++◌, length, min, refl, ap, arith, length-append}
-use Rattle.ds_server.specs.Lines.{HasNoFeed, ReadsOver, ReadsLong}
+use Rattle.ds_server.specs.SessionLines.{HasNoFeed, ReadsOver, ReadsLong}
 
 pub no_feed_more : (bytes : List ℕ) (b : ℕ) → HasNoFeed bytes → b ≢ 10 → HasNoFeed (bytes ++ b ∷ [])
 no_feed_more [] b h n = (n, tt)

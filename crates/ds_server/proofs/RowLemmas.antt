@@ -3,7 +3,7 @@ use Rattle.std.proofs.Common.{◌≡◌, ℕ, suc, ◌+◌, ◌-◌, ◌<◌, �
 use Rattle.std.proofs.lemmas.List.{take_all, drop_all}
 use Rattle.serde_json.specs.Data.{Data}
 use Rattle.ds_eval.specs.declared.value.Value.{Value}
-use Rattle.ds_server.specs.Texts.{row_data, rows_of}
+use Rattle.ds_server.specs.SessionTexts.{row_data, rows_of}
 
 pub rows_more : (columns rows i : ℕ) (rest : List Value) (so_far whole : List Data) (first behind : List Value) (d : Data) (items : List Data) → i < rows
     → so_far ++ map row_data (rows_of columns (rows - i) rest) ≡ whole → first ≡ take columns rest → behind ≡ drop columns rest → d ≡ row_data first → items ≡ so_far ++ d ∷ []

@@ -10,10 +10,10 @@ use Rattle.ds_calls.specs.Whole.{IsRun, request}
 use Rattle.ds_calls.proofs.Runs.{no_events, runs_on, same_run, whole_runs, settling_runs}
 use Rattle.ds_server.specs.declared.session.SessionEnd.{SessionEnd}
 use Rattle.ds_server.specs.declared.session.SessionEnd.TheVariants as ends
-use Rattle.ds_server.specs.Calls.{Call, Leave}
+use Rattle.ds_server.specs.BoardCalls.{Call, Leave}
 use Rattle.ds_server.specs.Replies.{Said, Left}
 use Rattle.ds_server.specs.Boards.{Leaves}
-use Rattle.ds_server.specs.Worlds.{Does, joins, sets, reports, is_refused, lacks, tells, leaves, world_rules}
+use Rattle.ds_server.specs.WorldBoards.{Does, joins, sets, reports, is_refused, lacks, tells, leaves, world_rules}
 use Rattle.ds_server.specs.Session.{Obeys, refuses, calls, Answers, no_json, no_memory, reads, Turns, short, long, Session, begins, turns, Served, Broken, Ran, Outcome}
 
 pub does_runs : (old new : WorldValue) (call : Call) (said : Said) → Does old call said new → IsRun old new

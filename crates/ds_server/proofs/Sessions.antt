@@ -5,12 +5,12 @@ use Rattle.ds_server.specs.declared.request.LineFault.TheVariants.{LineTooLong}
 use Rattle.ds_server.specs.declared.session.Stop.{Stop}
 use Rattle.ds_server.specs.declared.session.Stop.TheVariants as stops
 use Rattle.ds_server.specs.declared.session.SessionEnd.TheVariants as ends
-use Rattle.ds_server.specs.Lines.{ReadsLine, ReadsLong, ReadsPart, ReadsOver}
+use Rattle.ds_server.specs.SessionLines.{ReadsLine, ReadsLong, ReadsPart, ReadsOver}
 use Rattle.ds_server.specs.Replies.{Said, Faulted}
 use Rattle.ds_server.specs.Boards.{Rules, joined_after}
-use Rattle.ds_server.specs.Texts.{said_text}
+use Rattle.ds_server.specs.SessionTexts.{said_text}
 use Rattle.ds_server.specs.Session.{Answers, Turns, short, long, Session, turns, Served, Within, OverLimit, Ran}
-use Rattle.ds_server.specs.Telling.{Writes, Says, end_of}
+use Rattle.ds_server.specs.LineAnswers.{Writes, Says, end_of}
 use Rattle.ds_streams.proofs.Known.{Appends-both}
 
 -- ---- one line

@@ -3,7 +3,7 @@ use Rattle.std.specs.Prelude.{ℕ, ◌≡◌, Option, Some, None, Result, Ok, Er
 use Rattle.ds_formula.specs.declared.cells.Shape.{Shape}
 use Rattle.ds_edit.specs.declared.answer.Told.{Told}
 use Rattle.ds_server.specs.declared.board.CallRefusal.{CallRefusal}
-use Rattle.ds_server.specs.Calls.{Call, Leave}
+use Rattle.ds_server.specs.BoardCalls.{Call, Leave}
 use Rattle.ds_server.specs.Replies.{Said, Joined, Left}
 
 -- what a board says of itself: the shape of its sheet; how many processes it has; that the session has this process;

@@ -6,12 +6,12 @@ use Rattle.ds_server.specs.declared.request.LineFault.{LineFault}
 use Rattle.ds_server.specs.declared.request.LineFault.TheVariants.{LineTooLong, NoMemory, NotJson}
 use Rattle.ds_server.specs.declared.session.SessionEnd.{SessionEnd}
 use Rattle.ds_server.specs.declared.session.SessionEnd.TheVariants as ends
-use Rattle.ds_server.specs.Lines.{HasNoFeed, IsLine}
-use Rattle.ds_server.specs.Calls.{Call}
+use Rattle.ds_server.specs.SessionLines.{HasNoFeed, IsLine}
+use Rattle.ds_server.specs.BoardCalls.{Call}
 use Rattle.ds_server.specs.Replies.{Said, Faulted}
 use Rattle.ds_server.specs.Boards.{Rules, Leaves, joined_after}
-use Rattle.ds_server.specs.Requests.{IsJson, IsNoJson, call_of}
-use Rattle.ds_server.specs.Texts.{said_text}
+use Rattle.ds_server.specs.LineRequests.{IsJson, IsNoJson, call_of}
+use Rattle.ds_server.specs.SessionTexts.{said_text}
 
 -- ---- one line
 

@@ -5,8 +5,8 @@ ghost use Rattle.serde_json.specs.View.{view};
 ghost use Rattle.serde_json.specs.Written.{compact_text};
 ghost use Rattle.ds_formula.specs.Cells.{cell_at};
 ghost use Rattle.ds_formula.specs.Names.{cell_text};
-ghost use Rattle.ds_server.specs.Texts.{code_of_fault, name_of_fault, outcome_text, told_data, last_data, other_data, row_data, rows_data, place_text, joined_data, done_data, overtaken_data, settled_data, unsettled_data, tells_data, error_data, text_fault_data, refusal_data, said_data, said_text};
-ghost use Rattle.ds_server.specs.Telling.{reply_view};
+ghost use Rattle.ds_server.specs.SessionTexts.{code_of_fault, name_of_fault, outcome_text, told_data, last_data, other_data, row_data, rows_data, place_text, joined_data, done_data, overtaken_data, settled_data, unsettled_data, tells_data, error_data, text_fault_data, refusal_data, said_data, said_text};
+ghost use Rattle.ds_server.specs.LineAnswers.{reply_view};
 
 use crate::board::CallRefusal;
 use crate::request::LineFault;

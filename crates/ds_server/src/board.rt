@@ -2,7 +2,7 @@
 
 ghost use Rattle.std.specs.Prelude.{◌≡◌, ◌<◌};
 ghost use Rattle.ds_formula.specs.Cells.{IsInside};
-ghost use Rattle.ds_server.specs.Calls.{Join, Set, Report, Last, Leave};
+ghost use Rattle.ds_server.specs.BoardCalls.{Join, Set, Report, Last, Leave};
 ghost use Rattle.ds_server.specs.Replies.{Left, joined_view, set_view, report_view, last_view};
 ghost use Rattle.ds_server.specs.Boards.{SitsAfter};
 

@@ -3,7 +3,7 @@
 ghost use Rattle.std.specs.Prelude.{◌≡◌, ◌+◌, ◌<◌, ◌≤◌, ◌^◌, ◌∷◌, [], ◌++◌, ℕ, List, true, length, vec_capacity};
 ghost use Rattle.std.specs.Io.KnownBytes.{Consumes, IsAtEnd};
 ghost use Rattle.ds_streams.specs.Streams.{reader_of, bytes_given, has_ended, read_failed};
-ghost use Rattle.ds_server.specs.Lines.{Gives, Reads};
+ghost use Rattle.ds_server.specs.SessionLines.{Gives, Reads};
 ghost use Rattle.ds_server.specs.declared.line.LineEnd.TheVariants as ends;
 
 use ds_streams::streams::Reading;

@@ -2,7 +2,7 @@
 
 ghost use Rattle.std.specs.Prelude.{◌≡◌, option_map, IfOk, IfSome};
 ghost use Rattle.serde_json.specs.View.{view};
-ghost use Rattle.ds_server.specs.Requests.{verb_named, text_field, number_field, join_in, set_in, call_of, IsCallOf};
+ghost use Rattle.ds_server.specs.LineRequests.{verb_named, text_field, number_field, join_in, set_in, call_of, IsCallOf};
 ghost use Rattle.ds_server.specs.Asked.{ReadsJson, request_view, option_view, result_view};
 ghost use Rattle.std.specs.Prelude.{None, Some};
 

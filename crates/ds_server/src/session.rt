@@ -5,13 +5,13 @@ ghost use Rattle.std.specs.Io.KnownBytes.{Consumes, Appends, IsAtEnd};
 ghost use Rattle.serde_json.specs.View.{view};
 ghost use Rattle.ds_formula.specs.Cells.{IsInside};
 ghost use Rattle.ds_streams.specs.Streams.{reader_of, writer_of, bytes_given, has_ended, read_failed, write_failed};
-ghost use Rattle.ds_server.specs.Limits.{SESSION_LINE_MOST, SESSION_MOST};
-ghost use Rattle.ds_server.specs.Calls.{Join, Set, Report, Last};
+ghost use Rattle.ds_server.specs.SessionLimits.{SESSION_LINE_MOST, SESSION_MOST};
+ghost use Rattle.ds_server.specs.BoardCalls.{Join, Set, Report, Last};
 ghost use Rattle.ds_server.specs.Boards.{Seated, Leaves, joined_after};
-ghost use Rattle.ds_server.specs.Requests.{IsCallOf};
+ghost use Rattle.ds_server.specs.LineRequests.{IsCallOf};
 ghost use Rattle.ds_server.specs.Asked.{request_view};
 ghost use Rattle.ds_server.specs.Session.{Obeys, Answers, Ran, Outcome};
-ghost use Rattle.ds_server.specs.Telling.{reply_view, Writes, Says, Turned, end_of};
+ghost use Rattle.ds_server.specs.LineAnswers.{reply_view, Writes, Says, Turned, end_of};
 ghost use Rattle.ds_server.specs.declared.session.TheConstants as constants;
 
 use crate::answer::{Reply, reply_line};
@@ -49,7 +49,7 @@ pub enum SessionEnd {
 }
 
 impl fmt::Display for SessionEnd {
-    ghost use Rattle.ds_server.specs.Endings.{end_text};
+    ghost use Rattle.ds_server.specs.SessionEndings.{end_text};
 
     ghost output = { λ end. Some (end_text end) };
 

@@ -8,10 +8,10 @@ ghost use Rattle.ds_core.specs.Takes.{IsOfWorld};
 ghost use Rattle.ds_core.specs.Headline.{HasHeadline};
 ghost use Rattle.ds_calls.specs.Whole.{HasProcess, KeepsFree, IsRun, request};
 ghost use Rattle.ds_server.specs.declared.session.SessionEnd.{SessionEnd};
-ghost use Rattle.ds_server.specs.Calls.{Join, Set, Report, Last, Leave};
+ghost use Rattle.ds_server.specs.BoardCalls.{Join, Set, Report, Last, Leave};
 ghost use Rattle.ds_server.specs.Replies.{Left, joined_view, set_view, report_view, last_view};
 ghost use Rattle.ds_server.specs.Session.{Outcome};
-ghost use Rattle.ds_server.specs.Worlds.{refused_by, values_of, Copies, Does, IsSeated, world_rules, HasRecovered, HasEdited, HasReported};
+ghost use Rattle.ds_server.specs.WorldBoards.{refused_by, values_of, Copies, Does, IsSeated, world_rules, HasRecovered, HasEdited, HasReported};
 
 use crate::board::{Board, CallRefusal, EditEnd, ReportEnd};
 use ds_calls::call::{whole_edit, whole_recovery, whole_report};
@@ -113,7 +113,7 @@ fn settled(alloc: Global, world: &mut World, process: usize) -> Result<ReportEnd
 /// A session acts on a world by whole calls, with no other event between theirs. A process that is in
 /// a call can not be joined.
 impl Board for World {
-    ghost use Rattle.ds_server.specs.Worlds.{world_rules};
+    ghost use Rattle.ds_server.specs.WorldBoards.{world_rules};
 
     ghost rules = { world_rules };
 

@@ -3,13 +3,13 @@ use Rattle.std.proofs.Common.{ℕ, ◌≡◌, ◌<◌, ◌≤◌, ◌+◌, lengt
 use Rattle.std.proofs.Math.ListN.{length-set}
 use Rattle.std.proofs.lemmas.List.{get_or-set_same, get_or-set_other, get_or_default}
 use Rattle.ds_layout.specs.declared.layout.Layout.{Layout}
-use Rattle.ds_layout.specs.Sheet.{SheetValue, memory, CanPerform, PerformsAt}
+use Rattle.ds_layout.specs.SheetMemory.{SheetValue, memory, CanPerform, PerformsAt}
 use Rattle.ds_state.specs.Works.{PlainShow}
 use Rattle.ds_state.specs.Reports.{PlainReports}
 use Rattle.ds_state.specs.Underway.{reports_in, reports_under_way}
 use Rattle.ds_state.specs.Value.{WorldValue, world_of, AreReportsOf, IsGood, IsReserved}
 use Rattle.ds_state.specs.KnownShow.{ShowFits}
-use Rattle.ds_state.specs.Calls.{CallFits}
+use Rattle.ds_state.specs.CallsFit.{CallFits}
 use Rattle.ds_state.specs.declared.reports.TheConstants.{SETTLED_MOST}
 use Rattle.ds_state.specs.declared.work.ShowEnd.TheVariants.{Settled, AtMark, AtAnnounce}
 use Rattle.ds_state.specs.declared.work.ShowStage.{ShowStage}

@@ -11,7 +11,7 @@ use Rattle.ds_layout.specs.declared.place.Place.{Place}
 use Rattle.ds_layout.specs.declared.place.Place.TheVariants.{Version}
 use Rattle.ds_layout.specs.declared.layout.Layout.{Layout}
 use Rattle.ds_layout.specs.Places.{cells_of}
-use Rattle.ds_layout.specs.Sheet.{PerformsAt, CanPerform, NamesPlace, HasBuffer}
+use Rattle.ds_layout.specs.SheetMemory.{PerformsAt, CanPerform, NamesPlace, HasBuffer}
 use Rattle.ds_state.specs.Works.{PlainShow}
 use Rattle.ds_state.specs.World.{World}
 use Rattle.ds_state.specs.Owing.{Owes, Parts, Splits, Excuses}
@@ -19,7 +19,7 @@ use Rattle.ds_state.specs.KnownWork.{IsAtRest}
 use Rattle.ds_state.specs.KnownShow.{noted, reads_clean, reads_pending, Moment, moment_of, ShowFitsAt, ShowFits}
 use Rattle.ds_state.specs.ShowStages.{IsStage}
 use Rattle.ds_show.specs.ShowSteps.{access_at, next_at, after, StepsAt, Begins, fresh, rank, Falls, at}
-use Rattle.ds_state.specs.Calls.{CallFits, IdleFits}
+use Rattle.ds_state.specs.CallsFit.{CallFits, IdleFits}
 use Rattle.ds_state.specs.Rely.{Grows, Keeps}
 use Rattle.ds_state.specs.Sound.{IsSound}
 use Rattle.ds_state.specs.declared.work.ShowStage.{ShowStage}

@@ -2,13 +2,13 @@
 use Rattle.std.proofs.Common.{ℕ, ◌≡◌, ◌<◌, ◌≤◌, ◌+◌, ◌*◌, subst}
 use Rattle.ds_layout.specs.declared.layout.Layout.{Layout}
 use Rattle.ds_layout.specs.Places.{cells_of}
-use Rattle.ds_layout.specs.Sheet.{CanPerform, NamesPlace}
+use Rattle.ds_layout.specs.SheetMemory.{CanPerform, NamesPlace}
 use Rattle.ds_state.specs.Works.{PlainShow}
 use Rattle.ds_state.specs.World.{World}
 use Rattle.ds_state.specs.KnownShow.{ShowFits}
 use Rattle.ds_state.specs.ShowStages.{IsShow}
 use Rattle.ds_show.specs.ShowSteps.{access_at, next_at, Begins, Steps, Falls, rank}
-use Rattle.ds_state.specs.Calls.{CallFits}
+use Rattle.ds_state.specs.CallsFit.{CallFits}
 use Rattle.ds_state.specs.Rely.{Keeps}
 use Rattle.ds_state.specs.Sound.{IsSound}
 use Rattle.ds_state.specs.declared.situation.Situation.{Situation}

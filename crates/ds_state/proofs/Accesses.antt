@@ -11,8 +11,8 @@ use Rattle.ds_layout.proofs.PlaceCases.{place_cases}
 use Rattle.std.specs.Prelude.{Contains}
 use Rattle.ds_state.specs.World.{World, of_cell, head_after_all}
 use Rattle.ds_state.specs.Owing.{entry}
-use Rattle.ds_state.specs.Calls.{CallFits}
-use Rattle.ds_state.specs.Words.{WordFits}
+use Rattle.ds_state.specs.CallsFit.{CallFits}
+use Rattle.ds_state.specs.WordsFit.{WordFits}
 use Rattle.ds_state.specs.Sound.{IsSound}
 use Rattle.ds_state.specs.Events.{Evicts}
 use Rattle.ds_state.specs.Owing.{IsPending, IsExcused, Splits}

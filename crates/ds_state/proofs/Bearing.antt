@@ -16,7 +16,7 @@ use Rattle.ds_state.specs.World.{Edit, World, of_cell, IsHeadBy}
 use Rattle.ds_state.specs.Owing.{entry, IsHeld, IsBelowBuffered, SpreadOwes, WorkOwes, RecoveryOwes, Owes, WorkParts, RecoveryParts, Parts, CellOwes, IsApart, IsPending, EditOwes, RecoveryExcuses, Excuses, IsExcused, SplitsAt, RecoverySplits, Splits, IsIndexed}
 use Rattle.ds_layout.specs.Mark.{IsClean, IsEven, IsHeldBy}
 use Rattle.ds_state.specs.Standing.{Side, cached_side, persisted_side, HasContent, Stands, IsBuffered, IsDurable, Matters, AllStand}
-use Rattle.ds_state.specs.Words.{IsOnItsWay}
+use Rattle.ds_state.specs.WordsFit.{IsOnItsWay}
 use Rattle.ds_state.specs.Rely.{Bears}
 use Rattle.ds_state.specs.Sound.{IsSound}
 use Rattle.ds_state.specs.declared.stage.Stage.{Stage}

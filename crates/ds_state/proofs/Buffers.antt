@@ -15,7 +15,7 @@ use Rattle.ds_state.specs.KnownWork.{WorkHeld, claim, a_mark, the_value, both_wo
 use Rattle.ds_state.specs.KnownWork as works
 use Rattle.ds_state.specs.KnownRecovery as recoveries
 use Rattle.ds_state.specs.KnownRecovery.{RecoveryHeld, RecoveryHolds, recovery_held}
-use Rattle.ds_state.specs.Calls.{Held, empty, record_words, announcing_word, row_bits, done_bits, head_from, mark, held_at, record_entry, Holds, CallFits}
+use Rattle.ds_state.specs.CallsFit.{Held, empty, record_words, announcing_word, row_bits, done_bits, head_from, mark, held_at, record_entry, Holds, CallFits}
 use Rattle.ds_state.specs.Sound.{IsSound}
 use Rattle.ds_state.specs.declared.situation.Situation.{Situation}
 use Rattle.ds_state.specs.declared.situation.Situation.TheVariants.{Idle, Stopped, Editing, Working, Recovering, Showing}

@@ -14,8 +14,8 @@ use Rattle.ds_state.specs.World.{Edit, Issue, World, record_place, record_word, 
 use Rattle.ds_state.specs.Known.{AreBelow, IsDone}
 use Rattle.ds_state.specs.Owing.{Owes, Excuses, Splits, Parts, IsApart, IsExcused}
 use Rattle.ds_state.specs.Standing.{HasContent}
-use Rattle.ds_state.specs.Calls.{CallFits}
-use Rattle.ds_state.specs.Words.{RefersTo, IsKept, WordFits}
+use Rattle.ds_state.specs.CallsFit.{CallFits}
+use Rattle.ds_state.specs.WordsFit.{RefersTo, IsKept, WordFits}
 use Rattle.ds_state.specs.Sound.{IsSound, IsOfSheet, Increasing}
 use Rattle.ds_state.specs.Rely.{IsOwnedBy, Grows, Rely, Keeps}
 use Rattle.ds_words.specs.declared.access.Entry.{Entry}

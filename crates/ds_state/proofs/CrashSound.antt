@@ -15,7 +15,7 @@ use Rattle.ds_state.specs.Edits.{PlainEdit, text_parts}
 use Rattle.ds_state.specs.World.{Edit, edit_of, Issue, World, of_cell, phase_among, is_edit_of, last_announcement, announcement, record_size, record_place}
 use Rattle.ds_state.specs.Known.{IsIn, Standing, outside, inside, safe, Announced, last, pending, ended, Known, known_at, AreBelow, IsSafe, StandsAs, IsRecorded, word_of}
 use Rattle.ds_state.specs.KnownWork.{IsAtRest}
-use Rattle.ds_state.specs.Calls.{CallFits, EditFits, MaySay, rank, IsWritten, IsInDoubt, DoubtFits}
+use Rattle.ds_state.specs.CallsFit.{CallFits, EditFits, MaySay, rank, IsWritten, IsInDoubt, DoubtFits}
 use Rattle.ds_state.specs.Crashes.{is_lost, survivors, CrashesTo}
 use Rattle.ds_state.specs.Sound.{IsSound, Increasing}
 use Rattle.ds_state.specs.declared.stage.Outcome.TheVariants as outcome

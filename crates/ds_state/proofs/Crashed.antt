@@ -9,7 +9,7 @@ use Rattle.ds_layout.proofs.OrBits.{IsSubset-same, HasBit-subset}
 use Rattle.ds_state.specs.World.{Edit, World, of_cell, IsHeadBy}
 use Rattle.ds_state.specs.Known.{IsSafe}
 use Rattle.ds_state.specs.Crashes.{is_lost, survivors, CrashesTo}
-use Rattle.ds_state.specs.Words.{WordFits, IsKept, IsSuperseded}
+use Rattle.ds_state.specs.WordsFit.{WordFits, IsKept, IsSuperseded}
 use Rattle.ds_state.specs.Sound.{IsSound, Increasing, IsOfSheet}
 use Rattle.ds_state.proofs.Heads.{Small, small_counted, small_of_cell, head_grows, by_cases}
 use Rattle.ds_state.proofs.Crashing.{Leaves}

@@ -10,7 +10,7 @@ use Rattle.ds_state.specs.World.{Edit, edit_of, World, of_cell, head_after_all, 
 use Rattle.ds_state.specs.Owing.{entry, Owes, CellOwes, IsPending, EditOwes, Excuses, IsExcused}
 use Rattle.ds_state.specs.Standing.{cached_side, persisted_side, HasContent, AllStand}
 use Rattle.ds_state.specs.Known.{pending, IsAnnounced, known_at}
-use Rattle.ds_state.specs.Calls.{CallFits}
+use Rattle.ds_state.specs.CallsFit.{CallFits}
 use Rattle.ds_state.specs.Sound.{IsSound}
 use Rattle.ds_state.specs.Crashes.{CrashesTo}
 use Rattle.ds_state.specs.declared.stage.Stage.{Stage}

@@ -7,7 +7,7 @@ use Rattle.ds_words.specs.Memory.{OrsAt, StoresAt}
 use Rattle.ds_layout.specs.declared.place.Place.TheVariants.{Mark}
 use Rattle.ds_layout.specs.declared.mark.TheConstants.{DIRTY}
 use Rattle.ds_state.specs.World.{World}
-use Rattle.ds_state.specs.Words.{MarkFits}
+use Rattle.ds_state.specs.WordsFit.{MarkFits}
 use Rattle.ds_state.proofs.Frames.{MovesMark}
 
 dirty_bit : (x i : ℕ) → bit_at (bit_or x 1) i ≡ bit_at (x / 2 * 2 + 1) i

@@ -13,8 +13,8 @@ use Rattle.ds_words.specs.Memory.{Memory}
 use Rattle.ds_state.specs.Owing.{IsApart, Splits}
 use Rattle.ds_layout.specs.Mark.{IsClean, IsHeldBy}
 use Rattle.ds_state.specs.Standing.{AllStand}
-use Rattle.ds_state.specs.Calls.{CallFits}
-use Rattle.ds_state.specs.Words.{IsKept, WordFits}
+use Rattle.ds_state.specs.CallsFit.{CallFits}
+use Rattle.ds_state.specs.WordsFit.{IsKept, WordFits}
 use Rattle.ds_state.specs.Sound.{IsSound}
 use Rattle.ds_state.specs.Rely.{IsOwnedBy, KeepsHold, Grows, Bears, Rely, Keeps}
 use Rattle.ds_state.proofs.Heads.{cell_of-middle}

@@ -6,7 +6,7 @@ use Rattle.std.proofs.lemmas.Bool.{eqb-true, eq-eqb}
 use Rattle.std.proofs.lemmas.Bool.Decides.{eqb_tells}
 use Rattle.std.proofs.lemmas.List.Elements.{All-head, All-tail, All-filter, filter-append, filter_passes}
 use Rattle.ds_state.specs.World.{Edit, World, of_cell, head_after_all, head_from, head_by, IsHeadBy}
-use Rattle.ds_state.specs.Words.{IsOnItsWay}
+use Rattle.ds_state.specs.WordsFit.{IsOnItsWay}
 use Rattle.ds_state.specs.Sound.{IsOfSheet}
 
 -- the parts of a head fit their places

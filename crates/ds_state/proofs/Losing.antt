@@ -10,7 +10,7 @@ use Rattle.ds_layout.specs.declared.place.Place.{Place}
 use Rattle.ds_layout.specs.declared.place.Place.TheVariants.{Head}
 use Rattle.ds_state.specs.World.{Edit, World, of_cell, head_after_all, head_by}
 use Rattle.ds_state.specs.Crashes.{is_lost, survivors, CrashesTo}
-use Rattle.ds_state.specs.Words.{IsOnItsWay}
+use Rattle.ds_state.specs.WordsFit.{IsOnItsWay}
 use Rattle.ds_state.specs.Sound.{IsSound, Increasing}
 use Rattle.ds_state.proofs.Heads.{Small, IsSmall, small_counted, small_of_cell, head_grows, head_push, cell_of-middle}
 use Rattle.ds_state.proofs.Crashing.{Leaves}

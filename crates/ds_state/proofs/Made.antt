@@ -3,7 +3,7 @@ use Rattle.std.proofs.Common.{ℕ, ◌≡◌, ◌≤◌, ◌+◌, ◌*◌, ◌++
 use Rattle.std.proofs.lemmas.List.{length-replicate, replicate_more}
 use Rattle.ds_words.specs.Memory.{IsFresh}
 use Rattle.ds_layout.specs.declared.place.TheConstants.{RECORDS}
-use Rattle.ds_layout.specs.Sheet.{SheetValue, memory}
+use Rattle.ds_layout.specs.SheetMemory.{SheetValue, memory}
 use Rattle.ds_eval.specs.declared.value.Value.{Value}
 use Rattle.ds_layout.specs.Places.{cells_of}
 use Rattle.ds_state.specs.Reports.{no_reports}

@@ -20,8 +20,8 @@ use Rattle.ds_layout.specs.declared.place.Place.{Place}
 use Rattle.ds_layout.specs.declared.place.Place.TheVariants.{Version, Head, Mark, Value, Kind, Index, Announce, Header, Text, Done}
 use Rattle.ds_layout.specs.Bits.{HasBit, IsSubset}
 use Rattle.ds_state.specs.World.{Edit, World, of_cell, head_after_all}
-use Rattle.ds_state.specs.Words.{WordFits, IsSuperseded}
-use Rattle.ds_state.specs.Calls.{CallFits}
+use Rattle.ds_state.specs.WordsFit.{WordFits, IsSuperseded}
+use Rattle.ds_state.specs.CallsFit.{CallFits}
 use Rattle.ds_state.specs.Fresh.{IsNew}
 use Rattle.ds_state.specs.Sound.{IsSound, IsOfSheet, Increasing}
 use Rattle.ds_state.specs.declared.situation.Situation.{Situation}

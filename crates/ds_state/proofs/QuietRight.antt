@@ -11,7 +11,7 @@ use Rattle.ds_layout.specs.declared.place.Place.TheVariants.{Head, Kind}
 use Rattle.ds_state.specs.World.{Issue, edit_of, World}
 use Rattle.ds_state.specs.Owing.{Excuses}
 use Rattle.ds_state.specs.Standing.{cached_side, entry_on, shown_entry, value_for}
-use Rattle.ds_state.specs.Calls.{CallFits}
+use Rattle.ds_state.specs.CallsFit.{CallFits}
 use Rattle.ds_state.specs.Sound.{IsSound}
 use Rattle.ds_state.specs.Calm.{IsCalm, IsLocalAt}
 use Rattle.ds_state.specs.declared.situation.Situation.{Situation}

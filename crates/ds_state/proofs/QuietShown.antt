@@ -21,7 +21,7 @@ use Rattle.ds_state.specs.Standing as standing
 use Rattle.ds_state.specs.Standing.{shown_entry}
 use Rattle.ds_state.specs.Shown as shows
 use Rattle.ds_state.specs.Shown.{IsQuiet, value_at, values_shown}
-use Rattle.ds_state.specs.Calls.{CallFits, DoubtFits}
+use Rattle.ds_state.specs.CallsFit.{CallFits, DoubtFits}
 use Rattle.ds_state.specs.KnownShow.{pends, is_clean, IsPendingWord, moment_of, AreScratch, IsRight, IsStill}
 use Rattle.ds_state.specs.declared.situation.Situation.{Situation}
 use Rattle.ds_state.specs.declared.situation.Situation.TheVariants.{Idle, Stopped, Editing, Working, Recovering, Showing}

@@ -3,7 +3,7 @@ use Rattle.std.proofs.Common.{ℕ, ◌≡◌, ◌<◌, ◌≤◌, ◌+◌, ◌-�
 use Rattle.std.proofs.Math.Seq.{take-add}
 use Rattle.std.proofs.lemmas.Bool.{cases_lt}
 use Rattle.std.proofs.lemmas.List.{take_all, get_or_past}
-use Rattle.ds_layout.specs.Text.{part_word, bytes_of}
+use Rattle.ds_layout.specs.TextWords.{part_word, bytes_of}
 use Rattle.ds_layout.proofs.Packed.{bytes_of-part_word, part_of-take}
 use Rattle.std.specs.Prelude.{Option, Some}
 use Rattle.ds_words.specs.Memory.{Memory}

@@ -11,7 +11,7 @@ use Rattle.ds_layout.specs.Bits.{IsSubset, bit_of}
 use Rattle.ds_layout.proofs.OrBits.{IsSubset-same, IsSubset-both, IsSubset-or_left, IsSubset-or_both, HasBit-subset, HasBit-or_other}
 use Rattle.ds_state.specs.World.{Edit, World, of_cell, IsHeadBy}
 use Rattle.ds_state.specs.Owing.{IsMark}
-use Rattle.ds_state.specs.Words.{IsKept, WordFits}
+use Rattle.ds_state.specs.WordsFit.{IsKept, WordFits}
 use Rattle.ds_state.proofs.Heads.{Small, small_of_cell, persisted_most, written_back}
 use Rattle.ds_state.proofs.Frames.{MovesWord}
 

@@ -6,7 +6,7 @@ use Rattle.ds_layout.proofs.PlaceCases.{place_cases}
 use Rattle.ds_state.specs.Edits.{PlainEdit, text_parts}
 use Rattle.ds_state.specs.World.{World, edit_of}
 use Rattle.ds_state.specs.Known.{Knowing, known_at}
-use Rattle.ds_state.specs.Calls.{CallFits, EditFits}
+use Rattle.ds_state.specs.CallsFit.{CallFits, EditFits}
 use Rattle.ds_state.specs.Events.{Evicts}
 use Rattle.ds_state.specs.Crashes.{CrashesTo}
 use Rattle.ds_state.specs.Sound.{IsSound}

@@ -8,7 +8,7 @@ use Rattle.ds_state.specs.Edits.{PlainEdit, text_parts}
 use Rattle.ds_state.specs.World.{Edit, Issue, edit_of, World, record_size, record_place, done_place, head_after_all}
 use Rattle.ds_state.specs.Known.{Standing, outside, inside, safe, Announced, last, pending, ended, Noted, nothing, head_noted, head_back, bit_set, bit_back, came_late, Known, known_at, StandsAs, IsRecorded, word_of, IsAnnounced, row_of, IsIndexedTo, IsOred, IsWhen, IsNoted, Knows, Knowing}
 use Rattle.ds_state.specs.Owing.{entry}
-use Rattle.ds_state.specs.Calls.{Held, empty, record_words, announcing_word, row_bits, done_bits, head_from, mark, held_at, Holds, CallFits, IsSheetOf, HasRefs, DoubtFits, IsWritten}
+use Rattle.ds_state.specs.CallsFit.{Held, empty, record_words, announcing_word, row_bits, done_bits, head_from, mark, held_at, Holds, CallFits, IsSheetOf, HasRefs, DoubtFits, IsWritten}
 use Rattle.ds_state.specs.KnownWork.{IsAtRest}
 use Rattle.ds_state.specs.Rely.{Grows, Rely}
 use Rattle.ds_state.specs.declared.situation.Situation.{Situation}

@@ -26,7 +26,7 @@ use Rattle.ds_layout.proofs.Packed.{announcement_of-announcement_word}
 use Rattle.ds_state.specs.World.{Edit, Issue, edit_of, World, of_cell, head_after_all, head_by, announcement}
 use Rattle.ds_state.specs.Owing.{IsPending, IsExcused}
 use Rattle.ds_state.specs.Standing.{cached_side, entry_on, shown_entry, value_for, HasContent}
-use Rattle.ds_state.specs.Calls.{CallFits, DoubtFits}
+use Rattle.ds_state.specs.CallsFit.{CallFits, DoubtFits}
 use Rattle.ds_state.specs.KnownShow.{IsPendingWord, moment_of, values_of, IsRight, IsStill}
 use Rattle.ds_state.specs.Shown.{last_text}
 use Rattle.ds_formula.proofs.Whole.{blank_read}

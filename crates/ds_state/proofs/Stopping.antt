@@ -10,7 +10,7 @@ use Rattle.ds_state.specs.World.{Edit, edit_of, Issue, World, of_cell, head_afte
 use Rattle.ds_state.specs.Known.{Announced, Known, known_at, IsRecorded, word_of}
 use Rattle.ds_state.specs.Owing.{entry, IsHeld, Owes, Parts, IsPending, Excuses, Splits}
 use Rattle.ds_state.specs.KnownWork.{IsAtRest}
-use Rattle.ds_state.specs.Calls.{CallFits, EditFits, MaySay, rank, IsWritten, IsInDoubt, DoubtFits}
+use Rattle.ds_state.specs.CallsFit.{CallFits, EditFits, MaySay, rank, IsWritten, IsInDoubt, DoubtFits}
 use Rattle.ds_state.specs.Crashes.{StopsIn}
 use Rattle.ds_state.specs.Rely.{Grows, Keeps}
 use Rattle.ds_state.specs.Sound.{IsSound}

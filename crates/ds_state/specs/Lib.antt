@@ -12,8 +12,8 @@ pub mod Known
 pub mod KnownWork
 pub mod KnownShow
 pub mod KnownRecovery
-pub mod Calls
-pub mod Words
+pub mod CallsFit
+pub mod WordsFit
 pub mod Sound
 pub mod Calm
 pub mod Rely

@@ -21,7 +21,7 @@ use Rattle.ds_layout.specs.declared.head.Head.{Head}
 use Rattle.ds_layout.specs.declared.header.Header.{Header}
 use Rattle.ds_layout.specs.Head.{head_of}
 use Rattle.ds_layout.specs.Header.{header_word, header_of}
-use Rattle.ds_layout.specs.Text.{part_word, bytes_of, parts_for}
+use Rattle.ds_layout.specs.TextWords.{part_word, bytes_of, parts_for}
 use Rattle.ds_state.specs.Edits.{text_parts}
 use Rattle.ds_state.specs.Stages.{point_at}
 use Rattle.ds_state.specs.Text.{IsText}

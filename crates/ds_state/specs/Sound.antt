@@ -5,8 +5,8 @@ use Rattle.ds_layout.specs.declared.place.Place.{Place}
 use Rattle.ds_layout.specs.Places.{cells_of}
 use Rattle.ds_state.specs.Text.{IsText}
 use Rattle.ds_state.specs.World.{Edit, World}
-use Rattle.ds_state.specs.Words.{WordFits}
-use Rattle.ds_state.specs.Calls.{CallFits}
+use Rattle.ds_state.specs.WordsFit.{WordFits}
+use Rattle.ds_state.specs.CallsFit.{CallFits}
 use Rattle.ds_state.specs.Standing.{AllStand}
 
 -- an edit of the sheet: of one of its processes, with a record, and of one of its cells

@@ -1,7 +1,7 @@
 -- The plain value of a world, and the world that it stands for.
 use Rattle.std.specs.Prelude.{ℕ, ◌≡◌, ◌≤◌, ◌+◌, ◌*◌, List, length, slice_index_or, Option, None}
 use Rattle.ds_layout.specs.declared.place.TheConstants.{RECORDS}
-use Rattle.ds_layout.specs.Sheet.{SheetValue, memory}
+use Rattle.ds_layout.specs.SheetMemory.{SheetValue, memory}
 use Rattle.ds_layout.specs.declared.layout.Layout.{Layout}
 use Rattle.ds_layout.specs.Places.{cells_of}
 use Rattle.ds_state.specs.Reports.{PlainReports}

@@ -17,7 +17,7 @@ ghost use Rattle.ds_state.specs.declared.stage.Outcome.{Outcome};
 ghost use Rattle.ds_state.specs.declared.stage.Stage.TheVariants.{Swap, Answer};
 ghost use Rattle.ds_state.specs.declared.situation.Situation.TheVariants.{Editing};
 ghost use Rattle.ds_state.specs.Crashes.{CrashesTo, StopsIn};
-ghost use Rattle.ds_state.specs.Calls.{CallFits};
+ghost use Rattle.ds_state.specs.CallsFit.{CallFits};
 ghost use Rattle.ds_state.specs.Calm.{IsCalm, IsLocalAt};
 ghost use Rattle.ds_state.specs.declared.situation.Situation.{Situation};
 

@@ -3,8 +3,8 @@
 ghost use Rattle.std.specs.Prelude.{◌≡◌, ◌<◌, ◌≤◌, ◌↔◌, ℕ, List, length, IsTrue, IfOk, ◌+◌, ◌/◌};
 ghost use Rattle.ds_layout.specs.declared.place.TheConstants.{RECORDS, TEXT_BYTES};
 ghost use Rattle.ds_layout.specs.Places.{cells_of};
-ghost use Rattle.ds_layout.specs.Sheet.{memory};
-ghost use Rattle.ds_layout.specs.Text.{parts_for};
+ghost use Rattle.ds_layout.specs.SheetMemory.{memory};
+ghost use Rattle.ds_layout.specs.TextWords.{parts_for};
 ghost use Rattle.ds_state.specs.Shown.{mark_at, shown_of, value_at, AllClean, parts_at, record_at, text_at};
 
 use ds_eval::value::Value;

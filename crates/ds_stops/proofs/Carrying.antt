@@ -10,7 +10,7 @@ use Rattle.ds_play.specs.Plays.{Plays}
 use Rattle.ds_play.specs.Script.{steps_taken}
 use Rattle.ds_play.proofs.Played.{plays_on, play_runs}
 use Rattle.ds_stops.specs.declared.turn.Left.{Left}
-use Rattle.ds_stops.specs.Turns.{doing_of}
+use Rattle.ds_stops.specs.ScriptTurns.{doing_of}
 use Rattle.ds_stops.specs.Reaching.{Opens, OpensOrder, Ends, Halts, EndsOrder, HaltsOrder, taken_before}
 use Rattle.ds_stops.proofs.Playing.{count_on}
 

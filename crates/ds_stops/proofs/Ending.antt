@@ -18,7 +18,7 @@ use Rattle.ds_streams.specs.declared.ending.ScriptEnd.{ScriptEnd}
 use Rattle.ds_streams.specs.declared.ending.ScriptEnd.TheVariants as ends
 use Rattle.ds_stops.specs.declared.reach.Short.{Short}
 use Rattle.ds_stops.specs.declared.reach.Short.TheVariants as shorts
-use Rattle.ds_stops.specs.Stops.{InTurn, no_deed, one_deed_more, IsBlock, Blocks, one_block_more, StopsWith, StopsWithin, block_events, block_replies}
+use Rattle.ds_stops.specs.StopBlocks.{InTurn, no_deed, one_deed_more, IsBlock, Blocks, one_block_more, StopsWith, StopsWithin, block_events, block_replies}
 use Rattle.ds_stops.specs.Reaching.{FallsShort, end_of}
 
 -- ---- ends

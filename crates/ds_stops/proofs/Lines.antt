@@ -5,7 +5,7 @@ use Rattle.ds_state.specs.Value.{WorldValue}
 use Rattle.ds_core.specs.declared.event.Event.TheVariants.{Step}
 use Rattle.ds_streams.specs.declared.ending.ScriptFault.{ScriptFault}
 use Rattle.ds_streams.specs.declared.ending.ScriptFault.TheVariants.{LineTooLong}
-use Rattle.ds_streams.specs.Lines.{AtFront, NoLine, ALine, LongLine, next_of}
+use Rattle.ds_streams.specs.ScriptLines.{AtFront, NoLine, ALine, LongLine, next_of}
 use Rattle.ds_play.specs.declared.order.Begun.{Begun}
 use Rattle.ds_play.specs.declared.order.Begun.TheVariants as begun
 use Rattle.ds_play.specs.Orders.{Order, Make, Does, order_of}
@@ -15,7 +15,7 @@ use Rattle.ds_play.proofs.Scripts.{carried_runs}
 use Rattle.ds_stops.specs.declared.reach.Point.{Point}
 use Rattle.ds_stops.specs.declared.reach.Stop.{Stop}
 use Rattle.ds_stops.specs.declared.reach.Stop.TheVariants as stops
-use Rattle.ds_stops.specs.Stops.{EndsBefore, BreaksBefore}
+use Rattle.ds_stops.specs.StopBlocks.{EndsBefore, BreaksBefore}
 use Rattle.ds_stops.specs.Reaching.{EndsOrder, HaltsOrder, PassesLine, StopsLine, Reaches, stop_of}
 use Rattle.ds_stops.proofs.Playing.{count_on}
 

@@ -20,7 +20,7 @@ use Rattle.ds_play.specs.Running.{Obeys}
 use Rattle.ds_play.proofs.Driving.{if_some}
 use Rattle.ds_stops.specs.declared.turn.Left.{Left}
 use Rattle.ds_stops.specs.declared.turn.Left.TheVariants as left
-use Rattle.ds_stops.specs.Turns.{Remains, IsWithin}
+use Rattle.ds_stops.specs.ScriptTurns.{Remains, IsWithin}
 use Rattle.ds_stops.specs.Reaching.{Opens, OpensOrder}
 
 -- ---- no event

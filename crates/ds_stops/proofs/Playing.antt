@@ -12,7 +12,7 @@ use Rattle.ds_play.specs.Script.{step_taken, steps_taken}
 use Rattle.ds_play.proofs.Played.{plays_on, play_runs}
 use Rattle.ds_stops.specs.declared.turn.Left.{Left}
 use Rattle.ds_stops.specs.declared.turn.Turn.{Turn}
-use Rattle.ds_stops.specs.Turns.{Remains, IsStep, TakesTurn, doing_of, steps_of, events_from, events_to_step}
+use Rattle.ds_stops.specs.ScriptTurns.{Remains, IsStep, TakesTurn, doing_of, steps_of, events_from, events_to_step}
 use Rattle.ds_stops.specs.Reaching.{Ends, Halts}
 
 -- ---- counting

@@ -10,7 +10,7 @@ use Rattle.ds_core.specs.declared.reply.Reply.TheVariants.{Crashed}
 use Rattle.ds_play.specs.Orders.{Deed, Whole, Settle}
 use Rattle.ds_play.specs.Doing.{plan}
 use Rattle.ds_play.specs.Plays.{Played}
-use Rattle.ds_stops.specs.Stops.{no_deed, one_deed_more, IsBlock, recoveries, deeds_behind, stop_text}
+use Rattle.ds_stops.specs.StopBlocks.{no_deed, one_deed_more, IsBlock, recoveries, deeds_behind, stop_text}
 use Rattle.ds_stops.specs.Reaching.{Tells, TellsBlock}
 use Rattle.ds_play.specs.Script.{StandsAt}
 

@@ -14,7 +14,7 @@ use Rattle.ds_state.specs.declared.work.WorkStage.{WorkStage}
 use Rattle.ds_state.specs.declared.work.WorkStage.TheVariants.{Wait, Clear, StoreValue}
 use Rattle.ds_edit.specs.declared.answer.Answer.{Answer}
 use Rattle.ds_work.specs.WorkSteps as steps
-use Rattle.ds_work.specs.WorkEvents.{IsOffered}
+use Rattle.ds_work.specs.WorkTakes.{IsOffered}
 use Rattle.ds_core.specs.Takes.{Fits}
 use Rattle.ds_core.specs.declared.event.Event.{Event}
 use Rattle.ds_core.specs.declared.event.Event.TheVariants.{Step, BeginWork}
@@ -26,14 +26,14 @@ use Rattle.ds_calls.proofs.Driving.{offer_event, offer_fits}
 use Rattle.ds_play.specs.declared.point.PointName.{PointName}
 use Rattle.ds_play.specs.declared.drive.Until.{Until}
 use Rattle.ds_play.specs.declared.drive.Until.TheVariants.{OneStep, ToPoint, ToAnswer, InPass}
-use Rattle.ds_play.specs.Texts.{reply_text}
+use Rattle.ds_play.specs.ScriptTexts.{reply_text}
 use Rattle.ds_play.specs.Doing.{Says, called, offered, stepped, driven, ended}
 use Rattle.ds_play.specs.Plays.{WantsStep}
 use Rattle.ds_play.proofs.Driving.{offer_asked, if_some}
 use Rattle.ds_play.specs.Script.{step_taken}
 use Rattle.ds_stops.specs.declared.turn.Left.{Left}
 use Rattle.ds_stops.specs.declared.turn.Left.TheVariants as left
-use Rattle.ds_stops.specs.Turns.{Remains, IsWithin, events_from, events_to_step, TakesTurn}
+use Rattle.ds_stops.specs.ScriptTurns.{Remains, IsWithin, events_from, events_to_step, TakesTurn}
 
 -- ---- cells
 

@@ -1,3 +1,3 @@
-pub mod Stops
-pub mod Turns
+pub mod StopBlocks
+pub mod ScriptTurns
 pub mod Reaching

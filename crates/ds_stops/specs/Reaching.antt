@@ -13,8 +13,8 @@ use Rattle.ds_play.specs.Doing.{Doing, Says, plan}
 use Rattle.ds_play.specs.Plays.{Plays}
 use Rattle.ds_play.specs.Running.{after}
 use Rattle.ds_play.specs.Script.{IsMade, StandsAt, step_taken, steps_taken}
-use Rattle.ds_stops.specs.Stops.{InTurn, deeds_behind, stop_text, EndsBefore, BreaksBefore}
-use Rattle.ds_stops.specs.Turns.{Remains}
+use Rattle.ds_stops.specs.StopBlocks.{InTurn, deeds_behind, stop_text, EndsBefore, BreaksBefore}
+use Rattle.ds_stops.specs.ScriptTurns.{Remains}
 use Rattle.ds_stops.specs.declared.reach.Point.{Point}
 use Rattle.ds_stops.specs.declared.reach.Stop.{Stop}
 use Rattle.ds_stops.specs.declared.reach.Stop.TheVariants as stops

@@ -6,7 +6,7 @@ ghost use Rattle.ds_core.specs.declared.reply.Reply.TheVariants.{Crashed};
 ghost use Rattle.ds_core.specs.Takes.{Fits};
 ghost use Rattle.ds_play.specs.Orders.{CanDo, command_view};
 ghost use Rattle.ds_play.specs.Running.{Obeys};
-ghost use Rattle.ds_stops.specs.Stops.{recoveries, deeds_behind, stop_text};
+ghost use Rattle.ds_stops.specs.StopBlocks.{recoveries, deeds_behind, stop_text};
 ghost use Rattle.ds_stops.specs.Reaching.{Tells, TellsBlock};
 
 use ds_core::event::Event;

@@ -3,7 +3,7 @@
 ghost use Rattle.std.specs.Prelude.{◌≡◌, ◌<◌, ◌+◌, ◌-◌, ◌^◌, IfSome, IfNone, IfOk};
 ghost use Rattle.ds_play.specs.Orders.{CanDo, beginning, command_view};
 ghost use Rattle.ds_play.specs.Doing.{Calls, settle};
-ghost use Rattle.ds_stops.specs.Turns.{IsWithin, Remains, doing_of, steps_of};
+ghost use Rattle.ds_stops.specs.ScriptTurns.{IsWithin, Remains, doing_of, steps_of};
 ghost use Rattle.ds_stops.specs.Reaching.{Opens, OpensOrder, Ends, Halts, EndsOrder, HaltsOrder, taken_before};
 
 use crate::turn::{Left, after_begin, left_of, take_turn, to_point};

@@ -10,7 +10,7 @@ ghost use Rattle.ds_play.specs.Script.{IsMade};
 ghost use Rattle.ds_streams.specs.Streams.{writer_of, write_failed};
 ghost use Rattle.ds_streams.specs.declared.ending.ScriptEnd.TheVariants as ends;
 ghost use Rattle.ds_stops.specs.Reaching.{FallsShort, end_of};
-ghost use Rattle.ds_stops.specs.Stops.{IsBlock, StopsWith, StopsWithin, block_events, block_replies};
+ghost use Rattle.ds_stops.specs.StopBlocks.{IsBlock, StopsWith, StopsWithin, block_events, block_replies};
 
 use crate::block::block;
 use crate::reach::{Short, reach};

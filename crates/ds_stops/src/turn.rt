@@ -8,7 +8,7 @@ ghost use Rattle.ds_play.specs.declared.drive.Until.TheVariants.{InPass, ToPoint
 ghost use Rattle.ds_calls.specs.Settling.{IsInTurn};
 ghost use Rattle.ds_play.specs.Doing.{at_turn, called, offered, stepped, ended, to_point};
 ghost use Rattle.ds_play.specs.Plays.{WantsStep};
-ghost use Rattle.ds_stops.specs.Turns.{Remains, IsWithin, TakesTurn};
+ghost use Rattle.ds_stops.specs.ScriptTurns.{Remains, IsWithin, TakesTurn};
 
 use ds_calls::finish::step_once;
 use ds_calls::settle;

@@ -2,7 +2,7 @@
 use Rattle.std.proofs.Common.{◌≡◌, ℕ, ◌+◌, ◌<◌, Bool, true, false, cond, nat_eq, List, [], ◌∷◌, length, drop, Option, Some, None, arith, length-drop, refl}
 use Rattle.std.specs.Prelude.{position}
 use Rattle.std.proofs.lemmas.List.Quantifiers.{position-Some}
-use Rattle.ds_streams.specs.Lines.{NoLine, ALine, LongLine, last_of, next_by, next_of}
+use Rattle.ds_streams.specs.ScriptLines.{NoLine, ALine, LongLine, last_of, next_by, next_of}
 
 checked_rest : (long : Bool) (line rest l behind : List ℕ) → cond long LongLine (ALine line rest) ≡ ALine l behind → behind ≡ rest
 checked_rest true line rest l behind e = absurd (cc)

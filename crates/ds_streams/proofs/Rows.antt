@@ -3,7 +3,7 @@ use Rattle.std.proofs.Common.{◌≡◌, ℕ, suc, ◌+◌, ◌*◌, ◌-◌, �
 use Rattle.csv.specs.Writing.{row_text, default_writer}
 use Rattle.ds_eval.specs.declared.value.Value.{Value}
 use Rattle.ds_eval.specs.Numbers.{value_text}
-use Rattle.ds_streams.specs.Answers.{rows_text}
+use Rattle.ds_streams.specs.AnswerTexts.{rows_text}
 
 -- one record more is written
 pub rows_more : (columns rows i : ℕ) (values : List Value) (text whole : List ℕ) (fields : List (List ℕ)) → i < rows

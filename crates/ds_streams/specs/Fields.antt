@@ -5,7 +5,7 @@ use Rattle.std.specs.Borrow.{Bor}
 use Rattle.ds_formula.specs.declared.cells.Shape.{Shape}
 use Rattle.ds_formula.specs.declared.cells.Cell.{Cell}
 use Rattle.ds_formula.specs.Names.{cell_named}
-use Rattle.ds_streams.specs.Lines.{word_of}
+use Rattle.ds_streams.specs.ScriptLines.{word_of}
 
 -- what the function gives of what is there, none where there is none
 infixl 10 ◌>>=◌

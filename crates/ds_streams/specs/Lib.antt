@@ -1,7 +1,7 @@
 pub mod Streams
 pub mod Input
-pub mod Lines
+pub mod ScriptLines
 pub mod Fields
-pub mod Answers
+pub mod AnswerTexts
 pub mod Csv
-pub mod Endings
+pub mod ScriptEndings

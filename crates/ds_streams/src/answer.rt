@@ -6,7 +6,7 @@ ghost use Rattle.csv.specs.Writing.{row_text, default_writer};
 ghost use Rattle.ds_streams.specs.Csv.{IsReady, text_of};
 ghost use Rattle.ds_formula.specs.Cells.{count_of};
 ghost use Rattle.ds_eval.specs.Numbers.{value_text};
-ghost use Rattle.ds_streams.specs.Answers.{done_text, refused_text, rows_text, settled_text};
+ghost use Rattle.ds_streams.specs.AnswerTexts.{done_text, refused_text, rows_text, settled_text};
 
 use csv::{ByteRecord, Writer, WriterBuilder};
 use ds_eval::value::Value;

@@ -17,7 +17,7 @@ pub enum ScriptFault {
 
 impl fmt::Display for ScriptFault {
     ghost use Rattle.std.specs.Prelude.{Some};
-    ghost use Rattle.ds_streams.specs.Endings.{name_of_fault};
+    ghost use Rattle.ds_streams.specs.ScriptEndings.{name_of_fault};
 
     ghost output = { λ fault. Some (name_of_fault fault) };
 
@@ -50,7 +50,7 @@ pub enum ScriptEnd {
 
 impl fmt::Display for ScriptEnd {
     ghost use Rattle.std.specs.Prelude.{Some};
-    ghost use Rattle.ds_streams.specs.Endings.{end_text};
+    ghost use Rattle.ds_streams.specs.ScriptEndings.{end_text};
 
     ghost output = { λ end. Some (end_text end) };
 

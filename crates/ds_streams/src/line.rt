@@ -1,7 +1,7 @@
 //! Cuts a script into lines, and a line into words.
 
 ghost use Rattle.std.specs.Prelude.{◌≡◌, ◌==◌, ◌<◌, position, length};
-ghost use Rattle.ds_streams.specs.Lines.{next_of, next_view, word_of, word_view, dropped_return, checked, last_of};
+ghost use Rattle.ds_streams.specs.ScriptLines.{next_of, next_view, word_of, word_view, dropped_return, checked, last_of};
 ghost use Rattle.ds_formula.specs.Limits.{LINE_MOST};
 ghost use Rattle.ds_streams.specs.declared.line.TheConstants as constants;
 

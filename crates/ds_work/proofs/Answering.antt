@@ -11,7 +11,7 @@ use Rattle.ds_layout.specs.declared.place.Place.TheVariants.{Value, Kind}
 use Rattle.ds_layout.specs.Head.{head_of}
 use Rattle.ds_layout.specs.Header.{header_of}
 use Rattle.ds_layout.specs.Mark.{mark_of, state_of}
-use Rattle.ds_layout.specs.Text.{bytes_of}
+use Rattle.ds_layout.specs.TextWords.{bytes_of}
 use Rattle.ds_state.specs.Works.{PlainWork, SEEN_MOST}
 use Rattle.ds_state.specs.World.{World}
 use Rattle.ds_state.specs.Standing.{shown_entry}

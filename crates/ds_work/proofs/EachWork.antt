@@ -8,7 +8,7 @@ use Rattle.std.proofs.Common.{List}
 use Rattle.ds_state.specs.Text.{IsText}
 use Rattle.ds_state.specs.Works.{PlainWork}
 use Rattle.ds_state.specs.World.{Edit, World}
-use Rattle.ds_state.specs.Calls.{CallFits}
+use Rattle.ds_state.specs.CallsFit.{CallFits}
 use Rattle.ds_state.specs.KnownWork.{WorkFits}
 use Rattle.ds_work.specs.WorkSteps.{at, StepsAt, BeginsWork, ReadsAt, LacksAt, OffersAt}
 use Rattle.ds_state.specs.Rely.{Keeps}

@@ -16,7 +16,7 @@ use Rattle.ds_layout.specs.declared.place.TheConstants.{TEXT_BYTES}
 use Rattle.ds_layout.specs.Head.{head_of}
 use Rattle.ds_layout.specs.Header.{header_of}
 use Rattle.ds_layout.specs.Mark.{mark_of, state_of}
-use Rattle.ds_layout.specs.Text.{bytes_of}
+use Rattle.ds_layout.specs.TextWords.{bytes_of}
 use Rattle.ds_layout.proofs.Packed.{IsHeader-header_of}
 use Rattle.ds_state.specs.Works.{PlainWork, IsWork, IsWorkIn, StageFits, ClaimFits, TellsFits, Differs, SEEN_MOST}
 use Rattle.ds_state.specs.Standing.{shown_entry}

@@ -5,7 +5,7 @@ use Rattle.ds_formula.specs.Plain.{Plain}
 use Rattle.ds_eval.specs.declared.inputs.Input.{Input}
 use Rattle.ds_state.specs.Works.{PlainWork, IsWork}
 use Rattle.ds_state.specs.World.{World}
-use Rattle.ds_state.specs.Calls.{CallFits}
+use Rattle.ds_state.specs.CallsFit.{CallFits}
 use Rattle.ds_state.specs.Sound.{IsSound}
 use Rattle.ds_state.specs.declared.situation.Situation.{Situation}
 use Rattle.ds_state.specs.declared.situation.Situation.TheVariants.{Working}
@@ -16,7 +16,7 @@ use Rattle.ds_work.specs.declared.drive.Taken.{Taken}
 use Rattle.ds_work.specs.declared.drive.Taken.TheVariants.{Stepped}
 use Rattle.ds_work.specs.WorkSteps.{at, after, next_at, read_from, lacks, IsPlainStep}
 use Rattle.ds_work.specs.WorkRank.{left, steps_left, Falls, GoesOn}
-use Rattle.ds_work.specs.WorkEvents.{TakesTurn, steps, reads, lacked, answers, StepsBy}
+use Rattle.ds_work.specs.WorkTakes.{TakesTurn, steps, reads, lacked, answers, StepsBy}
 use Rattle.ds_work.proofs.Gathered.{content_few}
 use Rattle.ds_work.proofs.Next.{next_noted}
 use Rattle.ds_work.proofs.Ranks.{each_falls}

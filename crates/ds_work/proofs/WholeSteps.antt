@@ -5,7 +5,7 @@ use Rattle.std.proofs.lemmas.Bool.{cases_eq}
 use Rattle.ds_words.specs.Memory.{SameMemory, StoresAt}
 use Rattle.ds_layout.specs.Places.{cells_of}
 use Rattle.ds_state.specs.Owing.{Owes}
-use Rattle.ds_state.specs.Calls.{IdleFits}
+use Rattle.ds_state.specs.CallsFit.{IdleFits}
 use Rattle.ds_state.proofs.EditFrame.{Framed, silent_framed, silent_keeps}
 use Rattle.ds_layout.specs.declared.place.Place.{Place}
 use Rattle.ds_layout.specs.declared.place.Place.TheVariants.{Version, Mark, Value, Announce}
@@ -14,8 +14,8 @@ use Rattle.ds_state.specs.World.{World, of_cell, head_after_all}
 use Rattle.ds_state.specs.Owing.{HELD_MOST, HoldsNone, IsHeld, IsApart, Parts, Splits, Excuses, IsMark}
 use Rattle.ds_layout.specs.Mark.{IsHeldBy}
 use Rattle.ds_state.specs.KnownWork.{WorkFits, IsAtRest}
-use Rattle.ds_state.specs.Words.{WordFits}
-use Rattle.ds_state.specs.Calls.{CallFits}
+use Rattle.ds_state.specs.WordsFit.{WordFits}
+use Rattle.ds_state.specs.CallsFit.{CallFits}
 use Rattle.ds_state.specs.Rely.{Grows, Bears, Keeps}
 use Rattle.ds_state.specs.Sound.{IsSound}
 use Rattle.ds_state.specs.declared.work.WorkEnd.TheVariants.{Published}

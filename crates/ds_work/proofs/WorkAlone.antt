@@ -17,11 +17,11 @@ use Rattle.ds_layout.specs.Places.{class_of}
 use Rattle.ds_layout.specs.Mark.{mark_of, state_of, IsEven, IsClean}
 use Rattle.ds_layout.specs.Head.{head_of}
 use Rattle.ds_layout.specs.Header.{header_of}
-use Rattle.ds_layout.specs.Text.{bytes_of}
-use Rattle.ds_layout.specs.Sheet.{PerformsAt}
+use Rattle.ds_layout.specs.TextWords.{bytes_of}
+use Rattle.ds_layout.specs.SheetMemory.{PerformsAt}
 use Rattle.ds_state.specs.Works.{PlainWork, TellsFits, StageFits}
 use Rattle.ds_state.specs.KnownWork.{WorkFits, WorkKnows, work_known}
-use Rattle.ds_state.specs.Calls.{CallFits}
+use Rattle.ds_state.specs.CallsFit.{CallFits}
 use Rattle.ds_state.specs.Sound.{IsSound}
 use Rattle.ds_state.specs.declared.situation.Situation.{Situation}
 use Rattle.ds_state.specs.declared.situation.Situation.TheVariants.{Working}
@@ -30,7 +30,7 @@ use Rattle.ds_state.specs.declared.work.WorkEnd.TheVariants as ends
 use Rattle.ds_state.specs.Works.{IsWork}
 use Rattle.ds_work.specs.declared.drive.Taken.{Taken}
 use Rattle.ds_work.specs.declared.drive.Taken.TheVariants.{Stepped}
-use Rattle.ds_work.specs.WorkEvents as events
+use Rattle.ds_work.specs.WorkTakes as events
 use Rattle.ds_work.proofs.Next.{next_noted}
 use Rattle.ds_state.specs.Standing.{value_for, word_for, shown_entry}
 use Rattle.ds_state.specs.Telling.{told_from}

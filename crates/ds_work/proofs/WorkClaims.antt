@@ -15,7 +15,7 @@ use Rattle.ds_state.specs.World.{World}
 use Rattle.ds_state.specs.Owing.{entry, IsHeld, IsMark}
 use Rattle.ds_state.specs.KnownWork.{BuffersClaim, WorkFits}
 use Rattle.ds_work.specs.WorkSteps.{claim_of, StepsAt, claims_from}
-use Rattle.ds_state.specs.Words.{MarkFits}
+use Rattle.ds_state.specs.WordsFit.{MarkFits}
 use Rattle.ds_state.specs.Rely.{Keeps}
 use Rattle.ds_state.specs.Sound.{IsSound}
 use Rattle.ds_state.specs.declared.work.WorkEnd.{WorkEnd}

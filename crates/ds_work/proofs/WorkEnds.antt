@@ -11,11 +11,11 @@ use Rattle.ds_state.specs.Works.{PlainWork}
 use Rattle.ds_state.specs.World.{World}
 use Rattle.ds_state.specs.Owing.{entry, HoldsNone, WorkOwes, WorkParts, Owes, Parts, Splits, Excuses}
 use Rattle.ds_layout.specs.Mark.{IsHeldBy}
-use Rattle.ds_state.specs.Calls.{CallFits}
+use Rattle.ds_state.specs.CallsFit.{CallFits}
 use Rattle.ds_state.specs.KnownWork.{ClaimsBoth, HasMark, WorkFits, IsAtRest}
 use Rattle.ds_state.specs.Telling.{let_go}
 use Rattle.ds_work.specs.WorkSteps.{StepsAt}
-use Rattle.ds_state.specs.Words.{MarkFits}
+use Rattle.ds_state.specs.WordsFit.{MarkFits}
 use Rattle.ds_state.specs.Rely.{Grows, Keeps}
 use Rattle.ds_state.specs.Sound.{IsSound}
 use Rattle.ds_state.specs.declared.work.WorkEnd.{WorkEnd}

@@ -12,8 +12,8 @@ use Rattle.ds_state.specs.World.{World}
 use Rattle.ds_state.specs.Owing.{entry, IsHeld, WorkOwes, Owes, WorkParts, Parts, CellOwes, IsApart, Excuses, IsIndexed}
 use Rattle.ds_state.specs.Standing.{Matters}
 use Rattle.ds_state.specs.KnownWork.{work_known, WorkKnows, work_held, WorkHolds, WorkFits}
-use Rattle.ds_state.specs.Words.{WordFits}
-use Rattle.ds_state.specs.Calls.{CallFits}
+use Rattle.ds_state.specs.WordsFit.{WordFits}
+use Rattle.ds_state.specs.CallsFit.{CallFits}
 use Rattle.ds_state.specs.Rely.{IsOwnedBy, KeepsHold, Grows, Bears, Keeps}
 use Rattle.ds_state.specs.Sound.{IsSound}
 use Rattle.ds_state.specs.declared.work.WorkStage.{WorkStage}

@@ -17,7 +17,7 @@ use Rattle.ds_layout.specs.declared.header.Header as headers
 use Rattle.ds_layout.specs.Places.{cells_of}
 use Rattle.ds_layout.specs.Head.{head_of}
 use Rattle.ds_layout.specs.Header.{header_of, header_word}
-use Rattle.ds_layout.specs.Text.{part_word, bytes_of}
+use Rattle.ds_layout.specs.TextWords.{part_word, bytes_of}
 use Rattle.ds_layout.proofs.Packed.{header_of-header_word}
 use Rattle.ds_state.specs.Works.{PlainWork}
 use Rattle.ds_state.specs.Text.{IsText}

@@ -4,7 +4,7 @@ use Rattle.ds_words.specs.declared.access.Entry.{Entry}
 use Rattle.ds_layout.specs.declared.place.Place.{Place}
 use Rattle.ds_layout.specs.declared.place.Place.TheVariants.{Mark}
 use Rattle.ds_layout.specs.Places.{cells_of, IsPlace}
-use Rattle.ds_layout.specs.Sheet.{CanPerform, HasEntry}
+use Rattle.ds_layout.specs.SheetMemory.{CanPerform, HasEntry}
 use Rattle.ds_state.specs.Text.{IsText}
 use Rattle.ds_state.specs.Works.{PlainWork}
 use Rattle.ds_state.specs.World.{Edit, World, of_cell, IsHeadBy}

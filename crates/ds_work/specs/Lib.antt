@@ -1,7 +1,7 @@
 pub mod WorkSteps
 pub mod Noted
 pub mod Reading
-pub mod WorkEvents
+pub mod WorkTakes
 pub mod WorkRank
 pub mod WorkAnswers
 pub mod WorkAlone

@@ -1,7 +1,7 @@
 -- How many steps of its own a work has left.
 use Rattle.std.specs.Prelude.{ℕ, ◌≡◌, ◌+◌, ◌-◌, ◌*◌, ◌<◌, length}
 use Rattle.ds_layout.specs.Bits.{parts_for}
-use Rattle.ds_layout.specs.Text as text_words
+use Rattle.ds_layout.specs.TextWords as text_words
 use Rattle.ds_state.specs.World.{World}
 use Rattle.ds_state.specs.declared.situation.Situation.TheVariants.{Working}
 use Rattle.ds_state.specs.Works.{PlainWork}

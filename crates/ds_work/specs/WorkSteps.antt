@@ -23,12 +23,12 @@ use Rattle.ds_layout.specs.declared.mark.TheConstants.{DIRTY}
 use Rattle.ds_layout.specs.Head.{head_of}
 use Rattle.ds_layout.specs.Header.{header_of}
 use Rattle.ds_layout.specs.Mark.{mark_of, state_of, held_after, generation_of}
-use Rattle.ds_layout.specs.Text.{bytes_of}
-use Rattle.ds_layout.specs.Sheet.{PerformsAt}
+use Rattle.ds_layout.specs.TextWords.{bytes_of}
+use Rattle.ds_layout.specs.SheetMemory.{PerformsAt}
 use Rattle.ds_layout.specs.Places.{cells_of}
 use Rattle.ds_layout.specs.Bits.{parts_for}
 use Rattle.ds_layout.specs.Head as head_parts
-use Rattle.ds_layout.specs.Text as text_words
+use Rattle.ds_layout.specs.TextWords as text_words
 use Rattle.ds_state.specs.Telling.{let_go, told_from}
 use Rattle.ds_state.specs.Works.{PlainWork}
 use Rattle.ds_state.specs.Standing.{shown_entry, value_for, word_for}

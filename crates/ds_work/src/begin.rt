@@ -5,7 +5,7 @@ ghost use Rattle.ds_formula.specs.Cells.{IsInside, index_of};
 ghost use Rattle.ds_state.specs.Value.{world_of};
 ghost use Rattle.ds_state.specs.declared.situation.Situation.TheVariants.{Idle};
 ghost use Rattle.ds_work.specs.WorkSteps.{BeginsWork};
-ghost use Rattle.ds_work.specs.WorkEvents.{next_of, IsAskedFor, IsBegun, Refuses};
+ghost use Rattle.ds_work.specs.WorkTakes.{next_of, IsAskedFor, IsBegun, Refuses};
 
 use ds_eval::inputs::{Entry, Inputs};
 use ds_eval::value::Value;

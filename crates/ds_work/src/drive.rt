@@ -8,7 +8,7 @@ ghost use Rattle.ds_state.specs.declared.situation.Situation.TheVariants.{Idle, 
 ghost use Rattle.ds_work.specs.WorkSteps.{access_at, next_at};
 ghost use Rattle.ds_work.specs.Noted.{turn_at};
 ghost use Rattle.ds_work.specs.Reading.{IsReading};
-ghost use Rattle.ds_work.specs.WorkEvents.{IsIn, StepsBy, StepTakes};
+ghost use Rattle.ds_work.specs.WorkTakes.{IsIn, StepsBy, StepTakes};
 ghost use Rattle.ds_work.specs.declared.machine.Doing.TheVariants.{Steps, Reads, Answers};
 ghost use Rattle.ds_work.specs.declared.drive.Taken.TheVariants.{NotEnabled, Stepped, Answered};
 

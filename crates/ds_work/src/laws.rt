@@ -6,7 +6,7 @@ ghost use Rattle.ds_formula.specs.Cells.{count_of};
 ghost use Rattle.ds_formula.specs.Plain.{Plain};
 ghost use Rattle.ds_eval.specs.declared.inputs.Entry as entries;
 ghost use Rattle.ds_eval.specs.declared.inputs.Input.{Input};
-ghost use Rattle.ds_layout.specs.Sheet.{CanPerform};
+ghost use Rattle.ds_layout.specs.SheetMemory.{CanPerform};
 ghost use Rattle.ds_state.specs.World.{World};
 ghost use Rattle.ds_state.specs.Works.{PlainWork, IsWork, IsSame, Differs};
 ghost use Rattle.ds_state.specs.Sound.{IsSound};
@@ -18,7 +18,7 @@ ghost use Rattle.ds_work.specs.WorkSteps.{at, IsContent, BeginsWork, StepsAt, Re
 ghost use Rattle.ds_state.specs.declared.work.WorkEnd.{WorkEnd};
 ghost use Rattle.ds_work.specs.WorkAnswers.{IsDecided, IsTrueAnswer, OrsOnly};
 ghost use Rattle.ds_work.specs.WorkRank.{left, steps_left, Falls, GoesOn};
-ghost use Rattle.ds_work.specs.WorkEvents.{StepsBy};
+ghost use Rattle.ds_work.specs.WorkTakes.{StepsBy};
 ghost use Rattle.ds_work.specs.declared.drive.Taken.TheVariants.{Stepped};
 
 use ds_state::work::WorkCall;

@@ -5,7 +5,6 @@ ghost use Rattle.ds_layout.specs.Head.{head_of};
 ghost use Rattle.ds_layout.specs.Header.{header_of};
 ghost use Rattle.ds_layout.specs.Mark.{mark_of, state_of, holder_code, dirty_bit, mark_word, generation_of};
 ghost use Rattle.ds_state.specs.Standing.{stored_for, shown_entry};
-ghost use Rattle.ds_state.specs.Owing.{StandsIn};
 ghost use Rattle.ds_state.specs.Telling.{let_go, told_from};
 ghost use Rattle.ds_layout.specs.declared.place.TheConstants.{TEXT_BYTES};
 ghost use Rattle.ds_state.specs.Works.{PlainWork, StageFits, SEEN_MOST};

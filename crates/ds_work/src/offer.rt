@@ -11,7 +11,7 @@ ghost use Rattle.ds_state.specs.Value.{world_of};
 ghost use Rattle.ds_state.specs.declared.situation.Situation.TheVariants.{Working};
 ghost use Rattle.ds_state.specs.declared.work.WorkStage.TheVariants.{Wait};
 ghost use Rattle.ds_work.specs.WorkSteps.{offered};
-ghost use Rattle.ds_work.specs.WorkEvents.{task_at, Waits, WaitsFor, IsOffered};
+ghost use Rattle.ds_work.specs.WorkTakes.{task_at, Waits, WaitsFor, IsOffered};
 ghost use Rattle.ds_work.specs.declared.offer.TaskFault.TheVariants.{NoTask};
 
 use crate::machine::stored;

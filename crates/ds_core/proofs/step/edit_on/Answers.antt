@@ -1,14 +1,14 @@
 use Rattle.std.proofs.Common.{ℕ, ◌≡◌, ◌<◌, ◌++◌, arith, ap, sym, ◌∙◌, subst, get_or}
 use Rattle.std.specs.Prelude.{Option, None, vec_capacity}
 use Rattle.std.proofs.lemmas.List.{get_or_default}
-use Rattle.ds_layout.specs.Sheet.{PerformsAt, memory}
+use Rattle.ds_layout.specs.SheetMemory.{PerformsAt, memory}
 use Rattle.ds_state.specs.Edits.{PlainEdit}
 use Rattle.ds_state.specs.Value.{WorldValue, IsReserved}
 use Rattle.ds_state.specs.World.{Issue, edit_of}
 use Rattle.ds_state.specs.declared.stage.Stage.{Stage}
 use Rattle.ds_state.specs.declared.situation.Situation.TheVariants.{Idle, Editing}
-use Rattle.ds_edit.specs.Steps.{access_at}
-use Rattle.ds_edit.specs.Worlds.{after, counted_at, open_edit_at}
+use Rattle.ds_edit.specs.EditSteps.{access_at}
+use Rattle.ds_edit.specs.EditTakes.{after, counted_at, open_edit_at}
 use Rattle.ds_core.specs.EditEvents.{IsEditing, EditStepTakes, reply_at, done_at}
 use Rattle.ds_core.specs.declared.reply.Reply.{Reply}
 use Rattle.ds_core.proofs.Good.{perform_at, next, next_is, next_kept, next_room, next_takes, pending_there}

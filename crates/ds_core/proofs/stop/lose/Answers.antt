@@ -1,7 +1,7 @@
 use Rattle.std.proofs.Common.{◌≡◌, List, length, refl, sym, ◌∙◌, subst, arith}
-use Rattle.ds_layout.specs.Sheet.{memory}
+use Rattle.ds_layout.specs.SheetMemory.{memory}
 use Rattle.ds_state.specs.World.{Edit}
-use Rattle.ds_core.specs.Stops.{HasHeadPlace}
+use Rattle.ds_core.specs.StopEvents.{HasHeadPlace}
 use Rattle.ds_core.proofs.Lost.{IsSifted, sifted_first, sifted_out, sifted_in, sifted_last, sifted_at}
 use Rattle.ds_core.proofs.stop.lose.Goals as goal
 use Rattle.ds_core.proofs.stop.lose.Goals.{then-not-is_lost, else-not-is_lost}

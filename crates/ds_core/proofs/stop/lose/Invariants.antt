@@ -1,6 +1,6 @@
 use Rattle.std.proofs.Common.{◌≡◌}
 use Rattle.std.specs.Prelude.{vec_capacity}
-use Rattle.ds_layout.specs.Sheet.{memory}
+use Rattle.ds_layout.specs.SheetMemory.{memory}
 use Rattle.ds_core.proofs.Lost.{IsSifted}
 use Rattle.ds_core.proofs.stop.lose.Given as goal
 

@@ -1,6 +1,6 @@
 use Rattle.std.proofs.Common.{◌≡◌, length, ap, sym, subst, arith, vec_len}
 use Rattle.ds_state.specs.Edits.{PlainEdit, IsEdit}
-use Rattle.ds_state.specs.Calls.{IsSheetOf, HasRefs}
+use Rattle.ds_state.specs.CallsFit.{IsSheetOf, HasRefs}
 use Rattle.ds_state.specs.Value.{WorldValue, world_of}
 use Rattle.ds_edit.specs.Begun.{IsIdle}
 use Rattle.ds_edit.proofs.Beginning.{issued_kept}

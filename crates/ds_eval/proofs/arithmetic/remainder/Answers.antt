@@ -1,5 +1,5 @@
 use Rattle.std.proofs.Common.{rules, w64, to_z, of_z, ◌≡◌, ◌∙◌}
-use Rattle.ds_eval.specs.Steps.{floor_mod}
+use Rattle.ds_eval.specs.CodeSteps.{floor_mod}
 use Rattle.ds_eval.proofs.Division.{floor_mod_is}
 use Rattle.ds_eval.proofs.arithmetic.remainder.Goals as goal
 

@@ -2,7 +2,7 @@ use Rattle.std.proofs.Common.{arith, ◌≡◌, ◌∙◌, ◌+◌, ◌||◌, Bo
 use Rattle.ds_formula.specs.Plain.{Plain}
 use Rattle.ds_eval.specs.Inputs.{entry_in, PlainInputs}
 use Rattle.ds_eval.specs.Local.{local}
-use Rattle.ds_eval.specs.Sheet.{contents_of}
+use Rattle.ds_eval.specs.SheetContents.{contents_of}
 use Rattle.ds_eval.specs.declared.inputs.Input.{Input}
 use Rattle.std.proofs.Common.{List}
 use Rattle.ds_eval.proofs.Rounds.{IsRound, round_goes_on, round_done, round_unchanged, content_at}

@@ -1,4 +1,4 @@
-use Rattle.ds_eval.specs.Sheet.{contents_of}
+use Rattle.ds_eval.specs.SheetContents.{contents_of}
 use Rattle.ds_eval.proofs.Rounds.{IsRound}
 use Rattle.ds_eval.proofs.scratch.evaluate_all.Given as goal
 

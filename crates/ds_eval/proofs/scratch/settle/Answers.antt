@@ -1,6 +1,6 @@
 use Rattle.std.proofs.Common.{arith, ◌≡◌, subst, ℕ}
 use Rattle.ds_formula.specs.Cells.{count_of}
-use Rattle.ds_eval.specs.Sheet.{contents_of}
+use Rattle.ds_eval.specs.SheetContents.{contents_of}
 use Rattle.ds_eval.specs.Rounds.{AreSettled}
 use Rattle.ds_eval.proofs.Rounds.{local_scratch, settled_scratch, first_settled}
 use Rattle.ds_eval.proofs.scratch.settle.Goals as goal

@@ -2,9 +2,9 @@ use Rattle.std.proofs.Common.{ℕ, ◌≡◌, ap, sym, ◌∙◌, subst, map, Li
 use Rattle.csv.specs.Records.{Row, fields_of}
 use Rattle.ds_formula.specs.declared.cells.Shape.{Shape}
 use Rattle.ds_formula.specs.declared.content.Content.{Content}
-use Rattle.ds_eval.specs.Sheet.{contents_of}
+use Rattle.ds_eval.specs.SheetContents.{contents_of}
 use Rattle.ds_eval.specs.declared.value.Value.{Value}
-use Rattle.ds_streams.specs.Answers.{rows_text}
+use Rattle.ds_streams.specs.AnswerTexts.{rows_text}
 use Rattle.ds_grid.specs.Grids.{IsGridOf, AllRead, FailsAt}
 use Rattle.ds_grid.proofs.Fields.{fails_of, reads_all}
 use Rattle.ds_grid.proofs.report.values_of.Goals as goal

@@ -1,7 +1,7 @@
 use Rattle.std.proofs.Common.{ℕ, List, refl}
 use Rattle.ds_play.specs.Orders.{beginning}
 use Rattle.ds_play.specs.Doing.{Once, Says}
-use Rattle.ds_play.specs.Texts.{reply_text}
+use Rattle.ds_play.specs.ScriptTexts.{reply_text}
 use Rattle.ds_play.specs.Plays.{Played}
 use Rattle.ds_play.proofs.Played.{answered, one}
 use Rattle.ds_play.proofs.carry.begin.Goals as goal

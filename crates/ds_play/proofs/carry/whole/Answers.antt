@@ -3,7 +3,7 @@ use Rattle.ds_core.specs.declared.reply.Reply.TheVariants.{Answered}
 use Rattle.ds_play.specs.declared.drive.Until.TheVariants.{ToAnswer}
 use Rattle.ds_play.specs.Orders.{beginning}
 use Rattle.ds_play.specs.Doing.{Calls, Says}
-use Rattle.ds_play.specs.Texts.{reply_text}
+use Rattle.ds_play.specs.ScriptTexts.{reply_text}
 use Rattle.ds_play.specs.Plays.{Played}
 use Rattle.ds_play.proofs.Played.{answered, one}
 use Rattle.ds_play.proofs.Calling.{begun_by, has_begun, refused_by}

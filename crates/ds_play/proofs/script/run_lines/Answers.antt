@@ -1,7 +1,7 @@
 use Rattle.std.proofs.Common.{◌≡◌, ◌+◌, ◌∙◌, [], refl, arith, subst, sym, add-one, Err, inr}
 use Rattle.ds_streams.specs.Streams.{writer_of, write_failed}
 use Rattle.ds_streams.specs.declared.ending.ScriptFault.TheVariants.{LineTooLong}
-use Rattle.ds_streams.specs.Lines.{AtFront, ALine, next_of}
+use Rattle.ds_streams.specs.ScriptLines.{AtFront, ALine, next_of}
 use Rattle.ds_streams.proofs.Known.{Appends-none}
 use Rattle.ds_streams.proofs.LinesLemmas.{next_shorter}
 use Rattle.ds_play.specs.declared.order.Begun.TheVariants as begun

@@ -3,7 +3,7 @@ use Rattle.ds_formula.specs.Cells.{cell_at}
 use Rattle.ds_core.specs.declared.event.Event.TheVariants.{BeginWork}
 use Rattle.ds_calls.specs.declared.settle.Turn.{Turn}
 use Rattle.ds_play.specs.declared.drive.Until.TheVariants.{InPass}
-use Rattle.ds_play.specs.Texts.{reply_text}
+use Rattle.ds_play.specs.ScriptTexts.{reply_text}
 use Rattle.ds_play.specs.Doing.{Says, Works, at_turn, end_text, settle}
 use Rattle.ds_play.specs.Plays.{Played}
 use Rattle.ds_play.proofs.Played.{answered, leads_from, one, stays}

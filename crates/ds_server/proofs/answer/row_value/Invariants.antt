@@ -1,6 +1,6 @@
 use Rattle.std.proofs.Common.{◌≡◌, take, map}
 use Rattle.serde_json.specs.View.{view}
-use Rattle.ds_server.specs.Texts.{value_data}
+use Rattle.ds_server.specs.SessionTexts.{value_data}
 use Rattle.ds_server.proofs.answer.row_value.Given as goal
 
 abbrev pub invariant-loop-value : goal.invariant-loop-value

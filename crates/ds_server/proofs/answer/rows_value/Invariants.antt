@@ -1,6 +1,6 @@
 use Rattle.std.proofs.Common.{◌≡◌, ◌-◌, ◌++◌, map}
 use Rattle.serde_json.specs.View.{view}
-use Rattle.ds_server.specs.Texts.{row_data, rows_of}
+use Rattle.ds_server.specs.SessionTexts.{row_data, rows_of}
 use Rattle.ds_server.proofs.answer.rows_value.Given as goal
 
 abbrev pub invariant-loop-row : goal.invariant-loop-row

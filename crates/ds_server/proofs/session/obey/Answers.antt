@@ -1,5 +1,5 @@
 use Rattle.serde_json.specs.View.{view}
-use Rattle.ds_server.specs.Telling.{reply_view}
+use Rattle.ds_server.specs.LineAnswers.{reply_view}
 use Rattle.ds_server.specs.Session.{reads}
 use Rattle.ds_server.proofs.Answered.{no_value}
 use Rattle.ds_server.proofs.session.obey.Goals as goal

@@ -1,9 +1,9 @@
 use Rattle.std.proofs.Common.{subst, ℕ}
 use Rattle.serde_json.specs.View.{view}
 use Rattle.ds_formula.specs.declared.cells.Shape.{Shape}
-use Rattle.ds_server.specs.Requests.{IsCallOf}
+use Rattle.ds_server.specs.LineRequests.{IsCallOf}
 use Rattle.ds_server.specs.Asked.{request_view}
-use Rattle.ds_server.specs.Telling.{reply_view}
+use Rattle.ds_server.specs.LineAnswers.{reply_view}
 use Rattle.ds_server.proofs.Answered.{obeys_call, obeys_fault}
 use Rattle.ds_server.proofs.session.obey_value.Goals as goal
 

@@ -2,7 +2,7 @@ use Rattle.std.proofs.Common.{ℕ, [], ◌++◌, Option, refl, sym, subst, arith
 use Rattle.ds_streams.specs.Streams.{write_failed}
 use Rattle.ds_streams.proofs.Known.{Consumes-none, Consumes-both, Appends-none}
 use Rattle.ds_server.specs.Boards.{Seated}
-use Rattle.ds_server.specs.Texts.{said_text}
+use Rattle.ds_server.specs.SessionTexts.{said_text}
 use Rattle.ds_server.specs.Session.{Session, begins, Served}
 use Rattle.ds_server.proofs.Sessions.{turns_short, turns_long, session_more, session_stops, served, within, over, more_given, more_counted}
 use Rattle.ds_server.proofs.session.run_lines.Goals as goal

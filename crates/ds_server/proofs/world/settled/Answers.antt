@@ -4,9 +4,9 @@ use Rattle.ds_calls.specs.declared.settle.SettleEnd.TheVariants.{Left}
 use Rattle.ds_calls.specs.declared.settle.Turn.TheVariants.{Ends}
 use Rattle.ds_calls.proofs.Runs.{settling_runs, run_keeps_layout}
 use Rattle.ds_server.specs.declared.board.CallRefusal.{CallRefusal}
-use Rattle.ds_server.specs.Calls.{Report}
+use Rattle.ds_server.specs.BoardCalls.{Report}
 use Rattle.ds_server.specs.Replies.{Refused}
-use Rattle.ds_server.specs.Worlds.{Does, reports, is_refused, lacks}
+use Rattle.ds_server.specs.WorldBoards.{Does, reports, is_refused, lacks}
 use Rattle.ds_server.proofs.world.settled.Goals as goal
 
 pub reported-requires : goal.reported-requires

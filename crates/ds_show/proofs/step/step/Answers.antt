@@ -1,7 +1,7 @@
 use Rattle.std.proofs.Common.{ℕ, ◌≡◌, ◌+◌, arith, ap, sym, ◌∙◌, subst}
 use Rattle.std.specs.Prelude.{vec_capacity}
 use Rattle.std.proofs.lemmas.List.{get_or_default}
-use Rattle.ds_layout.specs.Sheet.{PerformsAt, memory}
+use Rattle.ds_layout.specs.SheetMemory.{PerformsAt, memory}
 use Rattle.ds_state.specs.Works.{PlainShow}
 use Rattle.ds_state.specs.Value.{WorldValue, IsReserved}
 use Rattle.ds_state.specs.declared.situation.Situation.TheVariants.{Idle}

@@ -1,5 +1,5 @@
 use Rattle.std.proofs.Common.{List, ℕ, subst}
-use Rattle.ds_stops.specs.Stops.{deeds_behind}
+use Rattle.ds_stops.specs.StopBlocks.{deeds_behind}
 use Rattle.ds_stops.specs.Reaching.{Tells}
 use Rattle.ds_stops.proofs.Telling.{tells_block}
 use Rattle.ds_stops.proofs.block.block.Goals as goal

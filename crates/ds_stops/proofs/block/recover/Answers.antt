@@ -1,7 +1,7 @@
 use Rattle.std.proofs.Common.{add-one}
 use Rattle.ds_core.specs.declared.event.Event.TheVariants.{BeginRecover}
 use Rattle.ds_play.specs.Orders.{Whole}
-use Rattle.ds_stops.specs.Stops.{recoveries}
+use Rattle.ds_stops.specs.StopBlocks.{recoveries}
 use Rattle.ds_stops.proofs.Telling.{tells_none, tells_more}
 use Rattle.ds_stops.proofs.block.recover.Goals as goal
 

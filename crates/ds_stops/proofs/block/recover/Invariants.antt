@@ -1,4 +1,4 @@
-use Rattle.ds_stops.specs.Stops.{recoveries}
+use Rattle.ds_stops.specs.StopBlocks.{recoveries}
 use Rattle.ds_stops.specs.Reaching.{Tells}
 use Rattle.ds_stops.proofs.block.recover.Given as goal
 

@@ -3,7 +3,7 @@ use Rattle.ds_core.specs.declared.event.Event.TheVariants.{BeginShow}
 use Rattle.ds_play.specs.Orders.{Whole, Settle}
 use Rattle.ds_play.specs.Doing.{plan}
 use Rattle.ds_play.specs.Plays.{Played}
-use Rattle.ds_stops.specs.Stops.{recoveries, deeds_behind}
+use Rattle.ds_stops.specs.StopBlocks.{recoveries, deeds_behind}
 use Rattle.ds_stops.specs.Reaching.{Tells}
 use Rattle.ds_stops.proofs.Telling.{tells_more, tells_behind, on_ok}
 use Rattle.ds_stops.proofs.block.tell_behind.Goals as goal

@@ -3,7 +3,7 @@ use Rattle.std.specs.Prelude.{Option}
 use Rattle.ds_play.specs.Orders.{command_view}
 use Rattle.ds_play.proofs.Driving.{if_some, if_none}
 use Rattle.ds_stops.specs.declared.turn.Left.{Left}
-use Rattle.ds_stops.specs.Turns.{doing_of}
+use Rattle.ds_stops.specs.ScriptTurns.{doing_of}
 use Rattle.ds_stops.specs.Reaching.{Ends, Halts, EndsOrder, HaltsOrder, OpensOrder}
 use Rattle.ds_stops.proofs.Carrying.{ends_order, halts_order}
 use Rattle.ds_stops.proofs.play.carry_up_to.Goals as goal

@@ -1,7 +1,7 @@
 use Rattle.std.proofs.Common.{◌<◌, subst}
 use Rattle.std.specs.Prelude.{Option, IfSome}
 use Rattle.ds_stops.specs.declared.turn.Left.{Left}
-use Rattle.ds_stops.specs.Turns.{Remains, IsWithin, doing_of, events_to_step}
+use Rattle.ds_stops.specs.ScriptTurns.{Remains, IsWithin, doing_of, events_to_step}
 use Rattle.ds_play.specs.Doing.{told}
 use Rattle.ds_stops.proofs.Playing.{sets_out, on_way, is_over, stands, below_by, fewer}
 use Rattle.ds_stops.proofs.play.play.Goals as goal

@@ -1,6 +1,6 @@
 use Rattle.std.proofs.Common.{◌≡◌, sym, subst, arith, add-one}
 use Rattle.std.specs.Prelude.{Result}
-use Rattle.ds_streams.specs.Lines.{ALine, next_of}
+use Rattle.ds_streams.specs.ScriptLines.{ALine, next_of}
 use Rattle.ds_streams.proofs.LinesLemmas.{next_shorter}
 use Rattle.ds_stops.specs.declared.reach.Short.{Short}
 use Rattle.ds_stops.specs.Reaching.{Reaches}

@@ -2,7 +2,7 @@ use Rattle.std.proofs.Common.{ℕ, List, [], ◌++◌, ◌∙◌, refl, subst}
 use Rattle.std.specs.Io.KnownBytes.{Appends}
 use Rattle.ds_streams.specs.Streams.{writer_of}
 use Rattle.ds_streams.proofs.Known.{Appends-none, Appends-both}
-use Rattle.ds_stops.specs.Stops.{no_block}
+use Rattle.ds_stops.specs.StopBlocks.{no_block}
 use Rattle.ds_stops.proofs.Ending.{blocks_more, ends_with}
 use Rattle.ds_stops.proofs.stops.write_blocks.Goals as goal
 

@@ -1,7 +1,7 @@
 use Rattle.std.proofs.Common.{ℕ, ◌≡◌, List}
 use Rattle.std.specs.Io.KnownBytes.{Appends}
 use Rattle.ds_streams.specs.Streams.{writer_of, write_failed}
-use Rattle.ds_stops.specs.Stops.{Blocks}
+use Rattle.ds_stops.specs.StopBlocks.{Blocks}
 use Rattle.ds_stops.proofs.stops.write_blocks.Given as goal
 
 abbrev pub invariant-loop-stops : goal.invariant-loop-stops

@@ -1,4 +1,4 @@
-use Rattle.ds_play.specs.Texts.{reply_text}
+use Rattle.ds_play.specs.ScriptTexts.{reply_text}
 use Rattle.ds_play.proofs.Calling.{refused_by}
 use Rattle.ds_stops.proofs.turn.after_begin.Goals as goal
 

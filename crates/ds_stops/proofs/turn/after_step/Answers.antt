@@ -1,7 +1,7 @@
 use Rattle.std.proofs.Common.{ap}
 use Rattle.ds_core.specs.declared.reply.Reply.TheVariants.{Stepped}
 use Rattle.ds_play.specs.declared.drive.Until.{Until}
-use Rattle.ds_play.specs.Texts.{reply_text}
+use Rattle.ds_play.specs.ScriptTexts.{reply_text}
 use Rattle.ds_play.specs.Doing.{stepped}
 use Rattle.ds_stops.proofs.turn.after_step.Goals as goal
 

@@ -1,7 +1,7 @@
 use Rattle.std.proofs.Common.{subst}
 use Rattle.ds_calls.specs.declared.settle.Turn.{Turn}
 use Rattle.ds_play.specs.Doing.{at_turn}
-use Rattle.ds_stops.specs.Turns.{Remains}
+use Rattle.ds_stops.specs.ScriptTurns.{Remains}
 use Rattle.ds_stops.proofs.turn.after_work.Goals as goal
 
 pub returns-clause-remains : goal.returns-clause-remains

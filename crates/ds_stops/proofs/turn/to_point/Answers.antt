@@ -1,7 +1,7 @@
 use Rattle.std.proofs.Common.{◌∙◌, Bool, sym, ap}
 use Rattle.std.specs.Prelude.{if◌then◌else◌}
 use Rattle.ds_play.specs.declared.drive.Until.TheVariants.{ToPoint}
-use Rattle.ds_play.specs.Texts.{at_text}
+use Rattle.ds_play.specs.ScriptTexts.{at_text}
 use Rattle.ds_play.specs.Doing.{Says, Drives}
 use Rattle.ds_stops.proofs.turn.to_point.Goals as goal
 

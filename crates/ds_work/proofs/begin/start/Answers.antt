@@ -3,7 +3,7 @@ use Rattle.ds_formula.specs.Cells.{index_of}
 use Rattle.ds_state.specs.Works.{PlainWork}
 use Rattle.ds_state.specs.Value.{WorldValue, world_of}
 use Rattle.ds_state.specs.declared.situation.Situation.TheVariants.{Idle}
-use Rattle.ds_work.specs.WorkEvents.{IsAskedFor}
+use Rattle.ds_work.specs.WorkTakes.{IsAskedFor}
 use Rattle.ds_work.proofs.Driving.{begun_kept}
 use Rattle.ds_work.proofs.begin.start.Goals as goal
 

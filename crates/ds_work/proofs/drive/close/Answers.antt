@@ -1,12 +1,12 @@
 use Rattle.std.proofs.Common.{ℕ, ◌≡◌, ◌<◌, ◌∙◌, length, refl, ap, sym, subst, arith}
-use Rattle.ds_layout.specs.Sheet.{PerformsAt, memory}
+use Rattle.ds_layout.specs.SheetMemory.{PerformsAt, memory}
 use Rattle.ds_state.specs.Works.{PlainWork}
 use Rattle.ds_state.specs.Value.{WorldValue, world_of}
 use Rattle.ds_state.specs.declared.situation.Situation.TheVariants.{Idle}
 use Rattle.ds_state.specs.declared.work.WorkStage.{WorkStage}
 use Rattle.ds_state.specs.declared.work.WorkStage.TheVariants.{Answer}
 use Rattle.ds_work.specs.WorkSteps.{access_at, after, IsPlainStep, StepsAt}
-use Rattle.ds_work.specs.WorkEvents.{IsIn, answers}
+use Rattle.ds_work.specs.WorkTakes.{IsIn, answers}
 use Rattle.ds_work.proofs.Driving.{put, mine, steps_at, step_kept, answers_at}
 use Rattle.ds_work.proofs.drive.close.Goals as goal
 

@@ -6,7 +6,7 @@ use Rattle.ds_state.specs.Value.{WorldValue, world_of}
 use Rattle.ds_state.specs.declared.situation.Situation.TheVariants.{Idle}
 use Rattle.ds_state.specs.declared.work.WorkStage.TheVariants.{Read}
 use Rattle.ds_work.specs.Reading.{IsReading}
-use Rattle.ds_work.specs.WorkEvents.{IsIn}
+use Rattle.ds_work.specs.WorkTakes.{IsIn}
 use Rattle.ds_work.proofs.Driving.{read_takes, read_kept, reads_at}
 use Rattle.ds_work.proofs.drive.read_on.Goals as goal
 

@@ -2,12 +2,12 @@ use Rattle.std.proofs.Common.{ℕ, ◌≡◌, ◌<◌, ◌∙◌, length, sym, s
 use Rattle.std.proofs.lemmas.List.{get_or_default}
 use Rattle.ds_words.specs.declared.access.Access.{Access}
 use Rattle.ds_layout.specs.declared.place.Place.{Place}
-use Rattle.ds_layout.specs.Sheet.{CanPerform, PerformsAt, memory}
+use Rattle.ds_layout.specs.SheetMemory.{CanPerform, PerformsAt, memory}
 use Rattle.ds_state.specs.Works.{PlainWork}
 use Rattle.ds_state.specs.Value.{WorldValue, world_of}
 use Rattle.ds_state.specs.declared.situation.Situation.TheVariants.{Idle}
 use Rattle.ds_work.specs.WorkSteps.{access_at, after}
-use Rattle.ds_work.specs.WorkEvents.{IsIn, steps}
+use Rattle.ds_work.specs.WorkTakes.{IsIn, steps}
 use Rattle.ds_work.proofs.Driving.{mine, perform_at, steps_at, step_kept, steps_plain, steps_not_answer, steps_after}
 use Rattle.ds_work.proofs.drive.step_on.Goals as goal
 

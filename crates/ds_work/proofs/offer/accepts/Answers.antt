@@ -7,7 +7,7 @@ use Rattle.ds_state.specs.Works.{PlainWork}
 use Rattle.ds_state.specs.Value.{WorldValue, world_of}
 use Rattle.ds_state.specs.declared.situation.Situation.TheVariants.{Idle, Working}
 use Rattle.ds_work.specs.WorkSteps.{offered}
-use Rattle.ds_work.specs.WorkEvents.{WaitsFor}
+use Rattle.ds_work.specs.WorkTakes.{WaitsFor}
 use Rattle.ds_work.proofs.Driving.{is_offered, offered_kept}
 use Rattle.ds_work.proofs.offer.accepts.Goals as goal
 

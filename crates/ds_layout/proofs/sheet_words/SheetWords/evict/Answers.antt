@@ -2,7 +2,7 @@ use Rattle.std.proofs.Common.{ℕ, sym, subst}
 use Rattle.ds_words.specs.Memory.{EvictsAt}
 use Rattle.ds_words.specs.Words.{memory_of}
 use Rattle.ds_layout.specs.Places.{IsPlace}
-use Rattle.ds_layout.specs.Sheet.{SheetValue, memory, memory_at}
+use Rattle.ds_layout.specs.SheetMemory.{SheetValue, memory, memory_at}
 use Rattle.ds_layout.proofs.Sheet.{evicts_at}
 use Rattle.ds_layout.proofs.sheet_words.SheetWords.evict.Goals as goal
 

@@ -2,7 +2,7 @@ use Rattle.std.proofs.Common.{sym, subst}
 use Rattle.ds_words.specs.Memory.{IsFresh}
 use Rattle.ds_words.specs.Words.{WordsValue, memory_of, fresh_words}
 use Rattle.ds_words.proofs.Laws.{IsFresh-fresh_words}
-use Rattle.ds_layout.specs.Sheet.{memory_at}
+use Rattle.ds_layout.specs.SheetMemory.{memory_at}
 use Rattle.ds_layout.proofs.Sheet.{fresh_at}
 use Rattle.ds_layout.proofs.sheet_words.SheetWords.new.Goals as goal
 

@@ -2,7 +2,7 @@ use Rattle.std.proofs.Common.{ℕ, ap, sym, subst, ◌∙◌}
 use Rattle.ds_words.specs.Words.{memory_of, word_at}
 use Rattle.ds_words.specs.declared.words.Word.{Word}
 use Rattle.ds_layout.specs.Places.{IsPlace}
-use Rattle.ds_layout.specs.Sheet.{SheetValue, memory}
+use Rattle.ds_layout.specs.SheetMemory.{SheetValue, memory}
 use Rattle.ds_layout.proofs.Sheet.{side_at_place}
 use Rattle.ds_layout.proofs.sheet_words.SheetWords.word.Goals as goal
 

@@ -1,4 +1,4 @@
-use Rattle.ds_server.specs.Worlds.{joins}
+use Rattle.ds_server.specs.WorldBoards.{joins}
 use Rattle.ds_server.proofs.world.WorldBoard.join.Goals as goal
 
 pub returns-clause-does : goal.returns-clause-does

@@ -1,6 +1,6 @@
 use Rattle.ds_core.specs.declared.event.Event.TheVariants.{BeginRecover}
 use Rattle.ds_calls.proofs.Runs.{whole_runs}
-use Rattle.ds_server.specs.Worlds.{tells}
+use Rattle.ds_server.specs.WorldBoards.{tells}
 use Rattle.ds_server.proofs.Worlds.{stays_seated}
 use Rattle.ds_server.proofs.world.WorldBoard.last.Goals as goal
 

@@ -1,4 +1,4 @@
-use Rattle.ds_server.specs.Worlds.{leaves}
+use Rattle.ds_server.specs.WorldBoards.{leaves}
 use Rattle.ds_server.proofs.world.WorldBoard.leave.Goals as goal
 
 pub returns : goal.returns

@@ -1,4 +1,4 @@
-use Rattle.ds_server.specs.Calls.{Report}
+use Rattle.ds_server.specs.BoardCalls.{Report}
 use Rattle.ds_server.specs.Replies.{report_view}
 use Rattle.ds_server.proofs.Runs.{does_runs}
 use Rattle.ds_server.proofs.Worlds.{stays_seated}

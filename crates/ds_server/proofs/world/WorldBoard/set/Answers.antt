@@ -1,7 +1,7 @@
 use Rattle.ds_core.specs.declared.event.Event.TheVariants.{BeginEdit}
 use Rattle.ds_calls.specs.Whole.{request}
 use Rattle.ds_calls.proofs.Runs.{whole_runs}
-use Rattle.ds_server.specs.Worlds.{sets}
+use Rattle.ds_server.specs.WorldBoards.{sets}
 use Rattle.ds_server.proofs.Worlds.{stays_seated}
 use Rattle.ds_server.proofs.world.WorldBoard.set.Goals as goal
 

@@ -23,7 +23,7 @@ use Rattle.ds_edit.specs.declared.answer.Other.{Other}
 use Rattle.ds_edit.specs.declared.answer.Told.{Told}
 use Rattle.ds_core.specs.declared.reply.Reply.{Reply}
 use Rattle.ds_core.specs.declared.reply.Reply.TheVariants.{Begun, Entered, Refused, Stepped, Answered, WrongTask, Evicted, Stopped, Crashed, NotEnabled}
-use Rattle.ds_streams.specs.Answers.{done_text, refused_text, settled_text}
+use Rattle.ds_streams.specs.AnswerTexts.{done_text, refused_text, settled_text}
 use Rattle.ds_play.specs.declared.point.PointName.{PointName}
 use Rattle.ds_play.specs.Points.{name_of_point}
 

@@ -20,7 +20,7 @@ use Rattle.ds_server.specs.declared.board.EditEnd.{EditEnd}
 use Rattle.ds_server.specs.declared.board.EditEnd.TheVariants as edit
 use Rattle.ds_server.specs.declared.board.ReportEnd.{ReportEnd}
 use Rattle.ds_server.specs.declared.board.ReportEnd.TheVariants as report
-use Rattle.ds_server.specs.Calls.{Call, Join, Set, Report, Last, Leave}
+use Rattle.ds_server.specs.BoardCalls.{Call, Join, Set, Report, Last, Leave}
 use Rattle.ds_server.specs.Replies.{Said, Left, joined_view, set_view, report_view, last_view}
 use Rattle.ds_server.specs.Boards.{Rules}
 

@@ -10,7 +10,7 @@ use Rattle.ds_layout.specs.declared.announcement.Phase.{Phase}
 use Rattle.ds_layout.specs.declared.announcement.Phase.TheVariants as phase
 use Rattle.ds_layout.specs.Head.{head_word, head_of, next_head}
 use Rattle.ds_layout.specs.Header.{header_word}
-use Rattle.ds_layout.specs.Text.{part_word}
+use Rattle.ds_layout.specs.TextWords.{part_word}
 use Rattle.ds_layout.specs.Announcement.{announcement_word}
 use Rattle.ds_layout.specs.Bits.{bit_of, part_with}
 use Rattle.ds_state.specs.Edits.{PlainEdit, text_parts}

@@ -8,7 +8,7 @@ use Rattle.ds_state.specs.Value.{WorldValue, world_of}
 use Rattle.ds_state.specs.Events.{Evicts}
 use Rattle.ds_state.specs.declared.situation.Situation.TheVariants.{Editing, Recovering, Showing}
 use Rattle.ds_core.specs.EditEvents.{SameReports, EditStepsBy}
-use Rattle.ds_work.specs.WorkEvents as work_events
+use Rattle.ds_work.specs.WorkTakes as work_events
 use Rattle.ds_core.specs.ReportEvents.{ReportStepsBy}
 use Rattle.ds_core.specs.WorkEvents.{WorkStepsBy}
 use Rattle.ds_core.specs.RecoveryEvents.{RecoveryStepsBy}

@@ -11,7 +11,7 @@ use Rattle.ds_server.specs.declared.request.Verb.{Verb}
 use Rattle.ds_server.specs.declared.request.Verb.TheVariants as verb
 use Rattle.ds_server.specs.declared.request.LineFault.{LineFault}
 use Rattle.ds_server.specs.declared.request.LineFault.TheVariants as fault
-use Rattle.ds_server.specs.Calls.{Call, Join, Set, Report, Last, Leave}
+use Rattle.ds_server.specs.BoardCalls.{Call, Join, Set, Report, Last, Leave}
 
 -- ---- JSON
 

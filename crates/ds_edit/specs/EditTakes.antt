@@ -1,14 +1,14 @@
 -- The events of edits, from world to world.
 use Rattle.std.specs.Prelude.{ℕ, ◌≡◌, ◌≢◌, ◌+◌, ◌==◌, ◌++◌, if◌then◌else◌, List, [], ◌∷◌, length, Option, Some, None}
 use Rattle.ds_words.specs.Memory.{SameMemory}
-use Rattle.ds_layout.specs.Sheet.{PerformsAt}
+use Rattle.ds_layout.specs.SheetMemory.{PerformsAt}
 use Rattle.ds_state.specs.Edits.{PlainEdit}
 use Rattle.ds_state.specs.World.{Edit, edit_of, Issue, World}
 use Rattle.ds_state.specs.declared.stage.Stage.{Stage}
 use Rattle.ds_state.specs.declared.stage.Stage.TheVariants.{StoreHeader, Swap, Answer}
 use Rattle.ds_state.specs.declared.situation.Situation.{Situation}
 use Rattle.ds_state.specs.declared.situation.Situation.TheVariants.{Idle, Editing}
-use Rattle.ds_edit.specs.Steps.{access_at, next_at}
+use Rattle.ds_edit.specs.EditSteps.{access_at, next_at}
 
 -- what the process does after the step: its answer ends the edit
 abbrev pub after : PlainEdit → Stage → ℕ → Situation
