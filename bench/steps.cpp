@@ -1,7 +1,7 @@
 // The steps of edits and works as a plain program makes them: what bench/run.sh compares whole calls of `dsheet run` with.
 //
-// It reads a script of `sheet`, `set` and `work` lines, makes the steps of each call on two arrays of words, those in the
-// cache and those that persist, and prints the answers. Texts are sums of references and numbers. Nothing else runs beside
+// It reads a script of `sheet`, `set`, `work` and `settle` lines, makes the steps of each call on two arrays of words, those in the
+// cache and those that persist, and prints the answers. Texts are sums of references, ranges and numbers. Nothing else runs beside
 // a call here, so a step that could fail is made but its failure is not handled.
 #include <algorithm>
 #include <cctype>
@@ -71,12 +71,13 @@ class Sheet {
         swap(marks + cell, mark, held), flush(marks + cell), back();
         Text read = read_text(cell);
         uint64_t sum = uint64_t(read.constant), height = 0;
-        for (int reference : read.references) {
-            uint64_t value = cached[values + reference], kind = cached[kinds + reference];
-            for (int term : read.terms)
-                if (term == reference) sum += kind % 8 == 1 ? value : 0;
+        std::vector<uint64_t> shown(read.references.size()); // what each input counts
+        for (size_t i = 0; i < shown.size(); i++) {
+            uint64_t value = cached[values + read.references[i]], kind = cached[kinds + read.references[i]];
+            shown[i] = kind % 8 == 1 ? value : 0;
             height = std::max(height, kind / 8 + 1);
         }
+        for (int term : read.terms) sum += shown[std::lower_bound(read.references.begin(), read.references.end(), term) - read.references.begin()];
         uint64_t kind = height * 8 + 1;
         changed = cached[values + cell] != sum || cached[kinds + cell] != kind;
         if (changed) {
@@ -88,15 +89,26 @@ class Sheet {
         return true;
     }
 
-    // a text that is a number, or `=` and a sum of references and numbers
+    // works on each marked cell, pass by pass, until a pass finds none
+    void settle(int process) {
+        for (bool found = true; found;) {
+            found = false;
+            for (int cell = 0; cell < cells; cell++)
+                if (bool changed = false; cached[marks + cell] & 1) found = work(process, cell, changed);
+        }
+    }
+
+    // a text that is a number, or `=` and a sum of references, ranges and numbers
     Text read(std::string_view text) const {
         Text read;
         size_t at = text.substr(0, 1) == "=" ? 1 : 0;
         while (at < text.size()) {
             if (text[at] == '[') {
-                int column = toupper(text[at + 2]) - 'A', row = 0;
-                for (at += 3; isdigit(text[at]); at++) row = row * 10 + text[at] - '0';
-                read.terms.push_back((row - 1) * columns + column), at++;
+                int first = corner(text, ++at), last = first;
+                if (text[at] == ':') last = corner(text, ++at);
+                for (int row = first / columns; row <= last / columns; row++)
+                    for (int column = first % columns; column <= last % columns; column++) read.terms.push_back(row * columns + column);
+                at++;
             } else if (isdigit(text[at])) {
                 int64_t number = 0;
                 for (; at < text.size() && isdigit(text[at]); at++) number = number * 10 + text[at] - '0';
@@ -112,6 +124,13 @@ class Sheet {
     }
 
   private:
+    // the cell of a corner of a reference, as `.A1`
+    int corner(std::string_view text, size_t &at) const {
+        int column = toupper(text[at + 1]) - 'A', row = 0;
+        for (at += 2; isdigit(text[at]); at++) row = row * 10 + text[at] - '0';
+        return (row - 1) * columns + column;
+    }
+
     struct Counted {
         int process, number, cell;
         std::string text;
@@ -208,6 +227,9 @@ std::string carry_out(std::string_view script) {
             bool changed = false;
             bool marked = sheet.work(process, cell, changed);
             output += std::to_string(process) + (!marked ? " notdirty\n" : changed ? " published changed\n" : " published same\n");
+        } else if (word == "settle") {
+            sheet.settle(number_of(line));
+            output += "clean\n";
         }
     }
     return output;

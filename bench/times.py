@@ -2,7 +2,8 @@
 """Prints how long programs take for the sheets of a folder, as medians of interleaved runs, and ratios.
 
 times.py plain PROGRAM BASELINE FOLDER RUNS     `dsheet report` beside the plain program, on every grid
-times.py scripts PROGRAM FOLDER RUNS            `dsheet run` beside `dsheet report`, and ssconvert where there is one
+times.py scripts PROGRAM STEPS FOLDER RUNS      `dsheet run` beside `dsheet report`, the plain program of the steps, and
+                                                ssconvert where there is one
 times.py calls PROGRAM BASELINE FOLDER RUNS     `dsheet run` beside the plain program of the steps, on scripts of calls
 """
 import os
@@ -59,22 +60,34 @@ def plain(program, baseline, folder, runs):
         print(f"| {name} | {ours:.2f} | {theirs:.2f} | {ours / theirs:.2f} | {our_least / their_least:.2f} | {ours / one:.1f} |")
 
 
-def scripts(program, folder, runs):
+def same_beginning(program, baseline, path):
+    """The plain program reports nothing: its answers are the first ones of the program's."""
+    if not answer(program, path).startswith(answer(baseline, path)):
+        sys.exit(f"{path}: the programs answer differently")
+
+
+def scripts(program, steps, folder, runs):
     names = ["chain", "chain_backwards", "chain_shuffled", "all_above", "constants"]
+    for name in names:
+        same_beginning([program, "run"], [steps], f"{folder}/{name}.script")
     jobs = {("report", name): ([program, "report"], f"{folder}/{name}.csv") for name in names}
     jobs.update({("run", name): ([program, "run"], f"{folder}/{name}.script") for name in names})
+    jobs.update({("plain", name): ([steps], f"{folder}/{name}.script") for name in names})
     other = shutil.which("ssconvert")
     if other:
         jobs.update({("other", name): ([other, f"{folder}/{name}.csv", f"{folder}/{name}.out.csv"], os.devnull) for name in names})
     else:
-        print("ssconvert is not here (Debian: apt-get install gnumeric); its column stays empty")
+        print("ssconvert is not here (Debian: apt-get install gnumeric); its columns stay empty")
     times = measured(jobs, runs)
-    print("| Sheet | report, ms | run, ms | run to report | ssconvert, ms | report to ssconvert |")
-    print("|---|---|---|---|---|---|")
+    print("| Sheet | report, ms | run, ms | plain steps, ms | run to plain steps | ssconvert, ms | report to ssconvert | run to ssconvert |")
+    print("|---|---|---|---|---|---|---|---|")
     for name in names:
-        report, run = times["report", name][0], times["run", name][0]
-        others = f"{times['other', name][0]:.0f} | {report / times['other', name][0]:.3f}" if other else " | "
-        print(f"| {name} | {report:.2f} | {run:.2f} | {run / report:.1f} | {others} |")
+        report, run, plain_steps = (times[which, name][0] for which in ("report", "run", "plain"))
+        others = " | | "
+        if other:
+            theirs = times["other", name][0]
+            others = f"{theirs:.0f} | {report / theirs:.3f} | {run / theirs:.3f}"
+        print(f"| {name} | {report:.2f} | {run:.2f} | {plain_steps:.2f} | {run / plain_steps:.1f} | {others} |")
 
 
 def of_calls(program, baseline, folder, runs):
