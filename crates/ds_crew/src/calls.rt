@@ -1,6 +1,6 @@
 //! The calls of a locked sheet: each event under the lock, each evaluation outside of it.
 
-ghost use Rattle.std.specs.Prelude.{◌≡◌, ◌<◌, ◌+◌, IfSome};
+ghost use Rattle.std.specs.Prelude.{◌≡◌, ◌<◌, ◌≤◌, ◌+◌, IfSome};
 ghost use Rattle.ds_layout.specs.Places.{cells_of};
 ghost use Rattle.ds_core.specs.Counts.{IsReplyTo, done_of};
 ghost use Rattle.ds_core.specs.declared.event.Event.TheVariants.{BeginRecover};
@@ -78,7 +78,7 @@ impl<L: Ledger, M: Ledger> LockedSheet<L, M> {
     /// The first cell that is marked, from this one on, by its number; none where the sheet has none.
     /// No event.
     pub fn next_marked<R: Wait>(&self, rt: &R, from: usize) -> Option<usize>
-        ensures { IfSome result (λ cell. cell < cells_of self.now.layout) }
+        ensures { IfSome result (λ cell. (from ≤ cell) × (cell < cells_of self.now.layout)) }
     {
         let cell = self.kept.lock(rt).next_marked(from)?;
         if cell < self.layout.cells() {

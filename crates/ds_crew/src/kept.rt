@@ -1,6 +1,6 @@
 //! What lies under the lock.
 
-ghost use Rattle.std.specs.Prelude.{◌≡◌, ◌+◌, ◌<◌, ◌≤◌, length, vec_capacity};
+ghost use Rattle.std.specs.Prelude.{◌≡◌, ◌+◌, ◌<◌, ◌≤◌, IfSome, length, vec_capacity};
 ghost use Rattle.ds_layout.specs.Places.{cells_of};
 ghost use Rattle.ds_edit.specs.declared.answer.Answer.TheVariants.{Settled};
 ghost use Rattle.ds_core.specs.Takes.{Fits};
@@ -144,7 +144,9 @@ impl<L: Ledger, M: Ledger> Kept<L, M> {
     }
 
     /// The first cell that is marked, from this one on, by its number.
-    pub(crate) fn next_marked(&self, from: usize) -> Option<usize> {
+    pub(crate) fn next_marked(&self, from: usize) -> Option<usize>
+        ensures { IfSome result (λ cell. from ≤ cell) }
+    {
         for cell in from..self.world.words.layout().cells() {
             if mark(&self.world.words, cell).state() == State::Marked {
                 return Some(cell);
