@@ -1,4 +1,4 @@
-// Clients of a server of two columns, two rows and two processes: what they are answered, and the sheet at the end.
+//! Clients of a server of two columns, two rows and two processes: what they are answered, and the sheet at the end.
 
 ghost use Rattle.std.specs.Prelude.{◌≡◌, IfOk};
 

@@ -27,7 +27,13 @@ announcement_with number code =
     else (if code == 3 then Some (record { number = number; phase = NotDone })
     else None))
 
+-- the number after the one in an announcement's word: 0 where nothing is announced
+abbrev pub number_after : ℕ → ℕ
+number_after word = word / 4
+
 -- the announcement that the word is: none where the phase is 0 or the number is no record's
 abbrev pub announcement_of : ℕ → Option Announcement
 announcement_of word =
-    if word / 4 == 0 || nat_lt RECORDS (word / 4) then None else announcement_with (word / 4 - 1) (word % 4)
+    if number_after word == 0 || nat_lt RECORDS (number_after word)
+    then None
+    else announcement_with (number_after word - 1) (word % 4)

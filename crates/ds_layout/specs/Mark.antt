@@ -72,6 +72,10 @@ freed_after word = (generation_of word + 1) * 32
 abbrev pub held_after : ℕ → ℕ → ℕ
 held_after process word = (generation_of word + 1) * 32 + (process + 1) * 2
 
+-- the same mark's word, dirty
+abbrev pub marked : ℕ → ℕ
+marked word = tenure word * 2 + 1
+
 -- what a mark's word says in a sheet with so many processes
 abbrev pub mark_of : ℕ → ℕ → Mark
 mark_of processes word = record {

@@ -7,13 +7,12 @@ use Rattle.std.proofs.lemmas.Bool.Decides.{eqb_tells}
 use Rattle.ds_words.specs.Memory.{SameMemory, FlushesAt, WritesBack}
 use Rattle.ds_layout.specs.Places.{class_of, cells_of}
 use Rattle.ds_layout.specs.declared.place.Place.TheVariants.{Version, Mark, Value, Kind}
-use Rattle.ds_state.specs.Works.{PlainRecovery}
-use Rattle.ds_state.specs.RecoverStages.{HELD_YOUNG}
+use Rattle.ds_state.specs.Works.{PlainRecovery, HELD_MOST}
 use Rattle.ds_state.specs.World.{World}
 use Rattle.ds_state.specs.Owing.{entry, HoldsNone, StandsIn}
-use Rattle.ds_layout.specs.Mark.{IsHeldBy}
+use Rattle.ds_layout.specs.Mark.{IsHeldBy, marked}
 use Rattle.ds_state.specs.KnownWork.{HasMark}
-use Rattle.ds_state.specs.KnownRecovery.{HoldsFrom, Holding, marked, value_now, kind_now}
+use Rattle.ds_state.specs.KnownRecovery.{HoldsFrom, Holding, value_now, kind_now}
 use Rattle.ds_state.specs.CallsFit.{RecoveryFits}
 use Rattle.ds_state.specs.Rely.{Grows, Keeps}
 use Rattle.ds_state.specs.Sound.{IsSound}
@@ -59,16 +58,16 @@ tells_some row cells d d' c is inside bit low =
     omega arith
 
 -- whether a mark reads as held by the process
-held_cases : (p word : ℕ) → ((reads_held p word ≡ true) × (word / 2 % 16 ≡ p + 1) × (word / 32 ≤ HELD_YOUNG)) ⊎ ((reads_held p word ≡ false) × (word / 2 % 16 ≡ p + 1 → HELD_YOUNG < word / 32))
+held_cases : (p word : ℕ) → ((reads_held p word ≡ true) × (word / 2 % 16 ≡ p + 1) × (word / 32 ≤ HELD_MOST)) ⊎ ((reads_held p word ≡ false) × (word / 2 % 16 ≡ p + 1 → HELD_MOST < word / 32))
 held_cases p word = elim (eqb_tells (word / 2 % 16) (p + 1)) [
-  | inr apart ↦ inr (ap (λ (b : Bool). if b then nat_lt (word / 32) (HELD_YOUNG + 1) else false) apart.0, λ by. absurd (apart.1 by))
-  | inl mine ↦ by (nat_lt (word / 32) (HELD_YOUNG + 1)) refl mine.1 (ap (λ (b : Bool). if b then nat_lt (word / 32) (HELD_YOUNG + 1) else false) mine.0)
+  | inr apart ↦ inr (ap (λ (b : Bool). if b then nat_lt (word / 32) (HELD_MOST + 1) else false) apart.0, λ by. absurd (apart.1 by))
+  | inl mine ↦ by (nat_lt (word / 32) (HELD_MOST + 1)) refl mine.1 (ap (λ (b : Bool). if b then nat_lt (word / 32) (HELD_MOST + 1) else false) mine.0)
 ]
   where
-    by : (b : Bool) → nat_lt (word / 32) (HELD_YOUNG + 1) ≡ b → word / 2 % 16 ≡ p + 1 → reads_held p word ≡ nat_lt (word / 32) (HELD_YOUNG + 1)
-        → ((reads_held p word ≡ true) × (word / 2 % 16 ≡ p + 1) × (word / 32 ≤ HELD_YOUNG)) ⊎ ((reads_held p word ≡ false) × (word / 2 % 16 ≡ p + 1 → HELD_YOUNG < word / 32))
-    by true young mine is = inl (is ∙ young, mine, let l = ltb-true (word / 32) (HELD_YOUNG + 1) young in omega arith)
-    by false old mine is = inr (is ∙ old, λ h. let l = ltb-false (word / 32) (HELD_YOUNG + 1) old in omega arith)
+    by : (b : Bool) → nat_lt (word / 32) (HELD_MOST + 1) ≡ b → word / 2 % 16 ≡ p + 1 → reads_held p word ≡ nat_lt (word / 32) (HELD_MOST + 1)
+        → ((reads_held p word ≡ true) × (word / 2 % 16 ≡ p + 1) × (word / 32 ≤ HELD_MOST)) ⊎ ((reads_held p word ≡ false) × (word / 2 % 16 ≡ p + 1 → HELD_MOST < word / 32))
+    by true young mine is = inl (is ∙ young, mine, let l = ltb-true (word / 32) (HELD_MOST + 1) young in omega arith)
+    by false old mine is = inr (is ∙ old, λ h. let l = ltb-false (word / 32) (HELD_MOST + 1) old in omega arith)
 
 -- a cell that is told is one of the sheet
 pub told_below : (row : List ℕ) (n d k : ℕ) → told_from row n d ≡ Some k → k < d + n
@@ -200,7 +199,7 @@ module _ (e : PlainRecovery) (word : ℕ) (old new : World) (sound : IsSound old
   ]
     where
       -- no mark that is held has so great a generation
-      other : (word / 2 % 16 ≡ p + 1 → HELD_YOUNG < word / 32) → word / 2 % 16 ≢ p + 1
+      other : (word / 2 % 16 ≡ p + 1 → HELD_MOST < word / 32) → word / 2 % 16 ≢ p + 1
       other great by =
           let seen = t.memory.0 in
           let young = ((sound.words (Mark c)).holder p (subst (λ (x : ℕ). IsHeldBy p x) seen by)).2 in

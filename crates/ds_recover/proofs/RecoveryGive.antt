@@ -3,15 +3,14 @@ use Rattle.std.proofs.Common.{ℕ, ◌≡◌, ◌≢◌, ◌≤◌, ◌+◌, ◌
 use Rattle.std.proofs.lemmas.Bool.{cases_eq}
 use Rattle.ds_words.specs.Memory.{StoresAt}
 use Rattle.ds_layout.specs.declared.place.Place.TheVariants.{Head, Mark, Value, Kind, Announce}
-use Rattle.ds_state.specs.Works.{PlainRecovery}
+use Rattle.ds_state.specs.Works.{PlainRecovery, HELD_MOST}
 use Rattle.ds_state.specs.RecoverStages.{IsFreeing}
 use Rattle.ds_state.specs.World.{World}
-use Rattle.ds_state.specs.Owing.{HELD_MOST, IsMark, IsHeld, RecoveryOwes, RecoveryParts, IsPending}
-use Rattle.ds_layout.specs.Mark.{IsClean, IsHeldBy}
+use Rattle.ds_state.specs.Owing.{IsMark, IsHeld, RecoveryOwes, RecoveryParts, IsPending}
+use Rattle.ds_layout.specs.Mark.{IsClean, IsHeldBy, freed_after}
 use Rattle.ds_state.specs.KnownRecovery.{Holding, HoldsFrom}
 use Rattle.ds_state.specs.CallsFit.{CallFits, RecoveryFits}
 use Rattle.ds_state.specs.WordsFit.{WordFits}
-use Rattle.ds_state.specs.Telling.{let_go}
 use Rattle.ds_state.specs.Rely.{Grows, Keeps}
 use Rattle.ds_state.specs.Sound.{IsSound}
 use Rattle.ds_state.specs.declared.work.RecoverStage.{RecoverStage}
@@ -27,7 +26,7 @@ use Rattle.ds_recover.proofs.RecoveryFrame.{Passes, recovery_mine, recovery_apar
 
 -- the mark that gives a cell back
 abbrev pub given : ℕ → ℕ
-given mark = let_go mark + 1
+given mark = freed_after mark + 1
 
 pub given_free : (mark q : ℕ) → IsHeldBy q (given mark) → ⊥
 given_free mark q by = omega arith

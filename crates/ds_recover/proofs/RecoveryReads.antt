@@ -3,7 +3,7 @@ use Rattle.std.proofs.Common.{ℕ, ◌≡◌, ◌≤◌, ◌-◌, length, refl, 
 use Rattle.std.specs.Prelude.{Bool, Option, bit_or, nat_lt, if◌then◌else◌}
 use Rattle.std.proofs.lemmas.Bool.{ltb-true, ltb-false}
 use Rattle.ds_layout.specs.declared.mark.TheConstants.{DIRTY}
-use Rattle.ds_state.specs.KnownRecovery.{marked}
+use Rattle.ds_layout.specs.Mark.{marked}
 use Rattle.ds_state.specs.Telling.{told_from}
 use Rattle.ds_state.proofs.Dirty.{or_dirty}
 use Rattle.ds_state.specs.Works.{PlainRecovery}

@@ -12,18 +12,18 @@ use Rattle.ds_layout.specs.declared.head.Head.{Head}
 use Rattle.ds_layout.specs.declared.header.Header.{Header}
 use Rattle.ds_layout.specs.declared.mark.TheConstants.{DIRTY}
 use Rattle.ds_layout.specs.Announcement.{announcement_of}
+use Rattle.ds_layout.specs.Announcement.{number_after}
 use Rattle.ds_layout.specs.Head.{head_of}
 use Rattle.ds_layout.specs.Header.{header_of}
 use Rattle.ds_layout.specs.SheetMemory.{PerformsAt}
 use Rattle.ds_layout.specs.Bits.{parts_for, bit_in}
-use Rattle.ds_layout.specs.Mark.{is_held_by, generation_of}
-use Rattle.ds_state.specs.Works.{PlainRecovery}
-use Rattle.ds_state.specs.RecoverStages.{HELD_YOUNG}
+use Rattle.ds_layout.specs.Mark.{is_held_by, generation_of, marked, freed_after}
+use Rattle.ds_state.specs.Works.{PlainRecovery, HELD_MOST}
 use Rattle.ds_state.specs.World.{Edit, Issue, World, announcement, done_place, phase_among}
 use Rattle.ds_state.specs.Owing.{StandsIn}
 use Rattle.ds_state.specs.Known.{AreBelow, IsSafelyIn}
-use Rattle.ds_state.specs.KnownRecovery.{marked, phase_for}
-use Rattle.ds_state.specs.Telling.{let_go, told_from}
+use Rattle.ds_state.specs.KnownRecovery.{phase_for}
+use Rattle.ds_state.specs.Telling.{told_from}
 use Rattle.ds_recover.specs.declared.machine.Effect.{Effect}
 use Rattle.ds_recover.specs.declared.machine.Effect.TheVariants.{GoesOn, Answers}
 use Rattle.ds_recover.specs.declared.machine.RecoveryEnd.{RecoveryEnd}
@@ -41,7 +41,7 @@ parts_of e = parts_for e.cells
 
 -- the number of the edit that the recovery saw announced
 abbrev pub number_of : PlainRecovery → ℕ
-number_of e = e.announcement / 4 - 1
+number_of e = number_after e.announcement - 1
 
 -- the access of a stage of telling, for a cell that is given back
 abbrev pub spread_access : ℕ → Spread → Access Place
@@ -58,8 +58,8 @@ access_at e (FlushKind cell) = acts.Flush (place.Kind cell)
 access_at e (BackValue cell) = acts.Back
 access_at e (BackKind cell) = acts.Back
 access_at e (Telling cell spread) = spread_access cell spread
-access_at e (Give cell) = acts.SwapIf (place.Mark cell) e.mark (let_go e.mark + 1)
-access_at e (GiveDirty cell) = acts.SwapIf (place.Mark cell) (marked e.mark) (let_go e.mark + 1)
+access_at e (Give cell) = acts.SwapIf (place.Mark cell) e.mark (freed_after e.mark + 1)
+access_at e (GiveDirty cell) = acts.SwapIf (place.Mark cell) (marked e.mark) (freed_after e.mark + 1)
 access_at e (FlushGiven cell) = acts.Flush (place.Mark cell)
 access_at e (BackGiven cell) = acts.Back
 access_at e LoadAnnounce = acts.Load (place.Announce e.process)
@@ -86,7 +86,7 @@ looks_from cells cell = if nat_lt cell cells then LoadMark cell else LoadAnnounc
 
 -- whether a mark says that the process holds the cell; no mark that is held has a greater generation
 abbrev pub reads_held : ℕ → ℕ → Bool
-reads_held process word = if is_held_by process word then nat_lt (generation_of word) (HELD_YOUNG + 1) else false
+reads_held process word = if is_held_by process word then nat_lt (generation_of word) (HELD_MOST + 1) else false
 
 -- the recovery after it has loaded a cell's mark: it gives the cell back if the process holds it, else looks at the
 -- next
@@ -175,7 +175,7 @@ got_at e word = next_at e e.stage word
 -- the number of the process's next edit after a recovery: the one behind the announced one, or 0 without one
 abbrev pub next_number : ℕ → Option Bool → ℕ
 next_number word None = 0
-next_number word (Some how) = word / 4
+next_number word (Some how) = number_after word
 
 -- the situation of the process after a stage of its recovery: the answer ends the call
 abbrev pub after : PlainRecovery → RecoverStage → ℕ → Situation

@@ -3,11 +3,12 @@
 ghost use Rattle.std.specs.Prelude.{◌≡◌, ◌<◌, ◌≤◌, ◌+◌, ◌-◌, ◌/◌, ℕ, length};
 ghost use Rattle.ds_layout.specs.Head.{head_of};
 ghost use Rattle.ds_layout.specs.Bits.{parts_for};
-ghost use Rattle.ds_layout.specs.Mark.{generation_of};
+ghost use Rattle.ds_layout.specs.Mark.{generation_of, freed_after, marked};
 ghost use Rattle.ds_state.specs.World.{announcement};
-ghost use Rattle.ds_state.specs.Telling.{let_go, told_from};
-ghost use Rattle.ds_state.specs.RecoverStages.{IsStage, IsAnnounced, IsResolving, HELD_YOUNG};
-ghost use Rattle.ds_state.specs.KnownRecovery.{phase_for, marked};
+ghost use Rattle.ds_state.specs.Works.{HELD_MOST};
+ghost use Rattle.ds_state.specs.Telling.{told_from};
+ghost use Rattle.ds_state.specs.RecoverStages.{IsStage, IsAnnounced, IsResolving};
+ghost use Rattle.ds_state.specs.KnownRecovery.{phase_for};
 ghost use Rattle.ds_state.specs.declared.work.Spread.TheVariants.{LoadRow, BackTold};
 ghost use Rattle.ds_state.specs.declared.work.RecoverStage.TheVariants.{LoadMark, Telling, Give, BackGiven, LoadAnnounce, LoadHeader, LoadHead, LoadDone, StoreOutcome};
 ghost use Rattle.ds_recover.specs.RecoverySteps.{access_at, spread_access, next_at, got_at, effect_at, number_of, reads_held, looks_from, told, tell_from, row_from, is_shown, phase_from, at};
@@ -79,8 +80,8 @@ fn outcome(call: &RecoverCall, counts: bool) -> u64
 
 // The mark that gives a held cell back, dirty: of the next generation, held by nobody.
 fn given(mark: u64, processes: usize) -> u64
-    requires { generation_of mark ≤ HELD_YOUNG }
-    ensures { result ≡ let_go mark + 1 }
+    requires { generation_of mark ≤ HELD_MOST }
+    ensures { result ≡ freed_after mark + 1 }
 {
     let held = Mark::read(mark, processes);
     let given = Mark {

@@ -12,7 +12,8 @@ use Rattle.ds_state.specs.declared.work.Spread.{Spread}
 use Rattle.ds_state.specs.declared.work.Spread.TheVariants.{BackTold}
 use Rattle.ds_state.specs.Known.{AreBelow, IsIn, IsSafelyIn}
 use Rattle.ds_state.specs.Owing.{entry, HoldsNone}
-use Rattle.ds_layout.specs.Mark.{IsHeldBy, tenure}
+use Rattle.ds_layout.specs.Announcement.{number_after}
+use Rattle.ds_layout.specs.Mark.{IsHeldBy, tenure, marked}
 use Rattle.ds_state.specs.KnownWork.{HasMark}
 use Rattle.ds_state.specs.declared.work.RecoverStage.{RecoverStage}
 use Rattle.ds_state.specs.declared.work.RecoverStage.TheVariants.{LoadMark, FlushValue, FlushKind, BackValue, BackKind, Telling, Give, GiveDirty, FlushGiven, BackGiven, LoadHeader, LoadHead, FlushHead, BackHead, LoadDone, OrMark, FlushMark, BackMark, StoreOutcome, FlushOutcome, BackOutcome, Answer}
@@ -59,10 +60,6 @@ ValueAgrees w cell = w.memory.persisted (place.Value cell) ≡ w.memory.cached (
 -- the kind of the cell is the same on both sides
 abbrev pub KindAgrees : World → ℕ → Type 0
 KindAgrees w cell = w.memory.persisted (place.Kind cell) ≡ w.memory.cached (place.Kind cell)
-
--- the mark with dirty set
-abbrev pub marked : ℕ → ℕ
-marked mark = mark / 2 * 2 + 1
 
 -- the process has given its cells back as far as `Freed` says, by the mark that it saw
 abbrev pub FreedFits : World → ℕ → ℕ → Freed → Type 0
@@ -127,7 +124,7 @@ pub record IsPassed (w : World) (e : Edit) : Type 0 where
 
 -- the cell is that of the edit in doubt, where the word announces that edit
 abbrev pub IsItsCell : World → ℕ → ℕ → ℕ → Type 0
-IsItsCell w p word cell = (issue : Issue) → w.open_edits p ≡ Some issue → issue.edit.number + 1 ≡ word / 4 → issue.edit.cell ≡ cell
+IsItsCell w p word cell = (issue : Issue) → w.open_edits p ≡ Some issue → issue.edit.number + 1 ≡ number_after word → issue.edit.cell ≡ cell
 
 -- the edit in doubt, which is announced as pending by the word
 pub record IsOpen (w : World) (p word : ℕ) (issue : Issue) : Type 0 where

@@ -9,6 +9,7 @@ use Rattle.ds_layout.specs.declared.announcement.Phase.TheVariants as phase
 use Rattle.ds_layout.specs.Places.{class_of, cells_of}
 use Rattle.ds_layout.specs.Bits.{HasBit, HaveBit, part_with}
 use Rattle.ds_layout.specs.Mark.{tenure, IsHeldBy, generation_of}
+use Rattle.ds_state.specs.Works.{HELD_MOST}
 use Rattle.ds_state.specs.World.{Issue, World, announcement, index_place}
 use Rattle.ds_state.specs.declared.stage.Stage.{Stage}
 use Rattle.ds_state.specs.declared.stage.Stage.TheVariants as edits
@@ -196,14 +197,6 @@ Splits w p (Showing e) c head = ⊥
 -- r and c are cells of the sheet, and the index row of r has the bit of c on the cached side
 abbrev pub IsIndexed : World → ℕ → ℕ → Type 0
 IsIndexed w r c = (r < cells_of w.layout) × (c < cells_of w.layout) × HasBit (w.memory.cached (index_place r c)) c
-
--- the greatest generation of a mark that is held
-abbrev pub HELD_MOST : ℕ
-HELD_MOST = 2 ^ 58 + 1
-
--- the greatest generation of any mark
-abbrev pub MOST : ℕ
-MOST = 2 ^ 58 + 2
 
 -- a holder of the mark is a process of the sheet, the cell is one of the sheet, and one more generation fits
 abbrev pub IsMark : Layout → ℕ → ℕ → Type 0

@@ -2,22 +2,18 @@
 use Rattle.std.specs.Prelude.{ℕ, ◌≡◌, ◌<◌, ◌≤◌, ◌+◌, ◌/◌, List, length, Some, None}
 use Rattle.ds_layout.specs.declared.place.TheConstants.{RECORDS}
 use Rattle.ds_layout.specs.declared.announcement.Announcement.{Announcement}
-use Rattle.ds_layout.specs.Announcement.{announcement_of}
+use Rattle.ds_layout.specs.Announcement.{announcement_of, number_after}
 use Rattle.ds_layout.specs.Bits.{parts_for}
 use Rattle.ds_layout.specs.Mark.{generation_of}
-use Rattle.ds_state.specs.Works.{PlainRecovery, SEEN_MOST}
+use Rattle.ds_state.specs.Works.{PlainRecovery, HELD_MOST}
 use Rattle.ds_state.specs.declared.work.Spread.{Spread}
 use Rattle.ds_state.specs.declared.work.Spread.TheVariants.{LoadRow, OrTold, FlushTold, BackTold}
 use Rattle.ds_state.specs.declared.work.RecoverStage.{RecoverStage}
 use Rattle.ds_state.specs.declared.work.RecoverStage.TheVariants.{LoadMark, FlushValue, FlushKind, BackValue, BackKind, Telling, Give, GiveDirty, FlushGiven, BackGiven, LoadAnnounce, LoadHeader, LoadHead, FlushHead, BackHead, LoadDone, OrMark, FlushMark, BackMark, StoreOutcome, FlushOutcome, BackOutcome, Answer}
 
--- the greatest generation of a mark that a process holds
-abbrev pub HELD_YOUNG : ℕ
-HELD_YOUNG = SEEN_MOST + 1
-
 -- a cell of the sheet that a recovery gives back, by a mark whose generation has a next one
 abbrev pub IsFreeing : ℕ → ℕ → ℕ → Type 0
-IsFreeing cells mark cell = (cell < cells) × (generation_of mark ≤ HELD_YOUNG)
+IsFreeing cells mark cell = (cell < cells) × (generation_of mark ≤ HELD_MOST)
 
 -- the row is loaded part by part; then all of it is there, and cells of the sheet are told
 abbrev pub IsSpread : ℕ → List ℕ → Spread → Type 0
@@ -30,8 +26,8 @@ IsSpread cells row (BackTold d) = (d < cells) × (length row ≡ parts_for cells
 pub record IsAnnounced (word : ℕ) : Type 0 where
   pub it : Announcement
   pub reads : announcement_of word ≡ Some it
-  pub some : 0 < word / 4
-  pub few : word / 4 ≤ RECORDS
+  pub some : 0 < number_after word
+  pub few : number_after word ≤ RECORDS
 
 -- the recovery has noted an announcement of a record, and the cell that it noted is one of the sheet
 abbrev pub IsResolving : PlainRecovery → Type 0

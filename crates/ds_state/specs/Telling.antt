@@ -1,11 +1,6 @@
--- Letting a cell go, and which cell is told next.
+-- Which cell is told next.
 use Rattle.std.specs.Prelude.{ℕ, ◌+◌, ◌==◌, if◌then◌else◌, List, slice_index_or, Option, Some, None, zero, suc}
 use Rattle.ds_layout.specs.Bits.{bit_in, part_with}
-use Rattle.ds_layout.specs.Mark.{freed_after}
-
--- the mark that lets a held cell go, clean: of the next generation, held by nobody
-abbrev pub let_go : ℕ → ℕ
-let_go mark = freed_after mark
 
 -- the first cell from this one on whose bit stands in the row, among so many
 abbrev pub told_from : List ℕ → ℕ → ℕ → Option ℕ

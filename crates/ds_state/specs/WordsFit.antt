@@ -14,7 +14,8 @@ use Rattle.ds_layout.specs.Bits.{HasBit, IsSubset, part_with}
 use Rattle.ds_layout.specs.Mark.{generation_of}
 use Rattle.ds_state.specs.World.{Edit, Issue, World, record_word, record_size, of_cell, head_after_all, announcement}
 use Rattle.ds_state.specs.Known.{IsSafe}
-use Rattle.ds_state.specs.Owing.{MOST, IsMark, IsApart, Splits}
+use Rattle.ds_state.specs.Works.{MARK_MOST}
+use Rattle.ds_state.specs.Owing.{IsMark, IsApart, Splits}
 
 -- the persisted head is the one before the cached one, whose edit is open and may have the sides differ
 pub record IsOnItsWay (w : World) (es : List Edit) (persisted : ℕ) : Type 0 where
@@ -83,7 +84,7 @@ pub record DoneFits (w : World) (process part cached persisted : ℕ) : Type 0 w
 -- a mark is no newer on its persisted side, and its holder is a process of the sheet
 pub record MarkFits (w : World) (cell cached persisted : ℕ) : Type 0 where
   pub behind : persisted ≤ cached
-  pub few : generation_of cached ≤ MOST
+  pub few : generation_of cached ≤ MARK_MOST
   pub holder : IsMark w.layout cell cached
   pub persisted_holder : IsMark w.layout cell persisted
 

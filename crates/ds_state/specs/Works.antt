@@ -52,6 +52,14 @@ StageFits e _ = Unit {0}
 abbrev pub SEEN_MOST : ℕ
 SEEN_MOST = 2 ^ 58
 
+-- the greatest generation of a mark that is held
+abbrev pub HELD_MOST : ℕ
+HELD_MOST = SEEN_MOST + 1
+
+-- the greatest generation of any mark
+abbrev pub MARK_MOST : ℕ
+MARK_MOST = HELD_MOST + 1
+
 -- the mark that a work is to claim has a generation that can be followed
 abbrev pub ClaimFits : PlainWork → WorkStage → Type 0
 ClaimFits e Claim = generation_of e.mark ≤ SEEN_MOST

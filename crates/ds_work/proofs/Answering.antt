@@ -10,7 +10,7 @@ use Rattle.ds_layout.specs.declared.mark.State.TheVariants.{Clean, Marked, Held}
 use Rattle.ds_layout.specs.declared.place.Place.TheVariants.{Value, Kind}
 use Rattle.ds_layout.specs.Head.{head_of}
 use Rattle.ds_layout.specs.Header.{header_of}
-use Rattle.ds_layout.specs.Mark.{mark_of, state_of}
+use Rattle.ds_layout.specs.Mark.{mark_of, state_of, held_after}
 use Rattle.ds_layout.specs.TextWords.{bytes_of}
 use Rattle.ds_state.specs.Works.{PlainWork, SEEN_MOST}
 use Rattle.ds_state.specs.World.{World}
@@ -24,7 +24,7 @@ use Rattle.ds_state.specs.declared.work.WorkEnd.TheVariants.{Missed, Worn, Publi
 use Rattle.ds_state.specs.declared.work.WorkStage.{WorkStage}
 use Rattle.ds_state.specs.declared.work.WorkStage.TheVariants.{LoadMark, Claim, FlushClaim, BackClaim, LoadHead, LoadHeader, LoadText, Read, LoadValue, LoadKind, LoadOwnValue, LoadOwnKind, Wait, StoreValue, StoreKind, FlushValue, FlushKind, BackValue, BackKind, Telling, Clear, ClearDirty, Give, GiveDirty, FlushCleared, BackCleared, Answer}
 use Rattle.ds_state.specs.declared.work.Spread.TheVariants.{LoadRow, OrTold, FlushTold, BackTold}
-use Rattle.ds_work.specs.WorkSteps.{at, claim_of, next_at, claims_from, head_from, header_from, told, tell_from, StepsAt}
+use Rattle.ds_work.specs.WorkSteps.{at, next_at, claims_from, head_from, header_from, told, tell_from, StepsAt}
 use Rattle.ds_work.specs.WorkAnswers.{IsDecided, mark_now, IsTrueAnswer}
 use Rattle.ds_work.proofs.EachWork.{fits_at}
 
@@ -69,8 +69,8 @@ module _ (e : PlainWork) (word : ℕ) (old new : World) (sound : IsSound old) (r
   decided : (s : WorkStage) → WorkFits old e.process (at e s) → StepsAt e s word old new → IsDecided (next_at e s word).stage end → IsTrueAnswer e s old new end
   decided LoadMark fits t d = by_state (state_of (mark_of e.processes word)) t.memory.0 refl d
   decided Claim fits t d = elim t.memory.1 [
-    | inl won ↦ absurd (when (word == e.mark) (record e { mark = claim_of e.process e.mark; stage = FlushClaim }) (at e (Answer Missed)) end (eq_true e.mark won.0) d)
-    | inr lost ↦ (let is : Missed ≡ end = unless (word == e.mark) (record e { mark = claim_of e.process e.mark; stage = FlushClaim }) (at e (Answer Missed)) end (ne_eqb word e.mark lost.0) d in
+    | inl won ↦ absurd (when (word == e.mark) (record e { mark = held_after e.process e.mark; stage = FlushClaim }) (at e (Answer Missed)) end (eq_true e.mark won.0) d)
+    | inr lost ↦ (let is : Missed ≡ end = unless (word == e.mark) (record e { mark = held_after e.process e.mark; stage = FlushClaim }) (at e (Answer Missed)) end (ne_eqb word e.mark lost.0) d in
         subst (λ (x : WorkEnd). IsTrueAnswer e Claim old new x) is (λ same. lost.0 (t.memory.0 ∙ same)))
   ]
   decided FlushClaim fits t d = absurd d

@@ -15,7 +15,7 @@ use Rattle.ds_layout.specs.declared.mark.State.TheVariants.{Clean, Marked, Held}
 use Rattle.ds_layout.specs.declared.place.TheConstants.{TEXT_BYTES}
 use Rattle.ds_layout.specs.Head.{head_of}
 use Rattle.ds_layout.specs.Header.{header_of}
-use Rattle.ds_layout.specs.Mark.{mark_of, state_of}
+use Rattle.ds_layout.specs.Mark.{mark_of, state_of, held_after}
 use Rattle.ds_layout.specs.TextWords.{bytes_of}
 use Rattle.ds_layout.proofs.Packed.{IsHeader-header_of}
 use Rattle.ds_state.specs.Works.{PlainWork, IsWork, IsWorkIn, StageFits, ClaimFits, TellsFits, Differs, SEEN_MOST}
@@ -26,7 +26,7 @@ use Rattle.ds_state.specs.declared.work.WorkStage.{WorkStage}
 use Rattle.ds_state.specs.declared.work.WorkEnd.TheVariants.{NotDirty, Missed, Worn, Published, Again, NoMemory}
 use Rattle.ds_state.specs.declared.work.WorkStage.TheVariants.{LoadMark, Claim, FlushClaim, BackClaim, LoadHead, LoadHeader, LoadText, Read, LoadValue, LoadKind, LoadOwnValue, LoadOwnKind, Wait, StoreValue, StoreKind, FlushValue, FlushKind, BackValue, BackKind, Telling, Clear, ClearDirty, Give, GiveDirty, FlushCleared, BackCleared, Answer}
 use Rattle.ds_state.specs.declared.work.Spread.TheVariants.{LoadRow, OrTold, FlushTold, BackTold}
-use Rattle.ds_work.specs.WorkSteps.{at, claim_of, next_at, claims_from, head_from, header_from, text_from, told, tell_from}
+use Rattle.ds_work.specs.WorkSteps.{at, next_at, claims_from, head_from, header_from, text_from, told, tell_from}
 use Rattle.ds_work.specs.Noted.{mark_at, head_at, length_at, length_in, text_after, text_at, inputs_after, inputs_at, value_after, value_at, kind_after, kind_at, row_after, row_at, stage_at, seen_mark, notes}
 
 -- the work with these changes
@@ -73,8 +73,8 @@ module _ (e : PlainWork) (word : ℕ) where
   by_mark (Held p) = refl
   by_mark Marked = marked (nat_lt (2 ^ 58) (word / 32))
 
-  claimed : (b : Bool) → (if b then record e { mark = claim_of e.process e.mark; stage = FlushClaim } else at e (Answer Missed))
-      ≡ record e { mark = if b then claim_of e.process e.mark else e.mark; stage = (if b then record e { mark = claim_of e.process e.mark; stage = FlushClaim } else at e (Answer Missed)).stage }
+  claimed : (b : Bool) → (if b then record e { mark = held_after e.process e.mark; stage = FlushClaim } else at e (Answer Missed))
+      ≡ record e { mark = if b then held_after e.process e.mark else e.mark; stage = (if b then record e { mark = held_after e.process e.mark; stage = FlushClaim } else at e (Answer Missed)).stage }
   claimed true = refl
   claimed false = refl
 
@@ -275,8 +275,8 @@ module _ (e : PlainWork) (word : ℕ) where
 
   pub next_is : (s : WorkStage) → IsWork (at e s) → IsWork (next_at e s word)
   next_is LoadMark h = by_state (state_of (mark_of e.processes word)) h
-  next_is Claim h = branches (word == e.mark) (record e { mark = claim_of e.process e.mark; stage = FlushClaim }) (at e (Answer Missed))
-      (λ b. marked_as e Claim (claim_of e.process e.mark) FlushClaim h (let young = h.claim in let p = h.process in let few = h.processes in omega arith) tt tt tt)
+  next_is Claim h = branches (word == e.mark) (record e { mark = held_after e.process e.mark; stage = FlushClaim }) (at e (Answer Missed))
+      (λ b. marked_as e Claim (held_after e.process e.mark) FlushClaim h (let young = h.claim in let p = h.process in let few = h.processes in omega arith) tt tt tt)
       (λ b. staged e Claim (Answer Missed) h tt tt tt)
   next_is FlushClaim h = staged e FlushClaim BackClaim h tt tt tt
   next_is BackClaim h = staged e BackClaim LoadHead h tt tt tt

@@ -11,7 +11,7 @@ use Rattle.ds_layout.specs.declared.mark.State.{State}
 use Rattle.ds_layout.specs.declared.mark.State.TheVariants.{Clean, Marked, Held}
 use Rattle.ds_layout.specs.Head.{head_of}
 use Rattle.ds_layout.specs.Header.{header_of}
-use Rattle.ds_layout.specs.Mark.{mark_of, state_of}
+use Rattle.ds_layout.specs.Mark.{mark_of, state_of, held_after}
 use Rattle.ds_layout.specs.TextWords.{bytes_of}
 use Rattle.ds_layout.proofs.Packed.{IsHeader-header_of}
 use Rattle.ds_state.specs.Works.{PlainWork, IsWork}
@@ -22,7 +22,7 @@ use Rattle.ds_state.specs.declared.work.WorkStage.{WorkStage}
 use Rattle.ds_state.specs.declared.work.WorkEnd.TheVariants.{Missed, Worn, Published, NoMemory}
 use Rattle.ds_state.specs.declared.work.WorkStage.TheVariants.{LoadMark, Claim, FlushClaim, BackClaim, LoadHead, LoadHeader, LoadText, Read, LoadValue, LoadKind, LoadOwnValue, LoadOwnKind, Wait, StoreValue, StoreKind, FlushValue, FlushKind, BackValue, BackKind, Telling, Clear, ClearDirty, Give, GiveDirty, FlushCleared, BackCleared, Answer}
 use Rattle.ds_state.specs.declared.work.Spread.TheVariants.{LoadRow, OrTold, FlushTold, BackTold}
-use Rattle.ds_work.specs.WorkSteps.{at, claim_of, next_at, claims_from, head_from, header_from, text_from, told, tell_from, read_from, offered}
+use Rattle.ds_work.specs.WorkSteps.{at, next_at, claims_from, head_from, header_from, text_from, told, tell_from, read_from, offered}
 use Rattle.ds_work.specs.WorkRank.{left, steps_left, Falls}
 
 -- what holds of both branches holds of a test
@@ -56,7 +56,7 @@ module _ (r : ℕ) (e : PlainWork) (word : ℕ) where
 
   pub falls : (s : WorkStage) → IsWork (at e s) → Falls r e (next_at e s word) s
   falls LoadMark h = by_state (state_of (mark_of e.processes word))
-  falls Claim h = below r (left r e Claim) (word == e.mark) (record e { mark = claim_of e.process e.mark; stage = FlushClaim }) (at e (Answer Missed)) (λ b. omega arith) (λ b. omega arith)
+  falls Claim h = below r (left r e Claim) (word == e.mark) (record e { mark = held_after e.process e.mark; stage = FlushClaim }) (at e (Answer Missed)) (λ b. omega arith) (λ b. omega arith)
   falls FlushClaim h = omega arith
   falls BackClaim h = omega arith
   falls LoadHead h = by_head (head_of e.processes word)

@@ -9,10 +9,10 @@ use Rattle.ds_state.specs.CallsFit.{IdleFits}
 use Rattle.ds_state.proofs.EditFrame.{Framed, silent_framed, silent_keeps}
 use Rattle.ds_layout.specs.declared.place.Place.{Place}
 use Rattle.ds_layout.specs.declared.place.Place.TheVariants.{Version, Mark, Value, Announce}
-use Rattle.ds_state.specs.Works.{PlainWork}
+use Rattle.ds_state.specs.Works.{PlainWork, HELD_MOST}
 use Rattle.ds_state.specs.World.{World, of_cell, head_after_all}
-use Rattle.ds_state.specs.Owing.{HELD_MOST, HoldsNone, IsHeld, IsApart, Parts, Splits, Excuses, IsMark}
-use Rattle.ds_layout.specs.Mark.{IsHeldBy}
+use Rattle.ds_state.specs.Owing.{HoldsNone, IsHeld, IsApart, Parts, Splits, Excuses, IsMark}
+use Rattle.ds_layout.specs.Mark.{IsHeldBy, freed_after}
 use Rattle.ds_state.specs.KnownWork.{WorkFits, IsAtRest}
 use Rattle.ds_state.specs.WordsFit.{WordFits}
 use Rattle.ds_state.specs.CallsFit.{CallFits}
@@ -33,7 +33,6 @@ use Rattle.ds_state.proofs.Frames.{MovesWord, Moves, KeepsOwing, KeepsApart, gro
 use Rattle.ds_state.proofs.Bearing.{bears, all_stand, splits_last, pends_last, marks_grow, apart_lasts}
 use Rattle.ds_state.proofs.Accesses.{Turn, store_moves, same_moves, quiet_sound}
 use Rattle.ds_state.proofs.Buffers.{buffered}
-use Rattle.ds_state.specs.Telling.{let_go}
 use Rattle.ds_work.proofs.WorkSteps.{on, clear_mine, clear_stands, store_value_mine}
 
 -- who works owes no head
@@ -56,11 +55,11 @@ module _ (p : ℕ) (e : PlainWork) (changed : Bool) (old new : World) (sound : I
     (fits : WorkFits old p (on e (works.Clear changed))) (was : old.situation p ≡ Working (on e (works.Clear changed)))
     (is : new.situation p ≡ Working (on e (works.FlushCleared (Published changed))))
     (pending : new.open_edits p ≡ old.open_edits p)
-    (at : old.memory.cached (Mark e.cell) ≡ e.mark) (store : StoresAt (Mark e.cell) (let_go e.mark) old.memory new.memory) where
-  free : (q : ℕ) → IsHeldBy q (let_go e.mark) → ⊥
+    (at : old.memory.cached (Mark e.cell) ≡ e.mark) (store : StoresAt (Mark e.cell) (freed_after e.mark) old.memory new.memory) where
+  free : (q : ℕ) → IsHeldBy q (freed_after e.mark) → ⊥
   free q by = omega arith
 
-  moved : MovesWord old.memory p (Mark e.cell) (old.memory.cached (Mark e.cell)) (old.memory.persisted (Mark e.cell)) (let_go e.mark) (old.memory.persisted (Mark e.cell))
+  moved : MovesWord old.memory p (Mark e.cell) (old.memory.cached (Mark e.cell)) (old.memory.persisted (Mark e.cell)) (freed_after e.mark) (old.memory.persisted (Mark e.cell))
   moved =
       let by = fits.knows.hold.claim.by in
       let mine = fits.mine in
@@ -78,7 +77,7 @@ module _ (p : ℕ) (e : PlainWork) (changed : Bool) (old new : World) (sound : I
       other q h = let by = fits.knows.hold.claim.by in let mine = fits.mine in let k = at in omega arith
 
   moves : Moves p (Mark e.cell) old new
-  moves = store_moves p old new turn (Mark e.cell) (let_go e.mark) moved store
+  moves = store_moves p old new turn (Mark e.cell) (freed_after e.mark) moved store
 
   b : Bears old new
   b = bears p (Mark e.cell) old new moves sound (clear_mine p e changed old new sound (buffered old sound) fits was at store moves turn.counted)

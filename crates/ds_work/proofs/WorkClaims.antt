@@ -9,12 +9,12 @@ use Rattle.ds_layout.specs.declared.place.Place.{Place}
 use Rattle.ds_layout.specs.declared.place.Place.TheVariants.{Mark}
 use Rattle.ds_layout.specs.declared.mark.State.{State}
 use Rattle.ds_layout.specs.declared.mark.State.TheVariants.{Clean, Marked, Held}
-use Rattle.ds_layout.specs.Mark.{mark_of, state_of, holder_of, present, state_by, tenure, IsHeldBy}
+use Rattle.ds_layout.specs.Mark.{mark_of, state_of, holder_of, present, state_by, tenure, IsHeldBy, held_after}
 use Rattle.ds_state.specs.Works.{PlainWork}
 use Rattle.ds_state.specs.World.{World}
 use Rattle.ds_state.specs.Owing.{entry, IsHeld, IsMark}
 use Rattle.ds_state.specs.KnownWork.{BuffersClaim, WorkFits}
-use Rattle.ds_work.specs.WorkSteps.{claim_of, StepsAt, claims_from}
+use Rattle.ds_work.specs.WorkSteps.{StepsAt, claims_from}
 use Rattle.ds_state.specs.WordsFit.{MarkFits}
 use Rattle.ds_state.specs.Rely.{Keeps}
 use Rattle.ds_state.specs.Sound.{IsSound}
@@ -88,13 +88,13 @@ module _ (e : PlainWork) (word : ℕ) (old new : World) (sound : IsSound old) (r
     where
       loses : word ≢ e.mark → SameMemory old.memory new.memory → Keeps e.process old new
       loses ne m = frame.loads e works.Claim (on e (works.Answer Missed)) old new sound real was
-          (t.situation ∙ ap (λ (b : Bool). Working (if b then record e { mark = claim_of e.process e.mark; stage = works.FlushClaim } else on e (works.Answer Missed))) (ne_eqb word e.mark ne))
+          (t.situation ∙ ap (λ (b : Bool). Working (if b then record e { mark = held_after e.process e.mark; stage = works.FlushClaim } else on e (works.Answer Missed))) (ne_eqb word e.mark ne))
           (turn_of _ t) (t.open_edits e.process) fits tt m
           (λ c x bit matters o. absurd o) (λ o. absurd o) (λ k. record { hold = k.hold.0; loaded = tt; own = tt; evaluated = tt }) (λ h. h)
 
-      wins : word ≡ e.mark → StoresAt (Mark e.cell) (claim_of e.process e.mark) old.memory new.memory → Keeps e.process old new
+      wins : word ≡ e.mark → StoresAt (Mark e.cell) (held_after e.process e.mark) old.memory new.memory → Keeps e.process old new
       wins is m =
-          let n : ℕ = claim_of e.process e.mark in
+          let n : ℕ = held_after e.process e.mark in
           let seen : old.memory.cached (Mark e.cell) ≡ e.mark = sym t.memory.0 ∙ is in
           let limit = old.layout.limited in
           let by : IsHeldBy e.process n = omega arith in

@@ -10,10 +10,9 @@ use Rattle.ds_layout.specs.declared.place.Place.TheVariants.{Version, Mark}
 use Rattle.ds_state.specs.Works.{PlainWork}
 use Rattle.ds_state.specs.World.{World}
 use Rattle.ds_state.specs.Owing.{entry, HoldsNone, WorkOwes, WorkParts, Owes, Parts, Splits, Excuses}
-use Rattle.ds_layout.specs.Mark.{IsHeldBy}
+use Rattle.ds_layout.specs.Mark.{IsHeldBy, freed_after}
 use Rattle.ds_state.specs.CallsFit.{CallFits}
 use Rattle.ds_state.specs.KnownWork.{ClaimsBoth, HasMark, WorkFits, IsAtRest}
-use Rattle.ds_state.specs.Telling.{let_go}
 use Rattle.ds_work.specs.WorkSteps.{StepsAt}
 use Rattle.ds_state.specs.WordsFit.{MarkFits}
 use Rattle.ds_state.specs.Rely.{Grows, Keeps}
@@ -40,17 +39,17 @@ module _ (e : PlainWork) (s : WorkStage) (end : WorkEnd) (old new : World) (soun
     (was : old.situation e.process ≡ Working (on e s)) (is : new.situation e.process ≡ Working (on e (works.FlushCleared end))) (tn : Turn e.process old new) (pending : new.open_edits e.process ≡ old.open_edits e.process)
     (fits : WorkFits old e.process (on e s)) (held : ClaimsBoth old e.process e.cell e.mark) (empty : old.memory.buffer e.process ≡ [])
     (owes : (c x : ℕ) → WorkOwes old.memory e.process e.row s c x → ⊥) (parts : WorkParts s → ⊥)
-    (store : StoresAt (Mark e.cell) (let_go e.mark + 1) old.memory new.memory) where
+    (store : StoresAt (Mark e.cell) (freed_after e.mark + 1) old.memory new.memory) where
   abbrev n : ℕ
-  n = let_go e.mark + 1
+  n = freed_after e.mark + 1
 
-  free : (q : ℕ) → IsHeldBy q (let_go e.mark + 1) → ⊥
+  free : (q : ℕ) → IsHeldBy q (freed_after e.mark + 1) → ⊥
   free q by = omega arith
 
   other : (q : ℕ) → IsHeldBy q (old.memory.cached (Mark e.cell)) → q ≡ e.process
   other q h = let by = held.claim.by in let c = held.claim.cached in omega arith
 
-  moved : MovesMark e.process (old.memory.cached (Mark e.cell)) (old.memory.persisted (Mark e.cell)) (let_go e.mark + 1) (old.memory.persisted (Mark e.cell))
+  moved : MovesMark e.process (old.memory.cached (Mark e.cell)) (old.memory.persisted (Mark e.cell)) (freed_after e.mark + 1) (old.memory.persisted (Mark e.cell))
   moved =
       let c = held.claim.cached in
       record {
@@ -60,16 +59,16 @@ module _ (e : PlainWork) (s : WorkStage) (end : WorkEnd) (old new : World) (soun
       }
 
   owes_none : (moves : Moves e.process (Mark e.cell) old new) → Mine e.process (Mark e.cell) old new moves
-  owes_none moves = mark_mine e.process e.cell (let_go e.mark + 1) old new store moves (λ clean. omega arith)
+  owes_none moves = mark_mine e.process e.cell (freed_after e.mark + 1) old new store moves (λ clean. omega arith)
       (λ r c x bit matters h o. absurd (owes c x (subst (λ (t : Situation). Owes old.memory e.process t r c x) was o).1))
       (λ l c x matters o. absurd (subst (λ (t : Situation). Excuses old e.process t c x) was o))
 
   pub release : Keeps e.process old new
   release =
       let old_fits : MarkFits old e.cell (old.memory.cached (Mark e.cell)) (old.memory.persisted (Mark e.cell)) = sound.words (Mark e.cell) in
-      frame.stores e s (on e (works.FlushCleared end)) old new sound real was is tn pending fits tt (Mark e.cell) (let_go e.mark + 1) (λ x. cc) moved store
+      frame.stores e s (on e (works.FlushCleared end)) old new sound real was is tn pending fits tt (Mark e.cell) (freed_after e.mark + 1) (λ x. cc) moved store
       owes_none
-      (λ moves mine. mark_marks e.process e.cell (let_go e.mark + 1) old new store moves (λ clean. omega arith) (λ r c x bit matters h o. mine.owes r c x bit matters h o) (λ l c x matters o. mine.excuses l c x matters o))
+      (λ moves mine. mark_marks e.process e.cell (freed_after e.mark + 1) old new store moves (λ clean. omega arith) (λ r c x bit matters h o. mine.owes r c x bit matters h o) (λ l c x matters o. mine.excuses l c x matters o))
       (λ o. absurd (parts o)) (λ o. absurd (parts o))
       (λ moves. record {
         behind = (let b = old_fits.behind in let c = held.claim.cached in omega arith);

@@ -12,11 +12,10 @@ use Rattle.ds_eval.proofs.Cells.{entry_found}
 use Rattle.ds_layout.specs.declared.place.Place.{Place}
 use Rattle.ds_layout.specs.declared.place.Place.TheVariants.{Mark, Value, Kind, Head}
 use Rattle.ds_layout.specs.declared.layout.Layout.{Layout}
-use Rattle.ds_state.specs.Telling.{let_go}
 use Rattle.ds_state.specs.Works.{PlainWork}
 use Rattle.ds_state.specs.World.{World}
 use Rattle.ds_state.specs.Owing.{entry, IsHeld, IsBelowBuffered, SpreadOwes, WorkOwes, RecoveryOwes, Owes, CellOwes, EditOwes, RecoveryExcuses, Excuses, IsExcused, IsIndexed}
-use Rattle.ds_layout.specs.Mark.{IsClean, IsHeldBy}
+use Rattle.ds_layout.specs.Mark.{IsClean, IsHeldBy, freed_after}
 use Rattle.ds_state.specs.Standing.{cached_side, entry_on, value_for, word_for, HasContent, Stands, Matters, AllStand}
 use Rattle.ds_state.specs.KnownWork.{HasHeld, HasInputs, input_row, WorkFits}
 use Rattle.ds_state.specs.Sound.{IsSound}
@@ -112,7 +111,7 @@ no_place a c (inr e) = cc
 -- the clear: what was noted becomes what the clean mark says
 module _ (p : ℕ) (e : PlainWork) (changed : Bool) (old new : World) (sound : IsSound old) (buffered : Buffered old)
     (fits : WorkFits old p (on e (works.Clear changed))) (was : old.situation p ≡ Working (on e (works.Clear changed)))
-    (at : old.memory.cached (Mark e.cell) ≡ e.mark) (store : StoresAt (Mark e.cell) (let_go e.mark) old.memory new.memory)
+    (at : old.memory.cached (Mark e.cell) ≡ e.mark) (store : StoresAt (Mark e.cell) (freed_after e.mark) old.memory new.memory)
     (moves : Moves p (Mark e.cell) old new) (same_list : new.counted ≡ old.counted) where
   abbrev k : ℕ
   k = e.mark
@@ -123,28 +122,28 @@ module _ (p : ℕ) (e : PlainWork) (changed : Bool) (old new : World) (sound : I
   nothing_excused : (c x : ℕ) → Excuses old p (old.situation p) c x → ⊥
   nothing_excused c x o = subst (λ (s : Situation). Excuses old p s c x) was o
 
-  later_owed : (r : ℕ) → CellOwes old r e.cell k → CellOwes new r e.cell (let_go k)
+  later_owed : (r : ℕ) → CellOwes old r e.cell k → CellOwes new r e.cell (freed_after k)
   later_owed r o =
-      let later : CellOwes old r e.cell (let_go k) = record {
+      let later : CellOwes old r e.cell (freed_after k) = record {
         holder = o.holder;
         held = o.held;
-        still = owes_later old o.holder e.cell k (let_go k) (sym at) (λ v there. buffered.had o.holder e.cell v ((sound.words (Mark r)).holder o.holder o.held.by).0 there) (old.situation o.holder) r o.still;
+        still = owes_later old o.holder e.cell k (freed_after k) (sym at) (λ v there. buffered.had o.holder e.cell v ((sound.words (Mark r)).holder o.holder o.held.by).0 there) (old.situation o.holder) r o.still;
       } in
       elim (cases_eq o.holder p) [
         | inl eq ↦ absurd (nothing_owed r e.cell k (subst (λ (q : ℕ). Owes old.memory q (old.situation q) r e.cell k) eq o.still))
-        | inr ne ↦ cell_owes_lasts p (Mark e.cell) old new moves r e.cell (let_go k) later ne
+        | inr ne ↦ cell_owes_lasts p (Mark e.cell) old new moves r e.cell (freed_after k) later ne
       ]
 
-  later_excused : IsExcused old e.cell k → IsExcused new e.cell (let_go k)
+  later_excused : IsExcused old e.cell k → IsExcused new e.cell (freed_after k)
   later_excused o =
-      let later : IsExcused old e.cell (let_go k) = record {
+      let later : IsExcused old e.cell (freed_after k) = record {
         process = o.process;
         inside = o.inside;
-        still = excuses_later old o.process e.cell k (let_go k) (sym at) (λ v there. buffered.had o.process e.cell v o.inside there) (old.situation o.process) o.still;
+        still = excuses_later old o.process e.cell k (freed_after k) (sym at) (λ v there. buffered.had o.process e.cell v o.inside there) (old.situation o.process) o.still;
       } in
       elim (cases_eq o.process p) [
         | inl eq ↦ absurd (nothing_excused e.cell k (subst (λ (q : ℕ). Excuses old q (old.situation q) e.cell k) eq o.still))
-        | inr ne ↦ excused_lasts p (Mark e.cell) old new moves e.cell (let_go k) later ne
+        | inr ne ↦ excused_lasts p (Mark e.cell) old new moves e.cell (freed_after k) later ne
       ]
 
   abbrev loads : HasInputs old (on e (works.Clear changed)) (length e.inputs)
@@ -153,7 +152,7 @@ module _ (p : ℕ) (e : PlainWork) (changed : Bool) (old new : World) (sound : I
   other : (r : Place) → r ≢ Mark e.cell → new.memory.cached r ≡ old.memory.cached r
   other r ne = store.elsewhere r ne
 
-  fresh : Stands new (cached_side new.memory) e.cell (let_go k)
+  fresh : Stands new (cached_side new.memory) e.cell (freed_after k)
   fresh = elim (loads.head at) [
     | inr o ↦ inl (later_excused o)
     | inl same ↦ inr (record {
@@ -171,7 +170,7 @@ module _ (p : ℕ) (e : PlainWork) (changed : Bool) (old new : World) (sound : I
           let now : index_of new.layout.shape d ≡ r = ap (λ (l : Layout). index_of l.shape d) moves.layout in
           let got : entry_in e.inputs d ≡ entry_at e.inputs j = entry_found e.inputs j d loads.ascending found.1 found.2 in
           elim ((loads.each j found.1).stands at) [
-            | inr o ↦ inr (subst (λ (y : ℕ). CellOwes new y e.cell (let_go k)) (sym now) (later_owed r (subst (λ (y : ℕ). CellOwes old y e.cell k) row o)))
+            | inr o ↦ inr (subst (λ (y : ℕ). CellOwes new y e.cell (freed_after k)) (sym now) (later_owed r (subst (λ (y : ℕ). CellOwes old y e.cell k) row o)))
             | inl is ↦ inl (
                 let there : entry_at e.inputs j ≡ entry_on old.layout (cached_side old.memory) r = subst (λ (y : ℕ). entry_at e.inputs j ≡ entry_on old.layout (cached_side old.memory) y) row is in
                 rw (moves.layout, other (Value r) (λ x. cc), other (Kind r) (λ x. cc)) (got ∙ there))

@@ -6,14 +6,14 @@ use Rattle.ds_layout.specs.declared.header.Header.{Header}
 use Rattle.ds_layout.specs.declared.mark.State.{State}
 use Rattle.ds_layout.specs.declared.mark.State.TheVariants.{Clean, Marked, Held}
 use Rattle.ds_layout.specs.Header.{header_of}
-use Rattle.ds_layout.specs.Mark.{mark_of, state_of, generation_of}
+use Rattle.ds_layout.specs.Mark.{mark_of, state_of, generation_of, held_after}
 use Rattle.ds_layout.specs.TextWords.{bytes_of}
-use Rattle.ds_state.specs.Works.{PlainWork}
+use Rattle.ds_state.specs.Works.{PlainWork, SEEN_MOST}
 use Rattle.ds_state.specs.Standing.{shown_entry}
 use Rattle.ds_state.specs.declared.work.Spread.TheVariants.{LoadRow}
 use Rattle.ds_state.specs.declared.work.WorkStage.{WorkStage}
 use Rattle.ds_state.specs.declared.work.WorkStage.TheVariants.{LoadMark, Claim, LoadHead, LoadHeader, LoadText, Read, LoadKind, LoadOwnValue, LoadOwnKind, Wait, BackKind, Telling, Answer}
-use Rattle.ds_work.specs.WorkSteps.{claim_of, next_at}
+use Rattle.ds_work.specs.WorkSteps.{next_at}
 use Rattle.ds_work.specs.declared.machine.Doing.{Doing}
 use Rattle.ds_work.specs.declared.machine.Doing.TheVariants as turns
 
@@ -36,12 +36,12 @@ notes stage = false
 abbrev pub seen_mark : PlainWork → ℕ → State → ℕ
 seen_mark e word Clean = e.mark
 seen_mark e word (Held p) = e.mark
-seen_mark e word Marked = if nat_lt (2 ^ 58) (generation_of word) then e.mark else word
+seen_mark e word Marked = if nat_lt SEEN_MOST (generation_of word) then e.mark else word
 
 -- the mark that work has noted after a stage whose access found this word
 abbrev pub mark_at : PlainWork → WorkStage → ℕ → ℕ
 mark_at e LoadMark word = seen_mark e word (state_of (mark_of e.processes word))
-mark_at e Claim word = if word == e.mark then claim_of e.process e.mark else e.mark
+mark_at e Claim word = if word == e.mark then held_after e.process e.mark else e.mark
 mark_at e _ word = e.mark
 
 -- the head that work has noted after a stage whose access found this word

@@ -7,12 +7,11 @@ use Rattle.ds_layout.specs.declared.place.Place.{Place}
 use Rattle.ds_layout.specs.declared.mark.State.{State}
 use Rattle.ds_layout.specs.declared.mark.State.TheVariants.{Clean, Marked, Held}
 use Rattle.ds_layout.specs.declared.place.Place.TheVariants as place
-use Rattle.ds_layout.specs.Mark.{mark_of, state_of, generation_of}
+use Rattle.ds_layout.specs.Mark.{mark_of, state_of, generation_of, freed_after}
 use Rattle.ds_state.specs.Works.{PlainWork, SEEN_MOST}
 use Rattle.ds_state.specs.Owing.{StandsIn}
 use Rattle.ds_state.specs.World.{World}
 use Rattle.ds_state.specs.Standing.{value_for, word_for}
-use Rattle.ds_state.specs.Telling.{let_go}
 use Rattle.ds_state.specs.declared.work.WorkEnd.{WorkEnd}
 use Rattle.ds_state.specs.declared.work.WorkEnd.TheVariants.{NotDirty, Missed, Worn, Published, Again, NoMemory}
 use Rattle.ds_state.specs.declared.work.WorkStage.{WorkStage}
@@ -35,7 +34,7 @@ state_now w e = state_of (mark_of e.processes (mark_now w e))
 
 -- the work's cell is let go clean, and its value and kind are those of the work's entry
 pub record IsPublished (e : PlainWork) (new : World) : Type 0 where
-  pub clean : mark_now new e ≡ let_go e.mark
+  pub clean : mark_now new e ≡ freed_after e.mark
   pub value : new.memory.cached (place.Value e.cell) ≡ value_for e.entry
   pub kind : new.memory.cached (place.Kind e.cell) ≡ word_for e.entry
 
@@ -48,9 +47,9 @@ IsTrueAnswer e LoadMark old new Missed = (q : ℕ) × (state_now old e ≡ Held 
 IsTrueAnswer e LoadMark old new Worn = (state_now old e ≡ Marked) × (SEEN_MOST < generation_of (mark_now old e))
 IsTrueAnswer e Claim old new Missed = mark_now old e ≢ e.mark
 IsTrueAnswer e (Clear changed) old new end = (end ≡ Published changed) × IsPublished e new
-IsTrueAnswer e ClearDirty old new end = (end ≡ Again) × (mark_now old e ≡ e.mark + 1) × (mark_now new e ≡ let_go e.mark + 1)
-IsTrueAnswer e Give old new end = (end ≡ NoMemory) × (mark_now new e ≡ let_go e.mark + 1)
-IsTrueAnswer e GiveDirty old new end = (end ≡ NoMemory) × (mark_now new e ≡ let_go e.mark + 1)
+IsTrueAnswer e ClearDirty old new end = (end ≡ Again) × (mark_now old e ≡ e.mark + 1) × (mark_now new e ≡ freed_after e.mark + 1)
+IsTrueAnswer e Give old new end = (end ≡ NoMemory) × (mark_now new e ≡ freed_after e.mark + 1)
+IsTrueAnswer e GiveDirty old new end = (end ≡ NoMemory) × (mark_now new e ≡ freed_after e.mark + 1)
 IsTrueAnswer e (FlushCleared before) old new end = before ≡ end
 IsTrueAnswer e (BackCleared before) old new end = before ≡ end
 IsTrueAnswer e (Answer before) old new end = before ≡ end

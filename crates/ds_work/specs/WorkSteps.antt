@@ -22,15 +22,15 @@ use Rattle.ds_layout.specs.declared.mark.State.TheVariants.{Clean, Marked, Held}
 use Rattle.ds_layout.specs.declared.mark.TheConstants.{DIRTY}
 use Rattle.ds_layout.specs.Head.{head_of}
 use Rattle.ds_layout.specs.Header.{header_of}
-use Rattle.ds_layout.specs.Mark.{mark_of, state_of, held_after, generation_of}
+use Rattle.ds_layout.specs.Mark.{mark_of, state_of, held_after, generation_of, freed_after}
 use Rattle.ds_layout.specs.TextWords.{bytes_of}
 use Rattle.ds_layout.specs.SheetMemory.{PerformsAt}
 use Rattle.ds_layout.specs.Places.{cells_of}
 use Rattle.ds_layout.specs.Bits.{parts_for}
 use Rattle.ds_layout.specs.Head as head_parts
 use Rattle.ds_layout.specs.TextWords as text_words
-use Rattle.ds_state.specs.Telling.{let_go, told_from}
-use Rattle.ds_state.specs.Works.{PlainWork}
+use Rattle.ds_state.specs.Telling.{told_from}
+use Rattle.ds_state.specs.Works.{PlainWork, SEEN_MOST}
 use Rattle.ds_state.specs.Standing.{shown_entry, value_for, word_for}
 use Rattle.ds_state.specs.World.{World}
 use Rattle.ds_state.specs.declared.situation.Situation.{Situation}
@@ -40,10 +40,6 @@ use Rattle.ds_state.specs.declared.work.Spread.TheVariants.{LoadRow, OrTold, Flu
 use Rattle.ds_state.specs.declared.work.WorkEnd.TheVariants.{NotDirty, Missed, Worn, Published, Again, NoMemory}
 use Rattle.ds_state.specs.declared.work.WorkStage.{WorkStage}
 use Rattle.ds_state.specs.declared.work.WorkStage.TheVariants.{LoadMark, Claim, FlushClaim, BackClaim, LoadHead, LoadHeader, LoadText, Read, LoadValue, LoadKind, LoadOwnValue, LoadOwnKind, Wait, StoreValue, StoreKind, FlushValue, FlushKind, BackValue, BackKind, Telling, Clear, ClearDirty, Give, GiveDirty, FlushCleared, BackCleared, Answer}
-
--- the mark by which a process claims a cell: of the next generation, held by the process, not dirty
-abbrev pub claim_of : ℕ → ℕ → ℕ
-claim_of process mark = held_after process mark
 
 -- how many parts an index row of the work's sheet has
 abbrev pub parts_of : PlainWork → ℕ
@@ -75,7 +71,7 @@ spread_access e (BackTold d) = acts.Back
 -- the access of a stage of work
 abbrev pub access_at : Shape → PlainWork → WorkStage → Access Place
 access_at shape e LoadMark = acts.Load (place.Mark e.cell)
-access_at shape e Claim = acts.SwapIf (place.Mark e.cell) e.mark (claim_of e.process e.mark)
+access_at shape e Claim = acts.SwapIf (place.Mark e.cell) e.mark (held_after e.process e.mark)
 access_at shape e FlushClaim = acts.Flush (place.Mark e.cell)
 access_at shape e BackClaim = acts.Back
 access_at shape e LoadHead = acts.Load (place.Head e.cell)
@@ -94,10 +90,10 @@ access_at shape e FlushKind = acts.Flush (place.Kind e.cell)
 access_at shape e BackValue = acts.Back
 access_at shape e BackKind = acts.Back
 access_at shape e (Telling spread) = spread_access e spread
-access_at shape e (Clear changed) = acts.SwapIf (place.Mark e.cell) e.mark (let_go e.mark)
-access_at shape e ClearDirty = acts.SwapIf (place.Mark e.cell) (e.mark + 1) (let_go e.mark + 1)
-access_at shape e Give = acts.SwapIf (place.Mark e.cell) e.mark (let_go e.mark + 1)
-access_at shape e GiveDirty = acts.SwapIf (place.Mark e.cell) (e.mark + 1) (let_go e.mark + 1)
+access_at shape e (Clear changed) = acts.SwapIf (place.Mark e.cell) e.mark (freed_after e.mark)
+access_at shape e ClearDirty = acts.SwapIf (place.Mark e.cell) (e.mark + 1) (freed_after e.mark + 1)
+access_at shape e Give = acts.SwapIf (place.Mark e.cell) e.mark (freed_after e.mark + 1)
+access_at shape e GiveDirty = acts.SwapIf (place.Mark e.cell) (e.mark + 1) (freed_after e.mark + 1)
 access_at shape e (FlushCleared end) = acts.Flush (place.Mark e.cell)
 access_at shape e (BackCleared end) = acts.Back
 access_at shape e (Answer end) = acts.Nothing
@@ -110,7 +106,7 @@ at e stage = record e { stage = stage }
 abbrev pub claims_from : PlainWork → ℕ → State → PlainWork
 claims_from e word Clean = at e (Answer NotDirty)
 claims_from e word (Held p) = at e (Answer Missed)
-claims_from e word Marked = if nat_lt (2 ^ 58) (generation_of word) then at e (Answer Worn) else record e { mark = word; stage = Claim }
+claims_from e word Marked = if nat_lt SEEN_MOST (generation_of word) then at e (Answer Worn) else record e { mark = word; stage = Claim }
 
 -- the work after it has loaded its cell's head: it goes to that edit's header; without an edit the text is empty
 abbrev pub head_from : PlainWork → ℕ → Option Head → PlainWork
@@ -154,7 +150,7 @@ spread_next e (BackTold d) word = tell_from e (d + 1)
 -- given
 abbrev pub next_at : PlainWork → WorkStage → ℕ → PlainWork
 next_at e LoadMark word = claims_from e word (state_of (mark_of e.processes word))
-next_at e Claim word = if word == e.mark then record e { mark = claim_of e.process e.mark; stage = FlushClaim } else at e (Answer Missed)
+next_at e Claim word = if word == e.mark then record e { mark = held_after e.process e.mark; stage = FlushClaim } else at e (Answer Missed)
 next_at e FlushClaim word = at e BackClaim
 next_at e BackClaim word = at e LoadHead
 next_at e LoadHead word = head_from e word (head_of e.processes word)

@@ -3,14 +3,14 @@
 ghost use Rattle.std.specs.Prelude.{◌≡◌, false, ◌+◌, ◌-◌, ◌*◌, ◌/◌, ◌%◌, ◌<◌, ◌≤◌, ◌++◌, length, take, IsTrue, ◌↔◌};
 ghost use Rattle.ds_layout.specs.Head.{head_of};
 ghost use Rattle.ds_layout.specs.Header.{header_of};
-ghost use Rattle.ds_layout.specs.Mark.{mark_of, state_of, holder_code, dirty_bit, mark_word, generation_of};
+ghost use Rattle.ds_layout.specs.Mark.{mark_of, state_of, holder_code, dirty_bit, mark_word, generation_of, freed_after, held_after};
 ghost use Rattle.ds_state.specs.Standing.{stored_for, shown_entry};
-ghost use Rattle.ds_state.specs.Telling.{let_go, told_from};
+ghost use Rattle.ds_state.specs.Telling.{told_from};
 ghost use Rattle.ds_layout.specs.declared.place.TheConstants.{TEXT_BYTES};
 ghost use Rattle.ds_state.specs.Works.{PlainWork, StageFits, SEEN_MOST};
 ghost use Rattle.ds_state.specs.declared.work.WorkStage.TheVariants.{LoadMark, Claim, Clear, Give, Telling};
 ghost use Rattle.ds_state.specs.declared.work.Spread.TheVariants.{LoadRow};
-ghost use Rattle.ds_work.specs.WorkSteps.{record_header, record_text, claim_of, parts_of, input_place, access_at, next_at, claims_from, head_from, header_from, text_from, input_from, told, tell_from, row_from, spread_access, spread_next};
+ghost use Rattle.ds_work.specs.WorkSteps.{record_header, record_text, parts_of, input_place, access_at, next_at, claims_from, head_from, header_from, text_from, input_from, told, tell_from, row_from, spread_access, spread_next};
 ghost use Rattle.ds_work.specs.Noted.{mark_at, head_at, length_at, text_after, inputs_after, value_after, kind_after, row_after, stage_at, notes, turn_at, FitsInputs, FitsRow};
 
 use ds_eval::inputs::{Entry, Inputs};
@@ -73,14 +73,14 @@ fn following(mark: u64, holder: Option<usize>, dirty: bool) -> u64
 
 // The mark of the claim of the mark that was seen.
 fn claim(call: &WorkCall) -> u64
-    ensures { result ≡ claim_of call.now.process call.now.mark }
+    ensures { result ≡ held_after call.now.process call.now.mark }
 {
     following(call.mark, Some(call.process), false)
 }
 
 // The mark that lets the cell go, dirty or not.
 fn release(call: &WorkCall, dirty: bool) -> u64
-    ensures { result ≡ let_go call.now.mark + dirty_bit dirty }
+    ensures { result ≡ freed_after call.now.mark + dirty_bit dirty }
 {
     following(call.mark, None, dirty)
 }
