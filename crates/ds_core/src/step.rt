@@ -31,6 +31,7 @@ use ds_work::drive::Taken;
 use std::alloc::Global;
 
 // The edit of a process, where it is in one.
+#[inline(always)]
 fn call_of(situation: &Situation) -> Option<&EditCall>
     ensures some { IfSome result (λ call. situation.now ≡ Editing call.now) }
     ensures none { IfNone result ((e : PlainEdit) → situation.now ≡ Editing e → ⊥) }
@@ -43,6 +44,7 @@ fn call_of(situation: &Situation) -> Option<&EditCall>
 }
 
 // The process goes on with the word that its access answered.
+#[inline(always)]
 fn go_on(situation: &mut Situation, word: u64)
     ensures { (e : PlainEdit) → situation.old ≡ Editing e → situation.new ≡ after e e.stage word }
 {
@@ -58,6 +60,7 @@ fn go_on(situation: &mut Situation, word: u64)
 }
 
 // The edit of a process counts, where its swap found the head that it had noted.
+#[inline(always)]
 fn count(counted: &mut Vec<Edit>, situation: &Situation, stage: Stage, word: u64)
     requires { (noted : ℕ) → stage ≡ Swap noted → word ≡ noted → length counted.old.items < vec_capacity counted.old }
     ensures items { (e : PlainEdit) → situation.now ≡ Editing e → counted.new.items ≡ counted.old.items ++ counted_at (edit_of e) stage word }
@@ -73,6 +76,7 @@ fn count(counted: &mut Vec<Edit>, situation: &Situation, stage: Stage, word: u64
 }
 
 // The edit is answered, where this was its last step.
+#[inline(always)]
 fn close(open_edit: &mut Option<Issue>, stage: Stage)
     ensures { open_edit.new ≡ open_edit_at open_edit.old stage }
 {
@@ -82,6 +86,7 @@ fn close(open_edit: &mut Option<Issue>, stage: Stage)
 }
 
 // One more edit was answered Done, where it was.
+#[inline(always)]
 fn done_after(done: u64, stage: Stage) -> u64
     requires { done ≤ 2048 }
     ensures { result ≡ done_at done stage }
@@ -102,6 +107,7 @@ fn reply(processes: usize, number: usize, stage: Stage) -> Reply
 }
 
 // A process makes the step of its edit that is at this stage, by this access.
+#[inline(always)]
 fn edit_on(world: &mut World, process: usize, stage: Stage, access: Access<Place>)
     requires { (e : PlainEdit) × IsEditing world.old process e × (stage ≡ e.stage) × (access ≡ access_at e e.stage) }
     ensures { (e : PlainEdit) → IsEditing world.old process e → EditStepTakes world.old process (reply_at world.old.sheet.layout.processes e.number stage) world.new }

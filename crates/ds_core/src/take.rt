@@ -21,6 +21,7 @@ use ds_state::world::World;
 use std::alloc::{AllocError, Global};
 
 // An edit begins, or is refused.
+#[inline(always)]
 fn begin_edit(alloc: Global, world: &mut World, request: &Request) -> Reply
     ensures { BeginTakes world.old request.now result world.new }
 {
@@ -35,6 +36,7 @@ fn begin_edit(alloc: Global, world: &mut World, request: &Request) -> Reply
 }
 
 // Work begins, or is refused.
+#[inline(always)]
 fn begin_work(alloc: Global, world: &mut World, process: usize, cell: Cell) -> Reply
     ensures { BeginWorkTakes world.old process cell result world.new }
 {
@@ -85,6 +87,7 @@ fn begin_show(alloc: Global, world: &mut World, process: usize) -> Reply
     }
 }
 
+#[inline(always)]
 fn happen(alloc: Global, world: &mut World, event: &Event) -> Reply
     ensures { Takes world.old event.now result world.new }
 {

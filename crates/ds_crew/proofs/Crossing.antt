@@ -181,7 +181,7 @@ Layout-send : IsSend Layout.the_row
 Layout-send = search (sendable, crosses) depth 20
 
 SheetWords-send : IsSend SheetWords.the_row
-SheetWords-send = search (sendable, crosses, Words-send) depth 40
+SheetWords-send = search (sendable, crosses, Words-send) depth 60 fits 100000
 
 Edit-send : IsSend Edit.the_row
 Edit-send = search (sendable, crosses, Text-send) depth 40
@@ -193,7 +193,7 @@ Reports-send : IsSend Reports.the_row
 Reports-send = search (sendable, crosses) depth 20
 
 pub world_send : IsSend World.the_row
-world_send = search (sendable, crosses, SheetWords-send, Situation-send, Edit-send, Issue-send, Reports-send) depth 60 fits 100000
+world_send = search (sendable, crosses, SheetWords-send, Situation-send, Edit-send, Issue-send, Reports-send, Inputs-send) depth 60 fits 100000
 
 Cell-send : IsSend Cell.the_row
 Cell-send = search (sendable, crosses) depth 20

@@ -29,6 +29,7 @@ use ds_state::world::World;
 use std::alloc::{AllocError, Global};
 
 // The number of the edit that the process may begin.
+#[inline(always)]
 fn next(situation: &Situation) -> Result<usize, Refusal>
     ensures { result ≡ next_of situation.now }
 {
@@ -43,6 +44,7 @@ fn next(situation: &Situation) -> Result<usize, Refusal>
 }
 
 // The numbers of the cells written in a content.
+#[inline(always)]
 fn numbers(alloc: Global, shape: &Shape, content: &Content) -> Result<Vec<usize>, AllocError>
     requires { (cell : Cell) → Refers (plain content.now) cell → IsInside shape.now cell }
     ensures { IfOk result (λ v. AreNumbers shape.now (plain content.now) v.items) }
@@ -56,6 +58,7 @@ fn numbers(alloc: Global, shape: &Shape, content: &Content) -> Result<Vec<usize>
 }
 
 // The content of the text of an idle process's edit of this number, and the cells written in it.
+#[inline(always)]
 fn references(
     alloc: Global,
     shape: &Shape,
@@ -110,6 +113,7 @@ pub fn prepared(
 }
 
 // Begins an edit of the sheet.
+#[inline(always)]
 fn issue(world: &mut World, call: EditCall)
     requires idle { IsIdle (world_of world.old) call.process call.number }
     requires sheet { IsSheetOf world.old.sheet.layout call }
@@ -135,6 +139,7 @@ fn issue(world: &mut World, call: EditCall)
 /// process is in a call, `Stopped` where it is stopped, `Text` with the first fault of the text,
 /// `RecordsFull` where the process has begun 256 edits, `NoMemory` where an allocation failed, also
 /// while the text is read.
+#[inline(always)]
 pub fn begin(
     alloc: Global,
     world: &mut World,

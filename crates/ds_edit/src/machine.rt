@@ -90,6 +90,7 @@ fn announced(call: &EditCall, phase: Phase) -> u64
 }
 
 /// What the edit does next.
+#[inline(always)]
 pub fn want(call: &EditCall) -> Access<Place>
     ensures { result ≡ access_at call.now call.now.stage }
 {
@@ -182,6 +183,7 @@ fn swung_from(call: &EditCall, noted: u64, seen: u64) -> Stage
     }
 }
 
+#[inline(always)]
 fn next(call: &EditCall, word: u64) -> Stage
     ensures { result ≡ next_at call.now call.now.stage word }
 {
@@ -219,6 +221,7 @@ fn next(call: &EditCall, word: u64) -> Stage
 /// The edit goes on with the word that its access answered, whatever that is. At its answer it
 /// stays.
 #[tactic(auto, using(crate::proofs::Stays::got_stays))]
+#[inline(always)]
 pub fn got(call: &mut EditCall, word: u64)
     ensures { call.new ≡ got_at call.old word }
 {

@@ -78,6 +78,13 @@ impl Inputs {
         let _ = self.items.push(input);
     }
 
+    /// How many inputs there is room for.
+    pub fn room(&self) -> usize
+        ensures { result ≡ self.now.room }
+    {
+        self.items.capacity()
+    }
+
     /// They become none. The room stays.
     pub fn clear(&mut self)
         ensures items { self.new.items ≡ [] }

@@ -1,5 +1,5 @@
 -- Marks are the cells that are written, and the cells that have a mark ascend.
-use Rattle.std.proofs.Common.{◌≡◌, ◌⊎◌, inl, inr, ℕ, zero, suc, ◌+◌, ◌*◌, ◌/◌, ◌<◌, ◌≤◌, Bool, true, false, cond, ◌||◌, leb, List, [], ◌∷◌, ◌++◌, map, take, length, length-append, get_or, replicate, Decides, refl, sym, ap, subst, ◌∙◌, arith, add-one, Result, Ok, Err, IfOk}
+use Rattle.std.proofs.Common.{◌≡◌, ◌⊎◌, inl, inr, ℕ, zero, suc, ◌+◌, ◌-◌, ◌*◌, ◌/◌, ◌<◌, ◌≤◌, Bool, true, false, cond, ◌||◌, leb, List, [], ◌∷◌, ◌++◌, map, take, length, length-append, get_or, replicate, Decides, refl, sym, ap, subst, ◌∙◌, arith, add-one, Result, Ok, Err, IfOk}
 use Rattle.std.proofs.Math.Bool.{or_assoc}
 use Rattle.std.proofs.Math.Seq.{get_or-append_seam}
 use Rattle.std.proofs.lemmas.Bool.{cases_lt, false≢true, leb-true, le-leb}
@@ -16,6 +16,7 @@ use Rattle.ds_formula.specs.declared.content.Function.{Function}
 use Rattle.ds_formula.specs.declared.content.Tree.{Tree}
 use Rattle.ds_formula.specs.declared.content.Tree.TheVariants.{Call}
 use Rattle.ds_formula.specs.declared.references.TheConstants.{PLACES}
+use Rattle.ds_formula.specs.declared.references.Rows.{Rows}
 use Rattle.ds_formula.specs.Cells.{IsWithin}
 use Rattle.ds_formula.specs.Plain.{Formula, Literal, At, Area, Signed, Joined, Called, Formulas, Nothing, Then, listed, formula, plain, Computed}
 use Rattle.ds_formula.specs.Refs.{Mentions, SomeMentions, IsPossible, IsBefore, AreRefs}
@@ -201,22 +202,35 @@ refs_answer content t (Ok v) start marks p q m h =
 
 -- ---- rows with a mark
 
-pub no_rows : (marks rows : List Bool) → marks ≡ replicate PLACES false → AreRowsOf marks rows
-no_rows marks rows e = record {
-  each = λ k l m. absurd (false≢true (sym (get_or-replicate PLACES k false false l) ∙ ap (λ (x : List Bool). get_or x k false) (sym e) ∙ m));
+unmarked : (marks : List Bool) (k : ℕ) → marks ≡ replicate PLACES false → k < PLACES → get_or marks k false ≡ true → ⊥
+unmarked marks k e l m = false≢true (sym (get_or-replicate PLACES k false false l) ∙ ap (λ (x : List Bool). get_or x k false) (sym e) ∙ m)
+
+pub no_rows : (marks : List Bool) (rows : Rows) → marks ≡ replicate PLACES false → rows.first ≤ 64 → AreRowsOf marks rows
+no_rows marks rows e low = record {
+  each = λ k l m. absurd (unmarked marks k e l m);
+  behind = λ k l m. absurd (unmarked marks k e l m);
+  before = λ k l m. absurd (unmarked marks k e l m);
+  within = low;
 }
 
 either_true : (a b : Bool) → (a || b) ≡ true → (a ≡ true) ⊎ (b ≡ true)
 either_true true b e = inl refl
 either_true false b e = inr e
 
-pub area_rows : (area : Rect) (marks more rows then : List Bool) → AreRowsOf marks rows → MarksArea area marks more → MarksRows area rows then → AreRowsOf more then
-area_rows area marks more rows then r m n = record {
-  each = λ k l e. elim (either_true (get_or marks k false) (is_within area (cell_by k)) (sym (m.each k l) ∙ e)) [
-    | inl p ↦ n.kept (k / 26) (r.each k l p)
-    | inr p ↦ let w = (within_decides area (cell_by k)).0 p in n.marked (k / 26) w.from_top w.to_bottom (omega arith)
-  ];
-}
+pub area_rows : (area : Rect) (marks more : List Bool) (rows then : Rows) → AreRowsOf marks rows → MarksArea area marks more → MarksRows area rows.has_mark then.has_mark
+    → then.first ≤ rows.first → then.first ≤ area.first.row → rows.end ≤ then.end → ((r : ℕ) → r ≤ area.last.row → r < 64 → r < then.end) → AreRowsOf more then
+area_rows area marks more rows then r m n f g h i =
+    let now : (k : ℕ) → k < PLACES → get_or more k false ≡ true → (get_or marks k false ≡ true) ⊎ IsWithin area (cell_by k) =
+    λ k l e. elim (either_true (get_or marks k false) (is_within area (cell_by k)) (sym (m.each k l) ∙ e)) [
+      | inl p ↦ inl p
+      | inr p ↦ inr ((within_decides area (cell_by k)).0 p)
+    ] in
+    record {
+      each = λ k l e. elim (now k l e) [ inl p ↦ n.kept (k / 26) (r.each k l p) | inr w ↦ n.marked (k / 26) w.from_top w.to_bottom (omega arith) ];
+      behind = λ k l e. elim (now k l e) [ inl p ↦ omega (arith, r.behind k l p) | inr w ↦ omega (arith, w.from_top) ];
+      before = λ k l e. elim (now k l e) [ inl p ↦ omega (arith, r.before k l p) | inr w ↦ i (k / 26) w.to_bottom (omega arith) ];
+      within = omega (arith, r.within);
+    }
 
 -- places without a mark add no cell
 pub unmarked_more : (marks : List Bool) (n m : ℕ) → ((k : ℕ) → n ≤ k → k < n + m → get_or marks k false ≡ false) → marked_below marks (n + m) ≡ marked_below marks n
@@ -232,7 +246,20 @@ is_false : (b : Bool) → (b ≡ true → ⊥) → b ≡ false
 is_false true n = absurd (n refl)
 is_false false n = refl
 
-pub row_skipped : (marks rows : List Bool) (row : ℕ) → row < 64 → AreRowsOf marks rows → get_or rows row false ≡ false → marked_below marks (26 * row + 26) ≡ marked_below marks (26 * row)
+pub row_skipped : (marks : List Bool) (rows : Rows) (row : ℕ) → row < 64 → AreRowsOf marks rows → get_or rows.has_mark row false ≡ false → marked_below marks (26 * row + 26) ≡ marked_below marks (26 * row)
 row_skipped marks rows row l r e = unmarked_more marks (26 * row) 26 (λ k o p.
     let q : k / 26 ≡ row = omega arith in
-    is_false (get_or marks k false) (λ m. false≢true (sym e ∙ ap (λ (i : ℕ). get_or rows i false) (sym q) ∙ r.each k (omega arith) m)))
+    is_false (get_or marks k false) (λ m. false≢true (sym e ∙ ap (λ (i : ℕ). get_or rows.has_mark i false) (sym q) ∙ r.each k (omega arith) m)))
+
+-- above the first row no cell has a mark
+pub none_above : (marks : List Bool) (rows : Rows) → AreRowsOf marks rows → marked_below marks (26 * rows.first) ≡ []
+none_above marks rows r =
+    ap (marked_below marks) (let e : 26 * rows.first ≡ 0 + 26 * rows.first = omega arith in e)
+    ∙ unmarked_more marks 0 (26 * rows.first) (λ k o p. is_false (get_or marks k false) (λ m. let low = r.within in let behind = r.behind k (omega arith) m in absurd (omega arith)))
+    ∙ marked_none marks
+
+-- nor from the end on
+pub none_below : (marks : List Bool) (rows : Rows) (row : ℕ) → AreRowsOf marks rows → row ≤ 64 → (row < rows.end → row < 64 → ⊥) → marked_below marks PLACES ≡ marked_below marks (26 * row)
+none_below marks rows row r low out =
+    ap (marked_below marks) (let e : PLACES ≡ 26 * row + (PLACES - 26 * row) = omega arith in e)
+    ∙ unmarked_more marks (26 * row) (PLACES - 26 * row) (λ k o p. is_false (get_or marks k false) (λ m. let before = r.before k (omega arith) m in absurd (out (omega arith) (omega arith))))

@@ -2,7 +2,8 @@
 use Rattle.std.specs.Prelude.{◌≡◌, ℕ, zero, suc, ◌/◌, ◌%◌, ◌<◌, ◌≤◌, Bool, false, true, ◌&&◌, ◌||◌, nat_le, List, [], ◌∷◌, ◌++◌, length, slice_index_or, if◌then◌else◌}
 use Rattle.ds_formula.specs.declared.cells.Cell.{Cell}
 use Rattle.ds_formula.specs.declared.cells.Rect.{Rect}
-use Rattle.ds_formula.specs.declared.references.TheConstants.{PLACES}
+use Rattle.ds_formula.specs.declared.references.TheConstants.{PLACES, ROWS}
+use Rattle.ds_formula.specs.declared.references.Rows.{Rows}
 use Rattle.ds_formula.specs.Plain.{Formula, Literal, At, Area, Signed, Joined, Called, Formulas, Nothing, Then}
 
 -- the cell with this place among all that some sheet has
@@ -33,9 +34,12 @@ unfoldable pub marked_below : List Bool → ℕ → List Cell
 marked_below marks zero = []
 marked_below marks (suc n) = marked_below marks n ++ (if slice_index_or marks n false then cell_by n ∷ [] else [])
 
--- each row in which a cell has a mark is a marked row
-pub record AreRowsOf (marks rows : List Bool) : Type 0 where
-  pub each : (k : ℕ) → k < PLACES → slice_index_or marks k false ≡ true → slice_index_or rows (k / 26) false ≡ true
+-- each row in which a cell has a mark is one of the rows
+pub record AreRowsOf (marks : List Bool) (rows : Rows) : Type 0 where
+  pub each : (k : ℕ) → k < PLACES → slice_index_or marks k false ≡ true → slice_index_or rows.has_mark (k / 26) false ≡ true
+  pub behind : (k : ℕ) → k < PLACES → slice_index_or marks k false ≡ true → rows.first ≤ k / 26
+  pub before : (k : ℕ) → k < PLACES → slice_index_or marks k false ≡ true → k / 26 < rows.end
+  pub within : rows.first ≤ ROWS
 
 -- beside the marks that were there, the cells that pass the test have one now
 pub record MarksBy (test : Cell → Bool) (old new : List Bool) : Type 0 where

@@ -47,6 +47,7 @@ impl Shape {
     }
 
     /// How many cells the sheet has, from 1 to 1,024.
+    #[inline(always)]
     pub fn count(&self) -> usize
         ensures value { result ≡ count_of self.now }
         ensures at_least_one { 1 ≤ result }

@@ -52,6 +52,7 @@ pub struct Parsed {
 }
 
 // How tightly it binds.
+#[inline(always)]
 pub(crate) fn level_of(operator: Operator) -> usize
     ensures { result ≡ level_of operator }
 {
@@ -68,6 +69,7 @@ pub(crate) fn level_of(operator: Operator) -> usize
 }
 
 // The operator of this level at the front, and the bytes behind it.
+#[inline(always)]
 fn operator(level: usize, text: &[u8]) -> Option<(Operator, &[u8])>
     ensures is { option_map (λ x. (x.0, x.1.now)) result ≡ operator_at level text.now }
     ensures shorter { IfSome result (λ x. length x.1.now ≤ length text.now) }
@@ -81,6 +83,7 @@ fn operator(level: usize, text: &[u8]) -> Option<(Operator, &[u8])>
 }
 
 // What is behind a semicolon at the front.
+#[inline(always)]
 fn semicolon(text: &[u8]) -> Option<&[u8]>
     ensures is { option_map (λ r. r.now) result ≡ semicolon_at text.now }
     ensures shorter { IfSome result (λ x. length x.now ≤ length text.now) }
@@ -92,6 +95,7 @@ fn semicolon(text: &[u8]) -> Option<&[u8]>
 }
 
 // What is behind a closing bracket, which has to come.
+#[inline(always)]
 fn close(text: &[u8]) -> Result<&[u8], Stop>
     ensures is { result_of (λ r. r.now) result ≡ close_at text.now }
     ensures shorter { IfOk result (λ x. length x.now ≤ length text.now) }
@@ -103,6 +107,7 @@ fn close(text: &[u8]) -> Result<&[u8], Stop>
 }
 
 // The end, which has to come.
+#[inline(always)]
 fn end(text: &[u8]) -> Result<&[u8], Stop>
     ensures { result_of (λ r. r.now) result ≡ end_at text.now }
 {
@@ -112,6 +117,7 @@ fn end(text: &[u8]) -> Result<&[u8], Stop>
     }
 }
 
+#[inline(always)]
 fn of_leaf(leaf: Leaf) -> Parsed
     ensures tree { formula result.tree ≡ leaf_formula leaf }
     ensures ranges { result.ranges ≡ leaf_ranges leaf }
@@ -143,6 +149,7 @@ fn signed(alloc: Global, sign: Sign, operand: Parsed) -> Result<Parsed, Refusal>
     })
 }
 
+#[inline(always)]
 fn joined(alloc: Global, operator: Operator, left: Parsed, right: Parsed) -> Result<Parsed, Refusal>
     ensures tree { IfOk result (λ x. formula x.tree ≡ Joined operator (formula left.tree) (formula right.tree)) }
     ensures ranges { IfOk result (λ x. x.ranges ≡ first_of (used left.ranges) (used right.ranges)) }

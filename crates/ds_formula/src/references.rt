@@ -1,6 +1,6 @@
 //! The cells written in a content.
 
-ghost use Rattle.std.specs.Prelude.{◌≡◌, ◌+◌, ◌*◌, ◌<◌, false, IfOk, OnOk, replicate, vec_len};
+ghost use Rattle.std.specs.Prelude.{◌≡◌, ◌+◌, ◌*◌, ◌<◌, IfOk, OnOk};
 ghost use Rattle.ds_formula.specs.Plain.{formula, plain};
 ghost use Rattle.ds_formula.specs.Refs.{AreRefs};
 ghost use Rattle.ds_formula.specs.Marks.{cell_by, is_within, marked_below, AreRowsOf, Marks, MarksArea, MarksRows};
@@ -15,6 +15,7 @@ const PLACES: usize = 26 * 64;
 // How many rows the most rows are.
 const ROWS: usize = 64;
 
+#[inline(always)]
 fn cell_by(place: usize) -> Cell
     ensures { result ≡ cell_by place }
 {
@@ -24,6 +25,7 @@ fn cell_by(place: usize) -> Cell
     }
 }
 
+#[inline(always)]
 fn is_within(area: Rect, cell: Cell) -> bool
     ensures { result ≡ is_within area cell }
 {
@@ -33,13 +35,13 @@ fn is_within(area: Rect, cell: Cell) -> bool
         && cell.row <= area.last.row
 }
 
-// Marks the cells of the range, and only looks at its rows.
-fn mark_area(area: Rect, marks: &mut Vec<bool>)
-    requires { vec_len marks.old ≡ PLACES }
-    ensures { MarksArea area marks.old.items marks.new.items }
+// Marks the cells of the range, and only looks from its first cell to its last one.
+#[inline(always)]
+fn mark_area(area: Rect, marks: &mut [bool; PLACES])
+    ensures { MarksArea area marks.old marks.new }
 {
-    let from = area.first.row.min(64) * 26;
-    let to = area.last.row.min(63) * 26 + 26;
+    let from = area.first.row.min(64) * 26 + area.first.column.min(26);
+    let to = area.last.row.min(63) * 26 + area.last.column.min(25) + 1;
     for place in from..to {
         if is_within(area, cell_by(place)) {
             marks[place] = true;
@@ -47,34 +49,44 @@ fn mark_area(area: Rect, marks: &mut Vec<bool>)
     }
 }
 
+// The rows in which cells have a mark: these, from the first one up to the end.
+#[derive(Clone, Copy, Debug)]
+struct Rows {
+    has_mark: [bool; ROWS],
+    first: usize,
+    end: usize,
+}
+
 // Marks the rows of the range.
-fn mark_rows(area: Rect, rows: &mut [bool; ROWS])
-    ensures { MarksRows area rows.old rows.new }
+#[inline(always)]
+fn mark_rows(area: Rect, has_mark: &mut [bool; ROWS])
+    ensures { MarksRows area has_mark.old has_mark.new }
 {
     for row in area.first.row..area.last.row.min(ROWS - 1) + 1 {
-        rows[row] = true;
+        has_mark[row] = true;
     }
 }
 
 // Marks the cells of the range, and its rows.
 #[tactic(auto, using(crate::proofs::Marks::area_rows))]
-fn mark_range(area: Rect, marks: &mut Vec<bool>, rows: &mut [bool; ROWS])
-    requires count { vec_len marks.old ≡ PLACES }
-    requires rows { AreRowsOf marks.old.items rows.old }
-    ensures marks { MarksArea area marks.old.items marks.new.items }
-    ensures rows { AreRowsOf marks.new.items rows.new }
+#[inline(always)]
+fn mark_range(area: Rect, marks: &mut [bool; PLACES], rows: &mut Rows)
+    requires { AreRowsOf marks.old rows.old }
+    ensures marks { MarksArea area marks.old marks.new }
+    ensures rows { AreRowsOf marks.new rows.new }
 {
     mark_area(area, marks);
-    mark_rows(area, rows);
+    mark_rows(area, &mut rows.has_mark);
+    rows.first = rows.first.min(area.first.row);
+    rows.end = rows.end.max(area.last.row.min(ROWS - 1) + 1);
 }
 
 impl Tree {
     // Marks the cells that are written in it, and their rows.
-    fn mark(&self, marks: &mut Vec<bool>, rows: &mut [bool; ROWS])
-        requires count { vec_len marks.old ≡ PLACES }
-        requires rows { AreRowsOf marks.old.items rows.old }
-        ensures marks { Marks (formula self.now) marks.old.items marks.new.items }
-        ensures rows { AreRowsOf marks.new.items rows.new }
+    fn mark(&self, marks: &mut [bool; PLACES], rows: &mut Rows)
+        requires { AreRowsOf marks.old rows.old }
+        ensures marks { Marks (formula self.now) marks.old marks.new }
+        ensures rows { AreRowsOf marks.new rows.new }
     {
         match self {
             Tree::Number(_) => {}
@@ -102,11 +114,11 @@ impl Tree {
 }
 
 // Adds the cells of a row that have a mark.
-fn add_row(marks: &Vec<bool>, row: usize, cells: &mut Vec<Cell>) -> Result<(), AllocError>
-    requires count { vec_len marks.now ≡ PLACES }
+#[inline(always)]
+fn add_row(marks: &[bool; PLACES], row: usize, cells: &mut Vec<Cell>) -> Result<(), AllocError>
     requires row { row < ROWS }
-    requires before { cells.old.items ≡ marked_below marks.now.items (26 * row) }
-    ensures { OnOk result (cells.new.items ≡ marked_below marks.now.items (26 * row + 26)) }
+    requires before { cells.old.items ≡ marked_below marks.now (26 * row) }
+    ensures { OnOk result (cells.new.items ≡ marked_below marks.now (26 * row + 26)) }
 {
     for place in 26 * row..26 * row + 26 {
         if marks[place] {
@@ -117,24 +129,17 @@ fn add_row(marks: &Vec<bool>, row: usize, cells: &mut Vec<Cell>) -> Result<(), A
 }
 
 // The cells that have a mark. It looks only at these rows.
-fn marked(alloc: Global, marks: &Vec<bool>, rows: &[bool; ROWS]) -> Result<Vec<Cell>, AllocError>
-    requires count { vec_len marks.now ≡ PLACES }
-    requires rows { AreRowsOf marks.now.items rows.now }
-    ensures { IfOk result (λ v. v.items ≡ marked_below marks.now.items PLACES) }
+fn marked(alloc: Global, marks: &[bool; PLACES], rows: &Rows) -> Result<Vec<Cell>, AllocError>
+    requires { AreRowsOf marks.now rows.now }
+    ensures { IfOk result (λ v. v.items ≡ marked_below marks.now PLACES) }
 {
     let mut cells = Vec::new(alloc);
-    for row in 0..ROWS {
-        if rows[row] {
+    for row in rows.first..rows.end.min(ROWS) {
+        if rows.has_mark[row] {
             add_row(marks, row, &mut cells)?;
         }
     }
     Ok(cells)
-}
-
-fn unmarked(alloc: Global) -> Result<Vec<bool>, AllocError>
-    ensures { IfOk result (λ v. v.items ≡ replicate PLACES false) }
-{
-    Ok(vec![in alloc; false; PLACES]?)
 }
 
 impl Content {
@@ -147,8 +152,12 @@ impl Content {
         match self {
             Content::Blank | Content::Number(_) => Ok(Vec::new(alloc)),
             Content::Formula(tree) => {
-                let mut marks = unmarked(alloc)?;
-                let mut rows = [false; ROWS];
+                let mut marks = [false; PLACES];
+                let mut rows = Rows {
+                    has_mark: [false; ROWS],
+                    first: ROWS,
+                    end: 0,
+                };
                 tree.mark(&mut marks, &mut rows);
                 marked(alloc, &marks, &rows)
             }

@@ -57,6 +57,7 @@ pub enum Follow {
 }
 
 // The bytes don't go on as they should.
+#[inline(always)]
 pub(crate) fn unexpected(text: &[u8]) -> Stop
     ensures { result ≡ unexpected_stop text.now }
 {
@@ -71,6 +72,7 @@ pub(crate) fn unexpected(text: &[u8]) -> Stop
     }
 }
 
+#[inline(always)]
 pub(crate) fn begins(byte: u8, text: &[u8]) -> bool
     ensures { result ≡ begins byte text.now }
 {
@@ -80,6 +82,7 @@ pub(crate) fn begins(byte: u8, text: &[u8]) -> bool
     }
 }
 
+#[inline(always)]
 fn is_space(byte: u8) -> bool
     ensures { result ≡ is_space byte }
 {
@@ -87,6 +90,7 @@ fn is_space(byte: u8) -> bool
 }
 
 // What is behind the white space at the front.
+#[inline(always)]
 pub(crate) fn skip(text: &[u8]) -> &[u8]
     ensures is { result.now ≡ skipped text.now }
     ensures shorter { length result.now ≤ length text.now }
@@ -101,6 +105,7 @@ pub(crate) fn skip(text: &[u8]) -> &[u8]
 }
 
 // The digits' number, or the greatest one where it is greater, and what is behind them.
+#[inline(always)]
 fn digits(text: &[u8]) -> (u64, &[u8])
     ensures value { result.0 ≡ min (number_from 0 text.now).0 (2 ^ 64 - 1) }
     ensures rest { result.1.now ≡ (number_from 0 text.now).1 }
@@ -150,6 +155,7 @@ pub(crate) fn number(limit: u64, text: &[u8]) -> Result<(u64, &[u8]), Stop>
 
 // A byte that has to come.
 #[tactic(auto, unfolding(crate::specs::Bytes::byte_at))]
+#[inline(always)]
 pub(crate) fn byte(wanted: u8, text: &[u8]) -> Result<&[u8], Stop>
     ensures is { result_of (λ x. x.now) result ≡ byte_at wanted text.now }
     ensures shorter { IfOk result (λ x. length x.now < length text.now) }
@@ -160,6 +166,7 @@ pub(crate) fn byte(wanted: u8, text: &[u8]) -> Result<&[u8], Stop>
     }
 }
 
+#[inline(always)]
 fn without_dollar(text: &[u8]) -> &[u8]
     ensures is { result.now ≡ without_dollar text.now }
     ensures shorter { length result.now ≤ length text.now }
@@ -171,6 +178,7 @@ fn without_dollar(text: &[u8]) -> &[u8]
 }
 
 // The number of the letters, or the greatest one where it is greater, and what is behind them.
+#[inline(always)]
 fn letters(text: &[u8]) -> (u64, &[u8])
     ensures value { result.0 ≡ min (letters_from 0 text.now).0 (2 ^ 64 - 1) }
     ensures rest { result.1.now ≡ (letters_from 0 text.now).1 }
@@ -190,6 +198,7 @@ fn letters(text: &[u8]) -> (u64, &[u8])
 }
 
 // A cell by its column and its row, each from 1, where it is one of the sheet.
+#[inline(always)]
 pub(crate) fn cell_of(shape: &Shape, column: u64, row: u64) -> Option<Cell>
     ensures value { result ≡ cell_of shape.now column row }
     ensures inside { IfSome result (IsInside shape.now) }
@@ -208,6 +217,7 @@ pub(crate) fn cell_of(shape: &Shape, column: u64, row: u64) -> Option<Cell>
 
 // A dot, a column and a row: the cell, where it is one of the sheet.
 #[tactic(auto, unfolding(crate::specs::References::corner_at))]
+#[inline(always)]
 fn corner<'a>(shape: &Shape, text: &'a [u8]) -> Result<(Option<Cell>, &'a [u8]), Stop>
     ensures is { result_of (λ x. (x.0, x.1.now)) result ≡ corner_at shape.now text.now }
     ensures shorter { IfOk result (λ x. length x.1.now ≤ length text.now) }
@@ -219,6 +229,7 @@ fn corner<'a>(shape: &Shape, text: &'a [u8]) -> Result<(Option<Cell>, &'a [u8]),
 }
 
 #[tactic(auto, unfolding(crate::specs::References::letters_at))]
+#[inline(always)]
 pub(crate) fn column(text: &[u8]) -> Result<(u64, &[u8]), Stop>
     ensures is { result_of (λ x. (x.0, x.1.now)) result ≡ capped (letters_at text.now) }
     ensures shorter { IfOk result (λ x. length x.1.now ≤ length text.now) }
@@ -230,6 +241,7 @@ pub(crate) fn column(text: &[u8]) -> Result<(u64, &[u8]), Stop>
 }
 
 #[tactic(auto, unfolding(crate::specs::References::row_at))]
+#[inline(always)]
 pub(crate) fn row(text: &[u8]) -> Result<(u64, &[u8]), Stop>
     ensures is { result_of (λ x. (x.0, x.1.now)) result ≡ capped (row_at text.now) }
     ensures shorter { IfOk result (λ x. length x.1.now ≤ length text.now) }
@@ -258,6 +270,7 @@ fn area_of(one: Cell, other: Cell) -> Rect
 
 // A reference or a range, in its brackets.
 #[tactic(auto, unfolding(crate::specs::References::reference_at))]
+#[inline(always)]
 fn reference<'a>(shape: &Shape, text: &'a [u8]) -> Result<(Leaf, &'a [u8]), Stop>
     ensures is { result_of (λ x. (x.0, x.1.now)) result ≡ reference_at shape.now text.now }
     ensures shorter { IfOk result (λ x. length x.1.now < length text.now) }
@@ -324,6 +337,7 @@ fn name(text: &[u8]) -> Result<(Lead, &[u8]), Stop>
 }
 
 #[tactic(auto, unfolding(crate::specs::Tokens::lead_of))]
+#[inline(always)]
 fn lead_of<'a>(shape: &Shape, text: &'a [u8]) -> Result<(Lead, &'a [u8]), Stop>
     ensures is { result_of (λ x. (x.0, x.1.now)) result ≡ lead_of shape.now text.now }
     ensures shorter { IfOk result (λ x. length x.1.now < length text.now) }
@@ -347,6 +361,7 @@ fn lead_of<'a>(shape: &Shape, text: &'a [u8]) -> Result<(Lead, &'a [u8]), Stop>
 
 // The token at the front where an operand is due, behind white space, and what is behind it.
 #[tactic(auto, unfolding(crate::specs::Tokens::lead_at))]
+#[inline(always)]
 pub(crate) fn read_lead<'a>(shape: &Shape, text: &'a [u8]) -> Result<(Lead, &'a [u8]), Stop>
     ensures is { result_of (λ x. (x.0, x.1.now)) result ≡ lead_at shape.now text.now }
     ensures shorter { IfOk result (λ x. length x.1.now < length text.now) }
@@ -378,6 +393,7 @@ fn after_greater(text: &[u8]) -> (Operator, &[u8])
 }
 
 #[tactic(auto, unfolding(crate::specs::Tokens::follow_of))]
+#[inline(always)]
 fn follow_of(text: &[u8]) -> Result<(Follow, &[u8]), Stop>
     ensures is { result_of (λ x. (x.0, x.1.now)) result ≡ follow_of text.now }
     ensures shorter { IfOk result (λ x. length x.1.now ≤ length text.now) }
@@ -404,6 +420,7 @@ fn follow_of(text: &[u8]) -> Result<(Follow, &[u8]), Stop>
 
 // The token at the front where an operand has ended, behind white space, and what is behind it.
 #[tactic(auto, unfolding(crate::specs::Tokens::follow_at))]
+#[inline(always)]
 pub(crate) fn read_follow(text: &[u8]) -> Result<(Follow, &[u8]), Stop>
     ensures is { result_of (λ x. (x.0, x.1.now)) result ≡ follow_at text.now }
     ensures shorter { IfOk result (λ x. length x.1.now ≤ length text.now) }

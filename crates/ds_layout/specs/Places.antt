@@ -1,5 +1,5 @@
 -- The words of a sheet and their numbers.
-use Rattle.std.specs.Prelude.{ℕ, ◌+◌, ◌-◌, ◌*◌, ◌/◌, ◌%◌, ◌<◌, ◌≤◌, nat_lt, if◌then◌else◌}
+use Rattle.std.specs.Prelude.{◌≡◌, ℕ, ◌+◌, ◌-◌, ◌*◌, ◌/◌, ◌%◌, ◌<◌, ◌≤◌, nat_lt, if◌then◌else◌}
 use Rattle.ds_formula.specs.Cells.{count_of}
 use Rattle.ds_words.specs.declared.access.Class.{Class}
 use Rattle.ds_words.specs.declared.access.Class.TheVariants.{Stamped, Bit, Owned}
@@ -87,6 +87,12 @@ pub record IsAscending (s : Starts) : Type 0 where
 -- the numbers where each kind of the sheet's words begins
 unfoldable pub starts_of : Layout → Starts
 starts_of layout = starts_for (cells_of layout) (parts_of layout) layout.processes
+
+-- the kinds of the sheet's words begin there
+pub record AreStartsOf (layout : Layout) (starts : Starts) : Type 0 where
+  pub is : starts ≡ starts_of layout
+  pub ascending : IsAscending starts
+  pub few : starts.words ≤ 53289
 
 -- how many words the sheet has
 abbrev pub words_of : Layout → ℕ

@@ -11,6 +11,7 @@ pub fn part(number: usize) -> usize
 }
 
 /// How many words the bits of so many numbers take.
+#[inline(always)]
 pub fn parts(numbers: usize) -> usize
     ensures { result ≡ parts_for numbers }
 {

@@ -27,7 +27,7 @@ pub struct Layout {
 
 /// The number of the first word of each kind, and of all words.
 #[derive(Clone, Copy)]
-struct Starts {
+pub(crate) struct Starts {
     heads: usize,
     marks: usize,
     values: usize,
@@ -41,7 +41,7 @@ struct Starts {
 }
 
 impl Layout {
-    ghost use Rattle.ds_layout.specs.Places.{cells_of, parts_of, IsAscending, starts_of, words_of, IsPlace, number_of, place_of};
+    ghost use Rattle.ds_layout.specs.Places.{cells_of, parts_of, IsAscending, AreStartsOf, starts_of, words_of, IsPlace, number_of, place_of};
     ghost use Rattle.ds_layout.specs.declared.place.Place.{Place};
     ghost use Rattle.ds_layout.specs.SheetMemory.{HasClasses, NamesPlace, access_at};
 
@@ -58,6 +58,7 @@ impl Layout {
     }
 
     /// How many cells the sheet has.
+    #[inline(always)]
     pub fn cells(&self) -> usize
         ensures value { result ≡ cells_of self.now }
         ensures at_least_one { 1 ≤ result }
@@ -67,6 +68,7 @@ impl Layout {
     }
 
     /// How many words the index row of a cell has, 64 cells each.
+    #[inline(always)]
     pub fn row_parts(&self) -> usize
         ensures value { result ≡ parts_of self.now }
         ensures at_most { result ≤ 16 }
@@ -74,7 +76,8 @@ impl Layout {
         bits::parts(self.cells())
     }
 
-    fn starts(&self) -> Starts
+    // Where each kind of words begins.
+    pub(crate) fn starts(&self) -> Starts
         ensures value { result ≡ starts_of self.now }
         ensures ascending { IsAscending result }
         ensures at_most { result.words ≤ 53289 }
@@ -111,12 +114,14 @@ impl Layout {
         self.starts().words
     }
 
+    // The number of the word at a place, where each kind of words begins there.
     #[tactic(auto, unfolding(crate::specs::Places::number_of))]
-    fn counted(&self, place: Place) -> usize
-        requires { IsPlace self.now place }
+    #[inline(always)]
+    pub(crate) fn number_from(&self, starts: &Starts, place: Place) -> usize
+        requires place { IsPlace self.now place }
+        requires starts { AreStartsOf self.now starts.now }
         ensures { result ≡ number_of self.now place }
     {
-        let starts = self.starts();
         match place {
             Place::Version => 0,
             Place::Head(cell) => starts.heads + cell,
@@ -205,6 +210,7 @@ impl Layout {
     }
 
     /// The number of the word at a place of the sheet. Two different places never share a word.
+    #[inline(always)]
     pub fn number(&self, place: Place) -> usize
         requires { IsPlace self.now place }
         ensures value { result ≡ number_of self.now place }
@@ -213,7 +219,7 @@ impl Layout {
         ensures alone { (other : Place) → IsPlace self.now other
             → number_of self.now other ≡ result → other ≡ place }
     {
-        self.counted(place)
+        self.number_from(&self.starts(), place)
     }
 
     /// The place of the word with this number.
@@ -238,20 +244,22 @@ impl Layout {
         Ok(classes)
     }
 
-    /// The access by the number of its word.
-    pub fn numbered(&self, access: Access<Place>) -> Access<usize>
-        requires { NamesPlace self.now access }
+    // The access by the number of its word, where each kind of words begins there.
+    #[inline(always)]
+    pub(crate) fn numbered(&self, starts: &Starts, access: Access<Place>) -> Access<usize>
+        requires place { NamesPlace self.now access }
+        requires starts { AreStartsOf self.now starts.now }
         ensures { result ≡ access_at self.now access }
     {
         match access {
             Access::Nothing => Access::Nothing,
-            Access::Load(place) => Access::Load(self.number(place)),
-            Access::Store(place, value) => Access::Store(self.number(place), value),
-            Access::Or(place, bits) => Access::Or(self.number(place), bits),
+            Access::Load(place) => Access::Load(self.number_from(starts, place)),
+            Access::Store(place, value) => Access::Store(self.number_from(starts, place), value),
+            Access::Or(place, bits) => Access::Or(self.number_from(starts, place), bits),
             Access::SwapIf(place, expected, value) => {
-                Access::SwapIf(self.number(place), expected, value)
+                Access::SwapIf(self.number_from(starts, place), expected, value)
             }
-            Access::Flush(place) => Access::Flush(self.number(place)),
+            Access::Flush(place) => Access::Flush(self.number_from(starts, place)),
             Access::Back => Access::Back,
         }
     }

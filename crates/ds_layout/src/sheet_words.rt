@@ -5,7 +5,7 @@ ghost use Rattle.ds_words.specs.Memory.{IsFresh, EvictsAt, Crashes, StopsAt};
 ghost use Rattle.ds_layout.specs.Places.{IsPlace};
 ghost use Rattle.ds_layout.specs.SheetMemory.{CanPerform, PerformsAt, memory};
 
-use crate::layout::Layout;
+use crate::layout::{Layout, Starts};
 use crate::place::Place;
 use ds_words::access::Access;
 use ds_words::words::{Word, Words};
@@ -16,17 +16,19 @@ use std::marker::Model;
 #[derive(Drop)]
 pub struct SheetWords {
     layout: Layout,
+    starts: Starts,
     words: Words,
 }
 
 impl Model for SheetWords {
+    ghost use Rattle.ds_layout.specs.Places.{AreStartsOf};
     ghost use Rattle.ds_layout.specs.SheetMemory.{SheetValue, IsLaidOut};
 
     ghost Value = { SheetValue };
 
     ghost view = { λ s. record { layout = s.layout; words = s.words } };
 
-    ghost invariant = { λ s. IsLaidOut s.layout s.words };
+    ghost invariant = { λ s. IsLaidOut s.layout s.words × AreStartsOf s.layout s.starts };
 }
 
 impl SheetWords {
@@ -38,10 +40,16 @@ impl SheetWords {
     {
         let classes = layout.classes(alloc)?;
         let words = Words::new(alloc, classes, layout.processes)?;
-        Ok(SheetWords { layout, words })
+        let starts = layout.starts();
+        Ok(SheetWords {
+            layout,
+            starts,
+            words,
+        })
     }
 
     /// What fixes the words.
+    #[inline(always)]
     pub fn layout(&self) -> Layout
         ensures { result ≡ self.now.layout }
     {
@@ -55,7 +63,8 @@ impl SheetWords {
         ensures cached { result.cached ≡ (memory self.now).cached place }
         ensures persisted { result.persisted ≡ (memory self.now).persisted place }
     {
-        self.words.word(self.layout.number(place))
+        self.words
+            .word(self.layout.number_from(&self.starts, place))
     }
 
     /// The cached side of the word at a place: what a process sees there.
@@ -67,12 +76,13 @@ impl SheetWords {
     }
 
     /// Performs the access for a process, and answers the number that it saw: 0 where it saw none.
+    #[inline(always)]
     pub fn perform(&mut self, process: usize, access: Access<Place>) -> u64
         requires { CanPerform self.old.layout (memory self.old) process access }
         ensures performs { PerformsAt access process (memory self.old) (memory self.new) result }
         ensures layout { self.new.layout ≡ self.old.layout }
     {
-        let access = self.layout.numbered(access);
+        let access = self.layout.numbered(&self.starts, access);
         self.words.perform(process, access)
     }
 
@@ -82,7 +92,7 @@ impl SheetWords {
         ensures evicts { EvictsAt place (memory self.old) (memory self.new) }
         ensures layout { self.new.layout ≡ self.old.layout }
     {
-        let number = self.layout.number(place);
+        let number = self.layout.number_from(&self.starts, place);
         self.words.evict(number);
     }
 

@@ -8,7 +8,7 @@ ghost use Rattle.ds_state.specs.Value.{world_of};
 ghost use Rattle.ds_edit.specs.declared.answer.Answer.TheVariants.{Settled};
 ghost use Rattle.ds_core.specs.declared.reply.Reply.TheVariants.{Answered};
 ghost use Rattle.ds_streams.specs.AnswerTexts.{settled_text};
-ghost use Rattle.ds_play.specs.ScriptTexts.{counts_text, changed_text, last_text, unsettled_text, values_of, answer_text, reply_text, at_text, left_text, shown_text, state_text, peek_head, peek_text, word_text};
+ghost use Rattle.ds_play.specs.ScriptTexts.{counts_text, changed_text, last_text, unsettled_text, values_of, answer_text, reply_text, at_text, left_text, shown_text, state_text, peek_head, peek_text, word_line, word_text};
 ghost use Rattle.ds_play.specs.Doing.{end_text};
 ghost use Rattle.ds_play.specs.Plays.{halt_text};
 
@@ -22,7 +22,7 @@ use ds_formula::cells::{Cell, Shape};
 use ds_layout::mark::State;
 use ds_layout::place::Place;
 use ds_state::world::World;
-use ds_streams::answer::{done_line, refused_line, settled_lines};
+use ds_streams::answer::{SHORT_LINE, done_line, refused_line, settled_lines};
 use std::alloc::{AllocError, Global};
 
 // The cell with this number; of a number that no cell has, some cell.
@@ -100,6 +100,16 @@ fn report_lines(alloc: Global, shape: Shape, values: &[Value]) -> Result<Vec<u8>
     settled_lines(alloc, &shape, values)
 }
 
+// `P published changed`, `P published same`.
+fn published_line(alloc: Global, process: usize, how: bool) -> Result<String, AllocError>
+    ensures { IfOk result (λ line. string_bytes line ≡ word_line process (changed_text how)) }
+{
+    let how = changed(how);
+    let mut line = String::with_capacity(alloc, SHORT_LINE)?;
+    write!(line, "{process} {how}\n")?;
+    Ok(line)
+}
+
 // The line of an answer that is no settled report.
 fn answer_line(
     alloc: Global,
@@ -122,10 +132,7 @@ fn answer_line(
         Answer::NotDirty => format!(in alloc; "{process} notdirty\n"),
         Answer::Missed => format!(in alloc; "{process} missed\n"),
         Answer::Worn => format!(in alloc; "{process} worn\n"),
-        Answer::Published(how) => {
-            let how = changed(how);
-            format!(in alloc; "{process} {how}\n")
-        }
+        Answer::Published(how) => { published_line(alloc, process, how) }
         Answer::Again => format!(in alloc; "{process} again\n"),
         Answer::NoMemory => format!(in alloc; "{process} nomemory\n"),
         Answer::Last(told) => last_line(alloc, shape, process, told),

@@ -1,6 +1,6 @@
 //! What a process is doing.
 
-ghost use Rattle.std.specs.Prelude.{◌≡◌, ◌<◌, vec_len, slice_set};
+ghost use Rattle.std.specs.Prelude.{◌≡◌, ◌<◌, vec_len, slice_index_or, slice_set};
 
 use crate::edit::EditCall;
 use crate::work::{RecoverCall, ShowCall, WorkCall};
@@ -22,7 +22,19 @@ pub enum Situation {
     Showing(ShowCall),
 }
 
+/// Puts a process into a situation, and leaves the others in theirs. It answers the one that the process was in.
+#[inline(always)]
+pub fn exchange(situations: &mut Vec<Situation>, process: usize, situation: Situation) -> Situation
+    requires { process < vec_len situations.old }
+    ensures items { situations.new.items ≡ slice_set situations.old.items process situation }
+    ensures count { vec_len situations.new ≡ vec_len situations.old }
+    ensures was { result ≡ slice_index_or situations.old.items process result }
+{
+    std::mem::replace(&mut situations[process], situation)
+}
+
 /// Puts a process into a situation, and leaves the others in theirs.
+#[inline(always)]
 pub fn put(situations: &mut Vec<Situation>, process: usize, situation: Situation)
     requires { process < vec_len situations.old }
     ensures items { situations.new.items ≡ slice_set situations.old.items process situation }

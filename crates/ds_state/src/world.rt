@@ -8,6 +8,7 @@ use crate::reports::Reports;
 use crate::shown;
 use crate::situation::Situation;
 use crate::stage::Point;
+use ds_eval::inputs::Inputs;
 use ds_eval::value::Value;
 use ds_formula::cells::{Cell, Shape};
 use ds_layout::layout::{Layout, MAX_PROCESSES};
@@ -34,6 +35,8 @@ pub struct World {
     pub settled: u64,
     /// The values of each process's last report that was answered Settled.
     pub reports: Reports,
+    /// Room for inputs that the last answered work has left, for the next one.
+    pub spare: Option<Inputs>,
 }
 
 impl Model for World {
@@ -116,6 +119,7 @@ impl World {
             done: 0,
             settled: 0,
             reports,
+            spare: None,
         })
     }
 

@@ -14,11 +14,17 @@ use ds_formula::cells::Shape;
 use ds_state::refusal::Refusal;
 use std::alloc::{AllocError, Global};
 
+/// How many bytes a line of a process and a number, or of a process and two words, takes at most: with room for them it
+/// is not moved while it is written.
+pub const SHORT_LINE: usize = 24;
+
 /// `P NUMBER done`. An error is a want of memory.
 pub fn done_line(alloc: Global, process: usize, number: usize) -> Result<String, AllocError>
     ensures { IfOk result (λ line. string_bytes line ≡ done_text process number) }
 {
-    format!(in alloc; "{process} {number} done\n")
+    let mut line = String::with_capacity(alloc, SHORT_LINE)?;
+    write!(line, "{process} {number} done\n")?;
+    Ok(line)
 }
 
 /// `P refused CODE NAME`, with code 1 `P refused 1 FAULT OFFSET`. An error is a want of memory.

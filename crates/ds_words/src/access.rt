@@ -47,6 +47,7 @@ pub enum Access<P> {
 
 impl Class {
     /// The newer of a word's persisted value and a buffered one.
+    #[inline(always)]
     pub fn newer(self, persisted: u64, buffered: u64) -> u64
         ensures { result ≡ newer self persisted buffered }
     {

@@ -67,6 +67,20 @@ fn lose_buffers(buffers: &mut Vec<ArrayVec<Entry<usize>, BUFFER_ENTRIES>>)
     }
 }
 
+/// Takes the oldest entry out of a buffer. Most buffers hold one.
+#[inline(always)]
+fn take_first(buffer: &mut ArrayVec<Entry<usize>, BUFFER_ENTRIES>) -> Entry<usize>
+    requires { 0 < length buffer.old.items }
+    ensures { buffer.old.items ≡ result ∷ buffer.new.items }
+{
+    if buffer.len() > 1 {
+        return buffer.remove(0);
+    }
+    let entry = buffer[0];
+    buffer.clear();
+    entry
+}
+
 impl Words {
     /// A word for each class, zero on both sides, and an empty buffer for each process. An error is
     /// a want of memory.
@@ -165,6 +179,7 @@ impl Words {
     /// Both sides of a word. A process reads the cached side alone: the persisted one is what a
     /// crash leaves.
     #[tactic(auto, unfolding(crate::specs::Words::word_at))]
+    #[inline(always)]
     pub fn word(&self, number: usize) -> Word
         requires { HasWord self.now number }
         ensures { result ≡ word_at self.now number }
@@ -174,6 +189,7 @@ impl Words {
 
     /// Changes both sides of a word.
     #[tactic(auto, unfolding(crate::specs::Words::with_word))]
+    #[inline(always)]
     fn set_word(&mut self, number: usize, word: Word)
         requires { HasWord self.old number }
         ensures { self.new ≡ with_word self.old number word }
@@ -183,6 +199,7 @@ impl Words {
 
     /// The class of a word.
     #[tactic(auto, unfolding(crate::specs::Words::class_at))]
+    #[inline(always)]
     pub fn class(&self, number: usize) -> Class
         requires { HasWord self.now number }
         ensures { result ≡ class_at self.now number }
@@ -191,6 +208,7 @@ impl Words {
     }
 
     /// The cached side of a word.
+    #[inline(always)]
     pub fn load(&self, number: usize) -> u64
         requires { HasWord self.now number }
         ensures { result ≡ (memory_of self.now).cached number }
@@ -199,6 +217,7 @@ impl Words {
     }
 
     /// Sets the cached side of a word.
+    #[inline(always)]
     pub fn store(&mut self, number: usize, value: u64)
         requires { HasWord self.old number }
         ensures stores { StoresAt number value (memory_of self.old) (memory_of self.new) }
@@ -215,6 +234,7 @@ impl Words {
     }
 
     /// Adds bits to the cached side of a word.
+    #[inline(always)]
     pub fn or(&mut self, number: usize, bits: u64)
         requires { HasWord self.old number }
         ensures ors { OrsAt number bits (memory_of self.old) (memory_of self.new) }
@@ -226,6 +246,7 @@ impl Words {
 
     /// Sets the cached side of a word to `value` where it is `expected`, and answers the number
     /// that it was.
+    #[inline(always)]
     pub fn swap_if(&mut self, number: usize, expected: u64, value: u64) -> u64
         requires { HasWord self.old number }
         ensures swaps { SwapsAt number expected value result
@@ -241,6 +262,7 @@ impl Words {
 
     /// Takes the cached side of a word into the buffer of a process, behind the entries that are
     /// there.
+    #[inline(always)]
     pub fn flush(&mut self, process: usize, number: usize)
         requires word { HasWord self.old number }
         requires process { HasProcess self.old process }
@@ -260,6 +282,7 @@ impl Words {
     }
 
     /// Takes the oldest entry out of a buffer.
+    #[inline(always)]
     fn taken(&mut self, process: usize) -> Entry<usize>
         requires process { HasProcess self.old process }
         requires some { 0 < length (buffer_of self.old process) }
@@ -267,11 +290,12 @@ impl Words {
         ensures rest { self.new ≡ with_buffer self.old process (drop 1 (buffer_of self.old process)) }
     {
         let buffer = &mut self.buffers[process];
-        buffer.remove(0)
+        take_first(buffer)
     }
 
     /// Writes the oldest entry of the buffer of a process to the persisted side of its word, where
     /// it is newer.
+    #[inline(always)]
     pub fn back(&mut self, process: usize)
         requires { HasEntry self.old process }
         ensures back { BacksFirst process (memory_of self.old) (memory_of self.new) }
@@ -325,6 +349,7 @@ impl Words {
     }
 
     /// Performs the access for a process, and answers the number that it saw: 0 where it saw none.
+    #[inline(always)]
     pub fn perform(&mut self, process: usize, access: Access<usize>) -> u64
         requires { CanPerform self.old process access }
         ensures performs { Performs (class_at self.old) access process

@@ -27,7 +27,9 @@ use Rattle.ds_state.specs.declared.work.WorkEnd.TheVariants.{NotDirty, Missed, W
 use Rattle.ds_state.specs.declared.work.WorkStage.TheVariants.{LoadMark, Claim, FlushClaim, BackClaim, LoadHead, LoadHeader, LoadText, Read, LoadValue, LoadKind, LoadOwnValue, LoadOwnKind, Wait, StoreValue, StoreKind, FlushValue, FlushKind, BackValue, BackKind, Telling, Clear, ClearDirty, Give, GiveDirty, FlushCleared, BackCleared, Answer}
 use Rattle.ds_state.specs.declared.work.Spread.TheVariants.{LoadRow, OrTold, FlushTold, BackTold}
 use Rattle.ds_work.specs.WorkSteps.{at, next_at, claims_from, head_from, header_from, text_from, told, tell_from}
-use Rattle.ds_work.specs.Noted.{mark_at, head_at, length_at, length_in, text_after, text_at, inputs_after, inputs_at, value_after, value_at, kind_after, kind_at, row_after, row_at, stage_at, seen_mark, notes}
+use Rattle.ds_work.specs.declared.machine.Noting.{Noting}
+use Rattle.ds_work.specs.declared.machine.Noting.TheVariants as notes
+use Rattle.ds_work.specs.Noted.{mark_at, head_at, length_at, length_in, text_after, text_at, inputs_after, inputs_at, value_after, value_at, kind_after, kind_at, row_after, row_at, stage_at, seen_mark, notes_at}
 
 -- the work with these changes
 abbrev pub noted : PlainWork → WorkStage → ℕ → PlainWork
@@ -313,48 +315,72 @@ module _ (e : PlainWork) (word : ℕ) where
   next_is (Answer end) h = h
 
 -- the work with these fields is the next one
-pub made : (e v : PlainWork) (word mark head count value kind : ℕ) (text row : List ℕ) (inputs : List Input) (stage : WorkStage) → v ≡ e
-    → stage ≡ stage_at e e.stage word → mark ≡ mark_at e e.stage word → head ≡ head_at e e.stage word → count ≡ length_at e e.stage word
-    → text ≡ text_after v.text v.length v.stage word → inputs ≡ inputs_after v.inputs v.cells v.stage word → row ≡ row_after v.row v.stage word
-    → value ≡ value_after v.value v.stage word → kind ≡ kind_after v.kind v.stage word
-    → record v { mark = mark; head = head; length = count; text = text; inputs = inputs; value = value; kind = kind; row = row; stage = stage } ≡ next_at e e.stage word
-made e v word mark head count value kind text row inputs stage same a b c d f g h i j = rw (f, g, h, i, j, same, a, b, c, d) (sym (next_noted e word e.stage))
+-- the next work, with what is noted at its stage alone
+abbrev by_noting : PlainWork → ℕ → WorkStage → Noting → PlainWork
+by_noting e word s notes.Nothing = at e (stage_at e s word)
+by_noting e word s notes.Mark = record e { mark = mark_at e s word; stage = stage_at e s word }
+by_noting e word s notes.Text = record e { head = head_at e s word; length = length_at e s word; text = text_at e s word; stage = stage_at e s word }
+by_noting e word s notes.Input = record e { inputs = inputs_at e s word; stage = stage_at e s word }
+by_noting e word s notes.Own = record e { value = value_at e s word; kind = kind_at e s word; stage = stage_at e s word }
+by_noting e word s notes.Row = record e { row = row_at e s word; stage = stage_at e s word }
 
--- the next work, where nothing is noted
-pub plain_next : (e : PlainWork) (word : ℕ) (s : WorkStage) → notes s ≡ false → at e (stage_at e s word) ≡ next_at e s word
-plain_next e word FlushClaim is = sym (next_noted e word FlushClaim)
-plain_next e word BackClaim is = sym (next_noted e word BackClaim)
-plain_next e word Read is = sym (next_noted e word Read)
-plain_next e word (LoadValue i) is = sym (next_noted e word (LoadValue i))
-plain_next e word Wait is = sym (next_noted e word Wait)
-plain_next e word StoreValue is = sym (next_noted e word StoreValue)
-plain_next e word StoreKind is = sym (next_noted e word StoreKind)
-plain_next e word FlushValue is = sym (next_noted e word FlushValue)
-plain_next e word FlushKind is = sym (next_noted e word FlushKind)
-plain_next e word BackValue is = sym (next_noted e word BackValue)
-plain_next e word (Telling (OrTold d)) is = sym (next_noted e word (Telling (OrTold d)))
-plain_next e word (Telling (FlushTold d)) is = sym (next_noted e word (Telling (FlushTold d)))
-plain_next e word (Telling (BackTold d)) is = sym (next_noted e word (Telling (BackTold d)))
-plain_next e word (Clear changed) is = sym (next_noted e word (Clear changed))
-plain_next e word ClearDirty is = sym (next_noted e word ClearDirty)
-plain_next e word Give is = sym (next_noted e word Give)
-plain_next e word GiveDirty is = sym (next_noted e word GiveDirty)
-plain_next e word (FlushCleared end) is = sym (next_noted e word (FlushCleared end))
-plain_next e word (BackCleared end) is = sym (next_noted e word (BackCleared end))
-plain_next e word (Answer end) is = sym (next_noted e word (Answer end))
-plain_next e word LoadMark is = absurd (cc)
-plain_next e word Claim is = absurd (cc)
-plain_next e word LoadHead is = absurd (cc)
-plain_next e word LoadHeader is = absurd (cc)
-plain_next e word (LoadText part) is = absurd (cc)
-plain_next e word (LoadKind i value) is = absurd (cc)
-plain_next e word LoadOwnValue is = absurd (cc)
-plain_next e word LoadOwnKind is = absurd (cc)
-plain_next e word BackKind is = absurd (cc)
-plain_next e word (Telling (LoadRow part)) is = absurd (cc)
+noted_alone : (e : PlainWork) (word : ℕ) (s : WorkStage) → next_at e s word ≡ by_noting e word s (notes_at s)
+noted_alone e word LoadMark = next_noted e word LoadMark
+noted_alone e word Claim = next_noted e word Claim
+noted_alone e word FlushClaim = next_noted e word FlushClaim
+noted_alone e word BackClaim = next_noted e word BackClaim
+noted_alone e word LoadHead = next_noted e word LoadHead
+noted_alone e word LoadHeader = next_noted e word LoadHeader
+noted_alone e word (LoadText part) = next_noted e word (LoadText part)
+noted_alone e word Read = next_noted e word Read
+noted_alone e word (LoadValue i) = next_noted e word (LoadValue i)
+noted_alone e word (LoadKind i value) = next_noted e word (LoadKind i value)
+noted_alone e word LoadOwnValue = next_noted e word LoadOwnValue
+noted_alone e word LoadOwnKind = next_noted e word LoadOwnKind
+noted_alone e word Wait = next_noted e word Wait
+noted_alone e word StoreValue = next_noted e word StoreValue
+noted_alone e word StoreKind = next_noted e word StoreKind
+noted_alone e word FlushValue = next_noted e word FlushValue
+noted_alone e word FlushKind = next_noted e word FlushKind
+noted_alone e word BackValue = next_noted e word BackValue
+noted_alone e word BackKind = next_noted e word BackKind
+noted_alone e word (Telling (LoadRow part)) = next_noted e word (Telling (LoadRow part))
+noted_alone e word (Telling (OrTold d)) = next_noted e word (Telling (OrTold d))
+noted_alone e word (Telling (FlushTold d)) = next_noted e word (Telling (FlushTold d))
+noted_alone e word (Telling (BackTold d)) = next_noted e word (Telling (BackTold d))
+noted_alone e word (Clear changed) = next_noted e word (Clear changed)
+noted_alone e word ClearDirty = next_noted e word ClearDirty
+noted_alone e word Give = next_noted e word Give
+noted_alone e word GiveDirty = next_noted e word GiveDirty
+noted_alone e word (FlushCleared end) = next_noted e word (FlushCleared end)
+noted_alone e word (BackCleared end) = next_noted e word (BackCleared end)
+noted_alone e word (Answer end) = next_noted e word (Answer end)
 
-pub goes_on : (e v : PlainWork) (word : ℕ) (stage : WorkStage) → v ≡ e → notes e.stage ≡ false → stage ≡ stage_at e e.stage word → at v stage ≡ next_at e e.stage word
-goes_on e v word stage same plain is = ap (λ (x : PlainWork). at x stage) same ∙ ap (λ (s : WorkStage). at e s) is ∙ plain_next e word e.stage plain
+taken_as : (e : PlainWork) (word : ℕ) (n : Noting) → notes_at e.stage ≡ n → by_noting e word e.stage n ≡ next_at e e.stage word
+taken_as e word n is = ap (by_noting e word e.stage) (sym is) ∙ sym (noted_alone e word e.stage)
+
+pub goes_on : (e v : PlainWork) (word : ℕ) (stage : WorkStage) → v ≡ e → notes_at e.stage ≡ notes.Nothing → stage ≡ stage_at e e.stage word → at v stage ≡ next_at e e.stage word
+goes_on e v word stage same is a = rw (same, a) (taken_as e word notes.Nothing is)
+
+pub takes_mark : (e v : PlainWork) (word mark : ℕ) (stage : WorkStage) → v ≡ e → notes_at e.stage ≡ notes.Mark → stage ≡ stage_at e e.stage word → mark ≡ mark_at e e.stage word
+    → record v { mark = mark; stage = stage } ≡ next_at e e.stage word
+takes_mark e v word mark stage same is a b = rw (same, a, b) (taken_as e word notes.Mark is)
+
+pub takes_text : (e v : PlainWork) (word head count : ℕ) (text : List ℕ) (stage : WorkStage) → v ≡ e → notes_at e.stage ≡ notes.Text → stage ≡ stage_at e e.stage word → head ≡ head_at e e.stage word
+    → count ≡ length_at e e.stage word → text ≡ text_after v.text v.length v.stage word → record v { head = head; length = count; text = text; stage = stage } ≡ next_at e e.stage word
+takes_text e v word head count text stage same is a b c d = rw (d, same, a, b, c) (taken_as e word notes.Text is)
+
+pub takes_input : (e v : PlainWork) (word : ℕ) (inputs : List Input) (stage : WorkStage) → v ≡ e → notes_at e.stage ≡ notes.Input → stage ≡ stage_at e e.stage word
+    → inputs ≡ inputs_after v.inputs v.cells v.stage word → record v { inputs = inputs; stage = stage } ≡ next_at e e.stage word
+takes_input e v word inputs stage same is a b = rw (b, same, a) (taken_as e word notes.Input is)
+
+pub takes_own : (e v : PlainWork) (word value kind : ℕ) (stage : WorkStage) → v ≡ e → notes_at e.stage ≡ notes.Own → stage ≡ stage_at e e.stage word
+    → value ≡ value_after v.value v.stage word → kind ≡ kind_after v.kind v.stage word → record v { value = value; kind = kind; stage = stage } ≡ next_at e e.stage word
+takes_own e v word value kind stage same is a b c = rw (b, c, same, a) (taken_as e word notes.Own is)
+
+pub takes_row : (e v : PlainWork) (word : ℕ) (row : List ℕ) (stage : WorkStage) → v ≡ e → notes_at e.stage ≡ notes.Row → stage ≡ stage_at e e.stage word
+    → row ≡ row_after v.row v.stage word → record v { row = row; stage = stage } ≡ next_at e e.stage word
+takes_row e v word row stage same is a b = rw (b, same, a) (taken_as e word notes.Row is)
 
 pub next_within : (e : PlainWork) (word room : ℕ) → IsWork e → e.cells ≤ room → IsWorkIn (next_at e e.stage word) room
 next_within e word room h fits = record { is = next_is e word e.stage h; room = subst (λ (n : ℕ). n ≤ room) (sym (ap (λ (x : PlainWork). x.cells) (next_noted e word e.stage))) fits }

@@ -1,5 +1,5 @@
 -- What a step of work changes, field by field, and what the process does by its turn.
-use Rattle.std.specs.Prelude.{ℕ, ◌==◌, ◌^◌, nat_lt, if◌then◌else◌, ◌<◌, List, [], ◌∷◌, ◌++◌, length, take, Option, Some, None, Bool, true, false}
+use Rattle.std.specs.Prelude.{ℕ, ◌==◌, nat_lt, if◌then◌else◌, ◌<◌, List, [], ◌∷◌, ◌++◌, length, take, Option, Some, None}
 use Rattle.ds_eval.specs.declared.inputs.Input.{Input}
 use Rattle.ds_eval.specs.Inputs.{with_entry}
 use Rattle.ds_layout.specs.declared.header.Header.{Header}
@@ -14,22 +14,24 @@ use Rattle.ds_state.specs.declared.work.Spread.TheVariants.{LoadRow}
 use Rattle.ds_state.specs.declared.work.WorkStage.{WorkStage}
 use Rattle.ds_state.specs.declared.work.WorkStage.TheVariants.{LoadMark, Claim, LoadHead, LoadHeader, LoadText, Read, LoadKind, LoadOwnValue, LoadOwnKind, Wait, BackKind, Telling, Answer}
 use Rattle.ds_work.specs.WorkSteps.{next_at}
+use Rattle.ds_work.specs.declared.machine.Noting.{Noting}
+use Rattle.ds_work.specs.declared.machine.Noting.TheVariants as noted
 use Rattle.ds_work.specs.declared.machine.Doing.{Doing}
 use Rattle.ds_work.specs.declared.machine.Doing.TheVariants as turns
 
--- whether work notes what the access of a stage finds, beside the stage that comes next
-abbrev pub notes : WorkStage → Bool
-notes LoadMark = true
-notes Claim = true
-notes LoadHead = true
-notes LoadHeader = true
-notes (LoadText part) = true
-notes (LoadKind i value) = true
-notes LoadOwnValue = true
-notes LoadOwnKind = true
-notes BackKind = true
-notes (Telling (LoadRow part)) = true
-notes stage = false
+-- what work notes of the word that the access of a stage finds, beside the stage that comes next
+abbrev pub notes_at : WorkStage → Noting
+notes_at LoadMark = noted.Mark
+notes_at Claim = noted.Mark
+notes_at LoadHead = noted.Text
+notes_at LoadHeader = noted.Text
+notes_at (LoadText part) = noted.Text
+notes_at (LoadKind i value) = noted.Input
+notes_at LoadOwnValue = noted.Own
+notes_at LoadOwnKind = noted.Own
+notes_at BackKind = noted.Row
+notes_at (Telling (LoadRow part)) = noted.Row
+notes_at stage = noted.Nothing
 
 -- the mark that work has noted after it loaded this word: the word, where it may be claimed, else the mark from
 -- before

@@ -1,7 +1,8 @@
 //! The beginning of work.
 
-ghost use Rattle.std.specs.Prelude.{◌≡◌, ◌<◌, IfOk, IfErr, OnOk, OnErr};
+ghost use Rattle.std.specs.Prelude.{◌≡◌, ◌<◌, ◌≤◌, [], IfOk, IfErr, OnOk, OnErr};
 ghost use Rattle.ds_formula.specs.Cells.{IsInside, index_of};
+ghost use Rattle.ds_layout.specs.Places.{cells_of};
 ghost use Rattle.ds_state.specs.Value.{world_of};
 ghost use Rattle.ds_state.specs.declared.situation.Situation.TheVariants.{Idle};
 ghost use Rattle.ds_work.specs.WorkSteps.{BeginsWork};
@@ -21,6 +22,7 @@ use ds_state::world::World;
 use std::alloc::{AllocError, Global};
 
 // The number of the next edit of a process that may begin work.
+#[inline(always)]
 fn next(situation: &Situation) -> Result<usize, Refusal>
     ensures { result ≡ next_of situation.now }
 {
@@ -34,24 +36,34 @@ fn next(situation: &Situation) -> Result<usize, Refusal>
     }
 }
 
+// No inputs, with room for so many: that of an answered work, where it is enough.
+fn inputs_for(alloc: Global, spare: &mut Option<Inputs>, count: usize) -> Result<Inputs, AllocError>
+    ensures items { IfOk result (λ inputs. inputs.items ≡ []) }
+    ensures room { IfOk result (λ inputs. count ≤ inputs.room) }
+{
+    match spare.take() {
+        Some(mut inputs) if inputs.room() >= count => {
+            inputs.clear();
+            Ok(inputs)
+        }
+        _ => Inputs::with_capacity(alloc, count),
+    }
+}
+
 // Work of the process on the cell, with room for all that it will gather.
-fn prepared(
-    alloc: Global,
-    layout: &Layout,
-    process: usize,
-    next: usize,
-    cell: Cell,
-) -> Result<WorkCall, AllocError>
+#[inline(always)]
+fn prepared(layout: &Layout, process: usize, next: usize, cell: Cell, inputs: Inputs) -> WorkCall
     requires process { process < layout.now.processes }
     requires cell { IsInside layout.now.shape cell }
-    ensures { IfOk result (λ e. IsAskedFor layout.now process next (index_of layout.now.shape cell) e) }
+    requires none { inputs.items ≡ [] }
+    requires room { cells_of layout.now ≤ inputs.room }
+    ensures { IsAskedFor layout.now process next (index_of layout.now.shape cell) result }
 {
-    let inputs = Inputs::with_capacity(alloc, layout.cells())?;
     let nothing = Entry {
         value: Value::Blank,
         height: 0,
     };
-    Ok(WorkCall {
+    WorkCall {
         process,
         next,
         cell: layout.shape.index(cell),
@@ -68,10 +80,11 @@ fn prepared(
         entry: nothing,
         row: Row::new(),
         stage: WorkStage::LoadMark,
-    })
+    }
 }
 
 // The process is in that work from now on.
+#[inline(always)]
 fn start(world: &mut World, call: WorkCall, cell: Cell, next: usize)
     requires asked { IsAskedFor world.old.sheet.layout call.process next (index_of world.old.sheet.layout.shape cell) call }
     requires process { call.process < world.old.sheet.layout.processes }
@@ -87,11 +100,12 @@ fn start(world: &mut World, call: WorkCall, cell: Cell, next: usize)
 }
 
 /// Begins work on a cell by an idle process. Nothing is loaded yet: the work's steps do that. Room
-/// for an input for each cell of the sheet is taken here, so that later only the reading of the
-/// content takes memory.
+/// for an input for each cell of the sheet is taken here, unless an answered work has left it, so that
+/// later only the reading of the content takes memory.
 ///
 /// The refusals are tried in this order, and each leaves the world as it was: `Busy` where the
 /// process is in a call, `Stopped` where it is stopped, `NoMemory` where an allocation failed.
+#[inline(always)]
 pub fn begin(alloc: Global, world: &mut World, process: usize, cell: Cell) -> Result<(), Refusal>
     requires process { process < world.old.sheet.layout.processes }
     requires cell { IsInside world.old.sheet.layout.shape cell }
@@ -105,7 +119,8 @@ pub fn begin(alloc: Global, world: &mut World, process: usize, cell: Cell) -> Re
 {
     let number = next(&world.situations[process])?;
     let layout = world.words.layout();
-    let call = prepared(alloc, &layout, process, number, cell)?;
+    let inputs = inputs_for(alloc, &mut world.spare, layout.cells())?;
+    let call = prepared(&layout, process, number, cell, inputs);
     start(world, call, cell, number);
     Ok(())
 }

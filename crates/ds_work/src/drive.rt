@@ -15,9 +15,10 @@ ghost use Rattle.ds_work.specs.declared.drive.Taken.TheVariants.{NotEnabled, Ste
 use crate::laws::works_are_of_a_sheet;
 use crate::machine::{Doing, got, turn, want};
 use crate::reading::reading;
+use ds_eval::inputs::Inputs;
 use ds_formula::cells::Shape;
 use ds_layout::place::Place;
-use ds_state::situation::{Situation, put};
+use ds_state::situation::{Situation, exchange};
 use ds_state::work::{WorkCall, WorkEnd};
 use ds_state::world::World;
 use ds_words::access::Access;
@@ -35,6 +36,7 @@ pub enum Taken {
 }
 
 // The work of a process, where it is in one.
+#[inline(always)]
 fn work_of(situation: &Situation) -> Option<&WorkCall>
     ensures some { IfSome result (λ call. situation.now ≡ Working call.now) }
     ensures none { IfNone result ((e : PlainWork) → situation.now ≡ Working e → ⊥) }
@@ -47,6 +49,7 @@ fn work_of(situation: &Situation) -> Option<&WorkCall>
 }
 
 // Whether its next step is an access.
+#[inline(always)]
 fn goes_on(call: &WorkCall) -> bool
     ensures { IsTrue result → turn_at call.now.stage ≡ Steps }
 {
@@ -54,6 +57,7 @@ fn goes_on(call: &WorkCall) -> bool
 }
 
 // The work goes on with the word that its access answered.
+#[inline(always)]
 fn go_on(situation: &mut Situation, word: u64)
     ensures { (e : PlainWork) → situation.old ≡ Working e → situation.new ≡ Working (next_at e e.stage word) }
 {
@@ -63,6 +67,7 @@ fn go_on(situation: &mut Situation, word: u64)
 }
 
 // It reads the content of its text.
+#[inline(always)]
 fn read(alloc: Global, situation: &mut Situation, shape: Shape)
     requires { (e : PlainWork) → situation.old ≡ Working e → count_of shape ≡ e.cells }
     ensures { (e : PlainWork) → situation.old ≡ Working e → (f : PlainWork) × (situation.new ≡ Working f) × IsReading shape e f }
@@ -73,6 +78,7 @@ fn read(alloc: Global, situation: &mut Situation, shape: Shape)
 }
 
 // The step of its stage, by this access.
+#[inline(always)]
 fn step_on(world: &mut World, process: usize, access: Access<Place>)
     requires { (e : PlainWork) × IsIn (world_of world.old) process e × (access ≡ access_at world.old.sheet.layout.shape e e.stage) × (turn_at e.stage ≡ Steps) }
     ensures takes { StepsBy (world_of world.old) process Stepped (world_of world.new) }
@@ -85,6 +91,7 @@ fn step_on(world: &mut World, process: usize, access: Access<Place>)
 }
 
 // The step that reads the content.
+#[inline(always)]
 fn read_on(alloc: Global, world: &mut World, process: usize)
     requires { (e : PlainWork) × IsIn (world_of world.old) process e × (turn_at e.stage ≡ Reads) }
     ensures takes { StepsBy (world_of world.old) process Stepped (world_of world.new) }
@@ -96,7 +103,16 @@ fn read_on(alloc: Global, world: &mut World, process: usize)
     read(alloc, &mut world.situations[process], shape);
 }
 
-// The answer: the process is idle after it.
+// The room for inputs that a work has had.
+fn room_of(situation: Situation) -> Option<Inputs> {
+    match situation {
+        Situation::Working(call) => Some(call.inputs),
+        _ => None,
+    }
+}
+
+// The answer: the process is idle after it, and the room of its inputs is left for the next work.
+#[inline(always)]
 fn close(world: &mut World, process: usize, next: usize, end: WorkEnd)
     requires { (e : PlainWork) × IsIn (world_of world.old) process e × (turn_at e.stage ≡ Answers end) × (e.next ≡ next) }
     ensures takes { StepsBy (world_of world.old) process (Answered end) (world_of world.new) }
@@ -104,7 +120,8 @@ fn close(world: &mut World, process: usize, next: usize, end: WorkEnd)
     ensures settled { world.new.settled ≡ world.old.settled }
     ensures reports { world.new.reports ≡ world.old.reports }
 {
-    put(&mut world.situations, process, Situation::Idle(next));
+    let ended = exchange(&mut world.situations, process, Situation::Idle(next));
+    world.spare = room_of(ended);
 }
 
 /// A process makes the next step of its work. Where it has none, or its work waits for an entry, or

@@ -11,7 +11,8 @@ ghost use Rattle.ds_state.specs.Works.{PlainWork, StageFits, SEEN_MOST};
 ghost use Rattle.ds_state.specs.declared.work.WorkStage.TheVariants.{LoadMark, Claim, Clear, Give, Telling};
 ghost use Rattle.ds_state.specs.declared.work.Spread.TheVariants.{LoadRow};
 ghost use Rattle.ds_work.specs.WorkSteps.{record_header, record_text, parts_of, input_place, access_at, next_at, claims_from, head_from, header_from, text_from, input_from, told, tell_from, row_from, spread_access, spread_next};
-ghost use Rattle.ds_work.specs.Noted.{mark_at, head_at, length_at, text_after, inputs_after, value_after, kind_after, row_after, stage_at, notes, turn_at, FitsInputs, FitsRow};
+ghost use Rattle.ds_work.specs.declared.machine.Noting.TheVariants as noted;
+ghost use Rattle.ds_work.specs.Noted.{mark_at, head_at, length_at, text_after, inputs_after, value_after, kind_after, row_after, stage_at, notes_at, turn_at, FitsInputs, FitsRow};
 
 use ds_eval::inputs::{Entry, Inputs};
 use ds_eval::value::Value;
@@ -45,6 +46,7 @@ pub enum Doing {
 }
 
 /// What the work's process does by its turn: this decides how to go on with it.
+#[inline(always)]
 pub fn turn(call: &WorkCall) -> Doing
     ensures { result ≡ turn_at call.now.stage }
 {
@@ -54,6 +56,17 @@ pub fn turn(call: &WorkCall) -> Doing
         WorkStage::Answer(end) => Doing::Answers(end),
         _ => Doing::Steps,
     }
+}
+
+// What a work notes of the word that its access found, beside the stage that comes next.
+#[derive(Clone, Copy, Debug, PartialEq, Eq)]
+enum Noting {
+    Nothing,
+    Mark,
+    Text,
+    Input,
+    Own,
+    Row,
 }
 
 // The mark that follows one: of the next generation, with this holder.
@@ -170,6 +183,7 @@ fn want_telling(call: &WorkCall, spread: Spread) -> Access<Place>
 }
 
 /// What the work does next, on a sheet of this shape.
+#[inline(always)]
 pub fn want(call: &WorkCall, shape: Shape) -> Access<Place>
     ensures { result ≡ access_at shape call.now call.now.stage }
 {
@@ -269,6 +283,7 @@ fn tell_from(call: &WorkCall, row: &[u64], from: usize) -> WorkStage
     }
 }
 
+#[inline(always)]
 fn row_from(call: &WorkCall, part: usize, word: u64) -> WorkStage
     requires part { part < parts_of call.now }
     requires loaded { length call.now.row ≡ part }
@@ -283,6 +298,7 @@ fn row_from(call: &WorkCall, part: usize, word: u64) -> WorkStage
     tell_from(call, row.as_slice(), 0)
 }
 
+#[inline(always)]
 fn spread_next(call: &WorkCall, spread: Spread, word: u64) -> WorkStage
     requires { StageFits call.now (Telling spread) }
     ensures { result ≡ (spread_next call.now spread word).stage }
@@ -336,6 +352,7 @@ fn headed(call: &WorkCall, word: u64) -> WorkStage
 }
 
 // The stage that follows, after the access answered the word.
+#[inline(always)]
 fn next(call: &WorkCall, word: u64) -> WorkStage
     ensures { result ≡ stage_at call.now call.now.stage word }
 {
@@ -371,6 +388,7 @@ fn next(call: &WorkCall, word: u64) -> WorkStage
 }
 
 // The mark that it notes, or that of its claim.
+#[inline(always)]
 fn noted_mark(call: &WorkCall, word: u64) -> u64
     ensures { result ≡ mark_at call.now call.now.stage word }
 {
@@ -388,6 +406,7 @@ fn noted_mark(call: &WorkCall, word: u64) -> u64
     }
 }
 
+#[inline(always)]
 fn noted_head(call: &WorkCall, word: u64) -> u64
     ensures { result ≡ head_at call.now call.now.stage word }
 {
@@ -398,6 +417,7 @@ fn noted_head(call: &WorkCall, word: u64) -> u64
 }
 
 // The length of the text that its record has.
+#[inline(always)]
 fn noted_length(call: &WorkCall, word: u64) -> usize
     ensures { result ≡ length_at call.now call.now.stage word }
 {
@@ -412,6 +432,7 @@ fn noted_length(call: &WorkCall, word: u64) -> usize
 }
 
 // Eight more bytes of a text, as far as it goes.
+#[inline(always)]
 fn append(text: &mut Text, bytes: [u8; 8], most: usize)
     requires within { length text.old ≤ most }
     requires short { most ≤ TEXT_BYTES }
@@ -425,6 +446,7 @@ fn append(text: &mut Text, bytes: [u8; 8], most: usize)
 }
 
 // The text goes on with a part, or begins again.
+#[inline(always)]
 fn note_text(text: &mut Text, stage: WorkStage, most: usize, word: u64)
     requires within { length text.old ≤ most }
     requires short { most ≤ TEXT_BYTES }
@@ -438,6 +460,7 @@ fn note_text(text: &mut Text, stage: WorkStage, most: usize, word: u64)
 }
 
 // What a reference shows is noted, once both its words are loaded.
+#[inline(always)]
 fn note_input(inputs: &mut Inputs, stage: WorkStage, cells: usize, word: u64)
     requires { FitsInputs inputs.old.items stage }
     ensures items { inputs.new.items ≡ inputs_after inputs.old.items cells stage word }
@@ -449,6 +472,7 @@ fn note_input(inputs: &mut Inputs, stage: WorkStage, cells: usize, word: u64)
 }
 
 // A part of the row is noted.
+#[inline(always)]
 fn note_row(row: &mut Row, stage: WorkStage, word: u64)
     requires { FitsRow row.old stage }
     ensures { row.new ≡ row_after row.old stage word }
@@ -461,6 +485,7 @@ fn note_row(row: &mut Row, stage: WorkStage, word: u64)
 }
 
 // The cell's own value, and its own kind.
+#[inline(always)]
 fn noted_value(value: u64, stage: WorkStage, word: u64) -> u64
     ensures { result ≡ value_after value stage word }
 {
@@ -470,6 +495,7 @@ fn noted_value(value: u64, stage: WorkStage, word: u64) -> u64
     }
 }
 
+#[inline(always)]
 fn noted_kind(kind: u64, stage: WorkStage, word: u64) -> u64
     ensures { result ≡ kind_after kind stage word }
 {
@@ -479,55 +505,107 @@ fn noted_kind(kind: u64, stage: WorkStage, word: u64) -> u64
     }
 }
 
-// Whether work notes what the access of a stage finds.
-fn notes(stage: WorkStage) -> bool
-    ensures { result ≡ notes stage }
+// What is noted at a stage.
+#[inline(always)]
+fn notes_at(stage: WorkStage) -> Noting
+    ensures { result ≡ notes_at stage }
 {
     match stage {
-        WorkStage::LoadMark | WorkStage::Claim | WorkStage::LoadHead => true,
-        WorkStage::LoadHeader | WorkStage::LoadText(_) | WorkStage::LoadKind(_, _) => true,
-        WorkStage::LoadOwnValue | WorkStage::LoadOwnKind | WorkStage::BackKind => true,
-        WorkStage::Telling(Spread::LoadRow(_)) => true,
-        _ => false,
+        WorkStage::LoadMark | WorkStage::Claim => Noting::Mark,
+        WorkStage::LoadHead | WorkStage::LoadHeader | WorkStage::LoadText(_) => Noting::Text,
+        WorkStage::LoadKind(_, _) => Noting::Input,
+        WorkStage::LoadOwnValue | WorkStage::LoadOwnKind => Noting::Own,
+        WorkStage::BackKind | WorkStage::Telling(Spread::LoadRow(_)) => Noting::Row,
+        _ => Noting::Nothing,
     }
 }
 
-// The work goes on, and notes what it found.
-fn note(call: &mut WorkCall, word: u64)
-    ensures { call.new ≡ next_at call.old call.old.stage word }
-{
-    let stage = call.stage;
-    let next = next(call, word);
-    let mark = noted_mark(call, word);
-    let head = noted_head(call, word);
-    let count = noted_length(call, word);
-    note_text(&mut call.text, stage, call.length, word);
-    note_input(&mut call.inputs, stage, call.cells, word);
-    note_row(&mut call.row, stage, word);
-    call.mark = mark;
-    call.head = head;
-    call.length = count;
-    call.value = noted_value(call.value, stage, word);
-    call.kind = noted_kind(call.kind, stage, word);
-    call.stage = next;
-}
-
 // The work goes on, and keeps what it has noted.
+#[inline(always)]
 fn go_on(call: &mut WorkCall, word: u64)
-    requires { notes call.old.stage ≡ false }
+    requires { notes_at call.old.stage ≡ noted.Nothing }
     ensures { call.new ≡ next_at call.old call.old.stage word }
 {
     call.stage = next(call, word);
 }
 
+// It goes on with the mark that it saw, or that it made.
+#[inline(always)]
+fn take_mark(call: &mut WorkCall, word: u64)
+    requires { notes_at call.old.stage ≡ noted.Mark }
+    ensures { call.new ≡ next_at call.old call.old.stage word }
+{
+    let next = next(call, word);
+    let mark = noted_mark(call, word);
+    call.mark = mark;
+    call.stage = next;
+}
+
+// It goes on with the head of its cell, the length of the text, or a part of it.
+#[inline(always)]
+fn take_text(call: &mut WorkCall, word: u64)
+    requires { notes_at call.old.stage ≡ noted.Text }
+    ensures { call.new ≡ next_at call.old call.old.stage word }
+{
+    let stage = call.stage;
+    let next = next(call, word);
+    let head = noted_head(call, word);
+    let count = noted_length(call, word);
+    note_text(&mut call.text, stage, call.length, word);
+    call.head = head;
+    call.length = count;
+    call.stage = next;
+}
+
+// It goes on with what a reference shows.
+#[inline(always)]
+fn take_input(call: &mut WorkCall, word: u64)
+    requires { notes_at call.old.stage ≡ noted.Input }
+    ensures { call.new ≡ next_at call.old call.old.stage word }
+{
+    let stage = call.stage;
+    let next = next(call, word);
+    note_input(&mut call.inputs, stage, call.cells, word);
+    call.stage = next;
+}
+
+// It goes on with its own cell's value or kind.
+#[inline(always)]
+fn take_own(call: &mut WorkCall, word: u64)
+    requires { notes_at call.old.stage ≡ noted.Own }
+    ensures { call.new ≡ next_at call.old call.old.stage word }
+{
+    let stage = call.stage;
+    let next = next(call, word);
+    call.value = noted_value(call.value, stage, word);
+    call.kind = noted_kind(call.kind, stage, word);
+    call.stage = next;
+}
+
+// It goes on with one more part of the index row, or with none yet.
+#[inline(always)]
+fn take_row(call: &mut WorkCall, word: u64)
+    requires { notes_at call.old.stage ≡ noted.Row }
+    ensures { call.new ≡ next_at call.old call.old.stage word }
+{
+    let stage = call.stage;
+    let next = next(call, word);
+    note_row(&mut call.row, stage, word);
+    call.stage = next;
+}
+
 /// The work goes on with the word that its access answered, whatever that is. Where it reads, waits
 /// or answers, it stays as it is.
+#[inline(always)]
 pub fn got(call: &mut WorkCall, word: u64)
     ensures { call.new ≡ next_at call.old call.old.stage word }
 {
-    if notes(call.stage) {
-        note(call, word);
-    } else {
-        go_on(call, word);
+    match notes_at(call.stage) {
+        Noting::Nothing => go_on(call, word),
+        Noting::Mark => take_mark(call, word),
+        Noting::Text => take_text(call, word),
+        Noting::Input => take_input(call, word),
+        Noting::Own => take_own(call, word),
+        Noting::Row => take_row(call, word),
     }
 }

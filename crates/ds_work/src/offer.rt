@@ -35,6 +35,7 @@ pub enum TaskFault {
 }
 
 // The work of a process, where it waits for an entry.
+#[inline(always)]
 fn waiting(situation: &Situation) -> Option<&WorkCall>
     ensures works { IfSome result (λ call. situation.now ≡ Working call.now) }
     ensures waits { IfSome result (λ call. call.now.stage ≡ Wait) }
@@ -89,6 +90,7 @@ fn task(alloc: Global, call: &WorkCall, shape: Shape) -> Result<Task, AllocError
 }
 
 // The work goes on with this entry: where its words show it already, nothing is stored.
+#[inline(always)]
 fn take_entry(call: &mut WorkCall, entry: Entry)
     requires { entry.height ≤ 1024 }
     ensures { call.new ≡ offered call.old entry }
@@ -104,6 +106,7 @@ fn take_entry(call: &mut WorkCall, entry: Entry)
 }
 
 // So does the work of a process.
+#[inline(always)]
 fn accept(situation: &mut Situation, entry: Entry)
     requires { entry.height ≤ 1024 }
     ensures { (e : PlainWork) → situation.old ≡ Working e → situation.new ≡ Working (offered e entry) }
@@ -171,6 +174,7 @@ pub fn accepts(world: &mut World, evaluated: &Evaluated) -> bool
 }
 
 // The entry that a work which waits is to be given.
+#[inline(always)]
 fn own_entry(situation: &Situation, shape: Shape) -> Option<Entry>
     ensures value { IfSome result (λ entry. (e : PlainWork) → situation.now ≡ Working e → entry ≡ evaluation.local shape e.content (entry_in e.inputs)) }
     ensures waits { IfSome result (λ entry. (e : PlainWork) × (situation.now ≡ Working e) × (e.stage ≡ Wait)) }

@@ -21,6 +21,7 @@ use ds_state::work::{WorkCall, WorkStage};
 use std::alloc::Global;
 
 // The content of a text, and the cells written in it.
+#[inline(always)]
 fn references(alloc: Global, shape: &Shape, text: &[u8]) -> Result<(Content, Vec<Cell>), Refusal>
     ensures reads { IfOk result (λ r. Reads shape.now text.now (plain r.0)) }
     ensures cells { IfOk result (λ r. AreRefs (plain r.0) r.1.items) }
@@ -31,6 +32,7 @@ fn references(alloc: Global, shape: &Shape, text: &[u8]) -> Result<(Content, Vec
 }
 
 // One input for each of these cells of the sheet, in the room that is there.
+#[inline(always)]
 fn fill(inputs: &mut Inputs, shape: Shape, cells: &[Cell])
     requires room { count_of shape ≤ inputs.old.room }
     requires ascending { AllPairs IsBefore cells.now }
@@ -51,6 +53,7 @@ fn fill(inputs: &mut Inputs, shape: Shape, cells: &[Cell])
 }
 
 // The work has its content, and looks at its references next.
+#[inline(always)]
 fn take_content(call: &mut WorkCall, shape: Shape, content: Content, cells: &[Cell])
     requires sheet { count_of shape ≡ call.old.cells }
     requires ascending { AllPairs IsBefore cells.now }
@@ -66,6 +69,7 @@ fn take_content(call: &mut WorkCall, shape: Shape, content: Content, cells: &[Ce
 /// the cells written in it. Where memory is refused for that, it gives its cell back dirty and
 /// answers `NoMemory` in the end; so it does where the text has no content, which no text of a sound
 /// sheet is without.
+#[inline(always)]
 pub fn reading(alloc: Global, call: &mut WorkCall, shape: Shape)
     requires sheet { count_of shape ≡ call.old.cells }
     ensures { IsReading shape call.old call.new }

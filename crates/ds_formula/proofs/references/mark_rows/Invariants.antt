@@ -3,7 +3,7 @@ use Rattle.ds_formula.proofs.references.mark_rows.Given as goal
 
 abbrev pub invariant-loop-row : goal.invariant-loop-row
 invariant-loop-row l = record {
-  same_length : length l.rows ≡ length l.initial.rows;
-  kept : (k : ℕ) → get_or l.initial.rows k false ≡ true → get_or l.rows k false ≡ true;
-  marked : (k : ℕ) → l.fn.area.first.row ≤ k → k < l.row → get_or l.rows k false ≡ true;
+  same_length : length l.has_mark ≡ length l.initial.has_mark;
+  kept : (k : ℕ) → get_or l.initial.has_mark k false ≡ true → get_or l.has_mark k false ≡ true;
+  marked : (k : ℕ) → l.fn.area.first.row ≤ k → k < l.row → get_or l.has_mark k false ≡ true;
 }

@@ -23,7 +23,7 @@ invariant_of-world c =
     subst (λ (s : WorkStage). PerformsAt (access_at v.sheet.layout.shape e s) p (memory v.sheet) (memory v.sheet) 0) (sym at_answer) (refl, record { cached = λ r. refl; persisted = λ r. refl; buffer = λ q. refl }) in
     let situation : Idle c.args.next ≡ after e e.stage 0 = ap (λ (n : ℕ). Idle n) (sym c.requires.3) ∙ ap (λ (s : WorkStage). after e s 0) (sym at_answer) in
     let plain : IsPlainStep e.stage = subst (λ (s : WorkStage). IsPlainStep s) (sym at_answer) tt in
-    rw c.put.ensures.items (step_kept v c.world.invariant.good p e low is_in.works 0 v.sheet refl performs (Idle c.args.next) situation plain _ c.world.invariant)
+    rw c.exchange-ended.ensures.items (step_kept v c.world.invariant.good p e low is_in.works 0 v.sheet refl performs (Idle c.args.next) situation plain _ c.world.invariant)
 
 pub returns-clause-takes : goal.returns-clause-takes
 returns-clause-takes c =
@@ -38,7 +38,7 @@ returns-clause-takes c =
     subst (λ (s : WorkStage). PerformsAt (access_at v.sheet.layout.shape e s) p (memory v.sheet) (memory v.sheet) 0) (sym at_answer) (refl, record { cached = λ r. refl; persisted = λ r. refl; buffer = λ q. refl }) in
     let situation : Idle c.args.next ≡ after e e.stage 0 = ap (λ (n : ℕ). Idle n) (sym c.requires.3) ∙ ap (λ (s : WorkStage). after e s 0) (sym at_answer) in
     let plain : IsPlainStep e.stage = subst (λ (s : WorkStage). IsPlainStep s) (sym at_answer) tt in
-    rw (← c.world.view_is, c.put.ensures.items) (record {
+    rw (← c.world.view_is, c.exchange-ended.ensures.items) (record {
       inside = low;
       work = e;
       mine = mine v c.world.invariant.good p e low is_in.works;

@@ -13,4 +13,4 @@ loop-argument-preserved t c = record {
 pub returns-after-loop-argument-clause-marks : goal.returns-after-loop-argument-clause-marks
 returns-after-loop-argument-clause-marks t c =
     let m = marks_all c.in-Call.field-0 c.in-Call.arguments _ _ _ _ c.deref-argument-items.ensures.value (omega arith) c.loop-argument.invariant.marks in
-    subst (λ x. Marks (formula x) c.args.marks.now.items c.loop-argument.marks.items) (sym c.in-Call.is) m
+    subst (λ x. Marks (formula x) c.args.marks.now c.loop-argument.marks) (sym c.in-Call.is) m

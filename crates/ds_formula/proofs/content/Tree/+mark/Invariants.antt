@@ -5,6 +5,6 @@ use Rattle.ds_formula.proofs.content.Tree.+mark.Given as goal
 
 abbrev pub invariant-loop-argument : goal.invariant-loop-argument
 invariant-loop-argument l = record {
-  marks : MarksBy (some_mentions (listed (map formula (take l.argument-index l.argument-items)))) l.initial.marks.items l.marks.items;
-  rows : AreRowsOf l.marks.items l.rows;
+  marks : MarksBy (some_mentions (listed (map formula (take l.argument-index l.argument-items)))) l.initial.marks l.marks;
+  rows : AreRowsOf l.marks l.rows;
 }

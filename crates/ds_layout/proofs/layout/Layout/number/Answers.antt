@@ -4,10 +4,10 @@ use Rattle.ds_layout.proofs.Places.{number_of_below, place_of-number_of, number_
 use Rattle.ds_layout.proofs.layout.Layout.number.Goals as goal
 
 pub returns-clause-below : goal.returns-clause-below
-returns-clause-below c = subst (λ (n : ℕ). n < words_of c.args.self.now) (sym c.counted.ensures) (number_of_below c.args.self.now c.args.place c.requires)
+returns-clause-below c = subst (λ (n : ℕ). n < words_of c.args.self.now) (sym c.number_from.ensures) (number_of_below c.args.self.now c.args.place c.requires)
 
 pub returns-clause-back : goal.returns-clause-back
-returns-clause-back c = ap (place_of c.args.self.now) c.counted.ensures ∙ place_of-number_of c.args.self.now c.args.place c.requires
+returns-clause-back c = ap (place_of c.args.self.now) c.number_from.ensures ∙ place_of-number_of c.args.self.now c.args.place c.requires
 
 pub returns-clause-alone : goal.returns-clause-alone
-returns-clause-alone c = λ other is same. number_of_alone c.args.self.now other c.args.place is c.requires (same ∙ c.counted.ensures)
+returns-clause-alone c = λ other is same. number_of_alone c.args.self.now other c.args.place is c.requires (same ∙ c.number_from.ensures)
