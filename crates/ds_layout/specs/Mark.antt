@@ -72,9 +72,13 @@ freed_after word = (generation_of word + 1) * 32
 abbrev pub held_after : ℕ → ℕ → ℕ
 held_after process word = (generation_of word + 1) * 32 + (process + 1) * 2
 
--- the same mark's word, dirty
+-- the word of the same mark, dirty, of one that is not
+abbrev pub dirtied : ℕ → ℕ
+dirtied word = word + 1
+
+-- the word of the same mark, dirty, of any one
 abbrev pub marked : ℕ → ℕ
-marked word = tenure word * 2 + 1
+marked word = dirtied (tenure word * 2)
 
 -- what a mark's word says in a sheet with so many processes
 abbrev pub mark_of : ℕ → ℕ → Mark

@@ -17,7 +17,7 @@ use Rattle.ds_layout.specs.Head.{head_of}
 use Rattle.ds_layout.specs.Header.{header_of}
 use Rattle.ds_layout.specs.SheetMemory.{PerformsAt}
 use Rattle.ds_layout.specs.Bits.{parts_for, bit_in}
-use Rattle.ds_layout.specs.Mark.{is_held_by, generation_of, marked, freed_after}
+use Rattle.ds_layout.specs.Mark.{is_held_by, generation_of, marked, freed_after, dirtied}
 use Rattle.ds_state.specs.Works.{PlainRecovery, HELD_MOST}
 use Rattle.ds_state.specs.World.{Edit, Issue, World, announcement, done_place, phase_among}
 use Rattle.ds_state.specs.Owing.{StandsIn}
@@ -58,8 +58,8 @@ access_at e (FlushKind cell) = acts.Flush (place.Kind cell)
 access_at e (BackValue cell) = acts.Back
 access_at e (BackKind cell) = acts.Back
 access_at e (Telling cell spread) = spread_access cell spread
-access_at e (Give cell) = acts.SwapIf (place.Mark cell) e.mark (freed_after e.mark + 1)
-access_at e (GiveDirty cell) = acts.SwapIf (place.Mark cell) (marked e.mark) (freed_after e.mark + 1)
+access_at e (Give cell) = acts.SwapIf (place.Mark cell) e.mark (dirtied (freed_after e.mark))
+access_at e (GiveDirty cell) = acts.SwapIf (place.Mark cell) (marked e.mark) (dirtied (freed_after e.mark))
 access_at e (FlushGiven cell) = acts.Flush (place.Mark cell)
 access_at e (BackGiven cell) = acts.Back
 access_at e LoadAnnounce = acts.Load (place.Announce e.process)

@@ -3,7 +3,7 @@
 ghost use Rattle.std.specs.Prelude.{◌≡◌, ◌<◌, ◌≤◌, ◌+◌, ◌-◌, ◌/◌, ℕ, length};
 ghost use Rattle.ds_layout.specs.Head.{head_of};
 ghost use Rattle.ds_layout.specs.Bits.{parts_for};
-ghost use Rattle.ds_layout.specs.Mark.{generation_of, freed_after, marked};
+ghost use Rattle.ds_layout.specs.Mark.{generation_of, freed_after, marked, dirtied};
 ghost use Rattle.ds_state.specs.World.{announcement};
 ghost use Rattle.ds_state.specs.Works.{HELD_MOST};
 ghost use Rattle.ds_state.specs.Telling.{told_from};
@@ -81,7 +81,7 @@ fn outcome(call: &RecoverCall, counts: bool) -> u64
 // The mark that gives a held cell back, dirty: of the next generation, held by nobody.
 fn given(mark: u64, processes: usize) -> u64
     requires { generation_of mark ≤ HELD_MOST }
-    ensures { result ≡ freed_after mark + 1 }
+    ensures { result ≡ dirtied (freed_after mark) }
 {
     let held = Mark::read(mark, processes);
     let given = Mark {

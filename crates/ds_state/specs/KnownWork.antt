@@ -1,5 +1,5 @@
 -- What work knows at each of its stages, and what its buffer holds.
-use Rattle.std.specs.Prelude.{ℕ, ◌≡◌, ◌<◌, ◌≤◌, ◌+◌, ◌*◌, ◌^◌, ◌⊎◌, List, [], ◌∷◌, length, take, Bool, true, false, None}
+use Rattle.std.specs.Prelude.{ℕ, ◌≡◌, ◌<◌, ◌≤◌, ◌*◌, ◌^◌, ◌⊎◌, List, [], ◌∷◌, length, take, Bool, true, false, None}
 use Rattle.ds_words.specs.declared.access.Entry.{Entry}
 use Rattle.ds_formula.specs.Cells.{IsInside, index_of}
 use Rattle.ds_formula.specs.declared.cells.Cell.{Cell}
@@ -16,7 +16,7 @@ use Rattle.ds_state.specs.Works.{PlainWork, StageFits}
 use Rattle.ds_state.specs.World.{Edit, World, of_cell, IsHeadBy, last_announcement}
 use Rattle.ds_state.specs.Known.{AreBelow}
 use Rattle.ds_state.specs.Owing.{entry, CellOwes, IsExcused, IsIndexed, IsMark, HoldsNone}
-use Rattle.ds_layout.specs.Mark.{tenure, IsEven, IsHeldBy, generation_of}
+use Rattle.ds_layout.specs.Mark.{tenure, IsEven, IsHeldBy, generation_of, dirtied}
 use Rattle.ds_state.specs.Standing.{HasContent, cached_side, entry_on, value_for, word_for}
 use Rattle.ds_state.specs.declared.work.WorkStage.{WorkStage}
 use Rattle.ds_state.specs.declared.work.WorkStage.TheVariants.{LoadMark, Claim, FlushClaim, BackClaim, LoadHead, LoadHeader, LoadText, Read, LoadValue, LoadKind, LoadOwnValue, LoadOwnKind, Wait, StoreValue, StoreKind, FlushValue, FlushKind, BackValue, BackKind, Telling, Clear, ClearDirty, Give, GiveDirty, FlushCleared, BackCleared, Answer}
@@ -127,7 +127,7 @@ HoldFits w e free = HoldsNone w e.process
 HoldFits w e seen = HoldsNone w e.process × (e.mark ≤ w.memory.cached (place.Mark e.cell)) × ((q : ℕ) → IsHeldBy q e.mark → ⊥) × (generation_of e.mark ≤ 2 ^ 58)
 HoldFits w e claimed = HasClaimed w e
 HoldFits w e held = HasHeld w e
-HoldFits w e outrun = HasHeld w e × (w.memory.cached (place.Mark e.cell) ≡ e.mark + 1)
+HoldFits w e outrun = HasHeld w e × (w.memory.cached (place.Mark e.cell) ≡ dirtied e.mark)
 
 -- `P` holds as long as this is the cell's mark
 abbrev pub WhileMarked : World → ℕ → ℕ → Type 0 → Type 0

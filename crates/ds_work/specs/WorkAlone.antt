@@ -1,11 +1,11 @@
 -- Work that is alone: what it sees of its cell's mark. `row` has the words of its cell's index row.
-use Rattle.std.specs.Prelude.{ℕ, ◌≡◌, ◌<◌, ◌≤◌, ◌⊎◌, ◌+◌, length, slice_index_or}
+use Rattle.std.specs.Prelude.{ℕ, ◌≡◌, ◌<◌, ◌≤◌, ◌⊎◌, length, slice_index_or}
 use Rattle.ds_layout.specs.Bits.{HasBit, part_with}
 use Rattle.ds_layout.specs.declared.place.Place.TheVariants as place
 use Rattle.ds_layout.specs.declared.mark.State.TheVariants.{Marked}
 use Rattle.ds_state.specs.Works.{PlainWork, SEEN_MOST}
 use Rattle.ds_state.specs.World.{World}
-use Rattle.ds_layout.specs.Mark.{IsClean, generation_of}
+use Rattle.ds_layout.specs.Mark.{IsClean, generation_of, dirtied}
 use Rattle.ds_state.specs.declared.work.WorkEnd.{WorkEnd}
 use Rattle.ds_state.specs.declared.work.WorkEnd.TheVariants.{NotDirty, Missed, Worn, Published, Again, NoMemory}
 use Rattle.ds_state.specs.declared.work.WorkStage.{WorkStage}
@@ -36,7 +36,7 @@ EndsAlone row w e NoMemory = Unit {0}
 
 -- the mark of the work's cell is the one that it noted; or the work has marked its own cell since
 abbrev pub MarkStays : (ℕ → ℕ) → World → PlainWork → Type 0
-MarkStays row w e = (mark_now w e ≡ e.mark) ⊎ ((mark_now w e ≡ e.mark + 1) × RefersToItself row e)
+MarkStays row w e = (mark_now w e ≡ e.mark) ⊎ ((mark_now w e ≡ dirtied e.mark) × RefersToItself row e)
 
 -- the words of the index row that the work has loaded are those of `row`
 abbrev pub IsRow : (ℕ → ℕ) → PlainWork → Type 0

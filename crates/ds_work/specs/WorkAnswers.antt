@@ -1,5 +1,5 @@
 -- What the answers of work say, of the worlds before and after the step that decides them.
-use Rattle.std.specs.Prelude.{ℕ, ◌≡◌, ◌≢◌, ◌<◌, ◌+◌}
+use Rattle.std.specs.Prelude.{ℕ, ◌≡◌, ◌≢◌, ◌<◌}
 use Rattle.ds_words.specs.declared.access.Access.{Access}
 use Rattle.ds_words.specs.declared.access.Access.TheVariants as acts
 use Rattle.ds_layout.specs.declared.mark.TheConstants.{DIRTY}
@@ -7,7 +7,7 @@ use Rattle.ds_layout.specs.declared.place.Place.{Place}
 use Rattle.ds_layout.specs.declared.mark.State.{State}
 use Rattle.ds_layout.specs.declared.mark.State.TheVariants.{Clean, Marked, Held}
 use Rattle.ds_layout.specs.declared.place.Place.TheVariants as place
-use Rattle.ds_layout.specs.Mark.{mark_of, state_of, generation_of, freed_after}
+use Rattle.ds_layout.specs.Mark.{mark_of, state_of, generation_of, freed_after, dirtied}
 use Rattle.ds_state.specs.Works.{PlainWork, SEEN_MOST}
 use Rattle.ds_state.specs.Owing.{StandsIn}
 use Rattle.ds_state.specs.World.{World}
@@ -47,9 +47,9 @@ IsTrueAnswer e LoadMark old new Missed = (q : ℕ) × (state_now old e ≡ Held 
 IsTrueAnswer e LoadMark old new Worn = (state_now old e ≡ Marked) × (SEEN_MOST < generation_of (mark_now old e))
 IsTrueAnswer e Claim old new Missed = mark_now old e ≢ e.mark
 IsTrueAnswer e (Clear changed) old new end = (end ≡ Published changed) × IsPublished e new
-IsTrueAnswer e ClearDirty old new end = (end ≡ Again) × (mark_now old e ≡ e.mark + 1) × (mark_now new e ≡ freed_after e.mark + 1)
-IsTrueAnswer e Give old new end = (end ≡ NoMemory) × (mark_now new e ≡ freed_after e.mark + 1)
-IsTrueAnswer e GiveDirty old new end = (end ≡ NoMemory) × (mark_now new e ≡ freed_after e.mark + 1)
+IsTrueAnswer e ClearDirty old new end = (end ≡ Again) × (mark_now old e ≡ dirtied e.mark) × (mark_now new e ≡ dirtied (freed_after e.mark))
+IsTrueAnswer e Give old new end = (end ≡ NoMemory) × (mark_now new e ≡ dirtied (freed_after e.mark))
+IsTrueAnswer e GiveDirty old new end = (end ≡ NoMemory) × (mark_now new e ≡ dirtied (freed_after e.mark))
 IsTrueAnswer e (FlushCleared before) old new end = before ≡ end
 IsTrueAnswer e (BackCleared before) old new end = before ≡ end
 IsTrueAnswer e (Answer before) old new end = before ≡ end

@@ -22,7 +22,7 @@ use Rattle.ds_layout.specs.declared.mark.State.TheVariants.{Clean, Marked, Held}
 use Rattle.ds_layout.specs.declared.mark.TheConstants.{DIRTY}
 use Rattle.ds_layout.specs.Head.{head_of}
 use Rattle.ds_layout.specs.Header.{header_of}
-use Rattle.ds_layout.specs.Mark.{mark_of, state_of, held_after, generation_of, freed_after}
+use Rattle.ds_layout.specs.Mark.{mark_of, state_of, held_after, generation_of, freed_after, dirtied}
 use Rattle.ds_layout.specs.TextWords.{bytes_of}
 use Rattle.ds_layout.specs.SheetMemory.{PerformsAt}
 use Rattle.ds_layout.specs.Places.{cells_of}
@@ -91,9 +91,9 @@ access_at shape e BackValue = acts.Back
 access_at shape e BackKind = acts.Back
 access_at shape e (Telling spread) = spread_access e spread
 access_at shape e (Clear changed) = acts.SwapIf (place.Mark e.cell) e.mark (freed_after e.mark)
-access_at shape e ClearDirty = acts.SwapIf (place.Mark e.cell) (e.mark + 1) (freed_after e.mark + 1)
-access_at shape e Give = acts.SwapIf (place.Mark e.cell) e.mark (freed_after e.mark + 1)
-access_at shape e GiveDirty = acts.SwapIf (place.Mark e.cell) (e.mark + 1) (freed_after e.mark + 1)
+access_at shape e ClearDirty = acts.SwapIf (place.Mark e.cell) (dirtied e.mark) (dirtied (freed_after e.mark))
+access_at shape e Give = acts.SwapIf (place.Mark e.cell) e.mark (dirtied (freed_after e.mark))
+access_at shape e GiveDirty = acts.SwapIf (place.Mark e.cell) (dirtied e.mark) (dirtied (freed_after e.mark))
 access_at shape e (FlushCleared end) = acts.Flush (place.Mark e.cell)
 access_at shape e (BackCleared end) = acts.Back
 access_at shape e (Answer end) = acts.Nothing

@@ -3,7 +3,7 @@
 ghost use Rattle.std.specs.Prelude.{◌≡◌, false, ◌+◌, ◌-◌, ◌*◌, ◌/◌, ◌%◌, ◌<◌, ◌≤◌, ◌++◌, length, take, IsTrue, ◌↔◌};
 ghost use Rattle.ds_layout.specs.Head.{head_of};
 ghost use Rattle.ds_layout.specs.Header.{header_of};
-ghost use Rattle.ds_layout.specs.Mark.{mark_of, state_of, holder_code, dirty_bit, mark_word, generation_of, freed_after, held_after};
+ghost use Rattle.ds_layout.specs.Mark.{mark_of, state_of, holder_code, dirty_bit, mark_word, generation_of, freed_after, held_after, dirtied};
 ghost use Rattle.ds_state.specs.Standing.{stored_for, shown_entry};
 ghost use Rattle.ds_state.specs.Telling.{told_from};
 ghost use Rattle.ds_layout.specs.declared.place.TheConstants.{TEXT_BYTES};
@@ -100,7 +100,7 @@ fn release(call: &WorkCall, dirty: bool) -> u64
 
 // The mark of its claim, as another process has marked it.
 fn outrun(call: &WorkCall) -> u64
-    ensures { result ≡ call.now.mark + 1 }
+    ensures { result ≡ dirtied call.now.mark }
 {
     call.mark + DIRTY
 }
