@@ -244,8 +244,5 @@ can_not old new p _ fits ns na = absurd fits.takes
 
 -- a process in a call, whose step has this reply, which is none of a step that it made
 module _ (old new : WorldValue) (p : ℕ) (reply : Reply) (calling : IsCalling old p) (fits : Fits old (Step p) reply new) (ns : reply ≢ Stepped) (na : (answer : Answer) → reply ≢ Answered answer) where
-  pub unstepped : new ≡ old
-  unstepped = (can_not old new p reply fits ns na).same
-
   pub must_wait : IsNotWaiting old p → ⊥
   must_wait none = can_step old new p ((world_of old).situation p) refl calling.calls calling.there none (can_not old new p reply fits ns na)

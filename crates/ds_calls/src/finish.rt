@@ -28,46 +28,46 @@ pub fn step_once(alloc: Global, world: &mut World, process: usize) -> Reply
     take(alloc, world, &event)
 }
 
-// The work of a process whose call can make no step waits: it is offered the entry that it waits for.
-fn offer(world: &mut World, process: usize)
-    requires calling { IsCalling world.old process }
-    requires waits { IsNotWaiting world.old process → ⊥ }
-    ensures goes { GoesOn world.old process world.new }
-    ensures fewer { steps_left process world.new < steps_left process world.old }
+// The entry that the work of a process waits for is offered to it, and whether it waited for one.
+fn offers(world: &mut World, process: usize) -> bool
+    requires { IsCalling world.old process }
+    ensures goes { IsTrue result → GoesOn world.old process world.new }
+    ensures fewer { IsTrue result → steps_left process world.new < steps_left process world.old }
+    ensures waits { IsFalse result → IsNotWaiting world.old process }
+    ensures unchanged { IsFalse result → world.new ≡ world.old }
 {
-    if !offer_own(world, process) {
-        unreachable!();
-    }
+    let offered = offer_own(world, process);
     world.is_always_good();
+    offered
 }
 
-// A step, or an offer where the work waits, and the answer where it is the last one. Steps come first: few stages wait.
+// An offer where the work waits, else a step, and the answer where it is the last one.
 fn go(alloc: Global, world: &mut World, process: usize) -> Option<Answer>
     requires { IsCalling world.old process }
     ensures answers { IfSome result (λ answer. IsAnswered world.old process answer world.new) }
     ensures goes { IfNone result (GoesOn world.old process world.new) }
     ensures fewer { IfNone result (steps_left process world.new < steps_left process world.old) }
 {
+    if offers(world, process) {
+        return None;
+    }
     world.is_always_good();
     match step_once(alloc, world, process) {
         Reply::Stepped => None,
         Reply::Answered(answer) => Some(answer),
-        _ => {
-            offer(world, process);
-            None
-        }
+        _ => unreachable!(),
     }
 }
 
-// A step that needs no reply, and whether there was one.
-fn advances(world: &mut World, process: usize) -> bool
+// A step that needs no reply, and whether there was one. Such steps come first: few stages wait or answer.
+fn advances(alloc: Global, world: &mut World, process: usize) -> bool
     requires { IsCalling world.old process }
     ensures goes { IsTrue result → GoesOn world.old process world.new }
     ensures fewer { IsTrue result → steps_left process world.new < steps_left process world.old }
     ensures unchanged { IsFalse result → world.new ≡ world.old }
 {
     world.is_always_good();
-    advance(world, process)
+    advance(alloc, world, process)
 }
 
 /// Lets a process go on with the call that it is in, to its answer. Where its work waits, it is
@@ -79,7 +79,7 @@ pub fn finish(alloc: Global, world: &mut World, process: usize) -> Answer
     ensures idle { IsIdle world.new process }
 {
     'steps: loop {
-        if !advances(world, process) {
+        if !advances(alloc, world, process) {
             if let Some(answer) = go(alloc, world, process) {
                 return answer;
             }

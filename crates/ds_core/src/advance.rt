@@ -9,25 +9,26 @@ ghost use Rattle.ds_core.specs.Own.{steps_left};
 
 use crate::step::edit_advances;
 use ds_state::world::World;
+use std::alloc::Global;
 
 // The step, and whether there is one.
-fn step(world: &mut World, process: usize) -> bool
+fn step(alloc: Global, world: &mut World, process: usize) -> bool
     ensures steps { IsTrue result → StepTakes world.old process Stepped world.new }
     ensures unchanged { IsFalse result → world.new ≡ world.old }
 {
-    edit_advances(world, process) || ds_work::drive::advances(world, process)
+    edit_advances(world, process) || ds_work::drive::advances(alloc, world, process)
 }
 
-/// A process makes the next step of its edit or its work, where that step takes no memory and is not the one
-/// that answers, and says so: it is the step that `take` would make, which `Stepped` answers. Else nothing
-/// changes, and `take` makes the next step, if there is one.
-pub fn advance(world: &mut World, process: usize) -> bool
+/// A process makes the next step of its edit or its work, where that is not the one that answers, and says so: it
+/// is the step that `take` would make, which `Stepped` answers. Else nothing changes, and `take` makes the next
+/// step, if there is one. The step of work that reads a content alone takes memory.
+pub fn advance(alloc: Global, world: &mut World, process: usize) -> bool
     ensures fits { IsTrue result → Fits world.old (Step process) Stepped world.new }
     ensures fewer { IsTrue result → steps_left process world.new < steps_left process world.old }
     ensures unchanged { IsFalse result → world.new ≡ world.old }
 {
     world.is_always_good();
-    let advanced = step(world, process);
+    let advanced = step(alloc, world, process);
     world.is_always_good();
     advanced
 }

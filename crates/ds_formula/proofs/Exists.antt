@@ -17,13 +17,13 @@ use Rattle.ds_formula.specs.Bytes.{Read, begins, skipped, byte_at}
 use Rattle.ds_formula.specs.Functions.{takes}
 use Rattle.ds_formula.specs.Ranges.{misplaced}
 use Rattle.ds_formula.specs.Tokens.{lead_at, follow_at}
-use Rattle.ds_formula.specs.Forms.{Operand, Call, Arguments, Level, Expression, leaf_formula, leaf_ranges, leaf, sign, group, call, tightest, level_of}
+use Rattle.ds_formula.specs.Forms.{Operand, Call, Arguments, Level, Expression, leaf_formula, leaf_ranges, leaf, sign, group, call, level_of}
 use Rattle.ds_formula.specs.Turns.{AnOperand, Faulty}
-use Rattle.ds_formula.specs.Parsing.{operator_at, semicolon_at, close_at, end_at, Refuses, CallRefuses, ArgumentsRefuse}
+use Rattle.ds_formula.specs.Parsing.{operator_from, semicolon_at, close_at, end_at, Refuses, CallRefuses, ArgumentsRefuse}
 use Rattle.ds_formula.specs.Sizes.{nodes, depth, Fits}
 use Rattle.ds_formula.specs.Grammar.{expression_of, constant_of, computed, constant, too_long, within, in_constant, in_formula, range, too_deep, IsAnswered}
 use Rattle.ds_formula.proofs.Steps.{operator_here, none_here, semicolon_here, no_semicolon, close_here, end_here}
-use Rattle.ds_formula.proofs.Parses.{LevelSoFar, lead_refused, level_first, level_more, level_done, level_refused, sign_refused, group_refused, group_unclosed, call_refused, whole_refused, whole_unended}
+use Rattle.ds_formula.proofs.Parses.{most, ClimbSoFar, lead_refused, climb_first, climb_more, climb_done, climb_refused, sign_refused, group_refused, group_unclosed, call_refused, whole_refused, whole_unended}
 use Rattle.ds_formula.proofs.Calls.{ArgumentsSoFar, arguments_first, arguments_more, arguments_done, arguments_refused, arguments_first_refused, call_done, call_no_bracket, call_empty, call_arguments_refused, call_unclosed, call_wrong}
 use Rattle.ds_formula.proofs.Shorter.{lead_shorter, follow_shorter, bracket_shorter}
 use Rattle.ds_formula.proofs.Whole.{blank_read}
@@ -40,45 +40,42 @@ Reader s l n = (text : List ℕ) → length text < n → Outcome (Level s l text
 abbrev OperandReader : Shape → ℕ → Type 0
 OperandReader s n = (text : List ℕ) → length text < n → Outcome (Operand s text) s text
 
--- ---- a level, by the next one
+-- ---- a level, by those of what is behind an operator
 
-module _ (s : Shape) (l n : ℕ) (loose : l < 3) (inner : Reader s (l + 1) n) where
+abbrev LevelReader : Shape → ℕ → Type 0
+LevelReader s n = (l : ℕ) → l ≤ 3 → Reader s l n
+
+module _ (s : Shape) (l n : ℕ) (inner : LevelReader s n) where
   -- the same, where less than m is left
   abbrev LevelOn : ℕ → List ℕ → Type 0
-  LevelOn m text = (f : Formula) (r : Ranges) (rest : List ℕ) → length rest < m → LevelSoFar s l text f r rest → Outcome (Level s l text) s text
+  LevelOn m text = (f : Formula) (r : Ranges) (rest : List ℕ) → length rest < m → ClimbSoFar s l text f r rest → Outcome (Level s l text) s text
 
-  level_joined : (m : ℕ) (text : List ℕ) (f : Formula) (r : Ranges) (rest : List ℕ) → LevelOn m text → length rest < suc m → LevelSoFar s l text f r rest
-      → (o : Operator) (after : List ℕ) → (follow_at rest ≡ Ok (Infix o, after)) × (level_of o ≡ l) → length after ≤ length rest → Outcome (Level s (l + 1) after) s after → Outcome (Level s l text) s text
-  level_joined m text f r rest on h so o after here shrinks (refused stop x) = refused stop (level_refused s l text f r rest o after (Stopped stop) so here x)
+  level_joined : (m : ℕ) (text : List ℕ) (f : Formula) (r : Ranges) (rest : List ℕ) → LevelOn m text → length rest < suc m → ClimbSoFar s l text f r rest
+      → (o : Operator) (after : List ℕ) → (follow_at rest ≡ Ok (Infix o, after)) × (l ≤ level_of o) → length after ≤ length rest → Outcome (Level s (level_of o + 1) after) s after → Outcome (Level s l text) s text
+  level_joined m text f r rest on h so o after here shrinks (refused stop x) = refused stop (climb_refused s l text f r rest o after (Stopped stop) so here x)
   level_joined m text f r rest on h so o after here shrinks (found g t behind v j) =
-      on _ _ behind (omega (arith, h, shrinks, j)) (level_more s l text f r rest o after g t behind so here shrinks v j)
+      on _ _ behind (omega (arith, h, shrinks, j)) (climb_more s l text f r rest o after g t behind so here shrinks v j)
 
-  level_at : (m : ℕ) (text : List ℕ) (f : Formula) (r : Ranges) (rest : List ℕ) → length text < n → LevelOn m text → length rest < suc m → LevelSoFar s l text f r rest
-      → (x : Option (Operator × List ℕ)) → x ≡ operator_at l rest → Outcome (Level s l text) s text
-  level_at m text f r rest k on h so None e = found f r rest (level_done s l text f r rest loose so (none_here l rest e)) so.shorter
+  level_at : (m : ℕ) (text : List ℕ) (f : Formula) (r : Ranges) (rest : List ℕ) → length text < suc n → LevelOn m text → length rest < suc m → ClimbSoFar s l text f r rest
+      → (x : Option (Operator × List ℕ)) → x ≡ operator_from l rest → Outcome (Level s l text) s text
+  level_at m text f r rest k on h so None e = found f r rest (climb_done s l text f r rest so (none_here l rest e)) so.shorter
   level_at m text f r rest k on h so (Some (o, after)) e =
       let here = operator_here l rest o after e in
       let shrinks = follow_shorter rest (Infix o) after here.0 in
-      level_joined m text f r rest on h so o after here shrinks (inner after (omega (arith, k, so.shorter, shrinks)))
+      let tight = most o in
+      level_joined m text f r rest on h so o after here shrinks (inner (level_of o + 1) (omega (arith, tight)) after (omega (arith, k, so.shorter, shrinks)))
 
-  level_on : (m : ℕ) (text : List ℕ) → length text < n → LevelOn m text
+  level_on : (m : ℕ) (text : List ℕ) → length text < suc n → LevelOn m text
   level_on zero text k f r rest h so = absurd (omega (arith, h))
-  level_on (suc m) text k f r rest h so = level_at m text f r rest k (level_on m text k) h so (operator_at l rest) refl
+  level_on (suc m) text k f r rest h so = level_at m text f r rest k (level_on m text k) h so (operator_from l rest) refl
 
-  level_from : (text : List ℕ) → length text < n → Outcome (Level s (l + 1) text) s text → Outcome (Level s l text) s text
-  level_from text k (refused stop x) = refused stop x
-  level_from text k (found f r rest v j) = level_on (suc (length rest)) text k f r rest (omega arith) (level_first s l text f r rest v j)
+  level_from : (text : List ℕ) → length text < suc n → l ≤ 3 → Outcome (Operand s text) s text → Outcome (Level s l text) s text
+  level_from text k most (refused stop x) = refused stop x
+  level_from text k most (found f r rest v j) = level_on (suc (length rest)) text k f r rest (omega arith) (climb_first s l text f r rest most v j)
 
-  level_reader : Reader s l n
-  level_reader text k = level_from text k (inner text k)
-
-tight : (s : Shape) (text : List ℕ) → Outcome (Operand s text) s text → Outcome (Level s 3 text) s text
-tight s text (found f r rest v j) = found f r rest (tightest refl v) j
-tight s text (refused stop x) = refused stop x
-
-all_levels : (s : Shape) (n : ℕ) → OperandReader s n → Reader s 0 n
-all_levels s n operands =
-    level_reader s 0 n (omega arith) (level_reader s 1 n (omega arith) (level_reader s 2 n (omega arith) (λ text k. tight s text (operands text k))))
+all_levels : (s : Shape) (n : ℕ) → OperandReader s n → LevelReader s n
+all_levels s zero operands l most text k = absurd (omega (arith, k))
+all_levels s (suc n) operands l most text k = level_from s l n (all_levels s n (λ shorter j. operands shorter (omega (arith, j)))) text k most (operands text k)
 
 -- ---- arguments
 
@@ -170,10 +167,10 @@ operand_at : (s : Shape) (n : ℕ) → OperandReader s n → (text : List ℕ) �
 operand_at s n shorter text k (Err stop) e = refused stop (lead_refused s text stop e)
 operand_at s n shorter text k (Ok (leads.Leaf l, rest)) e = found (leaf_formula l) (leaf_ranges l) rest (leaf (sym e)) (lead_shorter s text _ rest e)
 operand_at s n shorter text k (Ok (leads.Prefix g, mid)) e = let h = lead_shorter s text _ mid e in signed s text mid g e h (shorter mid (omega (arith, h, k)))
-operand_at s n shorter text k (Ok (leads.Open, opened)) e = let h = lead_shorter s text _ opened e in grouped s text opened e h (all_levels s n shorter opened (omega (arith, h, k)))
+operand_at s n shorter text k (Ok (leads.Open, opened)) e = let h = lead_shorter s text _ opened e in grouped s text opened e h (all_levels s n shorter 0 (omega arith) opened (omega (arith, h, k)))
 operand_at s n shorter text k (Ok (leads.Name g name, mid)) e =
     let h = lead_shorter s text _ mid e in
-    called s g n (all_levels s n shorter) text name mid e h (call_at s g n (all_levels s n shorter) name mid (omega (arith, h, k)) (byte_at 40 (skipped mid)) refl)
+    called s g n (all_levels s n shorter 0 (omega arith)) text name mid e h (call_at s g n (all_levels s n shorter 0 (omega arith)) name mid (omega (arith, h, k)) (byte_at 40 (skipped mid)) refl)
 
 operands : (s : Shape) (n : ℕ) → OperandReader s n
 operands s zero text k = absurd (omega (arith, k))
@@ -195,7 +192,7 @@ whole_level s text (found f r mid v j) = whole_end s text f r mid v (end_at mid)
 whole_level s text (refused stop x) = whole_stop stop (whole_refused s text (Stopped stop) x)
 
 whole : (s : Shape) (text : List ℕ) → WholeOutcome s text
-whole s text = whole_level s text (all_levels s (suc (length text)) (operands s (suc (length text))) text (omega arith))
+whole s text = whole_level s text (all_levels s (suc (length text)) (operands s (suc (length text))) 0 (omega arith) text (omega arith))
 
 -- ---- contents and faults
 

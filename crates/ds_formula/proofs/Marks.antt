@@ -10,15 +10,13 @@ use Rattle.std.specs.List.{Contains, AllPairs}
 use Rattle.std.specs.Global.{Vec}
 use Rattle.ds_formula.specs.declared.cells.Cell.{Cell}
 use Rattle.ds_formula.specs.declared.cells.Rect.{Rect}
-use Rattle.ds_formula.specs.declared.content.Content.{Content}
-use Rattle.ds_formula.specs.declared.content.Content.TheVariants as contents
 use Rattle.ds_formula.specs.declared.content.Function.{Function}
 use Rattle.ds_formula.specs.declared.content.Tree.{Tree}
 use Rattle.ds_formula.specs.declared.content.Tree.TheVariants.{Call}
 use Rattle.ds_formula.specs.declared.references.TheConstants.{PLACES}
 use Rattle.ds_formula.specs.declared.references.Rows.{Rows}
 use Rattle.ds_formula.specs.Cells.{IsWithin}
-use Rattle.ds_formula.specs.Plain.{Formula, Literal, At, Area, Signed, Joined, Called, Formulas, Nothing, Then, listed, formula, plain, Computed}
+use Rattle.ds_formula.specs.Plain.{Formula, Literal, At, Area, Signed, Joined, Called, Formulas, Nothing, Then, listed, formula, Computed}
 use Rattle.ds_formula.specs.Refs.{Mentions, SomeMentions, IsPossible, IsBefore, AreRefs}
 use Rattle.ds_formula.specs.Marks.{AreRowsOf, MarksArea, MarksRows, cell_by, is_within, mentions, some_mentions, marked_below, MarksBy, Marks}
 use Rattle.ds_formula.proofs.Views.{formula_call}
@@ -99,6 +97,20 @@ pub marked_step : (marks : List Bool) (n : ℕ) → marked_below marks (n + 1) �
 unfolding marked_below
 marked_step marks n = rw add-one refl
 
+-- a cell behind all others keeps their order
+pub push_ascends : (xs : List Cell) (x : Cell) → AllPairs IsBefore xs → ((c : Cell) → Contains xs c → IsBefore c x) → AllPairs IsBefore (xs ++ x ∷ [])
+push_ascends xs x h k i j d l m = elim (cases_lt j (length xs)) [
+  | inl lt ↦ (
+      let a = get_or_append_left xs (x ∷ []) d i (omega arith) in
+      let b = get_or_append_left xs (x ∷ []) d j lt in
+      subst (λ (y : Cell). IsBefore y (get_or (xs ++ x ∷ []) j d)) (sym a) (subst (λ (y : Cell). IsBefore (get_or xs i d) y) (sym b) (h i j d l lt)))
+  | inr ge ↦ (
+      let q : j ≡ length xs = omega (arith, length-append xs (x ∷ [])) in
+      let a = get_or_append_left xs (x ∷ []) d i (omega arith) in
+      let b : get_or (xs ++ x ∷ []) j d ≡ x = ap (λ (y : ℕ). get_or (xs ++ x ∷ []) y d) q ∙ get_or-append_seam xs x [] d in
+      subst (λ (y : Cell). IsBefore y (get_or (xs ++ x ∷ []) j d)) (sym a) (subst (λ (y : Cell). IsBefore (get_or xs i d) y) (sym b) (k (get_or xs i d) (Contains-get_or xs i d (omega arith)))))
+]
+
 module _ (marks : List Bool) where
   -- c stands for a marked place below n
   abbrev pub HasPlace : ℕ → Cell → Type 0
@@ -137,19 +149,6 @@ module _ (marks : List Bool) where
         | inl lt ↦ inl lt
         | inr ge ↦ inr (omega (arith, w.1), omega (arith, w.1))
       ])
-
-  push_ascends : (xs : List Cell) (x : Cell) → AllPairs IsBefore xs → ((c : Cell) → Contains xs c → IsBefore c x) → AllPairs IsBefore (xs ++ x ∷ [])
-  push_ascends xs x h k i j d l m = elim (cases_lt j (length xs)) [
-    | inl lt ↦ (
-        let a = get_or_append_left xs (x ∷ []) d i (omega arith) in
-        let b = get_or_append_left xs (x ∷ []) d j lt in
-        subst (λ (y : Cell). IsBefore y (get_or (xs ++ x ∷ []) j d)) (sym a) (subst (λ (y : Cell). IsBefore (get_or xs i d) y) (sym b) (h i j d l lt)))
-    | inr ge ↦ (
-        let q : j ≡ length xs = omega (arith, length-append xs (x ∷ [])) in
-        let a = get_or_append_left xs (x ∷ []) d i (omega arith) in
-        let b : get_or (xs ++ x ∷ []) j d ≡ x = ap (λ (y : ℕ). get_or (xs ++ x ∷ []) y d) q ∙ get_or-append_seam xs x [] d in
-        subst (λ (y : Cell). IsBefore y (get_or (xs ++ x ∷ []) j d)) (sym a) (subst (λ (y : Cell). IsBefore (get_or xs i d) y) (sym b) (k (get_or xs i d) (Contains-get_or xs i d (omega arith)))))
-  ]
 
   ascend_step : (n : ℕ) (t : Bool) → AllPairs IsBefore (marked_below marks n) → ((c : Cell) → Contains (marked_below marks n) c → HasPlace n c) → AllPairs IsBefore (marked_below marks n ++ tail_of t n)
   ascend_step n true ih only = push_ascends (marked_below marks n) (cell_by n) ih (λ c h. last_place n c (only c h))
@@ -194,11 +193,11 @@ refs_are f marks m = record {
 pub marked_more : (marks : List Bool) (n : ℕ) (t : Bool) (xs ys : List Cell) → get_or marks n false ≡ t → xs ≡ marked_below marks n → ys ≡ xs ++ cond t (cell_by n ∷ []) [] → ys ≡ marked_below marks (n + 1)
 marked_more marks n t xs ys e p q = q ∙ ap (λ (z : List Cell). z ++ cond t (cell_by n ∷ []) []) p ∙ ap (λ (u : Bool). marked_below marks n ++ cond u (cell_by n ∷ []) []) (sym e) ∙ sym (marked_step marks n)
 
-pub refs_answer : {E : Type 0} (content : Content) (t : Tree) (r : Result (Vec Cell) E) (start marks : List Bool) → content ≡ contents.Formula t → start ≡ replicate PLACES false → Marks (formula t) start marks
-    → IfOk r (λ v. v.items ≡ marked_below marks PLACES) → IfOk r (λ v. AreRefs (plain content) v.items)
-refs_answer content t (Err e) start marks p q m h = h
-refs_answer content t (Ok v) start marks p q m h =
-    subst (λ (x : Content). AreRefs (plain x) v.items) (sym p) (subst (λ (xs : List Cell). AreRefs (Computed (formula t)) xs) (sym h) (refs_are (formula t) marks (subst (λ (x : List Bool). Marks (formula t) x marks) q m)))
+pub refs_answer : {E : Type 0} (t : Tree) (r : Result (Vec Cell) E) (start marks : List Bool) → start ≡ replicate PLACES false → Marks (formula t) start marks
+    → IfOk r (λ v. v.items ≡ marked_below marks PLACES) → IfOk r (λ v. AreRefs (Computed (formula t)) v.items)
+refs_answer t (Err e) start marks q m h = h
+refs_answer t (Ok v) start marks q m h =
+    subst (λ (xs : List Cell). AreRefs (Computed (formula t)) xs) (sym h) (refs_are (formula t) marks (subst (λ (x : List Bool). Marks (formula t) x marks) q m))
 
 -- ---- rows with a mark
 

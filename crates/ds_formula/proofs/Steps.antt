@@ -1,6 +1,6 @@
 -- What the reader's steps have found at the front.
-use Rattle.std.proofs.Common.{◌≡◌, ℕ, eqb, List, [], ◌∷◌, Option, Some, None, Result, Ok, Err, refl, sym, ap, subst, ◌∙◌, arith}
-use Rattle.std.proofs.lemmas.Bool.{eqb-true}
+use Rattle.std.proofs.Common.{◌≡◌, ℕ, ◌≤◌, leb, Bool, true, cond, List, [], ◌∷◌, Option, Some, None, Result, Ok, Err, refl, sym, ap, subst, ◌∙◌}
+use Rattle.std.proofs.lemmas.Bool.{leb-true, le-leb}
 use Rattle.std.proofs.lemmas.Option.{cond_some}
 use Rattle.ds_formula.specs.declared.cells.Shape.{Shape}
 use Rattle.ds_formula.specs.declared.content.Operator.{Operator}
@@ -11,30 +11,48 @@ use Rattle.ds_formula.specs.declared.tokens.Follow.TheVariants.{Infix, Close, Se
 use Rattle.ds_formula.specs.Bytes.{Read, unexpected_stop, skipped}
 use Rattle.ds_formula.specs.Tokens.{follow_of, follow_token, found, follow_at, lead_at}
 use Rattle.ds_formula.specs.declared.tokens.Lead.{Lead}
-use Rattle.ds_formula.specs.Forms.{level_of, NoneOf, NoSemicolon}
-use Rattle.ds_formula.specs.Parsing.{of_level, operator_at, behind_semicolon, semicolon_at, behind_close, close_at, behind_end, end_at}
+use Rattle.ds_formula.specs.Forms.{level_of, NoSemicolon}
+use Rattle.ds_formula.specs.Parsing.{from_level, operator_from, behind_semicolon, semicolon_at, behind_close, close_at, behind_end, end_at}
 use Rattle.ds_formula.specs.Turns.{Bracket, Group, Call, Stops, by_follow}
 
-operator_case : (l : ℕ) (x : Read Follow) (o : Operator) (rest : List ℕ) → of_level l x ≡ Some (o, rest) → (x ≡ Ok (Infix o, rest)) × (level_of o ≡ l)
+operator_case : (l : ℕ) (x : Read Follow) (o : Operator) (rest : List ℕ) → from_level l x ≡ Some (o, rest) → (x ≡ Ok (Infix o, rest)) × (l ≤ level_of o)
 operator_case l (Ok (Infix p, bs)) o rest e =
-    let c = cond_some (eqb (level_of p) l) (p, bs) (o, rest) e in
+    let c = cond_some (leb l (level_of p)) (p, bs) (o, rest) e in
     let same_op : p ≡ o = ap (λ (x : Operator × List ℕ). x.0) c.1 in
     let same_rest : bs ≡ rest = ap (λ (x : Operator × List ℕ). x.1) c.1 in
-    (cc, ap level_of (sym same_op) ∙ eqb-true _ _ c.0)
+    (cc, subst (λ (x : Operator). l ≤ level_of x) same_op (leb-true _ _ c.0))
 operator_case l (Ok (Close, bs)) o rest e = absurd cc
 operator_case l (Ok (Semicolon, bs)) o rest e = absurd cc
 operator_case l (Ok (End, bs)) o rest e = absurd cc
 operator_case l (Err s) o rest e = absurd cc
 
--- an operator of the level is at the front
-pub operator_here : (l : ℕ) (text : List ℕ) (o : Operator) (rest : List ℕ) → Some (o, rest) ≡ operator_at l text → (follow_at text ≡ Ok (Infix o, rest)) × (level_of o ≡ l)
+-- an operator of the level or a tighter one is at the front
+pub operator_here : (l : ℕ) (text : List ℕ) (o : Operator) (rest : List ℕ) → Some (o, rest) ≡ operator_from l text → (follow_at text ≡ Ok (Infix o, rest)) × (l ≤ level_of o)
 operator_here l text o rest e = operator_case l (follow_at text) o rest (sym e)
 
-none_case : (l : ℕ) (bs : List ℕ) (o : Operator) → of_level l (Ok (Infix o, bs)) ≡ None → level_of o ≡ l → ⊥
-none_case l bs o e k = grind (arith, e, k)
+-- no operator of this level or a tighter one is at the front
+abbrev pub NoneFrom : ℕ → List ℕ → Type 0
+NoneFrom l text = (o : Operator) (after : List ℕ) → l ≤ level_of o → follow_at text ≡ Ok (Infix o, after) → ⊥
 
-pub none_here : (l : ℕ) (text : List ℕ) → None ≡ operator_at l text → NoneOf l text
-none_here l text e o rest h k = none_case l rest o (sym (ap (of_level l) h) ∙ sym e) k
+none_case : (l : ℕ) (bs : List ℕ) (o : Operator) → from_level l (Ok (Infix o, bs)) ≡ None → l ≤ level_of o → ⊥
+none_case l bs o e k =
+    let t : leb l (level_of o) ≡ true = le-leb _ _ k in
+    let x : from_level l (Ok (Infix o, bs)) ≡ Some (o, bs) = ap (λ (b : Bool). cond b (Some (o, bs)) None) t in
+    let y : ◌≡◌ {A = Option (Operator × List ℕ)} (Some (o, bs)) None = sym x ∙ e in
+    absurd cc
+
+pub none_here : (l : ℕ) (text : List ℕ) → None ≡ operator_from l text → NoneFrom l text
+none_here l text e o rest k h = none_case l rest o (sym (ap (from_level l) h) ∙ sym e) k
+
+abbrev token_of : Read Follow → Option Follow
+token_of (Ok x) = Some x.0
+token_of (Err s) = None
+
+-- one operator is at the front
+pub same_operator : (text : List ℕ) (o p : Operator) (a b : List ℕ) → follow_at text ≡ Ok (Infix o, a) → follow_at text ≡ Ok (Infix p, b) → o ≡ p
+same_operator text o p a b e h =
+    let t : Some (Infix o) ≡ Some (Infix p) = sym (ap token_of e) ∙ ap token_of h in
+    cc
 
 semicolon_case : (x : Read Follow) (rest : List ℕ) → behind_semicolon x ≡ Some rest → x ≡ Ok (Semicolon, rest)
 semicolon_case (Ok (Semicolon, bs)) rest e = cc

@@ -1,5 +1,5 @@
 -- A text that was written reads back.
-use Rattle.std.proofs.Common.{◌≡◌, inl, inr, ℕ, ℤ, zero, suc, ◌+◌, ◌-◌, ◌^◌, ◌<◌, ◌≤◌, Bool, true, false, cond, ltb, List, [], ◌∷◌, ◌++◌, append_assoc, Ok, refl, sym, ap, subst, ◌∙◌, arith, add-one}
+use Rattle.std.proofs.Common.{◌≡◌, inl, inr, ℕ, ℤ, suc, ◌+◌, ◌^◌, ◌<◌, ◌≤◌, Bool, true, false, cond, ltb, List, [], ◌∷◌, ◌++◌, append_assoc, Ok, refl, sym, ap, subst, ◌∙◌, arith, add-one}
 use Rattle.std.proofs.lemmas.Bool.{cases_lt}
 use Rattle.std.proofs.lemmas.Bool.Decides.{nat_tests}
 use Rattle.std.proofs.lemmas.List.{append-nil}
@@ -26,7 +26,8 @@ use Rattle.ds_formula.specs.Tokens.{follow_at}
 use Rattle.ds_formula.specs.Forms.{Operand, leaf, sign, group, call, bracketed, Arguments, last, more, Level, tightest, looser, Chain, ends, goes_on, level_of, NoSemicolon}
 use Rattle.ds_formula.specs.Names.{cell_text}
 use Rattle.ds_formula.specs.Texts.{sign_text, operator_text, precedence, in_parentheses, text_of, texts_of, others_of, wrapped}
-use Rattle.ds_formula.proofs.Parses.{NoneFrom, most}
+use Rattle.ds_formula.proofs.Steps.{NoneFrom}
+use Rattle.ds_formula.proofs.Parses.{lowered, most}
 use Rattle.ds_formula.proofs.Formed.{Formed, AllFormed, IsLiteral, IsArea}
 use Rattle.ds_formula.proofs.Digits.{unequal, decimal_starts, Parts}
 use Rattle.ds_formula.proofs.Back.{Leads, literal_back, reference_back, range_back, area_back, name_back, sign_back, open_back, bracket_back, close_back, semicolon_back, operator_back, operator_parts, end_back}
@@ -124,20 +125,11 @@ module _ (s : Shape) where
   weaker : (j k : ℕ) (rest : List ℕ) → j ≤ k → NoneFrom j rest → NoneFrom k rest
   weaker j k rest l n o after h e = n o after (omega (arith, l, h)) e
 
-  lower : (d k : ℕ) (text : List ℕ) (f : Formula) (rest : List ℕ) → k + d ≤ 3 → LevelOf (k + d) text f rest → NoneFrom k rest → LevelOf k text f rest
-  lower zero k text f rest l v n = subst (λ (x : ℕ). LevelOf x text f rest) (let e : k + 0 ≡ k = omega arith in e) v
-  lower (suc d) k text f rest l v n =
-      let e : k + suc d ≡ suc k + d = omega arith in
-      let w = lower d (suc k) text f rest (omega (arith, l)) (subst (λ (x : ℕ). LevelOf x text f rest) e v) (weaker k (suc k) rest (omega arith) n) in
-      (w.0, looser (omega (arith, l)) w.1 (ends (λ o after h q. n o after (omega (arith, q)) h)))
-
-  lowered : (j k : ℕ) (text : List ℕ) (f : Formula) (rest : List ℕ) → k ≤ j → j ≤ 3 → LevelOf j text f rest → NoneFrom k rest → LevelOf k text f rest
-  lowered j k text f rest l m v n =
-      let e : j ≡ k + (j - k) = omega (arith, l) in
-      lower (j - k) k text f rest (omega (arith, l, m)) (subst (λ (x : ℕ). LevelOf x text f rest) e v) n
+  looser_one : (j k : ℕ) (text : List ℕ) (f : Formula) (rest : List ℕ) → k ≤ j → j ≤ 3 → LevelOf j text f rest → NoneFrom k rest → LevelOf k text f rest
+  looser_one j k text f rest l m v n = (v.0, lowered s text f v.0 rest j k l m v.1 n)
 
   of_operand : (k : ℕ) (text : List ℕ) (f : Formula) (rest : List ℕ) → k ≤ 3 → OperandOf text f rest → NoneFrom k rest → LevelOf k text f rest
-  of_operand k text f rest l v n = lowered 3 k text f rest l (omega arith) (v.0, tightest refl v.1) n
+  of_operand k text f rest l v n = looser_one 3 k text f rest l (omega arith) (v.0, tightest refl v.1) n
 
   opened : (k : ℕ) (text : List ℕ) (f : Formula) (rest : List ℕ) → LevelOf (suc k) text f rest → Open k text f rest
   opened k text f rest v = record { start = f; starts = v.0; mid = rest; ranges = v.0; first = v.1; reaches = λ h t end c. c }
@@ -166,7 +158,7 @@ module _ (s : Shape) where
   from_open : (f : Formula) → precedence f < 3 → ((rest : List ℕ) → Parts rest → NoneFrom (suc (precedence f)) rest → Open (precedence f) (text_of f ++ rest) f rest) → Backs f
   from_open f l h = record {
     closed = λ k rest p m n.
-        lowered (precedence f) k (text_of f ++ rest) f rest m (omega (arith, l))
+        looser_one (precedence f) k (text_of f ++ rest) f rest m (omega (arith, l))
         (ended (precedence f) (text_of f ++ rest) f rest l (h rest p (weaker k (suc (precedence f)) rest (omega (arith, m)) n)) (weaker k (precedence f) rest m n)) n;
     open_at = λ rest p _ n. h rest p n;
   }

@@ -1,5 +1,5 @@
 -- The steps of the reader of expressions.
-use Rattle.std.specs.Prelude.{◌≡◌, ℕ, ◌-◌, ◌==◌, length, List, [], ◌∷◌, Option, Some, None, Result, Ok, Err, if◌then◌else◌}
+use Rattle.std.specs.Prelude.{◌≡◌, ℕ, ◌-◌, nat_le, length, List, [], ◌∷◌, Option, Some, None, Result, Ok, Err, if◌then◌else◌}
 use Rattle.ds_formula.specs.declared.cells.Shape.{Shape}
 use Rattle.ds_formula.specs.declared.content.Operator.{Operator}
 use Rattle.ds_formula.specs.declared.content.Function.{Function}
@@ -19,17 +19,17 @@ use Rattle.ds_formula.specs.Tokens.{follow_at}
 use Rattle.ds_formula.specs.Forms.{level_of}
 use Rattle.ds_formula.specs.Turns.{Bracket, Call, Due, AnOperand, ItsBracket, Faulty}
 
--- the operator that was read, and what is behind it, where it has this level
-abbrev pub of_level : ℕ → Read Follow → Option (Operator × List ℕ)
-of_level l (Ok (Infix o, rest)) = if level_of o == l then Some (o, rest) else None
-of_level l (Ok (Close, rest)) = None
-of_level l (Ok (Semicolon, rest)) = None
-of_level l (Ok (End, rest)) = None
-of_level l (Err s) = None
+-- the operator that was read, and what is behind it, where it has this level or a tighter one
+abbrev pub from_level : ℕ → Read Follow → Option (Operator × List ℕ)
+from_level l (Ok (Infix o, rest)) = if nat_le l (level_of o) then Some (o, rest) else None
+from_level l (Ok (Close, rest)) = None
+from_level l (Ok (Semicolon, rest)) = None
+from_level l (Ok (End, rest)) = None
+from_level l (Err s) = None
 
--- the operator of this level at the front, and what is behind it
-abbrev pub operator_at : ℕ → List ℕ → Option (Operator × List ℕ)
-operator_at l text = of_level l (follow_at text)
+-- the operator of this level or a tighter one at the front, and what is behind it
+abbrev pub operator_from : ℕ → List ℕ → Option (Operator × List ℕ)
+operator_from l text = from_level l (follow_at text)
 
 -- what is behind the token that was read, where it is a semicolon
 abbrev pub behind_semicolon : Read Follow → Option (List ℕ)

@@ -35,6 +35,14 @@ pub record IsPossible (c : Cell) : Type 0 where
 abbrev pub IsBefore : Cell → Cell → Type 0
 IsBefore c d = (c.row < d.row) ⊎ ((c.row ≡ d.row) × (c.column < d.column))
 
+-- the cells written in the expression were added to the old ones, all in reading order
+pub record IsListed (f : Formula) (old new : List Cell) : Type 0 where
+  pub ascending : AllPairs IsBefore new
+  pub possible : ((c : Cell) → Contains old c → IsPossible c) → (c : Cell) → Contains new c → IsPossible c
+  pub only : (c : Cell) → Contains new c → Contains old c ⊎ Mentions f c
+  pub kept : (c : Cell) → Contains old c → Contains new c
+  pub all : (c : Cell) → Mentions f c → Contains new c
+
 -- the cells written in the content that some sheet has, in reading order, none twice
 pub record AreRefs (content : Plain) (cells : List Cell) : Type 0 where
   pub ascending : AllPairs IsBefore cells

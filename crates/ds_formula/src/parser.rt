@@ -5,7 +5,7 @@ ghost use Rattle.ds_formula.specs.Plain.{formula, listed, Joined, Signed};
 ghost use Rattle.ds_formula.specs.Ranges.{used, first_of};
 ghost use Rattle.ds_formula.specs.Bytes.{result_of};
 ghost use Rattle.ds_formula.specs.Forms.{level_of, leaf_formula, leaf_ranges, Operand, Call, Arguments, Level, Expression};
-ghost use Rattle.ds_formula.specs.Parsing.{operator_at, semicolon_at, close_at, end_at, Refuses, CallRefuses, ArgumentsRefuse, WholeRefuses};
+ghost use Rattle.ds_formula.specs.Parsing.{operator_from, semicolon_at, close_at, end_at, Refuses, CallRefuses, ArgumentsRefuse, WholeRefuses};
 ghost use Rattle.ds_formula.specs.declared.parser.Refusal.TheVariants.{Memory, Stopped};
 
 use crate::cells::Shape;
@@ -54,7 +54,8 @@ pub struct Parsed {
 // How tightly it binds.
 #[inline(always)]
 pub(crate) fn level_of(operator: Operator) -> usize
-    ensures { result ≡ level_of operator }
+    ensures value { result ≡ level_of operator }
+    ensures few { result < 3 }
 {
     match operator {
         Operator::Multiply => 2,
@@ -68,14 +69,14 @@ pub(crate) fn level_of(operator: Operator) -> usize
     }
 }
 
-// The operator of this level at the front, and the bytes behind it.
+// The operator of this level or a tighter one at the front, and the bytes behind it.
 #[inline(always)]
 fn operator(level: usize, text: &[u8]) -> Option<(Operator, &[u8])>
-    ensures is { option_map (λ x. (x.0, x.1.now)) result ≡ operator_at level text.now }
+    ensures is { option_map (λ x. (x.0, x.1.now)) result ≡ operator_from level text.now }
     ensures shorter { IfSome result (λ x. length x.1.now ≤ length text.now) }
 {
     match read_follow(text) {
-        Ok((Follow::Infix(operator), rest)) if level_of(operator) == level => {
+        Ok((Follow::Infix(operator), rest)) if level <= level_of(operator) => {
             Some((operator, rest))
         }
         _ => None,
@@ -164,7 +165,8 @@ fn joined(alloc: Global, operator: Operator, left: Parsed, right: Parsed) -> Res
     })
 }
 
-// The form of this level at the front, and what is behind it.
+// The form of this level at the front, and what is behind it: an operand, and each operator of the level or a tighter
+// one with a right side that only tighter operators add to (precedence climbing).
 #[cycle(parser)]
 fn level<'a>(
     alloc: Global,
@@ -177,12 +179,9 @@ fn level<'a>(
     ensures shorter { IfOk result (λ x. length x.1.now < length text.now) }
     ensures refused { IfErr result (λ e. Refuses shape.now text.now e) }
 {
-    if at == 3 {
-        return operand(alloc, shape, text);
-    }
-    let (mut left, mut rest) = level(alloc, shape, at + 1, text)?;
+    let (mut left, mut rest) = operand(alloc, shape, text)?;
     while let Some((operator, after)) = operator(at, rest) {
-        let (right, behind) = level(alloc, shape, at + 1, after)?;
+        let (right, behind) = level(alloc, shape, level_of(operator) + 1, after)?;
         left = joined(alloc, operator, left, right)?;
         rest = behind;
     }

@@ -1,8 +1,9 @@
 //! The cells written in a content.
 
-ghost use Rattle.std.specs.Prelude.{◌≡◌, ◌+◌, ◌*◌, ◌<◌, IfOk, OnOk};
-ghost use Rattle.ds_formula.specs.Plain.{formula, plain};
-ghost use Rattle.ds_formula.specs.Refs.{AreRefs};
+ghost use Rattle.std.specs.Prelude.{◌≡◌, ◌+◌, ◌*◌, ◌<◌, IfOk, OnOk, IsTrue};
+ghost use Rattle.std.specs.List.{AllPairs, Contains};
+ghost use Rattle.ds_formula.specs.Plain.{At, Computed, formula, plain};
+ghost use Rattle.ds_formula.specs.Refs.{AreRefs, IsBefore, IsListed};
 ghost use Rattle.ds_formula.specs.Marks.{cell_by, is_within, marked_below, AreRowsOf, Marks, MarksArea, MarksRows};
 
 use crate::cells::{Cell, Rect};
@@ -14,6 +15,39 @@ const PLACES: usize = 26 * 64;
 
 // How many rows the most rows are.
 const ROWS: usize = 64;
+
+// Whether a cell comes before another one in reading order.
+#[inline(always)]
+fn is_before(one: Cell, other: Cell) -> bool
+    ensures { IsTrue result → IsBefore one other }
+{
+    one.row < other.row || one.row == other.row && one.column < other.column
+}
+
+// Whether the cell comes behind all of these, which ascend.
+#[inline(always)]
+fn is_behind(cell: Cell, cells: &[Cell]) -> bool
+    requires { AllPairs IsBefore cells.now }
+    ensures { IsTrue result → (c : Cell) → Contains cells.now c → IsBefore c cell }
+{
+    match cells {
+        [] => true,
+        [.., last] => is_before(*last, cell),
+    }
+}
+
+// Adds a cell that some sheet has, where it comes behind the cells, and says whether it does.
+#[inline(always)]
+fn add_behind(cell: Cell, cells: &mut Vec<Cell>) -> Result<bool, AllocError>
+    requires { AllPairs IsBefore cells.old.items }
+    ensures { IfOk result (λ added. IsTrue added → IsListed (At cell) cells.old.items cells.new.items) }
+{
+    if cell.column >= 26 || cell.row >= ROWS || !is_behind(cell, cells.as_slice()) {
+        return Ok(false);
+    }
+    cells.push(cell)?;
+    Ok(true)
+}
 
 #[inline(always)]
 fn cell_by(place: usize) -> Cell
@@ -82,6 +116,27 @@ fn mark_range(area: Rect, marks: &mut [bool; PLACES], rows: &mut Rows)
 }
 
 impl Tree {
+    // Lists the cells that are written in it behind the others, and says whether it could: where they are no single
+    // cells that ascend, or stand in a call, it breaks off.
+    fn list(&self, cells: &mut Vec<Cell>) -> Result<bool, AllocError>
+        requires { AllPairs IsBefore cells.old.items }
+        ensures { IfOk result (λ listed. IsTrue listed → IsListed (formula self.now) cells.old.items cells.new.items) }
+    {
+        match self {
+            Tree::Number(_) => Ok(true),
+            Tree::Reference(cell) => add_behind(*cell, cells),
+            Tree::Prefix(_, operand) => operand.list(cells),
+            Tree::Binary(_, left, right) => {
+                if left.list(cells)? {
+                    right.list(cells)
+                } else {
+                    Ok(false)
+                }
+            }
+            Tree::Range(_) | Tree::Call(_, _) => Ok(false),
+        }
+    }
+
     // Marks the cells that are written in it, and their rows.
     fn mark(&self, marks: &mut [bool; PLACES], rows: &mut Rows)
         requires { AreRowsOf marks.old rows.old }
@@ -142,6 +197,31 @@ fn marked(alloc: Global, marks: &[bool; PLACES], rows: &Rows) -> Result<Vec<Cell
     Ok(cells)
 }
 
+// The cells written in the expression, by a mark for each.
+fn marked_in(alloc: Global, tree: &Tree) -> Result<Vec<Cell>, AllocError>
+    ensures { IfOk result (λ v. AreRefs (Computed (formula tree.now)) v.items) }
+{
+    let mut marks = [false; PLACES];
+    let mut rows = Rows {
+        has_mark: [false; ROWS],
+        first: ROWS,
+        end: 0,
+    };
+    tree.mark(&mut marks, &mut rows);
+    marked(alloc, &marks, &rows)
+}
+
+// The cells written in the expression. Most expressions name a few single cells that ascend: these need no marks.
+fn written_in(alloc: Global, tree: &Tree) -> Result<Vec<Cell>, AllocError>
+    ensures { IfOk result (λ v. AreRefs (Computed (formula tree.now)) v.items) }
+{
+    let mut cells = Vec::new(alloc);
+    if tree.list(&mut cells)? {
+        return Ok(cells);
+    }
+    marked_in(alloc, tree)
+}
+
 impl Content {
     /// The cells written in it, in reading order, none twice: references, ranges spelled out, and those in an unchosen
     /// branch of `IF` too. Cells beyond column Z or row 64, which no sheet has, are left out. The only error is want of
@@ -151,16 +231,7 @@ impl Content {
     {
         match self {
             Content::Blank | Content::Number(_) => Ok(Vec::new(alloc)),
-            Content::Formula(tree) => {
-                let mut marks = [false; PLACES];
-                let mut rows = Rows {
-                    has_mark: [false; ROWS],
-                    first: ROWS,
-                    end: 0,
-                };
-                tree.mark(&mut marks, &mut rows);
-                marked(alloc, &marks, &rows)
-            }
+            Content::Formula(tree) => written_in(alloc, tree),
         }
     }
 }

@@ -1,9 +1,10 @@
 //! One bit for each of many numbers, 64 in a word.
 
-ghost use Rattle.std.specs.Prelude.{◌≡◌, ◌≢◌, ◌<◌, ◌≤◌, ℕ, ◌↔◌, IsTrue, IfSome, IfNone, bit_or};
+ghost use Rattle.std.specs.Prelude.{◌≡◌, ◌≢◌, ◌<◌, ◌≤◌, ℕ, ◌↔◌, IsTrue, IfSome, IfNone, bit_or, slice_index_or};
 ghost use Rattle.ds_layout.specs.Bits.{HasBit, HaveBit, HaveNoBit, IsFirstBit, bit_of, part_with, parts_for};
 
 /// The part, a word, in which the bit of a number stands.
+#[inline(always)]
 pub fn part(number: usize) -> usize
     ensures { result ≡ part_with number }
 {
@@ -44,18 +45,36 @@ fn have_bit(words: &[u64], number: usize) -> bool
     at < words.len() && has_bit(words[at], number)
 }
 
-// Whether the word with the bit of a number has no bits at all.
-fn is_blank(words: &[u64], number: usize) -> bool
-    ensures { IsTrue result → (other : ℕ) → part_with other ≡ part_with number → HaveBit words.now other → ⊥ }
+// Whether the word of a part has no bits at all, or is not there.
+#[inline(always)]
+fn is_blank(words: &[u64], part: usize) -> bool
+    ensures { IsTrue result → slice_index_or words.now part 0 ≡ 0 }
 {
-    let at = part(number);
-    at >= words.len() || words[at] == 0
+    part >= words.len() || words[part] == 0
+}
+
+// The first number of the first word that has bits, or this one, where that has its bit in the same word; where all
+// words up to the end are blank, the end.
+#[inline(always)]
+fn behind_blanks(words: &[u64], number: usize, end: usize) -> usize
+    requires { number ≤ end }
+    ensures within { (number ≤ result) × (result ≤ end) }
+    ensures none { HaveNoBit words.now number result }
+{
+    let parts = parts(end);
+    let mut at = part(number);
+    while at < parts && is_blank(words, at) {
+        at += 1;
+    }
+    if at < parts { number.max(64 * at) } else { end }
 }
 
 // The number behind those that have their bits in the same word, at most the end.
+#[inline(always)]
 fn word_end(number: usize, end: usize) -> usize
-    requires { number < end }
-    ensures { (number < result) × (result ≤ end) × ((other : ℕ) → number ≤ other → other < result → part_with other ≡ part_with number) }
+    requires { number ≤ end }
+    ensures within { (number ≤ result) × (result ≤ end) }
+    ensures further { number < end → number < result }
 {
     let left = 64 - number % 64;
     if end - number < left {
@@ -79,19 +98,18 @@ fn first_between(words: &[u64], start: usize, end: usize) -> Option<usize>
     None
 }
 
-/// The first number from this one on, and below the end, whose bit the words have. A word without
-/// bits is passed over whole; one that is not there has none.
+/// The first number from this one on, and below the end, whose bit the words have. Words without bits
+/// are passed over whole; one that is not there has none.
 pub fn first_bit(words: &[u64], start: usize, end: usize) -> Option<usize>
     ensures first { IfSome result (λ first. (first < end) × IsFirstBit words.now start first) }
     ensures none { IfNone result (HaveNoBit words.now start end) }
 {
     let mut number = start;
     while number < end {
-        let stop = word_end(number, end);
-        if !is_blank(words, number) {
-            if let Some(first) = first_between(words, number, stop) {
-                return Some(first);
-            }
+        let from = behind_blanks(words, number, end);
+        let stop = word_end(from, end);
+        if let Some(first) = first_between(words, from, stop) {
+            return Some(first);
         }
         number = stop;
     }

@@ -5,7 +5,6 @@ ghost use Rattle.ds_formula.specs.Cells.{count_of};
 ghost use Rattle.ds_state.specs.Works.{PlainWork};
 ghost use Rattle.ds_state.specs.Value.{world_of};
 ghost use Rattle.ds_state.specs.declared.situation.Situation.TheVariants.{Idle, Working};
-ghost use Rattle.ds_work.specs.WorkSteps.{access_at, next_at};
 ghost use Rattle.ds_work.specs.Noted.{turn_at};
 ghost use Rattle.ds_work.specs.Reading.{IsReading};
 ghost use Rattle.ds_work.specs.WorkTakes.{IsIn, StepsBy, StepTakes};
@@ -17,11 +16,9 @@ use crate::machine::{Doing, got, turn, want};
 use crate::reading::reading;
 use ds_eval::inputs::Inputs;
 use ds_formula::cells::Shape;
-use ds_layout::place::Place;
 use ds_state::situation::{Situation, exchange};
 use ds_state::work::{WorkCall, WorkEnd};
 use ds_state::world::World;
-use ds_words::access::Access;
 use std::alloc::Global;
 
 /// What came of a step of a process.
@@ -48,24 +45,6 @@ fn work_of(situation: &Situation) -> Option<&WorkCall>
     }
 }
 
-// Whether its next step is an access.
-#[inline(always)]
-fn goes_on(call: &WorkCall) -> bool
-    ensures { IsTrue result → turn_at call.now.stage ≡ Steps }
-{
-    turn(call) == Doing::Steps
-}
-
-// The work goes on with the word that its access answered.
-#[inline(always)]
-fn go_on(situation: &mut Situation, word: u64)
-    ensures { (e : PlainWork) → situation.old ≡ Working e → situation.new ≡ Working (next_at e e.stage word) }
-{
-    if let Situation::Working(call) = situation {
-        got(call, word);
-    }
-}
-
 // It reads the content of its text.
 #[inline(always)]
 fn read(alloc: Global, situation: &mut Situation, shape: Shape)
@@ -77,17 +56,22 @@ fn read(alloc: Global, situation: &mut Situation, shape: Shape)
     }
 }
 
-// The step of its stage, by this access.
+// The step of its stage: the work goes on with the word that its access answers.
 #[inline(always)]
-fn step_on(world: &mut World, process: usize, access: Access<Place>)
-    requires { (e : PlainWork) × IsIn (world_of world.old) process e × (access ≡ access_at world.old.sheet.layout.shape e e.stage) × (turn_at e.stage ≡ Steps) }
+fn step_on(world: &mut World, process: usize)
+    requires { (e : PlainWork) × IsIn (world_of world.old) process e × (turn_at e.stage ≡ Steps) }
     ensures takes { StepsBy (world_of world.old) process Stepped (world_of world.new) }
     ensures done { world.new.done ≡ world.old.done }
     ensures settled { world.new.settled ≡ world.old.settled }
     ensures reports { world.new.reports ≡ world.old.reports }
 {
+    let shape = world.words.layout().shape;
+    let Situation::Working(call) = &mut world.situations[process] else {
+        unreachable!();
+    };
+    let access = want(call, shape);
     let word = world.words.perform(process, access);
-    go_on(&mut world.situations[process], word);
+    got(call, word);
 }
 
 // The step that reads the content.
@@ -137,12 +121,11 @@ pub fn step(alloc: Global, world: &mut World, process: usize) -> Taken
     if process >= world.situations.len() {
         return Taken::NotEnabled;
     }
-    let shape = world.words.layout().shape;
     let Some(call) = work_of(&world.situations[process]) else {
         return Taken::NotEnabled;
     };
     works_are_of_a_sheet(call);
-    let (doing, access, next) = (turn(call), want(call, shape), call.next);
+    let (doing, next) = (turn(call), call.next);
     match doing {
         Doing::Waits => Taken::NotEnabled,
         Doing::Reads => {
@@ -150,7 +133,7 @@ pub fn step(alloc: Global, world: &mut World, process: usize) -> Taken
             Taken::Stepped
         }
         Doing::Steps => {
-            step_on(world, process, access);
+            step_on(world, process);
             Taken::Stepped
         }
         Doing::Answers(end) => {
@@ -160,9 +143,9 @@ pub fn step(alloc: Global, world: &mut World, process: usize) -> Taken
     }
 }
 
-/// A process makes the next step of its work, where that takes no memory and is not its answer, and
-/// says so: it is the one that `step` would make. Else nothing changes.
-pub fn advances(world: &mut World, process: usize) -> bool
+/// A process makes the next step of its work, where that is not its answer, and says so: it is the
+/// one that `step` would make. Else nothing changes.
+pub fn advances(alloc: Global, world: &mut World, process: usize) -> bool
     ensures takes { IsTrue result → StepsBy (world_of world.old) process Stepped (world_of world.new) }
     ensures unchanged { IsFalse result → world.new ≡ world.old }
     ensures done { world.new.done ≡ world.old.done }
@@ -172,15 +155,19 @@ pub fn advances(world: &mut World, process: usize) -> bool
     if process >= world.situations.len() {
         return false;
     }
-    let shape = world.words.layout().shape;
     let Some(call) = work_of(&world.situations[process]) else {
         return false;
     };
-    if !goes_on(call) {
-        return false;
-    }
     works_are_of_a_sheet(call);
-    let access = want(call, shape);
-    step_on(world, process, access);
-    true
+    match turn(call) {
+        Doing::Waits | Doing::Answers(_) => false,
+        Doing::Reads => {
+            read_on(alloc, world, process);
+            true
+        }
+        Doing::Steps => {
+            step_on(world, process);
+            true
+        }
+    }
 }

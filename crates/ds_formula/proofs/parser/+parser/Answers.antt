@@ -1,11 +1,10 @@
-use Rattle.std.proofs.Common.{rules, sym, ◌∙◌, arith}
-use Rattle.std.proofs.lemmas.Result.{err_from_is_err_and, IfOk-weaker}
+use Rattle.std.proofs.Common.{rules, sym, ◌∙◌}
+use Rattle.std.proofs.lemmas.Result.{err_from_is_err_and}
 use Rattle.std.proofs.lemmas.List.{map_push}
-use Rattle.ds_formula.specs.Plain.{formula}
-use Rattle.ds_formula.specs.Forms.{Operand, Level, leaf, sign, group, call, tightest}
+use Rattle.ds_formula.specs.Forms.{leaf, sign, group, call}
 use Rattle.ds_formula.proofs.Views.{formula_call}
 use Rattle.ds_formula.proofs.Steps.{operator_here, none_here, semicolon_here, no_semicolon, close_here, lead_as}
-use Rattle.ds_formula.proofs.Parses.{lead_refused, level_first, level_more, level_done, level_refused, sign_refused, group_refused, group_unclosed, call_refused}
+use Rattle.ds_formula.proofs.Parses.{lead_refused, climb_first, climb_more, climb_done, climb_refused, sign_refused, group_refused, group_unclosed, call_refused}
 use Rattle.ds_formula.proofs.Calls.{arguments_first, arguments_more, arguments_done, arguments_refused, call_done, call_no_bracket, call_empty, call_arguments_refused, call_unclosed, call_wrong, takes_is}
 use Rattle.ds_formula.proofs.parser.+parser.Goals as goal
 
@@ -53,26 +52,21 @@ pub call-returns-clause-found : goal.call-returns-clause-found
 call-returns-clause-found t c =
     call_done _ _ _ _ _ _ _ _ (rw c.skip.ensures.is at c.in_ok-rest.ensures.is) c.in_ok-trees.ensures.found (close_here _ _ c.in_ok-rest-2.ensures.is) (takes_is c.args.function c.in_ok-trees.trees.items _ c.takes.result c.takes.ensures (search rules) ∙ c.if-not-takes.false)
 
-pub level-returns-then-at-eq3-clause-found : goal.level-returns-then-at-eq3-clause-found
-level-returns-then-at-eq3-clause-found t c =
-    IfOk-weaker c.operand.result (λ x. Operand c.args.shape.now c.args.text.now (formula x.0.tree) x.0.ranges x.1.now) (λ x. Level c.args.shape.now c.args.at c.args.text.now (formula x.0.tree) x.0.ranges x.1.now)
-    (λ x v. tightest c.if-at-eq3.true v) c.operand.ensures.found
-
 pub level-loop-operator-init : goal.level-loop-operator-init
-level-loop-operator-init t c = level_first _ _ _ _ _ _ c.in_ok-left.ensures.found c.in_ok-left.ensures.shorter
+level-loop-operator-init t c = climb_first _ _ _ _ _ _ c.requires c.in_ok-left.ensures.found c.in_ok-left.ensures.shorter
 
 pub level-returns-in_err-right-clause-refused : goal.level-returns-in_err-right-clause-refused
 level-returns-in_err-right-clause-refused t c =
     let p = err_from_is_err_and c.from_residual-in_err-right.result c.from_residual-in_err-right.ensures.1 in
-    rw (p.1, p.2) (level_refused _ _ _ _ _ _ _ _ _ c.loop-operator.invariant (operator_here _ _ _ _ c.in-Some.ensures.is) c.in_err-right.ensures.refused)
+    rw (p.1, p.2) (climb_refused _ _ _ _ _ _ _ _ _ c.loop-operator.invariant (operator_here _ _ _ _ c.in-Some.ensures.is) c.in_err-right.ensures.refused)
 
 pub level-loop-operator-preserved : goal.level-loop-operator-preserved
 level-loop-operator-preserved t c =
     rw (c.in_ok-left-2.ensures.tree, c.in_ok-left-2.ensures.ranges)
-    (level_more _ _ _ _ _ _ _ _ _ _ _ c.loop-operator.invariant (operator_here _ _ _ _ c.in-Some.ensures.is) c.in-Some.ensures.shorter c.in_ok-right.ensures.found c.in_ok-right.ensures.shorter)
+    (climb_more _ _ _ _ _ _ _ _ _ _ _ c.loop-operator.invariant (operator_here _ _ _ _ c.in-Some.ensures.is) c.in-Some.ensures.shorter (rw c.level_of.ensures.value at c.in_ok-right.ensures.found) c.in_ok-right.ensures.shorter)
 
 pub level-returns-clause-found : goal.level-returns-clause-found
-level-returns-clause-found t c = level_done _ _ _ _ _ _ (omega (arith, c.requires)) c.loop-operator.invariant (none_here _ _ c.in_default.ensures.is)
+level-returns-clause-found t c = climb_done _ _ _ _ _ _ c.loop-operator.invariant (none_here _ _ c.in_default.ensures.is)
 
 pub operand-returns-in_err-lead-clause-refused : goal.operand-returns-in_err-lead-clause-refused
 operand-returns-in_err-lead-clause-refused t c =

@@ -1,6 +1,6 @@
 use Rattle.std.proofs.Common.{◌+◌, ◌-◌, ◌*◌, length, map}
 use Rattle.ds_formula.specs.Plain.{formula}
-use Rattle.ds_formula.proofs.Parses.{LevelSoFar}
+use Rattle.ds_formula.proofs.Parses.{ClimbSoFar}
 use Rattle.ds_formula.proofs.Calls.{ArgumentsSoFar}
 use Rattle.ds_formula.proofs.parser.+parser.Given as goal
 
@@ -17,7 +17,7 @@ abbrev pub decreases-arguments : goal.decreases-arguments
 decreases-arguments l = 16 * length l.text.now + 8
 
 abbrev pub invariant-level-loop-operator : goal.invariant-level-loop-operator
-invariant-level-loop-operator l = LevelSoFar l.shape l.at l.text (formula l.left.tree) l.left.ranges l.rest
+invariant-level-loop-operator l = ClimbSoFar l.shape l.at l.text (formula l.left.tree) l.left.ranges l.rest
 
 abbrev pub decreases-level-loop-operator : goal.decreases-level-loop-operator
 decreases-level-loop-operator l = length l.rest
