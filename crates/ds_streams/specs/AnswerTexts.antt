@@ -1,9 +1,8 @@
 -- The text of each answer (our own rules).
-use Rattle.std.specs.Prelude.{◌≡◌, ◌⊎◌, ℕ, zero, suc, List, [], ◌++◌, map, take, drop, codes}
+use Rattle.std.specs.Prelude.{ℕ, zero, suc, List, [], ◌++◌, map, take, drop, codes}
 use Rattle.std.specs.Fmt.{decimal}
 use Rattle.csv.specs.Writing.{row_text, default_writer}
 use Rattle.ds_formula.specs.declared.cells.Shape.{Shape}
-use Rattle.ds_formula.specs.declared.cells.Cell.{Cell}
 use Rattle.ds_formula.specs.Names.{fault_text}
 use Rattle.ds_eval.specs.declared.value.Value.{Value}
 use Rattle.ds_eval.specs.Numbers.{value_text}

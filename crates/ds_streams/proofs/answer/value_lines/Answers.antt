@@ -1,4 +1,4 @@
-use Rattle.std.proofs.Common.{◌++◌, ◌∙◌, ap, codes, List, ℕ, append_assoc}
+use Rattle.std.proofs.Common.{◌++◌, ◌∙◌, ap, List, ℕ, append_assoc}
 use Rattle.csv.specs.Records.{fields_of}
 use Rattle.csv.specs.Writing.{row_text, default_writer}
 use Rattle.ds_streams.proofs.Rows.{rows_more}

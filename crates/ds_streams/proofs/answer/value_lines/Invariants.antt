@@ -1,4 +1,4 @@
-use Rattle.std.proofs.Common.{◌≡◌, ℕ, ◌*◌, ◌-◌, List, ◌++◌, drop, codes}
+use Rattle.std.proofs.Common.{◌≡◌, ℕ, ◌*◌, ◌-◌, List, ◌++◌, drop}
 use Rattle.ds_streams.specs.AnswerTexts.{rows_text}
 use Rattle.ds_streams.specs.Csv.{IsReady, text_of}
 use Rattle.ds_streams.proofs.answer.value_lines.Given as goal
