@@ -1,13 +1,13 @@
 #!/usr/bin/env python3
-"""Writes the scripts of calls that bench/run.sh times into a folder: python3 bench/calls.py FOLDER
+"""Writes the scripts of calls that bench/run.sh measures into a folder: python3 bench/calls.py FOLDER
 
-Each script comes with one that has the same lines but for the calls that are timed, which are comments there: what both
-take beside those calls is subtracted.
+Each script comes with one that has the same lines but for the calls that are measured, which are comments there: what
+both take beside those calls is subtracted.
 """
 import sys
 
 SIZES = ((2, 2), (16, 64))
-EDITS = (256, 2048)
+COUNTS = (1, 16, 256, 2048)
 TEXTS = ("=[.A1]+[.B1]", "=[.A1]+[.B1]+1")
 
 
@@ -22,10 +22,10 @@ def works(columns, rows, count):
 
 
 def scripts():
-    """The name, the lines before and the timed lines of each script, and how many calls are timed."""
+    """The name, the lines before and the measured lines of each script, and how many calls are measured."""
     for word, kind, lines in (("edits", "set", edits), ("works", "work", works)):
         for columns, rows in SIZES:
-            for count in EDITS:
+            for count in COUNTS:
                 name = f"{count}_{word}_{columns}_by_{rows}"
                 yield name, kind, (f"sheet {columns} {rows} 8", lines(columns, rows, count)), count
 

@@ -4,9 +4,12 @@
 times.py plain PROGRAM BASELINE FOLDER RUNS     `dsheet report` beside the plain program, on every grid
 times.py scripts PROGRAM STEPS FOLDER RUNS      `dsheet run` beside `dsheet report`, the plain program of the steps, and
                                                 ssconvert where there is one
-times.py calls PROGRAM BASELINE FOLDER RUNS     `dsheet run` beside the plain program of the steps, on scripts of calls
+times.py calls PROGRAM STEPS FOLDER RUNS        `dsheet run` beside the plain program of the steps, on scripts of calls,
+                                                by time
+times.py instructions PROGRAM STEPS FOLDER RUNS the same by instructions, where there is valgrind
 """
 import os
+import re
 import shutil
 import statistics
 import subprocess
@@ -44,6 +47,14 @@ def measured(jobs, runs):
 def same_answers(program, baseline, path):
     if answer(program, path) != answer(baseline, path):
         sys.exit(f"{path}: the programs answer differently")
+
+
+def instructions(command, path):
+    """How many instructions one run takes, as callgrind counts them."""
+    counter = ["valgrind", "--tool=callgrind", "--callgrind-out-file=/dev/null"]
+    with open(path, "rb") as file:
+        told = subprocess.run(counter + command, stdin=file, stdout=subprocess.DEVNULL, stderr=subprocess.PIPE, check=True).stderr
+    return int(re.search(rb"Collected : (\d+)", told).group(1))
 
 
 def plain(program, baseline, folder, runs):
@@ -90,25 +101,41 @@ def scripts(program, steps, folder, runs):
         print(f"| {name} | {report:.2f} | {run:.2f} | {plain_steps:.2f} | {run / plain_steps:.1f} | {others} |")
 
 
-def of_calls(program, baseline, folder, runs):
-    names = [name for name, _, _, _ in calls.scripts()]
-    both = ([program, "run"], [baseline])
-    for name in names:
+def of_calls(program, steps, folder, runs):
+    """By time: fewer than 2,048 calls are over too soon for that."""
+    rows = [(name, count) for name, _, _, count in calls.scripts() if count == 2048]
+    both = ([program, "run"], [steps])
+    for name, _ in rows:
         same_answers(*both, f"{folder}/{name}.script")
-    jobs = {(which, name, part): (both[which], f"{folder}/{name}.{part}") for name in names for which in (0, 1) for part in ("script", "before")}
+    jobs = {(which, name, part): (both[which], f"{folder}/{name}.{part}") for name, _ in rows for which in (0, 1) for part in ("script", "before")}
     times = measured(jobs, runs)
-    print("| Script | calls | dsheet, microseconds a call | plain program | ratio |")
+    print("| Script | dsheet, microseconds a call | plain program | ratio of the least | ratio of the medians |")
+    print("|---|---|---|---|---|")
+    for name, count in rows:
+        median, least = ([(times[which, name, "script"][by] - times[which, name, "before"][by]) * 1000 / count for which in (0, 1)] for by in (0, 1))
+        print(f"| {name} | {least[0]:.2f} | {least[1]:.2f} | {least[0] / least[1]:.2f} | {median[0] / median[1]:.2f} |")
+
+
+def counted(program, steps, folder, _):
+    """By instructions, which are the same in each run: the calls of each script, less the script without them."""
+    if not shutil.which("valgrind"):
+        print("valgrind is not here (Debian: apt-get install valgrind): no table of instructions")
+        return
+    both = ([program, "run"], [steps])
+    print("| Script | calls | dsheet, instructions a call | plain program | ratio |")
     print("|---|---|---|---|---|")
     for name, _, _, count in calls.scripts():
-        each = [(times[which, name, "script"][1] - times[which, name, "before"][1]) * 1000 / count for which in (0, 1)]
-        print(f"| {name} | {count} | {each[0]:.2f} | {each[1]:.2f} | {each[0] / each[1]:.1f} |")
+        same_answers(*both, f"{folder}/{name}.script")
+        whole, before = ([instructions(command, f"{folder}/{name}.{part}") for command in both] for part in ("script", "before"))
+        ours, theirs = ((whole[which] - before[which]) / count for which in (0, 1))
+        print(f"| {name} | {count} | {ours:,.0f} | {theirs:,.0f} | {ours / theirs:.2f} |")
 
 
 def main():
     if len(sys.argv) < 2:
         sys.exit(__doc__)
     kind, *paths, runs = sys.argv[1:]
-    {"plain": plain, "scripts": scripts, "calls": of_calls}[kind](*paths, int(runs))
+    {"plain": plain, "scripts": scripts, "calls": of_calls, "instructions": counted}[kind](*paths, int(runs))
 
 
 if __name__ == "__main__":

@@ -60,6 +60,12 @@ for words in --help --version "run --help" "report --help"; do
     on /dev/null $words
     expect "$words" "$status" 0 ""
 done
+version=$("$program" --version)
+if [[ ! $version =~ ^dsheet\ [0-9]+\.[0-9]+\.[0-9]+$ ]]; then
+    echo "--version: it printed '$version'" >&2
+    exit 1
+fi
+echo "program: the version ... ok"
 for words in run "run --stops" report; do
     # shellcheck disable=SC2086
     on / $words
@@ -75,10 +81,16 @@ head -c 1048577 /dev/zero | tr '\0' '\n' >"$said.long"
 on "$said.long" run
 rm -f "$said.long"
 expect "a script over its limit" "$status" 3 "dsheet: .*"
+: >"$said"
 status=0
 "$program" run <examples/fault >/dev/null 2>&- || status=$?
-: >"$said"
-expect "standard error is closed" "$status" 1 ""
+expect "standard error is closed: a fault in a line" "$status" 1 ""
+status=0
+"$program" run --nothing </dev/null >/dev/null 2>&- || status=$?
+expect "standard error is closed: an unknown option" "$status" 2 ""
+status=0
+"$program" run </ >/dev/null 2>&- || status=$?
+expect "standard error is closed: a read that fails" "$status" 3 ""
 
 # ---- the server
 

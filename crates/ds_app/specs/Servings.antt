@@ -4,6 +4,7 @@ use Rattle.std.specs.Str.Parse.{IsNumeral, digits_value, without_leading_plus}
 use Rattle.std.specs.Net.Grammar.{IsSocketText}
 use Rattle.std.specs.declared.net.socket_addr.SocketAddr.{SocketAddr}
 use Rattle.clap.specs.Words.{Row, Text, first_of, one_of}
+use Rattle.ds_formula.specs.Limits.{PROCESSES_MOST}
 use Rattle.ds_formula.specs.Shapes.{MayHave}
 use Rattle.ds_app.specs.declared.serving.OutOfLimits.{OutOfLimits}
 use Rattle.ds_app.specs.declared.serving.OutOfLimits.TheVariants as limits
@@ -25,7 +26,7 @@ pub record IsAddressOf (rows : List Row) (name : Text) (address : SocketAddr) : 
 -- the server has from 1 to 8 processes, fewer workers than processes, and at least one connection to serve
 pub record IsWithinLimits (s : Serving) : Type 0 where
   pub some : 1 ≤ s.processes
-  pub most : s.processes ≤ 8
+  pub most : s.processes ≤ PROCESSES_MOST
   pub workers : s.workers < s.processes
   pub sessions : 1 ≤ s.sessions
 
@@ -54,11 +55,11 @@ HasNoShape matches = (columns rows : ℕ) → IsNumberOf matches (codes "columns
 
 -- the option has no number of processes from 1 to 8
 abbrev pub HasNoProcesses : List Row → Type 0
-HasNoProcesses matches = (processes : ℕ) → IsNumberOf matches (codes "processes") processes → 1 ≤ processes → processes ≤ 8 → ⊥
+HasNoProcesses matches = (processes : ℕ) → IsNumberOf matches (codes "processes") processes → 1 ≤ processes → processes ≤ PROCESSES_MOST → ⊥
 
 -- the options have no number of workers below that of the processes, which is from 1 to 8
 abbrev pub HasNoWorkers : List Row → Type 0
-HasNoWorkers matches = (processes workers : ℕ) → IsNumberOf matches (codes "processes") processes → processes ≤ 8 → IsNumberOf matches (codes "workers") workers → workers < processes → ⊥
+HasNoWorkers matches = (processes workers : ℕ) → IsNumberOf matches (codes "processes") processes → processes ≤ PROCESSES_MOST → IsNumberOf matches (codes "workers") workers → workers < processes → ⊥
 
 -- the option has no number of connections from 1 to 65,535
 abbrev pub HasNoSessions : List Row → Type 0

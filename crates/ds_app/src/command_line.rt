@@ -34,10 +34,10 @@ pub enum OptionsFault {
     OutOfLimits(OutOfLimits),
 }
 
-/// The flag of `run` that crashes the sheet behind each step.
+// The flag of `run` that crashes the sheet behind each step.
 const STOPS: &str = "stops";
 
-/// The program's version.
+// The program's version.
 const VERSION: &str = "0.1.0";
 
 const RUN_HELP: &str = "\

@@ -15,10 +15,11 @@ use clap::Error;
 use clap::error::ErrorKind;
 use ds_grid::ending::GridEnd;
 use ds_grid::report::report_grid;
-use ds_play::script::{SCRIPT_LIMIT, run_script};
+use ds_play::script::run_script;
 use ds_stops::stops::stop_at_each;
 use ds_streams::ending::ScriptEnd;
 use ds_streams::input::{InputEnd, read_input};
+use ds_streams::line::INPUT_LIMIT;
 use ds_streams::streams::{Reading, Writing};
 use log::Log;
 use std::io::{self, BufWriter, IsTerminal};
@@ -57,7 +58,7 @@ fn stops<R: AllocGlobal + Input + Print + Eprint>(rt: &R, shows: bool) -> u8 {
         return NO_MEMORY;
     };
     let mut reader = Reading::new(rt.reader());
-    let Ok(input) = read_input(rt.alloc(), &mut reader, SCRIPT_LIMIT) else {
+    let Ok(input) = read_input(rt.alloc(), &mut reader, INPUT_LIMIT) else {
         return NO_MEMORY;
     };
     let mut writer = Writing::new(Progress::new(buffered, rt, shows));

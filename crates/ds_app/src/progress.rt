@@ -4,7 +4,7 @@ ghost use Rattle.std.specs.Prelude.{◌≡◌};
 
 use std::io::{self, Write};
 
-/// After how many writes the count is shown anew.
+// After how many writes the count is shown anew.
 const TURN: u64 = 64;
 
 /// A writer that shows on standard error, where that is asked for, how many writes there were: one line, which is

@@ -7,6 +7,7 @@ ghost use Rattle.ds_app.specs.Servings.{HasNoAddress, HasNoNumber, HasNoShape, I
 
 use clap::ArgMatches;
 use ds_formula::cells::Shape;
+use ds_layout::layout::PROCESS_LIMIT;
 use std::net::SocketAddr;
 use thiserror::Error;
 
@@ -93,7 +94,7 @@ pub fn read_serving(matches: &ArgMatches<'_>) -> Result<Serving, OutOfLimits>
         return Err(OutOfLimits::Shape);
     };
     let processes = match number(matches, "processes") {
-        Some(processes) if 1 <= processes && processes <= 8 => processes,
+        Some(processes) if 1 <= processes && processes <= PROCESS_LIMIT => processes,
         _ => return Err(OutOfLimits::Processes),
     };
     let workers = match number(matches, "workers") {

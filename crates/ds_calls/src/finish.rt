@@ -4,6 +4,7 @@ ghost use Rattle.std.specs.Prelude.{◌≡◌, ◌<◌, IsTrue, IsFalse, IfSome,
 ghost use Rattle.ds_state.specs.Value.{world_of};
 ghost use Rattle.ds_core.specs.declared.event.Event.TheVariants.{Step};
 ghost use Rattle.ds_core.specs.declared.reply.Reply.TheVariants.{Stepped};
+ghost use Rattle.ds_core.specs.StepEvents.{CanNotAdvance};
 ghost use Rattle.ds_core.specs.Takes.{Fits};
 ghost use Rattle.ds_core.specs.Own.{steps_left};
 ghost use Rattle.ds_calls.specs.Kinds.{AnswersTo};
@@ -63,6 +64,7 @@ fn go(alloc: Global, world: &mut World, process: usize) -> Option<Answer>
 fn advances(alloc: Global, world: &mut World, process: usize) -> bool
     requires { IsCalling world.old process }
     ensures goes { IsTrue result → GoesOn world.old process world.new }
+    ensures none { IsFalse result → CanNotAdvance world.old process }
     ensures fewer { IsTrue result → steps_left process world.new < steps_left process world.old }
     ensures unchanged { IsFalse result → world.new ≡ world.old }
 {

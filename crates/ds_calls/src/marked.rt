@@ -1,6 +1,7 @@
 //! Which cells are marked.
 
 ghost use Rattle.std.specs.Prelude.{◌≡◌, ◌<◌, ◌≤◌, ◌-◌, IfSome};
+ghost use Rattle.ds_formula.specs.Limits.{CELLS_MOST};
 ghost use Rattle.ds_layout.specs.Places.{cells_of};
 ghost use Rattle.ds_state.specs.Value.{world_of};
 ghost use Rattle.ds_calls.specs.Marked.{state_at, is_marked, marked_from, left_in};
@@ -12,7 +13,7 @@ use ds_state::world::World;
 /// How many cells the sheet has, at most 1,024.
 pub fn cells(world: &World) -> usize
     ensures value { result ≡ cells_of world.now.sheet.layout }
-    ensures few { result ≤ 1024 }
+    ensures few { result ≤ CELLS_MOST }
 {
     world.words.layout().cells()
 }

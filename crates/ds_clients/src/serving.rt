@@ -19,13 +19,13 @@ use std::thread;
 use std::thread::Threads;
 use std::time::Clock;
 
-/// How many bytes of an answer are read at most.
+// How many bytes of an answer are read at most.
 const LINE_MOST: usize = 4096;
 
-/// How often a client tries to join a process.
+// How often a client tries to join a process.
 const TRIES: usize = 100_000;
 
-/// What a client is answered whose process is another session's.
+// What a client is answered whose process is another session's.
 const PROCESS_TAKEN: &[u8] = b"{\"code\":4,\"error\":\"process-taken\"}\n";
 
 /// What clients say, and when.

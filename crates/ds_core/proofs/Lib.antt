@@ -23,6 +23,7 @@ pub mod Alone
 pub mod AtWork
 pub mod AtRecovery
 pub mod Stepping
+pub mod Advancing
 pub mod Headers
 pub mod Told
 pub mod Telling

@@ -77,8 +77,8 @@ module _ (old new : WorldValue) (g : IsSound (world_of old)) (p : ℕ) (reply : 
   open_here : (world_of old).open_edits p ≡ Some (record { edit = E; since = fits.since })
   open_here = ap (λ q. (world_of old).open_edits q) (sym h.mine) ∙ fits.open_edits
 
-  pending_there : (q : ℕ) → outcome_at h.edit.stage ≡ None → (world_of new).open_edits q ≡ (world_of old).open_edits q
-  pending_there q goes = elim (cases_eq q h.edit.process) [
+  open_edit_there : (q : ℕ) → outcome_at h.edit.stage ≡ None → (world_of new).open_edits q ≡ (world_of old).open_edits q
+  open_edit_there q goes = elim (cases_eq q h.edit.process) [
     | inl same ↦ rw same (h.steps.open_edits ∙ goes_on_at h.edit.stage _ goes)
     | inr other ↦ h.steps.others_open_edits q other
   ]
@@ -87,7 +87,7 @@ module _ (old new : WorldValue) (g : IsSound (world_of old)) (p : ℕ) (reply : 
   steps_on goes = elim (counted_cases E h.edit.stage h.word) [
     | inl none ↦ inl (record {
       counted = h.steps.counted ∙ ap (λ es. old.counted ++ es) none ∙ append-nil old.counted;
-      open_edits = λ q. pending_there q goes;
+      open_edits = λ q. open_edit_there q goes;
     })
     | inr one ↦ inr (
         let swaps = counts_at E h.edit.stage h.word one in
@@ -99,7 +99,7 @@ module _ (old new : WorldValue) (g : IsSound (world_of old)) (p : ℕ) (reply : 
           mine = h.mine;
           not_yet = not_below (world_of old) E knows.standing;
           counted = h.steps.counted ∙ ap (λ es. old.counted ++ es) one;
-          open_edits = λ q. pending_there q goes;
+          open_edits = λ q. open_edit_there q goes;
         })
   ]
 

@@ -23,7 +23,7 @@ use Rattle.ds_layout.specs.declared.announcement.Phase.{Phase}
 use Rattle.ds_layout.specs.declared.announcement.Phase.TheVariants as phase
 use Rattle.ds_recover.specs.RecoverySteps.{cell_from, number_of}
 use Rattle.ds_layout.proofs.Packed.{header_of-header_word}
-use Rattle.ds_layout.specs.declared.place.TheConstants.{TEXT_BYTES}
+use Rattle.ds_formula.specs.Limits.{TEXT_MOST}
 use Rattle.ds_state.specs.Known.{AreBelow, IsRecorded}
 use Rattle.ds_core.specs.StopEvents.{StopsProcess}
 use Rattle.ds_core.specs.Moments.{Placed, Open, Closed, Ledger, edits_in}
@@ -202,7 +202,7 @@ module _ (q : ℕ) (l l' : Ledger) (v v' : WorldValue) (t : Tells l v) (turn : I
 
 -- ---- what a record that stands tells
 
-pub recorded_tells : (w : World) (e : Edit) (size : ℕ) → 0 < size → IsRecorded w e size size → e.cell < cells_of w.layout → length e.text ≤ TEXT_BYTES
+pub recorded_tells : (w : World) (e : Edit) (size : ℕ) → 0 < size → IsRecorded w e size size → e.cell < cells_of w.layout → length e.text ≤ TEXT_MOST
     → (cell_told w.layout (w.memory.cached (Header e.process e.number)) ≡ e.cell) × (cell_told w.layout (w.memory.persisted (Header e.process e.number)) ≡ e.cell)
 recorded_tells w e size some r low few =
     let m = w.layout.limited in
@@ -212,7 +212,7 @@ recorded_tells w e size some r low few =
     )
 
 -- the closed edit is told, where it is one whose record stands
-pub told_by : (es : List Placed) (w : World) (p : ℕ) (c : Closed) (e : Edit) (size : ℕ) → c.it.edit ≡ e → e.process ≡ p → IsCounted es c.it c.counts → 0 < size → IsRecorded w e size size → e.cell < cells_of w.layout → length e.text ≤ TEXT_BYTES → IsTold es w p c
+pub told_by : (es : List Placed) (w : World) (p : ℕ) (c : Closed) (e : Edit) (size : ℕ) → c.it.edit ≡ e → e.process ≡ p → IsCounted es c.it c.counts → 0 < size → IsRecorded w e size size → e.cell < cells_of w.layout → length e.text ≤ TEXT_MOST → IsTold es w p c
 told_by es w p c e size same mine counted some r low few =
     let tells = recorded_tells w e size some r low few in
     let place : (m : Place → ℕ) → cell_told w.layout (m (Header e.process e.number)) ≡ e.cell → cell_told w.layout (m (Header p c.it.edit.number)) ≡ c.it.edit.cell =

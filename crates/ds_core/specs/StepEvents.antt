@@ -31,6 +31,11 @@ pub record CanNotStep (old : WorldValue) (p : ℕ) (new : WorldValue) : Type 0 w
   pub no_report : (show : PlainShow) → p < old.sheet.layout.processes → (world_of old).situation p ≡ Showing show → ⊥
   pub no_recovery : (recovery : PlainRecovery) → p < old.sheet.layout.processes → (world_of old).situation p ≡ Recovering recovery → ⊥
 
+-- neither an edit nor a work of the process goes on by a step: it is in neither, or it waits or answers
+pub record CanNotAdvance (old : WorldValue) (p : ℕ) : Type 0 where
+  pub no_edit : (new : WorldValue) → EditStepsBy old p Stepped new → ⊥
+  pub no_work : (new : WorldValue) → WorkStepsBy old p Stepped new → ⊥
+
 -- what a step of a process does, by its reply
 abbrev pub StepTakes : WorldValue → ℕ → Reply → WorldValue → Type 0
 StepTakes old p Stepped new = StepsBy old p Stepped new

@@ -1,13 +1,15 @@
 //! A step of a process, and an eviction.
 
-ghost use Rattle.std.specs.Prelude.{◌≡◌, ◌<◌, ◌≤◌, ◌++◌, ℕ, IsTrue, IsFalse, IfSome, IfNone, length, vec_capacity};
+ghost use Rattle.std.specs.Prelude.{◌≡◌, ◌<◌, ◌≤◌, ◌++◌, ◌*◌, ℕ, IsTrue, IsFalse, IfSome, IfNone, length, vec_capacity};
+ghost use Rattle.ds_formula.specs.Limits.{PROCESSES_MOST, EDITS_MOST};
 ghost use Rattle.ds_state.specs.Edits.{PlainEdit};
 ghost use Rattle.ds_state.specs.declared.stage.Stage.TheVariants.{Swap};
 ghost use Rattle.ds_state.specs.declared.situation.Situation.TheVariants.{Editing};
+ghost use Rattle.ds_state.specs.Value.{WorldValue};
 ghost use Rattle.ds_state.specs.World.{edit_of};
 ghost use Rattle.ds_edit.specs.EditSteps.{access_at};
 ghost use Rattle.ds_edit.specs.EditTakes.{after, counted_at, open_edit_at};
-ghost use Rattle.ds_core.specs.EditEvents.{IsEditing, reply_at, done_at, EditStepTakes};
+ghost use Rattle.ds_core.specs.EditEvents.{IsEditing, reply_at, done_at, EditStepsBy, EditStepTakes};
 ghost use Rattle.ds_core.specs.declared.reply.Reply.TheVariants.{Stepped};
 ghost use Rattle.ds_core.specs.ReportEvents.{report_answer, report_reply};
 ghost use Rattle.ds_core.specs.WorkEvents.{work_answer, work_reply};
@@ -88,7 +90,7 @@ fn close(open_edit: &mut Option<Issue>, stage: Stage)
 // One more edit was answered Done, where it was.
 #[inline(always)]
 fn done_after(done: u64, stage: Stage) -> u64
-    requires { done ≤ 2048 }
+    requires { done ≤ PROCESSES_MOST * EDITS_MOST }
     ensures { result ≡ done_at done stage }
 {
     match stage {
@@ -140,6 +142,7 @@ fn edit_step(world: &mut World, process: usize) -> Reply
 // else nothing changes.
 pub(crate) fn edit_advances(world: &mut World, process: usize) -> bool
     ensures steps { IsTrue result → EditStepTakes world.old process Stepped world.new }
+    ensures none { IsFalse result → (new : WorldValue) → EditStepsBy world.old process Stepped new → ⊥ }
     ensures unchanged { IsFalse result → world.new ≡ world.old }
 {
     if process >= world.situations.len() {

@@ -32,14 +32,14 @@ pub record IsMissing (shape : Shape) (counted : List Edit) (receipts : List Plai
   pub first : IsFirstAt shape counted receipts place receipt
   pub none : Stands shape counted receipt → ⊥
 
--- the receipt at this place is the first that is not right: it stands, and is there before
+-- the receipt at this place is the first that is not right: it tells of a counted edit, as one before it does
 pub record IsTwice (shape : Shape) (counted : List Edit) (receipts : List PlainReceipt) (place : ℕ) : Type 0 where
   pub receipt : PlainReceipt
   pub first : IsFirstAt shape counted receipts place receipt
   pub stands : Stands shape counted receipt
   pub again : Contains (take place receipts) receipt
 
--- the receipts are right, and so many; so many edits were answered Done
+-- the receipts are right; how many they are, and how many edits were answered Done, are these numbers
 pub record AreSoMany (shape : Shape) (counted : List Edit) (done : ℕ) (receipts : List PlainReceipt) (number acknowledged : ℕ) : Type 0 where
   pub right : AreRight shape counted receipts
   pub number_is : number ≡ length receipts

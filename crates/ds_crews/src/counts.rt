@@ -18,7 +18,7 @@ use std::test::Fail;
 use std::thread;
 use std::thread::Threads;
 
-/// How many edits each thread makes.
+// How many edits each thread makes.
 const EDITS: usize = 64;
 
 // A pass, and the receipts of its edits.

@@ -18,7 +18,7 @@ use std::test::Fail;
 use std::thread;
 use std::thread::Threads;
 
-/// How often the first evaluation looks for another one.
+// How often the first evaluation looks for another one.
 const TURNS: u64 = 100_000_000;
 
 // Holds the first evaluation until another one is over.

@@ -5,7 +5,7 @@ use ds_fixtures::sheet::{A1, A2, B1, B2};
 use ds_formula::cells::Cell;
 use ds_layout::place::Place;
 
-/// The cell `A3`.
+// The cell `A3`.
 const A3: Cell = Cell { column: 0, row: 2 };
 
 /// A generator of numbers, and the sheet that it draws for.

@@ -24,7 +24,7 @@ pub enum Doing {
     Busy,
 }
 
-/// An edit that has begun.
+// An edit that has begun.
 #[derive(Clone, Copy, Debug, PartialEq, Eq)]
 struct Issued {
     process: usize,
@@ -33,7 +33,7 @@ struct Issued {
     text: &'static str,
 }
 
-/// A process: what it does, its next number, and its edit that is not answered.
+// A process: what it does, its next number, and its edit that is not answered.
 #[derive(Clone, Copy, Debug)]
 struct Seen {
     doing: Doing,

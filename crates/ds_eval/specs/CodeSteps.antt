@@ -43,7 +43,7 @@ abbrev pub size_of_rest : Bool → ℕ → ℕ → ℕ
 size_of_rest true rest size = rest
 size_of_rest false rest size = if rest == 0 then 0 else size - rest
 
--- whether both hold or neither
+-- whether two answers are the same: both hold, or neither
 abbrev pub same : Bool → Bool → Bool
 same true b = b
 same false b = not b

@@ -7,7 +7,7 @@ use Rattle.ds_eval.specs.declared.value.Value.TheVariants.{Number, Circular}
 use Rattle.ds_eval.specs.declared.inputs.Entry.{Entry}
 use Rattle.ds_eval.specs.Numbers.{is_i64}
 
--- no Err:522, and a number in range
+-- the value is not Err:522, and if it is a number, 64 bits have it
 abbrev pub IsOrdinary : Value → Type 0
 IsOrdinary (Number z) = is_i64 z ≡ true
 IsOrdinary Circular = ⊥

@@ -8,7 +8,7 @@ ghost use Rattle.ds_eval.specs.CodeSteps.{exactly, number_or_error, size_of_rest
 use crate::value::Value;
 use ds_formula::content::{Operator, Sign};
 
-/// An exact result, where it is in range.
+// An exact result, where it is in range.
 fn exact(outcome: Option<i64>) -> Value
     ensures { result ≡ exactly outcome }
 {
@@ -18,14 +18,14 @@ fn exact(outcome: Option<i64>) -> Value
     }
 }
 
-/// What a comparison gives: 1 or 0.
+// What a comparison gives: 1 or 0.
 fn truth(is_true: bool) -> Value
     ensures { result ≡ exact.truth is_true }
 {
     Value::Number(if is_true { 1 } else { 0 })
 }
 
-/// A value as a number, a blank being 0, or its error.
+// A value as a number, a blank being 0, or its error.
 fn as_number(value: Value) -> Result<i64, Value>
     ensures { result ≡ number_or_error value }
 {
@@ -59,7 +59,7 @@ pub fn signed(sign: Sign, value: Value) -> Value
     }
 }
 
-/// An operator between two numbers.
+// An operator between two numbers.
 fn joined_numbers(operator: Operator, a: i64, b: i64) -> Value
     ensures { result ≡ exact.joined operator a b }
 {
@@ -97,7 +97,7 @@ pub fn absolute(value: Value) -> Value
     }
 }
 
-/// The remainder of a division by a number that is not 0: it has the sign of the divisor.
+// The remainder of a division by a number that is not 0: it has the sign of the divisor.
 fn remainder(a: i64, b: i64) -> i64
     requires { b ≢ pos 0 }
     ensures { result ≡ exact.floor_rest a b }
@@ -107,7 +107,7 @@ fn remainder(a: i64, b: i64) -> i64
     signed_size(b < 0, rest)
 }
 
-/// How large the remainder is: what is left where the signs are the same, else what lacks.
+// How large the remainder is: what is left where the signs are the same, else what lacks.
 fn rest_of(same_sign: bool, rest: u64, size: u64) -> u64
     requires { rest < size }
     ensures value { result ≡ size_of_rest same_sign rest size }
@@ -122,7 +122,7 @@ fn rest_of(same_sign: bool, rest: u64, size: u64) -> u64
     }
 }
 
-/// The number of this size and sign.
+// The number of this size and sign.
 fn signed_size(negative: bool, size: u64) -> i64
     requires { size < 2 ^ 63 }
     ensures { result ≡ with_sign negative size }
@@ -134,7 +134,7 @@ fn signed_size(negative: bool, size: u64) -> i64
     }
 }
 
-/// Whether a condition holds: its number is not 0.
+// Whether a condition holds: its number is not 0.
 fn chosen(condition: Value) -> Result<bool, Value>
     ensures { result ≡ is_chosen condition }
 {

@@ -17,8 +17,8 @@ use crate::value::Value;
 use ds_formula::cells::{Cell, Shape};
 use ds_formula::content::{Function, Tree};
 
-/// The value of a cell, and one more than its height, at most the number of cells: outside of the sheet all is blank,
-/// and no references lead there.
+// The value of a cell, and one more than its height, at most the number of cells: outside of the sheet all is blank,
+// and no references lead there.
 fn look(shape: Shape, inputs: &Inputs, cell: Cell) -> Entry
     ensures value { result.value ≡ spec.look shape (values_in inputs.now.items) cell }
     ensures height { result.height ≡ min (count_of shape) (heights.reference_height shape (heights_in inputs.now.items) cell) }
@@ -79,8 +79,8 @@ pub fn evaluate(tree: &Tree, shape: Shape, inputs: &Inputs) -> Entry
     }
 }
 
-/// The value of a function. What the reader of formulas never gives has some value all the same: a wrong number of
-/// arguments of ABS, MOD, QUOTIENT or IF is `#NUM!`, and SUM, MIN and MAX of none are 0.
+// The value of a function. What the reader of formulas never gives has some value all the same: a wrong number of
+// arguments of ABS, MOD, QUOTIENT or IF is `#NUM!`, and SUM, MIN and MAX of none are 0.
 #[cycle(evaluation)]
 fn call(function: Function, arguments: &[Tree], shape: Shape, inputs: &Inputs) -> Entry
     ensures value { result.height < count_of shape → result.value ≡ spec.formula_value shape (values_in inputs.now.items) (Called function (listed (map formula arguments.now))) }
@@ -137,7 +137,7 @@ fn call(function: Function, arguments: &[Tree], shape: Shape, inputs: &Inputs) -
     }
 }
 
-/// A function with a number of arguments that it does not take: `#NUM!`, and how far references lead all the same.
+// A function with a number of arguments that it does not take: `#NUM!`, and how far references lead all the same.
 #[cycle(evaluation)]
 fn unfit(arguments: &[Tree], shape: Shape, inputs: &Inputs) -> Entry
     ensures value { result.value ≡ Value.Num }
@@ -154,7 +154,7 @@ fn unfit(arguments: &[Tree], shape: Shape, inputs: &Inputs) -> Entry
     }
 }
 
-/// ABS of its one argument.
+// ABS of its one argument.
 #[cycle(evaluation)]
 fn absolute_of(arguments: &[Tree], shape: Shape, inputs: &Inputs) -> Entry
     requires { length arguments.now ≤ 255 }
@@ -171,7 +171,7 @@ fn absolute_of(arguments: &[Tree], shape: Shape, inputs: &Inputs) -> Entry
     }
 }
 
-/// The values of two arguments, and one more than the greatest height of a cell written in them.
+// The values of two arguments, and one more than the greatest height of a cell written in them.
 #[derive(Clone, Copy, Debug)]
 struct Pair {
     left: Value,
@@ -179,7 +179,7 @@ struct Pair {
     height: usize,
 }
 
-/// The values of the two arguments of a function.
+// The values of the two arguments of a function.
 #[cycle(evaluation)]
 fn paired(arguments: &[Tree], shape: Shape, inputs: &Inputs) -> Pair
     requires { length arguments.now ≡ 2 }
@@ -195,8 +195,8 @@ fn paired(arguments: &[Tree], shape: Shape, inputs: &Inputs) -> Pair
     }
 }
 
-/// IF (OpenFormula 6.15.4): the value of the chosen branch, 0 for one that is left out. References in the other
-/// branch count for the height, and so it is read too; its value is dropped, an error included.
+// IF (OpenFormula 6.15.4): the value of the chosen branch, 0 for one that is left out. References in the other
+// branch count for the height, and so it is read too; its value is dropped, an error included.
 #[cycle(evaluation)]
 fn conditional(arguments: &[Tree], shape: Shape, inputs: &Inputs) -> Entry
     requires { length arguments.now ≤ 255 }
@@ -223,7 +223,7 @@ fn conditional(arguments: &[Tree], shape: Shape, inputs: &Inputs) -> Entry
     }
 }
 
-/// What the arguments stand for: a reference or a range stands for its cells.
+// What the arguments stand for: a reference or a range stands for its cells.
 #[cycle(evaluation)]
 fn gather(arguments: &[Tree], shape: Shape, inputs: &Inputs) -> Gathered
     requires { length arguments.now ≤ 255 }

@@ -2,6 +2,7 @@
 
 ghost use Rattle.std.specs.Prelude.{◌≡◌, ℕ, ◌+◌, ◌*◌, ◌<◌, ◌≤◌, ◌^◌, suc, min, max, List, [], ◌∷◌, ◌++◌, length, map, IfSome, IfOk, IfErr, Some, None};
 ghost use Rattle.ds_formula.specs.Cells.{count_of};
+ghost use Rattle.ds_formula.specs.Limits.{COLUMNS_MOST, ROWS_MOST};
 ghost use Rattle.ds_eval.specs.declared.value.Value as values;
 ghost use Rattle.ds_eval.specs.Evaluation as spec;
 ghost use Rattle.ds_eval.specs.Inputs.{values_in, heights_in, entry_in, cell_in};
@@ -18,7 +19,7 @@ use ds_formula::cells::{Cell, Rect, Shape};
 /// How many columns of the sheet the range has.
 pub fn width(shape: Shape, area: Rect) -> usize
     ensures value { result ≡ spec.width shape area }
-    ensures within { 0 < result → area.first.column + result ≤ 26 }
+    ensures within { 0 < result → area.first.column + result ≤ COLUMNS_MOST }
 {
     (area.last.column.min(shape.columns - 1) + 1).saturating_sub(area.first.column)
 }
@@ -26,7 +27,7 @@ pub fn width(shape: Shape, area: Rect) -> usize
 /// How many rows of the sheet the range has.
 pub fn height(shape: Shape, area: Rect) -> usize
     ensures value { result ≡ spec.height shape area }
-    ensures within { 0 < result → area.first.row + result ≤ 64 }
+    ensures within { 0 < result → area.first.row + result ≤ ROWS_MOST }
 {
     (area.last.row.min(shape.rows - 1) + 1).saturating_sub(area.first.row)
 }
@@ -74,10 +75,10 @@ pub fn raised(height: usize, most: usize) -> usize
     if height < most { height + 1 } else { most }
 }
 
-/// The entry of the cell so many columns to the right of the first one, which has this place where the whole row is
-/// there.
+// The entry of the cell so many columns to the right of the first one, which has this place where the whole row is
+// there.
 fn entry_right_of(inputs: &Inputs, place: Option<usize>, first: Cell, k: usize) -> Entry
-    requires column { first.column + k < 26 }
+    requires column { first.column + k < COLUMNS_MOST }
     requires within { IfSome place (λ p. p + k < length inputs.now.items) }
     requires cell { IfSome place (λ p. cell_in inputs.now.items (p + k) ≡ right_of first k) }
     ensures { result ≡ entry_in inputs.now.items (right_of first k) }
@@ -91,7 +92,7 @@ fn entry_right_of(inputs: &Inputs, place: Option<usize>, first: Cell, k: usize) 
     }
 }
 
-/// The greater of a height and one more than the greatest height in a row of so many columns.
+// The greater of a height and one more than the greatest height in a row of so many columns.
 fn height_with_row(
     inputs: &Inputs,
     most: usize,
@@ -100,7 +101,7 @@ fn height_with_row(
     columns: usize,
     height: usize,
 ) -> usize
-    requires columns { first.column + columns ≤ 26 }
+    requires columns { first.column + columns ≤ COLUMNS_MOST }
     requires within { IfSome place (λ p. p + columns ≤ length inputs.now.items) }
     requires cells { IfSome place (λ p. (k : ℕ) → k < columns → cell_in inputs.now.items (p + k) ≡ right_of first k) }
     ensures { result ≡ max height (min most (above (map (heights_in inputs.now.items) (row_from first columns)))) }
@@ -115,8 +116,8 @@ fn height_with_row(
     height.max(raised(greatest, most))
 }
 
-/// The totals with the values of a row of so many columns, or the first error there. A loop of its own is faster than
-/// one with the heights.
+// The totals with the values of a row of so many columns, or the first error there. A loop of its own is faster than
+// one with the heights.
 fn totals_with_row(
     inputs: &Inputs,
     place: Option<usize>,
@@ -124,7 +125,7 @@ fn totals_with_row(
     columns: usize,
     totals: Totals,
 ) -> Result<Totals, Value>
-    requires columns { first.column + columns ≤ 26 }
+    requires columns { first.column + columns ≤ COLUMNS_MOST }
     requires within { IfSome place (λ p. p + columns ≤ length inputs.now.items) }
     requires cells { IfSome place (λ p. (k : ℕ) → k < columns → cell_in inputs.now.items (p + k) ≡ right_of first k) }
     requires count { totals.count < 2 ^ 31 }
@@ -144,7 +145,7 @@ fn totals_with_row(
     Ok(sum)
 }
 
-/// The tally with the values of a row of so many columns.
+// The tally with the values of a row of so many columns.
 fn tally_with_row(
     inputs: &Inputs,
     place: Option<usize>,
@@ -152,7 +153,7 @@ fn tally_with_row(
     columns: usize,
     tally: Tally,
 ) -> Tally
-    requires columns { first.column + columns ≤ 26 }
+    requires columns { first.column + columns ≤ COLUMNS_MOST }
     requires within { IfSome place (λ p. p + columns ≤ length inputs.now.items) }
     requires cells { IfSome place (λ p. (k : ℕ) → k < columns → cell_in inputs.now.items (p + k) ≡ right_of first k) }
     requires count { tally.totals.count < 2 ^ 31 }
@@ -174,7 +175,7 @@ fn tally_with_row(
     }
 }
 
-/// With the cells of a row of so many columns, which is looked for at this place first.
+// With the cells of a row of so many columns, which is looked for at this place first.
 fn with_row(
     inputs: &Inputs,
     most: usize,
@@ -183,7 +184,7 @@ fn with_row(
     near: usize,
     gathered: Gathered,
 ) -> Gathered
-    requires within { first.column + columns ≤ 26 }
+    requires within { first.column + columns ≤ COLUMNS_MOST }
     requires count { gathered.tally.totals.count < 2 ^ 31 }
     ensures tally { (vs : List values.Value) → IsTally vs gathered.tally → IsTally (vs ++ map (values_in inputs.now.items) (row_from first columns)) result.tally }
     ensures count { result.tally.totals.count ≤ gathered.tally.totals.count + columns }

@@ -11,15 +11,15 @@ use crate::inputs::{Entry, Input, Inputs};
 use crate::local::local;
 use crate::sheet::Sheet;
 use crate::value::Value;
-use ds_formula::cells::{Cell, Rect, Shape};
+use ds_formula::cells::{Cell, ROW_LIMIT, Rect, Shape};
 use ds_formula::content::{Content, Tree};
 use std::alloc::{AllocError, Global};
 
-/// Which cells of a sheet were opened: a bit for each column, row by row.
+// Which cells of a sheet were opened: a bit for each column, row by row.
 #[derive(Drop)]
 struct Opened {
     shape: Shape,
-    rows: [u32; 64],
+    rows: [u32; ROW_LIMIT],
 }
 
 impl Opened {
@@ -28,7 +28,7 @@ impl Opened {
     {
         Opened {
             shape,
-            rows: [0; 64],
+            rows: [0; ROW_LIMIT],
         }
     }
 
@@ -108,7 +108,7 @@ impl Opened {
     }
 }
 
-/// A blank entry for each cell of the sheet.
+// A blank entry for each cell of the sheet.
 fn blank_table(alloc: Global, shape: Shape) -> Result<Inputs, AllocError>
     ensures { IfOk result (λ t. IsTable shape t.items) }
 {

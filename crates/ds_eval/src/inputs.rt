@@ -1,6 +1,7 @@
 //! Cells with what they show.
 
 ghost use Rattle.std.specs.Prelude.{◌≡◌, ◌≢◌, ◌↔◌, ℕ, ◌+◌, ◌<◌, ◌≤◌, [], ◌∷◌, ◌++◌, length, false, IsTrue, IfOk, IfSome, IsNone};
+ghost use Rattle.ds_formula.specs.Limits.{COLUMNS_MOST};
 ghost use Rattle.ds_formula.specs.Refs.{IsBefore};
 ghost use Rattle.ds_eval.specs.Inputs.{entry_in, entry_at, with_entry, cell_in, IsAscending, IsBehind};
 ghost use Rattle.ds_eval.specs.Rows.{right_of};
@@ -176,7 +177,7 @@ impl Inputs {
     /// From which place on the inputs are this cell and those to its right, so many as the width says. This place is
     /// tried first; `None` where one of the cells is missing.
     pub(crate) fn row_at(&self, first: Cell, width: usize, near: usize) -> Option<usize>
-        requires { first.column + width ≤ 26 }
+        requires { first.column + width ≤ COLUMNS_MOST }
         ensures within { IfSome result (λ place. place + width ≤ length self.now.items) }
         ensures cells { IfSome result (λ place. (k : ℕ) → k < width → cell_in self.now.items (place + k) ≡ right_of first k) }
     {
@@ -196,14 +197,14 @@ impl Inputs {
     }
 }
 
-/// Whether the first cell stands before the second one, row by row from the left.
+// Whether the first cell stands before the second one, row by row from the left.
 fn is_before(first: Cell, second: Cell) -> bool
     ensures { IsTrue result ↔ IsBefore first second }
 {
     first.row < second.row || (first.row == second.row && first.column < second.column)
 }
 
-/// Where the cell is among ascending inputs: this place is tried first.
+// Where the cell is among ascending inputs: this place is tried first.
 fn find_near(inputs: &[Input], guess: usize, cell: Cell) -> Option<usize>
     requires { IsAscending inputs.now }
     ensures some { IfSome result (λ place. (place < length inputs.now) × (cell_in inputs.now place ≡ cell)) }
@@ -216,7 +217,7 @@ fn find_near(inputs: &[Input], guess: usize, cell: Cell) -> Option<usize>
     }
 }
 
-/// Where the cell is among ascending inputs.
+// Where the cell is among ascending inputs.
 fn find(inputs: &[Input], cell: Cell) -> Option<usize>
     requires { IsAscending inputs.now }
     ensures some { IfSome result (λ place. (place < length inputs.now) × (cell_in inputs.now place ≡ cell)) }
@@ -230,7 +231,7 @@ fn find(inputs: &[Input], cell: Cell) -> Option<usize>
     }
 }
 
-/// How many of the ascending inputs stand before the cell.
+// How many of the ascending inputs stand before the cell.
 fn count_before(inputs: &[Input], cell: Cell) -> usize
     requires { IsAscending inputs.now }
     ensures at_most { result ≤ length inputs.now }

@@ -6,7 +6,7 @@ ghost use Rattle.ds_formula.specs.Plain.{formula, plain};
 use crate::inputs::Input;
 use ds_formula::content::{Content, Tree};
 
-/// Whether two formulas are equal.
+// Whether two formulas are equal.
 #[cycle(sameness)]
 fn same_tree(left: &Tree, right: &Tree) -> bool
     ensures yes { IsTrue result → formula left.now ≡ formula right.now }

@@ -15,7 +15,7 @@ use crate::sheet::Sheet;
 use crate::value::Value;
 use std::alloc::{AllocError, Global};
 
-/// Evaluates each cell in turn on what the others show at that moment. Whether any entry changed.
+// Evaluates each cell in turn on what the others show at that moment. Whether any entry changed.
 fn evaluate_all(sheet: &Sheet, table: &mut Inputs) -> bool
     requires { IsTable sheet.now.shape table.old.items }
     ensures table { IsTable sheet.now.shape table.new.items }
@@ -31,8 +31,8 @@ fn evaluate_all(sheet: &Sheet, table: &mut Inputs) -> bool
     changed
 }
 
-/// Evaluates all cells until nothing changes, or as often as there are cells: whatever the first entries are,
-/// references reach no further. Where they were guessed right, the first round changes nothing.
+// Evaluates all cells until nothing changes, or as often as there are cells: whatever the first entries are,
+// references reach no further. Where they were guessed right, the first round changes nothing.
 fn settle(sheet: &Sheet, table: &mut Inputs)
     requires { IsTable sheet.now.shape table.old.items }
     ensures { IsScratch sheet.now.shape (contents_of sheet.now) (shown table.new.items) }
@@ -44,7 +44,7 @@ fn settle(sheet: &Sheet, table: &mut Inputs)
     }
 }
 
-/// The values of the entries.
+// The values of the entries.
 fn values_of(alloc: Global, table: &Inputs) -> Result<Vec<Value>, AllocError>
     ensures { IfOk result (λ values. values.items ≡ shown table.now.items) }
 {

@@ -51,7 +51,7 @@ pub fn advance(alloc: Global, world: &mut World, process: usize) -> Result<Reply
     Ok(take(alloc, world, &Event::Step(process)))
 }
 
-/// More steps than a call of the sheet has.
+// More steps than a call of the sheet has.
 const STEPS: usize = 500;
 
 /// A process steps until its call ends; where its work waits, the entry of its task is offered. How the call ended:
@@ -79,12 +79,12 @@ pub fn whole(
     }
 }
 
-/// Whether the cell is marked, and held by nobody.
+// Whether the cell is marked, and held by nobody.
 fn is_marked(world: &World, cell: Cell) -> bool {
     world.words.layout().shape.contains(cell) && world.mark_of(cell).state() == State::Marked
 }
 
-/// A process works on each cell that is marked when its turn comes. Whether there was one.
+// A process works on each cell that is marked when its turn comes. Whether there was one.
 fn pass(alloc: Global, world: &mut World, process: usize) -> Result<bool, Mismatch> {
     let mut found = false;
     let shape = world.words.layout().shape;
@@ -98,7 +98,7 @@ fn pass(alloc: Global, world: &mut World, process: usize) -> Result<bool, Mismat
     Ok(found)
 }
 
-/// More passes than the sheet needs: values settle in four.
+// More passes than the sheet needs: values settle in four.
 const PASSES: usize = 6;
 
 /// A process works on all cells, up to the first pass that finds none that is marked. Whether there was one.

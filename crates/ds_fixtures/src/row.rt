@@ -82,7 +82,7 @@ pub enum Row {
 }
 
 impl Action {
-    /// The process whose call begins.
+    // The process whose call begins.
     fn caller(self) -> Option<usize> {
         match self {
             Action::Edit(process, _, _)
@@ -124,7 +124,7 @@ fn holds(is_so: bool, mismatch: Mismatch) -> Result<(), Mismatch> {
     if is_so { Ok(()) } else { Err(mismatch) }
 }
 
-/// Events happen one after the other, with these replies.
+// Events happen one after the other, with these replies.
 fn expect_replies(
     alloc: Global,
     world: &mut World,

@@ -7,7 +7,7 @@ use ds_state::world::World;
 use ds_words::words::Word;
 use std::alloc::{AllocError, Global};
 
-/// What a process does: its edit's number, or its next one's, and the stage of its call.
+// What a process does: its edit's number, or its next one's, and the stage of its call.
 #[derive(Clone, Copy, Debug, PartialEq, Eq)]
 enum Doing {
     Idle(usize),

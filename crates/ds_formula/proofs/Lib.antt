@@ -7,8 +7,8 @@ pub mod Parses
 pub mod Calls
 pub mod Unique
 pub mod Whole
+pub mod Marks
 pub mod Lists
-mod Marks
 pub mod Texts
 pub mod Formed
 pub mod Digits

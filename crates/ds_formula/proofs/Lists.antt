@@ -6,9 +6,8 @@ use Rattle.std.proofs.lemmas.List.Elements.{Contains-push, Contains-push_cases, 
 use Rattle.std.specs.List.{Contains, AllPairs}
 use Rattle.ds_formula.specs.declared.cells.Cell.{Cell}
 use Rattle.ds_formula.specs.declared.content.Operator.{Operator}
-use Rattle.ds_formula.specs.declared.content.Sign.{Sign}
-use Rattle.ds_formula.specs.Plain.{Formula, At, Signed, Joined, Computed}
-use Rattle.ds_formula.specs.Refs.{Mentions, IsPossible, IsBefore, IsListed, AreRefs}
+use Rattle.ds_formula.specs.Plain.{Formula, At, Joined, Computed}
+use Rattle.ds_formula.specs.Refs.{IsPossible, IsBefore, IsListed, AreRefs}
 use Rattle.ds_formula.proofs.Marks.{push_ascends}
 
 before_all : (c d e : Cell) → IsBefore c d → IsBefore d e → IsBefore c e
@@ -28,9 +27,6 @@ behind_last xs other d ascend some before c h =
       | inr ge ↦ (let last : length xs - 1 ≡ k = omega (arith, there, ge, some) in subst (λ (i : ℕ). IsBefore (get_or xs i other) d) last before)
     ])
 
-pub none_listed : (f : Formula) (xs : List Cell) → ((c : Cell) → Mentions f c → ⊥) → AllPairs IsBefore xs → IsListed f xs xs
-none_listed f xs none ascend = record { ascending = ascend; possible = λ h. h; only = λ c h. inl h; kept = λ c h. h; all = λ c m. absurd (none c m) }
-
 pub one_listed : (d : Cell) (xs : List Cell) → AllPairs IsBefore xs → ((c : Cell) → Contains xs c → IsBefore c d) → IsPossible d → IsListed (At d) xs (xs ++ d ∷ [])
 one_listed d xs ascend behind possible = record {
   ascending = push_ascends xs d ascend behind;
@@ -42,9 +38,6 @@ one_listed d xs ascend behind possible = record {
   kept = λ c h. Contains-append_left xs (d ∷ []) c h;
   all = λ c same. subst (λ (x : Cell). Contains (xs ++ d ∷ []) x) same (Contains-push xs d);
 }
-
-pub signed_listed : (s : Sign) (f : Formula) (xs ys : List Cell) → IsListed f xs ys → IsListed (Signed s f) xs ys
-signed_listed s f xs ys h = record { ascending = h.ascending; possible = h.possible; only = h.only; kept = h.kept; all = h.all }
 
 pub both_listed : (o : Operator) (f g : Formula) (xs ys zs : List Cell) → IsListed f xs ys → IsListed g ys zs → IsListed (Joined o f g) xs zs
 both_listed o f g xs ys zs h k = record {

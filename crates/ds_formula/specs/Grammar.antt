@@ -5,7 +5,7 @@ use Rattle.ds_formula.specs.declared.content.Content.{Content}
 use Rattle.ds_formula.specs.declared.fault.TextFault.{TextFault}
 use Rattle.ds_formula.specs.declared.fault.FaultKind.TheVariants.{TooLong, RangeNotAllowed, TooDeep, NoMemory}
 use Rattle.ds_formula.specs.declared.ranges.Ranges.{Ranges}
-use Rattle.ds_formula.specs.declared.reading.TheConstants.{TEXT_LIMIT}
+use Rattle.ds_formula.specs.Limits.{TEXT_MOST}
 use Rattle.ds_formula.specs.declared.tokens.Stop.{Stop}
 use Rattle.ds_formula.specs.Plain.{Formula, Plain, plain, Empty, Constant, Computed}
 use Rattle.ds_formula.specs.Bytes.{◌>>=◌, unexpected_stop, begins, number_at}
@@ -64,7 +64,7 @@ pub data ReadsLong (shape : Shape) : List ℕ → Plain → Type 0 where
 
 -- the text has this content
 pub record Reads (shape : Shape) (text : List ℕ) (content : Plain) : Type 0 where
-  pub short : length text ≤ TEXT_LIMIT
+  pub short : length text ≤ TEXT_MOST
   pub reads : ReadsLong shape text content
 
 -- a fault by the bytes left, and by the bytes before it
@@ -82,8 +82,8 @@ pub data FaultsLong (shape : Shape) : List ℕ → TextFault → Type 0 where
 
 -- the text has this fault, its length first
 pub data Faults (shape : Shape) (text : List ℕ) : TextFault → Type 0 where
-  too_long : TEXT_LIMIT < length text → Faults shape text (record { kind = TooLong; offset = TEXT_LIMIT })
-  within : (fault : TextFault) → length text ≤ TEXT_LIMIT → FaultsLong shape text fault → Faults shape text fault
+  too_long : TEXT_MOST < length text → Faults shape text (record { kind = TooLong; offset = TEXT_MOST })
+  within : (fault : TextFault) → length text ≤ TEXT_MOST → FaultsLong shape text fault → Faults shape text fault
 
 -- the answer where memory ran out
 abbrev pub no_memory : TextFault

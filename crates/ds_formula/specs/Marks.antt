@@ -2,13 +2,14 @@
 use Rattle.std.specs.Prelude.{◌≡◌, ℕ, zero, suc, ◌/◌, ◌%◌, ◌<◌, ◌≤◌, Bool, false, true, ◌&&◌, ◌||◌, nat_le, List, [], ◌∷◌, ◌++◌, length, slice_index_or, if◌then◌else◌}
 use Rattle.ds_formula.specs.declared.cells.Cell.{Cell}
 use Rattle.ds_formula.specs.declared.cells.Rect.{Rect}
-use Rattle.ds_formula.specs.declared.references.TheConstants.{PLACES, ROWS}
+use Rattle.ds_formula.specs.declared.references.TheConstants.{PLACES}
 use Rattle.ds_formula.specs.declared.references.Rows.{Rows}
+use Rattle.ds_formula.specs.Limits.{COLUMNS_MOST, ROWS_MOST}
 use Rattle.ds_formula.specs.Plain.{Formula, Literal, At, Area, Signed, Joined, Called, Formulas, Nothing, Then}
 
 -- the cell with this place among all that some sheet has
 abbrev pub cell_by : ℕ → Cell
-cell_by place = record { column = place % 26; row = place / 26 }
+cell_by place = record { column = place % COLUMNS_MOST; row = place / COLUMNS_MOST }
 
 -- whether the cell is one between the corners
 abbrev pub is_within : Rect → Cell → Bool
@@ -36,10 +37,10 @@ marked_below marks (suc n) = marked_below marks n ++ (if slice_index_or marks n 
 
 -- each row in which a cell has a mark is one of the rows
 pub record AreRowsOf (marks : List Bool) (rows : Rows) : Type 0 where
-  pub each : (k : ℕ) → k < PLACES → slice_index_or marks k false ≡ true → slice_index_or rows.has_mark (k / 26) false ≡ true
-  pub behind : (k : ℕ) → k < PLACES → slice_index_or marks k false ≡ true → rows.first ≤ k / 26
-  pub before : (k : ℕ) → k < PLACES → slice_index_or marks k false ≡ true → k / 26 < rows.end
-  pub within : rows.first ≤ ROWS
+  pub each : (k : ℕ) → k < PLACES → slice_index_or marks k false ≡ true → slice_index_or rows.has_mark (k / COLUMNS_MOST) false ≡ true
+  pub behind : (k : ℕ) → k < PLACES → slice_index_or marks k false ≡ true → rows.first ≤ k / COLUMNS_MOST
+  pub before : (k : ℕ) → k < PLACES → slice_index_or marks k false ≡ true → k / COLUMNS_MOST < rows.end
+  pub within : rows.first ≤ ROWS_MOST
 
 -- beside the marks that were there, the cells that pass the test have one now
 pub record MarksBy (test : Cell → Bool) (old new : List Bool) : Type 0 where
@@ -57,4 +58,4 @@ Marks f = MarksBy (mentions f)
 -- the rows of the range are marked too now
 pub record MarksRows (area : Rect) (old new : List Bool) : Type 0 where
   pub kept : (k : ℕ) → slice_index_or old k false ≡ true → slice_index_or new k false ≡ true
-  pub marked : (k : ℕ) → area.first.row ≤ k → k ≤ area.last.row → k < 64 → slice_index_or new k false ≡ true
+  pub marked : (k : ℕ) → area.first.row ≤ k → k ≤ area.last.row → k < ROWS_MOST → slice_index_or new k false ≡ true

@@ -7,6 +7,7 @@ use Rattle.ds_formula.specs.declared.fault.FaultKind.{FaultKind}
 use Rattle.ds_formula.specs.declared.fault.FaultKind.TheVariants.{TooLong, BadToken, NotWhole, NumberTooLarge, UnknownFunction, WrongArguments, OutsideSheet, RangeNotAllowed, TooDeep, Unfinished, NoMemory}
 use Rattle.ds_formula.specs.declared.fault.TextFault.{TextFault}
 use Rattle.ds_formula.specs.Bytes.{Read}
+use Rattle.ds_formula.specs.Limits.{COLUMNS_MOST, ROWS_MOST}
 use Rattle.ds_formula.specs.References.{letters_at, row_at, cell_of}
 
 -- the name of a kind of fault
@@ -29,7 +30,7 @@ fault_text t = name_of_kind t.kind ++ (32 ∷ decimal t.offset)
 
 -- the text of a cell: the letter of its column and the number of its row; a cell that no sheet has is shown as OpenFormula writes a lost reference
 abbrev pub cell_text : Cell → List ℕ
-cell_text c = if nat_lt c.column 26 && nat_lt c.row 64 then (65 + c.column) ∷ decimal (c.row + 1) else codes "#REF!"
+cell_text c = if nat_lt c.column COLUMNS_MOST && nat_lt c.row ROWS_MOST then (65 + c.column) ∷ decimal (c.row + 1) else codes "#REF!"
 
 -- the cell, where the text ends
 abbrev pub at_end : List ℕ → Option Cell → Option Cell

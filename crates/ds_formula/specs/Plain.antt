@@ -13,7 +13,7 @@ use Rattle.ds_formula.specs.declared.content.Content.{Content}
 use Rattle.ds_formula.specs.declared.content.Content.TheVariants as contents
 
 mutual
-  -- an expression
+  -- an expression: a number, a reference, a range, or a sign, an operator or a function over expressions
   pub data Formula : Type 0 where
     Literal : ℤ → Formula
     At : Cell → Formula

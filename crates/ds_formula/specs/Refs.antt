@@ -3,6 +3,7 @@ use Rattle.std.specs.Prelude.{◌≡◌, ◌⊎◌, ◌<◌, List}
 use Rattle.std.specs.List.{Contains, AllPairs}
 use Rattle.ds_formula.specs.declared.cells.Cell.{Cell}
 use Rattle.ds_formula.specs.Cells.{IsWithin}
+use Rattle.ds_formula.specs.Limits.{COLUMNS_MOST, ROWS_MOST}
 use Rattle.ds_formula.specs.Plain.{Formula, Literal, At, Area, Signed, Joined, Called, Formulas, Nothing, Then, Plain, Empty, Constant, Computed}
 
 abbrev mutual
@@ -28,8 +29,8 @@ Refers (Computed f) c = Mentions f c
 
 -- some sheet has the cell
 pub record IsPossible (c : Cell) : Type 0 where
-  pub column : c.column < 26
-  pub row : c.row < 64
+  pub column : c.column < COLUMNS_MOST
+  pub row : c.row < ROWS_MOST
 
 -- earlier in reading order: row by row from the left
 abbrev pub IsBefore : Cell → Cell → Type 0

@@ -1,6 +1,6 @@
 -- How large an expression is.
 use Rattle.std.specs.Prelude.{ℕ, ◌+◌, ◌≤◌, max}
-use Rattle.ds_formula.specs.declared.reading.TheConstants.{NODE_LIMIT, DEPTH_LIMIT}
+use Rattle.ds_formula.specs.Limits.{NODES_MOST, DEPTH_MOST}
 use Rattle.ds_formula.specs.Plain.{Formula, Literal, At, Area, Signed, Joined, Called, Formulas, Nothing, Then}
 
 abbrev mutual
@@ -13,6 +13,7 @@ abbrev mutual
   nodes (Joined o f g) = 1 + (nodes f + nodes g)
   nodes (Called g fs) = 1 + nodes_of fs
 
+  -- how many nodes the arguments have
   pub nodes_of : Formulas → ℕ
   nodes_of Nothing = 0
   nodes_of (Then f fs) = nodes f + nodes_of fs
@@ -27,11 +28,12 @@ abbrev mutual
   depth (Joined o f g) = 1 + max (depth f) (depth g)
   depth (Called g fs) = 1 + depth_of fs
 
+  -- how deep the deepest of the arguments is
   pub depth_of : Formulas → ℕ
   depth_of Nothing = 0
   depth_of (Then f fs) = max (depth f) (depth_of fs)
 
 -- the expression is not too large
 pub record Fits (f : Formula) : Type 0 where
-  pub few : nodes f ≤ NODE_LIMIT
-  pub shallow : depth f ≤ DEPTH_LIMIT
+  pub few : nodes f ≤ NODES_MOST
+  pub shallow : depth f ≤ DEPTH_MOST

@@ -1,7 +1,17 @@
 //! Shapes, cells and ranges of a sheet.
 
 ghost use Rattle.std.specs.Prelude.{◌≡◌, ◌<◌, ◌≤◌, ◌↔◌, IsTrue, IsSome, IfSome};
+ghost use Rattle.ds_formula.specs.Limits.{CELLS_MOST};
 ghost use Rattle.ds_formula.specs.Shapes.{MayHave};
+
+/// How many columns a sheet may have: A to Z.
+pub const COLUMN_LIMIT: usize = 26;
+
+/// How many rows a sheet may have.
+pub const ROW_LIMIT: usize = 64;
+
+/// How many cells a sheet may have.
+pub const CELL_LIMIT: usize = 1024;
 
 /// How many columns and rows a sheet has: columns from 1 to 26 (A to Z), rows from 1 to 64, and at most 1,024 cells.
 #[derive(Clone, Copy, Debug, PartialEq, Eq)]
@@ -39,7 +49,10 @@ impl Shape {
         ensures within { IsSome result ↔ MayHave columns rows }
         ensures value { IfSome result (λ s. (s.columns ≡ columns) × (s.rows ≡ rows)) }
     {
-        if (1..=26).contains(&columns) && (1..=64).contains(&rows) && columns * rows <= 1024 {
+        if (1..=COLUMN_LIMIT).contains(&columns)
+            && (1..=ROW_LIMIT).contains(&rows)
+            && columns * rows <= CELL_LIMIT
+        {
             Some(Shape { columns, rows })
         } else {
             None
@@ -51,7 +64,7 @@ impl Shape {
     pub fn count(&self) -> usize
         ensures value { result ≡ count_of self.now }
         ensures at_least_one { 1 ≤ result }
-        ensures at_most { result ≤ 1024 }
+        ensures at_most { result ≤ CELLS_MOST }
     {
         self.columns * self.rows
     }

@@ -4,7 +4,7 @@ ghost use Rattle.std.specs.Prelude.{◌≡◌, Some, IfSome};
 ghost use Rattle.ds_formula.specs.Cells.{IsInside};
 ghost use Rattle.ds_formula.specs.Names.{name_of_kind, fault_text, cell_text, cell_named};
 
-use crate::cells::{Cell, Shape};
+use crate::cells::{COLUMN_LIMIT, Cell, ROW_LIMIT, Shape};
 use crate::fault::{FaultKind, TextFault};
 use crate::tokens::{cell_of, column, row};
 use std::fmt;
@@ -50,7 +50,7 @@ impl fmt::Display for Cell {
     ghost output = { λ c. Some (cell_text c) };
 
     fn fmt<W: fmt::Write>(&self, f: &mut fmt::Formatter<W>) -> fmt::Result {
-        if self.column < 26 && self.row < 64 {
+        if self.column < COLUMN_LIMIT && self.row < ROW_LIMIT {
             let letter = (b'A' + self.column as u8) as char;
             write!(f, "{}{}", letter, self.row + 1)
         } else {

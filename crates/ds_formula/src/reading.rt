@@ -9,7 +9,8 @@ ghost use Rattle.ds_formula.specs.Cells.{IsInside};
 ghost use Rattle.ds_formula.specs.Plain.{Plain, formula, plain};
 ghost use Rattle.ds_formula.specs.Refs.{Refers};
 ghost use Rattle.ds_formula.specs.Sizes.{Fits};
-ghost use Rattle.ds_formula.specs.Limits.{TEXT_MOST, NODES_MOST, DEPTH_MOST};
+ghost use Rattle.ds_formula.specs.Limits.{COLUMNS_MOST, ROWS_MOST, CELLS_MOST, TEXT_MOST, NODES_MOST, DEPTH_MOST};
+ghost use Rattle.ds_formula.specs.declared.cells.TheConstants as shapes;
 ghost use Rattle.ds_formula.specs.declared.reading.TheConstants as constants;
 ghost use Rattle.ds_formula.specs.Parsing.{IsAccepted, IsRefused};
 ghost use Rattle.ds_formula.specs.Grammar.{whole_of, constant_of, without_equals, expression_of, placed, Reads, Answers, OneAnswer};
@@ -187,6 +188,9 @@ pub fn read_is_inside()
 
 /// The constants of this crate are the limits of the definitions.
 pub fn constants_are_limits()
+    ensures columns { shapes.COLUMN_LIMIT ≡ COLUMNS_MOST }
+    ensures rows { shapes.ROW_LIMIT ≡ ROWS_MOST }
+    ensures cells { shapes.CELL_LIMIT ≡ CELLS_MOST }
     ensures text { constants.TEXT_LIMIT ≡ TEXT_MOST }
     ensures nodes { constants.NODE_LIMIT ≡ NODES_MOST }
     ensures depth { constants.DEPTH_LIMIT ≡ DEPTH_MOST }

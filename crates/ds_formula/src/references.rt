@@ -1,25 +1,23 @@
 //! The cells written in a content.
 
-ghost use Rattle.std.specs.Prelude.{◌≡◌, ◌+◌, ◌*◌, ◌<◌, IfOk, OnOk, IsTrue};
+ghost use Rattle.std.specs.Prelude.{◌≡◌, ◌+◌, ◌*◌, ◌<◌, ◌↔◌, IfOk, OnOk, IsTrue};
 ghost use Rattle.std.specs.List.{AllPairs, Contains};
+ghost use Rattle.ds_formula.specs.Limits.{COLUMNS_MOST, ROWS_MOST};
 ghost use Rattle.ds_formula.specs.Plain.{At, Computed, formula, plain};
 ghost use Rattle.ds_formula.specs.Refs.{AreRefs, IsBefore, IsListed};
 ghost use Rattle.ds_formula.specs.Marks.{cell_by, is_within, marked_below, AreRowsOf, Marks, MarksArea, MarksRows};
 
-use crate::cells::{Cell, Rect};
+use crate::cells::{COLUMN_LIMIT, Cell, ROW_LIMIT, Rect};
 use crate::content::{Content, Tree};
 use std::alloc::{AllocError, Global};
 
 // How many cells the widest columns and the most rows have: each has a mark, row by row from the left.
-const PLACES: usize = 26 * 64;
-
-// How many rows the most rows are.
-const ROWS: usize = 64;
+const PLACES: usize = COLUMN_LIMIT * ROW_LIMIT;
 
 // Whether a cell comes before another one in reading order.
 #[inline(always)]
 fn is_before(one: Cell, other: Cell) -> bool
-    ensures { IsTrue result → IsBefore one other }
+    ensures { IsTrue result ↔ IsBefore one other }
 {
     one.row < other.row || one.row == other.row && one.column < other.column
 }
@@ -28,7 +26,7 @@ fn is_before(one: Cell, other: Cell) -> bool
 #[inline(always)]
 fn is_behind(cell: Cell, cells: &[Cell]) -> bool
     requires { AllPairs IsBefore cells.now }
-    ensures { IsTrue result → (c : Cell) → Contains cells.now c → IsBefore c cell }
+    ensures { IsTrue result ↔ ((c : Cell) → Contains cells.now c → IsBefore c cell) }
 {
     match cells {
         [] => true,
@@ -36,13 +34,13 @@ fn is_behind(cell: Cell, cells: &[Cell]) -> bool
     }
 }
 
-// Adds a cell that some sheet has, where it comes behind the cells, and says whether it does.
+// Adds a cell that some sheet has where it comes behind the cells. Where this says false, nothing is known of them.
 #[inline(always)]
 fn add_behind(cell: Cell, cells: &mut Vec<Cell>) -> Result<bool, AllocError>
     requires { AllPairs IsBefore cells.old.items }
     ensures { IfOk result (λ added. IsTrue added → IsListed (At cell) cells.old.items cells.new.items) }
 {
-    if cell.column >= 26 || cell.row >= ROWS || !is_behind(cell, cells.as_slice()) {
+    if cell.column >= COLUMN_LIMIT || cell.row >= ROW_LIMIT || !is_behind(cell, cells.as_slice()) {
         return Ok(false);
     }
     cells.push(cell)?;
@@ -54,8 +52,8 @@ fn cell_by(place: usize) -> Cell
     ensures { result ≡ cell_by place }
 {
     Cell {
-        column: place % 26,
-        row: place / 26,
+        column: place % COLUMN_LIMIT,
+        row: place / COLUMN_LIMIT,
     }
 }
 
@@ -74,8 +72,10 @@ fn is_within(area: Rect, cell: Cell) -> bool
 fn mark_area(area: Rect, marks: &mut [bool; PLACES])
     ensures { MarksArea area marks.old marks.new }
 {
-    let from = area.first.row.min(64) * 26 + area.first.column.min(26);
-    let to = area.last.row.min(63) * 26 + area.last.column.min(25) + 1;
+    let from = area.first.row.min(ROW_LIMIT) * COLUMN_LIMIT + area.first.column.min(COLUMN_LIMIT);
+    let to = area.last.row.min(ROW_LIMIT - 1) * COLUMN_LIMIT
+        + area.last.column.min(COLUMN_LIMIT - 1)
+        + 1;
     for place in from..to {
         if is_within(area, cell_by(place)) {
             marks[place] = true;
@@ -86,17 +86,17 @@ fn mark_area(area: Rect, marks: &mut [bool; PLACES])
 // The rows in which cells have a mark: these, from the first one up to the end.
 #[derive(Clone, Copy, Debug)]
 struct Rows {
-    has_mark: [bool; ROWS],
+    has_mark: [bool; ROW_LIMIT],
     first: usize,
     end: usize,
 }
 
 // Marks the rows of the range.
 #[inline(always)]
-fn mark_rows(area: Rect, has_mark: &mut [bool; ROWS])
+fn mark_rows(area: Rect, has_mark: &mut [bool; ROW_LIMIT])
     ensures { MarksRows area has_mark.old has_mark.new }
 {
-    for row in area.first.row..area.last.row.min(ROWS - 1) + 1 {
+    for row in area.first.row..area.last.row.min(ROW_LIMIT - 1) + 1 {
         has_mark[row] = true;
     }
 }
@@ -112,12 +112,12 @@ fn mark_range(area: Rect, marks: &mut [bool; PLACES], rows: &mut Rows)
     mark_area(area, marks);
     mark_rows(area, &mut rows.has_mark);
     rows.first = rows.first.min(area.first.row);
-    rows.end = rows.end.max(area.last.row.min(ROWS - 1) + 1);
+    rows.end = rows.end.max(area.last.row.min(ROW_LIMIT - 1) + 1);
 }
 
 impl Tree {
-    // Lists the cells that are written in it behind the others, and says whether it could: where they are no single
-    // cells that ascend, or stand in a call, it breaks off.
+    // Lists the cells that are written in it behind the others, where they are single cells that ascend and none
+    // stands in a call. Where this says false, nothing is known of the cells: they are to be found by their marks.
     fn list(&self, cells: &mut Vec<Cell>) -> Result<bool, AllocError>
         requires { AllPairs IsBefore cells.old.items }
         ensures { IfOk result (λ listed. IsTrue listed → IsListed (formula self.now) cells.old.items cells.new.items) }
@@ -171,11 +171,11 @@ impl Tree {
 // Adds the cells of a row that have a mark.
 #[inline(always)]
 fn add_row(marks: &[bool; PLACES], row: usize, cells: &mut Vec<Cell>) -> Result<(), AllocError>
-    requires row { row < ROWS }
-    requires before { cells.old.items ≡ marked_below marks.now (26 * row) }
-    ensures { OnOk result (cells.new.items ≡ marked_below marks.now (26 * row + 26)) }
+    requires row { row < ROWS_MOST }
+    requires before { cells.old.items ≡ marked_below marks.now (COLUMNS_MOST * row) }
+    ensures { OnOk result (cells.new.items ≡ marked_below marks.now (COLUMNS_MOST * row + COLUMNS_MOST)) }
 {
-    for place in 26 * row..26 * row + 26 {
+    for place in COLUMN_LIMIT * row..COLUMN_LIMIT * row + COLUMN_LIMIT {
         if marks[place] {
             cells.push(cell_by(place))?;
         }
@@ -189,7 +189,7 @@ fn marked(alloc: Global, marks: &[bool; PLACES], rows: &Rows) -> Result<Vec<Cell
     ensures { IfOk result (λ v. v.items ≡ marked_below marks.now PLACES) }
 {
     let mut cells = Vec::new(alloc);
-    for row in rows.first..rows.end.min(ROWS) {
+    for row in rows.first..rows.end.min(ROW_LIMIT) {
         if rows.has_mark[row] {
             add_row(marks, row, &mut cells)?;
         }
@@ -203,8 +203,8 @@ fn marked_in(alloc: Global, tree: &Tree) -> Result<Vec<Cell>, AllocError>
 {
     let mut marks = [false; PLACES];
     let mut rows = Rows {
-        has_mark: [false; ROWS],
-        first: ROWS,
+        has_mark: [false; ROW_LIMIT],
+        first: ROW_LIMIT,
         end: 0,
     };
     tree.mark(&mut marks, &mut rows);

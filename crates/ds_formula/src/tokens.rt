@@ -10,6 +10,9 @@ use crate::cells::{Cell, Rect, Shape};
 use crate::content::{Function, Operator, Sign};
 use crate::fault::FaultKind;
 
+// How many letters there are: the base of the numbers that letters stand for.
+const LETTERS: u64 = 26;
+
 /// A fault, and how many bytes are left from the one that it stands at.
 #[derive(Clone, Copy, Debug, PartialEq, Eq)]
 pub struct Stop {
@@ -190,7 +193,7 @@ fn letters(text: &[u8]) -> (u64, &[u8])
         && letter.is_ascii_alphabetic()
     {
         value = value
-            .saturating_mul(26)
+            .saturating_mul(LETTERS)
             .saturating_add((letter.to_ascii_uppercase() - b'@') as u64);
         rest = after;
     }

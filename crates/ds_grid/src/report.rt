@@ -8,7 +8,6 @@ ghost use Rattle.ds_streams.specs.AnswerTexts.{rows_text};
 ghost use Rattle.ds_streams.specs.Streams.{reader_of, bytes_given, has_ended, read_failed, writer_of, write_failed};
 ghost use Rattle.ds_grid.specs.Grids.{Shows, Fails, Outcome};
 ghost use Rattle.ds_grid.specs.declared.ending.GridEnd as GridEnd;
-ghost use Rattle.ds_grid.specs.declared.report.TheConstants.{GRID_LIMIT};
 ghost use Rattle.ds_formula.specs.Limits.{INPUT_MOST};
 
 use crate::ending::GridEnd;
@@ -17,12 +16,10 @@ use ds_eval::scratch::scratch;
 use ds_eval::sheet::Sheet;
 use ds_streams::answer::value_lines;
 use ds_streams::input::{InputEnd, read_input};
+use ds_streams::line::INPUT_LIMIT;
 use ds_streams::streams::{Reading, Writing};
 use std::alloc::{AllocError, Global};
 use std::io::{Read, Write};
-
-/// The most bytes of a grid.
-pub const GRID_LIMIT: usize = 1_048_576;
 
 // The values of a grid, as CSV.
 fn values_of(alloc: Global, bytes: &[u8]) -> Result<Vec<u8>, GridEnd>
@@ -60,14 +57,14 @@ pub fn report_grid<R: Read, W: Write>(
     reader: &mut Reading<R>,
     writer: &mut Writing<W>,
 ) -> GridEnd
-    ensures given { bytes_given reader.new ≤ bytes_given reader.old + (GRID_LIMIT + 1) }
+    ensures given { bytes_given reader.new ≤ bytes_given reader.old + (INPUT_MOST + 1) }
     ensures no_failure { result ≢ GridEnd.WriteFailed → write_failed writer.new ≡ write_failed writer.old }
     ensures write_failed { result ≡ GridEnd.WriteFailed → write_failed writer.new ≡ true }
     ensures outcome { result ≢ GridEnd.WriteFailed → (bytes : List ℕ) × (out : List ℕ) × Consumes (R.remaining (reader_of reader.old)) (R.remaining (reader_of reader.new)) bytes
         × Appends (W.contents (writer_of writer.old)) (W.contents (writer_of writer.new)) out
-        × Outcome GRID_LIMIT (R.remaining (reader_of reader.new)) (has_ended reader.new) (read_failed reader.new) bytes out result }
+        × Outcome INPUT_MOST (R.remaining (reader_of reader.new)) (has_ended reader.new) (read_failed reader.new) bytes out result }
 {
-    let Ok(input) = read_input(alloc, reader, GRID_LIMIT) else {
+    let Ok(input) = read_input(alloc, reader, INPUT_LIMIT) else {
         return GridEnd::NoMemory;
     };
     match input.end {
@@ -79,8 +76,3 @@ pub fn report_grid<R: Read, W: Write>(
         },
     }
 }
-
-/// The constant of this crate is the limit of the definitions.
-pub fn constants_are_limits()
-    ensures { GRID_LIMIT ≡ INPUT_MOST }
-{}

@@ -8,7 +8,8 @@ use Rattle.std.proofs.lemmas.List.{get_or_past, ext_get_or, get_or-take, get_or-
 use Rattle.std.proofs.lemmas.Int.{to_z-of_z}
 use Rattle.std.proofs.lemmas.Nat.{le_bytes_8, or_block, or_comm}
 use Rattle.std.proofs.lemmas.List.FromFn.{length-map-range_with_len, get_or-map-range_with_len}
-use Rattle.ds_layout.specs.declared.place.TheConstants.{RECORDS, TEXT_BYTES}
+use Rattle.ds_layout.specs.declared.place.TheConstants.{RECORDS}
+use Rattle.ds_formula.specs.Limits.{TEXT_MOST}
 use Rattle.ds_layout.specs.declared.head.Head.{Head}
 use Rattle.ds_layout.specs.declared.mark.Mark.{Mark}
 use Rattle.ds_layout.specs.declared.stored.Kind.{Kind}
@@ -251,9 +252,9 @@ header_of-header_word cells h c k =
     let small : h.length < 256 = c.length in
     let cell : header_word h / 256 ≡ h.cell = omega arith in
     let length_is : header_word h % 256 ≡ h.length = omega arith in
-    let pick : Header → Option Header = λ x. if nat_lt x.cell cells && nat_le x.length TEXT_BYTES then Some x else None in
+    let pick : Header → Option Header = λ x. if nat_lt x.cell cells && nat_le x.length TEXT_MOST then Some x else None in
     ap pick (ap (λ n. header_with n (header_word h % 256)) cell ∙ ap (λ n. header_with h.cell n) length_is)
-    ∙ ap (λ (b : Bool). if b then Some h else None) (both (nat_lt h.cell cells) (nat_le h.length TEXT_BYTES) (lt-ltb h.cell cells k.cell) (le-leb h.length TEXT_BYTES k.length))
+    ∙ ap (λ (b : Bool). if b then Some h else None) (both (nat_lt h.cell cells) (nat_le h.length TEXT_MOST) (lt-ltb h.cell cells k.cell) (le-leb h.length TEXT_MOST k.length))
 
 -- what a cell shows
 shown_with : Kind → ℕ → ℤ → Stored
@@ -322,10 +323,10 @@ pub IsHeader-header_of : (cells word : ℕ) (h : Header) → header_of cells wor
 unfolding header_with
 IsHeader-header_of cells word h e =
     let x : Header = header_with (word / 256) (word % 256) in
-    let r = header_if (nat_lt x.cell cells && nat_le x.length TEXT_BYTES) x h e in
+    let r = header_if (nat_lt x.cell cells && nat_le x.length TEXT_MOST) x h e in
     let is : IsHeader cells x = record {
-      cell = ltb-true x.cell cells (left (nat_lt x.cell cells) (nat_le x.length TEXT_BYTES) r.0);
-      length = leb-true x.length TEXT_BYTES (right (nat_lt x.cell cells) (nat_le x.length TEXT_BYTES) r.0);
+      cell = ltb-true x.cell cells (left (nat_lt x.cell cells) (nat_le x.length TEXT_MOST) r.0);
+      length = leb-true x.length TEXT_MOST (right (nat_lt x.cell cells) (nat_le x.length TEXT_MOST) r.0);
     } in
     (subst (λ (y : Header). IsHeader cells y) r.1 is, ap header_word (sym r.1) ∙ (omega arith))
   where

@@ -1,6 +1,6 @@
 -- The header of a record.
 use Rattle.std.specs.Prelude.{ℕ, ◌+◌, ◌*◌, ◌/◌, ◌%◌, ◌^◌, ◌<◌, ◌≤◌, Option, Some, None, nat_lt, nat_le, ◌&&◌, if◌then◌else◌}
-use Rattle.ds_layout.specs.declared.place.TheConstants.{TEXT_BYTES}
+use Rattle.ds_formula.specs.Limits.{TEXT_MOST}
 use Rattle.ds_layout.specs.declared.header.Header.{Header}
 
 -- each part of the header fits its place in the word
@@ -11,7 +11,7 @@ pub record CanPack (header : Header) : Type 0 where
 -- the header has a cell of a sheet with so many, and the length of a text
 pub record IsHeader (cells : ℕ) (header : Header) : Type 0 where
   pub cell : header.cell < cells
-  pub length : header.length ≤ TEXT_BYTES
+  pub length : header.length ≤ TEXT_MOST
 
 -- the word of a header: its cell and its length
 abbrev pub header_word : Header → ℕ
@@ -21,4 +21,4 @@ header_word header = header.cell * 256 + header.length
 abbrev pub header_of : ℕ → ℕ → Option Header
 header_of cells word =
     let header : Header = record { cell = word / 256; length = word % 256 } in
-    if nat_lt header.cell cells && nat_le header.length TEXT_BYTES then Some header else None
+    if nat_lt header.cell cells && nat_le header.length TEXT_MOST then Some header else None

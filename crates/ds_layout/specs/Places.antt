@@ -1,6 +1,7 @@
 -- The words of a sheet and their numbers.
 use Rattle.std.specs.Prelude.{◌≡◌, ℕ, ◌+◌, ◌-◌, ◌*◌, ◌/◌, ◌%◌, ◌<◌, ◌≤◌, nat_lt, if◌then◌else◌}
 use Rattle.ds_formula.specs.Cells.{count_of}
+use Rattle.ds_formula.specs.Limits.{CELLS_MOST, PROCESSES_MOST}
 use Rattle.ds_words.specs.declared.access.Class.{Class}
 use Rattle.ds_words.specs.declared.access.Class.TheVariants.{Stamped, Bit, Owned}
 use Rattle.ds_layout.specs.declared.place.TheConstants.{RECORDS, TEXT_PARTS, DONE_PARTS}
@@ -31,6 +32,11 @@ cells_of layout = count_of layout.shape
 abbrev pub parts_of : Layout → ℕ
 parts_of layout = parts_for (cells_of layout)
 
+-- how many words a sheet may have: its version; a head, a mark, a value, a kind and an index row for each cell; an
+-- announcement, the records with a header and a text each, and the done bits of each process
+abbrev pub WORDS_MOST : ℕ
+WORDS_MOST = 1 + CELLS_MOST * (4 + parts_for CELLS_MOST) + PROCESSES_MOST * (1 + RECORDS * (1 + TEXT_PARTS) + DONE_PARTS)
+
 -- the place is one of a sheet with so many cells, parts of a row, and processes
 abbrev pub IsPlaceOf : ℕ → ℕ → ℕ → Place → Type 0
 IsPlaceOf cells parts processes Version = Unit {0}
@@ -48,7 +54,7 @@ IsPlaceOf cells parts processes (Done process part) = (process < processes) × (
 abbrev pub IsPlace : Layout → Place → Type 0
 IsPlace layout place = IsPlaceOf (cells_of layout) (parts_of layout) layout.processes place
 
--- the numbers where each kind of words begins, one kind behind the other
+-- the numbers where each kind of words begins, one kind behind the other, of rows of so many parts
 abbrev pub starts_for : ℕ → ℕ → ℕ → Starts
 starts_for cells parts processes =
     let marks = 1 + cells in
@@ -60,6 +66,7 @@ starts_for cells parts processes =
     let texts = headers + processes * RECORDS in
     let done = texts + processes * RECORDS * TEXT_PARTS in
     record {
+      row_parts = parts;
       heads = 1;
       marks = marks;
       values = values;
@@ -88,11 +95,11 @@ pub record IsAscending (s : Starts) : Type 0 where
 unfoldable pub starts_of : Layout → Starts
 starts_of layout = starts_for (cells_of layout) (parts_of layout) layout.processes
 
--- the kinds of the sheet's words begin there
+-- each kind of the sheet's words begins at its number there, and the sheet has no more words than any may have
 pub record AreStartsOf (layout : Layout) (starts : Starts) : Type 0 where
   pub is : starts ≡ starts_of layout
   pub ascending : IsAscending starts
-  pub few : starts.words ≤ 53289
+  pub few : starts.words ≤ WORDS_MOST
 
 -- how many words the sheet has
 abbrev pub words_of : Layout → ℕ

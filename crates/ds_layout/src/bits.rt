@@ -1,6 +1,6 @@
 //! One bit for each of many numbers, 64 in a word.
 
-ghost use Rattle.std.specs.Prelude.{◌≡◌, ◌≢◌, ◌<◌, ◌≤◌, ℕ, ◌↔◌, IsTrue, IfSome, IfNone, bit_or, slice_index_or};
+ghost use Rattle.std.specs.Prelude.{◌≡◌, ◌≢◌, ◌<◌, ◌≤◌, ℕ, ◌↔◌, IsTrue, IfSome, IfNone, bit_or};
 ghost use Rattle.ds_layout.specs.Bits.{HasBit, HaveBit, HaveNoBit, IsFirstBit, bit_of, part_with, parts_for};
 
 /// The part, a word, in which the bit of a number stands.
@@ -45,25 +45,17 @@ fn have_bit(words: &[u64], number: usize) -> bool
     at < words.len() && has_bit(words[at], number)
 }
 
-// Whether the word of a part has no bits at all, or is not there.
-#[inline(always)]
-fn is_blank(words: &[u64], part: usize) -> bool
-    ensures { IsTrue result → slice_index_or words.now part 0 ≡ 0 }
-{
-    part >= words.len() || words[part] == 0
-}
-
-// The first number of the first word that has bits, or this one, where that has its bit in the same word; where all
-// words up to the end are blank, the end.
+// This number, where the word of its bit has bits; else the first number of the next word that has some, or the end
+// where none below the end has.
 #[inline(always)]
 fn behind_blanks(words: &[u64], number: usize, end: usize) -> usize
     requires { number ≤ end }
     ensures within { (number ≤ result) × (result ≤ end) }
     ensures none { HaveNoBit words.now number result }
 {
-    let parts = parts(end);
+    let parts = parts(end).min(words.len());
     let mut at = part(number);
-    while at < parts && is_blank(words, at) {
+    while at < parts && words[at] == 0 {
         at += 1;
     }
     if at < parts { number.max(64 * at) } else { end }

@@ -3,7 +3,7 @@
 ghost use Rattle.std.specs.Prelude.{◌≡◌, ℕ, IfSome};
 ghost use Rattle.ds_layout.specs.Header.{CanPack, IsHeader, header_word, header_of};
 
-use crate::place::TEXT_BYTES;
+use ds_formula::reading::TEXT_LIMIT;
 
 /// The cell of an edit, by its number, and the length of its text in bytes.
 #[derive(Clone, Copy, Debug, PartialEq, Eq)]
@@ -37,7 +37,7 @@ impl Header {
             cell: (word / 256) as usize,
             length: (word % 256) as usize,
         };
-        if header.cell < cells && header.length <= TEXT_BYTES {
+        if header.cell < cells && header.length <= TEXT_LIMIT {
             Some(header)
         } else {
             None

@@ -1,7 +1,7 @@
 //! The numbers of the words of a sheet.
 
-ghost use Rattle.std.specs.Prelude.{◌≡◌, ◌<◌, ◌≤◌, ◌↔◌, IsTrue, IsSome, IfSome, IfOk};
-ghost use Rattle.ds_formula.specs.Limits.{EDITS_MOST, PROCESSES_MOST, TEXT_MOST};
+ghost use Rattle.std.specs.Prelude.{◌≡◌, ◌*◌, ◌<◌, ◌≤◌, ◌↔◌, IsTrue, IsSome, IfSome, IfOk};
+ghost use Rattle.ds_formula.specs.Limits.{CELLS_MOST, EDITS_MOST, PROCESSES_MOST, TEXT_MOST};
 ghost use Rattle.ds_layout.specs.declared.place.TheConstants as places;
 ghost use Rattle.ds_layout.specs.declared.layout.TheConstants as constants;
 
@@ -11,8 +11,8 @@ use ds_formula::cells::Shape;
 use ds_words::access::{Access, Class};
 use std::alloc::{AllocError, Global};
 
-/// How many processes a sheet can have.
-pub const MAX_PROCESSES: usize = 8;
+/// How many processes a sheet may have.
+pub const PROCESS_LIMIT: usize = 8;
 
 /// What fixes the words of a sheet: its shape, and how many processes it has, from 1 to 8.
 #[derive(Clone, Copy, Debug, PartialEq, Eq)]
@@ -22,12 +22,13 @@ pub struct Layout {
     /// How many processes there are, from 1 to 8.
     pub processes: usize,
     ghost some: { 1 ≤ processes },
-    ghost limited: { processes ≤ 8 },
+    ghost limited: { processes ≤ PROCESSES_MOST },
 }
 
-/// The number of the first word of each kind, and of all words.
+/// The number of the first word of each kind, and of all words; and how many words an index row has.
 #[derive(Clone, Copy)]
 pub(crate) struct Starts {
+    row_parts: usize,
     heads: usize,
     marks: usize,
     values: usize,
@@ -41,16 +42,17 @@ pub(crate) struct Starts {
 }
 
 impl Layout {
-    ghost use Rattle.ds_layout.specs.Places.{cells_of, parts_of, IsAscending, AreStartsOf, starts_of, words_of, IsPlace, number_of, place_of};
+    ghost use Rattle.ds_layout.specs.Bits.{parts_for};
+    ghost use Rattle.ds_layout.specs.Places.{WORDS_MOST, cells_of, parts_of, IsAscending, AreStartsOf, starts_of, words_of, IsPlace, number_of, place_of};
     ghost use Rattle.ds_layout.specs.declared.place.Place.{Place};
     ghost use Rattle.ds_layout.specs.SheetMemory.{HasClasses, NamesPlace, access_at};
 
     /// A layout for 1 to 8 processes; `None` for another number.
     pub fn new(shape: Shape, processes: usize) -> Option<Layout>
-        ensures within { IsSome result ↔ ((1 ≤ processes) × (processes ≤ MAX_PROCESSES)) }
+        ensures within { IsSome result ↔ ((1 ≤ processes) × (processes ≤ PROCESS_LIMIT)) }
         ensures value { IfSome result (λ l. (l.shape ≡ shape) × (l.processes ≡ processes)) }
     {
-        if (1..=MAX_PROCESSES).contains(&processes) {
+        if (1..=PROCESS_LIMIT).contains(&processes) {
             Some(Layout { shape, processes })
         } else {
             None
@@ -62,7 +64,7 @@ impl Layout {
     pub fn cells(&self) -> usize
         ensures value { result ≡ cells_of self.now }
         ensures at_least_one { 1 ≤ result }
-        ensures at_most { result ≤ 1024 }
+        ensures at_most { result ≤ CELLS_MOST }
     {
         self.shape.count()
     }
@@ -71,7 +73,7 @@ impl Layout {
     #[inline(always)]
     pub fn row_parts(&self) -> usize
         ensures value { result ≡ parts_of self.now }
-        ensures at_most { result ≤ 16 }
+        ensures at_most { result ≤ parts_for CELLS_MOST }
     {
         bits::parts(self.cells())
     }
@@ -80,7 +82,7 @@ impl Layout {
     pub(crate) fn starts(&self) -> Starts
         ensures value { result ≡ starts_of self.now }
         ensures ascending { IsAscending result }
-        ensures at_most { result.words ≤ 53289 }
+        ensures at_most { result.words ≤ WORDS_MOST }
     {
         let cells = self.cells();
         let heads = 1;
@@ -88,11 +90,13 @@ impl Layout {
         let values = marks + cells;
         let kinds = values + cells;
         let index = kinds + cells;
-        let announcements = index + cells * self.row_parts();
+        let row_parts = self.row_parts();
+        let announcements = index + cells * row_parts;
         let headers = announcements + self.processes;
         let texts = headers + self.processes * RECORDS;
         let done = texts + self.processes * RECORDS * TEXT_PARTS;
         Starts {
+            row_parts,
             heads,
             marks,
             values,
@@ -109,13 +113,13 @@ impl Layout {
     /// How many words the sheet has, at most 53,289.
     pub fn words(&self) -> usize
         ensures value { result ≡ words_of self.now }
-        ensures at_most { result ≤ 53289 }
+        ensures at_most { result ≤ WORDS_MOST }
     {
         self.starts().words
     }
 
     // The number of the word at a place, where each kind of words begins there.
-    #[tactic(auto, unfolding(crate::specs::Places::number_of))]
+    #[tactic(auto, unfolding(crate::specs::Places::number_of, crate::specs::Places::starts_of))]
     #[inline(always)]
     pub(crate) fn number_from(&self, starts: &Starts, place: Place) -> usize
         requires place { IsPlace self.now place }
@@ -128,7 +132,7 @@ impl Layout {
             Place::Mark(cell) => starts.marks + cell,
             Place::Value(cell) => starts.values + cell,
             Place::Kind(cell) => starts.kinds + cell,
-            Place::Index(row, part) => starts.index + (row * self.row_parts() + part),
+            Place::Index(row, part) => starts.index + (row * starts.row_parts + part),
             Place::Announce(process) => starts.announcements + process,
             Place::Header(process, number) => starts.headers + (process * RECORDS + number),
             Place::Text {
@@ -268,6 +272,6 @@ impl Layout {
 /// The constants of this crate are the limits of the definitions.
 pub fn constants_are_limits()
     ensures edits { places.RECORDS ≡ EDITS_MOST }
-    ensures text { places.TEXT_BYTES ≡ TEXT_MOST }
-    ensures processes { constants.MAX_PROCESSES ≡ PROCESSES_MOST }
+    ensures text { 8 * places.TEXT_PARTS ≡ TEXT_MOST }
+    ensures processes { constants.PROCESS_LIMIT ≡ PROCESSES_MOST }
 {}

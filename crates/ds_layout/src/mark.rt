@@ -51,6 +51,7 @@ impl Mark {
 
     /// What a mark's word says in a sheet with so many processes: a holder that is none of them is
     /// read as nobody.
+    #[inline(always)]
     pub fn read(word: u64, processes: usize) -> Mark
         ensures value { result ≡ mark_of processes word }
         ensures packs { processes < 16 → CanPack result }
@@ -81,6 +82,7 @@ impl Mark {
     }
 
     /// Whether the cell is clean, marked or held.
+    #[inline(always)]
     pub fn state(self) -> State
         ensures { result ≡ state_of self }
     {

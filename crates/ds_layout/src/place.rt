@@ -3,19 +3,17 @@
 ghost use Rattle.std.specs.Prelude.{◌≡◌};
 ghost use Rattle.ds_layout.specs.Places.{class_of};
 
+use ds_formula::reading::TEXT_LIMIT;
 use ds_words::access::Class;
 
 /// How many edits each process can number, and so how many records it has.
 pub const RECORDS: usize = 256;
 
 /// How many words the text of a record has, eight bytes each.
-pub const TEXT_PARTS: usize = 15;
-
-/// How many bytes a text has at most.
-pub const TEXT_BYTES: usize = 8 * TEXT_PARTS;
+pub const TEXT_PARTS: usize = TEXT_LIMIT / 8;
 
 /// How many words the done bits of a process have, 64 bits each: one bit for each record.
-pub const DONE_PARTS: usize = 4;
+pub const DONE_PARTS: usize = RECORDS / 64;
 
 /// A word of a sheet. Cells are by their number, processes and edits too.
 #[derive(Clone, Copy, Debug, Default, PartialEq, Eq)]

@@ -58,6 +58,7 @@ impl SheetWords {
 
     /// Both sides of the word at a place. A process reads the cached side alone: the persisted one
     /// is what a crash leaves.
+    #[inline(always)]
     pub fn word(&self, place: Place) -> Word
         requires { IsPlace self.now.layout place }
         ensures cached { result.cached ≡ (memory self.now).cached place }
@@ -68,6 +69,7 @@ impl SheetWords {
     }
 
     /// The cached side of the word at a place: what a process sees there.
+    #[inline(always)]
     pub fn load(&self, place: Place) -> u64
         requires { IsPlace self.now.layout place }
         ensures { result ≡ (memory self.now).cached place }

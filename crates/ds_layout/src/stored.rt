@@ -1,6 +1,7 @@
 //! What a cell shows, as its value word and its kind word keep it.
 
 ghost use Rattle.std.specs.Prelude.{◌≡◌, ℕ, ◌≤◌};
+ghost use Rattle.ds_formula.specs.Limits.{CELLS_MOST};
 ghost use Rattle.ds_layout.specs.Stored.{IsStored, kind_code, kind_word, value_word, stored_of};
 
 /// What kind of value a cell shows.
@@ -48,7 +49,7 @@ impl Stored {
     /// The kind's word, `height * 8 + kind`, with the kinds numbered from 0 in their order (our own
     /// rule).
     pub fn kind_word(self) -> u64
-        requires { self.height ≤ 1024 }
+        requires { self.height ≤ CELLS_MOST }
         ensures { result ≡ kind_word self }
     {
         self.height as u64 * 8 + self.kind.code()

@@ -12,7 +12,7 @@ pub fn text_parts(bytes: usize) -> usize
     bytes.div_ceil(8)
 }
 
-/// The byte there, or 0 past the end.
+// The byte there, or 0 past the end.
 fn byte_or_zero(text: &[u8], at: usize) -> u8
     ensures { result ≡ slice_index text.now at }
 {

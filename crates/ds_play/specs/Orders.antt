@@ -1,9 +1,10 @@
 -- The commands of a script over a world, and the lines that give them.
-use Rattle.std.specs.Prelude.{ℕ, ◌≤◌, ◌*◌, Bool, ◌&&◌, nat_le, List, [], codes, Option, Some, None, is_none, option_map, unwrap_or, Result, Ok, Err, if◌then◌else◌}
+use Rattle.std.specs.Prelude.{ℕ, ◌≤◌, ◌+◌, ◌*◌, Bool, ◌&&◌, nat_le, List, [], codes, Option, Some, None, is_none, option_map, unwrap_or, Result, Ok, Err, if◌then◌else◌}
 use Rattle.std.specs.Str.{bytes_eq}
 use Rattle.ds_formula.specs.declared.cells.Shape.{Shape}
 use Rattle.ds_formula.specs.declared.cells.Cell.{Cell}
 use Rattle.ds_formula.specs.Cells.{IsInside, index_of}
+use Rattle.ds_formula.specs.Limits.{COLUMNS_MOST, ROWS_MOST, CELLS_MOST, PROCESSES_MOST}
 use Rattle.ds_layout.specs.declared.place.TheConstants.{RECORDS, TEXT_PARTS, DONE_PARTS}
 use Rattle.ds_layout.specs.declared.place.Place.{Place}
 use Rattle.ds_layout.specs.declared.place.Place.TheVariants as place
@@ -78,7 +79,7 @@ command_view (commands.Word place) = Does (Word place)
 
 -- a sheet of this layout can carry the command out
 abbrev pub CanDo : Layout → Command → Type 0
-CanDo layout (commands.Sheet shape processes) = (1 ≤ processes) × (processes ≤ 8)
+CanDo layout (commands.Sheet shape processes) = (1 ≤ processes) × (processes ≤ PROCESSES_MOST)
 CanDo layout (commands.Evict place) = IsPlace layout place
 CanDo layout (commands.Peek cell) = IsInside layout.shape cell
 CanDo layout (commands.Word place) = IsPlace layout place
@@ -205,14 +206,14 @@ peek_of layout rest = cell_field layout.shape rest >>= λ cell. alone (Peek cell
 
 -- whether a sheet may have so many columns and rows
 abbrev pub may_have : ℕ → ℕ → Bool
-may_have columns rows = (nat_le 1 columns && nat_le columns 26) && ((nat_le 1 rows && nat_le rows 64) && nat_le (columns * rows) 1024)
+may_have columns rows = (nat_le 1 columns && nat_le columns COLUMNS_MOST) && ((nat_le 1 rows && nat_le rows ROWS_MOST) && nat_le (columns * rows) CELLS_MOST)
 
 -- the fields of `sheet`: COLUMNS ROWS PROCESSES
 abbrev pub sheet_of : Option (List ℕ) → Option Order
 sheet_of rest =
-    number_field 27 rest >>= λ columns.
-    number_field 65 columns.1 >>= λ rows.
-    number_field 9 rows.1 >>= λ processes.
+    number_field (COLUMNS_MOST + 1) rest >>= λ columns.
+    number_field (ROWS_MOST + 1) columns.1 >>= λ rows.
+    number_field (PROCESSES_MOST + 1) rows.1 >>= λ processes.
     if may_have columns.0 rows.0 && (nat_le 1 processes.0 && is_none processes.1) then Some (Make columns.0 rows.0 processes.0) else None
 
 -- the order that the fields give; where they give none, the fault BadField

@@ -1,6 +1,7 @@
 //! Carries commands out.
 
 ghost use Rattle.std.specs.Prelude.{◌≡◌, ◌≤◌, IfOk};
+ghost use Rattle.ds_formula.specs.Limits.{PROCESSES_MOST};
 ghost use Rattle.ds_state.specs.Value.{world_of};
 ghost use Rattle.ds_core.specs.Takes.{Fits};
 ghost use Rattle.ds_core.specs.declared.event.Event.TheVariants.{BeginEdit};
@@ -28,7 +29,7 @@ use std::alloc::{AllocError, Global};
 /// A new world. An error is a want of memory.
 pub fn new_world(alloc: Global, shape: Shape, processes: usize) -> Result<World, AllocError>
     requires some { 1 ≤ processes }
-    requires limited { processes ≤ 8 }
+    requires limited { processes ≤ PROCESSES_MOST }
     ensures { IfOk result (λ w. IsMade shape.columns shape.rows processes w) }
 {
     let world = World::new(alloc, shape, processes)?;

@@ -12,8 +12,8 @@ ghost use Rattle.ds_play.specs.Orders as deed;
 
 use crate::places::{last_number, read_place};
 use crate::point::{PointName, is_lacking};
-use ds_formula::cells::{Cell, Shape};
-use ds_layout::layout::Layout;
+use ds_formula::cells::{COLUMN_LIMIT, Cell, ROW_LIMIT, Shape};
+use ds_layout::layout::{Layout, PROCESS_LIMIT};
 use ds_layout::place::Place;
 use ds_state::world::World;
 use ds_streams::ending::ScriptFault;
@@ -123,9 +123,9 @@ fn sheet<'a>(_layout: &Layout, rest: Option<&'a [u8]>) -> Option<Command<'a>>
     ensures value { option_map command_view result ≡ sheet_of (option_map (λ r. r.now) rest.entry) }
     ensures can { IfSome result (CanDo _layout.now) }
 {
-    let (columns, rest) = numbered(27, rest)?;
-    let (rows, rest) = numbered(65, rest)?;
-    let (processes, rest) = numbered(9, rest)?;
+    let (columns, rest) = numbered(COLUMN_LIMIT + 1, rest)?;
+    let (rows, rest) = numbered(ROW_LIMIT + 1, rest)?;
+    let (processes, rest) = numbered(PROCESS_LIMIT + 1, rest)?;
     let shape = Shape::new(columns, rows)?;
     if processes == 0 || rest.is_some() {
         return None;

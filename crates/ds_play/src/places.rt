@@ -2,6 +2,7 @@
 
 ghost use Rattle.std.specs.Prelude.{◌≡◌, ◌<◌, ◌≤◌, option_map, IfSome};
 ghost use Rattle.ds_formula.specs.Cells.{count_of};
+ghost use Rattle.ds_formula.specs.Limits.{CELLS_MOST};
 ghost use Rattle.ds_layout.specs.Places.{IsPlace};
 ghost use Rattle.ds_play.specs.Orders.{cell_only, number_only, kind_of, place_by, place_field};
 
@@ -47,7 +48,7 @@ fn last_cell(shape: &Shape, rest: Option<&[u8]>) -> Option<usize>
 
 /// A number below the limit that is the last word.
 pub fn last_number(limit: usize, rest: Option<&[u8]>) -> Option<usize>
-    requires { limit ≤ 1024 }
+    requires { limit ≤ CELLS_MOST }
     ensures value { result ≡ number_only limit (option_map (λ r. r.now) rest.entry) }
     ensures below { IfSome result (λ n. n < limit) }
 {

@@ -14,7 +14,6 @@ ghost use Rattle.ds_play.specs.Orders.{command_view};
 ghost use Rattle.ds_play.specs.Script.{Progress, Carried, Writes, Outcome, is_whole};
 ghost use Rattle.ds_play.specs.Running.{Obeyed, Stopped, RanLines, HidesNone, after, break_of, ending_of};
 ghost use Rattle.ds_formula.specs.Limits.{INPUT_MOST};
-ghost use Rattle.ds_play.specs.declared.script.TheConstants as constants;
 
 use crate::carry::{carry_out, new_world};
 use crate::order::{Begun, Command, read_order};
@@ -22,13 +21,10 @@ use ds_formula::cells::Shape;
 use ds_state::world::World;
 use ds_streams::ending::{ScriptEnd, ScriptFault};
 use ds_streams::input::{Input, InputEnd, read_input};
-use ds_streams::line::{NextLine, next_line};
+use ds_streams::line::{INPUT_LIMIT, NextLine, next_line};
 use ds_streams::streams::{Reading, Writing};
 use std::alloc::{AllocError, Global};
 use std::io::{Read, Write};
-
-/// The most bytes of a script.
-pub const SCRIPT_LIMIT: usize = 1_048_576;
 
 // Why no further line is carried out.
 #[derive(Drop)]
@@ -219,14 +215,14 @@ pub fn run_script<R: Read, W: Write>(
     reader: &mut Reading<R>,
     writer: &mut Writing<W>,
 ) -> ScriptEnd
-    ensures given { bytes_given reader.new ≤ bytes_given reader.old + (SCRIPT_LIMIT + 1) }
+    ensures given { bytes_given reader.new ≤ bytes_given reader.old + (INPUT_MOST + 1) }
     ensures no_failure { result ≢ ScriptEnd.WriteFailed → write_failed writer.new ≡ write_failed writer.old }
     ensures write_failed { result ≡ ScriptEnd.WriteFailed → write_failed writer.new ≡ true }
     ensures outcome { result ≢ ScriptEnd.WriteFailed → (bytes : List ℕ) × (out : List ℕ) × Consumes (R.remaining (reader_of reader.old)) (R.remaining (reader_of reader.new)) bytes
         × Appends (W.contents (writer_of writer.old)) (W.contents (writer_of writer.new)) out
-        × Outcome SCRIPT_LIMIT (R.remaining (reader_of reader.new)) (has_ended reader.new) (read_failed reader.new) bytes out result }
+        × Outcome INPUT_MOST (R.remaining (reader_of reader.new)) (has_ended reader.new) (read_failed reader.new) bytes out result }
 {
-    run_within(alloc, SCRIPT_LIMIT, reader, writer)
+    run_within(alloc, INPUT_LIMIT, reader, writer)
 }
 
 /// What a script does to its world is one run of `ds_core::take` from a new sheet on, whatever its
@@ -242,9 +238,4 @@ pub fn scripts_are_runs()
     ensures headline { (whole : Bool) (script : List ℕ) (lines : ℕ) (p : Progress) (out rest : List ℕ)
         → Carried whole script lines p out rest → (run : WorldRun p.start p.events p.replies p.world)
         → HasHeadline p.start p.events p.replies p.world run }
-{}
-
-/// The constant of this crate is the limit of the definitions.
-pub fn constants_are_limits()
-    ensures { constants.SCRIPT_LIMIT ≡ INPUT_MOST }
 {}

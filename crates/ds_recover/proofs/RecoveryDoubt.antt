@@ -234,5 +234,5 @@ no_bit_tells w sound e stands bit = elim stands [
   | inr o ↦ absurd (
       let fits = sound.words (done_place e.process e.number) in
       bit (HasBit-subset (w.memory.persisted (done_place e.process e.number)) (w.memory.cached (done_place e.process e.number)) e.number fits.sides
-      (fits.overtaken e.number refl (record { edit = e; process_is = refl; number_is = refl; before = o.0.before; next = o.0.next; after = o.0.after; parts = o.0.parts }))))
+      (fits.superseded e.number refl (record { edit = e; process_is = refl; number_is = refl; before = o.0.before; next = o.0.next; after = o.0.after; parts = o.0.parts }))))
 ]

@@ -65,8 +65,8 @@ module _ (v : WorldValue) (g : IsGood v) (p : ℕ) (e : PlainRecovery) (at : IsR
   pub perform_at : CanPerform v.sheet.layout (memory v.sheet) p (access_at e e.stage)
   perform_at = subst (λ (q : ℕ). CanPerform v.sheet.layout (memory v.sheet) q (access_at e e.stage)) mine (possible e (world_of v) low_own (subst (λ (q : ℕ). RecoveryFits (world_of v) q e) (sym mine) fits))
 
-  pub pending_there : p < length v.open_edits
-  pending_there = let l = low in let s = g.open_edits in omega arith
+  pub open_edit_there : p < length v.open_edits
+  open_edit_there = let l = low in let s = g.open_edits in omega arith
 
   module _ (word : ℕ) (sheet : SheetValue) (layout : sheet.layout ≡ v.sheet.layout) (performs : PerformsAt (access_at e e.stage) p (memory v.sheet) (memory sheet) word) where
     -- the world after the step
@@ -85,7 +85,7 @@ module _ (v : WorldValue) (g : IsGood v) (p : ℕ) (e : PlainRecovery) (at : IsR
       situation = ap (λ q. get_or (set v.situations p (after e e.stage word)) q (Idle 0)) mine ∙ get_or-set_same v.situations p (after e e.stage word) (Idle 0) at.there;
       others = λ q ne. get_or-set_other v.situations p q (after e e.stage word) (Idle 0) (λ same. ne (same ∙ sym mine));
       counted = refl;
-      open_edits = ap (λ q. get_or (set v.open_edits p (open_edit_at (get_or v.open_edits p None) e.stage)) q None) mine ∙ get_or-set_same v.open_edits p (open_edit_at (get_or v.open_edits p None) e.stage) None pending_there
+      open_edits = ap (λ q. get_or (set v.open_edits p (open_edit_at (get_or v.open_edits p None) e.stage)) q None) mine ∙ get_or-set_same v.open_edits p (open_edit_at (get_or v.open_edits p None) e.stage) None open_edit_there
           ∙ ap (λ q. open_edit_at (get_or v.open_edits q None) e.stage) (sym mine);
       others_open_edits = λ q ne. get_or-set_other v.open_edits p q (open_edit_at (get_or v.open_edits p None) e.stage) None (λ same. ne (same ∙ sym mine));
     }

@@ -1,6 +1,7 @@
 //! The machine of a recovery: the access of each stage, and what follows it.
 
 ghost use Rattle.std.specs.Prelude.{◌≡◌, ◌<◌, ◌≤◌, ◌+◌, ◌-◌, ◌/◌, ℕ, length};
+ghost use Rattle.ds_formula.specs.Limits.{EDITS_MOST};
 ghost use Rattle.ds_layout.specs.Head.{head_of};
 ghost use Rattle.ds_layout.specs.Bits.{parts_for};
 ghost use Rattle.ds_layout.specs.Mark.{generation_of, freed_after, marked, dirtied};
@@ -55,7 +56,7 @@ pub enum Effect {
 pub(crate) fn number(call: &RecoverCall) -> usize
     requires { IsAnnounced call.now.announcement }
     ensures value { result ≡ number_of call.now }
-    ensures few { result < 256 }
+    ensures few { result < EDITS_MOST }
 {
     Announcement::read(call.announcement).unwrap().number
 }

@@ -90,7 +90,7 @@ fn refused_where_it_is_stopped(rt: HostRuntime) -> Result<(), Fail> {
     play(rt.alloc(), &STOPPED_PROCESS)
 }
 
-// Each edit but the first finds the one before it there, and says of it that it counts and is overtaken.
+// Each edit but the first finds the one before it there, and says of it that it counts and is superseded.
 fn spend_records(alloc: Global, world: &mut World) -> Result<(), Fail> {
     for number in 0..256usize {
         let count = if number == 0 { 20 } else { 25 };

@@ -184,9 +184,10 @@ fn marked_meanwhile(rt: HostRuntime) -> Result<(), Fail> {
 const LONG: &str =
     "=SUM([.A1:.B1];[.A2];1000000000;2000000000;3000000000;4000000000;5000000000;6000000000;7000000000;8000000000;900000000) ";
 
-const LONG_TEXT: [Row; 7] = [
+const LONG_TEXT: [Row; 8] = [
     Row::Call(Action::Edit(0, A1, "1"), Answer::Done(0)),
-    Row::Call(Action::Edit(0, B2, LONG), Answer::Done(1)),
+    Row::Event(Action::Edit(0, B2, LONG), Reply::Begun(1)),
+    Row::End(0, Answer::Done(1)),
     Row::Word(Place::Index(0, 0), 8, 8),
     Row::Word(Place::Index(1, 0), 8, 8),
     Row::Word(Place::Index(2, 0), 8, 8),

@@ -105,7 +105,7 @@ impl Text {
         self.terms.into_iter().any(|term| term == Some(cell))
     }
 
-    /// The height of a content whose inputs have these words.
+    // The height of a content whose inputs have these words.
     fn height(&self, inputs: &[Words; 4]) -> u64 {
         let mut height = 0u64;
         for cell in self.terms.into_iter().flatten() {

@@ -1,6 +1,7 @@
 //! Serves connections, each in its thread.
 
 ghost use Rattle.std.specs.Prelude.{◌≡◌, ◌≤◌, IfErr};
+ghost use Rattle.ds_formula.specs.Limits.{PROCESSES_MOST};
 ghost use Rattle.ds_serve.specs.Accepting.{IsOfListener};
 
 use crate::accepting::next_connection;
@@ -219,7 +220,7 @@ pub fn serve<R: Threads + Wait + Clock + Log + Sync>(
     sessions: usize,
 ) -> io::Result<()>
     requires some { 1 ≤ processes }
-    requires most { processes ≤ 8 }
+    requires most { processes ≤ PROCESSES_MOST }
     ensures { IfErr result IsOfListener }
 {
     let Ok(world) = World::new(alloc, shape, processes) else {

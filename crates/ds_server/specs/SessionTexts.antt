@@ -44,11 +44,11 @@ name_of_fault fault.NoMemory = codes "no-memory"
 
 -- ---- parts of answers
 
--- a number
+-- a number as JSON
 abbrev pub number_data : ℕ → Data
 number_data n = number (unsigned n)
 
--- a text
+-- a text as JSON
 abbrev pub text_data : List ℕ → Data
 text_data text = string text
 

@@ -172,10 +172,10 @@ module _ (e : Edit) (issue : Issue) (old new : World) (c : Counts e issue old ne
         | inr last ↦ subst P (sym (contains_one e f last)) mine
       ]
 
-  -- the edit that is overtaken by it, or one that was before
-  overtaken_cases : (cell : ℕ) (before : List Edit) (f next : Edit) (after : List Edit) → of_cell cell new.counted ≡ before ++ f ∷ next ∷ after
+  -- the edit that is superseded by it, or one that was before
+  superseded_cases : (cell : ℕ) (before : List Edit) (f next : Edit) (after : List Edit) → of_cell cell new.counted ≡ before ++ f ∷ next ∷ after
       → IsDone old f.process f.number ⊎ ((rest : List Edit) × (of_cell cell old.counted ≡ before ++ f ∷ next ∷ rest))
-  overtaken_cases cell before f next after parts = elim (cases_eq e.cell cell) [
+  superseded_cases cell before f next after parts = elim (cases_eq e.cell cell) [
     | inr ne ↦ inr (after, sym (other_cell cell ne) ∙ parts)
     | inl eq ↦ (
         let es : List Edit = of_cell e.cell old.counted in
@@ -245,11 +245,11 @@ module _ (e : Edit) (issue : Issue) (old new : World) (c : Counts e issue old ne
       h
   word_counts (Done q part) ne h = record {
     sides = h.sides;
-    overtaken = λ n its o. elim (overtaken_cases o.edit.cell o.before o.edit o.next o.after o.parts) [
+    superseded = λ n its o. elim (superseded_cases o.edit.cell o.before o.edit o.next o.after o.parts) [
       | inl done ↦ (
           let there : HasBit (old.memory.persisted (done_place q n)) n = subst (λ (x : ℕ). HasBit (old.memory.persisted (done_place x n)) n) o.process_is (subst (λ (x : ℕ). HasBit (old.memory.persisted (done_place o.edit.process x)) x) o.number_is done) in
           subst (λ (x : ℕ). HasBit (old.memory.persisted (Done q x)) n) its there)
-      | inr rest ↦ h.overtaken n its (record {
+      | inr rest ↦ h.superseded n its (record {
         edit = o.edit;
         process_is = o.process_is;
         number_is = o.number_is;

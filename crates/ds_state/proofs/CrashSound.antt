@@ -5,7 +5,8 @@ use Rattle.std.proofs.lemmas.List.Elements.{All-contains, All-contains_itself}
 use Rattle.std.proofs.lemmas.Bool.{eq-eqb}
 use Rattle.std.proofs.lemmas.Bool.Decides.{eqb_tells}
 use Rattle.ds_state.proofs.Outcomes.{kept, dropped}
-use Rattle.ds_layout.specs.declared.place.TheConstants.{RECORDS, TEXT_BYTES}
+use Rattle.ds_layout.specs.declared.place.TheConstants.{RECORDS}
+use Rattle.ds_formula.specs.Limits.{TEXT_MOST}
 use Rattle.ds_layout.specs.declared.place.Place.TheVariants.{Head, Announce}
 use Rattle.ds_layout.specs.declared.announcement.Phase.{Phase}
 use Rattle.ds_layout.specs.declared.announcement.Phase.TheVariants as phase
@@ -225,7 +226,7 @@ module _ (old new : World) (sound : IsSound old) (crash : CrashesTo old new) whe
   written_left e pending h = record { cached = λ k l. crash.memory.cached (record_place e.process e.number k) ∙ h.persisted k l; persisted = λ k l. crash.memory.persisted (record_place e.process e.number k) ∙ h.persisted k l; fewer = h.fewer }
   written_left e (ended how) h = record { cached = λ k l. crash.memory.cached (record_place e.process e.number k) ∙ h.persisted k l; persisted = λ k l. crash.memory.persisted (record_place e.process e.number k) ∙ h.persisted k l; fewer = h.fewer }
 
-  in_doubt : (p : ℕ) (issue : Issue) (s : Standing) (a : Announced) → issue.edit.process ≡ p → issue.edit.number < RECORDS → issue.edit.cell < cells_of old.layout → length issue.edit.text ≤ TEXT_BYTES
+  in_doubt : (p : ℕ) (issue : Issue) (s : Standing) (a : Announced) → issue.edit.process ≡ p → issue.edit.number < RECORDS → issue.edit.cell < cells_of old.layout → length issue.edit.text ≤ TEXT_MOST
       → StandsAs old issue.edit s → MaySay s a → old.memory.persisted (Announce p) ≡ word_of old issue.edit a → IsWritten old issue.edit a → IsInDoubt new p issue
   in_doubt p issue s a mine number cell text stands said is written =
       let e : Edit = issue.edit in

@@ -55,9 +55,9 @@ module _ (old new : World) (sound : IsSound old) (crash : CrashesTo old new) whe
   kept_left : (q n : ℕ) → IsKept old q n → IsKept new q n
   kept_left q n h = record { edit = h.edit; process_is = h.process_is; number_is = h.number_is; safe = safe_left h.edit h.safe }
 
-  -- an overtaken edit was so
-  was_overtaken : (q n : ℕ) → IsSuperseded new q n → IsSuperseded old q n
-  was_overtaken q n o = elim (l.cells o.edit.cell) [
+  -- a superseded edit was so
+  was_superseded : (q n : ℕ) → IsSuperseded new q n → IsSuperseded old q n
+  was_superseded q n o = elim (l.cells o.edit.cell) [
     | inl same ↦ record { edit = o.edit; process_is = o.process_is; number_is = o.number_is; before = o.before; next = o.next; after = o.after; parts = sym same ∙ o.parts }
     | inr lost ↦ record {
       edit = o.edit;
@@ -90,7 +90,7 @@ module _ (old new : World) (sound : IsSound old) (crash : CrashesTo old new) whe
   word_left (Text q n part) = λ e there i j k. let both = (sound.words (Text q n part)) e (was_counted e there) i j k in (both.1, both.1)
   word_left (Done q part) = record {
     sides = IsSubset-same _;
-    overtaken = λ n its o. (sound.words (Done q part)).overtaken n its (was_overtaken q n o);
+    superseded = λ n its o. (sound.words (Done q part)).superseded n its (was_superseded q n o);
     told = λ n small its has. kept_left q n ((sound.words (Done q part)).told n small its (HasBit-subset (old.memory.persisted (Done q part)) (old.memory.cached (Done q part)) n (sound.words (Done q part)).sides has));
   }
 

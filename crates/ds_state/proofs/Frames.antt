@@ -203,7 +203,7 @@ module _ (p : ℕ) (place : Place) (old new : World) (m : Moves p place old new)
   word_bears (Text q n part) c v keeps apart h = λ e there i j k. h e (rw (sym same) there) i j k
   word_bears (Done q part) c v keeps apart h = record {
     sides = h.sides;
-    overtaken = λ n its o. h.overtaken n its (record {
+    superseded = λ n its o. h.superseded n its (record {
       edit = o.edit;
       process_is = o.process_is;
       number_is = o.number_is;

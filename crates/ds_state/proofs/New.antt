@@ -30,9 +30,9 @@ no_head : (cell : ℕ) (edits : List Edit) → edits ≡ [] → head_after_all (
 unfolding head_after_all of_cell
 no_head cell edits e = subst (λ (es : List Edit). head_after_all (of_cell cell es) ≡ 0) (sym e) refl
 
-no_overtaken : (w : World) (p n : ℕ) → w.counted ≡ [] → IsSuperseded w p n → ⊥
+none_superseded : (w : World) (p n : ℕ) → w.counted ≡ [] → IsSuperseded w p n → ⊥
 unfolding of_cell
-no_overtaken w p n z h =
+none_superseded w p n z h =
     let e : of_cell h.edit.cell w.counted ≡ [] = ap (λ es. of_cell h.edit.cell es) z in
     let l : length (h.before ++ h.edit ∷ h.next ∷ h.after) ≡ 0 = ap length (sym h.parts ∙ e) in
     absurd (omega (arith, length-append h.before (h.edit ∷ h.next ∷ h.after)))
@@ -61,7 +61,7 @@ new_word w z (Header q n) c p a b = λ e h i j k. absurd (nothing_counts w e z h
 new_word w z (Text q n part) c p a b = λ e h i j k. absurd (nothing_counts w e z h)
 new_word w z (Done q part) c p a b = record {
   sides = no_bits p c b;
-  overtaken = λ n e o. absurd (no_overtaken w q n z o);
+  superseded = λ n e o. absurd (none_superseded w q n z o);
   told = λ n small e has. absurd (no_bit c n a has);
 }
 

@@ -113,7 +113,7 @@ between_fits w (Header q n) c v v' h b = λ e there i j k. let both = h e there 
 between_fits w (Text q n part) c v v' h b = λ e there i j k. let both = h e there i j k in (both.0, elim b [ inl same ↦ same ∙ both.1 | inr now ↦ now ∙ both.0 ])
 between_fits w (Done q part) c v v' h b = record {
   sides = b.1;
-  overtaken = λ n its o. HasBit-subset v v' n b.0 (h.overtaken n its o);
+  superseded = λ n its o. HasBit-subset v v' n b.0 (h.superseded n its o);
   told = h.told;
 }
 
@@ -128,7 +128,7 @@ row_or_fits w row part c v bits h = record {
 pub done_or_fits : (w : World) (p n c v : ℕ) → IsKept w p n → WordFits w (Done p (n / 64)) c v → WordFits w (Done p (n / 64)) (bit_or c (bit_of n)) v
 done_or_fits w p n c v kept h = record {
   sides = IsSubset-both v c (bit_or c (bit_of n)) h.sides (IsSubset-or_left c (bit_of n));
-  overtaken = h.overtaken;
+  superseded = h.superseded;
   told = λ k small its has. elim (cases_eq k n) [
     | inl same ↦ subst (λ (x : ℕ). IsKept w p x) (sym same) kept
     | inr other ↦ h.told k small its (HasBit-or_other c n k its other has)

@@ -8,7 +8,8 @@ use Rattle.ds_formula.specs.declared.cells.Shape.{Shape}
 use Rattle.ds_formula.specs.Plain.{Plain}
 use Rattle.ds_formula.specs.Refs.{Refers}
 use Rattle.ds_formula.specs.Grammar.{Reads}
-use Rattle.ds_layout.specs.declared.place.TheConstants.{RECORDS, TEXT_BYTES}
+use Rattle.ds_layout.specs.declared.place.TheConstants.{RECORDS}
+use Rattle.ds_formula.specs.Limits.{TEXT_MOST}
 use Rattle.ds_layout.specs.declared.place.Place.{Place}
 use Rattle.ds_layout.specs.declared.place.Place.TheVariants as place
 use Rattle.ds_layout.specs.declared.layout.Layout.{Layout}
@@ -147,7 +148,7 @@ pub record IsInDoubt (w : World) (p : ℕ) (issue : Issue) : Type 0 where
   pub mine : issue.edit.process ≡ p
   pub number : issue.edit.number < RECORDS
   pub cell : issue.edit.cell < cells_of w.layout
-  pub text : length issue.edit.text ≤ TEXT_BYTES
+  pub text : length issue.edit.text ≤ TEXT_MOST
   pub standing : Standing
   pub stands : StandsAs w issue.edit standing
   pub before : Announced

@@ -1,5 +1,6 @@
 -- An edit under way, without where it lies in memory.
 use Rattle.std.specs.Prelude.{ℕ, ◌<◌, ◌≤◌, List, length, All}
+use Rattle.ds_formula.specs.Limits.{CELLS_MOST, PROCESSES_MOST}
 use Rattle.ds_layout.specs.declared.place.TheConstants.{RECORDS}
 use Rattle.ds_layout.specs.Head.{IsHead}
 use Rattle.ds_layout.specs.TextWords.{parts_for}
@@ -45,10 +46,10 @@ IsStage e stage = IsStageOf (text_parts e.text) (length e.refs) e.processes stag
 -- an edit under way has the process, number, cell, text, references and stage of one sheet
 pub record IsEdit (e : PlainEdit) : Type 0 where
   pub process : e.process < e.processes
-  pub processes : e.processes ≤ 8
+  pub processes : e.processes ≤ PROCESSES_MOST
   pub number : e.number < RECORDS
   pub cell : e.cell < e.cells
-  pub cells : e.cells ≤ 1024
+  pub cells : e.cells ≤ CELLS_MOST
   pub text : IsText e.text
   pub refs : All (λ r. r < e.cells) e.refs
   pub stage : IsStage e e.stage

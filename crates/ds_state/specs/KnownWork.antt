@@ -1,5 +1,5 @@
 -- What work knows at each of its stages, and what its buffer holds.
-use Rattle.std.specs.Prelude.{ℕ, ◌≡◌, ◌<◌, ◌≤◌, ◌*◌, ◌^◌, ◌⊎◌, List, [], ◌∷◌, length, take, Bool, true, false, None}
+use Rattle.std.specs.Prelude.{ℕ, ◌≡◌, ◌<◌, ◌≤◌, ◌*◌, ◌⊎◌, List, [], ◌∷◌, length, take, Bool, true, false, None}
 use Rattle.ds_words.specs.declared.access.Entry.{Entry}
 use Rattle.ds_formula.specs.Cells.{IsInside, index_of}
 use Rattle.ds_formula.specs.declared.cells.Cell.{Cell}
@@ -12,7 +12,7 @@ use Rattle.ds_layout.specs.declared.place.TheConstants.{RECORDS}
 use Rattle.ds_layout.specs.declared.place.Place.{Place}
 use Rattle.ds_layout.specs.declared.place.Place.TheVariants as place
 use Rattle.ds_layout.specs.Places.{cells_of}
-use Rattle.ds_state.specs.Works.{PlainWork, StageFits}
+use Rattle.ds_state.specs.Works.{PlainWork, StageFits, SEEN_MOST}
 use Rattle.ds_state.specs.World.{Edit, World, of_cell, IsHeadBy, last_announcement}
 use Rattle.ds_state.specs.Known.{AreBelow}
 use Rattle.ds_state.specs.Owing.{entry, CellOwes, IsExcused, IsIndexed, IsMark, HoldsNone}
@@ -28,7 +28,7 @@ pub data Hold : Type 0 where
   seen : Hold
   claimed : Hold
   held : Hold
-  -- also it saw that the mark came to be dirty
+  -- it holds the cell on both sides, and has seen that the mark came to be dirty
   outrun : Hold
 
 -- what a work has loaded: nothing; the head; so many parts of the text; all of it; the content; the entries of the
@@ -124,7 +124,7 @@ HasHeld w e = ClaimsBoth w e.process e.cell e.mark
 -- the work holds its cell as `Hold` says
 abbrev pub HoldFits : World → PlainWork → Hold → Type 0
 HoldFits w e free = HoldsNone w e.process
-HoldFits w e seen = HoldsNone w e.process × (e.mark ≤ w.memory.cached (place.Mark e.cell)) × ((q : ℕ) → IsHeldBy q e.mark → ⊥) × (generation_of e.mark ≤ 2 ^ 58)
+HoldFits w e seen = HoldsNone w e.process × (e.mark ≤ w.memory.cached (place.Mark e.cell)) × ((q : ℕ) → IsHeldBy q e.mark → ⊥) × (generation_of e.mark ≤ SEEN_MOST)
 HoldFits w e claimed = HasClaimed w e
 HoldFits w e held = HasHeld w e
 HoldFits w e outrun = HasHeld w e × (w.memory.cached (place.Mark e.cell) ≡ dirtied e.mark)

@@ -1,5 +1,6 @@
 -- A recovery's numbers are those of its sheet, at each of its stages.
 use Rattle.std.specs.Prelude.{ℕ, ◌≡◌, ◌<◌, ◌≤◌, List, length, Some, None}
+use Rattle.ds_formula.specs.Limits.{CELLS_MOST, PROCESSES_MOST}
 use Rattle.ds_layout.specs.declared.place.TheConstants.{RECORDS}
 use Rattle.ds_layout.specs.declared.announcement.Announcement.{Announcement}
 use Rattle.ds_layout.specs.Announcement.{announcement_of, number_after}
@@ -63,7 +64,7 @@ IsStage e (Answer (Some how)) = IsResolving e
 -- a recovery's process is one of the sheet, and what it has at its stage is of the sheet
 pub record IsRecovery (e : PlainRecovery) : Type 0 where
   pub process : e.process < e.processes
-  pub processes : e.processes ≤ 8
+  pub processes : e.processes ≤ PROCESSES_MOST
   pub some : 0 < e.cells
-  pub cells : e.cells ≤ 1024
+  pub cells : e.cells ≤ CELLS_MOST
   pub stage : IsStage e e.stage

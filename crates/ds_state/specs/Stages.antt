@@ -45,12 +45,3 @@ point_at (StoreOutcome outcome) = Some Marked
 point_at (FlushOutcome outcome) = Some Marked
 point_at (BackOutcome outcome) = Some Marked
 point_at (Answer outcome) = Some Answered
-
--- the point is the last one that is behind, or comes before it
-abbrev pub IsPassed : Point → Option Point → Type 0
-IsPassed point None = ⊥
-IsPassed point (Some last) = order point ≤ order last
-
--- an edit at this stage has the point behind it
-abbrev pub HasReached : Stage → Point → Type 0
-HasReached stage point = IsPassed point (point_at stage)

@@ -45,7 +45,8 @@ pub record HasText (w : World) (cell head : ℕ) (content : Plain) : Type 0 wher
 abbrev pub HasContent : World → ℕ → ℕ → Plain → Type 0
 HasContent w cell head content = ((head ≡ 0) × (content ≡ Empty)) ⊎ HasText w cell head content
 
--- `u` has the entries that the side shows of the content's references, but for those that owe c a mark above x
+-- the entries given by the function are those that the side shows of the content's references, but for references that
+-- owe the cell c a mark above x
 abbrev pub Inputs : World → Side → Plain → ℕ → ℕ → (Cell → entries.Entry) → Type 0
 Inputs w side content c x u = (d : Cell) → Refers content d → IsInside w.layout.shape d
     → (u d ≡ entry_on w.layout side (index_of w.layout.shape d)) ⊎ CellOwes w (index_of w.layout.shape d) c x

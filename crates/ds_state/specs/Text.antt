@@ -2,21 +2,21 @@
 use Rattle.std.specs.Prelude.{ℕ, ◌≡◌, ◌<◌, ◌≤◌, ◌-◌, ◌++◌, List, length, take, drop, replicate, All}
 use Rattle.std.proofs.Common.{ap, sym, ◌∙◌}
 use Rattle.std.proofs.lemmas.List.{length-take-le, take-append-drop}
-use Rattle.ds_layout.specs.declared.place.TheConstants.{TEXT_BYTES}
+use Rattle.ds_formula.specs.Limits.{TEXT_MOST}
 
 -- the text of an edit: bytes, and not too many
 pub record IsText (text : List ℕ) : Type 0 where
-  pub short : length text ≤ TEXT_BYTES
+  pub short : length text ≤ TEXT_MOST
   pub bytes : All (λ b. b < 256) text
 
 -- zeros, as many as a text of this length leaves room for
 abbrev pub padding : ℕ → List ℕ
-padding len = replicate (TEXT_BYTES - len) 0
+padding len = replicate (TEXT_MOST - len) 0
 
 -- bytes: a text of this length lies at the front, and zeros behind it
 pub record IsPadded (bytes : List ℕ) (len : ℕ) : Type 0 where
   pub each : All (λ b. b < 256) bytes
-  pub size : length bytes ≡ TEXT_BYTES
+  pub size : length bytes ≡ TEXT_MOST
   pub within : len ≤ length bytes
   pub rest : drop len bytes ≡ padding len
 

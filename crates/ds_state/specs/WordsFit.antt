@@ -78,7 +78,7 @@ pub record IsSuperseded (w : World) (process number : ℕ) : Type 0 where
 -- a superseded edit has its done bit persisted, and a done bit tells that its edit is kept
 pub record DoneFits (w : World) (process part cached persisted : ℕ) : Type 0 where
   pub sides : IsSubset persisted cached
-  pub overtaken : (n : ℕ) → part_with n ≡ part → IsSuperseded w process n → HasBit persisted n
+  pub superseded : (n : ℕ) → part_with n ≡ part → IsSuperseded w process n → HasBit persisted n
   pub told : (n : ℕ) → n < RECORDS → part_with n ≡ part → HasBit cached n → IsKept w process n
 
 -- a mark is no newer on its persisted side, and its holder is a process of the sheet

@@ -4,7 +4,7 @@ use Rattle.ds_layout.specs.Bits.{HasBit, part_with, parts_for}
 use Rattle.ds_state.specs.EntryWords.{value_for, word_for}
 use Rattle.ds_formula.specs.Refs.{IsPossible}
 use Rattle.ds_eval.specs.Inputs.{cell_in}
-use Rattle.ds_layout.specs.declared.place.TheConstants.{TEXT_BYTES}
+use Rattle.ds_formula.specs.Limits.{CELLS_MOST, PROCESSES_MOST, TEXT_MOST}
 use Rattle.ds_layout.specs.Mark.{generation_of}
 use Rattle.ds_state.specs.declared.work.Spread.TheVariants.{LoadRow, OrTold, FlushTold, BackTold}
 use Rattle.ds_state.specs.declared.work.WorkStage.TheVariants.{Claim, LoadText, LoadValue, LoadKind, StoreValue, StoreKind, FlushValue, FlushKind, BackValue, BackKind, Telling, Clear}
@@ -93,14 +93,14 @@ TellsFits e _ = Unit {0}
 -- a work's process, cell, text and inputs are those of a sheet, whatever its words say
 pub record IsWork (e : PlainWork) : Type 0 where
   pub process : e.process < e.processes
-  pub processes : e.processes ≤ 8
+  pub processes : e.processes ≤ PROCESSES_MOST
   pub cell : e.cell < e.cells
-  pub cells : e.cells ≤ 1024
+  pub cells : e.cells ≤ CELLS_MOST
   pub young : generation_of e.mark ≤ SEEN_MOST + 1
-  pub short : e.length ≤ TEXT_BYTES
+  pub short : e.length ≤ TEXT_MOST
   pub text : length e.text ≤ e.length
   pub possible : (j : ℕ) → j < length e.inputs → IsPossible (cell_in e.inputs j)
-  pub height : e.entry.height ≤ 1024
+  pub height : e.entry.height ≤ CELLS_MOST
   pub claim : ClaimFits e e.stage
   pub stage : StageFits e e.stage
   pub told : TellsFits e e.stage

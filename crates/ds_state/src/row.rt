@@ -3,11 +3,12 @@
 ghost use Rattle.std.specs.Prelude.{◌≡◌, ◌<◌, ◌++◌, length, [], ◌∷◌};
 
 use arrayvec::ArrayVec;
+use ds_formula::cells::CELL_LIMIT;
 use std::fmt;
 use std::marker::Model;
 
 /// How many words a row has at most: one bit for each of 1,024 cells.
-pub const ROW_PARTS: usize = 16;
+pub const ROW_PARTS: usize = CELL_LIMIT / 64;
 
 /// The words of an index row that were loaded, in place: it takes no memory.
 #[derive(Drop)]
@@ -33,23 +34,13 @@ impl Row {
         }
     }
 
-    /// One more word at its end. It has fewer than 16.
+    /// One more word at its end. It has fewer than `ROW_PARTS`.
+    #[inline(always)]
     pub fn push(&mut self, word: u64)
         requires { length self.old < ROW_PARTS }
         ensures { self.new ≡ self.old ++ word ∷ [] }
     {
         self.words.push(word);
-    }
-
-    /// The same words.
-    pub fn copy(&self) -> Row
-        ensures { result ≡ self.now }
-    {
-        let mut words = ArrayVec::new();
-        for word in self.words.as_slice() {
-            words.push(*word);
-        }
-        Row { words }
     }
 
     /// Its words become none.
@@ -60,6 +51,7 @@ impl Row {
     }
 
     /// Its words.
+    #[inline(always)]
     pub fn as_slice(&self) -> &[u64]
         ensures { result.now ≡ self.now }
     {

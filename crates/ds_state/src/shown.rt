@@ -1,7 +1,8 @@
 //! What the words of a sheet show, read from what processes see alone.
 
 ghost use Rattle.std.specs.Prelude.{◌≡◌, ◌<◌, ◌≤◌, ◌↔◌, ℕ, List, length, IsTrue, IfOk, ◌+◌, ◌/◌};
-ghost use Rattle.ds_layout.specs.declared.place.TheConstants.{RECORDS, TEXT_BYTES};
+ghost use Rattle.ds_layout.specs.declared.place.TheConstants.{RECORDS};
+ghost use Rattle.ds_formula.specs.Limits.{TEXT_MOST};
 ghost use Rattle.ds_layout.specs.Places.{cells_of};
 ghost use Rattle.ds_layout.specs.SheetMemory.{memory};
 ghost use Rattle.ds_layout.specs.TextWords.{parts_for};
@@ -55,6 +56,7 @@ impl SheetReader for SheetWords {
 }
 
 /// The mark of the cell with this number.
+#[inline(always)]
 pub fn mark<W: SheetReader>(words: &W, cell: usize) -> Mark
     requires { cell < cells_of (W.sheet words.now) }
     ensures { result ≡ mark_at (W.sheet words.now) (W.seen words.now) cell }
@@ -98,7 +100,7 @@ pub fn value<W: SheetReader>(words: &W, cell: usize) -> Value
     shown(Stored::read(value, kind, words.layout().cells()))
 }
 
-/// The parts of a record's text, of so many bytes.
+// The parts of a record's text, of so many bytes.
 fn parts<W: SheetReader>(
     words: &W,
     alloc: Global,
@@ -108,7 +110,7 @@ fn parts<W: SheetReader>(
 ) -> Result<Vec<u8>, AllocError>
     requires process { process < (W.sheet words.now).processes }
     requires number { number < RECORDS }
-    requires count { count ≤ TEXT_BYTES }
+    requires count { count ≤ TEXT_MOST }
     ensures { IfOk result (λ v. v.items ≡ parts_at (W.seen words.now) process number count (parts_for count)) }
 {
     let mut bytes = Vec::with_capacity(alloc, count)?;

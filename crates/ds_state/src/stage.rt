@@ -1,7 +1,7 @@
 //! The stages of an edit.
 
 ghost use Rattle.std.specs.Prelude.{◌≡◌, ◌↔◌, ◌≤◌, IsTrue};
-ghost use Rattle.ds_state.specs.Stages.{point_at, order, HasReached};
+ghost use Rattle.ds_state.specs.Stages.{point_at};
 
 use ds_layout::head::Head;
 
@@ -48,11 +48,11 @@ pub enum Stage {
     /// Note the head of its cell.
     LoadHead,
     /// Flush the head that was noted, or a later one: the edit there is to count before it is
-    /// overtaken.
+    /// superseded.
     FlushNoted(Head),
     /// Write that back.
     BackNoted(Head),
-    /// Say that the edit there counts and is overtaken.
+    /// Say that the edit there counts and is superseded.
     OrDone(Head),
     /// Flush that done bit.
     FlushDone(Head),
@@ -101,23 +101,6 @@ pub enum Point {
     Answered,
 }
 
-impl Point {
-    fn order(self) -> u8
-        ensures { result ≡ order self }
-    {
-        match self {
-            Point::Written => 1,
-            Point::Announced => 2,
-            Point::Indexed => 3,
-            Point::Helped => 4,
-            Point::Swung => 5,
-            Point::Kept => 6,
-            Point::Marked => 7,
-            Point::Answered => 8,
-        }
-    }
-}
-
 impl Stage {
     ghost use Rattle.ds_state.specs.declared.stage.Stage.{Stage};
 
@@ -141,16 +124,6 @@ impl Stage {
                 Some(Point::Marked)
             }
             Stage::Answer(_) => Some(Point::Answered),
-        }
-    }
-
-    /// Whether an edit at this stage has the point behind it. A stage of no steps is passed at once.
-    pub fn has_reached(self, point: Point) -> bool
-        ensures { IsTrue result ↔ HasReached self point }
-    {
-        match self.point() {
-            Some(last) => point.order() <= last.order(),
-            None => false,
         }
     }
 }

@@ -1,16 +1,16 @@
 //! The text of an edit.
 
 ghost use Rattle.std.specs.Prelude.{◌≡◌, ◌<◌, ◌≤◌, ◌↔◌, ◌++◌, length, IsTrue, IsSome, IfSome, [], ◌∷◌};
-ghost use Rattle.ds_layout.specs.declared.place.TheConstants.{TEXT_BYTES};
+ghost use Rattle.ds_formula.specs.Limits.{TEXT_MOST};
 ghost use Rattle.ds_state.specs.Text.{IsText};
 
-use ds_layout::place::TEXT_BYTES;
+use ds_formula::reading::TEXT_LIMIT;
 use std::marker::Model;
 
 /// The bytes of an edit's text, at most 120, in place: a copy takes no memory.
 #[derive(Clone, Copy, Debug)]
 pub struct Text {
-    bytes: [u8; TEXT_BYTES],
+    bytes: [u8; TEXT_LIMIT],
     len: usize,
 }
 
@@ -32,14 +32,14 @@ impl Model for Text {
 impl Text {
     /// The text of these bytes; `None` where they are more than 120.
     pub fn new(bytes: &[u8]) -> Option<Text>
-        ensures short { IsSome result ↔ (length bytes.now ≤ TEXT_BYTES) }
+        ensures short { IsSome result ↔ (length bytes.now ≤ TEXT_MOST) }
         ensures same { IfSome result (λ text. text ≡ bytes.now) }
     {
         let len = bytes.len();
-        if len > TEXT_BYTES {
+        if len > TEXT_LIMIT {
             return None;
         }
-        let mut padded = [0; TEXT_BYTES];
+        let mut padded = [0; TEXT_LIMIT];
         padded[..len].copy_from_slice(bytes);
         Some(Text { bytes: padded, len })
     }
@@ -49,14 +49,14 @@ impl Text {
         ensures { result ≡ [] }
     {
         Text {
-            bytes: [0; TEXT_BYTES],
+            bytes: [0; TEXT_LIMIT],
             len: 0,
         }
     }
 
     /// One more byte at its end. It has fewer than 120.
     pub fn push(&mut self, byte: u8)
-        requires { length self.old < TEXT_BYTES }
+        requires { length self.old < TEXT_MOST }
         ensures { self.new ≡ self.old ++ byte ∷ [] }
     {
         self.bytes[self.len] = byte;
@@ -80,7 +80,7 @@ impl Text {
     /// How many bytes it has, at most 120.
     pub fn len(&self) -> usize
         ensures value { result ≡ length self.now }
-        ensures at_most { result ≤ TEXT_BYTES }
+        ensures at_most { result ≤ TEXT_MOST }
     {
         self.len
     }

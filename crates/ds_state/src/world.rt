@@ -11,7 +11,7 @@ use crate::stage::Point;
 use ds_eval::inputs::Inputs;
 use ds_eval::value::Value;
 use ds_formula::cells::{Cell, Shape};
-use ds_layout::layout::{Layout, MAX_PROCESSES};
+use ds_layout::layout::{Layout, PROCESS_LIMIT};
 use ds_layout::mark::Mark;
 use ds_layout::place::RECORDS;
 use ds_layout::sheet_words::SheetWords;
@@ -70,7 +70,7 @@ impl Model for World {
     }) (vec_capacity w.counted) };
 }
 
-/// As many idle processes, each before its edit 0.
+// As many idle processes, each before its edit 0.
 #[tactic(auto, using(crate::proofs::Made::one_more))]
 fn idle(alloc: Global, processes: usize) -> Result<Vec<Situation>, AllocError>
     ensures { IfOk result (λ v. v.items ≡ replicate processes (Situation.Idle 0)) }
@@ -97,7 +97,7 @@ impl World {
     /// A new sheet of this shape, for 1 to 8 processes. An error is a want of memory.
     pub fn new(alloc: Global, shape: Shape, processes: usize) -> Result<World, AllocError>
         requires some { 1 ≤ processes }
-        requires limited { processes ≤ MAX_PROCESSES }
+        requires limited { processes ≤ PROCESS_LIMIT }
         ensures new { IfOk result (λ w. IsNew (world_of w)) }
         ensures shape { IfOk result (λ w. w.sheet.layout.shape ≡ shape) }
         ensures processes { IfOk result (λ w. w.sheet.layout.processes ≡ processes) }

@@ -54,7 +54,7 @@ pub record Halts (doing : Doing) (old : WorldValue) (before now : ℕ) (new : Wo
 
 -- ---- an order: a new sheet begins a new run
 
--- how many steps the run has taken before the order, that had taken so many
+-- how many steps were taken on the sheet that the order finds, of so many before it: a new sheet begins with none
 abbrev pub taken_before : Order → ℕ → ℕ
 taken_before (Make columns rows processes) taken = 0
 taken_before (Does deed) taken = taken
@@ -143,7 +143,7 @@ pub record TellsBlock (k : ℕ) (old : WorldValue) (text : List ℕ) (new : Worl
   pub behind : InTurn crashed (deeds_behind crashed.sheet.layout.processes) events replies answers new
   pub is : text ≡ stop_text k ++ answers
 
--- the deeds have been carried out, and this is the text so far, behind what was there
+-- the deeds were carried out from the start on, and their texts stand behind the text that was there
 pub record Tells (start : WorldValue) (deeds : List Deed) (before text : List ℕ) (new : WorldValue) : Type 0 where
   pub events : List Event
   pub replies : List Reply

@@ -18,7 +18,7 @@ abbrev pub doing_of : Left → Doing
 doing_of (left.Drives p until) = Drives p until
 doing_of (left.Works p passes cell) = Works p passes cell
 
--- this is left of a command that stands here: nothing where it has ended with a text
+-- what is left of a command whose machine stands here: nothing where it has ended with a text
 abbrev pub Remains : Option Left → Doing → Type 0
 Remains None doing = (text : List ℕ) × (doing ≡ Says text)
 Remains (Some l) doing = doing ≡ doing_of l
@@ -34,7 +34,7 @@ abbrev pub IsStep : Bool → Event → Reply → Type 0
 IsStep true event reply = (p : ℕ) × (event ≡ Step p) × (step_taken (Step p) reply ≡ 1)
 IsStep false event reply = step_taken event reply ≡ 0
 
--- how many steps that is
+-- how many steps an event is that is one, or is none
 abbrev pub steps_of : Bool → ℕ
 steps_of true = 1
 steps_of false = 0

@@ -59,7 +59,7 @@ pub record IsBlock (whole : Bool) (script : List ℕ) (k : ℕ) (text : List ℕ
 abbrev pub block_events : {whole : Bool} {script : List ℕ} {k : ℕ} {text : List ℕ} → IsBlock whole script k text → List Event
 block_events b = (b.stands.progress.events ++ (b.stands.events ++ events.Step b.stands.p ∷ [])) ++ events.Crash ∷ b.events
 
--- the replies to them
+-- the replies to the events of a block
 abbrev pub block_replies : {whole : Bool} {script : List ℕ} {k : ℕ} {text : List ℕ} → IsBlock whole script k text → List Reply
 block_replies b = (b.stands.progress.replies ++ (b.stands.replies ++ b.stands.reply ∷ [])) ++ Crashed ∷ b.replies
 

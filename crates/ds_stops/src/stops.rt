@@ -7,6 +7,7 @@ ghost use Rattle.ds_state.specs.Fresh.{IsNew};
 ghost use Rattle.ds_core.specs.Takes.{WorldRun};
 ghost use Rattle.ds_core.specs.Headline.{HasHeadline};
 ghost use Rattle.ds_play.specs.Script.{IsMade};
+ghost use Rattle.ds_formula.specs.Limits.{INPUT_MOST};
 ghost use Rattle.ds_streams.specs.Streams.{writer_of, write_failed};
 ghost use Rattle.ds_streams.specs.declared.ending.ScriptEnd.TheVariants as ends;
 ghost use Rattle.ds_stops.specs.Reaching.{FallsShort, end_of};
@@ -16,9 +17,9 @@ use crate::block::block;
 use crate::reach::{Short, reach};
 use ds_formula::cells::Shape;
 use ds_play::carry::new_world;
-use ds_play::script::SCRIPT_LIMIT;
 use ds_state::world::World;
 use ds_streams::ending::ScriptEnd;
+use ds_streams::line::INPUT_LIMIT;
 use ds_streams::streams::Writing;
 use std::alloc::{AllocError, Global};
 use std::io::Write;
@@ -141,9 +142,9 @@ pub fn stop_at_each<W: Write>(alloc: Global, script: &[u8], writer: &mut Writing
     ensures write_failed { result ≡ ScriptEnd.WriteFailed → write_failed writer.new ≡ true }
     ensures not_read { result ≢ ScriptEnd.ReadFailed }
     ensures writes { result ≢ ScriptEnd.WriteFailed → (out : List ℕ) × Appends (W.contents (writer_of writer.old)) (W.contents (writer_of writer.new)) out
-        × StopsWithin SCRIPT_LIMIT script.now out result }
+        × StopsWithin INPUT_MOST script.now out result }
 {
-    stop_within(alloc, SCRIPT_LIMIT, script, writer)
+    stop_within(alloc, INPUT_LIMIT, script, writer)
 }
 
 /// The events of a block, those of the script up to its step, the crash and what is done behind it, are one run of

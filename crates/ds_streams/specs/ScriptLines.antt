@@ -1,6 +1,7 @@
 -- Lines of a script, and words of a line (our own rules).
 use Rattle.std.specs.Prelude.{ℕ, ◌+◌, ◌-◌, Bool, true, false, ◌==◌, nat_lt, List, [], ◌∷◌, length, take, drop, get_or, Option, Some, None, option_map, position, if◌then◌else◌}
 use Rattle.std.specs.Borrow.{Bor}
+use Rattle.ds_formula.specs.Limits.{LINE_MOST}
 use Rattle.ds_streams.specs.declared.line.NextLine.{NextLine}
 use Rattle.ds_streams.specs.declared.line.NextLine.TheVariants as lines
 
@@ -16,9 +17,9 @@ next_view lines.Nothing = NoLine
 next_view (lines.Line line rest) = ALine line.now rest.now
 next_view lines.TooLong = LongLine
 
--- a line and what is behind it; a line of more than 512 bytes, without its end, is too long
+-- a line and what is behind it; a line of more bytes than its limit, without its end, is too long
 abbrev pub checked : List ℕ → List ℕ → AtFront
-checked line rest = if nat_lt 512 (length line) then LongLine else ALine line rest
+checked line rest = if nat_lt LINE_MOST (length line) then LongLine else ALine line rest
 
 -- the bytes without a carriage return at their end
 abbrev pub dropped_return : List ℕ → List ℕ
@@ -28,7 +29,7 @@ dropped_return line = if get_or line (length line - 1) 0 == 13 then take (length
 abbrev pub last_of : Bool → List ℕ → AtFront
 last_of whole [] = NoLine
 last_of true (b ∷ bytes) = checked (b ∷ bytes) []
-last_of false (b ∷ bytes) = if nat_lt 512 (length (dropped_return (b ∷ bytes))) then LongLine else NoLine
+last_of false (b ∷ bytes) = if nat_lt LINE_MOST (length (dropped_return (b ∷ bytes))) then LongLine else NoLine
 
 -- what stands at the front of bytes whose first line feed is here, or that have none
 abbrev pub next_by : Option ℕ → Bool → List ℕ → AtFront

@@ -11,7 +11,7 @@ reader_of r = r.reader
 abbrev pub bytes_given : {R : Type 0} → Reading R → ℕ
 bytes_given r = r.given
 
--- whether the last call that gave an answer gave no byte
+-- whether the last call that had room and did not fail gave no byte
 abbrev pub has_ended : {R : Type 0} → Reading R → Bool
 has_ended r = r.ended
 

@@ -3,6 +3,7 @@
 ghost use Rattle.std.specs.Prelude.{◌≡◌, ◌-◌, ◌<◌, ◌≤◌, ◌^◌, ℕ, min, option_map, IfSome, IfOk};
 ghost use Rattle.ds_streams.specs.Fields.{number_from, number_below, field_view, number_field, cell_field, is_skipped};
 ghost use Rattle.ds_formula.specs.Cells.{IsInside};
+ghost use Rattle.ds_formula.specs.Limits.{CELLS_MOST};
 
 use crate::line::word;
 use ds_formula::cells::{Cell, Shape};
@@ -27,7 +28,7 @@ fn digits(bytes: &[u8]) -> (u64, &[u8])
 
 // A number in digits alone, leading zeros allowed, below the limit.
 fn number(limit: usize, word: &[u8]) -> Option<usize>
-    requires { limit ≤ 1024 }
+    requires { limit ≤ CELLS_MOST }
     ensures value { result ≡ number_below limit word.now }
     ensures below { IfSome result (λ n. n < limit) }
 {
@@ -41,7 +42,7 @@ fn number(limit: usize, word: &[u8]) -> Option<usize>
 
 /// A number below the limit that is the next word, and what is behind it.
 pub fn numbered<'a>(limit: usize, rest: Option<&'a [u8]>) -> Option<(usize, Option<&'a [u8]>)>
-    requires { limit ≤ 1024 }
+    requires { limit ≤ CELLS_MOST }
     ensures value { option_map field_view result ≡ number_field limit (option_map (λ r. r.now) rest.entry) }
     ensures below { IfSome result (λ x. x.0 < limit) }
 {

@@ -2,11 +2,14 @@
 
 ghost use Rattle.std.specs.Prelude.{◌≡◌, ◌==◌, ◌<◌, position, length};
 ghost use Rattle.ds_streams.specs.ScriptLines.{next_of, next_view, word_of, word_view, dropped_return, checked, last_of};
-ghost use Rattle.ds_formula.specs.Limits.{LINE_MOST};
+ghost use Rattle.ds_formula.specs.Limits.{LINE_MOST, INPUT_MOST};
 ghost use Rattle.ds_streams.specs.declared.line.TheConstants as constants;
 
 /// The most bytes of a line, without its end.
 pub const LINE_LIMIT: usize = 512;
+
+/// How many bytes a script or a grid may have.
+pub const INPUT_LIMIT: usize = 1_048_576;
 
 /// What stands at the front of a script.
 #[derive(Clone, Copy, Debug)]
@@ -84,7 +87,8 @@ pub fn word(bytes: &[u8]) -> (&[u8], Option<&[u8]>)
     }
 }
 
-/// The constant of this crate is the limit of the definitions.
+/// The constants of this crate are the limits of the definitions.
 pub fn constants_are_limits()
-    ensures { constants.LINE_LIMIT ≡ LINE_MOST }
+    ensures line { constants.LINE_LIMIT ≡ LINE_MOST }
+    ensures input { constants.INPUT_LIMIT ≡ INPUT_MOST }
 {}

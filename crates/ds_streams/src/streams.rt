@@ -1,6 +1,6 @@
 //! Readers and writers that remember whether a call of theirs failed.
 
-ghost use Rattle.std.specs.Prelude.{◌≡◌, ◌+◌, ◌-◌, ◌==◌, ◌≤◌, false, true, OnOk, OnErr, IfOk, min, ◌^◌, length};
+ghost use Rattle.std.specs.Prelude.{◌≡◌, ◌+◌, ◌-◌, ◌==◌, ◌<◌, ◌≤◌, false, true, OnOk, OnErr, IfOk, min, ◌^◌, length};
 ghost use Rattle.std.specs.Io.{ReadsAtMost};
 ghost use Rattle.std.specs.Io.KnownBytes.{ReadConsumes, Appends, Keeps};
 
@@ -43,13 +43,16 @@ impl<R: Read> Reading<R> {
         ensures none_given { OnErr result (bytes_given self.new ≡ bytes_given self.old) }
         ensures failed { OnErr result (read_failed self.new ≡ true) }
         ensures not_failed { OnOk result (read_failed self.new ≡ read_failed self.old) }
-        ensures ended { IfOk result (λ n. has_ended self.new ≡ (n == 0)) }
+        ensures ended { 0 < length buffer.old → IfOk result (λ n. has_ended self.new ≡ (n == 0)) }
+        ensures no_room { length buffer.old ≡ 0 → has_ended self.new ≡ has_ended self.old }
         ensures not_ended { OnErr result (has_ended self.new ≡ has_ended self.old) }
     {
         match self.reader.read(buffer) {
             Ok(count) => {
                 self.given = self.given.saturating_add(count as u64);
-                self.ended = count == 0;
+                if !buffer.is_empty() {
+                    self.ended = count == 0;
+                }
                 Ok(count)
             }
             Err(error) => {

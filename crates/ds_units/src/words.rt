@@ -28,7 +28,7 @@ fn happen(words: &mut Words, event: Event) {
     }
 }
 
-/// Word 0, of this class, and whether process 0 has nothing buffered, after the events.
+// Word 0, of this class, and whether process 0 has nothing buffered, after the events.
 fn after(alloc: Global, class: Class, events: &[Event]) -> Result<(u64, u64, bool), AllocError> {
     let mut words = Words::new(alloc, vec![in alloc; class; 1]?, 2)?;
     for event in events {

@@ -44,7 +44,7 @@ impl Model for Words {
     ghost invariant = { λ w. length w.classes.items ≡ length w.words.items };
 }
 
-/// Each cached side becomes the persisted one.
+// Each cached side becomes the persisted one.
 fn lose_cached(words: &mut Vec<Word>)
     ensures { words.new.items ≡ map crashed words.old.items }
 {
@@ -57,7 +57,7 @@ fn lose_cached(words: &mut Vec<Word>)
     }
 }
 
-/// Each buffer is emptied.
+// Each buffer is emptied.
 fn lose_buffers(buffers: &mut Vec<ArrayVec<Entry<usize>, BUFFER_ENTRIES>>)
     ensures { map (λ b. b.items) buffers.new.items ≡ map (λ b. []) buffers.old.items }
 {
@@ -67,7 +67,7 @@ fn lose_buffers(buffers: &mut Vec<ArrayVec<Entry<usize>, BUFFER_ENTRIES>>)
     }
 }
 
-/// Takes the oldest entry out of a buffer. Most buffers hold one.
+// Takes the oldest entry out of a buffer. Most buffers hold one.
 #[inline(always)]
 fn take_first(buffer: &mut ArrayVec<Entry<usize>, BUFFER_ENTRIES>) -> Entry<usize>
     requires { 0 < length buffer.old.items }
@@ -187,7 +187,7 @@ impl Words {
         self.words[number]
     }
 
-    /// Changes both sides of a word.
+    // Changes both sides of a word.
     #[tactic(auto, unfolding(crate::specs::Words::with_word))]
     #[inline(always)]
     fn set_word(&mut self, number: usize, word: Word)
@@ -281,7 +281,7 @@ impl Words {
         });
     }
 
-    /// Takes the oldest entry out of a buffer.
+    // Takes the oldest entry out of a buffer.
     #[inline(always)]
     fn taken(&mut self, process: usize) -> Entry<usize>
         requires process { HasProcess self.old process }

@@ -26,11 +26,12 @@ use Rattle.ds_eval.specs.Local.{local}
 use Rattle.ds_state.specs.declared.work.WorkEnd.{WorkEnd}
 use Rattle.ds_state.specs.declared.work.WorkStage.{WorkStage}
 use Rattle.ds_work.specs.declared.machine.Doing.TheVariants as doings
-use Rattle.ds_work.specs.declared.drive.Taken.TheVariants.{Stepped}
+use Rattle.ds_work.specs.declared.drive.Taken.{Taken}
+use Rattle.ds_work.specs.declared.drive.Taken.TheVariants.{Stepped, Answered}
 use Rattle.ds_work.specs.WorkSteps.{at, access_at, next_at, after, offered, IsPlainStep, StepsAt, Turns, BeginsWork, OffersAt}
 use Rattle.ds_work.specs.Noted.{turn_at}
 use Rattle.ds_work.specs.Reading.{IsReading}
-use Rattle.ds_work.specs.WorkTakes.{next_of, IsAskedFor, IsOffered, Refuses, StepsBy, reads, lacked}
+use Rattle.ds_work.specs.WorkTakes.{next_of, CanNotAdvance, IsAskedFor, IsOffered, Refuses, StepsBy, TakesTurn, answers, lacked, reads, steps}
 use Rattle.ds_work.proofs.EachWork.{begins_keep, offer_keep, work_steps_keep, reads_keep, lacks_keep}
 use Rattle.ds_work.proofs.WorkNamed.{can_perform}
 
@@ -225,3 +226,20 @@ answers_at _ end is = absurd cc
 pub waits_at : (s : WorkStage) → turn_at s ≡ doings.Waits → s ≡ Wait
 waits_at Wait is = refl
 waits_at _ is = absurd cc
+
+-- a work that goes on by a step neither waits nor answers
+goes_on : (e : PlainWork) (old new : World) (taken : Taken) → TakesTurn e old new taken → taken ≡ Stepped → (turn_at e.stage ≡ doings.Waits → ⊥) × ((end : WorkEnd) → turn_at e.stage ≡ doings.Answers end → ⊥)
+goes_on e old new _ (steps word s none) is = (λ waits. subst IsPlainStep (waits_at e.stage waits) s.plain, λ end ends. none end (answers_at e.stage end ends))
+goes_on e old new _ (reads content inputs at h) is = (λ waits. let bad : Read ≡ Wait = sym at ∙ waits_at e.stage waits in absurd cc, λ end ends. let bad : Read ≡ Answer end = sym at ∙ answers_at e.stage end ends in absurd cc)
+goes_on e old new _ (lacked at h) is = (λ waits. let bad : Read ≡ Wait = sym at ∙ waits_at e.stage waits in absurd cc, λ end ends. let bad : Read ≡ Answer end = sym at ∙ answers_at e.stage end ends in absurd cc)
+goes_on e old new _ (answers end at s) is = absurd (let bad : Answered end ≡ Stepped = is in cc)
+
+module _ (v : WorldValue) (p : ℕ) (e : PlainWork) (works : (world_of v).situation p ≡ Working e) where
+  same_work : (f : PlainWork) → (world_of v).situation p ≡ Working f → e ≡ f
+  same_work f is = let both : Working e ≡ Working f = sym works ∙ is in cc
+
+  pub waits_on : turn_at e.stage ≡ doings.Waits → CanNotAdvance (world_of v) p
+  waits_on waits new s = (goes_on s.work (world_of v) new Stepped s.turn refl).0 (subst (λ (f : PlainWork). turn_at f.stage ≡ doings.Waits) (same_work s.work s.works) waits)
+
+  pub ends_now : (end : WorkEnd) → turn_at e.stage ≡ doings.Answers end → CanNotAdvance (world_of v) p
+  ends_now end ends new s = (goes_on s.work (world_of v) new Stepped s.turn refl).1 end (subst (λ (f : PlainWork). turn_at f.stage ≡ doings.Answers end) (same_work s.work s.works) ends)

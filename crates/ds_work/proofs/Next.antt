@@ -12,7 +12,7 @@ use Rattle.ds_layout.specs.declared.head.Head.{Head}
 use Rattle.ds_layout.specs.declared.header.Header.{Header}
 use Rattle.ds_layout.specs.declared.mark.State.{State}
 use Rattle.ds_layout.specs.declared.mark.State.TheVariants.{Clean, Marked, Held}
-use Rattle.ds_layout.specs.declared.place.TheConstants.{TEXT_BYTES}
+use Rattle.ds_formula.specs.Limits.{TEXT_MOST}
 use Rattle.ds_layout.specs.Head.{head_of}
 use Rattle.ds_layout.specs.Header.{header_of}
 use Rattle.ds_layout.specs.Mark.{mark_of, state_of, held_after}
@@ -174,7 +174,7 @@ marked_as e s mark s' h young claim stage told = record {
     fits _ k = tt
 
 module _ (e : PlainWork) (word : ℕ) where
-  texted : (s : WorkStage) (head count : ℕ) (text : List ℕ) (s' : WorkStage) → IsWork (at e s) → count ≤ TEXT_BYTES → length text ≤ count
+  texted : (s : WorkStage) (head count : ℕ) (text : List ℕ) (s' : WorkStage) → IsWork (at e s) → count ≤ TEXT_MOST → length text ≤ count
       → ClaimFits e s' → StageFits (record e { head = head; length = count; text = text }) s' → TellsFits e s' → IsWork (record e { head = head; length = count; text = text; stage = s' })
   texted s head count text s' h short within claim stage told = record {
     process = h.process;
@@ -191,7 +191,7 @@ module _ (e : PlainWork) (word : ℕ) where
     told = told;
   }
 
-  parted : (s : WorkStage) (head count part : ℕ) (text : List ℕ) → IsWork (at e s) → count ≤ TEXT_BYTES → length text ≤ count → IsWork (text_from (record e { head = head; length = count; text = text }) part)
+  parted : (s : WorkStage) (head count part : ℕ) (text : List ℕ) → IsWork (at e s) → count ≤ TEXT_MOST → length text ≤ count → IsWork (text_from (record e { head = head; length = count; text = text }) part)
   parted s head count part text h short within = branches (nat_lt part ((count + 7) / 8)) (record e { head = head; length = count; text = text; stage = LoadText part }) (record e { head = head; length = count; text = text; stage = Read })
       (λ b. texted s head count text (LoadText part) h short within tt (let l = ltb-true part ((count + 7) / 8) b in omega arith) tt)
       (λ b. texted s head count text Read h short within tt tt tt)
@@ -378,9 +378,9 @@ pub takes_own : (e v : PlainWork) (word value kind : ℕ) (stage : WorkStage) �
     → value ≡ value_after v.value v.stage word → kind ≡ kind_after v.kind v.stage word → record v { value = value; kind = kind; stage = stage } ≡ next_at e e.stage word
 takes_own e v word value kind stage same is a b c = rw (b, c, same, a) (taken_as e word notes.Own is)
 
-pub takes_row : (e v : PlainWork) (word : ℕ) (row : List ℕ) (stage : WorkStage) → v ≡ e → notes_at e.stage ≡ notes.Row → stage ≡ stage_at e e.stage word
+pub takes_row : (e v : PlainWork) (word : ℕ) (row : List ℕ) (stage : WorkStage) → v ≡ e → notes_at e.stage ≡ notes.Row → stage ≡ stage_at v v.stage word
     → row ≡ row_after v.row v.stage word → record v { row = row; stage = stage } ≡ next_at e e.stage word
-takes_row e v word row stage same is a b = rw (b, same, a) (taken_as e word notes.Row is)
+takes_row e v word row stage same is a b = rw (b, a, same) (taken_as e word notes.Row is)
 
 pub next_within : (e : PlainWork) (word room : ℕ) → IsWork e → e.cells ≤ room → IsWorkIn (next_at e e.stage word) room
 next_within e word room h fits = record { is = next_is e word e.stage h; room = subst (λ (n : ℕ). n ≤ room) (sym (ap (λ (x : PlainWork). x.cells) (next_noted e word e.stage))) fits }

@@ -8,6 +8,7 @@ use Rattle.ds_layout.specs.declared.mark.State.TheVariants.{Clean, Marked, Held}
 use Rattle.ds_layout.specs.Header.{header_of}
 use Rattle.ds_layout.specs.Mark.{mark_of, state_of, generation_of, held_after}
 use Rattle.ds_layout.specs.TextWords.{bytes_of}
+use Rattle.ds_state.specs.declared.row.TheConstants.{ROW_PARTS}
 use Rattle.ds_state.specs.Works.{PlainWork, SEEN_MOST}
 use Rattle.ds_state.specs.Standing.{shown_entry}
 use Rattle.ds_state.specs.declared.work.Spread.TheVariants.{LoadRow}
@@ -115,9 +116,9 @@ abbrev pub FitsInputs : List Input → WorkStage → Type 0
 FitsInputs inputs (LoadKind i value) = i < length inputs
 FitsInputs inputs _ = Unit {0}
 
--- a stage that loads a part of the index row has room for it: at most 16 are noted
+-- a stage that loads a part of the index row has room for it
 abbrev pub FitsRow : List ℕ → WorkStage → Type 0
-FitsRow row (Telling (LoadRow part)) = length row < 16
+FitsRow row (Telling (LoadRow part)) = length row < ROW_PARTS
 FitsRow row _ = Unit {0}
 
 -- the stage of work behind this one, whose access found this word

@@ -39,7 +39,7 @@ pub record IsPublished (e : PlainWork) (new : World) : Type 0 where
   pub kind : new.memory.cached (place.Kind e.cell) ≡ word_for e.entry
 
 -- the answer is true by the step from this stage, from the one world to the other: a mark that was clean, held, or worn
--- when it was seen; a claim that another mark has overtaken; a cell that is let go, clean with the words of its entry, or
+-- when it was seen; a claim that another mark forestalled; a cell that is let go, clean with the words of its entry, or
 -- dirty since it was marked meanwhile, or dirty for want of memory. A step of no other stage decides.
 abbrev pub IsTrueAnswer : PlainWork → WorkStage → World → World → WorkEnd → Type 0
 IsTrueAnswer e LoadMark old new NotDirty = state_now old e ≡ Clean

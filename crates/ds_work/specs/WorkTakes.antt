@@ -120,6 +120,10 @@ pub record StepsBy (old : World) (process : ℕ) (taken : Taken) (new : World) :
   pub is : IsWork work
   pub turn : TakesTurn work old new taken
 
+-- no work of the process goes on by a step: it is in none, or its work waits or answers
+abbrev pub CanNotAdvance : World → ℕ → Type 0
+CanNotAdvance w process = (new : World) → StepsBy w process Stepped new → ⊥
+
 -- the process is in no work, or its work waits
 abbrev pub CanNotStep : World → ℕ → Type 0
 CanNotStep w process = (e : PlainWork) → process < w.layout.processes → w.situation process ≡ Working e → e.stage ≡ Wait

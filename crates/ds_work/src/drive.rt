@@ -7,7 +7,7 @@ ghost use Rattle.ds_state.specs.Value.{world_of};
 ghost use Rattle.ds_state.specs.declared.situation.Situation.TheVariants.{Idle, Working};
 ghost use Rattle.ds_work.specs.Noted.{turn_at};
 ghost use Rattle.ds_work.specs.Reading.{IsReading};
-ghost use Rattle.ds_work.specs.WorkTakes.{IsIn, StepsBy, StepTakes};
+ghost use Rattle.ds_work.specs.WorkTakes.{CanNotAdvance, IsIn, StepsBy, StepTakes};
 ghost use Rattle.ds_work.specs.declared.machine.Doing.TheVariants.{Steps, Reads, Answers};
 ghost use Rattle.ds_work.specs.declared.drive.Taken.TheVariants.{NotEnabled, Stepped, Answered};
 
@@ -144,9 +144,10 @@ pub fn step(alloc: Global, world: &mut World, process: usize) -> Taken
 }
 
 /// A process makes the next step of its work, where that is not its answer, and says so: it is the
-/// one that `step` would make. Else nothing changes.
+/// one that `step` would make. Where there is none, nothing changes.
 pub fn advances(alloc: Global, world: &mut World, process: usize) -> bool
     ensures takes { IsTrue result → StepsBy (world_of world.old) process Stepped (world_of world.new) }
+    ensures none { IsFalse result → CanNotAdvance (world_of world.old) process }
     ensures unchanged { IsFalse result → world.new ≡ world.old }
     ensures done { world.new.done ≡ world.old.done }
     ensures settled { world.new.settled ≡ world.old.settled }

@@ -3,6 +3,7 @@
 ghost use Rattle.std.specs.Prelude.{ℕ, ◌≡◌, ◌<◌, ◌≤◌, ◌+◌, ◌*◌, List, length, true, false};
 ghost use Rattle.ds_formula.specs.declared.cells.Shape.{Shape};
 ghost use Rattle.ds_formula.specs.Cells.{count_of};
+ghost use Rattle.ds_formula.specs.Limits.{CELLS_MOST};
 ghost use Rattle.ds_formula.specs.Plain.{Plain};
 ghost use Rattle.ds_eval.specs.declared.inputs.Entry as entries;
 ghost use Rattle.ds_eval.specs.declared.inputs.Input.{Input};
@@ -69,7 +70,7 @@ pub fn work_steps_are_few()
         → steps_left (length inputs) (read_from e content inputs) < left (length inputs) e works.Read }
     ensures lacking { (r : ℕ) (e : PlainWork) → left r e works.Give < left r e works.Read }
     ensures offer { (r : ℕ) (e : PlainWork) (entry : entries.Entry) → steps_left r (offered e entry) < left r e works.Wait }
-    ensures few { (r : ℕ) (e : PlainWork) → e.cells ≤ 1024 → left r e works.LoadMark ≤ 2 * r + 3 * e.cells + 52 }
+    ensures few { (r : ℕ) (e : PlainWork) → e.cells ≤ CELLS_MOST → left r e works.LoadMark ≤ 2 * r + 3 * e.cells + 52 }
 {}
 
 /// A content has no more references on a sheet than that has cells.

@@ -1,16 +1,17 @@
 //! The machine of work: the access of each stage, and the stage that follows it.
 
-ghost use Rattle.std.specs.Prelude.{◌≡◌, false, ◌+◌, ◌-◌, ◌*◌, ◌/◌, ◌%◌, ◌<◌, ◌≤◌, ◌++◌, length, take, IsTrue, ◌↔◌};
+ghost use Rattle.std.specs.Prelude.{◌≡◌, ℕ, false, ◌+◌, ◌-◌, ◌*◌, ◌/◌, ◌%◌, ◌<◌, ◌≤◌, ◌++◌, length, take, IsTrue, ◌↔◌};
+ghost use Rattle.ds_layout.specs.Bits.{parts_for};
 ghost use Rattle.ds_layout.specs.Head.{head_of};
 ghost use Rattle.ds_layout.specs.Header.{header_of};
 ghost use Rattle.ds_layout.specs.Mark.{mark_of, state_of, holder_code, dirty_bit, mark_word, generation_of, freed_after, held_after, dirtied};
 ghost use Rattle.ds_state.specs.Standing.{stored_for, shown_entry};
 ghost use Rattle.ds_state.specs.Telling.{told_from};
-ghost use Rattle.ds_layout.specs.declared.place.TheConstants.{TEXT_BYTES};
+ghost use Rattle.ds_formula.specs.Limits.{TEXT_MOST};
 ghost use Rattle.ds_state.specs.Works.{PlainWork, StageFits, SEEN_MOST};
 ghost use Rattle.ds_state.specs.declared.work.WorkStage.TheVariants.{LoadMark, Claim, Clear, Give, Telling};
 ghost use Rattle.ds_state.specs.declared.work.Spread.TheVariants.{LoadRow};
-ghost use Rattle.ds_work.specs.WorkSteps.{record_header, record_text, parts_of, input_place, access_at, next_at, claims_from, head_from, header_from, text_from, input_from, told, tell_from, row_from, spread_access, spread_next};
+ghost use Rattle.ds_work.specs.WorkSteps.{record_header, record_text, input_place, access_at, next_at, claims_from, head_from, header_from, text_from, input_from, told, tell_from, row_from, spread_access};
 ghost use Rattle.ds_work.specs.declared.machine.Noting.TheVariants as noted;
 ghost use Rattle.ds_work.specs.Noted.{mark_at, head_at, length_at, text_after, inputs_after, value_after, kind_after, row_after, stage_at, notes_at, turn_at, FitsInputs, FitsRow};
 
@@ -235,7 +236,7 @@ fn claims_from(call: &WorkCall, word: u64) -> WorkStage
 
 // The parts of the text one by one, then the content.
 fn text_from(length: usize, part: usize) -> WorkStage
-    requires { length ≤ TEXT_BYTES }
+    requires { length ≤ TEXT_MOST }
     ensures { (e : PlainWork) → e.length ≡ length → result ≡ (text_from e part).stage }
 {
     if part < text_parts(length) {
@@ -273,41 +274,39 @@ fn told_from(row: &[u64], cells: usize, from: usize) -> Option<usize>
 }
 
 // The next cell that is told; where all are told, the cell is let go.
-fn tell_from(call: &WorkCall, row: &[u64], from: usize) -> WorkStage
-    requires { from ≤ call.now.cells }
-    ensures { (e : PlainWork) → e.row ≡ row.now → e.cells ≡ call.now.cells → result ≡ (tell_from e from).stage }
+fn tell_from(row: &[u64], cells: usize, from: usize) -> WorkStage
+    requires { from ≤ cells }
+    ensures { (e : PlainWork) → e.row ≡ row.now → e.cells ≡ cells → result ≡ (tell_from e from).stage }
 {
-    match told_from(row, call.cells, from) {
+    match told_from(row, cells, from) {
         Some(cell) => WorkStage::Telling(Spread::OrTold(cell)),
         None => WorkStage::Clear(true),
     }
 }
 
+// The part of the row behind this one, which is noted; behind the last one, the cells that the row tells.
 #[inline(always)]
-fn row_from(call: &WorkCall, part: usize, word: u64) -> WorkStage
-    requires part { part < parts_of call.now }
-    requires loaded { length call.now.row ≡ part }
-    ensures { result ≡ (spread_next call.now (LoadRow part) word).stage }
+fn row_from(row: &[u64], cells: usize, part: usize) -> WorkStage
+    requires { part < parts_for cells }
+    ensures { (e : PlainWork) → e.row ≡ row.now → e.cells ≡ cells → result ≡ (row_from e (part + 1)).stage }
 {
-    let parts = bits::parts(call.cells);
-    if part + 1 < parts {
+    let last = bits::part(cells - 1);
+    if part < last {
         return WorkStage::Telling(Spread::LoadRow(part + 1));
     }
-    let mut row = call.row.copy();
-    row.push(word);
-    tell_from(call, row.as_slice(), 0)
+    tell_from(row, cells, 0)
 }
 
+// The stage behind one that notes a part of the row, or that there is none yet, once this is the row.
 #[inline(always)]
-fn spread_next(call: &WorkCall, spread: Spread, word: u64) -> WorkStage
-    requires { StageFits call.now (Telling spread) }
-    ensures { result ≡ (spread_next call.now spread word).stage }
+fn row_next(row: &[u64], cells: usize, stage: WorkStage) -> WorkStage
+    requires notes { notes_at stage ≡ noted.Row }
+    requires part { (part : ℕ) → stage ≡ Telling (LoadRow part) → part < parts_for cells }
+    ensures { (e : PlainWork) (word : ℕ) → row.now ≡ row_after e.row stage word → e.cells ≡ cells → result ≡ stage_at e stage word }
 {
-    match spread {
-        Spread::LoadRow(part) => row_from(call, part, word),
-        Spread::OrTold(cell) => WorkStage::Telling(Spread::FlushTold(cell)),
-        Spread::FlushTold(cell) => WorkStage::Telling(Spread::BackTold(cell)),
-        Spread::BackTold(cell) => tell_from(call, call.row.as_slice(), cell + 1),
+    match stage {
+        WorkStage::Telling(Spread::LoadRow(part)) => row_from(row, cells, part),
+        _ => WorkStage::Telling(Spread::LoadRow(0)),
     }
 }
 
@@ -351,9 +350,10 @@ fn headed(call: &WorkCall, word: u64) -> WorkStage
     }
 }
 
-// The stage that follows, after the access answered the word.
+// The stage that follows, after the access answered the word; `row_next` says it of stages that note the row.
 #[inline(always)]
 fn next(call: &WorkCall, word: u64) -> WorkStage
+    requires { notes_at call.now.stage ≡ noted.Row → ⊥ }
     ensures { result ≡ stage_at call.now call.now.stage word }
 {
     match call.stage {
@@ -375,8 +375,12 @@ fn next(call: &WorkCall, word: u64) -> WorkStage
         WorkStage::FlushValue => WorkStage::FlushKind,
         WorkStage::FlushKind => WorkStage::BackValue,
         WorkStage::BackValue => WorkStage::BackKind,
-        WorkStage::BackKind => WorkStage::Telling(Spread::LoadRow(0)),
-        WorkStage::Telling(spread) => spread_next(call, spread, word),
+        WorkStage::BackKind | WorkStage::Telling(Spread::LoadRow(_)) => unreachable!(),
+        WorkStage::Telling(Spread::OrTold(cell)) => WorkStage::Telling(Spread::FlushTold(cell)),
+        WorkStage::Telling(Spread::FlushTold(cell)) => WorkStage::Telling(Spread::BackTold(cell)),
+        WorkStage::Telling(Spread::BackTold(cell)) => {
+            tell_from(call.row.as_slice(), call.cells, cell + 1)
+        }
         WorkStage::Clear(changed) => cleared(call, changed, word),
         WorkStage::ClearDirty => WorkStage::FlushCleared(WorkEnd::Again),
         WorkStage::Give => given(call, word),
@@ -435,7 +439,7 @@ fn noted_length(call: &WorkCall, word: u64) -> usize
 #[inline(always)]
 fn append(text: &mut Text, bytes: [u8; 8], most: usize)
     requires within { length text.old ≤ most }
-    requires short { most ≤ TEXT_BYTES }
+    requires short { most ≤ TEXT_MOST }
     ensures { text.new ≡ take most (text.old ++ bytes) }
 {
     for i in 0..8 {
@@ -449,7 +453,7 @@ fn append(text: &mut Text, bytes: [u8; 8], most: usize)
 #[inline(always)]
 fn note_text(text: &mut Text, stage: WorkStage, most: usize, word: u64)
     requires within { length text.old ≤ most }
-    requires short { most ≤ TEXT_BYTES }
+    requires short { most ≤ TEXT_MOST }
     ensures { text.new ≡ text_after text.old most stage word }
 {
     match stage {
@@ -589,9 +593,8 @@ fn take_row(call: &mut WorkCall, word: u64)
     ensures { call.new ≡ next_at call.old call.old.stage word }
 {
     let stage = call.stage;
-    let next = next(call, word);
     note_row(&mut call.row, stage, word);
-    call.stage = next;
+    call.stage = row_next(call.row.as_slice(), call.cells, stage);
 }
 
 /// The work goes on with the word that its access answered, whatever that is. Where it reads, waits

@@ -3,6 +3,7 @@
 ghost use Rattle.std.specs.Prelude.{◌≡◌, ◌<◌, ◌≤◌, ◌/◌, IsTrue, IsFalse, IfOk, IfErr, IfSome, IfNone, OnOk, OnErr};
 ghost use Rattle.ds_layout.specs.Mark.{generation_of};
 ghost use Rattle.ds_formula.specs.Cells.{count_of};
+ghost use Rattle.ds_formula.specs.Limits.{CELLS_MOST};
 ghost use Rattle.ds_eval.specs.Inputs.{entry_in};
 ghost use Rattle.ds_eval.specs.Local as evaluation;
 ghost use Rattle.ds_eval.specs.declared.inputs.Entry as entries;
@@ -92,7 +93,7 @@ fn task(alloc: Global, call: &WorkCall, shape: Shape) -> Result<Task, AllocError
 // The work goes on with this entry: where its words show it already, nothing is stored.
 #[inline(always)]
 fn take_entry(call: &mut WorkCall, entry: Entry)
-    requires { entry.height ≤ 1024 }
+    requires { entry.height ≤ CELLS_MOST }
     ensures { call.new ≡ offered call.old entry }
 {
     let words = stored(entry);
@@ -108,7 +109,7 @@ fn take_entry(call: &mut WorkCall, entry: Entry)
 // So does the work of a process.
 #[inline(always)]
 fn accept(situation: &mut Situation, entry: Entry)
-    requires { entry.height ≤ 1024 }
+    requires { entry.height ≤ CELLS_MOST }
     ensures { (e : PlainWork) → situation.old ≡ Working e → situation.new ≡ Working (offered e entry) }
 {
     if let Situation::Working(call) = situation {

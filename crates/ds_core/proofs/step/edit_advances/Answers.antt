@@ -26,5 +26,6 @@ returns c =
     let stepped = stepped_at c.args.world.now.sheet.layout.processes e.number c.call.inside.stage c.in_default-stage.not-Answer in
     record {
       steps = λ yes. subst (λ (r : Reply). EditStepTakes c.args.world.now p r c.edit_on.new.world) stepped (c.edit_on.ensures e at);
+      none = λ no. absurd (cc);
       unchanged = λ no. absurd (cc);
     }

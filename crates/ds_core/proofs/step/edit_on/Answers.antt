@@ -11,7 +11,7 @@ use Rattle.ds_edit.specs.EditSteps.{access_at}
 use Rattle.ds_edit.specs.EditTakes.{after, counted_at, open_edit_at}
 use Rattle.ds_core.specs.EditEvents.{IsEditing, EditStepTakes, reply_at, done_at}
 use Rattle.ds_core.specs.declared.reply.Reply.{Reply}
-use Rattle.ds_core.proofs.Good.{perform_at, next, next_is, next_kept, next_room, next_takes, pending_there}
+use Rattle.ds_core.proofs.Good.{perform_at, next, next_is, next_kept, next_room, next_takes, open_edit_there}
 use Rattle.ds_state.proofs.Dones.{few_done}
 use Rattle.ds_core.proofs.step.edit_on.Goals as goal
 
@@ -54,7 +54,7 @@ invariant_of-world c =
     let stage : c.args.stage ≡ e.stage = c.requires.2 in
     let word : ℕ = c.perform-word.result in
     let performs : PerformsAt (access_at e e.stage) p (memory v.sheet) (memory c.perform-word.new.self) word = rw (← c.requires.3) c.perform-word.ensures.performs in
-    let there : p < _ = pending_there v c.world.invariant.good p e at in
+    let there : p < _ = open_edit_there v c.world.invariant.good p e at in
     let situation : c.go_on.new.situation ≡ after e e.stage word = c.go_on.ensures e (c.index_mut.ensures.value ∙ get_or_default v.situations p c.index_mut.result.now (Idle 0) at.there ∙ at.is) in
     let counted : c.count.new.counted.items ≡ v.counted ++ counted_at (edit_of e) e.stage word = c.count.ensures.items e (c.index.ensures ∙ get_or_default v.situations p c.index.result.now (Idle 0) at.there ∙ at.is) ∙ ap (λ (s : Stage). v.counted ++ counted_at (edit_of e) s word) stage in
     let open_edit : c.close.new.open_edit ≡ open_edit_at (get_or v.open_edits p None) e.stage = c.close.ensures ∙ ap (λ (i : Option Issue). open_edit_at i c.args.stage) (c.index_mut-2.ensures.value ∙ get_or_default v.open_edits p c.index_mut-2.result.now None there) ∙ ap (λ (s : Stage). open_edit_at (get_or v.open_edits p None) s) stage in
@@ -71,7 +71,7 @@ returns c = λ f is.
     let stage : c.args.stage ≡ e.stage = c.requires.2 in
     let word : ℕ = c.perform-word.result in
     let performs : PerformsAt (access_at e e.stage) p (memory v.sheet) (memory c.perform-word.new.self) word = rw (← c.requires.3) c.perform-word.ensures.performs in
-    let there : p < _ = pending_there v c.world.invariant.good p e at in
+    let there : p < _ = open_edit_there v c.world.invariant.good p e at in
     let situation : c.go_on.new.situation ≡ after e e.stage word = c.go_on.ensures e (c.index_mut.ensures.value ∙ get_or_default v.situations p c.index_mut.result.now (Idle 0) at.there ∙ at.is) in
     let counted : c.count.new.counted.items ≡ v.counted ++ counted_at (edit_of e) e.stage word = c.count.ensures.items e (c.index.ensures ∙ get_or_default v.situations p c.index.result.now (Idle 0) at.there ∙ at.is) ∙ ap (λ (s : Stage). v.counted ++ counted_at (edit_of e) s word) stage in
     let open_edit : c.close.new.open_edit ≡ open_edit_at (get_or v.open_edits p None) e.stage = c.close.ensures ∙ ap (λ (i : Option Issue). open_edit_at i c.args.stage) (c.index_mut-2.ensures.value ∙ get_or_default v.open_edits p c.index_mut-2.result.now None there) ∙ ap (λ (s : Stage). open_edit_at (get_or v.open_edits p None) s) stage in

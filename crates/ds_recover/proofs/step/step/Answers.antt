@@ -9,7 +9,7 @@ use Rattle.ds_state.specs.declared.situation.Situation.TheVariants.{Idle}
 use Rattle.ds_recover.specs.declared.machine.Effect.{Effect}
 use Rattle.ds_recover.specs.RecoverySteps.{access_at, after, open_edit_at}
 use Rattle.ds_recover.specs.RecoverTakes.{open_edit_by, StepsBy}
-use Rattle.ds_recover.proofs.RecoveryGood.{IsRecovering, recovering_from, perform_at, pending_there, resolved_by, next_is, next_kept, next_takes}
+use Rattle.ds_recover.proofs.RecoveryGood.{IsRecovering, recovering_from, perform_at, open_edit_there, resolved_by, next_is, next_kept, next_takes}
 use Rattle.ds_recover.proofs.step.step.Goals as goal
 
 pub perform-word-requires : goal.perform-word-requires
@@ -27,7 +27,7 @@ invariant_of-world c =
     let word : ℕ = c.perform-word.result in
     let at : IsRecovering v p e = recovering_from v p e c.index.result.now (omega arith) c.index.ensures c.in-Some.ensures.some in
     let performs : PerformsAt (access_at e e.stage) p (memory v.sheet) (memory c.perform-word.new.self) word = rw (sym c.want-access.ensures) c.perform-word.ensures.performs in
-    let there : p < _ = pending_there v c.world.invariant.good p e at in
+    let there : p < _ = open_edit_there v c.world.invariant.good p e at in
     let situation : c.go_on.new.situation ≡ after e e.stage word = c.go_on.ensures e (c.index_mut.ensures.value ∙ get_or_default v.situations p c.index_mut.result.now (Idle 0) at.there ∙ at.is) in
     let pending : c.close.new.open_edit ≡ open_edit_at (get_or v.open_edits p None) e.stage = c.close.ensures ∙ ap (λ (w : Effect). open_edit_by c.index_mut-2.result.now w) c.effect_of-what.ensures ∙ resolved_by e e.stage c.index_mut-2.result.now
     ∙ ap (λ (i : Option Issue). open_edit_at i e.stage) (c.index_mut-2.ensures.value ∙ get_or_default v.open_edits p c.index_mut-2.result.now None there) in
@@ -42,7 +42,7 @@ returns c =
     let word : ℕ = c.perform-word.result in
     let at : IsRecovering v p e = recovering_from v p e c.index.result.now (omega arith) c.index.ensures c.in-Some.ensures.some in
     let performs : PerformsAt (access_at e e.stage) p (memory v.sheet) (memory c.perform-word.new.self) word = rw (sym c.want-access.ensures) c.perform-word.ensures.performs in
-    let there : p < _ = pending_there v c.world.invariant.good p e at in
+    let there : p < _ = open_edit_there v c.world.invariant.good p e at in
     let situation : c.go_on.new.situation ≡ after e e.stage word = c.go_on.ensures e (c.index_mut.ensures.value ∙ get_or_default v.situations p c.index_mut.result.now (Idle 0) at.there ∙ at.is) in
     let pending : c.close.new.open_edit ≡ open_edit_at (get_or v.open_edits p None) e.stage = c.close.ensures ∙ ap (λ (w : Effect). open_edit_by c.index_mut-2.result.now w) c.effect_of-what.ensures ∙ resolved_by e e.stage c.index_mut-2.result.now
     ∙ ap (λ (i : Option Issue). open_edit_at i e.stage) (c.index_mut-2.ensures.value ∙ get_or_default v.open_edits p c.index_mut-2.result.now None there) in

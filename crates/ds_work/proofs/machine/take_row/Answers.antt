@@ -1,14 +1,17 @@
-use Rattle.std.proofs.Common.{◌≡◌, ◌≤◌, sym, subst}
+use Rattle.std.proofs.Common.{◌≡◌, ◌≤◌, ◌∙◌, refl, sym, subst}
 use Rattle.ds_formula.specs.Plain.{plain}
 use Rattle.ds_state.specs.Works.{PlainWork, IsWork, IsWorkIn}
 use Rattle.ds_work.specs.WorkSteps.{next_at}
 use Rattle.ds_work.proofs.Next.{takes_row, next_within}
 use Rattle.ds_work.proofs.machine.take_row.Goals as goal
 
-made_so : (c : goal.After-next-1) → record { process = c.call.inside.process; next = c.call.inside.next; cell = c.call.inside.cell; cells = c.call.inside.cells; processes = c.call.inside.processes; mark = c.call.inside.mark; head = c.call.inside.head; length = c.call.inside.length; text = c.call.inside.text; content = plain c.call.inside.content; inputs = c.call.inside.inputs.items; value = c.call.inside.value; kind = c.call.inside.kind; entry = c.call.inside.entry; row = c.note_row.new.row; stage = c.next-next.result }
-    ≡ next_at c.args.call.now c.args.call.now.stage c.args.word
-made_so c = takes_row c.args.call.now (record { process = c.call.inside.process; next = c.call.inside.next; cell = c.call.inside.cell; cells = c.call.inside.cells; processes = c.call.inside.processes; mark = c.call.inside.mark; head = c.call.inside.head; length = c.call.inside.length; text = c.call.inside.text; content = plain c.call.inside.content; inputs = c.call.inside.inputs.items; value = c.call.inside.value; kind = c.call.inside.kind; entry = c.call.inside.entry; row = c.call.inside.row; stage = c.call.inside.stage }) c.args.word c.note_row.new.row c.next-next.result
-    c.call.view_is c.requires c.next-next.ensures c.note_row.ensures
+-- the work whose row is not yet noted
+abbrev work_of : goal.After-call-1 → PlainWork
+work_of c = record { process = c.call.inside.process; next = c.call.inside.next; cell = c.call.inside.cell; cells = c.call.inside.cells; processes = c.call.inside.processes; mark = c.call.inside.mark; head = c.call.inside.head; length = c.call.inside.length; text = c.call.inside.text; content = plain c.call.inside.content; inputs = c.call.inside.inputs.items; value = c.call.inside.value; kind = c.call.inside.kind; entry = c.call.inside.entry; row = c.call.inside.row; stage = c.call.inside.stage }
+
+made_so : (c : goal.After-call-1) → record (work_of c) { row = c.note_row.new.row; stage = c.row_next-call-inside.result } ≡ next_at c.args.call.now c.args.call.now.stage c.args.word
+made_so c = takes_row c.args.call.now (work_of c) c.args.word c.note_row.new.row c.row_next-call-inside.result
+    c.call.view_is c.requires (c.row_next-call-inside.ensures (work_of c) c.args.word (c.as_slice.ensures ∙ c.note_row.ensures) refl) c.note_row.ensures
 
 pub returns : goal.returns
 returns c = made_so c

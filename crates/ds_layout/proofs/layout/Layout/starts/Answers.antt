@@ -6,4 +6,4 @@ pub returns-clause-value : goal.returns-clause-value
 unfolding starts_of
 returns-clause-value c =
     let p = c.args.self.now.processes in
-    ap (λ n. starts_for n c.row_parts.result p) c.cells-cells.ensures.value ∙ ap (λ k. starts_for (cells_of c.args.self.now) k p) c.row_parts.ensures.value
+    ap (λ n. starts_for n c.row_parts-row_parts.result p) c.cells-cells.ensures.value ∙ ap (λ k. starts_for (cells_of c.args.self.now) k p) c.row_parts-row_parts.ensures.value
