@@ -1,5 +1,5 @@
 -- An edit or a work that goes on by a step, and what says that none does.
-use Rattle.std.proofs.Common.{◌≡◌, ℕ, refl, subst, sym}
+use Rattle.std.proofs.Common.{◌≡◌, ℕ, refl, subst}
 use Rattle.ds_state.specs.Value.{WorldValue, world_of}
 use Rattle.ds_work.specs.WorkTakes as works
 use Rattle.ds_work.specs.declared.drive.Taken.{Taken}

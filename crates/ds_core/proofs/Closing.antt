@@ -10,12 +10,9 @@ use Rattle.ds_core.specs.Headline.{IsIssueOf, Happens, RunFits, Precedes, IsClos
 use Rattle.ds_core.specs.declared.event.Event.{Event}
 use Rattle.ds_core.specs.declared.reply.Reply.{Reply}
 use Rattle.ds_core.proofs.Moved.{Moved, Filters, moved}
+use Rattle.ds_state.proofs.Counting.{contains_one}
 
 -- ---- lists
-
-pub contains_one : {A : Type 0} (x e : A) → Contains (x ∷ []) e → x ≡ e
-contains_one x e (zero, lt, is) = is
-contains_one x e (suc k, lt, is) = absurd (omega arith)
 
 pub contains_none : {A : Type 0} (e : A) → Contains [] e → ⊥
 contains_none e (k, lt, is) = omega arith
@@ -60,7 +57,7 @@ orderly_next k old new h m = record {
     | inl same ↦ (let l = h.places e (subst (λ (es : List Placed). Contains es e) same there) in omega arith)
     | inr (inl push) ↦ elim (Contains-append_cases old.counted (push.o.it ∷ []) e (subst (λ (es : List Placed). Contains es e) push.is there)) [
       | inl early ↦ (let l = h.places e early in omega arith)
-      | inr now ↦ (let one = ap (λ (x : Placed). x.place) (contains_one push.o.it e now) in let l = h.opens push.p push.o push.was in omega arith)
+      | inr now ↦ (let one = ap (λ (x : Placed). x.place) (sym (contains_one push.o.it e now)) in let l = h.opens push.p push.o push.was in omega arith)
     ]
     | inr (inr drops) ↦ (let l = h.places e (of_filter drops.stays old.counted e (subst (λ (es : List Placed). Contains es e) drops.is there)) in omega arith)
   ];
@@ -92,7 +89,7 @@ kept_out k old new e away m = elim m.counted [
   | inr (inl push) ↦ (
     λ h. elim (Contains-append_cases old.counted (push.o.it ∷ []) e (subst (λ (es : List Placed). Contains es e) push.is h)) [
       | inl early ↦ early
-      | inr now ↦ absurd (away.closed push.p push.o push.was (contains_one push.o.it e now))
+      | inr now ↦ absurd (away.closed push.p push.o push.was (sym (contains_one push.o.it e now)))
     ],
     λ h. subst (λ (es : List Placed). Contains es e) (sym push.is) (Contains-append_left old.counted (push.o.it ∷ []) e h),
   )
@@ -229,7 +226,7 @@ module _ (old : WorldValue) (events : List Event) (replies : List Reply) (new : 
       | inl same ↦ h.counted e (subst (λ (es : List Placed). Contains es e) same there)
       | inr (inl push) ↦ elim (Contains-append_cases (at k).counted (push.o.it ∷ []) e (subst (λ (es : List Placed). Contains es e) push.is there)) [
         | inl early ↦ h.counted e early
-        | inr now ↦ subst (λ (x : Placed). IsAsked x) (contains_one push.o.it e now) (h.opens push.p push.o push.was)
+        | inr now ↦ subst (λ (x : Placed). IsAsked x) (sym (contains_one push.o.it e now)) (h.opens push.p push.o push.was)
       ]
       | inr (inr drops) ↦ h.counted e (of_filter drops.stays (at k).counted e (subst (λ (es : List Placed). Contains es e) drops.is there))
     ];

@@ -15,7 +15,8 @@ use Rattle.ds_state.proofs.Heads.{IsSmall, Small, small_counted, small_of_cell, 
 use Rattle.ds_state.proofs.Losing.{increasing_cell, last_greater}
 use Rattle.ds_core.specs.Moments.{Placed, Open, Ledger, edits_in}
 use Rattle.ds_core.specs.LedgerSteps.{in_doubt, Loses}
-use Rattle.ds_core.proofs.Closing.{to_filter, contains_one}
+use Rattle.ds_core.proofs.Closing.{to_filter}
+use Rattle.ds_state.proofs.Counting.{contains_one}
 
 abbrev keep : Memory Place → Edit → Bool
 keep m e = if is_lost m e then false else true
@@ -61,7 +62,7 @@ module _ (w : World) (sound : IsSound w) (e : Edit) (there : Contains w.counted 
       let number : b.last.number ≡ e.number = omega arith in
       let one : b.last ≡ e = elim (Contains-append_cases b.before (b.last ∷ []) e mine) [
         | inl early ↦ absurd (let l = last_greater b.before b.last e increasing early process in omega arith)
-        | inr last ↦ contains_one b.last e last
+        | inr last ↦ sym (contains_one b.last e last)
       ] in
       record { issue = b.issue; issued = ap (λ q. w.open_edits q) (sym process) ∙ b.open_edits; same = b.same ∙ one }
 

@@ -14,7 +14,8 @@ use Rattle.ds_core.specs.declared.event.Event.TheVariants.{BeginEdit, BeginRecov
 use Rattle.ds_edit.specs.declared.answer.Answer.TheVariants.{Done, Nothing}
 use Rattle.ds_core.specs.declared.reply.Reply.{Reply}
 use Rattle.ds_core.specs.declared.reply.Reply.TheVariants.{Begun, Entered, Stepped, Answered, Crashed}
-use Rattle.ds_core.proofs.Closing.{contains_none, contains_one}
+use Rattle.ds_core.proofs.Closing.{contains_none}
+use Rattle.ds_state.proofs.Counting.{contains_one}
 use Rattle.ds_core.proofs.Acknowledged.{acknowledged_once}
 use Rattle.ds_core.proofs.Moved.{put_here}
 
@@ -96,7 +97,7 @@ module _ (shape : Shape) (r : PlainRequest) where
 
   -- the lost edit is another one: it is not in the list
   lost_is_another : Contains counted.counted first → ⊥
-  lost_is_another there = let same = ap (λ (e : Placed). e.place) (contains_one second first there) in omega arith
+  lost_is_another there = let same = ap (λ (e : Placed). e.place) (sym (contains_one second first there)) in omega arith
 
   -- a crash may not take an edit that is not open, as one that was answered Done
   abbrev done : Ledger

@@ -21,7 +21,8 @@ use Rattle.ds_edit.specs.declared.answer.Other.{Other}
 use Rattle.ds_core.specs.Moments.{Placed, Open, Closed, Ledger, MomentFits, AreApart, NoneTwice, edits_in}
 use Rattle.ds_core.specs.LedgerSteps.{put, next_number, in_doubt, Stands, Issues, Counts, Closes, IsOvertakenBy, Loses}
 use Rattle.ds_core.proofs.Traces as traces
-use Rattle.ds_core.proofs.Closing.{contains_none, contains_one, behind, of_filter}
+use Rattle.ds_core.proofs.Closing.{contains_none, behind, of_filter}
+use Rattle.ds_state.proofs.Counting.{contains_one}
 use Rattle.ds_core.proofs.Moved.{put_here}
 use Rattle.ds_core.proofs.Crash.{IsKnownAs, after_crash, crash_loses, crash_counted}
 
@@ -231,7 +232,7 @@ module _ (layout : Layout) (l : Ledger) (v v' : WorldValue) (h : IsOf layout l v
       only = λ f there is. elim (Contains-append_cases l.counted (own.o.it ∷ []) f there) [
         | inl early ↦ a.only f early is
         | inr now ↦ (
-            let one = contains_one own.o.it f now in
+            let one = sym (contains_one own.o.it f now) in
             let its : p ≡ q = sym own.mine ∙ ap (λ (e : Placed). e.edit.process) one ∙ ap (λ (e : Edit). e.process) is ∙ a.mine in
             let open_same : own.o ≡ a.o = one_some (l.opens p) own.o a.o own.is (ap (λ x. l.opens x) its ∙ a.is) in
             sym one ∙ ap (λ (x : Open). x.it) open_same)

@@ -1,5 +1,5 @@
 -- An edit that was answered Overtaken never counts.
-use Rattle.std.proofs.Common.{ℕ, ◌≡◌, ◌<◌, List, [], ◌∷◌, ◌++◌, refl, ap, sym, ◌∙◌, subst, arith, inl, inr, zero, suc, length}
+use Rattle.std.proofs.Common.{ℕ, ◌≡◌, ◌<◌, List, [], ◌∷◌, ◌++◌, refl, ap, sym, ◌∙◌, subst, arith, inl, inr, length}
 use Rattle.std.specs.Prelude.{Contains}
 use Rattle.std.proofs.lemmas.List.{append-nil}
 use Rattle.std.proofs.lemmas.List.Elements.{All-contains, Contains-append_cases}
@@ -49,10 +49,7 @@ use Rattle.ds_core.specs.RecoveryEvents.{recovery_reply, RecoveryStepsBy}
 use Rattle.ds_core.specs.StepEvents.{edits, works, reports, recoveries}
 use Rattle.ds_core.proofs.Turns.{IsTurn, LeavesEdits, edit_turn, report_turn, report_begins_turn, stop_turn, work_leaves, work_begins_leaves, offer_leaves, recovery_turn, recovery_begins_turn}
 use Rattle.ds_core.proofs.Solo.{some_outcome}
-
-contains_one : (e f : Edit) → Contains (e ∷ []) f → f ≡ e
-contains_one e f (zero, lt, is) = sym is
-contains_one e f (suc k, lt, is) = absurd (omega arith)
+use Rattle.ds_state.proofs.Counting.{contains_one}
 
 module _ (old new : WorldValue) (sound : IsSound (world_of old)) (p n : ℕ) (spent : IsSpent (world_of old) p n) (out : IsOut (world_of old) p n) where
   abbrev Stays : Type 0

@@ -20,7 +20,7 @@ use Rattle.ds_core.specs.EditEvents.{EditStepsBy}
 use Rattle.ds_core.specs.Moments.{Placed, Closed, Ledger}
 use Rattle.ds_core.specs.LedgerSteps.{next_number}
 use Rattle.ds_core.specs.declared.reply.Reply.{Reply}
-use Rattle.ds_core.proofs.Closing.{contains_one}
+use Rattle.ds_state.proofs.Counting.{contains_one}
 use Rattle.ds_core.proofs.Headers.{SidesStay, sides_same, edit_sides}
 use Rattle.ds_core.proofs.Ledgers.{IsOf, doubts, one_some}
 use Rattle.ds_core.proofs.Traces as traces
@@ -82,7 +82,7 @@ module _ (layout : _) (l : Ledger) (v v' : WorldValue) (h : IsOf layout l v) (t 
 
       no_closed : (q : ℕ) (c : Closed) → l.told q ≡ Some c → (f : Placed) → Contains (x ∷ []) f → f.edit.process ≡ c.it.edit.process → f.edit.number ≡ c.it.edit.number → ⊥
       no_closed q c is f late same_process same_number =
-          let one : x ≡ f = contains_one x f late in
+          let one : x ≡ f = sym (contains_one x f late) in
           let its : p ≡ q = sym mine ∙ ap (λ (e : Placed). e.edit.process) one ∙ same_process ∙ (t.told q c is).process in
           apart c (ap l.told its ∙ is) (sym number ∙ ap (λ (e : Placed). e.edit.number) one ∙ same_number)
 

@@ -10,9 +10,9 @@ use Rattle.ds_state.specs.declared.stage.Stage.TheVariants.{StoreHeader, StoreTe
 use Rattle.ds_edit.specs.EditSteps.{access_at}
 use Rattle.ds_state.specs.CallsFit.{IsSheetOf}
 
-pub index_place : (layout : Layout) (e : PlainEdit) (i : ℕ) → IsSheetOf layout e → IsEdit e → i < length e.refs
+pub reference_named : (layout : Layout) (e : PlainEdit) (i : ℕ) → IsSheetOf layout e → IsEdit e → i < length e.refs
     → (slice_index_or e.refs i 0 < cells_of layout) × (e.cell / 64 < parts_of layout)
-index_place layout e i s is l =
+reference_named layout e i s is l =
     let r : slice_index_or e.refs i 0 < e.cells = All-get_or (λ r. r < e.cells) e.refs i 0 l is.refs in
     let c = is.cell in
     let k = s.cells in
@@ -27,8 +27,8 @@ named layout e s is (BackRecord left) h = tt
 named layout e s is StorePending h = rw s.processes is.process
 named layout e s is FlushPending h = rw s.processes is.process
 named layout e s is BackPending h = tt
-named layout e s is (OrIndex i) h = index_place layout e i s is h
-named layout e s is (FlushIndex i) h = index_place layout e i s is h
+named layout e s is (OrIndex i) h = reference_named layout e i s is h
+named layout e s is (FlushIndex i) h = reference_named layout e i s is h
 named layout e s is (BackIndex i) h = tt
 named layout e s is LoadHead h = rw s.cells is.cell
 named layout e s is (FlushNoted head) h = rw s.cells is.cell

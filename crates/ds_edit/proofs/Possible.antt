@@ -60,7 +60,7 @@ module _ (e : PlainEdit) (w : World) (low : e.process < w.layout.processes) wher
   buffered BackPending f = one (place.Announce e.process) (word_of w (edit_of e) pending) f.buffer low
   buffered (OrIndex i) f = tt
   buffered (FlushIndex i) f = room f.buffer
-  buffered (BackIndex i) f = one (index_place (slice_index_or e.refs i 0) e.cell) f.buffer.value f.buffer.alone (named.index_place w.layout (on e (BackIndex i)) i (record { cells = f.sheet.cells; processes = f.sheet.processes }) f.is f.is.stage)
+  buffered (BackIndex i) f = one (index_place (slice_index_or e.refs i 0) e.cell) f.buffer.value f.buffer.alone (named.reference_named w.layout (on e (BackIndex i)) i (record { cells = f.sheet.cells; processes = f.sheet.processes }) f.is f.is.stage)
   buffered LoadHead f = tt
   buffered (FlushNoted head) f = room f.buffer
   buffered (BackNoted head) f = one (place.Head e.cell) f.buffer.value f.buffer.alone (rw f.sheet.cells f.is.cell)

@@ -12,9 +12,10 @@ use Rattle.ds_layout.specs.Head.{head_word, head_of, next_head}
 use Rattle.ds_layout.specs.Header.{header_word}
 use Rattle.ds_layout.specs.TextWords.{part_word}
 use Rattle.ds_layout.specs.Announcement.{announcement_word}
-use Rattle.ds_layout.specs.Bits.{bit_of, part_with}
+use Rattle.ds_layout.specs.Bits.{bit_of}
 use Rattle.ds_state.specs.Edits.{PlainEdit, text_parts}
 use Rattle.ds_state.specs.Known.{phase_of}
+use Rattle.ds_state.specs.World.{done_place, index_place}
 use Rattle.ds_state.specs.declared.stage.Outcome.TheVariants as outcome
 use Rattle.ds_state.specs.declared.stage.Stage.{Stage}
 use Rattle.ds_state.specs.declared.stage.Stage.TheVariants.{StoreHeader, StoreText, FlushHeader, FlushText, BackRecord, StorePending, FlushPending, BackPending, OrIndex, FlushIndex, BackIndex, LoadHead, FlushNoted, BackNoted, OrDone, FlushDone, BackDone, Swap, FlushOwn, BackOwn, OrMark, FlushMark, BackMark, StoreOutcome, FlushOutcome, BackOutcome, Answer}
@@ -28,12 +29,8 @@ abbrev pub text_place : PlainEdit → ℕ → Place
 text_place e part = place.Text e.process e.number part
 
 -- the place of the word of a reference's index row that has the bit of the edit's cell
-abbrev pub index_place : PlainEdit → ℕ → Place
-index_place e i = place.Index (slice_index_or e.refs i 0) (part_with e.cell)
-
--- the place of the word of done bits that has the bit of the head's edit
-abbrev pub done_place : Head → Place
-done_place head = place.Done head.process (part_with head.number)
+abbrev pub reference_place : PlainEdit → ℕ → Place
+reference_place e i = index_place (slice_index_or e.refs i 0) e.cell
 
 -- the word of the head that follows this one, of the edit
 abbrev pub head_after : PlainEdit → ℕ → ℕ
@@ -53,14 +50,14 @@ access_at e (BackRecord left) = Back
 access_at e StorePending = Store (place.Announce e.process) (announced e phase.Pending)
 access_at e FlushPending = Flush (place.Announce e.process)
 access_at e BackPending = Back
-access_at e (OrIndex i) = Or (index_place e i) (bit_of e.cell)
-access_at e (FlushIndex i) = Flush (index_place e i)
+access_at e (OrIndex i) = Or (reference_place e i) (bit_of e.cell)
+access_at e (FlushIndex i) = Flush (reference_place e i)
 access_at e (BackIndex i) = Back
 access_at e LoadHead = Load (place.Head e.cell)
 access_at e (FlushNoted head) = Flush (place.Head e.cell)
 access_at e (BackNoted head) = Back
-access_at e (OrDone head) = Or (done_place head) (bit_of head.number)
-access_at e (FlushDone head) = Flush (done_place head)
+access_at e (OrDone head) = Or (done_place head.process head.number) (bit_of head.number)
+access_at e (FlushDone head) = Flush (done_place head.process head.number)
 access_at e (BackDone head) = Back
 access_at e (Swap noted) = SwapIf (place.Head e.cell) noted (head_after e noted)
 access_at e (FlushOwn own) = Flush (place.Head e.cell)

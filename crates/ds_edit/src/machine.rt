@@ -8,7 +8,8 @@ ghost use Rattle.ds_layout.specs.Header.{header_word};
 ghost use Rattle.ds_layout.specs.declared.layout.Layout.{Layout};
 ghost use Rattle.ds_layout.specs.SheetMemory.{NamesPlace};
 ghost use Rattle.ds_state.specs.CallsFit.{IsSheetOf};
-ghost use Rattle.ds_edit.specs.EditSteps.{access_at, next_at, got_at, head_after, announced, index_place, done_place, header_place, text_place, store_from, flush_from, back_from, index_from, help_from, swung_from, rank, Falls};
+ghost use Rattle.ds_state.specs.World.{done_place};
+ghost use Rattle.ds_edit.specs.EditSteps.{access_at, next_at, got_at, head_after, announced, reference_place, header_place, text_place, store_from, flush_from, back_from, index_from, help_from, swung_from, rank, Falls};
 
 use ds_layout::announcement::{Announcement, Phase};
 use ds_layout::bits;
@@ -45,13 +46,13 @@ fn text(call: &EditCall, part: usize) -> Place
 
 fn index(call: &EditCall, i: usize) -> Place
     requires { i < length call.now.refs }
-    ensures { result ≡ index_place call.now i }
+    ensures { result ≡ reference_place call.now i }
 {
     Place::Index(call.refs[i], bits::part(call.cell))
 }
 
 fn done(head: Head) -> Place
-    ensures { result ≡ done_place head }
+    ensures { result ≡ done_place head.process head.number }
 {
     Place::Done(head.process, bits::part(head.number))
 }

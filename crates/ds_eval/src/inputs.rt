@@ -197,13 +197,6 @@ impl Inputs {
     }
 }
 
-// Whether the first cell stands before the second one, row by row from the left.
-fn is_before(first: Cell, second: Cell) -> bool
-    ensures { IsTrue result ↔ IsBefore first second }
-{
-    first.row < second.row || (first.row == second.row && first.column < second.column)
-}
-
 // Where the cell is among ascending inputs: this place is tried first.
 fn find_near(inputs: &[Input], guess: usize, cell: Cell) -> Option<usize>
     requires { IsAscending inputs.now }
@@ -242,7 +235,7 @@ fn count_before(inputs: &[Input], cell: Cell) -> usize
     let mut high = inputs.len();
     while low < high {
         let middle = low + (high - low) / 2;
-        if is_before(inputs[middle].cell, cell) {
+        if inputs[middle].cell.is_before(cell) {
             low = middle + 1;
         } else {
             high = middle;

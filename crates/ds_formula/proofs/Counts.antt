@@ -17,7 +17,8 @@ depth_more : (fs : List Formula) (f : Formula) → depth_of (listed (fs ++ f ∷
 depth_more [] f = omega arith
 depth_more (g ∷ fs) f = let e = depth_more fs f in omega (arith, e)
 
-one_more : (ts : List Tree) (i : ℕ) (t : Tree) → i < length ts → t ≡ get_or ts i t → map formula (take (i + 1) ts) ≡ map formula (take i ts) ++ formula t ∷ []
+-- the plain views of one more of the arguments
+pub one_more : (ts : List Tree) (i : ℕ) (t : Tree) → i < length ts → t ≡ get_or ts i t → map formula (take (i + 1) ts) ≡ map formula (take i ts) ++ formula t ∷ []
 one_more ts i t h e = ap (map formula) (take_more ts i t h ∙ ap (λ (x : Tree). take i ts ++ x ∷ []) (sym e)) ∙ map-append formula (take i ts) (t ∷ [])
 
 pub nodes_step : (ts : List Tree) (i : ℕ) (t : Tree) → i < length ts → t ≡ get_or ts i t → nodes_of (listed (map formula (take (i + 1) ts))) ≡ nodes_of (listed (map formula (take i ts))) + nodes (formula t)

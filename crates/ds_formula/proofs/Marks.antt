@@ -4,7 +4,7 @@ use Rattle.std.proofs.Math.Bool.{or_assoc}
 use Rattle.std.proofs.Math.Seq.{get_or-append_seam}
 use Rattle.std.proofs.lemmas.Bool.{cases_lt, false≢true, leb-true, le-leb}
 use Rattle.std.proofs.lemmas.Bool.Decides.{Decides-and, Decides-or, Decides-like}
-use Rattle.std.proofs.lemmas.List.{take_more, take_all, map-append, get_or_append_left, get_or-replicate, append-nil}
+use Rattle.std.proofs.lemmas.List.{take_all, get_or_append_left, get_or-replicate, append-nil}
 use Rattle.std.proofs.lemmas.List.Elements.{Contains-get_or, Contains-push, Contains-push_cases, Contains-append_left}
 use Rattle.std.specs.List.{Contains, AllPairs}
 use Rattle.std.specs.Global.{Vec}
@@ -20,6 +20,7 @@ use Rattle.ds_formula.specs.Plain.{Formula, Literal, At, Area, Signed, Joined, C
 use Rattle.ds_formula.specs.Refs.{Mentions, SomeMentions, IsPossible, IsBefore, AreRefs}
 use Rattle.ds_formula.specs.Marks.{AreRowsOf, MarksArea, MarksRows, cell_by, is_within, mentions, some_mentions, marked_below, MarksBy, Marks}
 use Rattle.ds_formula.proofs.Views.{formula_call}
+use Rattle.ds_formula.proofs.Counts.{one_more}
 
 -- ---- marks of arguments
 
@@ -30,9 +31,6 @@ or_false false = refl
 some_more : (fs : List Formula) (f : Formula) (c : Cell) → some_mentions (listed (fs ++ f ∷ [])) c ≡ (some_mentions (listed fs) c || mentions f c)
 some_more [] f c = or_false (mentions f c)
 some_more (g ∷ fs) f c = ap (λ (x : Bool). mentions g c || x) (some_more fs f c) ∙ sym (or_assoc (mentions g c) (some_mentions (listed fs) c) (mentions f c))
-
-one_more : (ts : List Tree) (i : ℕ) (t : Tree) → i < length ts → t ≡ get_or ts i t → map formula (take (i + 1) ts) ≡ map formula (take i ts) ++ formula t ∷ []
-one_more ts i t h e = ap (map formula) (take_more ts i t h ∙ ap (λ (x : Tree). take i ts ++ x ∷ []) (sym e)) ∙ map-append formula (take i ts) (t ∷ [])
 
 pub marks_step : (ts : List Tree) (i : ℕ) (t : Tree) (a b d : List Bool) → i < length ts → t ≡ get_or ts i t → MarksBy (some_mentions (listed (map formula (take i ts)))) a b → Marks (formula t) b d
     → MarksBy (some_mentions (listed (map formula (take (i + 1) ts)))) a d

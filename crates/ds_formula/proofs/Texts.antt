@@ -1,6 +1,6 @@
 -- The text of one argument more.
 use Rattle.std.proofs.Common.{◌≡◌, ℕ, zero, suc, ◌+◌, ◌<◌, ◌≤◌, cond, is_ok, OnOk, Result, Ok, Err, List, [], ◌∷◌, ◌++◌, map, take, length, get_or, length-take, append_assoc, refl, sym, ap, ◌∙◌, arith}
-use Rattle.std.proofs.lemmas.List.{take_more, take_all, map-append, append-nil, length-map}
+use Rattle.std.proofs.lemmas.List.{take_all, append-nil, length-map}
 use Rattle.std.specs.Global.{Vec}
 use Rattle.ds_formula.specs.declared.content.Function.{Function}
 use Rattle.ds_formula.specs.declared.content.Tree.{Tree}
@@ -9,6 +9,7 @@ use Rattle.ds_formula.specs.Plain.{Formula, listed, formula}
 use Rattle.ds_formula.specs.Functions.{name_of}
 use Rattle.ds_formula.specs.Texts.{text_of, texts_of, others_of}
 use Rattle.ds_formula.proofs.Views.{formula_call}
+use Rattle.ds_formula.proofs.Counts.{one_more}
 
 others_more : (fs : List Formula) (f : Formula) → others_of (listed (fs ++ f ∷ [])) ≡ others_of (listed fs) ++ (59 ∷ text_of f)
 others_more [] f = ap (λ (x : List ℕ). 59 ∷ x) (append-nil (text_of f))
@@ -30,9 +31,6 @@ some_separator (suc n) h = refl
 texts_more : (fs : List Formula) (f : Formula) → texts_of (listed (fs ++ f ∷ [])) ≡ texts_of (listed fs) ++ (separator (length fs) ++ text_of f)
 texts_more [] f = append-nil (text_of f)
 texts_more (g ∷ fs) f = ap (λ (x : List ℕ). text_of g ++ x) (others_more fs f) ∙ sym (append_assoc (text_of g) (others_of (listed fs)) (59 ∷ text_of f))
-
-one_more : (ts : List Tree) (i : ℕ) (t : Tree) → i < length ts → t ≡ get_or ts i t → map formula (take (i + 1) ts) ≡ map formula (take i ts) ++ formula t ∷ []
-one_more ts i t h e = ap (map formula) (take_more ts i t h ∙ ap (λ (x : Tree). take i ts ++ x ∷ []) (sym e)) ∙ map-append formula (take i ts) (t ∷ [])
 
 texts_step : (ts : List Tree) (i : ℕ) (t : Tree) → i < length ts → t ≡ get_or ts i t → texts_of (listed (map formula (take (i + 1) ts))) ≡ texts_of (listed (map formula (take i ts))) ++ (separator i ++ text_of (formula t))
 texts_step ts i t h e =

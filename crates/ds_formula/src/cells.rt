@@ -41,6 +41,18 @@ pub struct Rect {
     pub last: Cell,
 }
 
+impl Cell {
+    ghost use Rattle.ds_formula.specs.Refs.{IsBefore};
+
+    /// Whether it comes before another one in reading order: row by row from the left.
+    #[inline(always)]
+    pub fn is_before(self, other: Cell) -> bool
+        ensures { IsTrue result ↔ IsBefore self other }
+    {
+        self.row < other.row || self.row == other.row && self.column < other.column
+    }
+}
+
 impl Shape {
     ghost use Rattle.ds_formula.specs.Cells.{IsInside, index_of, cell_at, count_of};
 

@@ -4,6 +4,7 @@
 pub mod cells;
 pub mod content;
 mod copies;
+pub mod decimal;
 pub mod fault;
 mod functions;
 mod names;

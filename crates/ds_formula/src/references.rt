@@ -14,14 +14,6 @@ use std::alloc::{AllocError, Global};
 // How many cells the widest columns and the most rows have: each has a mark, row by row from the left.
 const PLACES: usize = COLUMN_LIMIT * ROW_LIMIT;
 
-// Whether a cell comes before another one in reading order.
-#[inline(always)]
-fn is_before(one: Cell, other: Cell) -> bool
-    ensures { IsTrue result ↔ IsBefore one other }
-{
-    one.row < other.row || one.row == other.row && one.column < other.column
-}
-
 // Whether the cell comes behind all of these, which ascend.
 #[inline(always)]
 fn is_behind(cell: Cell, cells: &[Cell]) -> bool
@@ -30,7 +22,7 @@ fn is_behind(cell: Cell, cells: &[Cell]) -> bool
 {
     match cells {
         [] => true,
-        [.., last] => is_before(*last, cell),
+        [.., last] => last.is_before(cell),
     }
 }
 

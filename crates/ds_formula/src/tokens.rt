@@ -8,6 +8,7 @@ ghost use Rattle.ds_formula.specs.Tokens.{is_name_byte, word_length, name_at, le
 
 use crate::cells::{Cell, Rect, Shape};
 use crate::content::{Function, Operator, Sign};
+use crate::decimal::digits;
 use crate::fault::FaultKind;
 
 // How many letters there are: the base of the numbers that letters stand for.
@@ -105,26 +106,6 @@ pub(crate) fn skip(text: &[u8]) -> &[u8]
         rest = after;
     }
     rest
-}
-
-// The digits' number, or the greatest one where it is greater, and what is behind them.
-#[inline(always)]
-fn digits(text: &[u8]) -> (u64, &[u8])
-    ensures value { result.0 ≡ min (number_from 0 text.now).0 (2 ^ 64 - 1) }
-    ensures rest { result.1.now ≡ (number_from 0 text.now).1 }
-    ensures shorter { length result.1.now ≤ length text.now }
-{
-    let mut value = 0u64;
-    let mut rest = text;
-    while let [digit, after @ ..] = rest
-        && digit.is_ascii_digit()
-    {
-        value = value
-            .saturating_mul(10)
-            .saturating_add((digit - b'0') as u64);
-        rest = after;
-    }
-    (value, rest)
 }
 
 // Digits, at least one, of a whole number that is at most the limit.

@@ -7,6 +7,7 @@ use Rattle.serde_json.specs.Find.{get, as_str, as_number, as_u64}
 use Rattle.ds_formula.specs.declared.cells.Shape.{Shape}
 use Rattle.ds_formula.specs.Cells.{IsInside}
 use Rattle.ds_formula.specs.Names.{cell_named}
+use Rattle.ds_streams.specs.Fields.{◌>>=◌}
 use Rattle.ds_server.specs.declared.request.Verb.{Verb}
 use Rattle.ds_server.specs.declared.request.Verb.TheVariants as verb
 use Rattle.ds_server.specs.declared.request.LineFault.{LineFault}
@@ -24,12 +25,6 @@ abbrev pub IsNoJson : List ℕ → Type 0
 IsNoJson line = IsUtf8 line → read line ≡ None
 
 -- ---- fields
-
--- what the function gives of what is there, none where there is none
-infixl 10 ◌>>=◌
-abbrev pub ◌>>=◌ : {A B : Type 0} → Option A → (A → Option B) → Option B
-(Some x) >>= f = f x
-None >>= f = None
 
 -- the text of the field with this key, where the value is an object whose field that is, and it is a text
 abbrev pub text_field : List ℕ → Data → Option (List ℕ)

@@ -62,9 +62,9 @@ increasing_push (x ∷ es) e h below =
 subset_of : (a b : ℕ) → b ≡ a → IsSubset a b
 subset_of a b e = subst (λ (x : ℕ). IsSubset a x) (sym e) (IsSubset-same a)
 
-contains_one : (e f : Edit) → Contains (e ∷ []) f → f ≡ e
-contains_one e f (zero, lt, is) = sym is
-contains_one e f (suc k, lt, is) = absurd (omega arith)
+pub contains_one : {A : Type 0} (x e : A) → Contains (x ∷ []) e → e ≡ x
+contains_one x e (zero, lt, is) = sym is
+contains_one x e (suc k, lt, is) = absurd (omega arith)
 
 module _ (e : Edit) (issue : Issue) (old new : World) (c : Counts e issue old new) (may : MayCount old e) where
   cells : (cell : ℕ) → of_cell cell new.counted ≡ of_cell cell old.counted ++ of_cell cell (e ∷ [])

@@ -1,26 +1,17 @@
 -- A quiet world shows the values of the edits that count, from scratch.
-use Rattle.std.proofs.Common.{ℕ, ℤ, ◌≡◌, ◌<◌, ◌≤◌, ◌+◌, ◌⊎◌, List, [], ◌∷◌, refl, ap, sym, ◌∙◌, subst, arith, inl, inr, zero, suc, true, false, map, Some, None}
+use Rattle.std.proofs.Common.{ℕ, ◌≡◌, ◌<◌, ◌≤◌, ◌+◌, ◌⊎◌, List, [], ◌∷◌, refl, ap, sym, ◌∙◌, subst, arith, inl, inr, zero, suc, true, false, map, Some, None}
 use Rattle.std.specs.Prelude.{Bool, Option, if◌then◌else◌}
 use Rattle.std.specs.List.{range_with_len}
 use Rattle.std.proofs.lemmas.Bool.{false≢true}
 use Rattle.ds_eval.specs.declared.value.Value as values
-use Rattle.ds_eval.specs.Scratch.{IsScratch}
-use Rattle.ds_layout.specs.declared.stored.Kind.{Kind}
-use Rattle.ds_layout.specs.declared.stored.Kind.TheVariants as kinds
-use Rattle.ds_layout.specs.declared.place.Place.TheVariants as place
 use Rattle.ds_layout.specs.declared.place.Place.TheVariants.{Mark, Announce}
 use Rattle.ds_layout.specs.declared.announcement.Phase.TheVariants as phase
 use Rattle.ds_layout.specs.declared.announcement.Phase.{Phase}
 use Rattle.ds_layout.specs.declared.place.TheConstants.{RECORDS}
 use Rattle.ds_layout.specs.Announcement.{announcement_of}
-use Rattle.ds_layout.specs.Places.{cells_of}
-use Rattle.ds_layout.specs.Stored.{stored_of}
 use Rattle.ds_layout.proofs.Packed.{announcement_of-announcement_word}
 use Rattle.ds_state.specs.World.{Edit, Issue, edit_of, World, phase_among, is_edit_of, last_announcement, announcement}
-use Rattle.ds_state.specs.Standing as standing
-use Rattle.ds_state.specs.Standing.{shown_entry}
-use Rattle.ds_state.specs.Shown as shows
-use Rattle.ds_state.specs.Shown.{IsQuiet, value_at, values_shown}
+use Rattle.ds_state.specs.Shown.{IsQuiet, values_shown}
 use Rattle.ds_state.specs.CallsFit.{CallFits, DoubtFits}
 use Rattle.ds_state.specs.KnownShow.{pends, is_clean, IsPendingWord, moment_of, AreScratch, IsRight, IsStill}
 use Rattle.ds_state.specs.declared.situation.Situation.{Situation}
@@ -66,22 +57,11 @@ pub same_map : (f g : ℕ → values.Value) (a n : ℕ) → ((i : ℕ) → a ≤
 same_map f g a zero h = refl
 same_map f g a (suc n) h = ap (λ (x : values.Value). x ∷ map f (range_with_len (a + 1) n)) (h a (omega arith) (omega arith)) ∙ ap (λ (xs : List values.Value). g a ∷ xs) (same_map f g (a + 1) n (λ i l k. h i (omega arith) (omega arith)))
 
--- what a kind shows is said alike of a world and of an entry
-pub shown_same : (k : Kind) (z : ℤ) → standing.shown k z ≡ shows.shown k z
-shown_same kinds.Blank z = refl
-shown_same kinds.Number z = refl
-shown_same kinds.DivZero z = refl
-shown_same kinds.Num z = refl
-shown_same kinds.Circular z = refl
-
 pub quiet_shows : (w : World) → IsSound w → IsQuiet w → AreScratch w.layout.shape w.counted (values_shown w)
 quiet_shows w sound quiet =
     let right : IsRight w.layout.shape (moment_of w) = still_right w sound (quiet_still w sound quiet) in
-    let stored : ℕ → _ = λ c. stored_of (cells_of w.layout) (w.memory.cached (place.Value c)) (w.memory.cached (place.Kind c)) in
     record {
       sheet = right.sheet;
       is = right.is;
-      scratch = subst (λ (vs : List values.Value). IsScratch w.layout.shape right.sheet vs)
-          (same_map (λ c. (shown_entry (cells_of w.layout) (w.memory.cached (place.Value c)) (w.memory.cached (place.Kind c))).value) (λ c. value_at w.layout w.memory c) 0 (cells_of w.layout) (λ c l g. shown_same (stored c).kind (stored c).value))
-          right.scratch;
+      scratch = right.scratch;
     }

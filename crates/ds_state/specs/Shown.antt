@@ -1,19 +1,15 @@
 -- What a world shows.
-use Rattle.std.specs.Prelude.{ℕ, ℤ, ◌≡◌, ◌<◌, ◌-◌, ◌*◌, ◌++◌, List, [], ◌∷◌, length, map, take, min, Option, Some, None, zero, suc}
+use Rattle.std.specs.Prelude.{ℕ, ◌≡◌, ◌<◌, ◌-◌, ◌*◌, ◌++◌, List, [], ◌∷◌, length, map, take, min, Option, Some, None, zero, suc}
 use Rattle.std.specs.List.{range_with_len}
 use Rattle.ds_formula.specs.Cells.{index_of}
 use Rattle.ds_formula.specs.declared.cells.Cell.{Cell}
 use Rattle.ds_eval.specs.declared.value.Value.{Value}
-use Rattle.ds_eval.specs.declared.value.Value.TheVariants as value
 use Rattle.ds_words.specs.Memory.{Memory}
 use Rattle.ds_layout.specs.declared.layout.Layout.{Layout}
 use Rattle.ds_layout.specs.declared.place.Place.{Place}
 use Rattle.ds_layout.specs.declared.place.Place.TheVariants as place
 use Rattle.ds_layout.specs.declared.mark.Mark.{Mark}
 use Rattle.ds_layout.specs.declared.mark.State.TheVariants.{Clean}
-use Rattle.ds_layout.specs.declared.stored.Kind.{Kind}
-use Rattle.ds_layout.specs.declared.stored.Kind.TheVariants as kind
-use Rattle.ds_layout.specs.declared.stored.Stored.{Stored}
 use Rattle.ds_layout.specs.Places.{cells_of}
 use Rattle.ds_layout.specs.Mark.{mark_of, state_of}
 use Rattle.ds_layout.specs.Stored.{stored_of}
@@ -23,6 +19,7 @@ use Rattle.ds_layout.specs.Head.{head_of}
 use Rattle.ds_layout.specs.Header.{header_word, header_of}
 use Rattle.ds_layout.specs.TextWords.{part_word, bytes_of, parts_for}
 use Rattle.ds_state.specs.Edits.{text_parts}
+use Rattle.ds_state.specs.EntryWords.{shown_of}
 use Rattle.ds_state.specs.Stages.{point_at}
 use Rattle.ds_state.specs.Text.{IsText}
 use Rattle.ds_state.specs.World.{Edit, World}
@@ -37,18 +34,6 @@ mark_at layout memory cell = mark_of layout.processes (memory.cached (place.Mark
 -- the mark of the cell, as processes see it in this world
 abbrev pub mark_in : World → Cell → Mark
 mark_in w cell = mark_at w.layout w.memory (index_of w.layout.shape cell)
-
--- the value that a kind shows, where the value word has this number
-abbrev pub shown : Kind → ℤ → Value
-shown kind.Blank number = value.Blank
-shown kind.Number number = value.Number number
-shown kind.DivZero number = value.DivZero
-shown kind.Num number = value.Num
-shown kind.Circular number = value.Circular
-
--- the value that a cell's kind and number show
-abbrev pub shown_of : Stored → Value
-shown_of stored = shown stored.kind stored.value
 
 -- the value of the cell with this number, as processes see it
 abbrev pub value_at : Layout → Memory Place → ℕ → Value

@@ -6,7 +6,8 @@ ghost use Rattle.ds_formula.specs.Limits.{TEXT_MOST};
 ghost use Rattle.ds_layout.specs.Places.{cells_of};
 ghost use Rattle.ds_layout.specs.SheetMemory.{memory};
 ghost use Rattle.ds_layout.specs.TextWords.{parts_for};
-ghost use Rattle.ds_state.specs.Shown.{mark_at, shown_of, value_at, AllClean, parts_at, record_at, text_at};
+ghost use Rattle.ds_state.specs.EntryWords.{shown_of};
+ghost use Rattle.ds_state.specs.Shown.{mark_at, value_at, AllClean, parts_at, record_at, text_at};
 
 use ds_eval::value::Value;
 use ds_layout::head::Head;

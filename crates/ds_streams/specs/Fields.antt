@@ -1,8 +1,9 @@
 -- The words of a line as numbers and cells.
-use Rattle.std.specs.Prelude.{ℕ, ◌+◌, ◌-◌, ◌*◌, Bool, true, false, ◌&&◌, ◌==◌, not, nat_le, nat_lt, List, [], ◌∷◌, Option, Some, None, option_map, if◌then◌else◌}
+use Rattle.std.specs.Prelude.{ℕ, Bool, true, false, ◌&&◌, ◌==◌, not, nat_lt, List, [], ◌∷◌, Option, Some, None, option_map, if◌then◌else◌}
 use Rattle.std.specs.Borrow.{Bor}
 use Rattle.ds_formula.specs.declared.cells.Shape.{Shape}
 use Rattle.ds_formula.specs.declared.cells.Cell.{Cell}
+use Rattle.ds_formula.specs.Bytes.{number_from}
 use Rattle.ds_formula.specs.Names.{cell_named}
 use Rattle.ds_streams.specs.ScriptLines.{word_of}
 
@@ -13,15 +14,6 @@ abbrev pub ◌>>=◌ : {A B : Type 0} → Option A → (A → Option B) → Opti
 None >>= f = None
 
 -- ---- words
-
--- whether the byte is a decimal digit
-abbrev pub is_digit : ℕ → Bool
-is_digit b = nat_le 48 b && nat_le b 57
-
--- the number that the digits at the front give, after those that gave n so far, and what is behind them
-abbrev pub number_from : ℕ → List ℕ → ℕ × List ℕ
-number_from n [] = (n, [])
-number_from n (b ∷ bytes) = if is_digit b then number_from (10 * n + (b - 48)) bytes else (n, b ∷ bytes)
 
 -- whether there are no bytes
 abbrev pub is_empty : List ℕ → Bool

@@ -1,30 +1,13 @@
 //! Reads the words of a line: numbers and cells.
 
 ghost use Rattle.std.specs.Prelude.{◌≡◌, ◌-◌, ◌<◌, ◌≤◌, ◌^◌, ℕ, min, option_map, IfSome, IfOk};
-ghost use Rattle.ds_streams.specs.Fields.{number_from, number_below, field_view, number_field, cell_field, is_skipped};
+ghost use Rattle.ds_streams.specs.Fields.{number_below, field_view, number_field, cell_field, is_skipped};
 ghost use Rattle.ds_formula.specs.Cells.{IsInside};
 ghost use Rattle.ds_formula.specs.Limits.{CELLS_MOST};
 
 use crate::line::word;
 use ds_formula::cells::{Cell, Shape};
-
-// The number of the digits at the front, or the greatest one where it is greater, and what is behind them.
-fn digits(bytes: &[u8]) -> (u64, &[u8])
-    ensures value { result.0 ≡ min (number_from 0 bytes.now).0 (2 ^ 64 - 1) }
-    ensures rest { result.1.now ≡ (number_from 0 bytes.now).1 }
-{
-    let mut value = 0u64;
-    let mut rest = bytes;
-    while let [digit, after @ ..] = rest
-        && digit.is_ascii_digit()
-    {
-        value = value
-            .saturating_mul(10)
-            .saturating_add((digit - b'0') as u64);
-        rest = after;
-    }
-    (value, rest)
-}
+use ds_formula::decimal::digits;
 
 // A number in digits alone, leading zeros allowed, below the limit.
 fn number(limit: usize, word: &[u8]) -> Option<usize>

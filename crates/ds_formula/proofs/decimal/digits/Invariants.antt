@@ -1,6 +1,6 @@
 use Rattle.std.proofs.Common.{◌≡◌, ℕ, ◌-◌, ◌^◌, ◌≤◌, min, length}
 use Rattle.ds_formula.specs.Bytes.{number_from}
-use Rattle.ds_formula.proofs.tokens.digits.Given as goal
+use Rattle.ds_formula.proofs.decimal.digits.Given as goal
 
 -- some number, capped, was read so far
 abbrev pub invariant-loop-rest : goal.invariant-loop-rest
