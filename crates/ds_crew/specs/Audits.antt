@@ -32,7 +32,7 @@ pub record IsMissing (shape : Shape) (counted : List Edit) (receipts : List Plai
   pub first : IsFirstAt shape counted receipts place receipt
   pub none : Stands shape counted receipt → ⊥
 
--- the receipt at this place is the first that is not right: it tells of a counted edit, as one before it does
+-- the receipt at this place is the first that is not right: it tells of a counted edit, and the same one stands before it
 pub record IsTwice (shape : Shape) (counted : List Edit) (receipts : List PlainReceipt) (place : ℕ) : Type 0 where
   pub receipt : PlainReceipt
   pub first : IsFirstAt shape counted receipts place receipt

@@ -22,8 +22,8 @@ fn last_of(alloc: Global, world: &World, process: usize) -> Result<Vec<Value>, A
     Ok(last)
 }
 
-/// The values of each process's last settled report, each with room for those of the next one. An
-/// error is a want of memory.
+// The values of each process's last settled report, each with room for those of the next one. An
+// error is a want of memory.
 pub(crate) fn lasts_of(alloc: Global, world: &World) -> Result<Vec<Vec<Value>>, AllocError>
     ensures { IfOk result (λ v. AreLasts world.now (map (λ last. last.items) v.items)) }
 {
@@ -36,8 +36,8 @@ pub(crate) fn lasts_of(alloc: Global, world: &World) -> Result<Vec<Vec<Value>>, 
     Ok(lasts)
 }
 
-/// A pass for each process, in room that is there: the first one's shares have what the world has
-/// counted.
+// A pass for each process, in room that is there: the first one's shares have what the world has
+// counted.
 pub(crate) fn deal<L: Ledger, M: Ledger>(
     world: &World,
     lasts: Vec<Vec<Value>>,
@@ -67,7 +67,7 @@ pub(crate) fn deal<L: Ledger, M: Ledger>(
     passes
 }
 
-/// The shares of all passes together; `None` where there are no passes.
+// The shares of all passes together; `None` where there are no passes.
 pub(crate) fn gather<L: Ledger, M: Ledger>(passes: Vec<Pass<L, M>>) -> Option<(Share<L>, Share<M>)>
     ensures some { 0 < length passes.items → IsSome result }
     ensures dones { IfSome result (λ r. (r.0.parts ≡ length passes.items) × (r.0.amount ≡ dones_of passes.items)) }
@@ -122,7 +122,7 @@ fn keeps(world: &World, process: usize, last: &[Value]) -> bool
     }
 }
 
-/// The process of the first pass that keeps other values of its last settled report than the world.
+// The process of the first pass that keeps other values of its last settled report than the world.
 pub(crate) fn stray_of<L: Ledger, M: Ledger>(world: &World, passes: &[Pass<L, M>]) -> Option<usize>
     ensures { FirstStray world.now.reports passes.now result }
 {

@@ -35,7 +35,7 @@ pub(crate) struct Kept<L: Ledger, M: Ledger> {
     ghost settled: { world.settled ≡ settleds.total },
 }
 
-/// A world with its books.
+// A world with its books.
 pub(crate) fn kept_of<L: Ledger, M: Ledger>(
     world: World,
     dones: Book<L>,
@@ -64,7 +64,7 @@ fn replace(values: &mut Vec<Value>, by: &[Value])
 }
 
 impl<L: Ledger, M: Ledger> Kept<L, M> {
-    /// One event that is no step: it counts nothing.
+    // One event that is no step: it counts nothing.
     pub(crate) fn happen(&mut self, alloc: Global, event: &Event) -> Reply
         requires { IsNoStep event.now }
         ensures fits { Fits self.old.world event.now result self.new.world }
@@ -73,7 +73,7 @@ impl<L: Ledger, M: Ledger> Kept<L, M> {
         take(alloc, &mut self.world, event)
     }
 
-    /// A step of work or of a recovery: it counts nothing.
+    // A step of work or of a recovery: it counts nothing.
     pub(crate) fn step(&mut self, alloc: Global, process: usize, call: Call) -> Reply
         requires { CountsNothing call }
         ensures steps { StepsIn call process self.old.world result self.new.world }
@@ -82,7 +82,7 @@ impl<L: Ledger, M: Ledger> Kept<L, M> {
         step(alloc, &mut self.world, process, call)
     }
 
-    /// A step of an edit: a Done is counted in the share.
+    // A step of an edit: a Done is counted in the share.
     pub(crate) fn step_edit(&mut self, alloc: Global, process: usize, share: &mut Share<L>) -> Reply
         requires { 0 < share.old.parts }
         ensures steps { StepsIn Edit process self.old.world result self.new.world }
@@ -102,9 +102,9 @@ impl<L: Ledger, M: Ledger> Kept<L, M> {
         reply
     }
 
-    /// A step of a report: a Settled is counted in the share, and its values are the last ones from
-    /// then on. `NotEnabled` also where the last ones have too little room, or the sheet another number
-    /// of cells.
+    // A step of a report: a Settled is counted in the share, and its values are the last ones from
+    // then on. `NotEnabled` also where the last ones have too little room, or the sheet another number
+    // of cells.
     pub(crate) fn step_report(
         &mut self,
         alloc: Global,
@@ -138,12 +138,12 @@ impl<L: Ledger, M: Ledger> Kept<L, M> {
         reply
     }
 
-    /// The task that a process's work waits for, in memory of its own.
+    // The task that a process's work waits for, in memory of its own.
     pub(crate) fn task(&self, alloc: Global, process: usize) -> Result<Task, TaskFault> {
         task_of(alloc, &self.world, process)
     }
 
-    /// The first cell that is marked, from this one on, by its number.
+    // The first cell that is marked, from this one on, by its number.
     pub(crate) fn next_marked(&self, from: usize) -> Option<usize>
         ensures { IfSome result (λ cell. from ≤ cell) }
     {
@@ -155,7 +155,7 @@ impl<L: Ledger, M: Ledger> Kept<L, M> {
         None
     }
 
-    /// The world, whose counts are those of shares with all parts.
+    // The world, whose counts are those of shares with all parts.
     pub(crate) fn closed(self, dones: Share<L>, settleds: Share<M>) -> World
         requires dones { dones.parts ≡ L.parts }
         requires settleds { settleds.parts ≡ M.parts }

@@ -37,7 +37,7 @@ impl<L: Ledger, M: Ledger> Model for Pass<L, M> {
     ghost invariant = { λ p. (p.dones.parts ≡ 1) × (p.settleds.parts ≡ 1) };
 }
 
-/// A pass of one part of both counts, with no calls yet.
+// A pass of one part of both counts, with no calls yet.
 pub(crate) fn pass_of<L: Ledger, M: Ledger>(
     process: usize,
     last: Vec<Value>,
@@ -64,7 +64,7 @@ impl<L: Ledger, M: Ledger> Pass<L, M> {
         self.process
     }
 
-    /// The pass was used for one call more, which this event began, and which had this as its last reply.
+    // The pass was used for one call more, which this event began, and which had this as its last reply.
     pub(crate) fn remember(&mut self, begin: &Event, reply: &Reply)
         ensures { self.new ≡ asked self.old begin.now reply.now }
     {

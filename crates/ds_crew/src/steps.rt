@@ -48,8 +48,8 @@ fn is_in(world: &World, process: usize, call: Call) -> bool
     process < world.situations.len() && call_in(&world.situations[process]) == Some(call)
 }
 
-/// The next step of a process's call, where that is this one; else nothing happens, and the reply is
-/// `NotEnabled`.
+// The next step of a process's call, where that is this one; else nothing happens, and the reply is
+// `NotEnabled`.
 pub(crate) fn step(alloc: Global, world: &mut World, process: usize, call: Call) -> Reply
     ensures steps { StepsIn call process world.old result world.new }
     ensures reply { IsStepOf call result }

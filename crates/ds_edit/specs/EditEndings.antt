@@ -10,7 +10,7 @@ use Rattle.ds_edit.specs.declared.answer.Other.{Other}
 use Rattle.ds_edit.specs.declared.answer.Answer.{Answer}
 use Rattle.ds_edit.specs.declared.answer.Answer.TheVariants.{Done, Overtaken}
 
--- the edit of a head; a word that is no head is read as edit 0 of process 0, and no sound sheet shows one
+-- the edit of a head; a word that is no head is read as edit 0 of process 0, and no edit of a sound sheet has met one
 abbrev pub other_of : Option Head → Other
 other_of None = record { process = 0; number = 0 }
 other_of (Some head) = record { process = head.process; number = head.number }

@@ -1,4 +1,4 @@
--- The value of a formula where the values of the cells are known (OpenFormula, our profile).
+-- The value of a formula where the values of the cells are known (OpenFormula 6, our profile).
 use Rattle.std.specs.Prelude.{ℕ, zero, suc, ◌+◌, ◌-◌, ◌*◌, ◌/◌, ◌%◌, min, nat_lt, nat_le, pos, Bool, ◌&&◌, if◌then◌else◌, List, [], ◌∷◌, ◌++◌, map}
 use Rattle.std.specs.Ordering.{int_eq}
 use Rattle.ds_formula.specs.declared.cells.Shape.{Shape}

@@ -37,7 +37,7 @@ fn look(shape: Shape, inputs: &Inputs, cell: Cell) -> Entry
     }
 }
 
-/// The value of a formula (OpenFormula, our profile), and one more than the greatest height of a cell written in it, at
+/// The value of a formula (OpenFormula 6, our profile), and one more than the greatest height of a cell written in it, at
 /// most the number of cells. It recurses over the formula alone.
 #[cycle(evaluation)]
 pub fn evaluate(tree: &Tree, shape: Shape, inputs: &Inputs) -> Entry

@@ -150,7 +150,7 @@ impl Inputs {
         }
     }
 
-    /// The entry of the input so many behind the one with this number.
+    // The entry of the input so many behind the one with this number.
     pub(crate) fn at(&self, place: usize, k: usize) -> Entry
         requires { place + k < length self.now.items }
         ensures { result ≡ entry_in self.now.items (cell_in self.now.items (place + k)) }
@@ -165,7 +165,7 @@ impl Inputs {
             .saturating_add(cell.column)
     }
 
-    /// Where the rows of a range are likely to begin: the place of the first one, and how far apart they are.
+    // Where the rows of a range are likely to begin: the place of the first one, and how far apart they are.
     pub(crate) fn rows_of(&self, first: Cell, width: usize) -> (usize, usize) {
         if self.columns > 0 {
             (self.guess(first), self.columns)
@@ -174,8 +174,8 @@ impl Inputs {
         }
     }
 
-    /// From which place on the inputs are this cell and those to its right, so many as the width says. This place is
-    /// tried first; `None` where one of the cells is missing.
+    // From which place on the inputs are this cell and those to its right, so many as the width says. This place is
+    // tried first; `None` where one of the cells is missing.
     pub(crate) fn row_at(&self, first: Cell, width: usize, near: usize) -> Option<usize>
         requires { first.column + width ≤ COLUMNS_MOST }
         ensures within { IfSome result (λ place. place + width ≤ length self.now.items) }

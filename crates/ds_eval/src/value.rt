@@ -9,9 +9,9 @@ pub enum Value {
     Blank,
     /// A whole number.
     Number(i64),
-    /// A division by 0: OpenFormula's `#DIV/0!`.
+    /// A division by 0: `#DIV/0!` (OpenFormula 4.6 and 5.12).
     DivZero,
-    /// A result that is no whole number from -2^63 to 2^63-1: OpenFormula's `#NUM!`.
+    /// A result that is no whole number from -2^63 to 2^63-1: `#NUM!` (OpenFormula 4.6 and 5.12).
     Num,
     /// References that can be followed for ever: LibreOffice's `Err:522`.
     Circular,

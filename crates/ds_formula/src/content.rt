@@ -2,7 +2,7 @@
 
 use crate::cells::{Cell, Rect};
 
-/// What a cell holds: OpenFormula's empty cell, number or formula.
+/// What a cell holds: nothing (OpenFormula 4.7), a number (4.3) or a formula (5.2).
 #[derive(Debug, Drop)]
 pub enum Content {
     /// Nothing: the empty text.
@@ -62,7 +62,7 @@ pub enum Operator {
     GreaterOrEqual,
 }
 
-/// A function of OpenFormula.
+/// A function (OpenFormula 6.15 and 6.16, 6.18).
 #[derive(Clone, Copy, Debug, PartialEq, Eq)]
 pub enum Function {
     /// `SUM`: the sum of its numbers.

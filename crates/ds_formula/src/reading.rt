@@ -121,7 +121,7 @@ fn fits(tree: &Tree) -> bool
 }
 
 /// Reads what a cell holds from its text: an empty text is blank, a text that begins with `=` or `of:=` is a formula
-/// (OpenFormula 5), any other one a constant.
+/// (OpenFormula 5.2), any other one a constant.
 ///
 /// The first fault from the left is answered: `TooLong` before all else, then what is wrong with a token, then
 /// `RangeNotAllowed`, then `TooDeep`. `NoMemory` says nothing of the text.

@@ -2,6 +2,7 @@
 
 ghost use Rattle.std.specs.Prelude.{◌≡◌, ◌*◌, ◌<◌, ◌≤◌, ◌↔◌, IsTrue, IsSome, IfSome, IfOk};
 ghost use Rattle.ds_formula.specs.Limits.{CELLS_MOST, EDITS_MOST, PROCESSES_MOST, TEXT_MOST};
+ghost use Rattle.ds_layout.specs.Bits.{parts_for};
 ghost use Rattle.ds_layout.specs.declared.place.TheConstants as places;
 ghost use Rattle.ds_layout.specs.declared.layout.TheConstants as constants;
 
@@ -274,4 +275,6 @@ pub fn constants_are_limits()
     ensures edits { places.RECORDS ≡ EDITS_MOST }
     ensures text { 8 * places.TEXT_PARTS ≡ TEXT_MOST }
     ensures processes { constants.PROCESS_LIMIT ≡ PROCESSES_MOST }
+    ensures row { places.ROW_PARTS ≡ parts_for CELLS_MOST }
+    ensures done { places.DONE_PARTS ≡ parts_for EDITS_MOST }
 {}

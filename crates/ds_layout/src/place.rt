@@ -3,6 +3,7 @@
 ghost use Rattle.std.specs.Prelude.{◌≡◌};
 ghost use Rattle.ds_layout.specs.Places.{class_of};
 
+use ds_formula::cells::CELL_LIMIT;
 use ds_formula::reading::TEXT_LIMIT;
 use ds_words::access::Class;
 
@@ -11,6 +12,9 @@ pub const RECORDS: usize = 256;
 
 /// How many words the text of a record has, eight bytes each.
 pub const TEXT_PARTS: usize = TEXT_LIMIT / 8;
+
+/// How many words a row of the index has at most, 64 bits each: one bit for each cell.
+pub const ROW_PARTS: usize = CELL_LIMIT / 64;
 
 /// How many words the done bits of a process have, 64 bits each: one bit for each record.
 pub const DONE_PARTS: usize = RECORDS / 64;

@@ -180,6 +180,33 @@ fn marked_meanwhile(rt: HostRuntime) -> Result<(), Fail> {
     play(rt.alloc(), &MARKED_MEANWHILE)
 }
 
+// B1 is recalculated between the store of A1's number and A1's mark of it: it reads the new number and is published.
+// The mark that comes behind costs one more work, which changes nothing.
+const RECALCULATED_BETWEEN: [Row; 17] = [
+    Row::Call(Action::Edit(0, B1, "=[.A1]+1"), Answer::Done(0)),
+    Row::Call(Action::Edit(0, A1, "5"), Answer::Done(1)),
+    Row::Settle(0),
+    Row::Call(Action::Edit(0, A1, "6"), Answer::Done(2)),
+    Row::Call(Action::Edit(0, B1, "=[.A1]+1"), Answer::Done(3)),
+    Row::Event(Action::Work(1, A1), Reply::Entered),
+    Row::Steps(1, 10, Reply::Stepped),
+    Row::Event(Action::Offer(1), Reply::Stepped),
+    Row::Steps(1, 2, Reply::Stepped),
+    Row::Word(Place::Value(0), 6, 5),
+    Row::Call(Action::Work(0, B1), Answer::Published(true)),
+    Row::Value(B1, Value::Number(7)),
+    Row::State(B1, State::Clean),
+    Row::End(1, Answer::Published(true)),
+    Row::State(B1, State::Marked),
+    Row::Call(Action::Work(0, B1), Answer::Published(false)),
+    Row::Settled(0, [Value::Number(6), Value::Number(7), BLANK, BLANK]),
+];
+
+#[test]
+fn recalculated_between(rt: HostRuntime) -> Result<(), Fail> {
+    play(rt.alloc(), &RECALCULATED_BETWEEN)
+}
+
 // 119 bytes, with references to three cells; a last space makes it 120.
 const LONG: &str =
     "=SUM([.A1:.B1];[.A2];1000000000;2000000000;3000000000;4000000000;5000000000;6000000000;7000000000;8000000000;900000000) ";

@@ -31,10 +31,10 @@ fn is_of_connection(kind: ErrorKind) -> bool
     }
 }
 
-/// The next connection. One that breaks off before it is taken is a line in the log, and the one behind it is waited
-/// for. Any other failure, as where no descriptor is free, is a line in the log, too, and a rest: a connection may be
-/// taken when another one has ended. An error is that of the listener, which has failed so 101 times one behind another,
-/// within some ten seconds or more.
+// The next connection. One that breaks off before it is taken is a line in the log, and the one behind it is waited
+// for. Any other failure, as where no descriptor is free, is a line in the log, too, and a rest: a connection may be
+// taken when another one has ended. An error is that of the listener, which has failed so 101 times one behind another,
+// within some ten seconds or more.
 pub(crate) fn next_connection<R: Wait + Clock + Log>(
     rt: &R,
     listener: &TcpListener,

@@ -36,7 +36,7 @@ pub fn gathered<L: Ledger, M: Ledger, R: Wait>(
     Ok(passes)
 }
 
-/// Puts a pass back into the queue of its process, where the row has one for it.
+// Puts a pass back into the queue of its process, where the row has one for it.
 pub(crate) fn put_back<L: Ledger, M: Ledger, R: Wait>(
     rt: &R,
     queues: &[ArrayQueue<Pass<L, M>>],

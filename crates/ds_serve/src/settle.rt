@@ -42,8 +42,8 @@ fn pass_over<L: Ledger, M: Ledger, R: Wait>(
     Ok(from > 0)
 }
 
-/// Works on the cells that are marked, in at most N + 2 passes over the N cells, until a pass finds
-/// none. An error is why the begin of a work was refused, or that memory was wanting in one.
+// Works on the cells that are marked, in at most N + 2 passes over the N cells, until a pass finds
+// none. An error is why the begin of a work was refused, or that memory was wanting in one.
 pub(crate) fn settle<L: Ledger, M: Ledger, R: Wait>(
     rt: &R,
     alloc: Global,

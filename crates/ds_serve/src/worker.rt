@@ -36,8 +36,8 @@ fn round<L: Ledger, M: Ledger, R: Wait>(
     from > 0
 }
 
-/// Takes the pass of the queue at this place, if there is one, and goes round the cells with it until it is told to
-/// stop. It rests where it finds none that is marked. In the end the pass is in the queue again.
+// Takes the pass of the queue at this place, if there is one, and goes round the cells with it until it is told to
+// stop. It rests where it finds none that is marked. In the end the pass is in the queue again.
 pub(crate) fn work_on<L: Ledger, M: Ledger, R: Wait + Clock>(
     rt: &R,
     alloc: Global,

@@ -3,12 +3,9 @@
 ghost use Rattle.std.specs.Prelude.{◌≡◌, ◌<◌, ◌++◌, length, [], ◌∷◌};
 
 use arrayvec::ArrayVec;
-use ds_formula::cells::CELL_LIMIT;
+use ds_layout::place::ROW_PARTS;
 use std::fmt;
 use std::marker::Model;
-
-/// How many words a row has at most: one bit for each of 1,024 cells.
-pub const ROW_PARTS: usize = CELL_LIMIT / 64;
 
 /// The words of an index row that were loaded, in place: it takes no memory.
 #[derive(Drop)]

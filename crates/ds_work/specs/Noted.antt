@@ -8,7 +8,7 @@ use Rattle.ds_layout.specs.declared.mark.State.TheVariants.{Clean, Marked, Held}
 use Rattle.ds_layout.specs.Header.{header_of}
 use Rattle.ds_layout.specs.Mark.{mark_of, state_of, generation_of, held_after}
 use Rattle.ds_layout.specs.TextWords.{bytes_of}
-use Rattle.ds_state.specs.declared.row.TheConstants.{ROW_PARTS}
+use Rattle.ds_layout.specs.declared.place.TheConstants.{ROW_PARTS}
 use Rattle.ds_state.specs.Works.{PlainWork, SEEN_MOST}
 use Rattle.ds_state.specs.Standing.{shown_entry}
 use Rattle.ds_state.specs.declared.work.Spread.TheVariants.{LoadRow}
