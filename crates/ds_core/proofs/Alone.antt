@@ -1,10 +1,9 @@
 -- A call that is alone, and makes enough steps, is answered as it may be.
 use Rattle.std.proofs.Common.{ℕ, ◌≡◌, ◌<◌, ◌≤◌, ◌+◌, ◌*◌, ◌/◌, List, [], ◌∷◌, sym, subst, arith, zero, suc, length, Some}
 use Rattle.std.specs.Prelude.{slice_get}
-use Rattle.ds_layout.specs.declared.place.Place.TheVariants.{Mark}
 use Rattle.ds_state.specs.Edits.{PlainEdit}
+use Rattle.ds_state.specs.World.{World}
 use Rattle.ds_state.specs.Works.{PlainWork}
-use Rattle.ds_layout.specs.Mark.{IsClean}
 use Rattle.ds_state.specs.Value.{WorldValue, world_of}
 use Rattle.ds_state.specs.Sound.{IsSound}
 use Rattle.ds_state.specs.declared.stage.Stage.TheVariants.{StoreHeader}
@@ -13,7 +12,7 @@ use Rattle.ds_state.specs.declared.situation.Situation.TheVariants.{Editing, Wor
 use Rattle.ds_work.specs.WorkAlone.{IsMarkedAt}
 use Rattle.ds_core.specs.Takes.{WorldRun}
 use Rattle.ds_core.specs.Own.{own_steps, IsUnhalted, AreUnhalted, IsInCall}
-use Rattle.ds_core.specs.Solo.{IsSoloEvent, IsSolo, IsDoneOnly, AreDoneOnly, IsLoneEvent, IsLone, IsLoneAnswer, IsLoneReply, AreLoneReplies, StandsInOwnRow}
+use Rattle.ds_core.specs.Solo.{IsSoloEvent, IsSolo, IsDoneOnly, AreDoneOnly, IsLoneEvent, IsLone, IsLoneAnswer, IsLoneReply, AreLoneReplies}
 use Rattle.ds_core.specs.Headline.{Happens}
 use Rattle.ds_core.specs.declared.event.Event.{Event}
 use Rattle.ds_core.specs.declared.event.Event.TheVariants.{Step, Stop, Crash}
@@ -60,17 +59,17 @@ lone_unhalted p (event ∷ events) lone = (one event lone.0, lone_unhalted p eve
     one Crash lone = absurd lone
     one _ lone = tt
 
-lone_there : (P Q : Type 0) (replies : List Reply) (k : ℕ) (answer : Answer) → AreLoneReplies P Q replies → slice_get replies k ≡ Some (Answered answer) → IsLoneAnswer P Q answer
-lone_there P Q [] k answer all is = absurd (cc)
-lone_there P Q (reply ∷ replies) zero answer all is = let same : reply ≡ Answered answer = cc in subst (λ (r : Reply). IsLoneReply P Q r) same all.0
-lone_there P Q (reply ∷ replies) (suc k) answer all is = lone_there P Q replies k answer all.1 is
+lone_there : (first last : World) (cell : ℕ) (replies : List Reply) (k : ℕ) (answer : Answer) → AreLoneReplies first last cell replies → slice_get replies k ≡ Some (Answered answer) → IsLoneAnswer first last cell answer
+lone_there first last cell [] k answer all is = absurd (cc)
+lone_there first last cell (reply ∷ replies) zero answer all is = let same : reply ≡ Answered answer = cc in subst (λ (r : Reply). IsLoneReply first last cell r) same all.0
+lone_there first last cell (reply ∷ replies) (suc k) answer all is = lone_there first last cell replies k answer all.1 is
 
 pub lone_answered : (old : WorldValue) (events : List Event) (replies : List Reply) (new : WorldValue) (p : ℕ) (e : PlainWork) → IsSound (world_of old) → p < old.sheet.layout.processes
     → (world_of old).situation p ≡ Working e → e.stage ≡ LoadMark → IsMarkedAt (world_of old) e → WorldRun old events replies new → IsLone p events
     → 5 * e.cells + (e.cells + 63) / 64 + 36 ≤ own_steps p events replies
     → (k : ℕ) × (answer : Answer) × Happens events replies k (Step p) (Answered answer)
-    × IsLoneAnswer (IsClean ((world_of new).memory.cached (Mark e.cell))) (StandsInOwnRow (world_of old) e.cell) answer
+    × IsLoneAnswer (world_of old) (world_of new) e.cell answer
 lone_answered old events replies new p e sound low at first marked run lone enough =
     let few = work_left old p e at first in
     let f = answered old events replies new p sound low (subst IsInCall (sym at) tt) run (lone_unhalted p events lone) (omega (arith, few, enough)) in
-    (f.k, f.answer, f.happens, lone_there (IsClean ((world_of new).memory.cached (Mark e.cell))) (StandsInOwnRow (world_of old) e.cell) replies f.k f.answer (lone_publishes old events replies new p e sound low at first marked run lone) f.happens.reply_is)
+    (f.k, f.answer, f.happens, lone_there (world_of old) (world_of new) e.cell replies f.k f.answer (lone_publishes old events replies new p e sound low at first marked run lone) f.happens.reply_is)

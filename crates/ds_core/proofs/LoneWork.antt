@@ -1,7 +1,9 @@
 -- Work that is alone publishes its value, or says why it does not.
-use Rattle.std.proofs.Common.{ℕ, ◌≡◌, ◌<◌, ◌/◌, ◌⊎◌, List, [], ◌∷◌, refl, ap, sym, ◌∙◌, subst, inl, inr}
-use Rattle.ds_layout.specs.declared.place.Place.TheVariants.{Mark, Index}
+use Rattle.std.proofs.Common.{ℕ, ◌≡◌, ◌<◌, ◌/◌, ◌⊎◌, List, [], ◌∷◌, refl, ap, sym, ◌∙◌, subst, inl, inr, true, false}
+use Rattle.ds_layout.specs.declared.place.Place.{Place}
+use Rattle.ds_layout.specs.declared.place.Place.TheVariants.{Mark, Value, Kind, Index}
 use Rattle.ds_layout.specs.Mark.{IsClean}
+use Rattle.ds_state.specs.World.{World}
 use Rattle.ds_state.specs.Works.{PlainWork, PlainShow, PlainRecovery}
 use Rattle.ds_state.specs.Edits.{PlainEdit}
 use Rattle.ds_state.specs.Sound.{IsSound}
@@ -18,7 +20,10 @@ use Rattle.ds_state.specs.declared.situation.Situation.TheVariants.{Idle, Editin
 use Rattle.ds_work.specs.WorkTakes as work_events
 use Rattle.ds_work.specs.declared.drive.Taken.{Taken}
 use Rattle.ds_work.specs.declared.drive.Taken.TheVariants as taken
-use Rattle.ds_work.specs.WorkAlone.{IsMarkedAt, IsAloneAt, IsAlone, EndsAlone, GoesAlone}
+use Rattle.ds_work.specs.WorkAnswers.{mark_now}
+use Rattle.ds_work.specs.WorkShows.{CellWords, shown_in, EndsShowing, ShowsAt}
+use Rattle.ds_work.specs.WorkAlone.{IsMarkedAt, IsAloneAt, IsAlone, RefersToItself, EndsAlone, GoesAlone}
+use Rattle.ds_work.proofs.WorkShows.{shown_same}
 use Rattle.ds_work.proofs.WorkAlone.{turn_alone, offer_alone, same_sees}
 use Rattle.ds_core.specs.StepEvents.{edits, works, reports, recoveries}
 use Rattle.ds_core.specs.Takes.{Takes, WorldRun}
@@ -31,20 +36,20 @@ use Rattle.ds_core.specs.declared.reply.Reply.TheVariants.{Stepped, Answered, Wr
 
 -- ---- it is over
 
--- nothing is answered any more, and the marks stay
-record IsOver (P Q : Type 0) (p : ℕ) (reply : Reply) (old new : WorldValue) : Type 0 where
-  silent : IsLoneReply P Q reply
+-- nothing is answered any more, and all words stay
+record IsOver (first last : World) (cell p : ℕ) (reply : Reply) (old new : WorldValue) : Type 0 where
+  silent : IsLoneReply first last cell reply
   idle : (n : ℕ) → (world_of old).situation p ≡ Idle n → (world_of new).situation p ≡ Idle n
-  marks : (c : ℕ) → (world_of new).memory.cached (Mark c) ≡ (world_of old).memory.cached (Mark c)
+  words : (r : Place) → (world_of new).memory.cached r ≡ (world_of old).memory.cached r
 
-module _ (P Q : Type 0) (p n : ℕ) (old new : WorldValue) (idle : (world_of old).situation p ≡ Idle n) where
-  nothing : (reply : Reply) → IsLoneReply P Q reply → new ≡ old → IsOver P Q p reply old new
-  nothing reply silent same = subst (λ (v : WorldValue). IsOver P Q p reply old v) (sym same) (record { silent = silent; idle = λ k is. is; marks = λ c. refl })
+module _ (first last : World) (cell p n : ℕ) (old new : WorldValue) (idle : (world_of old).situation p ≡ Idle n) where
+  nothing : (reply : Reply) → IsLoneReply first last cell reply → new ≡ old → IsOver first last cell p reply old new
+  nothing reply silent same = subst (λ (v : WorldValue). IsOver first last cell p reply old v) (sym same) (record { silent = silent; idle = λ k is. is; words = λ r. refl })
 
   idle_at : (q : ℕ) → q ≡ p → (world_of old).situation q ≡ Idle n
   idle_at q same = ap (λ x. (world_of old).situation x) same ∙ idle
 
-  over : (event : Event) (reply : Reply) → Takes old event reply new → IsLoneEvent p event → IsOver P Q p reply old new
+  over : (event : Event) (reply : Reply) → Takes old event reply new → IsLoneEvent p event → IsOver first last cell p reply old new
   over (Step q) Stepped (edits h) same = absurd (let bad : Idle n ≡ Editing h.edit = sym (idle_at q same) ∙ h.at in cc)
   over (Step q) Stepped (works h) same = absurd (let bad : Idle n ≡ Working h.steps.work = sym (idle_at q same) ∙ h.steps.works in cc)
   over (Step q) Stepped (reports h) same = absurd (let bad : Idle n ≡ Showing h.steps.show = sym (idle_at q same) ∙ h.steps.at in cc)
@@ -55,39 +60,39 @@ module _ (P Q : Type 0) (p n : ℕ) (old new : WorldValue) (idle : (world_of old
   over (Step q) (Answered answer) (recoveries h) same = absurd (let bad : Idle n ≡ Recovering h.steps.recovery = sym (idle_at q same) ∙ h.steps.at in cc)
   over (Step q) NotEnabled h same = nothing NotEnabled tt h.same
   over (Step q) _ h same = absurd h
-  over (Evict r) Evicted h same = record { silent = tt; idle = λ k is. h.evicts.situation p ∙ is; marks = λ c. h.evicts.memory.cached (Mark c) }
+  over (Evict r) Evicted h same = record { silent = tt; idle = λ k is. h.evicts.situation p ∙ is; words = λ x. h.evicts.memory.cached x }
   over (Evict r) NotEnabled h same = nothing NotEnabled tt h.same
   over (Evict r) _ h same = absurd h
   over (Offer value) Stepped h same = absurd (let bad : Idle n ≡ Working h.offered.work = sym (idle_at value.task.process same) ∙ h.offered.waits.works in cc)
   over (Offer value) WrongTask h same = nothing WrongTask tt h.same
   over (Offer value) _ h same = absurd h
   over (BeginEdit r) reply h same = absurd same
-  over (BeginWork q cell) reply h same = absurd same
+  over (BeginWork q c) reply h same = absurd same
   over (BeginShow q) reply h same = absurd same
   over (BeginRecover q) reply h same = absurd same
   over (Stop q) reply h same = absurd same
   over Crash reply h same = absurd same
 
-rest : (P Q : Type 0) (events : List Event) (replies : List Reply) (old new : WorldValue) (p n : ℕ) → (world_of old).situation p ≡ Idle n → WorldRun old events replies new → IsLone p events
-    → AreLoneReplies P Q replies × ((c : ℕ) → (world_of new).memory.cached (Mark c) ≡ (world_of old).memory.cached (Mark c))
-rest P Q [] [] old new p n idle run lone = (tt, λ c. ap (λ (v : WorldValue). (world_of v).memory.cached (Mark c)) run)
-rest P Q (event ∷ events) (reply ∷ replies) old new p n idle run lone =
-    let one = over P Q p n old run.0 idle event reply run.1.takes lone.0 in
-    let more = rest P Q events replies run.0 new p n (one.idle n idle) run.2 lone.1 in
-    ((one.silent, more.0), λ c. more.1 c ∙ one.marks c)
-rest P Q [] (reply ∷ replies) old new p n idle run lone = absurd run
-rest P Q (event ∷ events) [] old new p n idle run lone = absurd run
+rest : (first last : World) (cell : ℕ) (events : List Event) (replies : List Reply) (old new : WorldValue) (p n : ℕ) → (world_of old).situation p ≡ Idle n → WorldRun old events replies new → IsLone p events
+    → AreLoneReplies first last cell replies × ((r : Place) → (world_of new).memory.cached r ≡ (world_of old).memory.cached r)
+rest first last cell [] [] old new p n idle run lone = (tt, λ r. ap (λ (v : WorldValue). (world_of v).memory.cached r) run)
+rest first last cell (event ∷ events) (reply ∷ replies) old new p n idle run lone =
+    let one = over first last cell p n old run.0 idle event reply run.1.takes lone.0 in
+    let more = rest first last cell events replies run.0 new p n (one.idle n idle) run.2 lone.1 in
+    ((one.silent, more.0), λ r. more.1 r ∙ one.words r)
+rest first last cell [] (reply ∷ replies) old new p n idle run lone = absurd run
+rest first last cell (event ∷ events) [] old new p n idle run lone = absurd run
 
 -- ---- it is under way
 
-record IsUnderway (row : ℕ → ℕ) (p cell : ℕ) (v : WorldValue) : Type 0 where
+record IsUnderway (row : ℕ → ℕ) (before : CellWords) (p cell : ℕ) (v : WorldValue) : Type 0 where
   work : PlainWork
   mine : work.process ≡ p
   of_cell : work.cell ≡ cell
   at : (world_of v).situation p ≡ Working work
-  alone : IsAlone row (world_of v) work
+  alone : IsAlone row before (world_of v) work
 
-module _ (row : ℕ → ℕ) (p cell : ℕ) (old new : WorldValue) (sound : IsSound (world_of old)) (u : IsUnderway row p cell old) where
+module _ (row : ℕ → ℕ) (before : CellWords) (p cell : ℕ) (old new : WorldValue) (sound : IsSound (world_of old)) (u : IsUnderway row before p cell old) where
   same_work : (q : ℕ) (f : PlainWork) → q ≡ p → (world_of old).situation q ≡ Working f → f ≡ u.work
   same_work q f same is = let one : Working f ≡ Working u.work = sym is ∙ ap (λ x. (world_of old).situation x) same ∙ u.at in cc
 
@@ -100,41 +105,42 @@ module _ (row : ℕ → ℕ) (p cell : ℕ) (old new : WorldValue) (sound : IsSo
   no_recovery : (q : ℕ) (f : PlainRecovery) → q ≡ p → (world_of old).situation q ≡ Recovering f → ⊥
   no_recovery q f same is = let bad : Recovering f ≡ Working u.work = sym is ∙ ap (λ x. (world_of old).situation x) same ∙ u.at in cc
 
-  goes : (e : PlainWork) → e ≡ u.work → GoesAlone row e (world_of new) taken.Stepped → IsUnderway row p cell new
+  goes : (e : PlainWork) → e ≡ u.work → GoesAlone row before e (world_of new) taken.Stepped → IsUnderway row before p cell new
   goes e same g =
       let mine : e.process ≡ p = ap (λ (x : PlainWork). x.process) same ∙ u.mine in
       record { work = g.0; mine = g.2 ∙ mine; of_cell = g.1 ∙ ap (λ (x : PlainWork). x.cell) same ∙ u.of_cell; at = ap (λ x. (world_of new).situation x) (sym mine) ∙ g.3; alone = g.4 }
 
-  turns : (q : ℕ) (reply : Reply) → q ≡ p → (h : WorkStepsBy old q reply new) → GoesAlone row h.steps.work (world_of new) h.what
+  turns : (q : ℕ) (reply : Reply) → q ≡ p → (h : WorkStepsBy old q reply new) → GoesAlone row before h.steps.work (world_of new) h.what
   turns q reply same h =
       let e : PlainWork = h.steps.work in
       let one = same_work q e same h.steps.works in
-      turn_alone row e (world_of old) (world_of new) sound (rw h.steps.mine h.steps.inside) (ap (λ x. (world_of old).situation x) h.steps.mine ∙ h.steps.works) h.steps.is
-      (subst (λ (x : PlainWork). IsAlone row (world_of old) x) (sym one) u.alone) h.what h.steps.turn
+      turn_alone row before e (world_of old) (world_of new) sound (rw h.steps.mine h.steps.inside) (ap (λ x. (world_of old).situation x) h.steps.mine ∙ h.steps.works) h.steps.is
+      (subst (λ (x : PlainWork). IsAlone row before (world_of old) x) (sym one) u.alone) h.what h.steps.turn
 
-  stays : new ≡ old → IsUnderway row p cell new
-  stays same = subst (λ (v : WorldValue). IsUnderway row p cell v) (sym same) u
+  stays : new ≡ old → IsUnderway row before p cell new
+  stays same = subst (λ (v : WorldValue). IsUnderway row before p cell v) (sym same) u
 
 -- what comes of one event: it goes on, and nothing is answered; or it is answered, and is over
-record Goes (P Q : Type 0) (row : ℕ → ℕ) (p cell : ℕ) (reply : Reply) (new : WorldValue) : Type 0 where
-  silent : IsLoneReply P Q reply
-  on : IsUnderway row p cell new
+record Goes (first last : World) (row : ℕ → ℕ) (before : CellWords) (p cell : ℕ) (reply : Reply) (new : WorldValue) : Type 0 where
+  silent : IsLoneReply first last cell reply
+  on : IsUnderway row before p cell new
 
-record Ends (row : ℕ → ℕ) (p cell : ℕ) (reply : Reply) (new : WorldValue) : Type 0 where
+record Ends (row : ℕ → ℕ) (before : CellWords) (p cell : ℕ) (reply : Reply) (new : WorldValue) : Type 0 where
   end : WorkEnd
   is : reply ≡ Answered (work_answer end)
   work : PlainWork
   of_cell : work.cell ≡ cell
   so : EndsAlone row (world_of new) work end
+  showing : EndsShowing before (shown_in (world_of new) work.cell) end
   n : ℕ
   idle : (world_of new).situation p ≡ Idle n
 
-module _ (P Q : Type 0) (row : ℕ → ℕ) (p cell : ℕ) (old new : WorldValue) (sound : IsSound (world_of old)) (u : IsUnderway row p cell old) where
-  by_work : (q : ℕ) (reply : Reply) → q ≡ p → (h : WorkStepsBy old q reply new) → Goes P Q row p cell reply new ⊎ Ends row p cell reply new
-  by_work q reply same h = by h.what refl h.is (turns row p cell old new sound u q reply same h)
+module _ (first last : World) (row : ℕ → ℕ) (before : CellWords) (p cell : ℕ) (old new : WorldValue) (sound : IsSound (world_of old)) (u : IsUnderway row before p cell old) where
+  by_work : (q : ℕ) (reply : Reply) → q ≡ p → (h : WorkStepsBy old q reply new) → Goes first last row before p cell reply new ⊎ Ends row before p cell reply new
+  by_work q reply same h = by h.what refl h.is (turns row before p cell old new sound u q reply same h)
     where
       one : h.steps.work ≡ u.work
-      one = same_work row p cell old new sound u q h.steps.work same h.steps.works
+      one = same_work row before p cell old new sound u q h.steps.work same h.steps.works
 
       none : (what : Taken) → what ≡ taken.NotEnabled → work_events.TakesTurn h.steps.work (world_of old) (world_of new) what → ⊥
       none what is (work_events.steps word t on) = cc
@@ -142,33 +148,34 @@ module _ (P Q : Type 0) (row : ℕ → ℕ) (p cell : ℕ) (old new : WorldValue
       none what is (work_events.lacked at t) = cc
       none what is (work_events.answers end at t) = cc
 
-      by : (what : Taken) → h.what ≡ what → reply ≡ work_reply h.what → GoesAlone row h.steps.work (world_of new) h.what → Goes P Q row p cell reply new ⊎ Ends row p cell reply new
+      by : (what : Taken) → h.what ≡ what → reply ≡ work_reply h.what → GoesAlone row before h.steps.work (world_of new) h.what → Goes first last row before p cell reply new ⊎ Ends row before p cell reply new
       by taken.NotEnabled at is g = absurd (none h.what at h.steps.turn)
-      by taken.Stepped at is g = inl (record { silent = subst (λ (r : Reply). IsLoneReply P Q r) (sym (is ∙ ap work_reply at)) tt; on = goes row p cell old new sound u h.steps.work one (subst (λ (x : Taken). GoesAlone row h.steps.work (world_of new) x) at g) })
+      by taken.Stepped at is g = inl (record { silent = subst (λ (r : Reply). IsLoneReply first last cell r) (sym (is ∙ ap work_reply at)) tt; on = goes row before p cell old new sound u h.steps.work one (subst (λ (x : Taken). GoesAlone row before h.steps.work (world_of new) x) at g) })
       by (taken.Answered end) at is g =
-          let k = subst (λ (x : Taken). GoesAlone row h.steps.work (world_of new) x) at g in
+          let k = subst (λ (x : Taken). GoesAlone row before h.steps.work (world_of new) x) at g in
           inr (record {
             end = end;
             is = is ∙ ap work_reply at;
             work = h.steps.work;
             of_cell = ap (λ (x : PlainWork). x.cell) one ∙ u.of_cell;
             so = k.1;
+            showing = k.2;
             n = h.steps.work.next;
             idle = ap (λ x. (world_of new).situation x) (sym same ∙ sym h.steps.mine) ∙ k.0;
           })
 
-  still : (reply : Reply) → IsLoneReply P Q reply → new ≡ old → Goes P Q row p cell reply new ⊎ Ends row p cell reply new
-  still reply silent same = inl (record { silent = silent; on = stays row p cell old new sound u same })
+  still : (reply : Reply) → IsLoneReply first last cell reply → new ≡ old → Goes first last row before p cell reply new ⊎ Ends row before p cell reply new
+  still reply silent same = inl (record { silent = silent; on = stays row before p cell old new sound u same })
 
-  event_goes : (event : Event) (reply : Reply) → Takes old event reply new → IsLoneEvent p event → Goes P Q row p cell reply new ⊎ Ends row p cell reply new
-  event_goes (Step q) Stepped (edits h) same = absurd (no_edit row p cell old new sound u q h.edit same h.at)
+  event_goes : (event : Event) (reply : Reply) → Takes old event reply new → IsLoneEvent p event → Goes first last row before p cell reply new ⊎ Ends row before p cell reply new
+  event_goes (Step q) Stepped (edits h) same = absurd (no_edit row before p cell old new sound u q h.edit same h.at)
   event_goes (Step q) Stepped (works h) same = by_work q Stepped same h
-  event_goes (Step q) Stepped (reports h) same = absurd (no_report row p cell old new sound u q h.steps.show same h.steps.at)
-  event_goes (Step q) Stepped (recoveries h) same = absurd (no_recovery row p cell old new sound u q h.steps.recovery same h.steps.at)
-  event_goes (Step q) (Answered answer) (edits h) same = absurd (no_edit row p cell old new sound u q h.edit same h.at)
+  event_goes (Step q) Stepped (reports h) same = absurd (no_report row before p cell old new sound u q h.steps.show same h.steps.at)
+  event_goes (Step q) Stepped (recoveries h) same = absurd (no_recovery row before p cell old new sound u q h.steps.recovery same h.steps.at)
+  event_goes (Step q) (Answered answer) (edits h) same = absurd (no_edit row before p cell old new sound u q h.edit same h.at)
   event_goes (Step q) (Answered answer) (works h) same = by_work q (Answered answer) same h
-  event_goes (Step q) (Answered answer) (reports h) same = absurd (no_report row p cell old new sound u q h.steps.show same h.steps.at)
-  event_goes (Step q) (Answered answer) (recoveries h) same = absurd (no_recovery row p cell old new sound u q h.steps.recovery same h.steps.at)
+  event_goes (Step q) (Answered answer) (reports h) same = absurd (no_report row before p cell old new sound u q h.steps.show same h.steps.at)
+  event_goes (Step q) (Answered answer) (recoveries h) same = absurd (no_recovery row before p cell old new sound u q h.steps.recovery same h.steps.at)
   event_goes (Step q) NotEnabled h same = still NotEnabled tt h.same
   event_goes (Step q) _ h same = absurd h
   event_goes (Evict r) Evicted h same = inl (record {
@@ -178,18 +185,19 @@ module _ (P Q : Type 0) (row : ℕ → ℕ) (p cell : ℕ) (old new : WorldValue
       mine = u.mine;
       of_cell = u.of_cell;
       at = h.evicts.situation p ∙ u.at;
-      alone = same_sees row (world_of old) (world_of new) u.work (h.evicts.memory.cached (Mark u.work.cell)) (λ part. h.evicts.memory.cached (Index u.work.cell part)) u.alone;
+      alone = same_sees row (world_of old) (world_of new) u.work (h.evicts.memory.cached (Mark u.work.cell)) before (λ part. h.evicts.memory.cached (Index u.work.cell part))
+          (shown_same (world_of old) (world_of new) u.work.cell (h.evicts.memory.cached (Value u.work.cell)) (h.evicts.memory.cached (Kind u.work.cell))) u.alone;
     };
   })
   event_goes (Evict r) NotEnabled h same = still NotEnabled tt h.same
   event_goes (Evict r) _ h same = absurd h
   event_goes (Offer value) Stepped h same =
       let o = h.offered in
-      let one = same_work row p cell old new sound u value.task.process o.work same o.waits.works in
+      let one = same_work row before p cell old new sound u value.task.process o.work same o.waits.works in
       inl (record {
         silent = tt;
-        on = goes row p cell old new sound u o.work one
-            (offer_alone row o.work (world_of old) (world_of new) (subst (λ (x : PlainWork). IsAlone row (world_of old) x) (sym one) u.alone) value.entry o.waits.waits o.offers.turn);
+        on = goes row before p cell old new sound u o.work one
+            (offer_alone row before o.work (world_of old) (world_of new) (subst (λ (x : PlainWork). IsAlone row before (world_of old) x) (sym one) u.alone) value.entry o.waits.waits o.offers.turn);
       })
   event_goes (Offer value) WrongTask h same = still WrongTask tt h.same
   event_goes (Offer value) _ h same = absurd h
@@ -202,37 +210,55 @@ module _ (P Q : Type 0) (row : ℕ → ℕ) (p cell : ℕ) (old new : WorldValue
 
 -- ---- over a run
 
-marks_on : (row : ℕ → ℕ) (Own : Type 0) (cell : ℕ) (v new : WorldValue) (work : PlainWork) (end : WorkEnd) → work.cell ≡ cell → (OwnBit : (HasBit (row (work.cell / 64)) work.cell → Own))
-    → (world_of new).memory.cached (Mark cell) ≡ (world_of v).memory.cached (Mark cell) → EndsAlone row (world_of v) work end → IsLoneAnswer (IsClean ((world_of new).memory.cached (Mark cell))) Own (work_answer end)
-marks_on row Own cell v new work ends.NotDirty of_cell own same so = absurd so
-marks_on row Own cell v new work ends.Missed of_cell own same so = absurd so
-marks_on row Own cell v new work ends.Worn of_cell own same so = absurd so
-marks_on row Own cell v new work (ends.Published changed) of_cell own same so = subst IsClean (ap (λ c. (world_of v).memory.cached (Mark c)) of_cell ∙ sym same) so
-marks_on row Own cell v new work ends.Again of_cell own same so = own so
-marks_on row Own cell v new work ends.NoMemory of_cell own same so = tt
+module _ (row : ℕ → ℕ) (first middle last : World) (cell : ℕ) (work : PlainWork) (of_cell : work.cell ≡ cell) (index : (part : ℕ) → first.memory.cached (Index cell part) ≡ row part) (words : (r : Place) → last.memory.cached r ≡ middle.memory.cached r) where
+  clean : IsClean (mark_now middle work) → IsClean (last.memory.cached (Mark cell))
+  clean h = subst IsClean (ap (λ c. middle.memory.cached (Mark c)) of_cell ∙ sym (words (Mark cell))) h
 
-lone_run : (row : ℕ → ℕ) (Own : Type 0) (p cell : ℕ) → (HasBit (row (cell / 64)) cell → Own) → (events : List Event) (replies : List Reply) (old new : WorldValue) → IsSound (world_of old) → IsUnderway row p cell old → WorldRun old events replies new → IsLone p events
-    → AreLoneReplies (IsClean ((world_of new).memory.cached (Mark cell))) Own replies
-lone_run row Own p cell own [] [] old new sound u run lone = tt
-lone_run row Own p cell own (event ∷ events) (reply ∷ replies) old new sound u run lone =
-    elim (event_goes (IsClean ((world_of new).memory.cached (Mark cell))) Own row p cell old run.0 sound u event reply run.1.takes lone.0) [
-      | inl on ↦ (on.silent, lone_run row Own p cell own events replies run.0 new run.1.good.sound on.on run.2 lone.1)
+  shown : shown_in last cell ≡ shown_in middle work.cell
+  shown = shown_same middle last cell (words (Value cell)) (words (Kind cell)) ∙ ap (λ c. shown_in middle c) (sym of_cell)
+
+  own : RefersToItself row work → StandsInOwnRow first cell
+  own h = subst (λ x. HasBit x cell) (sym (index (cell / 64))) (subst (λ c. HasBit (row (c / 64)) c) of_cell h)
+
+  refers : StandsInOwnRow first cell → RefersToItself row work
+  refers h = subst (λ c. HasBit (row (c / 64)) c) (sym of_cell) (subst (λ x. HasBit x cell) (index (cell / 64)) h)
+
+  -- the answer says what is so at the end
+  answers_so : (end : WorkEnd) → EndsAlone row middle work end → EndsShowing (shown_in first cell) (shown_in middle work.cell) end → IsLoneAnswer first last cell (work_answer end)
+  answers_so ends.NotDirty so showing = absurd so
+  answers_so ends.Missed so showing = absurd so
+  answers_so ends.Worn so showing = absurd so
+  answers_so (ends.Published true) so showing = (clean so.0, λ same. showing (sym shown ∙ same), λ h. so.1 (refers h))
+  answers_so (ends.Published false) so showing = (clean so, shown ∙ showing)
+  answers_so ends.Again so showing = (own so, λ same. showing (sym shown ∙ same))
+  answers_so ends.NoMemory so showing = shown ∙ showing
+
+lone_run : (row : ℕ → ℕ) (first : World) (p cell : ℕ) → ((part : ℕ) → first.memory.cached (Index cell part) ≡ row part) → (events : List Event) (replies : List Reply) (old new : WorldValue) → IsSound (world_of old) → IsUnderway row (shown_in first cell) p cell old
+    → WorldRun old events replies new → IsLone p events → AreLoneReplies first (world_of new) cell replies
+lone_run row first p cell index [] [] old new sound u run lone = tt
+lone_run row first p cell index (event ∷ events) (reply ∷ replies) old new sound u run lone =
+    elim (event_goes first (world_of new) row (shown_in first cell) p cell old run.0 sound u event reply run.1.takes lone.0) [
+      | inl on ↦ (on.silent, lone_run row first p cell index events replies run.0 new run.1.good.sound on.on run.2 lone.1)
       | inr end ↦ (
-          let more = rest (IsClean ((world_of new).memory.cached (Mark cell))) Own events replies run.0 new p end.n end.idle run.2 lone.1 in
-          let answer = marks_on row Own cell run.0 new end.work end.end end.of_cell (λ bit. own (subst (λ c. HasBit (row (c / 64)) c) end.of_cell bit)) (more.1 cell) end.so in
-          (subst (λ (r : Reply). IsLoneReply (IsClean ((world_of new).memory.cached (Mark cell))) Own r) (sym end.is) answer, more.0))
+          let more = rest first (world_of new) cell events replies run.0 new p end.n end.idle run.2 lone.1 in
+          let answer = answers_so row first (world_of run.0) (world_of new) cell end.work end.of_cell index more.1 end.end end.so end.showing in
+          (subst (λ (r : Reply). IsLoneReply first (world_of new) cell r) (sym end.is) answer, more.0))
     ]
-lone_run row Own p cell own [] (reply ∷ replies) old new sound u run lone = absurd run
-lone_run row Own p cell own (event ∷ events) [] old new sound u run lone = absurd run
+lone_run row first p cell index [] (reply ∷ replies) old new sound u run lone = absurd run
+lone_run row first p cell index (event ∷ events) [] old new sound u run lone = absurd run
 
 pub lone_publishes : (old : WorldValue) (events : List Event) (replies : List Reply) (new : WorldValue) (p : ℕ) (e : PlainWork) → IsSound (world_of old) → p < old.sheet.layout.processes → (world_of old).situation p ≡ Working e → e.stage ≡ LoadMark → IsMarkedAt (world_of old) e
-    → WorldRun old events replies new → IsLone p events → AreLoneReplies (IsClean ((world_of new).memory.cached (Mark e.cell))) (StandsInOwnRow (world_of old) e.cell) replies
+    → WorldRun old events replies new → IsLone p events → AreLoneReplies (world_of old) (world_of new) e.cell replies
 lone_publishes old events replies new p e sound low at first marked run lone =
     let fits : WorkFits (world_of old) p e = subst (λ (x : Situation). CallFits (world_of old) p x) at (sound.calls p low) in
-    lone_run (λ part. (world_of old).memory.cached (Index e.cell part)) (StandsInOwnRow (world_of old) e.cell) p e.cell (λ bit. bit) events replies old new sound (record {
+    lone_run (λ part. (world_of old).memory.cached (Index e.cell part)) (world_of old) p e.cell (λ part. refl) events replies old new sound (record {
       work = e;
       mine = fits.mine;
       of_cell = refl;
       at = at;
-      alone = record { at = subst (λ (s : WorkStage). IsAloneAt (λ part. (world_of old).memory.cached (Index e.cell part)) (world_of old) e s) (sym first) marked; index = λ part. refl };
+      alone = record {
+        at = subst (λ (s : WorkStage). IsAloneAt (λ part. (world_of old).memory.cached (Index e.cell part)) (world_of old) e s) (sym first) marked;
+        shows = subst (λ (s : WorkStage). ShowsAt (shown_in (world_of old) e.cell) (shown_in (world_of old) e.cell) e s) (sym first) refl;
+        index = λ part. refl;
+      };
     }) run lone

@@ -21,11 +21,9 @@ ghost use Rattle.ds_core.specs.Headline.{Happens, RunFits, Headline, HasHeadline
 ghost use Rattle.ds_core.specs.Own.{own_steps, steps_left, AreUnanswered, AreUnhalted, IsInCall, WorkGoesOn};
 ghost use Rattle.ds_state.specs.Spent.{IsSpent};
 ghost use Rattle.ds_core.specs.SpentNumbers.{IsOut};
-ghost use Rattle.ds_core.specs.Solo.{IsSolo, AreDoneOnly, IsLone, IsLoneAnswer, AreLoneReplies, StandsInOwnRow};
+ghost use Rattle.ds_core.specs.Solo.{IsSolo, AreDoneOnly, IsLone, IsLoneAnswer, AreLoneReplies};
 ghost use Rattle.ds_state.specs.Works.{PlainWork, PlainShow, PlainRecovery};
-ghost use Rattle.ds_layout.specs.Mark.{IsClean};
 ghost use Rattle.ds_state.specs.declared.work.WorkStage.TheVariants.{LoadMark};
-ghost use Rattle.ds_layout.specs.declared.place.Place.TheVariants.{Mark};
 ghost use Rattle.ds_layout.specs.Bits.{parts_for};
 ghost use Rattle.ds_work.specs.WorkAlone.{IsMarkedAt};
 
@@ -164,17 +162,18 @@ pub fn solo_edits_are_answered()
 {}
 
 /// Work on a marked cell whose mark has generations left, which is alone from its beginning on, but
-/// for evictions and offers to it: it is answered Published, and its cell is clean then and at the
-/// end; or NoMemory; or Again, and then its cell's bit stands in the cell's own index row, since its
-/// text refers to it, or did.
+/// for evictions and offers to it. It is answered Published, and its cell is clean then and at the
+/// end: where its answer says that the value changed, the cell shows another value or kind than
+/// before, and its bit does not stand in its own index row; else it shows what it did. Or it is
+/// answered Again: the cell shows another value or kind, and its bit stands in its own index row,
+/// since its text refers to it, or did. Or it is answered NoMemory, and the cell shows what it did.
 #[tactic(auto, using(crate::proofs::LoneWork::lone_publishes))]
 pub fn lone_works_publish()
     ensures { (old : WorldValue) (events : List Event) (replies : List Reply) (new : WorldValue)
         (p : ℕ) (e : PlainWork) → IsSound (world_of old) → p < old.sheet.layout.processes
         → (world_of old).situation p ≡ Working e → e.stage ≡ LoadMark → IsMarkedAt (world_of old) e
         → WorldRun old events replies new → IsLone p events
-        → AreLoneReplies (IsClean ((world_of new).memory.cached (Mark e.cell)))
-        (StandsInOwnRow (world_of old) e.cell) replies }
+        → AreLoneReplies (world_of old) (world_of new) e.cell replies }
 {}
 
 /// Work on a marked cell that is alone from its beginning on, and makes as many steps as work on a
@@ -188,6 +187,5 @@ pub fn lone_works_are_answered()
         → WorldRun old events replies new → IsLone p events
         → 5 * e.cells + parts_for e.cells + 36 ≤ own_steps p events replies
         → (k : ℕ) × (answer : Answer) × Happens events replies k (Step p) (Answered answer)
-        × IsLoneAnswer (IsClean ((world_of new).memory.cached (Mark e.cell)))
-        (StandsInOwnRow (world_of old) e.cell) answer }
+        × IsLoneAnswer (world_of old) (world_of new) e.cell answer }
 {}

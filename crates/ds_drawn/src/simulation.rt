@@ -104,12 +104,25 @@ impl Simulation {
         })
     }
 
-    fn take(&mut self, event: &Event) -> Reply {
-        take(self.alloc, &mut self.world, event)
+    // The values of a quiet sheet are right.
+    fn compare(&mut self) -> Result<(), Fail> {
+        if self.world.is_quiet() {
+            self.quiet = self.quiet.wrapping_add(1);
+            let are_right = are_right_values(self.alloc, &self.world)?;
+            self.recount.expect(are_right);
+        }
+        Ok(())
+    }
+
+    // The event happens; each quiet moment behind one is compared.
+    fn take(&mut self, event: &Event) -> Result<Reply, Fail> {
+        let reply = take(self.alloc, &mut self.world, event);
+        self.compare()?;
+        Ok(reply)
     }
 
     fn step(&mut self, process: usize) -> Result<Reply, Fail> {
-        let reply = self.take(&Event::Step(process));
+        let reply = self.take(&Event::Step(process))?;
         if reply != Reply::NotEnabled {
             self.script.by("step", process)?;
         }
@@ -130,7 +143,7 @@ impl Simulation {
     fn offer(&mut self, process: usize) -> Result<(), Fail> {
         let again = evaluated(self.alloc, &self.world, process)?;
         if let Some(entry) = evaluated(self.alloc, &self.world, process)? {
-            let reply = self.take(&Event::Offer(entry));
+            let reply = self.take(&Event::Offer(entry))?;
             self.recount.expect(reply == Reply::Stepped);
             self.kept = again;
         }
@@ -141,7 +154,7 @@ impl Simulation {
     fn offer_late(&mut self) -> Result<(), Fail> {
         if let Some(entry) = self.kept.take() {
             self.script.late()?;
-            let reply = self.take(&Event::Offer(entry));
+            let reply = self.take(&Event::Offer(entry))?;
             self.recount.expect(reply == Reply::WrongTask);
             self.late = self.late.wrapping_add(1);
         }
@@ -151,49 +164,49 @@ impl Simulation {
     fn edit(&mut self, process: usize, cell: Cell, text: &'static str) -> Result<(), Fail> {
         self.script.edit(process, cell, text)?;
         let event = edit(self.alloc, process, cell, text)?;
-        let reply = self.take(&event);
+        let reply = self.take(&event)?;
         self.recount.edit(process, cell, text, reply)?;
         Ok(())
     }
 
     fn work(&mut self, process: usize, cell: Cell) -> Result<(), Fail> {
         self.script.work(process, cell)?;
-        let reply = self.take(&Event::BeginWork(process, cell));
+        let reply = self.take(&Event::BeginWork(process, cell))?;
         self.recount.enter(process, reply);
         Ok(())
     }
 
     fn show(&mut self, process: usize) -> Result<(), Fail> {
         self.script.begin(process, "show")?;
-        let reply = self.take(&Event::BeginShow(process));
+        let reply = self.take(&Event::BeginShow(process))?;
         self.recount.enter(process, reply);
         Ok(())
     }
 
     fn recover(&mut self, process: usize) -> Result<(), Fail> {
         self.script.begin(process, "recover")?;
-        let reply = self.take(&Event::BeginRecover(process));
+        let reply = self.take(&Event::BeginRecover(process))?;
         self.recount.recover(process, reply);
         Ok(())
     }
 
     fn stop(&mut self, process: usize) -> Result<(), Fail> {
         self.script.by("stop", process)?;
-        let reply = self.take(&Event::Stop(process));
+        let reply = self.take(&Event::Stop(process))?;
         self.recount.stop(process, reply);
         Ok(())
     }
 
     fn crash(&mut self) -> Result<(), Fail> {
         self.script.crash()?;
-        let reply = self.take(&Event::Crash);
+        let reply = self.take(&Event::Crash)?;
         self.recount.crash(reply);
         Ok(())
     }
 
     fn evict(&mut self, place: Place) -> Result<(), Fail> {
         self.script.evict(place)?;
-        let reply = self.take(&Event::Evict(place));
+        let reply = self.take(&Event::Evict(place))?;
         self.recount.expect(reply == Reply::Evicted);
         Ok(())
     }
@@ -308,12 +321,7 @@ impl Simulation {
         self.recount.expect(agrees);
         let are_last = are_last_texts(self.alloc, &self.world)?;
         self.recount.expect(are_last);
-        if self.world.is_quiet() {
-            self.quiet = self.quiet.wrapping_add(1);
-            let are_right = are_right_values(self.alloc, &self.world)?;
-            self.recount.expect(are_right);
-        }
-        Ok(())
+        self.compare()
     }
 }
 

@@ -37,4 +37,5 @@ pub mod QuietRight
 pub mod CleanRead
 pub mod StillRight
 pub mod QuietShown
+pub mod MarkLaws
 pub mod ReportRooms

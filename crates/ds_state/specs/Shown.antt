@@ -35,6 +35,16 @@ mark_at layout memory cell = mark_of layout.processes (memory.cached (place.Mark
 abbrev pub mark_in : World → Cell → Mark
 mark_in w cell = mark_at w.layout w.memory (index_of w.layout.shape cell)
 
+-- who may hold the mark of the cell with this number: a process whose work is on just that cell; one that is stopped,
+-- or recovers, and has not given the cell back
+abbrev pub MayHold : ℕ → Situation → Type 0
+MayHold cell (Idle next) = ⊥
+MayHold cell Stopped = Unit {0}
+MayHold cell (Editing e) = ⊥
+MayHold cell (Working e) = e.cell ≡ cell
+MayHold cell (Recovering e) = Unit {0}
+MayHold cell (Showing e) = ⊥
+
 -- the value of the cell with this number, as processes see it
 abbrev pub value_at : Layout → Memory Place → ℕ → Value
 value_at layout memory cell = shown_of (stored_of (cells_of layout) (memory.cached (place.Value cell)) (memory.cached (place.Kind cell)))

@@ -1,10 +1,12 @@
 //! What is true of each world, as functions that do nothing.
 
-ghost use Rattle.std.specs.Prelude.{ℕ, ◌≡◌, ◌<◌, ◌≤◌, ◌+◌, ◌*◌, List, length};
+ghost use Rattle.std.specs.Prelude.{ℕ, ◌≡◌, ◌<◌, ◌≤◌, ◌+◌, ◌*◌, List, length, Some};
+ghost use Rattle.ds_layout.specs.Mark.{mark_word};
 ghost use Rattle.ds_layout.specs.declared.place.Place.{Place};
+ghost use Rattle.ds_layout.specs.declared.place.Place.TheVariants.{Mark};
 ghost use Rattle.ds_layout.specs.declared.place.TheConstants.{RECORDS};
 ghost use Rattle.ds_state.specs.World.{World, of_cell};
-ghost use Rattle.ds_state.specs.Shown.{last_text, text_at, IsQuiet, values_shown};
+ghost use Rattle.ds_state.specs.Shown.{last_text, mark_at, text_at, IsQuiet, MayHold, values_shown};
 ghost use Rattle.ds_state.specs.KnownShow.{AreScratch};
 ghost use Rattle.ds_state.specs.Value.{WorldValue, IsGood};
 ghost use Rattle.ds_state.specs.Fresh.{IsNew};
@@ -51,6 +53,18 @@ pub fn few_edits_count()
 pub fn texts_are_of_last_edits()
     ensures { (w : World) (cell : ℕ) → IsSound w
         → text_at w.layout w.memory cell ≡ last_text (of_cell cell w.counted) }
+{}
+
+/// A cell's mark is told with all that its word says. Who holds it, where anyone does, is a process
+/// of the sheet, and either works on just this cell, or is stopped or recovers and has not given it
+/// back.
+#[tactic(auto, using(crate::proofs::MarkLaws::mark_whole, crate::proofs::MarkLaws::mark_names))]
+pub fn marks_are_of_their_holders()
+    ensures word { (w : World) (cell : ℕ) → IsSound w
+        → mark_word (mark_at w.layout w.memory cell) ≡ w.memory.cached (Mark cell) }
+    ensures holder { (w : World) (cell q : ℕ) → IsSound w
+        → (mark_at w.layout w.memory cell).holder ≡ Some q
+        → (q < w.layout.processes) × MayHold cell (w.situation q) }
 {}
 
 /// No more edits were answered Done than count.

@@ -16,4 +16,5 @@ pub mod Ranks
 pub mod Answering
 pub mod Ors
 pub mod Turning
+pub mod WorkShows
 pub mod WorkAlone

@@ -4,4 +4,5 @@ pub mod Reading
 pub mod WorkTakes
 pub mod WorkRank
 pub mod WorkAnswers
+pub mod WorkShows
 pub mod WorkAlone

@@ -13,7 +13,7 @@ ghost use Rattle.ds_state.specs.declared.situation.Situation.TheVariants.{Workin
 ghost use Rattle.ds_state.specs.declared.work.WorkStage.TheVariants.{Wait};
 ghost use Rattle.ds_work.specs.WorkSteps.{offered};
 ghost use Rattle.ds_work.specs.WorkTakes.{task_at, Waits, WaitsFor, IsOffered};
-ghost use Rattle.ds_work.specs.declared.offer.TaskFault.TheVariants.{NoTask};
+ghost use Rattle.ds_work.specs.declared.offer.TaskFault.TheVariants.{NoTask, NoMemory};
 
 use crate::machine::stored;
 use ds_eval::inputs::Entry;
@@ -134,11 +134,13 @@ fn waits_for(world: &World, task: &Task) -> bool
 }
 
 /// The task of a process whose work waits for an entry, in memory of its own: it can be evaluated
-/// anywhere. `NoTask` where the process waits for none, `NoMemory` where an allocation failed.
+/// anywhere. `NoTask` where the process waits for none, `NoMemory` where it waits and an allocation
+/// failed.
 pub fn task_of(alloc: Global, world: &World, process: usize) -> Result<Task, TaskFault>
     ensures process { IfOk result (λ task. task.process ≡ process) }
     ensures task { IfOk result (λ task. WaitsFor (world_of world.now) task) }
     ensures none { IfErr result (λ fault. fault ≡ NoTask → (e : PlainWork) → Waits (world_of world.now) process e → ⊥) }
+    ensures memory { IfErr result (λ fault. fault ≡ NoMemory → (e : PlainWork) × Waits (world_of world.now) process e) }
 {
     if process >= world.situations.len() {
         return Err(TaskFault::NoTask);
