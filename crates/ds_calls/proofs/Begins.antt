@@ -3,7 +3,7 @@ use Rattle.std.proofs.Common.{ℕ, ◌≡◌, ◌<◌, sym, ap, ◌∙◌, subst
 use Rattle.std.specs.Prelude.{Result, Ok, Err}
 use Rattle.ds_formula.specs.declared.cells.Cell.{Cell}
 use Rattle.ds_state.specs.Value.{WorldValue, world_of}
-use Rattle.ds_state.specs.World.{Edit}
+use Rattle.ds_state.specs.World.{PlainEdit}
 use Rattle.ds_state.specs.declared.refusal.Refusal.{Refusal}
 use Rattle.ds_state.specs.declared.situation.Situation.{Situation}
 use Rattle.ds_state.specs.declared.situation.Situation.TheVariants.{Editing, Working, Recovering, Showing}
@@ -39,7 +39,7 @@ pub edit_begins : (old new : WorldValue) (r : PlainRequest) (reply : Reply) → 
 edit_begins old new r (Begun number) named fits =
     let h = fits.takes in
     calls_by old new r.process (BeginEdit r) (Begun number) (Editing h.begun.edit) IsEditAnswer named.process h
-    (ap (λ (q : ℕ). (world_of new).situation q) (sym (ap (λ (x : Edit). x.process) h.begun.asked.asked)) ∙ h.begun.begins.situation) tt (λ answer x. x)
+    (ap (λ (q : ℕ). (world_of new).situation q) (sym (ap (λ (x : PlainEdit). x.process) h.begun.asked.asked)) ∙ h.begun.begins.situation) tt (λ answer x. x)
 edit_begins old new r (Refused why) named fits = fits.takes.same
 edit_begins old new r NotEnabled named fits = absurd (fits.takes.unnamed named)
 edit_begins old new r _ named fits = absurd fits.takes

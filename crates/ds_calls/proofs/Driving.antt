@@ -2,7 +2,7 @@
 use Rattle.std.proofs.Common.{ℕ, ◌≡◌, ◌<◌, refl, sym, ap, ◌∙◌, subst, arith}
 use Rattle.ds_eval.specs.declared.inputs.Entry.{Entry}
 use Rattle.ds_state.specs.Value.{WorldValue, world_of, IsGood}
-use Rattle.ds_state.specs.Works.{PlainWork}
+use Rattle.ds_state.specs.Works.{PlainWorkCall}
 use Rattle.ds_state.specs.declared.situation.Situation.{Situation}
 use Rattle.ds_state.specs.declared.situation.Situation.TheVariants.{Working}
 use Rattle.ds_state.specs.declared.work.WorkStage.{WorkStage}
@@ -59,7 +59,7 @@ module _ (old new : WorldValue) (p : ℕ) (given : (entry : Entry) × IsOffered 
 
   pub offer_fewer : steps_left p new < steps_left p old
   offer_fewer =
-      let w : PlainWork = given.1.work in
+      let w : PlainWorkCall = given.1.work in
       let now : steps_left p new ≡ left_in (Working (steps.offered w given.0)) = ap left_in behind in
       let before : steps_left p old ≡ ranks.left w.cells w Wait =
       ap left_in given.1.waits.works ∙ ap (λ (s : WorkStage). ranks.left w.cells w s) given.1.waits.waits in
@@ -68,13 +68,13 @@ module _ (old new : WorldValue) (p : ℕ) (given : (entry : Entry) × IsOffered 
 
 -- ---- a step
 
-wants_at : (v : WorldValue) (p : ℕ) (e : PlainWork) (s : WorkStage) → e.stage ≡ s → (e.stage ≡ Wait → ⊥) → wanted_at p v.sheet.layout.shape e s ≡ Step p
+wants_at : (v : WorldValue) (p : ℕ) (e : PlainWorkCall) (s : WorkStage) → e.stage ≡ s → (e.stage ≡ Wait → ⊥) → wanted_at p v.sheet.layout.shape e s ≡ Step p
 wants_at v p e Wait is none = absurd (none is)
 wants_at v p e s is none = refl
 
-wants_in : (v : WorldValue) (p : ℕ) (s : Situation) → (world_of v).situation p ≡ s → ((e : PlainWork) → (world_of v).situation p ≡ Working e → e.stage ≡ Wait → ⊥) → wanted p v.sheet.layout.shape s ≡ Step p
+wants_in : (v : WorldValue) (p : ℕ) (s : Situation) → (world_of v).situation p ≡ s → ((e : PlainWorkCall) → (world_of v).situation p ≡ Working e → e.stage ≡ Wait → ⊥) → wanted p v.sheet.layout.shape s ≡ Step p
 wants_in v p (Working e) is none = wants_at v p e e.stage refl (none e is)
 wants_in v p s is none = refl
 
-pub wants_step : (v : WorldValue) (p : ℕ) → ((e : PlainWork) → (world_of v).situation p ≡ Working e → e.stage ≡ Wait → ⊥) → wants v p ≡ Step p
+pub wants_step : (v : WorldValue) (p : ℕ) → ((e : PlainWorkCall) → (world_of v).situation p ≡ Working e → e.stage ≡ Wait → ⊥) → wants v p ≡ Step p
 wants_step v p none = wants_in v p ((world_of v).situation p) refl none

@@ -2,8 +2,8 @@
 use Rattle.std.proofs.Common.{ℕ, ◌≡◌, ◌≢◌, ◌<◌, ◌+◌, ◌/◌, refl, sym, ap, ◌∙◌, subst, Some, None}
 use Rattle.ds_state.specs.Value.{WorldValue, world_of}
 use Rattle.ds_state.specs.Sound.{IsSound}
-use Rattle.ds_state.specs.Edits.{PlainEdit}
-use Rattle.ds_state.specs.Works.{PlainWork, PlainShow, PlainRecovery}
+use Rattle.ds_state.specs.Edits.{PlainEditCall}
+use Rattle.ds_state.specs.Works.{PlainWorkCall, PlainShowCall, PlainRecoverCall}
 use Rattle.ds_state.specs.declared.situation.Situation.{Situation}
 use Rattle.ds_state.specs.declared.situation.Situation.TheVariants.{Idle, Stopped, Editing, Working, Recovering, Showing}
 use Rattle.ds_state.specs.declared.stage.Outcome.TheVariants as outcomes
@@ -20,7 +20,7 @@ use Rattle.ds_state.specs.declared.work.RecoverStage.TheVariants as recover_stag
 use Rattle.ds_edit.specs.EditTakes as edit_worlds
 use Rattle.ds_edit.specs.declared.answer.Answer.{Answer}
 use Rattle.ds_work.specs.WorkTakes as work_events
-use Rattle.ds_state.specs.World.{World}
+use Rattle.ds_state.specs.World.{PlainWorld}
 use Rattle.ds_work.specs.WorkSteps.{IsPlainStep}
 use Rattle.ds_work.specs.declared.drive.Taken.{Taken}
 use Rattle.ds_work.specs.declared.drive.Taken.TheVariants as taken
@@ -50,18 +50,18 @@ use Rattle.ds_calls.proofs.Driving.{wants_step}
 -- ---- a step is what the process wants
 
 -- a work that takes a turn does not wait
-never_waits : (e : PlainWork) (old new : World) (what : Taken) → work_events.TakesTurn e old new what → e.stage ≡ work_stages.Wait → ⊥
+never_waits : (e : PlainWorkCall) (old new : PlainWorld) (what : Taken) → work_events.TakesTurn e old new what → e.stage ≡ work_stages.Wait → ⊥
 never_waits e old new what (work_events.steps word s none) is = subst IsPlainStep is s.plain
 never_waits e old new what (work_events.reads content inputs at r) is = absurd (let bad : work_stages.Read ≡ work_stages.Wait = sym at ∙ is in cc)
 never_waits e old new what (work_events.lacked at l) is = absurd (let bad : work_stages.Read ≡ work_stages.Wait = sym at ∙ is in cc)
 never_waits e old new what (work_events.answers end at s) is = absurd (let bad : work_stages.Answer end ≡ work_stages.Wait = sym at ∙ is in cc)
 
-not_waiting : (old new : WorldValue) (p : ℕ) (reply : Reply) → StepsBy old p reply new → (e : PlainWork) → (world_of old).situation p ≡ Working e → e.stage ≡ work_stages.Wait → ⊥
+not_waiting : (old new : WorldValue) (p : ℕ) (reply : Reply) → StepsBy old p reply new → (e : PlainWorkCall) → (world_of old).situation p ≡ Working e → e.stage ≡ work_stages.Wait → ⊥
 not_waiting old new p reply (edits h) e at waits = absurd (let bad : Editing h.edit ≡ Working e = sym h.at ∙ at in cc)
 not_waiting old new p reply (works h) e at waits =
     let same : Working h.steps.work ≡ Working e = sym h.steps.works ∙ at in
     let is : h.steps.work ≡ e = cc in
-    never_waits h.steps.work (world_of old) (world_of new) h.what h.steps.turn (ap (λ (w : PlainWork). w.stage) is ∙ waits)
+    never_waits h.steps.work (world_of old) (world_of new) h.what h.steps.turn (ap (λ (w : PlainWorkCall). w.stage) is ∙ waits)
 not_waiting old new p reply (reports h) e at waits = absurd (let bad : Showing h.steps.show ≡ Working e = sym h.steps.at ∙ at in cc)
 not_waiting old new p reply (recoveries h) e at waits = absurd (let bad : Recovering h.steps.recovery ≡ Working e = sym h.steps.at ∙ at in cc)
 
@@ -93,25 +93,25 @@ work_stays old new p sound h = by h.what h.steps h.is
     by taken.NotEnabled s is = absurd (cc)
     by (taken.Answered end) s is = absurd (cc)
 
-report_on : (e : PlainShow) (s : ShowStage) (word : ℕ) → Stepped ≡ report_reply (show_steps.effect_at s) → show_steps.after e s word ≡ Showing (show_steps.next_at e s word)
+report_on : (e : PlainShowCall) (s : ShowStage) (word : ℕ) → Stepped ≡ report_reply (show_steps.effect_at s) → show_steps.after e s word ≡ Showing (show_steps.next_at e s word)
 report_on e (show_stages.Answer end) word is = absurd (cc)
 report_on e _ word is = refl
 
 report_stays : (old new : WorldValue) (p : ℕ) → ReportStepsBy old p Stepped new → StaysIn old p new
 report_stays old new p h =
-    let e : PlainShow = h.steps.show in
+    let e : PlainShowCall = h.steps.show in
     let goes : Stepped ≡ report_reply (show_steps.effect_at e.stage) = h.is ∙ ap report_reply h.steps.is in
     let now : (world_of new).situation p ≡ Showing (show_steps.next_at e e.stage h.steps.word) = ap (λ q. (world_of new).situation q) (sym h.steps.mine) ∙ h.steps.steps.situation ∙ report_on e e.stage h.steps.word goes in
     stays_by old new p (Showing e) (Showing (show_steps.next_at e e.stage h.steps.word)) h.steps.at now tt (λ answer x. x)
 
-recovery_on : (e : PlainRecovery) (s : RecoverStage) (word : ℕ) → Stepped ≡ recovery_reply (recovery_steps.effect_at e s) → recovery_steps.after e s word ≡ Recovering (recovery_steps.next_at e s word)
+recovery_on : (e : PlainRecoverCall) (s : RecoverStage) (word : ℕ) → Stepped ≡ recovery_reply (recovery_steps.effect_at e s) → recovery_steps.after e s word ≡ Recovering (recovery_steps.next_at e s word)
 recovery_on e (recover_stages.Answer None) word is = absurd (cc)
 recovery_on e (recover_stages.Answer (Some how)) word is = absurd (cc)
 recovery_on e _ word is = refl
 
 recovery_stays : (old new : WorldValue) (p : ℕ) → RecoveryStepsBy old p Stepped new → StaysIn old p new
 recovery_stays old new p h =
-    let e : PlainRecovery = h.steps.recovery in
+    let e : PlainRecoverCall = h.steps.recovery in
     let goes : Stepped ≡ recovery_reply (recovery_steps.effect_at e e.stage) = h.is ∙ ap recovery_reply h.steps.is in
     let now : (world_of new).situation p ≡ Recovering (recovery_steps.next_at e e.stage h.steps.word) =
     ap (λ q. (world_of new).situation q) (sym h.steps.mine) ∙ h.steps.steps.situation ∙ recovery_on e e.stage h.steps.word goes in
@@ -147,12 +147,12 @@ answer_is : (kind : Answer → Type 0) (a b : Answer) → Answered a ≡ Answere
 answer_is kind a b is h = let same : a ≡ b = cc in subst kind (sym same) h
 
 -- what an edit does at a stage that answers
-record EditEnds (e : PlainEdit) (s : Stage) (word : ℕ) (answer : Answer) : Type 0 where
+record EditEnds (e : PlainEditCall) (s : Stage) (word : ℕ) (answer : Answer) : Type 0 where
   next : ℕ
   after : edit_worlds.after e s word ≡ Idle next
   is : IsEditAnswer answer
 
-edit_answered : (processes : ℕ) (e : PlainEdit) (s : Stage) (word : ℕ) (answer : Answer) → Answered answer ≡ reply_at processes e.number s → EditEnds e s word answer
+edit_answered : (processes : ℕ) (e : PlainEditCall) (s : Stage) (word : ℕ) (answer : Answer) → Answered answer ≡ reply_at processes e.number s → EditEnds e s word answer
 edit_answered processes e (stages.Answer outcomes.Done) word answer is = record { next = e.number + 1; after = refl; is = answer_is IsEditAnswer answer (answer_of processes e.number outcomes.Done) is tt }
 edit_answered processes e (stages.Answer (outcomes.Overtaken noted seen)) word answer is =
     record { next = e.number + 1; after = refl; is = answer_is IsEditAnswer answer (answer_of processes e.number (outcomes.Overtaken noted seen)) is tt }
@@ -174,7 +174,7 @@ each_work_answer work_ends.NoMemory = tt
 work_ends_in : (old new : WorldValue) (p : ℕ) (answer : Answer) → WorkStepsBy old p (Answered answer) new → EndsIn old p answer new
 work_ends_in old new p answer h = by h.what h.steps h.is
   where
-    turned : (e : PlainWork) (end : WorkEnd) → e.process ≡ p → (world_of old).situation p ≡ Working e → work_events.TakesTurn e (world_of old) (world_of new) (taken.Answered end) → Answered answer ≡ work_reply (taken.Answered end) → EndsIn old p answer new
+    turned : (e : PlainWorkCall) (end : WorkEnd) → e.process ≡ p → (world_of old).situation p ≡ Working e → work_events.TakesTurn e (world_of old) (world_of new) (taken.Answered end) → Answered answer ≡ work_reply (taken.Answered end) → EndsIn old p answer new
     turned e end mine at (work_events.answers _ at_answer s) is =
         ends_by old new p e.next (Working e) answer at (ap (λ q. (world_of new).situation q) (sym mine) ∙ s.situation) (answer_is IsWorkAnswer answer (work_answer end) is (each_work_answer end))
 
@@ -184,11 +184,11 @@ work_ends_in old new p answer h = by h.what h.steps h.is
     by taken.Stepped s is = absurd (cc)
 
 -- what a report does at a stage that answers
-record ReportEnds (e : PlainShow) (s : ShowStage) (word : ℕ) (answer : Answer) : Type 0 where
+record ReportEnds (e : PlainShowCall) (s : ShowStage) (word : ℕ) (answer : Answer) : Type 0 where
   after : show_steps.after e s word ≡ Idle e.next
   is : IsReportAnswer answer
 
-report_answered : (e : PlainShow) (s : ShowStage) (word : ℕ) (answer : Answer) → Answered answer ≡ report_reply (show_steps.effect_at s) → ReportEnds e s word answer
+report_answered : (e : PlainShowCall) (s : ShowStage) (word : ℕ) (answer : Answer) → Answered answer ≡ report_reply (show_steps.effect_at s) → ReportEnds e s word answer
 report_answered e (show_stages.Answer show_ends.Settled) word answer is = record { after = refl; is = answer_is IsReportAnswer answer (report_answer show_ends.Settled) is tt }
 report_answered e (show_stages.Answer (show_ends.AtMark cell seen)) word answer is = record { after = refl; is = answer_is IsReportAnswer answer (report_answer (show_ends.AtMark cell seen)) is tt }
 report_answered e (show_stages.Answer (show_ends.AtAnnounce q seen)) word answer is = record { after = refl; is = answer_is IsReportAnswer answer (report_answer (show_ends.AtAnnounce q seen)) is tt }
@@ -200,12 +200,12 @@ report_ends old new p answer h =
     ends_by old new p h.steps.show.next (Showing h.steps.show) answer h.steps.at (ap (λ q. (world_of new).situation q) (sym h.steps.mine) ∙ h.steps.steps.situation ∙ g.after) g.is
 
 -- what a recovery does at a stage that answers
-record RecoveryEnds (e : PlainRecovery) (s : RecoverStage) (word : ℕ) (answer : Answer) : Type 0 where
+record RecoveryEnds (e : PlainRecoverCall) (s : RecoverStage) (word : ℕ) (answer : Answer) : Type 0 where
   next : ℕ
   after : recovery_steps.after e s word ≡ Idle next
   is : IsRecoveryAnswer answer
 
-recovery_answered : (e : PlainRecovery) (s : RecoverStage) (word : ℕ) (answer : Answer) → Answered answer ≡ recovery_reply (recovery_steps.effect_at e s) → RecoveryEnds e s word answer
+recovery_answered : (e : PlainRecoverCall) (s : RecoverStage) (word : ℕ) (answer : Answer) → Answered answer ≡ recovery_reply (recovery_steps.effect_at e s) → RecoveryEnds e s word answer
 recovery_answered e (recover_stages.Answer None) word answer is = record { next = 0; after = refl; is = answer_is IsRecoveryAnswer answer (recovery_answer recovery_ends.Nothing) is tt }
 recovery_answered e (recover_stages.Answer (Some how)) word answer is =
     record { next = e.announcement / 4; after = refl; is = answer_is IsRecoveryAnswer answer (recovery_answer (recovery_steps.end_of e (Some how))) is tt }

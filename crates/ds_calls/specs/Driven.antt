@@ -3,7 +3,7 @@ use Rattle.std.specs.Prelude.{ℕ, ◌≡◌, Result, Ok, Err}
 use Rattle.ds_state.specs.declared.refusal.Refusal.{Refusal}
 use Rattle.ds_core.specs.declared.reply.Reply.{Reply}
 use Rattle.ds_state.specs.Value.{WorldValue, world_of}
-use Rattle.ds_state.specs.Works.{PlainWork}
+use Rattle.ds_state.specs.Works.{PlainWorkCall}
 use Rattle.ds_work.specs.WorkTakes.{Waits}
 use Rattle.ds_edit.specs.declared.answer.Answer.{Answer}
 use Rattle.ds_core.specs.Takes.{Fits}
@@ -15,7 +15,7 @@ use Rattle.ds_calls.specs.Whole.{IsCalling, IsIdle, HasBegun, Finishes}
 
 -- no work of the process waits for an entry
 abbrev pub IsNotWaiting : WorldValue → ℕ → Type 0
-IsNotWaiting v p = (e : PlainWork) → Waits (world_of v) p e → ⊥
+IsNotWaiting v p = (e : PlainWorkCall) → Waits (world_of v) p e → ⊥
 
 -- the event that the process wants leaves it in its call, of the same kind
 pub record GoesOn (old : WorldValue) (p : ℕ) (new : WorldValue) : Type 0 where

@@ -5,10 +5,10 @@ use Rattle.ds_layout.specs.declared.mark.State.TheVariants.{Clean, Marked, Held}
 use Rattle.ds_layout.specs.Mark.{state_of}
 use Rattle.ds_layout.specs.Places.{cells_of}
 use Rattle.ds_state.specs.Shown.{mark_at}
-use Rattle.ds_state.specs.World.{World}
+use Rattle.ds_state.specs.World.{PlainWorld}
 
 -- what the mark of the cell says: clean, marked or held
-abbrev pub state_at : World → ℕ → State
+abbrev pub state_at : PlainWorld → ℕ → State
 state_at w cell = state_of (mark_at w.layout w.memory cell)
 
 -- whether a mark says that the cell is marked
@@ -24,15 +24,15 @@ is_clean Marked = false
 is_clean (Held process) = false
 
 -- the first cell that is marked, of so many from this one on
-abbrev pub marked_from : World → ℕ → ℕ → Option ℕ
+abbrev pub marked_from : PlainWorld → ℕ → ℕ → Option ℕ
 marked_from w zero cell = None
 marked_from w (suc more) cell = if is_marked (state_at w cell) then Some cell else marked_from w more (cell + 1)
 
 -- how many of the first cells, this many, are marked or held
-abbrev pub left_below : World → ℕ → ℕ
+abbrev pub left_below : PlainWorld → ℕ → ℕ
 left_below w zero = 0
 left_below w (suc cell) = if is_clean (state_at w cell) then left_below w cell else suc (left_below w cell)
 
 -- how many cells of the sheet are marked or held
-abbrev pub left_in : World → ℕ
+abbrev pub left_in : PlainWorld → ℕ
 left_in w = left_below w (cells_of w.layout)

@@ -3,7 +3,7 @@ use Rattle.std.specs.Prelude.{ℕ}
 use Rattle.ds_formula.specs.declared.cells.Shape.{Shape}
 use Rattle.ds_eval.specs.Tasks.{PlainEvaluated, local_of}
 use Rattle.ds_state.specs.Value.{WorldValue, world_of}
-use Rattle.ds_state.specs.Works.{PlainWork}
+use Rattle.ds_state.specs.Works.{PlainWorkCall}
 use Rattle.ds_state.specs.declared.work.WorkStage.{WorkStage}
 use Rattle.ds_state.specs.declared.work.WorkStage.TheVariants.{Wait}
 use Rattle.ds_state.specs.declared.situation.Situation.{Situation}
@@ -13,11 +13,11 @@ use Rattle.ds_core.specs.declared.event.Event.{Event}
 use Rattle.ds_core.specs.declared.event.Event.TheVariants.{Step, Offer}
 
 -- the task of a work that waits, evaluated
-abbrev pub evaluated : Shape → PlainWork → PlainEvaluated
+abbrev pub evaluated : Shape → PlainWorkCall → PlainEvaluated
 evaluated shape e = record { task = task_at shape e; entry = local_of (task_at shape e) }
 
 -- the event that a process in work wants at a stage: where the work waits, the offer of its entry; else a step
-abbrev pub wanted_at : ℕ → Shape → PlainWork → WorkStage → Event
+abbrev pub wanted_at : ℕ → Shape → PlainWorkCall → WorkStage → Event
 wanted_at p shape e Wait = Offer (evaluated shape e)
 wanted_at p shape e stage = Step p
 

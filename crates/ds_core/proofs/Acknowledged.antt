@@ -5,7 +5,7 @@ use Rattle.std.proofs.lemmas.Bool.Decides.{eqb_tells}
 use Rattle.std.proofs.lemmas.List.Elements.{All-contains}
 use Rattle.ds_formula.specs.declared.cells.Shape.{Shape}
 use Rattle.ds_formula.specs.Cells.{index_of}
-use Rattle.ds_state.specs.World.{Edit, is_edit_of}
+use Rattle.ds_state.specs.World.{PlainEdit, is_edit_of}
 use Rattle.ds_state.specs.Value.{WorldValue}
 use Rattle.ds_core.specs.Requests.{PlainRequest}
 use Rattle.ds_core.specs.Moments.{Placed, Open, Closed, Ledger, Moment, AreApart, NoneTwice, edits_in}
@@ -72,8 +72,8 @@ pub record WasBegun (events : List Event) (replies : List Reply) (shape : Shape)
 -- only the begin of an edit issues one
 was_begun : (events : List Event) (replies : List Reply) (shape : Shape) (e : Placed) (event : Event) (reply : Reply) → Happens events replies e.place event reply → IsIssueOf shape event reply e.edit → WasBegun events replies shape e
 was_begun events replies shape e (BeginEdit r) (Begun number) happens is =
-    let process : r.process ≡ e.edit.process = sym (ap (λ (x : Edit). x.process) is) in
-    let n : number ≡ e.edit.number = sym (ap (λ (x : Edit). x.number) is) in
+    let process : r.process ≡ e.edit.process = sym (ap (λ (x : PlainEdit). x.process) is) in
+    let n : number ≡ e.edit.number = sym (ap (λ (x : PlainEdit). x.number) is) in
     record {
       request = r;
       begun = subst (λ i. Happens events replies e.place (BeginEdit r) (Begun i)) n happens;
@@ -119,9 +119,9 @@ module _ (old : WorldValue) (events : List Event) (replies : List Reply) (new : 
       earlier = early;
       begun = subst (λ i. Happens events replies it.place (BeginEdit begun.request) (Begun i)) number begun.begun;
       mine = begun.process ∙ process;
-      once = ap (λ (es : List Edit). filter (is_edit_of p n) es) (sym last_list)
+      once = ap (λ (es : List PlainEdit). filter (is_edit_of p n) es) (sym last_list)
           ∙ just_one p n (at (length events)).counted it (h.run.fits (length events) (omega arith)).once stands process number
-          ∙ ap (λ (x : Edit). x ∷ []) (begun.is ∙ ap (λ i. record { process = i; number = it.edit.number; cell = index_of old.sheet.layout.shape begun.request.cell; text = begun.request.text }) process
+          ∙ ap (λ (x : PlainEdit). x ∷ []) (begun.is ∙ ap (λ i. record { process = i; number = it.edit.number; cell = index_of old.sheet.layout.shape begun.request.cell; text = begun.request.text }) process
           ∙ ap (λ i. record { process = p; number = i; cell = index_of old.sheet.layout.shape begun.request.cell; text = begun.request.text }) number);
     }
 
@@ -164,7 +164,7 @@ module _ (old : WorldValue) (events : List Event) (replies : List Reply) (new : 
     unfolding stands_once begun
     by_closed place it low until closed there number cell =
         let b = begun k p told.number place it low until closed there number in
-        record { it = stands_once k p told.number place it low until closed there number; cell = sym cell ∙ ap (λ (x : Edit). x.cell) b.is }
+        record { it = stands_once k p told.number place it low until closed there number; cell = sym cell ∙ ap (λ (x : PlainEdit). x.cell) b.is }
 
     by_told : (o : Option Closed) → (at k).told p ≡ o → Last told ≡ told_of o → IsDone
     by_told None is same = absurd (cc)

@@ -1,9 +1,9 @@
 -- A call that is alone, and makes enough steps, is answered as it may be.
 use Rattle.std.proofs.Common.{ℕ, ◌≡◌, ◌<◌, ◌≤◌, ◌+◌, ◌*◌, ◌/◌, List, [], ◌∷◌, sym, subst, arith, zero, suc, length, Some}
 use Rattle.std.specs.Prelude.{slice_get}
-use Rattle.ds_state.specs.Edits.{PlainEdit}
-use Rattle.ds_state.specs.World.{World}
-use Rattle.ds_state.specs.Works.{PlainWork}
+use Rattle.ds_state.specs.Edits.{PlainEditCall}
+use Rattle.ds_state.specs.World.{PlainWorld}
+use Rattle.ds_state.specs.Works.{PlainWorkCall}
 use Rattle.ds_state.specs.Value.{WorldValue, world_of}
 use Rattle.ds_state.specs.Sound.{IsSound}
 use Rattle.ds_state.specs.declared.stage.Stage.TheVariants.{StoreHeader}
@@ -40,7 +40,7 @@ done_there number [] k answer all is = absurd (cc)
 done_there number (reply ∷ replies) zero answer all is = let same : reply ≡ Answered answer = cc in subst (λ (r : Reply). IsDoneOnly number r) same all.0
 done_there number (reply ∷ replies) (suc k) answer all is = done_there number replies k answer all.1 is
 
-pub solo_answered : (old : WorldValue) (events : List Event) (replies : List Reply) (new : WorldValue) (p : ℕ) (e : PlainEdit) → IsSound (world_of old) → p < old.sheet.layout.processes
+pub solo_answered : (old : WorldValue) (events : List Event) (replies : List Reply) (new : WorldValue) (p : ℕ) (e : PlainEditCall) → IsSound (world_of old) → p < old.sheet.layout.processes
     → (world_of old).situation p ≡ Editing e → e.stage ≡ StoreHeader → WorldRun old events replies new → IsSolo p events → 67 + 3 * length e.refs ≤ own_steps p events replies
     → (k : ℕ) × Happens events replies k (Step p) (Answered (Done e.number))
 solo_answered old events replies new p e sound low at first run solo enough =
@@ -59,12 +59,12 @@ lone_unhalted p (event ∷ events) lone = (one event lone.0, lone_unhalted p eve
     one Crash lone = absurd lone
     one _ lone = tt
 
-lone_there : (first last : World) (cell : ℕ) (replies : List Reply) (k : ℕ) (answer : Answer) → AreLoneReplies first last cell replies → slice_get replies k ≡ Some (Answered answer) → IsLoneAnswer first last cell answer
+lone_there : (first last : PlainWorld) (cell : ℕ) (replies : List Reply) (k : ℕ) (answer : Answer) → AreLoneReplies first last cell replies → slice_get replies k ≡ Some (Answered answer) → IsLoneAnswer first last cell answer
 lone_there first last cell [] k answer all is = absurd (cc)
 lone_there first last cell (reply ∷ replies) zero answer all is = let same : reply ≡ Answered answer = cc in subst (λ (r : Reply). IsLoneReply first last cell r) same all.0
 lone_there first last cell (reply ∷ replies) (suc k) answer all is = lone_there first last cell replies k answer all.1 is
 
-pub lone_answered : (old : WorldValue) (events : List Event) (replies : List Reply) (new : WorldValue) (p : ℕ) (e : PlainWork) → IsSound (world_of old) → p < old.sheet.layout.processes
+pub lone_answered : (old : WorldValue) (events : List Event) (replies : List Reply) (new : WorldValue) (p : ℕ) (e : PlainWorkCall) → IsSound (world_of old) → p < old.sheet.layout.processes
     → (world_of old).situation p ≡ Working e → e.stage ≡ LoadMark → IsMarkedAt (world_of old) e → WorldRun old events replies new → IsLone p events
     → 5 * e.cells + (e.cells + 63) / 64 + 36 ≤ own_steps p events replies
     → (k : ℕ) × (answer : Answer) × Happens events replies k (Step p) (Answered answer)

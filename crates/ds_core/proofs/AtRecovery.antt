@@ -4,8 +4,8 @@ use Rattle.std.specs.Prelude.{Option}
 use Rattle.std.proofs.lemmas.Bool.{cases_eq}
 use Rattle.ds_layout.specs.SheetMemory.{PerformsAt}
 use Rattle.ds_layout.specs.declared.layout.Layout.{Layout}
-use Rattle.ds_state.specs.World.{Issue}
-use Rattle.ds_state.specs.Works.{PlainShow, PlainRecovery}
+use Rattle.ds_state.specs.World.{PlainIssue}
+use Rattle.ds_state.specs.Works.{PlainShowCall, PlainRecoverCall}
 use Rattle.ds_state.specs.CallsFit.{CallFits}
 use Rattle.ds_state.specs.Value.{WorldValue, world_of, IsGood}
 use Rattle.ds_state.specs.declared.situation.Situation.{Situation}
@@ -24,7 +24,7 @@ use Rattle.ds_core.proofs.Ledgers.{IsOf, IsOpenAs, SaysSame, says_same, doubts, 
 -- ---- it begins: an open edit of its process is in doubt
 
 module _ (layout : Layout) (l : Ledger) (v v' : WorldValue) (h : IsOf layout l v) (good : IsGood v') (p : ℕ) (b : RecoveryBegins v p v') where
-  doubted : (s : Situation) → (world_of v).situation p ≡ s → MayRecover s → (issue : Issue) → (world_of v).open_edits p ≡ Some issue → doubts s ≡ true
+  doubted : (s : Situation) → (world_of v).situation p ≡ s → MayRecover s → (issue : PlainIssue) → (world_of v).open_edits p ≡ Some issue → doubts s ≡ true
   doubted (Idle n) is free issue at = absurd (let f = subst (λ (x : Situation). CallFits (world_of v) p x) is (h.good.sound.calls p b.there) in no_some ((world_of v).open_edits p) issue f.open_edits at)
   doubted Stopped is free issue at = refl
   doubted (Editing e) is free issue at = absurd free
@@ -32,7 +32,7 @@ module _ (layout : Layout) (l : Ledger) (v v' : WorldValue) (h : IsOf layout l v
   doubted (Recovering e) is free issue at = absurd free
   doubted (Showing e) is free issue at = absurd free
 
-  same_doubt : (q : ℕ) (issue : Issue) → (world_of v).open_edits q ≡ Some issue → doubts ((world_of v).situation q) ≡ doubts ((world_of v').situation q)
+  same_doubt : (q : ℕ) (issue : PlainIssue) → (world_of v).open_edits q ≡ Some issue → doubts ((world_of v).situation q) ≡ doubts ((world_of v').situation q)
   same_doubt q issue was = elim (cases_eq q p) [
     | inl here ↦ ap (λ x. doubts ((world_of v).situation x)) here ∙ doubted ((world_of v).situation p) refl b.begun.free issue (ap (λ x. (world_of v).open_edits x) (sym here) ∙ was)
         ∙ sym (ap doubts (ap (λ x. (world_of v').situation x) here ∙ b.begun.begins.situation))
@@ -54,25 +54,25 @@ module _ (layout : Layout) (l : Ledger) (v v' : WorldValue) (h : IsOf layout l v
 
 -- ---- it goes on
 
-after_on : (f : PlainRecovery) (x : RecoverStage) (word : ℕ) → steps.effect_at f x ≡ effects.GoesOn → steps.after f x word ≡ Recovering (steps.next_at f x word)
+after_on : (f : PlainRecoverCall) (x : RecoverStage) (word : ℕ) → steps.effect_at f x ≡ effects.GoesOn → steps.after f x word ≡ Recovering (steps.next_at f x word)
 after_on f (stages.Answer how) word is = absurd (cc)
 after_on f _ word is = refl
 
-same_pending : (f : PlainRecovery) (x : RecoverStage) (o : Option Issue) → steps.effect_at f x ≡ effects.GoesOn → steps.open_edit_at o x ≡ o
+same_pending : (f : PlainRecoverCall) (x : RecoverStage) (o : Option PlainIssue) → steps.effect_at f x ≡ effects.GoesOn → steps.open_edit_at o x ≡ o
 same_pending f (stages.Answer how) o is = absurd (cc)
 same_pending f _ o is = refl
 
 module _ (v v' : WorldValue) (p : ℕ) (reply : Reply) (s : RecoveryStepsBy v p reply v') where
   pub recovery_access : OneAccess p (world_of v).memory (world_of v').memory
   recovery_access =
-      let e : PlainRecovery = s.steps.recovery in
+      let e : PlainRecoverCall = s.steps.recovery in
       (steps.access_at e e.stage, s.steps.word, subst (λ (q : ℕ). PerformsAt (steps.access_at e e.stage) q (world_of v).memory (world_of v').memory s.steps.word) s.steps.mine s.steps.steps.memory)
 
-  after_shows_not : (f : PlainRecovery) (x : RecoverStage) (word : ℕ) (g : PlainShow) → steps.after f x word ≡ Showing g → ⊥
+  after_shows_not : (f : PlainRecoverCall) (x : RecoverStage) (word : ℕ) (g : PlainShowCall) → steps.after f x word ≡ Showing g → ⊥
   after_shows_not f (stages.Answer how) word g is = (cc)
   after_shows_not f _ word g is = (cc)
 
-  pub recovery_shows_not : (g : PlainShow) → (world_of v').situation p ≡ Showing g → ⊥
+  pub recovery_shows_not : (g : PlainShowCall) → (world_of v').situation p ≡ Showing g → ⊥
   recovery_shows_not g is = after_shows_not s.steps.recovery s.steps.recovery.stage s.steps.word g (sym s.steps.steps.situation ∙ ap (λ q. (world_of v').situation q) s.steps.mine ∙ is)
 
   module _ (goes : s.what ≡ effects.GoesOn) where

@@ -2,7 +2,7 @@
 use Rattle.std.proofs.Common.{ℕ, ◌≡◌, refl, ap, sym, ◌∙◌, inl, inr, Bool, true, false, Some, length}
 use Rattle.std.specs.Prelude.{nat_lt, if◌then◌else◌}
 use Rattle.std.proofs.lemmas.Bool.{cases_eq}
-use Rattle.ds_state.specs.Works.{PlainWork, PlainShow}
+use Rattle.ds_state.specs.Works.{PlainWorkCall, PlainShowCall}
 use Rattle.ds_state.specs.Value.{WorldValue, world_of}
 use Rattle.ds_state.specs.declared.situation.Situation.{Situation}
 use Rattle.ds_state.specs.declared.situation.Situation.TheVariants.{Idle, Working, Showing}
@@ -20,7 +20,7 @@ use Rattle.ds_core.proofs.Turns.{IsTurn}
 
 -- at work, or idle, with this number next
 pub data IsAtWork (n : ℕ) (s : Situation) : Type 0 where
-  in_work : (e : PlainWork) → e.next ≡ n → s ≡ Working e → IsAtWork n s
+  in_work : (e : PlainWorkCall) → e.next ≡ n → s ≡ Working e → IsAtWork n s
   at_rest : s ≡ Idle n → IsAtWork n s
 
 says_number : (n : ℕ) (s : Situation) → IsAtWork n s → numbered s ≡ Some n
@@ -31,7 +31,7 @@ pub at_work_sure : (n : ℕ) (s : Situation) → IsAtWork n s → doubts s ≡ f
 at_work_sure n s (in_work e next is) = ap doubts is
 at_work_sure n s (at_rest is) = ap doubts is
 
-pub at_work_shows_not : (n : ℕ) (s : Situation) → IsAtWork n s → (f : PlainShow) → s ≡ Showing f → ⊥
+pub at_work_shows_not : (n : ℕ) (s : Situation) → IsAtWork n s → (f : PlainShowCall) → s ≡ Showing f → ⊥
 at_work_shows_not n s (in_work e next is) f at = (let bad : Working e ≡ Showing f = sym is ∙ at in cc)
 at_work_shows_not n s (at_rest is) f at = (let bad : Idle n ≡ Showing f = sym is ∙ at in cc)
 
@@ -54,19 +54,19 @@ work_says p old new s turn q = elim (cases_eq q p) [
 
 -- ---- its steps
 
-next_if : (b : Bool) (x y : PlainWork) (n : ℕ) → x.next ≡ n → y.next ≡ n → (if b then x else y).next ≡ n
+next_if : (b : Bool) (x y : PlainWorkCall) (n : ℕ) → x.next ≡ n → y.next ≡ n → (if b then x else y).next ≡ n
 next_if true x y n a c = a
 next_if false x y n a c = c
 
-module _ (p : ℕ) (old new : WorldValue) (e : PlainWork) (mine : e.process ≡ p) (is : (world_of old).situation p ≡ Working e) where
+module _ (p : ℕ) (old new : WorldValue) (e : PlainWorkCall) (mine : e.process ≡ p) (is : (world_of old).situation p ≡ Working e) where
   here : (s : Situation) → (world_of new).situation e.process ≡ s → (world_of new).situation p ≡ s
   here s at = ap (λ x. (world_of new).situation x) (sym mine) ∙ at
 
-  by_turn : (f : PlainWork) → f.next ≡ e.next → (world_of new).situation e.process ≡ Working f → StaysAtWork p old new
+  by_turn : (f : PlainWorkCall) → f.next ≡ e.next → (world_of new).situation e.process ≡ Working f → StaysAtWork p old new
   by_turn f same at = record { number = e.next; was = in_work e refl is; now = in_work f same (here _ at) }
 
   by_taken : (what : Taken) → works.TakesTurn e (world_of old) (world_of new) what → StaysAtWork p old new
-  by_taken what (works.steps word t on) = by_turn (work_steps.next_at e e.stage word) (ap (λ (f : PlainWork). f.next) (next_noted e word e.stage)) (t.situation ∙ after_on e e.stage word on)
+  by_taken what (works.steps word t on) = by_turn (work_steps.next_at e e.stage word) (ap (λ (f : PlainWorkCall). f.next) (next_noted e word e.stage)) (t.situation ∙ after_on e e.stage word on)
   by_taken what (works.reads content inputs at t) = by_turn (work_steps.read_from e content inputs) (next_if (nat_lt 0 (length inputs)) _ _ e.next refl refl) t.turn.situation
   by_taken what (works.lacked at t) = by_turn (work_steps.lacks e) refl t.situation
   by_taken what (works.answers end at t) = record { number = e.next; was = in_work e refl is; now = at_rest (here _ t.situation) }

@@ -1,9 +1,9 @@
 -- What one step leaves of an edit; what runs keep.
 use Rattle.std.proofs.Common.{ℕ, ◌≡◌, ◌<◌, List, [], ◌∷◌, refl, ap, sym, ◌∙◌, subst, Some, None}
 use Rattle.std.specs.Prelude.{Option}
-use Rattle.ds_state.specs.Edits.{PlainEdit}
-use Rattle.ds_state.specs.World.{World}
-use Rattle.ds_state.specs.Works.{PlainWork}
+use Rattle.ds_state.specs.Edits.{PlainEditCall}
+use Rattle.ds_state.specs.World.{PlainWorld}
+use Rattle.ds_state.specs.Works.{PlainWorkCall}
 use Rattle.ds_work.specs.declared.drive.Taken.{Taken}
 use Rattle.ds_work.specs.WorkTakes as work_events
 use Rattle.ds_state.specs.Value.{WorldValue, world_of}
@@ -30,26 +30,26 @@ pub unanswered_at : (processes number : ℕ) (o : Option Outcome) → Stepped �
 unanswered_at processes number None is = refl
 unanswered_at processes number (Some how) is = absurd (cc)
 
-pub after_on : (e : PlainEdit) (s : Stage) (word : ℕ) → outcome_at s ≡ None → after e s word ≡ Editing (record e { stage = next_at e s word })
+pub after_on : (e : PlainEditCall) (s : Stage) (word : ℕ) → outcome_at s ≡ None → after e s word ≡ Editing (record e { stage = next_at e s word })
 after_on e (Answer how) word is = absurd (cc)
 after_on e _ word is = refl
 
-falls_on : (e : PlainEdit) (s x : Stage) → outcome_at s ≡ None → Falls e s x → rank e x < rank e s
+falls_on : (e : PlainEditCall) (s x : Stage) → outcome_at s ≡ None → Falls e s x → rank e x < rank e s
 falls_on e (Answer how) x is h = absurd (cc)
 falls_on e _ x is h = h
 
-pub editing_same : (s : Situation) (e f : PlainEdit) → s ≡ Editing e → s ≡ Editing f → e ≡ f
+pub editing_same : (s : Situation) (e f : PlainEditCall) → s ≡ Editing e → s ≡ Editing f → e ≡ f
 editing_same s e f a b = let one : Editing e ≡ Editing f = sym a ∙ b in cc
 
 -- the process is in the edit that this one has come to be, with fewer steps left
-pub record EditGoesOn (p : ℕ) (e : PlainEdit) (new : WorldValue) : Type 0 where
-  pub edit : PlainEdit
+pub record EditGoesOn (p : ℕ) (e : PlainEditCall) (new : WorldValue) : Type 0 where
+  pub edit : PlainEditCall
   pub edits : (world_of new).situation p ≡ Editing edit
   pub fewer : rank edit edit.stage < rank e e.stage
 
 pub edit_goes_on : (old new : WorldValue) (p : ℕ) → IsSound (world_of old) → (h : EditStepsBy old p Stepped new) → EditGoesOn p h.edit new
 edit_goes_on old new p sound h =
-    let e : PlainEdit = h.edit in
+    let e : PlainEditCall = h.edit in
     let fits : EditFits (world_of old) p e = subst (λ (x : Situation). CallFits (world_of old) p x) h.at (sound.calls p h.there) in
     let goes : outcome_at e.stage ≡ None = unanswered_at old.sheet.layout.processes e.number (outcome_at e.stage) h.is in
     record {
@@ -58,7 +58,7 @@ edit_goes_on old new p sound h =
       fewer = falls_on e e.stage _ goes (each_falls e h.word fits.is);
     }
 
-work_layout : (old new : World) (e : PlainWork) (what : Taken) → work_events.TakesTurn e old new what → new.layout ≡ old.layout
+work_layout : (old new : PlainWorld) (e : PlainWorkCall) (what : Taken) → work_events.TakesTurn e old new what → new.layout ≡ old.layout
 work_layout old new e what (work_events.steps word t on) = t.layout
 work_layout old new e what (work_events.reads content inputs at t) = t.turn.layout
 work_layout old new e what (work_events.lacked at t) = t.layout

@@ -2,10 +2,10 @@
 use Rattle.std.proofs.Common.{ℕ, ◌≡◌, ◌≢◌, ◌<◌, ◌≤◌, ◌+◌, ◌*◌, ◌/◌, ◌==◌, ◌⊎◌, List, [], ◌∷◌, refl, ap, sym, ◌∙◌, subst, arith, inl, inr, suc, length, Some, false}
 use Rattle.std.specs.Prelude.{if◌then◌else◌}
 use Rattle.std.proofs.lemmas.Bool.Decides.{eqb_tells}
-use Rattle.ds_state.specs.Edits.{PlainEdit}
-use Rattle.ds_state.specs.Works.{PlainWork, PlainShow, PlainRecovery}
+use Rattle.ds_state.specs.Edits.{PlainEditCall}
+use Rattle.ds_state.specs.Works.{PlainWorkCall, PlainShowCall, PlainRecoverCall}
 use Rattle.ds_state.specs.Value.{WorldValue, world_of}
-use Rattle.ds_state.specs.World.{World}
+use Rattle.ds_state.specs.World.{PlainWorld}
 use Rattle.ds_state.specs.CallsFit.{CallFits}
 use Rattle.ds_state.specs.ShowStages.{IsStage}
 use Rattle.ds_state.specs.Sound.{IsSound}
@@ -162,7 +162,7 @@ goes_on (event ∷ events) [] old new p sound low calls run u = absurd run
 
 -- ---- a call has a step left, and few
 
-pub work_some : (r : ℕ) (e : PlainWork) (s : WorkStage) → 0 < left r e s
+pub work_some : (r : ℕ) (e : PlainWorkCall) (s : WorkStage) → 0 < left r e s
 work_some r e works.LoadMark = omega arith
 work_some r e works.Claim = omega arith
 work_some r e works.FlushClaim = omega arith
@@ -194,7 +194,7 @@ work_some r e (works.FlushCleared end) = omega arith
 work_some r e (works.BackCleared end) = omega arith
 work_some r e (works.Answer end) = omega arith
 
-show_some : (e : PlainShow) (s : ShowStage) → IsStage e s → 0 < rank_in e.processes e.cells s
+show_some : (e : PlainShowCall) (s : ShowStage) → IsStage e s → 0 < rank_in e.processes e.cells s
 show_some e (shows.LoadAnnounce i) h = let low = h.0 in omega (arith, low)
 show_some e (shows.LoadMark i) h = let low = h.0 in omega (arith, low)
 show_some e (shows.LoadValue i) h = let low = h.0 in omega (arith, low)
@@ -231,7 +231,7 @@ recovery_some cells (recoveries.FlushOutcome how) = omega arith
 recovery_some cells (recoveries.BackOutcome how) = omega arith
 recovery_some cells (recoveries.Answer how) = omega arith
 
-some_left : (w : World) (p : ℕ) (s : Situation) → CallFits w p s → IsInCall s → 0 < left_in s
+some_left : (w : PlainWorld) (p : ℕ) (s : Situation) → CallFits w p s → IsInCall s → 0 < left_in s
 some_left w p (Idle n) fits calls = absurd calls
 some_left w p Stopped fits calls = absurd calls
 some_left w p (Editing e) fits calls = each_some e fits.is
@@ -250,25 +250,25 @@ short old events replies new p sound low calls run u =
     omega (arith, some, few)
 
 -- what is left of a call at most
-pub edit_left : (v : WorldValue) (p : ℕ) (e : PlainEdit) → IsSound (world_of v) → p < v.sheet.layout.processes → (world_of v).situation p ≡ Editing e → steps_left p v ≤ 67 + 3 * length e.refs
+pub edit_left : (v : WorldValue) (p : ℕ) (e : PlainEditCall) → IsSound (world_of v) → p < v.sheet.layout.processes → (world_of v).situation p ≡ Editing e → steps_left p v ≤ 67 + 3 * length e.refs
 edit_left v p e sound low at =
     let fits = subst (λ (x : Situation). CallFits (world_of v) p x) at (sound.calls p low) in
     let few = each_few e fits.is in
     let is : steps_left p v ≡ left_in (Editing e) = ap left_in at in
     omega (arith, few, is)
 
-pub work_left : (v : WorldValue) (p : ℕ) (e : PlainWork) → (world_of v).situation p ≡ Working e → e.stage ≡ works.LoadMark → steps_left p v ≤ 5 * e.cells + (e.cells + 63) / 64 + 36
+pub work_left : (v : WorldValue) (p : ℕ) (e : PlainWorkCall) → (world_of v).situation p ≡ Working e → e.stage ≡ works.LoadMark → steps_left p v ≤ 5 * e.cells + (e.cells + 63) / 64 + 36
 work_left v p e at first =
     let is : steps_left p v ≡ left e.cells e works.LoadMark = ap left_in at ∙ ap (λ s. left e.cells e s) first in
     omega (arith, is)
 
-pub report_left : (v : WorldValue) (p : ℕ) (e : PlainShow) → (world_of v).situation p ≡ Showing e → steps_left p v ≤ 2 * e.processes + 4 * e.cells + 1
+pub report_left : (v : WorldValue) (p : ℕ) (e : PlainShowCall) → (world_of v).situation p ≡ Showing e → steps_left p v ≤ 2 * e.processes + 4 * e.cells + 1
 report_left v p e at =
     let few = show_laws.each_few e in
     let is : steps_left p v ≡ left_in (Showing e) = ap left_in at in
     omega (arith, few, is)
 
-pub recovery_left : (v : WorldValue) (p : ℕ) (e : PlainRecovery) → IsSound (world_of v) → p < v.sheet.layout.processes → (world_of v).situation p ≡ Recovering e → steps_left p v ≤ e.cells * (3 * e.cells + 30) + 20
+pub recovery_left : (v : WorldValue) (p : ℕ) (e : PlainRecoverCall) → IsSound (world_of v) → p < v.sheet.layout.processes → (world_of v).situation p ≡ Recovering e → steps_left p v ≤ e.cells * (3 * e.cells + 30) + 20
 recovery_left v p e sound low at =
     let fits = subst (λ (x : Situation). CallFits (world_of v) p x) at (sound.calls p low) in
     let few = recovery_ranks.each_few e fits.is in
@@ -328,7 +328,7 @@ wait_free old events replies new p sound low calls run on enough =
     let f = answered old events replies new p sound low calls run on enough in
     (f.k, f.answer, f.happens)
 
-pub edit_few : (old : WorldValue) (events : List Event) (replies : List Reply) (new : WorldValue) (p : ℕ) (e : PlainEdit) → IsSound (world_of old) → p < old.sheet.layout.processes → (world_of old).situation p ≡ Editing e
+pub edit_few : (old : WorldValue) (events : List Event) (replies : List Reply) (new : WorldValue) (p : ℕ) (e : PlainEditCall) → IsSound (world_of old) → p < old.sheet.layout.processes → (world_of old).situation p ≡ Editing e
     → WorldRun old events replies new → AreUnanswered p events replies → own_steps p events replies < 67 + 3 * length e.refs
 edit_few old events replies new p e sound low at run u =
     let few = edit_left old p e sound low at in

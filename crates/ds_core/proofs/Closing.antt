@@ -3,7 +3,7 @@ use Rattle.std.proofs.Common.{ℕ, ◌≡◌, ◌≢◌, ◌<◌, ◌≤◌, ◌
 use Rattle.std.specs.Prelude.{Contains, filter, slice_get, ◌↔◌}
 use Rattle.std.proofs.lemmas.Bool.{cases_lt}
 use Rattle.std.proofs.lemmas.List.Elements.{All-filter, All-contains, All-contains_itself, filter-append, Contains-append_cases, Contains-append_left}
-use Rattle.ds_state.specs.World.{Edit}
+use Rattle.ds_state.specs.World.{PlainEdit}
 use Rattle.ds_state.specs.Value.{WorldValue}
 use Rattle.ds_core.specs.Moments.{Placed, Open, Ledger, Moment, empty_ledger}
 use Rattle.ds_core.specs.Headline.{IsIssueOf, Happens, RunFits, Precedes, IsClosed, Headline}
@@ -51,7 +51,7 @@ pub record Orderly (k : ℕ) (l : Ledger) : Type 0 where
 orderly_empty : (k : ℕ) → Orderly k empty_ledger
 orderly_empty k = record { places = λ e h. absurd (contains_none e h); opens = λ q o h. absurd (cc); mine = λ q o h. absurd (cc) }
 
-orderly_next : {I : Edit → Type 0} (k : ℕ) (old new : Ledger) → Orderly k old → Moved k I old new → Orderly (k + 1) new
+orderly_next : {I : PlainEdit → Type 0} (k : ℕ) (old new : Ledger) → Orderly k old → Moved k I old new → Orderly (k + 1) new
 orderly_next k old new h m = record {
   places = λ e there. elim m.counted [
     | inl same ↦ (let l = h.places e (subst (λ (es : List Placed). Contains es e) same there) in omega arith)
@@ -73,7 +73,7 @@ pub record IsAway (k : ℕ) (l : Ledger) (e : Placed) : Type 0 where
   pub early : e.place < k
   pub closed : (q : ℕ) (o : Open) → l.opens q ≡ Some o → o.it ≢ e
 
-away_next : {I : Edit → Type 0} (k : ℕ) (old new : Ledger) (e : Placed) → IsAway k old e → Moved k I old new → IsAway (k + 1) new e
+away_next : {I : PlainEdit → Type 0} (k : ℕ) (old new : Ledger) (e : Placed) → IsAway k old e → Moved k I old new → IsAway (k + 1) new e
 away_next k old new e h m = record {
   early = (let l = h.early in omega arith);
   closed = λ q o is same. elim (m.opens q o is) [
@@ -83,7 +83,7 @@ away_next k old new e h m = record {
 }
 
 -- what stays of an edit that is not open
-kept_out : {I : Edit → Type 0} (k : ℕ) (old new : Ledger) (e : Placed) → IsAway k old e → Moved k I old new → Contains new.counted e ↔ Contains old.counted e
+kept_out : {I : PlainEdit → Type 0} (k : ℕ) (old new : Ledger) (e : Placed) → IsAway k old e → Moved k I old new → Contains new.counted e ↔ Contains old.counted e
 kept_out k old new e away m = elim m.counted [
   | inl same ↦ (λ h. subst (λ (es : List Placed). Contains es e) same h, λ h. subst (λ (es : List Placed). Contains es e) (sym same) h)
   | inr (inl push) ↦ (
@@ -108,7 +108,7 @@ pub record ClosedNow (k : ℕ) (old new : Ledger) (e : Placed) : Type 0 where
   pub same : Contains new.counted e ↔ Contains old.counted e
   pub away : IsAway (k + 1) new e
 
-closed_now : {I : Edit → Type 0} (k : ℕ) (old new : Ledger) (p : ℕ) (o : Open) → Orderly k old → Moved k I old new → old.opens p ≡ Some o → new.opens p ≡ None → ClosedNow k old new o.it
+closed_now : {I : PlainEdit → Type 0} (k : ℕ) (old new : Ledger) (p : ℕ) (o : Open) → Orderly k old → Moved k I old new → old.opens p ≡ Some o → new.opens p ≡ None → ClosedNow k old new o.it
 closed_now k old new p o h m was gone = record {
   same = elim m.counted [
     | inl same ↦ (λ x. subst (λ (es : List Placed). Contains es o.it) same x, λ x. subst (λ (es : List Placed). Contains es o.it) (sym same) x)
@@ -156,7 +156,7 @@ passes p (x ∷ xs) e h = by (p x) refl h (λ r. passes p xs e r)
     by true is (suc k, lt, same) rest = rest (k, omega arith, same)
     by false is h rest = rest h
 
-order_next : {I : Edit → Type 0} (k : ℕ) (old new : Ledger) (e f : Placed) → IsAway k old e → Moved k I old new
+order_next : {I : PlainEdit → Type 0} (k : ℕ) (old new : Ledger) (e f : Placed) → IsAway k old e → Moved k I old new
     → (Contains old.counted e → Contains old.counted f → Precedes old.counted e f) → Contains new.counted e → Contains new.counted f → Precedes new.counted e f
 order_next k old new e f away m before e_there f_there = elim m.counted [
   | inl same ↦ subst (λ (es : List Placed). Precedes es e f) (sym same) (before (subst (λ (es : List Placed). Contains es e) same e_there) (subst (λ (es : List Placed). Contains es f) same f_there))

@@ -5,7 +5,7 @@ use Rattle.std.proofs.lemmas.List.{get_or-set_other}
 use Rattle.ds_state.specs.Value.{WorldValue, world_of}
 use Rattle.ds_state.specs.Sound.{IsSound}
 use Rattle.ds_state.specs.Reports.{PlainReports}
-use Rattle.ds_state.specs.Works.{PlainShow}
+use Rattle.ds_state.specs.Works.{PlainShowCall}
 use Rattle.ds_state.specs.CallsFit.{CallFits}
 use Rattle.ds_state.specs.declared.work.ShowEnd.TheVariants as ends
 use Rattle.ds_state.specs.declared.work.ShowStage.{ShowStage}
@@ -23,7 +23,7 @@ use Rattle.ds_show.specs.ShowSteps as steps
 use Rattle.ds_show.specs.ShowTakes as shows
 use Rattle.ds_show.proofs.ShowKeeps as keeping
 use Rattle.ds_core.specs.EditEvents.{SameReports, reply_with, done_with, EditStepsBy}
-use Rattle.ds_state.specs.Works.{PlainRecovery}
+use Rattle.ds_state.specs.Works.{PlainRecoverCall}
 use Rattle.ds_state.specs.declared.work.WorkEnd.TheVariants as work_ends
 use Rattle.ds_state.specs.declared.work.RecoverStage.{RecoverStage}
 use Rattle.ds_state.specs.declared.work.RecoverStage.TheVariants as recover_stages
@@ -208,17 +208,17 @@ goes_on : (what : Effect) → Stepped ≡ report_reply what → what ≡ effects
 goes_on effects.GoesOn is = refl
 goes_on (effects.Answers end) is = absurd (cc)
 
-after_on : (e : PlainShow) (s : ShowStage) (word : ℕ) → steps.effect_at s ≡ effects.GoesOn → steps.after e s word ≡ Showing (steps.next_at e s word)
+after_on : (e : PlainShowCall) (s : ShowStage) (word : ℕ) → steps.effect_at s ≡ effects.GoesOn → steps.after e s word ≡ Showing (steps.next_at e s word)
 after_on e (stages.Answer end) word is = absurd (cc)
 after_on e _ word is = refl
 
-falls_on : (e : PlainShow) (s : ShowStage) (f : PlainShow) → steps.effect_at s ≡ effects.GoesOn → steps.Falls e s f → steps.rank f < steps.rank (steps.at e s)
+falls_on : (e : PlainShowCall) (s : ShowStage) (f : PlainShowCall) → steps.effect_at s ≡ effects.GoesOn → steps.Falls e s f → steps.rank f < steps.rank (steps.at e s)
 falls_on e (stages.Answer end) f is h = absurd (cc)
 falls_on e _ f is h = h
 
 report_falls : (old new : WorldValue) (p : ℕ) → IsSound (world_of old) → ReportStepsBy old p Stepped new → StepsOn p old new
 report_falls old new p sound h =
-    let e : PlainShow = h.steps.show in
+    let e : PlainShowCall = h.steps.show in
     let goes : steps.effect_at e.stage ≡ effects.GoesOn = sym h.steps.is ∙ goes_on h.what h.is in
     let fits = subst (λ (s : Situation). CallFits (world_of old) p s) h.steps.at (sound.calls p h.steps.there) in
     let now : (world_of new).situation p ≡ Showing (steps.next_at e e.stage h.steps.word) = ap (λ q. (world_of new).situation q) (sym h.steps.mine) ∙ h.steps.steps.situation ∙ after_on e e.stage h.steps.word goes in
@@ -246,18 +246,18 @@ recovery_goes recovery_effects.GoesOn is = refl
 recovery_goes (recovery_effects.Answers recovery_ends.Nothing) is = absurd (cc)
 recovery_goes (recovery_effects.Answers (recovery_ends.Last number cell counts)) is = absurd (cc)
 
-recovery_after : (e : PlainRecovery) (s : RecoverStage) (word : ℕ) → recover_steps.effect_at e s ≡ recovery_effects.GoesOn → recover_steps.after e s word ≡ Recovering (recover_steps.next_at e s word)
+recovery_after : (e : PlainRecoverCall) (s : RecoverStage) (word : ℕ) → recover_steps.effect_at e s ≡ recovery_effects.GoesOn → recover_steps.after e s word ≡ Recovering (recover_steps.next_at e s word)
 recovery_after e (recover_stages.Answer how) word is = absurd (cc)
 recovery_after e _ word is = refl
 
-recovery_lower : (e f : PlainRecovery) (s : RecoverStage) → recover_steps.effect_at e s ≡ recovery_effects.GoesOn → recover_steps.Falls e s f → recover_steps.rank e.cells f.stage < recover_steps.rank e.cells s
+recovery_lower : (e f : PlainRecoverCall) (s : RecoverStage) → recover_steps.effect_at e s ≡ recovery_effects.GoesOn → recover_steps.Falls e s f → recover_steps.rank e.cells f.stage < recover_steps.rank e.cells s
 recovery_lower e f (recover_stages.Answer how) is h = absurd (cc)
 recovery_lower e f _ is h = h
 
 recovery_falls : (old new : WorldValue) (p : ℕ) → IsSound (world_of old) → RecoveryStepsBy old p Stepped new → StepsOn p old new
 recovery_falls old new p sound h =
-    let e : PlainRecovery = h.steps.recovery in
-    let f : PlainRecovery = recover_steps.next_at e e.stage h.steps.word in
+    let e : PlainRecoverCall = h.steps.recovery in
+    let f : PlainRecoverCall = recover_steps.next_at e e.stage h.steps.word in
     let goes : recover_steps.effect_at e e.stage ≡ recovery_effects.GoesOn = sym h.steps.is ∙ recovery_goes h.what h.is in
     let fits = subst (λ (s : Situation). CallFits (world_of old) p s) h.steps.at (sound.calls p h.steps.there) in
     let now : (world_of new).situation p ≡ Recovering f = ap (λ q. (world_of new).situation q) (sym h.steps.mine) ∙ h.steps.steps.situation ∙ recovery_after e e.stage h.steps.word goes in

@@ -9,14 +9,14 @@ use Rattle.ds_layout.specs.declared.layout.Layout.{Layout}
 use Rattle.ds_layout.specs.Head.{head_of}
 use Rattle.ds_layout.specs.SheetMemory.{PerformsAt}
 use Rattle.ds_formula.specs.Cells.{index_of}
-use Rattle.ds_state.specs.Edits.{PlainEdit}
-use Rattle.ds_state.specs.World.{Edit}
+use Rattle.ds_state.specs.Edits.{PlainEditCall}
+use Rattle.ds_state.specs.World.{PlainEdit}
 use Rattle.ds_state.specs.Value.{WorldValue, world_of, IsGood}
 use Rattle.ds_state.specs.declared.stage.Outcome.{Outcome}
 use Rattle.ds_state.specs.declared.stage.Outcome.TheVariants as outcome
 use Rattle.ds_state.specs.declared.stage.Stage.TheVariants.{Answer}
 use Rattle.ds_state.specs.declared.situation.Situation.TheVariants.{Idle, Editing, Showing}
-use Rattle.ds_state.specs.Works.{PlainShow}
+use Rattle.ds_state.specs.Works.{PlainShowCall}
 use Rattle.ds_state.specs.KnownShow.{noted, reads_pending, reads_clean}
 use Rattle.ds_state.specs.declared.work.ShowEnd.TheVariants as ends
 use Rattle.ds_state.specs.declared.work.ShowStage.{ShowStage}
@@ -68,12 +68,12 @@ use Rattle.ds_core.proofs.AtRecovery.{recovery_begins_after, recovery_access, re
 
 -- ---- one event
 
-if_next : (b : Bool) (x y : PlainShow) (n : ℕ) → x.next ≡ n → y.next ≡ n → (if b then x else y).next ≡ n
+if_next : (b : Bool) (x y : PlainShowCall) (n : ℕ) → x.next ≡ n → y.next ≡ n → (if b then x else y).next ≡ n
 if_next true x y n a b = a
 if_next false x y n a b = b
 
 -- a report keeps the number of its process's next edit
-next_stays : (e : PlainShow) (s : ShowStage) (word : ℕ) → (shows.next_at e s word).next ≡ e.next
+next_stays : (e : PlainShowCall) (s : ShowStage) (word : ℕ) → (shows.next_at e s word).next ≡ e.next
 next_stays e (stages.LoadAnnounce i) word = if_next (reads_pending word) _ _ e.next refl (if_next (nat_lt (i + 1) e.processes) _ _ e.next refl refl)
 next_stays e (stages.LoadMark i) word = if_next (reads_clean e.processes word) _ _ e.next (if_next (nat_lt (i + 1) e.cells) _ _ e.next refl refl) refl
 next_stays e (stages.LoadValue i) word = refl
@@ -82,7 +82,7 @@ next_stays e (stages.AgainMark i) word = if_next (word == noted e.marks i) _ _ e
 next_stays e (stages.AgainAnnounce i) word = if_next (word == noted e.announcements i) _ _ e.next (if_next (nat_lt (i + 1) e.processes) _ _ e.next refl refl) refl
 next_stays e (stages.Answer end) word = refl
 
-goes : (e : PlainShow) (s : ShowStage) (word : ℕ) → SaysSame (Showing e) (Showing (shows.next_at e s word))
+goes : (e : PlainShowCall) (s : ShowStage) (word : ℕ) → SaysSame (Showing e) (Showing (shows.next_at e s word))
 goes e s word = record { number = ap (λ n. Some n) (next_stays e s word); doubt = refl }
 
 the_answer : (a b : replies.Answer) → Answered b ≡ Answered a → b ≡ a
@@ -107,11 +107,11 @@ module _ (place : ℕ) (layout : Layout) (l : Ledger) (v v' : WorldValue) (h : I
 
   begins : (r : _) (n : ℕ) → Takes v (BeginEdit r) (Begun n) v' → Next place layout l v (BeginEdit r) (Begun n) v'
   begins r n t =
-      let e : PlainEdit = t.begun.edit in
+      let e : PlainEditCall = t.begun.edit in
       let asked = t.begun.asked.asked in
-      let process : e.process ≡ r.process = ap (λ (x : Edit). x.process) asked in
-      let number : e.number ≡ n = ap (λ (x : Edit). x.number) asked in
-      let edit : Edit = record { process = r.process; number = n; cell = index_of layout.shape r.cell; text = r.text } in
+      let process : e.process ≡ r.process = ap (λ (x : PlainEdit). x.process) asked in
+      let number : e.number ≡ n = ap (λ (x : PlainEdit). x.number) asked in
+      let edit : PlainEdit = record { process = r.process; number = n; cell = index_of layout.shape r.cell; text = r.text } in
       let s : traces.Issues (world_of v) edit (world_of v') =
       subst (λ (x : Layout). traces.Issues (world_of v) (record { process = r.process; number = n; cell = index_of x.shape r.cell; text = r.text }) (world_of v')) h.same
       (begins_move (world_of v) (world_of v') h.good.sound r.process _ r.text n t.begun) in
@@ -267,7 +267,7 @@ module _ (place : ℕ) (layout : Layout) (l : Ledger) (v v' : WorldValue) (h : I
     report_access : OneAccess p (world_of v).memory (world_of v').memory
     report_access = (shows.access_at t.steps.show.stage, t.steps.word, subst (λ (q : ℕ). PerformsAt (shows.access_at t.steps.show.stage) q (world_of v).memory (world_of v').memory t.steps.word) t.steps.mine t.steps.steps.memory)
 
-    after_says : (e : PlainShow) (s : ShowStage) (word : ℕ) → SaysSame (Showing e) (shows.after e s word)
+    after_says : (e : PlainShowCall) (s : ShowStage) (word : ℕ) → SaysSame (Showing e) (shows.after e s word)
     after_says e (stages.Answer end) word = record { number = refl; doubt = refl }
     after_says e (stages.LoadAnnounce i) word = goes e (stages.LoadAnnounce i) word
     after_says e (stages.LoadMark i) word = goes e (stages.LoadMark i) word

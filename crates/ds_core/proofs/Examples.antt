@@ -3,7 +3,7 @@ use Rattle.std.proofs.Common.{ℕ, ◌≡◌, ◌+◌, List, [], ◌∷◌, refl
 use Rattle.std.specs.Prelude.{Contains, filter}
 use Rattle.ds_formula.specs.declared.cells.Shape.{Shape}
 use Rattle.ds_formula.specs.Cells.{index_of}
-use Rattle.ds_state.specs.World.{Edit, is_edit_of}
+use Rattle.ds_state.specs.World.{PlainEdit, is_edit_of}
 use Rattle.ds_state.specs.Value.{WorldValue}
 use Rattle.ds_core.specs.Requests.{PlainRequest}
 use Rattle.ds_core.specs.Moments.{Placed, Ledger, empty_ledger}
@@ -27,7 +27,7 @@ LedgersMove k shape old [] (reply ∷ replies) new = ⊥
 LedgersMove k shape old (event ∷ events) [] new = ⊥
 
 module _ (shape : Shape) (r : PlainRequest) where
-  abbrev the_edit : Edit
+  abbrev the_edit : PlainEdit
   the_edit = record { process = r.process; number = 0; cell = index_of shape r.cell; text = r.text }
 
   abbrev first : Placed

@@ -10,8 +10,8 @@ use Rattle.ds_layout.specs.declared.layout.Layout.{Layout}
 use Rattle.ds_layout.specs.declared.place.TheConstants.{RECORDS}
 use Rattle.ds_layout.specs.declared.place.Place.{Place}
 use Rattle.ds_layout.specs.SheetMemory.{SheetValue, memory, CanPerform, PerformsAt}
-use Rattle.ds_state.specs.Edits.{PlainEdit}
-use Rattle.ds_state.specs.World.{Edit, Issue, edit_of}
+use Rattle.ds_state.specs.Edits.{PlainEditCall}
+use Rattle.ds_state.specs.World.{PlainEdit, PlainIssue, edit_of}
 use Rattle.ds_state.specs.Value.{WorldValue, world_of, IsGood, IsReserved}
 use Rattle.ds_state.specs.CallsFit.{CallFits, EditFits}
 use Rattle.ds_state.specs.Events.{Evicts}
@@ -39,11 +39,11 @@ use Rattle.ds_core.specs.EditEvents.{IsEditing, reply_at, reply_with, done_at, d
 use Rattle.ds_core.specs.declared.reply.Reply.TheVariants.{Stepped}
 use Rattle.ds_edit.specs.EditEndings.{outcome_at}
 
-pub editing_from : (v : WorldValue) (p : ℕ) (e : PlainEdit) (read : Situation) → p < length v.situations → read ≡ get_or v.situations p read → read ≡ Editing e → IsEditing v p e
+pub editing_from : (v : WorldValue) (p : ℕ) (e : PlainEditCall) (read : Situation) → p < length v.situations → read ≡ get_or v.situations p read → read ≡ Editing e → IsEditing v p e
 editing_from v p e read lt is here = record { there = lt; is = get_or_default v.situations p (Idle 0) read lt ∙ sym is ∙ here }
 
 -- what comes to count at a stage is nothing, or the edit
-pub counted_cases : (e : Edit) (s : Stage) (word : ℕ) → (counted_at e s word ≡ []) ⊎ (counted_at e s word ≡ e ∷ [])
+pub counted_cases : (e : PlainEdit) (s : Stage) (word : ℕ) → (counted_at e s word ≡ []) ⊎ (counted_at e s word ≡ e ∷ [])
 counted_cases e (Swap noted) word = won (word == noted)
   where
     won : (b : Bool) → ((if b then e ∷ [] else []) ≡ []) ⊎ ((if b then e ∷ [] else []) ≡ e ∷ [])
@@ -52,7 +52,7 @@ counted_cases e (Swap noted) word = won (word == noted)
 counted_cases e _ word = inl refl
 
 -- an edit goes on to no report
-no_report : (e : PlainEdit) (s : Stage) (word : ℕ) → reports_in (after e s word) ≡ 0
+no_report : (e : PlainEditCall) (s : Stage) (word : ℕ) → reports_in (after e s word) ≡ 0
 no_report e (Answer how) word = refl
 no_report e _ word = refl
 
@@ -65,11 +65,11 @@ pub stepped_at : (processes number : ℕ) (s : Stage) → ((how : Outcome) → s
 stepped_at processes number (Answer how) none = absurd (none how refl)
 stepped_at processes number _ none = refl
 
-pub goes_on_at : (s : Stage) (issue : Option Issue) → outcome_at s ≡ None → open_edit_at issue s ≡ issue
+pub goes_on_at : (s : Stage) (issue : Option PlainIssue) → outcome_at s ≡ None → open_edit_at issue s ≡ issue
 goes_on_at (Answer how) issue is = absurd (cc)
 goes_on_at _ issue is = refl
 
-module _ (v : WorldValue) (g : IsGood v) (p : ℕ) (e : PlainEdit) (at : IsEditing v p e) where
+module _ (v : WorldValue) (g : IsGood v) (p : ℕ) (e : PlainEditCall) (at : IsEditing v p e) where
   pub low : p < v.sheet.layout.processes
   low = let t = at.there in let s = g.situations in omega arith
 
@@ -123,14 +123,14 @@ module _ (v : WorldValue) (g : IsGood v) (p : ℕ) (e : PlainEdit) (at : IsEditi
     next_sound = (step_sound e word (world_of v) (world_of next) g.sound low_own here steps).sound
 
     -- what was answered Done counts, and is answered for good
-    grown : (f : Edit) → Contains v.counted f → Contains (world_of next).counted f
+    grown : (f : PlainEdit) → Contains v.counted f → Contains (world_of next).counted f
     unfolding next
     grown f there = Contains-append_left v.counted (counted_at (edit_of e) e.stage word) f there
 
     open_own : (world_of v).open_edits e.process ≡ Some (record { edit = edit_of e; since = fits.since })
     open_own = ap (λ q. (world_of v).open_edits q) mine ∙ fits.open_edits
 
-    goes_on : outcome_at e.stage ≡ None → (f : Edit) (issue : Issue) → Contains v.counted f → (world_of next).open_edits f.process ≡ Some issue → issue.edit ≡ f → (world_of v).open_edits f.process ≡ Some issue
+    goes_on : outcome_at e.stage ≡ None → (f : PlainEdit) (issue : PlainIssue) → Contains v.counted f → (world_of next).open_edits f.process ≡ Some issue → issue.edit ≡ f → (world_of v).open_edits f.process ≡ Some issue
     goes_on none f issue there now is = elim (cases_eq f.process e.process) [
       | inl same ↦ ap (λ q. (world_of v).open_edits q) same ∙ sym (ap (λ q. (world_of next).open_edits q) same ∙ steps.open_edits ∙ goes_on_at e.stage _ none) ∙ now
       | inr other ↦ sym (steps.others_open_edits f.process other) ∙ now
@@ -139,7 +139,7 @@ module _ (v : WorldValue) (g : IsGood v) (p : ℕ) (e : PlainEdit) (at : IsEditi
     closed : (how : Outcome) → e.stage ≡ Answer how → (world_of next).open_edits e.process ≡ None
     closed how last = steps.open_edits ∙ ap (λ s. open_edit_at ((world_of v).open_edits e.process) s) last
 
-    answered_on : (how : Outcome) → e.stage ≡ Answer how → (f : Edit) (issue : Issue) → Contains v.counted f → (world_of next).open_edits f.process ≡ Some issue → issue.edit ≡ f → (world_of v).open_edits f.process ≡ Some issue
+    answered_on : (how : Outcome) → e.stage ≡ Answer how → (f : PlainEdit) (issue : PlainIssue) → Contains v.counted f → (world_of next).open_edits f.process ≡ Some issue → issue.edit ≡ f → (world_of v).open_edits f.process ≡ Some issue
     answered_on how last f issue there now is = elim (cases_eq f.process e.process) [
       | inl same ↦ (let bad : Some issue ≡ None = sym now ∙ ap (λ q. (world_of next).open_edits q) same ∙ closed how last in absurd (cc))
       | inr other ↦ sym (steps.others_open_edits f.process other) ∙ now
@@ -201,13 +201,13 @@ module _ (v : WorldValue) (g : IsGood v) (p : ℕ) (e : PlainEdit) (at : IsEditi
     })
 
     -- a world of these parts is that world
-    pub next_is : (situation : Situation) (counted : List Edit) (open_issue : Option Issue) (done : ℕ)
+    pub next_is : (situation : Situation) (counted : List PlainEdit) (open_issue : Option PlainIssue) (done : ℕ)
         → situation ≡ after e e.stage word → counted ≡ v.counted ++ counted_at (edit_of e) e.stage word
         → open_issue ≡ open_edit_at (get_or v.open_edits p None) e.stage → done ≡ done_at v.done e.stage
         → (let w : WorldValue = record v { sheet = sheet; situations = set v.situations p situation; counted = counted; open_edits = set v.open_edits p open_issue; done = done } in w) ≡ next
     unfolding next
     next_is situation counted open_issue done a b c d =
-        let made : Situation → List Edit → Option Issue → ℕ → WorldValue = λ s es i n. record v { sheet = sheet; situations = set v.situations p s; counted = es; open_edits = set v.open_edits p i; done = n } in
+        let made : Situation → List PlainEdit → Option PlainIssue → ℕ → WorldValue = λ s es i n. record v { sheet = sheet; situations = set v.situations p s; counted = es; open_edits = set v.open_edits p i; done = n } in
         ap (λ s. made s counted open_issue done) a
         ∙ ap (λ es. made (after e e.stage word) es open_issue done) b
         ∙ ap (λ i. made (after e e.stage word) (v.counted ++ counted_at (edit_of e) e.stage word) i done) c

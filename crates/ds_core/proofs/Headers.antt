@@ -9,9 +9,9 @@ use Rattle.ds_words.specs.declared.access.Entry.{Entry}
 use Rattle.ds_layout.specs.declared.place.Place.{Place}
 use Rattle.ds_layout.specs.declared.place.Place.TheVariants.{Header, Version}
 use Rattle.ds_layout.specs.SheetMemory.{PerformsAt}
-use Rattle.ds_state.specs.Edits.{PlainEdit, text_parts}
-use Rattle.ds_state.specs.Works.{PlainWork}
-use Rattle.ds_state.specs.World.{Edit, World, edit_of}
+use Rattle.ds_state.specs.Edits.{PlainEditCall, text_parts}
+use Rattle.ds_state.specs.Works.{PlainWorkCall}
+use Rattle.ds_state.specs.World.{PlainEdit, PlainWorld, edit_of}
 use Rattle.ds_state.specs.Rely.{Rely}
 use Rattle.ds_state.specs.CallsFit.{Held, Holds, held_at, record_entry}
 use Rattle.ds_state.specs.CallsFit as held
@@ -54,7 +54,7 @@ pub sides_stopped : (p : ℕ) (old new : Memory Place) (r : Place) → StopsAt p
 sides_stopped p old new r s = record { cached = inl (s.cached r); persisted = inr (s.persisted r) }
 
 -- another process's turn
-pub sides_relied : (p n : ℕ) (old new : World) → Rely p old new → SidesStay old.memory new.memory (Header p n)
+pub sides_relied : (p n : ℕ) (old new : PlainWorld) → Rely p old new → SidesStay old.memory new.memory (Header p n)
 sides_relied p n old new r =
     let g = r.grows Version in
     let not : Header p n ≢ Version = λ is. cc in
@@ -104,16 +104,16 @@ sides_performed p n q acts.Back old new word s f h =
 
 -- ---- of an edit with another number
 
-edit_spares : (p n : ℕ) (e : PlainEdit) (s : Stage) → (e.number ≡ n → ⊥) → Spares p n (edits.access_at e s)
+edit_spares : (p n : ℕ) (e : PlainEditCall) (s : Stage) → (e.number ≡ n → ⊥) → Spares p n (edits.access_at e s)
 edit_spares p n e StoreHeader ne = λ a b. ne b
 edit_spares p n e _ ne = tt
 
-record_spares : (p n : ℕ) (e : Edit) (first count : ℕ) → (e.number ≡ n → ⊥) → FirstSpares p n (map (record_entry e) (range_with_len first count))
+record_spares : (p n : ℕ) (e : PlainEdit) (first count : ℕ) → (e.number ≡ n → ⊥) → FirstSpares p n (map (record_entry e) (range_with_len first count))
 record_spares p n e first zero ne = tt
 record_spares p n e zero (suc count) ne = λ a b. ne b
 record_spares p n e (suc first) (suc count) ne = tt
 
-held_spares : (p n : ℕ) (w : World) (e : Edit) (h : Held) → (e.number ≡ n → ⊥) → Holds w e h → FirstSpares p n (w.memory.buffer e.process)
+held_spares : (p n : ℕ) (w : PlainWorld) (e : PlainEdit) (h : Held) → (e.number ≡ n → ⊥) → Holds w e h → FirstSpares p n (w.memory.buffer e.process)
 held_spares p n w e held.empty ne h = subst (λ (xs : List (Entry Place)). FirstSpares p n xs) (sym h) tt
 held_spares p n w e (held.record_words first count) ne h = subst (λ (xs : List (Entry Place)). FirstSpares p n xs) (sym h) (record_spares p n e first count ne)
 held_spares p n w e (held.announcing_word a) ne h = subst (λ (xs : List (Entry Place)). FirstSpares p n xs) (sym h) tt
@@ -122,21 +122,21 @@ held_spares p n w e (held.done_bits process number) ne h = subst (λ (xs : List 
 held_spares p n w e (held.head_from least) ne h = subst (λ (xs : List (Entry Place)). FirstSpares p n xs) (sym h.alone) tt
 held_spares p n w e held.mark ne h = subst (λ (xs : List (Entry Place)). FirstSpares p n xs) (sym h.alone) tt
 
-pub edit_sides : (p n : ℕ) (old new : World) (e : PlainEdit) (word : ℕ) → (e.number ≡ n → ⊥) → Holds old (edit_of e) (held_at (text_parts e.text) e.refs e.stage) → PerformsAt (edits.access_at e e.stage) e.process old.memory new.memory word
+pub edit_sides : (p n : ℕ) (old new : PlainWorld) (e : PlainEditCall) (word : ℕ) → (e.number ≡ n → ⊥) → Holds old (edit_of e) (held_at (text_parts e.text) e.refs e.stage) → PerformsAt (edits.access_at e e.stage) e.process old.memory new.memory word
     → SidesStay old.memory new.memory (Header p n)
 edit_sides p n old new e word ne h performs = sides_performed p n e.process (edits.access_at e e.stage) old.memory new.memory word (edit_spares p n e e.stage ne) (held_spares p n old (edit_of e) (held_at (text_parts e.text) e.refs e.stage) ne h) performs
 
 -- ---- of work
 
-spread_spares : (p n : ℕ) (e : PlainWork) (s : Spread) → Spares p n (work_steps.spread_access e s)
+spread_spares : (p n : ℕ) (e : PlainWorkCall) (s : Spread) → Spares p n (work_steps.spread_access e s)
 spread_spares p n e (spreads.OrTold d) = tt
 spread_spares p n e _ = tt
 
-work_spares : (p n : ℕ) (shape : Shape) (e : PlainWork) (s : WorkStage) → Spares p n (work_steps.access_at shape e s)
+work_spares : (p n : ℕ) (shape : Shape) (e : PlainWorkCall) (s : WorkStage) → Spares p n (work_steps.access_at shape e s)
 work_spares p n shape e (work_stages.Telling spread) = spread_spares p n e spread
 work_spares p n shape e _ = tt
 
-work_first : (p n : ℕ) (w : World) (e : PlainWork) (h : WorkHeld) → WorkHolds w e h → FirstSpares p n (w.memory.buffer e.process)
+work_first : (p n : ℕ) (w : PlainWorld) (e : PlainWorkCall) (h : WorkHeld) → WorkHolds w e h → FirstSpares p n (w.memory.buffer e.process)
 work_first p n w e works.empty h = subst (λ (xs : List (Entry Place)). FirstSpares p n xs) (sym h) tt
 work_first p n w e works.claim h = subst (λ (xs : List (Entry Place)). FirstSpares p n xs) (sym h.alone) tt
 work_first p n w e (works.a_mark cell) h = subst (λ (xs : List (Entry Place)). FirstSpares p n xs) (sym h.alone) tt
@@ -144,13 +144,13 @@ work_first p n w e works.the_value h = subst (λ (xs : List (Entry Place)). Firs
 work_first p n w e works.both_words h = subst (λ (xs : List (Entry Place)). FirstSpares p n xs) (sym h) tt
 work_first p n w e works.the_kind h = subst (λ (xs : List (Entry Place)). FirstSpares p n xs) (sym h) tt
 
-pub work_sides : (p n : ℕ) (shape : Shape) (old new : World) (e : PlainWork) (word : ℕ) → WorkHolds old e (work_held e e.stage) → PerformsAt (work_steps.access_at shape e e.stage) e.process old.memory new.memory word
+pub work_sides : (p n : ℕ) (shape : Shape) (old new : PlainWorld) (e : PlainWorkCall) (word : ℕ) → WorkHolds old e (work_held e e.stage) → PerformsAt (work_steps.access_at shape e e.stage) e.process old.memory new.memory word
     → SidesStay old.memory new.memory (Header p n)
 work_sides p n shape old new e word h performs = sides_performed p n e.process (work_steps.access_at shape e e.stage) old.memory new.memory word (work_spares p n shape e e.stage) (work_first p n old e (work_held e e.stage) h) performs
 
 -- ---- of a recovery
 
-pub recovery_first : (p n q : ℕ) (w : World) (word cell : ℕ) (h : RecoveryHeld) → RecoveryHolds w q word cell h → FirstSpares p n (w.memory.buffer q)
+pub recovery_first : (p n q : ℕ) (w : PlainWorld) (word cell : ℕ) (h : RecoveryHeld) → RecoveryHolds w q word cell h → FirstSpares p n (w.memory.buffer q)
 recovery_first p n q w word cell recoveries.empty h = subst (λ (xs : List (Entry Place)). FirstSpares p n xs) (sym h) tt
 recovery_first p n q w word cell (recoveries.the_value c) h = subst (λ (xs : List (Entry Place)). FirstSpares p n xs) (sym h) tt
 recovery_first p n q w word cell (recoveries.both_words c) h = subst (λ (xs : List (Entry Place)). FirstSpares p n xs) (sym h) tt

@@ -7,7 +7,7 @@ use Rattle.std.proofs.lemmas.Bool.Decides.{eqb_tells}
 use Rattle.std.proofs.lemmas.List.{append-nil, map-append, get_or_default, get_or_past, length-map}
 use Rattle.std.proofs.lemmas.List.Elements.{All-contains, Contains-append_cases, Contains-append_right}
 use Rattle.ds_layout.specs.declared.layout.Layout.{Layout}
-use Rattle.ds_state.specs.World.{Edit, Issue, World, of_cell}
+use Rattle.ds_state.specs.World.{PlainEdit, PlainIssue, PlainWorld, of_cell}
 use Rattle.ds_state.specs.Value.{WorldValue, world_of, IsGood}
 use Rattle.ds_state.specs.Shown.{last_text, values_shown}
 use Rattle.ds_state.specs.KnownShow.{AreScratch}
@@ -28,7 +28,7 @@ use Rattle.ds_core.proofs.Crash.{IsKnownAs, after_crash, crash_loses, crash_coun
 
 -- ---- lists
 
-abbrev pub edits : List Placed → List Edit
+abbrev pub edits : List Placed → List PlainEdit
 edits es = map (λ (e : Placed). e.edit) es
 
 pub contains_edit : (es : List Placed) (e : Placed) → Contains es e → Contains (edits es) e.edit
@@ -36,7 +36,7 @@ contains_edit [] e h = absurd (contains_none e h)
 contains_edit (x ∷ es) e (zero, lt, is) = (zero, omega arith, ap (λ (f : Placed). f.edit) is)
 contains_edit (x ∷ es) e (suc k, lt, is) = let r = contains_edit es e (k, omega arith, is) in (suc r.0, (let l = r.1 in omega arith), r.2)
 
-pub from_edits : (es : List Placed) (x : Edit) → Contains (edits es) x → (e : Placed) × Contains es e × (e.edit ≡ x)
+pub from_edits : (es : List Placed) (x : PlainEdit) → Contains (edits es) x → (e : Placed) × Contains es e × (e.edit ≡ x)
 from_edits [] x h = absurd (contains_none x h)
 from_edits (y ∷ es) x (zero, lt, is) = (y, (zero, omega arith, refl), is)
 from_edits (y ∷ es) x (suc k, lt, is) = let r = from_edits es x (k, omega arith, is) in (r.0, behind y es r.0 r.1, r.2)
@@ -46,7 +46,7 @@ none_twice [] h = tt
 none_twice (x ∷ es) h = (
   λ k d lt process number. (
       let e : Placed = get_or es k d in
-      let l = All-contains (λ (f : Edit). f.process ≡ x.edit.process → x.edit.number < f.number) (edits es) e.edit h.0 (contains_edit es e (k, lt, get_or_default es k e d lt)) process in
+      let l = All-contains (λ (f : PlainEdit). f.process ≡ x.edit.process → x.edit.number < f.number) (edits es) e.edit h.0 (contains_edit es e (k, lt, get_or_default es k e d lt)) process in
       omega arith),
   none_twice es h.1,
 )
@@ -80,13 +80,13 @@ doubts (Recovering e) = true
 doubts _ = false
 
 -- what came to count since the issue
-pub record IsSince (l : Ledger) (issue : Issue) (o : Open) : Type 0 where
+pub record IsSince (l : Ledger) (issue : PlainIssue) (o : Open) : Type 0 where
   pub since : issue.since ≡ length o.before
   pub more : List Placed
   pub grown : l.counted ≡ o.before ++ more
 
 -- the open edit of the process is the world's
-pub record IsOpenAs (l : Ledger) (issue : Issue) (p : ℕ) (doubt : Bool) : Type 0 where
+pub record IsOpenAs (l : Ledger) (issue : PlainIssue) (p : ℕ) (doubt : Bool) : Type 0 where
   pub o : Open
   pub is : l.opens p ≡ Some o
   pub edit : o.it.edit ≡ issue.edit
@@ -100,7 +100,7 @@ pub record IsOf (layout : Layout) (l : Ledger) (v : WorldValue) : Type 0 where
   pub same : v.sheet.layout ≡ layout
   pub counted : edits_in l ≡ v.counted
   pub none : (p : ℕ) → (world_of v).open_edits p ≡ None → l.opens p ≡ None
-  pub some : (p : ℕ) (issue : Issue) → (world_of v).open_edits p ≡ Some issue → IsOpenAs l issue p (doubts ((world_of v).situation p))
+  pub some : (p : ℕ) (issue : PlainIssue) → (world_of v).open_edits p ≡ Some issue → IsOpenAs l issue p (doubts ((world_of v).situation p))
   pub numbers : (p n : ℕ) → numbered ((world_of v).situation p) ≡ Some n → n ≡ next_number (l.told p)
 
 -- a situation that says the same of its process's edits
@@ -121,23 +121,23 @@ pub fits_of : (layout : Layout) (l : Ledger) (v : WorldValue) → IsOf layout l 
 fits_of layout l v h = record {
   counted = h.counted;
   opens = λ p. open_of p ((world_of v).open_edits p) refl;
-  once = none_twice l.counted (subst (λ (es : List Edit). Increasing es) (sym h.counted) h.good.sound.increasing);
+  once = none_twice l.counted (subst (λ (es : List PlainEdit). Increasing es) (sym h.counted) h.good.sound.increasing);
   texts = λ c lt. text_right (world_of v) c h.good.sound ∙ ap (λ es. last_text (of_cell c es)) (sym h.counted);
-  values = λ quiet. subst (λ (es : List Edit). AreScratch v.sheet.layout.shape es (values_shown (world_of v))) (sym h.counted) (quiet_shows (world_of v) h.good.sound quiet);
+  values = λ quiet. subst (λ (es : List PlainEdit). AreScratch v.sheet.layout.shape es (values_shown (world_of v))) (sym h.counted) (quiet_shows (world_of v) h.good.sound quiet);
 }
   where
-    open_of : (p : ℕ) (x : Option Issue) → (world_of v).open_edits p ≡ x → option_map (λ (o : Open). o.it.edit) (l.opens p) ≡ option_map (λ (i : Issue). i.edit) ((world_of v).open_edits p)
-    open_of p None is = ap (λ x. option_map (λ (o : Open). o.it.edit) x) (h.none p is) ∙ ap (λ x. option_map (λ (i : Issue). i.edit) x) (sym is)
-    open_of p (Some issue) is = let o = h.some p issue is in ap (λ x. option_map (λ (o : Open). o.it.edit) x) o.is ∙ ap (λ e. Some e) o.edit ∙ ap (λ x. option_map (λ (i : Issue). i.edit) x) (sym is)
+    open_of : (p : ℕ) (x : Option PlainIssue) → (world_of v).open_edits p ≡ x → option_map (λ (o : Open). o.it.edit) (l.opens p) ≡ option_map (λ (i : PlainIssue). i.edit) ((world_of v).open_edits p)
+    open_of p None is = ap (λ x. option_map (λ (o : Open). o.it.edit) x) (h.none p is) ∙ ap (λ x. option_map (λ (i : PlainIssue). i.edit) x) (sym is)
+    open_of p (Some issue) is = let o = h.some p issue is in ap (λ x. option_map (λ (o : Open). o.it.edit) x) o.is ∙ ap (λ e. Some e) o.edit ∙ ap (λ x. option_map (λ (i : PlainIssue). i.edit) x) (sym is)
 
 module _ (layout : Layout) (l : Ledger) (v v' : WorldValue) (h : IsOf layout l v) (good : IsGood v') (same : v'.sheet.layout ≡ layout) where
-  w : World
+  w : PlainWorld
   w = world_of v
 
   abbrev pub AllSame : Type 0
   AllSame = (q : ℕ) → SaysSame ((world_of v).situation q) ((world_of v').situation q)
 
-  abbrev As : Ledger → Issue → ℕ → Bool → Type 0
+  abbrev As : Ledger → PlainIssue → ℕ → Bool → Type 0
   As = IsOpenAs
 
   -- nothing
@@ -152,7 +152,7 @@ module _ (layout : Layout) (l : Ledger) (v v' : WorldValue) (h : IsOf layout l v
   }
 
   -- an edit begins
-  module _ (place : ℕ) (edit : Edit) (s : traces.Issues (world_of v) edit (world_of v')) (n : AllSame) (sure : doubts ((world_of v).situation edit.process) ≡ false) where
+  module _ (place : ℕ) (edit : PlainEdit) (s : traces.Issues (world_of v) edit (world_of v')) (n : AllSame) (sure : doubts ((world_of v).situation edit.process) ≡ false) where
     abbrev it : Open
     it = record { it = record { place = place; edit = edit }; before = l.counted; doubt = false }
 
@@ -160,9 +160,9 @@ module _ (layout : Layout) (l : Ledger) (v v' : WorldValue) (h : IsOf layout l v
     issued = record l { opens = put l.opens edit.process (Some it) }
 
     fresh : (f : Placed) → Contains l.counted f → f.edit ≡ edit → ⊥
-    fresh f there is = s.fresh (subst (λ (es : List Edit). Contains es edit) h.counted (subst (λ (e : Edit). Contains (edits_in l) e) is (contains_edit l.counted f there)))
+    fresh f there is = s.fresh (subst (λ (es : List PlainEdit). Contains es edit) h.counted (subst (λ (e : PlainEdit). Contains (edits_in l) e) is (contains_edit l.counted f there)))
 
-    opens_other : (q : ℕ) → q ≢ edit.process → (issue : Issue) (b : Bool) → As l issue q b → As issued issue q b
+    opens_other : (q : ℕ) → q ≢ edit.process → (issue : PlainIssue) (b : Bool) → As l issue q b → As issued issue q b
     opens_other q ne issue b a = record {
       o = a.o;
       is = put_other l.opens edit.process (Some it) q ne ∙ a.is;
@@ -173,17 +173,17 @@ module _ (layout : Layout) (l : Ledger) (v v' : WorldValue) (h : IsOf layout l v
       running = λ sure. (let r = a.running sure in record { since = r.since; more = r.more; grown = r.grown });
     }
 
-    opens_here : (q : ℕ) → q ≡ edit.process → (issue : Issue) → (world_of v').open_edits q ≡ Some issue → As issued issue q false
+    opens_here : (q : ℕ) → q ≡ edit.process → (issue : PlainIssue) → (world_of v').open_edits q ≡ Some issue → As issued issue q false
     opens_here q here issue is =
         let one : issue ≡ record { edit = edit; since = length v.counted } = one_some ((world_of v').open_edits q) issue (record { edit = edit; since = length v.counted }) is (ap (λ x. (world_of v').open_edits x) here ∙ s.issued) in
         record {
           o = it;
           is = ap (λ x. put l.opens edit.process (Some it) x) here ∙ put_here l.opens edit.process (Some it);
-          edit = ap (λ (i : Issue). i.edit) (sym one);
+          edit = ap (λ (i : PlainIssue). i.edit) (sym one);
           mine = sym here;
           doubt_is = refl;
           running = λ sure. record {
-            since = ap (λ (i : Issue). i.since) one ∙ ap length (sym h.counted) ∙ length-map l.counted (λ (e : Placed). e.edit);
+            since = ap (λ (i : PlainIssue). i.since) one ∙ ap length (sym h.counted) ∙ length-map l.counted (λ (e : Placed). e.edit);
             more = [];
             grown = sym (append-nil l.counted);
           };
@@ -217,7 +217,7 @@ module _ (layout : Layout) (l : Ledger) (v v' : WorldValue) (h : IsOf layout l v
     abbrev pub pushed : Ledger
     pushed = record l { counted = l.counted ++ own.o.it ∷ [] }
 
-    grows : (q : ℕ) (issue : Issue) (b : Bool) → As l issue q b → As pushed issue q b
+    grows : (q : ℕ) (issue : PlainIssue) (b : Bool) → As l issue q b → As pushed issue q b
     grows q issue b a = record {
       o = a.o;
       is = a.is;
@@ -233,7 +233,7 @@ module _ (layout : Layout) (l : Ledger) (v v' : WorldValue) (h : IsOf layout l v
         | inl early ↦ a.only f early is
         | inr now ↦ (
             let one = sym (contains_one own.o.it f now) in
-            let its : p ≡ q = sym own.mine ∙ ap (λ (e : Placed). e.edit.process) one ∙ ap (λ (e : Edit). e.process) is ∙ a.mine in
+            let its : p ≡ q = sym own.mine ∙ ap (λ (e : Placed). e.edit.process) one ∙ ap (λ (e : PlainEdit). e.process) is ∙ a.mine in
             let open_same : own.o ≡ a.o = one_some (l.opens p) own.o a.o own.is (ap (λ x. l.opens x) its ∙ a.is) in
             sym one ∙ ap (λ (x : Open). x.it) open_same)
       ];
@@ -254,12 +254,12 @@ module _ (layout : Layout) (l : Ledger) (v v' : WorldValue) (h : IsOf layout l v
       open_edit = own.o;
       was = own.is;
       sure = own.doubt_is;
-      not_yet = λ there. s.not_yet (subst (λ (es : List Edit). Contains es s.issue.edit) h.counted (subst (λ (e : Edit). Contains (edits_in l) e) own.edit (contains_edit l.counted own.o.it there)));
+      not_yet = λ there. s.not_yet (subst (λ (es : List PlainEdit). Contains es s.issue.edit) h.counted (subst (λ (e : PlainEdit). Contains (edits_in l) e) own.edit (contains_edit l.counted own.o.it there)));
       is = refl;
     }
 
   -- an edit is answered
-  module _ (p number : ℕ) (Is : Issue → Type 0) (counts : Bool) (s : traces.Closes (world_of v) p number Is (world_of v'))
+  module _ (p number : ℕ) (Is : PlainIssue → Type 0) (counts : Bool) (s : traces.Closes (world_of v) p number Is (world_of v'))
       (now : numbered ((world_of v').situation p) ≡ Some (number + 1)) (others : (q : ℕ) → q ≢ p → SaysSame ((world_of v).situation q) ((world_of v').situation q)) (sure : doubts ((world_of v).situation p) ≡ false) where
     pub closing : As l s.issue p false
     closing = subst (λ (b : Bool). As l s.issue p b) sure (h.some p s.issue s.open_is)
@@ -274,7 +274,7 @@ module _ (layout : Layout) (l : Ledger) (v v' : WorldValue) (h : IsOf layout l v
     closed = record l { opens = put l.opens p None; told = put l.told p ended }
 
     number_here : closing.o.it.edit.number ≡ number
-    number_here = ap (λ (e : Edit). e.number) closing.edit ∙ s.number_is
+    number_here = ap (λ (e : PlainEdit). e.number) closing.edit ∙ s.number_is
 
     pub close_of : IsOf layout closed v'
     close_of = record {
@@ -309,11 +309,11 @@ module _ (layout : Layout) (l : Ledger) (v v' : WorldValue) (h : IsOf layout l v
 
     pub stands_here : Contains v.counted s.issue.edit → Contains l.counted closing.o.it
     stands_here there =
-        let r = from_edits l.counted s.issue.edit (subst (λ (es : List Edit). Contains es s.issue.edit) (sym h.counted) there) in
+        let r = from_edits l.counted s.issue.edit (subst (λ (es : List PlainEdit). Contains es s.issue.edit) (sym h.counted) there) in
         subst (λ (e : Placed). Contains l.counted e) (closing.only r.0 r.1 (r.2 ∙ sym closing.edit)) r.1
 
     pub out_here : (Contains v.counted s.issue.edit → ⊥) → Contains l.counted closing.o.it → ⊥
-    out_here out there = out (subst (λ (es : List Edit). Contains es s.issue.edit) h.counted (subst (λ (e : Edit). Contains (edits_in l) e) closing.edit (contains_edit l.counted closing.o.it there)))
+    out_here out there = out (subst (λ (es : List PlainEdit). Contains es s.issue.edit) h.counted (subst (λ (e : PlainEdit). Contains (edits_in l) e) closing.edit (contains_edit l.counted closing.o.it there)))
 
     pub overtaken_here : (other : Other) → traces.IsOvertakenBy (world_of v) other s.issue → IsOvertakenBy l other closing.o
     overtaken_here other t =
@@ -321,15 +321,15 @@ module _ (layout : Layout) (l : Ledger) (v v' : WorldValue) (h : IsOf layout l v
         ap (λ n. drop n v.counted) (running.since ∙ sym (length-map closing.o.before (λ (e : Placed). e.edit)))
         ∙ ap (λ es. drop (length (edits closing.o.before)) es) (sym h.counted ∙ ap edits running.grown ∙ map-append (λ (e : Placed). e.edit) closing.o.before running.more)
         ∙ drop-append_seam (edits closing.o.before) (edits running.more) in
-        let r = from_edits running.more t.by (subst (λ (es : List Edit). Contains es t.by) cut t.since) in
-        let once : NoneTwice l.counted = none_twice l.counted (subst (λ (es : List Edit). Increasing es) (sym h.counted) h.good.sound.increasing) in
+        let r = from_edits running.more t.by (subst (λ (es : List PlainEdit). Contains es t.by) cut t.since) in
+        let once : NoneTwice l.counted = none_twice l.counted (subst (λ (es : List PlainEdit). Increasing es) (sym h.counted) h.good.sound.increasing) in
         record {
           by = r.0;
           counts = subst (λ (es : List Placed). Contains es r.0) (sym running.grown) (Contains-append_right closing.o.before running.more r.0 r.1);
           since = λ before. apart_parts closing.o.before running.more r.0 (subst (λ (es : List Placed). NoneTwice es) running.grown once) before r.1;
-          cell = ap (λ (e : Edit). e.cell) r.2 ∙ t.cell ∙ ap (λ (e : Edit). e.cell) (sym closing.edit);
-          process = ap (λ (e : Edit). e.process) r.2 ∙ t.process;
-          number = ap (λ (e : Edit). e.number) r.2 ∙ t.number;
+          cell = ap (λ (e : PlainEdit). e.cell) r.2 ∙ t.cell ∙ ap (λ (e : PlainEdit). e.cell) (sym closing.edit);
+          process = ap (λ (e : PlainEdit). e.process) r.2 ∙ t.process;
+          number = ap (λ (e : PlainEdit). e.number) r.2 ∙ t.number;
         }
 
   -- the process stops: its open edit is in doubt
@@ -377,7 +377,7 @@ module _ (layout : Layout) (l : Ledger) (v v' : WorldValue) (h : IsOf layout l v
 
   -- a crash: every open edit is in doubt, and some are lost
   module _ (c : CrashesTo (world_of v) (world_of v')) where
-    pub known : (p : ℕ) (issue : Issue) → (world_of v).open_edits p ≡ Some issue → IsKnownAs l p issue
+    pub known : (p : ℕ) (issue : PlainIssue) → (world_of v).open_edits p ≡ Some issue → IsKnownAs l p issue
     known p issue is = let a = h.some p issue is in record { o = a.o; is = a.is; edit = a.edit; only = a.only }
 
     abbrev pub left : Ledger
@@ -386,7 +386,7 @@ module _ (layout : Layout) (l : Ledger) (v v' : WorldValue) (h : IsOf layout l v
     pub left_loses : Loses l left
     left_loses = crash_loses (world_of v) (world_of v') h.good.sound l h.counted known c
 
-    real : (p : ℕ) (issue : Issue) → (world_of v).open_edits p ≡ Some issue → p < v.sheet.layout.processes
+    real : (p : ℕ) (issue : PlainIssue) → (world_of v).open_edits p ≡ Some issue → p < v.sheet.layout.processes
     real p issue is = elim (cases_lt p v.sheet.layout.processes) [
       | inl lt ↦ lt
       | inr ge ↦ absurd (no_some ((world_of v).open_edits p) issue (get_or_past v.open_edits p None (let n = h.good.open_edits in omega arith)) is)

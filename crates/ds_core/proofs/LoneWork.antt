@@ -3,9 +3,9 @@ use Rattle.std.proofs.Common.{ℕ, ◌≡◌, ◌<◌, ◌/◌, ◌⊎◌, List,
 use Rattle.ds_layout.specs.declared.place.Place.{Place}
 use Rattle.ds_layout.specs.declared.place.Place.TheVariants.{Mark, Value, Kind, Index}
 use Rattle.ds_layout.specs.Mark.{IsClean}
-use Rattle.ds_state.specs.World.{World}
-use Rattle.ds_state.specs.Works.{PlainWork, PlainShow, PlainRecovery}
-use Rattle.ds_state.specs.Edits.{PlainEdit}
+use Rattle.ds_state.specs.World.{PlainWorld}
+use Rattle.ds_state.specs.Works.{PlainWorkCall, PlainShowCall, PlainRecoverCall}
+use Rattle.ds_state.specs.Edits.{PlainEditCall}
 use Rattle.ds_state.specs.Sound.{IsSound}
 use Rattle.ds_state.specs.Value.{WorldValue, world_of}
 use Rattle.ds_state.specs.declared.work.WorkEnd.{WorkEnd}
@@ -37,12 +37,12 @@ use Rattle.ds_core.specs.declared.reply.Reply.TheVariants.{Stepped, Answered, Wr
 -- ---- it is over
 
 -- nothing is answered any more, and all words stay
-record IsOver (first last : World) (cell p : ℕ) (reply : Reply) (old new : WorldValue) : Type 0 where
+record IsOver (first last : PlainWorld) (cell p : ℕ) (reply : Reply) (old new : WorldValue) : Type 0 where
   silent : IsLoneReply first last cell reply
   idle : (n : ℕ) → (world_of old).situation p ≡ Idle n → (world_of new).situation p ≡ Idle n
   words : (r : Place) → (world_of new).memory.cached r ≡ (world_of old).memory.cached r
 
-module _ (first last : World) (cell p n : ℕ) (old new : WorldValue) (idle : (world_of old).situation p ≡ Idle n) where
+module _ (first last : PlainWorld) (cell p n : ℕ) (old new : WorldValue) (idle : (world_of old).situation p ≡ Idle n) where
   nothing : (reply : Reply) → IsLoneReply first last cell reply → new ≡ old → IsOver first last cell p reply old new
   nothing reply silent same = subst (λ (v : WorldValue). IsOver first last cell p reply old v) (sym same) (record { silent = silent; idle = λ k is. is; words = λ r. refl })
 
@@ -73,7 +73,7 @@ module _ (first last : World) (cell p n : ℕ) (old new : WorldValue) (idle : (w
   over (Stop q) reply h same = absurd same
   over Crash reply h same = absurd same
 
-rest : (first last : World) (cell : ℕ) (events : List Event) (replies : List Reply) (old new : WorldValue) (p n : ℕ) → (world_of old).situation p ≡ Idle n → WorldRun old events replies new → IsLone p events
+rest : (first last : PlainWorld) (cell : ℕ) (events : List Event) (replies : List Reply) (old new : WorldValue) (p n : ℕ) → (world_of old).situation p ≡ Idle n → WorldRun old events replies new → IsLone p events
     → AreLoneReplies first last cell replies × ((r : Place) → (world_of new).memory.cached r ≡ (world_of old).memory.cached r)
 rest first last cell [] [] old new p n idle run lone = (tt, λ r. ap (λ (v : WorldValue). (world_of v).memory.cached r) run)
 rest first last cell (event ∷ events) (reply ∷ replies) old new p n idle run lone =
@@ -86,56 +86,56 @@ rest first last cell (event ∷ events) [] old new p n idle run lone = absurd ru
 -- ---- it is under way
 
 record IsUnderway (row : ℕ → ℕ) (before : CellWords) (p cell : ℕ) (v : WorldValue) : Type 0 where
-  work : PlainWork
+  work : PlainWorkCall
   mine : work.process ≡ p
   of_cell : work.cell ≡ cell
   at : (world_of v).situation p ≡ Working work
   alone : IsAlone row before (world_of v) work
 
 module _ (row : ℕ → ℕ) (before : CellWords) (p cell : ℕ) (old new : WorldValue) (sound : IsSound (world_of old)) (u : IsUnderway row before p cell old) where
-  same_work : (q : ℕ) (f : PlainWork) → q ≡ p → (world_of old).situation q ≡ Working f → f ≡ u.work
+  same_work : (q : ℕ) (f : PlainWorkCall) → q ≡ p → (world_of old).situation q ≡ Working f → f ≡ u.work
   same_work q f same is = let one : Working f ≡ Working u.work = sym is ∙ ap (λ x. (world_of old).situation x) same ∙ u.at in cc
 
-  no_edit : (q : ℕ) (f : PlainEdit) → q ≡ p → (world_of old).situation q ≡ Editing f → ⊥
+  no_edit : (q : ℕ) (f : PlainEditCall) → q ≡ p → (world_of old).situation q ≡ Editing f → ⊥
   no_edit q f same is = let bad : Editing f ≡ Working u.work = sym is ∙ ap (λ x. (world_of old).situation x) same ∙ u.at in cc
 
-  no_report : (q : ℕ) (f : PlainShow) → q ≡ p → (world_of old).situation q ≡ Showing f → ⊥
+  no_report : (q : ℕ) (f : PlainShowCall) → q ≡ p → (world_of old).situation q ≡ Showing f → ⊥
   no_report q f same is = let bad : Showing f ≡ Working u.work = sym is ∙ ap (λ x. (world_of old).situation x) same ∙ u.at in cc
 
-  no_recovery : (q : ℕ) (f : PlainRecovery) → q ≡ p → (world_of old).situation q ≡ Recovering f → ⊥
+  no_recovery : (q : ℕ) (f : PlainRecoverCall) → q ≡ p → (world_of old).situation q ≡ Recovering f → ⊥
   no_recovery q f same is = let bad : Recovering f ≡ Working u.work = sym is ∙ ap (λ x. (world_of old).situation x) same ∙ u.at in cc
 
-  goes : (e : PlainWork) → e ≡ u.work → GoesAlone row before e (world_of new) taken.Stepped → IsUnderway row before p cell new
+  goes : (e : PlainWorkCall) → e ≡ u.work → GoesAlone row before e (world_of new) taken.Stepped → IsUnderway row before p cell new
   goes e same g =
-      let mine : e.process ≡ p = ap (λ (x : PlainWork). x.process) same ∙ u.mine in
-      record { work = g.0; mine = g.2 ∙ mine; of_cell = g.1 ∙ ap (λ (x : PlainWork). x.cell) same ∙ u.of_cell; at = ap (λ x. (world_of new).situation x) (sym mine) ∙ g.3; alone = g.4 }
+      let mine : e.process ≡ p = ap (λ (x : PlainWorkCall). x.process) same ∙ u.mine in
+      record { work = g.0; mine = g.2 ∙ mine; of_cell = g.1 ∙ ap (λ (x : PlainWorkCall). x.cell) same ∙ u.of_cell; at = ap (λ x. (world_of new).situation x) (sym mine) ∙ g.3; alone = g.4 }
 
   turns : (q : ℕ) (reply : Reply) → q ≡ p → (h : WorkStepsBy old q reply new) → GoesAlone row before h.steps.work (world_of new) h.what
   turns q reply same h =
-      let e : PlainWork = h.steps.work in
+      let e : PlainWorkCall = h.steps.work in
       let one = same_work q e same h.steps.works in
       turn_alone row before e (world_of old) (world_of new) sound (rw h.steps.mine h.steps.inside) (ap (λ x. (world_of old).situation x) h.steps.mine ∙ h.steps.works) h.steps.is
-      (subst (λ (x : PlainWork). IsAlone row before (world_of old) x) (sym one) u.alone) h.what h.steps.turn
+      (subst (λ (x : PlainWorkCall). IsAlone row before (world_of old) x) (sym one) u.alone) h.what h.steps.turn
 
   stays : new ≡ old → IsUnderway row before p cell new
   stays same = subst (λ (v : WorldValue). IsUnderway row before p cell v) (sym same) u
 
 -- what comes of one event: it goes on, and nothing is answered; or it is answered, and is over
-record Goes (first last : World) (row : ℕ → ℕ) (before : CellWords) (p cell : ℕ) (reply : Reply) (new : WorldValue) : Type 0 where
+record Goes (first last : PlainWorld) (row : ℕ → ℕ) (before : CellWords) (p cell : ℕ) (reply : Reply) (new : WorldValue) : Type 0 where
   silent : IsLoneReply first last cell reply
   on : IsUnderway row before p cell new
 
 record Ends (row : ℕ → ℕ) (before : CellWords) (p cell : ℕ) (reply : Reply) (new : WorldValue) : Type 0 where
   end : WorkEnd
   is : reply ≡ Answered (work_answer end)
-  work : PlainWork
+  work : PlainWorkCall
   of_cell : work.cell ≡ cell
   so : EndsAlone row (world_of new) work end
   showing : EndsShowing before (shown_in (world_of new) work.cell) end
   n : ℕ
   idle : (world_of new).situation p ≡ Idle n
 
-module _ (first last : World) (row : ℕ → ℕ) (before : CellWords) (p cell : ℕ) (old new : WorldValue) (sound : IsSound (world_of old)) (u : IsUnderway row before p cell old) where
+module _ (first last : PlainWorld) (row : ℕ → ℕ) (before : CellWords) (p cell : ℕ) (old new : WorldValue) (sound : IsSound (world_of old)) (u : IsUnderway row before p cell old) where
   by_work : (q : ℕ) (reply : Reply) → q ≡ p → (h : WorkStepsBy old q reply new) → Goes first last row before p cell reply new ⊎ Ends row before p cell reply new
   by_work q reply same h = by h.what refl h.is (turns row before p cell old new sound u q reply same h)
     where
@@ -157,7 +157,7 @@ module _ (first last : World) (row : ℕ → ℕ) (before : CellWords) (p cell :
             end = end;
             is = is ∙ ap work_reply at;
             work = h.steps.work;
-            of_cell = ap (λ (x : PlainWork). x.cell) one ∙ u.of_cell;
+            of_cell = ap (λ (x : PlainWorkCall). x.cell) one ∙ u.of_cell;
             so = k.1;
             showing = k.2;
             n = h.steps.work.next;
@@ -197,7 +197,7 @@ module _ (first last : World) (row : ℕ → ℕ) (before : CellWords) (p cell :
       inl (record {
         silent = tt;
         on = goes row before p cell old new sound u o.work one
-            (offer_alone row before o.work (world_of old) (world_of new) (subst (λ (x : PlainWork). IsAlone row before (world_of old) x) (sym one) u.alone) value.entry o.waits.waits o.offers.turn);
+            (offer_alone row before o.work (world_of old) (world_of new) (subst (λ (x : PlainWorkCall). IsAlone row before (world_of old) x) (sym one) u.alone) value.entry o.waits.waits o.offers.turn);
       })
   event_goes (Offer value) WrongTask h same = still WrongTask tt h.same
   event_goes (Offer value) _ h same = absurd h
@@ -210,7 +210,7 @@ module _ (first last : World) (row : ℕ → ℕ) (before : CellWords) (p cell :
 
 -- ---- over a run
 
-module _ (row : ℕ → ℕ) (first middle last : World) (cell : ℕ) (work : PlainWork) (of_cell : work.cell ≡ cell) (index : (part : ℕ) → first.memory.cached (Index cell part) ≡ row part) (words : (r : Place) → last.memory.cached r ≡ middle.memory.cached r) where
+module _ (row : ℕ → ℕ) (first middle last : PlainWorld) (cell : ℕ) (work : PlainWorkCall) (of_cell : work.cell ≡ cell) (index : (part : ℕ) → first.memory.cached (Index cell part) ≡ row part) (words : (r : Place) → last.memory.cached r ≡ middle.memory.cached r) where
   clean : IsClean (mark_now middle work) → IsClean (last.memory.cached (Mark cell))
   clean h = subst IsClean (ap (λ c. middle.memory.cached (Mark c)) of_cell ∙ sym (words (Mark cell))) h
 
@@ -233,7 +233,7 @@ module _ (row : ℕ → ℕ) (first middle last : World) (cell : ℕ) (work : Pl
   answers_so ends.Again so showing = (own so, λ same. showing (sym shown ∙ same))
   answers_so ends.NoMemory so showing = shown ∙ showing
 
-lone_run : (row : ℕ → ℕ) (first : World) (p cell : ℕ) → ((part : ℕ) → first.memory.cached (Index cell part) ≡ row part) → (events : List Event) (replies : List Reply) (old new : WorldValue) → IsSound (world_of old) → IsUnderway row (shown_in first cell) p cell old
+lone_run : (row : ℕ → ℕ) (first : PlainWorld) (p cell : ℕ) → ((part : ℕ) → first.memory.cached (Index cell part) ≡ row part) → (events : List Event) (replies : List Reply) (old new : WorldValue) → IsSound (world_of old) → IsUnderway row (shown_in first cell) p cell old
     → WorldRun old events replies new → IsLone p events → AreLoneReplies first (world_of new) cell replies
 lone_run row first p cell index [] [] old new sound u run lone = tt
 lone_run row first p cell index (event ∷ events) (reply ∷ replies) old new sound u run lone =
@@ -247,7 +247,7 @@ lone_run row first p cell index (event ∷ events) (reply ∷ replies) old new s
 lone_run row first p cell index [] (reply ∷ replies) old new sound u run lone = absurd run
 lone_run row first p cell index (event ∷ events) [] old new sound u run lone = absurd run
 
-pub lone_publishes : (old : WorldValue) (events : List Event) (replies : List Reply) (new : WorldValue) (p : ℕ) (e : PlainWork) → IsSound (world_of old) → p < old.sheet.layout.processes → (world_of old).situation p ≡ Working e → e.stage ≡ LoadMark → IsMarkedAt (world_of old) e
+pub lone_publishes : (old : WorldValue) (events : List Event) (replies : List Reply) (new : WorldValue) (p : ℕ) (e : PlainWorkCall) → IsSound (world_of old) → p < old.sheet.layout.processes → (world_of old).situation p ≡ Working e → e.stage ≡ LoadMark → IsMarkedAt (world_of old) e
     → WorldRun old events replies new → IsLone p events → AreLoneReplies (world_of old) (world_of new) e.cell replies
 lone_publishes old events replies new p e sound low at first marked run lone =
     let fits : WorkFits (world_of old) p e = subst (λ (x : Situation). CallFits (world_of old) p x) at (sound.calls p low) in

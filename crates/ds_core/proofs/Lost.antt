@@ -7,37 +7,37 @@ use Rattle.std.proofs.lemmas.List.{take_more, take_more_set, get_or-set_other, a
 use Rattle.std.proofs.lemmas.List.Elements.{filter-append}
 use Rattle.ds_words.specs.Memory.{Memory}
 use Rattle.ds_layout.specs.declared.place.Place.{Place}
-use Rattle.ds_state.specs.World.{Edit}
+use Rattle.ds_state.specs.World.{PlainEdit}
 use Rattle.ds_state.specs.Crashes.{is_lost, survivors}
 
 -- of the first i edits those that stay stand in front, so many; the edits from i on are as they were
-pub record IsSifted (m : Memory Place) (old xs : List Edit) (i kept : ℕ) : Type 0 where
+pub record IsSifted (m : Memory Place) (old xs : List PlainEdit) (i kept : ℕ) : Type 0 where
   pub fewer : kept ≤ i
   pub size : length xs ≡ length old
   pub front : take kept xs ≡ survivors m (take i old)
-  pub rest : (j : ℕ) (e : Edit) → i ≤ j → get_or xs j e ≡ get_or old j e
+  pub rest : (j : ℕ) (e : PlainEdit) → i ≤ j → get_or xs j e ≡ get_or old j e
 
-abbrev keep : Memory Place → Edit → Bool
+abbrev keep : Memory Place → PlainEdit → Bool
 keep m e = if is_lost m e then false else true
 
-pub sifted_first : (m : Memory Place) (old : List Edit) → IsSifted m old old 0 0
+pub sifted_first : (m : Memory Place) (old : List PlainEdit) → IsSifted m old old 0 0
 unfolding survivors
 sifted_first m old = record { fewer = omega arith; size = refl; front = refl; rest = λ j e l. refl }
 
-one_more : (m : Memory Place) (old : List Edit) (i : ℕ) (e : Edit) → i < length old → e ≡ get_or old i e → survivors m (take (i + 1) old) ≡ survivors m (take i old) ++ survivors m (e ∷ [])
+one_more : (m : Memory Place) (old : List PlainEdit) (i : ℕ) (e : PlainEdit) → i < length old → e ≡ get_or old i e → survivors m (take (i + 1) old) ≡ survivors m (take i old) ++ survivors m (e ∷ [])
 unfolding survivors
 one_more m old i e lt is =
-    ap (λ (es : List Edit). filter (keep m) es) (take_more old i e lt ∙ ap (λ (x : Edit). take i old ++ x ∷ []) (sym is)) ∙ filter-append (keep m) (take i old) (e ∷ [])
+    ap (λ (es : List PlainEdit). filter (keep m) es) (take_more old i e lt ∙ ap (λ (x : PlainEdit). take i old ++ x ∷ []) (sym is)) ∙ filter-append (keep m) (take i old) (e ∷ [])
 
-none_stays : (m : Memory Place) (e : Edit) → is_lost m e ≡ true → survivors m (e ∷ []) ≡ []
+none_stays : (m : Memory Place) (e : PlainEdit) → is_lost m e ≡ true → survivors m (e ∷ []) ≡ []
 unfolding survivors
 none_stays m e lost = let k : keep m e ≡ false = rw lost refl in rw k refl
 
-one_stays : (m : Memory Place) (e : Edit) → is_lost m e ≡ false → survivors m (e ∷ []) ≡ e ∷ []
+one_stays : (m : Memory Place) (e : PlainEdit) → is_lost m e ≡ false → survivors m (e ∷ []) ≡ e ∷ []
 unfolding survivors
 one_stays m e there = let k : keep m e ≡ true = rw there refl in rw k refl
 
-module _ (m : Memory Place) (old xs : List Edit) (i kept : ℕ) (h : IsSifted m old xs i kept) (e : Edit) (lt : i < length xs) (is : e ≡ get_or xs i e) where
+module _ (m : Memory Place) (old xs : List PlainEdit) (i kept : ℕ) (h : IsSifted m old xs i kept) (e : PlainEdit) (lt : i < length xs) (is : e ≡ get_or xs i e) where
   low : i < length old
   low = let s = h.size in omega arith
 
@@ -60,9 +60,9 @@ module _ (m : Memory Place) (old xs : List Edit) (i kept : ℕ) (h : IsSifted m 
     rest = λ j d l. get_or-set_other xs kept j e d (let f = h.fewer in omega arith) ∙ h.rest j d (omega arith);
   }
 
-pub sifted_last : (m : Memory Place) (old xs : List Edit) (kept : ℕ) → IsSifted m old xs (length old) kept → take kept xs ≡ survivors m old
+pub sifted_last : (m : Memory Place) (old xs : List PlainEdit) (kept : ℕ) → IsSifted m old xs (length old) kept → take kept xs ≡ survivors m old
 sifted_last m old xs kept h = h.front ∙ ap (λ es. survivors m es) (take-length old)
 
 -- the edit that is looked at is the one that stood there at first
-pub sifted_at : (m : Memory Place) (old xs : List Edit) (i kept : ℕ) (P : Edit → Type 0) → IsSifted m old xs i kept → All P old → (e : Edit) → i < length xs → e ≡ get_or xs i e → P e
+pub sifted_at : (m : Memory Place) (old xs : List PlainEdit) (i kept : ℕ) (P : PlainEdit → Type 0) → IsSifted m old xs i kept → All P old → (e : PlainEdit) → i < length xs → e ≡ get_or xs i e → P e
 sifted_at m old xs i kept P h all e lt is = subst P (sym (is ∙ h.rest i e (omega arith))) (all i e (let s = h.size in omega arith))

@@ -3,7 +3,7 @@ use Rattle.std.proofs.Common.{ℕ, ◌≡◌, ◌≢◌, ◌⊎◌, [], ◌∷�
 use Rattle.std.specs.Prelude.{Option, Contains, filter, if◌then◌else◌}
 use Rattle.std.proofs.lemmas.Bool.Decides.{eqb_tells}
 use Rattle.ds_formula.specs.declared.cells.Shape.{Shape}
-use Rattle.ds_state.specs.World.{Edit}
+use Rattle.ds_state.specs.World.{PlainEdit}
 use Rattle.ds_core.specs.Moments.{Placed, Open, Closed, Ledger}
 use Rattle.ds_core.specs.Headline.{IsIssueOf}
 use Rattle.ds_core.specs.LedgerSteps.{put, in_doubt, Stands, Issues, Counts, Closes, Forgets, Loses, AnswerMoves, LedgerMoves}
@@ -14,7 +14,7 @@ use Rattle.ds_edit.specs.declared.answer.Answer.TheVariants.{Done, Overtaken, No
 use Rattle.ds_core.specs.declared.reply.Reply.{Reply}
 use Rattle.ds_core.specs.declared.reply.Reply.TheVariants.{Begun, Entered, Refused, Stepped, Answered, WrongTask, Evicted, Stopped, Crashed, NotEnabled}
 
-abbrev pub IsFresh : ℕ → (Edit → Type 0) → ℕ → Open → Type 0
+abbrev pub IsFresh : ℕ → (PlainEdit → Type 0) → ℕ → Open → Type 0
 IsFresh k I q o = (o.it.place ≡ k) × (o.it.edit.process ≡ q) × I o.it.edit
 
 pub record WasOpen (old : Ledger) (q : ℕ) (now : Open) : Type 0 where
@@ -56,7 +56,7 @@ pub record ClosesAs (old : Ledger) (q : ℕ) (c : Closed) (new : Ledger) : Type 
 abbrev pub IsToldSo : Ledger → Ledger → ℕ → Closed → Type 0
 IsToldSo old new q c = (old.told q ≡ Some c) ⊎ ClosesAs old q c new
 
-pub record Moved (k : ℕ) (I : Edit → Type 0) (old new : Ledger) : Type 0 where
+pub record Moved (k : ℕ) (I : PlainEdit → Type 0) (old new : Ledger) : Type 0 where
   pub opens : (q : ℕ) (o : Open) → new.opens q ≡ Some o → IsFresh k I q o ⊎ WasOpen old q o
   pub told : (q : ℕ) (c : Closed) → new.told q ≡ Some c → IsToldSo old new q c
   pub counted : (new.counted ≡ old.counted) ⊎ (Pushes old new ⊎ Filters old new)
@@ -81,10 +81,10 @@ doubt_keeps (Some y) o a b = absurd (cc)
 none_some : (x : Option Open) (o : Open) → x ≡ None → x ≡ Some o → ⊥
 none_some x o a b = let e : None ≡ Some o = sym a ∙ b in cc
 
-same_moved : (k : ℕ) (I : Edit → Type 0) (old new : Ledger) → new ≡ old → Moved k I old new
+same_moved : (k : ℕ) (I : PlainEdit → Type 0) (old new : Ledger) → new ≡ old → Moved k I old new
 same_moved k I old new h = subst (λ (l : Ledger). Moved k I old l) (sym h) (record { opens = λ q o is. inr (was_open old q o is); told = λ q c is. inl is; counted = inl refl })
 
-issues_moved : (k : ℕ) (I : Edit → Type 0) (old : Ledger) (edit : Edit) (new : Ledger) → I edit → Issues k old edit new → Moved k I old new
+issues_moved : (k : ℕ) (I : PlainEdit → Type 0) (old : Ledger) (edit : PlainEdit) (new : Ledger) → I edit → Issues k old edit new → Moved k I old new
 issues_moved k I old edit new i h = subst (λ (l : Ledger). Moved k I old l) (sym h.is) (record {
   opens = λ q o is. elim (put_cases old.opens edit.process _ q (Some o) is) [
     | inl here ↦ inl (
@@ -96,14 +96,14 @@ issues_moved k I old edit new i h = subst (λ (l : Ledger). Moved k I old l) (sy
   counted = inl refl;
 })
 
-counts_moved : (k : ℕ) (I : Edit → Type 0) (old : Ledger) (p : ℕ) (new : Ledger) → Counts old p new → Moved k I old new
+counts_moved : (k : ℕ) (I : PlainEdit → Type 0) (old : Ledger) (p : ℕ) (new : Ledger) → Counts old p new → Moved k I old new
 counts_moved k I old p new h = subst (λ (l : Ledger). Moved k I old l) (sym h.is) (record {
   opens = λ q o is. inr (was_open old q o is);
   told = λ q c is. inl is;
   counted = inr (inl (record { p = p; o = h.open_edit; was = h.was; is = refl; keeps = λ q o was gone. none_some (old.opens q) o gone was }));
 })
 
-gone_moved : (k : ℕ) (I : Edit → Type 0) (old : Ledger) (p : ℕ) (told : ℕ → Option Closed) → ((q : ℕ) (c : Closed) → told q ≡ Some c → IsToldSo old (record old { opens = put old.opens p None; told = told }) q c)
+gone_moved : (k : ℕ) (I : PlainEdit → Type 0) (old : Ledger) (p : ℕ) (told : ℕ → Option Closed) → ((q : ℕ) (c : Closed) → told q ≡ Some c → IsToldSo old (record old { opens = put old.opens p None; told = told }) q c)
     → Moved k I old (record old { opens = put old.opens p None; told = told })
 gone_moved k I old p told so = record {
   opens = λ q o is. elim (put_cases old.opens p None q (Some o) is) [ inl here ↦ absurd (let s = here.1 in cc) | inr there ↦ inr (was_open old q o there.1) ];
@@ -111,7 +111,7 @@ gone_moved k I old p told so = record {
   counted = inl refl;
 }
 
-closes_moved : (k : ℕ) (I : Edit → Type 0) (old : Ledger) (p number : ℕ) (doubt counts : Bool) (And : Open → Type 0) (new : Ledger) → Closes old p number doubt counts And new → Moved k I old new
+closes_moved : (k : ℕ) (I : PlainEdit → Type 0) (old : Ledger) (p number : ℕ) (doubt counts : Bool) (And : Open → Type 0) (new : Ledger) → Closes old p number doubt counts And new → Moved k I old new
 closes_moved k I old p number doubt counts And new h = subst (λ (l : Ledger). Moved k I old l) (sym h.is) (gone_moved k I old p _ so)
   where
     so : (q : ℕ) (c : Closed) → put old.told p (Some (record { it = h.open_edit.it; counts = counts })) q ≡ Some c → IsToldSo old (record old { opens = put old.opens p None; told = put old.told p (Some (record { it = h.open_edit.it; counts = counts })) }) q c
@@ -126,10 +126,10 @@ closes_moved k I old p number doubt counts And new h = subst (λ (l : Ledger). M
       | inr there ↦ inl there.1
     ]
 
-forgets_moved : (k : ℕ) (I : Edit → Type 0) (old : Ledger) (p : ℕ) (answer : Answer) (new : Ledger) → Forgets old p answer new → Moved k I old new
+forgets_moved : (k : ℕ) (I : PlainEdit → Type 0) (old : Ledger) (p : ℕ) (answer : Answer) (new : Ledger) → Forgets old p answer new → Moved k I old new
 forgets_moved k I old p answer new h = subst (λ (l : Ledger). Moved k I old l) (sym h.is) (gone_moved k I old p old.told (λ q c is. inl is))
 
-stop_moved : (k : ℕ) (I : Edit → Type 0) (old : Ledger) (p : ℕ) (new : Ledger) → new ≡ record old { opens = put old.opens p (in_doubt (old.opens p)) } → Moved k I old new
+stop_moved : (k : ℕ) (I : PlainEdit → Type 0) (old : Ledger) (p : ℕ) (new : Ledger) → new ≡ record old { opens = put old.opens p (in_doubt (old.opens p)) } → Moved k I old new
 stop_moved k I old p new h = subst (λ (l : Ledger). Moved k I old l) (sym h) (record {
   opens = λ q o is. elim (put_cases old.opens p (in_doubt (old.opens p)) q (Some o) is) [
     | inl here ↦ inr (doubted old q o (old.opens q) refl (ap (λ x. in_doubt (old.opens x)) here.0 ∙ here.1))
@@ -139,14 +139,14 @@ stop_moved k I old p new h = subst (λ (l : Ledger). Moved k I old l) (sym h) (r
   counted = inl refl;
 })
 
-loses_moved : (k : ℕ) (I : Edit → Type 0) (old new : Ledger) → Loses old new → Moved k I old new
+loses_moved : (k : ℕ) (I : PlainEdit → Type 0) (old new : Ledger) → Loses old new → Moved k I old new
 loses_moved k I old new h = subst (λ (l : Ledger). Moved k I old l) (sym h.is) (record {
   opens = λ q o is. inr (doubted old q o (old.opens q) refl is);
   told = λ q c is. inl is;
   counted = inr (inr (record { stays = h.stays; lost_open = h.lost_open; is = refl; keeps = λ q o was gone. doubt_keeps (old.opens q) o was gone }));
 })
 
-answer_moved : (k : ℕ) (I : Edit → Type 0) (old : Ledger) (p : ℕ) (answer : Answer) (new : Ledger) → AnswerMoves old p answer new → Moved k I old new
+answer_moved : (k : ℕ) (I : PlainEdit → Type 0) (old : Ledger) (p : ℕ) (answer : Answer) (new : Ledger) → AnswerMoves old p answer new → Moved k I old new
 answer_moved k I old p (Done number) new h = closes_moved k I old p number _ _ _ new h
 answer_moved k I old p (Overtaken number other) new h = closes_moved k I old p number _ _ _ new h
 answer_moved k I old p (Last told) new (inl h) = closes_moved k I old p told.number _ _ _ new h

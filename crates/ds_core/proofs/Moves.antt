@@ -5,8 +5,8 @@ use Rattle.std.proofs.lemmas.Bool.{cases_eq}
 use Rattle.std.proofs.lemmas.List.{append-nil}
 use Rattle.std.proofs.lemmas.List.Elements.{All-contains}
 use Rattle.ds_layout.specs.Head.{head_of}
-use Rattle.ds_state.specs.Edits.{PlainEdit, text_parts}
-use Rattle.ds_state.specs.World.{Edit, Issue, World, edit_of}
+use Rattle.ds_state.specs.Edits.{PlainEditCall, text_parts}
+use Rattle.ds_state.specs.World.{PlainEdit, PlainIssue, PlainWorld, edit_of}
 use Rattle.ds_state.specs.Known.{AreBelow, Knowing, known_at}
 use Rattle.ds_state.specs.Value.{WorldValue, world_of}
 use Rattle.ds_state.specs.CallsFit.{CallFits, EditFits, IdleFits}
@@ -28,24 +28,24 @@ use Rattle.ds_core.specs.declared.reply.Reply.{Reply}
 use Rattle.ds_core.specs.declared.reply.Reply.TheVariants.{Answered}
 use Rattle.ds_core.proofs.Good.{counted_cases, answers_at, goes_on_at}
 
-pub counts_at : (e : Edit) (s : Stage) (word : ℕ) → counted_at e s word ≡ e ∷ [] → (noted : ℕ) × (s ≡ Swap noted)
+pub counts_at : (e : PlainEdit) (s : Stage) (word : ℕ) → counted_at e s word ≡ e ∷ [] → (noted : ℕ) × (s ≡ Swap noted)
 counts_at e (Swap noted) word is = (noted, refl)
 counts_at e _ word is = absurd (cc)
 
 pub same_stays : (old new : WorldValue) → new ≡ old → Stays (world_of old) (world_of new)
 same_stays old new same = subst (λ (v : WorldValue). Stays (world_of old) (world_of v)) (sym same) (record { counted = refl; open_edits = λ q. refl })
 
-not_below : (w : World) (e : Edit) → AreBelow w e.process e.number → Contains w.counted e → ⊥
-not_below w e below there = let l = All-contains (λ (f : Edit). f.process ≡ e.process → f.number < e.number) w.counted e below there refl in omega arith
+not_below : (w : PlainWorld) (e : PlainEdit) → AreBelow w e.process e.number → Contains w.counted e → ⊥
+not_below w e below there = let l = All-contains (λ (f : PlainEdit). f.process ≡ e.process → f.number < e.number) w.counted e below there refl in omega arith
 
-same_since : (a b : Issue) → Some a ≡ Some b → a.since ≡ b.since
-same_since a b same = let one : a ≡ b = cc in ap (λ (i : Issue). i.since) one
+same_since : (a b : PlainIssue) → Some a ≡ Some b → a.since ≡ b.since
+same_since a b same = let one : a ≡ b = cc in ap (λ (i : PlainIssue). i.since) one
 
 -- an edit begins
-pub begins_move : (old new : World) → IsSound old → (process cell : ℕ) (text : List ℕ) (number : ℕ) → IsBegun old process cell text number new
+pub begins_move : (old new : PlainWorld) → IsSound old → (process cell : ℕ) (text : List ℕ) (number : ℕ) → IsBegun old process cell text number new
     → Issues old (record { process = process; number = number; cell = cell; text = text }) new
 begins_move old new sound process cell text number h =
-    let e : PlainEdit = h.edit in
+    let e : PlainEditCall = h.edit in
     let b : Begins e old new = h.begins in
     let low : e.process < old.layout.processes = rw h.asked.sheet.processes h.asked.is.process in
     let idle : IdleFits old e.process e.number = subst (λ (x : Situation). CallFits old e.process x) b.idle (sound.calls e.process low) in
@@ -56,13 +56,13 @@ begins_move old new sound process cell text number h =
       fresh = not_below old (edit_of e) idle.below;
       counted = b.counted;
     } in
-    subst (λ (x : Edit). Issues old x new) h.asked.asked i
+    subst (λ (x : PlainEdit). Issues old x new) h.asked.asked i
 
 module _ (old new : WorldValue) (g : IsSound (world_of old)) (p : ℕ) (reply : Reply) (h : EditStepsBy old p reply new) where
-  w : World
+  w : PlainWorld
   w = world_of old
 
-  abbrev E : Edit
+  abbrev E : PlainEdit
   E = edit_of h.edit
 
   low : h.edit.process < old.sheet.layout.processes
@@ -103,7 +103,7 @@ module _ (old new : WorldValue) (g : IsSound (world_of old)) (p : ℕ) (reply : 
         })
   ]
 
-  closes : (how : Outcome) (Is : Issue → Type 0) → h.edit.stage ≡ Answer how → Is (record { edit = E; since = fits.since }) → Closes (world_of old) p h.edit.number Is (world_of new)
+  closes : (how : Outcome) (Is : PlainIssue → Type 0) → h.edit.stage ≡ Answer how → Is (record { edit = E; since = fits.since }) → Closes (world_of old) p h.edit.number Is (world_of new)
   closes how Is at is = record {
     issue = record { edit = E; since = fits.since };
     open_is = open_here;

@@ -5,8 +5,8 @@ use Rattle.ds_words.specs.Memory.{SameMemory}
 use Rattle.ds_layout.specs.declared.announcement.Phase.TheVariants as phase
 use Rattle.ds_layout.specs.declared.place.Place.TheVariants.{Announce}
 use Rattle.ds_layout.specs.SheetMemory.{PerformsAt}
-use Rattle.ds_state.specs.World.{Edit, phase_among}
-use Rattle.ds_state.specs.Works.{PlainRecovery}
+use Rattle.ds_state.specs.World.{PlainEdit, phase_among}
+use Rattle.ds_state.specs.Works.{PlainRecoverCall}
 use Rattle.ds_state.specs.CallsFit.{RecoveryFits}
 use Rattle.ds_state.specs.KnownRecovery.{ResolvedFits, resolved_at, over}
 use Rattle.ds_state.specs.Sound.{IsSound}
@@ -64,14 +64,14 @@ work_not_last (taken.Answered work_ends.Again) told is = absurd (cc)
 work_not_last (taken.Answered work_ends.NoMemory) told is = absurd (cc)
 
 -- how a recovery ended that tells so
-told_how : (e : PlainRecovery) (how : Option Bool) (told : Told) → Last told ≡ recovery_answer (end_of e how) → told.counts ≡ false → (how ≡ Some false) × (told.number ≡ number_of e)
+told_how : (e : PlainRecoverCall) (how : Option Bool) (told : Told) → Last told ≡ recovery_answer (end_of e how) → told.counts ≡ false → (how ≡ Some false) × (told.number ≡ number_of e)
 told_how e None told is not = absurd (cc)
 told_how e (Some true) told is not = absurd (let same : told ≡ record { number = number_of e; cell = e.cell; counts = true } = cc in let bad : false ≡ true = sym not ∙ ap (λ (t : Told). t.counts) same in cc)
 told_how e (Some false) told is not = (refl, (let same : told ≡ record { number = number_of e; cell = e.cell; counts = false } = cc in ap (λ (t : Told). t.number) same))
 
 pub resolved_out : (old mid : WorldValue) (p : ℕ) (told : Told) → IsSound (world_of old) → RecoveryStepsBy old p (Answered (Last told)) mid → told.counts ≡ false → IsSpent (world_of mid) p told.number × IsOut (world_of mid) p told.number
 resolved_out old mid p told sound s not =
-    let e : PlainRecovery = s.steps.recovery in
+    let e : PlainRecoverCall = s.steps.recovery in
     let found = at_answer e e.stage (Last told) (s.is ∙ ap recovery_reply s.steps.is) in
     let how = told_how e found.how told found.is not in
     let at : e.stage ≡ stages.Answer (Some false) = found.at ∙ ap (λ x. stages.Answer x) how.0 in
@@ -87,7 +87,7 @@ resolved_out old mid p told sound s not =
     let word = r.2.is in (
       omega arith,
       (λ f there its is.
-          let done = counted_done old.counted f (subst (λ (es : List Edit). Contains es f) s.steps.steps.counted there) in
+          let done = counted_done old.counted f (subst (λ (es : List PlainEdit). Contains es f) s.steps.steps.counted there) in
           let bad : phase.Done ≡ phase.NotDone = sym done ∙ ap (λ q. phase_among old.counted q f.number) (its ∙ sym mine) ∙ ap (λ n. phase_among old.counted e.process n) (is ∙ number) ∙ lost in
           cc),
     )

@@ -14,8 +14,8 @@ use Rattle.ds_layout.specs.Header.{header_of}
 use Rattle.ds_layout.specs.Head.{head_of}
 use Rattle.ds_layout.specs.Places.{cells_of}
 use Rattle.ds_layout.specs.SheetMemory.{PerformsAt}
-use Rattle.ds_state.specs.World.{World, announcement}
-use Rattle.ds_state.specs.Works.{PlainRecovery}
+use Rattle.ds_state.specs.World.{PlainWorld, announcement}
+use Rattle.ds_state.specs.Works.{PlainRecoverCall}
 use Rattle.ds_state.specs.Value.{WorldValue, world_of}
 use Rattle.ds_state.specs.CallsFit.{CallFits, RecoveryFits}
 use Rattle.ds_state.specs.KnownRecovery.{recovery_held, phase_for, ResolvedFits, resolved_at}
@@ -40,15 +40,15 @@ use Rattle.ds_core.proofs.Telling.{announces_now}
 
 -- ---- its accesses
 
-spread_spares : (p n : ℕ) (e : PlainRecovery) (cell : ℕ) (s : Spread) → Spares p n (steps.spread_access cell s)
+spread_spares : (p n : ℕ) (e : PlainRecoverCall) (cell : ℕ) (s : Spread) → Spares p n (steps.spread_access cell s)
 spread_spares p n e cell (spreads.OrTold d) = tt
 spread_spares p n e cell _ = tt
 
-spares : (p n : ℕ) (e : PlainRecovery) (s : RecoverStage) → Spares p n (steps.access_at e s)
+spares : (p n : ℕ) (e : PlainRecoverCall) (s : RecoverStage) → Spares p n (steps.access_at e s)
 spares p n e (stages.Telling cell spread) = spread_spares p n e cell spread
 spares p n e _ = tt
 
-pub recovery_sides : (p n : ℕ) (old new : World) (e : PlainRecovery) (word : ℕ) → RecoveryFits old e.process e → PerformsAt (steps.access_at e e.stage) e.process old.memory new.memory word → SidesStay old.memory new.memory (Header p n)
+pub recovery_sides : (p n : ℕ) (old new : PlainWorld) (e : PlainRecoverCall) (word : ℕ) → RecoveryFits old e.process e → PerformsAt (steps.access_at e e.stage) e.process old.memory new.memory word → SidesStay old.memory new.memory (Header p n)
 recovery_sides p n old new e word fits performs = sides_performed p n e.process (steps.access_at e e.stage) old.memory new.memory word (spares p n e e.stage) (recovery_first p n e.process old e.announcement e.cell (recovery_held e.cell e.stage) fits.buffer) performs
 
 -- no access but one changes a cached side of a header or an announcement
@@ -71,7 +71,7 @@ cached_stays q (acts.SwapIf _ expected value) old new word r plain not h = absur
 cached_stays q (acts.Flush s) old new word r plain not h = h.1.cached r
 cached_stays q acts.Back old new word r plain not h = h.1.2.cached r
 
-spread_plain : (e : PlainRecovery) (cell : ℕ) (s : Spread) → IsPlain (steps.spread_access cell s)
+spread_plain : (e : PlainRecoverCall) (cell : ℕ) (s : Spread) → IsPlain (steps.spread_access cell s)
 spread_plain e cell (spreads.LoadRow part) = tt
 spread_plain e cell (spreads.OrTold d) = tt
 spread_plain e cell (spreads.FlushTold d) = tt
@@ -82,12 +82,12 @@ abbrev IsStore : RecoverStage → Type 0 → Type 0
 IsStore (stages.StoreOutcome how) P = P
 IsStore _ P = Unit {0}
 
-plain_or_store : (e : PlainRecovery) (s : RecoverStage) → IsPlain (steps.access_at e s) ⊎ ((how : Bool) × (s ≡ stages.StoreOutcome how))
+plain_or_store : (e : PlainRecoverCall) (s : RecoverStage) → IsPlain (steps.access_at e s) ⊎ ((how : Bool) × (s ≡ stages.StoreOutcome how))
 plain_or_store e (stages.StoreOutcome how) = inr (how, refl)
 plain_or_store e (stages.Telling cell spread) = inl (spread_plain e cell spread)
 plain_or_store e _ = inl tt
 
-header_cached : (p n : ℕ) (old new : World) (e : PlainRecovery) (word : ℕ) → PerformsAt (steps.access_at e e.stage) e.process old.memory new.memory word → new.memory.cached (Header p n) ≡ old.memory.cached (Header p n)
+header_cached : (p n : ℕ) (old new : PlainWorld) (e : PlainRecoverCall) (word : ℕ) → PerformsAt (steps.access_at e e.stage) e.process old.memory new.memory word → new.memory.cached (Header p n) ≡ old.memory.cached (Header p n)
 header_cached p n old new e word performs = elim (plain_or_store e e.stage) [
   | inl plain ↦ cached_stays e.process (steps.access_at e e.stage) old.memory new.memory word (Header p n) plain (λ c is. cc) performs
   | inr (how, at) ↦ (let store = subst (λ (s : RecoverStage). PerformsAt (steps.access_at e s) e.process old.memory new.memory word) at performs in store.1.elsewhere (Header p n) (λ is. cc))
@@ -134,26 +134,26 @@ told_early cell (Some d) = tt
 row_early : (row : List ℕ) (cells cell part : ℕ) → IsEarly (steps.row_from row cells cell part)
 row_early row cells cell part = early_if (nat_lt part ((cells + 63) / 64)) _ _ (tt) (told_early cell _)
 
-spread_early : (e : PlainRecovery) (cell : ℕ) (s : Spread) (word : ℕ) → IsEarly (steps.spread_next e cell s word).stage
+spread_early : (e : PlainRecoverCall) (cell : ℕ) (s : Spread) (word : ℕ) → IsEarly (steps.spread_next e cell s word).stage
 spread_early e cell (spreads.LoadRow part) word = row_early _ e.cells cell (part + 1)
 spread_early e cell (spreads.OrTold d) word = tt
 spread_early e cell (spreads.FlushTold d) word = tt
 spread_early e cell (spreads.BackTold d) word = told_early cell _
 
-holds_early : (b : Bool) (e : PlainRecovery) (cell word : ℕ) → IsEarly (if b then record e { mark = word; row = []; stage = stages.FlushValue cell } else steps.at e (steps.looks_from e.cells (cell + 1))).stage
+holds_early : (b : Bool) (e : PlainRecoverCall) (cell word : ℕ) → IsEarly (if b then record e { mark = word; row = []; stage = stages.FlushValue cell } else steps.at e (steps.looks_from e.cells (cell + 1))).stage
 holds_early true e cell word = tt
 holds_early false e cell word = looks_early e.cells (cell + 1)
 
-gives_early : (b : Bool) (e : PlainRecovery) (cell : ℕ) → IsEarly (if b then steps.at e (stages.FlushGiven cell) else steps.at e (stages.GiveDirty cell)).stage
+gives_early : (b : Bool) (e : PlainRecoverCall) (cell : ℕ) → IsEarly (if b then steps.at e (stages.FlushGiven cell) else steps.at e (stages.GiveDirty cell)).stage
 gives_early true e cell = tt
 gives_early false e cell = tt
 
-announced_early : (e : PlainRecovery) (word : ℕ) (o : Option Announcement) → IsEarly (steps.announced_from e word o).stage
+announced_early : (e : PlainRecoverCall) (word : ℕ) (o : Option Announcement) → IsEarly (steps.announced_from e word o).stage
 announced_early e word None = tt
 announced_early e word (Some a) = tt
 
 -- the same cell and number, whatever follows
-if_keeps : (b : Bool) (e : PlainRecovery) (s t : RecoverStage) (P : PlainRecovery → Type 0) → P (steps.at e s) → P (steps.at e t) → P (if b then steps.at e s else steps.at e t)
+if_keeps : (b : Bool) (e : PlainRecoverCall) (s t : RecoverStage) (P : PlainRecoverCall → Type 0) → P (steps.at e s) → P (steps.at e t) → P (if b then steps.at e s else steps.at e t)
 if_keeps true e s t P a c = a
 if_keeps false e s t P a c = c
 
@@ -162,16 +162,16 @@ outcome_number n true = omega arith
 outcome_number n false = omega arith
 
 module _ (layout : Layout) (m : Memory Place) (p : ℕ) where
-  abbrev Sees : PlainRecovery → Type 0
+  abbrev Sees : PlainRecoverCall → Type 0
   Sees e = HasSeen e.stage (e.cell ≡ cell_told layout (m.cached (Header p (number_of e))))
 
-  abbrev SeesNow : PlainRecovery → Type 0
+  abbrev SeesNow : PlainRecoverCall → Type 0
   SeesNow e = e.cell ≡ cell_told layout (m.cached (Header p (number_of e)))
 
-  now_sees : (e : PlainRecovery) → SeesNow e → Sees e
+  now_sees : (e : PlainRecoverCall) → SeesNow e → Sees e
   now_sees e h = seen_all e.stage _ h
 
-  sees_next : (e : PlainRecovery) (s : RecoverStage) (word : ℕ) → cells_of layout ≡ e.cells → HasSeen s (SeesNow e) → (s ≡ stages.LoadHeader → word ≡ m.cached (Header p (number_of e))) → steps.effect_at e s ≡ effects.GoesOn → Sees (steps.next_at e s word)
+  sees_next : (e : PlainRecoverCall) (s : RecoverStage) (word : ℕ) → cells_of layout ≡ e.cells → HasSeen s (SeesNow e) → (s ≡ stages.LoadHeader → word ≡ m.cached (Header p (number_of e))) → steps.effect_at e s ≡ effects.GoesOn → Sees (steps.next_at e s word)
   sees_next e (stages.LoadMark cell) word cells h load goes = early _ _ (holds_early (steps.reads_held e.process word) e cell word)
   sees_next e (stages.FlushValue cell) word cells h load goes = tt
   sees_next e (stages.FlushKind cell) word cells h load goes = tt
@@ -207,13 +207,13 @@ tells_recovery_begun layout l v v' p h t b =
       opens = λ issue is. t.opens p issue (sym (g.open_edits p) ∙ is);
       announced = λ doubt none. ap (λ x. x / 4) (g.memory.cached (Announce p)) ∙ announces_now (world_of v) h.good.sound p b.there (sym (g.open_edits p) ∙ none) (l.told p) (λ n is. h.numbers p n is) (λ d. t.announced p b.there d (sym (g.open_edits p) ∙ none));
       sees = λ e is. (let same : steps.at (steps.fresh p (cells_of v.sheet.layout) v.sheet.layout.processes) (stages.LoadMark 0) ≡ e = (let x = sym g.situation ∙ is in cc) in
-          subst (λ (x : PlainRecovery). SeesCell (world_of v') p x) same tt);
+          subst (λ (x : PlainRecoverCall). SeesCell (world_of v') p x) same tt);
     }) (λ q ne. refl) (λ q c ne is. (t.told q c is).counted)
 
 -- ---- a step that goes on
 
 module _ (layout : Layout) (l : Ledger) (v v' : WorldValue) (p : ℕ) (reply : Reply) (h : IsOf layout l v) (t : Tells l v) (s : RecoveryStepsBy v p reply v') where
-  e : PlainRecovery
+  e : PlainRecoverCall
   e = s.steps.recovery
 
   pub recovery_fits : RecoveryFits (world_of v) p s.steps.recovery
@@ -258,6 +258,6 @@ module _ (layout : Layout) (l : Ledger) (v v' : WorldValue) (p : ℕ) (reply : R
           let seen = has_seen s.steps.recovery.stage _ _ (λ (was : s.steps.recovery.cell ≡ cell_told v.sheet.layout ((world_of v).memory.cached (Header p (number_of s.steps.recovery)))).
           was ∙ ap (λ (x : Layout). cell_told x ((world_of v).memory.cached (Header p (number_of s.steps.recovery)))) (sym s.steps.steps.layout)
           ∙ ap (λ x. cell_told v'.sheet.layout x) (sym (header_cached p (number_of s.steps.recovery) (world_of v) (world_of v') s.steps.recovery s.steps.word s.steps.steps.memory))) (t.sees p s.steps.recovery s.steps.at) in
-          subst (λ (x : PlainRecovery). SeesCell (world_of v') p x) same
+          subst (λ (x : PlainRecoverCall). SeesCell (world_of v') p x) same
           (sees_next v'.sheet.layout (world_of v').memory p s.steps.recovery s.steps.recovery.stage s.steps.word (ap cells_of s.steps.steps.layout ∙ recovery_fits.cells) seen loaded on));
     }) (λ q ne. refl) (λ q c ne is. (t.told q c is).counted)

@@ -6,7 +6,7 @@ use Rattle.std.proofs.lemmas.List.{get_or_past, get_or-set_same}
 use Rattle.ds_layout.specs.declared.layout.Layout.{Layout}
 use Rattle.ds_layout.specs.declared.place.Place.{Place}
 use Rattle.ds_layout.specs.declared.place.Place.TheVariants as place
-use Rattle.ds_state.specs.World.{Edit, World}
+use Rattle.ds_state.specs.World.{PlainEdit, PlainWorld}
 use Rattle.ds_state.specs.Reports.{PlainReports}
 use Rattle.ds_state.specs.declared.stage.Outcome.{Outcome}
 use Rattle.ds_state.specs.declared.stage.Outcome.TheVariants as outcome
@@ -17,8 +17,8 @@ use Rattle.ds_show.specs.declared.machine.Effect.{Effect}
 use Rattle.ds_show.specs.declared.machine.Effect.TheVariants.{GoesOn, Answers}
 use Rattle.ds_show.specs.ShowSteps.{answered, effect_at}
 use Rattle.ds_show.specs.ShowTakes.{reports_by}
-use Rattle.ds_state.specs.Works.{PlainShow}
-use Rattle.ds_state.specs.Edits.{PlainEdit}
+use Rattle.ds_state.specs.Works.{PlainShowCall}
+use Rattle.ds_state.specs.Edits.{PlainEditCall}
 use Rattle.ds_layout.specs.Places.{cells_of}
 use Rattle.ds_state.specs.ShowStages.{IsStage}
 use Rattle.ds_state.specs.Fresh.{IsNew}
@@ -70,7 +70,7 @@ use Rattle.ds_core.proofs.Closing.{found_at, up}
 
 -- it reported before, too: this was its own step, or leaves it what it counts on
 record WasReporting (p : ℕ) (old new : WorldValue) : Type 0 where
-  show : PlainShow
+  show : PlainShowCall
   was : (world_of old).situation p ≡ Showing show
   passes : Passes p (world_of old) (world_of new)
 
@@ -80,7 +80,7 @@ record JustBegan (p : ℕ) (old : WorldValue) (event : Event) (reply : Reply) (n
   reply_is : reply ≡ Entered
   begun : HasBegun p (world_of new)
 
-module _ (p : ℕ) (old new : WorldValue) (good : IsGood old) (low : p < old.sheet.layout.processes) (e : PlainShow) (at : (world_of new).situation p ≡ Showing e) where
+module _ (p : ℕ) (old new : WorldValue) (good : IsGood old) (low : p < old.sheet.layout.processes) (e : PlainShowCall) (at : (world_of new).situation p ≡ Showing e) where
   abbrev Either : Event → Reply → Type 0
   Either event reply = JustBegan p old event reply new ⊎ WasReporting p old new
 
@@ -101,7 +101,7 @@ module _ (p : ℕ) (old new : WorldValue) (good : IsGood old) (low : p < old.she
   })
 
   -- a turn after which its process does not report
-  by_turn : (event : Event) (reply : Reply) (q : ℕ) → IsTurn q old new → (q ≡ p → (f : PlainShow) → (world_of new).situation q ≡ Showing f → ⊥) → Either event reply
+  by_turn : (event : Event) (reply : Reply) (q : ℕ) → IsTurn q old new → (q ≡ p → (f : PlainShowCall) → (world_of new).situation q ≡ Showing f → ⊥) → Either event reply
   by_turn event reply q t none = elim (cases_eq q p) [
     | inl same ↦ absurd (none same e (ap (λ x. (world_of new).situation x) same ∙ at))
     | inr ne ↦ by_other event reply q ne t
@@ -110,7 +110,7 @@ module _ (p : ℕ) (old new : WorldValue) (good : IsGood old) (low : p < old.she
   by_edit : (q : ℕ) (reply : Reply) → EditStepsBy old q reply new → Either (Step q) reply
   by_edit q reply h = by_turn (Step q) reply q (edit_turn old new q reply good.sound h) (λ same f is. edit_after h.edit h.edit.stage h.word f (sym h.steps.situation ∙ ap (λ x. (world_of new).situation x) h.mine ∙ is))
     where
-      edit_after : (e : PlainEdit) (s : Stage) (word : ℕ) (f : PlainShow) → edit_steps.after e s word ≡ Showing f → ⊥
+      edit_after : (e : PlainEditCall) (s : Stage) (word : ℕ) (f : PlainShowCall) → edit_steps.after e s word ≡ Showing f → ⊥
       edit_after e (Answer how) word f is = absurd (cc)
       edit_after e _ word f is = absurd (cc)
 
@@ -204,7 +204,7 @@ there (y ∷ ys) (suc k) x is = let r = there ys k x is in omega arith
 -- ---- along a run
 
 -- a report of the world is one of its processes'
-real : (v : WorldValue) (p : ℕ) (e : PlainShow) → IsGood v → (world_of v).situation p ≡ Showing e → p < v.sheet.layout.processes
+real : (v : WorldValue) (p : ℕ) (e : PlainShowCall) → IsGood v → (world_of v).situation p ≡ Showing e → p < v.sheet.layout.processes
 real v p e good is = elim (cases_lt p v.sheet.layout.processes) [
   | inl lt ↦ lt
   | inr ge ↦ absurd (let bad : Idle 0 ≡ Showing e = sym (get_or_past v.situations p (Idle 0) (let n = good.situations in omega arith)) ∙ is in cc)
@@ -216,7 +216,7 @@ module _ (old : WorldValue) (events : List Event) (replies : List Reply) (new : 
   at k = (run.moment k).world
 
   -- the worlds behind a begin, so many, the latest first
-  abbrev past : ℕ → ℕ → List World
+  abbrev past : ℕ → ℕ → List PlainWorld
   past start zero = []
   past start (suc n) = world_of (at (start + 1 + n)) ∷ past start n
 
@@ -231,10 +231,10 @@ module _ (old : WorldValue) (events : List Event) (replies : List Reply) (new : 
   takes_at : (k : ℕ) (event : Event) (reply : Reply) → Happens events replies k event reply → Takes (at k) event reply (at (k + 1))
   takes_at k event reply happens = (at_place old events replies new run k event reply happens).takes
 
-  not_twice : (k p : ℕ) (e : PlainShow) → (world_of (at k)).situation p ≡ Showing e → Happens events replies k (BeginShow p) Entered → ⊥
+  not_twice : (k p : ℕ) (e : PlainShowCall) → (world_of (at k)).situation p ≡ Showing e → Happens events replies k (BeginShow p) Entered → ⊥
   not_twice k p e is happens = let t : ReportBegins (at k) p (at (k + 1)) = takes_at k (BeginShow p) Entered happens in let bad : Idle t.begun.next ≡ Showing e = sym t.begun.begins.idle ∙ is in cc
 
-  reporting : (k : ℕ) → k ≤ length events → (p : ℕ) (e : PlainShow) → (world_of (at k)).situation p ≡ Showing e → IsReporting p k
+  reporting : (k : ℕ) → k ≤ length events → (p : ℕ) (e : PlainShowCall) → (world_of (at k)).situation p ≡ Showing e → IsReporting p k
   reporting zero lt p e is = absurd (let bad : Idle 0 ≡ Showing e = sym (fresh.situation p) ∙ ap (λ (m : Moment). (world_of m.world).situation p) (sym run.first) ∙ is in cc)
   reporting (suc k) lt p e is =
       let event = found_at events k (omega arith) in
@@ -269,23 +269,23 @@ module _ (old : WorldValue) (events : List Event) (replies : List Reply) (new : 
       }
 
   -- a world of the call is that of a moment behind the begin
-  record IsAt (start k : ℕ) (m : World) : Type 0 where
+  record IsAt (start k : ℕ) (m : PlainWorld) : Type 0 where
     i : ℕ
     later : start < i
     until : i ≤ k
     is : m ≡ world_of (at i)
 
-  is_at : (start n : ℕ) (m : World) → IsOf m (world_of (at (start + 1 + n))) (past start n) → IsAt start (start + 1 + n) m
+  is_at : (start n : ℕ) (m : PlainWorld) → IsOf m (world_of (at (start + 1 + n))) (past start n) → IsAt start (start + 1 + n) m
   is_at start zero m is = record { i = start + 1 + 0; later = omega arith; until = omega arith; is = is }
   is_at start (suc n) m (inl is) = record { i = start + 1 + suc n; later = omega arith; until = omega arith; is = is }
   is_at start (suc n) m (inr rest) = let r = is_at start n m rest in record { i = r.i; later = r.later; until = (let u = r.until in omega arith); is = r.is }
 
-  record AreAt (start k : ℕ) (e m : World) : Type 0 where
+  record AreAt (start k : ℕ) (e m : PlainWorld) : Type 0 where
     early : IsAt start k e
     late : IsAt start k m
     order : early.i ≤ late.i
 
-  are_at : (start n : ℕ) (e m : World) → AreInTurn e m (world_of (at (start + 1 + n))) (past start n) → AreAt start (start + 1 + n) e m
+  are_at : (start n : ℕ) (e m : PlainWorld) → AreInTurn e m (world_of (at (start + 1 + n))) (past start n) → AreAt start (start + 1 + n) e m
   are_at start zero e m is = absurd is
   are_at start (suc n) e m (inl h) =
       let r = is_at start n e h.1 in
@@ -304,7 +304,7 @@ module _ (old : WorldValue) (events : List Event) (replies : List Reply) (new : 
 
   -- what an answered report ended with
   record Ends (k p : ℕ) (end : ShowEnd) : Type 0 where
-    show : PlainShow
+    show : PlainShowCall
     mine : show.process ≡ p
     was : (world_of (at k)).situation p ≡ Showing show
     last : show.stage ≡ stages.Answer end
@@ -339,8 +339,8 @@ module _ (old : WorldValue) (events : List Event) (replies : List Reply) (new : 
         at = i.i;
         later = i.later;
         until = (let u = i.until in let same = r.is in omega arith);
-        still = subst (λ (w : World). IsStill w.layout (moment_of w)) i.is t.still;
-        right = subst (λ (es : List Edit). AreScratch (at i.i).sheet.layout.shape es (answered h.show)) (sym fits.counted) (subst (λ (w : World). AreScratch w.layout.shape w.counted (answered h.show)) i.is t.right);
+        still = subst (λ (w : PlainWorld). IsStill w.layout (moment_of w)) i.is t.still;
+        right = subst (λ (es : List PlainEdit). AreScratch (at i.i).sheet.layout.shape es (answered h.show)) (sym fits.counted) (subst (λ (w : PlainWorld). AreScratch w.layout.shape w.counted (answered h.show)) i.is t.right);
       }
 
   kept_here : (k p : ℕ) → k ≤ length events → (h : Ends k p ends.Settled) → kept_values (at (k + 1)) p ≡ answered h.show
@@ -404,7 +404,7 @@ module _ (old : WorldValue) (events : List Event) (replies : List Reply) (new : 
   -- a word that is not at rest, or moved in the call
   module _ (k p : ℕ) (r : IsReporting p k) (place : Place) (word : ℕ) (Bad : Type 0) (watched : (i : ℕ) → i ≤ k → IsWatched (world_of (at i)) place) (bad : (i : ℕ) → i ≤ k → Bad → IsUnrest (world_of (at i)) place word)
       (t : WasOff (world_of (at (r.start + 1 + r.n))) (past r.start r.n) place word Bad) where
-    by_why : (why : Bad ⊎ ((earlier : World) × AreInTurn earlier t.moment (world_of (at (r.start + 1 + r.n))) (past r.start r.n) × (earlier.memory.cached place ≢ word))) → UnsettledFits run.moment r.start k place word
+    by_why : (why : Bad ⊎ ((earlier : PlainWorld) × AreInTurn earlier t.moment (world_of (at (r.start + 1 + r.n))) (past r.start r.n) × (earlier.memory.cached place ≢ word))) → UnsettledFits run.moment r.start k place word
     by_why (inl b) =
         let i = is_at r.start r.n t.moment t.of in
         let until : i.i ≤ k = (let u = i.until in let same = r.is in omega arith) in
@@ -413,7 +413,7 @@ module _ (old : WorldValue) (events : List Event) (replies : List Reply) (new : 
           later = i.later;
           until = until;
           watched = watched i.i until;
-          held = subst (λ (w : World). w.memory.cached place ≡ word) i.is t.held;
+          held = subst (λ (w : PlainWorld). w.memory.cached place ≡ word) i.is t.held;
           why = inl (bad i.i until b);
         }
     by_why (inr (earlier, turn, other)) =
@@ -424,8 +424,8 @@ module _ (old : WorldValue) (events : List Event) (replies : List Reply) (new : 
           later = a.late.later;
           until = until;
           watched = watched a.late.i until;
-          held = subst (λ (w : World). w.memory.cached place ≡ word) a.late.is t.held;
-          why = inr (a.early.i, a.early.later, a.order, subst (λ (w : World). w.memory.cached place ≢ word) a.early.is other);
+          held = subst (λ (w : PlainWorld). w.memory.cached place ≡ word) a.late.is t.held;
+          why = inr (a.early.i, a.early.later, a.order, subst (λ (w : PlainWorld). w.memory.cached place ≢ word) a.early.is other);
         }
 
     off_fits : UnsettledFits run.moment r.start k place word
@@ -437,7 +437,7 @@ module _ (old : WorldValue) (events : List Event) (replies : List Reply) (new : 
   processes_at : (k i : ℕ) → k ≤ length events → i ≤ k → (at i).sheet.layout.processes ≡ (at k).sheet.layout.processes
   processes_at k i lt le = ap (λ (l : Layout). l.processes) (run.layouts i (omega arith) ∙ sym (run.layouts k lt))
 
-  fits_at : (k p : ℕ) (e : PlainShow) → k ≤ length events → (world_of (at k)).situation p ≡ Showing e → CallFits (world_of (at k)) p (Showing e)
+  fits_at : (k p : ℕ) (e : PlainShowCall) → k ≤ length events → (world_of (at k)).situation p ≡ Showing e → CallFits (world_of (at k)) p (Showing e)
   fits_at k p e lt is = subst (λ (s : Situation). CallFits (world_of (at k)) p s) is ((good k lt).sound.calls p (real (at k) p e (good k lt) is))
 
   unsettled_by : (k p : ℕ) → k ≤ length events → (end : ShowEnd) (place : Place) (word : ℕ) → report_answer end ≡ Unsettled place word → (h : Ends k p end) → (r : IsReporting p k) → UnsettledFits run.moment r.start k place word

@@ -9,8 +9,8 @@ use Rattle.ds_layout.specs.declared.announcement.Phase.TheVariants as phase
 use Rattle.ds_layout.specs.declared.place.Place.TheVariants.{Header, Announce}
 use Rattle.ds_layout.specs.declared.layout.Layout.{Layout}
 use Rattle.ds_layout.specs.SheetMemory.{PerformsAt}
-use Rattle.ds_state.specs.World.{Edit, Issue, World, announcement, last_announcement, phase_among, record_size, is_edit_of}
-use Rattle.ds_state.specs.Works.{PlainRecovery}
+use Rattle.ds_state.specs.World.{PlainEdit, PlainIssue, PlainWorld, announcement, last_announcement, phase_among, record_size, is_edit_of}
+use Rattle.ds_state.specs.Works.{PlainRecoverCall}
 use Rattle.ds_state.specs.Known.{Standing, outside, inside, safe, Announced, last, pending, ended, word_of, phase_of, AreBelow, StandsAs, IsRecorded}
 use Rattle.ds_state.specs.CallsFit.{CallFits, MaySay, DoubtFits, IsInDoubt, IsWritten, RecoveryFits}
 use Rattle.ds_state.specs.KnownRecovery.{Tells as Announced_as, ResolvedFits, resolved_at, over, phase_for}
@@ -45,7 +45,7 @@ done_or : (b : Bool) (f : Phase) → f ≡ phase.Done → (if b then phase.Done 
 done_or true f is = refl
 done_or false f is = is
 
-itself : (x : Edit) → is_edit_of x.process x.number x ≡ true
+itself : (x : PlainEdit) → is_edit_of x.process x.number x ≡ true
 itself x = elim (eqb_tells x.process x.process) [
   | inr other ↦ absurd (other.1 refl)
   | inl same ↦ elim (eqb_tells x.number x.number) [
@@ -54,12 +54,12 @@ itself x = elim (eqb_tells x.process x.process) [
   ]
 ]
 
-pub counted_done : (es : List Edit) (x : Edit) → Contains es x → phase_among es x.process x.number ≡ phase.Done
+pub counted_done : (es : List PlainEdit) (x : PlainEdit) → Contains es x → phase_among es x.process x.number ≡ phase.Done
 counted_done [] x there = absurd (contains_none x there)
-counted_done (y ∷ es) x (zero, lt, is) = ap (λ (z : Edit). phase_among (z ∷ es) x.process x.number) is ∙ ap (λ (b : Bool). if b then phase.Done else phase_among es x.process x.number) (itself x)
+counted_done (y ∷ es) x (zero, lt, is) = ap (λ (z : PlainEdit). phase_among (z ∷ es) x.process x.number) is ∙ ap (λ (b : Bool). if b then phase.Done else phase_among es x.process x.number) (itself x)
 counted_done (y ∷ es) x (suc k, lt, is) = done_or (is_edit_of x.process x.number y) (phase_among es x.process x.number) (counted_done es x (k, omega arith, is))
 
-out_lost : (es : List Edit) (p n : ℕ) → ((x : Edit) → Contains es x → x.process ≡ p → x.number ≡ n → ⊥) → phase_among es p n ≡ phase.NotDone
+out_lost : (es : List PlainEdit) (p n : ℕ) → ((x : PlainEdit) → Contains es x → x.process ≡ p → x.number ≡ n → ⊥) → phase_among es p n ≡ phase.NotDone
 out_lost [] p n none = refl
 out_lost (y ∷ es) p n none =
     let rest = out_lost es p n (λ x there. none x (suc there.0, (let l = there.1 in omega arith), there.2)) in
@@ -74,7 +74,7 @@ out_lost (y ∷ es) p n none =
 -- ---- at its answer
 
 -- the recovery is at its answer, and this is what it tells
-pub record IsAtAnswer (e : PlainRecovery) (s : RecoverStage) (answer : Answer) : Type 0 where
+pub record IsAtAnswer (e : PlainRecoverCall) (s : RecoverStage) (answer : Answer) : Type 0 where
   pub how : Option Bool
   pub at : s ≡ stages.Answer how
   pub is : answer ≡ recovery_answer (end_of e how)
@@ -82,20 +82,20 @@ pub record IsAtAnswer (e : PlainRecovery) (s : RecoverStage) (answer : Answer) :
 same_answer : (a b : Answer) → Answered a ≡ Answered b → a ≡ b
 same_answer a b is = cc
 
-pub at_answer : (e : PlainRecovery) (s : RecoverStage) (answer : Answer) → Answered answer ≡ recovery_reply (steps.effect_at e s) → IsAtAnswer e s answer
+pub at_answer : (e : PlainRecoverCall) (s : RecoverStage) (answer : Answer) → Answered answer ≡ recovery_reply (steps.effect_at e s) → IsAtAnswer e s answer
 at_answer e (stages.Answer how) answer is = record { how = how; at = refl; is = same_answer answer (recovery_answer (end_of e how)) is }
 at_answer e _ answer is = absurd (cc)
 
 -- the number that it leaves its process is announced
-left_number : (word : ℕ) (how : Option Bool) (w : World) (p cell : ℕ) → ResolvedFits w p word cell (over how) → steps.next_number word how ≡ word / 4
+left_number : (word : ℕ) (how : Option Bool) (w : PlainWorld) (p cell : ℕ) → ResolvedFits w p word cell (over how) → steps.next_number word how ≡ word / 4
 left_number word None w p cell r = let zero_word = r.2 in omega arith
 left_number word (Some b) w p cell r = refl
 
-announced_word : (word : ℕ) (how : Option Bool) (w : World) (p cell : ℕ) → ResolvedFits w p word cell (over how) → w.memory.cached (Announce p) ≡ word
+announced_word : (word : ℕ) (how : Option Bool) (w : PlainWorld) (p cell : ℕ) → ResolvedFits w p word cell (over how) → w.memory.cached (Announce p) ≡ word
 announced_word word None w p cell r = r.0
 announced_word word (Some b) w p cell r = r.0
 
-last_is : (es : List Edit) (p n : ℕ) → last_announcement es p n / 4 ≡ n
+last_is : (es : List PlainEdit) (p n : ℕ) → last_announcement es p n / 4 ≡ n
 last_is es p zero = refl
 last_is es p (suc n) = announced_number n (phase_among es p n)
 
@@ -111,7 +111,7 @@ module _ (layout : Layout) (l l' : Ledger) (v v' : WorldValue) (h : IsOf layout 
     (gone : l'.opens p ≡ None) (opens : (q : ℕ) → q ≢ p → l'.opens q ≡ l.opens q) (told : (q : ℕ) → q ≢ p → l'.told q ≡ l.told q)
     (now : (world_of v').situation p ≡ Idle next) (others : (q : ℕ) → q ≢ p → (world_of v').situation q ≡ (world_of v).situation q)
     (none : (world_of v').open_edits p ≡ None) (pends : (q : ℕ) → q ≢ p → (world_of v').open_edits q ≡ (world_of v).open_edits q) (number : next ≡ next_number (l'.told p)) where
-  open_on : (q : ℕ) (issue : Issue) (b : Bool) → q ≢ p → IsOpenAs l issue q b → IsOpenAs l' issue q b
+  open_on : (q : ℕ) (issue : PlainIssue) (b : Bool) → q ≢ p → IsOpenAs l issue q b → IsOpenAs l' issue q b
   open_on q issue b ne a = record {
     o = a.o;
     is = opens q ne ∙ a.is;
@@ -141,23 +141,23 @@ module _ (layout : Layout) (l l' : Ledger) (v v' : WorldValue) (h : IsOf layout 
     ];
   }
 
-agree : (es : List Placed) (list : List Edit) (it : Placed) (b d : Bool) → Rattle.ds_core.proofs.Ledgers.edits es ≡ list → IsCounted es it d → phase_among list it.edit.process it.edit.number ≡ phase_for b → b ≡ d
+agree : (es : List Placed) (list : List PlainEdit) (it : Placed) (b d : Bool) → Rattle.ds_core.proofs.Ledgers.edits es ≡ list → IsCounted es it d → phase_among list it.edit.process it.edit.number ≡ phase_for b → b ≡ d
 agree es list it true true same h is = refl
 agree es list it false false same h is = refl
 agree es list it true false same h is =
     let lost : phase_among list it.edit.process it.edit.number ≡ phase.NotDone = out_lost list it.edit.process it.edit.number (λ x there process number. (
-    let r = from_edits es x (subst (λ (xs : List Edit). Contains xs x) (sym same) there) in
-    h r.0 r.1 (ap (λ (y : Edit). y.process) r.2 ∙ process) (ap (λ (y : Edit). y.number) r.2 ∙ number))) in
+    let r = from_edits es x (subst (λ (xs : List PlainEdit). Contains xs x) (sym same) there) in
+    h r.0 r.1 (ap (λ (y : PlainEdit). y.process) r.2 ∙ process) (ap (λ (y : PlainEdit). y.number) r.2 ∙ number))) in
     absurd (let bad : phase.NotDone ≡ phase.Done = sym lost ∙ is in cc)
 agree es list it false true same h is =
-    let done = counted_done list it.edit (subst (λ (xs : List Edit). Contains xs it.edit) same (contains_edit es it h)) in
+    let done = counted_done list it.edit (subst (λ (xs : List PlainEdit). Contains xs it.edit) same (contains_edit es it h)) in
     absurd (let bad : phase.Done ≡ phase.NotDone = sym done ∙ is in cc)
 
 tells_some : (word : ℕ) (b : Bool) → Announced_as word b → word / 4 ≡ word / 4 - 1 + 1
 tells_some word true k = let i = k.is in omega arith
 tells_some word false k = let i = k.is in omega arith
 
-none_above : (word : ℕ) (how : Option Bool) (w : World) (p cell n : ℕ) (f : Phase) → ResolvedFits w p word cell (over how) → word ≡ announcement n f → (b : Bool) × (how ≡ Some b)
+none_above : (word : ℕ) (how : Option Bool) (w : PlainWorld) (p cell n : ℕ) (f : Phase) → ResolvedFits w p word cell (over how) → word ≡ announcement n f → (b : Bool) × (how ≡ Some b)
 none_above word (Some b) w p cell n f r is = (b, refl)
 none_above word None w p cell n f r is = absurd (let zero_word = r.2 in let some = ap (λ x. x / 4) is ∙ announced_number n f in omega arith)
 
@@ -172,16 +172,16 @@ tells_how word n outcome.Done false k is = absurd (let i = k.is in omega arith)
 tells_how word n (outcome.Overtaken x y) true k is = absurd (let i = k.is in omega arith)
 tells_how word n (outcome.Overtaken x y) false k is = refl
 
-may_repeat : (l l' : Ledger) (p : ℕ) (e : PlainRecovery) (how : Option Bool) (answer : Answer) → answer ≡ recovery_answer (end_of e how) → Repeats l p answer l' → AnswerMoves l p answer l'
+may_repeat : (l l' : Ledger) (p : ℕ) (e : PlainRecoverCall) (how : Option Bool) (answer : Answer) → answer ≡ recovery_answer (end_of e how) → Repeats l p answer l' → AnswerMoves l p answer l'
 may_repeat l l' p e None answer is r = subst (λ (a : Answer). AnswerMoves l p a l') (sym is) (inr (subst (λ (a : Answer). Repeats l p a l') is r))
 may_repeat l l' p e (Some b) answer is r = subst (λ (a : Answer). AnswerMoves l p a l') (sym is) (inr (inr (subst (λ (a : Answer). Repeats l p a l') is r)))
 
-may_forget : (l l' : Ledger) (p : ℕ) (e : PlainRecovery) (how : Option Bool) (answer : Answer) → answer ≡ recovery_answer (end_of e how) → Forgets l p answer l' → AnswerMoves l p answer l'
+may_forget : (l l' : Ledger) (p : ℕ) (e : PlainRecoverCall) (how : Option Bool) (answer : Answer) → answer ≡ recovery_answer (end_of e how) → Forgets l p answer l' → AnswerMoves l p answer l'
 may_forget l l' p e None answer is r = subst (λ (a : Answer). AnswerMoves l p a l') (sym is) (inl (subst (λ (a : Answer). Forgets l p a l') is r))
 may_forget l l' p e (Some b) answer is r = subst (λ (a : Answer). AnswerMoves l p a l') (sym is) (inr (inl (subst (λ (a : Answer). Forgets l p a l') is r)))
 
 module _ (layout : Layout) (l : Ledger) (v v' : WorldValue) (h : IsOf layout l v) (good : IsGood v') (t : Tells l v) (p : ℕ) (answer : Answer) (s : RecoveryStepsBy v p (Answered answer) v') where
-  abbrev e : PlainRecovery
+  abbrev e : PlainRecoverCall
   e = s.steps.recovery
 
   found : IsAtAnswer s.steps.recovery s.steps.recovery.stage answer
@@ -275,15 +275,15 @@ module _ (layout : Layout) (l : Ledger) (v v' : WorldValue) (h : IsOf layout l v
         tells = quiet_tells l refl (h.none p none) (λ q ne. refl) (λ q. refl) same;
       }
 
-  module _ (issue : Issue) (is : (world_of v).open_edits p ≡ Some issue) where
+  module _ (issue : PlainIssue) (is : (world_of v).open_edits p ≡ Some issue) where
     own : IsOpenAs l issue p true
     own = subst (λ (b : Bool). IsOpenAs l issue p b) (ap doubts s.steps.at) (h.some p issue is)
 
     doubt : IsInDoubt (world_of v) p issue
-    doubt = subst (λ (o : Option Issue). DoubtFits (world_of v) p o) is fits.doubt
+    doubt = subst (λ (o : Option PlainIssue). DoubtFits (world_of v) p o) is fits.doubt
 
     not_counted : AreBelow (world_of v) issue.edit.process issue.edit.number → IsCounted l.counted own.o.it false
-    not_counted below = below_out l v own.o.it h.counted (subst (λ (x : Edit). AreBelow (world_of v) x.process x.number) (sym own.edit) below)
+    not_counted below = below_out l v own.o.it h.counted (subst (λ (x : PlainEdit). AreBelow (world_of v) x.process x.number) (sym own.edit) below)
 
     -- ---- the edit in doubt was never announced
 
@@ -325,7 +325,7 @@ module _ (layout : Layout) (l : Ledger) (v v' : WorldValue) (h : IsOf layout l v
       word_number = ap (λ x. x / 4) (sym cached_word) ∙ sym number
 
       number_is : own.o.it.edit.number ≡ number_of s.steps.recovery
-      number_is = ap (λ (x : Edit). x.number) own.edit ∙ (let n = word_number in let same : issue.edit.number ≡ s.steps.recovery.announcement / 4 - 1 = omega arith in same)
+      number_is = ap (λ (x : PlainEdit). x.number) own.edit ∙ (let n = word_number in let same : issue.edit.number ≡ s.steps.recovery.announcement / 4 - 1 = omega arith in same)
 
       own_cell : issue.edit.cell ≡ s.steps.recovery.cell
       own_cell = (subst (λ (o : Option Bool). ResolvedFits (world_of v) p s.steps.recovery.announcement s.steps.recovery.cell (over o)) how resolved).3 issue is (sym word_number)
@@ -337,13 +337,13 @@ module _ (layout : Layout) (l : Ledger) (v v' : WorldValue) (h : IsOf layout l v
         number_is = number_is;
         doubt_is = own.doubt_is;
         stands = stands b counted;
-        also = ap (λ (x : Edit). x.cell) own.edit ∙ own_cell;
+        also = ap (λ (x : PlainEdit). x.cell) own.edit ∙ own_cell;
         is = refl;
       }
 
       after_close : IsOf layout ended_in v'
       after_close = rested layout l ended_in v v' h good p next (s.steps.steps.layout ∙ h.same) refl s.steps.steps.counted (put_here l.opens p None) (λ q ne. put_other l.opens p None q ne) (λ q ne. put_other l.told p (Some ended_as) q ne)
-          now others gone pends (next_word ∙ sym number ∙ ap (λ (x : Edit). x.number + 1) (sym own.edit) ∙ ap next_number (sym (put_here l.told p (Some ended_as))))
+          now others gone pends (next_word ∙ sym number ∙ ap (λ (x : PlainEdit). x.number + 1) (sym own.edit) ∙ ap next_number (sym (put_here l.told p (Some ended_as))))
 
       tells_close : Tells ended_in v'
       tells_close = tells_closed p l ended_in v v' t (recovery_turn v v' p (Answered answer) h.good.sound s) s.steps.steps.layout ended_as (put_here l.told p (Some ended_as)) (λ q ne. put_other l.told p (Some ended_as) q ne) refl
@@ -361,7 +361,7 @@ module _ (layout : Layout) (l : Ledger) (v v' : WorldValue) (h : IsOf layout l v
     stands_so : (st : Standing) (end : Outcome) (b : Bool) → MaySay st (ended end) → StandsAs (world_of v) issue.edit st → phase_of end ≡ phase_for b → IsCounted l.counted own.o.it b
     stands_so safe outcome.Done true said stands same =
         let counts = gave_counts (world_of v) issue.edit.cell stands.safe.own issue.edit stands.safe.head in
-        let r = from_edits l.counted issue.edit (subst (λ (es : List Edit). Contains es issue.edit) (sym h.counted) counts) in
+        let r = from_edits l.counted issue.edit (subst (λ (es : List PlainEdit). Contains es issue.edit) (sym h.counted) counts) in
         subst (λ (x : Placed). Contains l.counted x) (own.only r.0 r.1 (r.2 ∙ sym own.edit)) r.1
     stands_so outside (outcome.Overtaken x y) false said stands same = not_counted stands
     stands_so outside (outcome.Overtaken x y) true said stands same = absurd (cc)
@@ -389,7 +389,7 @@ module _ (layout : Layout) (l : Ledger) (v v' : WorldValue) (h : IsOf layout l v
         let number : suc issue.edit.number ≡ (world_of v).memory.cached (Announce p) / 4 = sym (announced_number issue.edit.number (phase_of end)) ∙ ap (λ x. x / 4) (sym c) in
         is_closed some.0 some.1 (omega arith) written (stands_so doubt.standing end some.0 said doubt.stands same)
 
-  by_pending : (o : Option Issue) → (world_of v).open_edits p ≡ o → IsResolved layout l p answer v'
+  by_pending : (o : Option PlainIssue) → (world_of v).open_edits p ≡ o → IsResolved layout l p answer v'
   by_pending None is = repeats is
   by_pending (Some issue) is = by_announced issue is (doubt issue is).now (doubt issue is).said (doubt issue is).cached (doubt issue is).written
 

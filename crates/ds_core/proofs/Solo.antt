@@ -2,9 +2,9 @@
 use Rattle.std.proofs.Common.{ℕ, ◌≡◌, ◌+◌, List, [], ◌∷◌, refl, ap, sym, ◌∙◌, subst, Some, None}
 use Rattle.std.specs.Prelude.{Option}
 use Rattle.ds_layout.specs.declared.place.Place.TheVariants as place
-use Rattle.ds_state.specs.Works.{PlainWork, PlainShow, PlainRecovery}
-use Rattle.ds_state.specs.Edits.{PlainEdit}
-use Rattle.ds_state.specs.World.{World}
+use Rattle.ds_state.specs.Works.{PlainWorkCall, PlainShowCall, PlainRecoverCall}
+use Rattle.ds_state.specs.Edits.{PlainEditCall}
+use Rattle.ds_state.specs.World.{PlainWorld}
 use Rattle.ds_state.specs.Value.{WorldValue, world_of}
 use Rattle.ds_state.specs.Sound.{IsSound}
 use Rattle.ds_state.specs.declared.stage.Outcome.{Outcome}
@@ -31,7 +31,7 @@ use Rattle.ds_core.specs.declared.reply.Reply.TheVariants.{Stepped, Answered, Ev
 use Rattle.ds_core.proofs.Good.{answers_at}
 use Rattle.ds_core.proofs.Bound.{unanswered_at, after_on, editing_same}
 
-alone_same : (w w' : World) (cell : ℕ) (s : Stage) → w'.memory.cached (place.Head cell) ≡ w.memory.cached (place.Head cell) → IsAloneAt w cell s → IsAloneAt w' cell s
+alone_same : (w w' : PlainWorld) (cell : ℕ) (s : Stage) → w'.memory.cached (place.Head cell) ≡ w.memory.cached (place.Head cell) → IsAloneAt w cell s → IsAloneAt w' cell s
 alone_same w w' cell (FlushNoted head) same h = h ∙ sym same
 alone_same w w' cell (BackNoted head) same h = h ∙ sym same
 alone_same w w' cell (OrDone head) same h = h ∙ sym same
@@ -53,22 +53,22 @@ EditsOnly _ = ⊥
 -- the process is in no other call; its edit, where it is in one, has this number and is alone
 pub record IsAlone (v : WorldValue) (p number : ℕ) : Type 0 where
   pub only : EditsOnly ((world_of v).situation p)
-  pub edit : (e : PlainEdit) → (world_of v).situation p ≡ Editing e → (e.number ≡ number) × IsAloneAt (world_of v) e.cell e.stage
+  pub edit : (e : PlainEditCall) → (world_of v).situation p ≡ Editing e → (e.number ≡ number) × IsAloneAt (world_of v) e.cell e.stage
 
 pub some_outcome : (processes number : ℕ) (a : ReplyAnswer) (o : Option Outcome) → Answered a ≡ reply_with processes number o → (how : Outcome) × (o ≡ Some how) × (a ≡ answer_of processes number how)
 some_outcome processes number a None is = absurd (cc)
 some_outcome processes number a (Some how) is = (how, refl, cc)
 
-pub after_answer : (e : PlainEdit) (s : Stage) (how : Outcome) (word : ℕ) → s ≡ Answer how → after e s word ≡ Idle (e.number + 1)
+pub after_answer : (e : PlainEditCall) (s : Stage) (how : Outcome) (word : ℕ) → s ≡ Answer how → after e s word ≡ Idle (e.number + 1)
 after_answer e s how word is = ap (λ x. after e x word) is
 
 module _ (old new : WorldValue) (sound : IsSound (world_of old)) (p number : ℕ) (a : IsAlone old p number) where
-  situation_now : (h : PlainEdit) (q : ℕ) → h.process ≡ q → q ≡ p → (s : Situation) → (world_of new).situation h.process ≡ s → (world_of new).situation p ≡ s
+  situation_now : (h : PlainEditCall) (q : ℕ) → h.process ≡ q → q ≡ p → (s : Situation) → (world_of new).situation h.process ≡ s → (world_of new).situation p ≡ s
   situation_now h q mine same s is = ap (λ x. (world_of new).situation x) (sym (mine ∙ same)) ∙ is
 
   -- a step of its own that is not answered
   module _ (q : ℕ) (same : q ≡ p) (h : EditStepsBy old q Stepped new) where
-    abbrev next : PlainEdit
+    abbrev next : PlainEditCall
     next = record h.edit { stage = next_at h.edit h.edit.stage h.word }
 
     goes : outcome_at h.edit.stage ≡ None
@@ -82,7 +82,7 @@ module _ (old new : WorldValue) (sound : IsSound (world_of old)) (p number : ℕ
       only = subst EditsOnly (sym now) tt;
       edit = λ e' is. (
           let before = a.edit h.edit (ap (λ x. (world_of old).situation x) (sym same) ∙ h.at) in
-          subst (λ (x : PlainEdit). (x.number ≡ number) × IsAloneAt (world_of new) x.cell x.stage) (editing_same ((world_of new).situation p) next e' now is)
+          subst (λ (x : PlainEditCall). (x.number ≡ number) × IsAloneAt (world_of new) x.cell x.stage) (editing_same ((world_of new).situation p) next e' now is)
           (before.0, alone h.edit h.word (world_of old) (world_of new) sound h.edit.stage h.steps.memory before.1));
     }
 
@@ -109,13 +109,13 @@ module _ (old new : WorldValue) (sound : IsSound (world_of old)) (p number : ℕ
         )
 
   -- it is in no report
-  no_report : (q : ℕ) → q ≡ p → (f : PlainShow) → (world_of old).situation q ≡ Showing f → ⊥
+  no_report : (q : ℕ) → q ≡ p → (f : PlainShowCall) → (world_of old).situation q ≡ Showing f → ⊥
   no_report q same f is = subst EditsOnly (ap (λ x. (world_of old).situation x) (sym same) ∙ is) a.only
 
-  no_work : (q : ℕ) → q ≡ p → (f : PlainWork) → (world_of old).situation q ≡ Working f → ⊥
+  no_work : (q : ℕ) → q ≡ p → (f : PlainWorkCall) → (world_of old).situation q ≡ Working f → ⊥
   no_work q same f is = subst EditsOnly (ap (λ x. (world_of old).situation x) (sym same) ∙ is) a.only
 
-  no_recovery : (q : ℕ) → q ≡ p → (f : PlainRecovery) → (world_of old).situation q ≡ Recovering f → ⊥
+  no_recovery : (q : ℕ) → q ≡ p → (f : PlainRecoverCall) → (world_of old).situation q ≡ Recovering f → ⊥
   no_recovery q same f is = subst EditsOnly (ap (λ x. (world_of old).situation x) (sym same) ∙ is) a.only
 
   unchanged : new ≡ old → IsAlone new p number
@@ -157,14 +157,14 @@ solo_run (event ∷ events) (reply ∷ replies) old new p number sound a run sol
 solo_run [] (reply ∷ replies) old new p number sound a run solo = absurd run
 solo_run (event ∷ events) [] old new p number sound a run solo = absurd run
 
-pub solo_done : (old : WorldValue) (events : List Event) (replies : List Reply) (new : WorldValue) (p : ℕ) (e : PlainEdit) → IsSound (world_of old)
+pub solo_done : (old : WorldValue) (events : List Event) (replies : List Reply) (new : WorldValue) (p : ℕ) (e : PlainEditCall) → IsSound (world_of old)
     → (world_of old).situation p ≡ Editing e → e.stage ≡ StoreHeader → WorldRun old events replies new → IsSolo p events → AreDoneOnly e.number replies
 solo_done old events replies new p e sound at first run solo = solo_run events replies old new p e.number sound starts run solo
   where
-    first_edit : (e' : PlainEdit) → (world_of old).situation p ≡ Editing e' → (e'.number ≡ e.number) × IsAloneAt (world_of old) e'.cell e'.stage
+    first_edit : (e' : PlainEditCall) → (world_of old).situation p ≡ Editing e' → (e'.number ≡ e.number) × IsAloneAt (world_of old) e'.cell e'.stage
     first_edit e' is =
         let one : e ≡ e' = editing_same ((world_of old).situation p) e e' at is in
-        subst (λ (x : PlainEdit). (x.number ≡ e.number) × IsAloneAt (world_of old) x.cell x.stage) one (refl, subst (λ (s : Stage). IsAloneAt (world_of old) e.cell s) (sym first) tt)
+        subst (λ (x : PlainEditCall). (x.number ≡ e.number) × IsAloneAt (world_of old) x.cell x.stage) one (refl, subst (λ (s : Stage). IsAloneAt (world_of old) e.cell s) (sym first) tt)
 
     starts : IsAlone old p e.number
     starts = record { only = subst EditsOnly (sym at) tt; edit = λ e' is. first_edit e' is }

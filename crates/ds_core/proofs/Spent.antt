@@ -4,7 +4,7 @@ use Rattle.std.specs.Prelude.{Contains}
 use Rattle.std.proofs.lemmas.List.{append-nil}
 use Rattle.std.proofs.lemmas.List.Elements.{All-contains, Contains-append_cases}
 use Rattle.ds_state.specs.Edits.{text_parts}
-use Rattle.ds_state.specs.World.{Edit, edit_of}
+use Rattle.ds_state.specs.World.{PlainEdit, edit_of}
 use Rattle.ds_state.specs.Known.{AreBelow, Knowing, known_at}
 use Rattle.ds_state.specs.Value.{WorldValue, world_of}
 use Rattle.ds_state.specs.CallsFit.{CallFits, EditFits}
@@ -59,23 +59,23 @@ module _ (old new : WorldValue) (sound : IsSound (world_of old)) (p n : ℕ) (sp
   unchanged same = subst (λ (v : WorldValue). IsSpent (world_of v) p n × IsOut (world_of v) p n) (sym same) (spent, out)
 
   same_list : new.counted ≡ old.counted → IsOut (world_of new) p n
-  same_list counted = λ e there. out e (subst (λ (es : List Edit). Contains es e) counted there)
+  same_list counted = λ e there. out e (subst (λ (es : List PlainEdit). Contains es e) counted there)
 
   by_step : (q : ℕ) (reply : Reply) → EditStepsBy old q reply new → Stays
   by_step q reply h =
       let low : h.edit.process < old.sheet.layout.processes = rw h.mine h.there in
       let here : (world_of old).situation h.edit.process ≡ Editing h.edit = ap (λ x. (world_of old).situation x) h.mine ∙ h.at in
       let kept : Keeps h.edit.process (world_of old) (world_of new) = step_sound h.edit h.word (world_of old) (world_of new) sound low here h.steps in
-      let stays : IsOut (world_of new) p n = λ e there its is. elim (Contains-append_cases old.counted (counted_at (edit_of h.edit) h.edit.stage h.word) e (subst (λ (es : List Edit). Contains es e) h.steps.counted there)) [
+      let stays : IsOut (world_of new) p n = λ e there its is. elim (Contains-append_cases old.counted (counted_at (edit_of h.edit) h.edit.stage h.word) e (subst (λ (es : List PlainEdit). Contains es e) h.steps.counted there)) [
         | inl before ↦ out e before its is
         | inr now ↦ elim (counted_cases (edit_of h.edit) h.edit.stage h.word) [
-          | inl none ↦ (let c : Contains [] e = subst (λ (es : List Edit). Contains es e) none now in let l = c.1 in omega arith)
+          | inl none ↦ (let c : Contains [] e = subst (λ (es : List PlainEdit). Contains es e) none now in let l = c.1 in omega arith)
           | inr one ↦ (
-              let same : e ≡ edit_of h.edit = contains_one (edit_of h.edit) e (subst (λ (es : List Edit). Contains es e) one now) in
+              let same : e ≡ edit_of h.edit = contains_one (edit_of h.edit) e (subst (λ (es : List PlainEdit). Contains es e) one now) in
               let swaps = counts_at (edit_of h.edit) h.edit.stage h.word one in
-              let mine : p ≡ h.edit.process = sym its ∙ ap (λ (x : Edit). x.process) same in
+              let mine : p ≡ h.edit.process = sym its ∙ ap (λ (x : PlainEdit). x.process) same in
               let less : n < h.edit.number = swap_unspent (world_of old) h.edit sound low here swaps.0 n swaps.1 (subst (λ (x : ℕ). IsSpent (world_of old) x n) mine spent) in
-              let k : e.number ≡ h.edit.number = ap (λ (x : Edit). x.number) same in
+              let k : e.number ≡ h.edit.number = ap (λ (x : PlainEdit). x.number) same in
               omega arith)
         ]
       ] in
@@ -170,7 +170,7 @@ overtaken_out old mid p n other sound h =
     let counted : mid.counted ≡ old.counted = h.steps.counted ∙ ap (λ s. old.counted ++ counted_at (edit_of h.edit) s h.word) last ∙ append-nil old.counted in (
       spent_stays h.edit.process (world_of old) (world_of mid) kept p n (rw (number, sym h.mine) spent),
       (λ e there its is.
-          let l = All-contains (λ (f : Edit). f.process ≡ h.edit.process → f.number < h.edit.number) old.counted e below (subst (λ (es : List Edit). Contains es e) counted there) (its ∙ sym h.mine) in
+          let l = All-contains (λ (f : PlainEdit). f.process ≡ h.edit.process → f.number < h.edit.number) old.counted e below (subst (λ (es : List PlainEdit). Contains es e) counted there) (its ∙ sym h.mine) in
           omega arith),
     )
 

@@ -6,7 +6,7 @@ use Rattle.std.proofs.lemmas.List.{get_or-set_same, get_or-set_other}
 use Rattle.ds_words.specs.Memory.{StopsAt, Crashes}
 use Rattle.ds_layout.specs.declared.layout.Layout.{Layout}
 use Rattle.ds_layout.specs.SheetMemory.{SheetValue, memory}
-use Rattle.ds_state.specs.World.{Edit, Issue}
+use Rattle.ds_state.specs.World.{PlainEdit, PlainIssue}
 use Rattle.ds_state.specs.Value.{WorldValue, world_of, IsGood, IsReserved}
 use Rattle.ds_state.specs.Dones.{HasAnswered}
 use Rattle.ds_state.specs.Crashes.{StopsIn, CrashesTo, is_lost, survivors}
@@ -95,9 +95,9 @@ module _ (v : WorldValue) (sheet : SheetValue) (situations : List Situation) (ro
   }
 
   -- what was answered is not lost: only an open edit is
-  stays : (e : Edit) → Contains v.counted e → ((issue : Issue) → (world_of v).open_edits e.process ≡ Some issue → issue.edit ≢ e) → Contains (survivors (memory v.sheet) v.counted) e
+  stays : (e : PlainEdit) → Contains v.counted e → ((issue : PlainIssue) → (world_of v).open_edits e.process ≡ Some issue → issue.edit ≢ e) → Contains (survivors (memory v.sheet) v.counted) e
   unfolding survivors
-  stays e there closed = to_filter (λ (f : Edit). if is_lost (memory v.sheet) f then false else true) v.counted e there (kept ((if is_lost (memory v.sheet) e then false else true)) refl)
+  stays e there closed = to_filter (λ (f : PlainEdit). if is_lost (memory v.sheet) f then false else true) v.counted e there (kept ((if is_lost (memory v.sheet) e then false else true)) refl)
     where
       kept : (b : Bool) → (if is_lost (memory v.sheet) e then false else true) ≡ b → (if is_lost (memory v.sheet) e then false else true) ≡ true
       kept true is = is

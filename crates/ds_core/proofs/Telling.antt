@@ -8,8 +8,8 @@ use Rattle.ds_layout.specs.declared.place.Place.{Place}
 use Rattle.ds_layout.specs.declared.place.Place.TheVariants.{Header, Announce}
 use Rattle.ds_layout.specs.declared.layout.Layout.{Layout}
 use Rattle.ds_layout.specs.Places.{cells_of}
-use Rattle.ds_state.specs.World.{Edit, Issue, World, edit_of}
-use Rattle.ds_state.specs.Works.{PlainRecovery}
+use Rattle.ds_state.specs.World.{PlainEdit, PlainIssue, PlainWorld, edit_of}
+use Rattle.ds_state.specs.Works.{PlainRecoverCall}
 use Rattle.ds_state.specs.Value.{WorldValue, world_of, IsGood}
 use Rattle.ds_state.specs.Sound.{IsSound}
 use Rattle.ds_state.specs.CallsFit.{CallFits, DoubtFits}
@@ -40,18 +40,18 @@ announced_number n phase.Done = omega arith
 announced_number n phase.NotDone = omega arith
 
 -- a process that is in no edit and in no doubt has announced how its last edit ended
-pub rest_word : (w : World) (p next : ℕ) → IsAtRest w p next → w.memory.cached (Announce p) / 4 ≡ next
+pub rest_word : (w : PlainWorld) (p next : ℕ) → IsAtRest w p next → w.memory.cached (Announce p) / 4 ≡ next
 rest_word w p zero h = let c = h.cached in omega arith
 rest_word w p (suc n) h = ap (λ x. x / 4) h.cached ∙ announced_number n (phase_among w.counted p n)
 
 -- where no edit is open, both sides announce the same, and the number behind the last closed edit's
-module _ (w : World) (sound : IsSound w) (p : ℕ) (low : p < w.layout.processes) (none : w.open_edits p ≡ None) where
+module _ (w : PlainWorld) (sound : IsSound w) (p : ℕ) (low : p < w.layout.processes) (none : w.open_edits p ≡ None) where
   sides_of : (s : Situation) → w.situation p ≡ s → w.memory.persisted (Announce p) ≡ w.memory.cached (Announce p)
   sides_of (Idle next) is = let f = subst (λ (x : Situation). CallFits w p x) is (sound.calls p low) in f.persisted ∙ sym f.cached
-  sides_of Stopped is = let f = subst (λ (x : Situation). CallFits w p x) is (sound.calls p low) in let d = subst (λ (o : Option Issue). DoubtFits w p o) none f.doubt in d.rest.persisted ∙ sym d.rest.cached
+  sides_of Stopped is = let f = subst (λ (x : Situation). CallFits w p x) is (sound.calls p low) in let d = subst (λ (o : Option PlainIssue). DoubtFits w p o) none f.doubt in d.rest.persisted ∙ sym d.rest.cached
   sides_of (Editing e) is = absurd (let f = subst (λ (x : Situation). CallFits w p x) is (sound.calls p low) in let bad : None ≡ Some (record { edit = edit_of e; since = f.since }) = sym none ∙ f.open_edits in cc)
   sides_of (Working e) is = let f = subst (λ (x : Situation). CallFits w p x) is (sound.calls p low) in subst (λ q. w.memory.persisted (Announce q) ≡ w.memory.cached (Announce q)) f.mine (f.rest.persisted ∙ sym f.rest.cached)
-  sides_of (Recovering e) is = let f = subst (λ (x : Situation). CallFits w p x) is (sound.calls p low) in let d = subst (λ (o : Option Issue). DoubtFits w p o) none f.doubt in d.rest.persisted ∙ sym d.rest.cached
+  sides_of (Recovering e) is = let f = subst (λ (x : Situation). CallFits w p x) is (sound.calls p low) in let d = subst (λ (o : Option PlainIssue). DoubtFits w p o) none f.doubt in d.rest.persisted ∙ sym d.rest.cached
   sides_of (Showing e) is = let f = subst (λ (x : Situation). CallFits w p x) is (sound.calls p low) in subst (λ q. w.memory.persisted (Announce q) ≡ w.memory.cached (Announce q)) f.1.mine (f.1.rest.persisted ∙ sym f.1.rest.cached)
 
   pub sides_agree : w.memory.persisted (Announce p) ≡ w.memory.cached (Announce p)
@@ -97,7 +97,7 @@ tells_evicted l v v' r t e = record {
 not_doubted : (s : Situation) (P : Type 0) → doubts s ≡ false → doubts s ≡ true → P
 not_doubted s P a b = let bad : false ≡ true = sym a ∙ b in absurd (cc)
 
-not_recovering : (s : Situation) (e : PlainRecovery) (P : Type 0) → doubts s ≡ false → s ≡ Recovering e → P
+not_recovering : (s : Situation) (e : PlainRecoverCall) (P : Type 0) → doubts s ≡ false → s ≡ Recovering e → P
 not_recovering s e P a is = let bad : false ≡ true = sym a ∙ ap doubts is in absurd (cc)
 
 pub tells_stopped : (layout : Layout) (l : Ledger) (v v' : WorldValue) → IsOf layout l v → (t : Tells l v) (p : ℕ) → (h : StopsProcess v p v') → (l' : Ledger) → l'.counted ≡ l.counted → l'.told ≡ l.told → Tells l' v'
@@ -123,12 +123,12 @@ module _ (layout : Layout) (l : Ledger) (v v' : WorldValue) (h : IsOf layout l v
   not_open : (p : ℕ) (k : Closed) (o : Open) → l.told p ≡ Some k → l.opens p ≡ Some o → o.it ≡ k.it → ⊥
   not_open p k o told is same = by ((world_of v).open_edits p) refl
     where
-      by : (x : Option Issue) → (world_of v).open_edits p ≡ x → ⊥
+      by : (x : Option PlainIssue) → (world_of v).open_edits p ≡ x → ⊥
       by None none = (let bad : None ≡ Some o = sym (h.none p none) ∙ is in cc)
       by (Some issue) some =
           let a = h.some p issue some in
           let one : a.o ≡ o = one_some (l.opens p) a.o o a.is is in
-          let number : issue.edit.number ≡ k.it.edit.number = ap (λ (e : Edit). e.number) (sym a.edit) ∙ ap (λ (x : Open). x.it.edit.number) one ∙ ap (λ (x : Placed). x.edit.number) same in
+          let number : issue.edit.number ≡ k.it.edit.number = ap (λ (e : PlainEdit). e.number) (sym a.edit) ∙ ap (λ (x : Open). x.it.edit.number) one ∙ ap (λ (x : Placed). x.edit.number) same in
           let next = t.opens p issue some ∙ ap next_number told in
           omega arith
 
@@ -166,7 +166,7 @@ module _ (layout : Layout) (l : Ledger) (v v' : WorldValue) (h : IsOf layout l v
 module _ (q : ℕ) (l l' : Ledger) (v v' : WorldValue) (t : Tells l v) (leaves : LeavesOthers q v v') (layout : v'.sheet.layout ≡ v.sheet.layout) (told : (p : ℕ) → l'.told p ≡ l.told p)
     (counted : (p : ℕ) (c : Closed) → l.told p ≡ Some c → IsCounted l'.counted c.it c.counts)
     (sides : (c : Closed) → l.told q ≡ Some c → SidesStay (world_of v).memory (world_of v').memory (Header q c.it.edit.number))
-    (opens : (issue : Issue) → (world_of v').open_edits q ≡ Some issue → issue.edit.number ≡ next_number (l.told q)) (sure : doubts ((world_of v').situation q) ≡ false) where
+    (opens : (issue : PlainIssue) → (world_of v').open_edits q ≡ Some issue → issue.edit.number ≡ next_number (l.told q)) (sure : doubts ((world_of v').situation q) ≡ false) where
   pub tells_on : Tells l' v'
   tells_on = tells_left q l l' v v' t leaves (record {
     layout = layout;
@@ -202,7 +202,7 @@ module _ (q : ℕ) (l l' : Ledger) (v v' : WorldValue) (t : Tells l v) (turn : I
 
 -- ---- what a record that stands tells
 
-pub recorded_tells : (w : World) (e : Edit) (size : ℕ) → 0 < size → IsRecorded w e size size → e.cell < cells_of w.layout → length e.text ≤ TEXT_MOST
+pub recorded_tells : (w : PlainWorld) (e : PlainEdit) (size : ℕ) → 0 < size → IsRecorded w e size size → e.cell < cells_of w.layout → length e.text ≤ TEXT_MOST
     → (cell_told w.layout (w.memory.cached (Header e.process e.number)) ≡ e.cell) × (cell_told w.layout (w.memory.persisted (Header e.process e.number)) ≡ e.cell)
 recorded_tells w e size some r low few =
     let m = w.layout.limited in
@@ -212,13 +212,13 @@ recorded_tells w e size some r low few =
     )
 
 -- the closed edit is told, where it is one whose record stands
-pub told_by : (es : List Placed) (w : World) (p : ℕ) (c : Closed) (e : Edit) (size : ℕ) → c.it.edit ≡ e → e.process ≡ p → IsCounted es c.it c.counts → 0 < size → IsRecorded w e size size → e.cell < cells_of w.layout → length e.text ≤ TEXT_MOST → IsTold es w p c
+pub told_by : (es : List Placed) (w : PlainWorld) (p : ℕ) (c : Closed) (e : PlainEdit) (size : ℕ) → c.it.edit ≡ e → e.process ≡ p → IsCounted es c.it c.counts → 0 < size → IsRecorded w e size size → e.cell < cells_of w.layout → length e.text ≤ TEXT_MOST → IsTold es w p c
 told_by es w p c e size same mine counted some r low few =
     let tells = recorded_tells w e size some r low few in
     let place : (m : Place → ℕ) → cell_told w.layout (m (Header e.process e.number)) ≡ e.cell → cell_told w.layout (m (Header p c.it.edit.number)) ≡ c.it.edit.cell =
-    λ m is. ap (λ n. cell_told w.layout (m (Header p n))) (ap (λ (x : Edit). x.number) same) ∙ ap (λ q. cell_told w.layout (m (Header q e.number))) (sym mine) ∙ is ∙ ap (λ (x : Edit). x.cell) (sym same) in
+    λ m is. ap (λ n. cell_told w.layout (m (Header p n))) (ap (λ (x : PlainEdit). x.number) same) ∙ ap (λ q. cell_told w.layout (m (Header q e.number))) (sym mine) ∙ is ∙ ap (λ (x : PlainEdit). x.cell) (sym same) in
     record {
-      process = ap (λ (x : Edit). x.process) same ∙ mine;
+      process = ap (λ (x : PlainEdit). x.process) same ∙ mine;
       counted = counted;
       cached = place w.memory.cached tells.0;
       persisted = place w.memory.persisted tells.1;
@@ -227,5 +227,5 @@ told_by es w p c e size same mine counted some r low few =
 -- an edit with a number above those of its process's that count does not count
 pub below_out : (l : Ledger) (v : WorldValue) (it : Placed) → edits_in l ≡ v.counted → AreBelow (world_of v) it.edit.process it.edit.number → IsCounted l.counted it false
 below_out l v it same below = λ f there process number. (
-    let less = All-contains (λ (g : Edit). g.process ≡ it.edit.process → g.number < it.edit.number) v.counted f.edit below (subst (λ (es : List Edit). Contains es f.edit) same (contains_edit l.counted f there)) process in
+    let less = All-contains (λ (g : PlainEdit). g.process ≡ it.edit.process → g.number < it.edit.number) v.counted f.edit below (subst (λ (es : List PlainEdit). Contains es f.edit) same (contains_edit l.counted f there)) process in
     omega arith)

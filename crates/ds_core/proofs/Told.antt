@@ -6,8 +6,8 @@ use Rattle.ds_layout.specs.declared.place.Place.TheVariants.{Header, Announce, V
 use Rattle.ds_layout.specs.declared.layout.Layout.{Layout}
 use Rattle.ds_layout.specs.Header.{header_of}
 use Rattle.ds_layout.specs.Places.{cells_of}
-use Rattle.ds_state.specs.World.{Issue, World}
-use Rattle.ds_state.specs.Works.{PlainRecovery}
+use Rattle.ds_state.specs.World.{PlainIssue, PlainWorld}
+use Rattle.ds_state.specs.Works.{PlainRecoverCall}
 use Rattle.ds_state.specs.Value.{WorldValue, world_of}
 use Rattle.ds_state.specs.declared.situation.Situation.TheVariants.{Recovering}
 use Rattle.ds_state.specs.declared.work.RecoverStage.{RecoverStage}
@@ -29,7 +29,7 @@ IsCounted es it true = Contains es it
 IsCounted es it false = (f : Placed) → Contains es f → f.edit.process ≡ it.edit.process → f.edit.number ≡ it.edit.number → ⊥
 
 -- the process's last edit that was closed: both sides of its header tell its cell
-pub record IsTold (es : List Placed) (w : World) (p : ℕ) (c : Closed) : Type 0 where
+pub record IsTold (es : List Placed) (w : PlainWorld) (p : ℕ) (c : Closed) : Type 0 where
   pub process : c.it.edit.process ≡ p
   pub counted : IsCounted es c.it c.counts
   pub cached : cell_told w.layout (w.memory.cached (Header p c.it.edit.number)) ≡ c.it.edit.cell
@@ -50,7 +50,7 @@ HasSeen (stages.BackOutcome how) P = P
 HasSeen (stages.Answer (Some how)) P = P
 HasSeen _ P = Unit {0}
 
-abbrev pub SeesCell : World → ℕ → PlainRecovery → Type 0
+abbrev pub SeesCell : PlainWorld → ℕ → PlainRecoverCall → Type 0
 SeesCell w p e = HasSeen e.stage (e.cell ≡ cell_told w.layout (w.memory.cached (Header p (number_of e))))
 
 pub has_seen : (s : RecoverStage) (P Q : Type 0) → (P → Q) → HasSeen s P → HasSeen s Q
@@ -80,19 +80,19 @@ has_seen stages.LoadAnnounce P Q f h = tt
 has_seen stages.LoadHeader P Q f h = tt
 
 -- the number that the word announces is the one behind the last closed edit's, where no edit is open
-abbrev pub Announces : World → ℕ → Option Closed → Type 0
+abbrev pub Announces : PlainWorld → ℕ → Option Closed → Type 0
 Announces w p told = w.memory.cached (Announce p) / 4 ≡ next_number told
 
 pub record Tells (l : Ledger) (v : WorldValue) : Type 0 where
   pub told : (p : ℕ) (c : Closed) → l.told p ≡ Some c → IsTold l.counted (world_of v) p c
-  pub opens : (p : ℕ) (issue : Issue) → (world_of v).open_edits p ≡ Some issue → issue.edit.number ≡ next_number (l.told p)
+  pub opens : (p : ℕ) (issue : PlainIssue) → (world_of v).open_edits p ≡ Some issue → issue.edit.number ≡ next_number (l.told p)
   pub announced : (p : ℕ) → p < v.sheet.layout.processes → doubts ((world_of v).situation p) ≡ true → (world_of v).open_edits p ≡ None → Announces (world_of v) p (l.told p)
-  pub sees : (p : ℕ) (e : PlainRecovery) → (world_of v).situation p ≡ Recovering e → SeesCell (world_of v) p e
+  pub sees : (p : ℕ) (e : PlainRecoverCall) → (world_of v).situation p ≡ Recovering e → SeesCell (world_of v) p e
 
 -- ---- how it lasts
 
 -- what was told goes on being told
-pub told_on : (es es' : List Placed) (w w' : World) (p : ℕ) (c : Closed) → IsTold es w p c → w'.layout ≡ w.layout → SidesStay w.memory w'.memory (Header p c.it.edit.number) → IsCounted es' c.it c.counts → IsTold es' w' p c
+pub told_on : (es es' : List Placed) (w w' : PlainWorld) (p : ℕ) (c : Closed) → IsTold es w p c → w'.layout ≡ w.layout → SidesStay w.memory w'.memory (Header p c.it.edit.number) → IsCounted es' c.it c.counts → IsTold es' w' p c
 told_on es es' w w' p c h layout s counted =
     let both : (word : ℕ) → cell_told w.layout word ≡ c.it.edit.cell → cell_told w'.layout word ≡ c.it.edit.cell = λ word is. subst (λ (l : Layout). cell_told l word ≡ c.it.edit.cell) (sym layout) is in
     record {
@@ -112,9 +112,9 @@ counted_more es more it false h front cases new = λ f there a b. elim (cases f 
 pub record OwnTold (q : ℕ) (l' : Ledger) (v v' : WorldValue) : Type 0 where
   pub layout : v'.sheet.layout ≡ v.sheet.layout
   pub told : (c : Closed) → l'.told q ≡ Some c → IsTold l'.counted (world_of v') q c
-  pub opens : (issue : Issue) → (world_of v').open_edits q ≡ Some issue → issue.edit.number ≡ next_number (l'.told q)
+  pub opens : (issue : PlainIssue) → (world_of v').open_edits q ≡ Some issue → issue.edit.number ≡ next_number (l'.told q)
   pub announced : doubts ((world_of v').situation q) ≡ true → (world_of v').open_edits q ≡ None → Announces (world_of v') q (l'.told q)
-  pub sees : (e : PlainRecovery) → (world_of v').situation q ≡ Recovering e → SeesCell (world_of v') q e
+  pub sees : (e : PlainRecoverCall) → (world_of v').situation q ≡ Recovering e → SeesCell (world_of v') q e
 
 -- what it leaves of the others' words and of their edits
 pub record LeavesOthers (q : ℕ) (v v' : WorldValue) : Type 0 where

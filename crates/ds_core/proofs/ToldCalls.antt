@@ -4,7 +4,7 @@ use Rattle.ds_words.specs.Memory.{Memory, SameMemory}
 use Rattle.ds_layout.specs.declared.place.Place.{Place}
 use Rattle.ds_layout.specs.declared.place.Place.TheVariants.{Header}
 use Rattle.ds_layout.specs.SheetMemory.{PerformsAt}
-use Rattle.ds_state.specs.Works.{PlainWork}
+use Rattle.ds_state.specs.Works.{PlainWorkCall}
 use Rattle.ds_state.specs.CallsFit.{CallFits}
 use Rattle.ds_state.specs.KnownWork.{WorkFits}
 use Rattle.ds_state.specs.Sound.{IsSound}
@@ -35,7 +35,7 @@ pub report_sides : (p n : ℕ) (old new : WorldValue) (reply : Reply) → Report
 report_sides p n old new reply h =
     sides_same (world_of old).memory (world_of new).memory (Header p n) (loads h.steps.show.stage h.steps.show.process (world_of old).memory (world_of new).memory h.steps.word h.steps.steps.memory)
 
-module _ (p n : ℕ) (old new : WorldValue) (sound : IsSound (world_of old)) (e : PlainWork) (inside : p < old.sheet.layout.processes) (is : (world_of old).situation p ≡ Working e) where
+module _ (p n : ℕ) (old new : WorldValue) (sound : IsSound (world_of old)) (e : PlainWorkCall) (inside : p < old.sheet.layout.processes) (is : (world_of old).situation p ≡ Working e) where
   fits : WorkFits (world_of old) p e
   fits = subst (λ (x : Situation). CallFits (world_of old) p x) is (sound.calls p inside)
 

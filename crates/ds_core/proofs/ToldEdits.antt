@@ -6,7 +6,7 @@ use Rattle.ds_words.specs.Memory.{SameMemory}
 use Rattle.ds_layout.specs.declared.place.Place.TheVariants.{Header}
 use Rattle.ds_layout.specs.SheetMemory.{PerformsAt}
 use Rattle.ds_state.specs.Edits.{text_parts}
-use Rattle.ds_state.specs.World.{Edit, Issue, edit_of}
+use Rattle.ds_state.specs.World.{PlainEdit, PlainIssue, edit_of}
 use Rattle.ds_state.specs.Known.{AreBelow, Knowing, known_at}
 use Rattle.ds_state.specs.CallsFit.{CallFits, EditFits}
 use Rattle.ds_state.specs.Value.{WorldValue, world_of}
@@ -30,7 +30,7 @@ use Rattle.ds_core.proofs.Telling.{tells_on, tells_closed, told_by, below_out}
 
 -- ---- it begins
 
-pub tells_begun : (l l' : Ledger) (v v' : WorldValue) (edit : Edit) → Tells l v → traces.Issues (world_of v) edit (world_of v') → v'.sheet.layout ≡ v.sheet.layout → SameMemory (world_of v).memory (world_of v').memory
+pub tells_begun : (l l' : Ledger) (v v' : WorldValue) (edit : PlainEdit) → Tells l v → traces.Issues (world_of v) edit (world_of v') → v'.sheet.layout ≡ v.sheet.layout → SameMemory (world_of v).memory (world_of v').memory
     → ((q : ℕ) → q ≢ edit.process → (world_of v').situation q ≡ (world_of v).situation q) → doubts ((world_of v').situation edit.process) ≡ false → edit.number ≡ next_number (l.told edit.process)
     → l'.counted ≡ l.counted → ((q : ℕ) → l'.told q ≡ l.told q) → Tells l' v'
 tells_begun l l' v v' edit t s layout memory others sure next counted told =
@@ -42,7 +42,7 @@ tells_begun l l' v v' edit t s layout memory others sure next counted told =
       sides = λ p n ne. sides_same (world_of v).memory (world_of v').memory (Header p n) memory;
     }) layout told (λ p c is. subst (λ (es : List Placed). IsCounted es c.it c.counts) (sym counted) (t.told p c is).counted)
     (λ c is. sides_same (world_of v).memory (world_of v').memory (Header edit.process c.it.edit.number) memory)
-    (λ issue is. (let one = one_some ((world_of v').open_edits edit.process) issue (record { edit = edit; since = length v.counted }) is s.issued in ap (λ (i : Issue). i.edit.number) one ∙ next)) sure
+    (λ issue is. (let one = one_some ((world_of v').open_edits edit.process) issue (record { edit = edit; since = length v.counted }) is s.issued in ap (λ (i : PlainIssue). i.edit.number) one ∙ next)) sure
 
 module _ (layout : _) (l : Ledger) (v v' : WorldValue) (h : IsOf layout l v) (t : Tells l v) (p : ℕ) (reply : Reply) (s : EditStepsBy v p reply v') where
   fits : EditFits (world_of v) p s.edit
@@ -58,27 +58,27 @@ module _ (layout : _) (l : Ledger) (v v' : WorldValue) (h : IsOf layout l v) (t 
   sides : (c : Closed) → l.told p ≡ Some c → SidesStay (world_of v).memory (world_of v').memory (Header p c.it.edit.number)
   sides c is = edit_sides p c.it.edit.number (world_of v) (world_of v') s.edit s.word (apart c is) fits.buffer s.steps.memory
 
-  its : (issue : Issue) → (world_of v).open_edits p ≡ Some issue → issue.edit ≡ edit_of s.edit
-  its issue is = ap (λ (i : Issue). i.edit) (one_some ((world_of v).open_edits p) issue (record { edit = edit_of s.edit; since = fits.since }) is fits.open_edits)
+  its : (issue : PlainIssue) → (world_of v).open_edits p ≡ Some issue → issue.edit ≡ edit_of s.edit
+  its issue is = ap (λ (i : PlainIssue). i.edit) (one_some ((world_of v).open_edits p) issue (record { edit = edit_of s.edit; since = fits.since }) is fits.open_edits)
 
   leaves : LeavesOthers p v v'
   leaves = turn_leaves p v v' (edit_turn v v' p reply h.good.sound s)
 
   -- it goes on
   module _ (pending : (world_of v').open_edits p ≡ (world_of v).open_edits p) (sure : doubts ((world_of v').situation p) ≡ false) where
-    opens : (issue : Issue) → (world_of v').open_edits p ≡ Some issue → issue.edit.number ≡ next_number (l.told p)
+    opens : (issue : PlainIssue) → (world_of v').open_edits p ≡ Some issue → issue.edit.number ≡ next_number (l.told p)
     opens issue is = t.opens p issue (sym pending ∙ is)
 
     pub tells_edit_on : Tells l v'
     tells_edit_on = tells_on p l l v v' t leaves s.steps.layout (λ q. refl) (λ q c is. (t.told q c is).counted) sides opens sure
 
     -- it comes to count
-    module _ (l' : Ledger) (x : Placed) (counted : l'.counted ≡ l.counted ++ x ∷ []) (told : (q : ℕ) → l'.told q ≡ l.told q) (issue : Issue) (open_is : (world_of v).open_edits p ≡ Some issue) (same : x.edit ≡ issue.edit) where
+    module _ (l' : Ledger) (x : Placed) (counted : l'.counted ≡ l.counted ++ x ∷ []) (told : (q : ℕ) → l'.told q ≡ l.told q) (issue : PlainIssue) (open_is : (world_of v).open_edits p ≡ Some issue) (same : x.edit ≡ issue.edit) where
       mine : x.edit.process ≡ p
-      mine = ap (λ (e : Edit). e.process) (same ∙ its issue open_is) ∙ fits.mine
+      mine = ap (λ (e : PlainEdit). e.process) (same ∙ its issue open_is) ∙ fits.mine
 
       number : x.edit.number ≡ s.edit.number
-      number = ap (λ (e : Edit). e.number) (same ∙ its issue open_is)
+      number = ap (λ (e : PlainEdit). e.number) (same ∙ its issue open_is)
 
       no_closed : (q : ℕ) (c : Closed) → l.told q ≡ Some c → (f : Placed) → Contains (x ∷ []) f → f.edit.process ≡ c.it.edit.process → f.edit.number ≡ c.it.edit.number → ⊥
       no_closed q c is f late same_process same_number =
@@ -100,7 +100,7 @@ module _ (layout : _) (l : Ledger) (v v' : WorldValue) (h : IsOf layout l v) (t 
     memory : SameMemory (world_of v).memory (world_of v').memory
     memory = (subst (λ (x : Stage). PerformsAt (access_at s.edit x) s.edit.process (world_of v).memory (world_of v').memory s.word) at s.steps.memory).1
 
-    module _ (issue : Issue) (open_is : (world_of v).open_edits p ≡ Some issue) where
+    module _ (issue : PlainIssue) (open_is : (world_of v).open_edits p ≡ Some issue) where
       pub tells_answered : (l' : Ledger) (c : Closed) → l'.told p ≡ Some c → ((q : ℕ) → q ≢ p → l'.told q ≡ l.told q) → l'.counted ≡ l.counted → c.it.edit ≡ issue.edit → IsCounted l.counted c.it c.counts
           → (world_of v').open_edits p ≡ None → doubts ((world_of v').situation p) ≡ false → Tells l' v'
       tells_answered l' c here others list same counted none sure =
@@ -110,7 +110,7 @@ module _ (layout : _) (l : Ledger) (v v' : WorldValue) (h : IsOf layout l v) (t 
           (told_by l.counted (world_of v) p c (edit_of s.edit) (suc (text_parts s.edit.text)) (same ∙ its issue open_is) fits.mine counted (omega arith) knows.recorded (omega arith) fits.is.text.short)
           (sides_same (world_of v).memory (world_of v').memory (Header p c.it.edit.number) memory) none sure
 
-  pub overtaken_is_out : (noted seen : ℕ) → s.edit.stage ≡ Answer (outcome.Overtaken noted seen) → (issue : Issue) → (world_of v).open_edits p ≡ Some issue → (it : Placed) → it.edit ≡ issue.edit → IsCounted l.counted it false
+  pub overtaken_is_out : (noted seen : ℕ) → s.edit.stage ≡ Answer (outcome.Overtaken noted seen) → (issue : PlainIssue) → (world_of v).open_edits p ≡ Some issue → (it : Placed) → it.edit ≡ issue.edit → IsCounted l.counted it false
   overtaken_is_out noted seen at issue open_is it same =
       let k : AreBelow (world_of v) s.edit.process s.edit.number = (knows (outcome.Overtaken noted seen) at).standing in
-      below_out l v it h.counted (subst (λ (e : Edit). AreBelow (world_of v) e.process e.number) (sym (same ∙ its issue open_is)) k)
+      below_out l v it h.counted (subst (λ (e : PlainEdit). AreBelow (world_of v) e.process e.number) (sym (same ∙ its issue open_is)) k)

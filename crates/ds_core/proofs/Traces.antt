@@ -1,18 +1,18 @@
 -- What an event of an edit does to the world's own list of edits that count, and to its issues.
 use Rattle.std.specs.Prelude.{ℕ, ◌≡◌, ◌≢◌, ◌⊎◌, ◌++◌, [], ◌∷◌, length, drop, Some, None, Contains}
-use Rattle.ds_state.specs.World.{Edit, Issue, World}
+use Rattle.ds_state.specs.World.{PlainEdit, PlainIssue, PlainWorld}
 use Rattle.ds_edit.specs.declared.answer.Other.{Other}
 use Rattle.ds_edit.specs.declared.answer.Answer.TheVariants.{Done, Overtaken}
 use Rattle.ds_core.specs.declared.reply.Reply.{Reply}
 use Rattle.ds_core.specs.declared.reply.Reply.TheVariants.{Stepped, Answered}
 
 -- nothing
-pub record Stays (old new : World) : Type 0 where
+pub record Stays (old new : PlainWorld) : Type 0 where
   pub counted : new.counted ≡ old.counted
   pub open_edits : (q : ℕ) → new.open_edits q ≡ old.open_edits q
 
 -- the process, which had none, has an edit that is not answered; it does not count yet
-pub record Issues (old : World) (edit : Edit) (new : World) : Type 0 where
+pub record Issues (old : PlainWorld) (edit : PlainEdit) (new : PlainWorld) : Type 0 where
   pub none : old.open_edits edit.process ≡ None
   pub issued : new.open_edits edit.process ≡ Some (record { edit = edit; since = length old.counted })
   pub others : (q : ℕ) → q ≢ edit.process → new.open_edits q ≡ old.open_edits q
@@ -20,8 +20,8 @@ pub record Issues (old : World) (edit : Edit) (new : World) : Type 0 where
   pub counted : new.counted ≡ old.counted
 
 -- the process's edit, which did not count, comes to count
-pub record Counts (old : World) (p : ℕ) (new : World) : Type 0 where
-  pub issue : Issue
+pub record Counts (old : PlainWorld) (p : ℕ) (new : PlainWorld) : Type 0 where
+  pub issue : PlainIssue
   pub open_is : old.open_edits p ≡ Some issue
   pub mine : issue.edit.process ≡ p
   pub not_yet : Contains old.counted issue.edit → ⊥
@@ -29,8 +29,8 @@ pub record Counts (old : World) (p : ℕ) (new : World) : Type 0 where
   pub open_edits : (q : ℕ) → new.open_edits q ≡ old.open_edits q
 
 -- the process's edit of this number is answered
-pub record Closes (old : World) (p number : ℕ) (Is : Issue → Type 0) (new : World) : Type 0 where
-  pub issue : Issue
+pub record Closes (old : PlainWorld) (p number : ℕ) (Is : PlainIssue → Type 0) (new : PlainWorld) : Type 0 where
+  pub issue : PlainIssue
   pub open_is : old.open_edits p ≡ Some issue
   pub number_is : issue.edit.number ≡ number
   pub is : Is issue
@@ -39,16 +39,16 @@ pub record Closes (old : World) (p number : ℕ) (Is : Issue → Type 0) (new : 
   pub counted : new.counted ≡ old.counted
 
 -- the other edit is of the same cell, and came to count since the issue; this one does not count
-pub record IsOvertakenBy (w : World) (other : Other) (issue : Issue) : Type 0 where
+pub record IsOvertakenBy (w : PlainWorld) (other : Other) (issue : PlainIssue) : Type 0 where
   pub out : Contains w.counted issue.edit → ⊥
-  pub by : Edit
+  pub by : PlainEdit
   pub since : Contains (drop issue.since w.counted) by
   pub cell : by.cell ≡ issue.edit.cell
   pub process : by.process ≡ other.process
   pub number : by.number ≡ other.number
 
 -- a step of an edit, by its answer
-abbrev pub StepMoves : World → ℕ → Reply → World → Type 0
+abbrev pub StepMoves : PlainWorld → ℕ → Reply → PlainWorld → Type 0
 StepMoves old p Stepped new = Stays old new ⊎ Counts old p new
 StepMoves old p (Answered (Done number)) new = Closes old p number (λ issue. Contains old.counted issue.edit) new
 StepMoves old p (Answered (Overtaken number other)) new = Closes old p number (IsOvertakenBy old other) new

@@ -7,7 +7,7 @@ use Rattle.ds_state.proofs.Stopping.{stop_keeps}
 use Rattle.ds_edit.proofs.Sound.{step_sound}
 use Rattle.ds_show.proofs.ShowKeeps as keeping
 use Rattle.ds_show.proofs.ShowLaws as shows
-use Rattle.ds_state.specs.Works.{PlainWork}
+use Rattle.ds_state.specs.Works.{PlainWorkCall}
 use Rattle.ds_state.specs.declared.work.WorkStage.{WorkStage}
 use Rattle.ds_state.specs.declared.work.WorkStage.TheVariants as stages
 use Rattle.ds_state.specs.declared.situation.Situation.TheVariants.{Working}
@@ -73,7 +73,7 @@ pub record LeavesEdits (q : ℕ) (old new : WorldValue) : Type 0 where
   pub open_edits : (r : ℕ) → (world_of new).open_edits r ≡ (world_of old).open_edits r
   pub words : OneAccess q (world_of old).memory (world_of new).memory
 
-module _ (old new : WorldValue) (q : ℕ) (sound : IsSound (world_of old)) (e : PlainWork) (inside : q < old.sheet.layout.processes) (mine : e.process ≡ q) (is : (world_of old).situation q ≡ Working e) where
+module _ (old new : WorldValue) (q : ℕ) (sound : IsSound (world_of old)) (e : PlainWorkCall) (inside : q < old.sheet.layout.processes) (mine : e.process ≡ q) (is : (world_of old).situation q ≡ Working e) where
   low : e.process < old.sheet.layout.processes
   low = rw mine inside
 
@@ -93,7 +93,7 @@ module _ (old new : WorldValue) (q : ℕ) (sound : IsSound (world_of old)) (e : 
     words = (work_steps.access_at old.sheet.layout.shape e s, word, subst (λ p. PerformsAt (work_steps.access_at old.sheet.layout.shape e s) p (world_of old).memory (world_of new).memory word) mine t.memory);
   }
 
-  by_turn : (f : PlainWork) → work_steps.Turns e f (world_of old) (world_of new) → Keeps e.process (world_of old) (world_of new) → LeavesEdits q old new
+  by_turn : (f : PlainWorkCall) → work_steps.Turns e f (world_of old) (world_of new) → Keeps e.process (world_of old) (world_of new) → LeavesEdits q old new
   by_turn f t keeps = record {
     turn = record { there = inside; keeps = subst (λ p. Keeps p (world_of old) (world_of new)) mine keeps; others = λ r ne. t.others r (λ same. ne (same ∙ mine)) };
     layout = t.layout;

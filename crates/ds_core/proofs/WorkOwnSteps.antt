@@ -1,11 +1,11 @@
 -- How many steps of its own a work makes, by the references of its content.
 use Rattle.std.proofs.Common.{ℕ, ◌≡◌, ◌≤◌, ◌+◌, ◌-◌, ◌/◌, ◌==◌, ◌&&◌, Bool, true, false, if◌then◌else◌, nat_lt, List, [], ◌∷◌, ◌++◌, Option, Some, None, refl, ap, sym, ◌∙◌, subst, arith, length}
 use Rattle.std.proofs.lemmas.List.{length-set}
-use Rattle.ds_formula.specs.Plain.{Plain}
+use Rattle.ds_formula.specs.Plain.{PlainContent}
 use Rattle.ds_eval.specs.declared.inputs.Entry.{Entry}
 use Rattle.ds_eval.specs.declared.inputs.Input.{Input}
 use Rattle.ds_eval.specs.Inputs.{cell_in}
-use Rattle.ds_state.specs.Works.{PlainWork, IsWork}
+use Rattle.ds_state.specs.Works.{PlainWorkCall, IsWork}
 use Rattle.ds_state.specs.Standing.{shown_entry, value_for, word_for}
 use Rattle.ds_state.specs.Telling.{told_from}
 use Rattle.ds_state.specs.Value.{WorldValue, world_of}
@@ -45,16 +45,16 @@ HasRead (LoadText part) = ⊥
 HasRead Read = ⊥
 HasRead _ = Unit {0}
 
-if_read : (b : Bool) (x y : PlainWork) → HasRead x.stage → HasRead y.stage → HasRead (if b then x else y).stage
+if_read : (b : Bool) (x y : PlainWorkCall) → HasRead x.stage → HasRead y.stage → HasRead (if b then x else y).stage
 if_read true x y h k = h
 if_read false x y h k = k
 
-told_read : (e : PlainWork) (o : Option ℕ) → HasRead (told e o).stage
+told_read : (e : PlainWorkCall) (o : Option ℕ) → HasRead (told e o).stage
 told_read e None = tt
 told_read e (Some d) = tt
 
 -- what is read stays read
-next_read : (e : PlainWork) (s : WorkStage) (word : ℕ) → HasRead s → HasRead (next_at e s word).stage
+next_read : (e : PlainWorkCall) (s : WorkStage) (word : ℕ) → HasRead s → HasRead (next_at e s word).stage
 next_read e LoadMark word h = absurd h
 next_read e Claim word h = absurd h
 next_read e FlushClaim word h = absurd h
@@ -65,7 +65,7 @@ next_read e (LoadText part) word h = absurd h
 next_read e Read word h = absurd h
 next_read e (LoadKind i value) word h = if_read (nat_lt (i + 1) _) _ _ tt tt
 next_read e (Telling (LoadRow part)) word h =
-    let f : PlainWork = record e { row = e.row ++ word ∷ [] } in
+    let f : PlainWorkCall = record e { row = e.row ++ word ∷ [] } in
     if_read (nat_lt (part + 1) ((e.cells + 63) / 64)) (record f { stage = Telling (LoadRow (part + 1)) }) (told f (told_from (e.row ++ word ∷ []) (e.cells - 0) 0)) tt (told_read f (told_from (e.row ++ word ∷ []) (e.cells - 0) 0))
 next_read e (Telling (BackTold d)) word h = told_read e _
 next_read e (Telling (OrTold d)) word h = tt
@@ -74,26 +74,26 @@ next_read e (Clear changed) word h = if_read (word == e.mark) _ _ tt tt
 next_read e Give word h = if_read (word == e.mark) _ _ tt tt
 next_read e _ word h = tt
 
-inputs_stay : (e : PlainWork) (s : WorkStage) (word : ℕ) → length (inputs_at e s word) ≡ length e.inputs
+inputs_stay : (e : PlainWorkCall) (s : WorkStage) (word : ℕ) → length (inputs_at e s word) ≡ length e.inputs
 inputs_stay e (LoadKind i value) word = length-set e.inputs i (record { cell = cell_in e.inputs i; entry = shown_entry e.cells value word })
 inputs_stay e _ word = refl
 
 -- so many steps of its own later the process is in this work, whose content is still read where it was; fewer are left,
 -- said for as many references as one likes, at least those that it has read
-record Goes (p : ℕ) (e : PlainWork) (steps : ℕ) (new : WorldValue) : Type 0 where
-  work : PlainWork
+record Goes (p : ℕ) (e : PlainWorkCall) (steps : ℕ) (new : WorldValue) : Type 0 where
+  work : PlainWorkCall
   works : (world_of new).situation p ≡ Working work
   cells : work.cells ≡ e.cells
   read : HasRead e.stage → HasRead work.stage × (length work.inputs ≡ length e.inputs)
   fewer : (r : ℕ) → (HasRead work.stage → length work.inputs ≤ r) → steps + steps_left r work ≤ steps_left r e
 
-working_same : (s : Situation) (e f : PlainWork) → s ≡ Working e → s ≡ Working f → f ≡ e
+working_same : (s : Situation) (e f : PlainWorkCall) → s ≡ Working e → s ≡ Working f → f ≡ e
 working_same s e f a b = let one : Working f ≡ Working e = sym b ∙ a in cc
 
-still : (p : ℕ) (e : PlainWork) (new : WorldValue) → (world_of new).situation p ≡ Working e → Goes p e 0 new
+still : (p : ℕ) (e : PlainWorkCall) (new : WorldValue) → (world_of new).situation p ≡ Working e → Goes p e 0 new
 still p e new at = record { work = e; works = at; cells = refl; read = λ h. (h, refl); fewer = λ r h. omega arith }
 
-if_inputs : (b : Bool) (x y : PlainWork) (inputs : List Input) → x.inputs ≡ inputs → y.inputs ≡ inputs → (if b then x else y).inputs ≡ inputs
+if_inputs : (b : Bool) (x y : PlainWorkCall) (inputs : List Input) → x.inputs ≡ inputs → y.inputs ≡ inputs → (if b then x else y).inputs ≡ inputs
 if_inputs true x y inputs h k = h
 if_inputs false x y inputs h k = k
 
@@ -101,11 +101,11 @@ offered_read : (b : Bool) → HasRead (if b then Clear false else StoreValue)
 offered_read true = tt
 offered_read false = tt
 
-module _ (p : ℕ) (old new : WorldValue) (e : PlainWork) (mine : e.process ≡ p) where
-  here : (f : PlainWork) → (world_of new).situation e.process ≡ Working f → (world_of new).situation p ≡ Working f
+module _ (p : ℕ) (old new : WorldValue) (e : PlainWorkCall) (mine : e.process ≡ p) where
+  here : (f : PlainWorkCall) → (world_of new).situation e.process ≡ Working f → (world_of new).situation p ≡ Working f
   here f at = ap (λ q. (world_of new).situation q) (sym mine) ∙ at
 
-  by_read : (content : Plain) (inputs : List Input) → e.stage ≡ Read → (world_of new).situation e.process ≡ Working (read_from e content inputs) → Goes p e 1 new
+  by_read : (content : PlainContent) (inputs : List Input) → e.stage ≡ Read → (world_of new).situation e.process ≡ Working (read_from e content inputs) → Goes p e 1 new
   by_read content inputs stage now =
       let has : HasRead (read_from e content inputs).stage = if_read (nat_lt 0 (length inputs)) _ _ tt tt in
       let same : (read_from e content inputs).inputs ≡ inputs = if_inputs (nat_lt 0 (length inputs)) _ _ inputs refl refl in
@@ -125,8 +125,8 @@ module _ (p : ℕ) (old new : WorldValue) (e : PlainWork) (mine : e.process ≡ 
   by_taken is what on (work_events.steps word t goes) = record {
     work = next_at e e.stage word;
     works = here (next_at e e.stage word) (t.situation ∙ after_goes e e.stage word goes);
-    cells = ap (λ (x : PlainWork). x.cells) (next_noted e word e.stage);
-    read = λ h. (next_read e e.stage word h, ap (λ (x : PlainWork). length x.inputs) (next_noted e word e.stage) ∙ inputs_stay e e.stage word);
+    cells = ap (λ (x : PlainWorkCall). x.cells) (next_noted e word e.stage);
+    read = λ h. (next_read e e.stage word h, ap (λ (x : PlainWorkCall). length x.inputs) (next_noted e word e.stage) ∙ inputs_stay e e.stage word);
     fewer = λ r h. (let f = falls_plain r e (next_at e e.stage word) e.stage (each_falls r word e is) t.plain goes in omega (arith, f));
   }
   by_taken is what on (work_events.reads content inputs at t) = by_read content inputs at t.turn.situation
@@ -156,19 +156,19 @@ stepped taken.NotEnabled is = absurd (cc)
 stepped taken.Stepped is = refl
 stepped (taken.Answered end) is = absurd (cc)
 
-goes : (p n : ℕ) (e : PlainWork) (old new : WorldValue) → (world_of old).situation p ≡ Working e → OwnMove p old new n → Goes p e n new
+goes : (p n : ℕ) (e : PlainWorkCall) (old new : WorldValue) → (world_of old).situation p ≡ Working e → OwnMove p old new n → Goes p e n new
 goes p n e old new at (stays same) = still p e new (same ∙ at)
 goes p n e old new at (steps_once (steps.edits h)) = absurd (let bad : Working e ≡ Editing h.edit = sym at ∙ h.at in cc)
-goes p n e old new at (steps_once (steps.works h)) = subst (λ (x : PlainWork). Goes p x 1 new) (working_same ((world_of old).situation p) e h.steps.work at h.steps.works)
+goes p n e old new at (steps_once (steps.works h)) = subst (λ (x : PlainWorkCall). Goes p x 1 new) (working_same ((world_of old).situation p) e h.steps.work at h.steps.works)
     (by_taken p old new h.steps.work h.steps.mine h.steps.is h.what (stepped h.what h.is) h.steps.turn)
 goes p n e old new at (steps_once (steps.reports h)) = absurd (let bad : Working e ≡ Showing h.steps.show = sym at ∙ h.steps.at in cc)
 goes p n e old new at (steps_once (steps.recoveries h)) = absurd (let bad : Working e ≡ Recovering h.steps.recovery = sym at ∙ h.steps.at in cc)
 goes p n e old new at (is_offered value mine h) =
     let o = h.offered in
-    subst (λ (x : PlainWork). Goes p x 0 new) (working_same ((world_of old).situation p) e o.work at (ap (λ q. (world_of old).situation q) (sym mine) ∙ o.waits.works))
+    subst (λ (x : PlainWorkCall). Goes p x 0 new) (working_same ((world_of old).situation p) e o.work at (ap (λ q. (world_of old).situation q) (sym mine) ∙ o.waits.works))
     (by_offer p old new o.work (o.mine ∙ mine) value.entry o.waits.waits o.offers.turn.situation)
 
-goes_through : (events : List Event) (replies : List Reply) (old new : WorldValue) (p : ℕ) (e : PlainWork) → IsSound (world_of old) → (world_of old).situation p ≡ Working e
+goes_through : (events : List Event) (replies : List Reply) (old new : WorldValue) (p : ℕ) (e : PlainWorkCall) → IsSound (world_of old) → (world_of old).situation p ≡ Working e
     → WorldRun old events replies new → AreUnanswered p events replies → Goes p e (own_steps p events replies) new
 goes_through [] [] old new p e sound at run u = still p e new (ap (λ (v : WorldValue). (world_of v).situation p) run ∙ at)
 goes_through (event ∷ events) (r ∷ replies) old new p e sound at run u =
@@ -187,7 +187,7 @@ goes_through (event ∷ events) (r ∷ replies) old new p e sound at run u =
 goes_through [] (r ∷ replies) old new p e sound at run u = absurd run
 goes_through (event ∷ events) [] old new p e sound at run u = absurd run
 
-pub works_go_on : (old : WorldValue) (events : List Event) (replies : List Reply) (new : WorldValue) (p : ℕ) (e : PlainWork) → IsSound (world_of old) → (world_of old).situation p ≡ Working e → e.stage ≡ LoadMark
+pub works_go_on : (old : WorldValue) (events : List Event) (replies : List Reply) (new : WorldValue) (p : ℕ) (e : PlainWorkCall) → IsSound (world_of old) → (world_of old).situation p ≡ Working e → e.stage ≡ LoadMark
     → WorldRun old events replies new → AreUnanswered p events replies → WorkGoesOn p e (own_steps p events replies) new
 works_go_on old events replies new p e sound at first run u =
     let g = goes_through events replies old new p e sound at run u in

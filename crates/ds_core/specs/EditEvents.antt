@@ -1,6 +1,6 @@
 -- A step of an edit, from world to world.
 use Rattle.std.specs.Prelude.{ℕ, ◌≡◌, ◌<◌, ◌+◌, length, Option, Some, None}
-use Rattle.ds_state.specs.Edits.{PlainEdit}
+use Rattle.ds_state.specs.Edits.{PlainEditCall}
 use Rattle.ds_state.specs.Value.{WorldValue, world_of}
 use Rattle.ds_state.specs.declared.stage.Outcome.{Outcome}
 use Rattle.ds_state.specs.declared.stage.Outcome.TheVariants as outcome
@@ -35,14 +35,14 @@ pub record SameReports (old new : WorldValue) : Type 0 where
   pub reports : new.reports ≡ old.reports
 
 -- the process is one of the sheet, and is in this edit
-pub record IsEditing (v : WorldValue) (p : ℕ) (e : PlainEdit) : Type 0 where
+pub record IsEditing (v : WorldValue) (p : ℕ) (e : PlainEditCall) : Type 0 where
   pub there : p < length v.situations
   pub is : (world_of v).situation p ≡ Editing e
 
 -- the process makes one step of its edit, and the reply is that of the edit's stage
 pub record EditStepsBy (old : WorldValue) (p : ℕ) (reply : Reply) (new : WorldValue) : Type 0 where
   pub there : p < old.sheet.layout.processes
-  pub edit : PlainEdit
+  pub edit : PlainEditCall
   pub mine : edit.process ≡ p
   pub at : (world_of old).situation p ≡ Editing edit
   pub word : ℕ
@@ -54,7 +54,7 @@ pub record EditStepsBy (old : WorldValue) (p : ℕ) (reply : Reply) (new : World
 -- the sheet has no such process, or the process has no edit under way; the world stays
 pub record CanNotEdit (old : WorldValue) (p : ℕ) (new : WorldValue) : Type 0 where
   pub same : new ≡ old
-  pub none : (edit : PlainEdit) → p < old.sheet.layout.processes → (world_of old).situation p ≡ Editing edit → ⊥
+  pub none : (edit : PlainEditCall) → p < old.sheet.layout.processes → (world_of old).situation p ≡ Editing edit → ⊥
 
 -- what a step of a process's edit does, by its reply
 abbrev pub EditStepTakes : WorldValue → ℕ → Reply → WorldValue → Type 0

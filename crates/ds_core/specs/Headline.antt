@@ -6,7 +6,7 @@ use Rattle.ds_eval.specs.declared.value.Value.{Value}
 use Rattle.ds_layout.specs.declared.place.Place.{Place}
 use Rattle.ds_layout.specs.declared.place.Place.TheVariants as place
 use Rattle.ds_layout.specs.Places.{cells_of}
-use Rattle.ds_state.specs.World.{Edit, World, is_edit_of}
+use Rattle.ds_state.specs.World.{PlainEdit, PlainWorld, is_edit_of}
 use Rattle.ds_layout.specs.Mark.{IsClean}
 use Rattle.ds_state.specs.KnownShow.{IsStill, IsPendingWord, AreScratch, moment_of}
 use Rattle.ds_state.specs.Value.{WorldValue, world_of}
@@ -27,7 +27,7 @@ pub record Happens (events : List Event) (replies : List Reply) (k : ℕ) (event
   pub reply_is : slice_get replies k ≡ Some reply
 
 -- the event with its reply is the begin of this edit
-abbrev pub IsIssueOf : Shape → Event → Reply → Edit → Type 0
+abbrev pub IsIssueOf : Shape → Event → Reply → PlainEdit → Type 0
 IsIssueOf shape (BeginEdit r) (Begun number) edit = edit ≡ record { process = r.process; number = number; cell = index_of shape r.cell; text = r.text }
 IsIssueOf shape event reply edit = ⊥
 
@@ -50,13 +50,13 @@ pub record SettledFits (moment : ℕ → Moment) (start k : ℕ) (values : List 
   pub right : AreScratch (moment at).world.sheet.layout.shape (edits_in (moment at).ledger) values
 
 -- the place is a mark or an announcement of the sheet, and its word one that is not at rest
-abbrev pub IsUnrest : World → Place → ℕ → Type 0
+abbrev pub IsUnrest : PlainWorld → Place → ℕ → Type 0
 IsUnrest w (place.Mark c) word = (c < cells_of w.layout) × (IsClean word → ⊥)
 IsUnrest w (place.Announce q) word = (q < w.layout.processes) × IsPendingWord word
 IsUnrest w r word = ⊥
 
 -- the place is a mark or an announcement of the sheet, which a report looks at twice
-abbrev pub IsWatched : World → Place → Type 0
+abbrev pub IsWatched : PlainWorld → Place → Type 0
 IsWatched w (place.Mark c) = c < cells_of w.layout
 IsWatched w (place.Announce q) = q < w.layout.processes
 IsWatched w r = ⊥
@@ -136,7 +136,7 @@ pub record HasHeadline (old : WorldValue) (events : List Event) (replies : List 
 
 -- of the process and this number the list has just one edit, with the cell and text of a request whose begin before
 -- this place was answered with this number
-pub record IsAcknowledged (old : WorldValue) (events : List Event) (replies : List Reply) (k p number : ℕ) (edits : List Edit) : Type 0 where
+pub record IsAcknowledged (old : WorldValue) (events : List Event) (replies : List Reply) (k p number : ℕ) (edits : List PlainEdit) : Type 0 where
   pub request : PlainRequest
   pub start : ℕ
   pub earlier : start < k
@@ -146,6 +146,6 @@ pub record IsAcknowledged (old : WorldValue) (events : List Event) (replies : Li
 
 -- the edit that a recovery tells as done stands in the list just once, as it was asked for, and the cell that is told
 -- is that of its request
-pub record IsToldDone (old : WorldValue) (events : List Event) (replies : List Reply) (k p : ℕ) (told : Told) (edits : List Edit) : Type 0 where
+pub record IsToldDone (old : WorldValue) (events : List Event) (replies : List Reply) (k p : ℕ) (told : Told) (edits : List PlainEdit) : Type 0 where
   pub it : IsAcknowledged old events replies k p told.number edits
   pub cell : told.cell ≡ index_of old.sheet.layout.shape it.request.cell

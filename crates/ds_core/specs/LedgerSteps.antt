@@ -6,7 +6,7 @@ use Rattle.ds_words.specs.declared.access.Access.{Access}
 use Rattle.ds_words.specs.Memory.{Memory, SameMemory, EvictsAt, StopsAt, Crashes}
 use Rattle.ds_layout.specs.declared.place.Place.{Place}
 use Rattle.ds_layout.specs.SheetMemory.{PerformsAt}
-use Rattle.ds_state.specs.World.{Edit}
+use Rattle.ds_state.specs.World.{PlainEdit}
 use Rattle.ds_core.specs.Moments.{Placed, Open, Closed, Ledger}
 use Rattle.ds_core.specs.declared.event.Event.{Event}
 use Rattle.ds_core.specs.declared.event.Event.TheVariants.{BeginEdit, BeginWork, BeginShow, BeginRecover, Step, Offer, Evict, Stop, Crash}
@@ -66,7 +66,7 @@ Stands counted it true = Contains counted it
 Stands counted it false = Contains counted it → ⊥
 
 -- the process, which had no open edit, begins its next one at this place among the events
-pub record Issues (place : ℕ) (old : Ledger) (edit : Edit) (new : Ledger) : Type 0 where
+pub record Issues (place : ℕ) (old : Ledger) (edit : PlainEdit) (new : Ledger) : Type 0 where
   pub none : old.opens edit.process ≡ None
   pub next : edit.number ≡ next_number (old.told edit.process)
   pub is : new ≡ record old { opens = put old.opens edit.process (Some (record { it = record { place = place; edit = edit }; before = old.counted; doubt = false })) }

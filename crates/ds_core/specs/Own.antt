@@ -1,7 +1,7 @@
 -- How many steps a process makes in a run.
 use Rattle.std.specs.Prelude.{ℕ, ◌≡◌, ◌<◌, ◌+◌, ◌*◌, ◌==◌, List, [], ◌∷◌, if◌then◌else◌, length}
 use Rattle.ds_layout.specs.Bits.{parts_for}
-use Rattle.ds_state.specs.Works.{PlainWork}
+use Rattle.ds_state.specs.Works.{PlainWorkCall}
 use Rattle.ds_state.specs.Value.{WorldValue, world_of}
 use Rattle.ds_state.specs.declared.situation.Situation.{Situation}
 use Rattle.ds_state.specs.declared.situation.Situation.TheVariants.{Idle, Stopped, Editing, Working, Recovering, Showing}
@@ -71,7 +71,7 @@ AreUnhalted p (event ∷ events) = IsUnhalted p event × AreUnhalted p events
 
 -- the process is in the work that this one has come to be, so many steps of its own later: fewer than two for each
 -- reference that it has read, three for each cell, one for each part of an index row, and 36
-pub record WorkGoesOn (p : ℕ) (e : PlainWork) (steps : ℕ) (new : WorldValue) : Type 0 where
-  pub work : PlainWork
+pub record WorkGoesOn (p : ℕ) (e : PlainWorkCall) (steps : ℕ) (new : WorldValue) : Type 0 where
+  pub work : PlainWorkCall
   pub works : (world_of new).situation p ≡ Working work
   pub few : steps < 2 * length work.inputs + 3 * e.cells + parts_for e.cells + 36

@@ -5,7 +5,7 @@ use Rattle.ds_core.specs.declared.event.Event.TheVariants.{Step, Evict, Offer}
 use Rattle.ds_layout.specs.Bits.{HasBit}
 use Rattle.ds_layout.specs.Mark.{IsClean}
 use Rattle.ds_layout.specs.declared.place.Place.TheVariants.{Mark}
-use Rattle.ds_state.specs.World.{World, index_place}
+use Rattle.ds_state.specs.World.{PlainWorld, index_place}
 use Rattle.ds_work.specs.WorkShows.{shown_in}
 use Rattle.ds_edit.specs.declared.answer.Answer.{Answer}
 use Rattle.ds_edit.specs.declared.answer.Answer.TheVariants.{Done, Published, Again, NoMemory}
@@ -48,13 +48,13 @@ IsLone p [] = Unit {0}
 IsLone p (event ∷ events) = IsLoneEvent p event × IsLone p events
 
 -- the word of the cell's own index row has the cell's bit: its text refers to it, or did
-abbrev pub StandsInOwnRow : World → ℕ → Type 0
+abbrev pub StandsInOwnRow : PlainWorld → ℕ → Type 0
 StandsInOwnRow w cell = HasBit (w.memory.cached (index_place cell cell)) cell
 
 -- an answer of work on this cell that was alone from the first world on, with what the last one shows. Published says
 -- that the cell is clean, and whether it shows another value now; where it does, the cell does not stand in its own index
 -- row. Where it stands there, a new value is answered Again. For want of memory nothing is shown.
-abbrev pub IsLoneAnswer : World → World → ℕ → Answer → Type 0
+abbrev pub IsLoneAnswer : PlainWorld → PlainWorld → ℕ → Answer → Type 0
 IsLoneAnswer first last cell (Published true) = IsClean (last.memory.cached (Mark cell)) × (shown_in last cell ≢ shown_in first cell) × (StandsInOwnRow first cell → ⊥)
 IsLoneAnswer first last cell (Published false) = IsClean (last.memory.cached (Mark cell)) × (shown_in last cell ≡ shown_in first cell)
 IsLoneAnswer first last cell Again = StandsInOwnRow first cell × (shown_in last cell ≢ shown_in first cell)
@@ -62,11 +62,11 @@ IsLoneAnswer first last cell NoMemory = shown_in last cell ≡ shown_in first ce
 IsLoneAnswer first last cell answer = ⊥
 
 -- where the reply is an answer, it is one of work that was alone
-abbrev pub IsLoneReply : World → World → ℕ → Reply → Type 0
+abbrev pub IsLoneReply : PlainWorld → PlainWorld → ℕ → Reply → Type 0
 IsLoneReply first last cell (Answered answer) = IsLoneAnswer first last cell answer
 IsLoneReply first last cell reply = Unit {0}
 
 -- each answer among the replies is one of work that was alone
-abbrev pub AreLoneReplies : World → World → ℕ → List Reply → Type 0
+abbrev pub AreLoneReplies : PlainWorld → PlainWorld → ℕ → List Reply → Type 0
 AreLoneReplies first last cell [] = Unit {0}
 AreLoneReplies first last cell (reply ∷ replies) = IsLoneReply first last cell reply × AreLoneReplies first last cell replies

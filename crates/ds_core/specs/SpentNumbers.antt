@@ -1,6 +1,6 @@
 -- Numbers of edits that do not count.
 use Rattle.std.specs.Prelude.{ℕ, ◌≡◌, Contains}
-use Rattle.ds_state.specs.World.{Edit, World}
+use Rattle.ds_state.specs.World.{PlainEdit, PlainWorld}
 use Rattle.ds_state.specs.declared.situation.Situation.{Situation}
 use Rattle.ds_state.specs.declared.situation.Situation.TheVariants.{Idle, Stopped, Editing, Working, Recovering, Showing}
 
@@ -14,5 +14,5 @@ number_in (Recovering e) = 0
 number_in (Showing e) = e.next
 
 -- no edit of the process with this number counts
-abbrev pub IsOut : World → ℕ → ℕ → Type 0
-IsOut w p number = (e : Edit) → Contains w.counted e → e.process ≡ p → e.number ≡ number → ⊥
+abbrev pub IsOut : PlainWorld → ℕ → ℕ → Type 0
+IsOut w p number = (e : PlainEdit) → Contains w.counted e → e.process ≡ p → e.number ≡ number → ⊥

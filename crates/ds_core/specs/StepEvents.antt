@@ -2,8 +2,8 @@
 use Rattle.std.specs.Prelude.{ℕ, ◌≡◌, ◌<◌}
 use Rattle.ds_layout.specs.declared.place.Place.{Place}
 use Rattle.ds_layout.specs.Places.{IsPlace}
-use Rattle.ds_state.specs.Edits.{PlainEdit}
-use Rattle.ds_state.specs.Works.{PlainShow, PlainRecovery}
+use Rattle.ds_state.specs.Edits.{PlainEditCall}
+use Rattle.ds_state.specs.Works.{PlainShowCall, PlainRecoverCall}
 use Rattle.ds_state.specs.Value.{WorldValue, world_of}
 use Rattle.ds_state.specs.Events.{Evicts}
 use Rattle.ds_state.specs.declared.situation.Situation.TheVariants.{Editing, Recovering, Showing}
@@ -26,10 +26,10 @@ pub data StepsBy (old : WorldValue) (p : ℕ) (reply : Reply) (new : WorldValue)
 -- such process
 pub record CanNotStep (old : WorldValue) (p : ℕ) (new : WorldValue) : Type 0 where
   pub same : new ≡ old
-  pub no_edit : (edit : PlainEdit) → p < old.sheet.layout.processes → (world_of old).situation p ≡ Editing edit → ⊥
+  pub no_edit : (edit : PlainEditCall) → p < old.sheet.layout.processes → (world_of old).situation p ≡ Editing edit → ⊥
   pub no_work : work_events.CanNotStep (world_of old) p
-  pub no_report : (show : PlainShow) → p < old.sheet.layout.processes → (world_of old).situation p ≡ Showing show → ⊥
-  pub no_recovery : (recovery : PlainRecovery) → p < old.sheet.layout.processes → (world_of old).situation p ≡ Recovering recovery → ⊥
+  pub no_report : (show : PlainShowCall) → p < old.sheet.layout.processes → (world_of old).situation p ≡ Showing show → ⊥
+  pub no_recovery : (recovery : PlainRecoverCall) → p < old.sheet.layout.processes → (world_of old).situation p ≡ Recovering recovery → ⊥
 
 -- neither an edit nor a work of the process goes on by a step: it is in neither, or it waits or answers
 pub record CanNotAdvance (old : WorldValue) (p : ℕ) : Type 0 where

@@ -2,7 +2,7 @@
 use Rattle.std.specs.Prelude.{ℕ, ◌≡◌, ◌≢◌, ◌<◌}
 use Rattle.ds_layout.specs.declared.layout.Layout.{Layout}
 use Rattle.ds_layout.specs.Places.{cells_of}
-use Rattle.ds_state.specs.World.{Edit}
+use Rattle.ds_state.specs.World.{PlainEdit}
 use Rattle.ds_state.specs.Value.{WorldValue, world_of}
 use Rattle.ds_state.specs.Crashes.{StopsIn, CrashesTo}
 use Rattle.ds_state.specs.declared.situation.Situation.TheVariants as situation
@@ -40,7 +40,7 @@ CrashTakes old Crashed new = CrashesWorld old new
 CrashTakes old _ new = ⊥
 
 -- the edit's cell is one of the sheet, and its process and number fit into a head
-pub record HasHeadPlace (layout : Layout) (e : Edit) : Type 0 where
+pub record HasHeadPlace (layout : Layout) (e : PlainEdit) : Type 0 where
   pub cell : e.cell < cells_of layout
   pub process : e.process < 256
   pub number : e.number < 256

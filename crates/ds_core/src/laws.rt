@@ -1,8 +1,8 @@
 //! What is true of each run, as functions that do nothing. `run` gives the run that they speak of.
 
 ghost use Rattle.std.specs.Prelude.{◌≡◌, ◌<◌, ◌≤◌, ◌+◌, ◌*◌, ◌/◌, ℕ, List, length, Contains, true, false};
-ghost use Rattle.ds_state.specs.Edits.{PlainEdit};
-ghost use Rattle.ds_state.specs.World.{Edit, World};
+ghost use Rattle.ds_state.specs.Edits.{PlainEditCall};
+ghost use Rattle.ds_state.specs.World.{PlainEdit, PlainWorld};
 ghost use Rattle.ds_state.specs.Fresh.{IsNew};
 ghost use Rattle.ds_state.specs.Value.{WorldValue, world_of, IsGood};
 ghost use Rattle.ds_state.specs.Sound.{IsSound};
@@ -22,7 +22,7 @@ ghost use Rattle.ds_core.specs.Own.{own_steps, steps_left, AreUnanswered, AreUnh
 ghost use Rattle.ds_state.specs.Spent.{IsSpent};
 ghost use Rattle.ds_core.specs.SpentNumbers.{IsOut};
 ghost use Rattle.ds_core.specs.Solo.{IsSolo, AreDoneOnly, IsLone, IsLoneAnswer, AreLoneReplies};
-ghost use Rattle.ds_state.specs.Works.{PlainWork, PlainShow, PlainRecovery};
+ghost use Rattle.ds_state.specs.Works.{PlainWorkCall, PlainShowCall, PlainRecoverCall};
 ghost use Rattle.ds_state.specs.declared.work.WorkStage.TheVariants.{LoadMark};
 ghost use Rattle.ds_layout.specs.Bits.{parts_for};
 ghost use Rattle.ds_work.specs.WorkAlone.{IsMarkedAt};
@@ -42,7 +42,7 @@ pub fn overtaken_edits_stay_out()
 #[tactic(auto, using(crate::proofs::CallSteps::edit_few))]
 pub fn own_steps_are_few()
     ensures { (old : WorldValue) (events : List Event) (replies : List Reply) (new : WorldValue)
-        (p : ℕ) (e : PlainEdit) → IsSound (world_of old) → p < old.sheet.layout.processes
+        (p : ℕ) (e : PlainEditCall) → IsSound (world_of old) → p < old.sheet.layout.processes
         → (world_of old).situation p ≡ Editing e → WorldRun old events replies new
         → AreUnanswered p events replies
         → own_steps p events replies < 67 + 3 * length e.refs }
@@ -54,7 +54,7 @@ pub fn own_steps_are_few()
 #[tactic(auto, using(crate::proofs::WorkOwnSteps::works_go_on))]
 pub fn work_own_steps_are_few()
     ensures { (old : WorldValue) (events : List Event) (replies : List Reply) (new : WorldValue)
-        (p : ℕ) (e : PlainWork) → IsSound (world_of old)
+        (p : ℕ) (e : PlainWorkCall) → IsSound (world_of old)
         → (world_of old).situation p ≡ Working e → e.stage ≡ LoadMark → WorldRun old events replies new
         → AreUnanswered p events replies → WorkGoesOn p e (own_steps p events replies) new }
 {}
@@ -68,9 +68,9 @@ pub fn calls_are_short()
         (p : ℕ) → IsSound (world_of old) → p < old.sheet.layout.processes
         → IsInCall ((world_of old).situation p) → WorldRun old events replies new
         → AreUnanswered p events replies → own_steps p events replies < steps_left p old }
-    ensures report { (v : WorldValue) (p : ℕ) (e : PlainShow) → (world_of v).situation p ≡ Showing e
+    ensures report { (v : WorldValue) (p : ℕ) (e : PlainShowCall) → (world_of v).situation p ≡ Showing e
         → steps_left p v ≤ 2 * e.processes + 4 * e.cells + 1 }
-    ensures recovery { (v : WorldValue) (p : ℕ) (e : PlainRecovery) → IsSound (world_of v)
+    ensures recovery { (v : WorldValue) (p : ℕ) (e : PlainRecoverCall) → IsSound (world_of v)
         → p < v.sheet.layout.processes → (world_of v).situation p ≡ Recovering e
         → steps_left p v ≤ e.cells * (3 * e.cells + 30) + 20 }
 {}
@@ -92,7 +92,7 @@ pub fn calls_are_answered()
 #[tactic(auto, using(crate::proofs::Solo::solo_done))]
 pub fn solo_edits_are_done()
     ensures { (old : WorldValue) (events : List Event) (replies : List Reply) (new : WorldValue)
-        (p : ℕ) (e : PlainEdit) → IsSound (world_of old)
+        (p : ℕ) (e : PlainEditCall) → IsSound (world_of old)
         → (world_of old).situation p ≡ Editing e → e.stage ≡ StoreHeader
         → WorldRun old events replies new → IsSolo p events → AreDoneOnly e.number replies }
 {}
@@ -154,7 +154,7 @@ pub fn edits_told_as_not_done_stay_out()
 #[tactic(auto, using(crate::proofs::Alone::solo_answered))]
 pub fn solo_edits_are_answered()
     ensures { (old : WorldValue) (events : List Event) (replies : List Reply) (new : WorldValue)
-        (p : ℕ) (e : PlainEdit) → IsSound (world_of old) → p < old.sheet.layout.processes
+        (p : ℕ) (e : PlainEditCall) → IsSound (world_of old) → p < old.sheet.layout.processes
         → (world_of old).situation p ≡ Editing e → e.stage ≡ StoreHeader
         → WorldRun old events replies new → IsSolo p events
         → 67 + 3 * length e.refs ≤ own_steps p events replies
@@ -170,7 +170,7 @@ pub fn solo_edits_are_answered()
 #[tactic(auto, using(crate::proofs::LoneWork::lone_publishes))]
 pub fn lone_works_publish()
     ensures { (old : WorldValue) (events : List Event) (replies : List Reply) (new : WorldValue)
-        (p : ℕ) (e : PlainWork) → IsSound (world_of old) → p < old.sheet.layout.processes
+        (p : ℕ) (e : PlainWorkCall) → IsSound (world_of old) → p < old.sheet.layout.processes
         → (world_of old).situation p ≡ Working e → e.stage ≡ LoadMark → IsMarkedAt (world_of old) e
         → WorldRun old events replies new → IsLone p events
         → AreLoneReplies (world_of old) (world_of new) e.cell replies }
@@ -182,7 +182,7 @@ pub fn lone_works_publish()
 #[tactic(auto, using(crate::proofs::Alone::lone_answered))]
 pub fn lone_works_are_answered()
     ensures { (old : WorldValue) (events : List Event) (replies : List Reply) (new : WorldValue)
-        (p : ℕ) (e : PlainWork) → IsSound (world_of old) → p < old.sheet.layout.processes
+        (p : ℕ) (e : PlainWorkCall) → IsSound (world_of old) → p < old.sheet.layout.processes
         → (world_of old).situation p ≡ Working e → e.stage ≡ LoadMark → IsMarkedAt (world_of old) e
         → WorldRun old events replies new → IsLone p events
         → 5 * e.cells + parts_for e.cells + 36 ≤ own_steps p events replies

@@ -2,7 +2,7 @@
 
 ghost use Rattle.std.specs.Prelude.{◌≡◌, ◌<◌, ◌≤◌, ◌++◌, ◌*◌, ℕ, IsTrue, IsFalse, IfSome, IfNone, length, vec_capacity};
 ghost use Rattle.ds_formula.specs.Limits.{PROCESSES_MOST, EDITS_MOST};
-ghost use Rattle.ds_state.specs.Edits.{PlainEdit};
+ghost use Rattle.ds_state.specs.Edits.{PlainEditCall};
 ghost use Rattle.ds_state.specs.declared.stage.Stage.TheVariants.{Swap};
 ghost use Rattle.ds_state.specs.declared.situation.Situation.TheVariants.{Editing};
 ghost use Rattle.ds_state.specs.Value.{WorldValue};
@@ -36,7 +36,7 @@ use std::alloc::Global;
 #[inline(always)]
 fn call_of(situation: &Situation) -> Option<&EditCall>
     ensures some { IfSome result (λ call. situation.now ≡ Editing call.now) }
-    ensures none { IfNone result ((e : PlainEdit) → situation.now ≡ Editing e → ⊥) }
+    ensures none { IfNone result ((e : PlainEditCall) → situation.now ≡ Editing e → ⊥) }
 {
     match situation {
         Situation::Editing(call) => Some(call),
@@ -48,7 +48,7 @@ fn call_of(situation: &Situation) -> Option<&EditCall>
 // The process goes on with the word that its access answered.
 #[inline(always)]
 fn go_on(situation: &mut Situation, word: u64)
-    ensures { (e : PlainEdit) → situation.old ≡ Editing e → situation.new ≡ after e e.stage word }
+    ensures { (e : PlainEditCall) → situation.old ≡ Editing e → situation.new ≡ after e e.stage word }
 {
     if let Situation::Editing(call) = situation {
         match call.stage {
@@ -65,7 +65,7 @@ fn go_on(situation: &mut Situation, word: u64)
 #[inline(always)]
 fn count(counted: &mut Vec<Edit>, situation: &Situation, stage: Stage, word: u64)
     requires { (noted : ℕ) → stage ≡ Swap noted → word ≡ noted → length counted.old.items < vec_capacity counted.old }
-    ensures items { (e : PlainEdit) → situation.now ≡ Editing e → counted.new.items ≡ counted.old.items ++ counted_at (edit_of e) stage word }
+    ensures items { (e : PlainEditCall) → situation.now ≡ Editing e → counted.new.items ≡ counted.old.items ++ counted_at (edit_of e) stage word }
     ensures capacity { vec_capacity counted.new ≡ vec_capacity counted.old }
 {
     if let Stage::Swap(noted) = stage {
@@ -111,8 +111,8 @@ fn reply(processes: usize, number: usize, stage: Stage) -> Reply
 // A process makes the step of its edit that is at this stage, by this access.
 #[inline(always)]
 fn edit_on(world: &mut World, process: usize, stage: Stage, access: Access<Place>)
-    requires { (e : PlainEdit) × IsEditing world.old process e × (stage ≡ e.stage) × (access ≡ access_at e e.stage) }
-    ensures { (e : PlainEdit) → IsEditing world.old process e → EditStepTakes world.old process (reply_at world.old.sheet.layout.processes e.number stage) world.new }
+    requires { (e : PlainEditCall) × IsEditing world.old process e × (stage ≡ e.stage) × (access ≡ access_at e e.stage) }
+    ensures { (e : PlainEditCall) → IsEditing world.old process e → EditStepTakes world.old process (reply_at world.old.sheet.layout.processes e.number stage) world.new }
 {
     let word = world.words.perform(process, access);
     count(&mut world.counted, &world.situations[process], stage, word);
@@ -165,8 +165,8 @@ fn report_answer(end: ShowEnd) -> Answer
 {
     match end {
         ShowEnd::Settled => Answer::Settled,
-        ShowEnd::AtMark(cell, word) => Answer::Unsettled(Place::Mark(cell), word),
-        ShowEnd::AtAnnounce(process, word) => Answer::Unsettled(Place::Announce(process), word),
+        ShowEnd::AtMark { cell, word } => Answer::Unsettled(Place::Mark(cell), word),
+        ShowEnd::AtAnnounce { process, word } => Answer::Unsettled(Place::Announce(process), word),
     }
 }
 

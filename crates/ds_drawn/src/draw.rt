@@ -66,15 +66,15 @@ impl Draw {
             1 => Place::Mark(cell),
             2 => Place::Value(cell),
             3 => Place::Kind(cell),
-            4 => Place::Index(cell, 0),
+            4 => Place::Index { row: cell, part: 0 },
             5 => Place::Announce(process),
-            6 => Place::Header(process, number),
+            6 => Place::Header { process, number },
             7 => Place::Text {
                 process,
                 number,
                 part: self.below(3),
             },
-            8 => Place::Done(process, 0),
+            8 => Place::Done { process, part: 0 },
             9 => Place::Head(0),
             _ => Place::Mark(0),
         }

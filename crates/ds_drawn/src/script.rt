@@ -20,7 +20,7 @@ fn cell_of(place: Place) -> usize {
         | Place::Mark(cell)
         | Place::Value(cell)
         | Place::Kind(cell)
-        | Place::Index(cell, _) => cell,
+        | Place::Index { row: cell, part: _ } => cell,
         _ => 0,
     }
 }
@@ -93,9 +93,9 @@ impl Script {
             Place::Mark(_) => format!(in alloc; "evict mark {cell}"),
             Place::Value(_) => format!(in alloc; "evict value {cell}"),
             Place::Kind(_) => format!(in alloc; "evict kind {cell}"),
-            Place::Index(_, part) => format!(in alloc; "evict index {cell} {part}"),
+            Place::Index { row: _, part } => format!(in alloc; "evict index {cell} {part}"),
             Place::Announce(process) => format!(in alloc; "evict announce {process}"),
-            Place::Header(process, number) => {
+            Place::Header { process, number } => {
                 format!(in alloc; "evict header {process} {number}")
             }
             Place::Text {
@@ -103,7 +103,7 @@ impl Script {
                 number,
                 part,
             } => format!(in alloc; "evict text {process} {number} {part}"),
-            Place::Done(process, part) => format!(in alloc; "evict done {process} {part}"),
+            Place::Done { process, part } => format!(in alloc; "evict done {process} {part}"),
             Place::Version => format!(in alloc; "# the version is evicted"),
         })
     }

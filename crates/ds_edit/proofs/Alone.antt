@@ -9,8 +9,8 @@ use Rattle.ds_layout.specs.declared.head.Head.{Head}
 use Rattle.ds_layout.specs.Head.{head_of}
 use Rattle.ds_layout.specs.SheetMemory.{PerformsAt}
 use Rattle.ds_layout.proofs.Packed.{IsHead-head_of}
-use Rattle.ds_state.specs.Edits.{PlainEdit, text_parts}
-use Rattle.ds_state.specs.World.{World, of_cell}
+use Rattle.ds_state.specs.Edits.{PlainEditCall, text_parts}
+use Rattle.ds_state.specs.World.{PlainWorld, of_cell}
 use Rattle.ds_state.specs.Sound.{IsSound}
 use Rattle.ds_state.specs.declared.stage.Stage.{Stage}
 use Rattle.ds_state.specs.declared.stage.Stage.TheVariants.{StoreHeader, StoreText, FlushHeader, FlushText, BackRecord, StorePending, FlushPending, BackPending, OrIndex, FlushIndex, BackIndex, LoadHead, FlushNoted, BackNoted, OrDone, FlushDone, BackDone, Swap, FlushOwn, BackOwn, OrMark, FlushMark, BackMark, StoreOutcome, FlushOutcome, BackOutcome, Answer}
@@ -20,14 +20,14 @@ use Rattle.ds_edit.specs.Alone.{IsAloneAt}
 use Rattle.ds_edit.specs.EditSteps.{access_at, next_at, help_from}
 use Rattle.ds_edit.proofs.Stays.{branches}
 
-head_small : (w : World) → IsSound w → (cell : ℕ) → w.memory.cached (place.Head cell) < 2 ^ 64
+head_small : (w : PlainWorld) → IsSound w → (cell : ℕ) → w.memory.cached (place.Head cell) < 2 ^ 64
 head_small w sound cell =
     let high = head_high (of_cell cell w.counted) (small_of_cell cell w.counted (small_counted w sound.of_sheet)) in
     let few = of_cell_few w sound cell in
     let is = (sound.words (place.Head cell)).last in
     omega arith
 
-module _ (e : PlainEdit) (word : ℕ) (old new : World) (sound : IsSound old) where
+module _ (e : PlainEditCall) (word : ℕ) (old new : PlainWorld) (sound : IsSound old) where
   abbrev Performs : Stage → Type 0
   Performs s = PerformsAt (access_at e s) e.process old.memory new.memory word
 

@@ -5,8 +5,8 @@ use Rattle.ds_words.specs.Memory.{StoresAt}
 use Rattle.ds_layout.specs.declared.place.Place.{Place}
 use Rattle.ds_layout.specs.declared.place.Place.TheVariants.{Head, Mark, Announce}
 use Rattle.ds_layout.specs.declared.announcement.Phase.TheVariants as phase
-use Rattle.ds_state.specs.Edits.{PlainEdit, text_parts}
-use Rattle.ds_state.specs.World.{Edit, edit_of, World, record_place, announcement, last_announcement, phase_among}
+use Rattle.ds_state.specs.Edits.{PlainEditCall, text_parts}
+use Rattle.ds_state.specs.World.{PlainEdit, edit_of, PlainWorld, record_place, announcement, last_announcement, phase_among}
 use Rattle.ds_layout.specs.declared.announcement.Phase.{Phase}
 use Rattle.ds_state.specs.Known.{Known, Announced, last, pending, ended, indexing, word_of, Knowing, IsAnnounced, StandsAs, standing_after}
 use Rattle.ds_state.specs.CallsFit.{EditFits}
@@ -37,15 +37,15 @@ record_announce p n zero = λ same. cc
 record_announce p n (suc k) = λ same. cc
 
 -- a pending announcement tells no Done, and an ended one tells it of its own edit alone
-pub pending_tells : (w : World) (p m n : ℕ) → announcement m phase.Pending ≡ announcement n phase.Done → IsKept w p n
+pub pending_tells : (w : PlainWorld) (p m n : ℕ) → announcement m phase.Pending ≡ announcement n phase.Done → IsKept w p n
 pending_tells w p m n is = absurd (omega arith)
 
-pub ended_tells : (w : World) (e : Edit) (how : Outcome) (n : ℕ) → StandsAs w e (standing_after how) → word_of w e (ended how) ≡ announcement n phase.Done → IsKept w e.process n
+pub ended_tells : (w : PlainWorld) (e : PlainEdit) (how : Outcome) (n : ℕ) → StandsAs w e (standing_after how) → word_of w e (ended how) ≡ announcement n phase.Done → IsKept w e.process n
 ended_tells w e outcome.Done n stands is = record { edit = e; process_is = refl; number_is = omega arith; safe = stands.safe }
 ended_tells w e (outcome.Overtaken noted seen) n stands is = absurd (omega arith)
 
 -- announcements grow
-last_low : (es : List Edit) (p n : ℕ) → last_announcement es p n ≤ announcement n phase.Pending
+last_low : (es : List PlainEdit) (p n : ℕ) → last_announcement es p n ≤ announcement n phase.Pending
 last_low es p zero = omega arith
 last_low es p (suc n) = low (phase_among es p n)
   where
@@ -54,18 +54,18 @@ last_low es p (suc n) = low (phase_among es p n)
     low phase.Done = omega arith
     low phase.NotDone = omega arith
 
-pub last_less : (w : World) (e : PlainEdit) → w.memory.cached (Announce e.process) ≡ word_of w (edit_of e) last → w.memory.cached (Announce e.process) ≤ announcement e.number phase.Pending
+pub last_less : (w : PlainWorld) (e : PlainEditCall) → w.memory.cached (Announce e.process) ≡ word_of w (edit_of e) last → w.memory.cached (Announce e.process) ≤ announcement e.number phase.Pending
 last_less w e is = let l = last_low w.counted e.process e.number in omega arith
 
-pub ended_more : (w : World) (e : Edit) (how : Outcome) → w.memory.cached (Announce e.process) ≡ word_of w e pending → w.memory.cached (Announce e.process) ≤ word_of w e (ended how)
+pub ended_more : (w : PlainWorld) (e : PlainEdit) (how : Outcome) → w.memory.cached (Announce e.process) ≡ word_of w e pending → w.memory.cached (Announce e.process) ≤ word_of w e (ended how)
 ended_more w e outcome.Done is = omega arith
 ended_more w e (outcome.Overtaken a b) is = omega arith
 
 -- on both sides
-pub on_both : (w : World) (e : Edit) (before now : Announced) → IsAnnounced w e before now → w.memory.persisted (Announce e.process) ≡ word_of w e now → IsAnnounced w e now now
+pub on_both : (w : PlainWorld) (e : PlainEdit) (before now : Announced) → IsAnnounced w e before now → w.memory.persisted (Announce e.process) ≡ word_of w e now → IsAnnounced w e now now
 on_both w e before now h is = record { cached = h.cached; persisted = inl is }
 
-module _ (e : PlainEdit) (s : Stage) (word : ℕ) (old new : World) (sound : IsSound old)
+module _ (e : PlainEditCall) (s : Stage) (word : ℕ) (old new : PlainWorld) (sound : IsSound old)
     (at : old.situation e.process ≡ Editing (on e s)) (fits : EditFits old e.process (on e s))
     (t : StepsAt e s word old new) (plain : IsPlainStep e s word) (small : word < 2 ^ 64) (owes : (head : ℕ) → SplitsAt s head → ⊥) (calm : (x : ℕ) → EditOwes old.memory e.process e.cell s x → ⊥) where
   went : new.situation e.process ≡ Editing (on e (next_at e s word))
@@ -96,7 +96,7 @@ module _ (e : PlainEdit) (s : Stage) (word : ℕ) (old new : World) (sound : IsS
       → (new.memory.buffer e.process ≡ old.memory.buffer e.process → Holds_on new e (next_at e s word)) → Keeps e.process old new
   announces k value a knows both advance is tells more m held =
       let place : Place = Announce e.process in
-      let E : Edit = edit_of e in
+      let E : PlainEdit = edit_of e in
       let tn : Turn e.process old new = turn e s word old new t plain.counts in
       let moves : Moves e.process place old new = store_moves e.process old new tn place value (more, le_refl _, inl refl) m in
       let g : Grows e.process place old new = grows_own e.process place old new moves tn.counted in
@@ -126,12 +126,12 @@ module _ (e : PlainEdit) (s : Stage) (word : ℕ) (old new : World) (sound : IsS
       (λ l. fits_next e s word old new t fits plain small (unheld (λ r. m.elsewhere (Mark r) (λ x. cc))) (advance after) (held (m.buffer e.process)))
 
 -- the references that are left, or the head
-pub index_next : (w : World) (e : PlainEdit) (since i : ℕ) → i ≤ length e.refs → Knowing w (edit_of e) e.refs since (indexing (text_parts e.text) i None) → Known_on w e since (index_from e i)
+pub index_next : (w : PlainWorld) (e : PlainEditCall) (since i : ℕ) → i ≤ length e.refs → Knowing w (edit_of e) e.refs since (indexing (text_parts e.text) i None) → Known_on w e since (index_from e i)
 index_next w e since i most h = branches (λ x. Known_on w e since x) (nat_lt i (length e.refs)) (OrIndex i) LoadHead
     (λ b. h)
     (λ b. let l = ltb-false i (length e.refs) b in
     let all : i ≡ length e.refs = omega arith in
     subst (λ (x : ℕ). Knowing w (edit_of e) e.refs since (indexing (text_parts e.text) x None)) all h)
 
-pub index_holds : (w : World) (e : PlainEdit) (i : ℕ) → w.memory.buffer e.process ≡ [] → Holds_on w e (index_from e i)
+pub index_holds : (w : PlainWorld) (e : PlainEditCall) (i : ℕ) → w.memory.buffer e.process ≡ [] → Holds_on w e (index_from e i)
 index_holds w e i h = branches (λ x. Holds_on w e x) (nat_lt i (length e.refs)) (OrIndex i) LoadHead (λ b. h) (λ b. h)

@@ -4,8 +4,8 @@ use Rattle.std.proofs.lemmas.List.Elements.{All-weaker}
 use Rattle.ds_words.specs.Memory.{SameMemory}
 use Rattle.ds_layout.specs.declared.place.Place.TheVariants as place
 use Rattle.ds_layout.specs.declared.announcement.Phase.{Phase}
-use Rattle.ds_state.specs.Edits.{PlainEdit, IsEdit, text_parts}
-use Rattle.ds_state.specs.World.{Edit, edit_of, World, phase_among, last_announcement, announcement}
+use Rattle.ds_state.specs.Edits.{PlainEditCall, IsEdit, text_parts}
+use Rattle.ds_state.specs.World.{PlainEdit, edit_of, PlainWorld, phase_among, last_announcement, announcement}
 use Rattle.ds_state.specs.Known.{AreBelow, Knowing, StandsAs, standing_after, phase_of, word_of, ended, known_at, writing}
 use Rattle.ds_state.specs.CallsFit.{EditFits, IdleFits, CallFits, IsSheetOf, HasRefs, held_at, Holds}
 use Rattle.ds_state.specs.Sound.{IsSound}
@@ -27,24 +27,24 @@ use Rattle.ds_edit.specs.EditTakes.{StepsAt, Begins}
 use Rattle.ds_edit.proofs.Turns.{on, turn}
 
 -- how the edit ended stands in the list
-ended_as : (w : World) (e : Edit) (how : Outcome) → StandsAs w e (standing_after how) → phase_among w.counted e.process e.number ≡ phase_of how
+ended_as : (w : PlainWorld) (e : PlainEdit) (how : Outcome) → StandsAs w e (standing_after how) → phase_among w.counted e.process e.number ≡ phase_of how
 ended_as w e outcome.Done stands = among w.counted e.cell stands.safe.head.before e stands.safe.head.after stands.safe.head.parts
 ended_as w e (outcome.Overtaken noted seen) stands = not_among w.counted e.process e.number stands
 
-ended_below : (w : World) (e : Edit) (how : Outcome) → StandsAs w e (standing_after how) → AreBelow w e.process (e.number + 1)
+ended_below : (w : PlainWorld) (e : PlainEdit) (how : Outcome) → StandsAs w e (standing_after how) → AreBelow w e.process (e.number + 1)
 ended_below w e outcome.Done stands = stands.below
 ended_below w e (outcome.Overtaken noted seen) stands =
-    All-weaker (λ (f : Edit). f.process ≡ e.process → f.number < e.number) (λ (f : Edit). f.process ≡ e.process → f.number < e.number + 1) (λ f h k. let l = h k in omega arith) w.counted stands
+    All-weaker (λ (f : PlainEdit). f.process ≡ e.process → f.number < e.number) (λ (f : PlainEdit). f.process ≡ e.process → f.number < e.number + 1) (λ f h k. let l = h k in omega arith) w.counted stands
 
-last_after : (es : List Edit) (p n : ℕ) (f : Phase) → phase_among es p n ≡ f → last_announcement es p (n + 1) ≡ announcement n f
+last_after : (es : List PlainEdit) (p n : ℕ) (f : Phase) → phase_among es p n ≡ f → last_announcement es p (n + 1) ≡ announcement n f
 last_after es p n f is =
     let more : n + 1 ≡ suc n = omega arith in
     ap (λ (k : ℕ). last_announcement es p k) more ∙ ap (λ x. announcement n x) is
 
-pub step_answer : (e : PlainEdit) (word : ℕ) (old new : World) → IsSound old → (how : Outcome) → old.situation e.process ≡ Editing (on e (Answer how))
+pub step_answer : (e : PlainEditCall) (word : ℕ) (old new : PlainWorld) → IsSound old → (how : Outcome) → old.situation e.process ≡ Editing (on e (Answer how))
     → (fits : EditFits old e.process (on e (Answer how))) → StepsAt e (Answer how) word old new → Keeps e.process old new
 step_answer e word old new sound how at fits t =
-    let E : Edit = edit_of e in
+    let E : PlainEdit = edit_of e in
     let m : SameMemory old.memory new.memory = t.memory.1 in
     let tn : Turn e.process old new = turn e (Answer how) word old new t refl in
     let moves : Moves e.process place.Version old new = same_moves e.process old new tn m in
@@ -68,9 +68,9 @@ step_answer e word old new sound how at fits t =
     }))
 
 -- an edit begins
-pub begin_sound : (e : PlainEdit) (old new : World) → IsSound old → IsEdit e → IsSheetOf old.layout e → HasRefs old.layout.shape e.text e.refs → Begins e old new → Keeps e.process old new
+pub begin_sound : (e : PlainEditCall) (old new : PlainWorld) → IsSound old → IsEdit e → IsSheetOf old.layout e → HasRefs old.layout.shape e.text e.refs → Begins e old new → Keeps e.process old new
 begin_sound e old new sound is sheet refs b =
-    let E : Edit = edit_of e in
+    let E : PlainEdit = edit_of e in
     let tn : Turn e.process old new = record { layout = b.layout; counted = b.counted; situations = b.others; pendings = b.others_open_edits } in
     let moves : Moves e.process place.Version old new = same_moves e.process old new tn b.memory in
     let low : e.process < old.layout.processes = rw sheet.processes is.process in

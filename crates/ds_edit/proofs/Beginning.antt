@@ -12,9 +12,9 @@ use Rattle.ds_formula.proofs.Formed.{read_inside}
 use Rattle.ds_layout.specs.declared.layout.Layout.{Layout}
 use Rattle.ds_layout.specs.Places.{cells_of}
 use Rattle.ds_layout.specs.declared.place.TheConstants.{RECORDS}
-use Rattle.ds_state.specs.Edits.{PlainEdit, IsEdit}
+use Rattle.ds_state.specs.Edits.{PlainEditCall, IsEdit}
 use Rattle.ds_state.specs.Text.{IsText}
-use Rattle.ds_state.specs.World.{Edit, Issue, edit_of, World}
+use Rattle.ds_state.specs.World.{PlainEdit, PlainIssue, edit_of, PlainWorld}
 use Rattle.ds_state.specs.Dones.{HasAnswered}
 use Rattle.ds_state.proofs.Dones.{still_answered}
 use Rattle.ds_state.proofs.Underway.{no_more}
@@ -31,13 +31,13 @@ use Rattle.ds_edit.specs.Begun.{next_of, RefersTo, IsAskedFor, IsIdle, Refuses}
 use Rattle.ds_edit.proofs.Answering.{begin_sound}
 
 -- the world in which the edit is issued
-abbrev pub issued : WorldValue → PlainEdit → WorldValue
+abbrev pub issued : WorldValue → PlainEditCall → WorldValue
 issued v e = record v {
   situations = set v.situations e.process (Editing e);
   open_edits = set v.open_edits e.process (Some (record { edit = edit_of e; since = length v.counted }));
 }
 
-module _ (v : WorldValue) (e : PlainEdit) (room : ℕ) (kept : IsReserved v room) (is : IsEdit e) (sheet : IsSheetOf v.sheet.layout e) (idle : IsIdle (world_of v) e.process e.number) (first : e.stage ≡ StoreHeader) where
+module _ (v : WorldValue) (e : PlainEditCall) (room : ℕ) (kept : IsReserved v room) (is : IsEdit e) (sheet : IsSheetOf v.sheet.layout e) (idle : IsIdle (world_of v) e.process e.number) (first : e.stage ≡ StoreHeader) where
   has_situation : e.process < length v.situations
   has_situation = let s = kept.good.situations in let p = sheet.processes in let l = is.process in omega arith
 
@@ -64,14 +64,14 @@ module _ (v : WorldValue) (e : PlainEdit) (room : ℕ) (kept : IsReserved v room
   was_idle = subst (λ (x : Situation). CallFits (world_of v) e.process x) idle (kept.good.sound.calls e.process low)
 
   -- the edit does not count, so it is none that was answered
-  issued_open : (f : Edit) (issue : Issue) → Contains v.counted f → (world_of (issued v e)).open_edits f.process ≡ Some issue → issue.edit ≡ f → (world_of v).open_edits f.process ≡ Some issue
+  issued_open : (f : PlainEdit) (issue : PlainIssue) → Contains v.counted f → (world_of (issued v e)).open_edits f.process ≡ Some issue → issue.edit ≡ f → (world_of v).open_edits f.process ≡ Some issue
   issued_open f issue there at is = elim (cases_eq f.process e.process) [
     | inl mine ↦ (
         let now : Some issue ≡ Some (record { edit = edit_of e; since = length v.counted }) = sym at ∙ ap (λ q. (world_of (issued v e)).open_edits q) mine ∙ issued_begins.open_edits in
         let one : issue ≡ record { edit = edit_of e; since = length v.counted } = cc in
-        let same : f ≡ edit_of e = sym is ∙ ap (λ (i : Issue). i.edit) one in
-        let l = All-contains (λ (x : Edit). x.process ≡ e.process → x.number < e.number) v.counted f was_idle.below there mine in
-        let k = ap (λ (x : Edit). x.number) same in
+        let same : f ≡ edit_of e = sym is ∙ ap (λ (i : PlainIssue). i.edit) one in
+        let l = All-contains (λ (x : PlainEdit). x.process ≡ e.process → x.number < e.number) v.counted f was_idle.below there mine in
+        let k = ap (λ (x : PlainEdit). x.number) same in
         absurd (omega (arith, l, k)))
     | inr other ↦ sym (issued_begins.others_open_edits f.process other) ∙ at
   ]
@@ -132,7 +132,7 @@ pub situation_at : (v : WorldValue) (process : ℕ) (read : Situation) → IsGoo
 situation_at v process read good low is = get_or_default v.situations process (Idle 0) read (let s = good.situations in omega arith) ∙ sym is
 
 -- why a process in another situation may not begin an edit
-pub refuses_of : (w : World) (process : ℕ) (text : List ℕ) (s : Situation) (r : Refusal) → w.situation process ≡ s → Err r ≡ next_of s → Refuses w process text r
+pub refuses_of : (w : PlainWorld) (process : ℕ) (text : List ℕ) (s : Situation) (r : Refusal) → w.situation process ≡ s → Err r ≡ next_of s → Refuses w process text r
 refuses_of w process text (Idle m) r at is = absurd (cc)
 refuses_of w process text Stopped r at is = rw at (let same : r ≡ refusal.Stopped = cc in same)
 refuses_of w process text (Editing e) r at is = rw at (let same : r ≡ refusal.Busy = cc in same)
@@ -146,7 +146,7 @@ handed_on (Ok x) given P is h = tt
 handed_on (Err x) given P is h = subst P (sym is) h
 
 -- the edit of these parts
-abbrev pub prepared : Layout → ℕ → ℕ → ℕ → List ℕ → List ℕ → ℕ → PlainEdit
+abbrev pub prepared : Layout → ℕ → ℕ → ℕ → List ℕ → List ℕ → ℕ → PlainEditCall
 prepared layout process number cell text refs cells = record {
   process = process;
   number = number;

@@ -4,13 +4,13 @@ use Rattle.std.proofs.lemmas.List.Elements.{All-get_or}
 use Rattle.ds_layout.specs.declared.layout.Layout.{Layout}
 use Rattle.ds_layout.specs.Places.{cells_of, parts_of}
 use Rattle.ds_layout.specs.SheetMemory.{NamesPlace}
-use Rattle.ds_state.specs.Edits.{PlainEdit, IsEdit, IsStage}
+use Rattle.ds_state.specs.Edits.{PlainEditCall, IsEdit, IsStage}
 use Rattle.ds_state.specs.declared.stage.Stage.{Stage}
 use Rattle.ds_state.specs.declared.stage.Stage.TheVariants.{StoreHeader, StoreText, FlushHeader, FlushText, BackRecord, StorePending, FlushPending, BackPending, OrIndex, FlushIndex, BackIndex, LoadHead, FlushNoted, BackNoted, OrDone, FlushDone, BackDone, Swap, FlushOwn, BackOwn, OrMark, FlushMark, BackMark, StoreOutcome, FlushOutcome, BackOutcome, Answer}
 use Rattle.ds_edit.specs.EditSteps.{access_at}
 use Rattle.ds_state.specs.CallsFit.{IsSheetOf}
 
-pub reference_named : (layout : Layout) (e : PlainEdit) (i : ℕ) → IsSheetOf layout e → IsEdit e → i < length e.refs
+pub reference_named : (layout : Layout) (e : PlainEditCall) (i : ℕ) → IsSheetOf layout e → IsEdit e → i < length e.refs
     → (slice_index_or e.refs i 0 < cells_of layout) × (e.cell / 64 < parts_of layout)
 reference_named layout e i s is l =
     let r : slice_index_or e.refs i 0 < e.cells = All-get_or (λ r. r < e.cells) e.refs i 0 l is.refs in
@@ -18,7 +18,7 @@ reference_named layout e i s is l =
     let k = s.cells in
     (omega arith, omega arith)
 
-named : (layout : Layout) (e : PlainEdit) → IsSheetOf layout e → IsEdit e → (stage : Stage) → IsStage e stage → NamesPlace layout (access_at e stage)
+named : (layout : Layout) (e : PlainEditCall) → IsSheetOf layout e → IsEdit e → (stage : Stage) → IsStage e stage → NamesPlace layout (access_at e stage)
 named layout e s is StoreHeader h = (rw s.processes is.process, is.number)
 named layout e s is (StoreText part) h = let t = is.text.short in (rw s.processes is.process, is.number, omega arith)
 named layout e s is FlushHeader h = (rw s.processes is.process, is.number)
@@ -47,5 +47,5 @@ named layout e s is (FlushOutcome how) h = rw s.processes is.process
 named layout e s is (BackOutcome how) h = tt
 named layout e s is (Answer how) h = tt
 
-pub each_named : (layout : Layout) (e : PlainEdit) → IsSheetOf layout e → IsEdit e → NamesPlace layout (access_at e e.stage)
+pub each_named : (layout : Layout) (e : PlainEditCall) → IsSheetOf layout e → IsEdit e → NamesPlace layout (access_at e e.stage)
 each_named layout e s is = named layout e s is e.stage is.stage

@@ -10,8 +10,8 @@ use Rattle.ds_layout.specs.declared.head.Head.{Head}
 use Rattle.ds_layout.specs.Head.{head_word, head_of}
 use Rattle.ds_layout.specs.Bits.{HasBit, IsSubset, bit_of}
 use Rattle.ds_layout.proofs.OrBits.{HasBit-or_bit, HasBit-subset, IsSubset-same, IsSubset-or_left, IsSubset-or_right}
-use Rattle.ds_state.specs.Edits.{PlainEdit, text_parts}
-use Rattle.ds_state.specs.World.{Edit, edit_of, World, record_place, done_place, of_cell, of_cell_when, head_after_all, IsHeadBy}
+use Rattle.ds_state.specs.Edits.{PlainEditCall, text_parts}
+use Rattle.ds_state.specs.World.{PlainEdit, edit_of, PlainWorld, record_place, done_place, of_cell, of_cell_when, head_after_all, IsHeadBy}
 use Rattle.ds_state.specs.Known.{placing, outside, nothing, head_noted, head_back, bit_set, bit_back, Knowing, Knows, IsWhen, IsNoted, IsHelped, IsLate, IsDone}
 use Rattle.ds_state.specs.CallsFit.{HasOne, IsHeadFrom, IsBits, EditFits}
 use Rattle.ds_state.specs.WordsFit.{IsKept}
@@ -35,12 +35,12 @@ record_no_done : (p n q part k : ℕ) → record_place p n k ≢ place.Done q pa
 record_no_done p n q part zero = λ same. cc
 record_no_done p n q part (suc k) = λ same. cc
 
-no_head : (xs : List Edit) → xs ≡ [] → head_after_all xs ≡ 0
+no_head : (xs : List PlainEdit) → xs ≡ [] → head_after_all xs ≡ 0
 unfolding head_after_all
 no_head xs none = ap head_after_all none
 
 -- what else is known stays, where more is known of the head
-pub knows_head : (w : World) (e : PlainEdit) (since : ℕ) (k h : _) → Knowing w (edit_of e) e.refs since (placing (text_parts e.text) (length e.refs) outside k) → Knows w (edit_of e) since h
+pub knows_head : (w : PlainWorld) (e : PlainEditCall) (since : ℕ) (k h : _) → Knowing w (edit_of e) e.refs since (placing (text_parts e.text) (length e.refs) outside k) → Knows w (edit_of e) since h
     → Knowing w (edit_of e) e.refs since (placing (text_parts e.text) (length e.refs) outside h)
 knows_head w e since k h known now = record {
   standing = known.standing;
@@ -52,9 +52,9 @@ knows_head w e since k h known now = record {
 }
 
 -- a head of the cell, the noted one or a later one
-pub head_now : (w : World) → IsSound w → (e : Edit) (least : ℕ) (by : Edit) → IsHeadBy (of_cell e.cell w.counted) least by → IsHeadFrom w e.cell least (w.memory.cached (place.Head e.cell))
+pub head_now : (w : PlainWorld) → IsSound w → (e : PlainEdit) (least : ℕ) (by : PlainEdit) → IsHeadBy (of_cell e.cell w.counted) least by → IsHeadFrom w e.cell least (w.memory.cached (place.Head e.cell))
 head_now w sound e least by h =
-    let es : List Edit = of_cell e.cell w.counted in
+    let es : List PlainEdit = of_cell e.cell w.counted in
     let fits = (sound.words (place.Head e.cell)).last in
     let most = by_most es least by (small_of_cell e.cell w.counted (small_counted w sound.of_sheet)) h in
     elim (last_cases es) [
@@ -65,18 +65,18 @@ head_now w sound e least by h =
         enough = omega arith;
         by = found.1;
         head = subst (λ (word : ℕ). IsHeadBy es word found.1) (sym fits)
-            (subst (λ (xs : List Edit). IsHeadBy xs (head_after_all xs) found.1) (sym found.2) (by_last found.0 found.1));
+            (subst (λ (xs : List PlainEdit). IsHeadBy xs (head_after_all xs) found.1) (sym found.2) (by_last found.0 found.1));
       }
     ]
 
-ends : (xs : List Edit) (word : ℕ) (before : List Edit) (by : Edit) → xs ≡ before ++ by ∷ [] → word ≡ head_after_all xs → IsHeadBy xs word by
+ends : (xs : List PlainEdit) (word : ℕ) (before : List PlainEdit) (by : PlainEdit) → xs ≡ before ++ by ∷ [] → word ≡ head_after_all xs → IsHeadBy xs word by
 ends xs word before by parts is = record { before = before; after = []; parts = parts; is = is ∙ ap head_after_all parts ∙ head_push before by }
 
-module _ (e : PlainEdit) (word : ℕ) (old new : World) (sound : IsSound old) where
-  abbrev E : Edit
+module _ (e : PlainEditCall) (word : ℕ) (old new : PlainWorld) (sound : IsSound old) where
+  abbrev E : PlainEdit
   E = edit_of e
 
-  abbrev es : List Edit
+  abbrev es : List PlainEdit
   es = of_cell e.cell old.counted
 
   cached_is : old.memory.cached (place.Head e.cell) ≡ head_after_all es
@@ -151,7 +151,7 @@ module _ (e : PlainEdit) (word : ℕ) (old new : World) (sound : IsSound old) wh
         is = record {
           enough = from.enough;
           by = from.by;
-          head = subst (λ (xs : List Edit). IsHeadBy (of_cell e.cell xs) (old.memory.cached (place.Head e.cell)) from.by) (sym counted) from.head;
+          head = subst (λ (xs : List PlainEdit). IsHeadBy (of_cell e.cell xs) (old.memory.cached (place.Head e.cell)) from.by) (sym counted) from.head;
         };
       })
 
@@ -217,7 +217,7 @@ module _ (e : PlainEdit) (word : ℕ) (old new : World) (sound : IsSound old) wh
         done = λ before by parts. (
             let same : by ≡ noted.by = last_same noted.before noted.by before by (sym noted.parts ∙ parts) in
             let its : IsDone new noted.by.process noted.by.number = subst (λ (n : ℕ). IsDone new noted.by.process n) noted.number (subst (λ (p : ℕ). IsDone new p head.number) noted.process has) in
-            subst (λ (x : Edit). IsDone new x.process x.number) (sym same) its);
+            subst (λ (x : PlainEdit). IsDone new x.process x.number) (sym same) its);
       }))
       (λ empty. empty)
 
@@ -234,12 +234,12 @@ module _ (e : PlainEdit) (word : ℕ) (old new : World) (sound : IsSound old) wh
       let h : IsHelped new E fits.since noted = known.head in
       let now : word ≡ head_after_all (of_cell e.cell new.counted) = seen ∙ cached_is ∙ ap (λ xs. head_after_all (of_cell e.cell xs)) (sym counted) in
       let rest = when_rest new e.cell h.count in
-      let small : Small (of_cell e.cell new.counted) = subst (λ (xs : List Edit). Small (of_cell e.cell xs)) (sym counted) small_es in
-      let le = when_most (of_cell_when new e.cell h.count) _ (subst (λ (xs : List Edit). Small xs) rest small) in
+      let small : Small (of_cell e.cell new.counted) = subst (λ (xs : List PlainEdit). Small (of_cell e.cell xs)) (sym counted) small_es in
+      let le = when_most (of_cell_when new e.cell h.count) _ (subst (λ (xs : List PlainEdit). Small xs) rest small) in
       let all = ap head_after_all rest in
       let is = h.is in
       let greater : noted < word = omega arith in
-      let last : (before : List Edit) × (by : Edit) × (of_cell e.cell new.counted ≡ before ++ by ∷ []) = elim (last_cases (of_cell e.cell new.counted)) [
+      let last : (before : List PlainEdit) × (by : PlainEdit) × (of_cell e.cell new.counted ≡ before ++ by ∷ []) = elim (last_cases (of_cell e.cell new.counted)) [
         | inl none ↦ absurd (let z = no_head (of_cell e.cell new.counted) none in omega arith)
         | inr found ↦ found
       ] in

@@ -10,8 +10,8 @@ use Rattle.ds_layout.specs.declared.place.Place.TheVariants as place
 use Rattle.ds_layout.specs.declared.layout.Layout.{Layout}
 use Rattle.ds_layout.specs.Places.{IsPlace}
 use Rattle.ds_layout.specs.SheetMemory.{CanPerform, HasBuffer, HasEntry}
-use Rattle.ds_state.specs.Edits.{PlainEdit, text_parts}
-use Rattle.ds_state.specs.World.{edit_of, World, record_place, index_place, done_place}
+use Rattle.ds_state.specs.Edits.{PlainEditCall, text_parts}
+use Rattle.ds_state.specs.World.{edit_of, PlainWorld, record_place, index_place, done_place}
 use Rattle.ds_state.specs.Known.{word_of, pending, ended}
 use Rattle.ds_state.specs.Owing.{entry}
 use Rattle.ds_state.specs.CallsFit.{EditFits, CallFits, record_entry}
@@ -28,7 +28,7 @@ record_is_place : (layout : Layout) (p n k : ℕ) → p < layout.processes → n
 record_is_place layout p n zero a b c = (a, b)
 record_is_place layout p n (suc k) a b c = (a, b, omega arith)
 
-module _ (e : PlainEdit) (w : World) (low : e.process < w.layout.processes) where
+module _ (e : PlainEditCall) (w : PlainWorld) (low : e.process < w.layout.processes) where
   room : w.memory.buffer e.process ≡ [] → (e.process < w.layout.processes) × (length (w.memory.buffer e.process) < BUFFER_ENTRIES)
   room none = (low, rw none (omega arith))
 
@@ -80,7 +80,7 @@ module _ (e : PlainEdit) (w : World) (low : e.process < w.layout.processes) wher
   buffered (BackOutcome how) f = one (place.Announce e.process) (word_of w (edit_of e) (ended how)) f.buffer low
   buffered (Answer how) f = tt
 
-pub can_perform : (e : PlainEdit) (w : World) → IsSound w → e.process < w.layout.processes → w.situation e.process ≡ Editing e → CanPerform w.layout w.memory e.process (access_at e e.stage)
+pub can_perform : (e : PlainEditCall) (w : PlainWorld) → IsSound w → e.process < w.layout.processes → w.situation e.process ≡ Editing e → CanPerform w.layout w.memory e.process (access_at e e.stage)
 can_perform e w sound low at =
     let fits : EditFits w e.process e = subst (λ (x : Situation). CallFits w e.process x) at (sound.calls e.process low) in
     (named.each_named w.layout e fits.sheet fits.is, buffered e w low e.stage fits)

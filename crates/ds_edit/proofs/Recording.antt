@@ -8,8 +8,8 @@ use Rattle.ds_words.specs.Memory.{Memory, StoresAt, FlushesAt, WritesBack, newer
 use Rattle.ds_layout.specs.Places.{class_of}
 use Rattle.ds_layout.specs.declared.place.Place.{Place}
 use Rattle.ds_layout.specs.declared.place.Place.TheVariants.{Version, Head, Mark, Announce}
-use Rattle.ds_state.specs.Edits.{PlainEdit, text_parts}
-use Rattle.ds_state.specs.World.{Edit, edit_of, World, record_place, record_word}
+use Rattle.ds_state.specs.Edits.{PlainEditCall, text_parts}
+use Rattle.ds_state.specs.World.{PlainEdit, edit_of, PlainWorld, record_place, record_word}
 use Rattle.ds_state.specs.Known.{writing, outside, last, AreBelow, Knowing}
 use Rattle.ds_state.specs.CallsFit.{record_words, record_entry, Holds, EditFits}
 use Rattle.std.specs.Prelude.{Contains}
@@ -59,15 +59,15 @@ no_head p n zero cell = λ same. cc
 no_head p n (suc k) cell = λ same. cc
 
 -- the record of an edit that does not count
-unrecorded : (w : World) (p n k c v : ℕ) → AreBelow w p n → WordFits w (record_place p n k) c v
-unrecorded w p n zero c v below = λ f there i j l. let h = All-contains (λ (f : Edit). f.process ≡ p → f.number < n) w.counted f below there i in absurd (omega arith)
-unrecorded w p n (suc k) c v below = λ f there i j l. let h = All-contains (λ (f : Edit). f.process ≡ p → f.number < n) w.counted f below there i in absurd (omega arith)
+unrecorded : (w : PlainWorld) (p n k c v : ℕ) → AreBelow w p n → WordFits w (record_place p n k) c v
+unrecorded w p n zero c v below = λ f there i j l. let h = All-contains (λ (f : PlainEdit). f.process ≡ p → f.number < n) w.counted f below there i in absurd (omega arith)
+unrecorded w p n (suc k) c v below = λ f there i j l. let h = All-contains (λ (f : PlainEdit). f.process ≡ p → f.number < n) w.counted f below there i in absurd (omega arith)
 
 owned_class : (p n k v value : ℕ) → newer (class_of (record_place p n k)) v value ≡ value
 owned_class p n zero v value = refl
 owned_class p n (suc k) v value = refl
 
-module _ (e : PlainEdit) (s : Stage) (word : ℕ) (old new : World) (sound : IsSound old)
+module _ (e : PlainEditCall) (s : Stage) (word : ℕ) (old new : PlainWorld) (sound : IsSound old)
     (at : old.situation e.process ≡ Editing (on e s)) (fits : EditFits old e.process (on e s))
     (t : StepsAt e s word old new) (plain : IsPlainStep e s word) (none : word ≡ 0) (owes : (head : ℕ) → SplitsAt s head → ⊥) (calm : (x : ℕ) → EditOwes old.memory e.process e.cell s x → ⊥) where
   went : new.situation e.process ≡ Editing (on e (next_at e s word))
@@ -136,7 +136,7 @@ module _ (e : PlainEdit) (s : Stage) (word : ℕ) (old new : World) (sound : IsS
       → Keeps e.process old new
   flushes k k' same most next knows holds m =
       let place : Place = record_place e.process e.number k in
-      let E : Edit = edit_of e in
+      let E : PlainEdit = edit_of e in
       let tn : Turn e.process old new = turn e s word old new t plain.counts in
       let moves : Moves e.process Version old new = flush_moves e.process old new tn place (class_of place) m in
       let g : Grows e.process Version old new = grows_own e.process Version old new moves tn.counted in
@@ -171,7 +171,7 @@ module _ (e : PlainEdit) (s : Stage) (word : ℕ) (old new : World) (sound : IsS
   backs left k most is next knows holds m =
       let parts : ℕ = text_parts e.text in
       let place : Place = record_place e.process e.number k in
-      let E : Edit = edit_of e in
+      let E : PlainEdit = edit_of e in
       let tn : Turn e.process old new = turn e s word old new t plain.counts in
       let value : ℕ = record_word E k in
       let there : old.memory.cached place ≡ value = knows.recorded.cached k (omega arith) in

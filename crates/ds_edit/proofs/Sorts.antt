@@ -5,8 +5,8 @@ use Rattle.ds_words.specs.Memory.{SameMemory, OrsAt, FlushesAt, WritesBack, Back
 use Rattle.ds_layout.specs.Places.{class_of}
 use Rattle.ds_layout.specs.declared.place.Place.{Place}
 use Rattle.ds_layout.specs.declared.place.Place.TheVariants.{Version, Announce, Head, Mark}
-use Rattle.ds_state.specs.Edits.{PlainEdit, text_parts}
-use Rattle.ds_state.specs.World.{edit_of, World, record_place}
+use Rattle.ds_state.specs.Edits.{PlainEditCall, text_parts}
+use Rattle.ds_state.specs.World.{edit_of, PlainWorld, record_place}
 use Rattle.ds_state.specs.Known.{known_at}
 use Rattle.ds_words.specs.declared.access.Entry.{Entry}
 use Rattle.std.specs.Prelude.{Contains}
@@ -35,7 +35,7 @@ use Rattle.ds_edit.specs.EditSteps.{next_at}
 use Rattle.ds_edit.specs.EditTakes.{StepsAt}
 use Rattle.ds_edit.proofs.Turns.{on, Known_on, Holds_on, IsPlainStep, turn, goes, stays_open, fits_next, back_first}
 
-module _ (e : PlainEdit) (s : Stage) (word : ℕ) (old new : World) (sound : IsSound old)
+module _ (e : PlainEditCall) (s : Stage) (word : ℕ) (old new : PlainWorld) (sound : IsSound old)
     (at : old.situation e.process ≡ Editing (on e s)) (fits : EditFits old e.process (on e s))
     (t : StepsAt e s word old new) (plain : IsPlainStep e s word) (small : word < 2 ^ 64)
     (splits : (head : ℕ) → SplitsAt s head → SplitsAt (next_at e s word) head)

@@ -9,8 +9,8 @@ use Rattle.ds_layout.specs.declared.place.Place.{Place}
 use Rattle.ds_layout.specs.declared.place.Place.TheVariants as place
 use Rattle.ds_layout.specs.Bits.{IsSubset, bit_of}
 use Rattle.ds_layout.proofs.OrBits.{HasBit-or_bit, HasBit-subset, IsSubset-same, IsSubset-or_left, IsSubset-or_right}
-use Rattle.ds_state.specs.Edits.{PlainEdit, text_parts}
-use Rattle.ds_state.specs.World.{Edit, edit_of, World, record_place, index_place}
+use Rattle.ds_state.specs.Edits.{PlainEditCall, text_parts}
+use Rattle.ds_state.specs.World.{PlainEdit, edit_of, PlainWorld, record_place, index_place}
 use Rattle.ds_state.specs.Known.{ended, pending, word_of, known_at}
 use Rattle.ds_state.specs.Owing.{entry}
 use Rattle.ds_state.specs.CallsFit.{record_entry, HasOne, IsBits, EditFits, CallFits}
@@ -36,8 +36,8 @@ record_no_row : (p n row part k : ℕ) → record_place p n k ≢ place.Index ro
 record_no_row p n row part zero = λ same. cc
 record_no_row p n row part (suc k) = λ same. cc
 
-module _ (e : PlainEdit) (word : ℕ) (old new : World) (sound : IsSound old) where
-  abbrev E : Edit
+module _ (e : PlainEditCall) (word : ℕ) (old new : PlainWorld) (sound : IsSound old) where
+  abbrev E : PlainEdit
   E = edit_of e
 
   abbrev AtStage : Stage → Type 0
@@ -221,6 +221,6 @@ module _ (e : PlainEdit) (word : ℕ) (old new : World) (sound : IsSound old) wh
   any_stage (Answer how) = step_answer e word old new sound how
 
 -- any step of an edit
-pub step_sound : (e : PlainEdit) (word : ℕ) (old new : World) → IsSound old → e.process < old.layout.processes → old.situation e.process ≡ Editing e → Steps e word old new → Keeps e.process old new
+pub step_sound : (e : PlainEditCall) (word : ℕ) (old new : PlainWorld) → IsSound old → e.process < old.layout.processes → old.situation e.process ≡ Editing e → Steps e word old new → Keeps e.process old new
 step_sound e word old new sound low at t =
     any_stage e word old new sound e.stage at (subst (λ (x : Situation). CallFits old e.process x) at (sound.calls e.process low)) t

@@ -5,7 +5,7 @@ use Rattle.std.specs.Prelude.{if◌then◌else◌}
 use Rattle.ds_layout.specs.declared.head.Head.{Head}
 use Rattle.ds_layout.specs.Head.{head_of}
 use Rattle.ds_layout.proofs.Packed.{IsHead-head_of}
-use Rattle.ds_state.specs.Edits.{PlainEdit, text_parts, IsStage, IsEdit}
+use Rattle.ds_state.specs.Edits.{PlainEditCall, text_parts, IsStage, IsEdit}
 use Rattle.ds_state.specs.declared.stage.Stage.{Stage}
 use Rattle.ds_state.specs.declared.stage.Stage.TheVariants.{StoreHeader, StoreText, FlushHeader, FlushText, BackRecord, StorePending, FlushPending, BackPending, OrIndex, FlushIndex, BackIndex, LoadHead, FlushNoted, BackNoted, OrDone, FlushDone, BackDone, Swap, FlushOwn, BackOwn, OrMark, FlushMark, BackMark, StoreOutcome, FlushOutcome, BackOutcome, Answer}
 use Rattle.ds_edit.specs.EditSteps.{next_at, got_at, help_from, rank, Falls}
@@ -19,7 +19,7 @@ pub helped : (P : Stage → Type 0) (noted : ℕ) (found : Option Head) → P (S
 helped P noted None h k = h
 helped P noted (Some head) h k = k head refl
 
-pub stays : (e : PlainEdit) (stage : Stage) (word : ℕ) → word < 2 ^ 64 → IsStage e stage → IsStage e (next_at e stage word)
+pub stays : (e : PlainEditCall) (stage : Stage) (word : ℕ) → word < 2 ^ 64 → IsStage e stage → IsStage e (next_at e stage word)
 stays e StoreHeader word w s = branches (IsStage e) (nat_lt 0 (text_parts e.text)) _ _ (λ b. ltb-true 0 (text_parts e.text) b) (λ b. tt)
 stays e (StoreText part) word w s = branches (IsStage e) (nat_lt (part + 1) (text_parts e.text)) _ _ (λ b. ltb-true (part + 1) (text_parts e.text) b) (λ b. tt)
 stays e FlushHeader word w s = branches (IsStage e) (nat_lt 0 (text_parts e.text)) _ _ (λ b. ltb-true 0 (text_parts e.text) b) (λ b. omega arith)
@@ -49,7 +49,7 @@ stays e (BackOutcome how) word w s = tt
 stays e (Answer how) word w s = tt
 
 -- a step goes on within the edit
-pub got_stays : (e : PlainEdit) (word : ℕ) → word < 2 ^ 64 → IsEdit e → IsEdit (got_at e word)
+pub got_stays : (e : PlainEditCall) (word : ℕ) → word < 2 ^ 64 → IsEdit e → IsEdit (got_at e word)
 got_stays e word w is = record {
   process = is.process;
   processes = is.processes;
@@ -62,10 +62,10 @@ got_stays e word w is = record {
 }
 
 -- the rank falls
-below : (e : PlainEdit) (most : ℕ) (b : Bool) (x y : Stage) → (b ≡ true → rank e x < most) → (b ≡ false → rank e y < most) → rank e (if b then x else y) < most
+below : (e : PlainEditCall) (most : ℕ) (b : Bool) (x y : Stage) → (b ≡ true → rank e x < most) → (b ≡ false → rank e y < most) → rank e (if b then x else y) < most
 below e most b x y h k = branches (λ s. rank e s < most) b x y h k
 
-pub falls : (e : PlainEdit) (stage : Stage) (word : ℕ) → IsStage e stage → Falls e stage (next_at e stage word)
+pub falls : (e : PlainEditCall) (stage : Stage) (word : ℕ) → IsStage e stage → Falls e stage (next_at e stage word)
 falls e StoreHeader word s = below e (rank e StoreHeader) (nat_lt 0 (text_parts e.text)) _ _ (λ b. omega arith) (λ b. omega arith)
 falls e (StoreText part) word s = below e (rank e (StoreText part)) (nat_lt (part + 1) (text_parts e.text)) _ _ (λ b. let l : part + 1 < text_parts e.text = ltb-true (part + 1) (text_parts e.text) b in omega arith) (λ b. omega arith)
 falls e FlushHeader word s = below e (rank e FlushHeader) (nat_lt 0 (text_parts e.text)) _ _ (λ b. omega arith) (λ b. omega arith)
@@ -95,7 +95,7 @@ falls e (BackOutcome how) word s = omega arith
 falls e (Answer how) word s = tt
 
 -- and is small at first
-pub few : (e : PlainEdit) → length e.text ≤ 120 → (stage : Stage) → IsStage e stage → rank e stage ≤ 67 + 3 * length e.refs
+pub few : (e : PlainEditCall) → length e.text ≤ 120 → (stage : Stage) → IsStage e stage → rank e stage ≤ 67 + 3 * length e.refs
 few e t StoreHeader s = omega arith
 few e t (StoreText part) s = omega arith
 few e t FlushHeader s = omega arith
@@ -125,7 +125,7 @@ few e t (BackOutcome how) s = omega arith
 few e t (Answer how) s = omega arith
 
 -- and at least one step is left
-some : (e : PlainEdit) → (stage : Stage) → IsStage e stage → 0 < rank e stage
+some : (e : PlainEditCall) → (stage : Stage) → IsStage e stage → 0 < rank e stage
 some e StoreHeader s = omega arith
 some e (StoreText part) s = omega arith
 some e FlushHeader s = omega arith
@@ -155,11 +155,11 @@ some e (BackOutcome how) s = omega arith
 some e (Answer how) s = omega arith
 
 -- for an edit of a sheet
-pub each_falls : (e : PlainEdit) (word : ℕ) → IsEdit e → Falls e e.stage (next_at e e.stage word)
+pub each_falls : (e : PlainEditCall) (word : ℕ) → IsEdit e → Falls e e.stage (next_at e e.stage word)
 each_falls e word is = falls e e.stage word is.stage
 
-pub each_few : (e : PlainEdit) → IsEdit e → rank e e.stage ≤ 67 + 3 * length e.refs
+pub each_few : (e : PlainEditCall) → IsEdit e → rank e e.stage ≤ 67 + 3 * length e.refs
 each_few e is = few e is.text.short e.stage is.stage
 
-pub each_some : (e : PlainEdit) → IsEdit e → 0 < rank e e.stage
+pub each_some : (e : PlainEditCall) → IsEdit e → 0 < rank e e.stage
 each_some e is = some e e.stage is.stage

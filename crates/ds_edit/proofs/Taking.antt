@@ -12,8 +12,8 @@ use Rattle.ds_layout.specs.declared.place.Place.TheVariants as place
 use Rattle.ds_layout.specs.declared.mark.TheConstants.{DIRTY}
 use Rattle.ds_layout.specs.Head.{head_word}
 use Rattle.ds_layout.specs.Bits.{HasBit}
-use Rattle.ds_state.specs.Edits.{PlainEdit, text_parts}
-use Rattle.ds_state.specs.World.{Edit, edit_of, Issue, World, record_place, index_place, of_cell, of_cell_when, head_after_all, IsHeadBy}
+use Rattle.ds_state.specs.Edits.{PlainEditCall, text_parts}
+use Rattle.ds_state.specs.World.{PlainEdit, edit_of, PlainIssue, PlainWorld, record_place, index_place, of_cell, of_cell_when, head_after_all, IsHeadBy}
 use Rattle.ds_state.specs.Known.{placing, inside, nothing, AreBelow, IsIn, IsHelped, row_of}
 use Rattle.ds_state.specs.Owing.{entry}
 use Rattle.ds_state.specs.CallsFit.{HasOne, IsHeadFrom, EditFits, HasRefs}
@@ -54,11 +54,11 @@ record_no_mark : (p n cell k : ℕ) → record_place p n k ≢ place.Mark cell
 record_no_mark p n cell zero = λ same. cc
 record_no_mark p n cell (suc k) = λ same. cc
 
-module _ (e : PlainEdit) (word : ℕ) (old new : World) (sound : IsSound old) where
-  abbrev E : Edit
+module _ (e : PlainEditCall) (word : ℕ) (old new : PlainWorld) (sound : IsSound old) where
+  abbrev E : PlainEdit
   E = edit_of e
 
-  abbrev es : List Edit
+  abbrev es : List PlainEdit
   es = of_cell e.cell old.counted
 
   cached_is : old.memory.cached (place.Head e.cell) ≡ head_after_all es
@@ -83,7 +83,7 @@ module _ (e : PlainEdit) (word : ℕ) (old new : World) (sound : IsSound old) wh
     all_then : es ≡ of_cell_when old e.cell helped.count
     all_then =
         let rest = when_rest old e.cell helped.count in
-        rest ∙ when_same (of_cell_when old e.cell helped.count) _ (subst (λ (xs : List Edit). Small xs) rest small_es) (sym helped.is ∙ is ∙ ap head_after_all rest)
+        rest ∙ when_same (of_cell_when old e.cell helped.count) _ (subst (λ (xs : List PlainEdit). Small xs) rest small_es) (sym helped.is ∙ is ∙ ap head_after_all rest)
 
     -- both sides of the index rows of its references
     found : (row : ℕ) → RefersTo old.layout.shape e.text row → HasBit (old.memory.cached (index_place row e.cell)) e.cell × HasBit (old.memory.persisted (index_place row e.cell)) e.cell
@@ -137,7 +137,7 @@ module _ (e : PlainEdit) (word : ℕ) (old new : World) (sound : IsSound old) wh
         let there : new.situation e.process ≡ Editing (on e (FlushOwn own)) = t.situation ∙ rw b refl in
         let mine : of_cell e.cell new.counted ≡ es ++ E ∷ [] = ap (λ xs. of_cell e.cell xs) counted ∙ of_cell-append e.cell old.counted (E ∷ []) ∙ ap (λ xs. es ++ xs) (of_cell-own E) in
         let own_is : own ≡ head_after_all (of_cell e.cell new.counted) = next_head noted is ∙ ap head_after_all (sym mine) in
-        let issue : Issue = record { edit = E; since = fits.since } in
+        let issue : PlainIssue = record { edit = E; since = fits.since } in
         let pends : new.open_edits e.process ≡ Some issue = t.open_edits ∙ fits.open_edits in
         let counts : Counts E issue old new = record {
           layout = t.layout;
@@ -149,14 +149,14 @@ module _ (e : PlainEdit) (word : ℕ) (old new : World) (sound : IsSound old) wh
           same = refl;
           owes = subst (λ (s : Situation). Splits new e.process s e.cell (head_after_all (of_cell e.cell new.counted))) (sym there) (refl, own_is);
         } in
-        let below : AreBelow new e.process (e.number + 1) = subst (λ (xs : List Edit). All (λ f. f.process ≡ e.process → f.number < e.number + 1) xs) (sym counted)
-        (All-push (λ (f : Edit). f.process ≡ e.process → f.number < e.number + 1) old.counted E
-        (All-weaker (λ (f : Edit). f.process ≡ e.process → f.number < e.number) (λ (f : Edit). f.process ≡ e.process → f.number < e.number + 1) (λ f h k. let l = h k in omega arith) old.counted fits.knows.standing)
+        let below : AreBelow new e.process (e.number + 1) = subst (λ (xs : List PlainEdit). All (λ f. f.process ≡ e.process → f.number < e.number + 1) xs) (sym counted)
+        (All-push (λ (f : PlainEdit). f.process ≡ e.process → f.number < e.number + 1) old.counted E
+        (All-weaker (λ (f : PlainEdit). f.process ≡ e.process → f.number < e.number) (λ (f : PlainEdit). f.process ≡ e.process → f.number < e.number + 1) (λ f h k. let l = h k in omega arith) old.counted fits.knows.standing)
         (λ k. omega arith)) in
         let knows : Known_on new e fits.since (FlushOwn own) = record {
           standing = record {
             below = below;
-            head = subst (λ (xs : List Edit). IsHeadBy xs own E) (sym mine) (subst (λ (x : ℕ). IsHeadBy (es ++ E ∷ []) x E) (sym (next_head noted is)) (by_last es E));
+            head = subst (λ (xs : List PlainEdit). IsHeadBy xs own E) (sym mine) (subst (λ (x : ℕ). IsHeadBy (es ++ E ∷ []) x E) (sym (next_head noted is)) (by_last es E));
           };
           recorded = record {
             cached = λ k l. m.elsewhere (record_place e.process e.number k) (record_no_head e.process e.number e.cell k) ∙ fits.knows.recorded.cached k l;
@@ -210,7 +210,7 @@ module _ (e : PlainEdit) (word : ℕ) (old new : World) (sound : IsSound old) wh
         is = record {
           enough = from.enough;
           by = from.by;
-          head = subst (λ (xs : List Edit). IsHeadBy (of_cell e.cell xs) (old.memory.cached (place.Head e.cell)) from.by) (sym counted) from.head;
+          head = subst (λ (xs : List PlainEdit). IsHeadBy (of_cell e.cell xs) (old.memory.cached (place.Head e.cell)) from.by) (sym counted) from.head;
         };
       })
 
@@ -322,7 +322,7 @@ module _ (e : PlainEdit) (word : ℕ) (old new : World) (sound : IsSound old) wh
                 issue = w.issue;
                 open_edits = t.others_open_edits w.last.process other ∙ w.open_edits;
                 same = w.same;
-                owes = subst (λ (xs : List Edit). Splits new w.last.process (new.situation w.last.process) w.last.cell (head_after_all (of_cell e.cell xs))) (sym tn.counted) (others_split moves t.others w.last.process other w.last.cell _ w.owes);
+                owes = subst (λ (xs : List PlainEdit). Splits new w.last.process (new.situation w.last.process) w.last.cell (head_after_all (of_cell e.cell xs))) (sym tn.counted) (others_split moves t.others w.last.process other w.last.cell _ w.owes);
               })
               | inr all ↦ inl (now ∙ all ∙ sym (m.cached there))
             ]

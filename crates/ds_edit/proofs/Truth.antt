@@ -6,8 +6,8 @@ use Rattle.std.proofs.lemmas.List.Elements.{All-contains, Contains-append_right}
 use Rattle.ds_layout.specs.declared.head.Head.{Head}
 use Rattle.ds_layout.specs.Head.{head_of, IsHead}
 use Rattle.ds_layout.proofs.Packed.{head_of-head_word}
-use Rattle.ds_state.specs.Edits.{PlainEdit, text_parts}
-use Rattle.ds_state.specs.World.{Edit, edit_of, World, of_cell, of_cell_when, IsHeadBy}
+use Rattle.ds_state.specs.Edits.{PlainEditCall, text_parts}
+use Rattle.ds_state.specs.World.{PlainEdit, edit_of, PlainWorld, of_cell, of_cell_when, IsHeadBy}
 use Rattle.ds_state.specs.Known.{IsLate, known_at, Knowing}
 use Rattle.ds_state.specs.CallsFit.{EditFits, CallFits}
 use Rattle.ds_state.specs.Sound.{IsSound, IsOfSheet}
@@ -24,8 +24,8 @@ use Rattle.ds_state.proofs.Outcomes.{kept, dropped}
 use Rattle.ds_edit.specs.EditAnswers.{Overtakes, IsTrueOf, IsTrueAnswer}
 
 -- an element of two lists joined is one of the first, or one of the second
-in_either : (xs ys before : List Edit) (e : Edit) (after : List Edit) → xs ++ ys ≡ before ++ e ∷ after
-    → ((rest : List Edit) × (xs ≡ before ++ e ∷ rest)) ⊎ ((front : List Edit) × (ys ≡ front ++ e ∷ after))
+in_either : (xs ys before : List PlainEdit) (e : PlainEdit) (after : List PlainEdit) → xs ++ ys ≡ before ++ e ∷ after
+    → ((rest : List PlainEdit) × (xs ≡ before ++ e ∷ rest)) ⊎ ((front : List PlainEdit) × (ys ≡ front ++ e ∷ after))
 in_either [] ys before e after parts = inr (before, parts)
 in_either (x ∷ xs) ys [] e after parts = inl (xs, let same : x ≡ e = cc in ap (λ z. z ∷ xs) same)
 in_either (x ∷ xs) ys (b ∷ before) e after parts =
@@ -36,54 +36,54 @@ in_either (x ∷ xs) ys (b ∷ before) e after parts =
       | inr h ↦ inr (h.0, h.1)
     ]
 
-contains_at : (before : List Edit) (e : Edit) (after : List Edit) → Contains (before ++ e ∷ after) e
+contains_at : (before : List PlainEdit) (e : PlainEdit) (after : List PlainEdit) → Contains (before ++ e ∷ after) e
 contains_at before e after = Contains-append_right before (e ∷ after) e (zero, omega arith, refl)
 
-contains_more : (x e : Edit) (es : List Edit) → Contains es e → Contains (x ∷ es) e
+contains_more : (x e : PlainEdit) (es : List PlainEdit) → Contains es e → Contains (x ∷ es) e
 contains_more x e es (k, l, is) = (suc k, omega arith, is)
 
-in_front : (x e : Edit) (es fs : List Edit) → (Contains fs e → Contains es e) → Contains (x ∷ fs) e → Contains (x ∷ es) e
+in_front : (x e : PlainEdit) (es fs : List PlainEdit) → (Contains fs e → Contains es e) → Contains (x ∷ fs) e → Contains (x ∷ es) e
 in_front x e es fs again (zero, l, is) = (zero, omega arith, is)
 in_front x e es fs again (suc k, l, is) = contains_more x e es (again (k, omega arith, is))
 
 -- an edit of the cell is one of the list
-from_cell : (cell : ℕ) (es : List Edit) (e : Edit) → Contains (of_cell cell es) e → Contains es e
+from_cell : (cell : ℕ) (es : List PlainEdit) (e : PlainEdit) → Contains (of_cell cell es) e → Contains es e
 unfolding of_cell
 from_cell cell [] e (k, l, is) = absurd (omega arith)
 from_cell cell (x ∷ es) e h = elim (eqb_tells x.cell cell) [
-  | inl its ↦ in_front x e es (of_cell cell es) (λ g. from_cell cell es e g) (subst (λ (xs : List Edit). Contains xs e) (kept cell x es its.0) h)
-  | inr other ↦ contains_more x e es (from_cell cell es e (subst (λ (xs : List Edit). Contains xs e) (dropped cell x es other.0) h))
+  | inl its ↦ in_front x e es (of_cell cell es) (λ g. from_cell cell es e g) (subst (λ (xs : List PlainEdit). Contains xs e) (kept cell x es its.0) h)
+  | inr other ↦ contains_more x e es (from_cell cell es e (subst (λ (xs : List PlainEdit). Contains xs e) (dropped cell x es other.0) h))
 ]
 
 -- what comes late comes later than before
-all_later : (count : ℕ) (es : List Edit) (e : Edit) → Contains (drop count es) e → Contains es e
+all_later : (count : ℕ) (es : List PlainEdit) (e : PlainEdit) → Contains (drop count es) e → Contains es e
 all_later zero es e h = h
 all_later (suc count) [] e h = h
 all_later (suc count) (x ∷ es) e h = contains_more x e es (all_later count es e h)
 
-later : (since count : ℕ) (es : List Edit) (e : Edit) → since ≤ count → Contains (drop count es) e → Contains (drop since es) e
+later : (since count : ℕ) (es : List PlainEdit) (e : PlainEdit) → since ≤ count → Contains (drop count es) e → Contains (drop since es) e
 later zero count es e le h = all_later count es e h
 later (suc since) zero es e le h = absurd (omega arith)
 later (suc since) (suc count) [] e le h = h
 later (suc since) (suc count) (x ∷ es) e le h = later since count es e (omega arith) h
 
-module _ (w : World) (sound : IsSound w) (e : Edit) (since : ℕ) where
+module _ (w : PlainWorld) (sound : IsSound w) (e : PlainEdit) (since : ℕ) where
   small : Small (of_cell e.cell w.counted)
   small = small_of_cell e.cell w.counted (small_counted w sound.of_sheet)
 
   overtakes : (noted seen : ℕ) → IsLate w e since noted seen → Overtakes w e since seen
   overtakes noted seen h =
-      let when : List Edit = of_cell_when w e.cell h.count in
+      let when : List PlainEdit = of_cell_when w e.cell h.count in
       let rest = when_rest w e.cell h.count in
       let at : IsHeadBy (of_cell e.cell w.counted) seen h.by = h.head in
       let after_when : Contains (drop h.count w.counted) h.by = elim (in_either when (of_cell e.cell (drop h.count w.counted)) at.before h.by at.after (sym rest ∙ at.parts)) [
         | inl early ↦ absurd (
-            let le = by_most when seen h.by (small_before when (of_cell e.cell (drop h.count w.counted)) (subst (λ (xs : List Edit). Small xs) rest small))
+            let le = by_most when seen h.by (small_before when (of_cell e.cell (drop h.count w.counted)) (subst (λ (xs : List PlainEdit). Small xs) rest small))
             (record { before = at.before; after = early.0; parts = early.1; is = at.is }) in
             let is = h.is in
             let greater = h.greater in
             omega arith)
-        | inr late ↦ from_cell e.cell (drop h.count w.counted) h.by (subst (λ (xs : List Edit). Contains xs h.by) (sym late.1) (contains_at late.0 h.by at.after))
+        | inr late ↦ from_cell e.cell (drop h.count w.counted) h.by (subst (λ (xs : List PlainEdit). Contains xs h.by) (sym late.1) (contains_at late.0 h.by at.after))
       ] in
       let sheet : IsOfSheet w h.by = of_sheet_middle w sound.of_sheet e.cell at.before h.by at.after at.parts in
       let few = of_cell_few w sound e.cell in
@@ -110,13 +110,13 @@ module _ (w : World) (sound : IsSound w) (e : Edit) (since : ℕ) where
   true_of : (how : Outcome) (refs : List ℕ) (parts count : ℕ) → Knowing w e refs since (known_at parts count (Answer how)) → IsTrueOf w e since how
   true_of outcome.Done refs parts count h =
       let at = h.standing.safe.head in
-      from_cell e.cell w.counted e (subst (λ (xs : List Edit). Contains xs e) (sym at.parts) (contains_at at.before e at.after))
+      from_cell e.cell w.counted e (subst (λ (xs : List PlainEdit). Contains xs e) (sym at.parts) (contains_at at.before e at.after))
   true_of (outcome.Overtaken noted seen) refs parts count h = (
-    (λ there. let l = All-contains (λ (f : Edit). f.process ≡ e.process → f.number < e.number) w.counted e h.standing there refl in omega arith),
+    (λ there. let l = All-contains (λ (f : PlainEdit). f.process ≡ e.process → f.number < e.number) w.counted e h.standing there refl in omega arith),
     overtakes noted seen h.head,
   )
 
-pub answer_true : (e : PlainEdit) (how : Outcome) (w : World) → IsSound w → e.process < w.layout.processes → e.stage ≡ Answer how → w.situation e.process ≡ Editing e → IsTrueAnswer w (edit_of e) how
+pub answer_true : (e : PlainEditCall) (how : Outcome) (w : PlainWorld) → IsSound w → e.process < w.layout.processes → e.stage ≡ Answer how → w.situation e.process ≡ Editing e → IsTrueAnswer w (edit_of e) how
 answer_true e how w sound low first at =
     let fits : EditFits w e.process e = subst (λ (x : Situation). CallFits w e.process x) at (sound.calls e.process low) in
     record {

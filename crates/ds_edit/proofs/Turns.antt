@@ -5,8 +5,8 @@ use Rattle.std.proofs.lemmas.List.{append-nil}
 use Rattle.ds_words.specs.declared.access.Entry.{Entry}
 use Rattle.ds_words.specs.Memory.{Memory, WritesBack, BacksFirst}
 use Rattle.ds_layout.specs.declared.place.Place.{Place}
-use Rattle.ds_state.specs.Edits.{PlainEdit, text_parts}
-use Rattle.ds_state.specs.World.{edit_of, Issue, World}
+use Rattle.ds_state.specs.Edits.{PlainEditCall, text_parts}
+use Rattle.ds_state.specs.World.{edit_of, PlainIssue, PlainWorld}
 use Rattle.ds_state.specs.Known.{known_at, Knowing}
 use Rattle.ds_state.specs.CallsFit.{held_at, Holds, EditFits, CallFits}
 use Rattle.ds_state.specs.Owing.{HoldsNone}
@@ -19,23 +19,23 @@ use Rattle.ds_edit.specs.EditTakes.{StepsAt, counted_at, open_edit_at, after}
 use Rattle.ds_edit.proofs.Stays.{stays}
 
 -- the edit at a stage
-abbrev pub on : PlainEdit → Stage → PlainEdit
+abbrev pub on : PlainEditCall → Stage → PlainEditCall
 on e s = record e { stage = s }
 
 -- what is known of it at a stage, and what its buffer holds
-abbrev pub Known_on : World → PlainEdit → ℕ → Stage → Type 0
+abbrev pub Known_on : PlainWorld → PlainEditCall → ℕ → Stage → Type 0
 Known_on w e since s = Knowing w (edit_of e) e.refs since (known_at (text_parts e.text) (length e.refs) s)
 
-abbrev pub Holds_on : World → PlainEdit → Stage → Type 0
+abbrev pub Holds_on : PlainWorld → PlainEditCall → Stage → Type 0
 Holds_on w e s = Holds w (edit_of e) (held_at (text_parts e.text) e.refs s)
 
 -- a step before the answer, by which nothing comes to count
-pub record IsPlainStep (e : PlainEdit) (s : Stage) (word : ℕ) : Type 0 where
+pub record IsPlainStep (e : PlainEditCall) (s : Stage) (word : ℕ) : Type 0 where
   pub goes_on : after e s word ≡ Editing (on e (next_at e s word))
   pub counts : counted_at (edit_of e) s word ≡ []
-  pub pends : (issue : Option Issue) → open_edit_at issue s ≡ issue
+  pub pends : (issue : Option PlainIssue) → open_edit_at issue s ≡ issue
 
-module _ (e : PlainEdit) (s : Stage) (word : ℕ) (old new : World) (t : StepsAt e s word old new) where
+module _ (e : PlainEditCall) (s : Stage) (word : ℕ) (old new : PlainWorld) (t : StepsAt e s word old new) where
   pub turn : counted_at (edit_of e) s word ≡ [] → Turn e.process old new
   turn none = record {
     layout = t.layout;

@@ -3,13 +3,13 @@ use Rattle.std.specs.Prelude.{ℕ, ◌≡◌, List, map, Result, Ok, Err}
 use Rattle.ds_formula.specs.declared.cells.Shape.{Shape}
 use Rattle.ds_formula.specs.declared.cells.Cell.{Cell}
 use Rattle.ds_formula.specs.Cells.{index_of}
-use Rattle.ds_formula.specs.Plain.{Plain}
+use Rattle.ds_formula.specs.Plain.{PlainContent}
 use Rattle.ds_formula.specs.Refs.{AreRefs}
 use Rattle.ds_formula.specs.Grammar.{Reads, Faults}
 use Rattle.ds_layout.specs.declared.place.TheConstants.{RECORDS}
 use Rattle.ds_layout.specs.declared.layout.Layout.{Layout}
-use Rattle.ds_state.specs.Edits.{PlainEdit, IsEdit}
-use Rattle.ds_state.specs.World.{edit_of, World}
+use Rattle.ds_state.specs.Edits.{PlainEditCall, IsEdit}
+use Rattle.ds_state.specs.World.{edit_of, PlainWorld}
 use Rattle.ds_state.specs.CallsFit.{IsSheetOf, HasRefs}
 use Rattle.ds_state.specs.declared.refusal.Refusal.{Refusal}
 use Rattle.ds_state.specs.declared.refusal.Refusal.TheVariants as refusal
@@ -27,19 +27,19 @@ next_of (Recovering e) = Err refusal.Busy
 next_of (Showing e) = Err refusal.Busy
 
 -- these are the numbers of the cells written in the content, in reading order
-pub record AreNumbers (shape : Shape) (content : Plain) (refs : List ℕ) : Type 0 where
+pub record AreNumbers (shape : Shape) (content : PlainContent) (refs : List ℕ) : Type 0 where
   pub cells : List Cell
   pub written : AreRefs content cells
   pub numbers : refs ≡ map (index_of shape) cells
 
 -- the text has a content, and these are the numbers of the cells written in it
 pub record RefersTo (shape : Shape) (text refs : List ℕ) : Type 0 where
-  pub content : Plain
+  pub content : PlainContent
   pub reads : Reads shape text content
   pub numbers : AreNumbers shape content refs
 
 -- the process's edit of this number, of the cell to the text: its references are the cells of the text
-pub record IsAskedFor (layout : Layout) (process cell : ℕ) (text : List ℕ) (number : ℕ) (e : PlainEdit) : Type 0 where
+pub record IsAskedFor (layout : Layout) (process cell : ℕ) (text : List ℕ) (number : ℕ) (e : PlainEditCall) : Type 0 where
   pub asked : edit_of e ≡ record { process = process; number = number; cell = cell; text = text }
   pub is : IsEdit e
   pub sheet : IsSheetOf layout e
@@ -47,13 +47,13 @@ pub record IsAskedFor (layout : Layout) (process cell : ℕ) (text : List ℕ) (
   pub only : RefersTo layout.shape text e.refs
 
 -- the process begins its edit of this number, of the cell to the text
-pub record IsBegun (old : World) (process cell : ℕ) (text : List ℕ) (number : ℕ) (new : World) : Type 0 where
-  pub edit : PlainEdit
+pub record IsBegun (old : PlainWorld) (process cell : ℕ) (text : List ℕ) (number : ℕ) (new : PlainWorld) : Type 0 where
+  pub edit : PlainEditCall
   pub asked : IsAskedFor old.layout process cell text number edit
   pub begins : Begins edit old new
 
 -- the process is idle, with this as the number of its next edit
-abbrev pub IsIdle : World → ℕ → ℕ → Type 0
+abbrev pub IsIdle : PlainWorld → ℕ → ℕ → Type 0
 IsIdle w process number = w.situation process ≡ Idle number
 
 -- why an idle process may not begin its edit of this number, to the text
@@ -61,7 +61,7 @@ abbrev pub RefusesIdle : Shape → ℕ → List ℕ → Refusal → Type 0
 RefusesIdle shape number text refusal.Busy = ⊥
 RefusesIdle shape number text refusal.Stopped = ⊥
 RefusesIdle shape number text (refusal.Text fault) = Faults shape text fault
-RefusesIdle shape number text refusal.RecordsFull = (number ≡ RECORDS) × ((content : Plain) × Reads shape text content)
+RefusesIdle shape number text refusal.RecordsFull = (number ≡ RECORDS) × ((content : PlainContent) × Reads shape text content)
 RefusesIdle shape number text refusal.NoMemory = Unit {0}
 
 -- why a process may not begin an edit to the text: by its situation
@@ -74,5 +74,5 @@ RefusesIn shape text (Recovering e) r = r ≡ refusal.Busy
 RefusesIn shape text (Showing e) r = r ≡ refusal.Busy
 
 -- why a process of this world may not begin an edit to the text
-abbrev pub Refuses : World → ℕ → List ℕ → Refusal → Type 0
+abbrev pub Refuses : PlainWorld → ℕ → List ℕ → Refusal → Type 0
 Refuses w process text r = RefusesIn w.layout.shape text (w.situation process) r

@@ -2,13 +2,13 @@
 use Rattle.std.specs.Prelude.{ℕ, ◌≡◌, Some, Contains, drop}
 use Rattle.ds_layout.specs.declared.head.Head.{Head}
 use Rattle.ds_layout.specs.Head.{head_of}
-use Rattle.ds_state.specs.World.{Edit, World}
+use Rattle.ds_state.specs.World.{PlainEdit, PlainWorld}
 use Rattle.ds_state.specs.declared.stage.Outcome.{Outcome}
 use Rattle.ds_state.specs.declared.stage.Outcome.TheVariants.{Done, Overtaken}
 
 -- the word is the head of another edit of the cell, which came to count behind the first so many
-pub record Overtakes (w : World) (e : Edit) (since word : ℕ) : Type 0 where
-  pub by : Edit
+pub record Overtakes (w : PlainWorld) (e : PlainEdit) (since word : ℕ) : Type 0 where
+  pub by : PlainEdit
   pub counted : Contains (drop since w.counted) by
   pub cell : by.cell ≡ e.cell
   pub head : Head
@@ -17,12 +17,12 @@ pub record Overtakes (w : World) (e : Edit) (since word : ℕ) : Type 0 where
   pub number : head.number ≡ by.number
 
 -- Done: it counts; Overtaken: it does not, and the head that it met is of an edit that came to count since its issue
-abbrev pub IsTrueOf : World → Edit → ℕ → Outcome → Type 0
+abbrev pub IsTrueOf : PlainWorld → PlainEdit → ℕ → Outcome → Type 0
 IsTrueOf w e since Done = Contains w.counted e
 IsTrueOf w e since (Overtaken noted seen) = (Contains w.counted e → ⊥) × Overtakes w e since seen
 
 -- the outcome is true of the open edit, by what counted when it was issued
-pub record IsTrueAnswer (w : World) (e : Edit) (how : Outcome) : Type 0 where
+pub record IsTrueAnswer (w : PlainWorld) (e : PlainEdit) (how : Outcome) : Type 0 where
   pub since : ℕ
   pub issued : w.open_edits e.process ≡ Some (record { edit = e; since = since })
   pub holds : IsTrueOf w e since how

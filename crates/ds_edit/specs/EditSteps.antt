@@ -13,7 +13,7 @@ use Rattle.ds_layout.specs.Header.{header_word}
 use Rattle.ds_layout.specs.TextWords.{part_word}
 use Rattle.ds_layout.specs.Announcement.{announcement_word}
 use Rattle.ds_layout.specs.Bits.{bit_of}
-use Rattle.ds_state.specs.Edits.{PlainEdit, text_parts}
+use Rattle.ds_state.specs.Edits.{PlainEditCall, text_parts}
 use Rattle.ds_state.specs.Known.{phase_of}
 use Rattle.ds_state.specs.World.{done_place, index_place}
 use Rattle.ds_state.specs.declared.stage.Outcome.TheVariants as outcome
@@ -21,27 +21,27 @@ use Rattle.ds_state.specs.declared.stage.Stage.{Stage}
 use Rattle.ds_state.specs.declared.stage.Stage.TheVariants.{StoreHeader, StoreText, FlushHeader, FlushText, BackRecord, StorePending, FlushPending, BackPending, OrIndex, FlushIndex, BackIndex, LoadHead, FlushNoted, BackNoted, OrDone, FlushDone, BackDone, Swap, FlushOwn, BackOwn, OrMark, FlushMark, BackMark, StoreOutcome, FlushOutcome, BackOutcome, Answer}
 
 -- the place of the header of the edit's record
-abbrev pub header_place : PlainEdit → Place
+abbrev pub header_place : PlainEditCall → Place
 header_place e = place.Header e.process e.number
 
 -- the place of a part of the text in the edit's record
-abbrev pub text_place : PlainEdit → ℕ → Place
+abbrev pub text_place : PlainEditCall → ℕ → Place
 text_place e part = place.Text e.process e.number part
 
 -- the place of the word of a reference's index row that has the bit of the edit's cell
-abbrev pub reference_place : PlainEdit → ℕ → Place
+abbrev pub reference_place : PlainEditCall → ℕ → Place
 reference_place e i = index_place (slice_index_or e.refs i 0) e.cell
 
 -- the word of the head that follows this one, of the edit
-abbrev pub head_after : PlainEdit → ℕ → ℕ
+abbrev pub head_after : PlainEditCall → ℕ → ℕ
 head_after e noted = head_word (next_head noted e.process e.number)
 
 -- the announcement of the edit in this phase
-abbrev pub announced : PlainEdit → Phase → ℕ
+abbrev pub announced : PlainEditCall → Phase → ℕ
 announced e p = announcement_word (record { number = e.number; phase = p })
 
 -- the access of a stage
-abbrev pub access_at : PlainEdit → Stage → Access Place
+abbrev pub access_at : PlainEditCall → Stage → Access Place
 access_at e StoreHeader = Store (header_place e) (header_word (record { cell = e.cell; length = length e.text }))
 access_at e (StoreText part) = Store (text_place e part) (part_word e.text part)
 access_at e FlushHeader = Flush (header_place e)
@@ -71,11 +71,11 @@ access_at e (BackOutcome how) = Back
 access_at e (Answer how) = Nothing
 
 -- the stage that stores this part of the text; behind the last part, the header's flush
-abbrev pub store_from : PlainEdit → ℕ → Stage
+abbrev pub store_from : PlainEditCall → ℕ → Stage
 store_from e part = if nat_lt part (text_parts e.text) then StoreText part else FlushHeader
 
 -- the stage that flushes this part of the text; behind the last part, the first write-back
-abbrev pub flush_from : PlainEdit → ℕ → Stage
+abbrev pub flush_from : PlainEditCall → ℕ → Stage
 flush_from e part = if nat_lt part (text_parts e.text) then FlushText part else BackRecord (text_parts e.text)
 
 -- the stage behind a write-back, with so many entries left: the next one, or the announcement
@@ -83,7 +83,7 @@ abbrev pub back_from : ℕ → Stage
 back_from left = if left == 0 then StorePending else BackRecord (left - 1)
 
 -- the stage that indexes this reference; behind the last one, the load of the head
-abbrev pub index_from : PlainEdit → ℕ → Stage
+abbrev pub index_from : PlainEditCall → ℕ → Stage
 index_from e i = if nat_lt i (length e.refs) then OrIndex i else LoadHead
 
 -- the stage behind the load of the head: the edit that is found is helped; where there is none, the swap
@@ -92,11 +92,11 @@ help_from noted None = Swap noted
 help_from noted (Some head) = FlushNoted head
 
 -- the stage behind the swap: where the head was the noted one, it is the edit's own now; else the edit does not count
-abbrev pub swung_from : PlainEdit → ℕ → ℕ → Stage
+abbrev pub swung_from : PlainEditCall → ℕ → ℕ → Stage
 swung_from e noted seen = if seen == noted then FlushOwn (head_after e noted) else StoreOutcome (outcome.Overtaken noted seen)
 
 -- the stage after a stage whose access answered the word; an answer is the last one
-abbrev pub next_at : PlainEdit → Stage → ℕ → Stage
+abbrev pub next_at : PlainEditCall → Stage → ℕ → Stage
 next_at e StoreHeader word = store_from e 0
 next_at e (StoreText part) word = store_from e (part + 1)
 next_at e FlushHeader word = flush_from e 0
@@ -126,7 +126,7 @@ next_at e (BackOutcome how) word = Answer how
 next_at e (Answer how) word = Answer how
 
 -- the edit after its step, whose access answered the word
-abbrev pub got_at : PlainEdit → ℕ → PlainEdit
+abbrev pub got_at : PlainEditCall → ℕ → PlainEditCall
 got_at e word = record e { stage = next_at e e.stage word }
 
 -- how many steps are left at most at a stage, the answer's among them, with so many parts and references
@@ -160,10 +160,10 @@ rank_in parts refs (BackOutcome how) = 2
 rank_in parts refs (Answer how) = 1
 
 -- how many steps of the edit are left at most at a stage, the answer's among them
-abbrev pub rank : PlainEdit → Stage → ℕ
+abbrev pub rank : PlainEditCall → Stage → ℕ
 rank e stage = rank_in (text_parts e.text) (length e.refs) stage
 
 -- fewer steps are left after a step, but for the answer's, which is the last
-abbrev pub Falls : PlainEdit → Stage → Stage → Type 0
+abbrev pub Falls : PlainEditCall → Stage → Stage → Type 0
 Falls e (Answer how) after = Unit {0}
 Falls e stage after = rank e after < rank e stage

@@ -2,8 +2,8 @@
 use Rattle.std.specs.Prelude.{ℕ, ◌≡◌, ◌≢◌, ◌+◌, ◌==◌, ◌++◌, if◌then◌else◌, List, [], ◌∷◌, length, Option, Some, None}
 use Rattle.ds_words.specs.Memory.{SameMemory}
 use Rattle.ds_layout.specs.SheetMemory.{PerformsAt}
-use Rattle.ds_state.specs.Edits.{PlainEdit}
-use Rattle.ds_state.specs.World.{Edit, edit_of, Issue, World}
+use Rattle.ds_state.specs.Edits.{PlainEditCall}
+use Rattle.ds_state.specs.World.{PlainEdit, edit_of, PlainIssue, PlainWorld}
 use Rattle.ds_state.specs.declared.stage.Stage.{Stage}
 use Rattle.ds_state.specs.declared.stage.Stage.TheVariants.{StoreHeader, Swap, Answer}
 use Rattle.ds_state.specs.declared.situation.Situation.{Situation}
@@ -11,22 +11,22 @@ use Rattle.ds_state.specs.declared.situation.Situation.TheVariants.{Idle, Editin
 use Rattle.ds_edit.specs.EditSteps.{access_at, next_at}
 
 -- what the process does after the step: its answer ends the edit
-abbrev pub after : PlainEdit → Stage → ℕ → Situation
+abbrev pub after : PlainEditCall → Stage → ℕ → Situation
 after e (Answer how) word = Idle (e.number + 1)
 after e stage word = Editing (record e { stage = next_at e stage word })
 
 -- what counts by the step: the edit, where its swap finds the head that it noted
-abbrev pub counted_at : Edit → Stage → ℕ → List Edit
+abbrev pub counted_at : PlainEdit → Stage → ℕ → List PlainEdit
 counted_at e (Swap noted) word = if word == noted then e ∷ [] else []
 counted_at e stage word = []
 
 -- the process's issue after a step at this stage: none after the answer
-abbrev pub open_edit_at : Option Issue → Stage → Option Issue
+abbrev pub open_edit_at : Option PlainIssue → Stage → Option PlainIssue
 open_edit_at issue (Answer how) = None
 open_edit_at issue stage = issue
 
 -- one step of the edit at a stage, whose access answered the word
-pub record StepsAt (e : PlainEdit) (stage : Stage) (word : ℕ) (old new : World) : Type 0 where
+pub record StepsAt (e : PlainEditCall) (stage : Stage) (word : ℕ) (old new : PlainWorld) : Type 0 where
   pub layout : new.layout ≡ old.layout
   pub memory : PerformsAt (access_at e stage) e.process old.memory new.memory word
   pub situation : new.situation e.process ≡ after e stage word
@@ -36,11 +36,11 @@ pub record StepsAt (e : PlainEdit) (stage : Stage) (word : ℕ) (old new : World
   pub others_open_edits : (q : ℕ) → q ≢ e.process → new.open_edits q ≡ old.open_edits q
 
 -- one step of the edit at its own stage, whose access answered the word
-abbrev pub Steps : PlainEdit → ℕ → World → World → Type 0
+abbrev pub Steps : PlainEditCall → ℕ → PlainWorld → PlainWorld → Type 0
 Steps e word old new = StepsAt e e.stage word old new
 
 -- an edit begins: it is issued, and no word changes
-pub record Begins (e : PlainEdit) (old new : World) : Type 0 where
+pub record Begins (e : PlainEditCall) (old new : PlainWorld) : Type 0 where
   pub layout : new.layout ≡ old.layout
   pub memory : SameMemory old.memory new.memory
   pub idle : old.situation e.process ≡ Idle e.number

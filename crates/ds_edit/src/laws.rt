@@ -1,8 +1,8 @@
 //! What is true of each edit, as functions that do nothing.
 
 ghost use Rattle.std.specs.Prelude.{◌≡◌, ◌<◌, ℕ};
-ghost use Rattle.ds_state.specs.Edits.{PlainEdit, IsEdit};
-ghost use Rattle.ds_state.specs.World.{World, edit_of};
+ghost use Rattle.ds_state.specs.Edits.{PlainEditCall, IsEdit};
+ghost use Rattle.ds_state.specs.World.{PlainWorld, edit_of};
 ghost use Rattle.ds_state.specs.Sound.{IsSound};
 ghost use Rattle.ds_state.specs.Rely.{Keeps};
 ghost use Rattle.ds_state.specs.CallsFit.{IsSheetOf, HasRefs};
@@ -18,14 +18,14 @@ ghost use Rattle.ds_layout.specs.SheetMemory.{CanPerform};
 /// leaves each other process what it may count on.
 #[tactic(auto, using(crate::proofs::Sound::step_sound))]
 pub fn steps_keep_soundness()
-    ensures { (e : PlainEdit) (word : ℕ) (old new : World) → IsSound old
+    ensures { (e : PlainEditCall) (word : ℕ) (old new : PlainWorld) → IsSound old
         → e.process < old.layout.processes → old.situation e.process ≡ Editing e
         → Steps e word old new → Keeps e.process old new }
 {}
 
 /// The beginning of an edit of the sheet does the same.
 pub fn begins_keep_soundness()
-    ensures { (e : PlainEdit) (old new : World) → IsSound old
+    ensures { (e : PlainEditCall) (old new : PlainWorld) → IsSound old
         → IsEdit e → IsSheetOf old.layout e → HasRefs old.layout.shape e.text e.refs
         → Begins e old new → Keeps e.process old new }
 {}
@@ -34,7 +34,7 @@ pub fn begins_keep_soundness()
 /// is that of an edit of its cell which came to count since it was issued.
 #[tactic(auto, using(crate::proofs::Truth::answer_true))]
 pub fn answers_are_true()
-    ensures { (e : PlainEdit) (how : Outcome) (w : World) → IsSound w
+    ensures { (e : PlainEditCall) (how : Outcome) (w : PlainWorld) → IsSound w
         → e.process < w.layout.processes → e.stage ≡ Answer how
         → w.situation e.process ≡ Editing e → IsTrueAnswer w (edit_of e) how }
 {}
@@ -43,7 +43,7 @@ pub fn answers_are_true()
 /// buffer has room for what is flushed, and an entry where one is written back.
 #[tactic(auto, using(crate::proofs::Possible::can_perform))]
 pub fn accesses_are_possible()
-    ensures { (e : PlainEdit) (w : World) → IsSound w
+    ensures { (e : PlainEditCall) (w : PlainWorld) → IsSound w
         → e.process < w.layout.processes → w.situation e.process ≡ Editing e
         → CanPerform w.layout w.memory e.process (access_at e e.stage) }
 {}

@@ -1,7 +1,7 @@
 //! The edit's machine: the access of each stage, and the stage that follows it.
 
 ghost use Rattle.std.specs.Prelude.{◌≡◌, ℕ, ◌+◌, ◌*◌, ◌<◌, ◌≤◌, length};
-ghost use Rattle.ds_state.specs.Edits.{PlainEdit, IsEdit, text_parts};
+ghost use Rattle.ds_state.specs.Edits.{PlainEditCall, IsEdit, text_parts};
 ghost use Rattle.ds_state.specs.Known.{phase_of};
 ghost use Rattle.ds_layout.specs.Head.{head_of};
 ghost use Rattle.ds_layout.specs.Header.{header_word};
@@ -31,7 +31,10 @@ fn parts(call: &EditCall) -> usize
 fn header(call: &EditCall) -> Place
     ensures { result ≡ header_place call.now }
 {
-    Place::Header(call.process, call.number)
+    Place::Header {
+        process: call.process,
+        number: call.number,
+    }
 }
 
 fn text(call: &EditCall, part: usize) -> Place
@@ -48,13 +51,19 @@ fn index(call: &EditCall, i: usize) -> Place
     requires { i < length call.now.refs }
     ensures { result ≡ reference_place call.now i }
 {
-    Place::Index(call.refs[i], bits::part(call.cell))
+    Place::Index {
+        row: call.refs[i],
+        part: bits::part(call.cell),
+    }
 }
 
 fn done(head: Head) -> Place
     ensures { result ≡ done_place head.process head.number }
 {
-    Place::Done(head.process, bits::part(head.number))
+    Place::Done {
+        process: head.process,
+        part: bits::part(head.number),
+    }
 }
 
 fn header_word(call: &EditCall) -> u64
@@ -115,7 +124,11 @@ pub fn want(call: &EditCall) -> Access<Place>
         Stage::FlushNoted(_) | Stage::FlushOwn(_) => Access::Flush(head),
         Stage::OrDone(noted) => Access::Or(done(noted), bits::bit(noted.number)),
         Stage::FlushDone(noted) => Access::Flush(done(noted)),
-        Stage::Swap(noted) => Access::SwapIf(head, noted, head_after(call, noted)),
+        Stage::Swap(noted) => Access::SwapIf {
+            place: head,
+            expected: noted,
+            value: head_after(call, noted),
+        },
         Stage::OrMark(_) => Access::Or(mark, DIRTY),
         Stage::FlushMark(_) => Access::Flush(mark),
         Stage::BackRecord(_) | Stage::BackPending | Stage::BackIndex(_) => Access::Back,
@@ -233,13 +246,13 @@ pub fn got(call: &mut EditCall, word: u64)
 /// references has at most 3r + 67 of them.
 #[tactic(auto, using(crate::proofs::Stays::each_falls, crate::proofs::Stays::each_few))]
 pub fn steps_are_few()
-    ensures falls { (e : PlainEdit) (word : ℕ) → IsEdit e
+    ensures falls { (e : PlainEditCall) (word : ℕ) → IsEdit e
         → Falls e e.stage (next_at e e.stage word) }
-    ensures few { (e : PlainEdit) → IsEdit e → rank e e.stage ≤ 67 + 3 * length e.refs }
+    ensures few { (e : PlainEditCall) → IsEdit e → rank e e.stage ≤ 67 + 3 * length e.refs }
 {}
 
 /// Each access of an edit names a place of its sheet.
 pub fn accesses_are_of_the_sheet()
-    ensures { (layout : Layout) (e : PlainEdit) → IsSheetOf layout e → IsEdit e
+    ensures { (layout : Layout) (e : PlainEditCall) → IsSheetOf layout e → IsEdit e
         → NamesPlace layout (access_at e e.stage) }
 {}

@@ -5,7 +5,7 @@ use Rattle.std.proofs.lemmas.Bool.Decides.{nat_tests}
 use Rattle.ds_formula.specs.declared.cells.Shape.{Shape}
 use Rattle.ds_formula.specs.declared.cells.Cell.{Cell}
 use Rattle.ds_formula.specs.Cells.{IsInside, count_of}
-use Rattle.ds_formula.specs.Plain.{Plain}
+use Rattle.ds_formula.specs.Plain.{PlainContent}
 use Rattle.ds_eval.specs.declared.value.Value.{Value}
 use Rattle.ds_eval.specs.declared.value.Value.TheVariants.{Circular}
 use Rattle.ds_eval.specs.declared.inputs.Entry.{Entry}
@@ -22,13 +22,13 @@ same_number n m e = grind (arith, nat_tests)
 other_number : (n m : ℕ) → n < m → (n == m) ≡ false
 other_number n m l = grind (arith, nat_tests)
 
-pub round_value : (shape : Shape) (p : Plain) (es : Cell → Entry) (h : ℕ) → h ≡ count_of shape → (entry_at shape p es h).value ≡ Circular
+pub round_value : (shape : Shape) (p : PlainContent) (es : Cell → Entry) (h : ℕ) → h ≡ count_of shape → (entry_at shape p es h).value ≡ Circular
 round_value shape p es h e = rw (same_number h (count_of shape) e) refl
 
-pub plain_value : (shape : Shape) (p : Plain) (es : Cell → Entry) (h : ℕ) → h < count_of shape → (entry_at shape p es h).value ≡ content_value shape (value_of es) p
+pub plain_value : (shape : Shape) (p : PlainContent) (es : Cell → Entry) (h : ℕ) → h < count_of shape → (entry_at shape p es h).value ≡ content_value shape (value_of es) p
 plain_value shape p es h l = rw (other_number h (count_of shape) l) refl
 
-module _ (shape : Shape) (sheet : Cell → Plain) (es : Cell → Entry) (l : IsLocal shape sheet es) where
+module _ (shape : Shape) (sheet : Cell → PlainContent) (es : Cell → Entry) (l : IsLocal shape sheet es) where
   height_is : (c : Cell) → IsInside shape c → height_of es c ≡ min (count_of shape) (content_height shape (height_of es) (sheet c))
   height_is c i = ap (λ (e : Entry). e.height) (l.each c i)
 

@@ -10,7 +10,7 @@ use Rattle.ds_formula.specs.declared.cells.Shape.{Shape}
 use Rattle.ds_formula.specs.declared.cells.Cell.{Cell}
 use Rattle.ds_formula.specs.declared.cells.Rect.{Rect}
 use Rattle.ds_formula.specs.Cells.{IsInside, IsWithin}
-use Rattle.ds_formula.specs.Plain.{Plain}
+use Rattle.ds_formula.specs.Plain.{PlainContent}
 use Rattle.ds_formula.specs.Refs.{IsBefore}
 use Rattle.ds_eval.specs.Numbers.{floor_div}
 use Rattle.ds_eval.specs.Evaluation.{width, height, cell_of, first_cells, cells_of}
@@ -21,7 +21,7 @@ use Rattle.ds_eval.proofs.Ranges.{within_range, number_in}
 
 -- ---- heights
 
-pub height_is : (shape : Shape) (content : Plain) (heights : Cell → ℕ) → IsAbove shape content heights (content_height shape heights content)
+pub height_is : (shape : Shape) (content : PlainContent) (heights : Cell → ℕ) → IsAbove shape content heights (content_height shape heights content)
 height_is shape content heights =
     let most = content_height shape heights content in
     record {

@@ -6,7 +6,7 @@ use Rattle.ds_formula.specs.declared.cells.Shape.{Shape}
 use Rattle.ds_formula.specs.declared.cells.Cell.{Cell}
 use Rattle.ds_formula.specs.declared.cells.Rect.{Rect}
 use Rattle.ds_formula.specs.Cells.{IsInside, IsWithin, count_of}
-use Rattle.ds_formula.specs.Plain.{Formula, Literal, At, Area, Signed, Joined, Called, Formulas, Nothing, Then, Plain, Empty, Constant, Computed, count}
+use Rattle.ds_formula.specs.Plain.{Formula, Literal, At, Area, Signed, Joined, Called, Formulas, Nothing, Then, PlainContent, Empty, Constant, Computed, count}
 use Rattle.ds_formula.specs.Refs.{Mentions, SomeMentions, Refers}
 use Rattle.ds_eval.specs.declared.value.Value.{Value}
 use Rattle.ds_eval.specs.declared.value.Value.TheVariants.{Blank, Num, Number, Circular}
@@ -98,12 +98,12 @@ module _ (shape : Shape) where
     formulas_bound h (Then f fs) d (inl m) i = let k = formula_bound h f d m i in omega (arith, k)
     formulas_bound h (Then f fs) d (inr m) i = let k = formulas_bound h fs d m i in omega (arith, k)
 
-  pub reached : (h : Cell → ℕ) (p : Plain) (k : ℕ) → suc k ≤ content_height shape h p → (d : Cell) × Refers p d × IsInside shape d × (k ≤ h d)
+  pub reached : (h : Cell → ℕ) (p : PlainContent) (k : ℕ) → suc k ≤ content_height shape h p → (d : Cell) × Refers p d × IsInside shape d × (k ≤ h d)
   reached h Empty k e = absurd (omega arith)
   reached h (Constant z) k e = absurd (omega arith)
   reached h (Computed f) k e = formula_reached h f k e
 
-  pub bound : (h : Cell → ℕ) (p : Plain) (d : Cell) → Refers p d → IsInside shape d → suc (h d) ≤ content_height shape h p
+  pub bound : (h : Cell → ℕ) (p : PlainContent) (d : Cell) → Refers p d → IsInside shape d → suc (h d) ≤ content_height shape h p
   bound h Empty d m i = absurd m
   bound h (Constant z) d m i = absurd m
   bound h (Computed f) d m i = formula_bound h f d m i
@@ -147,7 +147,7 @@ module _ (shape : Shape) where
         ap (λ (xs : List Value). xs ++ all_values shape r fs) (stands_on r s f (formula_value shape r f) (formula_value shape s f) (formula_on r s f (λ d m. h d (inl m))) (λ d m. h d (inl m)))
         ∙ ap (λ (xs : List Value). stands_for shape s f (formula_value shape s f) ++ xs) (all_on r s fs (λ d m. h d (inr m)))
 
-  pub value_on : (r s : Cell → Value) (p : Plain) → ((d : Cell) → Refers p d → IsInside shape d → r d ≡ s d) → content_value shape r p ≡ content_value shape s p
+  pub value_on : (r s : Cell → Value) (p : PlainContent) → ((d : Cell) → Refers p d → IsInside shape d → r d ≡ s d) → content_value shape r p ≡ content_value shape s p
   value_on r s Empty h = refl
   value_on r s (Constant z) h = refl
   value_on r s (Computed f) h = formula_on r s f h
@@ -175,16 +175,16 @@ module _ (shape : Shape) where
         ap (λ (x : ℕ). max x (formulas_height shape r fs)) (formula_height_on r s f (λ d m. h d (inl m)))
         ∙ ap (λ (x : ℕ). max (formula_height shape s f) x) (formulas_height_on r s fs (λ d m. h d (inr m)))
 
-  height_on : (r s : Cell → ℕ) (p : Plain) → ((d : Cell) → Refers p d → IsInside shape d → r d ≡ s d) → content_height shape r p ≡ content_height shape s p
+  height_on : (r s : Cell → ℕ) (p : PlainContent) → ((d : Cell) → Refers p d → IsInside shape d → r d ≡ s d) → content_height shape r p ≡ content_height shape s p
   height_on r s Empty h = refl
   height_on r s (Constant z) h = refl
   height_on r s (Computed f) h = formula_height_on r s f h
 
-  entry_on : (p : Plain) (v w : Value) (b : Bool) (n : ℕ) → v ≡ w → (let e : Entry = record { value = if b then Circular else v; height = n } in e) ≡ record { value = if b then Circular else w; height = n }
+  entry_on : (p : PlainContent) (v w : Value) (b : Bool) (n : ℕ) → v ≡ w → (let e : Entry = record { value = if b then Circular else v; height = n } in e) ≡ record { value = if b then Circular else w; height = n }
   entry_on p v w b n e = ap (λ (x : Value). let y : Entry = record { value = if b then Circular else x; height = n } in y) e
 
   -- the entry of a cell rests on the entries of the cells of the sheet that are written in it
-  pub local_on : (p : Plain) (es fs : Cell → Entry) → ((d : Cell) → Refers p d → IsInside shape d → es d ≡ fs d) → local shape p es ≡ local shape p fs
+  pub local_on : (p : PlainContent) (es fs : Cell → Entry) → ((d : Cell) → Refers p d → IsInside shape d → es d ≡ fs d) → local shape p es ≡ local shape p fs
   local_on p es fs h =
       let n = min (count_of shape) (content_height shape (height_of es) p) in
       entry_on p (content_value shape (value_of es) p) (content_value shape (value_of fs) p) (n == count_of shape) n

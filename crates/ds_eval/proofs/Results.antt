@@ -8,7 +8,7 @@ use Rattle.ds_formula.specs.declared.content.Operator.{Operator}
 use Rattle.ds_formula.specs.declared.content.Operator.TheVariants as operators
 use Rattle.ds_formula.specs.declared.content.Function.{Function}
 use Rattle.ds_formula.specs.declared.content.Function.TheVariants as functions
-use Rattle.ds_formula.specs.Plain.{Formula, Literal, At, Area, Signed, Joined, Called, Formulas, Nothing, Then, Plain, Empty, Constant, Computed, count}
+use Rattle.ds_formula.specs.Plain.{Formula, Literal, At, Area, Signed, Joined, Called, Formulas, Nothing, Then, PlainContent, Empty, Constant, Computed, count}
 use Rattle.ds_eval.specs.declared.value.Value.{Value}
 use Rattle.ds_eval.specs.declared.value.Value.TheVariants.{Blank, Number, DivZero, Num, Circular}
 use Rattle.ds_eval.specs.Numbers.{in_range, is_i64, signed, joined, absolute, modulo, quotient, floor_rest, total, least, greatest, with_number, with_all, numbers, first_error, error_or}
@@ -181,19 +181,19 @@ never_blank shape read f e =
     let p = fine_formula (λ v. Unit {0}) IsFilled (λ z. tt) tt tt (λ g. tt) (λ v p. tt) tt shape read (λ c. tt) f in
     subst IsFilled e p
 
-at_rest : (shape : Shape) (sheet : Cell → Plain) (n : ℕ) (c : Cell) → IsAtRest (value shape sheet n c)
+at_rest : (shape : Shape) (sheet : Cell → PlainContent) (n : ℕ) (c : Cell) → IsAtRest (value shape sheet n c)
 at_rest shape sheet zero c = go (sheet c)
   where
-    go : (p : Plain) → IsAtRest (first_value p)
+    go : (p : PlainContent) → IsAtRest (first_value p)
     go Empty = tt
     go (Constant z) = tt
     go (Computed f) = tt
 at_rest shape sheet (suc n) c = go (at_rest shape sheet n) (sheet c)
   where
-    go : ((d : Cell) → IsAtRest (value shape sheet n d)) → (p : Plain) → IsAtRest (content_value shape (value shape sheet n) p)
+    go : ((d : Cell) → IsAtRest (value shape sheet n d)) → (p : PlainContent) → IsAtRest (content_value shape (value shape sheet n) p)
     go h Empty = tt
     go h (Constant z) = tt
     go h (Computed f) = fine_formula IsAtRest IsAtRest (λ z. tt) tt tt (λ g. g) (λ v p. p) tt shape (value shape sheet n) h f
 
-pub never_circular : (shape : Shape) (sheet : Cell → Plain) (n : ℕ) (c : Cell) → value shape sheet n c ≡ Circular → ⊥
+pub never_circular : (shape : Shape) (sheet : Cell → PlainContent) (n : ℕ) (c : Cell) → value shape sheet n c ≡ Circular → ⊥
 never_circular shape sheet n c e = subst IsAtRest e (at_rest shape sheet n c)

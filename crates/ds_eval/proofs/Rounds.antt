@@ -9,7 +9,7 @@ use Rattle.ds_formula.specs.declared.cells.Shape.{Shape}
 use Rattle.ds_formula.specs.declared.cells.Cell.{Cell}
 use Rattle.ds_formula.specs.Cells.{IsInside, index_of, cell_at, count_of}
 use Rattle.ds_formula.specs.declared.content.Content.{Content}
-use Rattle.ds_formula.specs.Plain.{Plain, plain}
+use Rattle.ds_formula.specs.Plain.{PlainContent, plain}
 use Rattle.ds_eval.specs.declared.inputs.Entry.{Entry}
 use Rattle.ds_eval.specs.declared.inputs.Input.{Input}
 use Rattle.ds_formula.specs.Refs.{IsBefore}
@@ -88,7 +88,7 @@ at_least_one shape = elim (cases_lt 0 (count_of shape)) [
   | inr l ↦ absurd (some_cells shape.columns shape.rows shape.within.some_columns shape.within.some_rows l)
 ]
 
-module _ (shape : Shape) (sheet : Cell → Plain) where
+module _ (shape : Shape) (sheet : Cell → PlainContent) where
   pub local_scratch : (xs : List Input) → IsTable shape xs → IsLocal shape sheet (entry_in xs) → IsScratch shape sheet (shown xs)
   local_scratch xs t l = fixed_point shape sheet (entry_in xs) l (shown xs) (is_shown shape xs t)
 
@@ -257,7 +257,7 @@ begun_more shape k xs ys i b e h = subst (IsBegun shape (k + 1)) (sym h) (record
 pub begun_table : (shape : Shape) (xs : List Input) → IsBegun shape (count_of shape) xs → IsTable shape xs
 begun_table shape xs b = record { each = b.each; cells = b.cells }
 
-pub first_settled : (shape : Shape) (sheet : Cell → Plain) (xs : List Input) → AreSettled shape sheet 0 xs
+pub first_settled : (shape : Shape) (sheet : Cell → PlainContent) (xs : List Input) → AreSettled shape sheet 0 xs
 first_settled shape sheet xs = record { each = λ c i. settled_first shape sheet (entry_in xs c) c }
 
 -- ---- what a cell of a sheet holds

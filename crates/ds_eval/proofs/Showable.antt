@@ -13,7 +13,7 @@ use Rattle.ds_formula.specs.declared.content.Operator.TheVariants as operators
 use Rattle.ds_formula.specs.declared.content.Function.{Function}
 use Rattle.ds_formula.specs.declared.content.Function.TheVariants as functions
 use Rattle.ds_formula.specs.Cells.{IsInside, count_of}
-use Rattle.ds_formula.specs.Plain.{Formula, Literal, At, Area, Signed, Joined, Called, Formulas, Nothing, Then, Plain, count}
+use Rattle.ds_formula.specs.Plain.{Formula, Literal, At, Area, Signed, Joined, Called, Formulas, Nothing, Then, PlainContent, count}
 use Rattle.ds_formula.specs.Refs.{Refers}
 use Rattle.ds_formula.specs.Grammar.{Reads, ReadsLong, blank, constant, computed}
 use Rattle.ds_formula.proofs.Formed.{Formed, AllFormed, level_good}
@@ -258,7 +258,7 @@ module _ (shape : Shape) (read : Cell → Value) (reads : (c : Cell) → IsOrdin
     fine_own Nothing h = tt
     fine_own (Then f fs) h = (fine_formula f h.0, fine_own fs h.1)
 
-  fine_content : (text : List ℕ) (p : Plain) → ReadsLong shape text p → IsOrdinary (content_value shape read p)
+  fine_content : (text : List ℕ) (p : PlainContent) → ReadsLong shape text p → IsOrdinary (content_value shape read p)
   fine_content text p blank = tt
   fine_content text p (constant t z l n e) = small_in_range z (constant_range t z e)
   fine_content text p (computed t b f r n e m k) = fine_formula f (level_good e.2).formed
@@ -290,7 +290,7 @@ tame_is DivZero h = refl
 tame_is Num h = refl
 tame_is Circular h = absurd h
 
-module _ (shape : Shape) (text : List ℕ) (content : Plain) (entries : Cell → Entry) (reads : Reads shape text content)
+module _ (shape : Shape) (text : List ℕ) (content : PlainContent) (entries : Cell → Entry) (reads : Reads shape text content)
     (shown : (d : Cell) → Refers content d → IsInside shape d → CanShow shape (entries d)) where
   -- below the height of all cells nothing that was read is circular
   below : content_height shape (height_of entries) content < count_of shape → IsOrdinary (content_value shape (value_of entries) content)

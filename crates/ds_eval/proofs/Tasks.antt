@@ -4,20 +4,20 @@ use Rattle.std.proofs.Props.{props}
 use Rattle.ds_formula.specs.Shapes.{MayHave}
 use Rattle.ds_formula.specs.declared.cells.Shape.{Shape}
 use Rattle.ds_formula.specs.declared.cells.Cell.{Cell}
-use Rattle.ds_formula.specs.Plain.{Plain}
+use Rattle.ds_formula.specs.Plain.{PlainContent}
 use Rattle.ds_eval.specs.declared.inputs.Input.{Input}
 use Rattle.ds_eval.specs.Tasks.{PlainTask}
 
-abbrev pub task : ℕ → Cell → ℕ → Shape → Plain → List Input → PlainTask
+abbrev pub task : ℕ → Cell → ℕ → Shape → PlainContent → List Input → PlainTask
 task p c g s k i = record { process = p; cell = c; generation = g; shape = s; content = k; inputs = i }
 
-pub task_same : {p q : ℕ} {c d : Cell} {g h : ℕ} {s t : Shape} {k l : Plain} {i j : List Input} → p ≡ q → c ≡ d → g ≡ h → s ≡ t → k ≡ l → i ≡ j → task p c g s k i ≡ task q d h t l j
+pub task_same : {p q : ℕ} {c d : Cell} {g h : ℕ} {s t : Shape} {k l : PlainContent} {i j : List Input} → p ≡ q → c ≡ d → g ≡ h → s ≡ t → k ≡ l → i ≡ j → task p c g s k i ≡ task q d h t l j
 task_same {p} {q} {c} {d} {g} {h} {s} {t} {k} {l} {i} {j} e f m n o r =
     ap (λ (x : ℕ). task x c g s k i) e
     ∙ ap (λ (x : Cell). task q x g s k i) f
     ∙ ap (λ (x : ℕ). task q d x s k i) m
     ∙ ap (λ (x : Shape). task q d h x k i) n
-    ∙ ap (λ (x : Plain). task q d h t x i) o
+    ∙ ap (λ (x : PlainContent). task q d h t x i) o
     ∙ ap (λ (x : List Input). task q d h t l x) r
 
 may_have_prop : (columns rows : ℕ) → IsProp (MayHave columns rows)

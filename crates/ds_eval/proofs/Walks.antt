@@ -6,7 +6,7 @@ use Rattle.std.proofs.lemmas.Nat.{mul-add-lt, mod-mul-add, div-mul-add}
 use Rattle.ds_formula.specs.declared.cells.Shape.{Shape}
 use Rattle.ds_formula.specs.declared.cells.Cell.{Cell}
 use Rattle.ds_formula.specs.Cells.{IsInside, index_of, cell_at, count_of}
-use Rattle.ds_formula.specs.Plain.{Plain}
+use Rattle.ds_formula.specs.Plain.{PlainContent}
 use Rattle.ds_eval.specs.Scratch.{Walk, Runs, WalkLaw}
 use Rattle.ds_eval.specs.Local.{content_height}
 use Rattle.ds_eval.proofs.Cells.{same_cell}
@@ -77,7 +77,7 @@ fewer p q (suc n) h = go (p n) (q n) refl refl (fewer p q n (λ k l. h k (omega 
 
 -- ---- walks
 
-module _ (shape : Shape) (sheet : Cell → Plain) where
+module _ (shape : Shape) (sheet : Cell → PlainContent) where
   -- a walk without its last step
   pub shorter : (n : ℕ) (c : Cell) → Walk shape sheet (suc n) c → Walk shape sheet n c
   shorter zero c w = tt

@@ -7,7 +7,7 @@ use Rattle.ds_formula.specs.declared.content.Operator.{Operator}
 use Rattle.ds_formula.specs.declared.content.Operator.TheVariants as operators
 use Rattle.ds_formula.specs.declared.content.Function.{Function}
 use Rattle.ds_formula.specs.declared.content.Function.TheVariants as functions
-use Rattle.ds_formula.specs.Plain.{Formula, Literal, At, Area, Signed, Joined, Called, Formulas, Nothing, Then, Plain, Empty, Constant, Computed}
+use Rattle.ds_formula.specs.Plain.{Formula, Literal, At, Area, Signed, Joined, Called, Formulas, Nothing, Then, PlainContent, Empty, Constant, Computed}
 
 -- a mark is a kind, a whole number, and four natural numbers
 abbrev pub Mark : Type 0
@@ -184,27 +184,27 @@ first (One f ∷ parts) = f
 first (Many fs ∷ parts) = Literal (pos 0)
 
 -- a content is a kind, a whole number, and marks
-abbrev pub to_marks : Plain → (ℕ × ℤ) × List Mark
+abbrev pub to_marks : PlainContent → (ℕ × ℤ) × List Mark
 to_marks Empty = ((0, pos 0), [])
 to_marks (Constant z) = ((1, z), [])
 to_marks (Computed f) = ((2, pos 0), marks f [])
 
 -- the content of this kind, with this number and these marks
-abbrev pub content_of : ℕ → ℤ → List Mark → Plain
+abbrev pub content_of : ℕ → ℤ → List Mark → PlainContent
 content_of zero z ms = Empty
 content_of (suc zero) z ms = Constant z
 content_of other z ms = Computed (first (build ms))
 
 -- the content that was written as a kind, a whole number and marks
-abbrev pub of_marks : (ℕ × ℤ) × List Mark → Plain
+abbrev pub of_marks : (ℕ × ℤ) × List Mark → PlainContent
 of_marks m = content_of m.0.0 m.0.1 m.1
 
 -- a content written as marks is read back
-pub of_marks-to_marks : (p : Plain) → of_marks (to_marks p) ≡ p
+pub of_marks-to_marks : (p : PlainContent) → of_marks (to_marks p) ≡ p
 of_marks-to_marks Empty = refl
 of_marks-to_marks (Constant z) = refl
 of_marks-to_marks (Computed f) = rw (build-marks f []) refl
 
 -- contents can be told apart
-abbrev pub plain_code : Coded Plain
+abbrev pub plain_code : Coded PlainContent
 plain_code = code_by ((ℕ × ℤ) × List Mark) (coded× (coded× coded_ℕ coded_ℤ) (coded_list mark_code)) to_marks of_marks of_marks-to_marks

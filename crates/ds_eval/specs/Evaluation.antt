@@ -6,7 +6,7 @@ use Rattle.ds_formula.specs.declared.cells.Cell.{Cell}
 use Rattle.ds_formula.specs.declared.cells.Rect.{Rect}
 use Rattle.ds_formula.specs.declared.content.Function.{Function}
 use Rattle.ds_formula.specs.declared.content.Function.TheVariants as functions
-use Rattle.ds_formula.specs.Plain.{Formula, Literal, At, Area, Signed, Joined, Called, Formulas, Nothing, Then, Plain, Empty, Constant, Computed, count}
+use Rattle.ds_formula.specs.Plain.{Formula, Literal, At, Area, Signed, Joined, Called, Formulas, Nothing, Then, PlainContent, Empty, Constant, Computed, count}
 use Rattle.ds_eval.specs.declared.value.Value.{Value}
 use Rattle.ds_eval.specs.declared.value.Value.TheVariants.{Blank, Number, Num}
 use Rattle.ds_eval.specs.Numbers.{with_number, with_numbers, with_all, signed, joined, in_range, absolute, modulo, quotient, total, least, greatest}
@@ -92,7 +92,7 @@ abbrev mutual
   all_values shape read (Then f fs) = stands_for shape read f (formula_value shape read f) ++ all_values shape read fs
 
 -- the value of what a cell holds
-abbrev pub content_value : Shape → (Cell → Value) → Plain → Value
+abbrev pub content_value : Shape → (Cell → Value) → PlainContent → Value
 content_value shape read Empty = Blank
 content_value shape read (Constant z) = Number z
 content_value shape read (Computed f) = formula_value shape read f

@@ -3,7 +3,7 @@ use Rattle.std.specs.Prelude.{◌≡◌, ℕ, suc, min, max, ◌==◌, if◌then
 use Rattle.ds_formula.specs.declared.cells.Shape.{Shape}
 use Rattle.ds_formula.specs.declared.cells.Cell.{Cell}
 use Rattle.ds_formula.specs.Cells.{IsInside, index_of, count_of}
-use Rattle.ds_formula.specs.Plain.{Formula, Literal, At, Area, Signed, Joined, Called, Formulas, Nothing, Then, Plain, Empty, Constant, Computed}
+use Rattle.ds_formula.specs.Plain.{Formula, Literal, At, Area, Signed, Joined, Called, Formulas, Nothing, Then, PlainContent, Empty, Constant, Computed}
 use Rattle.ds_eval.specs.declared.value.Value.{Value}
 use Rattle.ds_eval.specs.declared.value.Value.TheVariants.{Circular}
 use Rattle.ds_eval.specs.declared.inputs.Entry.{Entry}
@@ -37,7 +37,7 @@ abbrev mutual
   formulas_height shape heights (Then f fs) = max (formula_height shape heights f) (formulas_height shape heights fs)
 
 -- one more than the greatest height of a cell that is written in the content, 0 where there is none
-abbrev pub content_height : Shape → (Cell → ℕ) → Plain → ℕ
+abbrev pub content_height : Shape → (Cell → ℕ) → PlainContent → ℕ
 content_height shape heights Empty = 0
 content_height shape heights (Constant z) = 0
 content_height shape heights (Computed f) = formula_height shape heights f
@@ -53,14 +53,14 @@ abbrev pub height_of : (Cell → Entry) → Cell → ℕ
 height_of entries c = (entries c).height
 
 -- the entry of this height: at the height of all cells references lead round and round
-abbrev pub entry_at : Shape → Plain → (Cell → Entry) → ℕ → Entry
+abbrev pub entry_at : Shape → PlainContent → (Cell → Entry) → ℕ → Entry
 entry_at shape content entries height = record {
   value = if height == count_of shape then Circular else content_value shape (value_of entries) content;
   height = height;
 }
 
 -- the entry of a cell that holds the content, where the cells written in it have the entries
-abbrev pub local : Shape → Plain → (Cell → Entry) → Entry
+abbrev pub local : Shape → PlainContent → (Cell → Entry) → Entry
 local shape content entries = entry_at shape content entries (min (count_of shape) (content_height shape (height_of entries) content))
 
 -- the values shown are those of the entries
@@ -69,5 +69,5 @@ pub record IsShown (shape : Shape) (entries : Cell → Entry) (shown : List Valu
   pub same : (c : Cell) → IsInside shape c → at shown (index_of shape c) ≡ value_of entries c
 
 -- each cell's entry is what its neighbours' entries give
-pub record IsLocal (shape : Shape) (sheet : Cell → Plain) (entries : Cell → Entry) : Type 0 where
+pub record IsLocal (shape : Shape) (sheet : Cell → PlainContent) (entries : Cell → Entry) : Type 0 where
   pub each : (c : Cell) → IsInside shape c → entries c ≡ local shape (sheet c) entries

@@ -5,11 +5,11 @@ use Rattle.ds_formula.specs.declared.cells.Shape.{Shape}
 use Rattle.ds_formula.specs.declared.cells.Cell.{Cell}
 use Rattle.ds_formula.specs.declared.cells.Rect.{Rect}
 use Rattle.ds_formula.specs.Cells.{IsInside, IsWithin}
-use Rattle.ds_formula.specs.Plain.{Plain}
+use Rattle.ds_formula.specs.Plain.{PlainContent}
 use Rattle.ds_formula.specs.Refs.{Refers, IsBefore}
 
 -- one more than the greatest height of a cell of the sheet that is written in the content, 0 where there is none
-pub record IsAbove (shape : Shape) (content : Plain) (heights : Cell → ℕ) (height : ℕ) : Type 0 where
+pub record IsAbove (shape : Shape) (content : PlainContent) (heights : Cell → ℕ) (height : ℕ) : Type 0 where
   pub none : ((d : Cell) → Refers content d → IsInside shape d → ⊥) → height ≡ 0
   pub some : 0 < height → (d : Cell) × Refers content d × IsInside shape d × (height ≡ suc (heights d))
   pub each : (d : Cell) → Refers content d → IsInside shape d → suc (heights d) ≤ height

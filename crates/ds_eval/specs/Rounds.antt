@@ -3,7 +3,7 @@ use Rattle.std.specs.Prelude.{◌≡◌, ℕ, ◌<◌, ◌≤◌, List, length, 
 use Rattle.ds_formula.specs.declared.cells.Shape.{Shape}
 use Rattle.ds_formula.specs.declared.cells.Cell.{Cell}
 use Rattle.ds_formula.specs.Cells.{IsInside, cell_at, count_of}
-use Rattle.ds_formula.specs.Plain.{Plain}
+use Rattle.ds_formula.specs.Plain.{PlainContent}
 use Rattle.ds_eval.specs.declared.value.Value.{Value}
 use Rattle.ds_eval.specs.declared.value.Value.TheVariants.{Circular}
 use Rattle.ds_eval.specs.declared.inputs.Entry.{Entry}
@@ -17,14 +17,14 @@ pub record IsTable (shape : Shape) (table : List Input) : Type 0 where
   pub cells : (k : ℕ) → k < count_of shape → cell_in table k ≡ cell_at shape k
 
 -- what is known of a cell's entry after n rounds, whatever the first entries were
-pub record IsSettled (shape : Shape) (sheet : Cell → Plain) (n : ℕ) (entry : Entry) (c : Cell) : Type 0 where
+pub record IsSettled (shape : Shape) (sheet : Cell → PlainContent) (n : ℕ) (entry : Entry) (c : Cell) : Type 0 where
   pub sound : (Walk shape sheet n c → ⊥) → (k : ℕ) → k ≤ entry.height → Walk shape sheet k c
   pub complete : (k : ℕ) → k ≤ n → k ≤ count_of shape → Walk shape sheet k c → k ≤ entry.height
   pub circular : 1 ≤ n → count_of shape ≤ entry.height → entry.value ≡ Circular
   pub computed : (Walk shape sheet n c → ⊥) → entry.value ≡ value shape sheet n c
 
 -- what is known of the entries of all cells after n rounds
-pub record AreSettled (shape : Shape) (sheet : Cell → Plain) (n : ℕ) (table : List Input) : Type 0 where
+pub record AreSettled (shape : Shape) (sheet : Cell → PlainContent) (n : ℕ) (table : List Input) : Type 0 where
   pub each : (c : Cell) → IsInside shape c → IsSettled shape sheet n (entry_in table c) c
 
 -- the value of an entry

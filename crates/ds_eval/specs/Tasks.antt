@@ -2,7 +2,7 @@
 use Rattle.std.specs.Prelude.{ℕ, List}
 use Rattle.ds_formula.specs.declared.cells.Shape.{Shape}
 use Rattle.ds_formula.specs.declared.cells.Cell.{Cell}
-use Rattle.ds_formula.specs.Plain.{Plain}
+use Rattle.ds_formula.specs.Plain.{PlainContent}
 use Rattle.ds_eval.specs.declared.inputs.Entry.{Entry}
 use Rattle.ds_eval.specs.declared.inputs.Input.{Input}
 use Rattle.ds_eval.specs.Inputs.{entry_in}
@@ -14,7 +14,7 @@ pub record PlainTask : Type 0 where
   pub cell : Cell
   pub generation : ℕ
   pub shape : Shape
-  pub content : Plain
+  pub content : PlainContent
   pub inputs : List Input
 
 -- the entry that the task's inputs give

@@ -5,7 +5,7 @@ ghost use Rattle.ds_formula.specs.declared.cells.Shape as shapes;
 ghost use Rattle.ds_formula.specs.declared.cells.Cell as cells;
 ghost use Rattle.ds_formula.specs.declared.cells.Rect as areas;
 ghost use Rattle.ds_formula.specs.Cells.{IsInside, index_of, count_of};
-ghost use Rattle.ds_formula.specs.Plain.{Plain, Formula};
+ghost use Rattle.ds_formula.specs.Plain.{PlainContent, Formula};
 ghost use Rattle.ds_formula.specs.Refs.{Refers};
 ghost use Rattle.ds_formula.specs.Grammar.{Reads};
 ghost use Rattle.ds_eval.specs.declared.value.Value as values;
@@ -21,22 +21,22 @@ use crate::value::Value;
 
 /// References that can be followed as often as there are cells can be followed for ever.
 pub fn walk_law()
-    ensures { (shape : shapes.Shape) (sheet : cells.Cell → Plain) (c : cells.Cell) → IsInside shape c → WalkLaw shape sheet c }
+    ensures { (shape : shapes.Shape) (sheet : cells.Cell → PlainContent) (c : cells.Cell) → IsInside shape c → WalkLaw shape sheet c }
 {}
 
 /// Where each cell's entry is what its neighbours' entries give, all values are those from scratch.
 pub fn fixed_point()
-    ensures { (shape : shapes.Shape) (sheet : cells.Cell → Plain) (entries : cells.Cell → entries.Entry) (shown : List values.Value) → IsLocal shape sheet entries → IsShown shape entries shown → IsScratch shape sheet shown }
+    ensures { (shape : shapes.Shape) (sheet : cells.Cell → PlainContent) (entries : cells.Cell → entries.Entry) (shown : List values.Value) → IsLocal shape sheet entries → IsShown shape entries shown → IsScratch shape sheet shown }
 {}
 
 /// Values from scratch rest on what the cells of the sheet hold, and on nothing beyond it.
 pub fn sheets_law()
-    ensures { (shape : shapes.Shape) (old new : cells.Cell → Plain) (shown : List values.Value) → ((c : cells.Cell) → IsInside shape c → old c ≡ new c) → IsScratch shape old shown → IsScratch shape new shown }
+    ensures { (shape : shapes.Shape) (old new : cells.Cell → PlainContent) (shown : List values.Value) → ((c : cells.Cell) → IsInside shape c → old c ≡ new c) → IsScratch shape old shown → IsScratch shape new shown }
 {}
 
 /// `Err:522` stands only where references can be followed for ever.
 pub fn circular_only()
-    ensures { (shape : shapes.Shape) (sheet : cells.Cell → Plain) (shown : List values.Value) → IsScratch shape sheet shown → (c : cells.Cell) → IsInside shape c → at shown (index_of shape c) ≡ Value.Circular → Runs shape sheet c }
+    ensures { (shape : shapes.Shape) (sheet : cells.Cell → PlainContent) (shown : List values.Value) → IsScratch shape sheet shown → (c : cells.Cell) → IsInside shape c → at shown (index_of shape c) ≡ Value.Circular → Runs shape sheet c }
 {}
 
 /// A formula's value is never blank.
@@ -46,18 +46,18 @@ pub fn never_blank()
 
 /// A cell's entry rests on the entries of the cells of the sheet that are written in it, and on no other one.
 pub fn neighbours_law()
-    ensures { (shape : shapes.Shape) (content : Plain) (old new : cells.Cell → entries.Entry) → ((d : cells.Cell) → Refers content d → IsInside shape d → old d ≡ new d) → local shape content old ≡ local shape content new }
+    ensures { (shape : shapes.Shape) (content : PlainContent) (old new : cells.Cell → entries.Entry) → ((d : cells.Cell) → Refers content d → IsInside shape d → old d ≡ new d) → local shape content old ≡ local shape content new }
 {}
 
 /// A cell can show the entry of a content that was read, where it can be shown what the cells that are written in it have.
 pub fn shown_law()
-    ensures { (shape : shapes.Shape) (text : List ℕ) (content : Plain) (entries : cells.Cell → entries.Entry) → Reads shape text content → ((d : cells.Cell) → Refers content d → IsInside shape d → CanShow shape (entries d)) → CanShow shape (local shape content entries) }
+    ensures { (shape : shapes.Shape) (text : List ℕ) (content : PlainContent) (entries : cells.Cell → entries.Entry) → Reads shape text content → ((d : cells.Cell) → Refers content d → IsInside shape d → CanShow shape (entries d)) → CanShow shape (local shape content entries) }
 {}
 
 /// A cell's height is one more than the greatest height of a cell of the sheet that is written in it, at most the number of
 /// cells, and 0 where none is.
 pub fn height_law()
-    ensures { (shape : shapes.Shape) (content : Plain) (entries : cells.Cell → entries.Entry) → IsAbove shape content (height_of entries) (content_height shape (height_of entries) content) × ((local shape content entries).height ≡ min (count_of shape) (content_height shape (height_of entries) content)) }
+    ensures { (shape : shapes.Shape) (content : PlainContent) (entries : cells.Cell → entries.Entry) → IsAbove shape content (height_of entries) (content_height shape (height_of entries) content) × ((local shape content entries).height ≡ min (count_of shape) (content_height shape (height_of entries) content)) }
 {}
 
 /// The cells of a range are those of the sheet within it, in reading order.

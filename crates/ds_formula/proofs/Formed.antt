@@ -16,7 +16,7 @@ use Rattle.ds_formula.specs.declared.tokens.Leaf.TheVariants.{Number, Reference,
 use Rattle.ds_formula.specs.declared.tokens.Lead.{Lead}
 use Rattle.ds_formula.specs.declared.tokens.Lead.TheVariants as leads
 use Rattle.ds_formula.specs.Cells.{IsInside}
-use Rattle.ds_formula.specs.Plain.{Formula, Literal, At, Area, Signed, Joined, Called, Formulas, Nothing, Then, count, Plain}
+use Rattle.ds_formula.specs.Plain.{Formula, Literal, At, Area, Signed, Joined, Called, Formulas, Nothing, Then, count, PlainContent}
 use Rattle.ds_formula.specs.Refs.{Mentions, SomeMentions, Refers}
 use Rattle.ds_formula.specs.Bytes.{Read, ◌>>=◌, stop_at, unexpected_stop, begins, skipped, number_from, goes_on_as_fraction, number_at, byte_at}
 use Rattle.ds_formula.specs.References.{letters_at, row_at, without_dollar, cell_of, corner_at, inside_sheet, both_inside, behind_corner, reference_at}
@@ -302,7 +302,7 @@ same_placing Placed (Misplaced n) e h = absurd cc
 same_placing (Bare m) t e h = absurd cc
 same_placing (Misplaced m) t e h = absurd cc
 
-pub read_inside : (s : Shape) (text : List ℕ) (p : Plain) (c : Cell) → ReadsLong s text p → Refers p c → IsInside s c
+pub read_inside : (s : Shape) (text : List ℕ) (p : PlainContent) (c : Cell) → ReadsLong s text p → Refers p c → IsInside s c
 read_inside s text p c blank m = absurd m
 read_inside s text p c (constant t z l n e) m = absurd m
 read_inside s text p c (computed t b f r n e q k) m = formed_inside s f c (level_good e.2).formed m

@@ -4,7 +4,7 @@ use Rattle.std.proofs.lemmas.List.{append-nil}
 use Rattle.std.specs.Fmt.{decimal, signed_decimal}
 use Rattle.ds_formula.specs.declared.cells.Shape.{Shape}
 use Rattle.ds_formula.specs.declared.tokens.Stop.{Stop}
-use Rattle.ds_formula.specs.Plain.{Plain, Constant}
+use Rattle.ds_formula.specs.Plain.{PlainContent, Constant}
 use Rattle.ds_formula.specs.Bytes.{Read, ◌>>=◌, begins, number_at}
 use Rattle.ds_formula.specs.Grammar.{alone, whole_of, constant_of, behind, without_equals, or_else, expression_behind, expression_of, ReadsLong, blank, constant, computed}
 use Rattle.ds_formula.specs.Texts.{text_of, content_text}
@@ -124,7 +124,7 @@ formula_text text e = ap found (nothing_added text e)
     found : List ℕ → Option (List ℕ)
     found x = Some x
 
-pub reads_back : (s : Shape) (text : List ℕ) (p : Plain) → ReadsLong s text p → ReadsLong s (content_text p) p
+pub reads_back : (s : Shape) (text : List ℕ) (p : PlainContent) → ReadsLong s text p → ReadsLong s (content_text p) p
 reads_back s text p blank = blank
 reads_back s text p (constant t z l n e) = constant_back s z (constant_range t z e)
 reads_back s text p (computed t b f r n e m k) =

@@ -7,7 +7,7 @@ use Rattle.ds_formula.specs.declared.fault.TextFault.{TextFault}
 use Rattle.ds_formula.specs.declared.ranges.Ranges.{Ranges}
 use Rattle.ds_formula.specs.declared.tokens.Stop.{Stop}
 use Rattle.ds_formula.specs.declared.tokens.Follow.TheVariants.{End}
-use Rattle.ds_formula.specs.Plain.{Formula, Plain, plain, Empty, Constant, Computed}
+use Rattle.ds_formula.specs.Plain.{Formula, PlainContent, plain, Empty, Constant, Computed}
 use Rattle.ds_formula.specs.Ranges.{misplaced}
 use Rattle.ds_formula.specs.Tokens.{follow_at}
 use Rattle.ds_formula.specs.Forms.{Expression}
@@ -99,7 +99,7 @@ empty_body : (x : List ℕ) → expression_of [] ≡ body_is x → ⊥
 unfolding expression_of
 empty_body x h = cc
 
-content_of : (s : Shape) (text : List ℕ) (c d : Plain) → ReadsLong s text c → ReadsLong s text d → c ≡ d
+content_of : (s : Shape) (text : List ℕ) (c d : PlainContent) → ReadsLong s text c → ReadsLong s text d → c ≡ d
 content_of s text c d blank blank = refl
 content_of s text c d blank (constant t2 z2 l2 n2 e2) = absurd (omega (arith, l2))
 content_of s text c d blank (computed t2 b2 f2 r2 n2 e2 m2 k2) = absurd (empty_body b2 n2)
@@ -110,13 +110,13 @@ content_of s text c d (computed t b f r n e m k) blank = absurd (empty_body b n)
 content_of s text c d (computed t b f r n e m k) (constant t2 z2 l2 n2 e2) = absurd (no_body t b n2 n)
 content_of s text c d (computed t b f r n e m k) (computed t2 b2 f2 r2 n2 e2 m2 k2) = ap Computed (one_expression s b b2 f f2 r r2 (same_body t b b2 n n2) e e2).0
 
-pub only_content : (s : Shape) (text : List ℕ) (c d : Plain) → Reads s text c → Reads s text d → c ≡ d
+pub only_content : (s : Shape) (text : List ℕ) (c d : PlainContent) → Reads s text c → Reads s text d → c ≡ d
 only_content s text c d a b = content_of s text c d a.reads b.reads
 
 placed_or_not : (r t : Ranges) (left : ℕ) → r ≡ t → misplaced r ≡ None → misplaced t ≡ Some left → ⊥
 placed_or_not r t left p h k = let e : misplaced r ≡ misplaced t = ap misplaced p in cc
 
-both_of : (s : Shape) (text : List ℕ) (c : Plain) (x : TextFault) → ReadsLong s text c → FaultsLong s text x → ⊥
+both_of : (s : Shape) (text : List ℕ) (c : PlainContent) (x : TextFault) → ReadsLong s text c → FaultsLong s text x → ⊥
 both_of s text c x blank (in_constant t2 p2 l2 n2 e2) = omega (arith, l2)
 both_of s text c x blank (in_formula t2 b2 p2 n2 e2) = empty_body b2 n2
 both_of s text c x blank (range t2 b2 f2 r2 left2 n2 e2 m2) = empty_body b2 n2
@@ -130,7 +130,7 @@ both_of s text c x (computed t b f r n e m k) (in_formula t2 b2 p2 n2 e2) = not_
 both_of s text c x (computed t b f r n e m k) (range t2 b2 f2 r2 left2 n2 e2 m2) = placed_or_not r r2 left2 (one_expression s b b2 f f2 r r2 (same_body t b b2 n n2) e e2).1 m m2
 both_of s text c x (computed t b f r n e m k) (too_deep t2 b2 f2 r2 n2 e2 m2 k2) = k2 (subst Fits (one_expression s b b2 f f2 r r2 (same_body t b b2 n n2) e e2).0 k)
 
-pub only_one : (s : Shape) (text : List ℕ) (c : Plain) (x : TextFault) → Reads s text c → Faults s text x → ⊥
+pub only_one : (s : Shape) (text : List ℕ) (c : PlainContent) (x : TextFault) → Reads s text c → Faults s text x → ⊥
 only_one s text c x a (too_long l) = omega (arith, a.short, l)
 only_one s text c x a (within x2 l f) = both_of s text c x a.reads f
 
@@ -175,5 +175,5 @@ refused s text body f r e b v (too_large h k) = too_deep text body f r b v h k
 
 pub formula_answer : (s : Shape) (text body : List ℕ) (f : Formula) (r : Ranges) (x : Result Content TextFault) → length text ≤ TEXT_LIMIT → expression_of text ≡ Some body → Expression s body f r
     → IfOk x (λ c. IsAccepted r f (plain c)) → IfErr x (λ e. IsRefused text r f e) → Answers s text x
-formula_answer s text body f r (Ok c) l b v ok err = subst (λ (p : Plain). Reads s text p) (sym ok.is) (record { short = l; reads = computed text body f r b v ok.placed ok.fits })
+formula_answer s text body f r (Ok c) l b v ok err = subst (λ (p : PlainContent). Reads s text p) (sym ok.is) (record { short = l; reads = computed text body f r b v ok.placed ok.fits })
 formula_answer s text body f r (Err e) l b v ok err = inr (within e l (refused s text body f r e b v err))

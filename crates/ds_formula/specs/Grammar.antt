@@ -7,7 +7,7 @@ use Rattle.ds_formula.specs.declared.fault.FaultKind.TheVariants.{TooLong, Range
 use Rattle.ds_formula.specs.declared.ranges.Ranges.{Ranges}
 use Rattle.ds_formula.specs.Limits.{TEXT_MOST}
 use Rattle.ds_formula.specs.declared.tokens.Stop.{Stop}
-use Rattle.ds_formula.specs.Plain.{Formula, Plain, plain, Empty, Constant, Computed}
+use Rattle.ds_formula.specs.Plain.{Formula, PlainContent, plain, Empty, Constant, Computed}
 use Rattle.ds_formula.specs.Bytes.{◌>>=◌, unexpected_stop, begins, number_at}
 use Rattle.ds_formula.specs.Ranges.{misplaced}
 use Rattle.ds_formula.specs.Forms.{Expression}
@@ -56,14 +56,14 @@ unfoldable pub expression_of : List ℕ → Option (List ℕ)
 expression_of text = expression_behind (or_else (behind (codes "=") text) (behind (codes "of:=") text))
 
 -- the text has this content, however long it is
-pub data ReadsLong (shape : Shape) : List ℕ → Plain → Type 0 where
+pub data ReadsLong (shape : Shape) : List ℕ → PlainContent → Type 0 where
   blank : ReadsLong shape [] Empty
   constant : (text : List ℕ) (z : ℤ) → 0 < length text → expression_of text ≡ None → constant_of text ≡ Ok z → ReadsLong shape text (Constant z)
   computed : (text body : List ℕ) (f : Formula) (r : Ranges)
       → expression_of text ≡ Some body → Expression shape body f r → misplaced r ≡ None → Fits f → ReadsLong shape text (Computed f)
 
 -- the text has this content
-pub record Reads (shape : Shape) (text : List ℕ) (content : Plain) : Type 0 where
+pub record Reads (shape : Shape) (text : List ℕ) (content : PlainContent) : Type 0 where
   pub short : length text ≤ TEXT_MOST
   pub reads : ReadsLong shape text content
 
@@ -96,11 +96,11 @@ Answers shape text (Err e) = (e ≡ no_memory) ⊎ Faults shape text e
 
 -- the text has a content, or it has a fault
 abbrev pub IsAnswered : Shape → List ℕ → Type 0
-IsAnswered shape text = ((c : Plain) × Reads shape text c) ⊎ ((e : TextFault) × Faults shape text e)
+IsAnswered shape text = ((c : PlainContent) × Reads shape text c) ⊎ ((e : TextFault) × Faults shape text e)
 
 -- a text has one content or one fault: there is one, no second one, and not one of each
 pub record OneAnswer (shape : Shape) (text : List ℕ) : Type 0 where
   pub some : IsAnswered shape text
-  pub content : (c d : Plain) → Reads shape text c → Reads shape text d → c ≡ d
+  pub content : (c d : PlainContent) → Reads shape text c → Reads shape text d → c ≡ d
   pub fault : (e f : TextFault) → Faults shape text e → Faults shape text f → e ≡ f
-  pub never_both : (c : Plain) (e : TextFault) → Reads shape text c → Faults shape text e → ⊥
+  pub never_both : (c : PlainContent) (e : TextFault) → Reads shape text c → Faults shape text e → ⊥

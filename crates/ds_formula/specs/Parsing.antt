@@ -9,7 +9,7 @@ use Rattle.ds_formula.specs.declared.tokens.Follow.TheVariants.{Infix, Close, Se
 use Rattle.ds_formula.specs.declared.fault.TextFault.{TextFault}
 use Rattle.ds_formula.specs.declared.fault.FaultKind.TheVariants.{RangeNotAllowed, TooDeep}
 use Rattle.ds_formula.specs.declared.ranges.Ranges.{Ranges}
-use Rattle.ds_formula.specs.Plain.{Formula, Plain, Computed}
+use Rattle.ds_formula.specs.Plain.{Formula, PlainContent, Computed}
 use Rattle.ds_formula.specs.Ranges.{misplaced}
 use Rattle.ds_formula.specs.Sizes.{Fits}
 use Rattle.ds_formula.specs.declared.parser.Refusal.{Refusal}
@@ -91,7 +91,7 @@ WholeRefuses shape text Memory = Unit {0}
 WholeRefuses shape text (Stopped stop) = Faulty shape AnOperand [] text stop
 
 -- an expression may be a content: its ranges stand where they may, and it isn't too large
-pub record IsAccepted (ranges : Ranges) (f : Formula) (content : Plain) : Type 0 where
+pub record IsAccepted (ranges : Ranges) (f : Formula) (content : PlainContent) : Type 0 where
   pub placed : misplaced ranges ≡ None
   pub fits : Fits f
   pub is : content ≡ Computed f

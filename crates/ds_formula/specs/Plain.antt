@@ -28,10 +28,10 @@ mutual
     Then : Formula → Formulas → Formulas
 
 -- what a cell holds
-pub data Plain : Type 0 where
-  Empty : Plain
-  Constant : ℤ → Plain
-  Computed : Formula → Plain
+pub data PlainContent : Type 0 where
+  Empty : PlainContent
+  Constant : ℤ → PlainContent
+  Computed : Formula → PlainContent
 
 -- formulas in a list, as arguments
 abbrev pub listed : List Formula → Formulas
@@ -52,7 +52,7 @@ abbrev pub formula : Tree → Formula
 formula = fold-Tree Formula layer
 
 -- the plain view of a content
-abbrev pub plain : Content → Plain
+abbrev pub plain : Content → PlainContent
 plain contents.Blank = Empty
 plain (contents.Number z) = Constant z
 plain (contents.Formula t) = Computed (formula t)

@@ -4,7 +4,7 @@ use Rattle.std.specs.List.{Contains, AllPairs}
 use Rattle.ds_formula.specs.declared.cells.Cell.{Cell}
 use Rattle.ds_formula.specs.Cells.{IsWithin}
 use Rattle.ds_formula.specs.Limits.{COLUMNS_MOST, ROWS_MOST}
-use Rattle.ds_formula.specs.Plain.{Formula, Literal, At, Area, Signed, Joined, Called, Formulas, Nothing, Then, Plain, Empty, Constant, Computed}
+use Rattle.ds_formula.specs.Plain.{Formula, Literal, At, Area, Signed, Joined, Called, Formulas, Nothing, Then, PlainContent, Empty, Constant, Computed}
 
 abbrev mutual
   -- the cell is written in the expression
@@ -22,7 +22,7 @@ abbrev mutual
   SomeMentions (Then f fs) c = Mentions f c ⊎ SomeMentions fs c
 
 -- the cell is written in the content
-abbrev pub Refers : Plain → Cell → Type 0
+abbrev pub Refers : PlainContent → Cell → Type 0
 Refers Empty c = ⊥
 Refers (Constant z) c = ⊥
 Refers (Computed f) c = Mentions f c
@@ -45,7 +45,7 @@ pub record IsListed (f : Formula) (old new : List Cell) : Type 0 where
   pub all : (c : Cell) → Mentions f c → Contains new c
 
 -- the cells written in the content that some sheet has, in reading order, none twice
-pub record AreRefs (content : Plain) (cells : List Cell) : Type 0 where
+pub record AreRefs (content : PlainContent) (cells : List Cell) : Type 0 where
   pub ascending : AllPairs IsBefore cells
   pub possible : (c : Cell) → Contains cells c → IsPossible c
   pub only : (c : Cell) → Contains cells c → Refers content c

@@ -5,7 +5,7 @@ use Rattle.ds_formula.specs.declared.content.Sign.{Sign}
 use Rattle.ds_formula.specs.declared.content.Sign.TheVariants.{Plus, Minus}
 use Rattle.ds_formula.specs.declared.content.Operator.{Operator}
 use Rattle.ds_formula.specs.declared.content.Operator.TheVariants.{Multiply, Add, Subtract, Equal, NotEqual, Less, Greater, LessOrEqual, GreaterOrEqual}
-use Rattle.ds_formula.specs.Plain.{Formula, Literal, At, Area, Signed, Joined, Called, Formulas, Nothing, Then, Plain, Empty, Constant, Computed}
+use Rattle.ds_formula.specs.Plain.{Formula, Literal, At, Area, Signed, Joined, Called, Formulas, Nothing, Then, PlainContent, Empty, Constant, Computed}
 use Rattle.ds_formula.specs.Functions.{name_of}
 use Rattle.ds_formula.specs.Forms.{level_of}
 use Rattle.ds_formula.specs.Names.{cell_text}
@@ -67,7 +67,7 @@ abbrev pub wrapped : ℕ → Formula → List ℕ
 wrapped level f = if nat_lt (precedence f) level then in_parentheses (text_of f) else text_of f
 
 -- the text of a content: of a formula behind `=`
-abbrev pub content_text : Plain → List ℕ
+abbrev pub content_text : PlainContent → List ℕ
 content_text Empty = []
 content_text (Constant z) = signed_decimal z
 content_text (Computed f) = 61 ∷ text_of f

@@ -6,7 +6,7 @@ ghost use Rattle.ds_formula.specs.Bytes.{result_of};
 ghost use Rattle.ds_formula.specs.Ranges.{misplaced};
 ghost use Rattle.ds_formula.specs.declared.cells.Cell.{Cell};
 ghost use Rattle.ds_formula.specs.Cells.{IsInside};
-ghost use Rattle.ds_formula.specs.Plain.{Plain, formula, plain};
+ghost use Rattle.ds_formula.specs.Plain.{PlainContent, formula, plain};
 ghost use Rattle.ds_formula.specs.Refs.{Refers};
 ghost use Rattle.ds_formula.specs.Sizes.{Fits};
 ghost use Rattle.ds_formula.specs.Limits.{COLUMNS_MOST, ROWS_MOST, CELLS_MOST, TEXT_MOST, NODES_MOST, DEPTH_MOST};
@@ -183,7 +183,7 @@ pub fn one_answer()
 
 /// Every cell written in a content that was read is one of the sheet.
 pub fn read_is_inside()
-    ensures { (shape : Shape) (text : List ℕ) (content : Plain) (cell : Cell) → Reads shape text content → Refers content cell → IsInside shape cell }
+    ensures { (shape : Shape) (text : List ℕ) (content : PlainContent) (cell : Cell) → Reads shape text content → Refers content cell → IsInside shape cell }
 {}
 
 /// The constants of this crate are the limits of the definitions.

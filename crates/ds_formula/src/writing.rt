@@ -3,7 +3,7 @@
 ghost use Rattle.std.specs.Prelude.{◌≡◌, ℕ, List, ◌++◌, IfOk, OnOk};
 ghost use Rattle.std.specs.String.{string_bytes};
 ghost use Rattle.ds_formula.specs.declared.cells.Shape.{Shape};
-ghost use Rattle.ds_formula.specs.Plain.{Plain, formula, plain};
+ghost use Rattle.ds_formula.specs.Plain.{PlainContent, formula, plain};
 ghost use Rattle.ds_formula.specs.Grammar.{Reads, ReadsLong};
 ghost use Rattle.ds_formula.specs.Texts.{sign_text, operator_text, precedence, text_of, wrapped, content_text};
 
@@ -117,5 +117,5 @@ impl Content {
 
 /// The text of a content that was read reads back as that content, however long it is.
 pub fn reads_back()
-    ensures { (shape : Shape) (text : List ℕ) (content : Plain) → Reads shape text content → ReadsLong shape (content_text content) content }
+    ensures { (shape : Shape) (text : List ℕ) (content : PlainContent) → Reads shape text content → ReadsLong shape (content_text content) content }
 {}

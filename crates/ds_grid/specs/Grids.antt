@@ -8,7 +8,7 @@ use Rattle.ds_formula.specs.declared.content.Content.{Content}
 use Rattle.ds_formula.specs.declared.fault.TextFault.{TextFault}
 use Rattle.ds_formula.specs.Shapes.{MayHave}
 use Rattle.ds_formula.specs.Cells.{IsInside, count_of, cell_at, index_of}
-use Rattle.ds_formula.specs.Plain.{Plain, plain}
+use Rattle.ds_formula.specs.Plain.{PlainContent, plain}
 use Rattle.ds_formula.specs.Grammar.{Reads, Faults}
 use Rattle.ds_eval.specs.declared.value.Value.{Value}
 use Rattle.ds_eval.specs.Scratch.{IsScratch}
@@ -78,7 +78,7 @@ pub record AllRead (shape : Shape) (rows : List (List (List ℕ))) (contents : L
 pub record IsFirstFault (shape : Shape) (rows : List (List (List ℕ))) (cell : Cell) (fault : TextFault) : Type 0 where
   pub inside : IsInside shape cell
   pub faults : Faults shape (text_at rows cell) fault
-  pub before : (index : ℕ) → index < index_of shape cell → (content : Plain) × Reads shape (text_at rows (cell_at shape index)) content
+  pub before : (index : ℕ) → index < index_of shape cell → (content : PlainContent) × Reads shape (text_at rows (cell_at shape index)) content
 
 -- why the contents of a grid of this shape are not read
 abbrev pub FailsAt : Shape → List (List (List ℕ)) → GridEnd → Type 0
@@ -94,7 +94,7 @@ pub record Shows (bytes out : List ℕ) : Type 0 where
   pub csv : IsCsv bytes rows
   pub shape : Shape
   pub grid : IsGridOf rows shape
-  pub contents : Cell → Plain
+  pub contents : Cell → PlainContent
   pub reads : (cell : Cell) → IsInside shape cell → Reads shape (text_at rows cell) (contents cell)
   pub values : List Value
   pub scratch : IsScratch shape contents values

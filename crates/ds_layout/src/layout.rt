@@ -133,15 +133,15 @@ impl Layout {
             Place::Mark(cell) => starts.marks + cell,
             Place::Value(cell) => starts.values + cell,
             Place::Kind(cell) => starts.kinds + cell,
-            Place::Index(row, part) => starts.index + (row * starts.row_parts + part),
+            Place::Index { row, part } => starts.index + (row * starts.row_parts + part),
             Place::Announce(process) => starts.announcements + process,
-            Place::Header(process, number) => starts.headers + (process * RECORDS + number),
+            Place::Header { process, number } => starts.headers + (process * RECORDS + number),
             Place::Text {
                 process,
                 number,
                 part,
             } => { starts.texts + ((process * RECORDS + number) * TEXT_PARTS + part) }
-            Place::Done(process, part) => starts.done + (process * DONE_PARTS + part),
+            Place::Done { process, part } => starts.done + (process * DONE_PARTS + part),
         }
     }
 
@@ -168,14 +168,20 @@ impl Layout {
         }
         if number < starts.announcements {
             let at = number - starts.index;
-            return Place::Index(at / self.row_parts(), at % self.row_parts());
+            return Place::Index {
+                row: at / self.row_parts(),
+                part: at % self.row_parts(),
+            };
         }
         if number < starts.headers {
             return Place::Announce(number - starts.announcements);
         }
         if number < starts.texts {
             let at = number - starts.headers;
-            return Place::Header(at / RECORDS, at % RECORDS);
+            return Place::Header {
+                process: at / RECORDS,
+                number: at % RECORDS,
+            };
         }
         if number < starts.done {
             let at = number - starts.texts;
@@ -187,7 +193,10 @@ impl Layout {
             };
         }
         let at = number - starts.done;
-        Place::Done(at / DONE_PARTS, at % DONE_PARTS)
+        Place::Done {
+            process: at / DONE_PARTS,
+            part: at % DONE_PARTS,
+        }
     }
 
     /// Whether the place is one of the sheet.
@@ -202,15 +211,15 @@ impl Layout {
             Place::Mark(cell) => cell < cells,
             Place::Value(cell) => cell < cells,
             Place::Kind(cell) => cell < cells,
-            Place::Index(row, part) => row < cells && part < self.row_parts(),
+            Place::Index { row, part } => row < cells && part < self.row_parts(),
             Place::Announce(process) => process < processes,
-            Place::Header(process, number) => process < processes && number < RECORDS,
+            Place::Header { process, number } => process < processes && number < RECORDS,
             Place::Text {
                 process,
                 number,
                 part,
             } => { process < processes && number < RECORDS && part < TEXT_PARTS }
-            Place::Done(process, part) => process < processes && part < DONE_PARTS,
+            Place::Done { process, part } => process < processes && part < DONE_PARTS,
         }
     }
 
@@ -261,8 +270,16 @@ impl Layout {
             Access::Load(place) => Access::Load(self.number_from(starts, place)),
             Access::Store(place, value) => Access::Store(self.number_from(starts, place), value),
             Access::Or(place, bits) => Access::Or(self.number_from(starts, place), bits),
-            Access::SwapIf(place, expected, value) => {
-                Access::SwapIf(self.number_from(starts, place), expected, value)
+            Access::SwapIf {
+                place,
+                expected,
+                value,
+            } => {
+                Access::SwapIf {
+                    place: self.number_from(starts, place),
+                    expected,
+                    value,
+                }
             }
             Access::Flush(place) => Access::Flush(self.number_from(starts, place)),
             Access::Back => Access::Back,

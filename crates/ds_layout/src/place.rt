@@ -34,11 +34,21 @@ pub enum Place {
     /// What a cell shows, and the height of its references.
     Kind(usize),
     /// A part of the row of a cell in the index: which cells may refer to that cell.
-    Index(usize, usize),
+    Index {
+        /// The cell whose row it is.
+        row: usize,
+        /// Which part of the row, from 0.
+        part: usize,
+    },
     /// The last announced edit of a process.
     Announce(usize),
-    /// The cell and the length of a text, by process and number.
-    Header(usize, usize),
+    /// The cell and the length of a text.
+    Header {
+        /// The process of the edit.
+        process: usize,
+        /// Which of its edits, from 0.
+        number: usize,
+    },
     /// Eight bytes of a text.
     Text {
         /// The process of the edit.
@@ -49,7 +59,12 @@ pub enum Place {
         part: usize,
     },
     /// A part of the done bits of a process: which of its edits count and were superseded.
-    Done(usize, usize),
+    Done {
+        /// The process of the edits.
+        process: usize,
+        /// Which part of its done bits, from 0.
+        part: usize,
+    },
 }
 
 impl Place {
@@ -59,10 +74,17 @@ impl Place {
     {
         match self {
             Place::Version | Place::Head(_) | Place::Mark(_) => Class::Stamped,
-            Place::Index(_, _) | Place::Done(_, _) => Class::Bit,
+            Place::Index { row: _, part: _ }
+            | Place::Done {
+                process: _,
+                part: _,
+            } => Class::Bit,
             Place::Value(_) | Place::Kind(_) => Class::Owned,
             Place::Announce(_)
-            | Place::Header(_, _)
+            | Place::Header {
+                process: _,
+                number: _,
+            }
             | Place::Text {
                 process: _,
                 number: _,

@@ -5,7 +5,7 @@ use Rattle.std.proofs.lemmas.Bool.{cases_lt}
 use Rattle.std.proofs.lemmas.List.{get_or_past}
 use Rattle.ds_eval.specs.declared.inputs.Entry.{Entry}
 use Rattle.ds_state.specs.Value.{WorldValue, world_of, IsGood}
-use Rattle.ds_state.specs.Works.{PlainWork}
+use Rattle.ds_state.specs.Works.{PlainWorkCall}
 use Rattle.ds_state.specs.declared.situation.Situation.TheVariants.{Idle, Working}
 use Rattle.ds_work.specs.WorkTakes.{Waits, IsOffered}
 use Rattle.ds_core.specs.Takes.{Fits}
@@ -39,13 +39,13 @@ module _ (old new : WorldValue) (p : ℕ) (until : Until) (given : (entry : Entr
 -- ---- a step
 
 -- the process is one of the sheet
-inside : (v : WorldValue) (p : ℕ) (e : PlainWork) → IsGood v → (world_of v).situation p ≡ Working e → p < v.sheet.layout.processes
+inside : (v : WorldValue) (p : ℕ) (e : PlainWorkCall) → IsGood v → (world_of v).situation p ≡ Working e → p < v.sheet.layout.processes
 inside v p e good is = elim (cases_lt p v.sheet.layout.processes) [
   | inl lt ↦ lt
   | inr ge ↦ absurd (let bad : Idle 0 ≡ Working e = sym (get_or_past v.situations p (Idle 0) (let n = good.situations in omega arith)) ∙ is in cc)
 ]
 
-pub wants_step : (v : WorldValue) (p : ℕ) → IsGood v → ((e : PlainWork) → Waits (world_of v) p e → ⊥) → WantsStep v p
+pub wants_step : (v : WorldValue) (p : ℕ) → IsGood v → ((e : PlainWorkCall) → Waits (world_of v) p e → ⊥) → WantsStep v p
 wants_step v p good none = calls.wants_step v p (λ e works waits. none e (record { inside = inside v p e good works; works = works; waits = waits }))
 
 driven_by : (w : WorldValue) (p : ℕ) (until : Until) (reply : Reply) → (reply ≡ Stepped → ⊥) → driven w p until (Step p) reply ≡ ended w p until reply

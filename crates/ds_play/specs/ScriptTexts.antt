@@ -15,7 +15,7 @@ use Rattle.ds_layout.specs.declared.mark.State.{State}
 use Rattle.ds_layout.specs.declared.mark.State.TheVariants.{Clean, Marked, Held}
 use Rattle.ds_layout.specs.Mark.{state_of}
 use Rattle.ds_state.specs.Value.{WorldValue}
-use Rattle.ds_state.specs.World.{World}
+use Rattle.ds_state.specs.World.{PlainWorld}
 use Rattle.ds_state.specs.Shown.{mark_in, value_in, text_in}
 use Rattle.ds_edit.specs.declared.answer.Answer.{Answer}
 use Rattle.ds_edit.specs.declared.answer.Answer.TheVariants as answers
@@ -123,7 +123,7 @@ behind_value [] = codes "\n"
 behind_value (b ∷ text) = codes " " ++ ((b ∷ text) ++ codes "\n")
 
 -- the line of `peek`: C STATE VALUE TEXT
-abbrev pub peek_text : World → Cell → List ℕ
+abbrev pub peek_text : PlainWorld → Cell → List ℕ
 peek_text w cell = peek_head cell (state_of (mark_in w cell)) (value_in w cell) ++ behind_value (text_in w cell)
 
 -- the line of `word`: the cached and the persisted number of a place

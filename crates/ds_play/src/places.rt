@@ -90,7 +90,10 @@ fn index_place(layout: &Layout, rest: Option<&[u8]>) -> Option<Place>
 {
     let (cell, rest) = named(&layout.shape, rest)?;
     let part = last_number(layout.row_parts(), rest)?;
-    Some(Place::Index(layout.shape.index(cell), part))
+    Some(Place::Index {
+        row: layout.shape.index(cell),
+        part,
+    })
 }
 
 fn header_place(layout: &Layout, rest: Option<&[u8]>) -> Option<Place>
@@ -98,7 +101,10 @@ fn header_place(layout: &Layout, rest: Option<&[u8]>) -> Option<Place>
     ensures inside { IfSome result (IsPlace layout.now) }
 {
     let (process, rest) = numbered(layout.processes, rest)?;
-    Some(Place::Header(process, last_number(RECORDS, rest)?))
+    Some(Place::Header {
+        process,
+        number: last_number(RECORDS, rest)?,
+    })
 }
 
 fn text_place(layout: &Layout, rest: Option<&[u8]>) -> Option<Place>
@@ -120,7 +126,10 @@ fn done_place(layout: &Layout, rest: Option<&[u8]>) -> Option<Place>
     ensures inside { IfSome result (IsPlace layout.now) }
 {
     let (process, rest) = numbered(layout.processes, rest)?;
-    Some(Place::Done(process, last_number(DONE_PARTS, rest)?))
+    Some(Place::Done {
+        process,
+        part: last_number(DONE_PARTS, rest)?,
+    })
 }
 
 fn place_of(layout: &Layout, kind: PlaceKind, rest: Option<&[u8]>) -> Option<Place>

@@ -163,7 +163,7 @@ fn behind_work(stage: WorkStage) -> u8
         WorkStage::LoadMark | WorkStage::Claim => 0,
         WorkStage::FlushClaim | WorkStage::BackClaim => 0,
         WorkStage::LoadHead | WorkStage::LoadHeader | WorkStage::LoadText(_) => 1,
-        WorkStage::Read | WorkStage::LoadValue(_) | WorkStage::LoadKind(_, _) => 1,
+        WorkStage::Read | WorkStage::LoadValue(_) | WorkStage::LoadKind { input: _, value: _ } => 1,
         WorkStage::LoadOwnValue | WorkStage::LoadOwnKind | WorkStage::Wait => 1,
         WorkStage::StoreValue | WorkStage::StoreKind => 1,
         WorkStage::FlushValue | WorkStage::FlushKind => 2,

@@ -9,9 +9,9 @@ use Rattle.ds_layout.specs.declared.mark.TheConstants.{DIRTY}
 use Rattle.ds_layout.specs.declared.place.Place.{Place}
 use Rattle.ds_layout.specs.declared.place.Place.TheVariants.{Version, Head, Mark, Value, Kind, Announce}
 use Rattle.ds_layout.proofs.PlaceCases.{place_cases}
-use Rattle.ds_state.specs.Works.{PlainRecovery}
+use Rattle.ds_state.specs.Works.{PlainRecoverCall}
 use Rattle.ds_state.specs.RecoverStages.{IsStage}
-use Rattle.ds_state.specs.World.{World}
+use Rattle.ds_state.specs.World.{PlainWorld}
 use Rattle.ds_state.specs.Owing.{entry, IsHeld, IsPending, CellOwes}
 use Rattle.ds_layout.specs.Mark.{IsClean, IsHeldBy}
 use Rattle.ds_state.specs.KnownRecovery.{FreedFits, freed_at, ResolvedFits, resolved_at, RecoveryHolds, recovery_held}
@@ -31,14 +31,14 @@ use Rattle.ds_state.proofs.Sides.{EntryFits, IsBetween, newer_between}
 use Rattle.ds_state.proofs.Accesses.{Turn, store_moves, Backs, written_backs, back_moves, back_grows, back_sound}
 use Rattle.ds_recover.proofs.RecoveryFrame.{on, Passes, recovery_mine, recovery_apart, recovery_keeps, stays, silent_step}
 
-pub held_from : (p : ℕ) (old new : World) → Grows p Version old new → (r : ℕ) → IsHeld old.memory p r → IsHeld new.memory p r
+pub held_from : (p : ℕ) (old new : PlainWorld) → Grows p Version old new → (r : ℕ) → IsHeld old.memory p r → IsHeld new.memory p r
 held_from p old new g r k =
     let a = (g.holds r (λ x. cc)).cached k.by in
     let b = (g.holds r (λ x. cc)).persisted k.by k.same in
     let by = k.by in
     record { by = omega arith; same = omega arith }
 
-pub pends_from : (p : ℕ) (old new : World) → Grows p Version old new → new.open_edits p ≡ old.open_edits p → (c : ℕ) → IsPending old p c → IsPending new p c
+pub pends_from : (p : ℕ) (old new : PlainWorld) → Grows p Version old new → new.open_edits p ≡ old.open_edits p → (c : ℕ) → IsPending old p c → IsPending new p c
 pends_from p old new g pending c k = record {
   issue = k.issue;
   issued = pending ∙ k.issued;
@@ -55,7 +55,7 @@ first_back {p} {old} {new} x xs holds (first, rest, m) =
     subst (λ (r : List (Entry Place)). WritesBack p x r old new) b (subst (λ (y : Entry Place). WritesBack p y rest old new) a m)
 
 -- one entry is written back
-module _ (p : ℕ) (place : Place) (value : ℕ) (rest : List (Entry Place)) (old new : World) (sound : IsSound old) (tn : Turn p old new)
+module _ (p : ℕ) (place : Place) (value : ℕ) (rest : List (Entry Place)) (old new : PlainWorld) (sound : IsSound old) (tn : Turn p old new)
     (m : WritesBack p (entry place value) rest old.memory new.memory) (fitting : EntryFits old place (old.memory.cached place) value)
     (caught : IsOwnedBy old.memory p place → newer (class_of place) (old.memory.persisted place) value ≡ old.memory.cached place) where
   abbrev pub now : ℕ
@@ -92,7 +92,7 @@ module _ (p : ℕ) (place : Place) (value : ℕ) (rest : List (Entry Place)) (ol
       further : Contains rest (entry (Mark c) x) → Contains (entry place value ∷ rest) (entry (Mark c) x)
       further (k, l, is) = (suc k, omega arith, is)
 
-module _ (e : PlainRecovery) (mark : ℕ) (row : List ℕ) (word : ℕ) (cell : ℕ) (s s' : RecoverStage) (old new : World) (sound : IsSound old)
+module _ (e : PlainRecoverCall) (mark : ℕ) (row : List ℕ) (word : ℕ) (cell : ℕ) (s s' : RecoverStage) (old new : PlainWorld) (sound : IsSound old)
     (was : old.situation e.process ≡ Recovering (record e { stage = s })) (fits : RecoveryFits old e.process (record e { stage = s })) (real : e.process < old.layout.processes)
     (tn : Turn e.process old new) (is : new.situation e.process ≡ Recovering (on e mark row word cell s')) (pending : new.open_edits e.process ≡ old.open_edits e.process)
     (passes : Passes e.process e.row s row s' old new) where
@@ -143,7 +143,7 @@ module _ (e : PlainRecovery) (mark : ℕ) (row : List ℕ) (word : ℕ) (cell : 
       (stays e mark row word cell s s' old new sound was fits real tn is pending passes g freed resolved buffer rows)
 
 -- the dirty bit comes to a mark
-module _ (p d : ℕ) (old new : World) (tn : Turn p old new) (m : OrsAt (Mark d) DIRTY old.memory new.memory) where
+module _ (p d : ℕ) (old new : PlainWorld) (tn : Turn p old new) (m : OrsAt (Mark d) DIRTY old.memory new.memory) where
   pub moved_or : Moves p (Mark d) old new
   moved_or = store_moves p old new tn (Mark d) (bit_or (old.memory.cached (Mark d)) DIRTY) (or_moves p (old.memory.cached (Mark d)) (old.memory.persisted (Mark d))) m
 
@@ -164,7 +164,7 @@ module _ (p d : ℕ) (old new : World) (tn : Turn p old new) (m : OrsAt (Mark d)
     | inr apart ↦ (m.elsewhere r apart, inl (m.persisted r))
   ]) or_hold
 
-module _ (e : PlainRecovery) (mark : ℕ) (row : List ℕ) (word : ℕ) (cell : ℕ) (s s' : RecoverStage) (old new : World) (sound : IsSound old)
+module _ (e : PlainRecoverCall) (mark : ℕ) (row : List ℕ) (word : ℕ) (cell : ℕ) (s s' : RecoverStage) (old new : PlainWorld) (sound : IsSound old)
     (was : old.situation e.process ≡ Recovering (record e { stage = s })) (fits : RecoveryFits old e.process (record e { stage = s })) (real : e.process < old.layout.processes)
     (tn : Turn e.process old new) (is : new.situation e.process ≡ Recovering (on e mark row word cell s')) (pending : new.open_edits e.process ≡ old.open_edits e.process)
     (passes : Passes e.process e.row s row s' old new) where

@@ -3,8 +3,8 @@ use Rattle.std.proofs.Common.{ℕ, ◌≡◌, ◌<◌, ◌⊎◌, length, set, r
 use Rattle.std.proofs.Math.ListN.{length-set}
 use Rattle.std.proofs.lemmas.List.{get_or-set_same, get_or-set_other}
 use Rattle.ds_layout.specs.Places.{cells_of}
-use Rattle.ds_state.specs.Works.{PlainRecovery}
-use Rattle.ds_state.specs.World.{World}
+use Rattle.ds_state.specs.Works.{PlainRecoverCall}
+use Rattle.ds_state.specs.World.{PlainWorld}
 use Rattle.ds_state.specs.Rely.{Keeps}
 use Rattle.ds_state.specs.Sound.{IsSound}
 use Rattle.ds_state.specs.Value.{WorldValue, world_of, IsReserved}
@@ -15,7 +15,7 @@ use Rattle.ds_recover.specs.RecoverySteps.{BeginsRecovery, fresh}
 use Rattle.ds_recover.specs.RecoverBegun.{MayRecover, IsBegun}
 use Rattle.ds_recover.proofs.RecoveryEnds.{begin_keeps}
 
-may_be : (w : World) (p : ℕ) (s : Situation) → w.situation p ≡ s → MayRecover s → (w.situation p ≡ Stopped) ⊎ ((next : ℕ) × (w.situation p ≡ Idle next))
+may_be : (w : PlainWorld) (p : ℕ) (s : Situation) → w.situation p ≡ s → MayRecover s → (w.situation p ≡ Stopped) ⊎ ((next : ℕ) × (w.situation p ≡ Idle next))
 may_be w p (Idle next) is may = inr (next, is)
 may_be w p Stopped is may = inl is
 may_be w p (Editing e) is may = absurd may
@@ -24,14 +24,14 @@ may_be w p (Recovering e) is may = absurd may
 may_be w p (Showing e) is may = absurd may
 
 -- a beginning keeps a sound world sound, and what others count on
-pub begun_keeps : (p : ℕ) (old new : World) → IsSound old → p < old.layout.processes → IsBegun old p new → Keeps p old new
+pub begun_keeps : (p : ℕ) (old new : PlainWorld) → IsSound old → p < old.layout.processes → IsBegun old p new → Keeps p old new
 begun_keeps p old new sound low b = begin_keeps (fresh p (cells_of old.layout) old.layout.processes) old new sound low refl refl b.begins (may_be old p (old.situation p) refl b.free)
 
 -- the world in which the recovery is under way
-abbrev pub entered : WorldValue → PlainRecovery → WorldValue
+abbrev pub entered : WorldValue → PlainRecoverCall → WorldValue
 entered v e = record v { situations = set v.situations e.process (Recovering e) }
 
-module _ (v : WorldValue) (e : PlainRecovery) (room : ℕ) (kept : IsReserved v room) (low : e.process < v.sheet.layout.processes) (may : MayRecover ((world_of v).situation e.process))
+module _ (v : WorldValue) (e : PlainRecoverCall) (room : ℕ) (kept : IsReserved v room) (low : e.process < v.sheet.layout.processes) (may : MayRecover ((world_of v).situation e.process))
     (first : e ≡ fresh e.process (cells_of v.sheet.layout) v.sheet.layout.processes) where
   there : e.process < length v.situations
   there = let s = kept.good.situations in omega arith
@@ -40,7 +40,7 @@ module _ (v : WorldValue) (e : PlainRecovery) (room : ℕ) (kept : IsReserved v 
   began = record {
     layout = refl;
     memory = record { cached = λ r. refl; persisted = λ r. refl; buffer = λ q. refl };
-    situation = get_or-set_same v.situations e.process (Recovering e) (Idle 0) there ∙ ap (λ (x : PlainRecovery). Recovering x) first;
+    situation = get_or-set_same v.situations e.process (Recovering e) (Idle 0) there ∙ ap (λ (x : PlainRecoverCall). Recovering x) first;
     others = λ q ne. get_or-set_other v.situations e.process q (Recovering e) (Idle 0) ne;
     counted = refl;
     open_edits = λ q. refl;

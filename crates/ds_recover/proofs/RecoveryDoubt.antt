@@ -15,7 +15,7 @@ use Rattle.ds_layout.specs.Places.{cells_of}
 use Rattle.ds_layout.specs.Bits.{HasBit}
 use Rattle.ds_layout.proofs.OrBits.{HasBit-subset}
 use Rattle.ds_layout.proofs.Packed.{announcement_of-announcement_word, header_of-header_word}
-use Rattle.ds_state.specs.World.{Edit, Issue, World, of_cell, head_after_all, announcement, last_announcement, phase_among, is_edit_of, done_place, record_size}
+use Rattle.ds_state.specs.World.{PlainEdit, PlainIssue, PlainWorld, of_cell, head_after_all, announcement, last_announcement, phase_among, is_edit_of, done_place, record_size}
 use Rattle.ds_state.specs.Known.{IsRecorded, Standing, outside, inside, safe, Announced, last, pending, ended, word_of, phase_of, AreBelow, IsIn, IsSafe, IsSafelyIn, StandsAs}
 use Rattle.ds_state.specs.declared.stage.Outcome.TheVariants as outcome
 use Rattle.ds_state.specs.KnownRecovery.{Tells, IsPassed}
@@ -34,18 +34,18 @@ none_some : {a : Announcement} {o : Option Announcement} → o ≡ None → o �
 none_some x y = let z : None ≡ Some _ = sym x ∙ y in cc
 
 -- nothing announced on the cached side: nothing on either side
-last_none : (w : World) (p n : ℕ) → n ≤ RECORDS → announcement_of (last_announcement w.counted p n) ≡ None → last_announcement w.counted p n ≡ 0
+last_none : (w : PlainWorld) (p n : ℕ) → n ≤ RECORDS → announcement_of (last_announcement w.counted p n) ≡ None → last_announcement w.counted p n ≡ 0
 last_none w p zero few is = refl
 last_none w p (suc n) few is = absurd (none_some is (read n (phase_among w.counted p n) (omega arith)))
 
-pub unannounced : (w : World) (p : ℕ) (o : Option Issue) → DoubtFits w p o → announcement_of (w.memory.cached (Announce p)) ≡ None
+pub unannounced : (w : PlainWorld) (p : ℕ) (o : Option PlainIssue) → DoubtFits w p o → announcement_of (w.memory.cached (Announce p)) ≡ None
     → (w.memory.cached (Announce p) ≡ 0) × (w.memory.persisted (Announce p) ≡ 0)
 unannounced w p None h is =
     let zero' = last_none w p h.next h.rest.number (ap announcement_of (sym h.rest.cached) ∙ is) in
     (h.rest.cached ∙ zero', h.rest.persisted ∙ zero')
 unannounced w p (Some issue) h is = at h.now h.before h.order h.cached h.persisted
   where
-    e : Edit
+    e : PlainEdit
     e = issue.edit
 
     few : e.number < RECORDS
@@ -60,7 +60,7 @@ unannounced w p (Some issue) h is = at h.now h.before h.order h.cached h.persist
     at pending before order c v = absurd (none_some (ap announcement_of (sym c) ∙ is) (read e.number phase.Pending few))
     at (ended how) before order c v = absurd (none_some (ap announcement_of (sym c) ∙ is) (read e.number (phase_of how) few))
 
-pub phases : (es : List Edit) (p n : ℕ) → (phase_among es p n ≡ phase.Done) ⊎ (phase_among es p n ≡ phase.NotDone)
+pub phases : (es : List PlainEdit) (p n : ℕ) → (phase_among es p n ≡ phase.Done) ⊎ (phase_among es p n ≡ phase.NotDone)
 phases [] p n = inr refl
 phases (x ∷ es) p n = choose (is_edit_of p n x) (phase_among es p n) (phases es p n)
   where
@@ -68,29 +68,29 @@ phases (x ∷ es) p n = choose (is_edit_of p n x) (phase_among es p n) (phases e
     choose true f h = inl refl
     choose false f h = h
 
-not_pending : (es : List Edit) (p n m : ℕ) → announcement n (phase_among es p n) ≡ announcement m phase.Pending → ⊥
+not_pending : (es : List PlainEdit) (p n m : ℕ) → announcement n (phase_among es p n) ≡ announcement m phase.Pending → ⊥
 not_pending es p n m is = elim (phases es p n) [
   | inl done ↦ (let k : announcement n phase.Done ≡ announcement m phase.Pending = ap (λ (f : Phase). announcement n f) (sym done) ∙ is in omega arith)
   | inr lost ↦ (let k : announcement n phase.NotDone ≡ announcement m phase.Pending = ap (λ (f : Phase). announcement n f) (sym lost) ∙ is in omega arith)
 ]
 
-last_not_pending : (es : List Edit) (p n m : ℕ) → last_announcement es p n ≡ announcement m phase.Pending → ⊥
+last_not_pending : (es : List PlainEdit) (p n m : ℕ) → last_announcement es p n ≡ announcement m phase.Pending → ⊥
 last_not_pending es p zero m is = omega arith
 last_not_pending es p (suc n) m is = not_pending es p n m is
 
 -- the edit that is announced as pending is in doubt
-pub record IsDoubted (w : World) (p n : ℕ) (o : Option Issue) : Type 0 where
-  pub issue : Issue
+pub record IsDoubted (w : PlainWorld) (p n : ℕ) (o : Option PlainIssue) : Type 0 where
+  pub issue : PlainIssue
   pub issued : o ≡ Some issue
   pub number : issue.edit.number ≡ n
   pub doubt : IsInDoubt w p issue
   pub now : doubt.now ≡ pending
 
-pub pending_open : (w : World) (p n : ℕ) (o : Option Issue) → DoubtFits w p o → w.memory.cached (Announce p) ≡ announcement n phase.Pending → IsDoubted w p n o
+pub pending_open : (w : PlainWorld) (p n : ℕ) (o : Option PlainIssue) → DoubtFits w p o → w.memory.cached (Announce p) ≡ announcement n phase.Pending → IsDoubted w p n o
 pending_open w p n None h is = absurd (last_not_pending w.counted p h.next n (sym h.rest.cached ∙ is))
 pending_open w p n (Some issue) h is = at h.now refl h.cached
   where
-    e : Edit
+    e : PlainEdit
     e = issue.edit
 
     at : (a : Announced) → h.now ≡ a → w.memory.cached (Announce p) ≡ word_of w e a → IsDoubted w p n (Some issue)
@@ -101,7 +101,7 @@ pending_open w p n (Some issue) h is = at h.now refl h.cached
 
 -- the header of its record reads back
 -- an announcement of how the edit ended before this one
-pub last_number : (w : World) (p n word : ℕ) (how : Bool) → last_announcement w.counted p n ≡ word → Tells word how → n ≡ word / 4
+pub last_number : (w : PlainWorld) (p n word : ℕ) (how : Bool) → last_announcement w.counted p n ≡ word → Tells word how → n ≡ word / 4
 last_number w p zero word true is k = absurd (let i = k.is in omega arith)
 last_number w p zero word false is k = absurd (let i = k.is in omega arith)
 last_number w p (suc n) word how is k = elim (phases w.counted p n) [
@@ -109,9 +109,9 @@ last_number w p (suc n) word how is k = elim (phases w.counted p n) [
   | inr lost ↦ (let same : announcement n phase.NotDone ≡ word = ap (λ (f : Phase). announcement n f) (sym lost) ∙ is in omega arith)
 ]
 
-pub recorded_reads : (w : World) (p : ℕ) (issue : Issue) → (h : IsInDoubt w p issue) → IsRecorded w issue.edit (record_size issue.edit) (record_size issue.edit) → (word : ℕ) → word ≡ w.memory.cached (Header p issue.edit.number) → cell_from (header_of (cells_of w.layout) word) ≡ issue.edit.cell
+pub recorded_reads : (w : PlainWorld) (p : ℕ) (issue : PlainIssue) → (h : IsInDoubt w p issue) → IsRecorded w issue.edit (record_size issue.edit) (record_size issue.edit) → (word : ℕ) → word ≡ w.memory.cached (Header p issue.edit.number) → cell_from (header_of (cells_of w.layout) word) ≡ issue.edit.cell
 recorded_reads w p issue h written word is =
-    let e : Edit = issue.edit in
+    let e : PlainEdit = issue.edit in
     let few = h.text in
     let there = is ∙ ap (λ (q : ℕ). w.memory.cached (Header q e.number)) (sym h.mine) ∙ written.cached 0 (omega arith) in
     let room = h.cell in
@@ -119,11 +119,11 @@ recorded_reads w p issue h written word is =
     let back = header_of-header_word (cells_of w.layout) (record { cell = e.cell; length = length e.text }) (record { cell = omega arith; length = omega arith }) (record { cell = h.cell; length = h.text }) in
     ap (λ (x : ℕ). cell_from (header_of (cells_of w.layout) x)) there ∙ ap cell_from back
 
-pub header_reads : (w : World) (p : ℕ) (issue : Issue) → (h : IsInDoubt w p issue) → h.now ≡ pending → (word : ℕ) → word ≡ w.memory.cached (Header p issue.edit.number) → cell_from (header_of (cells_of w.layout) word) ≡ issue.edit.cell
+pub header_reads : (w : PlainWorld) (p : ℕ) (issue : PlainIssue) → (h : IsInDoubt w p issue) → h.now ≡ pending → (word : ℕ) → word ≡ w.memory.cached (Header p issue.edit.number) → cell_from (header_of (cells_of w.layout) word) ≡ issue.edit.cell
 header_reads w p issue h now word is = recorded_reads w p issue h (subst (λ (a : Announced). Rattle.ds_state.specs.CallsFit.IsWritten w issue.edit a) now h.written) word is
 
 -- where the announcement is the edit's own, and tells how it ended, its record stands
-ended_written : (w : World) (p word : ℕ) (how : Bool) (issue : Issue) (h : IsInDoubt w p issue) → w.memory.cached (Announce p) ≡ word → Tells word how → issue.edit.number + 1 ≡ word / 4
+ended_written : (w : PlainWorld) (p word : ℕ) (how : Bool) (issue : PlainIssue) (h : IsInDoubt w p issue) → w.memory.cached (Announce p) ≡ word → Tells word how → issue.edit.number + 1 ≡ word / 4
     → IsRecorded w issue.edit (record_size issue.edit) (record_size issue.edit)
 ended_written w p word how issue h there tells own = by h.now h.cached h.written
   where
@@ -132,14 +132,14 @@ ended_written w p word how issue h there tells own = by h.now h.cached h.written
     by pending c written = written
     by (ended end) c written = written
 
-pub ended_reads : (w : World) (p word : ℕ) (how : Bool) (issue : Issue) → IsInDoubt w p issue → w.memory.cached (Announce p) ≡ word → Tells word how → issue.edit.number + 1 ≡ word / 4
+pub ended_reads : (w : PlainWorld) (p word : ℕ) (how : Bool) (issue : PlainIssue) → IsInDoubt w p issue → w.memory.cached (Announce p) ≡ word → Tells word how → issue.edit.number + 1 ≡ word / 4
     → (seen : ℕ) → seen ≡ w.memory.cached (Header p (word / 4 - 1)) → cell_from (header_of (cells_of w.layout) seen) ≡ issue.edit.cell
 ended_reads w p word how issue h there tells own seen is =
     let n : word / 4 - 1 ≡ issue.edit.number = omega arith in
     recorded_reads w p issue h (ended_written w p word how issue h there tells own) seen (is ∙ ap (λ (k : ℕ). w.memory.cached (Header p k)) n)
 
 -- a cell's head shows its last edit
-pub shows_last : (w : World) → IsSound w → (cell p n : ℕ) (before : List Edit) (by : Edit) → of_cell cell w.counted ≡ before ++ by ∷ [] → (word : ℕ) → word ≡ w.memory.cached (Head cell)
+pub shows_last : (w : PlainWorld) → IsSound w → (cell p n : ℕ) (before : List PlainEdit) (by : PlainEdit) → of_cell cell w.counted ≡ before ++ by ∷ [] → (word : ℕ) → word ≡ w.memory.cached (Head cell)
     → is_shown p n (head_of w.layout.processes word) ≡ (if by.process == p then by.number == n else false)
 shows_last w sound cell p n before by parts word is =
     ap (λ (x : ℕ). is_shown p n (head_of w.layout.processes x)) (is ∙ (sound.words (Head cell)).last) ∙ ap (λ h. is_shown p n h) (head_reads w sound cell before by parts)
@@ -162,9 +162,9 @@ shown_own a p b n x y = elim (eqb_tells a p) [
   ]
 ]
 
-pub not_below : (w : World) (f e : Edit) → Contains w.counted f → f.process ≡ e.process → f.number ≡ e.number → AreBelow w e.process e.number → ⊥
+pub not_below : (w : PlainWorld) (f e : PlainEdit) → Contains w.counted f → f.process ≡ e.process → f.number ≡ e.number → AreBelow w e.process e.number → ⊥
 not_below w f e there p n below =
-    let less : f.number < e.number = All-contains (λ (g : Edit). g.process ≡ e.process → g.number < e.number) w.counted f below there p in
+    let less : f.number < e.number = All-contains (λ (g : PlainEdit). g.process ≡ e.process → g.number < e.number) w.counted f below there p in
     omega arith
 
 no_head : head_after_all [] ≡ 0
@@ -172,11 +172,11 @@ unfolding head_after_all
 no_head = refl
 
 -- the head shows the edit in doubt: it counts
-pub shown_in : (w : World) → IsSound w → (p : ℕ) (issue : Issue) → IsInDoubt w p issue → (word : ℕ) → word ≡ w.memory.cached (Head issue.edit.cell)
+pub shown_in : (w : PlainWorld) → IsSound w → (p : ℕ) (issue : PlainIssue) → IsInDoubt w p issue → (word : ℕ) → word ≡ w.memory.cached (Head issue.edit.cell)
     → is_shown p issue.edit.number (head_of w.layout.processes word) ≡ true → (own : ℕ) × IsIn w issue.edit own
 shown_in w sound p issue h word is shown = at h.standing h.stands
   where
-    e : Edit
+    e : PlainEdit
     e = issue.edit
 
     at : (s : Standing) → StandsAs w e s → (own : ℕ) × IsIn w e own
@@ -194,14 +194,14 @@ shown_in w sound p issue h word is shown = at h.standing h.stands
     ]
 
 -- it does not: it does not count, or is passed
-pub not_shown : (w : World) → IsSound w → (p : ℕ) (issue : Issue) → IsInDoubt w p issue → (word : ℕ) → word ≡ w.memory.cached (Head issue.edit.cell)
+pub not_shown : (w : PlainWorld) → IsSound w → (p : ℕ) (issue : PlainIssue) → IsInDoubt w p issue → (word : ℕ) → word ≡ w.memory.cached (Head issue.edit.cell)
     → is_shown p issue.edit.number (head_of w.layout.processes word) ≡ false → AreBelow w issue.edit.process issue.edit.number ⊎ (IsPassed w issue.edit × AreBelow w issue.edit.process (issue.edit.number + 1))
 not_shown w sound p issue h word is shown = at h.standing h.stands
   where
-    e : Edit
+    e : PlainEdit
     e = issue.edit
 
-    passed : (own : ℕ) → IsIn w e own → (after : List Edit) → (before : List Edit) → of_cell e.cell w.counted ≡ before ++ e ∷ after → IsPassed w e
+    passed : (own : ℕ) → IsIn w e own → (after : List PlainEdit) → (before : List PlainEdit) → of_cell e.cell w.counted ≡ before ++ e ∷ after → IsPassed w e
     passed own k [] before parts = absurd (
         let bad : true ≡ false = sym (shown_own e.process p e.number e.number h.mine refl) ∙ sym (shows_last w sound e.cell p e.number before e parts word is) ∙ shown in
         cc)
@@ -213,7 +213,7 @@ not_shown w sound p issue h word is shown = at h.standing h.stands
     at safe k = inr (passed k.safe.own (record { below = k.below; head = k.safe.head }) k.safe.head.after k.safe.head.before k.safe.head.parts, k.below)
 
 -- its done bit is set: it is safe
-pub bit_tells : (w : World) → IsSound w → (e : Edit) → e.number < RECORDS → AreBelow w e.process e.number ⊎ (IsPassed w e × AreBelow w e.process (e.number + 1))
+pub bit_tells : (w : PlainWorld) → IsSound w → (e : PlainEdit) → e.number < RECORDS → AreBelow w e.process e.number ⊎ (IsPassed w e × AreBelow w e.process (e.number + 1))
     → HasBit (w.memory.cached (done_place e.process e.number)) e.number → IsSafelyIn w e
 bit_tells w sound e few stands bit =
     let kept : IsKept w e.process e.number = (sound.words (done_place e.process e.number)).told e.number few refl bit in
@@ -223,11 +223,11 @@ bit_tells w sound e few stands bit =
       | inr o ↦ (
           let mine : Contains w.counted e = gave_counts w e.cell _ e (record { before = o.0.before; after = o.0.next ∷ o.0.after; parts = o.0.parts; is = refl }) in
           let same : kept.edit ≡ e = same_edit w.counted kept.edit e sound.increasing there mine kept.process_is kept.number_is in
-          record { below = o.1; safe = subst (λ (f : Edit). IsSafe w f) same kept.safe })
+          record { below = o.1; safe = subst (λ (f : PlainEdit). IsSafe w f) same kept.safe })
     ]
 
 -- it is not: it does not count
-pub no_bit_tells : (w : World) → IsSound w → (e : Edit) → AreBelow w e.process e.number ⊎ (IsPassed w e × AreBelow w e.process (e.number + 1))
+pub no_bit_tells : (w : PlainWorld) → IsSound w → (e : PlainEdit) → AreBelow w e.process e.number ⊎ (IsPassed w e × AreBelow w e.process (e.number + 1))
     → (HasBit (w.memory.cached (done_place e.process e.number)) e.number → ⊥) → AreBelow w e.process e.number
 no_bit_tells w sound e stands bit = elim stands [
   | inl out ↦ out

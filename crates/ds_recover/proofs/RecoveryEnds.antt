@@ -14,8 +14,8 @@ use Rattle.ds_formula.specs.Cells.{count_of}
 use Rattle.ds_formula.specs.declared.cells.Cell.{Cell}
 use Rattle.ds_formula.specs.declared.cells.Shape.{Shape}
 use Rattle.ds_eval.proofs.Walks.{index_below}
-use Rattle.ds_state.specs.Works.{PlainRecovery}
-use Rattle.ds_state.specs.World.{Edit, Issue, World, of_cell, head_after_all, announcement, last_announcement, phase_among}
+use Rattle.ds_state.specs.Works.{PlainRecoverCall}
+use Rattle.ds_state.specs.World.{PlainEdit, PlainIssue, PlainWorld, of_cell, head_after_all, announcement, last_announcement, phase_among}
 use Rattle.ds_state.specs.Known.{Standing, outside, inside, safe, Announced, last, pending, ended, word_of, phase_of, AreBelow, StandsAs}
 use Rattle.ds_state.specs.declared.stage.Outcome.TheVariants as outcome
 use Rattle.ds_state.specs.Owing.{entry, HoldsNone, Owes, Parts, IsPending, Excuses, Splits}
@@ -40,7 +40,7 @@ use Rattle.ds_recover.proofs.RecoveryFrame.{turn_of, held_on, pends_on}
 use Rattle.ds_recover.proofs.RecoveryDoubt.{last_number}
 
 -- a process that is at rest but for its open edit
-pub record Rests (w : World) (p next : ℕ) : Type 0 where
+pub record Rests (w : PlainWorld) (p next : ℕ) : Type 0 where
   pub number : next ≤ RECORDS
   pub below : AreBelow w p next
   pub cached : w.memory.cached (Announce p) ≡ last_announcement w.counted p next
@@ -48,7 +48,7 @@ pub record Rests (w : World) (p next : ℕ) : Type 0 where
 above_zero : (n : ℕ) (f : Phase) → announcement n f ≡ 0 → ⊥
 above_zero n f is = omega arith
 
-last_zero : (w : World) (p n : ℕ) → last_announcement w.counted p n ≡ 0 → n ≡ 0
+last_zero : (w : PlainWorld) (p n : ℕ) → last_announcement w.counted p n ≡ 0 → n ≡ 0
 last_zero w p zero is = refl
 last_zero w p (suc n) is = absurd (above_zero n (phase_among w.counted p n) is)
 
@@ -56,11 +56,11 @@ tells_number : (word : ℕ) (how : Bool) → (k : Tells word how) → word / 4 �
 tells_number word true k = let i = k.is in omega arith
 tells_number word false k = let i = k.is in omega arith
 
-below_more : (w : World) (p n : ℕ) → AreBelow w p n → AreBelow w p (n + 1)
-below_more w p n h = All-weaker (λ (f : Edit). f.process ≡ p → f.number < n) (λ (f : Edit). f.process ≡ p → f.number < n + 1) (λ f k same. let l = k same in omega arith) w.counted h
+below_more : (w : PlainWorld) (p n : ℕ) → AreBelow w p n → AreBelow w p (n + 1)
+below_more w p n h = All-weaker (λ (f : PlainEdit). f.process ≡ p → f.number < n) (λ (f : PlainEdit). f.process ≡ p → f.number < n + 1) (λ f k same. let l = k same in omega arith) w.counted h
 
 -- what an ended edit announces is how it ended
-ended_last : (w : World) (e : Edit) (s : Standing) (how : _) → MaySay s (ended how) → StandsAs w e s → (announcement e.number (phase_of how) ≡ last_announcement w.counted e.process (suc e.number)) × AreBelow w e.process (e.number + 1)
+ended_last : (w : PlainWorld) (e : PlainEdit) (s : Standing) (how : _) → MaySay s (ended how) → StandsAs w e s → (announcement e.number (phase_of how) ≡ last_announcement w.counted e.process (suc e.number)) × AreBelow w e.process (e.number + 1)
 ended_last w e outside (outcome.Overtaken a b) said stands =
     (ap (λ (f : Phase). announcement e.number f) (sym (not_among w.counted e.process e.number stands)), below_more w e.process e.number stands)
 ended_last w e outside outcome.Done said stands = absurd said
@@ -70,13 +70,13 @@ ended_last w e safe outcome.Done said stands =
 ended_last w e safe (outcome.Overtaken a b) said stands = absurd said
 
 -- nothing was announced
-pub rests_none : (w : World) (p : ℕ) (o : Option Issue) → DoubtFits w p o → w.memory.cached (Announce p) ≡ 0 → Rests w p 0
+pub rests_none : (w : PlainWorld) (p : ℕ) (o : Option PlainIssue) → DoubtFits w p o → w.memory.cached (Announce p) ≡ 0 → Rests w p 0
 rests_none w p None h is =
     let n = last_zero w p h.next (sym h.rest.cached ∙ is) in
     subst (λ (n : ℕ). Rests w p n) n (record { number = h.rest.number; below = h.rest.below; cached = h.rest.cached })
 rests_none w p (Some issue) h is = at_now h.now h.said h.cached
   where
-    e : Edit
+    e : PlainEdit
     e = issue.edit
 
     at_now : (a : Announced) → MaySay h.standing a → w.memory.cached (Announce p) ≡ word_of w e a → Rests w p 0
@@ -96,13 +96,13 @@ rests_none w p (Some issue) h is = at_now h.now h.said h.cached
     at_now (ended how) said c = absurd (above_zero e.number (phase_of how) (sym c ∙ is))
 
 -- this was
-rests_some : (w : World) (p : ℕ) (o : Option Issue) (word : ℕ) (how : Bool) → DoubtFits w p o → w.memory.cached (Announce p) ≡ word → Tells word how → Rests w p (word / 4)
+rests_some : (w : PlainWorld) (p : ℕ) (o : Option PlainIssue) (word : ℕ) (how : Bool) → DoubtFits w p o → w.memory.cached (Announce p) ≡ word → Tells word how → Rests w p (word / 4)
 rests_some w p None word how h is k =
     let n = last_number w p h.next word how (sym h.rest.cached ∙ is) k in
     subst (λ (n : ℕ). Rests w p n) n (record { number = h.rest.number; below = h.rest.below; cached = h.rest.cached })
 rests_some w p (Some issue) word how h is k = at_now h.now h.said h.cached
   where
-    e : Edit
+    e : PlainEdit
     e = issue.edit
 
     few : e.number < RECORDS
@@ -136,16 +136,16 @@ rests_some w p (Some issue) word how h is k = at_now h.now h.said h.cached
           cached = subst (λ (x : ℕ). w.memory.cached (Announce p) ≡ last_announcement w.counted p x) n (c ∙ l.0 ∙ ap (λ (q : ℕ). last_announcement w.counted q (suc e.number)) h.mine);
         }
 
-pub rests : (w : World) (p word cell : ℕ) (how : Option Bool) → DoubtFits w p (w.open_edits p) → ResolvedFits w p word cell (over how) → Rests w p (next_number word how)
+pub rests : (w : PlainWorld) (p word cell : ℕ) (how : Option Bool) → DoubtFits w p (w.open_edits p) → ResolvedFits w p word cell (over how) → Rests w p (next_number word how)
 rests w p word cell None h k = rests_none w p (w.open_edits p) h (let a = k.0 in let b = k.2 in omega arith)
 rests w p word cell (Some how) h k = rests_some w p (w.open_edits p) word how h k.0 k.2
 
-over_persisted : (w : World) (p word cell : ℕ) (how : Option Bool) → ResolvedFits w p word cell (over how) → w.memory.persisted (Announce p) ≡ w.memory.cached (Announce p)
+over_persisted : (w : PlainWorld) (p word cell : ℕ) (how : Option Bool) → ResolvedFits w p word cell (over how) → w.memory.persisted (Announce p) ≡ w.memory.cached (Announce p)
 over_persisted w p word cell None k = k.1 ∙ sym k.0
 over_persisted w p word cell (Some how) k = k.1 ∙ sym k.0
 
 -- the answer
-module _ (e : PlainRecovery) (how : Option Bool) (word : ℕ) (old new : World) (sound : IsSound old)
+module _ (e : PlainRecoverCall) (how : Option Bool) (word : ℕ) (old new : PlainWorld) (sound : IsSound old)
     (was : old.situation e.process ≡ Recovering (at e (Answer how))) (fits : RecoveryFits old e.process (at e (Answer how))) (t : StepsAt e (Answer how) word old new) where
   abbrev p : ℕ
   p = e.process
@@ -204,7 +204,7 @@ some_cells shape =
     omega arith
 
 -- the begin
-module _ (e : PlainRecovery) (old new : World) (sound : IsSound old) (real : e.process < old.layout.processes) (cells : cells_of old.layout ≡ e.cells) (processes : old.layout.processes ≡ e.processes)
+module _ (e : PlainRecoverCall) (old new : PlainWorld) (sound : IsSound old) (real : e.process < old.layout.processes) (cells : cells_of old.layout ≡ e.cells) (processes : old.layout.processes ≡ e.processes)
     (b : BeginsRecovery e old new) where
   abbrev q : ℕ
   q = e.process
@@ -223,7 +223,7 @@ module _ (e : PlainRecovery) (old new : World) (sound : IsSound old) (real : e.p
     mine = refl;
     cells = rw tb.layout cells;
     processes = rw tb.layout processes;
-    doubt = subst (λ (o : Option Issue). DoubtFits new q o) (sym (b.open_edits q)) (doubt_grows Version old new q gb (b.open_edits q) (λ x. cc) (λ n k. record_no_version q n k) (old.open_edits q) doubt);
+    doubt = subst (λ (o : Option PlainIssue). DoubtFits new q o) (sym (b.open_edits q)) (doubt_grows Version old new q gb (b.open_edits q) (λ x. cc) (λ n k. record_no_version q n k) (old.open_edits q) doubt);
     freed = λ r l by. omega arith;
     resolved = tt;
     buffer = b.memory.buffer q ∙ empty;
@@ -276,7 +276,7 @@ module _ (e : PlainRecovery) (old new : World) (sound : IsSound old) (real : e.p
       let f : Framed old new = silent_framed q old new mb tb.counted sound (buffered old sound) owes excuses parts splits b.memory.buffer in
       let through : IsThrough old q = record { next = next; rest = record { number = idle.number; open_edits = idle.open_edits; below = idle.below; cached = idle.cached; persisted = idle.persisted } } in
       quiet_sound q old new tb sound mb f.bears f.stand f.apart (silent_keeps q old new mb tb.counted sound (buffered old sound) owes excuses parts splits b.memory.buffer)
-      (λ l. subst (λ (s : Situation). CallFits new q s) (sym b.situation) (begun idle.buffer (subst (λ (o : Option Issue). DoubtFits old q o) (sym idle.open_edits) through)))
+      (λ l. subst (λ (s : Situation). CallFits new q s) (sym b.situation) (begun idle.buffer (subst (λ (o : Option PlainIssue). DoubtFits old q o) (sym idle.open_edits) through)))
 
   pub begin_keeps : (old.situation q ≡ Stopped) ⊎ ((next : ℕ) × (old.situation q ≡ Idle next)) → Keeps q old new
   begin_keeps (inl was) = from_stopped was

@@ -7,9 +7,9 @@ use Rattle.ds_words.specs.Memory.{SameMemory, FlushesAt}
 use Rattle.ds_layout.specs.Places.{class_of}
 use Rattle.ds_layout.specs.declared.place.Place.{Place}
 use Rattle.ds_layout.specs.declared.place.Place.TheVariants.{Version, Head, Mark, Value, Kind, Announce}
-use Rattle.ds_state.specs.Works.{PlainRecovery}
+use Rattle.ds_state.specs.Works.{PlainRecoverCall}
 use Rattle.ds_state.specs.RecoverStages.{IsStage}
-use Rattle.ds_state.specs.World.{Edit, Issue, World, of_cell, head_after_all}
+use Rattle.ds_state.specs.World.{PlainEdit, PlainIssue, PlainWorld, of_cell, head_after_all}
 use Rattle.ds_state.specs.Owing.{entry, IsHeld, Owes, RecoveryOwes, Parts, RecoveryParts, CellOwes, IsPending, Excuses, RecoveryExcuses, IsExcused, Splits, RecoverySplits, IsIndexed}
 use Rattle.ds_layout.specs.Mark.{IsHeldBy}
 use Rattle.ds_state.specs.Standing.{Matters}
@@ -30,24 +30,24 @@ use Rattle.ds_state.proofs.EditFrame.{flush_any}
 use Rattle.ds_state.proofs.Accesses.{Turn, same_moves, flush_moves, quiet_sound}
 
 -- the same recovery, with what it noted, at a stage
-abbrev pub on : PlainRecovery → ℕ → List ℕ → ℕ → ℕ → RecoverStage → PlainRecovery
+abbrev pub on : PlainRecoverCall → ℕ → List ℕ → ℕ → ℕ → RecoverStage → PlainRecoverCall
 on e mark row word cell s = record e { mark = mark; row = row; announcement = word; cell = cell; stage = s }
 
-abbrev pub AgreesOn : World → ℕ → Type 0
+abbrev pub AgreesOn : PlainWorld → ℕ → Type 0
 AgreesOn w r = ValueAgrees w r × KindAgrees w r
 
 -- what the process owed that matters, it owes still
-pub record Passes (p : ℕ) (row : List ℕ) (s : RecoverStage) (row' : List ℕ) (s' : RecoverStage) (old new : World) : Type 0 where
+pub record Passes (p : ℕ) (row : List ℕ) (s : RecoverStage) (row' : List ℕ) (s' : RecoverStage) (old new : PlainWorld) : Type 0 where
   pub owes : (r c x : ℕ) → IsIndexed old r c → Matters new c x → IsHeld old.memory p r → RecoveryOwes old.memory p row s r c x → IsHeld new.memory p r × RecoveryOwes new.memory p row' s' r c x
   pub excuses : (c x : ℕ) → Matters new c x → IsPending old p c → RecoveryExcuses old.memory p c s x → IsPending new p c × RecoveryExcuses new.memory p c s' x
   pub parts : (r : ℕ) → IsHeld old.memory p r → RecoveryParts s r → (IsHeld new.memory p r × RecoveryParts s' r) ⊎ AgreesOn new r
-  pub splits : (f : Edit) (before : List Edit) → of_cell f.cell old.counted ≡ before ++ f ∷ [] → (issue : Issue) → old.open_edits p ≡ Some issue → issue.edit ≡ f → IsPending old p f.cell → RecoverySplits s → IsPending new p f.cell × RecoverySplits s'
+  pub splits : (f : PlainEdit) (before : List PlainEdit) → of_cell f.cell old.counted ≡ before ++ f ∷ [] → (issue : PlainIssue) → old.open_edits p ≡ Some issue → issue.edit ≡ f → IsPending old p f.cell → RecoverySplits s → IsPending new p f.cell × RecoverySplits s'
 
-pub turn_of : (e : PlainRecovery) (s : RecoverStage) (word : ℕ) (old new : World) → StepsAt e s word old new → Turn e.process old new
+pub turn_of : (e : PlainRecoverCall) (s : RecoverStage) (word : ℕ) (old new : PlainWorld) → StepsAt e s word old new → Turn e.process old new
 turn_of e s word old new t = record { layout = t.layout; counted = t.counted; situations = t.others; pendings = t.others_open_edits }
 
 -- where the marks and the announcement of the process stay
-pub held_on : (p : ℕ) (old new : World) → Moves p Version old new → (r : ℕ) → IsHeld old.memory p r → IsHeld new.memory p r
+pub held_on : (p : ℕ) (old new : PlainWorld) → Moves p Version old new → (r : ℕ) → IsHeld old.memory p r → IsHeld new.memory p r
 held_on p old new m r k =
     let a = m.cached (Mark r) (λ x. cc) in
     let b = m.persisted (Mark r) (λ x. cc) in
@@ -55,7 +55,7 @@ held_on p old new m r k =
     let same = k.same in
     record { by = omega arith; same = omega arith }
 
-pub pends_on : (p : ℕ) (old new : World) → Moves p Version old new → new.open_edits p ≡ old.open_edits p → (c : ℕ) → IsPending old p c → IsPending new p c
+pub pends_on : (p : ℕ) (old new : PlainWorld) → Moves p Version old new → new.open_edits p ≡ old.open_edits p → (c : ℕ) → IsPending old p c → IsPending new p c
 pends_on p old new m pending c k = record {
   issue = k.issue;
   issued = pending ∙ k.issued;
@@ -64,12 +64,12 @@ pends_on p old new m pending c k = record {
   persisted = m.persisted (Announce p) (λ x. cc) ∙ k.persisted;
 }
 
-pub simple_passes : (p : ℕ) (row : List ℕ) (s : RecoverStage) (row' : List ℕ) (s' : RecoverStage) (old new : World)
+pub simple_passes : (p : ℕ) (row : List ℕ) (s : RecoverStage) (row' : List ℕ) (s' : RecoverStage) (old new : PlainWorld)
     → ((r : ℕ) → IsHeld old.memory p r → IsHeld new.memory p r) → ((c : ℕ) → IsPending old p c → IsPending new p c)
     → ((r c x : ℕ) → IsIndexed old r c → Matters new c x → IsHeld old.memory p r → RecoveryOwes old.memory p row s r c x → RecoveryOwes new.memory p row' s' r c x)
     → ((c x : ℕ) → Matters new c x → IsPending old p c → RecoveryExcuses old.memory p c s x → RecoveryExcuses new.memory p c s' x)
     → ((r : ℕ) → IsHeld old.memory p r → RecoveryParts s r → RecoveryParts s' r)
-    → ((f : Edit) (before : List Edit) → of_cell f.cell old.counted ≡ before ++ f ∷ [] → (issue : Issue) → old.open_edits p ≡ Some issue → issue.edit ≡ f → IsPending old p f.cell → RecoverySplits s → RecoverySplits s')
+    → ((f : PlainEdit) (before : List PlainEdit) → of_cell f.cell old.counted ≡ before ++ f ∷ [] → (issue : PlainIssue) → old.open_edits p ≡ Some issue → issue.edit ≡ f → IsPending old p f.cell → RecoverySplits s → RecoverySplits s')
     → Passes p row s row' s' old new
 simple_passes p row s row' s' old new held pends owes excuses parts splits = record {
   owes = λ r c x bit matters k o. (held r k, owes r c x bit matters k o);
@@ -78,7 +78,7 @@ simple_passes p row s row' s' old new held pends owes excuses parts splits = rec
   splits = λ f before last_of issue issued same k o. (pends f.cell k, splits f before last_of issue issued same k o);
 }
 
-module _ (e : PlainRecovery) (mark : ℕ) (row : List ℕ) (word : ℕ) (cell : ℕ) (s s' : RecoverStage) (old new : World)
+module _ (e : PlainRecoverCall) (mark : ℕ) (row : List ℕ) (word : ℕ) (cell : ℕ) (s s' : RecoverStage) (old new : PlainWorld)
     (was : old.situation e.process ≡ Recovering (record e { stage = s })) (is : new.situation e.process ≡ Recovering (on e mark row word cell s')) where
   module _ (place : Place) (moves : Moves e.process place old new) (passes : Passes e.process e.row s row s' old new) where
     pub recovery_mine : ((r : ℕ) → (place ≡ Value r) ⊎ (place ≡ Kind r) → IsHeldBy e.process (old.memory.cached (Mark r)) → (c x : ℕ) → CellOwes new r c x)
@@ -134,7 +134,7 @@ module _ (e : PlainRecovery) (mark : ℕ) (row : List ℕ) (word : ℕ) (cell : 
     mine = refl;
     cells = rw layout fits.cells;
     processes = rw layout fits.processes;
-    doubt = subst (λ (o : Option Issue). DoubtFits new e.process o) (sym pending) doubt;
+    doubt = subst (λ (o : Option PlainIssue). DoubtFits new e.process o) (sym pending) doubt;
     freed = freed;
     resolved = resolved;
     buffer = buffer;
@@ -142,7 +142,7 @@ module _ (e : PlainRecovery) (mark : ℕ) (row : List ℕ) (word : ℕ) (cell : 
   }
 
 -- steps that give no cell back and announce nothing
-module _ (e : PlainRecovery) (mark : ℕ) (row : List ℕ) (word : ℕ) (cell : ℕ) (s s' : RecoverStage) (old new : World) (sound : IsSound old)
+module _ (e : PlainRecoverCall) (mark : ℕ) (row : List ℕ) (word : ℕ) (cell : ℕ) (s s' : RecoverStage) (old new : PlainWorld) (sound : IsSound old)
     (was : old.situation e.process ≡ Recovering (record e { stage = s })) (fits : RecoveryFits old e.process (record e { stage = s })) (real : e.process < old.layout.processes)
     (tn : Turn e.process old new) (is : new.situation e.process ≡ Recovering (on e mark row word cell s')) (pending : new.open_edits e.process ≡ old.open_edits e.process)
     (passes : Passes e.process e.row s row s' old new) where

@@ -7,8 +7,8 @@ use Rattle.std.proofs.lemmas.Bool.Decides.{eqb_tells}
 use Rattle.ds_words.specs.Memory.{SameMemory, FlushesAt, WritesBack}
 use Rattle.ds_layout.specs.Places.{class_of, cells_of}
 use Rattle.ds_layout.specs.declared.place.Place.TheVariants.{Version, Mark, Value, Kind}
-use Rattle.ds_state.specs.Works.{PlainRecovery, HELD_MOST}
-use Rattle.ds_state.specs.World.{World}
+use Rattle.ds_state.specs.Works.{PlainRecoverCall, HELD_MOST}
+use Rattle.ds_state.specs.World.{PlainWorld}
 use Rattle.ds_state.specs.Owing.{entry, HoldsNone, StandsIn}
 use Rattle.ds_layout.specs.Mark.{IsHeldBy, marked}
 use Rattle.ds_state.specs.KnownWork.{HasMark}
@@ -73,7 +73,7 @@ held_cases p word = elim (eqb_tells (word / 2 % 16) (p + 1)) [
 pub told_below : (row : List ℕ) (n d k : ℕ) → told_from row n d ≡ Some k → k < d + n
 told_below row n d k is = (subst (λ (o : Option ℕ). ToldFits row n d o) is (first_fits row n d)).1
 
-module _ (e : PlainRecovery) (word : ℕ) (old new : World) (sound : IsSound old) (real : e.process < old.layout.processes) where
+module _ (e : PlainRecoverCall) (word : ℕ) (old new : PlainWorld) (sound : IsSound old) (real : e.process < old.layout.processes) where
   abbrev p : ℕ
   p = e.process
 
@@ -128,7 +128,7 @@ module _ (e : PlainRecovery) (word : ℕ) (old new : World) (sound : IsSound old
       (record { value = old.memory.cached (Mark c); alone = m.mine ∙ ap (λ xs. xs ++ entry (Mark c) (old.memory.cached (Mark c)) ∷ []) fits.buffer; had = (let k = m.cached (Mark c) in omega arith); is = λ q by. rw tn.layout ((sound.words (Mark c)).holder q by) }) fits.is.stage
 
   -- no cell is left: it holds none
-  none_left : (w : World) (c : ℕ) → IsSound w → cells_of w.layout ≡ e.cells → e.cells ≤ c → HoldsFrom w p c → HoldsNone w p
+  none_left : (w : PlainWorld) (c : ℕ) → IsSound w → cells_of w.layout ≡ e.cells → e.cells ≤ c → HoldsFrom w p c → HoldsNone w p
   none_left w c s cells most h r by = let k = ((s.words (Mark r)).holder p by).1 in h r (omega arith) by
 
   pub step_flush_value : (c : ℕ) → old.situation e.process ≡ Recovering (at e (FlushValue c)) → RecoveryFits old e.process (at e (FlushValue c)) → StepsAt e (FlushValue c) word old new → Keeps e.process old new

@@ -3,9 +3,9 @@ use Rattle.std.proofs.Common.{ℕ, ◌≡◌, ◌≢◌, ◌≤◌, ◌+◌, ◌
 use Rattle.std.proofs.lemmas.Bool.{cases_eq}
 use Rattle.ds_words.specs.Memory.{StoresAt}
 use Rattle.ds_layout.specs.declared.place.Place.TheVariants.{Head, Mark, Value, Kind, Announce}
-use Rattle.ds_state.specs.Works.{PlainRecovery, HELD_MOST}
+use Rattle.ds_state.specs.Works.{PlainRecoverCall, HELD_MOST}
 use Rattle.ds_state.specs.RecoverStages.{IsFreeing}
-use Rattle.ds_state.specs.World.{World}
+use Rattle.ds_state.specs.World.{PlainWorld}
 use Rattle.ds_state.specs.Owing.{IsMark, IsHeld, RecoveryOwes, RecoveryParts, IsPending}
 use Rattle.ds_layout.specs.Mark.{IsClean, IsHeldBy, freed_after}
 use Rattle.ds_state.specs.KnownRecovery.{Holding, HoldsFrom}
@@ -32,7 +32,7 @@ pub given_free : (mark q : ℕ) → IsHeldBy q (given mark) → ⊥
 given_free mark q by = omega arith
 
 -- from either stage that gives the cell c back
-module _ (e : PlainRecovery) (c : ℕ) (s : RecoverStage) (old new : World) (sound : IsSound old)
+module _ (e : PlainRecoverCall) (c : ℕ) (s : RecoverStage) (old new : PlainWorld) (sound : IsSound old)
     (owed : (r d x : ℕ) → RecoveryOwes old.memory e.process e.row s r d x → c ≢ r) (parted : (r : ℕ) → RecoveryParts s r → c ≢ r)
     (was : old.situation e.process ≡ Recovering (record e { stage = s })) (fits : RecoveryFits old e.process (record e { stage = s })) (h : Holding old e.process e.mark c)
     (empty : old.memory.buffer e.process ≡ []) (free : IsFreeing e.cells e.mark c)

@@ -6,8 +6,8 @@ use Rattle.std.proofs.lemmas.Bool.{cases_eq}
 use Rattle.std.proofs.lemmas.List.{get_or-set_same, get_or-set_other, get_or_default}
 use Rattle.ds_layout.specs.declared.layout.Layout.{Layout}
 use Rattle.ds_layout.specs.SheetMemory.{SheetValue, memory, CanPerform, PerformsAt}
-use Rattle.ds_state.specs.Works.{PlainRecovery}
-use Rattle.ds_state.specs.World.{Edit, Issue}
+use Rattle.ds_state.specs.Works.{PlainRecoverCall}
+use Rattle.ds_state.specs.World.{PlainEdit, PlainIssue}
 use Rattle.ds_state.specs.Underway.{reports_in}
 use Rattle.ds_state.specs.Value.{WorldValue, world_of, IsGood, IsReserved}
 use Rattle.ds_state.specs.CallsFit.{CallFits, RecoveryFits}
@@ -24,28 +24,28 @@ use Rattle.ds_recover.proofs.RecoveryLaws.{steps as steps_keep}
 use Rattle.ds_recover.proofs.RecoveryPossible.{possible}
 
 -- the process's recovery
-pub record IsRecovering (v : WorldValue) (p : ℕ) (e : PlainRecovery) : Type 0 where
+pub record IsRecovering (v : WorldValue) (p : ℕ) (e : PlainRecoverCall) : Type 0 where
   pub there : p < length v.situations
   pub is : (world_of v).situation p ≡ Recovering e
 
-pub recovering_from : (v : WorldValue) (p : ℕ) (e : PlainRecovery) (read : Situation) → p < length v.situations → read ≡ get_or v.situations p read → read ≡ Recovering e → IsRecovering v p e
+pub recovering_from : (v : WorldValue) (p : ℕ) (e : PlainRecoverCall) (read : Situation) → p < length v.situations → read ≡ get_or v.situations p read → read ≡ Recovering e → IsRecovering v p e
 recovering_from v p e read lt is here = record { there = lt; is = get_or_default v.situations p (Idle 0) read lt ∙ sym is ∙ here }
 
-no_report : (e : PlainRecovery) (s : RecoverStage) (word : ℕ) → reports_in (after e s word) ≡ 0
+no_report : (e : PlainRecoverCall) (s : RecoverStage) (word : ℕ) → reports_in (after e s word) ≡ 0
 no_report e (Answer how) word = refl
 no_report e _ word = refl
 
 -- what the effect says of the edit in doubt is what the stage says
-pub resolved_by : (e : PlainRecovery) (s : RecoverStage) (issue : Option Issue) → open_edit_by issue (effect_at e s) ≡ open_edit_at issue s
+pub resolved_by : (e : PlainRecoverCall) (s : RecoverStage) (issue : Option PlainIssue) → open_edit_by issue (effect_at e s) ≡ open_edit_at issue s
 resolved_by e (Answer how) issue = refl
 resolved_by e _ issue = refl
 
 -- what is open after it was open before
-was_open : (s : RecoverStage) (o : Option Issue) (issue : Issue) → open_edit_at o s ≡ Some issue → o ≡ Some issue
+was_open : (s : RecoverStage) (o : Option PlainIssue) (issue : PlainIssue) → open_edit_at o s ≡ Some issue → o ≡ Some issue
 was_open (Answer how) o issue is = absurd (cc)
 was_open _ o issue is = is
 
-module _ (v : WorldValue) (g : IsGood v) (p : ℕ) (e : PlainRecovery) (at : IsRecovering v p e) where
+module _ (v : WorldValue) (g : IsGood v) (p : ℕ) (e : PlainRecoverCall) (at : IsRecovering v p e) where
   pub low : p < v.sheet.layout.processes
   low = let t = at.there in let s = g.situations in omega arith
 
@@ -90,7 +90,7 @@ module _ (v : WorldValue) (g : IsGood v) (p : ℕ) (e : PlainRecovery) (at : IsR
       others_open_edits = λ q ne. get_or-set_other v.open_edits p q (open_edit_at (get_or v.open_edits p None) e.stage) None (λ same. ne (same ∙ sym mine));
     }
 
-    open_before : (f : Edit) (issue : Issue) → Contains v.counted f → (world_of next).open_edits f.process ≡ Some issue → issue.edit ≡ f → (world_of v).open_edits f.process ≡ Some issue
+    open_before : (f : PlainEdit) (issue : PlainIssue) → Contains v.counted f → (world_of next).open_edits f.process ≡ Some issue → issue.edit ≡ f → (world_of v).open_edits f.process ≡ Some issue
     open_before f issue there now is = elim (cases_eq f.process e.process) [
       | inl same ↦ ap (λ q. (world_of v).open_edits q) same ∙ was_open e.stage ((world_of v).open_edits e.process) issue (sym steps.open_edits ∙ sym (ap (λ q. (world_of next).open_edits q) same) ∙ now)
       | inr other ↦ sym (steps.others_open_edits f.process other) ∙ now
@@ -126,9 +126,9 @@ module _ (v : WorldValue) (g : IsGood v) (p : ℕ) (e : PlainRecovery) (at : IsR
     }
 
     -- a world of these parts is that world
-    pub next_is : (situation : Situation) (open_issue : Option Issue) → situation ≡ after e e.stage word → open_issue ≡ open_edit_at (get_or v.open_edits p None) e.stage
+    pub next_is : (situation : Situation) (open_issue : Option PlainIssue) → situation ≡ after e e.stage word → open_issue ≡ open_edit_at (get_or v.open_edits p None) e.stage
         → (let w : WorldValue = record v { sheet = sheet; situations = set v.situations p situation; open_edits = set v.open_edits p open_issue } in w) ≡ next
     unfolding next
     next_is situation open_issue a b =
-        let made : Situation → Option Issue → WorldValue = λ s i. record v { sheet = sheet; situations = set v.situations p s; open_edits = set v.open_edits p i } in
+        let made : Situation → Option PlainIssue → WorldValue = λ s i. record v { sheet = sheet; situations = set v.situations p s; open_edits = set v.open_edits p i } in
         ap (λ s. made s open_issue) a ∙ ap (λ i. made (after e e.stage word) i) b

@@ -6,8 +6,8 @@ use Rattle.ds_words.specs.Memory.{FlushesAt, WritesBack}
 use Rattle.ds_layout.specs.Places.{class_of}
 use Rattle.ds_layout.specs.declared.place.Place.{Place}
 use Rattle.ds_layout.specs.declared.place.Place.TheVariants.{Version, Head, Mark, Announce}
-use Rattle.ds_state.specs.Works.{PlainRecovery}
-use Rattle.ds_state.specs.World.{Edit, Issue, World, of_cell, head_after_all, IsHeadBy}
+use Rattle.ds_state.specs.Works.{PlainRecoverCall}
+use Rattle.ds_state.specs.World.{PlainEdit, PlainIssue, PlainWorld, of_cell, head_after_all, IsHeadBy}
 use Rattle.ds_state.specs.Known.{IsIn}
 use Rattle.ds_state.specs.Owing.{entry, Owes, Parts, Excuses, IsExcused, Splits}
 use Rattle.ds_layout.specs.Mark.{IsHeldBy}
@@ -34,16 +34,16 @@ use Rattle.ds_state.proofs.Accesses.{Turn, flush_moves}
 use Rattle.ds_recover.proofs.RecoveryFrame.{turn_of, held_on, pends_on, simple_passes, flushes}
 use Rattle.ds_recover.proofs.RecoveryBack.{pends_from, first_back, between, moved_back, grown_back}
 
-same_issue : {o : Option Issue} {a b : Issue} → o ≡ Some a → o ≡ Some b → a ≡ b
+same_issue : {o : Option PlainIssue} {a b : PlainIssue} → o ≡ Some a → o ≡ Some b → a ≡ b
 same_issue x y = let both : Some _ ≡ Some _ = sym x ∙ y in cc
 
 -- the head of a cell that has an edit is some edit's, and no earlier one
-record NowHead (w : World) (cell own : ℕ) : Type 0 where
-  pub by : Edit
+record NowHead (w : PlainWorld) (cell own : ℕ) : Type 0 where
+  pub by : PlainEdit
   pub gave : IsHeadBy (of_cell cell w.counted) (w.memory.cached (Head cell)) by
   pub enough : own ≤ w.memory.cached (Head cell)
 
-now_head : (w : World) → IsSound w → (cell own : ℕ) (f : Edit) → IsHeadBy (of_cell cell w.counted) own f → NowHead w cell own
+now_head : (w : PlainWorld) → IsSound w → (cell own : ℕ) (f : PlainEdit) → IsHeadBy (of_cell cell w.counted) own f → NowHead w cell own
 now_head w sound cell own f h =
     let small : Small (of_cell cell w.counted) = small_of_cell cell w.counted (small_counted w sound.of_sheet) in
     let most = by_most (of_cell cell w.counted) own f small h in
@@ -52,19 +52,19 @@ now_head w sound cell own f h =
       | inl none ↦ absurd (nothing h.before (sym none ∙ h.parts))
       | inr found ↦ record {
         by = found.1;
-        gave = subst (λ (x : ℕ). IsHeadBy (of_cell cell w.counted) x found.1) (ap head_after_all (sym found.2) ∙ sym is) (subst (λ (es : List Edit). IsHeadBy es (head_after_all (found.0 ++ found.1 ∷ [])) found.1) (sym found.2) (by_last found.0 found.1));
+        gave = subst (λ (x : ℕ). IsHeadBy (of_cell cell w.counted) x found.1) (ap head_after_all (sym found.2) ∙ sym is) (subst (λ (es : List PlainEdit). IsHeadBy es (head_after_all (found.0 ++ found.1 ∷ [])) found.1) (sym found.2) (by_last found.0 found.1));
         enough = omega arith;
       }
     ]
   where
-    nothing : (before : List Edit) → [] ≡ before ++ f ∷ h.after → ⊥
+    nothing : (before : List PlainEdit) → [] ≡ before ++ f ∷ h.after → ⊥
     nothing [] is = cc
     nothing (b ∷ bs) is = cc
 
-in_parts : (before : List Edit) (e : Edit) (after : List Edit) → Contains (before ++ e ∷ after) e
+in_parts : (before : List PlainEdit) (e : PlainEdit) (after : List PlainEdit) → Contains (before ++ e ∷ after) e
 in_parts before e after = Rattle.ds_state.proofs.Found.contains_at before e after
 
-module _ (e : PlainRecovery) (word : ℕ) (old new : World) (sound : IsSound old) (real : e.process < old.layout.processes) where
+module _ (e : PlainRecoverCall) (word : ℕ) (old new : PlainWorld) (sound : IsSound old) (real : e.process < old.layout.processes) where
   abbrev p : ℕ
   p = e.process
 
@@ -85,11 +85,11 @@ module _ (e : PlainRecovery) (word : ℕ) (old new : World) (sound : IsSound old
         value = old.memory.cached (Head e.cell);
         alone = m.mine ∙ ap (λ xs. xs ++ entry (Head e.cell) (old.memory.cached (Head e.cell)) ∷ []) fits.buffer;
         by = n.by;
-        gave = subst (λ (es : List Edit). IsHeadBy (of_cell e.cell es) (old.memory.cached (Head e.cell)) n.by) (sym tn.counted) n.gave;
+        gave = subst (λ (es : List PlainEdit). IsHeadBy (of_cell e.cell es) (old.memory.cached (Head e.cell)) n.by) (sym tn.counted) n.gave;
         issue = h.issue;
         issued = t.open_edits ∙ h.it.issued;
         own = own;
-        head = subst (λ (es : List Edit). IsHeadBy (of_cell e.cell es) own h.issue.edit) (sym tn.counted) stands;
+        head = subst (λ (es : List PlainEdit). IsHeadBy (of_cell e.cell es) own h.issue.edit) (sym tn.counted) stands;
         enough = n.enough;
       }) fits.is.stage
 
@@ -167,26 +167,26 @@ module _ (e : PlainRecovery) (word : ℕ) (old new : World) (sound : IsSound old
       | inr other ↦ (t.others_open_edits f.process other ∙ is, others_split f.process other f.cell _ owes)
       | inl eq ↦ absurd (
           let mine : issue ≡ h.issue = same_issue (ap old.open_edits (sym eq) ∙ is) h.it.issued in
-          let at_cell : d ≡ e.cell = sym its ∙ ap (λ (x : Edit). x.cell) (sym same) ∙ ap (λ (i : Issue). i.edit.cell) mine ∙ h.own_is in
+          let at_cell : d ≡ e.cell = sym its ∙ ap (λ (x : PlainEdit). x.cell) (sym same) ∙ ap (λ (i : PlainIssue). i.edit.cell) mine ∙ h.own_is in
           ne (ap (λ (x : ℕ). Head x) at_cell))
     ]
 
-    abbrev es : List Edit
+    abbrev es : List PlainEdit
     es = of_cell e.cell old.counted
 
     small_es : Small es
     small_es = small_of_cell e.cell old.counted (small_counted old sound.of_sheet)
 
     -- where its edit is its cell's last one, its own head is the cached one
-    own_last : (before : List Edit) (last : Edit) → es ≡ before ++ last ∷ [] → last ≡ one.issue.edit → one.own ≡ head_after_all es
+    own_last : (before : List PlainEdit) (last : PlainEdit) → es ≡ before ++ last ∷ [] → last ≡ one.issue.edit → one.own ≡ head_after_all es
     own_last before last parts same =
-        let by : IsHeadBy (before ++ last ∷ []) one.own one.issue.edit = subst (λ (xs : List Edit). IsHeadBy xs one.own one.issue.edit) parts one.head in
+        let by : IsHeadBy (before ++ last ∷ []) one.own one.issue.edit = subst (λ (xs : List PlainEdit). IsHeadBy xs one.own one.issue.edit) parts one.head in
         elim (by_cases before last one.own one.issue.edit by) [
           | inl is ↦ is ∙ ap head_after_all (sym parts)
           | inr inside ↦ absurd (
-              let there' : Contains before one.issue.edit = subst (λ (xs : List Edit). Contains xs one.issue.edit) (sym inside.parts) (in_parts inside.before one.issue.edit inside.after) in
-              let less = last_greater before last one.issue.edit (subst (λ (xs : List Edit). Increasing xs) parts (increasing_cell e.cell old.counted sound.increasing)) there' (ap (λ (f : Edit). f.process) same) in
-              let eq = ap (λ (f : Edit). f.number) same in
+              let there' : Contains before one.issue.edit = subst (λ (xs : List PlainEdit). Contains xs one.issue.edit) (sym inside.parts) (in_parts inside.before one.issue.edit inside.after) in
+              let less = last_greater before last one.issue.edit (subst (λ (xs : List PlainEdit). Increasing xs) parts (increasing_cell e.cell old.counted sound.increasing)) there' (ap (λ (f : PlainEdit). f.process) same) in
+              let eq = ap (λ (f : PlainEdit). f.number) same in
               omega arith)
         ]
 
@@ -204,7 +204,7 @@ module _ (e : PlainRecovery) (word : ℕ) (old new : World) (sound : IsSound old
         | inr w ↦ elim (cases_eq w.last.process p) [
           | inl mine ↦ inl (
               let is_mine : w.issue ≡ one.issue = same_issue (ap old.open_edits (sym mine) ∙ w.open_edits) one.issued in
-              let owed : one.own ≡ head_after_all es = own_last w.before w.last w.parts (sym w.same ∙ ap (λ (i : Issue). i.edit) is_mine) in
+              let owed : one.own ≡ head_after_all es = own_last w.before w.last w.parts (sym w.same ∙ ap (λ (i : PlainIssue). i.edit) is_mine) in
               let is = cached_is in
               let q = persisted_most old es (old.memory.cached there) (old.memory.persisted there) small_es cached_is (inr w) in
               let k = m.cached there in
@@ -221,7 +221,7 @@ module _ (e : PlainRecovery) (word : ℕ) (old new : World) (sound : IsSound old
               issue = w.issue;
               open_edits = t.others_open_edits w.last.process other ∙ w.open_edits;
               same = w.same;
-              owes = subst (λ (xs : List Edit). Splits new w.last.process (new.situation w.last.process) w.last.cell (head_after_all (of_cell e.cell xs))) (sym tn.counted) (others_split w.last.process other w.last.cell _ w.owes);
+              owes = subst (λ (xs : List PlainEdit). Splits new w.last.process (new.situation w.last.process) w.last.cell (head_after_all (of_cell e.cell xs))) (sym tn.counted) (others_split w.last.process other w.last.cell _ w.owes);
             })
             | inr all ↦ inl (now ∙ all ∙ sym (m.cached there))
           ]
@@ -233,8 +233,8 @@ module _ (e : PlainRecovery) (word : ℕ) (old new : World) (sound : IsSound old
     mine_is = same_issue one.issued h.it.issued
 
     own_head : IsHeadBy (of_cell h.issue.edit.cell new.counted) one.own h.issue.edit
-    own_head = subst (λ (xs : List Edit). IsHeadBy (of_cell h.issue.edit.cell xs) one.own h.issue.edit) (sym tn.counted)
-        (subst (λ (x : ℕ). IsHeadBy (of_cell x old.counted) one.own h.issue.edit) (sym h.own_is) (subst (λ (i : Issue). IsHeadBy es one.own i.edit) mine_is one.head))
+    own_head = subst (λ (xs : List PlainEdit). IsHeadBy (of_cell h.issue.edit.cell xs) one.own h.issue.edit) (sym tn.counted)
+        (subst (λ (x : ℕ). IsHeadBy (of_cell x old.counted) one.own h.issue.edit) (sym h.own_is) (subst (λ (i : PlainIssue). IsHeadBy es one.own i.edit) mine_is one.head))
 
     resolved : ResolvedFits new p e.announcement e.cell (settled true)
     resolved =
@@ -244,7 +244,7 @@ module _ (e : PlainRecovery) (word : ℕ) (old new : World) (sound : IsSound old
           it = record { issued = t.open_edits ∙ h.it.issued; process = h.it.process; number = h.it.number; is = h.it.is; cached = m.cached (Announce p) ∙ h.it.cached };
           own_is = h.own_is;
           and = record {
-            below = subst (λ (xs : List Edit). Rattle.std.specs.Prelude.All (λ f. f.process ≡ h.issue.edit.process → f.number < h.issue.edit.number + 1) xs) (sym tn.counted) h.and.1.below;
+            below = subst (λ (xs : List PlainEdit). Rattle.std.specs.Prelude.All (λ f. f.process ≡ h.issue.edit.process → f.number < h.issue.edit.number + 1) xs) (sym tn.counted) h.and.1.below;
             safe = record { own = one.own; head = own_head; persisted = subst (λ (x : ℕ). one.own ≤ new.memory.persisted (Head x)) (sym h.own_is) (let n = now in let l = one.enough in omega arith) };
           };
         }
@@ -257,7 +257,7 @@ module _ (e : PlainRecovery) (word : ℕ) (old new : World) (sound : IsSound old
           mine = refl;
           cells = rw tn.layout fits.cells;
           processes = rw tn.layout fits.processes;
-          doubt = subst (λ (o : Option Issue). DoubtFits new p o) (sym t.open_edits) (doubt_grows Version old new p g t.open_edits (λ x. cc) (λ n k. record_no_version p n k) (old.open_edits p) fits.doubt);
+          doubt = subst (λ (o : Option PlainIssue). DoubtFits new p o) (sym t.open_edits) (doubt_grows Version old new p g t.open_edits (λ x. cc) (λ n k. record_no_version p n k) (old.open_edits p) fits.doubt);
           freed = λ r by. fits.freed r (subst (λ (x : ℕ). IsHeldBy p x) (m.cached (Mark r)) by);
           resolved = resolved;
           buffer = m.mine;

@@ -7,8 +7,8 @@ use Rattle.ds_layout.specs.Places.{class_of}
 use Rattle.ds_layout.specs.declared.mark.TheConstants.{DIRTY}
 use Rattle.ds_layout.specs.declared.place.Place.{Place}
 use Rattle.ds_layout.specs.declared.place.Place.TheVariants.{Version, Mark, Value, Kind, Announce}
-use Rattle.ds_state.specs.Works.{PlainRecovery}
-use Rattle.ds_state.specs.World.{Edit, Issue, World}
+use Rattle.ds_state.specs.Works.{PlainRecoverCall}
+use Rattle.ds_state.specs.World.{PlainEdit, PlainIssue, PlainWorld}
 use Rattle.ds_state.specs.Owing.{entry, IsPending, IsBelowBuffered}
 use Rattle.ds_state.specs.Standing.{Matters}
 use Rattle.ds_state.specs.KnownWork.{HasMark}
@@ -29,14 +29,14 @@ use Rattle.ds_state.proofs.Accesses.{Turn, flush_moves}
 use Rattle.ds_recover.proofs.RecoveryFrame.{turn_of, simple_passes, flushes}
 use Rattle.ds_recover.proofs.RecoveryBack.{held_from, pends_from, first_back, grown_back, was_there, backs, moved_or, grown_or, ors}
 
-same_issue : {o : Option Issue} {a b : Issue} → o ≡ Some a → o ≡ Some b → a ≡ b
+same_issue : {o : Option PlainIssue} {a b : PlainIssue} → o ≡ Some a → o ≡ Some b → a ≡ b
 same_issue x y = let both : Some _ ≡ Some _ = sym x ∙ y in cc
 
 -- the cell of a pending edit is that of the edit in doubt
-pub its_cell : (w : World) (p word own c : ℕ) (P : Edit → Type 0) → IsOpenAnd w p word own P → IsPending w p c → own ≡ c
-its_cell w p word own c P h k = sym h.own_is ∙ ap (λ (i : Issue). i.edit.cell) (same_issue h.it.issued k.issued) ∙ k.cell
+pub its_cell : (w : PlainWorld) (p word own c : ℕ) (P : PlainEdit → Type 0) → IsOpenAnd w p word own P → IsPending w p c → own ≡ c
+its_cell w p word own c P h k = sym h.own_is ∙ ap (λ (i : PlainIssue). i.edit.cell) (same_issue h.it.issued k.issued) ∙ k.cell
 
-module _ (e : PlainRecovery) (word : ℕ) (old new : World) (sound : IsSound old) (real : e.process < old.layout.processes) where
+module _ (e : PlainRecoverCall) (word : ℕ) (old new : PlainWorld) (sound : IsSound old) (real : e.process < old.layout.processes) where
   abbrev p : ℕ
   p = e.process
 

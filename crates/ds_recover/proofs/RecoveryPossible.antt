@@ -7,9 +7,9 @@ use Rattle.ds_layout.specs.declared.place.Place.{Place}
 use Rattle.ds_layout.specs.declared.place.Place.TheVariants as place
 use Rattle.ds_layout.specs.Places.{cells_of, IsPlace}
 use Rattle.ds_layout.specs.SheetMemory.{NamesPlace, HasEntry, HasBuffer, CanPerform}
-use Rattle.ds_state.specs.Works.{PlainRecovery}
+use Rattle.ds_state.specs.Works.{PlainRecoverCall}
 use Rattle.ds_state.specs.RecoverStages.{IsStage, IsRecovery}
-use Rattle.ds_state.specs.World.{World}
+use Rattle.ds_state.specs.World.{PlainWorld}
 use Rattle.ds_state.specs.Owing.{entry}
 use Rattle.ds_state.specs.KnownRecovery.{RecoveryHolds, recovery_held, value_now, kind_now}
 use Rattle.ds_state.specs.CallsFit.{RecoveryFits}
@@ -19,7 +19,7 @@ use Rattle.ds_state.specs.declared.work.RecoverStage.TheVariants.{LoadMark, Flus
 use Rattle.ds_recover.specs.RecoverySteps.{access_at}
 
 -- each access names a place of the sheet
-named : (layout : Layout) (e : PlainRecovery) → cells_of layout ≡ e.cells → layout.processes ≡ e.processes → e.process < e.processes → (s : RecoverStage) → IsStage e s → NamesPlace layout (access_at e s)
+named : (layout : Layout) (e : PlainRecoverCall) → cells_of layout ≡ e.cells → layout.processes ≡ e.processes → e.process < e.processes → (s : RecoverStage) → IsStage e s → NamesPlace layout (access_at e s)
 named layout e cells processes low (LoadMark c) h = rw cells h
 named layout e cells processes low (FlushValue c) h = rw cells h.0.0
 named layout e cells processes low (FlushKind c) h = rw cells h.0.0
@@ -47,10 +47,10 @@ named layout e cells processes low (FlushOutcome how) h = rw processes low
 named layout e cells processes low (BackOutcome how) h = tt
 named layout e cells processes low (Answer how) h = tt
 
-pub each_named : (layout : Layout) (e : PlainRecovery) → cells_of layout ≡ e.cells → layout.processes ≡ e.processes → IsRecovery e → NamesPlace layout (access_at e e.stage)
+pub each_named : (layout : Layout) (e : PlainRecoverCall) → cells_of layout ≡ e.cells → layout.processes ≡ e.processes → IsRecovery e → NamesPlace layout (access_at e e.stage)
 each_named layout e cells processes is = named layout e cells processes is.process e.stage is.stage
 
-module _ (e : PlainRecovery) (w : World) (low : e.process < w.layout.processes) (cells : cells_of w.layout ≡ e.cells) where
+module _ (e : PlainRecoverCall) (w : PlainWorld) (low : e.process < w.layout.processes) (cells : cells_of w.layout ≡ e.cells) where
   room : (es : List (Entry Place)) → w.memory.buffer e.process ≡ es → length es ≤ 1 → (e.process < w.layout.processes) × (length (w.memory.buffer e.process) < BUFFER_ENTRIES)
   room es is few = (low, let l = ap length is in omega arith)
 
@@ -88,5 +88,5 @@ module _ (e : PlainRecovery) (w : World) (low : e.process < w.layout.processes) 
   buffered (BackOutcome how) h b = first (place.Announce e.process) e.announcement [] b low
   buffered (Answer how) h b = tt
 
-pub possible : (e : PlainRecovery) (w : World) → e.process < w.layout.processes → RecoveryFits w e.process e → CanPerform w.layout w.memory e.process (access_at e e.stage)
+pub possible : (e : PlainRecoverCall) (w : PlainWorld) → e.process < w.layout.processes → RecoveryFits w e.process e → CanPerform w.layout w.memory e.process (access_at e e.stage)
 possible e w low fits = (each_named w.layout e fits.cells fits.processes fits.is, buffered e w low fits.cells e.stage fits.is.stage fits.buffer)

@@ -9,7 +9,7 @@ use Rattle.ds_layout.specs.declared.announcement.Phase.{Phase}
 use Rattle.ds_layout.specs.declared.announcement.Phase.TheVariants as phase
 use Rattle.ds_layout.specs.Announcement.{announcement_of}
 use Rattle.ds_layout.specs.Head.{head_of}
-use Rattle.ds_state.specs.Works.{PlainRecovery}
+use Rattle.ds_state.specs.Works.{PlainRecoverCall}
 use Rattle.ds_state.specs.RecoverStages.{IsStage, IsRecovery}
 use Rattle.ds_layout.specs.Bits.{parts_for}
 use Rattle.ds_state.specs.Telling.{told_from}
@@ -58,7 +58,7 @@ row_by cells cell part row false is l =
     omega arith
 
 -- either stage is lower
-either : (cells n : ℕ) (b : Bool) (e f : PlainRecovery) → rank cells e.stage < n → rank cells f.stage < n → rank cells (if b then e else f).stage < n
+either : (cells n : ℕ) (b : Bool) (e f : PlainRecoverCall) → rank cells e.stage < n → rank cells f.stage < n → rank cells (if b then e else f).stage < n
 either cells n true e f l k = l
 either cells n false e f l k = k
 
@@ -71,11 +71,11 @@ resolves_lower : (cells : ℕ) (o : Option Announcement) → rank cells (resolve
 resolves_lower cells None = omega arith
 resolves_lower cells (Some a) = phase_lower cells a.phase
 
-announced_lower : (e : PlainRecovery) (word : ℕ) (o : Option Announcement) → rank e.cells (announced_from e word o).stage < 15
+announced_lower : (e : PlainRecoverCall) (word : ℕ) (o : Option Announcement) → rank e.cells (announced_from e word o).stage < 15
 announced_lower e word None = omega arith
 announced_lower e word (Some a) = omega arith
 
-falls : (e : PlainRecovery) (s : RecoverStage) (word : ℕ) → e.cells ≤ 1024 → IsStage e s → Falls e s (next_at e s word)
+falls : (e : PlainRecoverCall) (s : RecoverStage) (word : ℕ) → e.cells ≤ 1024 → IsStage e s → Falls e s (next_at e s word)
 falls e (LoadMark c) word most h =
     let k = one_fewer e.cells c h in
     either e.cells (cells_rank e.cells c) (reads_held e.process word) _ _ (omega arith) (looks_lower e.cells (c + 1) (cells_rank e.cells c) (omega arith) (omega arith))
@@ -108,14 +108,14 @@ falls e (FlushOutcome how) word most h = omega arith
 falls e (BackOutcome how) word most h = omega arith
 falls e (Answer how) word most h = tt
 
-pub each_falls : (e : PlainRecovery) (word : ℕ) → IsRecovery e → Falls e e.stage (next_at e e.stage word)
+pub each_falls : (e : PlainRecoverCall) (word : ℕ) → IsRecovery e → Falls e e.stage (next_at e e.stage word)
 each_falls e word is = falls e e.stage word is.cells is.stage
 
 -- within a cell, no more than for the cell
 within : (cells c n : ℕ) → c < cells → n ≤ 3 * cells + 30 → cells_rank cells (c + 1) + n ≤ cells * (3 * cells + 30) + 20
 within cells c n l k = let a = one_fewer cells c l in let b = few_cells cells c in omega arith
 
-few : (e : PlainRecovery) (s : RecoverStage) → e.cells ≤ 1024 → IsStage e s → rank e.cells s ≤ e.cells * (3 * e.cells + 30) + 20
+few : (e : PlainRecoverCall) (s : RecoverStage) → e.cells ≤ 1024 → IsStage e s → rank e.cells s ≤ e.cells * (3 * e.cells + 30) + 20
 few e (LoadMark c) most h = few_cells e.cells c
 few e (FlushValue c) most h = let k = within e.cells c (3 * e.cells + 29) h.0.0 (omega arith) in omega arith
 few e (FlushKind c) most h = let k = within e.cells c (3 * e.cells + 28) h.0.0 (omega arith) in omega arith
@@ -143,5 +143,5 @@ few e (FlushOutcome how) most h = omega arith
 few e (BackOutcome how) most h = omega arith
 few e (Answer how) most h = omega arith
 
-pub each_few : (e : PlainRecovery) → IsRecovery e → rank e.cells e.stage ≤ e.cells * (3 * e.cells + 30) + 20
+pub each_few : (e : PlainRecoverCall) → IsRecovery e → rank e.cells e.stage ≤ e.cells * (3 * e.cells + 30) + 20
 each_few e is = few e e.stage is.cells is.stage

@@ -8,9 +8,9 @@ use Rattle.ds_layout.specs.declared.announcement.Phase.{Phase}
 use Rattle.ds_layout.specs.declared.announcement.Phase.TheVariants as phase
 use Rattle.ds_layout.specs.Announcement.{announcement_of}
 use Rattle.ds_layout.specs.Head.{head_of}
-use Rattle.ds_state.specs.Works.{PlainRecovery}
+use Rattle.ds_state.specs.Works.{PlainRecoverCall}
 use Rattle.ds_layout.specs.Bits.{parts_for}
-use Rattle.ds_state.specs.World.{World, announcement, last_announcement, phase_among}
+use Rattle.ds_state.specs.World.{PlainWorld, announcement, last_announcement, phase_among}
 use Rattle.ds_state.specs.Known.{AreBelow}
 use Rattle.ds_state.specs.Owing.{StandsIn}
 use Rattle.ds_state.specs.KnownRecovery.{phase_for, Tells}
@@ -34,7 +34,7 @@ some_told : (word : ℕ) (how : Bool) → Tells word how → word / 4 ≡ word /
 some_told word true k = let i = k.is in omega arith
 some_told word false k = let i = k.is in omega arith
 
-pub repeats : (e : PlainRecovery) (how : Option Bool) (w : World) → RecoveryFits w e.process (at e (Answer how)) → RepeatsAs w e.process (end_of e how)
+pub repeats : (e : PlainRecoverCall) (how : Option Bool) (w : PlainWorld) → RecoveryFits w e.process (at e (Answer how)) → RepeatsAs w e.process (end_of e how)
 repeats e None w fits = (rests w e.process e.announcement e.cell None fits.doubt fits.resolved).below
 repeats e (Some how) w fits =
     let r : Rests w e.process (e.announcement / 4) = rests w e.process e.announcement e.cell (Some how) fits.doubt fits.resolved in
@@ -69,11 +69,11 @@ looks_none : (b : Bool) (c cell k : ℕ) (X : Type 0) → (if b then LoadMark c 
 looks_none true c cell k X at = absurd (cc)
 looks_none false c cell k X at = absurd (cc)
 
-either : (b : Bool) (e f : PlainRecovery) → TellsFound e → TellsFound f → TellsFound (if b then e else f)
+either : (b : Bool) (e f : PlainRecoverCall) → TellsFound e → TellsFound f → TellsFound (if b then e else f)
 either true e f h k = h
 either false e f h k = k
 
-announced_none : (e : PlainRecovery) (word : ℕ) (o : Option Announcement) → TellsFound (announced_from e word o)
+announced_none : (e : PlainRecoverCall) (word : ℕ) (o : Option Announcement) → TellsFound (announced_from e word o)
 announced_none e word None cell k is = absurd (cc)
 announced_none e word (Some a) cell k is = absurd (cc)
 
@@ -86,7 +86,7 @@ resolves_none : (o : Option Announcement) (cell k : ℕ) (X : Type 0) → resolv
 resolves_none None cell k X is = absurd (cc)
 resolves_none (Some a) cell k X is = phases_none a.phase cell k X is
 
-found : (e : PlainRecovery) (s : RecoverStage) (word : ℕ) → TellsFound e → TellsFound (next_at e s word)
+found : (e : PlainRecoverCall) (s : RecoverStage) (word : ℕ) → TellsFound e → TellsFound (next_at e s word)
 found e (LoadMark c) word h = either (reads_held e.process word) _ _ (λ cell k is. absurd (cc)) (λ cell k is. looks_none (nat_lt (c + 1) e.cells) (c + 1) cell k _ is)
 found e (FlushValue c) word h = λ cell k is. absurd (cc)
 found e (FlushKind c) word h = λ cell k is. absurd (cc)
@@ -115,5 +115,5 @@ found e (BackOutcome how) word h = λ cell k is. absurd (cc)
 found e (Answer how) word h = h
 
 -- at its own stage
-pub each_found : (e : PlainRecovery) (word : ℕ) → TellsFound e → TellsFound (next_at e e.stage word)
+pub each_found : (e : PlainRecoverCall) (word : ℕ) → TellsFound e → TellsFound (next_at e e.stage word)
 each_found e word h = found e e.stage word h

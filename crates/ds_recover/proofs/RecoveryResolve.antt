@@ -14,9 +14,9 @@ use Rattle.ds_layout.specs.Announcement.{announcement_of}
 use Rattle.ds_layout.specs.Head.{head_of}
 use Rattle.ds_layout.specs.Header.{header_of}
 use Rattle.ds_layout.proofs.Packed.{IsAnnouncement-announcement_of, IsHeader-header_of}
-use Rattle.ds_state.specs.Works.{PlainRecovery}
+use Rattle.ds_state.specs.Works.{PlainRecoverCall}
 use Rattle.ds_state.specs.RecoverStages.{IsAnnounced}
-use Rattle.ds_state.specs.World.{Edit, Issue, World, of_cell, announcement, done_place}
+use Rattle.ds_state.specs.World.{PlainEdit, PlainIssue, PlainWorld, of_cell, announcement, done_place}
 use Rattle.ds_state.specs.Known.{AreBelow, IsIn}
 use Rattle.ds_state.specs.Owing.{IsPending}
 use Rattle.ds_state.specs.CallsFit.{RecoveryFits, IsInDoubt, DoubtFits}
@@ -32,10 +32,10 @@ use Rattle.ds_state.proofs.Accesses.{Turn, same_moves}
 use Rattle.ds_recover.proofs.RecoveryFrame.{on, turn_of, held_on, pends_on, simple_passes, loads}
 use Rattle.ds_recover.proofs.RecoveryDoubt.{ended_reads, IsDoubted, unannounced, pending_open, header_reads, shown_in, not_shown, shows_last, shown_own, bit_tells, no_bit_tells}
 
-same_issue : {o : Option Issue} {a b : Issue} → o ≡ Some a → o ≡ Some b → a ≡ b
+same_issue : {o : Option PlainIssue} {a b : PlainIssue} → o ≡ Some a → o ≡ Some b → a ≡ b
 same_issue x y = let both : Some _ ≡ Some _ = sym x ∙ y in cc
 
-in_same : (old new : World) → new.counted ≡ old.counted → (f : Edit) (own : ℕ) → IsIn old f own → IsIn new f own
+in_same : (old new : PlainWorld) → new.counted ≡ old.counted → (f : PlainEdit) (own : ℕ) → IsIn old f own → IsIn new f own
 in_same old new same f own h = record { below = rw same h.below; head = rw same h.head }
 
 -- an announcement that reads is one of a record
@@ -55,7 +55,7 @@ below_by cells word (Some h) is some = (IsHeader-header_of cells word h is).0.ce
 pub cell_below : (cells word : ℕ) → 0 < cells → cell_from (header_of cells word) < cells
 cell_below cells word some = below_by cells word (header_of cells word) refl some
 
-module _ (e : PlainRecovery) (word : ℕ) (old new : World) (sound : IsSound old) (real : e.process < old.layout.processes) where
+module _ (e : PlainRecoverCall) (word : ℕ) (old new : PlainWorld) (sound : IsSound old) (real : e.process < old.layout.processes) where
   abbrev p : ℕ
   p = e.process
 
@@ -123,7 +123,7 @@ module _ (e : PlainRecovery) (word : ℕ) (old new : World) (sound : IsSound old
 
     its_cell : (how : Bool) (a : Announcement) → announcement_of e.announcement ≡ Some a → a.phase ≡ phase_for how → IsItsCell new p e.announcement c'
     its_cell how a is phase' issue open_is own =
-        let doubt : IsInDoubt old p issue = subst (λ (o : Option Issue). DoubtFits old p o) (sym t.open_edits ∙ open_is) fits.doubt in
+        let doubt : IsInDoubt old p issue = subst (λ (o : Option PlainIssue). DoubtFits old p o) (sym t.open_edits ∙ open_is) fits.doubt in
         sym (ap (λ (n : ℕ). cell_from (header_of n word)) (sym fits.cells) ∙ ended_reads old p e.announcement how issue doubt seen (tells how a is phase') own word t.memory.0)
 
     done_ends : (a : Announcement) → announcement_of e.announcement ≡ Some a → a.phase ≡ phase.Done → Keeps p old new
@@ -219,14 +219,14 @@ module _ (e : PlainRecovery) (word : ℕ) (old new : World) (sound : IsSound old
     abbrev h : IsOpenAnd old p e.announcement e.cell (λ f. Unit {0})
     h = fits.resolved
 
-    abbrev f : Edit
+    abbrev f : PlainEdit
     f = h.issue.edit
 
     number_is : number_of e ≡ f.number
     number_is = let w = h.it.is in omega arith
 
     doubt : IsInDoubt old p h.issue
-    doubt = subst (λ (o : Option Issue). DoubtFits old p o) h.it.issued fits.doubt
+    doubt = subst (λ (o : Option PlainIssue). DoubtFits old p o) h.it.issued fits.doubt
 
     at_head : word ≡ old.memory.cached (Head f.cell)
     at_head = t.memory.0 ∙ ap (λ (c : ℕ). old.memory.cached (Head c)) (sym h.own_is)
@@ -237,7 +237,7 @@ module _ (e : PlainRecovery) (word : ℕ) (old new : World) (sound : IsSound old
     shown_is : shown ≡ is_shown p f.number (head_of old.layout.processes word)
     shown_is = ap (λ (n : ℕ). is_shown p n (head_of e.processes word)) number_is ∙ ap (λ (n : ℕ). is_shown p f.number (head_of n word)) (sym fits.processes)
 
-    open_on : (P : Edit → Type 0) → P f → IsOpenAnd new p e.announcement e.cell P
+    open_on : (P : PlainEdit → Type 0) → P f → IsOpenAnd new p e.announcement e.cell P
     open_on P and = record {
       issue = h.issue;
       it = record { issued = t.open_edits ∙ h.it.issued; process = h.it.process; number = h.it.number; is = h.it.is; cached = mh.cached (Announce p) ∙ h.it.cached };
@@ -258,8 +258,8 @@ module _ (e : PlainRecovery) (word : ℕ) (old new : World) (sound : IsSound old
         (simple_passes p e.row LoadHead e.row LoadDone old new (held_on p old new movesh) (pends_on p old new movesh t.open_edits)
         (λ r c x bit matters held o. o) (λ c x matters k o. tt) (λ r held o. o)
         (λ g before last_of issue issued same k o. absurd (
-        let is_f : g ≡ f = sym same ∙ ap (λ (i : Issue). i.edit) (same_issue issued h.it.issued) in
-        let mine : of_cell f.cell old.counted ≡ before ++ f ∷ [] = subst (λ (x : Edit). of_cell x.cell old.counted ≡ before ++ x ∷ []) is_f last_of in
+        let is_f : g ≡ f = sym same ∙ ap (λ (i : PlainIssue). i.edit) (same_issue issued h.it.issued) in
+        let mine : of_cell f.cell old.counted ≡ before ++ f ∷ [] = subst (λ (x : PlainEdit). of_cell x.cell old.counted ≡ before ++ x ∷ []) is_f last_of in
         let bad : true ≡ false = sym (shown_own f.process p f.number f.number h.it.process refl) ∙ sym (shows_last old sound f.cell p f.number before f mine word at_head) ∙ sym shown_is ∙ is in
         cc)))
         mh (λ k. k) (λ k. open_on (λ g. AreBelow new g.process g.number ⊎ (IsPassed new g × AreBelow new g.process (g.number + 1))) (
@@ -285,7 +285,7 @@ module _ (e : PlainRecovery) (word : ℕ) (old new : World) (sound : IsSound old
     abbrev d : IsOpenAnd old p e.announcement e.cell (λ f. AreBelow old f.process f.number ⊎ (IsPassed old f × AreBelow old f.process (f.number + 1)))
     d = fits.resolved
 
-    abbrev g : Edit
+    abbrev g : PlainEdit
     g = d.issue.edit
 
     number_of_g : number_of e ≡ g.number

@@ -6,9 +6,9 @@ use Rattle.ds_layout.specs.declared.place.TheConstants.{RECORDS}
 use Rattle.ds_layout.specs.declared.place.Place.TheVariants.{Head, Mark, Value, Kind, Announce}
 use Rattle.ds_layout.specs.declared.announcement.Phase.TheVariants as phase
 use Rattle.ds_layout.proofs.Packed.{announcement_of-announcement_word}
-use Rattle.ds_state.specs.Works.{PlainRecovery}
+use Rattle.ds_state.specs.Works.{PlainRecoverCall}
 use Rattle.ds_state.specs.RecoverStages.{IsAnnounced}
-use Rattle.ds_state.specs.World.{Edit, Issue, World, record_size, record_place, announcement}
+use Rattle.ds_state.specs.World.{PlainEdit, PlainIssue, PlainWorld, record_size, record_place, announcement}
 use Rattle.ds_state.specs.Known.{Standing, outside, inside, safe, Announced, last, pending, ended, word_of, StandsAs, IsRecorded}
 use Rattle.ds_state.specs.declared.stage.Outcome.{Outcome}
 use Rattle.ds_state.specs.declared.stage.Outcome.TheVariants as outcome
@@ -44,11 +44,11 @@ abbrev pub standing_for : Bool → Standing
 standing_for true = safe
 standing_for false = outside
 
-ended_word : (w : World) (f : Edit) (how : Bool) → announcement f.number (phase_for how) ≡ word_of w f (ended (outcome_for how))
+ended_word : (w : PlainWorld) (f : PlainEdit) (how : Bool) → announcement f.number (phase_for how) ≡ word_of w f (ended (outcome_for how))
 ended_word w f true = refl
 ended_word w f false = refl
 
-same_issue : {o : Option Issue} {a b : Issue} → o ≡ Some a → o ≡ Some b → a ≡ b
+same_issue : {o : Option PlainIssue} {a b : PlainIssue} → o ≡ Some a → o ≡ Some b → a ≡ b
 same_issue x y = let both : Some _ ≡ Some _ = sym x ∙ y in cc
 
 pub said_announced : (n : ℕ) (how : Bool) → n < RECORDS → IsAnnounced (announcement n (phase_for how))
@@ -59,17 +59,17 @@ may_end : (how : Bool) → MaySay (standing_for how) (ended (outcome_for how))
 may_end true = tt
 may_end false = tt
 
-stands_for : (w : World) (f : Edit) (how : Bool) → SettledAs w f how → StandsAs w f (standing_for how)
+stands_for : (w : PlainWorld) (f : PlainEdit) (how : Bool) → SettledAs w f how → StandsAs w f (standing_for how)
 stands_for w f true h = h
 stands_for w f false h = h
 
-written_pending : (w : World) (f : Edit) (a : Announced) → a ≡ pending → IsWritten w f a → IsRecorded w f (record_size f) (record_size f)
+written_pending : (w : PlainWorld) (f : PlainEdit) (a : Announced) → a ≡ pending → IsWritten w f a → IsRecorded w f (record_size f) (record_size f)
 written_pending w f last same h = absurd (let k : last ≡ pending = same in cc)
 written_pending w f pending same h = h
 written_pending w f (ended how) same h = h
 
 -- what was said before is still so
-said_before : (w : World) (f : Edit) (s : Standing) (b : Announced) (how : Bool) → StandsAs w f s → MaySay s b → rank b ≤ 1 → SettledAs w f how → MaySay (standing_for how) b
+said_before : (w : PlainWorld) (f : PlainEdit) (s : Standing) (b : Announced) (how : Bool) → StandsAs w f s → MaySay s b → rank b ≤ 1 → SettledAs w f how → MaySay (standing_for how) b
 said_before w f s last false stands said order settled = tt
 said_before w f s pending false stands said order settled = tt
 said_before w f s pending true stands said order settled = tt
@@ -78,7 +78,7 @@ said_before w f outside last true stands said order settled = absurd (not_below 
 said_before w f (inside own) last true stands said order settled = absurd said
 said_before w f safe last true stands said order settled = absurd said
 
-module _ (e : PlainRecovery) (how : Bool) (word : ℕ) (old new : World) (sound : IsSound old) (real : e.process < old.layout.processes)
+module _ (e : PlainRecoverCall) (how : Bool) (word : ℕ) (old new : PlainWorld) (sound : IsSound old) (real : e.process < old.layout.processes)
     (was : old.situation e.process ≡ Recovering (at e (StoreOutcome how))) (fits : RecoveryFits old e.process (at e (StoreOutcome how))) (t : StepsAt e (StoreOutcome how) word old new) where
   abbrev p : ℕ
   p = e.process
@@ -95,7 +95,7 @@ module _ (e : PlainRecovery) (how : Bool) (word : ℕ) (old new : World) (sound 
   abbrev h : IsOpenAnd old p e.announcement e.cell (λ f. SettledAs old f how)
   h = fits.resolved
 
-  abbrev f : Edit
+  abbrev f : PlainEdit
   f = h.issue.edit
 
   number_is : number_of e ≡ f.number
@@ -159,7 +159,7 @@ module _ (e : PlainRecovery) (how : Bool) (word : ℕ) (old new : World) (sound 
   D = (d : IsInDoubt old p h.issue) × (d.now ≡ pending)
 
   doubt : D
-  doubt = subst (λ (i : Issue). (d : IsInDoubt old p i) × (d.now ≡ pending)) mine_is (doubted.doubt, doubted.now)
+  doubt = subst (λ (i : PlainIssue). (d : IsInDoubt old p i) × (d.now ≡ pending)) mine_is (doubted.doubt, doubted.now)
 
   few_before : rank doubt.0.before ≤ 1
   few_before = let o = doubt.0.order in let n = ap rank doubt.1 in omega arith
@@ -189,10 +189,10 @@ module _ (e : PlainRecovery) (how : Bool) (word : ℕ) (old new : World) (sound 
       (λ d ne. recovery_keeps e e.mark e.row said_word e.cell (StoreOutcome how) (FlushOutcome how) old new was went (Announce p) moves passes t.open_edits d) word_fits
       (λ l. subst (λ (s : Situation). CallFits new p s) (sym went)
       (recovery_fits e e.mark e.row said_word e.cell (StoreOutcome how) (FlushOutcome how) old new was went fits tn.layout t.open_edits
-      (subst (λ (o : Option Issue). DoubtFits new p o) (sym h.it.issued) in_doubt)
+      (subst (λ (o : Option PlainIssue). DoubtFits new p o) (sym h.it.issued) in_doubt)
       (λ r by. fits.freed r (subst (λ (x : ℕ). IsHeldBy p x) (store.elsewhere (Mark r) (λ x. cc)) by)) (
         store.there,
         record { number = number_of e; few = (let n = number_is in let k = h.it.number in omega arith); is = refl },
-        λ issue is same. (let mine : issue ≡ h.issue = same_issue is (t.open_edits ∙ h.it.issued) in ap (λ (i : Issue). i.edit.cell) mine ∙ h.own_is),
+        λ issue is same. (let mine : issue ≡ h.issue = same_issue is (t.open_edits ∙ h.it.issued) in ap (λ (i : PlainIssue). i.edit.cell) mine ∙ h.own_is),
       )
       (store.buffer p ∙ fits.buffer) (said_announced (number_of e) how (let n = fits.is.stage.0.few in let k = fits.is.stage.0.some in omega arith), fits.is.stage.1)))

@@ -6,8 +6,8 @@ use Rattle.ds_words.specs.Memory.{SameMemory, OrsAt, FlushesAt, WritesBack}
 use Rattle.ds_layout.specs.Places.{class_of}
 use Rattle.ds_layout.specs.declared.mark.TheConstants.{DIRTY}
 use Rattle.ds_layout.specs.declared.place.Place.TheVariants.{Version, Mark, Value, Kind}
-use Rattle.ds_state.specs.Works.{PlainRecovery}
-use Rattle.ds_state.specs.World.{World}
+use Rattle.ds_state.specs.Works.{PlainRecoverCall}
+use Rattle.ds_state.specs.World.{PlainWorld}
 use Rattle.ds_state.specs.Owing.{entry, IsHeld, IsApart, CellOwes, IsIndexed, SpreadOwes, Owes}
 use Rattle.ds_layout.specs.Mark.{IsHeldBy}
 use Rattle.ds_state.specs.Standing.{Matters}
@@ -44,7 +44,7 @@ same_kind a r (inr x) = cc
 no_value : (a r : ℕ) → (Mark a ≡ Value r) ⊎ (Mark a ≡ Kind r) → ⊥
 no_value a r at = elim at [ inl x ↦ cc | inr x ↦ cc ]
 
-module _ (e : PlainRecovery) (word : ℕ) (old new : World) (sound : IsSound old) (real : e.process < old.layout.processes) where
+module _ (e : PlainRecoverCall) (word : ℕ) (old new : PlainWorld) (sound : IsSound old) (real : e.process < old.layout.processes) where
   abbrev p : ℕ
   p = e.process
 

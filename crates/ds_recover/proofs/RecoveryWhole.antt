@@ -4,8 +4,8 @@ use Rattle.std.specs.Prelude.{Option, Bool}
 use Rattle.std.proofs.lemmas.List.Elements.{All-weaker}
 use Rattle.ds_layout.specs.declared.place.Place.TheVariants.{Announce}
 use Rattle.ds_layout.specs.declared.announcement.Phase.TheVariants as phase
-use Rattle.ds_state.specs.Works.{PlainRecovery}
-use Rattle.ds_state.specs.World.{Edit, Issue, World, announcement}
+use Rattle.ds_state.specs.Works.{PlainRecoverCall}
+use Rattle.ds_state.specs.World.{PlainEdit, PlainIssue, PlainWorld, announcement}
 use Rattle.ds_state.specs.Known.{Standing, outside, inside, safe, Announced, last, pending, ended, word_of, AreBelow, StandsAs}
 use Rattle.ds_state.specs.declared.stage.Outcome.TheVariants as outcome
 use Rattle.ds_state.specs.KnownRecovery.{Tells}
@@ -27,7 +27,7 @@ use Rattle.ds_recover.proofs.RecoveryFree.{step_load_mark, step_flush_value, ste
 use Rattle.ds_recover.proofs.RecoveryTell.{step_back_value, step_back_kind, step_load_row, step_or_told, step_flush_told, step_back_told}
 use Rattle.ds_recover.proofs.RecoveryHead.{step_flush_head, step_back_head}
 
-module _ (e : PlainRecovery) (word : ℕ) (old new : World) (sound : IsSound old) (real : e.process < old.layout.processes) where
+module _ (e : PlainRecoverCall) (word : ℕ) (old new : PlainWorld) (sound : IsSound old) (real : e.process < old.layout.processes) where
   abbrev p : ℕ
   p = e.process
 
@@ -62,8 +62,8 @@ module _ (e : PlainRecovery) (word : ℕ) (old new : World) (sound : IsSound old
   pub recovery_keeps_soundness : (s : RecoverStage) → old.situation p ≡ Recovering (at e s) → StepsAt e s word old new → Keeps p old new
   recovery_keeps_soundness s was t = steps s was (subst (λ (x : Situation). CallFits old p x) was (sound.calls p real)) t
 
-below_all : (w : World) (f : Edit) → AreBelow w f.process 0 → AreBelow w f.process f.number
-below_all w f h = All-weaker (λ (x : Edit). x.process ≡ f.process → x.number < 0) (λ (x : Edit). x.process ≡ f.process → x.number < f.number) (λ x k same. absurd (let l = k same in omega arith)) w.counted h
+below_all : (w : PlainWorld) (f : PlainEdit) → AreBelow w f.process 0 → AreBelow w f.process f.number
+below_all w f h = All-weaker (λ (x : PlainEdit). x.process ≡ f.process → x.number < 0) (λ (x : PlainEdit). x.process ≡ f.process → x.number < f.number) (λ x k same. absurd (let l = k same in omega arith)) w.counted h
 
 ended_true : (n word : ℕ) (how : Bool) → word ≡ announcement n phase.Done → Tells word how → (word / 4 - 1 ≡ n) × (how ≡ true)
 ended_true n word true is k = (omega arith, refl)
@@ -77,22 +77,22 @@ not_pending : (n word : ℕ) (how : Bool) → word ≡ announcement n phase.Pend
 not_pending n word true is k = let i = k.is in omega arith
 not_pending n word false is k = let i = k.is in omega arith
 
-smaller : (w : World) (f : Edit) (e : PlainRecovery) (how : Bool) → number_of e < f.number → AreBelow w f.process f.number → ResolvesAs w f (end_of e (Some how))
+smaller : (w : PlainWorld) (f : PlainEdit) (e : PlainRecoverCall) (how : Bool) → number_of e < f.number → AreBelow w f.process f.number → ResolvesAs w f (end_of e (Some how))
 smaller w f e true less h = inr (less, h)
 smaller w f e false less h = (omega arith, h, λ same. absurd (omega arith))
 
 -- the answer resolves the edit in doubt
-pub answer_resolves : (e : PlainRecovery) (how : Option Bool) (w : World) (issue : Issue) → RecoveryFits w e.process (at e (Answer how)) → w.open_edits e.process ≡ Some issue → ResolvesAs w issue.edit (end_of e how)
+pub answer_resolves : (e : PlainRecoverCall) (how : Option Bool) (w : PlainWorld) (issue : PlainIssue) → RecoveryFits w e.process (at e (Answer how)) → w.open_edits e.process ≡ Some issue → ResolvesAs w issue.edit (end_of e how)
 answer_resolves e None w issue fits is =
     let r = rests_none w e.process (w.open_edits e.process) fits.doubt (let a = fits.resolved.0 in let b = fits.resolved.2 in omega arith) in
-    let h : IsInDoubt w e.process issue = subst (λ (o : Option Issue). DoubtFits w e.process o) is fits.doubt in
+    let h : IsInDoubt w e.process issue = subst (λ (o : Option PlainIssue). DoubtFits w e.process o) is fits.doubt in
     below_all w issue.edit (subst (λ (q : ℕ). AreBelow w q 0) (sym h.mine) r.below)
 answer_resolves e (Some how) w issue fits is = by h.now h.said h.cached
   where
     h : IsInDoubt w e.process issue
-    h = subst (λ (o : Option Issue). DoubtFits w e.process o) is fits.doubt
+    h = subst (λ (o : Option PlainIssue). DoubtFits w e.process o) is fits.doubt
 
-    f : Edit
+    f : PlainEdit
     f = issue.edit
 
     tells : Tells e.announcement how

@@ -1,7 +1,7 @@
 -- What a step of a recovery makes of a world, with what the world counts and keeps.
 use Rattle.std.specs.Prelude.{ℕ, ◌≡◌, ◌<◌, Option, Some, None}
-use Rattle.ds_state.specs.Works.{PlainRecovery}
-use Rattle.ds_state.specs.World.{Issue}
+use Rattle.ds_state.specs.Works.{PlainRecoverCall}
+use Rattle.ds_state.specs.World.{PlainIssue}
 use Rattle.ds_state.specs.Value.{WorldValue, world_of}
 use Rattle.ds_state.specs.declared.situation.Situation.TheVariants.{Recovering}
 use Rattle.ds_recover.specs.declared.machine.Effect.{Effect}
@@ -9,14 +9,14 @@ use Rattle.ds_recover.specs.declared.machine.Effect.TheVariants.{GoesOn, Answers
 use Rattle.ds_recover.specs.RecoverySteps.{Steps, effect_at}
 
 -- the process's issue after a step of its recovery: the answer resolves the edit in doubt
-abbrev pub open_edit_by : Option Issue → Effect → Option Issue
+abbrev pub open_edit_by : Option PlainIssue → Effect → Option PlainIssue
 open_edit_by issue (Answers end) = None
 open_edit_by issue GoesOn = issue
 
 -- the process makes a step of its recovery
 pub record StepsBy (old : WorldValue) (p : ℕ) (what : Effect) (new : WorldValue) : Type 0 where
   pub there : p < old.sheet.layout.processes
-  pub recovery : PlainRecovery
+  pub recovery : PlainRecoverCall
   pub mine : recovery.process ≡ p
   pub at : (world_of old).situation p ≡ Recovering recovery
   pub word : ℕ
@@ -29,7 +29,7 @@ pub record StepsBy (old : WorldValue) (p : ℕ) (what : Effect) (new : WorldValu
 -- the process has no recovery under way, or the sheet has no such process
 pub record CanNotStep (old : WorldValue) (p : ℕ) (new : WorldValue) : Type 0 where
   pub same : new ≡ old
-  pub none : (recovery : PlainRecovery) → p < old.sheet.layout.processes → (world_of old).situation p ≡ Recovering recovery → ⊥
+  pub none : (recovery : PlainRecoverCall) → p < old.sheet.layout.processes → (world_of old).situation p ≡ Recovering recovery → ⊥
 
 -- the process makes a step of its recovery; or it can make none, and the world stays
 abbrev pub StepTakes : WorldValue → ℕ → Option Effect → WorldValue → Type 0

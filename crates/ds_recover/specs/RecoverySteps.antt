@@ -18,8 +18,8 @@ use Rattle.ds_layout.specs.Header.{header_of}
 use Rattle.ds_layout.specs.SheetMemory.{PerformsAt}
 use Rattle.ds_layout.specs.Bits.{parts_for, bit_in}
 use Rattle.ds_layout.specs.Mark.{is_held_by, generation_of, marked, freed_after, dirtied}
-use Rattle.ds_state.specs.Works.{PlainRecovery, HELD_MOST}
-use Rattle.ds_state.specs.World.{Edit, Issue, World, announcement, done_place, phase_among}
+use Rattle.ds_state.specs.Works.{PlainRecoverCall, HELD_MOST}
+use Rattle.ds_state.specs.World.{PlainEdit, PlainIssue, PlainWorld, announcement, done_place, phase_among}
 use Rattle.ds_state.specs.Owing.{StandsIn}
 use Rattle.ds_state.specs.Known.{AreBelow, IsSafelyIn}
 use Rattle.ds_state.specs.KnownRecovery.{phase_for}
@@ -36,11 +36,11 @@ use Rattle.ds_state.specs.declared.work.RecoverStage.{RecoverStage}
 use Rattle.ds_state.specs.declared.work.RecoverStage.TheVariants.{LoadMark, FlushValue, FlushKind, BackValue, BackKind, Telling, Give, GiveDirty, FlushGiven, BackGiven, LoadAnnounce, LoadHeader, LoadHead, FlushHead, BackHead, LoadDone, OrMark, FlushMark, BackMark, StoreOutcome, FlushOutcome, BackOutcome, Answer}
 
 -- how many parts an index row of the recovery's sheet has
-abbrev pub parts_of : PlainRecovery → ℕ
+abbrev pub parts_of : PlainRecoverCall → ℕ
 parts_of e = parts_for e.cells
 
 -- the number of the edit that the recovery saw announced
-abbrev pub number_of : PlainRecovery → ℕ
+abbrev pub number_of : PlainRecoverCall → ℕ
 number_of e = number_after e.announcement - 1
 
 -- the access of a stage of telling, for a cell that is given back
@@ -51,7 +51,7 @@ spread_access cell (FlushTold d) = acts.Flush (place.Mark d)
 spread_access cell (BackTold d) = acts.Back
 
 -- the access of a stage of a recovery
-abbrev pub access_at : PlainRecovery → RecoverStage → Access Place
+abbrev pub access_at : PlainRecoverCall → RecoverStage → Access Place
 access_at e (LoadMark cell) = acts.Load (place.Mark cell)
 access_at e (FlushValue cell) = acts.Flush (place.Value cell)
 access_at e (FlushKind cell) = acts.Flush (place.Kind cell)
@@ -77,7 +77,7 @@ access_at e (BackOutcome how) = acts.Back
 access_at e (Answer how) = acts.Nothing
 
 -- the recovery at another stage
-abbrev pub at : PlainRecovery → RecoverStage → PlainRecovery
+abbrev pub at : PlainRecoverCall → RecoverStage → PlainRecoverCall
 at e stage = record e { stage = stage }
 
 -- the stage that loads this cell's mark; behind the last cell, the announcement
@@ -90,7 +90,7 @@ reads_held process word = if is_held_by process word then nat_lt (generation_of 
 
 -- the recovery after it has loaded a cell's mark: it gives the cell back if the process holds it, else looks at the
 -- next
-abbrev pub holds_from : PlainRecovery → ℕ → ℕ → PlainRecovery
+abbrev pub holds_from : PlainRecoverCall → ℕ → ℕ → PlainRecoverCall
 holds_from e cell word =
     if reads_held e.process word
     then record e { mark = word; row = []; stage = FlushValue cell }
@@ -110,14 +110,14 @@ abbrev pub row_from : List ℕ → ℕ → ℕ → ℕ → RecoverStage
 row_from row cells cell part = if nat_lt part (parts_for cells) then Telling cell (LoadRow part) else tell_from row cells cell 0
 
 -- the recovery after a stage of telling whose access answered the word
-abbrev pub spread_next : PlainRecovery → ℕ → Spread → ℕ → PlainRecovery
+abbrev pub spread_next : PlainRecoverCall → ℕ → Spread → ℕ → PlainRecoverCall
 spread_next e cell (LoadRow part) word = record e { row = e.row ++ word ∷ []; stage = row_from (e.row ++ word ∷ []) e.cells cell (part + 1) }
 spread_next e cell (OrTold d) word = at e (Telling cell (FlushTold d))
 spread_next e cell (FlushTold d) word = at e (Telling cell (BackTold d))
 spread_next e cell (BackTold d) word = at e (tell_from e.row e.cells cell (d + 1))
 
 -- the recovery after it has loaded its announcement: it goes to that edit's header; without one, to its answer
-abbrev pub announced_from : PlainRecovery → ℕ → Option Announcement → PlainRecovery
+abbrev pub announced_from : PlainRecoverCall → ℕ → Option Announcement → PlainRecoverCall
 announced_from e word None = record e { announcement = word; stage = Answer None }
 announced_from e word (Some a) = record e { announcement = word; stage = LoadHeader }
 
@@ -143,7 +143,7 @@ is_shown p n None = false
 is_shown p n (Some h) = if h.process == p then h.number == n else false
 
 -- the recovery after a stage whose access answered the word
-abbrev pub next_at : PlainRecovery → RecoverStage → ℕ → PlainRecovery
+abbrev pub next_at : PlainRecoverCall → RecoverStage → ℕ → PlainRecoverCall
 next_at e (LoadMark cell) word = holds_from e cell word
 next_at e (FlushValue cell) word = at e (FlushKind cell)
 next_at e (FlushKind cell) word = at e (BackValue cell)
@@ -169,7 +169,7 @@ next_at e (BackOutcome how) word = at e (Answer (Some how))
 next_at e (Answer how) word = e
 
 -- the recovery after its own stage, whose access answered the word
-abbrev pub got_at : PlainRecovery → ℕ → PlainRecovery
+abbrev pub got_at : PlainRecoverCall → ℕ → PlainRecoverCall
 got_at e word = next_at e e.stage word
 
 -- the number of the process's next edit after a recovery: the one behind the announced one, or 0 without one
@@ -178,17 +178,17 @@ next_number word None = 0
 next_number word (Some how) = number_after word
 
 -- the situation of the process after a stage of its recovery: the answer ends the call
-abbrev pub after : PlainRecovery → RecoverStage → ℕ → Situation
+abbrev pub after : PlainRecoverCall → RecoverStage → ℕ → Situation
 after e (Answer how) word = Idle (next_number e.announcement how)
 after e stage word = Recovering (next_at e stage word)
 
 -- the process's issue after a stage of its recovery: the answer resolves the edit in doubt
-abbrev pub open_edit_at : Option Issue → RecoverStage → Option Issue
+abbrev pub open_edit_at : Option PlainIssue → RecoverStage → Option PlainIssue
 open_edit_at issue (Answer how) = None
 open_edit_at issue stage = issue
 
 -- one step of the recovery at a stage, whose access answered the word: no edit comes to count
-pub record StepsAt (e : PlainRecovery) (stage : RecoverStage) (word : ℕ) (old new : World) : Type 0 where
+pub record StepsAt (e : PlainRecoverCall) (stage : RecoverStage) (word : ℕ) (old new : PlainWorld) : Type 0 where
   pub layout : new.layout ≡ old.layout
   pub memory : PerformsAt (access_at e stage) e.process old.memory new.memory word
   pub situation : new.situation e.process ≡ after e stage word
@@ -198,11 +198,11 @@ pub record StepsAt (e : PlainRecovery) (stage : RecoverStage) (word : ℕ) (old 
   pub others_open_edits : (q : ℕ) → q ≢ e.process → new.open_edits q ≡ old.open_edits q
 
 -- one step of the recovery at its own stage, whose access answered the word
-abbrev pub Steps : PlainRecovery → ℕ → World → World → Type 0
+abbrev pub Steps : PlainRecoverCall → ℕ → PlainWorld → PlainWorld → Type 0
 Steps e word old new = StepsAt e e.stage word old new
 
 -- a recovery of the sheet, before its first step
-abbrev pub fresh : ℕ → ℕ → ℕ → PlainRecovery
+abbrev pub fresh : ℕ → ℕ → ℕ → PlainRecoverCall
 fresh process cells processes = record {
   process = process;
   cells = cells;
@@ -215,7 +215,7 @@ fresh process cells processes = record {
 }
 
 -- a recovery begins, of a process that is stopped or idle
-pub record BeginsRecovery (e : PlainRecovery) (old new : World) : Type 0 where
+pub record BeginsRecovery (e : PlainRecoverCall) (old new : PlainWorld) : Type 0 where
   pub layout : new.layout ≡ old.layout
   pub memory : SameMemory old.memory new.memory
   pub situation : new.situation e.process ≡ Recovering (at e (LoadMark 0))
@@ -224,12 +224,12 @@ pub record BeginsRecovery (e : PlainRecovery) (old new : World) : Type 0 where
   pub open_edits : (q : ℕ) → new.open_edits q ≡ old.open_edits q
 
 -- what the recovery answers, where it found an announcement and settled how that edit ended
-abbrev pub end_of : PlainRecovery → Option Bool → RecoveryEnd
+abbrev pub end_of : PlainRecoverCall → Option Bool → RecoveryEnd
 end_of e None = Nothing
 end_of e (Some how) = Last (number_of e) e.cell how
 
 -- what a step at a stage does to the recovery: it goes on, or it answers
-abbrev pub effect_at : PlainRecovery → RecoverStage → Effect
+abbrev pub effect_at : PlainRecoverCall → RecoverStage → Effect
 effect_at e (Answer how) = Answers (end_of e how)
 effect_at e _ = GoesOn
 
@@ -271,22 +271,22 @@ rank cells (BackOutcome how) = 3
 rank cells (Answer how) = 1
 
 -- fewer steps of the recovery are left after a step, but for the answer's, which is the last
-abbrev pub Falls : PlainRecovery → RecoverStage → PlainRecovery → Type 0
+abbrev pub Falls : PlainRecoverCall → RecoverStage → PlainRecoverCall → Type 0
 Falls e (Answer how) after = Unit {0}
 Falls e stage after = rank e.cells after.stage < rank e.cells stage
 
 -- what a recovery's answer says of an edit in doubt: with its number it has its cell; with Done it counts for good;
 -- else it does not count
-abbrev pub ResolvesAs : World → Edit → RecoveryEnd → Type 0
+abbrev pub ResolvesAs : PlainWorld → PlainEdit → RecoveryEnd → Type 0
 ResolvesAs w f Nothing = AreBelow w f.process f.number
 ResolvesAs w f (Last n cell true) = ((n ≡ f.number) × (f.cell ≡ cell) × IsSafelyIn w f) ⊎ ((n < f.number) × AreBelow w f.process f.number)
 ResolvesAs w f (Last n cell false) = (n ≤ f.number) × AreBelow w f.process f.number × (n ≡ f.number → f.cell ≡ cell)
 
 -- the answer repeats how the process's last edit with a spent number ended: with that number, and whether one counts
-abbrev pub RepeatsAs : World → ℕ → RecoveryEnd → Type 0
+abbrev pub RepeatsAs : PlainWorld → ℕ → RecoveryEnd → Type 0
 RepeatsAs w p Nothing = AreBelow w p 0
 RepeatsAs w p (Last n cell counts) = AreBelow w p (n + 1) × (phase_among w.counted p n ≡ phase_for counts)
 
 -- the cell that the recovery tells next is one whose bit it found in the index row
-abbrev pub TellsFound : PlainRecovery → Type 0
+abbrev pub TellsFound : PlainRecoverCall → Type 0
 TellsFound e = (cell d : ℕ) → e.stage ≡ Telling cell (OrTold d) → StandsIn e.row d

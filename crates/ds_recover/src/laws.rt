@@ -4,11 +4,11 @@ ghost use Rattle.std.specs.Prelude.{ℕ, ◌≡◌, ◌<◌, ◌≤◌, ◌+◌,
 ghost use Rattle.ds_layout.specs.declared.layout.Layout.{Layout};
 ghost use Rattle.ds_layout.specs.Places.{cells_of};
 ghost use Rattle.ds_layout.specs.SheetMemory.{CanPerform, NamesPlace};
-ghost use Rattle.ds_state.specs.World.{Issue, World};
+ghost use Rattle.ds_state.specs.World.{PlainIssue, PlainWorld};
 ghost use Rattle.ds_state.specs.Owing.{HoldsNone};
 ghost use Rattle.ds_state.specs.Sound.{IsSound};
 ghost use Rattle.ds_state.specs.Rely.{Keeps};
-ghost use Rattle.ds_state.specs.Works.{PlainRecovery};
+ghost use Rattle.ds_state.specs.Works.{PlainRecoverCall};
 ghost use Rattle.ds_state.specs.RecoverStages.{IsRecovery};
 ghost use Rattle.ds_state.specs.declared.work.RecoverStage.TheVariants.{Answer};
 ghost use Rattle.ds_state.specs.declared.situation.Situation.TheVariants.{Recovering};
@@ -19,21 +19,21 @@ ghost use Rattle.ds_recover.specs.RecoverBegun.{IsBegun};
 /// and leaves each other process what it may count on.
 #[tactic(auto, using(crate::proofs::RecoveryLaws::steps))]
 pub fn steps_keep_soundness()
-    ensures { (e : PlainRecovery) (word : ℕ) (old new : World) → IsSound old
+    ensures { (e : PlainRecoverCall) (word : ℕ) (old new : PlainWorld) → IsSound old
         → e.process < old.layout.processes → old.situation e.process ≡ Recovering e
         → Steps e word old new → Keeps e.process old new }
 {}
 
 /// The beginning of a recovery, of a process that is stopped or idle, does the same.
 pub fn begins_keep_soundness()
-    ensures { (p : ℕ) (old new : World) → IsSound old → p < old.layout.processes
+    ensures { (p : ℕ) (old new : PlainWorld) → IsSound old → p < old.layout.processes
         → IsBegun old p new → Keeps p old new }
 {}
 
 /// Each access of a recovery names a place of its sheet.
 #[tactic(auto, using(crate::proofs::RecoveryPossible::each_named))]
 pub fn accesses_are_of_the_sheet()
-    ensures { (layout : Layout) (e : PlainRecovery) → cells_of layout ≡ e.cells → layout.processes ≡ e.processes
+    ensures { (layout : Layout) (e : PlainRecoverCall) → cells_of layout ≡ e.cells → layout.processes ≡ e.processes
         → IsRecovery e → NamesPlace layout (access_at e e.stage) }
 {}
 
@@ -41,7 +41,7 @@ pub fn accesses_are_of_the_sheet()
 /// flushed, and an entry where one is written back.
 #[tactic(auto, using(crate::proofs::RecoveryLaws::accesses))]
 pub fn accesses_are_possible()
-    ensures { (e : PlainRecovery) (w : World) → IsSound w → e.process < w.layout.processes
+    ensures { (e : PlainRecoverCall) (w : PlainWorld) → IsSound w → e.process < w.layout.processes
         → w.situation e.process ≡ Recovering e
         → CanPerform w.layout w.memory e.process (access_at e e.stage) }
 {}
@@ -50,9 +50,9 @@ pub fn accesses_are_possible()
 /// of a sheet of N cells has at most N * (3N + 30) + 20.
 #[tactic(auto, using(crate::proofs::RecoveryRank::each_falls, crate::proofs::RecoveryRank::each_few))]
 pub fn steps_are_few()
-    ensures falls { (e : PlainRecovery) (word : ℕ) → IsRecovery e
+    ensures falls { (e : PlainRecoverCall) (word : ℕ) → IsRecovery e
         → Falls e e.stage (next_at e e.stage word) }
-    ensures few { (e : PlainRecovery) → IsRecovery e
+    ensures few { (e : PlainRecoverCall) → IsRecovery e
         → rank e.cells e.stage ≤ e.cells * (3 * e.cells + 30) + 20 }
 {}
 
@@ -61,7 +61,7 @@ pub fn steps_are_few()
 /// does not count. What is open no more never comes to count.
 #[tactic(auto, using(crate::proofs::RecoveryLaws::answers))]
 pub fn answers_resolve()
-    ensures { (e : PlainRecovery) (how : Option Bool) (w : World) (issue : Issue) → IsSound w
+    ensures { (e : PlainRecoverCall) (how : Option Bool) (w : PlainWorld) (issue : PlainIssue) → IsSound w
         → e.process < w.layout.processes → w.situation e.process ≡ Recovering e → e.stage ≡ Answer how
         → w.open_edits e.process ≡ Some issue → ResolvesAs w issue.edit (end_of e how) }
 {}
@@ -71,7 +71,7 @@ pub fn answers_resolve()
 /// process's edits counts.
 #[tactic(auto, using(crate::proofs::RecoveryLaws::repeated))]
 pub fn answers_repeat()
-    ensures { (e : PlainRecovery) (how : Option Bool) (w : World) → IsSound w
+    ensures { (e : PlainRecoverCall) (how : Option Bool) (w : PlainWorld) → IsSound w
         → e.process < w.layout.processes → w.situation e.process ≡ Recovering e → e.stage ≡ Answer how
         → RepeatsAs w e.process (end_of e how) }
 {}
@@ -80,13 +80,13 @@ pub fn answers_repeat()
 /// cell of its edit: no step makes it tell a cell without a bit.
 #[tactic(auto, using(crate::proofs::RecoveryRepeats::each_found))]
 pub fn only_cells_with_bits_are_told()
-    ensures { (e : PlainRecovery) (word : ℕ) → TellsFound e → TellsFound (next_at e e.stage word) }
+    ensures { (e : PlainRecoverCall) (word : ℕ) → TellsFound e → TellsFound (next_at e e.stage word) }
 {}
 
 /// After its answer the process holds no cell.
 #[tactic(auto, using(crate::proofs::RecoveryLaws::lets_go))]
 pub fn no_cell_stays_held()
-    ensures { (e : PlainRecovery) (how : Option Bool) (word : ℕ) (old new : World) → IsSound old
+    ensures { (e : PlainRecoverCall) (how : Option Bool) (word : ℕ) (old new : PlainWorld) → IsSound old
         → e.process < old.layout.processes → old.situation e.process ≡ Recovering e → e.stage ≡ Answer how
         → Steps e word old new → HoldsNone new e.process }
 {}

@@ -105,7 +105,7 @@ fn spread_access(cell: usize, spread: Spread) -> Access<Place>
     ensures { result ≡ spread_access cell spread }
 {
     match spread {
-        Spread::LoadRow(part) => Access::Load(Place::Index(cell, part)),
+        Spread::LoadRow(part) => Access::Load(Place::Index { row: cell, part }),
         Spread::OrTold(told) => Access::Or(Place::Mark(told), DIRTY),
         Spread::FlushTold(told) => Access::Flush(Place::Mark(told)),
         Spread::BackTold(_) => Access::Back,
@@ -123,23 +123,29 @@ pub fn want(call: &RecoverCall) -> Access<Place>
         RecoverStage::FlushKind(cell) => Access::Flush(Place::Kind(cell)),
         RecoverStage::BackValue(_) | RecoverStage::BackKind(_) => Access::Back,
         RecoverStage::Telling(cell, spread) => spread_access(cell, spread),
-        RecoverStage::Give(cell) => Access::SwapIf(
-            Place::Mark(cell),
-            call.mark,
-            given(call.mark, call.processes),
-        ),
-        RecoverStage::GiveDirty(cell) => Access::SwapIf(
-            Place::Mark(cell),
-            dirtied(call.mark),
-            given(call.mark, call.processes),
-        ),
+        RecoverStage::Give(cell) => Access::SwapIf {
+            place: Place::Mark(cell),
+            expected: call.mark,
+            value: given(call.mark, call.processes),
+        },
+        RecoverStage::GiveDirty(cell) => Access::SwapIf {
+            place: Place::Mark(cell),
+            expected: dirtied(call.mark),
+            value: given(call.mark, call.processes),
+        },
         RecoverStage::FlushGiven(cell) => Access::Flush(Place::Mark(cell)),
         RecoverStage::BackGiven(_) | RecoverStage::BackHead => Access::Back,
         RecoverStage::LoadAnnounce => Access::Load(announce),
-        RecoverStage::LoadHeader => Access::Load(Place::Header(call.process, number(call))),
+        RecoverStage::LoadHeader => Access::Load(Place::Header {
+            process: call.process,
+            number: number(call),
+        }),
         RecoverStage::LoadHead => Access::Load(Place::Head(call.cell)),
         RecoverStage::FlushHead => Access::Flush(Place::Head(call.cell)),
-        RecoverStage::LoadDone => Access::Load(Place::Done(call.process, bits::part(number(call)))),
+        RecoverStage::LoadDone => Access::Load(Place::Done {
+            process: call.process,
+            part: bits::part(number(call)),
+        }),
         RecoverStage::OrMark(_) => Access::Or(Place::Mark(call.cell), DIRTY),
         RecoverStage::FlushMark(_) => Access::Flush(Place::Mark(call.cell)),
         RecoverStage::BackMark(_) | RecoverStage::BackOutcome(_) => Access::Back,

@@ -1,7 +1,7 @@
 //! A step of a recovery, in its world.
 
 ghost use Rattle.std.specs.Prelude.{ℕ, ◌≡◌, IfSome, IfNone};
-ghost use Rattle.ds_state.specs.Works.{PlainRecovery};
+ghost use Rattle.ds_state.specs.Works.{PlainRecoverCall};
 ghost use Rattle.ds_state.specs.declared.work.RecoverStage.TheVariants.{Answer};
 ghost use Rattle.ds_state.specs.declared.situation.Situation.TheVariants.{Recovering};
 ghost use Rattle.ds_recover.specs.RecoverySteps.{after, next_number};
@@ -16,7 +16,7 @@ use ds_state::world::World;
 // The recovery of a process, where it is in one.
 fn call_of(situation: &Situation) -> Option<&RecoverCall>
     ensures some { IfSome result (λ call. situation.now ≡ Recovering call.now) }
-    ensures none { IfNone result ((e : PlainRecovery) → situation.now ≡ Recovering e → ⊥) }
+    ensures none { IfNone result ((e : PlainRecoverCall) → situation.now ≡ Recovering e → ⊥) }
 {
     match situation {
         Situation::Recovering(call) => Some(call),
@@ -39,7 +39,7 @@ fn next_number(call: &RecoverCall, how: Option<bool>) -> usize
 
 // The process goes on with the word that its access answered.
 fn go_on(situation: &mut Situation, word: u64)
-    ensures { (e : PlainRecovery) → situation.old ≡ Recovering e → situation.new ≡ after e e.stage word }
+    ensures { (e : PlainRecoverCall) → situation.old ≡ Recovering e → situation.new ≡ after e e.stage word }
 {
     if let Situation::Recovering(call) = situation {
         match call.stage {

@@ -110,13 +110,48 @@ const SPENT: [Row; 15] = [
     Row::Still(Action::Edit(0, A1, "2"), FULL),
     Row::Still(Action::Edit(0, A2, ""), FULL),
     Row::Still(Action::Edit(0, A1, "=1.5"), NOT_WHOLE),
-    Row::Word(Place::Done(0, 0), u64::MAX, u64::MAX),
-    Row::Word(Place::Done(0, 1), u64::MAX, u64::MAX),
-    Row::Word(Place::Done(0, 2), u64::MAX, u64::MAX),
-    Row::Word(Place::Done(0, 3), u64::MAX / 2, u64::MAX / 2),
+    Row::Word(
+        Place::Done {
+            process: 0,
+            part: 0,
+        },
+        u64::MAX,
+        u64::MAX,
+    ),
+    Row::Word(
+        Place::Done {
+            process: 0,
+            part: 1,
+        },
+        u64::MAX,
+        u64::MAX,
+    ),
+    Row::Word(
+        Place::Done {
+            process: 0,
+            part: 2,
+        },
+        u64::MAX,
+        u64::MAX,
+    ),
+    Row::Word(
+        Place::Done {
+            process: 0,
+            part: 3,
+        },
+        u64::MAX / 2,
+        u64::MAX / 2,
+    ),
     Row::Event(Action::Edit(1, A1, "3"), Reply::Begun(0)),
     Row::Steps(1, 25, DONE),
-    Row::Word(Place::Done(0, 3), u64::MAX, u64::MAX),
+    Row::Word(
+        Place::Done {
+            process: 0,
+            part: 3,
+        },
+        u64::MAX,
+        u64::MAX,
+    ),
     Row::Text(A1, "3"),
     Row::Counted(257),
 ];
@@ -140,7 +175,10 @@ const NOT_ENABLED: [Row; 15] = [
     Row::Still(Action::Step(1), Reply::NotEnabled),
     Row::Still(Action::Step(7), Reply::NotEnabled),
     Row::Still(Action::Evict(Place::Head(4)), Reply::NotEnabled),
-    Row::Still(Action::Evict(Place::Index(0, 1)), Reply::NotEnabled),
+    Row::Still(
+        Action::Evict(Place::Index { row: 0, part: 1 }),
+        Reply::NotEnabled,
+    ),
     Row::Still(Action::Evict(Place::Announce(2)), Reply::NotEnabled),
     Row::Still(
         Action::Evict(Place::Text {

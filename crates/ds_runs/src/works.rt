@@ -77,7 +77,7 @@ fn two_workers(rt: HostRuntime) -> Result<(), Fail> {
 // works the height comes to the number of cells, which is circular. The fifth finds no difference.
 const REFERS_TO_ITSELF: [Row; 21] = [
     Row::Call(Action::Edit(0, A1, "=[.A1]"), Answer::Done(0)),
-    Row::Word(Place::Index(0, 0), 1, 1),
+    Row::Word(Place::Index { row: 0, part: 0 }, 1, 1),
     Row::Call(Action::Work(1, A1), Answer::Again),
     Row::Word(Place::Mark(0), 65, 65),
     Row::Word(Place::Kind(0), 9, 9),
@@ -124,7 +124,7 @@ fn not_dirty(rt: HostRuntime) -> Result<(), Fail> {
 // The bit stays where the reference has gone: the cell is marked once more, and is right.
 const STALE_BITS: [Row; 12] = [
     Row::Call(Action::Edit(0, B1, "=[.A1]"), Answer::Done(0)),
-    Row::Word(Place::Index(0, 0), 2, 2),
+    Row::Word(Place::Index { row: 0, part: 0 }, 2, 2),
     Row::Call(Action::Edit(0, B1, "5"), Answer::Done(1)),
     Row::Settle(0),
     Row::Call(Action::Edit(0, A1, "1"), Answer::Done(2)),
@@ -133,7 +133,7 @@ const STALE_BITS: [Row; 12] = [
     Row::Value(B1, Value::Number(5)),
     Row::State(A2, State::Clean),
     Row::Value(A2, BLANK),
-    Row::Word(Place::Index(0, 0), 2, 2),
+    Row::Word(Place::Index { row: 0, part: 0 }, 2, 2),
     Row::Settled(0, [Value::Number(1), Value::Number(5), BLANK, BLANK]),
 ];
 
@@ -215,10 +215,10 @@ const LONG_TEXT: [Row; 8] = [
     Row::Call(Action::Edit(0, A1, "1"), Answer::Done(0)),
     Row::Event(Action::Edit(0, B2, LONG), Reply::Begun(1)),
     Row::End(0, Answer::Done(1)),
-    Row::Word(Place::Index(0, 0), 8, 8),
-    Row::Word(Place::Index(1, 0), 8, 8),
-    Row::Word(Place::Index(2, 0), 8, 8),
-    Row::Word(Place::Index(3, 0), 0, 0),
+    Row::Word(Place::Index { row: 0, part: 0 }, 8, 8),
+    Row::Word(Place::Index { row: 1, part: 0 }, 8, 8),
+    Row::Word(Place::Index { row: 2, part: 0 }, 8, 8),
+    Row::Word(Place::Index { row: 3, part: 0 }, 0, 0),
     Row::Settled(
         1,
         [Value::Number(1), BLANK, BLANK, Value::Number(36900000001)],

@@ -4,8 +4,8 @@ use Rattle.std.specs.Prelude.{Result, IfErr, IsErrAnd}
 use Rattle.std.proofs.Math.ListN.{length-set}
 use Rattle.std.proofs.lemmas.List.{get_or-set_same, get_or-set_other, get_or_default}
 use Rattle.ds_layout.specs.Places.{cells_of}
-use Rattle.ds_state.specs.Works.{PlainShow}
-use Rattle.ds_state.specs.World.{World}
+use Rattle.ds_state.specs.Works.{PlainShowCall}
+use Rattle.ds_state.specs.World.{PlainWorld}
 use Rattle.ds_state.specs.Underway.{reports_under_way}
 use Rattle.ds_state.specs.Value.{WorldValue, world_of, IsGood, IsReserved}
 use Rattle.ds_state.specs.declared.reports.TheConstants.{SETTLED_MOST}
@@ -19,10 +19,10 @@ use Rattle.ds_show.specs.ShowBegun.{next_of, RefusesIdle, Refuses}
 use Rattle.ds_show.proofs.ShowKeeps.{begin_keeps}
 
 -- the world in which the report is under way
-abbrev pub entered : WorldValue → PlainShow → WorldValue
+abbrev pub entered : WorldValue → PlainShowCall → WorldValue
 entered v e = record v { situations = set v.situations e.process (Showing e) }
 
-module _ (v : WorldValue) (e : PlainShow) (room : ℕ) (kept : IsReserved v room) (low : e.process < v.sheet.layout.processes) (idle : (world_of v).situation e.process ≡ Idle e.next)
+module _ (v : WorldValue) (e : PlainShowCall) (room : ℕ) (kept : IsReserved v room) (low : e.process < v.sheet.layout.processes) (idle : (world_of v).situation e.process ≡ Idle e.next)
     (first : e ≡ fresh e.process e.next (cells_of v.sheet.layout) v.sheet.layout.processes) (counts : v.settled + reports_under_way v.situations < SETTLED_MOST) where
   there : e.process < length v.situations
   there = let s = kept.good.situations in omega arith
@@ -32,7 +32,7 @@ module _ (v : WorldValue) (e : PlainShow) (room : ℕ) (kept : IsReserved v room
     layout = refl;
     memory = record { cached = λ r. refl; persisted = λ r. refl; buffer = λ q. refl };
     idle = idle;
-    situation = get_or-set_same v.situations e.process (Showing e) (Idle 0) there ∙ ap (λ (x : PlainShow). Showing x) first;
+    situation = get_or-set_same v.situations e.process (Showing e) (Idle 0) there ∙ ap (λ (x : PlainShowCall). Showing x) first;
     others = λ q ne. get_or-set_other v.situations e.process q (Showing e) (Idle 0) ne;
     counted = refl;
     open_edits = λ q. refl;
@@ -74,7 +74,7 @@ refuses_idle v process next (Recovering e) r at is h = absurd (cc)
 refuses_idle v process next (Showing e) r at is h = absurd (cc)
 
 -- so it is idle, with that number
-pub idle_of : (w : World) (process next : ℕ) (s : Situation) → w.situation process ≡ s → Ok next ≡ next_of s → w.situation process ≡ Idle next
+pub idle_of : (w : PlainWorld) (process next : ℕ) (s : Situation) → w.situation process ≡ s → Ok next ≡ next_of s → w.situation process ≡ Idle next
 idle_of w process next (Idle m) at is = at ∙ (let same : m ≡ next = cc in ap (λ (n : ℕ). Idle n) same)
 idle_of w process next Stopped at is = absurd (cc)
 idle_of w process next (Editing e) at is = absurd (cc)

@@ -4,7 +4,7 @@ use Rattle.std.proofs.Math.ListN.{length-set}
 use Rattle.std.proofs.lemmas.List.{get_or-set_same, get_or-set_other, get_or_default}
 use Rattle.ds_layout.specs.declared.layout.Layout.{Layout}
 use Rattle.ds_layout.specs.SheetMemory.{SheetValue, memory, CanPerform, PerformsAt}
-use Rattle.ds_state.specs.Works.{PlainShow}
+use Rattle.ds_state.specs.Works.{PlainShowCall}
 use Rattle.ds_state.specs.Reports.{PlainReports}
 use Rattle.ds_state.specs.Underway.{reports_in, reports_under_way}
 use Rattle.ds_state.specs.Value.{WorldValue, world_of, AreReportsOf, IsGood, IsReserved}
@@ -24,15 +24,15 @@ use Rattle.ds_show.specs.ShowTakes.{settled_by, reports_by, StepsBy}
 use Rattle.ds_show.proofs.ShowLaws.{steps as steps_keep, accesses}
 
 -- the process's report
-pub record IsShowing (v : WorldValue) (p : ℕ) (e : PlainShow) : Type 0 where
+pub record IsShowing (v : WorldValue) (p : ℕ) (e : PlainShowCall) : Type 0 where
   pub there : p < length v.situations
   pub is : (world_of v).situation p ≡ Showing e
 
-pub showing_from : (v : WorldValue) (p : ℕ) (e : PlainShow) (read : Situation) → p < length v.situations → read ≡ get_or v.situations p read → read ≡ Showing e → IsShowing v p e
+pub showing_from : (v : WorldValue) (p : ℕ) (e : PlainShowCall) (read : Situation) → p < length v.situations → read ≡ get_or v.situations p read → read ≡ Showing e → IsShowing v p e
 showing_from v p e read lt is here = record { there = lt; is = get_or_default v.situations p (Idle 0) read lt ∙ sym is ∙ here }
 
 -- a report that is settled is under way no more
-settles_one : (e : PlainShow) (s : ShowStage) (word : ℕ) → settled_by (effect_at s) + reports_in (after e s word) ≤ 1
+settles_one : (e : PlainShowCall) (s : ShowStage) (word : ℕ) → settled_by (effect_at s) + reports_in (after e s word) ≤ 1
 settles_one e (LoadAnnounce i) word = omega arith
 settles_one e (LoadMark i) word = omega arith
 settles_one e (LoadValue i) word = omega arith
@@ -44,13 +44,13 @@ settles_one e (Answer (AtMark c w)) word = omega arith
 settles_one e (Answer (AtAnnounce q w)) word = omega arith
 
 -- the reports that are kept are of the sheet
-reports_kept : (layout : Layout) (r : PlainReports) (e : PlainShow) (what : Effect) → AreReportsOf layout r → AreReportsOf layout (reports_by r e what)
+reports_kept : (layout : Layout) (r : PlainReports) (e : PlainShowCall) (what : Effect) → AreReportsOf layout r → AreReportsOf layout (reports_by r e what)
 reports_kept layout r e GoesOn h = h
 reports_kept layout r e (Answers Settled) h = record { cells = h.cells; processes = length-set r.values e.process (answered e) ∙ h.processes }
 reports_kept layout r e (Answers (AtMark c w)) h = h
 reports_kept layout r e (Answers (AtAnnounce q w)) h = h
 
-module _ (v : WorldValue) (g : IsGood v) (p : ℕ) (e : PlainShow) (at : IsShowing v p e) where
+module _ (v : WorldValue) (g : IsGood v) (p : ℕ) (e : PlainShowCall) (at : IsShowing v p e) where
   pub low : p < v.sheet.layout.processes
   low = let t = at.there in let s = g.situations in omega arith
 

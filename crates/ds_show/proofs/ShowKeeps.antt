@@ -12,8 +12,8 @@ use Rattle.ds_layout.specs.declared.place.Place.TheVariants.{Version}
 use Rattle.ds_layout.specs.declared.layout.Layout.{Layout}
 use Rattle.ds_layout.specs.Places.{cells_of}
 use Rattle.ds_layout.specs.SheetMemory.{PerformsAt, CanPerform, NamesPlace, HasBuffer}
-use Rattle.ds_state.specs.Works.{PlainShow}
-use Rattle.ds_state.specs.World.{World}
+use Rattle.ds_state.specs.Works.{PlainShowCall}
+use Rattle.ds_state.specs.World.{PlainWorld}
 use Rattle.ds_state.specs.Owing.{Owes, Parts, Splits, Excuses}
 use Rattle.ds_state.specs.KnownWork.{IsAtRest}
 use Rattle.ds_state.specs.KnownShow.{noted, reads_clean, reads_pending, Moment, moment_of, ShowFitsAt, ShowFits}
@@ -34,7 +34,7 @@ use Rattle.ds_state.proofs.StableShow.{show_goes, rest_same}
 use Rattle.ds_show.proofs.ShowSteps.{Sees, moment_after, on, advance, branches}
 
 -- no access of a report changes a word
-pub touches_nothing : (s : ShowStage) (p word : ℕ) (old new : World) → PerformsAt (access_at s) p old.memory new.memory word → SameMemory old.memory new.memory
+pub touches_nothing : (s : ShowStage) (p word : ℕ) (old new : PlainWorld) → PerformsAt (access_at s) p old.memory new.memory word → SameMemory old.memory new.memory
 touches_nothing (LoadAnnounce i) p word old new m = m.1
 touches_nothing (LoadMark i) p word old new m = m.1
 touches_nothing (LoadValue i) p word old new m = m.1
@@ -44,7 +44,7 @@ touches_nothing (AgainAnnounce i) p word old new m = m.1
 touches_nothing (Answer end) p word old new m = m.1
 
 -- and it sees the cached side
-pub sees_word : (s : ShowStage) (p word : ℕ) (old new : World) → PerformsAt (access_at s) p old.memory new.memory word → Sees old s word
+pub sees_word : (s : ShowStage) (p word : ℕ) (old new : PlainWorld) → PerformsAt (access_at s) p old.memory new.memory word → Sees old s word
 sees_word (LoadAnnounce i) p word old new m = m.0
 sees_word (LoadMark i) p word old new m = m.0
 sees_word (LoadValue i) p word old new m = m.0
@@ -54,7 +54,7 @@ sees_word (AgainAnnounce i) p word old new m = m.0
 sees_word (Answer end) p word old new m = tt
 
 -- a step, or a begin, of a process that reports or is idle, which touches no word
-module _ (p : ℕ) (old new : World) (sound : IsSound old) (turn : Turn p old new) (m : SameMemory old.memory new.memory)
+module _ (p : ℕ) (old new : PlainWorld) (sound : IsSound old) (turn : Turn p old new) (m : SameMemory old.memory new.memory)
     (owes : (r c x : ℕ) → Owes old.memory p (old.situation p) r c x → ⊥) (excuses : (c x : ℕ) → Excuses old p (old.situation p) c x → ⊥)
     (parts : (r : ℕ) → Parts (old.situation p) r → ⊥) (splits : (c head : ℕ) → Splits old p (old.situation p) c head → ⊥) where
   moves : Moves p Version old new
@@ -68,7 +68,7 @@ module _ (p : ℕ) (old new : World) (sound : IsSound old) (turn : Turn p old ne
       let f : Framed old new = silent_framed p old new moves turn.counted sound (buffered old sound) owes excuses parts splits m.buffer in
       quiet_sound p old new turn sound moves f.bears f.stand f.apart (silent_keeps p old new moves turn.counted sound (buffered old sound) owes excuses parts splits m.buffer) call
 
-after_fits : (w : World) (e : PlainShow) (s : ShowStage) (word : ℕ) (m : Moment) → ShowFitsAt w e.process (next_at (on e s) s word) m → IdleFits w e.process e.next → CallFits w e.process (after e s word)
+after_fits : (w : PlainWorld) (e : PlainShowCall) (s : ShowStage) (word : ℕ) (m : Moment) → ShowFitsAt w e.process (next_at (on e s) s word) m → IdleFits w e.process e.next → CallFits w e.process (after e s word)
 after_fits w e (LoadAnnounce i) word m h k = (m, h)
 after_fits w e (LoadMark i) word m h k = (m, h)
 after_fits w e (LoadValue i) word m h k = (m, h)
@@ -78,7 +78,7 @@ after_fits w e (AgainAnnounce i) word m h k = (m, h)
 after_fits w e (Answer end) word m h k = k
 
 -- the step of a report
-module _ (e : PlainShow) (s : ShowStage) (word : ℕ) (old new : World) (sound : IsSound old) (was : old.situation e.process ≡ Showing (on e s)) (t : StepsAt e s word old new) where
+module _ (e : PlainShowCall) (s : ShowStage) (word : ℕ) (old new : PlainWorld) (sound : IsSound old) (was : old.situation e.process ≡ Showing (on e s)) (t : StepsAt e s word old new) where
   same : SameMemory old.memory new.memory
   same = touches_nothing s e.process word old new t.memory
 
@@ -128,7 +128,7 @@ some_cells shape =
     let l = index_below shape c (record { column = shape.within.some_columns; row = shape.within.some_rows }) in
     omega arith
 
-module _ (p next : ℕ) (old new : World) (sound : IsSound old) (real : p < old.layout.processes) (b : Begins p next old new) where
+module _ (p next : ℕ) (old new : PlainWorld) (sound : IsSound old) (real : p < old.layout.processes) (b : Begins p next old new) where
   idle : IdleFits old p next
   idle = subst (λ (s : Situation). CallFits old p s) b.idle (sound.calls p real)
 
@@ -172,10 +172,10 @@ module _ (p next : ℕ) (old new : World) (sound : IsSound old) (real : p < old.
       (λ l. subst (λ (x : Situation). CallFits new p x) (sym b.situation) (moment_of new, begin_known))
 
 -- each step leaves fewer, but for the answer's; at most two for each process and four for each cell, and the answer's
-below : (n : ℕ) (b : Bool) (x y : PlainShow) → (b ≡ true → rank x < n) → (b ≡ false → rank y < n) → rank (if b then x else y) < n
+below : (n : ℕ) (b : Bool) (x y : PlainShowCall) → (b ≡ true → rank x < n) → (b ≡ false → rank y < n) → rank (if b then x else y) < n
 below n b x y h k = branches (λ z. rank z < n) b x y h k
 
-pub falls : (e : PlainShow) (s : ShowStage) (word : ℕ) → IsStage e s → Falls e s (next_at e s word)
+pub falls : (e : PlainShowCall) (s : ShowStage) (word : ℕ) → IsStage e s → Falls e s (next_at e s word)
 falls e (LoadAnnounce i) word (l, h) = below (rank (at e (LoadAnnounce i))) (reads_pending word) _ _ (λ b. omega arith)
     (λ b. below (rank (at e (LoadAnnounce i))) (nat_lt (i + 1) e.processes) _ _ (λ t. let k = ltb-true (i + 1) e.processes t in omega arith) (λ f. omega arith))
 falls e (LoadMark i) word (l, h) = below (rank (at e (LoadMark i))) (reads_clean e.processes word) _ _
@@ -188,7 +188,7 @@ falls e (AgainAnnounce i) word (l, h) = below (rank (at e (AgainAnnounce i))) (w
     (λ b. below (rank (at e (AgainAnnounce i))) (nat_lt (i + 1) e.processes) _ _ (λ t. let k = ltb-true (i + 1) e.processes t in omega arith) (λ f. omega arith)) (λ b. omega arith)
 falls e (Answer end) word h = tt
 
-pub few : (e : PlainShow) (s : ShowStage) → rank (at e s) ≤ 2 * e.processes + 4 * e.cells + 1
+pub few : (e : PlainShowCall) (s : ShowStage) → rank (at e s) ≤ 2 * e.processes + 4 * e.cells + 1
 few e (LoadAnnounce i) = omega arith
 few e (LoadMark i) = omega arith
 few e (LoadValue i) = omega arith
@@ -198,7 +198,7 @@ few e (AgainAnnounce i) = omega arith
 few e (Answer end) = omega arith
 
 -- each access names a word of the sheet
-pub named : (layout : Layout) (e : PlainShow) → cells_of layout ≡ e.cells → layout.processes ≡ e.processes → (s : ShowStage) → IsStage e s → NamesPlace layout (access_at s)
+pub named : (layout : Layout) (e : PlainShowCall) → cells_of layout ≡ e.cells → layout.processes ≡ e.processes → (s : ShowStage) → IsStage e s → NamesPlace layout (access_at s)
 named layout e cells processes (LoadAnnounce i) h = rw processes h.0
 named layout e cells processes (LoadMark i) h = rw cells h.0
 named layout e cells processes (LoadValue i) h = rw cells h.0
@@ -217,5 +217,5 @@ no_buffer layout memory p (AgainMark i) = tt
 no_buffer layout memory p (AgainAnnounce i) = tt
 no_buffer layout memory p (Answer end) = tt
 
-pub possible : (w : World) (p : ℕ) (e : PlainShow) (m : Moment) → ShowFitsAt w p e m → CanPerform w.layout w.memory p (access_at e.stage)
+pub possible : (w : PlainWorld) (p : ℕ) (e : PlainShowCall) (m : Moment) → ShowFitsAt w p e m → CanPerform w.layout w.memory p (access_at e.stage)
 possible w p e m fits = (named w.layout e fits.cells fits.processes e.stage fits.is.stage, no_buffer w.layout w.memory p e.stage)

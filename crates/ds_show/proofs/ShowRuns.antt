@@ -6,8 +6,8 @@ use Rattle.std.proofs.lemmas.List.Elements.{All-nil}
 use Rattle.ds_layout.proofs.OrBits.{IsSubset-same}
 use Rattle.ds_layout.specs.declared.place.Place.{Place}
 use Rattle.ds_layout.specs.declared.place.Place.TheVariants.{Version, Mark, Announce, Index, Done}
-use Rattle.ds_state.specs.Works.{PlainShow}
-use Rattle.ds_state.specs.World.{Edit, World}
+use Rattle.ds_state.specs.Works.{PlainShowCall}
+use Rattle.ds_state.specs.World.{PlainEdit, PlainWorld}
 use Rattle.ds_layout.specs.Mark.{IsClean}
 use Rattle.ds_state.specs.KnownShow.{noted, reads_pending, reads_clean, IsPendingWord, Moment, moment_of, ShowFitsAt}
 use Rattle.ds_state.specs.ShowStages.{IsStage}
@@ -28,34 +28,34 @@ use Rattle.ds_show.proofs.ShowKeeps.{sees_word, known_next, begin_known}
 use Rattle.ds_show.proofs.ShowTruth.{IsSettled, settled_true}
 
 -- a world of the call at which the place held the word
-pub record HadIn (now : World) (past : List World) (place : Place) (word : ℕ) : Type 0 where
-  at : World
+pub record HadIn (now : PlainWorld) (past : List PlainWorld) (place : Place) (word : ℕ) : Type 0 where
+  at : PlainWorld
   of : IsOf at now past
   is : at.memory.cached place ≡ word
 
-self : (now : World) (past : List World) → IsOf now now past
+self : (now : PlainWorld) (past : List PlainWorld) → IsOf now now past
 self now [] = refl
 self now (w ∷ past) = inl refl
 
-abbrev pub OffIn : World → List World → ShowStage → Type 0
+abbrev pub OffIn : PlainWorld → List PlainWorld → ShowStage → Type 0
 OffIn now past (Answer Settled) = Unit {0}
 OffIn now past (Answer (AtMark c word)) = WasOff now past (Mark c) word (IsClean word → ⊥)
 OffIn now past (Answer (AtAnnounce q word)) = WasOff now past (Announce q) word (IsPendingWord word)
 OffIn now past _ = Unit {0}
 
 -- each noted word was there in the call, and so was the word that ended it
-pub record Recalls (now : World) (past : List World) (e : PlainShow) : Type 0 where
+pub record Recalls (now : PlainWorld) (past : List PlainWorld) (e : PlainShowCall) : Type 0 where
   marks : (c : ℕ) → c < length e.marks → HadIn now past (Mark c) (noted e.marks c)
   announcements : (q : ℕ) → q < length e.announcements → HadIn now past (Announce q) (noted e.announcements q)
   off : OffIn now past e.stage
 
 -- the moment is one of the call's worlds
-pub record MomentIn (now : World) (past : List World) (m : Moment) : Type 0 where
-  at : World
+pub record MomentIn (now : PlainWorld) (past : List PlainWorld) (m : Moment) : Type 0 where
+  at : PlainWorld
   of : IsOf at now past
   is : m ≡ moment_of at
 
-module _ (now w : World) (past : List World) where
+module _ (now w : PlainWorld) (past : List PlainWorld) where
   older : (place : Place) (word : ℕ) → HadIn w past place word → HadIn now (w ∷ past) place word
   older place word h = record { at = h.at; of = inr h.of; is = h.is }
 
@@ -78,7 +78,7 @@ module _ (now w : World) (past : List World) where
   older_at (Answer (AtMark c word)) h = older_off (Mark c) word (IsClean word → ⊥) h
   older_at (Answer (AtAnnounce q word)) h = older_off (Announce q) word (IsPendingWord word) h
 
-  older_all : (e : PlainShow) → Recalls w past e → Recalls now (w ∷ past) e
+  older_all : (e : PlainShowCall) → Recalls w past e → Recalls now (w ∷ past) e
   older_all e h = record {
     marks = λ c l. older (Mark c) _ (h.marks c l);
     announcements = λ q l. older (Announce q) _ (h.announcements q l);
@@ -97,15 +97,15 @@ module _ (now w : World) (past : List World) where
   off_by place word Bad is bad = record { moment = w; of = inr (self w past); held = sym is; why = inl bad }
 
 -- the earlier world is not this one, since the words differ
-strictly : (w : World) (past : List World) (place : Place) (word : ℕ) → (h : HadIn w past place word) → w.memory.cached place ≢ word → AreInTurn h.at w w past
-strictly w [] place word h ne = absurd (ne (ap (λ (v : World). v.memory.cached place) (sym h.of) ∙ h.is))
+strictly : (w : PlainWorld) (past : List PlainWorld) (place : Place) (word : ℕ) → (h : HadIn w past place word) → w.memory.cached place ≢ word → AreInTurn h.at w w past
+strictly w [] place word h ne = absurd (ne (ap (λ (v : PlainWorld). v.memory.cached place) (sym h.of) ∙ h.is))
 strictly w (u ∷ past) place word h ne = elim h.of [
-  | inl eq ↦ absurd (ne (ap (λ (v : World). v.memory.cached place) (sym eq) ∙ h.is))
+  | inl eq ↦ absurd (ne (ap (λ (v : PlainWorld). v.memory.cached place) (sym eq) ∙ h.is))
   | inr of ↦ inl (refl, of)
 ]
 
 -- it moved
-off_moved : (now w : World) (past : List World) (place : Place) (word other : ℕ) (Bad : Type 0) → word ≡ w.memory.cached place → HadIn w past place other → word ≢ other → WasOff now (w ∷ past) place word Bad
+off_moved : (now w : PlainWorld) (past : List PlainWorld) (place : Place) (word other : ℕ) (Bad : Type 0) → word ≡ w.memory.cached place → HadIn w past place other → word ≢ other → WasOff now (w ∷ past) place word Bad
 off_moved now w past place word other Bad is h ne = record {
   moment = w;
   of = inr (self w past);
@@ -115,10 +115,10 @@ off_moved now w past place word other Bad is h ne = record {
 
 -- ---- a step
 
-abbrev with_words : PlainShow → List ℕ → List ℕ → List ℕ → List ℕ → ShowStage → PlainShow
+abbrev with_words : PlainShowCall → List ℕ → List ℕ → List ℕ → List ℕ → ShowStage → PlainShowCall
 with_words e qs ms vs ks s = record e { announcements = qs; marks = ms; values = vs; kinds = ks; stage = s }
 
-module _ (now w : World) (past : List World) (e : PlainShow) where
+module _ (now w : PlainWorld) (past : List PlainWorld) (e : PlainShowCall) where
   recall : (s : ShowStage) (word : ℕ) → Sees w s word → IsStage e s → Recalls w past (on e s) → Recalls now (w ∷ past) (next_at (on e s) s word)
   recall (LoadAnnounce i) word sees is h =
       let o : Recalls now (w ∷ past) (on e (LoadAnnounce i)) = older_all now w past (on e (LoadAnnounce i)) h in
@@ -173,7 +173,7 @@ module _ (now w : World) (past : List World) (e : PlainShow) where
   moment_next m (Answer end) h = older_moment now w past m h
 
 -- a report goes on by a step that is not its answer
-pub goes_to : (e e' : PlainShow) (s : ShowStage) (word : ℕ) → after e s word ≡ Showing e' → next_at (on e s) s word ≡ e'
+pub goes_to : (e e' : PlainShowCall) (s : ShowStage) (word : ℕ) → after e s word ≡ Showing e' → next_at (on e s) s word ≡ e'
 goes_to e e' (LoadAnnounce i) word is = cc
 goes_to e e' (LoadMark i) word is = cc
 goes_to e e' (LoadValue i) word is = cc
@@ -182,23 +182,23 @@ goes_to e e' (AgainMark i) word is = cc
 goes_to e e' (AgainAnnounce i) word is = cc
 goes_to e e' (Answer end) word is = absurd (cc)
 
-pub showing_inj : (s : Situation) (e e' : PlainShow) → s ≡ Showing e → s ≡ Showing e' → e ≡ e'
+pub showing_inj : (s : Situation) (e e' : PlainShowCall) → s ≡ Showing e → s ≡ Showing e' → e ≡ e'
 showing_inj s e e' a b = let both : Showing e ≡ Showing e' = sym a ∙ b in cc
 
 -- ---- the call
 
-pub record Told (p : ℕ) (now : World) (past : List World) (e : PlainShow) : Type 0 where
+pub record Told (p : ℕ) (now : PlainWorld) (past : List PlainWorld) (e : PlainShowCall) : Type 0 where
   pub m : Moment
   pub fits : ShowFitsAt now p e m
   pub recalls : Recalls now past e
   pub moment : MomentIn now past m
 
 module _ (p : ℕ) where
-  pub told : (now : World) (past : List World) → Call p now past → (e : PlainShow) → now.situation p ≡ Showing e → Told p now past e
+  pub told : (now : PlainWorld) (past : List PlainWorld) → Call p now past → (e : PlainShowCall) → now.situation p ≡ Showing e → Told p now past e
   told now [] b e is =
       let first : ShowFitsAt now p (fresh p b.next (cells_of b.before.layout) b.before.layout.processes) (moment_of now) = begin_known p b.next b.before now b.sound b.real b.begins in
       let same : fresh p b.next (cells_of b.before.layout) b.before.layout.processes ≡ e = showing_inj (now.situation p) _ e b.begins.situation is in
-      subst (λ (x : PlainShow). Told p now [] x) same (record {
+      subst (λ (x : PlainShowCall). Told p now [] x) same (record {
         m = moment_of now;
         fits = first;
         recalls = record { marks = λ c l. absurd (omega arith); announcements = λ q l. absurd (omega arith); off = tt };
@@ -213,14 +213,14 @@ module _ (p : ℕ) where
         moment = older_moment now w past t.m t.moment;
       }
   told now (w ∷ past) (sound, inl own, call) e is =
-      let f : PlainShow = own.show in
+      let f : PlainShowCall = own.show in
       let s : ShowStage = f.stage in
       let t : Told p w past f = told w past call f own.was in
       let fits : ShowFitsAt w f.process f t.m = subst (λ (q : ℕ). ShowFitsAt w q f t.m) (sym own.mine) t.fits in
       let was : w.situation f.process ≡ Showing f = ap w.situation own.mine ∙ own.was in
       let next : ShowFitsAt now f.process (next_at f s own.word) (moment_after w t.m s) = known_next f s own.word w now sound was own.steps t.m fits in
       let same : next_at f s own.word ≡ e = goes_to f e s own.word (sym own.steps.situation ∙ ap now.situation own.mine ∙ is) in
-      subst (λ (x : PlainShow). Told p now (w ∷ past) x) same (record {
+      subst (λ (x : PlainShowCall). Told p now (w ∷ past) x) same (record {
         m = moment_after w t.m s;
         fits = subst (λ (q : ℕ). ShowFitsAt now q (next_at f s own.word) (moment_after w t.m s)) own.mine next;
         recalls = recall now w past f s own.word (sees_word s f.process own.word w now own.steps.memory) t.fits.is.stage t.recalls;
@@ -228,17 +228,17 @@ module _ (p : ℕ) where
       })
 
   -- the sheet stays
-  same_layout : (now : World) (past : List World) → Call p now past → (v : World) → IsOf v now past → v.layout ≡ now.layout
-  same_layout now [] b v is = ap (λ (x : World). x.layout) is
-  same_layout now (w ∷ past) (sound, passes, call) v (inl is) = ap (λ (x : World). x.layout) is
+  same_layout : (now : PlainWorld) (past : List PlainWorld) → Call p now past → (v : PlainWorld) → IsOf v now past → v.layout ≡ now.layout
+  same_layout now [] b v is = ap (λ (x : PlainWorld). x.layout) is
+  same_layout now (w ∷ past) (sound, passes, call) v (inl is) = ap (λ (x : PlainWorld). x.layout) is
   same_layout now (w ∷ past) (sound, inl own, call) v (inr of) = same_layout w past call v of ∙ sym own.steps.layout
   same_layout now (w ∷ past) (sound, inr rely, call) v (inr of) = same_layout w past call v of ∙ sym (rely.grows Version).layout
 
   -- what it answers is true of the worlds of its call
-  pub answer_true : (now : World) (past : List World) → Call p now past → (e : PlainShow) (end : ShowEnd) → now.situation p ≡ Showing e → e.stage ≡ Answer end → IsTrueReport now past e end
+  pub answer_true : (now : PlainWorld) (past : List PlainWorld) → Call p now past → (e : PlainShowCall) (end : ShowEnd) → now.situation p ≡ Showing e → e.stage ≡ Answer end → IsTrueReport now past e end
   answer_true now past call e Settled is at =
       let t : Told p now past e = told now past call e is in
-      let v : World = t.moment.at in
+      let v : PlainWorld = t.moment.at in
       let layout : v.layout ≡ now.layout = same_layout now past call v t.moment.of in
       let h : IsSettled now e (moment_of v) = settled_true now p e (moment_of v) (subst (λ (m : Moment). ShowFitsAt now p e m) t.moment.is t.fits) at in
       record {
@@ -253,7 +253,7 @@ module _ (p : ℕ) where
   answer_true now past call e (AtAnnounce q word) is at = subst (λ (s : ShowStage). OffIn now past s) at (told now past call e is).recalls.off
 
 -- an event that changes nothing leaves all that anyone may count on
-grows_same : (q : ℕ) (but : Place) (w : World) → Grows q but w w
+grows_same : (q : ℕ) (but : Place) (w : PlainWorld) → Grows q but w w
 grows_same q but w = record {
   layout = refl;
   owned_cached = λ r o ne. refl;
@@ -272,10 +272,10 @@ grows_same q but w = record {
   done_persisted = λ p part. IsSubset-same (w.memory.persisted (Done p part));
   added = [];
   counted = sym (append-nil w.counted);
-  foreign = All-nil (λ (e : Edit). e.process ≢ q);
+  foreign = All-nil (λ (e : PlainEdit). e.process ≢ q);
 }
 
-pub rely_same : (q : ℕ) (w : World) → Rely q w w
+pub rely_same : (q : ℕ) (w : PlainWorld) → Rely q w w
 rely_same q w = record {
   situation = refl;
   open_edits = refl;
@@ -291,7 +291,7 @@ rely_same q w = record {
 }
 
 -- what came up to a world of the call is a call
-pub call_until : (p : ℕ) (v now : World) (past : List World) → Call p now past → IsOf v now past → (older : List World) × Call p v older
-call_until p v now [] call is = ([], subst (λ (x : World). Call p x []) (sym is) call)
-call_until p v now (w ∷ past) call (inl is) = (w ∷ past, subst (λ (x : World). Call p x (w ∷ past)) (sym is) call)
+pub call_until : (p : ℕ) (v now : PlainWorld) (past : List PlainWorld) → Call p now past → IsOf v now past → (older : List PlainWorld) × Call p v older
+call_until p v now [] call is = ([], subst (λ (x : PlainWorld). Call p x []) (sym is) call)
+call_until p v now (w ∷ past) call (inl is) = (w ∷ past, subst (λ (x : PlainWorld). Call p x (w ∷ past)) (sym is) call)
 call_until p v now (w ∷ past) call (inr of) = call_until p v w past call.2 of

@@ -4,8 +4,8 @@ use Rattle.std.proofs.lemmas.Bool.{false≢true, eq-eqb}
 use Rattle.ds_layout.specs.declared.place.Place.{Place}
 use Rattle.ds_layout.specs.declared.place.Place.TheVariants.{Version, Mark, Announce}
 use Rattle.ds_layout.specs.Places.{cells_of}
-use Rattle.ds_state.specs.Works.{PlainShow}
-use Rattle.ds_state.specs.World.{World}
+use Rattle.ds_state.specs.Works.{PlainShowCall}
+use Rattle.ds_state.specs.World.{PlainWorld}
 use Rattle.ds_layout.specs.Mark.{IsClean}
 use Rattle.ds_state.specs.KnownShow.{noted, reads_clean, reads_pending, IsPendingWord, moment_of, IsStill}
 use Rattle.ds_state.specs.ShowStages.{IsStage}
@@ -28,7 +28,7 @@ abbrev IsNotOff : ShowStage → Type 0
 IsNotOff (Answer end) = end ≡ Settled
 IsNotOff _ = Unit {0}
 
-record IsAlone (w : World) (e : PlainShow) : Type 0 where
+record IsAlone (w : PlainWorld) (e : PlainShowCall) : Type 0 where
   still : IsStill w.layout (moment_of w)
   marks : (c : ℕ) → c < length e.marks → w.memory.cached (Mark c) ≡ noted e.marks c
   announcements : (q : ℕ) → q < length e.announcements → w.memory.cached (Announce q) ≡ noted e.announcements q
@@ -37,7 +37,7 @@ record IsAlone (w : World) (e : PlainShow) : Type 0 where
 not_off : (s : ShowStage) → (s' : ShowStage) → s ≡ s' → IsNotOff s → IsNotOff s'
 not_off s s' is h = subst (λ (x : ShowStage). IsNotOff x) is h
 
-module _ (w : World) (e : PlainShow) (cells : cells_of w.layout ≡ e.cells) (processes : w.layout.processes ≡ e.processes) where
+module _ (w : PlainWorld) (e : PlainShowCall) (cells : cells_of w.layout ≡ e.cells) (processes : w.layout.processes ≡ e.processes) where
   alone_next : (s : ShowStage) (word : ℕ) → Sees w s word → IsStage e s → IsAlone w (on e s) → IsAlone w (next_at (on e s) s word)
   alone_next (LoadAnnounce i) word sees is h =
       let l = is.1.announcements in
@@ -79,7 +79,7 @@ module _ (w : World) (e : PlainShow) (cells : cells_of w.layout ≡ e.cells) (pr
   alone_next (Answer end) word sees is h = h
 
 -- where processes see the same
-alone_same : (old new : World) (e : PlainShow) → new.layout ≡ old.layout → ((r : Place) → new.memory.cached r ≡ old.memory.cached r) → IsAlone old e → IsAlone new e
+alone_same : (old new : PlainWorld) (e : PlainShowCall) → new.layout ≡ old.layout → ((r : Place) → new.memory.cached r ≡ old.memory.cached r) → IsAlone old e → IsAlone new e
 alone_same old new e layout cached h = record {
   still = record {
     clean = λ c l. subst (λ (x : ℕ). IsClean x) (sym (cached (Mark c))) (h.still.clean c (rw (sym layout) l));
@@ -93,12 +93,12 @@ alone_same old new e layout cached h = record {
 -- ---- the call
 
 module _ (p : ℕ) where
-  is_call : (now : World) (past : List World) → SoloCall p now past → Call p now past
+  is_call : (now : PlainWorld) (past : List PlainWorld) → SoloCall p now past → Call p now past
   is_call now [] solo = solo.0
   is_call now (w ∷ past) (sound, inl own, solo) = (sound, inl own, is_call w past solo)
   is_call now (w ∷ past) (sound, inr same, solo) = (sound, inr same.rely, is_call w past solo)
 
-  alone : (now : World) (past : List World) → SoloCall p now past → (e : PlainShow) → now.situation p ≡ Showing e → IsAlone now e
+  alone : (now : PlainWorld) (past : List PlainWorld) → SoloCall p now past → (e : PlainShowCall) → now.situation p ≡ Showing e → IsAlone now e
   alone now [] (b, quiet) e is =
       let first : IsAlone b.before (fresh p b.next (cells_of b.before.layout) b.before.layout.processes) = record {
         still = quiet_still b.before b.sound quiet;
@@ -106,18 +106,18 @@ module _ (p : ℕ) where
         announcements = λ q l. absurd (omega arith);
         good = tt;
       } in
-      subst (λ (x : PlainShow). IsAlone now x) (showing_inj (now.situation p) _ e b.begins.situation is)
+      subst (λ (x : PlainShowCall). IsAlone now x) (showing_inj (now.situation p) _ e b.begins.situation is)
       (alone_same b.before now (fresh p b.next (cells_of b.before.layout) b.before.layout.processes) b.begins.layout b.begins.memory.cached first)
   alone now (w ∷ past) (sound, inr same, solo) e is = alone_same w now e (same.rely.grows Version).layout same.cached (alone w past solo e (sym same.rely.situation ∙ is))
   alone now (w ∷ past) (sound, inl own, solo) e is =
-      let f : PlainShow = own.show in
+      let f : PlainShowCall = own.show in
       let s : ShowStage = f.stage in
       let before : IsAlone w f = alone w past solo f own.was in
       let t = told p w past (is_call w past solo) f own.was in
       let next : IsAlone w (next_at f s own.word) = alone_next w f t.fits.cells t.fits.processes s own.word (sees_word s f.process own.word w now own.steps.memory) t.fits.is.stage before in
-      subst (λ (x : PlainShow). IsAlone now x) (goes_to f e s own.word (sym own.steps.situation ∙ ap now.situation own.mine ∙ is))
+      subst (λ (x : PlainShowCall). IsAlone now x) (goes_to f e s own.word (sym own.steps.situation ∙ ap now.situation own.mine ∙ is))
       (alone_same w now (next_at f s own.word) own.steps.layout (touches_nothing s f.process own.word w now own.steps.memory).cached next)
 
   -- so it is settled
-  pub solo_settles : (now : World) (past : List World) → SoloCall p now past → (e : PlainShow) (end : ShowEnd) → now.situation p ≡ Showing e → e.stage ≡ Answer end → end ≡ Settled
+  pub solo_settles : (now : PlainWorld) (past : List PlainWorld) → SoloCall p now past → (e : PlainShowCall) (end : ShowEnd) → now.situation p ≡ Showing e → e.stage ≡ Answer end → end ≡ Settled
   solo_settles now past solo e end is at = not_off e.stage (Answer end) at (alone now past solo e is).good

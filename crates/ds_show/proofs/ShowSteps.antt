@@ -4,8 +4,8 @@ use Rattle.std.specs.Prelude.{Bool, if◌then◌else◌}
 use Rattle.std.proofs.lemmas.Bool.{ltb-true, ltb-false, eqb-true, eqb-false, cases_eq, false≢true}
 use Rattle.std.proofs.lemmas.List.{append-nil}
 use Rattle.ds_layout.specs.declared.place.Place.TheVariants.{Mark, Value, Kind, Announce}
-use Rattle.ds_state.specs.Works.{PlainShow}
-use Rattle.ds_state.specs.World.{World}
+use Rattle.ds_state.specs.Works.{PlainShowCall}
+use Rattle.ds_state.specs.World.{PlainWorld}
 use Rattle.ds_state.specs.Owing.{IsMark}
 use Rattle.ds_layout.specs.Mark.{IsClean}
 use Rattle.ds_state.specs.KnownShow.{noted, reads_clean, reads_pending, IsPendingWord, Moment, moment_of, HasNoted, SawAgain, seen_at, SeenFits, ShowFitsAt}
@@ -20,7 +20,7 @@ use Rattle.ds_state.proofs.StillRight.{still_right}
 
 -- ---- lists with one more
 
-pub branches : (P : PlainShow → Type 0) (b : Bool) (x y : PlainShow) → (b ≡ true → P x) → (b ≡ false → P y) → P (if b then x else y)
+pub branches : (P : PlainShowCall → Type 0) (b : Bool) (x y : PlainShowCall) → (b ≡ true → P x) → (b ≡ false → P y) → P (if b then x else y)
 branches P true x y h k = h refl
 branches P false x y h k = k refl
 
@@ -45,7 +45,7 @@ each_push P xs x h k i l = elim (cases_eq i (length xs)) [
 
 -- ---- what is noted, with one more word
 
-module _ (w : World) (qs ms vs ks : List ℕ) (h : HasNoted w qs ms vs ks) (word : ℕ) where
+module _ (w : PlainWorld) (qs ms vs ks : List ℕ) (h : HasNoted w qs ms vs ks) (word : ℕ) where
   with_a_q : word ≡ w.memory.cached (Announce (length qs)) → (IsPendingWord word → ⊥) → HasNoted w (qs ++ word ∷ []) ms vs ks
   with_a_q is calm = record {
     announcements = each_push (λ q v. v ≤ w.memory.cached (Announce q)) qs word h.announcements (omega arith);
@@ -91,7 +91,7 @@ module _ (w : World) (qs ms vs ks : List ℕ) (h : HasNoted w qs ms vs ks) (word
   }
 
 -- the moment is made: now
-pub moment_made : (w : World) (qs ms vs ks : List ℕ) → IsSound w → HasNoted w qs ms vs ks → SawAgain w qs ms vs ks (moment_of w) 0 0
+pub moment_made : (w : PlainWorld) (qs ms vs ks : List ℕ) → IsSound w → HasNoted w qs ms vs ks → SawAgain w qs ms vs ks (moment_of w) 0 0
 moment_made w qs ms vs ks sound h = record {
   moment = record {
     marks_to = λ c. omega arith;
@@ -109,7 +109,7 @@ moment_made w qs ms vs ks sound h = record {
 }
 
 -- one more mark, and one more announcement, is the noted one: so it was at the moment
-mark_again : (w : World) (qs ms vs ks : List ℕ) (m : Moment) (i : ℕ) → SawAgain w qs ms vs ks m i 0 → i < length ms → w.memory.cached (Mark i) ≡ noted ms i → SawAgain w qs ms vs ks m (i + 1) 0
+mark_again : (w : PlainWorld) (qs ms vs ks : List ℕ) (m : Moment) (i : ℕ) → SawAgain w qs ms vs ks m i 0 → i < length ms → w.memory.cached (Mark i) ≡ noted ms i → SawAgain w qs ms vs ks m (i + 1) 0
 mark_again w qs ms vs ks m i h l is = record {
   moment = h.moment;
   mark = λ c k. elim (cases_eq c i) [
@@ -119,7 +119,7 @@ mark_again w qs ms vs ks m i h l is = record {
   announcement = h.announcement;
 }
 
-announce_again : (w : World) (qs ms vs ks : List ℕ) (m : Moment) (n i : ℕ) → SawAgain w qs ms vs ks m n i → i < length qs → w.memory.cached (Announce i) ≡ noted qs i → SawAgain w qs ms vs ks m n (i + 1)
+announce_again : (w : PlainWorld) (qs ms vs ks : List ℕ) (m : Moment) (n i : ℕ) → SawAgain w qs ms vs ks m n i → i < length qs → w.memory.cached (Announce i) ≡ noted qs i → SawAgain w qs ms vs ks m n (i + 1)
 announce_again w qs ms vs ks m n i h l is = record {
   moment = h.moment;
   mark = h.mark;
@@ -132,7 +132,7 @@ announce_again w qs ms vs ks m n i h l is = record {
 -- ---- the stages
 
 -- the word that the access of a stage answers
-abbrev pub Sees : World → ShowStage → ℕ → Type 0
+abbrev pub Sees : PlainWorld → ShowStage → ℕ → Type 0
 Sees w (LoadAnnounce i) word = word ≡ w.memory.cached (Announce i)
 Sees w (LoadMark i) word = word ≡ w.memory.cached (Mark i)
 Sees w (LoadValue i) word = word ≡ w.memory.cached (Value i)
@@ -142,17 +142,17 @@ Sees w (AgainAnnounce i) word = word ≡ w.memory.cached (Announce i)
 Sees w (Answer end) word = Unit {0}
 
 -- the last kind makes the moment
-abbrev pub moment_after : World → Moment → ShowStage → Moment
+abbrev pub moment_after : PlainWorld → Moment → ShowStage → Moment
 moment_after w m (LoadKind i) = moment_of w
 moment_after w m _ = m
 
-abbrev pub on : PlainShow → ShowStage → PlainShow
+abbrev pub on : PlainShowCall → ShowStage → PlainShowCall
 on e s = record e { stage = s }
 
-abbrev to : PlainShow → List ℕ → List ℕ → List ℕ → List ℕ → ShowStage → PlainShow
+abbrev to : PlainShowCall → List ℕ → List ℕ → List ℕ → List ℕ → ShowStage → PlainShowCall
 to e qs ms vs ks s = record e { announcements = qs; marks = ms; values = vs; kinds = ks; stage = s }
 
-module _ (w : World) (p : ℕ) (sound : IsSound w) (e : PlainShow) (m : Moment) where
+module _ (w : PlainWorld) (p : ℕ) (sound : IsSound w) (e : PlainShowCall) (m : Moment) where
   refit : (s : ShowStage) (qs ms vs ks : List ℕ) (s' : ShowStage) (m' : Moment) → ShowFitsAt w p (on e s) m
       → IsStage (to e qs ms vs ks s') s' → HasNoted w qs ms vs ks → SeenFits w qs ms vs ks m' (seen_at e.cells e.processes s') → ShowFitsAt w p (to e qs ms vs ks s') m'
   refit s qs ms vs ks s' m' fits is h seen = record {

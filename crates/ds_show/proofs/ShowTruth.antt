@@ -3,8 +3,8 @@ use Rattle.std.proofs.Common.{ℕ, ◌≡◌, List, ◌++◌, ap, sym, ◌∙◌
 use Rattle.ds_eval.specs.declared.value.Value as values
 use Rattle.ds_eval.specs.Scratch.{IsScratch}
 use Rattle.ds_layout.specs.Places.{cells_of}
-use Rattle.ds_state.specs.Works.{PlainShow}
-use Rattle.ds_state.specs.World.{Edit, World}
+use Rattle.ds_state.specs.Works.{PlainShowCall}
+use Rattle.ds_state.specs.World.{PlainEdit, PlainWorld}
 use Rattle.ds_layout.specs.Mark.{IsClean}
 use Rattle.ds_state.specs.Standing.{shown_entry}
 use Rattle.ds_state.specs.KnownShow.{noted, IsPendingWord, Moment, values_of, AreScratch, IsStill, IsRight, SawAgain, seen_at, SeenFits, ShowFitsAt}
@@ -16,13 +16,13 @@ use Rattle.ds_state.specs.declared.work.ShowStage.{ShowStage}
 use Rattle.ds_state.specs.declared.work.ShowStage.TheVariants.{Answer}
 
 -- a settled answer, of its moment
-pub record IsSettled (w : World) (e : PlainShow) (m : Moment) : Type 0 where
+pub record IsSettled (w : PlainWorld) (e : PlainShowCall) (m : Moment) : Type 0 where
   pub still : IsStill w.layout m
   pub right : AreScratch w.layout.shape m.edits (answered e)
-  pub more : List Edit
+  pub more : List PlainEdit
   pub counted : w.counted ≡ m.edits ++ more
 
-pub settled_true : (w : World) (p : ℕ) (e : PlainShow) (m : Moment) → ShowFitsAt w p e m → e.stage ≡ Answer Settled → IsSettled w e m
+pub settled_true : (w : PlainWorld) (p : ℕ) (e : PlainShowCall) (m : Moment) → ShowFitsAt w p e m → e.stage ≡ Answer Settled → IsSettled w e m
 settled_true w p e m fits is =
     let seen : SawAgain w e.announcements e.marks e.values e.kinds m e.cells e.processes = subst (λ (s : ShowStage). SeenFits w e.announcements e.marks e.values e.kinds m (seen_at e.cells e.processes s)) is fits.seen in
     let have : HaveNoted e.announcements e.marks e.values e.kinds e.processes e.cells e.cells e.cells = subst (λ (s : ShowStage). IsStage e s) is fits.is.stage in

@@ -1,6 +1,6 @@
 -- How a report begins, or is refused.
 use Rattle.std.specs.Prelude.{ℕ, ◌≡◌, ◌<◌, ◌+◌, Result, Ok, Err}
-use Rattle.ds_state.specs.World.{World}
+use Rattle.ds_state.specs.World.{PlainWorld}
 use Rattle.ds_state.specs.Value.{WorldValue, world_of}
 use Rattle.ds_state.specs.Underway.{reports_under_way}
 use Rattle.ds_state.specs.declared.reports.TheConstants.{SETTLED_MOST}
@@ -20,7 +20,7 @@ next_of (Recovering e) = Err refusal.Busy
 next_of (Showing e) = Err refusal.Busy
 
 -- an idle process's report begins
-pub record IsBegun (old : World) (p : ℕ) (new : World) : Type 0 where
+pub record IsBegun (old : PlainWorld) (p : ℕ) (new : PlainWorld) : Type 0 where
   pub next : ℕ
   pub begins : Begins p next old new
 

@@ -3,8 +3,8 @@ use Rattle.std.specs.Prelude.{ℕ, ◌≡◌, ◌≢◌, ◌<◌, ◌⊎◌, ◌
 use Rattle.ds_eval.specs.declared.value.Value.{Value}
 use Rattle.ds_layout.specs.declared.place.Place.{Place}
 use Rattle.ds_layout.specs.declared.place.Place.TheVariants.{Mark, Announce}
-use Rattle.ds_state.specs.Works.{PlainShow}
-use Rattle.ds_state.specs.World.{Edit, World}
+use Rattle.ds_state.specs.Works.{PlainShowCall}
+use Rattle.ds_state.specs.World.{PlainEdit, PlainWorld}
 use Rattle.ds_layout.specs.Mark.{IsClean}
 use Rattle.ds_state.specs.KnownShow.{IsPendingWord, moment_of, AreScratch, IsStill}
 use Rattle.ds_show.specs.ShowSteps.{Steps, Begins, answered}
@@ -15,59 +15,59 @@ use Rattle.ds_state.specs.declared.work.ShowEnd.TheVariants.{Settled, AtMark, At
 use Rattle.ds_state.specs.declared.situation.Situation.TheVariants.{Showing}
 
 -- a step of the process's own report
-pub record OwnStep (p : ℕ) (old new : World) : Type 0 where
-  pub show : PlainShow
+pub record OwnStep (p : ℕ) (old new : PlainWorld) : Type 0 where
+  pub show : PlainShowCall
   pub word : ℕ
   pub mine : show.process ≡ p
   pub was : old.situation p ≡ Showing show
   pub steps : Steps show word old new
 
 -- one event while the process reports: its own step, or what leaves it all that it may count on
-abbrev pub Passes : ℕ → World → World → Type 0
+abbrev pub Passes : ℕ → PlainWorld → PlainWorld → Type 0
 Passes p old new = OwnStep p old new ⊎ Rely p old new
 
 -- the process's report begins in a sound world, and its begin leaves this one
-pub record HasBegun (p : ℕ) (now : World) : Type 0 where
-  pub before : World
+pub record HasBegun (p : ℕ) (now : PlainWorld) : Type 0 where
+  pub before : PlainWorld
   pub next : ℕ
   pub sound : IsSound before
   pub real : p < before.layout.processes
   pub begins : Begins p next before now
 
 -- the worlds of a call up to now, the latest first: the last one is that after its begin
-abbrev pub Call : ℕ → World → List World → Type 0
+abbrev pub Call : ℕ → PlainWorld → List PlainWorld → Type 0
 Call p now [] = HasBegun p now
 Call p now (w ∷ past) = IsSound w × Passes p w now × Call p w past
 
 -- the world is one of the call
-abbrev pub IsOf : World → World → List World → Type 0
+abbrev pub IsOf : PlainWorld → PlainWorld → List PlainWorld → Type 0
 IsOf v now [] = v ≡ now
 IsOf v now (w ∷ past) = (v ≡ now) ⊎ IsOf v w past
 
 -- the second world is one of the call, and the first is an earlier one of it
-abbrev pub AreInTurn : World → World → World → List World → Type 0
+abbrev pub AreInTurn : PlainWorld → PlainWorld → PlainWorld → List PlainWorld → Type 0
 AreInTurn earlier v now [] = ⊥
 AreInTurn earlier v now (w ∷ past) = ((v ≡ now) × IsOf earlier w past) ⊎ AreInTurn earlier v w past
 
 -- at one world of the call no announcement was pending, every cell was clean, and these values are those from scratch
 -- of what counted then; that is a front of what counts now
-pub record WasStill (now : World) (past : List World) (values : List Value) : Type 0 where
-  pub moment : World
+pub record WasStill (now : PlainWorld) (past : List PlainWorld) (values : List Value) : Type 0 where
+  pub moment : PlainWorld
   pub of : IsOf moment now past
   pub still : IsStill moment.layout (moment_of moment)
   pub right : AreScratch moment.layout.shape moment.counted values
-  pub more : List Edit
+  pub more : List PlainEdit
   pub counted : now.counted ≡ moment.counted ++ more
 
 -- at one world of the call the place held the word, which is bad, or was another one earlier in the call
-pub record WasOff (now : World) (past : List World) (place : Place) (word : ℕ) (Bad : Type 0) : Type 0 where
-  pub moment : World
+pub record WasOff (now : PlainWorld) (past : List PlainWorld) (place : Place) (word : ℕ) (Bad : Type 0) : Type 0 where
+  pub moment : PlainWorld
   pub of : IsOf moment now past
   pub held : moment.memory.cached place ≡ word
-  pub why : Bad ⊎ ((earlier : World) × AreInTurn earlier moment now past × (earlier.memory.cached place ≢ word))
+  pub why : Bad ⊎ ((earlier : PlainWorld) × AreInTurn earlier moment now past × (earlier.memory.cached place ≢ word))
 
 -- what the answer of a report says of the worlds of its call
-abbrev pub IsTrueReport : World → List World → PlainShow → ShowEnd → Type 0
+abbrev pub IsTrueReport : PlainWorld → List PlainWorld → PlainShowCall → ShowEnd → Type 0
 IsTrueReport now past e Settled = WasStill now past (answered e)
 IsTrueReport now past e (AtMark c word) = WasOff now past (Mark c) word (IsClean word → ⊥)
 IsTrueReport now past e (AtAnnounce q word) = WasOff now past (Announce q) word (IsPendingWord word)

@@ -8,8 +8,8 @@ use Rattle.ds_layout.specs.declared.place.Place.{Place}
 use Rattle.ds_layout.specs.declared.place.Place.TheVariants as place
 use Rattle.ds_layout.specs.Places.{cells_of}
 use Rattle.ds_layout.specs.SheetMemory.{PerformsAt}
-use Rattle.ds_state.specs.Works.{PlainShow}
-use Rattle.ds_state.specs.World.{World}
+use Rattle.ds_state.specs.Works.{PlainShowCall}
+use Rattle.ds_state.specs.World.{PlainWorld}
 use Rattle.ds_state.specs.KnownShow.{noted, reads_clean, reads_pending, values_of}
 use Rattle.ds_state.specs.declared.situation.Situation.{Situation}
 use Rattle.ds_state.specs.declared.situation.Situation.TheVariants.{Idle, Showing}
@@ -30,7 +30,7 @@ access_at (AgainAnnounce i) = acts.Load (place.Announce i)
 access_at (Answer end) = acts.Nothing
 
 -- the report at another stage
-abbrev pub at : PlainShow → ShowStage → PlainShow
+abbrev pub at : PlainShowCall → ShowStage → PlainShowCall
 at e stage = record e { stage = stage }
 
 -- the stage that loads this announcement; behind the last one, the first mark
@@ -54,51 +54,51 @@ abbrev pub again_announce_stage : ℕ → ℕ → ShowStage
 again_announce_stage processes i = if nat_lt i processes then AgainAnnounce i else Answer Settled
 
 -- the report goes to this announcement; behind the last one, to the first mark
-abbrev pub announce_from : PlainShow → ℕ → PlainShow
+abbrev pub announce_from : PlainShowCall → ℕ → PlainShowCall
 announce_from e i = if nat_lt i e.processes then at e (LoadAnnounce i) else at e (LoadMark 0)
 
 -- the report goes to this cell's mark; behind the last one, to the first value
-abbrev pub mark_from : PlainShow → ℕ → PlainShow
+abbrev pub mark_from : PlainShowCall → ℕ → PlainShowCall
 mark_from e i = if nat_lt i e.cells then at e (LoadMark i) else at e (LoadValue 0)
 
 -- the report goes to this cell's value; behind the last one, to the first mark again
-abbrev pub value_from : PlainShow → ℕ → PlainShow
+abbrev pub value_from : PlainShowCall → ℕ → PlainShowCall
 value_from e i = if nat_lt i e.cells then at e (LoadValue i) else at e (AgainMark 0)
 
 -- the report goes to this cell's mark again; behind the last one, to the first announcement again
-abbrev pub again_mark_from : PlainShow → ℕ → PlainShow
+abbrev pub again_mark_from : PlainShowCall → ℕ → PlainShowCall
 again_mark_from e i = if nat_lt i e.cells then at e (AgainMark i) else at e (AgainAnnounce 0)
 
 -- the report goes to this announcement again; behind the last one, to the answer Settled
-abbrev pub again_announce_from : PlainShow → ℕ → PlainShow
+abbrev pub again_announce_from : PlainShowCall → ℕ → PlainShowCall
 again_announce_from e i = if nat_lt i e.processes then at e (AgainAnnounce i) else at e (Answer Settled)
 
 -- the report is unsettled: it is to answer with this cell's mark and the word found there
-abbrev pub off_mark : PlainShow → ℕ → ℕ → PlainShow
+abbrev pub off_mark : PlainShowCall → ℕ → ℕ → PlainShowCall
 off_mark e c word = at e (Answer (AtMark c word))
 
 -- the report is unsettled: it is to answer with this process's announcement and the word found there
-abbrev pub off_announce : PlainShow → ℕ → ℕ → PlainShow
+abbrev pub off_announce : PlainShowCall → ℕ → ℕ → PlainShowCall
 off_announce e q word = at e (Answer (AtAnnounce q word))
 
 -- the report with one more announcement noted
-abbrev pub with_announcement : PlainShow → ℕ → PlainShow
+abbrev pub with_announcement : PlainShowCall → ℕ → PlainShowCall
 with_announcement e word = record e { announcements = e.announcements ++ word ∷ [] }
 
 -- the report with one more mark noted
-abbrev pub with_mark : PlainShow → ℕ → PlainShow
+abbrev pub with_mark : PlainShowCall → ℕ → PlainShowCall
 with_mark e word = record e { marks = e.marks ++ word ∷ [] }
 
 -- the report with one more value noted
-abbrev pub with_value : PlainShow → ℕ → PlainShow
+abbrev pub with_value : PlainShowCall → ℕ → PlainShowCall
 with_value e word = record e { values = e.values ++ word ∷ [] }
 
 -- the report with one more kind noted
-abbrev pub with_kind : PlainShow → ℕ → PlainShow
+abbrev pub with_kind : PlainShowCall → ℕ → PlainShowCall
 with_kind e word = record e { kinds = e.kinds ++ word ∷ [] }
 
 -- the report after a stage whose access answered the word
-abbrev pub next_at : PlainShow → ShowStage → ℕ → PlainShow
+abbrev pub next_at : PlainShowCall → ShowStage → ℕ → PlainShowCall
 next_at e (LoadAnnounce i) word = if reads_pending word then off_announce e i word else announce_from (with_announcement e word) (i + 1)
 next_at e (LoadMark i) word = if reads_clean e.processes word then mark_from (with_mark e word) (i + 1) else off_mark e i word
 next_at e (LoadValue i) word = at (with_value e word) (LoadKind i)
@@ -108,7 +108,7 @@ next_at e (AgainAnnounce i) word = if word == noted e.announcements i then again
 next_at e (Answer end) word = e
 
 -- the report after its own stage, whose access answered the word
-abbrev pub got_at : PlainShow → ℕ → PlainShow
+abbrev pub got_at : PlainShowCall → ℕ → PlainShowCall
 got_at e word = next_at e e.stage word
 
 -- what a step at a stage does to the report: it goes on, or it answers
@@ -117,16 +117,16 @@ effect_at (Answer end) = Answers end
 effect_at _ = GoesOn
 
 -- the situation of the process after a stage of its report: the answer ends the call
-abbrev pub after : PlainShow → ShowStage → ℕ → Situation
+abbrev pub after : PlainShowCall → ShowStage → ℕ → Situation
 after e (Answer end) word = Idle e.next
 after e stage word = Showing (next_at e stage word)
 
 -- the values of a settled report
-abbrev pub answered : PlainShow → List Value
+abbrev pub answered : PlainShowCall → List Value
 answered e = values_of e.cells (noted e.values) (noted e.kinds)
 
 -- one step of the report at a stage, whose access answered the word: no edit comes to count
-pub record StepsAt (e : PlainShow) (stage : ShowStage) (word : ℕ) (old new : World) : Type 0 where
+pub record StepsAt (e : PlainShowCall) (stage : ShowStage) (word : ℕ) (old new : PlainWorld) : Type 0 where
   pub layout : new.layout ≡ old.layout
   pub memory : PerformsAt (access_at stage) e.process old.memory new.memory word
   pub situation : new.situation e.process ≡ after e stage word
@@ -135,11 +135,11 @@ pub record StepsAt (e : PlainShow) (stage : ShowStage) (word : ℕ) (old new : W
   pub open_edits : (q : ℕ) → new.open_edits q ≡ old.open_edits q
 
 -- one step of the report at its own stage, whose access answered the word
-abbrev pub Steps : PlainShow → ℕ → World → World → Type 0
+abbrev pub Steps : PlainShowCall → ℕ → PlainWorld → PlainWorld → Type 0
 Steps e word old new = StepsAt e e.stage word old new
 
 -- a report of the sheet, before its first step
-abbrev pub fresh : ℕ → ℕ → ℕ → ℕ → PlainShow
+abbrev pub fresh : ℕ → ℕ → ℕ → ℕ → PlainShowCall
 fresh process next cells processes = record {
   process = process;
   next = next;
@@ -153,7 +153,7 @@ fresh process next cells processes = record {
 }
 
 -- a report begins, and no word changes
-pub record Begins (p next : ℕ) (old new : World) : Type 0 where
+pub record Begins (p next : ℕ) (old new : PlainWorld) : Type 0 where
   pub layout : new.layout ≡ old.layout
   pub memory : SameMemory old.memory new.memory
   pub idle : old.situation p ≡ Idle next
@@ -173,10 +173,10 @@ rank_in processes cells (AgainAnnounce i) = 1 + processes - i
 rank_in processes cells (Answer end) = 1
 
 -- how many steps of a report are left at most from its own stage on, the answer's among them
-abbrev pub rank : PlainShow → ℕ
+abbrev pub rank : PlainShowCall → ℕ
 rank e = rank_in e.processes e.cells e.stage
 
 -- fewer steps of the report are left after a step, but for the answer's, which is the last
-abbrev pub Falls : PlainShow → ShowStage → PlainShow → Type 0
+abbrev pub Falls : PlainShowCall → ShowStage → PlainShowCall → Type 0
 Falls e (Answer end) after = Unit {0}
 Falls e stage after = rank after < rank (at e stage)

@@ -1,6 +1,6 @@
 -- What a step of a report makes of a world, with what the world counts and keeps of reports.
 use Rattle.std.specs.Prelude.{ℕ, ◌≡◌, ◌<◌, ◌+◌, Option, Some, None}
-use Rattle.ds_state.specs.Works.{PlainShow}
+use Rattle.ds_state.specs.Works.{PlainShowCall}
 use Rattle.ds_state.specs.Value.{WorldValue, world_of}
 use Rattle.ds_state.specs.Reports.{PlainReports, with_report}
 use Rattle.ds_state.specs.declared.work.ShowEnd.TheVariants.{Settled}
@@ -15,14 +15,14 @@ settled_by (Answers Settled) = 1
 settled_by _ = 0
 
 -- the kept reports after a step of a report: once it is settled, its values are the process's last ones
-abbrev pub reports_by : PlainReports → PlainShow → Effect → PlainReports
+abbrev pub reports_by : PlainReports → PlainShowCall → Effect → PlainReports
 reports_by r e (Answers Settled) = with_report r e.process (answered e)
 reports_by r e _ = r
 
 -- the process makes a step of its report
 pub record StepsBy (old : WorldValue) (p : ℕ) (what : Effect) (new : WorldValue) : Type 0 where
   pub there : p < old.sheet.layout.processes
-  pub show : PlainShow
+  pub show : PlainShowCall
   pub mine : show.process ≡ p
   pub at : (world_of old).situation p ≡ Showing show
   pub word : ℕ
@@ -35,7 +35,7 @@ pub record StepsBy (old : WorldValue) (p : ℕ) (what : Effect) (new : WorldValu
 -- the process has no report under way, or the sheet has no such process
 pub record CanNotStep (old : WorldValue) (p : ℕ) (new : WorldValue) : Type 0 where
   pub same : new ≡ old
-  pub none : (show : PlainShow) → p < old.sheet.layout.processes → (world_of old).situation p ≡ Showing show → ⊥
+  pub none : (show : PlainShowCall) → p < old.sheet.layout.processes → (world_of old).situation p ≡ Showing show → ⊥
 
 -- the process makes a step of its report; or it can make none, and the world stays
 abbrev pub StepTakes : WorldValue → ℕ → Option Effect → WorldValue → Type 0

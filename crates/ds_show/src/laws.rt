@@ -4,10 +4,10 @@ ghost use Rattle.std.specs.Prelude.{ℕ, ◌≡◌, ◌<◌, ◌≤◌, ◌+◌,
 ghost use Rattle.ds_layout.specs.declared.layout.Layout.{Layout};
 ghost use Rattle.ds_layout.specs.Places.{cells_of};
 ghost use Rattle.ds_layout.specs.SheetMemory.{CanPerform, NamesPlace};
-ghost use Rattle.ds_state.specs.World.{World};
+ghost use Rattle.ds_state.specs.World.{PlainWorld};
 ghost use Rattle.ds_state.specs.Sound.{IsSound};
 ghost use Rattle.ds_state.specs.Rely.{Keeps};
-ghost use Rattle.ds_state.specs.Works.{PlainShow};
+ghost use Rattle.ds_state.specs.Works.{PlainShowCall};
 ghost use Rattle.ds_state.specs.ShowStages.{IsShow};
 ghost use Rattle.ds_state.specs.declared.work.ShowEnd.{ShowEnd};
 ghost use Rattle.ds_state.specs.declared.work.ShowEnd.TheVariants.{Settled};
@@ -21,28 +21,28 @@ ghost use Rattle.ds_show.specs.ShowSolo.{SoloCall};
 /// leaves each other process what it may count on.
 #[tactic(auto, using(crate::proofs::ShowLaws::steps))]
 pub fn steps_keep_soundness()
-    ensures { (e : PlainShow) (word : ℕ) (old new : World) → IsSound old
+    ensures { (e : PlainShowCall) (word : ℕ) (old new : PlainWorld) → IsSound old
         → e.process < old.layout.processes → old.situation e.process ≡ Showing e
         → Steps e word old new → Keeps e.process old new }
 {}
 
 /// The beginning of a report does the same.
 pub fn begins_keep_soundness()
-    ensures { (p next : ℕ) (old new : World) → IsSound old → p < old.layout.processes
+    ensures { (p next : ℕ) (old new : PlainWorld) → IsSound old → p < old.layout.processes
         → Begins p next old new → Keeps p old new }
 {}
 
 /// Each access of a report names a place of its sheet.
 #[tactic(auto, using(crate::proofs::ShowLaws::named))]
 pub fn accesses_are_of_the_sheet()
-    ensures { (layout : Layout) (e : PlainShow) → cells_of layout ≡ e.cells → layout.processes ≡ e.processes
+    ensures { (layout : Layout) (e : PlainShowCall) → cells_of layout ≡ e.cells → layout.processes ≡ e.processes
         → IsShow e → NamesPlace layout (access_at e.stage) }
 {}
 
 /// The access of a report of a sound sheet can be performed.
 #[tactic(auto, using(crate::proofs::ShowLaws::accesses))]
 pub fn accesses_are_possible()
-    ensures { (e : PlainShow) (w : World) → IsSound w → e.process < w.layout.processes
+    ensures { (e : PlainShowCall) (w : PlainWorld) → IsSound w → e.process < w.layout.processes
         → w.situation e.process ≡ Showing e
         → CanPerform w.layout w.memory e.process (access_at e.stage) }
 {}
@@ -51,9 +51,9 @@ pub fn accesses_are_possible()
 /// most two for each process, four for each cell, and the answer's.
 #[tactic(auto, using(crate::proofs::ShowLaws::each_falls, crate::proofs::ShowLaws::each_few))]
 pub fn steps_are_few()
-    ensures falls { (e : PlainShow) (word : ℕ) → IsShow e
+    ensures falls { (e : PlainShowCall) (word : ℕ) → IsShow e
         → Falls e e.stage (next_at e e.stage word) }
-    ensures few { (e : PlainShow) → rank e ≤ 2 * e.processes + 4 * e.cells + 1 }
+    ensures few { (e : PlainShowCall) → rank e ≤ 2 * e.processes + 4 * e.cells + 1 }
 {}
 
 /// What a report answers is true of the worlds of its call. A settled one: at one of them nothing was
@@ -62,15 +62,15 @@ pub fn steps_are_few()
 /// and that is bad, or was another one earlier in the call.
 #[tactic(auto, using(crate::proofs::ShowRuns::answer_true))]
 pub fn reports_are_true()
-    ensures { (p : ℕ) → (now : World) (past : List World) → Call p now past
-        → (e : PlainShow) (end : ShowEnd) → now.situation p ≡ Showing e → e.stage ≡ Answer end
+    ensures { (p : ℕ) → (now : PlainWorld) (past : List PlainWorld) → Call p now past
+        → (e : PlainShowCall) (end : ShowEnd) → now.situation p ≡ Showing e → e.stage ≡ Answer end
         → IsTrueReport now past e end }
 {}
 
 /// A report that began in a quiet world and is alone is settled.
 #[tactic(auto, using(crate::proofs::ShowSolo::solo_settles))]
 pub fn solo_reports_are_settled()
-    ensures { (p : ℕ) → (now : World) (past : List World) → SoloCall p now past
-        → (e : PlainShow) (end : ShowEnd) → now.situation p ≡ Showing e → e.stage ≡ Answer end
+    ensures { (p : ℕ) → (now : PlainWorld) (past : List PlainWorld) → SoloCall p now past
+        → (e : PlainShowCall) (end : ShowEnd) → now.situation p ≡ Showing e → e.stage ≡ Answer end
         → end ≡ Settled }
 {}

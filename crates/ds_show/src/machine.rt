@@ -121,7 +121,7 @@ fn note_announcement(call: &mut ShowCall, i: usize, word: u64)
     ensures { call.new ≡ next_at call.old (LoadAnnounce i) word }
 {
     if is_pending(word) {
-        call.stage = ShowStage::Answer(ShowEnd::AtAnnounce(i, word));
+        call.stage = ShowStage::Answer(ShowEnd::AtAnnounce { process: i, word });
     } else {
         call.announcements.push_reserved(word);
         call.stage = announce_stage(call.processes, i + 1);
@@ -136,7 +136,7 @@ fn note_mark(call: &mut ShowCall, i: usize, word: u64)
         call.marks.push_reserved(word);
         call.stage = mark_stage(call.cells, i + 1);
     } else {
-        call.stage = ShowStage::Answer(ShowEnd::AtMark(i, word));
+        call.stage = ShowStage::Answer(ShowEnd::AtMark { cell: i, word });
     }
 }
 
@@ -163,7 +163,7 @@ fn see_mark(call: &mut ShowCall, i: usize, word: u64)
     call.stage = if word == call.marks[i] {
         again_mark_stage(call.cells, i + 1)
     } else {
-        ShowStage::Answer(ShowEnd::AtMark(i, word))
+        ShowStage::Answer(ShowEnd::AtMark { cell: i, word })
     };
 }
 
@@ -174,7 +174,7 @@ fn see_announcement(call: &mut ShowCall, i: usize, word: u64)
     call.stage = if word == call.announcements[i] {
         again_announce_stage(call.processes, i + 1)
     } else {
-        ShowStage::Answer(ShowEnd::AtAnnounce(i, word))
+        ShowStage::Answer(ShowEnd::AtAnnounce { process: i, word })
     };
 }
 

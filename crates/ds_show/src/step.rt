@@ -1,7 +1,7 @@
 //! A step of a report, in its world.
 
 ghost use Rattle.std.specs.Prelude.{ℕ, ◌≡◌, ◌<◌, ◌+◌, IfSome, IfNone, length};
-ghost use Rattle.ds_state.specs.Works.{PlainShow};
+ghost use Rattle.ds_state.specs.Works.{PlainShowCall};
 ghost use Rattle.ds_state.specs.declared.reports.TheConstants.{SETTLED_MOST};
 ghost use Rattle.ds_state.specs.declared.situation.Situation.TheVariants.{Showing};
 ghost use Rattle.ds_show.specs.ShowSteps.{after, effect_at};
@@ -16,7 +16,7 @@ use ds_state::world::World;
 // The report of a process, where it is in one.
 fn call_of(situation: &Situation) -> Option<&ShowCall>
     ensures some { IfSome result (λ call. situation.now ≡ Showing call.now) }
-    ensures none { IfNone result ((e : PlainShow) → situation.now ≡ Showing e → ⊥) }
+    ensures none { IfNone result ((e : PlainShowCall) → situation.now ≡ Showing e → ⊥) }
 {
     match situation {
         Situation::Showing(call) => Some(call),
@@ -49,7 +49,7 @@ fn settled_after(settled: u64, what: Effect) -> u64
 
 // The process goes on with the word that its access answered.
 fn go_on(situation: &mut Situation, word: u64)
-    ensures { (e : PlainShow) → situation.old ≡ Showing e → situation.new ≡ after e e.stage word }
+    ensures { (e : PlainShowCall) → situation.old ≡ Showing e → situation.new ≡ after e e.stage word }
 {
     if let Situation::Showing(call) = situation {
         match call.stage {

@@ -9,7 +9,7 @@ use Rattle.ds_layout.specs.declared.place.Place.{Place}
 use Rattle.ds_layout.specs.declared.place.Place.TheVariants.{Version, Head, Mark, Value, Kind, Announce}
 use Rattle.ds_layout.proofs.PlaceCases.{place_cases}
 use Rattle.std.specs.Prelude.{Contains}
-use Rattle.ds_state.specs.World.{World, of_cell, head_after_all}
+use Rattle.ds_state.specs.World.{PlainWorld, of_cell, head_after_all}
 use Rattle.ds_state.specs.Owing.{entry}
 use Rattle.ds_state.specs.CallsFit.{CallFits}
 use Rattle.ds_state.specs.WordsFit.{WordFits}
@@ -26,13 +26,13 @@ use Rattle.ds_state.proofs.Frames.{CatchesUp, MovesWord, Moves, stays_hold, Keep
 use Rattle.ds_state.proofs.Sides.{IsBetween, cached_between, between_moves, between_fits}
 
 -- the process's turn, but for what its access does: no edit comes to count, and the others do nothing
-pub record Turn (p : ℕ) (old new : World) : Type 0 where
+pub record Turn (p : ℕ) (old new : PlainWorld) : Type 0 where
   pub layout : new.layout ≡ old.layout
   pub counted : new.counted ≡ old.counted
   pub situations : (q : ℕ) → q ≢ p → new.situation q ≡ old.situation q
   pub pendings : (q : ℕ) → q ≢ p → new.open_edits q ≡ old.open_edits q
 
-module _ (p : ℕ) (old new : World) (t : Turn p old new) where
+module _ (p : ℕ) (old new : PlainWorld) (t : Turn p old new) where
   pub same_moves : SameMemory old.memory new.memory → Moves p Version old new
   same_moves m = record {
     layout = t.layout;
@@ -133,7 +133,7 @@ module _ (p : ℕ) (old new : World) (t : Turn p old new) where
   quiet_sound s m bears stand apart keeps mine = moves_sound p Version old new m t.counted s bears stand apart (λ cell ne. keeps cell) tt mine
 
 -- an eviction, which is nobody's
-module _ (place : Place) (old new : World) (s : IsSound old) (buffered : Buffered old) (v : Evicts place old new) where
+module _ (place : Place) (old new : PlainWorld) (s : IsSound old) (buffered : Buffered old) (v : Evicts place old new) where
   abbrev nobody : ℕ
   nobody = old.layout.processes
 

@@ -7,12 +7,12 @@ use Rattle.ds_words.specs.declared.access.Entry.{Entry}
 use Rattle.ds_words.specs.Memory.{Memory, FlushesAt}
 use Rattle.ds_layout.specs.Places.{class_of}
 use Rattle.ds_formula.specs.Cells.{IsInside, index_of}
-use Rattle.ds_formula.specs.Plain.{Plain}
+use Rattle.ds_formula.specs.Plain.{PlainContent}
 use Rattle.ds_layout.specs.declared.place.Place.{Place}
 use Rattle.ds_layout.specs.declared.place.Place.TheVariants.{Head, Mark, Value, Kind, Announce}
 use Rattle.ds_layout.specs.declared.layout.Layout.{Layout}
 use Rattle.ds_layout.proofs.PlaceCases.{place_cases}
-use Rattle.ds_state.specs.World.{Edit, World, of_cell, IsHeadBy}
+use Rattle.ds_state.specs.World.{PlainEdit, PlainWorld, of_cell, IsHeadBy}
 use Rattle.ds_state.specs.Owing.{entry, IsHeld, IsBelowBuffered, SpreadOwes, WorkOwes, RecoveryOwes, Owes, WorkParts, RecoveryParts, Parts, CellOwes, IsApart, IsPending, EditOwes, RecoveryExcuses, Excuses, IsExcused, SplitsAt, RecoverySplits, Splits, IsIndexed}
 use Rattle.ds_layout.specs.Mark.{IsClean, IsEven, IsHeldBy}
 use Rattle.ds_state.specs.Standing.{Side, cached_side, persisted_side, HasContent, Stands, IsBuffered, IsDurable, Matters, AllStand}
@@ -35,11 +35,11 @@ use Rattle.ds_state.proofs.Found.{refs_indexed}
 use Rattle.ds_state.proofs.Frames.{CatchesUp, Moves, each_moved, owned_catches, clean_free}
 
 -- the contents of heads, where the same edits count
-pub text_same : (old new : World) → new.layout ≡ old.layout → new.counted ≡ old.counted → (c head : ℕ) (content : Plain) → HasContent old c head content → HasContent new c head content
+pub text_same : (old new : PlainWorld) → new.layout ≡ old.layout → new.counted ≡ old.counted → (c head : ℕ) (content : PlainContent) → HasContent old c head content → HasContent new c head content
 text_same old new layout counted c head content (inl none) = inl none
 text_same old new layout counted c head content (inr h) = inr (record {
   by = h.by;
-  gave = subst (λ (es : List Edit). IsHeadBy (of_cell c es) head h.by) (sym counted) h.gave;
+  gave = subst (λ (es : List PlainEdit). IsHeadBy (of_cell c es) head h.by) (sym counted) h.gave;
   reads = rw layout h.reads;
 })
 
@@ -73,7 +73,7 @@ parts_owe m p (Working e) r c x h = (h.0, work_parts m p e.row e.stage c x h.1)
 parts_owe m p (Recovering e) r c x h = recovery_parts m p e.row e.stage r c x h
 parts_owe m p (Showing e) r c x h = absurd h
 
-pub apart_owes : (w : World) (r c x : ℕ) → IsApart w r → CellOwes w r c x
+pub apart_owes : (w : PlainWorld) (r c x : ℕ) → IsApart w r → CellOwes w r c x
 apart_owes w r c x a = record { holder = a.holder; held = a.held; still = parts_owe w.memory a.holder (w.situation a.holder) r c x a.still }
 
 splits_at : (m : Memory Place) (p c : ℕ) (s : Stage) (head x : ℕ) → SplitsAt s head → EditOwes m p c s x
@@ -92,7 +92,7 @@ recovery_splits m p c (recoveries.BackOutcome how) x h = absurd h
 recovery_splits m p c (recoveries.Answer how) x h = absurd h
 recovery_splits m p c _ x h = tt
 
-pub splits_excuse : (w : World) (p : ℕ) (s : Situation) (c head x : ℕ) → Splits w p s c head → Excuses w p s c x
+pub splits_excuse : (w : PlainWorld) (p : ℕ) (s : Situation) (c head x : ℕ) → Splits w p s c head → Excuses w p s c x
 splits_excuse w p (Idle next) c head x h = absurd h
 splits_excuse w p Stopped c head x h = h
 splits_excuse w p (Editing e) c head x h = (h.0, splits_at w.memory p c e.stage head x h.1)
@@ -100,13 +100,13 @@ splits_excuse w p (Working e) c head x h = absurd h
 splits_excuse w p (Recovering e) c head x h = (h.0, recovery_splits w.memory p c e.stage x h.1)
 splits_excuse w p (Showing e) c head x h = absurd h
 
-pub on_its_way_excuses : (w : World) (cell persisted x : ℕ) → IsSound w → IsOnItsWay w (of_cell cell w.counted) persisted → IsExcused w cell x
+pub on_its_way_excuses : (w : PlainWorld) (cell persisted x : ℕ) → IsSound w → IsOnItsWay w (of_cell cell w.counted) persisted → IsExcused w cell x
 on_its_way_excuses w cell persisted x sound b =
     let its : b.last.cell ≡ cell = cell_of-middle cell w.counted b.before b.last [] b.parts in
     record { process = b.last.process; inside = (of_sheet_middle w sound.of_sheet cell b.before b.last [] b.parts).process; still = subst (λ (y : ℕ). Excuses w b.last.process (w.situation b.last.process) y x) its (splits_excuse w b.last.process (w.situation b.last.process) b.last.cell _ x b.owes) }
 
 -- what a process owes that does nothing
-module _ (old new : World) (h : ℕ) (marks : (c : ℕ) → old.memory.cached (Mark c) ≤ new.memory.cached (Mark c)) (buffer : new.memory.buffer h ≡ old.memory.buffer h) where
+module _ (old new : PlainWorld) (h : ℕ) (marks : (c : ℕ) → old.memory.cached (Mark c) ≤ new.memory.cached (Mark c)) (buffer : new.memory.buffer h ≡ old.memory.buffer h) where
   below_lasts : (c x : ℕ) → IsBelowBuffered old.memory h c x → IsBelowBuffered new.memory h c x
   below_lasts c x k = record { value = k.value; alone = buffer ∙ k.alone; below = k.below }
 
@@ -183,7 +183,7 @@ module _ (old new : World) (h : ℕ) (marks : (c : ℕ) → old.memory.cached (M
   splits_last pends (Showing e) c head k = absurd k
 
 -- what others owe, while p steps
-module _ (p : ℕ) (place : Place) (old new : World) (m : Moves p place old new) where
+module _ (p : ℕ) (place : Place) (old new : PlainWorld) (m : Moves p place old new) where
   pub marks_grow : (c : ℕ) → old.memory.cached (Mark c) ≤ new.memory.cached (Mark c)
   marks_grow c = (each_moved p place old new m (Mark c)).cached
 
@@ -297,8 +297,8 @@ module _ (p : ℕ) (place : Place) (old new : World) (m : Moves p place old new)
     ]
 
 -- what a mark says stays, on a side that stays but for what is owed
-pub stands_lasts : (old new : World) (side side' : Side) (c x : ℕ) → IsSound old → new.layout ≡ old.layout
-    → ((content : Plain) → HasContent old c (side.head c) content → HasContent new c (side.head c) content)
+pub stands_lasts : (old new : PlainWorld) (side side' : Side) (c x : ℕ) → IsSound old → new.layout ≡ old.layout
+    → ((content : PlainContent) → HasContent old c (side.head c) content → HasContent new c (side.head c) content)
     → side'.value c ≡ side.value c → side'.kind c ≡ side.kind c
     → (side'.head c ≡ side.head c) ⊎ IsExcused new c x
     → (IsExcused old c x → IsExcused new c x)
@@ -326,7 +326,7 @@ stands_lasts old new side side' c x sound layout text value kind (inl same) excu
 })
 
 -- what stands on the cached side stands on the persisted one, where the sides of the cell's words agree
-pub to_persisted : (w : World) (c x : ℕ) → IsSound w → w.memory.persisted (Value c) ≡ w.memory.cached (Value c) → w.memory.persisted (Kind c) ≡ w.memory.cached (Kind c)
+pub to_persisted : (w : PlainWorld) (c x : ℕ) → IsSound w → w.memory.persisted (Value c) ≡ w.memory.cached (Value c) → w.memory.persisted (Kind c) ≡ w.memory.cached (Kind c)
     → Stands w (cached_side w.memory) c x → Stands w (persisted_side w.memory) c x
 to_persisted w c x sound value kind h = stands_lasts w w (cached_side w.memory) (persisted_side w.memory) c x sound refl (λ content t. t) value kind
     (elim (sound.words (Head c)).sides [ inl same ↦ inl same | inr b ↦ inr (on_its_way_excuses w c (w.memory.persisted (Head c)) x sound b) ]) (λ o. o)
@@ -343,28 +343,28 @@ between_held : (p m c q : ℕ) → p ≤ m → m ≤ c → p / 2 ≡ c / 2 → I
 between_held p m c q a b same held clean = omega arith
 
 -- the cell's words agree under a clean mark
-pub clean_agrees : (w : World) (c : ℕ) (q : Place) → (q ≡ Value c) ⊎ (q ≡ Kind c) → IsSound w → IsClean (w.memory.cached (Mark c)) → (w.memory.persisted q ≡ w.memory.cached q) ⊎ IsApart w c → w.memory.persisted q ≡ w.memory.cached q
+pub clean_agrees : (w : PlainWorld) (c : ℕ) (q : Place) → (q ≡ Value c) ⊎ (q ≡ Kind c) → IsSound w → IsClean (w.memory.cached (Mark c)) → (w.memory.persisted q ≡ w.memory.cached q) ⊎ IsApart w c → w.memory.persisted q ≡ w.memory.cached q
 clean_agrees w c q its sound clean (inl same) = same
 clean_agrees w c q its sound clean (inr a) = absurd (clean_free _ a.holder clean a.held.by)
 
 -- each mark in a buffer is one that its cell has had
-pub record Buffered (w : World) : Type 0 where
+pub record Buffered (w : PlainWorld) : Type 0 where
   pub had : (q c x : ℕ) → q < w.layout.processes → Contains (w.memory.buffer q) (entry (Mark c) x) → x ≤ w.memory.cached (Mark c)
 
-pub durable_most : (w : World) (c x : ℕ) → IsSound w → Buffered w → IsDurable w c x → x ≤ w.memory.cached (Mark c)
+pub durable_most : (w : PlainWorld) (c x : ℕ) → IsSound w → Buffered w → IsDurable w c x → x ≤ w.memory.cached (Mark c)
 durable_most w c x sound buffered (inl is) = let b = (sound.words (Mark c)).behind in omega arith
 durable_most w c x sound buffered (inr d) = buffered.had d.by c x d.process d.there
 
-pub durable_least : (w : World) (c x : ℕ) → IsDurable w c x → w.memory.persisted (Mark c) ≤ x
+pub durable_least : (w : PlainWorld) (c x : ℕ) → IsDurable w c x → w.memory.persisted (Mark c) ≤ x
 durable_least w c x (inl is) = omega arith
 durable_least w c x (inr d) = d.no_older
 
 -- no clean mark of a cell that is held on both sides is durable
-pub held_none : (w : World) (q c x : ℕ) → IsSound w → Buffered w → IsHeld w.memory q c → IsClean x → IsDurable w c x → ⊥
+pub held_none : (w : PlainWorld) (q c x : ℕ) → IsSound w → Buffered w → IsHeld w.memory q c → IsClean x → IsDurable w c x → ⊥
 held_none w q c x sound buffered held clean d = between_held _ x _ q (durable_least w c x d) (durable_most w c x sound buffered d) held.same held.by clean
 
-module _ (p : ℕ) (place : Place) (old new : World) (m : Moves p place old new) (sound : IsSound old) (buffered : Buffered old) (mine : Mine p place old new m)
-    (same_text : (c head : ℕ) (content : Plain) → HasContent old c head content → HasContent new c head content) where
+module _ (p : ℕ) (place : Place) (old new : PlainWorld) (m : Moves p place old new) (sound : IsSound old) (buffered : Buffered old) (mine : Mine p place old new m)
+    (same_text : (c head : ℕ) (content : PlainContent) → HasContent old c head content → HasContent new c head content) where
   pub b : Bears old new
   b = bears p place old new m sound mine
 
@@ -467,7 +467,7 @@ in_push xs y e h = elim (Contains-append_cases xs (y ∷ []) e h) [
     only (suc k, l, is) = absurd (omega arith)
 
 -- which marks are durable after an access
-module _ (p : ℕ) (place : Place) (old new : World) (m : Moves p place old new) where
+module _ (p : ℕ) (place : Place) (old new : PlainWorld) (m : Moves p place old new) where
   -- the persisted mark is the same, or greater, or was durable
   back_durable : (c x : ℕ) → IsBuffered new c x → ((q : ℕ) → Contains (new.memory.buffer q) (entry (Mark c) x) → Contains (old.memory.buffer q) (entry (Mark c) x)) → IsBuffered old c x
   back_durable c x d was = record {
@@ -499,7 +499,7 @@ module _ (p : ℕ) (place : Place) (old new : World) (m : Moves p place old new)
   }
 
   module _ (sound : IsSound old) (buffered : Buffered old) (mine : Mine p place old new m)
-      (same_text : (c head : ℕ) (content : Plain) → HasContent old c head content → HasContent new c head content) where
+      (same_text : (c head : ℕ) (content : PlainContent) → HasContent old c head content → HasContent new c head content) where
     -- a mark is flushed
     pub flushed_marks : (d : ℕ) → ((c : ℕ) → place ≡ Mark c → ⊥) → FlushesAt p (Mark d) (class_of (Mark d)) old.memory new.memory → MyMarks p place old new m
     flushed_marks d apart f = record {

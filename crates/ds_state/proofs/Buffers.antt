@@ -7,8 +7,8 @@ use Rattle.ds_words.specs.declared.access.Entry.{Entry}
 use Rattle.ds_layout.specs.declared.place.Place.{Place}
 use Rattle.ds_layout.specs.declared.place.Place.TheVariants.{Mark, Value, Kind, Announce, Head}
 use Rattle.ds_state.specs.Edits.{text_parts}
-use Rattle.ds_state.specs.Works.{PlainWork}
-use Rattle.ds_state.specs.World.{Edit, edit_of, World, record_place, index_place, done_place}
+use Rattle.ds_state.specs.Works.{PlainWorkCall}
+use Rattle.ds_state.specs.World.{PlainEdit, edit_of, PlainWorld, record_place, index_place, done_place}
 use Rattle.ds_state.specs.Known.{word_of}
 use Rattle.ds_state.specs.Owing.{entry}
 use Rattle.ds_state.specs.KnownWork.{WorkHeld, claim, a_mark, the_value, both_words, the_kind, work_held, WorkHolds}
@@ -37,7 +37,7 @@ one x e is h = only (subst (λ (xs : List (Entry Place)). Contains xs e) is h)
 not_mark : {b : List (Entry Place)} (r : Place) (v c x : ℕ) → r ≢ Mark c → b ≡ entry r v ∷ [] → Contains b (entry (Mark c) x) → ⊥
 not_mark r v c x apart is h = apart (ap (λ (y : Entry Place). y.place) (one (entry r v) (entry (Mark c) x) is h))
 
-a_mark_is : {b : List (Entry Place)} (w : World) (d v c x : ℕ) → v ≤ w.memory.cached (Mark d) → b ≡ entry (Mark d) v ∷ [] → Contains b (entry (Mark c) x) → x ≤ w.memory.cached (Mark c)
+a_mark_is : {b : List (Entry Place)} (w : PlainWorld) (d v c x : ℕ) → v ≤ w.memory.cached (Mark d) → b ≡ entry (Mark d) v ∷ [] → Contains b (entry (Mark c) x) → x ≤ w.memory.cached (Mark c)
 a_mark_is w d v c x had is h =
     let same : entry (Mark d) v ≡ entry (Mark c) x = one (entry (Mark d) v) (entry (Mark c) x) is h in
     let at : Mark d ≡ Mark c = ap (λ (y : Entry Place). y.place) same in
@@ -49,7 +49,7 @@ pub record_no_mark : (p n k c : ℕ) → record_place p n k ≢ Mark c
 record_no_mark p n zero c = λ same. cc
 record_no_mark p n (suc k) c = λ same. cc
 
-holds_had : (w : World) (e : Edit) (held : Held) (c x : ℕ) → Holds w e held → Contains (w.memory.buffer e.process) (entry (Mark c) x) → x ≤ w.memory.cached (Mark c)
+holds_had : (w : PlainWorld) (e : PlainEdit) (held : Held) (c x : ℕ) → Holds w e held → Contains (w.memory.buffer e.process) (entry (Mark c) x) → x ≤ w.memory.cached (Mark c)
 holds_had w e empty c x h k = absurd (none (entry (Mark c) x) h k)
 holds_had w e (record_words first count) c x h k = absurd (
     All-contains (λ (y : Entry Place). y.place ≢ Mark c) (map (record_entry e) (range_with_len first count)) (entry (Mark c) x)
@@ -61,7 +61,7 @@ holds_had w e (done_bits p n) c x h k = absurd (not_mark (done_place p n) h.valu
 holds_had w e (head_from least) c x h k = absurd (not_mark (Head e.cell) h.value c x (λ same. cc) h.alone k)
 holds_had w e mark c x h k = a_mark_is w e.cell h.value c x h.is.0 h.alone k
 
-work_had : (w : World) (e : PlainWork) (held : WorkHeld) (c x : ℕ) → WorkHolds w e held → Contains (w.memory.buffer e.process) (entry (Mark c) x) → x ≤ w.memory.cached (Mark c)
+work_had : (w : PlainWorld) (e : PlainWorkCall) (held : WorkHeld) (c x : ℕ) → WorkHolds w e held → Contains (w.memory.buffer e.process) (entry (Mark c) x) → x ≤ w.memory.cached (Mark c)
 work_had w e works.empty c x h k = absurd (none (entry (Mark c) x) h k)
 work_had w e claim c x h k = a_mark_is w e.cell h.value c x h.had h.alone k
 work_had w e (a_mark d) c x h k = a_mark_is w d h.value c x h.had h.alone k
@@ -74,7 +74,7 @@ work_had w e both_words c x h k = absurd (two (subst (λ (xs : List (Entry Place
     two (suc (suc i), l, same) = omega arith
 work_had w e the_kind c x h k = absurd (not_mark (Kind e.cell) _ c x (λ same. cc) h k)
 
-recovery_had : (w : World) (p word own : ℕ) (held : RecoveryHeld) (c x : ℕ) → RecoveryHolds w p word own held → Contains (w.memory.buffer p) (entry (Mark c) x) → x ≤ w.memory.cached (Mark c)
+recovery_had : (w : PlainWorld) (p word own : ℕ) (held : RecoveryHeld) (c x : ℕ) → RecoveryHolds w p word own held → Contains (w.memory.buffer p) (entry (Mark c) x) → x ≤ w.memory.cached (Mark c)
 recovery_had w p word own recoveries.empty c x h k = absurd (none (entry (Mark c) x) h k)
 recovery_had w p word own (recoveries.the_value cell) c x h k = absurd (not_mark (Value cell) _ c x (λ same. cc) h k)
 recovery_had w p word own (recoveries.both_words cell) c x h k = absurd (two (subst (λ (xs : List (Entry Place)). Contains xs (entry (Mark c) x)) h k))
@@ -88,7 +88,7 @@ recovery_had w p word own (recoveries.a_mark d) c x h k = a_mark_is w d h.value 
 recovery_had w p word own recoveries.a_head c x h k = absurd (not_mark (Head own) h.value c x (λ same. cc) h.alone k)
 recovery_had w p word own recoveries.the_outcome c x h k = absurd (not_mark (Announce p) _ c x (λ same. cc) h k)
 
-call_had : (w : World) (p : ℕ) (s : Situation) (c x : ℕ) → CallFits w p s → Contains (w.memory.buffer p) (entry (Mark c) x) → x ≤ w.memory.cached (Mark c)
+call_had : (w : PlainWorld) (p : ℕ) (s : Situation) (c x : ℕ) → CallFits w p s → Contains (w.memory.buffer p) (entry (Mark c) x) → x ≤ w.memory.cached (Mark c)
 call_had w p (Idle next) c x h k = absurd (none (entry (Mark c) x) h.buffer k)
 call_had w p Stopped c x h k = absurd (none (entry (Mark c) x) h.buffer k)
 call_had w p (Editing e) c x h k = holds_had w (edit_of e) (held_at (text_parts e.text) e.refs e.stage) c x h.buffer (subst (λ (q : ℕ). Contains (w.memory.buffer q) (entry (Mark c) x)) (sym h.mine) k)
@@ -96,5 +96,5 @@ call_had w p (Working e) c x h k = work_had w e (work_held e e.stage) c x h.buff
 call_had w p (Recovering e) c x h k = recovery_had w e.process e.announcement e.cell (recovery_held e.cell e.stage) c x h.buffer (subst (λ (q : ℕ). Contains (w.memory.buffer q) (entry (Mark c) x)) (sym h.mine) k)
 call_had w p (Showing e) c x h k = absurd (none (entry (Mark c) x) h.1.buffer (subst (λ (q : ℕ). Contains (w.memory.buffer q) (entry (Mark c) x)) (sym h.1.mine) k))
 
-pub buffered : (w : World) → IsSound w → Buffered w
+pub buffered : (w : PlainWorld) → IsSound w → Buffered w
 buffered w sound = record { had = λ q c x l k. call_had w q (w.situation q) c x (sound.calls q l) k }

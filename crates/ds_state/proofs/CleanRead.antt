@@ -3,7 +3,7 @@ use Rattle.std.proofs.Common.{ℕ, ◌≡◌, ◌<◌, ◌+◌, ◌-◌, ◌/◌
 use Rattle.std.specs.Prelude.{Bool, Option}
 use Rattle.std.proofs.lemmas.Bool.{eqb-false, false≢true, ne_eqb, lt-ltb}
 use Rattle.ds_layout.specs.Mark.{state_by, holder_of, present, IsClean}
-use Rattle.ds_state.specs.World.{World}
+use Rattle.ds_state.specs.World.{PlainWorld}
 use Rattle.ds_state.specs.Owing.{IsMark}
 use Rattle.ds_state.specs.KnownShow.{is_clean, reads_clean}
 
@@ -22,7 +22,7 @@ read_code processes zero dirty h is = (refl, none_clean dirty is)
 read_code processes (suc code) dirty h is = absurd (false≢true (
     sym (ap (λ (o : Option ℕ). is_clean (state_by (present processes o) dirty)) (some_code code) ∙ held_not processes code dirty (h code (omega arith))) ∙ is))
 
-pub clean_read : (w : World) (c word : ℕ) → IsMark w.layout c word → reads_clean w.layout.processes word ≡ true → IsClean word
+pub clean_read : (w : PlainWorld) (c word : ℕ) → IsMark w.layout c word → reads_clean w.layout.processes word ≡ true → IsClean word
 clean_read w c word mark is =
     let r = read_code w.layout.processes (word / 2 % 16) (word % 2 == 1) (λ q by. (mark q by).0) is in
     let a = r.0 in

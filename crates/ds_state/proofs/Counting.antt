@@ -10,7 +10,7 @@ use Rattle.ds_layout.specs.declared.place.Place.TheVariants.{Version, Head, Mark
 use Rattle.ds_layout.specs.Bits.{HasBit, IsSubset}
 use Rattle.ds_layout.proofs.OrBits.{IsSubset-same}
 use Rattle.ds_layout.proofs.PlaceCases.{place_cases}
-use Rattle.ds_state.specs.World.{Edit, Issue, World, record_place, record_word, record_size, index_place, done_place, of_cell, head_after_all}
+use Rattle.ds_state.specs.World.{PlainEdit, PlainIssue, PlainWorld, record_place, record_word, record_size, index_place, done_place, of_cell, head_after_all}
 use Rattle.ds_state.specs.Known.{AreBelow, IsDone}
 use Rattle.ds_state.specs.Owing.{Owes, Excuses, Splits, Parts, IsApart, IsExcused}
 use Rattle.ds_state.specs.Standing.{HasContent}
@@ -28,7 +28,7 @@ use Rattle.ds_state.proofs.Lasting.{safe_stable}
 use Rattle.ds_state.proofs.Stable.{call_stable}
 
 -- the edit's head takes its cell's place, and the edit counts
-pub record Counts (e : Edit) (issue : Issue) (old new : World) : Type 0 where
+pub record Counts (e : PlainEdit) (issue : PlainIssue) (old new : PlainWorld) : Type 0 where
   pub layout : new.layout ≡ old.layout
   pub counted : new.counted ≡ old.counted ++ e ∷ []
   pub memory : StoresAt (Head e.cell) (head_after_all (of_cell e.cell new.counted)) old.memory new.memory
@@ -39,24 +39,24 @@ pub record Counts (e : Edit) (issue : Issue) (old new : World) : Type 0 where
   pub owes : Splits new e.process (new.situation e.process) e.cell (head_after_all (of_cell e.cell new.counted))
 
 -- what has to stand before
-pub record MayCount (w : World) (e : Edit) : Type 0 where
+pub record MayCount (w : PlainWorld) (e : PlainEdit) : Type 0 where
   pub of_sheet : IsOfSheet w e
   pub below : AreBelow w e.process e.number
   pub written : (k : ℕ) → k < record_size e → (w.memory.cached (record_place e.process e.number k) ≡ record_word e k) × (w.memory.persisted (record_place e.process e.number k) ≡ record_word e k)
   pub indexed : (row : ℕ) → RefersTo w.layout.shape e.text row → HasBit (w.memory.cached (index_place row e.cell)) e.cell × HasBit (w.memory.persisted (index_place row e.cell)) e.cell
   pub back : w.memory.persisted (Head e.cell) ≡ head_after_all (of_cell e.cell w.counted)
   pub grows : w.memory.cached (Head e.cell) ≤ head_after_all (of_cell e.cell (w.counted ++ e ∷ []))
-  pub done : (before : List Edit) (by : Edit) → of_cell e.cell w.counted ≡ before ++ by ∷ [] → IsDone w by.process by.number
+  pub done : (before : List PlainEdit) (by : PlainEdit) → of_cell e.cell w.counted ≡ before ++ by ∷ [] → IsDone w by.process by.number
   pub owes_nothing : (r c x : ℕ) → Owes w.memory e.process (w.situation e.process) r c x → ⊥
   pub excuses_nothing : (c x : ℕ) → Excuses w e.process (w.situation e.process) c x → ⊥
   pub splits_nothing : (c head : ℕ) → Splits w e.process (w.situation e.process) c head → ⊥
 
-increasing_push : (edits : List Edit) (e : Edit) → Increasing edits → All (λ f. f.process ≡ e.process → f.number < e.number) edits → Increasing (edits ++ e ∷ [])
-increasing_push [] e h below = (All-nil (λ (f : Edit). f.process ≡ e.process → e.number < f.number), tt)
+increasing_push : (edits : List PlainEdit) (e : PlainEdit) → Increasing edits → All (λ f. f.process ≡ e.process → f.number < e.number) edits → Increasing (edits ++ e ∷ [])
+increasing_push [] e h below = (All-nil (λ (f : PlainEdit). f.process ≡ e.process → e.number < f.number), tt)
 increasing_push (x ∷ es) e h below =
-    let first : (x.process ≡ e.process → x.number < e.number) = All-head (λ (f : Edit). f.process ≡ e.process → f.number < e.number) x es below in (
-      All-push (λ (f : Edit). f.process ≡ x.process → x.number < f.number) es e h.0 (λ same. first (sym same)),
-      increasing_push es e h.1 (All-tail (λ (f : Edit). f.process ≡ e.process → f.number < e.number) x es below),
+    let first : (x.process ≡ e.process → x.number < e.number) = All-head (λ (f : PlainEdit). f.process ≡ e.process → f.number < e.number) x es below in (
+      All-push (λ (f : PlainEdit). f.process ≡ x.process → x.number < f.number) es e h.0 (λ same. first (sym same)),
+      increasing_push es e h.1 (All-tail (λ (f : PlainEdit). f.process ≡ e.process → f.number < e.number) x es below),
     )
 
 subset_of : (a b : ℕ) → b ≡ a → IsSubset a b
@@ -66,7 +66,7 @@ pub contains_one : {A : Type 0} (x e : A) → Contains (x ∷ []) e → e ≡ x
 contains_one x e (zero, lt, is) = sym is
 contains_one x e (suc k, lt, is) = absurd (omega arith)
 
-module _ (e : Edit) (issue : Issue) (old new : World) (c : Counts e issue old new) (may : MayCount old e) where
+module _ (e : PlainEdit) (issue : PlainIssue) (old new : PlainWorld) (c : Counts e issue old new) (may : MayCount old e) where
   cells : (cell : ℕ) → of_cell cell new.counted ≡ of_cell cell old.counted ++ of_cell cell (e ∷ [])
   cells cell = ap (λ es. of_cell cell es) c.counted ∙ of_cell-append cell old.counted (e ∷ [])
 
@@ -139,7 +139,7 @@ module _ (e : Edit) (issue : Issue) (old new : World) (c : Counts e issue old ne
     done_persisted = λ x part. subset_of _ _ (c.memory.persisted (Done x part));
     added = e ∷ [];
     counted = c.counted;
-    foreign = All-push (λ (f : Edit). f.process ≢ q) [] e (All-nil (λ (f : Edit). f.process ≢ q)) (λ same. ne (sym same));
+    foreign = All-push (λ (f : PlainEdit). f.process ≢ q) [] e (All-nil (λ (f : PlainEdit). f.process ≢ q)) (λ same. ne (sym same));
   }
     where
       not_head : (q : ℕ) (r : Place) → IsOwnedBy old.memory q r → r ≡ Head e.cell → ⊥
@@ -165,20 +165,20 @@ module _ (e : Edit) (issue : Issue) (old new : World) (c : Counts e issue old ne
     safe = safe_stable (suc e.process) Version old new (grows_other (suc e.process) Version another) h.edit h.safe;
   }
 
-  counted_cases : (P : Edit → Type 0) → P e → ((f : Edit) → Contains old.counted f → P f) → (f : Edit) → Contains new.counted f → P f
+  counted_cases : (P : PlainEdit → Type 0) → P e → ((f : PlainEdit) → Contains old.counted f → P f) → (f : PlainEdit) → Contains new.counted f → P f
   counted_cases P mine others f there =
-      elim (Contains-append_cases old.counted (e ∷ []) f (subst (λ (es : List Edit). Contains es f) c.counted there)) [
+      elim (Contains-append_cases old.counted (e ∷ []) f (subst (λ (es : List PlainEdit). Contains es f) c.counted there)) [
         | inl before ↦ others f before
         | inr last ↦ subst P (sym (contains_one e f last)) mine
       ]
 
   -- the edit that is superseded by it, or one that was before
-  superseded_cases : (cell : ℕ) (before : List Edit) (f next : Edit) (after : List Edit) → of_cell cell new.counted ≡ before ++ f ∷ next ∷ after
-      → IsDone old f.process f.number ⊎ ((rest : List Edit) × (of_cell cell old.counted ≡ before ++ f ∷ next ∷ rest))
+  superseded_cases : (cell : ℕ) (before : List PlainEdit) (f next : PlainEdit) (after : List PlainEdit) → of_cell cell new.counted ≡ before ++ f ∷ next ∷ after
+      → IsDone old f.process f.number ⊎ ((rest : List PlainEdit) × (of_cell cell old.counted ≡ before ++ f ∷ next ∷ rest))
   superseded_cases cell before f next after parts = elim (cases_eq e.cell cell) [
     | inr ne ↦ inr (after, sym (other_cell cell ne) ∙ parts)
     | inl eq ↦ (
-        let es : List Edit = of_cell e.cell old.counted in
+        let es : List PlainEdit = of_cell e.cell old.counted in
         let split : es ++ e ∷ [] ≡ (before ++ f ∷ []) ++ next ∷ after = sym own_cell ∙ ap (λ x. of_cell x new.counted) eq ∙ parts ∙ sym (append_assoc before (f ∷ []) (next ∷ after)) in
         elim (parts_cases es e (before ++ f ∷ []) next after split) [
           | inl last ↦ inl (may.done before f last.0)
@@ -212,7 +212,7 @@ module _ (e : Edit) (issue : Issue) (old new : World) (c : Counts e issue old ne
                 issue = b.issue;
                 open_edits = c.pendings b.last.process other ∙ b.open_edits;
                 same = b.same;
-                owes = subst (λ (es : List Edit). Splits new b.last.process (new.situation b.last.process) b.last.cell (head_after_all es)) (sym same)
+                owes = subst (λ (es : List PlainEdit). Splits new b.last.process (new.situation b.last.process) b.last.cell (head_after_all es)) (sym same)
                     (subst (λ (x : Situation). Splits new b.last.process x b.last.cell (head_after_all (of_cell cell old.counted))) (sym (c.situations b.last.process other))
                     (splits_last old new b.last.process (λ d. marks_grow e.process (Head e.cell) old new moves d) (c.memory.buffer b.last.process) (λ d k. pends_last e.process (Head e.cell) old new moves b.last.process d other k) (old.situation b.last.process) b.last.cell _ b.owes));
               })
@@ -293,10 +293,10 @@ module _ (e : Edit) (issue : Issue) (old new : World) (c : Counts e issue old ne
         | inl eq ↦ subst (λ (x : ℕ). CallFits new x (new.situation x)) (sym eq) fits
         | inr ne ↦ rw (c.situations q ne) (call_stable old new q (old.situation q) (rely_other s q ne) (s.calls q (rw (sym c.layout) l)))
       ];
-      of_sheet = subst (λ (es : List Edit). All (λ f. IsOfSheet new f) es) (sym c.counted) (All-push (λ (f : Edit). IsOfSheet new f) old.counted e (λ k d l. sheet (get_or old.counted k d) (s.of_sheet k d l)) (sheet e may.of_sheet));
+      of_sheet = subst (λ (es : List PlainEdit). All (λ f. IsOfSheet new f) es) (sym c.counted) (All-push (λ (f : PlainEdit). IsOfSheet new f) old.counted e (λ k d l. sheet (get_or old.counted k d) (s.of_sheet k d l)) (sheet e may.of_sheet));
       increasing = rw c.counted (increasing_push old.counted e s.increasing may.below);
     };
   }
     where
-      sheet : (f : Edit) → IsOfSheet old f → IsOfSheet new f
+      sheet : (f : PlainEdit) → IsOfSheet old f → IsOfSheet new f
       sheet f h = record { process = rw c.layout h.process; number = h.number; cell = rw c.layout h.cell; text = h.text }

@@ -12,8 +12,8 @@ use Rattle.ds_layout.specs.declared.announcement.Phase.{Phase}
 use Rattle.ds_layout.specs.declared.announcement.Phase.TheVariants as phase
 use Rattle.ds_layout.specs.Places.{cells_of}
 use Rattle.ds_words.specs.Memory.{Memory}
-use Rattle.ds_state.specs.Edits.{PlainEdit, text_parts}
-use Rattle.ds_state.specs.World.{Edit, edit_of, Issue, World, of_cell, phase_among, is_edit_of, last_announcement, announcement, record_size, record_place}
+use Rattle.ds_state.specs.Edits.{PlainEditCall, text_parts}
+use Rattle.ds_state.specs.World.{PlainEdit, edit_of, PlainIssue, PlainWorld, of_cell, phase_among, is_edit_of, last_announcement, announcement, record_size, record_place}
 use Rattle.ds_state.specs.Known.{IsIn, Standing, outside, inside, safe, Announced, last, pending, ended, Known, known_at, AreBelow, IsSafe, StandsAs, IsRecorded, word_of}
 use Rattle.ds_state.specs.KnownWork.{IsAtRest}
 use Rattle.ds_state.specs.CallsFit.{CallFits, EditFits, MaySay, rank, IsWritten, IsInDoubt, DoubtFits}
@@ -34,7 +34,7 @@ use Rattle.ds_state.proofs.Crashing.{crash_stands}
 use Rattle.ds_state.proofs.Crashed.{was_counted, survivors_all, safe_left, crash_words, crash_of_sheet, crash_increasing}
 
 -- fewer edits tell no more
-filter_not : (keep : Edit → Bool) (es : List Edit) (p n : ℕ) → phase_among es p n ≡ phase.NotDone → phase_among (filter keep es) p n ≡ phase.NotDone
+filter_not : (keep : PlainEdit → Bool) (es : List PlainEdit) (p n : ℕ) → phase_among es p n ≡ phase.NotDone → phase_among (filter keep es) p n ≡ phase.NotDone
 filter_not keep [] p n h = refl
 filter_not keep (x ∷ es) p n h = by (is_edit_of p n x) (keep x) refl refl (filter_not keep es p n)
   where
@@ -43,11 +43,11 @@ filter_not keep (x ∷ es) p n h = by (is_edit_of p n x) (keep x) refl refl (fil
     by false true e q again = rw q (ap (λ (b : Bool). if b then phase.Done else phase_among (filter keep es) p n) e ∙ again (sym (ap (λ (b : Bool). if b then phase.Done else phase_among es p n) e) ∙ h))
     by false false e q again = rw q (again (sym (ap (λ (b : Bool). if b then phase.Done else phase_among es p n) e) ∙ h))
 
-survivors_not : (m : Memory _) (es : List Edit) (p n : ℕ) → phase_among es p n ≡ phase.NotDone → phase_among (survivors m es) p n ≡ phase.NotDone
+survivors_not : (m : Memory _) (es : List PlainEdit) (p n : ℕ) → phase_among es p n ≡ phase.NotDone → phase_among (survivors m es) p n ≡ phase.NotDone
 unfolding survivors
-survivors_not m es p n h = filter_not (λ (f : Edit). if is_lost m f then false else true) es p n h
+survivors_not m es p n h = filter_not (λ (f : PlainEdit). if is_lost m f then false else true) es p n h
 
-two_phases : (es : List Edit) (p n : ℕ) → (phase_among es p n ≡ phase.Done) ⊎ (phase_among es p n ≡ phase.NotDone)
+two_phases : (es : List PlainEdit) (p n : ℕ) → (phase_among es p n ≡ phase.Done) ⊎ (phase_among es p n ≡ phase.NotDone)
 two_phases [] p n = inr refl
 two_phases (x ∷ es) p n = by (is_edit_of p n x) refl (two_phases es p n)
   where
@@ -83,13 +83,13 @@ recorded_at parts refs (edits.BackRecord part) = inl refl
 recorded_at parts refs edits.StorePending = inl refl
 recorded_at parts refs _ = inr (omega arith, omega arith)
 
-pub written_all : (w : World) (e : Edit) (a : Announced) → IsRecorded w e (record_size e) (record_size e) → IsWritten w e a
+pub written_all : (w : PlainWorld) (e : PlainEdit) (a : Announced) → IsRecorded w e (record_size e) (record_size e) → IsWritten w e a
 written_all w e last h = tt
 written_all w e pending h = h
 written_all w e (ended how) h = h
 
 -- the side that is behind says no more
-pub written_before : (w : World) (e : Edit) (b a : Announced) → rank b ≤ rank a → IsWritten w e a → IsWritten w e b
+pub written_before : (w : PlainWorld) (e : PlainEdit) (b a : Announced) → rank b ≤ rank a → IsWritten w e a → IsWritten w e b
 written_before w e last a le h = tt
 written_before w e pending last le h = absurd (omega arith)
 written_before w e pending pending le h = h
@@ -102,48 +102,48 @@ le_or : (a b : ℕ) → (a ≤ b) ⊎ (b < a)
 le_or a b = grind arith
 
 -- an edit of the list is one of its cell
-to_cell : (e : Edit) (es : List Edit) → Contains es e → Contains (of_cell e.cell es) e
+to_cell : (e : PlainEdit) (es : List PlainEdit) → Contains es e → Contains (of_cell e.cell es) e
 unfolding of_cell
 to_cell e [] (k, l, is) = absurd (omega arith)
 to_cell e (x ∷ es) (zero, l, is) =
     let same : x ≡ e = is in
-    let its : (x.cell == e.cell) ≡ true = eq-eqb x.cell e.cell (ap (λ (y : Edit). y.cell) same) in
-    subst (λ (xs : List Edit). Contains xs e) (sym (kept e.cell x es its)) (zero, omega arith, is)
+    let its : (x.cell == e.cell) ≡ true = eq-eqb x.cell e.cell (ap (λ (y : PlainEdit). y.cell) same) in
+    subst (λ (xs : List PlainEdit). Contains xs e) (sym (kept e.cell x es its)) (zero, omega arith, is)
 to_cell e (x ∷ es) (suc k, l, is) =
-    let again : Contains (filter (λ (y : Edit). y.cell == e.cell) es) e = to_cell e es (k, omega arith, is) in
+    let again : Contains (filter (λ (y : PlainEdit). y.cell == e.cell) es) e = to_cell e es (k, omega arith, is) in
     elim (eqb_tells x.cell e.cell) [
-      | inl its ↦ subst (λ (xs : List Edit). Contains xs e) (sym (kept e.cell x es its.0)) (suc again.0, (let a = again.1 in omega arith), again.2)
-      | inr other ↦ subst (λ (xs : List Edit). Contains xs e) (sym (dropped e.cell x es other.0)) again
+      | inl its ↦ subst (λ (xs : List PlainEdit). Contains xs e) (sym (kept e.cell x es its.0)) (suc again.0, (let a = again.1 in omega arith), again.2)
+      | inr other ↦ subst (λ (xs : List PlainEdit). Contains xs e) (sym (dropped e.cell x es other.0)) again
     ]
 
 -- two edits of the list with one process and one number are one
-pub same_edit : (es : List Edit) (f e : Edit) → Increasing es → Contains es f → Contains es e → f.process ≡ e.process → f.number ≡ e.number → f ≡ e
+pub same_edit : (es : List PlainEdit) (f e : PlainEdit) → Increasing es → Contains es f → Contains es e → f.process ≡ e.process → f.number ≡ e.number → f ≡ e
 same_edit [] f e h (k, l, is) there p n = absurd (omega arith)
 same_edit (x ∷ xs) f e h (zero, l, is) (zero, l', is') p n = sym is ∙ is'
 same_edit (x ∷ xs) f e h (zero, l, is) (suc j, l', is') p n = absurd (
     let at : x ≡ f = is in
-    let less : x.number < e.number = All-contains (λ (g : Edit). g.process ≡ x.process → x.number < g.number) xs e h.0 (j, omega arith, is') (sym p ∙ ap (λ (g : Edit). g.process) (sym at)) in
-    let same = ap (λ (g : Edit). g.number) at in
+    let less : x.number < e.number = All-contains (λ (g : PlainEdit). g.process ≡ x.process → x.number < g.number) xs e h.0 (j, omega arith, is') (sym p ∙ ap (λ (g : PlainEdit). g.process) (sym at)) in
+    let same = ap (λ (g : PlainEdit). g.number) at in
     omega arith)
 same_edit (x ∷ xs) f e h (suc k, l, is) (zero, l', is') p n = absurd (
     let at : x ≡ e = is' in
-    let less : x.number < f.number = All-contains (λ (g : Edit). g.process ≡ x.process → x.number < g.number) xs f h.0 (k, omega arith, is) (p ∙ ap (λ (g : Edit). g.process) (sym at)) in
-    let same = ap (λ (g : Edit). g.number) at in
+    let less : x.number < f.number = All-contains (λ (g : PlainEdit). g.process ≡ x.process → x.number < g.number) xs f h.0 (k, omega arith, is) (p ∙ ap (λ (g : PlainEdit). g.process) (sym at)) in
+    let same = ap (λ (g : PlainEdit). g.number) at in
     omega arith)
 same_edit (x ∷ xs) f e h (suc k, l, is) (suc j, l', is') p n = same_edit xs f e h.1 (k, omega arith, is) (j, omega arith, is') p n
 
-module _ (old new : World) (sound : IsSound old) (crash : CrashesTo old new) where
-  counts : (e : Edit) (own : ℕ) → IsIn old e own → Contains old.counted e
+module _ (old new : PlainWorld) (sound : IsSound old) (crash : CrashesTo old new) where
+  counts : (e : PlainEdit) (own : ℕ) → IsIn old e own → Contains old.counted e
   counts e own h = gave_counts old e.cell own e h.head
 
   below_left : (p n : ℕ) → AreBelow old p n → AreBelow new p n
-  below_left p n h = subst (λ (es : List Edit). All (λ f. f.process ≡ p → f.number < n) es) (sym crash.counted) (survivors_all (λ f. f.process ≡ p → f.number < n) old.memory old.counted h)
+  below_left p n h = subst (λ (es : List PlainEdit). All (λ f. f.process ≡ p → f.number < n) es) (sym crash.counted) (survivors_all (λ f. f.process ≡ p → f.number < n) old.memory old.counted h)
 
   -- how a process's last edit ended, where that is announced
   last_left : (p next : ℕ) → next ≤ RECORDS → old.memory.persisted (Announce p) ≡ last_announcement old.counted p next → last_announcement new.counted p next ≡ last_announcement old.counted p next
   last_left p zero few said = refl
   last_left p (suc n) few said = elim (two_phases old.counted p n) [
-    | inr not ↦ ap (λ (f : Phase). announcement n f) (ap (λ (es : List Edit). phase_among es p n) crash.counted ∙ survivors_not old.memory old.counted p n not ∙ sym not)
+    | inr not ↦ ap (λ (f : Phase). announcement n f) (ap (λ (es : List PlainEdit). phase_among es p n) crash.counted ∙ survivors_not old.memory old.counted p n not ∙ sym not)
     | inl done ↦ (
         let k = (sound.words (Announce p)).on_persisted n (omega arith) (said ∙ ap (λ (f : Phase). announcement n f) done) in
         let stays : IsSafe new k.edit = safe_left old new sound crash k.edit k.safe in
@@ -162,19 +162,19 @@ module _ (old new : World) (sound : IsSound old) (crash : CrashesTo old new) whe
   }
 
   through : (p next : ℕ) → old.open_edits p ≡ None → IsAtRest old p next → DoubtFits new p (new.open_edits p)
-  through p next none h = subst (λ (o : Option Issue). DoubtFits new p o) (sym (crash.open_edits p ∙ none)) (record { next = next; rest = rest_left p next h })
+  through p next none h = subst (λ (o : Option PlainIssue). DoubtFits new p o) (sym (crash.open_edits p ∙ none)) (record { next = next; rest = rest_left p next h })
 
   -- an edit whose head is not persisted is gone
-  gone : (e : Edit) (own : ℕ) → IsIn old e own → old.memory.persisted (Head e.cell) < own → Contains new.counted e → ⊥
+  gone : (e : PlainEdit) (own : ℕ) → IsIn old e own → old.memory.persisted (Head e.cell) < own → Contains new.counted e → ⊥
   gone e own h less there =
-      let es : List Edit = of_cell e.cell new.counted in
-      let all : List Edit = of_cell e.cell old.counted in
+      let es : List PlainEdit = of_cell e.cell new.counted in
+      let all : List PlainEdit = of_cell e.cell old.counted in
       let small : Small all = small_of_cell e.cell old.counted (small_counted old sound.of_sheet) in
       let heads = (leaves old new sound crash).heads e.cell in
       elim ((leaves old new sound crash).cells e.cell) [
         | inl same ↦ (let most = by_most all own e small h.head in let eq = ap head_after_all same in omega arith)
         | inr lost ↦ (
-            let small' : Small (es ++ lost.0 ∷ []) = subst (λ (xs : List Edit). Small xs) lost.1 small in
+            let small' : Small (es ++ lost.0 ∷ []) = subst (λ (xs : List PlainEdit). Small xs) lost.1 small in
             elim (parts_cases es lost.0 h.head.before e h.head.after (sym lost.1 ∙ h.head.parts)) [
               | inr rest ↦ (
                   let by : IsHeadBy es own e = record { before = h.head.before; after = rest.0; parts = rest.1; is = h.head.is } in
@@ -182,54 +182,54 @@ module _ (old new : World) (sound : IsSound old) (crash : CrashesTo old new) whe
                   omega arith)
               | inl at ↦ (
                   let inside : Contains es e = to_cell e new.counted there in
-                  let less' = last_greater es lost.0 e (subst (λ (xs : List Edit). Increasing xs) lost.1 (increasing_cell e.cell old.counted sound.increasing)) inside (ap (λ (f : Edit). f.process) (sym at.1)) in
-                  let same = ap (λ (f : Edit). f.number) at.1 in
+                  let less' = last_greater es lost.0 e (subst (λ (xs : List PlainEdit). Increasing xs) lost.1 (increasing_cell e.cell old.counted sound.increasing)) inside (ap (λ (f : PlainEdit). f.process) (sym at.1)) in
+                  let same = ap (λ (f : PlainEdit). f.number) at.1 in
                   omega arith)
             ])
       ]
 
-  in_or_out : (e : Edit) (own : ℕ) → IsIn old e own → (t : Standing) × StandsAs new e t × MaySay t pending
+  in_or_out : (e : PlainEdit) (own : ℕ) → IsIn old e own → (t : Standing) × StandsAs new e t × MaySay t pending
   in_or_out e own h = elim (le_or own (old.memory.persisted (Head e.cell))) [
     | inl most ↦ (safe, record { below = below_left e.process (e.number + 1) h.below; safe = safe_left old new sound crash e (record { own = own; head = h.head; persisted = most }) }, tt)
     | inr less ↦ (
       outside,
       (λ k d l.
           λ same. (
-          let f : Edit = get_or new.counted k d in
+          let f : PlainEdit = get_or new.counted k d in
           let most = below_left e.process (e.number + 1) h.below k d l same in
           elim (cases_eq f.number e.number) [
             | inr ne ↦ omega arith
             | inl eq ↦ absurd (
                 let there : Contains new.counted f = All-contains_itself new.counted k d l in
                 let is : f ≡ e = same_edit old.counted f e sound.increasing (was_counted old new sound crash f there) (counts e own h) same eq in
-                gone e own h less (subst (λ (x : Edit). Contains new.counted x) is there))
+                gone e own h less (subst (λ (x : PlainEdit). Contains new.counted x) is there))
           ])),
       tt,
     )
   ]
 
   -- an edit in doubt: what it had is persisted, or gone
-  standing_left : (e : Edit) (s : Standing) (a : Announced) → MaySay s a → StandsAs old e s → (t : Standing) × StandsAs new e t × MaySay t a
+  standing_left : (e : PlainEdit) (s : Standing) (a : Announced) → MaySay s a → StandsAs old e s → (t : Standing) × StandsAs new e t × MaySay t a
   standing_left e outside a said h = (outside, below_left e.process e.number h, said)
   standing_left e safe a said h = (safe, record { below = below_left e.process (e.number + 1) h.below; safe = safe_left old new sound crash e h.safe }, said)
   standing_left e (inside own) pending said h = in_or_out e own h
   standing_left e (inside own) last said h = absurd said
   standing_left e (inside own) (ended how) said h = absurd said
 
-  word_left : (e : Edit) (s : Standing) (a : Announced) → MaySay s a → StandsAs old e s → e.number < RECORDS → old.memory.persisted (Announce e.process) ≡ word_of old e a → old.memory.persisted (Announce e.process) ≡ word_of new e a
+  word_left : (e : PlainEdit) (s : Standing) (a : Announced) → MaySay s a → StandsAs old e s → e.number < RECORDS → old.memory.persisted (Announce e.process) ≡ word_of old e a → old.memory.persisted (Announce e.process) ≡ word_of new e a
   word_left e s last said h few is = is ∙ sym (last_left e.process e.number (omega arith) is)
   word_left e s pending said h few is = is
   word_left e s (ended how) said h few is = is
 
-  written_left : (e : Edit) (a : Announced) → IsWritten old e a → IsWritten new e a
+  written_left : (e : PlainEdit) (a : Announced) → IsWritten old e a → IsWritten new e a
   written_left e last h = tt
   written_left e pending h = record { cached = λ k l. crash.memory.cached (record_place e.process e.number k) ∙ h.persisted k l; persisted = λ k l. crash.memory.persisted (record_place e.process e.number k) ∙ h.persisted k l; fewer = h.fewer }
   written_left e (ended how) h = record { cached = λ k l. crash.memory.cached (record_place e.process e.number k) ∙ h.persisted k l; persisted = λ k l. crash.memory.persisted (record_place e.process e.number k) ∙ h.persisted k l; fewer = h.fewer }
 
-  in_doubt : (p : ℕ) (issue : Issue) (s : Standing) (a : Announced) → issue.edit.process ≡ p → issue.edit.number < RECORDS → issue.edit.cell < cells_of old.layout → length issue.edit.text ≤ TEXT_MOST
+  in_doubt : (p : ℕ) (issue : PlainIssue) (s : Standing) (a : Announced) → issue.edit.process ≡ p → issue.edit.number < RECORDS → issue.edit.cell < cells_of old.layout → length issue.edit.text ≤ TEXT_MOST
       → StandsAs old issue.edit s → MaySay s a → old.memory.persisted (Announce p) ≡ word_of old issue.edit a → IsWritten old issue.edit a → IsInDoubt new p issue
   in_doubt p issue s a mine number cell text stands said is written =
-      let e : Edit = issue.edit in
+      let e : PlainEdit = issue.edit in
       let t : (t : Standing) × StandsAs new e t × MaySay t a = standing_left e s a said stands in
       let own : old.memory.persisted (Announce e.process) ≡ word_of old e a = ap (λ (q : ℕ). old.memory.persisted (Announce q)) mine ∙ is in
       let now : old.memory.persisted (Announce p) ≡ word_of new e a = ap (λ (q : ℕ). old.memory.persisted (Announce q)) (sym mine) ∙ word_left e s a said stands number own in
@@ -250,8 +250,8 @@ module _ (old new : World) (sound : IsSound old) (crash : CrashesTo old new) whe
         written = written_left e a written;
       }
 
-  module _ (p : ℕ) (e : PlainEdit) (h : EditFits old p e) where
-    abbrev E : Edit
+  module _ (p : ℕ) (e : PlainEditCall) (h : EditFits old p e) where
+    abbrev E : PlainEdit
     E = edit_of e
 
     abbrev known : Known
@@ -273,14 +273,14 @@ module _ (old new : World) (sound : IsSound old) (crash : CrashesTo old new) whe
     make a said is w = in_doubt p (record { edit = E; since = h.since }) known.standing a h.mine h.is.number (rw h.sheet.cells h.is.cell) h.is.text.short h.knows.standing said (ap (λ (q : ℕ). old.memory.persisted (Announce q)) (sym h.mine) ∙ is) w
 
     editing_left : DoubtFits new p (new.open_edits p)
-    editing_left = subst (λ (x : Option Issue). DoubtFits new p x) (sym (crash.open_edits p ∙ h.open_edits)) (elim h.knows.announced.persisted [
+    editing_left = subst (λ (x : Option PlainIssue). DoubtFits new p x) (sym (crash.open_edits p ∙ h.open_edits)) (elim h.knows.announced.persisted [
       | inl b ↦ make known.before says.0 b (written_before old E known.before known.now says.2 written)
       | inr n ↦ make known.now says.1 n written
     ])
 
-  doubt_left : (p : ℕ) (o : Option Issue) → old.open_edits p ≡ o → DoubtFits old p o → DoubtFits new p (new.open_edits p)
+  doubt_left : (p : ℕ) (o : Option PlainIssue) → old.open_edits p ≡ o → DoubtFits old p o → DoubtFits new p (new.open_edits p)
   doubt_left p None is k = through p k.next is k.rest
-  doubt_left p (Some issue) is k = subst (λ (x : Option Issue). DoubtFits new p x) (sym (crash.open_edits p ∙ is))
+  doubt_left p (Some issue) is k = subst (λ (x : Option PlainIssue). DoubtFits new p x) (sym (crash.open_edits p ∙ is))
       (in_doubt p issue k.standing k.before k.mine k.number k.cell k.text k.stands k.said_before k.persisted (written_before old issue.edit k.before k.now k.order k.written))
 
   stopped_left : (p : ℕ) (s : Situation) → CallFits old p s → DoubtFits new p (new.open_edits p)

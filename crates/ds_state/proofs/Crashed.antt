@@ -6,7 +6,7 @@ use Rattle.ds_words.specs.Memory.{Memory}
 use Rattle.ds_layout.specs.declared.place.Place.{Place}
 use Rattle.ds_layout.specs.declared.place.Place.TheVariants.{Version, Head, Mark, Value, Kind, Index, Announce, Header, Text, Done}
 use Rattle.ds_layout.proofs.OrBits.{IsSubset-same, HasBit-subset}
-use Rattle.ds_state.specs.World.{Edit, World, of_cell, IsHeadBy}
+use Rattle.ds_state.specs.World.{PlainEdit, PlainWorld, of_cell, IsHeadBy}
 use Rattle.ds_state.specs.Known.{IsSafe}
 use Rattle.ds_state.specs.Crashes.{is_lost, survivors, CrashesTo}
 use Rattle.ds_state.specs.WordsFit.{WordFits, IsKept, IsSuperseded}
@@ -15,39 +15,39 @@ use Rattle.ds_state.proofs.Heads.{Small, small_counted, small_of_cell, head_grow
 use Rattle.ds_state.proofs.Crashing.{Leaves}
 use Rattle.ds_state.proofs.Losing.{leaves, increasing_filter}
 
-subset_of : (m : Memory Place) (es : List Edit) (e : Edit) → Contains (survivors m es) e → Contains es e
+subset_of : (m : Memory Place) (es : List PlainEdit) (e : PlainEdit) → Contains (survivors m es) e → Contains es e
 unfolding survivors
-subset_of m es e h = All-contains (λ (f : Edit). Contains es f) (filter (λ (f : Edit). if is_lost m f then false else true) es) e
-    (All-filter (λ (f : Edit). if is_lost m f then false else true) (λ (f : Edit). Contains es f) es (All-contains_itself es)) h
+subset_of m es e h = All-contains (λ (f : PlainEdit). Contains es f) (filter (λ (f : PlainEdit). if is_lost m f then false else true) es) e
+    (All-filter (λ (f : PlainEdit). if is_lost m f then false else true) (λ (f : PlainEdit). Contains es f) es (All-contains_itself es)) h
 
-pub survivors_increase : (m : Memory Place) (es : List Edit) → Increasing es → Increasing (survivors m es)
+pub survivors_increase : (m : Memory Place) (es : List PlainEdit) → Increasing es → Increasing (survivors m es)
 unfolding survivors
-survivors_increase m es h = increasing_filter (λ (f : Edit). if is_lost m f then false else true) es h
+survivors_increase m es h = increasing_filter (λ (f : PlainEdit). if is_lost m f then false else true) es h
 
-pub survivors_all : (P : Edit → Type 0) (m : Memory Place) (es : List Edit) → All P es → All P (survivors m es)
+pub survivors_all : (P : PlainEdit → Type 0) (m : Memory Place) (es : List PlainEdit) → All P es → All P (survivors m es)
 unfolding survivors
-survivors_all P m es h = All-filter (λ (f : Edit). if is_lost m f then false else true) P es h
+survivors_all P m es h = All-filter (λ (f : PlainEdit). if is_lost m f then false else true) P es h
 
-module _ (old new : World) (sound : IsSound old) (crash : CrashesTo old new) where
+module _ (old new : PlainWorld) (sound : IsSound old) (crash : CrashesTo old new) where
   abbrev l : Leaves old new
   l = leaves old new sound crash
 
-  pub was_counted : (e : Edit) → Contains new.counted e → Contains old.counted e
-  was_counted e h = subset_of old.memory old.counted e (subst (λ (es : List Edit). Contains es e) crash.counted h)
+  pub was_counted : (e : PlainEdit) → Contains new.counted e → Contains old.counted e
+  was_counted e h = subset_of old.memory old.counted e (subst (λ (es : List PlainEdit). Contains es e) crash.counted h)
 
   -- an edit that no crash takes stays
-  pub safe_left : (e : Edit) → IsSafe old e → IsSafe new e
+  pub safe_left : (e : PlainEdit) → IsSafe old e → IsSafe new e
   safe_left e h = record {
     own = h.own;
     head = elim (l.cells e.cell) [
-      | inl same ↦ subst (λ (es : List Edit). IsHeadBy es h.own e) (sym same) h.head
+      | inl same ↦ subst (λ (es : List PlainEdit). IsHeadBy es h.own e) (sym same) h.head
       | inr lost ↦ (
-          let es : List Edit = of_cell e.cell new.counted in
-          let small : Small (es ++ lost.0 ∷ []) = subst (λ (xs : List Edit). Small xs) lost.1 (small_of_cell e.cell old.counted (small_counted old sound.of_sheet)) in
+          let es : List PlainEdit = of_cell e.cell new.counted in
+          let small : Small (es ++ lost.0 ∷ []) = subst (λ (xs : List PlainEdit). Small xs) lost.1 (small_of_cell e.cell old.counted (small_counted old sound.of_sheet)) in
           let grows = head_grows es lost.0 [] small in
           let head = l.heads e.cell in
           let most = h.persisted in
-          elim (by_cases es lost.0 h.own e (subst (λ (xs : List Edit). IsHeadBy xs h.own e) lost.1 h.head)) [ inl newest ↦ absurd (omega arith) | inr older ↦ older ])
+          elim (by_cases es lost.0 h.own e (subst (λ (xs : List PlainEdit). IsHeadBy xs h.own e) lost.1 h.head)) [ inl newest ↦ absurd (omega arith) | inr older ↦ older ])
     ];
     persisted = (let same = crash.memory.persisted (Head e.cell) in let most = h.persisted in omega arith);
   }
@@ -66,7 +66,7 @@ module _ (old new : World) (sound : IsSound old) (crash : CrashesTo old new) whe
       before = o.before;
       next = o.next;
       after = o.after ++ lost.0 ∷ [];
-      parts = lost.1 ∙ ap (λ (xs : List Edit). xs ++ lost.0 ∷ []) o.parts ∙ append_assoc o.before (o.edit ∷ o.next ∷ o.after) (lost.0 ∷ []);
+      parts = lost.1 ∙ ap (λ (xs : List PlainEdit). xs ++ lost.0 ∷ []) o.parts ∙ append_assoc o.before (o.edit ∷ o.next ∷ o.after) (lost.0 ∷ []);
     }
   ]
 
@@ -99,8 +99,8 @@ module _ (old new : World) (sound : IsSound old) (crash : CrashesTo old new) whe
       (subst (λ (v : ℕ). WordFits new r (old.memory.persisted r) v) (sym (crash.memory.persisted r)) (word_left r))
 
   pub crash_of_sheet : All (λ e. IsOfSheet new e) new.counted
-  crash_of_sheet = subst (λ (es : List Edit). All (λ e. IsOfSheet new e) es) (sym crash.counted)
+  crash_of_sheet = subst (λ (es : List PlainEdit). All (λ e. IsOfSheet new e) es) (sym crash.counted)
       (survivors_all (λ e. IsOfSheet new e) old.memory old.counted (λ k d lt. let h = sound.of_sheet k d lt in record { process = rw crash.layout h.process; number = h.number; cell = rw crash.layout h.cell; text = h.text }))
 
   pub crash_increasing : Increasing new.counted
-  crash_increasing = subst (λ (es : List Edit). Increasing es) (sym crash.counted) (survivors_increase old.memory old.counted sound.increasing)
+  crash_increasing = subst (λ (es : List PlainEdit). Increasing es) (sym crash.counted) (survivors_increase old.memory old.counted sound.increasing)

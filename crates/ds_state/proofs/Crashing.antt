@@ -2,11 +2,11 @@
 use Rattle.std.proofs.Common.{ℕ, ◌≡◌, ◌⊎◌, List, [], ◌∷◌, ◌++◌, ap, sym, ◌∙◌, subst, arith, inl, inr, length}
 use Rattle.std.specs.Prelude.{Contains}
 use Rattle.ds_words.specs.declared.access.Entry.{Entry}
-use Rattle.ds_formula.specs.Plain.{Plain}
+use Rattle.ds_formula.specs.Plain.{PlainContent}
 use Rattle.ds_layout.specs.declared.place.Place.{Place}
 use Rattle.ds_layout.specs.declared.place.Place.TheVariants.{Head, Mark, Value, Kind, Announce}
 use Rattle.ds_state.specs.Edits.{text_parts}
-use Rattle.ds_state.specs.World.{Edit, edit_of, World, of_cell, head_after_all, IsHeadBy}
+use Rattle.ds_state.specs.World.{PlainEdit, edit_of, PlainWorld, of_cell, head_after_all, IsHeadBy}
 use Rattle.ds_state.specs.Owing.{entry, Owes, CellOwes, IsPending, EditOwes, Excuses, IsExcused}
 use Rattle.ds_state.specs.Standing.{cached_side, persisted_side, HasContent, AllStand}
 use Rattle.ds_state.specs.Known.{pending, IsAnnounced, known_at}
@@ -21,12 +21,12 @@ use Rattle.ds_state.proofs.Heads.{Small, small_counted, small_of_cell, head_grow
 use Rattle.ds_state.proofs.Bearing.{stands_lasts}
 
 -- what a crash does to the list, cell by cell: it keeps the edits of the persisted head, and their order
-pub record Leaves (old new : World) : Type 0 where
-  pub cells : (c : ℕ) → (of_cell c new.counted ≡ of_cell c old.counted) ⊎ ((last : Edit) × (of_cell c old.counted ≡ of_cell c new.counted ++ last ∷ []))
+pub record Leaves (old new : PlainWorld) : Type 0 where
+  pub cells : (c : ℕ) → (of_cell c new.counted ≡ of_cell c old.counted) ⊎ ((last : PlainEdit) × (of_cell c old.counted ≡ of_cell c new.counted ++ last ∷ []))
   pub heads : (c : ℕ) → old.memory.persisted (Head c) ≡ head_after_all (of_cell c new.counted)
 
 -- an edit that owes its cell is announced as pending on both sides
-pub pends_while : (w : World) (p : ℕ) (s : Situation) (c x : ℕ) → CallFits w p s → Excuses w p s c x → IsPending w p c
+pub pends_while : (w : PlainWorld) (p : ℕ) (s : Situation) (c x : ℕ) → CallFits w p s → Excuses w p s c x → IsPending w p c
 pends_while w p (Idle next) c x fits o = absurd o
 pends_while w p Stopped c x fits o = o
 pends_while w p (Editing e) c x fits o = both (announced e.stage o.1 fits.knows.announced)
@@ -56,7 +56,7 @@ pends_while w p (Working e) c x fits o = absurd o
 pends_while w p (Recovering e) c x fits o = o.0
 pends_while w p (Showing e) c x fits o = absurd o
 
-module _ (old new : World) (sound : IsSound old) (crash : CrashesTo old new) (leaves : Leaves old new) where
+module _ (old new : PlainWorld) (sound : IsSound old) (crash : CrashesTo old new) (leaves : Leaves old new) where
   pends : (q c : ℕ) → IsPending old q c → IsPending new q c
   pends q c k = record {
     issue = k.issue;
@@ -86,21 +86,21 @@ module _ (old new : World) (sound : IsSound old) (crash : CrashesTo old new) (le
       }
 
   -- the persisted head is of an edit that stays
-  kept : (c : ℕ) (by : Edit) → IsHeadBy (of_cell c old.counted) (old.memory.persisted (Head c)) by → IsHeadBy (of_cell c new.counted) (old.memory.persisted (Head c)) by
+  kept : (c : ℕ) (by : PlainEdit) → IsHeadBy (of_cell c old.counted) (old.memory.persisted (Head c)) by → IsHeadBy (of_cell c new.counted) (old.memory.persisted (Head c)) by
   kept c by h = elim (leaves.cells c) [
-    | inl same ↦ subst (λ (es : List Edit). IsHeadBy es (old.memory.persisted (Head c)) by) (sym same) h
+    | inl same ↦ subst (λ (es : List PlainEdit). IsHeadBy es (old.memory.persisted (Head c)) by) (sym same) h
     | inr lost ↦ (
-        let es : List Edit = of_cell c new.counted in
-        let small : Small (es ++ lost.0 ∷ []) = subst (λ (xs : List Edit). Small xs) lost.1 (small_of_cell c old.counted (small_counted old sound.of_sheet)) in
+        let es : List PlainEdit = of_cell c new.counted in
+        let small : Small (es ++ lost.0 ∷ []) = subst (λ (xs : List PlainEdit). Small xs) lost.1 (small_of_cell c old.counted (small_counted old sound.of_sheet)) in
         let grows = head_grows es lost.0 [] small in
         let head = leaves.heads c in
-        elim (by_cases es lost.0 (old.memory.persisted (Head c)) by (subst (λ (xs : List Edit). IsHeadBy xs (old.memory.persisted (Head c)) by) lost.1 h)) [
+        elim (by_cases es lost.0 (old.memory.persisted (Head c)) by (subst (λ (xs : List PlainEdit). IsHeadBy xs (old.memory.persisted (Head c)) by) lost.1 h)) [
           | inl newest ↦ absurd (omega arith)
           | inr older ↦ older
         ])
   ]
 
-  text : (c : ℕ) (content : Plain) → HasContent old c (old.memory.persisted (Head c)) content → HasContent new c (old.memory.persisted (Head c)) content
+  text : (c : ℕ) (content : PlainContent) → HasContent old c (old.memory.persisted (Head c)) content → HasContent new c (old.memory.persisted (Head c)) content
   text c content (inl none) = inl none
   text c content (inr h) = inr (record { by = h.by; gave = kept c h.by h.gave; reads = rw crash.layout h.reads })
 

@@ -6,7 +6,7 @@ use Rattle.std.proofs.lemmas.Nat.Bits.{bit_at_lowest, bit_at-suc, bit_at-zero, b
 use Rattle.ds_words.specs.Memory.{OrsAt, StoresAt}
 use Rattle.ds_layout.specs.declared.place.Place.TheVariants.{Mark}
 use Rattle.ds_layout.specs.declared.mark.TheConstants.{DIRTY}
-use Rattle.ds_state.specs.World.{World}
+use Rattle.ds_state.specs.World.{PlainWorld}
 use Rattle.ds_state.specs.WordsFit.{MarkFits}
 use Rattle.ds_state.proofs.Frames.{MovesMark}
 
@@ -38,7 +38,7 @@ or_moves p c v =
       holds = λ q ne. record { cached = λ h. omega arith; persisted = λ h k. k; came = λ h. omega arith };
     }
 
-pub or_mark_fits : (w : World) (cell c v : ℕ) → MarkFits w cell c v → MarkFits w cell (bit_or c DIRTY) v
+pub or_mark_fits : (w : PlainWorld) (cell c v : ℕ) → MarkFits w cell c v → MarkFits w cell (bit_or c DIRTY) v
 or_mark_fits w cell c v h =
     let is = or_dirty c in
     let behind = h.behind in
@@ -46,5 +46,5 @@ or_mark_fits w cell c v h =
     record { behind = omega arith; few = omega arith; holder = λ q by. (let k = h.holder q (omega arith) in let top = k.2 in (k.0, k.1, omega arith)); persisted_holder = h.persisted_holder }
 
 -- it is a store of an odd mark of the same turn
-pub or_stores : (old new : World) (d : ℕ) → OrsAt (Mark d) DIRTY old.memory new.memory → StoresAt (Mark d) (old.memory.cached (Mark d) / 2 * 2 + 1) old.memory new.memory
+pub or_stores : (old new : PlainWorld) (d : ℕ) → OrsAt (Mark d) DIRTY old.memory new.memory → StoresAt (Mark d) (old.memory.cached (Mark d) / 2 * 2 + 1) old.memory new.memory
 or_stores old new d m = subst (λ (n : ℕ). StoresAt (Mark d) n old.memory new.memory) (or_dirty (old.memory.cached (Mark d))) m

@@ -7,9 +7,9 @@ use Rattle.ds_words.specs.Memory.{FlushesAt, WritesBack, newer}
 use Rattle.ds_layout.specs.Places.{class_of}
 use Rattle.ds_layout.specs.declared.place.Place.{Place}
 use Rattle.ds_layout.specs.declared.place.Place.TheVariants.{Version, Head, Mark}
-use Rattle.ds_formula.specs.Plain.{Plain}
-use Rattle.ds_state.specs.Edits.{PlainEdit}
-use Rattle.ds_state.specs.World.{World, of_cell, head_after_all}
+use Rattle.ds_formula.specs.Plain.{PlainContent}
+use Rattle.ds_state.specs.Edits.{PlainEditCall}
+use Rattle.ds_state.specs.World.{PlainWorld, of_cell, head_after_all}
 use Rattle.ds_state.specs.Owing.{entry, Parts, SplitsAt, Splits, Owes, Excuses, IsExcused}
 use Rattle.ds_state.specs.Standing.{HasContent, IsDurable, AllStand}
 use Rattle.ds_state.specs.Rely.{Bears}
@@ -23,13 +23,13 @@ use Rattle.ds_state.proofs.Heads.{cell_of-middle}
 use Rattle.ds_state.proofs.Noted.{of_sheet_middle}
 use Rattle.ds_state.proofs.EditSteps.{edit_on}
 
-pub record Framed (old new : World) : Type 0 where
+pub record Framed (old new : PlainWorld) : Type 0 where
   pub bears : Bears old new
   pub stand : AllStand new
   pub apart : KeepsApart old new
 
-module _ (p : ℕ) (old new : World) (m : Moves p Version old new) (sound : IsSound old) (buffered : Buffered old) (mine : Mine p Version old new m)
-    (text : (c head : ℕ) (content : Plain) → HasContent old c head content → HasContent new c head content) where
+module _ (p : ℕ) (old new : PlainWorld) (m : Moves p Version old new) (sound : IsSound old) (buffered : Buffered old) (mine : Mine p Version old new m)
+    (text : (c head : ℕ) (content : PlainContent) → HasContent old c head content → HasContent new c head content) where
   -- whatever is flushed
   pub flush_any : (place : Place) → FlushesAt p place (class_of place) old.memory new.memory → MyMarks p Version old new m
   flush_any (Mark d) f = flushed_marks p Version old new m sound buffered mine text d (λ c is. cc) f
@@ -44,8 +44,8 @@ module _ (p : ℕ) (old new : World) (m : Moves p Version old new) (sound : IsSo
 max_cases : (a b : ℕ) → ((max a b ≡ a) × (b ≤ a)) ⊎ ((max a b ≡ b) × (a ≤ b))
 max_cases a b = grind arith
 
-module _ (p : ℕ) (place : Place) (value : ℕ) (old new : World) (m : Moves p place old new) (sound : IsSound old) (buffered : Buffered old) (mine : Mine p place old new m)
-    (text : (c head : ℕ) (content : Plain) → HasContent old c head content → HasContent new c head content) (real : p < old.layout.processes) {rest : List (Entry Place)} (w : WritesBack p (entry place value) rest old.memory new.memory) where
+module _ (p : ℕ) (place : Place) (value : ℕ) (old new : PlainWorld) (m : Moves p place old new) (sound : IsSound old) (buffered : Buffered old) (mine : Mine p place old new m)
+    (text : (c head : ℕ) (content : PlainContent) → HasContent old c head content → HasContent new c head content) (real : p < old.layout.processes) {rest : List (Entry Place)} (w : WritesBack p (entry place value) rest old.memory new.memory) where
   nothing_new : (c x q : ℕ) → Contains (new.memory.buffer q) (entry (Mark c) x) → Contains (old.memory.buffer q) (entry (Mark c) x)
   nothing_new c x q h = elim (cases_eq q p) [
     | inr ne ↦ subst (λ (xs : List (Entry Place)). Contains xs (entry (Mark c) x)) (w.others q ne) h
@@ -78,7 +78,7 @@ module _ (p : ℕ) (place : Place) (value : ℕ) (old new : World) (m : Moves p 
   back_any = back_at place refl
 
 -- a step of an edit from stage to stage
-module _ (p : ℕ) (e : PlainEdit) (s s' : Stage) (place : Place) (old new : World) (moves : Moves p place old new) (same : new.counted ≡ old.counted)
+module _ (p : ℕ) (e : PlainEditCall) (s s' : Stage) (place : Place) (old new : PlainWorld) (moves : Moves p place old new) (same : new.counted ≡ old.counted)
     (was : old.situation p ≡ Editing (edit_on e s)) (is : new.situation p ≡ Editing (edit_on e s')) (sound : IsSound old) (buffered : Buffered old) where
   pub edit_apart : KeepsApart old new
   edit_apart cell a = elim (cases_eq a.holder p) [
@@ -109,7 +109,7 @@ module _ (p : ℕ) (e : PlainEdit) (s s' : Stage) (place : Place) (old new : Wor
   }
 
 -- a head that is written back, where whoever may have its sides differ still may
-pub heads_back : (old new : World) (c v' : ℕ) → IsSound old → new.layout ≡ old.layout → KeepsOwing old new c
+pub heads_back : (old new : PlainWorld) (c v' : ℕ) → IsSound old → new.layout ≡ old.layout → KeepsOwing old new c
     → new.memory.persisted (Head c) ≡ v' → (v' ≡ old.memory.persisted (Head c)) ⊎ (v' ≡ old.memory.cached (Head c))
     → (new.memory.persisted (Head c) ≡ old.memory.persisted (Head c)) ⊎ ((x : ℕ) → IsExcused new c x)
 heads_back old new c v' sound layout keeps now between = elim between [
@@ -128,7 +128,7 @@ heads_back old new c v' sound layout keeps now between = elim between [
 ]
 
 -- a step that touches no word, of a process that owes nothing
-module _ (p : ℕ) (old new : World) (moves : Moves p Version old new) (same : new.counted ≡ old.counted) (sound : IsSound old) (buffered : Buffered old)
+module _ (p : ℕ) (old new : PlainWorld) (moves : Moves p Version old new) (same : new.counted ≡ old.counted) (sound : IsSound old) (buffered : Buffered old)
     (owes : (r c x : ℕ) → Owes old.memory p (old.situation p) r c x → ⊥) (excuses : (c x : ℕ) → Excuses old p (old.situation p) c x → ⊥)
     (parts : (r : ℕ) → Parts (old.situation p) r → ⊥) (splits : (c head : ℕ) → Splits old p (old.situation p) c head → ⊥)
     (buffer : (q : ℕ) → new.memory.buffer q ≡ old.memory.buffer q) where

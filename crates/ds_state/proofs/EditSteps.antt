@@ -4,8 +4,8 @@ use Rattle.ds_words.specs.Memory.{StoresAt}
 use Rattle.ds_words.specs.declared.access.Entry.{Entry}
 use Rattle.ds_layout.specs.declared.place.Place.{Place}
 use Rattle.ds_layout.specs.declared.place.Place.TheVariants.{Head, Mark}
-use Rattle.ds_state.specs.Edits.{PlainEdit}
-use Rattle.ds_state.specs.World.{World}
+use Rattle.ds_state.specs.Edits.{PlainEditCall}
+use Rattle.ds_state.specs.World.{PlainWorld}
 use Rattle.ds_state.specs.Owing.{entry, HoldsNone, Owes, EditOwes, Excuses, IsExcused}
 use Rattle.ds_state.specs.Standing.{Matters}
 use Rattle.ds_state.specs.Sound.{IsSound}
@@ -17,11 +17,11 @@ use Rattle.ds_state.proofs.Frames.{Moves, CatchesUp}
 use Rattle.ds_state.proofs.Bearing.{Buffered, Mine, durable_least, on_its_way_excuses}
 use Rattle.ds_state.proofs.Telling.{matters_most, odd_above}
 
-abbrev pub edit_on : PlainEdit → Stage → PlainEdit
+abbrev pub edit_on : PlainEditCall → Stage → PlainEditCall
 edit_on e s = record e { stage = s }
 
 -- an edit touches no value; what it owed that matters it owes still; and so for the head that it writes back
-module _ (p : ℕ) (e : PlainEdit) (s s' : Stage) (place : Place) (old new : World) (moves : Moves p place old new)
+module _ (p : ℕ) (e : PlainEditCall) (s s' : Stage) (place : Place) (old new : PlainWorld) (moves : Moves p place old new)
     (was : old.situation p ≡ Editing (edit_on e s)) (is : new.situation p ≡ Editing (edit_on e s'))
     (holds_none : HoldsNone old p)
     (passes : (x : ℕ) → Matters new e.cell x → EditOwes old.memory p e.cell s x → EditOwes new.memory p e.cell s' x)
@@ -47,7 +47,7 @@ module _ (p : ℕ) (e : PlainEdit) (s s' : Stage) (place : Place) (old new : Wor
   }
 
 -- the `or` into its cell's mark: every mark that matters is below the cached one
-pub or_mark_passes : (p : ℕ) (e : PlainEdit) (own n : ℕ) (old new : World) → IsSound old → Buffered old → n % 2 ≡ 1
+pub or_mark_passes : (p : ℕ) (e : PlainEditCall) (own n : ℕ) (old new : PlainWorld) → IsSound old → Buffered old → n % 2 ≡ 1
     → (store : StoresAt (Mark e.cell) n old.memory new.memory) → (moves : Moves p (Mark e.cell) old new)
     → (x : ℕ) → Matters new e.cell x → EditOwes old.memory p e.cell (edits.OrMark own) x → EditOwes new.memory p e.cell (edits.FlushMark own) x
 or_mark_passes p e own n old new sound buffered odd store moves x matters o =
@@ -56,12 +56,12 @@ or_mark_passes p e own n old new sound buffered odd store moves x matters o =
     odd_above x (new.memory.cached (Mark e.cell)) matters.0 (omega arith) most
 
 -- its flush
-pub flush_mark_passes : (p : ℕ) (e : PlainEdit) (own : ℕ) (old new : World) → new.memory.buffer p ≡ entry (Mark e.cell) (old.memory.cached (Mark e.cell)) ∷ []
+pub flush_mark_passes : (p : ℕ) (e : PlainEditCall) (own : ℕ) (old new : PlainWorld) → new.memory.buffer p ≡ entry (Mark e.cell) (old.memory.cached (Mark e.cell)) ∷ []
     → (x : ℕ) → Matters new e.cell x → EditOwes old.memory p e.cell (edits.FlushMark own) x → EditOwes new.memory p e.cell (edits.BackMark own) x
 flush_mark_passes p e own old new alone x matters o = record { value = old.memory.cached (Mark e.cell); alone = alone; below = o }
 
 -- its write-back: nothing below matters any more
-pub back_mark_passes : (p : ℕ) (e : PlainEdit) (own v : ℕ) (how : _) (old new : World) → old.memory.buffer p ≡ entry (Mark e.cell) v ∷ [] → v ≤ new.memory.persisted (Mark e.cell) → new.memory.persisted (Mark e.cell) ≤ new.memory.cached (Mark e.cell)
+pub back_mark_passes : (p : ℕ) (e : PlainEditCall) (own v : ℕ) (how : _) (old new : PlainWorld) → old.memory.buffer p ≡ entry (Mark e.cell) v ∷ [] → v ≤ new.memory.persisted (Mark e.cell) → new.memory.persisted (Mark e.cell) ≤ new.memory.cached (Mark e.cell)
     → (x : ℕ) → Matters new e.cell x → EditOwes old.memory p e.cell (edits.BackMark own) x → EditOwes new.memory p e.cell (edits.StoreOutcome how) x
 back_mark_passes p e own v how old new alone enough behind x matters k =
     let both : entry (Mark e.cell) v ∷ [] ≡ entry (Mark e.cell) k.value ∷ [] = sym alone ∙ k.alone in
@@ -73,7 +73,7 @@ back_mark_passes p e own v how old new alone enough behind x matters k =
     ]
 
 -- a head that is written back: the persisted one stays, or somebody owes the cell, and still does
-pub head_back : (old new : World) (c : ℕ) → IsSound old → CatchesUp (old.memory.cached (Head c)) (old.memory.persisted (Head c)) (new.memory.cached (Head c)) (new.memory.persisted (Head c))
+pub head_back : (old new : PlainWorld) (c : ℕ) → IsSound old → CatchesUp (old.memory.cached (Head c)) (old.memory.persisted (Head c)) (new.memory.cached (Head c)) (new.memory.persisted (Head c))
     → ((x : ℕ) → IsExcused old c x → IsExcused new c x) → (new.memory.persisted (Head c) ≡ old.memory.persisted (Head c)) ⊎ ((x : ℕ) → IsExcused new c x)
 head_back old new c sound up keeps = elim up.1 [
   | inl same ↦ inl same

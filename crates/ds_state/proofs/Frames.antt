@@ -8,7 +8,7 @@ use Rattle.ds_layout.specs.declared.place.Place.TheVariants.{Version, Head, Mark
 use Rattle.ds_layout.specs.Bits.{IsSubset}
 use Rattle.ds_layout.proofs.OrBits.{IsSubset-same}
 use Rattle.ds_layout.proofs.PlaceCases.{place_cases}
-use Rattle.ds_state.specs.World.{Edit, Issue, World, of_cell, head_after_all}
+use Rattle.ds_state.specs.World.{PlainEdit, PlainIssue, PlainWorld, of_cell, head_after_all}
 use Rattle.ds_words.specs.Memory.{Memory}
 use Rattle.ds_state.specs.Owing.{IsApart, Splits}
 use Rattle.ds_layout.specs.Mark.{IsClean, IsHeldBy}
@@ -63,7 +63,7 @@ stays_word m p (Text q n part) c v c' v' a b = inr (a, inl b)
 stays_word m p (Done q part) c v c' v' a b = (stays_subset c c' a, stays_subset v v' b)
 
 -- at most this word moves, and the process alone changes its buffer, its situation and its issue
-pub record Moves (p : ℕ) (place : Place) (old new : World) : Type 0 where
+pub record Moves (p : ℕ) (place : Place) (old new : PlainWorld) : Type 0 where
   pub layout : new.layout ≡ old.layout
   pub cached : (r : Place) → r ≢ place → new.memory.cached r ≡ old.memory.cached r
   pub persisted : (r : Place) → r ≢ place → new.memory.persisted r ≡ old.memory.persisted r
@@ -72,18 +72,18 @@ pub record Moves (p : ℕ) (place : Place) (old new : World) : Type 0 where
   pub situations : (q : ℕ) → q ≢ p → new.situation q ≡ old.situation q
   pub pendings : (q : ℕ) → q ≢ p → new.open_edits q ≡ old.open_edits q
 
-abbrev pub Moved : ℕ → World → World → Place → Type 0
+abbrev pub Moved : ℕ → PlainWorld → PlainWorld → Place → Type 0
 Moved p old new r = MovesWord old.memory p r (old.memory.cached r) (old.memory.persisted r) (new.memory.cached r) (new.memory.persisted r)
 
 -- whoever may have the sides of this cell's head differ may still
-abbrev pub KeepsOwing : World → World → ℕ → Type 0
-KeepsOwing old new cell = (e : Edit) (issue : Issue) → e.cell ≡ cell → old.open_edits e.process ≡ Some issue → issue.edit ≡ e
-    → (before : List Edit) → of_cell cell old.counted ≡ before ++ e ∷ []
+abbrev pub KeepsOwing : PlainWorld → PlainWorld → ℕ → Type 0
+KeepsOwing old new cell = (e : PlainEdit) (issue : PlainIssue) → e.cell ≡ cell → old.open_edits e.process ≡ Some issue → issue.edit ≡ e
+    → (before : List PlainEdit) → of_cell cell old.counted ≡ before ++ e ∷ []
     → Splits old e.process (old.situation e.process) e.cell (head_after_all (of_cell cell old.counted))
     → (new.open_edits e.process ≡ Some issue) × Splits new e.process (new.situation e.process) e.cell (head_after_all (of_cell cell old.counted))
 
 -- where the sides of a cell's words may differ, they still may, or they agree
-abbrev pub KeepsApart : World → World → Type 0
+abbrev pub KeepsApart : PlainWorld → PlainWorld → Type 0
 KeepsApart old new = (cell : ℕ) → IsApart old cell
     → IsApart new cell ⊎ ((new.memory.persisted (Value cell) ≡ new.memory.cached (Value cell)) × (new.memory.persisted (Kind cell) ≡ new.memory.cached (Kind cell)))
 
@@ -93,7 +93,7 @@ one_holder m p q a b = omega arith
 pub clean_free : (m q : ℕ) → IsClean m → IsHeldBy q m → ⊥
 clean_free m q a b = omega arith
 
-module _ (p : ℕ) (place : Place) (old new : World) (m : Moves p place old new) where
+module _ (p : ℕ) (place : Place) (old new : PlainWorld) (m : Moves p place old new) where
   pub each_moved : (r : Place) → Moved p old new r
   each_moved r = elim (place_cases r place) [
     | inl eq ↦ subst (λ (x : Place). Moved p old new x) (sym eq) m.here
@@ -113,7 +113,7 @@ module _ (p : ℕ) (place : Place) (old new : World) (m : Moves p place old new)
   owned_catches q ne (Index x n) own = absurd own
   owned_catches q ne (Done x n) own = absurd own
 
-module _ (p : ℕ) (place : Place) (old new : World) (m : Moves p place old new) (same : new.counted ≡ old.counted) where
+module _ (p : ℕ) (place : Place) (old new : PlainWorld) (m : Moves p place old new) (same : new.counted ≡ old.counted) where
   pub grows_by : (q : ℕ) (but : Place)
       → ((r : Place) → IsOwnedBy old.memory q r → r ≢ but → CatchesUp (old.memory.cached r) (old.memory.persisted r) (new.memory.cached r) (new.memory.persisted r))
       → ((cell : ℕ) → Mark cell ≢ but → KeepsHold q (old.memory.cached (Mark cell)) (old.memory.persisted (Mark cell)) (new.memory.cached (Mark cell)) (new.memory.persisted (Mark cell)))
@@ -139,7 +139,7 @@ module _ (p : ℕ) (place : Place) (old new : World) (m : Moves p place old new)
     done_persisted = λ x part. (each_moved p place old new m (Done x part)).1;
     added = [];
     counted = same ∙ sym (append-nil old.counted);
-    foreign = All-nil (λ (e : Edit). e.process ≢ q);
+    foreign = All-nil (λ (e : PlainEdit). e.process ≢ q);
   }
 
   -- for the process itself, all but the word
@@ -183,7 +183,7 @@ module _ (p : ℕ) (place : Place) (old new : World) (m : Moves p place old new)
             issue = b.issue;
             open_edits = k.0;
             same = b.same;
-            owes = subst (λ (es : List Edit). Splits new b.last.process (new.situation b.last.process) b.last.cell (head_after_all (of_cell cell es))) (sym same) k.1;
+            owes = subst (λ (es : List PlainEdit). Splits new b.last.process (new.situation b.last.process) b.last.cell (head_after_all (of_cell cell es))) (sym same) k.1;
           })
     ];
   }

@@ -8,7 +8,7 @@ use Rattle.ds_words.specs.Memory.{Memory}
 use Rattle.ds_layout.specs.declared.place.Place.{Place}
 use Rattle.ds_layout.specs.declared.announcement.Phase.TheVariants as phase
 use Rattle.ds_layout.proofs.OrBits.{HasBit-subset}
-use Rattle.ds_state.specs.World.{Edit, World, record_place, done_place, of_cell, of_cell_when, IsHeadBy, phase_among, is_edit_of, last_announcement, announcement}
+use Rattle.ds_state.specs.World.{PlainEdit, PlainWorld, record_place, done_place, of_cell, of_cell_when, IsHeadBy, phase_among, is_edit_of, last_announcement, announcement}
 use Rattle.ds_state.specs.Known.{AreBelow, IsSafe, IsDone}
 use Rattle.ds_state.specs.Rely.{IsOwnedBy, Grows}
 use Rattle.ds_state.proofs.Heads.{of_cell-append, by_append}
@@ -17,17 +17,17 @@ pub at_most : {a b c : ℕ} → a ≤ b → b ≤ c → a ≤ c
 at_most h k = omega arith
 
 -- edits of others tell nothing of a process's own
-phase_append : (xs ys : List Edit) (p n : ℕ) → All (λ e. e.process ≢ p) ys → phase_among (xs ++ ys) p n ≡ phase_among xs p n
+phase_append : (xs ys : List PlainEdit) (p n : ℕ) → All (λ e. e.process ≢ p) ys → phase_among (xs ++ ys) p n ≡ phase_among xs p n
 phase_append [] [] p n h = refl
 phase_append [] (y ∷ ys) p n h =
-    let other : y.process ≢ p = All-head (λ (e : Edit). e.process ≢ p) y ys h in
+    let other : y.process ≢ p = All-head (λ (e : PlainEdit). e.process ≢ p) y ys h in
     elim (eqb_tells y.process p) [
       | inl same ↦ absurd (other same.1)
-      | inr differs ↦ rw differs.0 (phase_append [] ys p n (All-tail (λ (e : Edit). e.process ≢ p) y ys h))
+      | inr differs ↦ rw differs.0 (phase_append [] ys p n (All-tail (λ (e : PlainEdit). e.process ≢ p) y ys h))
     ]
 phase_append (x ∷ xs) ys p n h = ap (λ rest. if is_edit_of p n x then phase.Done else rest) (phase_append xs ys p n h)
 
-pub last_append : (xs ys : List Edit) (p n : ℕ) → All (λ e. e.process ≢ p) ys → last_announcement (xs ++ ys) p n ≡ last_announcement xs p n
+pub last_append : (xs ys : List PlainEdit) (p n : ℕ) → All (λ e. e.process ≢ p) ys → last_announcement (xs ++ ys) p n ≡ last_announcement xs p n
 last_append xs ys p zero h = refl
 last_append xs ys p (suc n) h = ap (λ f. announcement n f) (phase_append xs ys p n h)
 
@@ -36,13 +36,13 @@ pub record_owned : (m : Memory Place) (p n k : ℕ) → IsOwnedBy m p (record_pl
 record_owned m p n zero = refl
 record_owned m p n (suc k) = refl
 
-module _ (q : ℕ) (but : Place) (old new : World) (g : Grows q but old new) where
+module _ (q : ℕ) (but : Place) (old new : PlainWorld) (g : Grows q but old new) where
   pub below_stable : (n : ℕ) → AreBelow old q n → AreBelow new q n
   below_stable n h = All-same (λ e. e.process ≡ q → e.number < n) new.counted (old.counted ++ g.added) g.counted
       (All-append (λ e. e.process ≡ q → e.number < n) old.counted g.added h
       (All-weaker (λ e. e.process ≢ q) (λ e. e.process ≡ q → e.number < n) (λ e h k. absurd (h k)) g.added g.foreign))
 
-  pub by_stable : (cell word : ℕ) (e : Edit) → IsHeadBy (of_cell cell old.counted) word e → IsHeadBy (of_cell cell new.counted) word e
+  pub by_stable : (cell word : ℕ) (e : PlainEdit) → IsHeadBy (of_cell cell old.counted) word e → IsHeadBy (of_cell cell new.counted) word e
   by_stable cell word e h = rw (g.counted, of_cell-append) (by_append (of_cell cell old.counted) (of_cell cell g.added) word e h)
 
   pub last_stable : (n : ℕ) → last_announcement new.counted q n ≡ last_announcement old.counted q n
@@ -54,7 +54,7 @@ module _ (q : ℕ) (but : Place) (old new : World) (g : Grows q but old new) whe
   pub longer : length old.counted ≤ length new.counted
   longer = let l = ap length g.counted in omega (arith, length-append old.counted g.added)
 
-  pub safe_stable : (e : Edit) → IsSafe old e → IsSafe new e
+  pub safe_stable : (e : PlainEdit) → IsSafe old e → IsSafe new e
   safe_stable e h = record {
     own = h.own;
     head = by_stable e.cell h.own e h.head;

@@ -7,7 +7,7 @@ use Rattle.ds_layout.specs.SheetMemory.{SheetValue, memory}
 use Rattle.ds_eval.specs.declared.value.Value.{Value}
 use Rattle.ds_layout.specs.Places.{cells_of}
 use Rattle.ds_state.specs.Reports.{no_reports}
-use Rattle.ds_state.specs.World.{Issue}
+use Rattle.ds_state.specs.World.{PlainIssue}
 use Rattle.ds_state.specs.Fresh.{IsNew}
 use Rattle.ds_state.specs.Value.{WorldValue, world_of, IsReserved}
 use Rattle.ds_state.specs.declared.situation.Situation.{Situation}
@@ -32,7 +32,7 @@ made_new sheet processes fresh = record {
   memory = fresh;
   situation = λ p. all_same processes p (Idle 0);
   counted = refl;
-  open_edits = λ p. all_same {X = Option Issue} processes p None;
+  open_edits = λ p. all_same {X = Option PlainIssue} processes p None;
 }
 
 pub made_kept : (sheet : SheetValue) (processes room : ℕ) → IsFresh (memory sheet) → sheet.layout.processes ≡ processes → processes * RECORDS ≤ room → IsReserved (made sheet processes) room
@@ -40,7 +40,7 @@ made_kept sheet processes room fresh same enough = record {
   good = record {
     sound = new_sound (world_of (made sheet processes)) (made_new sheet processes fresh);
     situations = length-replicate processes (Idle 0) ∙ sym same;
-    open_edits = length-replicate {A = Option Issue} processes None ∙ sym same;
+    open_edits = length-replicate {A = Option PlainIssue} processes None ∙ sym same;
     answered = record { closed = []; as_many = refl; once = tt; count = λ e inside. inside; answered = λ e issue inside at is. absurd (let l = inside.1 in omega arith) };
     reports = record { cells = refl; processes = length-replicate {A = List Value} processes [] ∙ sym same };
     counts = (let none = none_idle processes 0 in omega arith);

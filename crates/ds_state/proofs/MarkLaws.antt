@@ -4,8 +4,8 @@ use Rattle.std.specs.Prelude.{length}
 use Rattle.std.proofs.lemmas.Bool.{eqb-true, eqb-false, ltb-true, lt-ltb}
 use Rattle.ds_layout.specs.declared.place.Place.TheVariants.{Mark}
 use Rattle.ds_layout.specs.Mark.{IsHeldBy, holder_code, holder_of, present, dirty_bit, mark_word}
-use Rattle.ds_state.specs.World.{World}
-use Rattle.ds_state.specs.Works.{PlainWork}
+use Rattle.ds_state.specs.World.{PlainWorld}
+use Rattle.ds_state.specs.Works.{PlainWorkCall}
 use Rattle.ds_state.specs.Shown.{mark_at, MayHold}
 use Rattle.ds_state.specs.KnownWork.{Hold, free, seen, claimed, held, outrun, HoldFits, work_known}
 use Rattle.ds_state.specs.CallsFit.{CallFits}
@@ -30,7 +30,7 @@ dirty_is zero lt = refl
 dirty_is (suc zero) lt = refl
 dirty_is (suc (suc n)) lt = absurd (omega arith)
 
-pub mark_whole : (w : World) (cell : ℕ) → IsSound w → mark_word (mark_at w.layout w.memory cell) ≡ w.memory.cached (Mark cell)
+pub mark_whole : (w : PlainWorld) (cell : ℕ) → IsSound w → mark_word (mark_at w.layout w.memory cell) ≡ w.memory.cached (Mark cell)
 mark_whole w cell sound =
     let word : ℕ = w.memory.cached (Mark cell) in
     let code = code_of w.layout.processes (word / 2 % 16) (λ q is. ((sound.words (Mark cell)).holder q is).0) in
@@ -50,14 +50,14 @@ named processes code q = by (code == 0) refl
     by false is same = inside (nat_lt (code - 1) processes) refl (eqb-false code 0 is) same
 
 -- a work holds its own cell's mark alone
-by_work : (w : World) (e : PlainWork) (cell : ℕ) (hold : Hold) → HoldFits w e hold → IsHeldBy e.process (w.memory.cached (Mark cell)) → e.cell ≡ cell
+by_work : (w : PlainWorld) (e : PlainWorkCall) (cell : ℕ) (hold : Hold) → HoldFits w e hold → IsHeldBy e.process (w.memory.cached (Mark cell)) → e.cell ≡ cell
 by_work w e cell free fits by = absurd (fits cell by)
 by_work w e cell seen fits by = absurd (fits.0 cell by)
 by_work w e cell claimed fits by = sym (fits.alone cell by)
 by_work w e cell held fits by = sym (fits.claim.alone cell by)
 by_work w e cell outrun fits by = sym (fits.0.claim.alone cell by)
 
-by_call : (w : World) (cell q : ℕ) (s : Situation) → CallFits w q s → IsHeldBy q (w.memory.cached (Mark cell)) → MayHold cell s
+by_call : (w : PlainWorld) (cell q : ℕ) (s : Situation) → CallFits w q s → IsHeldBy q (w.memory.cached (Mark cell)) → MayHold cell s
 by_call w cell q (Idle next) fits by = fits.holds_none cell by
 by_call w cell q Stopped fits by = tt
 by_call w cell q (Editing e) fits by = fits.holds_none cell (subst (λ p. IsHeldBy p (w.memory.cached (Mark cell))) (sym fits.mine) by)
@@ -65,7 +65,7 @@ by_call w cell q (Working e) fits by = by_work w e cell (work_known (length e.in
 by_call w cell q (Recovering e) fits by = tt
 by_call w cell q (Showing e) fits by = fits.1.holds_none cell (subst (λ p. IsHeldBy p (w.memory.cached (Mark cell))) (sym fits.1.mine) by)
 
-pub mark_names : (w : World) (cell q : ℕ) → IsSound w → (mark_at w.layout w.memory cell).holder ≡ Some q → (q < w.layout.processes) × MayHold cell (w.situation q)
+pub mark_names : (w : PlainWorld) (cell q : ℕ) → IsSound w → (mark_at w.layout w.memory cell).holder ≡ Some q → (q < w.layout.processes) × MayHold cell (w.situation q)
 mark_names w cell q sound is =
     let one = named w.layout.processes (w.memory.cached (Mark cell) / 2 % 16) q is in
     (one.0, by_call w cell q (w.situation q) (sound.calls q one.0) one.1)

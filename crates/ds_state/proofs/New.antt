@@ -19,18 +19,18 @@ use Rattle.ds_state.specs.Standing.{value_for, word_for, AllStand}
 use Rattle.ds_layout.specs.declared.place.Place.{Place}
 use Rattle.ds_layout.specs.declared.place.Place.TheVariants.{Version, Head, Mark, Value, Kind, Index, Announce, Header, Text, Done}
 use Rattle.ds_layout.specs.Bits.{HasBit, IsSubset}
-use Rattle.ds_state.specs.World.{Edit, World, of_cell, head_after_all}
+use Rattle.ds_state.specs.World.{PlainEdit, PlainWorld, of_cell, head_after_all}
 use Rattle.ds_state.specs.WordsFit.{WordFits, IsSuperseded}
 use Rattle.ds_state.specs.CallsFit.{CallFits}
 use Rattle.ds_state.specs.Fresh.{IsNew}
 use Rattle.ds_state.specs.Sound.{IsSound, IsOfSheet, Increasing}
 use Rattle.ds_state.specs.declared.situation.Situation.{Situation}
 
-no_head : (cell : ℕ) (edits : List Edit) → edits ≡ [] → head_after_all (of_cell cell edits) ≡ 0
+no_head : (cell : ℕ) (edits : List PlainEdit) → edits ≡ [] → head_after_all (of_cell cell edits) ≡ 0
 unfolding head_after_all of_cell
-no_head cell edits e = subst (λ (es : List Edit). head_after_all (of_cell cell es) ≡ 0) (sym e) refl
+no_head cell edits e = subst (λ (es : List PlainEdit). head_after_all (of_cell cell es) ≡ 0) (sym e) refl
 
-none_superseded : (w : World) (p n : ℕ) → w.counted ≡ [] → IsSuperseded w p n → ⊥
+none_superseded : (w : PlainWorld) (p n : ℕ) → w.counted ≡ [] → IsSuperseded w p n → ⊥
 unfolding of_cell
 none_superseded w p n z h =
     let e : of_cell h.edit.cell w.counted ≡ [] = ap (λ es. of_cell h.edit.cell es) z in
@@ -43,13 +43,13 @@ no_bit word number z has = let z' : bit_at word (number % 64) ≡ 0 = ap (λ (x 
 no_bits : (a b : ℕ) → a ≡ 0 → IsSubset a b
 no_bits a b z i = let e : bit_at a i ≡ 0 = ap (λ (x : ℕ). bit_at x i) z ∙ bit_at-zero i in omega arith
 
-none_in : (P : Edit → Type 0) (edits : List Edit) → edits ≡ [] → All P edits
-none_in P edits e = subst (λ (es : List Edit). All P es) (sym e) (All-nil P)
+none_in : (P : PlainEdit → Type 0) (edits : List PlainEdit) → edits ≡ [] → All P edits
+none_in P edits e = subst (λ (es : List PlainEdit). All P es) (sym e) (All-nil P)
 
-nothing_counts : (w : World) (e : Edit) → w.counted ≡ [] → Contains w.counted e → ⊥
+nothing_counts : (w : PlainWorld) (e : PlainEdit) → w.counted ≡ [] → Contains w.counted e → ⊥
 nothing_counts w e z h = All-contains (λ f. ⊥) w.counted e (none_in (λ f. ⊥) w.counted z) h
 
-new_word : (w : World) → w.counted ≡ [] → (r : Place) (c p : ℕ) → c ≡ 0 → p ≡ 0 → WordFits w r c p
+new_word : (w : PlainWorld) → w.counted ≡ [] → (r : Place) (c p : ℕ) → c ≡ 0 → p ≡ 0 → WordFits w r c p
 new_word w z Version c p a b = tt
 new_word w z (Head cell) c p a b = record { last = a ∙ sym (no_head cell w.counted z); sides = inl (b ∙ sym a) }
 new_word w z (Mark cell) c p a b = record { behind = omega arith; few = omega arith; holder = λ q by. absurd (omega arith); persisted_holder = λ q by. absurd (omega arith) }
@@ -74,7 +74,7 @@ empty_entry shape u =
     let f : 0 == n ≡ false = elim (eqb_tells 0 n) [ inl same ↦ absurd (let e = same.1 in omega arith) | inr differ ↦ differ.0 ] in
     ap (λ (h : ℕ). entry_at shape Empty u h) z ∙ ap (λ (b : Bool). record { value = if b then values.Circular else values.Blank; height = 0 }) f
 
-new_stands : (w : World) → IsNew w → AllStand w
+new_stands : (w : PlainWorld) → IsNew w → AllStand w
 new_stands w is =
     let fresh = is.memory in
     let u : Cell → entries.Entry = (λ d. record { value = values.Blank; height = 0 }) in
@@ -85,7 +85,7 @@ new_stands w is =
       on_persisted = λ c x clean d. inr (record { content = Empty; has = inl (fresh.persisted (Head c), refl); inputs = u; on_value = fresh.persisted (Value c) ∙ sym value; on_kind = fresh.persisted (Kind c) ∙ sym kind; near = λ d refers inside. absurd refers });
     }
 
-pub new_sound : (w : World) → IsNew w → IsSound w
+pub new_sound : (w : PlainWorld) → IsNew w → IsSound w
 new_sound w is =
     let fresh = is.memory in
     record {

@@ -7,21 +7,21 @@ use Rattle.std.proofs.lemmas.List.Elements.{All-filter}
 use Rattle.ds_layout.specs.declared.head.Head.{Head}
 use Rattle.ds_layout.specs.Head.{head_word, head_of, IsHead}
 use Rattle.ds_layout.proofs.Packed.{head_of-head_word}
-use Rattle.ds_state.specs.World.{Edit, World, of_cell, of_cell_when, head_after_all, IsHeadBy}
+use Rattle.ds_state.specs.World.{PlainEdit, PlainWorld, of_cell, of_cell_when, head_after_all, IsHeadBy}
 use Rattle.ds_state.specs.Known.{IsNoted}
 use Rattle.ds_state.specs.Sound.{IsSound, IsOfSheet}
 use Rattle.ds_state.proofs.Heads.{Small, of_cell-append, head_push, head_grows, by_append, by_last, parts_cases}
 use Rattle.ds_state.proofs.Few.{of_cell_few}
 
 -- a list is empty, or has a last element
-pub last_cases : (es : List Edit) → (es ≡ []) ⊎ ((before : List Edit) × (by : Edit) × (es ≡ before ++ by ∷ []))
+pub last_cases : (es : List PlainEdit) → (es ≡ []) ⊎ ((before : List PlainEdit) × (by : PlainEdit) × (es ≡ before ++ by ∷ []))
 last_cases [] = inl refl
 last_cases (x ∷ es) = elim (last_cases es) [
   | inl none ↦ inr ([], x, ap (λ zs. x ∷ zs) none)
   | inr found ↦ inr (x ∷ found.0, found.1, ap (λ zs. x ∷ zs) found.2)
 ]
 
-pub last_same : (before : List Edit) (by : Edit) (before' : List Edit) (by' : Edit) → before ++ by ∷ [] ≡ before' ++ by' ∷ [] → by' ≡ by
+pub last_same : (before : List PlainEdit) (by : PlainEdit) (before' : List PlainEdit) (by' : PlainEdit) → before ++ by ∷ [] ≡ before' ++ by' ∷ [] → by' ≡ by
 last_same before by before' by' same = elim (parts_cases before by before' by' [] same) [
   | inl both ↦ both.1
   | inr more ↦ (
@@ -31,37 +31,37 @@ last_same before by before' by' same = elim (parts_cases before by before' by' [
 ]
 
 -- each edit of a cell is one of the sheet
-pub of_sheet_middle : (w : World) → All (λ e. IsOfSheet w e) w.counted → (cell : ℕ) (before : List Edit) (by : Edit) (after : List Edit) → of_cell cell w.counted ≡ before ++ by ∷ after → IsOfSheet w by
+pub of_sheet_middle : (w : PlainWorld) → All (λ e. IsOfSheet w e) w.counted → (cell : ℕ) (before : List PlainEdit) (by : PlainEdit) (after : List PlainEdit) → of_cell cell w.counted ≡ before ++ by ∷ after → IsOfSheet w by
 unfolding of_cell
 of_sheet_middle w h cell before by after parts =
-    let all : All (λ e. IsOfSheet w e) (before ++ by ∷ after) = subst (λ (es : List Edit). All (λ e. IsOfSheet w e) es) parts (All-filter (λ e. e.cell == cell) (λ e. IsOfSheet w e) w.counted h) in
+    let all : All (λ e. IsOfSheet w e) (before ++ by ∷ after) = subst (λ (es : List PlainEdit). All (λ e. IsOfSheet w e) es) parts (All-filter (λ e. e.cell == cell) (λ e. IsOfSheet w e) w.counted h) in
     let there : IsOfSheet w (get_or (before ++ by ∷ after) (length before) by) = all (length before) by (omega (arith, length-append before (by ∷ after))) in
-    subst (λ (e : Edit). IsOfSheet w e) (get_or-append_seam before by after by) there
+    subst (λ (e : PlainEdit). IsOfSheet w e) (get_or-append_seam before by after by) there
 
 -- the edits of the cell now, and when so many counted
-pub when_now : (w : World) (cell : ℕ) → of_cell_when w cell (length w.counted) ≡ of_cell cell w.counted
+pub when_now : (w : PlainWorld) (cell : ℕ) → of_cell_when w cell (length w.counted) ≡ of_cell cell w.counted
 when_now w cell = ap (λ es. of_cell cell es) (take-length w.counted)
 
-pub when_rest : (w : World) (cell count : ℕ) → of_cell cell w.counted ≡ of_cell_when w cell count ++ of_cell cell (drop count w.counted)
+pub when_rest : (w : PlainWorld) (cell count : ℕ) → of_cell cell w.counted ≡ of_cell_when w cell count ++ of_cell cell (drop count w.counted)
 when_rest w cell count = ap (λ es. of_cell cell es) (sym (take-append-drop count w.counted)) ∙ of_cell-append cell (take count w.counted) (drop count w.counted)
 
-pub noted_by : (w : World) (e : Edit) (since : ℕ) (head : Head) → (h : IsNoted w e since head) → IsHeadBy (of_cell e.cell w.counted) (head_word head) h.by
-noted_by w e since head h = subst (λ (es : List Edit). IsHeadBy es (head_word head) h.by) (sym (when_rest w e.cell h.count))
+pub noted_by : (w : PlainWorld) (e : PlainEdit) (since : ℕ) (head : Head) → (h : IsNoted w e since head) → IsHeadBy (of_cell e.cell w.counted) (head_word head) h.by
+noted_by w e since head h = subst (λ (es : List PlainEdit). IsHeadBy es (head_word head) h.by) (sym (when_rest w e.cell h.count))
     (by_append (of_cell_when w e.cell h.count) (of_cell e.cell (drop h.count w.counted)) (head_word head) h.by
-    (subst (λ (es : List Edit). IsHeadBy es (head_word head) h.by) (sym h.parts)
+    (subst (λ (es : List PlainEdit). IsHeadBy es (head_word head) h.by) (sym h.parts)
     (subst (λ (word : ℕ). IsHeadBy (h.before ++ h.by ∷ []) word h.by) (sym h.word) (by_last h.before h.by))))
 
 -- heads only grow, and where they are the same, so are the edits
-pub when_most : (xs ys : List Edit) → Small (xs ++ ys) → head_after_all xs ≤ head_after_all (xs ++ ys)
+pub when_most : (xs ys : List PlainEdit) → Small (xs ++ ys) → head_after_all xs ≤ head_after_all (xs ++ ys)
 when_most xs [] s = rw (append-nil xs) (omega arith)
 when_most xs (y ∷ ys) s = let g = head_grows xs y ys s in omega arith
 
-pub when_same : (xs ys : List Edit) → Small (xs ++ ys) → head_after_all xs ≡ head_after_all (xs ++ ys) → xs ++ ys ≡ xs
+pub when_same : (xs ys : List PlainEdit) → Small (xs ++ ys) → head_after_all xs ≡ head_after_all (xs ++ ys) → xs ++ ys ≡ xs
 when_same xs [] s same = append-nil xs
 when_same xs (y ∷ ys) s same = let g = head_grows xs y ys s in absurd (omega arith)
 
 -- the head of a cell reads back
-pub head_reads : (w : World) → IsSound w → (cell : ℕ) (before : List Edit) (by : Edit) → of_cell cell w.counted ≡ before ++ by ∷ []
+pub head_reads : (w : PlainWorld) → IsSound w → (cell : ℕ) (before : List PlainEdit) (by : PlainEdit) → of_cell cell w.counted ≡ before ++ by ∷ []
     → head_of w.layout.processes (head_after_all (of_cell cell w.counted)) ≡ Some (record { stamp = length before + 1; process = by.process; number = by.number })
 head_reads w s cell before by parts =
     let h : Head = record { stamp = length before + 1; process = by.process; number = by.number } in

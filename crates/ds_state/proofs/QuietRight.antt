@@ -8,7 +8,7 @@ use Rattle.ds_eval.specs.Local.{local}
 use Rattle.ds_eval.proofs.Neighbours as neighbours
 use Rattle.ds_layout.specs.Places.{cells_of}
 use Rattle.ds_layout.specs.declared.place.Place.TheVariants.{Head, Kind}
-use Rattle.ds_state.specs.World.{Issue, edit_of, World}
+use Rattle.ds_state.specs.World.{PlainIssue, edit_of, PlainWorld}
 use Rattle.ds_state.specs.Owing.{Excuses}
 use Rattle.ds_state.specs.Standing.{cached_side, entry_on, shown_entry, value_for}
 use Rattle.ds_state.specs.CallsFit.{CallFits}
@@ -19,11 +19,11 @@ use Rattle.ds_state.specs.declared.situation.Situation.TheVariants.{Idle, Stoppe
 use Rattle.ds_state.proofs.Frames.{clean_free}
 use Rattle.ds_state.proofs.Shows.{local_back}
 
-none_some : (o : Option Issue) (i : Issue) → o ≡ None → o ≡ Some i → ⊥
+none_some : (o : Option PlainIssue) (i : PlainIssue) → o ≡ None → o ≡ Some i → ⊥
 none_some o i a b = let e : None ≡ Some i = sym a ∙ b in cc
 
 -- no process without an open edit owes its cell
-no_excuse : (w : World) (p : ℕ) (s : Situation) (c x : ℕ) → w.open_edits p ≡ None → CallFits w p s → Excuses w p s c x → ⊥
+no_excuse : (w : PlainWorld) (p : ℕ) (s : Situation) (c x : ℕ) → w.open_edits p ≡ None → CallFits w p s → Excuses w p s c x → ⊥
 no_excuse w p (Idle next) c x none h o = o
 no_excuse w p Stopped c x none h o = none_some (w.open_edits p) o.issue none o.issued
 no_excuse w p (Editing e) c x none h o = none_some (w.open_edits p) (record { edit = edit_of e; since = h.since }) none h.open_edits
@@ -31,7 +31,7 @@ no_excuse w p (Working e) c x none h o = o
 no_excuse w p (Recovering e) c x none h o = none_some (w.open_edits p) o.0.issue none o.0.issued
 no_excuse w p (Showing e) c x none h o = o
 
-pub quiet_right : (w : World) → IsSound w → IsCalm w → (c : ℕ) → IsLocalAt w c
+pub quiet_right : (w : PlainWorld) → IsSound w → IsCalm w → (c : ℕ) → IsLocalAt w c
 quiet_right w sound calm c = elim (sound.stand.on_cached c (calm.clean c)) [
   | inl o ↦ absurd (no_excuse w o.process (w.situation o.process) c _ (calm.answered o.process o.inside) (sound.calls o.process o.inside) o.still)
   | inr h ↦ (

@@ -7,7 +7,7 @@ use mir.Val.{sel}
 use Rattle.ds_formula.specs.declared.cells.Shape.{Shape}
 use Rattle.ds_formula.specs.declared.cells.Cell.{Cell}
 use Rattle.ds_formula.specs.Cells.{IsInside, index_of, count_of}
-use Rattle.ds_formula.specs.Plain.{Plain}
+use Rattle.ds_formula.specs.Plain.{PlainContent}
 use Rattle.ds_formula.specs.Refs.{Refers}
 use Rattle.ds_formula.specs.Grammar.{Reads, blank}
 use Rattle.ds_eval.specs.declared.value.Value.{Value}
@@ -23,7 +23,7 @@ use Rattle.ds_layout.specs.declared.stored.Stored.{Stored}
 use Rattle.ds_layout.specs.Places.{cells_of}
 use Rattle.ds_layout.specs.Stored.{Goes, stored_by, stored_of}
 use Rattle.ds_layout.proofs.Packed.{IsStored-stored_of, stored_of-words}
-use Rattle.ds_state.specs.World.{World}
+use Rattle.ds_state.specs.World.{PlainWorld}
 use Rattle.ds_state.specs.Standing.{Side, shown, shown_of, shown_entry, stored_for, kind_for, number_for, value_for, word_for, entry_on, HasContent}
 
 abbrev Small : ℤ → Type 0
@@ -105,13 +105,13 @@ words_back shape e h =
     ∙ ap (entry_with e.height) (shown_for e.value)
 
 -- what a content gives of what words show, words show
-pub local_back : (w : World) (side : Side) (cell head : ℕ) (content : Plain) (u : Cell → entries.Entry) → HasContent w cell head content
+pub local_back : (w : PlainWorld) (side : Side) (cell head : ℕ) (content : PlainContent) (u : Cell → entries.Entry) → HasContent w cell head content
     → ((d : Cell) → Refers content d → IsInside w.layout.shape d → u d ≡ entry_on w.layout side (index_of w.layout.shape d))
     → shown_entry (cells_of w.layout) (value_for (local w.layout.shape content u)) (word_for (local w.layout.shape content u)) ≡ local w.layout.shape content u
 local_back w side cell head content u has near =
     let each : (d : Cell) → Refers content d → IsInside w.layout.shape d → CanShow w.layout.shape (u d) =
     (λ d refers inside. subst (λ (e : entries.Entry). CanShow w.layout.shape e) (sym (near d refers inside)) (words_show w.layout.shape (side.value (index_of w.layout.shape d)) (side.kind (index_of w.layout.shape d)))) in
     words_back w.layout.shape (local w.layout.shape content u) (elim has [
-      | inl none ↦ local_shown w.layout.shape [] content u (subst (λ (p : Plain). Reads w.layout.shape [] p) (sym none.1) (record { short = omega arith; reads = blank })) each
+      | inl none ↦ local_shown w.layout.shape [] content u (subst (λ (p : PlainContent). Reads w.layout.shape [] p) (sym none.1) (record { short = omega arith; reads = blank })) each
       | inr text ↦ local_shown w.layout.shape text.by.text content u text.reads each
     ])

@@ -9,7 +9,7 @@ use Rattle.ds_layout.specs.declared.place.Place.{Place}
 use Rattle.ds_layout.specs.declared.place.Place.TheVariants.{Version, Head, Mark, Value, Kind, Index, Announce, Header, Text, Done}
 use Rattle.ds_layout.specs.Bits.{IsSubset, bit_of}
 use Rattle.ds_layout.proofs.OrBits.{IsSubset-same, IsSubset-both, IsSubset-or_left, IsSubset-or_both, HasBit-subset, HasBit-or_other}
-use Rattle.ds_state.specs.World.{Edit, World, of_cell, IsHeadBy}
+use Rattle.ds_state.specs.World.{PlainEdit, PlainWorld, of_cell, IsHeadBy}
 use Rattle.ds_state.specs.Owing.{IsMark}
 use Rattle.ds_state.specs.WordsFit.{IsKept, WordFits}
 use Rattle.ds_state.proofs.Heads.{Small, small_of_cell, persisted_most, written_back}
@@ -29,9 +29,9 @@ IsBetween layout (Text q n part) c v v' = (v' ≡ v) ⊎ (v' ≡ c)
 IsBetween layout (Done q part) c v v' = IsSubset v v' × IsSubset v' c
 
 -- the value of a buffer's entry that may be written back
-abbrev pub EntryFits : World → Place → ℕ → ℕ → Type 0
+abbrev pub EntryFits : PlainWorld → Place → ℕ → ℕ → Type 0
 EntryFits w Version c value = Unit {0}
-EntryFits w (Head cell) c value = (e : Edit) × IsHeadBy (of_cell cell w.counted) value e
+EntryFits w (Head cell) c value = (e : PlainEdit) × IsHeadBy (of_cell cell w.counted) value e
 EntryFits w (Mark cell) c value = (value ≤ c) × IsMark w.layout cell value
 EntryFits w (Value cell) c value = value ≡ c
 EntryFits w (Kind cell) c value = value ≡ c
@@ -44,10 +44,10 @@ EntryFits w (Done q part) c value = IsSubset value c
 max_cases : (a b : ℕ) → (max a b ≡ a) ⊎ (max a b ≡ b)
 max_cases a b = grind arith
 
-newer_mark : (w : World) (cell v value : ℕ) → IsMark w.layout cell v → IsMark w.layout cell value → IsMark w.layout cell (max v value)
+newer_mark : (w : PlainWorld) (cell v value : ℕ) → IsMark w.layout cell v → IsMark w.layout cell value → IsMark w.layout cell (max v value)
 newer_mark w cell v value h k = elim (max_cases v value) [ inl e ↦ subst (λ (x : ℕ). IsMark w.layout cell x) (sym e) h | inr e ↦ subst (λ (x : ℕ). IsMark w.layout cell x) (sym e) k ]
 
-module _ (w : World) (small : Small w.counted) where
+module _ (w : PlainWorld) (small : Small w.counted) where
   -- a write-back
   pub newer_between : (r : Place) (c v value : ℕ) → WordFits w r c v → EntryFits w r c value → IsBetween w.layout r c v (newer (class_of r) v value)
   newer_between Version c v value h e = tt
@@ -91,7 +91,7 @@ module _ (w : World) (small : Small w.counted) where
   between_moves m p (Text q n part) c v v' h b = inr (refl, b)
   between_moves m p (Done q part) c v v' h b = (IsSubset-same c, b.0)
 
-pub between_fits : (w : World) (r : Place) (c v v' : ℕ) → WordFits w r c v → IsBetween w.layout r c v v' → WordFits w r c v'
+pub between_fits : (w : PlainWorld) (r : Place) (c v v' : ℕ) → WordFits w r c v → IsBetween w.layout r c v v' → WordFits w r c v'
 between_fits w Version c v v' h b = tt
 between_fits w (Head cell) c v v' h b = elim b [
   | inl same ↦ rw same h
@@ -118,14 +118,14 @@ between_fits w (Done q part) c v v' h b = record {
 }
 
 -- bits that are added to an index row
-pub row_or_fits : (w : World) (row part c v bits : ℕ) → WordFits w (Index row part) c v → WordFits w (Index row part) (bit_or c bits) v
+pub row_or_fits : (w : PlainWorld) (row part c v bits : ℕ) → WordFits w (Index row part) c v → WordFits w (Index row part) (bit_or c bits) v
 row_or_fits w row part c v bits h = record {
   sides = IsSubset-both v c (bit_or c bits) h.sides (IsSubset-or_left c bits);
   counted = λ e there its refers. let both = h.counted e there its refers in (HasBit-subset c (bit_or c bits) e.cell (IsSubset-or_left c bits) both.0, both.1);
 }
 
 -- the done bit of an edit that no crash takes
-pub done_or_fits : (w : World) (p n c v : ℕ) → IsKept w p n → WordFits w (Done p (n / 64)) c v → WordFits w (Done p (n / 64)) (bit_or c (bit_of n)) v
+pub done_or_fits : (w : PlainWorld) (p n c v : ℕ) → IsKept w p n → WordFits w (Done p (n / 64)) c v → WordFits w (Done p (n / 64)) (bit_or c (bit_of n)) v
 done_or_fits w p n c v kept h = record {
   sides = IsSubset-both v c (bit_or c (bit_of n)) h.sides (IsSubset-or_left c (bit_of n));
   superseded = h.superseded;

@@ -4,8 +4,8 @@ use Rattle.std.specs.Prelude.{Option}
 use Rattle.ds_layout.specs.declared.place.Place.{Place}
 use Rattle.ds_layout.specs.declared.place.Place.TheVariants.{Version, Announce}
 use Rattle.ds_layout.proofs.OrBits.{HasBit-subset, IsSubset-both}
-use Rattle.ds_state.specs.Edits.{PlainEdit, text_parts}
-use Rattle.ds_state.specs.World.{Edit, Issue, edit_of, World, record_size, record_place, done_place, head_after_all}
+use Rattle.ds_state.specs.Edits.{PlainEditCall, text_parts}
+use Rattle.ds_state.specs.World.{PlainEdit, PlainIssue, edit_of, PlainWorld, record_size, record_place, done_place, head_after_all}
 use Rattle.ds_state.specs.Known.{Standing, outside, inside, safe, Announced, last, pending, ended, Noted, nothing, head_noted, head_back, bit_set, bit_back, came_late, Known, known_at, StandsAs, IsRecorded, word_of, IsAnnounced, row_of, IsIndexedTo, IsOred, IsWhen, IsNoted, Knows, Knowing}
 use Rattle.ds_state.specs.Owing.{entry}
 use Rattle.ds_state.specs.CallsFit.{Held, empty, record_words, announcing_word, row_bits, done_bits, head_from, mark, held_at, Holds, CallFits, IsSheetOf, HasRefs, DoubtFits, IsWritten}
@@ -19,7 +19,7 @@ use Rattle.ds_state.proofs.StableRecovery.{freed_stable, resolved_stable, held_s
 use Rattle.ds_state.proofs.StableWork.{work_stable}
 use Rattle.ds_state.proofs.StableShow.{show_stable}
 
-module _ (but : Place) (old new : World) (e : Edit) (g : Grows e.process but old new) where
+module _ (but : Place) (old new : PlainWorld) (e : PlainEdit) (g : Grows e.process but old new) where
   pub standing_stable : (s : Standing) → StandsAs old e s → StandsAs new e s
   standing_stable outside h = below_stable e.process but old new g e.number h
   standing_stable (inside own) h = record {
@@ -124,13 +124,13 @@ module _ (but : Place) (old new : World) (e : Edit) (g : Grows e.process but old
   holds_stable same (head_from least) h = record { value = h.value; alone = same ∙ h.alone; is = record { enough = h.is.enough; by = h.is.by; head = by_stable e.process but old new g e.cell h.value h.is.by h.is.head } }
   holds_stable same mark h = record { value = h.value; alone = same ∙ h.alone; is = (at_most h.is.0 (g.marks_cached e.cell), λ q by. rw g.layout (h.is.1 q by)) }
 
-Grows_at : (p q : ℕ) (but : Place) (old new : World) → p ≡ q → Grows p but old new → Grows q but old new
+Grows_at : (p q : ℕ) (but : Place) (old new : PlainWorld) → p ≡ q → Grows p but old new → Grows q but old new
 Grows_at p q but old new same g = subst (λ (x : ℕ). Grows x but old new) same g
 
-pub sheet_stable : (old new : World) (e : PlainEdit) → new.layout ≡ old.layout → IsSheetOf old.layout e → IsSheetOf new.layout e
+pub sheet_stable : (old new : PlainWorld) (e : PlainEditCall) → new.layout ≡ old.layout → IsSheetOf old.layout e → IsSheetOf new.layout e
 sheet_stable old new e same h = rw same h
 
-pub refs_stable : (old new : World) (e : PlainEdit) → new.layout ≡ old.layout → HasRefs old.layout.shape e.text e.refs → HasRefs new.layout.shape e.text e.refs
+pub refs_stable : (old new : PlainWorld) (e : PlainEditCall) → new.layout ≡ old.layout → HasRefs old.layout.shape e.text e.refs → HasRefs new.layout.shape e.text e.refs
 refs_stable old new e same h = rw same h
 
 -- no word of a process is the version's
@@ -138,14 +138,14 @@ pub record_no_version : (p n k : ℕ) → record_place p n k ≢ Version
 record_no_version p n zero = λ same. cc
 record_no_version p n (suc k) = λ same. cc
 
-pub written_stable : (but : Place) (old new : World) (e : Edit) → Grows e.process but old new → ((k : ℕ) → record_place e.process e.number k ≢ but) → (a : Announced) → IsWritten old e a → IsWritten new e a
+pub written_stable : (but : Place) (old new : PlainWorld) (e : PlainEdit) → Grows e.process but old new → ((k : ℕ) → record_place e.process e.number k ≢ but) → (a : Announced) → IsWritten old e a → IsWritten new e a
 written_stable but old new e g apart last h = tt
 written_stable but old new e g apart pending h = recorded_stable but old new e g apart (record_size e) (record_size e) h
 written_stable but old new e g apart (ended how) h = recorded_stable but old new e g apart (record_size e) (record_size e) h
 
 -- how a process's last edit ended, or is in doubt, stays where its announcement and its records do
-pub doubt_grows : (but : Place) (old new : World) (q : ℕ) → Grows q but old new → new.open_edits q ≡ old.open_edits q → Announce q ≢ but → ((n k : ℕ) → record_place q n k ≢ but)
-    → (o : Option Issue) → DoubtFits old q o → DoubtFits new q o
+pub doubt_grows : (but : Place) (old new : PlainWorld) (q : ℕ) → Grows q but old new → new.open_edits q ≡ old.open_edits q → Announce q ≢ but → ((n k : ℕ) → record_place q n k ≢ but)
+    → (o : Option PlainIssue) → DoubtFits old q o → DoubtFits new q o
 doubt_grows but old new q g pends announce record' None h = record { next = h.next; rest = rest_at h.next h.rest }
   where
     rest_at : (next : ℕ) → IsAtRest old q next → IsAtRest new q next
@@ -160,7 +160,7 @@ doubt_grows but old new q g pends announce record' None h = record { next = h.ne
       ];
     }
 doubt_grows but old new q g' pends announce record' (Some issue) h =
-    let e : Edit = issue.edit in
+    let e : PlainEdit = issue.edit in
     let g : Grows e.process but old new = Grows_at q e.process but old new (sym h.mine) g' in
     let apart : (k : ℕ) → record_place e.process e.number k ≢ but = subst (λ (x : ℕ). (k : ℕ) → record_place x e.number k ≢ but) (sym h.mine) (record' e.number) in
     let cached' : new.memory.cached (Announce q) ≡ word_of new e h.now = g'.owned_cached (Announce q) refl announce ∙ h.cached ∙ sym (word_stable but old new e g h.now) in
@@ -199,11 +199,11 @@ doubt_grows but old new q g' pends announce record' (Some issue) h =
       }
     ]
 
-doubt_stable : (old new : World) (q : ℕ) → Rely q old new → (o : Option Issue) → DoubtFits old q o → DoubtFits new q o
+doubt_stable : (old new : PlainWorld) (q : ℕ) → Rely q old new → (o : Option PlainIssue) → DoubtFits old q o → DoubtFits new q o
 doubt_stable old new q r o h = doubt_grows Version old new q (r.grows Version) r.open_edits (λ same. cc) (λ n k. record_no_version q n k) o h
 
 -- what a call knows stays while another process steps
-pub call_stable : (old new : World) (q : ℕ) (s : Situation) → Rely q old new → CallFits old q s → CallFits new q s
+pub call_stable : (old new : PlainWorld) (q : ℕ) (s : Situation) → Rely q old new → CallFits old q s → CallFits new q s
 call_stable old new q (Idle next) r h =
     let g = r.grows Version in
     record {
@@ -218,7 +218,7 @@ call_stable old new q (Idle next) r h =
         | inr caught ↦ caught ∙ h.cached ∙ sym (last_stable q Version old new g next)
       ];
     }
-call_stable old new q Stopped r h = record { buffer = r.buffer ∙ h.buffer; doubt = subst (λ (o : Option Issue). DoubtFits new q o) (sym r.open_edits) (doubt_stable old new q r (old.open_edits q) h.doubt) }
+call_stable old new q Stopped r h = record { buffer = r.buffer ∙ h.buffer; doubt = subst (λ (o : Option PlainIssue). DoubtFits new q o) (sym r.open_edits) (doubt_stable old new q r (old.open_edits q) h.doubt) }
 call_stable old new q (Editing e) r h =
     let g : Grows e.process Version old new = Grows_at q e.process Version old new (sym h.mine) (r.grows Version) in
     let l = longer e.process Version old new g in
@@ -243,7 +243,7 @@ call_stable old new q (Recovering e) r h =
       mine = h.mine;
       cells = rw g.layout h.cells;
       processes = rw g.layout h.processes;
-      doubt = subst (λ (o : Option Issue). DoubtFits new q o) (sym r.open_edits) (doubt_stable old new q r (old.open_edits q) h.doubt);
+      doubt = subst (λ (o : Option PlainIssue). DoubtFits new q o) (sym r.open_edits) (doubt_stable old new q r (old.open_edits q) h.doubt);
       freed = freed_stable old new e.process g e.mark (freed_at e.stage) h.freed;
       resolved = resolved_stable old new e.process g pends e.announcement e.cell (resolved_at e.stage) h.resolved;
       buffer = held_stable old new e.process g pends (ap new.memory.buffer h.mine ∙ r.buffer ∙ ap old.memory.buffer (sym h.mine)) e.announcement e.cell (recovery_held e.cell e.stage)

@@ -3,7 +3,7 @@ use Rattle.std.proofs.Common.{ℕ, ◌≡◌, ◌≢◌, ◌+◌, ◌⊎◌, Lis
 use Rattle.std.specs.Prelude.{Bool}
 use Rattle.ds_layout.specs.declared.place.Place.{Place}
 use Rattle.ds_layout.specs.declared.place.Place.TheVariants.{Version, Mark, Value, Kind, Announce}
-use Rattle.ds_state.specs.World.{Edit, Issue, World, of_cell}
+use Rattle.ds_state.specs.World.{PlainEdit, PlainIssue, PlainWorld, of_cell}
 use Rattle.ds_state.specs.Known.{AreBelow, IsIn}
 use Rattle.ds_state.specs.Owing.{entry}
 use Rattle.ds_layout.specs.Mark.{IsHeldBy, marked}
@@ -15,10 +15,10 @@ use Rattle.ds_state.specs.Rely.{IsOwnedBy, Grows}
 use Rattle.ds_state.proofs.Lasting.{at_most, below_stable, by_stable, safe_stable}
 use Rattle.ds_state.proofs.Heads.{of_cell-append}
 
-holder : (w : World) (p mark cell : ℕ) → Holding w p mark cell → IsHeldBy p (w.memory.cached (Mark cell))
+holder : (w : PlainWorld) (p mark cell : ℕ) → Holding w p mark cell → IsHeldBy p (w.memory.cached (Mark cell))
 holder w p mark cell h = let s = h.stands in let y = h.by in omega arith
 
-module _ (old new : World) (p : ℕ) (g : Grows p Version old new) where
+module _ (old new : PlainWorld) (p : ℕ) (g : Grows p Version old new) where
   from_stable : (cell : ℕ) → HoldsFrom old p cell → HoldsFrom new p cell
   from_stable cell h r l by = h r l ((g.holds r (λ x. cc)).came by)
 
@@ -54,25 +54,25 @@ module _ (old new : World) (p : ℕ) (g : Grows p Version old new) where
   announce_kept word a b = elim (g.owned_persisted (Announce p) refl (λ x. cc)) [ inl same ↦ same ∙ b | inr up ↦ up ∙ a ]
 
   module _ (pending : new.open_edits p ≡ old.open_edits p) where
-    open_stable : (word : ℕ) (issue : Issue) → IsOpen old p word issue → IsOpen new p word issue
+    open_stable : (word : ℕ) (issue : PlainIssue) → IsOpen old p word issue → IsOpen new p word issue
     open_stable word issue h = record { issued = pending ∙ h.issued; process = h.process; number = h.number; is = h.is; cached = announce_same ∙ h.cached }
 
-    grows_at : (f : Edit) → f.process ≡ p → Grows f.process Version old new
+    grows_at : (f : PlainEdit) → f.process ≡ p → Grows f.process Version old new
     grows_at f same = subst (λ (q : ℕ). Grows q Version old new) (sym same) g
 
-    and_stable : (word cell : ℕ) (P Q : Edit → Type 0) → ((f : Edit) → f.process ≡ p → P f → Q f) → IsOpenAnd old p word cell P → IsOpenAnd new p word cell Q
+    and_stable : (word cell : ℕ) (P Q : PlainEdit → Type 0) → ((f : PlainEdit) → f.process ≡ p → P f → Q f) → IsOpenAnd old p word cell P → IsOpenAnd new p word cell Q
     and_stable word cell P Q goes h = record { issue = h.issue; it = open_stable word h.issue h.it; own_is = h.own_is; and = goes h.issue.edit h.it.process h.and }
 
-    passed_stable : (f : Edit) → IsPassed old f → IsPassed new f
+    passed_stable : (f : PlainEdit) → IsPassed old f → IsPassed new f
     passed_stable f o = record {
       before = o.before;
       next = o.next;
       after = o.after ++ of_cell f.cell g.added;
-      parts = ap (λ (es : List Edit). of_cell f.cell es) g.counted ∙ of_cell-append f.cell old.counted g.added
-          ∙ ap (λ (es : List Edit). es ++ of_cell f.cell g.added) o.parts ∙ append_assoc o.before (f ∷ o.next ∷ o.after) (of_cell f.cell g.added);
+      parts = ap (λ (es : List PlainEdit). of_cell f.cell es) g.counted ∙ of_cell-append f.cell old.counted g.added
+          ∙ ap (λ (es : List PlainEdit). es ++ of_cell f.cell g.added) o.parts ∙ append_assoc o.before (f ∷ o.next ∷ o.after) (of_cell f.cell g.added);
     }
 
-    settled_stable : (how : Bool) (f : Edit) → f.process ≡ p → SettledAs old f how → SettledAs new f how
+    settled_stable : (how : Bool) (f : PlainEdit) → f.process ≡ p → SettledAs old f how → SettledAs new f how
     settled_stable true f same h = record { below = below_stable f.process Version old new (grows_at f same) (f.number + 1) h.below; safe = safe_stable f.process Version old new (grows_at f same) f h.safe }
     settled_stable false f same h = below_stable f.process Version old new (grows_at f same) f.number h
 
@@ -121,7 +121,7 @@ module _ (old new : World) (p : ℕ) (g : Grows p Version old new) where
     held_stable same word c the_outcome own h = same ∙ h
 
 -- the cell whose words are in the buffer is held
-pub own_words : (w : World) (p mark c : ℕ) (s : RecoverStage) → FreedFits w p mark (freed_at s) → (cell : ℕ)
+pub own_words : (w : PlainWorld) (p mark c : ℕ) (s : RecoverStage) → FreedFits w p mark (freed_at s) → (cell : ℕ)
     → (recovery_held c s ≡ the_value cell) ⊎ ((recovery_held c s ≡ both_words cell) ⊎ (recovery_held c s ≡ the_kind cell)) → IsHeldBy p (w.memory.cached (Mark cell))
 own_words w p mark k (stages.FlushKind c) h cell is = elim is [
   | inl at ↦ (let same : c ≡ cell = cc in subst (λ (r : ℕ). IsHeldBy p (w.memory.cached (Mark r))) same (holder w p mark c h))

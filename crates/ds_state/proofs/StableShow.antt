@@ -1,15 +1,15 @@
 -- What a report knows stays while others step.
 use Rattle.std.proofs.Common.{ℕ, ◌≡◌, ◌<◌, List, ◌++◌, refl, ap, sym, ◌∙◌, subst, arith, append_assoc, length, inl, inr}
 use Rattle.ds_layout.specs.declared.place.Place.TheVariants.{Version, Mark, Announce}
-use Rattle.ds_state.specs.Works.{PlainShow}
-use Rattle.ds_state.specs.World.{Edit, World}
+use Rattle.ds_state.specs.Works.{PlainShowCall}
+use Rattle.ds_state.specs.World.{PlainEdit, PlainWorld}
 use Rattle.ds_layout.specs.Mark.{IsClean}
 use Rattle.ds_state.specs.KnownWork.{IsAtRest}
 use Rattle.ds_state.specs.KnownShow.{noted, Moment, HasMoment, HasNoted, Seen, first, middle, off_mark, off_announce, seen_at, SeenFits, ShowFitsAt, ShowFits}
 use Rattle.ds_state.specs.Rely.{Grows, Rely}
 use Rattle.ds_state.proofs.Lasting.{at_most, below_stable, last_stable}
 
-module _ (q : ℕ) (old new : World) (g : Grows q Version old new) where
+module _ (q : ℕ) (old new : PlainWorld) (g : Grows q Version old new) where
   module _ (announcements marks values kinds : List ℕ) where
     pub noted_stable : HasNoted old announcements marks values kinds → HasNoted new announcements marks values kinds
     noted_stable h = record {
@@ -37,7 +37,7 @@ module _ (q : ℕ) (old new : World) (g : Grows q Version old new) where
       values = h.values;
       kinds = h.kinds;
       more = h.more ++ g.added;
-      counted = g.counted ∙ ap (λ (es : List Edit). es ++ g.added) h.counted ∙ append_assoc m.edits h.more g.added;
+      counted = g.counted ∙ ap (λ (es : List PlainEdit). es ++ g.added) h.counted ∙ append_assoc m.edits h.more g.added;
       right = λ s. rw g.layout (h.right (record {
         clean = λ c l. s.clean c (rw g.layout l);
         settled = λ q l. s.settled q (rw g.layout l);
@@ -63,7 +63,7 @@ module _ (q : ℕ) (old new : World) (g : Grows q Version old new) where
   }
 
 -- all that a report knows, with its moment
-pub show_goes : (old new : World) (q : ℕ) (e : PlainShow) (m : Moment) → Grows q Version old new → new.open_edits q ≡ old.open_edits q → new.memory.buffer q ≡ old.memory.buffer q
+pub show_goes : (old new : PlainWorld) (q : ℕ) (e : PlainShowCall) (m : Moment) → Grows q Version old new → new.open_edits q ≡ old.open_edits q → new.memory.buffer q ≡ old.memory.buffer q
     → ShowFitsAt old q e m → ShowFitsAt new q e m
 show_goes old new q e m g' pending buffer h =
     let g : Grows e.process Version old new = subst (λ (x : ℕ). Grows x Version old new) (sym h.mine) g' in
@@ -79,5 +79,5 @@ show_goes old new q e m g' pending buffer h =
       seen = seen_stable e.process old new g e.announcements e.marks e.values e.kinds m (seen_at e.cells e.processes e.stage) h.seen;
     }
 
-pub show_stable : (old new : World) (q : ℕ) (e : PlainShow) → Rely q old new → ShowFits old q e → ShowFits new q e
+pub show_stable : (old new : PlainWorld) (q : ℕ) (e : PlainShowCall) → Rely q old new → ShowFits old q e → ShowFits new q e
 show_stable old new q e r (m, h) = (m, show_goes old new q e m (r.grows Version) r.open_edits r.buffer h)

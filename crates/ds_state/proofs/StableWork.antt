@@ -2,13 +2,13 @@
 use Rattle.std.proofs.Common.{ℕ, ◌≡◌, ◌≢◌, ◌≤◌, ◌/◌, ◌%◌, ◌⊎◌, refl, ap, sym, ◌∙◌, subst, arith, length, inl, inr, true, false}
 use Rattle.std.specs.Prelude.{Bool}
 use Rattle.ds_formula.specs.Cells.{IsInside}
-use Rattle.ds_formula.specs.Plain.{Plain}
+use Rattle.ds_formula.specs.Plain.{PlainContent}
 use Rattle.ds_layout.specs.declared.place.Place.{Place}
 use Rattle.ds_layout.specs.declared.place.Place.TheVariants.{Version, Mark, Value, Kind, Announce}
 use Rattle.ds_layout.specs.declared.layout.Layout.{Layout}
 use Rattle.ds_layout.proofs.OrBits.{HasBit-subset}
-use Rattle.ds_state.specs.Works.{PlainWork}
-use Rattle.ds_state.specs.World.{World, index_place}
+use Rattle.ds_state.specs.Works.{PlainWorkCall}
+use Rattle.ds_state.specs.World.{PlainWorld, index_place}
 use Rattle.ds_state.specs.Owing.{HoldsNone, CellOwes, IsIndexed}
 use Rattle.ds_layout.specs.Mark.{IsHeldBy}
 use Rattle.ds_state.specs.Standing.{HasContent, Matters}
@@ -22,7 +22,7 @@ use Rattle.ds_state.proofs.Lasting.{at_most, below_stable, by_stable, last_stabl
 stood : (o n k : ℕ) → k % 2 ≡ 0 → o / 2 ≡ k / 2 → o ≤ n → n ≡ k → o ≡ k
 stood o n k even same le at = omega arith
 
-module _ (but : Place) (old new : World) (e : PlainWork) (g : Grows e.process but old new) (b : Bears old new) where
+module _ (but : Place) (old new : PlainWorld) (e : PlainWorkCall) (g : Grows e.process but old new) (b : Bears old new) where
   pub none_stable : ((r : ℕ) → Mark r ≢ but) → HoldsNone old e.process → HoldsNone new e.process
   none_stable apart h = λ r by. h r ((g.holds r (apart r)).came by)
 
@@ -105,7 +105,7 @@ module _ (but : Place) (old new : World) (e : PlainWork) (g : Grows e.process bu
       ];
     }
 
-    pub content_stable : (content : Plain) → HasContent old e.cell e.head content → HasContent new e.cell e.head content
+    pub content_stable : (content : PlainContent) → HasContent old e.cell e.head content → HasContent new e.cell e.head content
     content_stable content (inl none) = inl none
     content_stable content (inr h) = inr (record { by = h.by; gave = by_stable e.process but old new g e.cell e.head h.by h.gave; reads = rw g.layout h.reads })
 
@@ -197,7 +197,7 @@ module _ (but : Place) (old new : World) (e : PlainWork) (g : Grows e.process bu
   }
 
 -- for all stages at once: what is known is known of a held cell, or of the mark alone
-pub knows_stable : (but : Place) (old new : World) (e : PlainWork) → Grows e.process but old new → Bears old new
+pub knows_stable : (but : Place) (old new : PlainWorld) (e : PlainWorkCall) → Grows e.process but old new → Bears old new
     → ((r : ℕ) → Mark r ≢ but) → Value e.cell ≢ but → Kind e.cell ≢ but
     → (k : WorkKnown) → ((k.hold ≡ held) ⊎ (k ≡ record { hold = k.hold; loaded = nothing; own = unseen; evaluated = false })) → WorkKnows old e k → WorkKnows new e k
 knows_stable but old new e g b apart a a' k (inl same) h =
@@ -219,7 +219,7 @@ held_or_none refs (BackCleared end) = inr refl
 held_or_none refs (Answer end) = inr refl
 held_or_none refs _ = inl refl
 
-module _ (old new : World) (q : ℕ) (e : PlainWork) (r : Rely q old new) where
+module _ (old new : PlainWorld) (q : ℕ) (e : PlainWorkCall) (r : Rely q old new) where
   at_mine : e.process ≡ q → Grows e.process Version old new
   at_mine mine = subst (λ (x : ℕ). Grows x Version old new) (sym mine) (r.grows Version)
 

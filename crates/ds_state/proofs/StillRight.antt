@@ -8,7 +8,7 @@ use Rattle.std.proofs.lemmas.List.FromFn.{length-map-range_with_len, get_or-map-
 use Rattle.ds_formula.specs.Cells.{IsInside, index_of}
 use Rattle.ds_formula.specs.declared.cells.Cell.{Cell}
 use Rattle.ds_formula.specs.declared.cells.Shape.{Shape}
-use Rattle.ds_formula.specs.Plain.{Plain, Empty}
+use Rattle.ds_formula.specs.Plain.{PlainContent, Empty}
 use Rattle.ds_formula.specs.Refs.{Refers}
 use Rattle.ds_formula.specs.Grammar.{Reads}
 use Rattle.ds_eval.specs.declared.inputs.Entry as entries
@@ -23,7 +23,7 @@ use Rattle.ds_layout.specs.Places.{cells_of}
 use Rattle.ds_layout.specs.declared.place.Place.TheVariants.{Head, Value, Kind, Announce}
 use Rattle.ds_layout.specs.declared.place.TheConstants.{RECORDS}
 use Rattle.ds_layout.proofs.Packed.{announcement_of-announcement_word}
-use Rattle.ds_state.specs.World.{Edit, Issue, edit_of, World, of_cell, head_after_all, head_by, announcement}
+use Rattle.ds_state.specs.World.{PlainEdit, PlainIssue, edit_of, PlainWorld, of_cell, head_after_all, head_by, announcement}
 use Rattle.ds_state.specs.Owing.{IsPending, IsExcused}
 use Rattle.ds_state.specs.Standing.{cached_side, entry_on, shown_entry, value_for, HasContent}
 use Rattle.ds_state.specs.CallsFit.{CallFits, DoubtFits}
@@ -40,12 +40,12 @@ use Rattle.ds_state.specs.Calm.{IsLocalAt}
 use Rattle.ds_state.proofs.Shows.{local_back}
 
 -- the number of an issue that is pending is that of a record
-issue_number : (w : World) (p : ℕ) (s : Situation) (i : Issue) → w.open_edits p ≡ Some i → CallFits w p s → i.edit.number < RECORDS
+issue_number : (w : PlainWorld) (p : ℕ) (s : Situation) (i : PlainIssue) → w.open_edits p ≡ Some i → CallFits w p s → i.edit.number < RECORDS
 issue_number w p (Idle next) i is h = absurd (let e : None ≡ Some i = sym h.open_edits ∙ is in cc)
-issue_number w p Stopped i is h = (subst (λ (o : Option Issue). DoubtFits w p o) is h.doubt).number
-issue_number w p (Editing e) i is h = let same : record { edit = edit_of e; since = h.since } ≡ i = (let both : Some (record { edit = edit_of e; since = h.since }) ≡ Some i = sym h.open_edits ∙ is in cc) in subst (λ (x : Issue). x.edit.number < RECORDS) same h.is.number
+issue_number w p Stopped i is h = (subst (λ (o : Option PlainIssue). DoubtFits w p o) is h.doubt).number
+issue_number w p (Editing e) i is h = let same : record { edit = edit_of e; since = h.since } ≡ i = (let both : Some (record { edit = edit_of e; since = h.since }) ≡ Some i = sym h.open_edits ∙ is in cc) in subst (λ (x : PlainIssue). x.edit.number < RECORDS) same h.is.number
 issue_number w p (Working e) i is h = absurd (let e : None ≡ Some i = sym h.rest.open_edits ∙ ap w.open_edits h.mine ∙ is in cc)
-issue_number w p (Recovering e) i is h = (subst (λ (o : Option Issue). DoubtFits w p o) is h.doubt).number
+issue_number w p (Recovering e) i is h = (subst (λ (o : Option PlainIssue). DoubtFits w p o) is h.doubt).number
 issue_number w p (Showing e) i is h = absurd (let e : None ≡ Some i = sym h.1.rest.open_edits ∙ ap w.open_edits h.1.mine ∙ is in cc)
 
 -- an announcement of a record's number, as it reads
@@ -53,14 +53,14 @@ pub pending_reads : (n : ℕ) → n < RECORDS → IsPendingWord (announcement n 
 pending_reads n l = rw (announcement_of-announcement_word (record { number = n; phase = phase.Pending }) l) refl
 
 -- who owes its cell announces that
-pub announces : (w : World) → IsSound w → (c x : ℕ) → (o : IsExcused w c x) → IsPendingWord (w.memory.cached (Announce o.process))
+pub announces : (w : PlainWorld) → IsSound w → (c x : ℕ) → (o : IsExcused w c x) → IsPendingWord (w.memory.cached (Announce o.process))
 announces w sound c x o =
     let k : IsPending w o.process c = pends_while w o.process (w.situation o.process) c x (sound.calls o.process o.inside) o.still in
     let n = issue_number w o.process (w.situation o.process) k.issue k.issued (sound.calls o.process o.inside) in
     subst (λ (word : ℕ). IsPendingWord word) (sym k.cached) (pending_reads k.issue.edit.number n)
 
 -- each cell's entry is what its head's content gives
-pub still_local : (w : World) → IsSound w → IsStill w.layout (moment_of w) → (c : ℕ) → c < cells_of w.layout → IsLocalAt w c
+pub still_local : (w : PlainWorld) → IsSound w → IsStill w.layout (moment_of w) → (c : ℕ) → c < cells_of w.layout → IsLocalAt w c
 still_local w sound still c l = elim (sound.stand.on_cached c (still.clean c l)) [
   | inl o ↦ absurd (still.settled o.process o.inside (announces w sound c _ o))
   | inr h ↦ (
@@ -77,34 +77,34 @@ still_local w sound still c l = elim (sound.stand.on_cached c (still.clean c l))
 ]
 
 -- the content of the head's edit is that of the cell's last edit
-last_push : (before : List Edit) (e : Edit) → last_text (before ++ e ∷ []) ≡ e.text
+last_push : (before : List PlainEdit) (e : PlainEdit) → last_text (before ++ e ∷ []) ≡ e.text
 last_push [] e = refl
 last_push (x ∷ []) e = refl
 last_push (x ∷ y ∷ xs) e = last_push (y ∷ xs) e
 
-none_left : (es : List Edit) → Small es → head_after_all es ≡ 0 → last_text es ≡ []
+none_left : (es : List PlainEdit) → Small es → head_after_all es ≡ 0 → last_text es ≡ []
 none_left [] s is = refl
 none_left (e ∷ es) s is = absurd (let low = head_low (e ∷ es) s in omega arith)
 
-its_last : (before : List Edit) (by : Edit) (after : List Edit) → Small (before ++ by ∷ after) → head_after_all (before ++ by ∷ after) ≡ head_by (length before + 1) by → last_text (before ++ by ∷ after) ≡ by.text
+its_last : (before : List PlainEdit) (by : PlainEdit) (after : List PlainEdit) → Small (before ++ by ∷ after) → head_after_all (before ++ by ∷ after) ≡ head_by (length before + 1) by → last_text (before ++ by ∷ after) ≡ by.text
 its_last before by [] s is = last_push before by
 its_last before by (x ∷ after) s is =
     let again : (before ++ by ∷ []) ++ x ∷ after ≡ before ++ by ∷ x ∷ after = append_assoc before (by ∷ []) (x ∷ after) in
-    let grows = head_grows (before ++ by ∷ []) x after (subst (λ (xs : List Edit). Small xs) (sym again) s) in
+    let grows = head_grows (before ++ by ∷ []) x after (subst (λ (xs : List PlainEdit). Small xs) (sym again) s) in
     let same = ap head_after_all again in
     let l = head_push before by in
     absurd (omega arith)
 
-module _ (w : World) (sound : IsSound w) where
-  reads_last : (c : ℕ) (content : Plain) → HasContent w c (w.memory.cached (Head c)) content → Reads w.layout.shape (last_text (of_cell c w.counted)) content
+module _ (w : PlainWorld) (sound : IsSound w) where
+  reads_last : (c : ℕ) (content : PlainContent) → HasContent w c (w.memory.cached (Head c)) content → Reads w.layout.shape (last_text (of_cell c w.counted)) content
   reads_last c content h =
       let small : Small (of_cell c w.counted) = small_of_cell c w.counted (small_counted w sound.of_sheet) in
       let last = (sound.words (Head c)).last in
       elim h [
         | inl none ↦ subst (λ (text : List ℕ). Reads w.layout.shape text content) (sym (none_left (of_cell c w.counted) small (sym last ∙ none.0)))
-            (subst (λ (x : Plain). Reads w.layout.shape [] x) (sym none.1) (blank_read w.layout.shape [] refl))
+            (subst (λ (x : PlainContent). Reads w.layout.shape [] x) (sym none.1) (blank_read w.layout.shape [] refl))
         | inr t ↦ subst (λ (text : List ℕ). Reads w.layout.shape text content)
-            (sym (ap last_text t.gave.parts ∙ its_last t.gave.before t.by t.gave.after (subst (λ (xs : List Edit). Small xs) t.gave.parts small) (ap head_after_all (sym t.gave.parts) ∙ sym last ∙ t.gave.is)))
+            (sym (ap last_text t.gave.parts ∙ its_last t.gave.before t.by t.gave.after (subst (λ (xs : List PlainEdit). Small xs) t.gave.parts small) (ap head_after_all (sym t.gave.parts) ∙ sym last ∙ t.gave.is)))
             t.reads
       ]
 
@@ -112,11 +112,11 @@ module _ (w : World) (sound : IsSound w) where
     shape : Shape
     shape = w.layout.shape
 
-    content_of : (c : ℕ) → (c < cells_of w.layout) ⊎ (cells_of w.layout ≤ c) → Plain
+    content_of : (c : ℕ) → (c < cells_of w.layout) ⊎ (cells_of w.layout ≤ c) → PlainContent
     content_of c (inl l) = (local_at c l).content
     content_of c (inr g) = Empty
 
-    abbrev sheet : Cell → Plain
+    abbrev sheet : Cell → PlainContent
     sheet c = content_of (index_of w.layout.shape c) (cases_lt (index_of w.layout.shape c) (cells_of w.layout))
 
     abbrev entries_now : Cell → entries.Entry
@@ -151,5 +151,5 @@ module _ (w : World) (sound : IsSound w) where
     }
 
 -- the moment of a still world is right
-pub still_right : (w : World) → IsSound w → IsStill w.layout (moment_of w) → IsRight w.layout.shape (moment_of w)
+pub still_right : (w : PlainWorld) → IsSound w → IsStill w.layout (moment_of w) → IsRight w.layout.shape (moment_of w)
 still_right w sound still = local_right w sound (still_local w sound still)

@@ -5,8 +5,8 @@ use Rattle.std.proofs.lemmas.Bool.{cases_eq}
 use Rattle.ds_words.specs.declared.access.Entry.{Entry}
 use Rattle.ds_layout.specs.declared.place.Place.{Place}
 use Rattle.ds_layout.specs.declared.place.Place.TheVariants.{Version, Mark, Announce}
-use Rattle.ds_state.specs.Edits.{PlainEdit, text_parts}
-use Rattle.ds_state.specs.World.{Edit, edit_of, Issue, World, of_cell, head_after_all, record_size}
+use Rattle.ds_state.specs.Edits.{PlainEditCall, text_parts}
+use Rattle.ds_state.specs.World.{PlainEdit, edit_of, PlainIssue, PlainWorld, of_cell, head_after_all, record_size}
 use Rattle.ds_state.specs.Known.{Announced, Known, known_at, IsRecorded, word_of}
 use Rattle.ds_state.specs.Owing.{entry, IsHeld, Owes, Parts, IsPending, Excuses, Splits}
 use Rattle.ds_state.specs.KnownWork.{IsAtRest}
@@ -24,7 +24,7 @@ use Rattle.ds_state.proofs.Buffers.{buffered}
 use Rattle.ds_state.proofs.Crashing.{pends_while}
 use Rattle.ds_state.proofs.CrashSound.{Said, edit_says, recorded_at, written_all}
 
-module _ (p : ℕ) (old new : World) (sound : IsSound old) (real : p < old.layout.processes) (stop : StopsIn p old new) where
+module _ (p : ℕ) (old new : PlainWorld) (sound : IsSound old) (real : p < old.layout.processes) (stop : StopsIn p old new) where
   moves : Moves p Version old new
   moves = record {
     layout = stop.layout;
@@ -103,10 +103,10 @@ module _ (p : ℕ) (old new : World) (sound : IsSound old) (real : p < old.layou
   }
 
   through : (next : ℕ) → IsAtRest old p next → DoubtFits new p (new.open_edits p)
-  through next h = subst (λ (o : Option Issue). DoubtFits new p o) (sym (stop.open_edits p ∙ h.open_edits)) (record { next = next; rest = rest next h })
+  through next h = subst (λ (o : Option PlainIssue). DoubtFits new p o) (sym (stop.open_edits p ∙ h.open_edits)) (record { next = next; rest = rest next h })
 
-  module _ (e : PlainEdit) (h : EditFits old p e) where
-    abbrev E : Edit
+  module _ (e : PlainEditCall) (h : EditFits old p e) where
+    abbrev E : PlainEdit
     E = edit_of e
 
     abbrev known : Known
@@ -144,15 +144,15 @@ module _ (p : ℕ) (old new : World) (sound : IsSound old) (real : p < old.layou
     }
 
     editing : DoubtFits new p (new.open_edits p)
-    editing = subst (λ (o : Option Issue). DoubtFits new p o) (sym (stop.open_edits p ∙ h.open_edits)) (elim h.knows.announced.persisted [
+    editing = subst (λ (o : Option PlainIssue). DoubtFits new p o) (sym (stop.open_edits p ∙ h.open_edits)) (elim h.knows.announced.persisted [
       | inl b ↦ doubt known.before says.0 says.2 b
       | inr n ↦ doubt known.now says.1 (omega arith) n
     ])
 
-  recovering : (o : Option Issue) → old.open_edits p ≡ o → DoubtFits old p o → DoubtFits new p (new.open_edits p)
+  recovering : (o : Option PlainIssue) → old.open_edits p ≡ o → DoubtFits old p o → DoubtFits new p (new.open_edits p)
   recovering None is k = through k.next k.rest
-  recovering (Some issue) is k = subst (λ (o : Option Issue). DoubtFits new p o) (sym (stop.open_edits p ∙ is)) (
-      let f : Edit = issue.edit in
+  recovering (Some issue) is k = subst (λ (o : Option PlainIssue). DoubtFits new p o) (sym (stop.open_edits p ∙ is)) (
+      let f : PlainEdit = issue.edit in
       let g : Grows f.process Version old new = subst (λ (q : ℕ). Grows q Version old new) (sym k.mine) grows in
       record {
         mine = k.mine;

@@ -10,7 +10,7 @@ use Rattle.ds_layout.specs.declared.mark.TheConstants.{DIRTY}
 use Rattle.ds_layout.specs.declared.place.Place.{Place}
 use Rattle.ds_layout.specs.declared.place.Place.TheVariants.{Mark, Index}
 use Rattle.ds_layout.specs.declared.layout.Layout.{Layout}
-use Rattle.ds_state.specs.World.{World}
+use Rattle.ds_state.specs.World.{PlainWorld}
 use Rattle.ds_state.specs.Owing.{entry, IsBelowBuffered, IsIndexed, SpreadOwes, StandsIn}
 use Rattle.ds_state.specs.Standing.{IsDurable, Matters}
 use Rattle.ds_state.specs.Rely.{KeepsHold}
@@ -61,7 +61,7 @@ pub or_hold : (q c v : ℕ) → KeepsHold q c v (bit_or c DIRTY) v
 or_hold q c v = let is = or_dirty c in record { cached = λ h. omega arith; persisted = λ h k. k; came = λ h. omega arith }
 
 -- a store changes no durable mark
-pub durable_same : (old new : World) (c x : ℕ) → new.layout ≡ old.layout → new.memory.persisted (Mark c) ≡ old.memory.persisted (Mark c) → ((q : ℕ) → new.memory.buffer q ≡ old.memory.buffer q)
+pub durable_same : (old new : PlainWorld) (c x : ℕ) → new.layout ≡ old.layout → new.memory.persisted (Mark c) ≡ old.memory.persisted (Mark c) → ((q : ℕ) → new.memory.buffer q ≡ old.memory.buffer q)
     → IsDurable new c x → IsDurable old c x
 durable_same old new c x layout same buffers (inl is) = inl (is ∙ same)
 durable_same old new c x layout same buffers (inr d) = inr (record {
@@ -72,7 +72,7 @@ durable_same old new c x layout same buffers (inr d) = inr (record {
 })
 
 -- what matters is no greater than the cached mark
-pub matters_most : (p cell n : ℕ) (old new : World) → (store : StoresAt (Mark cell) n old.memory new.memory) → (moves : Moves p (Mark cell) old new)
+pub matters_most : (p cell n : ℕ) (old new : PlainWorld) → (store : StoresAt (Mark cell) n old.memory new.memory) → (moves : Moves p (Mark cell) old new)
     → IsSound old → Buffered old → (c x : ℕ) → Matters new c x → x ≤ new.memory.cached (Mark c)
 matters_most p cell n old new store moves sound buffered c x (even, inl is) = omega arith
 matters_most p cell n old new store moves sound buffered c x (even, inr d) =
@@ -84,7 +84,7 @@ pub odd_above : (x n : ℕ) → x % 2 ≡ 0 → n % 2 ≡ 1 → x ≤ n → x < 
 odd_above x n a b c = omega arith
 
 -- a part of the row is loaded: a cell whose bit is not there is owed nothing
-pub row_passes : (p : ℕ) (row : List ℕ) (cell part word : ℕ) (old new : World) → length row ≡ part → word ≡ old.memory.cached (Index cell part)
+pub row_passes : (p : ℕ) (row : List ℕ) (cell part word : ℕ) (old new : PlainWorld) → length row ≡ part → word ≡ old.memory.cached (Index cell part)
     → (c x : ℕ) → IsIndexed old cell c → SpreadOwes old.memory p row (LoadRow part) c x → SpreadOwes new.memory p (row ++ word ∷ []) (LoadRow (part + 1)) c x
 row_passes p row cell part word old new size seen c x bit o = elim (cases_eq (c / 64) part) [
   | inl here ↦ inr (rw (here, slice_push row part word size) (subst (λ (y : ℕ). HasBit y c) (ap (λ (y : ℕ). old.memory.cached (Index cell y)) here ∙ sym seen) bit.2))
@@ -112,7 +112,7 @@ row_passes p row cell part word old new size seen c x bit o = elim (cases_eq (c 
     lt_or a b = grind arith
 
 -- it is flushed: a mark below the buffered one is below the cached one
-pub flush_passes : (p : ℕ) (row : List ℕ) (d : ℕ) (old new : World) → new.memory.buffer p ≡ entry (Mark d) (old.memory.cached (Mark d)) ∷ []
+pub flush_passes : (p : ℕ) (row : List ℕ) (d : ℕ) (old new : PlainWorld) → new.memory.buffer p ≡ entry (Mark d) (old.memory.cached (Mark d)) ∷ []
     → (c x : ℕ) → SpreadOwes old.memory p row (FlushTold d) c x → SpreadOwes new.memory p row (BackTold d) c x
 flush_passes p row d old new alone c x (bit, inl lt) = (bit, inl lt)
 flush_passes p row d old new alone c x (bit, inr o) = (
@@ -128,7 +128,7 @@ flush_passes p row d old new alone c x (bit, inr o) = (
 )
 
 -- it is written back: nothing below that matters any more
-pub back_passes : (p : ℕ) (row : List ℕ) (d d' v : ℕ) (old new : World) → old.memory.buffer p ≡ entry (Mark d) v ∷ [] → v ≤ new.memory.persisted (Mark d) → new.memory.persisted (Mark d) ≤ new.memory.cached (Mark d)
+pub back_passes : (p : ℕ) (row : List ℕ) (d d' v : ℕ) (old new : PlainWorld) → old.memory.buffer p ≡ entry (Mark d) v ∷ [] → v ≤ new.memory.persisted (Mark d) → new.memory.persisted (Mark d) ≤ new.memory.cached (Mark d)
     → ((c : ℕ) → d < c → HasBit (slice_index_or row (c / 64) 0) c → d' ≤ c)
     → (c x : ℕ) → Matters new c x → SpreadOwes old.memory p row (BackTold d) c x → SpreadOwes new.memory p row (OrTold d') c x
 back_passes p row d d' v old new alone enough behind next c x matters (bit, inl lt) = (bit, next c lt bit)

@@ -5,7 +5,7 @@ use Rattle.ds_words.specs.declared.access.Entry.{Entry}
 use Rattle.ds_formula.specs.Cells.{index_of}
 use Rattle.ds_formula.specs.declared.cells.Cell.{Cell}
 use Rattle.ds_formula.specs.declared.cells.Shape.{Shape}
-use Rattle.ds_formula.specs.Plain.{Plain}
+use Rattle.ds_formula.specs.Plain.{PlainContent}
 use Rattle.ds_formula.specs.Refs.{Refers}
 use Rattle.ds_formula.specs.Grammar.{Reads}
 use Rattle.ds_layout.specs.declared.place.TheConstants.{RECORDS}
@@ -16,14 +16,14 @@ use Rattle.ds_layout.specs.declared.layout.Layout.{Layout}
 use Rattle.ds_layout.specs.Places.{cells_of}
 use Rattle.ds_layout.specs.Head.{head_word}
 use Rattle.ds_layout.specs.Bits.{HasBit, IsSubset}
-use Rattle.ds_state.specs.Edits.{PlainEdit, IsEdit, text_parts}
-use Rattle.ds_state.specs.World.{Edit, Issue, edit_of, World, record_place, record_word, record_size, index_place, done_place, of_cell, IsHeadBy, last_announcement}
+use Rattle.ds_state.specs.Edits.{PlainEditCall, IsEdit, text_parts}
+use Rattle.ds_state.specs.World.{PlainEdit, PlainIssue, edit_of, PlainWorld, record_place, record_word, record_size, index_place, done_place, of_cell, IsHeadBy, last_announcement}
 use Rattle.ds_state.specs.Known.{Standing, outside, inside, safe, Announced, last, pending, ended, word_of, AreBelow, StandsAs, IsRecorded, known_at, Knowing}
 use Rattle.ds_state.specs.Owing.{entry, IsMark, HoldsNone}
 use Rattle.ds_state.specs.declared.stage.Outcome.TheVariants.{Done, Overtaken}
 use Rattle.ds_state.specs.KnownWork.{IsAtRest, WorkFits}
 use Rattle.ds_state.specs.KnownShow.{ShowFits}
-use Rattle.ds_state.specs.Works.{PlainRecovery}
+use Rattle.ds_state.specs.Works.{PlainRecoverCall}
 use Rattle.ds_state.specs.RecoverStages.{IsRecovery}
 use Rattle.ds_state.specs.KnownRecovery.{FreedFits, freed_at, ResolvedFits, resolved_at, RecoveryHolds, recovery_held}
 use Rattle.ds_state.specs.declared.stage.Stage.{Stage}
@@ -57,28 +57,28 @@ held_at parts refs (BackOutcome how) = announcing_word (ended how)
 held_at parts refs _ = empty
 
 -- the buffer's entry of one word of the edit's record, by the number of that word
-abbrev pub record_entry : Edit → ℕ → Entry Place
+abbrev pub record_entry : PlainEdit → ℕ → Entry Place
 record_entry e k = entry (record_place e.process e.number k) (record_word e k)
 
 -- the process's buffer holds one entry alone: of the word at this place, with a value of which `Is` holds
-pub record HasOne (w : World) (p : ℕ) (r : Place) (Is : ℕ → Type 0) : Type 0 where
+pub record HasOne (w : PlainWorld) (p : ℕ) (r : Place) (Is : ℕ → Type 0) : Type 0 where
   pub value : ℕ
   pub alone : w.memory.buffer p ≡ entry r value ∷ []
   pub is : Is value
 
 -- the value's bits are bits of the word's cached side, and the bit of the number is among them
-pub record IsBits (w : World) (r : Place) (number value : ℕ) : Type 0 where
+pub record IsBits (w : PlainWorld) (r : Place) (number value : ℕ) : Type 0 where
   pub has : HasBit value number
   pub subset : IsSubset value (w.memory.cached r)
 
 -- the value is a head that a counted edit gave the cell: no older than `least`
-pub record IsHeadFrom (w : World) (cell least value : ℕ) : Type 0 where
+pub record IsHeadFrom (w : PlainWorld) (cell least value : ℕ) : Type 0 where
   pub enough : least ≤ value
-  pub by : Edit
+  pub by : PlainEdit
   pub head : IsHeadBy (of_cell cell w.counted) value by
 
 -- the buffer of the edit's process holds just what `Held` says
-abbrev pub Holds : World → Edit → Held → Type 0
+abbrev pub Holds : PlainWorld → PlainEdit → Held → Type 0
 Holds w e empty = w.memory.buffer e.process ≡ []
 Holds w e (record_words first count) = w.memory.buffer e.process ≡ map (record_entry e) (range_with_len first count)
 Holds w e (announcing_word a) = w.memory.buffer e.process ≡ entry (place.Announce e.process) (word_of w e a) ∷ []
@@ -88,18 +88,18 @@ Holds w e (head_from least) = HasOne w e.process (place.Head e.cell) (IsHeadFrom
 Holds w e mark = HasOne w e.process (place.Mark e.cell) (λ value. (value ≤ w.memory.cached (place.Mark e.cell)) × IsMark w.layout e.cell value)
 
 -- the sheet has as many cells and processes as the edit says
-pub record IsSheetOf (layout : Layout) (e : PlainEdit) : Type 0 where
+pub record IsSheetOf (layout : Layout) (e : PlainEditCall) : Type 0 where
   pub cells : cells_of layout ≡ e.cells
   pub processes : layout.processes ≡ e.processes
 
 -- each cell that the text refers to is one of the references
 pub record HasRefs (shape : Shape) (text refs : List ℕ) : Type 0 where
-  pub content : Plain
+  pub content : PlainContent
   pub reads : Reads shape text content
   pub all : (c : Cell) → Refers content c → Contains refs (index_of shape c)
 
 -- an edit of the sheet, which is open, knows what its stage says, and its buffer holds that
-pub record EditFits (w : World) (p : ℕ) (e : PlainEdit) : Type 0 where
+pub record EditFits (w : PlainWorld) (p : ℕ) (e : PlainEditCall) : Type 0 where
   pub mine : e.process ≡ p
   pub is : IsEdit e
   pub sheet : IsSheetOf w.layout e
@@ -112,7 +112,7 @@ pub record EditFits (w : World) (p : ℕ) (e : PlainEdit) : Type 0 where
   pub buffer : Holds w (edit_of e) (held_at (text_parts e.text) e.refs e.stage)
 
 -- an idle process has no edit that is not answered, nothing in its buffer, and announces how its last edit ended
-pub record IdleFits (w : World) (p next : ℕ) : Type 0 where
+pub record IdleFits (w : PlainWorld) (p next : ℕ) : Type 0 where
   pub number : next ≤ RECORDS
   pub holds_none : HoldsNone w p
   pub open_edits : w.open_edits p ≡ None
@@ -139,12 +139,12 @@ rank pending = 1
 rank (ended how) = 2
 
 -- where an edit has announced itself, its whole record stands on both sides
-abbrev pub IsWritten : World → Edit → Announced → Type 0
+abbrev pub IsWritten : PlainWorld → PlainEdit → Announced → Type 0
 IsWritten w e last = Unit {0}
 IsWritten w e _ = IsRecorded w e (record_size e) (record_size e)
 
 -- an edit in doubt: how it stands in the list, what each side of its announcement says, and its record
-pub record IsInDoubt (w : World) (p : ℕ) (issue : Issue) : Type 0 where
+pub record IsInDoubt (w : PlainWorld) (p : ℕ) (issue : PlainIssue) : Type 0 where
   pub mine : issue.edit.process ≡ p
   pub number : issue.edit.number < RECORDS
   pub cell : issue.edit.cell < cells_of w.layout
@@ -161,22 +161,22 @@ pub record IsInDoubt (w : World) (p : ℕ) (issue : Issue) : Type 0 where
   pub written : IsWritten w issue.edit now
 
 -- a stopped process without an open edit announces how its last one ended
-pub record IsThrough (w : World) (p : ℕ) : Type 0 where
+pub record IsThrough (w : PlainWorld) (p : ℕ) : Type 0 where
   pub next : ℕ
   pub rest : IsAtRest w p next
 
 -- what holds of a stopped process: its open edit is in doubt, or it has none and announces how its last one ended
-abbrev pub DoubtFits : World → ℕ → Option Issue → Type 0
+abbrev pub DoubtFits : PlainWorld → ℕ → Option PlainIssue → Type 0
 DoubtFits w p None = IsThrough w p
 DoubtFits w p (Some issue) = IsInDoubt w p issue
 
 -- a stopped process has an empty buffer; its edit, where it has one, is in doubt
-pub record StoppedFits (w : World) (p : ℕ) : Type 0 where
+pub record StoppedFits (w : PlainWorld) (p : ℕ) : Type 0 where
   pub buffer : w.memory.buffer p ≡ []
   pub doubt : DoubtFits w p (w.open_edits p)
 
 -- a recovery: its edit is in doubt throughout; it gives its cells back, then it settles that edit
-pub record RecoveryFits (w : World) (p : ℕ) (e : PlainRecovery) : Type 0 where
+pub record RecoveryFits (w : PlainWorld) (p : ℕ) (e : PlainRecoverCall) : Type 0 where
   pub mine : e.process ≡ p
   pub is : IsRecovery e
   pub cells : cells_of w.layout ≡ e.cells
@@ -187,7 +187,7 @@ pub record RecoveryFits (w : World) (p : ℕ) (e : PlainRecovery) : Type 0 where
   pub buffer : RecoveryHolds w e.process e.announcement e.cell (recovery_held e.cell e.stage)
 
 -- the situation of the process fits the world
-abbrev pub CallFits : World → ℕ → Situation → Type 0
+abbrev pub CallFits : PlainWorld → ℕ → Situation → Type 0
 CallFits w p (Idle next) = IdleFits w p next
 CallFits w p Stopped = StoppedFits w p
 CallFits w p (Editing e) = EditFits w p e

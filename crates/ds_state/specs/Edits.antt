@@ -10,7 +10,7 @@ use Rattle.ds_state.specs.declared.stage.Stage.TheVariants.{StoreText, FlushText
 
 -- an edit under way: its process, number, cell and text; the cells that the text refers to; how many cells and
 -- processes the sheet has; its stage
-pub record PlainEdit : Type 0 where
+pub record PlainEditCall : Type 0 where
   pub process : ℕ
   pub number : ℕ
   pub cell : ℕ
@@ -40,11 +40,11 @@ IsStageOf parts refs processes (BackDone head) = IsHead processes head
 IsStageOf parts refs processes _ = Unit {0}
 
 -- the numbers in a stage are those of this edit's parts and references, and of heads of the sheet
-abbrev pub IsStage : PlainEdit → Stage → Type 0
+abbrev pub IsStage : PlainEditCall → Stage → Type 0
 IsStage e stage = IsStageOf (text_parts e.text) (length e.refs) e.processes stage
 
 -- an edit under way has the process, number, cell, text, references and stage of one sheet
-pub record IsEdit (e : PlainEdit) : Type 0 where
+pub record IsEdit (e : PlainEditCall) : Type 0 where
   pub process : e.process < e.processes
   pub processes : e.processes ≤ PROCESSES_MOST
   pub number : e.number < RECORDS

@@ -1,11 +1,11 @@
 -- A new sheet.
 use Rattle.std.specs.Prelude.{ℕ, ◌≡◌, [], None}
 use Rattle.ds_words.specs.Memory.{IsFresh}
-use Rattle.ds_state.specs.World.{World}
+use Rattle.ds_state.specs.World.{PlainWorld}
 use Rattle.ds_state.specs.declared.situation.Situation.TheVariants.{Idle}
 
 -- all words are zero, and each process is idle and begins with its edit 0
-pub record IsNew (w : World) : Type 0 where
+pub record IsNew (w : PlainWorld) : Type 0 where
   pub memory : IsFresh w.memory
   pub situation : (p : ℕ) → w.situation p ≡ Idle 0
   pub counted : w.counted ≡ []

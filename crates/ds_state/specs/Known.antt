@@ -7,7 +7,7 @@ use Rattle.ds_layout.specs.declared.announcement.Phase.{Phase}
 use Rattle.ds_layout.specs.declared.announcement.Phase.TheVariants as phase
 use Rattle.ds_layout.specs.Head.{head_word}
 use Rattle.ds_layout.specs.Bits.{HasBit}
-use Rattle.ds_state.specs.World.{Edit, World, record_place, record_word, index_place, done_place, of_cell, of_cell_when, head_after_all, IsHeadBy, announcement, last_announcement}
+use Rattle.ds_state.specs.World.{PlainEdit, PlainWorld, record_place, record_word, index_place, done_place, of_cell, of_cell_when, head_after_all, IsHeadBy, announcement, last_announcement}
 use Rattle.ds_state.specs.declared.stage.Outcome.{Outcome}
 use Rattle.ds_state.specs.declared.stage.Outcome.TheVariants.{Done, Overtaken}
 use Rattle.ds_state.specs.declared.stage.Stage.{Stage}
@@ -109,33 +109,33 @@ known_at parts refs (BackOutcome how) = ending parts refs how pending (ended how
 known_at parts refs (Answer how) = ending parts refs how (ended how) (ended how)
 
 -- the process's counted edits have lower numbers than this
-abbrev pub AreBelow : World → ℕ → ℕ → Type 0
+abbrev pub AreBelow : PlainWorld → ℕ → ℕ → Type 0
 AreBelow w process number = All (λ f. f.process ≡ process → f.number < number) w.counted
 
 -- the edit counts, and this is its head
-pub record IsIn (w : World) (e : Edit) (own : ℕ) : Type 0 where
+pub record IsIn (w : PlainWorld) (e : PlainEdit) (own : ℕ) : Type 0 where
   pub below : AreBelow w e.process (e.number + 1)
   pub head : IsHeadBy (of_cell e.cell w.counted) own e
 
 -- an edit that no crash takes: its head or a later one is persisted
-pub record IsSafe (w : World) (e : Edit) : Type 0 where
+pub record IsSafe (w : PlainWorld) (e : PlainEdit) : Type 0 where
   pub own : ℕ
   pub head : IsHeadBy (of_cell e.cell w.counted) own e
   pub persisted : own ≤ w.memory.persisted (place.Head e.cell)
 
 -- no crash takes the edit, and it is its process's last one that counts
-pub record IsSafelyIn (w : World) (e : Edit) : Type 0 where
+pub record IsSafelyIn (w : PlainWorld) (e : PlainEdit) : Type 0 where
   pub below : AreBelow w e.process (e.number + 1)
   pub safe : IsSafe w e
 
 -- whether the edit counts, and whether a crash can take it, is as `Standing` says
-abbrev pub StandsAs : World → Edit → Standing → Type 0
+abbrev pub StandsAs : PlainWorld → PlainEdit → Standing → Type 0
 StandsAs w e outside = AreBelow w e.process e.number
 StandsAs w e (inside own) = IsIn w e own
 StandsAs w e safe = IsSafelyIn w e
 
 -- of the edit's record the first so many words are stored, and the first so many are persisted
-pub record IsRecorded (w : World) (e : Edit) (stored back : ℕ) : Type 0 where
+pub record IsRecorded (w : PlainWorld) (e : PlainEdit) (stored back : ℕ) : Type 0 where
   pub cached : (k : ℕ) → k < stored → w.memory.cached (record_place e.process e.number k) ≡ record_word e k
   pub persisted : (k : ℕ) → k < back → w.memory.persisted (record_place e.process e.number k) ≡ record_word e k
   pub fewer : back ≤ stored
@@ -146,45 +146,45 @@ phase_of Done = phase.Done
 phase_of (Overtaken noted seen) = phase.NotDone
 
 -- the word of what the edit's process announces
-abbrev pub word_of : World → Edit → Announced → ℕ
+abbrev pub word_of : PlainWorld → PlainEdit → Announced → ℕ
 word_of w e last = last_announcement w.counted e.process e.number
 word_of w e pending = announcement e.number phase.Pending
 word_of w e (ended how) = announcement e.number (phase_of how)
 
 -- the edit's process announces `now`, and on the persisted side that or `before`
-pub record IsAnnounced (w : World) (e : Edit) (before now : Announced) : Type 0 where
+pub record IsAnnounced (w : PlainWorld) (e : PlainEdit) (before now : Announced) : Type 0 where
   pub cached : w.memory.cached (place.Announce e.process) ≡ word_of w e now
   pub persisted : (w.memory.persisted (place.Announce e.process) ≡ word_of w e before) ⊎ (w.memory.persisted (place.Announce e.process) ≡ word_of w e now)
 
 -- the word of the index row of a reference that has the edit's bit
-abbrev pub row_of : Edit → List ℕ → ℕ → Place
+abbrev pub row_of : PlainEdit → List ℕ → ℕ → Place
 row_of e refs i = index_place (slice_index_or refs i 0) e.cell
 
 -- the edit's cell stands in the rows of its first so many references, on both sides
-pub record IsIndexedTo (w : World) (e : Edit) (refs : List ℕ) (count : ℕ) : Type 0 where
+pub record IsIndexedTo (w : PlainWorld) (e : PlainEdit) (refs : List ℕ) (count : ℕ) : Type 0 where
   pub cached : (i : ℕ) → i < count → HasBit (w.memory.cached (row_of e refs i)) e.cell
   pub persisted : (i : ℕ) → i < count → HasBit (w.memory.persisted (row_of e refs i)) e.cell
 
 -- where a reference is given, the edit's cell stands in its row on the cached side
-abbrev pub IsOred : World → Edit → List ℕ → Option ℕ → Type 0
+abbrev pub IsOred : PlainWorld → PlainEdit → List ℕ → Option ℕ → Type 0
 IsOred w e refs None = Unit {0}
 IsOred w e refs (Some i) = HasBit (w.memory.cached (row_of e refs i)) e.cell
 
 -- the edit of this process and number has its done bit persisted
-abbrev pub IsDone : World → ℕ → ℕ → Type 0
+abbrev pub IsDone : PlainWorld → ℕ → ℕ → Type 0
 IsDone w process number = HasBit (w.memory.persisted (done_place process number)) number
 
 -- so many edits counted when the edit noted its cell's head, no fewer than at its issue
-pub record IsWhen (w : World) (since count : ℕ) : Type 0 where
+pub record IsWhen (w : PlainWorld) (since count : ℕ) : Type 0 where
   pub late : since ≤ count
   pub there : count ≤ length w.counted
 
 -- the head that the edit noted was that of its cell's last edit when it looked, since its issue
-pub record IsNoted (w : World) (e : Edit) (since : ℕ) (head : Head) : Type 0 where
+pub record IsNoted (w : PlainWorld) (e : PlainEdit) (since : ℕ) (head : Head) : Type 0 where
   pub count : ℕ
   pub when : IsWhen w since count
-  pub before : List Edit
-  pub by : Edit
+  pub before : List PlainEdit
+  pub by : PlainEdit
   pub parts : of_cell_when w e.cell count ≡ before ++ by ∷ []
   pub process : head.process ≡ by.process
   pub number : head.number ≡ by.number
@@ -192,28 +192,28 @@ pub record IsNoted (w : World) (e : Edit) (since : ℕ) (head : Head) : Type 0 w
 
 -- the noted head was its cell's when the edit looked; it or a later one is persisted; the edit that gave it, where
 -- one did, has its done bit persisted
-pub record IsHelped (w : World) (e : Edit) (since head : ℕ) : Type 0 where
+pub record IsHelped (w : PlainWorld) (e : PlainEdit) (since head : ℕ) : Type 0 where
   pub count : ℕ
   pub when : IsWhen w since count
   pub is : head ≡ head_after_all (of_cell_when w e.cell count)
   pub back : head ≤ w.memory.persisted (place.Head e.cell)
-  pub done : (before : List Edit) (by : Edit) → of_cell_when w e.cell count ≡ before ++ by ∷ [] → IsDone w by.process by.number
+  pub done : (before : List PlainEdit) (by : PlainEdit) → of_cell_when w e.cell count ≡ before ++ by ∷ [] → IsDone w by.process by.number
 
 -- the edit noted its cell's head, and then met a later one of the cell
-pub record IsLate (w : World) (e : Edit) (since noted seen : ℕ) : Type 0 where
+pub record IsLate (w : PlainWorld) (e : PlainEdit) (since noted seen : ℕ) : Type 0 where
   pub count : ℕ
   pub when : IsWhen w since count
   pub is : noted ≡ head_after_all (of_cell_when w e.cell count)
   pub greater : noted < seen
-  pub by : Edit
+  pub by : PlainEdit
   pub head : IsHeadBy (of_cell e.cell w.counted) seen by
 
 -- this head of the edit's cell, or a later one, is persisted
-abbrev pub IsBack : World → Edit → Head → Type 0
+abbrev pub IsBack : PlainWorld → PlainEdit → Head → Type 0
 IsBack w e head = head_word head ≤ w.memory.persisted (place.Head e.cell)
 
 -- what the edit knows of its cell's head holds, as `Noted` says
-abbrev pub Knows : World → Edit → ℕ → Noted → Type 0
+abbrev pub Knows : PlainWorld → PlainEdit → ℕ → Noted → Type 0
 Knows w e since nothing = Unit {0}
 Knows w e since (head_noted head) = IsNoted w e since head
 Knows w e since (head_back head) = IsNoted w e since head × IsBack w e head
@@ -222,7 +222,7 @@ Knows w e since (bit_back head) = IsHelped w e since head
 Knows w e since (came_late noted seen) = IsLate w e since noted seen
 
 -- all that an edit knows holds, as `Known` says
-pub record Knowing (w : World) (e : Edit) (refs : List ℕ) (since : ℕ) (k : Known) : Type 0 where
+pub record Knowing (w : PlainWorld) (e : PlainEdit) (refs : List ℕ) (since : ℕ) (k : Known) : Type 0 where
   pub standing : StandsAs w e k.standing
   pub recorded : IsRecorded w e k.stored k.back
   pub announced : IsAnnounced w e k.before k.now

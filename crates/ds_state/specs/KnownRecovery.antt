@@ -4,7 +4,7 @@ use Rattle.ds_layout.specs.declared.place.TheConstants.{RECORDS}
 use Rattle.ds_layout.specs.declared.place.Place.TheVariants as place
 use Rattle.ds_layout.specs.declared.announcement.Phase.{Phase}
 use Rattle.ds_layout.specs.declared.announcement.Phase.TheVariants as phase
-use Rattle.ds_state.specs.World.{Edit, Issue, World, announcement}
+use Rattle.ds_state.specs.World.{PlainEdit, PlainIssue, PlainWorld, announcement}
 use Rattle.ds_words.specs.declared.access.Entry.{Entry}
 use Rattle.ds_layout.specs.declared.place.Place.{Place}
 use Rattle.ds_state.specs.World.{of_cell, IsHeadBy}
@@ -43,26 +43,26 @@ freed_at (BackGiven cell) = before (cell + 1)
 freed_at _ = all_free
 
 -- the cells below this one are not held by the process
-abbrev pub HoldsFrom : World → ℕ → ℕ → Type 0
+abbrev pub HoldsFrom : PlainWorld → ℕ → ℕ → Type 0
 HoldsFrom w p cell = (r : ℕ) → r < cell → IsHeldBy p (w.memory.cached (place.Mark r)) → ⊥
 
 -- the process holds the cell, by the mark that it saw, and no cell below it
-pub record Holding (w : World) (p mark cell : ℕ) : Type 0 where
+pub record Holding (w : PlainWorld) (p mark cell : ℕ) : Type 0 where
   pub below : HoldsFrom w p cell
   pub by : IsHeldBy p mark
   pub stands : tenure (w.memory.cached (place.Mark cell)) ≡ tenure mark
   pub seen : mark ≤ w.memory.cached (place.Mark cell)
 
 -- the value of the cell is the same on both sides
-abbrev pub ValueAgrees : World → ℕ → Type 0
+abbrev pub ValueAgrees : PlainWorld → ℕ → Type 0
 ValueAgrees w cell = w.memory.persisted (place.Value cell) ≡ w.memory.cached (place.Value cell)
 
 -- the kind of the cell is the same on both sides
-abbrev pub KindAgrees : World → ℕ → Type 0
+abbrev pub KindAgrees : PlainWorld → ℕ → Type 0
 KindAgrees w cell = w.memory.persisted (place.Kind cell) ≡ w.memory.cached (place.Kind cell)
 
 -- the process has given its cells back as far as `Freed` says, by the mark that it saw
-abbrev pub FreedFits : World → ℕ → ℕ → Freed → Type 0
+abbrev pub FreedFits : PlainWorld → ℕ → ℕ → Freed → Type 0
 FreedFits w p mark (before cell) = HoldsFrom w p cell
 FreedFits w p mark (holding cell) = Holding w p mark cell
 FreedFits w p mark (value_back cell) = Holding w p mark cell × ValueAgrees w cell
@@ -111,23 +111,23 @@ pub record Tells (word : ℕ) (how : Bool) : Type 0 where
   pub is : word ≡ announcement number (phase_for how)
 
 -- the edit's outcome is settled: it counts and no crash takes it, or it does not count
-abbrev pub SettledAs : World → Edit → Bool → Type 0
+abbrev pub SettledAs : PlainWorld → PlainEdit → Bool → Type 0
 SettledAs w e true = IsSafelyIn w e
 SettledAs w e false = AreBelow w e.process e.number
 
 -- the edit counts, and is not its cell's last
-pub record IsPassed (w : World) (e : Edit) : Type 0 where
-  pub before : List Edit
-  pub next : Edit
-  pub after : List Edit
+pub record IsPassed (w : PlainWorld) (e : PlainEdit) : Type 0 where
+  pub before : List PlainEdit
+  pub next : PlainEdit
+  pub after : List PlainEdit
   pub parts : of_cell e.cell w.counted ≡ before ++ e ∷ next ∷ after
 
 -- the cell is that of the edit in doubt, where the word announces that edit
-abbrev pub IsItsCell : World → ℕ → ℕ → ℕ → Type 0
-IsItsCell w p word cell = (issue : Issue) → w.open_edits p ≡ Some issue → issue.edit.number + 1 ≡ number_after word → issue.edit.cell ≡ cell
+abbrev pub IsItsCell : PlainWorld → ℕ → ℕ → ℕ → Type 0
+IsItsCell w p word cell = (issue : PlainIssue) → w.open_edits p ≡ Some issue → issue.edit.number + 1 ≡ number_after word → issue.edit.cell ≡ cell
 
 -- the edit in doubt, which is announced as pending by the word
-pub record IsOpen (w : World) (p word : ℕ) (issue : Issue) : Type 0 where
+pub record IsOpen (w : PlainWorld) (p word : ℕ) (issue : PlainIssue) : Type 0 where
   pub issued : w.open_edits p ≡ Some issue
   pub process : issue.edit.process ≡ p
   pub number : issue.edit.number < RECORDS
@@ -135,14 +135,14 @@ pub record IsOpen (w : World) (p word : ℕ) (issue : Issue) : Type 0 where
   pub cached : w.memory.cached (place.Announce p) ≡ word
 
 -- the edit in doubt, which is announced as pending by the word, is of this cell, and `P` holds of it
-pub record IsOpenAnd (w : World) (p word own : ℕ) (P : Edit → Type 0) : Type 0 where
-  pub issue : Issue
+pub record IsOpenAnd (w : PlainWorld) (p word own : ℕ) (P : PlainEdit → Type 0) : Type 0 where
+  pub issue : PlainIssue
   pub it : IsOpen w p word issue
   pub own_is : issue.edit.cell ≡ own
   pub and : P issue.edit
 
 -- what a recovery knows of its edit in doubt holds, as `Resolved` says, with the word and the cell that it noted
-abbrev pub ResolvedFits : World → ℕ → ℕ → ℕ → Resolved → Type 0
+abbrev pub ResolvedFits : PlainWorld → ℕ → ℕ → ℕ → Resolved → Type 0
 ResolvedFits w p word cell unknown = Unit {0}
 ResolvedFits w p word cell noted = w.memory.cached (place.Announce p) ≡ word
 ResolvedFits w p word cell doubted = IsOpenAnd w p word cell (λ f. Unit {0})
@@ -182,27 +182,27 @@ recovery_held c (BackOutcome how) = the_outcome
 recovery_held c _ = empty
 
 -- the buffer's entry of the cell's value, with what the cached side has now
-abbrev pub value_now : World → ℕ → Entry Place
+abbrev pub value_now : PlainWorld → ℕ → Entry Place
 value_now w cell = entry (place.Value cell) (w.memory.cached (place.Value cell))
 
 -- the buffer's entry of the cell's kind, with what the cached side has now
-abbrev pub kind_now : World → ℕ → Entry Place
+abbrev pub kind_now : PlainWorld → ℕ → Entry Place
 kind_now w cell = entry (place.Kind cell) (w.memory.cached (place.Kind cell))
 
 -- the process's buffer holds one head of the cell alone: that of the edit in doubt, or a later one
-pub record HasHead (w : World) (p cell : ℕ) : Type 0 where
+pub record HasHead (w : PlainWorld) (p cell : ℕ) : Type 0 where
   pub value : ℕ
   pub alone : w.memory.buffer p ≡ entry (place.Head cell) value ∷ []
-  pub by : Edit
+  pub by : PlainEdit
   pub gave : IsHeadBy (of_cell cell w.counted) value by
-  pub issue : Issue
+  pub issue : PlainIssue
   pub issued : w.open_edits p ≡ Some issue
   pub own : ℕ
   pub head : IsHeadBy (of_cell cell w.counted) own issue.edit
   pub enough : own ≤ value
 
 -- the buffer of the recovery's process holds just what `RecoveryHeld` says
-abbrev pub RecoveryHolds : World → ℕ → ℕ → ℕ → RecoveryHeld → Type 0
+abbrev pub RecoveryHolds : PlainWorld → ℕ → ℕ → ℕ → RecoveryHeld → Type 0
 RecoveryHolds w p word c empty = w.memory.buffer p ≡ []
 RecoveryHolds w p word c (the_value cell) = w.memory.buffer p ≡ value_now w cell ∷ []
 RecoveryHolds w p word c (both_words cell) = w.memory.buffer p ≡ value_now w cell ∷ kind_now w cell ∷ []

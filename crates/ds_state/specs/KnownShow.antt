@@ -4,7 +4,7 @@ use Rattle.std.specs.List.{range_with_len}
 use Rattle.ds_formula.specs.Cells.{IsInside, index_of, count_of}
 use Rattle.ds_formula.specs.declared.cells.Cell.{Cell}
 use Rattle.ds_formula.specs.declared.cells.Shape.{Shape}
-use Rattle.ds_formula.specs.Plain.{Plain}
+use Rattle.ds_formula.specs.Plain.{PlainContent}
 use Rattle.ds_formula.specs.Grammar.{Reads}
 use Rattle.ds_eval.specs.declared.value.Value.{Value}
 use Rattle.ds_eval.specs.Scratch.{IsScratch}
@@ -18,9 +18,9 @@ use Rattle.ds_layout.specs.declared.mark.State.TheVariants.{Clean, Marked, Held}
 use Rattle.ds_layout.specs.Announcement.{announcement_of}
 use Rattle.ds_layout.specs.Mark.{mark_of, state_of, IsClean, IsHeldBy}
 use Rattle.ds_layout.specs.Places.{cells_of}
-use Rattle.ds_state.specs.Works.{PlainShow}
+use Rattle.ds_state.specs.Works.{PlainShowCall}
 use Rattle.ds_state.specs.ShowStages.{IsShow}
-use Rattle.ds_state.specs.World.{Edit, World, of_cell}
+use Rattle.ds_state.specs.World.{PlainEdit, PlainWorld, of_cell}
 use Rattle.ds_state.specs.Shown.{last_text}
 use Rattle.ds_state.specs.Standing.{shown_entry}
 use Rattle.ds_state.specs.KnownWork.{IsAtRest}
@@ -67,10 +67,10 @@ pub record Moment : Type 0 where
   pub announced : ℕ → ℕ
   pub value : ℕ → ℕ
   pub kind : ℕ → ℕ
-  pub edits : List Edit
+  pub edits : List PlainEdit
 
 -- the moment that a world is: its words as processes see them, and the edits that count
-abbrev pub moment_of : World → Moment
+abbrev pub moment_of : PlainWorld → Moment
 moment_of w = record {
   marks = λ c. w.memory.cached (place.Mark c);
   announced = λ q. w.memory.cached (place.Announce q);
@@ -80,7 +80,7 @@ moment_of w = record {
 }
 
 -- the sheet that the edits give: each cell has the content of the text of its last edit, which is empty without one
-pub record IsSheet (shape : Shape) (edits : List Edit) (sheet : Cell → Plain) : Type 0 where
+pub record IsSheet (shape : Shape) (edits : List PlainEdit) (sheet : Cell → PlainContent) : Type 0 where
   pub each : (c : Cell) → IsInside shape c → Reads shape (last_text (of_cell (index_of shape c) edits)) (sheet c)
 
 -- what the words of so many cells show
@@ -88,8 +88,8 @@ abbrev pub values_of : ℕ → (ℕ → ℕ) → (ℕ → ℕ) → List Value
 values_of cells value kind = map (λ c. (shown_entry cells (value c) (kind c)).value) (range_with_len 0 cells)
 
 -- these are the values of the sheet of these edits, from scratch
-pub record AreScratch (shape : Shape) (edits : List Edit) (values : List Value) : Type 0 where
-  pub sheet : Cell → Plain
+pub record AreScratch (shape : Shape) (edits : List PlainEdit) (values : List Value) : Type 0 where
+  pub sheet : Cell → PlainContent
   pub is : IsSheet shape edits sheet
   pub scratch : IsScratch shape sheet values
 
@@ -103,20 +103,20 @@ pub record IsStill (layout : Layout) (m : Moment) : Type 0 where
   pub settled : (q : ℕ) → q < layout.processes → IsPendingWord (m.announced q) → ⊥
 
 -- the moment lies between what a report noted at first and now; where it is still, its values are right
-pub record HasMoment (w : World) (qs ms vs ks : List ℕ) (m : Moment) : Type 0 where
+pub record HasMoment (w : PlainWorld) (qs ms vs ks : List ℕ) (m : Moment) : Type 0 where
   pub marks_to : (c : ℕ) → m.marks c ≤ w.memory.cached (place.Mark c)
   pub announced_to : (q : ℕ) → m.announced q ≤ w.memory.cached (place.Announce q)
   pub marks_from : (c : ℕ) → c < length ms → noted ms c ≤ m.marks c
   pub announced_from : (q : ℕ) → q < length qs → noted qs q ≤ m.announced q
   pub values : (c : ℕ) → c < length vs → m.marks c ≡ noted ms c → m.value c ≡ noted vs c
   pub kinds : (c : ℕ) → c < length ks → m.marks c ≡ noted ms c → m.kind c ≡ noted ks c
-  pub more : List Edit
+  pub more : List PlainEdit
   pub counted : w.counted ≡ m.edits ++ more
   pub right : IsStill w.layout m → IsRight w.layout.shape m
 
 -- what a report noted so far: no word is older now; marks were clean, announcements not pending; values stand while
 -- marks do
-pub record HasNoted (w : World) (qs ms vs ks : List ℕ) : Type 0 where
+pub record HasNoted (w : PlainWorld) (qs ms vs ks : List ℕ) : Type 0 where
   pub announcements : (q : ℕ) → q < length qs → noted qs q ≤ w.memory.cached (place.Announce q)
   pub marks : (c : ℕ) → c < length ms → noted ms c ≤ w.memory.cached (place.Mark c)
   pub clean : (c : ℕ) → c < length ms → IsClean (noted ms c)
@@ -126,18 +126,18 @@ pub record HasNoted (w : World) (qs ms vs ks : List ℕ) : Type 0 where
   pub fewer : (length ks ≤ length vs) × (length vs ≤ length ms)
 
 -- so many marks and announcements that a report saw again were, at the moment, the noted ones
-pub record SawAgain (w : World) (qs ms vs ks : List ℕ) (m : Moment) (again_marks again : ℕ) : Type 0 where
+pub record SawAgain (w : PlainWorld) (qs ms vs ks : List ℕ) (m : Moment) (again_marks again : ℕ) : Type 0 where
   pub moment : HasMoment w qs ms vs ks m
   pub mark : (c : ℕ) → c < again_marks → m.marks c ≡ noted ms c
   pub announcement : (q : ℕ) → q < again → m.announced q ≡ noted qs q
 
 -- the word that a report saw at a cell's mark was not clean, or not the noted one
-pub record IsOffMark (w : World) (ms : List ℕ) (c word : ℕ) : Type 0 where
+pub record IsOffMark (w : PlainWorld) (ms : List ℕ) (c word : ℕ) : Type 0 where
   pub had : word ≤ w.memory.cached (place.Mark c)
   pub off : (IsClean word → ⊥) ⊎ ((c < length ms) × (word ≢ noted ms c))
 
 -- the word that a report saw at a process's announcement was pending, or not the noted one
-pub record IsOffAnnounce (w : World) (qs : List ℕ) (q word : ℕ) : Type 0 where
+pub record IsOffAnnounce (w : PlainWorld) (qs : List ℕ) (q word : ℕ) : Type 0 where
   pub had : word ≤ w.memory.cached (place.Announce q)
   pub off : IsPendingWord word ⊎ ((q < length qs) × (word ≢ noted qs q))
 
@@ -162,14 +162,14 @@ seen_at cells processes (Answer (AtMark c word)) = off_mark c word
 seen_at cells processes (Answer (AtAnnounce q word)) = off_announce q word
 
 -- how far a report is fits the world, with this moment where it has one
-abbrev pub SeenFits : World → List ℕ → List ℕ → List ℕ → List ℕ → Moment → Seen → Type 0
+abbrev pub SeenFits : PlainWorld → List ℕ → List ℕ → List ℕ → List ℕ → Moment → Seen → Type 0
 SeenFits w qs ms vs ks m first = Unit {0}
 SeenFits w qs ms vs ks m (middle again_marks again) = SawAgain w qs ms vs ks m again_marks again
 SeenFits w qs ms vs ks m (off_mark c word) = IsOffMark w ms c word
 SeenFits w qs ms vs ks m (off_announce q word) = IsOffAnnounce w qs q word
 
 -- a report of the sheet fits the world, and this is its moment
-pub record ShowFitsAt (w : World) (p : ℕ) (e : PlainShow) (m : Moment) : Type 0 where
+pub record ShowFitsAt (w : PlainWorld) (p : ℕ) (e : PlainShowCall) (m : Moment) : Type 0 where
   pub mine : e.process ≡ p
   pub is : IsShow e
   pub cells : cells_of w.layout ≡ e.cells
@@ -181,5 +181,5 @@ pub record ShowFitsAt (w : World) (p : ℕ) (e : PlainShow) (m : Moment) : Type 
   pub seen : SeenFits w e.announcements e.marks e.values e.kinds m (seen_at e.cells e.processes e.stage)
 
 -- a report of the sheet fits the world, with some moment
-abbrev pub ShowFits : World → ℕ → PlainShow → Type 0
+abbrev pub ShowFits : PlainWorld → ℕ → PlainShowCall → Type 0
 ShowFits w p e = (m : Moment) × ShowFitsAt w p e m

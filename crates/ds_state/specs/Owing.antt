@@ -10,7 +10,7 @@ use Rattle.ds_layout.specs.Places.{class_of, cells_of}
 use Rattle.ds_layout.specs.Bits.{HasBit, HaveBit, part_with}
 use Rattle.ds_layout.specs.Mark.{tenure, IsHeldBy, generation_of}
 use Rattle.ds_state.specs.Works.{HELD_MOST}
-use Rattle.ds_state.specs.World.{Issue, World, announcement, index_place}
+use Rattle.ds_state.specs.World.{PlainIssue, PlainWorld, announcement, index_place}
 use Rattle.ds_state.specs.declared.stage.Stage.{Stage}
 use Rattle.ds_state.specs.declared.stage.Stage.TheVariants as edits
 use Rattle.ds_state.specs.declared.work.Spread.{Spread}
@@ -114,20 +114,20 @@ Parts (Recovering e) r = RecoveryParts e.stage r
 Parts (Showing e) r = ⊥
 
 -- some process holds r on both sides and owes c a mark above x
-pub record CellOwes (w : World) (r c x : ℕ) : Type 0 where
+pub record CellOwes (w : PlainWorld) (r c x : ℕ) : Type 0 where
   pub holder : ℕ
   pub held : IsHeld w.memory holder r
   pub still : Owes w.memory holder (w.situation holder) r c x
 
 -- some process holds r on both sides, and may have the two sides of its value, or its kind, differ
-pub record IsApart (w : World) (r : ℕ) : Type 0 where
+pub record IsApart (w : PlainWorld) (r : ℕ) : Type 0 where
   pub holder : ℕ
   pub held : IsHeld w.memory holder r
   pub still : Parts (w.situation holder) r
 
 -- both sides announce that the process's edit, of this cell, is pending
-pub record IsPending (w : World) (p c : ℕ) : Type 0 where
-  pub issue : Issue
+pub record IsPending (w : PlainWorld) (p c : ℕ) : Type 0 where
+  pub issue : PlainIssue
   pub issued : w.open_edits p ≡ Some issue
   pub cell : issue.edit.cell ≡ c
   pub cached : w.memory.cached (place.Announce p) ≡ announcement issue.edit.number phase.Pending
@@ -153,7 +153,7 @@ RecoveryExcuses m p c (recoveries.Answer how) x = ⊥
 RecoveryExcuses m p c _ x = Unit {0}
 
 -- the process owes the cell of its edit a mark above x
-abbrev pub Excuses : World → ℕ → Situation → ℕ → ℕ → Type 0
+abbrev pub Excuses : PlainWorld → ℕ → Situation → ℕ → ℕ → Type 0
 Excuses w p (Idle next) c x = ⊥
 Excuses w p Stopped c x = IsPending w p c
 Excuses w p (Editing e) c x = (e.cell ≡ c) × EditOwes w.memory p c e.stage x
@@ -162,7 +162,7 @@ Excuses w p (Recovering e) c x = IsPending w p c × RecoveryExcuses w.memory p c
 Excuses w p (Showing e) c x = ⊥
 
 -- some process of the sheet owes the cell c its edit's mark, above x
-pub record IsExcused (w : World) (c x : ℕ) : Type 0 where
+pub record IsExcused (w : PlainWorld) (c x : ℕ) : Type 0 where
   pub process : ℕ
   pub inside : process < w.layout.processes
   pub still : Excuses w process (w.situation process) c x
@@ -186,7 +186,7 @@ RecoverySplits (recoveries.Answer how) = ⊥
 RecoverySplits _ = Unit {0}
 
 -- the process may have the two sides of the head of c differ, this one being the cached one
-abbrev pub Splits : World → ℕ → Situation → ℕ → ℕ → Type 0
+abbrev pub Splits : PlainWorld → ℕ → Situation → ℕ → ℕ → Type 0
 Splits w p (Idle next) c head = ⊥
 Splits w p Stopped c head = IsPending w p c
 Splits w p (Editing e) c head = (e.cell ≡ c) × SplitsAt e.stage head
@@ -195,7 +195,7 @@ Splits w p (Recovering e) c head = IsPending w p c × RecoverySplits e.stage
 Splits w p (Showing e) c head = ⊥
 
 -- r and c are cells of the sheet, and the index row of r has the bit of c on the cached side
-abbrev pub IsIndexed : World → ℕ → ℕ → Type 0
+abbrev pub IsIndexed : PlainWorld → ℕ → ℕ → Type 0
 IsIndexed w r c = (r < cells_of w.layout) × (c < cells_of w.layout) × HasBit (w.memory.cached (index_place r c)) c
 
 -- a holder of the mark is a process of the sheet, the cell is one of the sheet, and one more generation fits
@@ -203,5 +203,5 @@ abbrev pub IsMark : Layout → ℕ → ℕ → Type 0
 IsMark layout cell mark = (q : ℕ) → IsHeldBy q mark → (q < layout.processes) × (cell < cells_of layout) × (generation_of mark ≤ HELD_MOST)
 
 -- the process holds no cell
-abbrev pub HoldsNone : World → ℕ → Type 0
+abbrev pub HoldsNone : PlainWorld → ℕ → Type 0
 HoldsNone w p = (r : ℕ) → IsHeldBy p (w.memory.cached (place.Mark r)) → ⊥

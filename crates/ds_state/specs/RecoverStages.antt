@@ -6,7 +6,7 @@ use Rattle.ds_layout.specs.declared.announcement.Announcement.{Announcement}
 use Rattle.ds_layout.specs.Announcement.{announcement_of, number_after}
 use Rattle.ds_layout.specs.Bits.{parts_for}
 use Rattle.ds_layout.specs.Mark.{generation_of}
-use Rattle.ds_state.specs.Works.{PlainRecovery, HELD_MOST}
+use Rattle.ds_state.specs.Works.{PlainRecoverCall, HELD_MOST}
 use Rattle.ds_state.specs.declared.work.Spread.{Spread}
 use Rattle.ds_state.specs.declared.work.Spread.TheVariants.{LoadRow, OrTold, FlushTold, BackTold}
 use Rattle.ds_state.specs.declared.work.RecoverStage.{RecoverStage}
@@ -31,11 +31,11 @@ pub record IsAnnounced (word : ℕ) : Type 0 where
   pub few : number_after word ≤ RECORDS
 
 -- the recovery has noted an announcement of a record, and the cell that it noted is one of the sheet
-abbrev pub IsResolving : PlainRecovery → Type 0
+abbrev pub IsResolving : PlainRecoverCall → Type 0
 IsResolving e = IsAnnounced e.announcement × (e.cell < e.cells)
 
 -- what a recovery has at a stage is of its sheet: its cell, its mark, its row and its announcement
-abbrev pub IsStage : PlainRecovery → RecoverStage → Type 0
+abbrev pub IsStage : PlainRecoverCall → RecoverStage → Type 0
 IsStage e (LoadMark cell) = cell < e.cells
 IsStage e (FlushValue cell) = IsFreeing e.cells e.mark cell × (length e.row ≡ 0)
 IsStage e (FlushKind cell) = IsFreeing e.cells e.mark cell × (length e.row ≡ 0)
@@ -62,7 +62,7 @@ IsStage e (Answer None) = Unit {0}
 IsStage e (Answer (Some how)) = IsResolving e
 
 -- a recovery's process is one of the sheet, and what it has at its stage is of the sheet
-pub record IsRecovery (e : PlainRecovery) : Type 0 where
+pub record IsRecovery (e : PlainRecoverCall) : Type 0 where
   pub process : e.process < e.processes
   pub processes : e.processes ≤ PROCESSES_MOST
   pub some : 0 < e.cells

@@ -4,7 +4,7 @@ use Rattle.ds_words.specs.Memory.{Memory}
 use Rattle.ds_layout.specs.declared.place.Place.{Place}
 use Rattle.ds_layout.specs.declared.place.Place.TheVariants.{Head, Mark, Value, Kind, Index, Announce, Header, Text, Done}
 use Rattle.ds_layout.specs.Bits.{IsSubset}
-use Rattle.ds_state.specs.World.{Edit, World}
+use Rattle.ds_state.specs.World.{PlainEdit, PlainWorld}
 use Rattle.ds_state.specs.Owing.{IsIndexed, CellOwes, IsExcused}
 use Rattle.ds_layout.specs.Mark.{tenure, IsClean, IsHeldBy}
 use Rattle.ds_state.specs.Standing.{Matters}
@@ -28,7 +28,7 @@ pub record KeepsHold (q c v c' v' : ℕ) : Type 0 where
 
 -- what q may count on, but for one word: its own words keep their cached side, and their persisted side at most
 -- catches up; stamped words only grow, bits only come, and the edits that come to count are others' and come behind
-pub record Grows (q : ℕ) (but : Place) (old new : World) : Type 0 where
+pub record Grows (q : ℕ) (but : Place) (old new : PlainWorld) : Type 0 where
   pub layout : new.layout ≡ old.layout
   pub owned_cached : (r : Place) → IsOwnedBy old.memory q r → r ≢ but → new.memory.cached r ≡ old.memory.cached r
   pub owned_persisted : (r : Place) → IsOwnedBy old.memory q r → r ≢ but → (new.memory.persisted r ≡ old.memory.persisted r) ⊎ (new.memory.persisted r ≡ old.memory.cached r)
@@ -44,12 +44,12 @@ pub record Grows (q : ℕ) (but : Place) (old new : World) : Type 0 where
   pub index_persisted : (row part : ℕ) → IsSubset (old.memory.persisted (Index row part)) (new.memory.persisted (Index row part))
   pub done_cached : (p part : ℕ) → IsSubset (old.memory.cached (Done p part)) (new.memory.cached (Done p part))
   pub done_persisted : (p part : ℕ) → IsSubset (old.memory.persisted (Done p part)) (new.memory.persisted (Done p part))
-  pub added : List Edit
+  pub added : List PlainEdit
   pub counted : new.counted ≡ old.counted ++ added
   pub foreign : All (λ e. e.process ≢ q) added
 
 -- what was owed is owed, where it matters; words and heads, as processes see them, stay, or somebody owes
-pub record Bears (old new : World) : Type 0 where
+pub record Bears (old new : PlainWorld) : Type 0 where
   pub owing : (r c x : ℕ) → IsIndexed old r c → Matters new c x → CellOwes old r c x → CellOwes new r c x
   pub excused : (c x : ℕ) → Matters new c x → IsExcused old c x → IsExcused new c x
   pub values : (r : ℕ) → (new.memory.cached (Value r) ≡ old.memory.cached (Value r)) ⊎ ((c x : ℕ) → CellOwes new r c x)
@@ -58,7 +58,7 @@ pub record Bears (old new : World) : Type 0 where
 
 -- what q may count on while another process steps: its situation, its issue and its buffer stay, words only change as
 -- `Grows` says, and what was owed is owed
-pub record Rely (q : ℕ) (old new : World) : Type 0 where
+pub record Rely (q : ℕ) (old new : PlainWorld) : Type 0 where
   pub situation : new.situation q ≡ old.situation q
   pub open_edits : new.open_edits q ≡ old.open_edits q
   pub buffer : new.memory.buffer q ≡ old.memory.buffer q
@@ -66,6 +66,6 @@ pub record Rely (q : ℕ) (old new : World) : Type 0 where
   pub bears : Bears old new
 
 -- the process leaves the world sound, and what each other process may count on is kept
-pub record Keeps (p : ℕ) (old new : World) : Type 0 where
+pub record Keeps (p : ℕ) (old new : PlainWorld) : Type 0 where
   pub sound : IsSound new
   pub others : (q : ℕ) → q ≢ p → Rely q old new

@@ -1,6 +1,6 @@
 -- What a report has noted at each of its stages, and the room that it has for all that it notes.
 use Rattle.std.specs.Prelude.{ℕ, ◌≡◌, ◌<◌, ◌≤◌, ◌+◌, List, length}
-use Rattle.ds_state.specs.Works.{PlainShow}
+use Rattle.ds_state.specs.Works.{PlainShowCall}
 use Rattle.ds_state.specs.declared.work.ShowEnd.TheVariants.{Settled, AtMark, AtAnnounce}
 use Rattle.ds_state.specs.declared.work.ShowStage.{ShowStage}
 use Rattle.ds_state.specs.declared.work.ShowStage.TheVariants.{LoadAnnounce, LoadMark, LoadValue, LoadKind, AgainMark, AgainAnnounce, Answer}
@@ -13,7 +13,7 @@ pub record HaveNoted (qs ms vs ks : List ℕ) (q m v k : ℕ) : Type 0 where
   pub kinds : length ks ≡ k
 
 -- what a report's lists have at a stage, whose numbers are those of the sheet
-abbrev pub IsStage : PlainShow → ShowStage → Type 0
+abbrev pub IsStage : PlainShowCall → ShowStage → Type 0
 IsStage e (LoadAnnounce i) = (i < e.processes) × HaveNoted e.announcements e.marks e.values e.kinds i 0 0 0
 IsStage e (LoadMark i) = (i < e.cells) × HaveNoted e.announcements e.marks e.values e.kinds e.processes i 0 0
 IsStage e (LoadValue i) = (i < e.cells) × HaveNoted e.announcements e.marks e.values e.kinds e.processes e.cells i i
@@ -25,7 +25,7 @@ IsStage e (Answer (AtMark c word)) = c < e.cells
 IsStage e (Answer (AtAnnounce q word)) = q < e.processes
 
 -- a report of a sheet that has cells and processes, with what its stage says
-pub record IsShow (e : PlainShow) : Type 0 where
+pub record IsShow (e : PlainShowCall) : Type 0 where
   pub cells : 0 < e.cells
   pub processes : 0 < e.processes
   pub stage : IsStage e e.stage
@@ -38,6 +38,6 @@ pub record HasRoom (cells processes qs ms vs ks : ℕ) : Type 0 where
   pub kinds : cells ≤ ks
 
 -- a report of a sheet, with room for all that it notes
-pub record IsReady (e : PlainShow) (qs ms vs ks : ℕ) : Type 0 where
+pub record IsReady (e : PlainShowCall) (qs ms vs ks : ℕ) : Type 0 where
   pub is : IsShow e
   pub room : HasRoom e.cells e.processes qs ms vs ks

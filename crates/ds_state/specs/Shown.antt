@@ -22,7 +22,7 @@ use Rattle.ds_state.specs.Edits.{text_parts}
 use Rattle.ds_state.specs.EntryWords.{shown_of}
 use Rattle.ds_state.specs.Stages.{point_at}
 use Rattle.ds_state.specs.Text.{IsText}
-use Rattle.ds_state.specs.World.{Edit, World}
+use Rattle.ds_state.specs.World.{PlainEdit, PlainWorld}
 use Rattle.ds_state.specs.declared.stage.Point.{Point}
 use Rattle.ds_state.specs.declared.situation.Situation.{Situation}
 use Rattle.ds_state.specs.declared.situation.Situation.TheVariants.{Idle, Stopped, Editing, Working, Recovering, Showing}
@@ -32,7 +32,7 @@ abbrev pub mark_at : Layout → Memory Place → ℕ → Mark
 mark_at layout memory cell = mark_of layout.processes (memory.cached (place.Mark cell))
 
 -- the mark of the cell, as processes see it in this world
-abbrev pub mark_in : World → Cell → Mark
+abbrev pub mark_in : PlainWorld → Cell → Mark
 mark_in w cell = mark_at w.layout w.memory (index_of w.layout.shape cell)
 
 -- who may hold the mark of the cell with this number: a process whose work is on just that cell; one that is stopped,
@@ -50,11 +50,11 @@ abbrev pub value_at : Layout → Memory Place → ℕ → Value
 value_at layout memory cell = shown_of (stored_of (cells_of layout) (memory.cached (place.Value cell)) (memory.cached (place.Kind cell)))
 
 -- the value of the cell, as processes see it in this world
-abbrev pub value_in : World → Cell → Value
+abbrev pub value_in : PlainWorld → Cell → Value
 value_in w cell = value_at w.layout w.memory (index_of w.layout.shape cell)
 
 -- what the cells show, by their numbers
-abbrev pub values_shown : World → List Value
+abbrev pub values_shown : PlainWorld → List Value
 values_shown w = map (λ c. value_at w.layout w.memory c) (range_with_len 0 (cells_of w.layout))
 
 -- the last point that a process's edit has behind it, where it is in one and has passed one
@@ -71,12 +71,12 @@ abbrev pub AllClean : Layout → Memory Place → Type 0
 AllClean layout memory = (cell : ℕ) → cell < cells_of layout → state_of (mark_at layout memory cell) ≡ Clean
 
 -- a quiet world: each edit is answered, and no cell's mark is dirty or held
-pub record IsQuiet (w : World) : Type 0 where
+pub record IsQuiet (w : PlainWorld) : Type 0 where
   pub answered : (p : ℕ) → p < w.layout.processes → w.open_edits p ≡ None
   pub clean : AllClean w.layout w.memory
 
 -- the text of the last of the edits, empty without one
-abbrev pub last_text : List Edit → List ℕ
+abbrev pub last_text : List PlainEdit → List ℕ
 last_text [] = []
 last_text (e ∷ []) = e.text
 last_text (e ∷ f ∷ es) = last_text (f ∷ es)
@@ -106,7 +106,7 @@ abbrev pub text_at : Layout → Memory Place → ℕ → List ℕ
 text_at layout memory cell = named_at layout memory (head_of layout.processes (memory.cached (place.Head cell)))
 
 -- the text of the cell, as processes see it in this world
-abbrev pub text_in : World → Cell → List ℕ
+abbrev pub text_in : PlainWorld → Cell → List ℕ
 text_in w cell = text_at w.layout w.memory (index_of w.layout.shape cell)
 
 -- the parts of the text stand in the words of a record

@@ -4,25 +4,25 @@ use Rattle.ds_layout.specs.declared.place.TheConstants.{RECORDS}
 use Rattle.ds_layout.specs.declared.place.Place.{Place}
 use Rattle.ds_layout.specs.Places.{cells_of}
 use Rattle.ds_state.specs.Text.{IsText}
-use Rattle.ds_state.specs.World.{Edit, World}
+use Rattle.ds_state.specs.World.{PlainEdit, PlainWorld}
 use Rattle.ds_state.specs.WordsFit.{WordFits}
 use Rattle.ds_state.specs.CallsFit.{CallFits}
 use Rattle.ds_state.specs.Standing.{AllStand}
 
 -- an edit of the sheet: of one of its processes, with a record, and of one of its cells
-pub record IsOfSheet (w : World) (e : Edit) : Type 0 where
+pub record IsOfSheet (w : PlainWorld) (e : PlainEdit) : Type 0 where
   pub process : e.process < w.layout.processes
   pub number : e.number < RECORDS
   pub cell : e.cell < cells_of w.layout
   pub text : IsText e.text
 
 -- the numbers of one process grow along the list, so that no edit stands twice
-abbrev pub Increasing : List Edit → Type 0
+abbrev pub Increasing : List PlainEdit → Type 0
 Increasing [] = Unit {0}
 Increasing (e ∷ es) = All (λ f. f.process ≡ e.process → e.number < f.number) es × Increasing es
 
 -- each word fits, each process's call fits, and the list of edits is one of the sheet, in order
-pub record IsSound (w : World) : Type 0 where
+pub record IsSound (w : PlainWorld) : Type 0 where
   pub words : (r : Place) → WordFits w r (w.memory.cached r) (w.memory.persisted r)
   pub calls : (p : ℕ) → p < w.layout.processes → CallFits w p (w.situation p)
   pub stand : AllStand w

@@ -5,7 +5,7 @@ use Rattle.ds_layout.specs.SheetMemory.{SheetValue, memory}
 use Rattle.ds_layout.specs.declared.layout.Layout.{Layout}
 use Rattle.ds_layout.specs.Places.{cells_of}
 use Rattle.ds_state.specs.Reports.{PlainReports}
-use Rattle.ds_state.specs.World.{Edit, Issue, World}
+use Rattle.ds_state.specs.World.{PlainEdit, PlainIssue, PlainWorld}
 use Rattle.ds_state.specs.Sound.{IsSound}
 use Rattle.ds_state.specs.Dones.{HasAnswered}
 use Rattle.ds_state.specs.Underway.{reports_under_way}
@@ -18,14 +18,14 @@ use Rattle.ds_state.specs.declared.situation.Situation.TheVariants.{Idle}
 pub record WorldValue : Type 0 where
   pub sheet : SheetValue
   pub situations : List Situation
-  pub counted : List Edit
-  pub open_edits : List (Option Issue)
+  pub counted : List PlainEdit
+  pub open_edits : List (Option PlainIssue)
   pub done : ℕ
   pub settled : ℕ
   pub reports : PlainReports
 
 -- the plain world that a value stands for: what it has of no process is what a new world has
-abbrev pub world_of : WorldValue → World
+abbrev pub world_of : WorldValue → PlainWorld
 world_of v = record {
   layout = v.sheet.layout;
   memory = memory v.sheet;

@@ -8,7 +8,7 @@ use Rattle.ds_formula.specs.Limits.{CELLS_MOST, PROCESSES_MOST, TEXT_MOST}
 use Rattle.ds_layout.specs.Mark.{generation_of}
 use Rattle.ds_state.specs.declared.work.Spread.TheVariants.{LoadRow, OrTold, FlushTold, BackTold}
 use Rattle.ds_state.specs.declared.work.WorkStage.TheVariants.{Claim, LoadText, LoadValue, LoadKind, StoreValue, StoreKind, FlushValue, FlushKind, BackValue, BackKind, Telling, Clear}
-use Rattle.ds_formula.specs.Plain.{Plain}
+use Rattle.ds_formula.specs.Plain.{PlainContent}
 use Rattle.ds_eval.specs.declared.inputs.Entry.{Entry}
 use Rattle.ds_eval.specs.declared.inputs.Input.{Input}
 use Rattle.ds_state.specs.declared.work.WorkStage.{WorkStage}
@@ -18,7 +18,7 @@ use Rattle.ds_state.specs.declared.work.ShowStage.{ShowStage}
 -- a work under way: its process, the number of the process's next edit, the cell; the mark that it saw, then its
 -- claim; the head, the length and the text that it noted, its content, the references with what they show; its own
 -- words; what the inputs give; the index row of the cell
-pub record PlainWork : Type 0 where
+pub record PlainWorkCall : Type 0 where
   pub process : ℕ
   pub next : ℕ
   pub cell : ℕ
@@ -28,7 +28,7 @@ pub record PlainWork : Type 0 where
   pub head : ℕ
   pub length : ℕ
   pub text : List ℕ
-  pub content : Plain
+  pub content : PlainContent
   pub inputs : List Input
   pub value : ℕ
   pub kind : ℕ
@@ -38,7 +38,7 @@ pub record PlainWork : Type 0 where
 
 -- the part of a text that is looked at is one of the text, the reference one of the references, the part of the row
 -- is one of the row, and so many are loaded, and the cell that is told is one of the sheet
-abbrev pub StageFits : PlainWork → WorkStage → Type 0
+abbrev pub StageFits : PlainWorkCall → WorkStage → Type 0
 StageFits e (LoadText part) = 8 * part < e.length
 StageFits e (LoadValue i) = i < length e.inputs
 StageFits e (LoadKind i value) = i < length e.inputs
@@ -61,21 +61,21 @@ abbrev pub MARK_MOST : ℕ
 MARK_MOST = HELD_MOST + 1
 
 -- the mark that a work is to claim has a generation that can be followed
-abbrev pub ClaimFits : PlainWork → WorkStage → Type 0
+abbrev pub ClaimFits : PlainWorkCall → WorkStage → Type 0
 ClaimFits e Claim = generation_of e.mark ≤ SEEN_MOST
 ClaimFits e _ = Unit {0}
 
 -- the value and the kind that the work loaded of its cell are those of its entry
-abbrev pub IsSame : PlainWork → Type 0
+abbrev pub IsSame : PlainWorkCall → Type 0
 IsSame e = (e.value ≡ value_for e.entry) × (e.kind ≡ word_for e.entry)
 
 -- the value or the kind that the work loaded of its cell is not that of its entry
-abbrev pub Differs : PlainWork → Type 0
+abbrev pub Differs : PlainWorkCall → Type 0
 Differs e = IsSame e → ⊥
 
 -- a work stores where its cell's words are not those of its entry, and tells only cells whose bit the loaded row has;
 -- where it lets its cell go, it knows which of both it was
-abbrev pub TellsFits : PlainWork → WorkStage → Type 0
+abbrev pub TellsFits : PlainWorkCall → WorkStage → Type 0
 TellsFits e StoreValue = Differs e
 TellsFits e StoreKind = Differs e
 TellsFits e FlushValue = Differs e
@@ -91,7 +91,7 @@ TellsFits e (Clear false) = IsSame e
 TellsFits e _ = Unit {0}
 
 -- a work's process, cell, text and inputs are those of a sheet, whatever its words say
-pub record IsWork (e : PlainWork) : Type 0 where
+pub record IsWork (e : PlainWorkCall) : Type 0 where
   pub process : e.process < e.processes
   pub processes : e.processes ≤ PROCESSES_MOST
   pub cell : e.cell < e.cells
@@ -106,13 +106,13 @@ pub record IsWork (e : PlainWork) : Type 0 where
   pub told : TellsFits e e.stage
 
 -- a work of a sheet, with room for one input for each cell of the sheet
-pub record IsWorkIn (e : PlainWork) (places : ℕ) : Type 0 where
+pub record IsWorkIn (e : PlainWorkCall) (places : ℕ) : Type 0 where
   pub is : IsWork e
   pub room : e.cells ≤ places
 
 -- a recovery under way: its process; the mark that it saw, the index row of the cell that it gives back; the
 -- announcement that it saw, and the cell of that edit
-pub record PlainRecovery : Type 0 where
+pub record PlainRecoverCall : Type 0 where
   pub process : ℕ
   pub cells : ℕ
   pub processes : ℕ
@@ -123,7 +123,7 @@ pub record PlainRecovery : Type 0 where
   pub stage : RecoverStage
 
 -- a report under way: its process, the number of the process's next edit; what it noted so far
-pub record PlainShow : Type 0 where
+pub record PlainShowCall : Type 0 where
   pub process : ℕ
   pub next : ℕ
   pub cells : ℕ

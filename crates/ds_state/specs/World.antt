@@ -11,33 +11,33 @@ use Rattle.ds_layout.specs.Head.{head_word}
 use Rattle.ds_layout.specs.Header.{header_word}
 use Rattle.ds_layout.specs.TextWords.{part_word}
 use Rattle.ds_layout.specs.Bits.{part_with}
-use Rattle.ds_state.specs.Edits.{PlainEdit, text_parts}
+use Rattle.ds_state.specs.Edits.{PlainEditCall, text_parts}
 use Rattle.ds_state.specs.declared.situation.Situation.{Situation}
 
 -- what an edit is to whoever asked for it
-pub record Edit : Type 0 where
+pub record PlainEdit : Type 0 where
   pub process : ℕ
   pub number : ℕ
   pub cell : ℕ
   pub text : List ℕ
 
 -- what an edit under way is to whoever asked for it
-abbrev pub edit_of : PlainEdit → Edit
+abbrev pub edit_of : PlainEditCall → PlainEdit
 edit_of e = record { process = e.process; number = e.number; cell = e.cell; text = e.text }
 
 -- an edit that is not answered, and how many edits counted when it was issued
-pub record Issue : Type 0 where
-  pub edit : Edit
+pub record PlainIssue : Type 0 where
+  pub edit : PlainEdit
   pub since : ℕ
 
 -- the words by their places, what each process does, the edits that count in their order, and the edit of each
 -- process that is not answered
-pub record World : Type 0 where
+pub record PlainWorld : Type 0 where
   pub layout : Layout
   pub memory : Memory Place
   pub situation : ℕ → Situation
-  pub counted : List Edit
-  pub open_edits : ℕ → Option Issue
+  pub counted : List PlainEdit
+  pub open_edits : ℕ → Option PlainIssue
 
 -- the place of a word of an edit's record: the header, then the parts of its text
 abbrev pub record_place : ℕ → ℕ → ℕ → Place
@@ -45,12 +45,12 @@ record_place process number zero = place.Header process number
 record_place process number (suc part) = place.Text process number part
 
 -- the word of an edit's record with this number: the header, then the parts of its text
-abbrev pub record_word : Edit → ℕ → ℕ
+abbrev pub record_word : PlainEdit → ℕ → ℕ
 record_word e zero = header_word (record { cell = e.cell; length = length e.text })
 record_word e (suc part) = part_word e.text part
 
 -- how many words an edit's record has
-abbrev pub record_size : Edit → ℕ
+abbrev pub record_size : PlainEdit → ℕ
 record_size e = text_parts e.text + 1
 
 -- the place of the word of an index row that has the cell's bit
@@ -62,30 +62,30 @@ abbrev pub done_place : ℕ → ℕ → Place
 done_place process number = place.Done process (part_with number)
 
 -- the edits of one cell
-unfoldable pub of_cell : ℕ → List Edit → List Edit
+unfoldable pub of_cell : ℕ → List PlainEdit → List PlainEdit
 of_cell cell edits = filter (λ e. e.cell == cell) edits
 
 -- the head with this stamp that the edit gives its cell
-abbrev pub head_by : ℕ → Edit → ℕ
+abbrev pub head_by : ℕ → PlainEdit → ℕ
 head_by stamp e = head_word (record { stamp = stamp; process = e.process; number = e.number })
 
 -- the head after these edits, where so many came before and left this one
-abbrev pub head_from : ℕ → ℕ → List Edit → ℕ
+abbrev pub head_from : ℕ → ℕ → List PlainEdit → ℕ
 head_from stamp head [] = head
 head_from stamp head (e ∷ es) = head_from (stamp + 1) (head_by (stamp + 1) e) es
 
 -- the head of a cell with these edits: 0 without any
-unfoldable pub head_after_all : List Edit → ℕ
+unfoldable pub head_after_all : List PlainEdit → ℕ
 head_after_all es = head_from 0 0 es
 
 -- the edits of the cell when so many edits counted
-abbrev pub of_cell_when : World → ℕ → ℕ → List Edit
+abbrev pub of_cell_when : PlainWorld → ℕ → ℕ → List PlainEdit
 of_cell_when w cell count = of_cell cell (take count w.counted)
 
 -- the word is the head that the edit gave its cell, which has these edits
-pub record IsHeadBy (es : List Edit) (word : ℕ) (e : Edit) : Type 0 where
-  pub before : List Edit
-  pub after : List Edit
+pub record IsHeadBy (es : List PlainEdit) (word : ℕ) (e : PlainEdit) : Type 0 where
+  pub before : List PlainEdit
+  pub after : List PlainEdit
   pub parts : es ≡ before ++ e ∷ after
   pub is : word ≡ head_by (length before + 1) e
 
@@ -94,15 +94,15 @@ abbrev pub announcement : ℕ → Phase → ℕ
 announcement number p = announcement_word (record { number = number; phase = p })
 
 -- whether the edit is the process's one of this number
-abbrev pub is_edit_of : ℕ → ℕ → Edit → Bool
+abbrev pub is_edit_of : ℕ → ℕ → PlainEdit → Bool
 is_edit_of process number e = (e.process == process) && (e.number == number)
 
 -- how the process's edit of this number ended: done where it stands among the edits, else not done
-abbrev pub phase_among : List Edit → ℕ → ℕ → Phase
+abbrev pub phase_among : List PlainEdit → ℕ → ℕ → Phase
 phase_among [] process number = phase.NotDone
 phase_among (e ∷ es) process number = if is_edit_of process number e then phase.Done else phase_among es process number
 
 -- what the process announces before its edit of this number: how the one before ended, 0 before the first
-abbrev pub last_announcement : List Edit → ℕ → ℕ → ℕ
+abbrev pub last_announcement : List PlainEdit → ℕ → ℕ → ℕ
 last_announcement edits process zero = 0
 last_announcement edits process (suc before) = announcement before (phase_among edits process before)

@@ -28,9 +28,9 @@ pub struct EditCall {
 }
 
 impl Model for EditCall {
-    ghost use Rattle.ds_state.specs.Edits.{PlainEdit, IsEdit};
+    ghost use Rattle.ds_state.specs.Edits.{PlainEditCall, IsEdit};
 
-    ghost Value = { PlainEdit };
+    ghost Value = { PlainEditCall };
 
     ghost view = { λ a. record {
       process = a.process;

@@ -5,7 +5,7 @@ ghost use Rattle.ds_layout.specs.Mark.{mark_word};
 ghost use Rattle.ds_layout.specs.declared.place.Place.{Place};
 ghost use Rattle.ds_layout.specs.declared.place.Place.TheVariants.{Mark};
 ghost use Rattle.ds_layout.specs.declared.place.TheConstants.{RECORDS};
-ghost use Rattle.ds_state.specs.World.{World, of_cell};
+ghost use Rattle.ds_state.specs.World.{PlainWorld, of_cell};
 ghost use Rattle.ds_state.specs.Shown.{last_text, mark_at, text_at, IsQuiet, MayHold, values_shown};
 ghost use Rattle.ds_state.specs.KnownShow.{AreScratch};
 ghost use Rattle.ds_state.specs.Value.{WorldValue, IsGood};
@@ -14,7 +14,7 @@ ghost use Rattle.ds_state.specs.Events.{Evicts};
 ghost use Rattle.ds_state.specs.Sound.{IsSound};
 ghost use Rattle.ds_state.specs.Rely.{Rely, Keeps};
 ghost use Rattle.ds_state.specs.Spent.{IsSpent};
-ghost use Rattle.ds_state.specs.Edits.{PlainEdit};
+ghost use Rattle.ds_state.specs.Edits.{PlainEditCall};
 ghost use Rattle.ds_state.specs.declared.stage.Outcome.{Outcome};
 ghost use Rattle.ds_state.specs.declared.stage.Stage.TheVariants.{Swap, Answer};
 ghost use Rattle.ds_state.specs.declared.situation.Situation.TheVariants.{Editing};
@@ -25,33 +25,33 @@ ghost use Rattle.ds_state.specs.declared.situation.Situation.{Situation};
 
 /// A new sheet is sound.
 pub fn new_is_sound()
-    ensures { (w : World) → IsNew w → IsSound w }
+    ensures { (w : PlainWorld) → IsNew w → IsSound w }
 {}
 
 /// An eviction leaves a sound sheet sound, and leaves each process what it may count on.
 pub fn evictions_keep_soundness()
-    ensures { (place : Place) (old new : World) → IsSound old → Evicts place old new
+    ensures { (place : Place) (old new : PlainWorld) → IsSound old → Evicts place old new
         → IsSound new × ((q : ℕ) → q < old.layout.processes → Rely q old new) }
 {}
 
 /// What a call knows stays as long as all that it may count on stays.
 #[tactic(auto, using(crate::proofs::Stable::call_stable))]
 pub fn calls_are_stable()
-    ensures { (old new : World) (q : ℕ) (s : Situation) → Rely q old new
+    ensures { (old new : PlainWorld) (q : ℕ) (s : Situation) → Rely q old new
         → CallFits old q s → CallFits new q s }
 {}
 
 /// No more edits count than there are records: 256 for each process.
 #[tactic(auto, using(crate::proofs::Few::counted_few))]
 pub fn few_edits_count()
-    ensures { (w : World) → IsSound w → length w.counted ≤ RECORDS * w.layout.processes }
+    ensures { (w : PlainWorld) → IsSound w → length w.counted ≤ RECORDS * w.layout.processes }
 {}
 
 /// The text of a cell, as processes see it, is that of the last of its edits that count, and empty
 /// where none counts.
 #[tactic(auto, using(crate::proofs::LastText::text_right))]
 pub fn texts_are_of_last_edits()
-    ensures { (w : World) (cell : ℕ) → IsSound w
+    ensures { (w : PlainWorld) (cell : ℕ) → IsSound w
         → text_at w.layout w.memory cell ≡ last_text (of_cell cell w.counted) }
 {}
 
@@ -60,9 +60,9 @@ pub fn texts_are_of_last_edits()
 /// back.
 #[tactic(auto, using(crate::proofs::MarkLaws::mark_whole, crate::proofs::MarkLaws::mark_names))]
 pub fn marks_are_of_their_holders()
-    ensures word { (w : World) (cell : ℕ) → IsSound w
+    ensures word { (w : PlainWorld) (cell : ℕ) → IsSound w
         → mark_word (mark_at w.layout w.memory cell) ≡ w.memory.cached (Mark cell) }
-    ensures holder { (w : World) (cell q : ℕ) → IsSound w
+    ensures holder { (w : PlainWorld) (cell q : ℕ) → IsSound w
         → (mark_at w.layout w.memory cell).holder ≡ Some q
         → (q < w.layout.processes) × MayHold cell (w.situation q) }
 {}
@@ -75,32 +75,32 @@ pub fn few_edits_are_done()
 
 /// A crash leaves a sound sheet sound, with the edits whose heads are persisted.
 pub fn crashes_keep_soundness()
-    ensures { (old new : World) → IsSound old → CrashesTo old new → IsSound new }
+    ensures { (old new : PlainWorld) → IsSound old → CrashesTo old new → IsSound new }
 {}
 
 /// A stop leaves a sound sheet sound, and leaves each other process what it may count on.
 pub fn stops_keep_soundness()
-    ensures { (p : ℕ) (old new : World) → IsSound old → p < old.layout.processes → StopsIn p old new → Keeps p old new }
+    ensures { (p : ℕ) (old new : PlainWorld) → IsSound old → p < old.layout.processes → StopsIn p old new → Keeps p old new }
 {}
 
 /// Whatever happens, a number that is spent stays so: a step, a beginning and a stop of a process,
 /// an eviction, a crash.
 pub fn spent_numbers_stay()
-    ensures kept { (p : ℕ) (old new : World) → Keeps p old new
+    ensures kept { (p : ℕ) (old new : PlainWorld) → Keeps p old new
         → (q n : ℕ) → IsSpent old q n → IsSpent new q n }
-    ensures evicted { (place : Place) (old new : World) → IsSound old → Evicts place old new
+    ensures evicted { (place : Place) (old new : PlainWorld) → IsSound old → Evicts place old new
         → (q n : ℕ) → IsSpent old q n → IsSpent new q n }
-    ensures crashed { (old new : World) → CrashesTo old new
+    ensures crashed { (old new : PlainWorld) → CrashesTo old new
         → (q n : ℕ) → IsSpent old q n → IsSpent new q n }
 {}
 
 /// An edit that may come to count with its next step has no spent number, and one that is answered
 /// with its next step has.
 pub fn spent_numbers_do_not_count()
-    ensures swap { (w : World) (e : PlainEdit) (head n : ℕ) → IsSound w
+    ensures swap { (w : PlainWorld) (e : PlainEditCall) (head n : ℕ) → IsSound w
         → e.process < w.layout.processes → w.situation e.process ≡ Editing e → e.stage ≡ Swap head
         → IsSpent w e.process n → n < e.number }
-    ensures answer { (w : World) (e : PlainEdit) (how : Outcome) → IsSound w
+    ensures answer { (w : PlainWorld) (e : PlainEditCall) (how : Outcome) → IsSound w
         → e.process < w.layout.processes → w.situation e.process ≡ Editing e → e.stage ≡ Answer how
         → IsSpent w e.process e.number }
 {}
@@ -108,12 +108,12 @@ pub fn spent_numbers_do_not_count()
 /// Where every mark is clean and every edit is answered, each cell shows what its content gives of what the others show.
 #[tactic(auto, using(crate::proofs::QuietRight::quiet_right))]
 pub fn calm_sheets_are_right()
-    ensures { (w : World) → IsSound w → IsCalm w → (cell : ℕ) → IsLocalAt w cell }
+    ensures { (w : PlainWorld) → IsSound w → IsCalm w → (cell : ℕ) → IsLocalAt w cell }
 {}
 
 /// A quiet sheet shows the values of the edits that count, from scratch.
 #[tactic(auto, using(crate::proofs::QuietShown::quiet_shows))]
 pub fn quiet_sheets_are_right()
-    ensures { (w : World) → IsSound w → IsQuiet w
+    ensures { (w : PlainWorld) → IsSound w → IsQuiet w
         → AreScratch w.layout.shape w.counted (values_shown w) }
 {}

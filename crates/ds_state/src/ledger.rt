@@ -20,9 +20,9 @@ pub struct Edit {
 }
 
 impl Model for Edit {
-    ghost use Rattle.ds_state.specs.World.{Edit};
+    ghost use Rattle.ds_state.specs.World.{PlainEdit};
 
-    ghost Value = { Edit };
+    ghost Value = { PlainEdit };
 
     ghost view = { λ e. record { process = e.process; number = e.number; cell = e.cell; text = e.text } };
 
@@ -58,9 +58,9 @@ pub struct Issue {
 }
 
 impl Model for Issue {
-    ghost use Rattle.ds_state.specs.World.{Issue};
+    ghost use Rattle.ds_state.specs.World.{PlainIssue};
 
-    ghost Value = { Issue };
+    ghost Value = { PlainIssue };
 
     ghost view = { λ i. record { edit = i.edit; since = i.since } };
 

@@ -140,7 +140,7 @@ pub fn record_text<W: SheetReader>(
     requires number { number < RECORDS }
     ensures { IfOk result (λ v. v.items ≡ record_at (W.sheet words.now) (W.seen words.now) process number) }
 {
-    let word = words.load(Place::Header(process, number));
+    let word = words.load(Place::Header { process, number });
     match Header::read(word, words.layout().cells()) {
         Some(header) => parts(words, alloc, process, number, header.length),
         None => Ok(Vec::new(alloc)),

@@ -61,7 +61,12 @@ pub enum WorkStage {
     /// Load the value of a reference.
     LoadValue(usize),
     /// Load its kind, beside the value.
-    LoadKind(usize, u64),
+    LoadKind {
+        /// Which reference, from 0.
+        input: usize,
+        /// The word of the value that was loaded.
+        value: u64,
+    },
     /// Load the cell's own value.
     LoadOwnValue,
     /// Load its own kind.
@@ -137,12 +142,12 @@ pub struct WorkCall {
 
 impl Model for WorkCall {
     ghost use Rattle.std.specs.Prelude.{◌≤◌};
-    ghost use Rattle.ds_state.specs.Works.{PlainWork, IsWorkIn};
+    ghost use Rattle.ds_state.specs.Works.{PlainWorkCall, IsWorkIn};
     ghost use Rattle.ds_eval.specs.Code.{plain_code};
     ghost use Rattle.ds_formula.specs.Plain.{plain};
     ghost use Rattle.std.specs.Coded.{codes};
 
-    ghost Value = { PlainWork };
+    ghost Value = { PlainWorkCall };
 
     ghost coded = { Prim.hlevel (codes, plain_code) };
 
@@ -258,10 +263,10 @@ pub struct RecoverCall {
 }
 
 impl Model for RecoverCall {
-    ghost use Rattle.ds_state.specs.Works.{PlainRecovery};
+    ghost use Rattle.ds_state.specs.Works.{PlainRecoverCall};
     ghost use Rattle.ds_state.specs.RecoverStages.{IsRecovery};
 
-    ghost Value = { PlainRecovery };
+    ghost Value = { PlainRecoverCall };
 
     ghost view = { λ a. record {
       process = a.process;
@@ -291,10 +296,20 @@ impl Model for RecoverCall {
 pub enum ShowEnd {
     /// All was seen again as it was.
     Settled,
-    /// This cell's mark is not clean, or it moved: the word that was seen.
-    AtMark(usize, u64),
-    /// This process announces an edit as pending, or its announcement moved: the word that was seen.
-    AtAnnounce(usize, u64),
+    /// This cell's mark is not clean, or it moved.
+    AtMark {
+        /// The cell.
+        cell: usize,
+        /// The word that was seen.
+        word: u64,
+    },
+    /// This process announces an edit as pending, or its announcement moved.
+    AtAnnounce {
+        /// The process.
+        process: usize,
+        /// The word that was seen.
+        word: u64,
+    },
 }
 
 /// What a report does next.
@@ -341,10 +356,10 @@ pub struct ShowCall {
 
 impl Model for ShowCall {
     ghost use Rattle.std.specs.Prelude.{vec_capacity};
-    ghost use Rattle.ds_state.specs.Works.{PlainShow};
+    ghost use Rattle.ds_state.specs.Works.{PlainShowCall};
     ghost use Rattle.ds_state.specs.ShowStages.{IsReady};
 
-    ghost Value = { PlainShow };
+    ghost Value = { PlainShowCall };
 
     ghost view = { λ a. record {
       process = a.process;

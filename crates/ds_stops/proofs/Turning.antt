@@ -7,7 +7,7 @@ use Rattle.ds_eval.specs.declared.inputs.Entry.{Entry}
 use Rattle.ds_layout.specs.Places.{cells_of}
 use Rattle.ds_layout.specs.declared.layout.Layout.{Layout}
 use Rattle.ds_state.specs.Value.{WorldValue, world_of, IsGood}
-use Rattle.ds_state.specs.Works.{PlainWork}
+use Rattle.ds_state.specs.Works.{PlainWorkCall}
 use Rattle.ds_state.specs.declared.situation.Situation.{Situation}
 use Rattle.ds_state.specs.declared.situation.Situation.TheVariants.{Working}
 use Rattle.ds_state.specs.declared.work.WorkStage.{WorkStage}
@@ -58,21 +58,21 @@ answered w p until answer (inr (inr is)) = (reply_text w p (Answered answer), ap
 
 -- ---- an offer
 
-wants_by : (shape : Shape) (p : ℕ) (e : PlainWork) (same : Bool) → wanted_at p shape e (if same then Clear false else StoreValue) ≡ Step p
+wants_by : (shape : Shape) (p : ℕ) (e : PlainWorkCall) (same : Bool) → wanted_at p shape e (if same then Clear false else StoreValue) ≡ Step p
 wants_by shape p e true = refl
 wants_by shape p e false = refl
 
 -- behind an offer the process wants a step
 pub wants_behind : (old new : WorldValue) (p : ℕ) (shape : Shape) → ((entry : Entry) × IsOffered (world_of old) p entry (world_of new)) → wanted p shape ((world_of new).situation p) ≡ Step p
 wants_behind old new p shape given =
-    let w : PlainWork = given.1.work in
+    let w : PlainWorkCall = given.1.work in
     let is : (world_of new).situation p ≡ Working (steps.offered w given.0) = ap (λ (q : ℕ). (world_of new).situation q) (sym given.1.mine) ∙ given.1.offers.turn.situation in
     ap (λ (s : Situation). wanted p shape s) is ∙ wants_by shape p (steps.offered w given.0) _
 
 -- ---- turns
 
 -- how near the next step is
-near_at : (p : ℕ) (shape : Shape) (e : PlainWork) (s : WorkStage) → events_from (Some (wanted_at p shape e s)) < 3
+near_at : (p : ℕ) (shape : Shape) (e : PlainWorkCall) (s : WorkStage) → events_from (Some (wanted_at p shape e s)) < 3
 near_at p shape e Wait = lit< tt
 near_at p shape e s = lit< tt
 

@@ -33,9 +33,15 @@ fn numbers(rt: HostRuntime) {
         (Place::Mark(0), Some(5)),
         (Place::Value(3), Some(12)),
         (Place::Kind(0), Some(13)),
-        (Place::Index(3, 0), Some(20)),
+        (Place::Index { row: 3, part: 0 }, Some(20)),
         (Place::Announce(1), Some(22)),
-        (Place::Header(1, 255), Some(534)),
+        (
+            Place::Header {
+                process: 1,
+                number: 255,
+            },
+            Some(534),
+        ),
         (
             Place::Text {
                 process: 0,
@@ -44,9 +50,15 @@ fn numbers(rt: HostRuntime) {
             },
             Some(564),
         ),
-        (Place::Done(1, 3), Some(8222)),
+        (
+            Place::Done {
+                process: 1,
+                part: 3,
+            },
+            Some(8222),
+        ),
         (Place::Head(4), None),
-        (Place::Index(0, 1), None),
+        (Place::Index { row: 0, part: 1 }, None),
         (
             Place::Text {
                 process: 1,
@@ -55,12 +67,29 @@ fn numbers(rt: HostRuntime) {
             },
             None,
         ),
-        (Place::Done(2, 0), None),
+        (
+            Place::Done {
+                process: 2,
+                part: 0,
+            },
+            None,
+        ),
     ];
     for (place, wanted) in places {
         assert_eq!(rt; number(2, 2, 2, place), wanted);
     }
-    assert_eq!(rt; number(16, 64, 8, Place::Done(7, 3)), Some(53288));
+    assert_eq!(rt;
+        number(
+            16,
+            64,
+            8,
+            Place::Done {
+                process: 7,
+                part: 3
+            }
+        ),
+        Some(53288)
+    );
 }
 
 #[test]

@@ -43,9 +43,23 @@ fn after(alloc: Global, class: Class, events: &[Event]) -> Result<(u64, u64, boo
 }
 
 const STAMPED: [Event; 6] = [
-    Event::By(0, Access::SwapIf(0, 0, 5)),
+    Event::By(
+        0,
+        Access::SwapIf {
+            place: 0,
+            expected: 0,
+            value: 5,
+        },
+    ),
     Event::By(0, Access::Flush(0)),
-    Event::By(1, Access::SwapIf(0, 5, 9)),
+    Event::By(
+        1,
+        Access::SwapIf {
+            place: 0,
+            expected: 5,
+            value: 9,
+        },
+    ),
     Event::By(1, Access::Flush(0)),
     Event::By(1, Access::Back),
     Event::By(0, Access::Back),

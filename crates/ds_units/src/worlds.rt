@@ -66,7 +66,14 @@ fn record(rt: HostRuntime) -> Result<(), Fail> {
             cell: 3,
             length: 13,
         };
-        store(&mut words, Place::Header(1, 7), header.word());
+        store(
+            &mut words,
+            Place::Header {
+                process: 1,
+                number: 7,
+            },
+            header.word(),
+        );
         store(&mut words, text_place(0), part_word(text, 0));
         store(&mut words, text_place(1), part_word(text, 1));
         if words.layout().processes == 2 {

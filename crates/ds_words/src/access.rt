@@ -37,8 +37,15 @@ pub enum Access<P> {
     Store(P, u64),
     /// Adds bits to the cached side.
     Or(P, u64),
-    /// Sets the cached side to the second value where it is the first one.
-    SwapIf(P, u64, u64),
+    /// Sets the cached side to a value where it is the expected one.
+    SwapIf {
+        /// The word.
+        place: P,
+        /// What the cached side has to be.
+        expected: u64,
+        /// What it becomes.
+        value: u64,
+    },
     /// Takes the cached side into the buffer of the process.
     Flush(P),
     /// Writes the oldest entry of the buffer of the process to the persisted side of its word.

@@ -170,7 +170,11 @@ impl Words {
             Access::Load(number) => self.has_word(number),
             Access::Store(number, _) => self.has_word(number),
             Access::Or(number, _) => self.has_word(number),
-            Access::SwapIf(number, _, _) => self.has_word(number),
+            Access::SwapIf {
+                place: number,
+                expected: _,
+                value: _,
+            } => self.has_word(number),
             Access::Flush(number) => self.has_word(number) && self.has_room(process),
             Access::Back => self.has_entry(process),
         }
@@ -367,7 +371,11 @@ impl Words {
                 self.or(number, bits);
                 0
             }
-            Access::SwapIf(number, expected, value) => self.swap_if(number, expected, value),
+            Access::SwapIf {
+                place: number,
+                expected,
+                value,
+            } => self.swap_if(number, expected, value),
             Access::Flush(number) => {
                 self.flush(process, number);
                 0

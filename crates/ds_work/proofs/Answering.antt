@@ -12,8 +12,8 @@ use Rattle.ds_layout.specs.Head.{head_of}
 use Rattle.ds_layout.specs.Header.{header_of}
 use Rattle.ds_layout.specs.Mark.{mark_of, state_of, held_after}
 use Rattle.ds_layout.specs.TextWords.{bytes_of}
-use Rattle.ds_state.specs.Works.{PlainWork, SEEN_MOST}
-use Rattle.ds_state.specs.World.{World}
+use Rattle.ds_state.specs.Works.{PlainWorkCall, SEEN_MOST}
+use Rattle.ds_state.specs.World.{PlainWorld}
 use Rattle.ds_state.specs.Standing.{shown_entry}
 use Rattle.ds_state.specs.Telling.{told_from}
 use Rattle.ds_state.specs.Sound.{IsSound}
@@ -29,19 +29,19 @@ use Rattle.ds_work.specs.WorkAnswers.{IsDecided, mark_now, IsTrueAnswer}
 use Rattle.ds_work.proofs.EachWork.{fits_at}
 
 -- a test of which the outcome is known
-when : (b : Bool) (x y : PlainWork) (end : WorkEnd) → b ≡ true → IsDecided (if b then x else y).stage end → IsDecided x.stage end
+when : (b : Bool) (x y : PlainWorkCall) (end : WorkEnd) → b ≡ true → IsDecided (if b then x else y).stage end → IsDecided x.stage end
 when true x y end is d = d
 when false x y end is d = absurd cc
 
-unless : (b : Bool) (x y : PlainWork) (end : WorkEnd) → b ≡ false → IsDecided (if b then x else y).stage end → IsDecided y.stage end
+unless : (b : Bool) (x y : PlainWorkCall) (end : WorkEnd) → b ≡ false → IsDecided (if b then x else y).stage end → IsDecided y.stage end
 unless true x y end is d = absurd cc
 unless false x y end is d = d
 
-either : (b : Bool) (x y : PlainWork) (end : WorkEnd) → (IsDecided x.stage end → ⊥) → (IsDecided y.stage end → ⊥) → IsDecided (if b then x else y).stage end → ⊥
+either : (b : Bool) (x y : PlainWorkCall) (end : WorkEnd) → (IsDecided x.stage end → ⊥) → (IsDecided y.stage end → ⊥) → IsDecided (if b then x else y).stage end → ⊥
 either true x y end h k d = h d
 either false x y end h k d = k d
 
-module _ (e : PlainWork) (word : ℕ) (old new : World) (sound : IsSound old) (real : e.process < old.layout.processes) (end : WorkEnd) where
+module _ (e : PlainWorkCall) (word : ℕ) (old new : PlainWorld) (sound : IsSound old) (real : e.process < old.layout.processes) (end : WorkEnd) where
   eq_true : (n : ℕ) → word ≡ n → (word == n) ≡ true
   eq_true n is = grind (arith, nat_tests)
 
@@ -62,7 +62,7 @@ module _ (e : PlainWork) (word : ℕ) (old new : World) (sound : IsSound old) (r
   no_header None d = d
   no_header (Some header) d = either (nat_lt 0 ((header.length + 7) / 8)) (record e { length = header.length; text = []; stage = LoadText 0 }) (record e { length = header.length; text = []; stage = Read }) end (λ x. x) (λ x. x) d
 
-  no_told : (f : PlainWork) (o : Option ℕ) → IsDecided (told f o).stage end → ⊥
+  no_told : (f : PlainWorkCall) (o : Option ℕ) → IsDecided (told f o).stage end → ⊥
   no_told f None d = d
   no_told f (Some cell) d = d
 
@@ -122,6 +122,6 @@ module _ (e : PlainWork) (word : ℕ) (old new : World) (sound : IsSound old) (r
   decided (BackCleared before) fits t d = d
   decided (Answer before) fits t d = d
 
-pub answer_true : (e : PlainWork) (stage : WorkStage) (word : ℕ) (old new : World) (end : WorkEnd) → IsSound old → e.process < old.layout.processes
+pub answer_true : (e : PlainWorkCall) (stage : WorkStage) (word : ℕ) (old new : PlainWorld) (end : WorkEnd) → IsSound old → e.process < old.layout.processes
     → old.situation e.process ≡ Working (at e stage) → StepsAt e stage word old new → IsDecided (next_at e stage word).stage end → IsTrueAnswer e stage old new end
 answer_true e stage word old new end sound real was t d = decided e word old new sound real end stage (fits_at e stage old sound real was) t d

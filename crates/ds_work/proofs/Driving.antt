@@ -6,8 +6,8 @@ use Rattle.ds_formula.specs.Cells.{count_of}
 use Rattle.ds_layout.specs.declared.layout.Layout.{Layout}
 use Rattle.ds_layout.specs.Places.{cells_of}
 use Rattle.ds_layout.specs.SheetMemory.{SheetValue, memory, CanPerform, PerformsAt}
-use Rattle.ds_state.specs.Works.{PlainWork, IsWork}
-use Rattle.ds_state.specs.World.{World}
+use Rattle.ds_state.specs.Works.{PlainWorkCall, IsWork}
+use Rattle.ds_state.specs.World.{PlainWorld}
 use Rattle.ds_state.specs.Value.{WorldValue, world_of, IsGood, IsReserved}
 use Rattle.ds_state.specs.CallsFit.{CallFits}
 use Rattle.ds_state.specs.KnownWork.{WorkFits}
@@ -36,7 +36,7 @@ use Rattle.ds_work.proofs.EachWork.{begins_keep, offer_keep, work_steps_keep, re
 use Rattle.ds_work.proofs.WorkNamed.{can_perform}
 
 -- a process that works reports nothing
-after_quiet : (e : PlainWork) (s : WorkStage) (word : ℕ) → reports_in (after e s word) ≡ 0
+after_quiet : (e : PlainWorkCall) (s : WorkStage) (word : ℕ) → reports_in (after e s word) ≡ 0
 after_quiet e (Answer end) word = refl
 after_quiet e _ word = refl
 
@@ -73,7 +73,7 @@ module _ (v : WorldValue) (p : ℕ) (sheet : SheetValue) (s : Situation) (layout
 
 -- ---- beginnings
 
-module _ (v : WorldValue) (e : PlainWork) (next : ℕ) (room : ℕ) (kept : IsReserved v room) (index : ℕ) (asked : IsAskedFor v.sheet.layout e.process next index e)
+module _ (v : WorldValue) (e : PlainWorkCall) (next : ℕ) (room : ℕ) (kept : IsReserved v room) (index : ℕ) (asked : IsAskedFor v.sheet.layout e.process next index e)
     (low : e.process < v.sheet.layout.processes) (idle : (world_of v).situation e.process ≡ Idle next) where
   pub begun : BeginsWork next e (world_of v) (world_of (put v e.process v.sheet (Working e)))
   begun = record {
@@ -103,7 +103,7 @@ pub situation_at : (v : WorldValue) (p : ℕ) (read : Situation) → IsGood v �
 situation_at v p read good low is = get_or_default v.situations p (Idle 0) read (let s = good.situations in omega (arith, s, low)) ∙ sym is
 
 -- why a process in this situation may not begin work
-pub refuses_of : (w : World) (p : ℕ) (s : Situation) (r : Refusal) → w.situation p ≡ s → Err r ≡ next_of s → Refuses w p r
+pub refuses_of : (w : PlainWorld) (p : ℕ) (s : Situation) (r : Refusal) → w.situation p ≡ s → Err r ≡ next_of s → Refuses w p r
 refuses_of w p (Idle m) r at is = absurd (cc)
 refuses_of w p Stopped r at is = rw at (let same : r ≡ refusal.Stopped = cc in same)
 refuses_of w p (Editing e) r at is = rw at (let same : r ≡ refusal.Busy = cc in same)
@@ -118,7 +118,7 @@ handed_on (Err x) given P is h = subst P (sym is) h
 
 -- ---- works under way
 
-module _ (v : WorldValue) (g : IsGood v) (p : ℕ) (e : PlainWork) (low : p < v.sheet.layout.processes) (works : (world_of v).situation p ≡ Working e) where
+module _ (v : WorldValue) (g : IsGood v) (p : ℕ) (e : PlainWorkCall) (low : p < v.sheet.layout.processes) (works : (world_of v).situation p ≡ Working e) where
   fits : WorkFits (world_of v) p e
   fits = subst (λ (x : Situation). CallFits (world_of v) p x) works (g.sound.calls p low)
 
@@ -143,7 +143,7 @@ module _ (v : WorldValue) (g : IsGood v) (p : ℕ) (e : PlainWork) (low : p < v.
   perform_at = subst (λ (q : ℕ). CanPerform v.sheet.layout (memory v.sheet) q (access_at v.sheet.layout.shape e e.stage)) mine (can_perform (world_of v) e g.sound low_own e.stage here)
 
   -- a turn that touches no word
-  pub turns : (f : PlainWork) → Turns e f (world_of v) (world_of (put v p v.sheet (Working f)))
+  pub turns : (f : PlainWorkCall) → Turns e f (world_of v) (world_of (put v p v.sheet (Working f)))
   turns f = record {
     layout = refl;
     memory = record { cached = λ r. refl; persisted = λ r. refl; buffer = λ q. refl };
@@ -186,10 +186,10 @@ module _ (v : WorldValue) (g : IsGood v) (p : ℕ) (e : PlainWork) (low : p < v.
         (work_steps_keep e e.stage word (world_of v) (world_of (put v p sheet s)) g.sound low_own here (steps_at s is plain)))
 
   -- the content is read, or that lacked memory
-  module _ (f : PlainWork) (at_read : e.stage ≡ Read) where
+  module _ (f : PlainWorkCall) (at_read : e.stage ≡ Read) where
     pub read_takes : IsWork e → IsReading v.sheet.layout.shape e f → StepsBy (world_of v) p Stepped (world_of (put v p v.sheet (Working f)))
-    read_takes h (inl r) = record { inside = low; work = e; mine = mine; works = works; is = h; turn = reads r.content r.inputs at_read (record { turn = subst (λ (x : PlainWork). Turns e x (world_of v) (world_of (put v p v.sheet (Working f)))) r.after (turns f); is = r.is }) }
-    read_takes h (inr l) = record { inside = low; work = e; mine = mine; works = works; is = h; turn = lacked at_read (subst (λ (x : PlainWork). Turns e x (world_of v) (world_of (put v p v.sheet (Working f)))) l (turns f)) }
+    read_takes h (inl r) = record { inside = low; work = e; mine = mine; works = works; is = h; turn = reads r.content r.inputs at_read (record { turn = subst (λ (x : PlainWorkCall). Turns e x (world_of v) (world_of (put v p v.sheet (Working f)))) r.after (turns f); is = r.is }) }
+    read_takes h (inr l) = record { inside = low; work = e; mine = mine; works = works; is = h; turn = lacked at_read (subst (λ (x : PlainWorkCall). Turns e x (world_of v) (world_of (put v p v.sheet (Working f)))) l (turns f)) }
 
     pub read_kept : IsReading v.sheet.layout.shape e f → (room : ℕ) → IsReserved v room → IsReserved (put v p v.sheet (Working f)) room
     read_kept r room kept = put_kept v p v.sheet (Working f) refl low refl room kept (subst (λ (q : ℕ). Keeps q (world_of v) (world_of (put v p v.sheet (Working f)))) mine (keeps r))
@@ -198,8 +198,8 @@ module _ (v : WorldValue) (g : IsGood v) (p : ℕ) (e : PlainWork) (low : p < v.
         was = here ∙ ap (λ s. Working (at e s)) at_read
 
         keeps : IsReading v.sheet.layout.shape e f → Keeps e.process (world_of v) (world_of (put v p v.sheet (Working f)))
-        keeps (inl r) = reads_keep e r.content r.inputs (world_of v) (world_of (put v p v.sheet (Working f))) g.sound low_own was (record { turn = subst (λ (x : PlainWork). Turns e x (world_of v) (world_of (put v p v.sheet (Working f)))) r.after (turns f); is = r.is })
-        keeps (inr l) = lacks_keep e (world_of v) (world_of (put v p v.sheet (Working f))) g.sound low_own was (subst (λ (x : PlainWork). Turns e x (world_of v) (world_of (put v p v.sheet (Working f)))) l (turns f))
+        keeps (inl r) = reads_keep e r.content r.inputs (world_of v) (world_of (put v p v.sheet (Working f))) g.sound low_own was (record { turn = subst (λ (x : PlainWorkCall). Turns e x (world_of v) (world_of (put v p v.sheet (Working f)))) r.after (turns f); is = r.is })
+        keeps (inr l) = lacks_keep e (world_of v) (world_of (put v p v.sheet (Working f))) g.sound low_own was (subst (λ (x : PlainWorkCall). Turns e x (world_of v) (world_of (put v p v.sheet (Working f)))) l (turns f))
 
 -- what the turn of a stage says of it
 pub steps_plain : (s : WorkStage) → turn_at s ≡ doings.Steps → IsPlainStep s
@@ -211,7 +211,7 @@ steps_plain _ is = tt
 pub steps_not_answer : (s : WorkStage) → turn_at s ≡ doings.Steps → (end : WorkEnd) → s ≡ Answer end → ⊥
 steps_not_answer s is end at = let k : turn_at (Answer end) ≡ doings.Steps = subst (λ (x : WorkStage). turn_at x ≡ doings.Steps) at is in cc
 
-pub steps_after : (e : PlainWork) (s : WorkStage) (word : ℕ) → turn_at s ≡ doings.Steps → Working (next_at e s word) ≡ after e s word
+pub steps_after : (e : PlainWorkCall) (s : WorkStage) (word : ℕ) → turn_at s ≡ doings.Steps → Working (next_at e s word) ≡ after e s word
 steps_after e (Answer end) word is = absurd cc
 steps_after e _ word is = refl
 
@@ -228,18 +228,18 @@ waits_at Wait is = refl
 waits_at _ is = absurd cc
 
 -- a work that goes on by a step neither waits nor answers
-goes_on : (e : PlainWork) (old new : World) (taken : Taken) → TakesTurn e old new taken → taken ≡ Stepped → (turn_at e.stage ≡ doings.Waits → ⊥) × ((end : WorkEnd) → turn_at e.stage ≡ doings.Answers end → ⊥)
+goes_on : (e : PlainWorkCall) (old new : PlainWorld) (taken : Taken) → TakesTurn e old new taken → taken ≡ Stepped → (turn_at e.stage ≡ doings.Waits → ⊥) × ((end : WorkEnd) → turn_at e.stage ≡ doings.Answers end → ⊥)
 goes_on e old new _ (steps word s none) is = (λ waits. subst IsPlainStep (waits_at e.stage waits) s.plain, λ end ends. none end (answers_at e.stage end ends))
 goes_on e old new _ (reads content inputs at h) is = (λ waits. let bad : Read ≡ Wait = sym at ∙ waits_at e.stage waits in absurd cc, λ end ends. let bad : Read ≡ Answer end = sym at ∙ answers_at e.stage end ends in absurd cc)
 goes_on e old new _ (lacked at h) is = (λ waits. let bad : Read ≡ Wait = sym at ∙ waits_at e.stage waits in absurd cc, λ end ends. let bad : Read ≡ Answer end = sym at ∙ answers_at e.stage end ends in absurd cc)
 goes_on e old new _ (answers end at s) is = absurd (let bad : Answered end ≡ Stepped = is in cc)
 
-module _ (v : WorldValue) (p : ℕ) (e : PlainWork) (works : (world_of v).situation p ≡ Working e) where
-  same_work : (f : PlainWork) → (world_of v).situation p ≡ Working f → e ≡ f
+module _ (v : WorldValue) (p : ℕ) (e : PlainWorkCall) (works : (world_of v).situation p ≡ Working e) where
+  same_work : (f : PlainWorkCall) → (world_of v).situation p ≡ Working f → e ≡ f
   same_work f is = let both : Working e ≡ Working f = sym works ∙ is in cc
 
   pub waits_on : turn_at e.stage ≡ doings.Waits → CanNotAdvance (world_of v) p
-  waits_on waits new s = (goes_on s.work (world_of v) new Stepped s.turn refl).0 (subst (λ (f : PlainWork). turn_at f.stage ≡ doings.Waits) (same_work s.work s.works) waits)
+  waits_on waits new s = (goes_on s.work (world_of v) new Stepped s.turn refl).0 (subst (λ (f : PlainWorkCall). turn_at f.stage ≡ doings.Waits) (same_work s.work s.works) waits)
 
   pub ends_now : (end : WorkEnd) → turn_at e.stage ≡ doings.Answers end → CanNotAdvance (world_of v) p
-  ends_now end ends new s = (goes_on s.work (world_of v) new Stepped s.turn refl).1 end (subst (λ (f : PlainWork). turn_at f.stage ≡ doings.Answers end) (same_work s.work s.works) ends)
+  ends_now end ends new s = (goes_on s.work (world_of v) new Stepped s.turn refl).1 end (subst (λ (f : PlainWorkCall). turn_at f.stage ≡ doings.Answers end) (same_work s.work s.works) ends)

@@ -3,11 +3,11 @@ use Rattle.std.proofs.Common.{ℕ, ◌≡◌, ◌<◌, subst, refl}
 use Rattle.std.specs.Prelude.{Contains}
 use Rattle.ds_eval.specs.declared.inputs.Entry as entries
 use Rattle.ds_eval.specs.declared.inputs.Input.{Input}
-use Rattle.ds_formula.specs.Plain.{Plain}
+use Rattle.ds_formula.specs.Plain.{PlainContent}
 use Rattle.std.proofs.Common.{List}
 use Rattle.ds_state.specs.Text.{IsText}
-use Rattle.ds_state.specs.Works.{PlainWork}
-use Rattle.ds_state.specs.World.{Edit, World}
+use Rattle.ds_state.specs.Works.{PlainWorkCall}
+use Rattle.ds_state.specs.World.{PlainEdit, PlainWorld}
 use Rattle.ds_state.specs.CallsFit.{CallFits}
 use Rattle.ds_state.specs.KnownWork.{WorkFits}
 use Rattle.ds_work.specs.WorkSteps.{at, StepsAt, BeginsWork, ReadsAt, LacksAt, OffersAt}
@@ -26,13 +26,13 @@ use Rattle.ds_work.proofs.WorkEnds.{clear, clear_dirty, give, give_dirty, flush_
 use Rattle.ds_work.proofs.WholeSteps.{begin_work_keeps}
 use Rattle.ds_work.proofs.WorkRead.{read_keeps, lacks_keeps, offers_keep}
 
-pub fits_at : (e : PlainWork) (s : WorkStage) (w : World) → IsSound w → e.process < w.layout.processes → w.situation e.process ≡ Working (at e s) → WorkFits w e.process (at e s)
+pub fits_at : (e : PlainWorkCall) (s : WorkStage) (w : PlainWorld) → IsSound w → e.process < w.layout.processes → w.situation e.process ≡ Working (at e s) → WorkFits w e.process (at e s)
 fits_at e s w sound real was = subst (λ (x : Situation). CallFits w e.process x) was (sound.calls e.process real)
 
-pub text_of : (w : World) → IsSound w → (by : Edit) → Contains w.counted by → IsText by.text
-text_of w sound by (k, l, is) = subst (λ (e : Edit). IsText e.text) is (sound.of_sheet k by l).text
+pub text_of : (w : PlainWorld) → IsSound w → (by : PlainEdit) → Contains w.counted by → IsText by.text
+text_of w sound by (k, l, is) = subst (λ (e : PlainEdit). IsText e.text) is (sound.of_sheet k by l).text
 
-module _ (e : PlainWork) (word : ℕ) (old new : World) (sound : IsSound old) (real : e.process < old.layout.processes) where
+module _ (e : PlainWorkCall) (word : ℕ) (old new : PlainWorld) (sound : IsSound old) (real : e.process < old.layout.processes) where
   each : (s : WorkStage) → old.situation e.process ≡ Working (at e s) → WorkFits old e.process (at e s) → StepsAt e s word old new → Keeps e.process old new
   each LoadMark was fits t = load_mark e word old new sound real fits was t
   each Claim was fits t = claim e word old new sound real fits was t
@@ -65,22 +65,22 @@ module _ (e : PlainWork) (word : ℕ) (old new : World) (sound : IsSound old) (r
   each (BackCleared end) was fits t = back_cleared e word old new sound real end fits was t
   each (Answer end) was fits t = answer e word old new sound real end fits was t
 
-pub work_steps_keep : (e : PlainWork) (stage : WorkStage) (word : ℕ) (old new : World) → IsSound old → e.process < old.layout.processes
+pub work_steps_keep : (e : PlainWorkCall) (stage : WorkStage) (word : ℕ) (old new : PlainWorld) → IsSound old → e.process < old.layout.processes
     → old.situation e.process ≡ Working (at e stage) → StepsAt e stage word old new → Keeps e.process old new
 work_steps_keep e stage word old new sound real was t = each e word old new sound real stage was (fits_at e stage old sound real was) t
 
-pub reads_keep : (e : PlainWork) (content : Plain) (inputs : List Input) (old new : World) → IsSound old → e.process < old.layout.processes
+pub reads_keep : (e : PlainWorkCall) (content : PlainContent) (inputs : List Input) (old new : PlainWorld) → IsSound old → e.process < old.layout.processes
     → old.situation e.process ≡ Working (at e Read) → ReadsAt e content inputs old new → Keeps e.process old new
 reads_keep e content inputs old new sound real was t = read_keeps e old new sound real content inputs (fits_at e Read old sound real was) was t
 
-pub lacks_keep : (e : PlainWork) (old new : World) → IsSound old → e.process < old.layout.processes → old.situation e.process ≡ Working (at e Read) → LacksAt e old new → Keeps e.process old new
+pub lacks_keep : (e : PlainWorkCall) (old new : PlainWorld) → IsSound old → e.process < old.layout.processes → old.situation e.process ≡ Working (at e Read) → LacksAt e old new → Keeps e.process old new
 lacks_keep e old new sound real was t = lacks_keeps e old new sound real (fits_at e Read old sound real was) was t
 
-pub offer_keep : (e : PlainWork) (entry : entries.Entry) (old new : World) → IsSound old → e.process < old.layout.processes
+pub offer_keep : (e : PlainWorkCall) (entry : entries.Entry) (old new : PlainWorld) → IsSound old → e.process < old.layout.processes
     → old.situation e.process ≡ Working (at e Wait) → OffersAt e entry old new → Keeps e.process old new
 offer_keep e entry old new sound real was t = offers_keep e old new sound real entry (fits_at e Wait old sound real was) was t
 
-pub begins_keep : (next : ℕ) (e : PlainWork) (old new : World) → IsSound old → e.process < old.layout.processes → BeginsWork next e old new → Keeps e.process old new
+pub begins_keep : (next : ℕ) (e : PlainWorkCall) (old new : PlainWorld) → IsSound old → e.process < old.layout.processes → BeginsWork next e old new → Keeps e.process old new
 begins_keep next e old new sound real b = begin_work_keeps e.process next e old new sound real
     (record { layout = b.turn.layout; counted = b.turn.counted; situations = b.turn.others; pendings = λ q ne. b.turn.open_edits q })
     b.turn.memory (b.turn.open_edits e.process) b.was b.turn.situation refl b.next_is b.cells b.processes b.cell

@@ -8,7 +8,7 @@ use Rattle.std.proofs.lemmas.List.Elements.{Contains-get_or}
 use Rattle.ds_formula.specs.Cells.{IsInside, index_of, count_of}
 use Rattle.ds_formula.specs.declared.cells.Cell.{Cell}
 use Rattle.ds_formula.specs.declared.cells.Shape.{Shape}
-use Rattle.ds_formula.specs.Plain.{Plain}
+use Rattle.ds_formula.specs.Plain.{PlainContent}
 use Rattle.ds_formula.specs.Refs.{Refers, AreRefs, IsPossible, IsBefore}
 use Rattle.ds_formula.specs.Refs as refs
 use Rattle.ds_formula.specs.Grammar.{Reads}
@@ -16,7 +16,7 @@ use Rattle.ds_formula.proofs.Formed.{read_inside}
 use Rattle.ds_eval.specs.declared.inputs.Input.{Input}
 use Rattle.ds_eval.specs.Inputs.{cell_in, no_input, IsAscending, IsBehind}
 use Rattle.std.proofs.lemmas.Bool.{ltb-true}
-use Rattle.ds_state.specs.Works.{PlainWork, IsWork, ClaimFits, StageFits, TellsFits}
+use Rattle.ds_state.specs.Works.{PlainWorkCall, IsWork, ClaimFits, StageFits, TellsFits}
 use Rattle.ds_state.specs.declared.work.WorkStage.{WorkStage}
 use Rattle.ds_state.specs.declared.work.WorkStage.TheVariants.{LoadValue, LoadOwnValue}
 use Rattle.ds_work.specs.WorkSteps.{IsContent, read_from, input_from}
@@ -95,7 +95,7 @@ possible shape cell inside =
     record { column = omega arith; row = omega arith }
 
 -- the cells of a content that was read are its references on the sheet
-pub is_content : (shape : Shape) (text : List ℕ) (content : Plain) (cells : List Cell) → Reads shape text content → AreRefs content cells → IsContent shape text content (map unseen cells)
+pub is_content : (shape : Shape) (text : List ℕ) (content : PlainContent) (cells : List Cell) → Reads shape text content → AreRefs content cells → IsContent shape text content (map unseen cells)
 is_content shape text content cells reads are = record {
   reads = reads;
   ascending = ascends cells are.ascending;
@@ -110,11 +110,11 @@ is_content shape text content cells reads are = record {
     found : (d : Cell) → Contains cells d → (j : ℕ) × (j < length (map unseen cells)) × (cell_in (map unseen cells) j ≡ d)
     found d (j, l, is) = (j, (let size = length-map cells unseen in omega (arith, size, l)), cell_of cells j l ∙ get_or_default cells j no_cell d l ∙ is)
 
-pub all_inside : (shape : Shape) (text : List ℕ) (content : Plain) (cells : List Cell) → Reads shape text content → AreRefs content cells → (c : Cell) → Contains cells c → IsInside shape c
+pub all_inside : (shape : Shape) (text : List ℕ) (content : PlainContent) (cells : List Cell) → Reads shape text content → AreRefs content cells → (c : Cell) → Contains cells c → IsInside shape c
 all_inside shape text content cells reads are c there = read_inside shape text content c reads.reads (are.only c there)
 
 -- the work that has this content
-pub taken : (e : PlainWork) (content : Plain) (inputs : List Input) (s : WorkStage) → s ≡ (input_from (record e { content = content; inputs = inputs }) 0).stage
+pub taken : (e : PlainWorkCall) (content : PlainContent) (inputs : List Input) (s : WorkStage) → s ≡ (input_from (record e { content = content; inputs = inputs }) 0).stage
     → record e { content = content; inputs = inputs; stage = s } ≡ read_from e content inputs
 taken e content inputs s is = rw is (go (nat_lt 0 (length inputs)))
   where
@@ -123,7 +123,7 @@ taken e content inputs s is = rw is (go (nat_lt 0 (length inputs)))
     go true = refl
     go false = refl
 
-pub read_is : (e : PlainWork) (content : Plain) (inputs : List Input) → IsWork e → ((j : ℕ) → j < length inputs → IsPossible (cell_in inputs j)) → IsWork (read_from e content inputs)
+pub read_is : (e : PlainWorkCall) (content : PlainContent) (inputs : List Input) → IsWork e → ((j : ℕ) → j < length inputs → IsPossible (cell_in inputs j)) → IsWork (read_from e content inputs)
 read_is e content inputs h each = go (nat_lt 0 (length inputs)) refl
   where
     with_stage : (s : WorkStage) → ClaimFits e s → StageFits (record e { content = content; inputs = inputs }) s → TellsFits (record e { content = content; inputs = inputs; stage = s }) s → IsWork (record e { content = content; inputs = inputs; stage = s })
@@ -170,5 +170,5 @@ module _ (shape : Shape) (inputs : List Input) (ascending : IsAscending inputs) 
       let below = index_below shape (cell_in inputs n) (inside n l) in
       omega (arith, least, below)
 
-pub content_few : (shape : Shape) (text : List ℕ) (content : Plain) (inputs : List Input) → IsContent shape text content inputs → length inputs ≤ count_of shape
+pub content_few : (shape : Shape) (text : List ℕ) (content : PlainContent) (inputs : List Input) → IsContent shape text content inputs → length inputs ≤ count_of shape
 content_few shape text content inputs is = few_inputs shape inputs is.ascending (λ j l. (is.only j l).1) (length inputs) refl

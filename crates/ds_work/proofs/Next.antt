@@ -18,7 +18,7 @@ use Rattle.ds_layout.specs.Header.{header_of}
 use Rattle.ds_layout.specs.Mark.{mark_of, state_of, held_after}
 use Rattle.ds_layout.specs.TextWords.{bytes_of}
 use Rattle.ds_layout.proofs.Packed.{IsHeader-header_of}
-use Rattle.ds_state.specs.Works.{PlainWork, IsWork, IsWorkIn, StageFits, ClaimFits, TellsFits, Differs, SEEN_MOST}
+use Rattle.ds_state.specs.Works.{PlainWorkCall, IsWork, IsWorkIn, StageFits, ClaimFits, TellsFits, Differs, SEEN_MOST}
 use Rattle.ds_state.specs.Standing.{shown_entry}
 use Rattle.ds_state.specs.Telling.{told_from}
 use Rattle.ds_state.proofs.Telling.{ToldFits, first_told, told_stands}
@@ -32,7 +32,7 @@ use Rattle.ds_work.specs.declared.machine.Noting.TheVariants as notes
 use Rattle.ds_work.specs.Noted.{mark_at, head_at, length_at, length_in, text_after, text_at, inputs_after, inputs_at, value_after, value_at, kind_after, kind_at, row_after, row_at, stage_at, seen_mark, notes_at}
 
 -- the work with these changes
-abbrev pub noted : PlainWork → WorkStage → ℕ → PlainWork
+abbrev pub noted : PlainWorkCall → WorkStage → ℕ → PlainWorkCall
 noted e s word = record {
   process = e.process;
   next = e.next;
@@ -52,19 +52,19 @@ noted e s word = record {
   stage = stage_at e s word;
 }
 
-chosen : (b : Bool) (f : PlainWork) (s t : WorkStage) → (if b then at f s else at f t) ≡ at f (if b then at f s else at f t).stage
+chosen : (b : Bool) (f : PlainWorkCall) (s t : WorkStage) → (if b then at f s else at f t) ≡ at f (if b then at f s else at f t).stage
 chosen true f s t = refl
 chosen false f s t = refl
 
-told_next : (o : Option ℕ) (f : PlainWork) → told f o ≡ at f (told f o).stage
+told_next : (o : Option ℕ) (f : PlainWorkCall) → told f o ≡ at f (told f o).stage
 told_next None f = refl
 told_next (Some d) f = refl
 
-row_next : (b : Bool) (o : Option ℕ) (f : PlainWork) (s : WorkStage) → (if b then at f s else told f o) ≡ at f (if b then at f s else told f o).stage
+row_next : (b : Bool) (o : Option ℕ) (f : PlainWorkCall) (s : WorkStage) → (if b then at f s else told f o) ≡ at f (if b then at f s else told f o).stage
 row_next true o f s = refl
 row_next false o f s = told_next o f
 
-module _ (e : PlainWork) (word : ℕ) where
+module _ (e : PlainWorkCall) (word : ℕ) where
   marked : (b : Bool) → (if b then at e (Answer Worn) else record e { mark = word; stage = Claim })
       ≡ record e { mark = if b then e.mark else word; stage = (if b then at e (Answer Worn) else record e { mark = word; stage = Claim }).stage }
   marked true = refl
@@ -122,7 +122,7 @@ module _ (e : PlainWork) (word : ℕ) where
 
 -- ---- it stays a work of its sheet
 
-staged : (e : PlainWork) (s s' : WorkStage) → IsWork (at e s) → ClaimFits e s' → StageFits e s' → TellsFits e s' → IsWork (at e s')
+staged : (e : PlainWorkCall) (s s' : WorkStage) → IsWork (at e s) → ClaimFits e s' → StageFits e s' → TellsFits e s' → IsWork (at e s')
 staged e s s' h claim stage told = record {
   process = h.process;
   processes = h.processes;
@@ -139,7 +139,7 @@ staged e s s' h claim stage told = record {
 }
 
 -- what holds of both branches holds of a test
-branches : (b : Bool) (x y : PlainWork) → (b ≡ true → IsWork x) → (b ≡ false → IsWork y) → IsWork (if b then x else y)
+branches : (b : Bool) (x y : PlainWorkCall) → (b ≡ true → IsWork x) → (b ≡ false → IsWork y) → IsWork (if b then x else y)
 branches true x y h k = h refl
 branches false x y h k = k refl
 
@@ -147,7 +147,7 @@ pushed : (xs : List ℕ) (v : ℕ) → length (xs ++ v ∷ []) ≡ length xs + 1
 pushed xs v = length-append xs (v ∷ [])
 
 -- another mark, text, inputs or row
-marked_as : (e : PlainWork) (s : WorkStage) (mark : ℕ) (s' : WorkStage) → IsWork (at e s) → mark / 32 ≤ SEEN_MOST + 1 → ClaimFits (record e { mark = mark }) s' → StageFits e s' → TellsFits (record e { mark = mark; stage = s' }) s' → IsWork (record e { mark = mark; stage = s' })
+marked_as : (e : PlainWorkCall) (s : WorkStage) (mark : ℕ) (s' : WorkStage) → IsWork (at e s) → mark / 32 ≤ SEEN_MOST + 1 → ClaimFits (record e { mark = mark }) s' → StageFits e s' → TellsFits (record e { mark = mark; stage = s' }) s' → IsWork (record e { mark = mark; stage = s' })
 marked_as e s mark s' h young claim stage told = record {
   process = h.process;
   processes = h.processes;
@@ -173,7 +173,7 @@ marked_as e s mark s' h young claim stage told = record {
     fits (Telling (BackTold d)) k = k
     fits _ k = tt
 
-module _ (e : PlainWork) (word : ℕ) where
+module _ (e : PlainWorkCall) (word : ℕ) where
   texted : (s : WorkStage) (head count : ℕ) (text : List ℕ) (s' : WorkStage) → IsWork (at e s) → count ≤ TEXT_MOST → length text ≤ count
       → ClaimFits e s' → StageFits (record e { head = head; length = count; text = text }) s' → TellsFits e s' → IsWork (record e { head = head; length = count; text = text; stage = s' })
   texted s head count text s' h short within claim stage told = record {
@@ -316,7 +316,7 @@ module _ (e : PlainWork) (word : ℕ) where
 
 -- the work with these fields is the next one
 -- the next work, with what is noted at its stage alone
-abbrev by_noting : PlainWork → ℕ → WorkStage → Noting → PlainWork
+abbrev by_noting : PlainWorkCall → ℕ → WorkStage → Noting → PlainWorkCall
 by_noting e word s notes.Nothing = at e (stage_at e s word)
 by_noting e word s notes.Mark = record e { mark = mark_at e s word; stage = stage_at e s word }
 by_noting e word s notes.Text = record e { head = head_at e s word; length = length_at e s word; text = text_at e s word; stage = stage_at e s word }
@@ -324,7 +324,7 @@ by_noting e word s notes.Input = record e { inputs = inputs_at e s word; stage =
 by_noting e word s notes.Own = record e { value = value_at e s word; kind = kind_at e s word; stage = stage_at e s word }
 by_noting e word s notes.Row = record e { row = row_at e s word; stage = stage_at e s word }
 
-noted_alone : (e : PlainWork) (word : ℕ) (s : WorkStage) → next_at e s word ≡ by_noting e word s (notes_at s)
+noted_alone : (e : PlainWorkCall) (word : ℕ) (s : WorkStage) → next_at e s word ≡ by_noting e word s (notes_at s)
 noted_alone e word LoadMark = next_noted e word LoadMark
 noted_alone e word Claim = next_noted e word Claim
 noted_alone e word FlushClaim = next_noted e word FlushClaim
@@ -356,31 +356,31 @@ noted_alone e word (FlushCleared end) = next_noted e word (FlushCleared end)
 noted_alone e word (BackCleared end) = next_noted e word (BackCleared end)
 noted_alone e word (Answer end) = next_noted e word (Answer end)
 
-taken_as : (e : PlainWork) (word : ℕ) (n : Noting) → notes_at e.stage ≡ n → by_noting e word e.stage n ≡ next_at e e.stage word
+taken_as : (e : PlainWorkCall) (word : ℕ) (n : Noting) → notes_at e.stage ≡ n → by_noting e word e.stage n ≡ next_at e e.stage word
 taken_as e word n is = ap (by_noting e word e.stage) (sym is) ∙ sym (noted_alone e word e.stage)
 
-pub goes_on : (e v : PlainWork) (word : ℕ) (stage : WorkStage) → v ≡ e → notes_at e.stage ≡ notes.Nothing → stage ≡ stage_at e e.stage word → at v stage ≡ next_at e e.stage word
+pub goes_on : (e v : PlainWorkCall) (word : ℕ) (stage : WorkStage) → v ≡ e → notes_at e.stage ≡ notes.Nothing → stage ≡ stage_at e e.stage word → at v stage ≡ next_at e e.stage word
 goes_on e v word stage same is a = rw (same, a) (taken_as e word notes.Nothing is)
 
-pub takes_mark : (e v : PlainWork) (word mark : ℕ) (stage : WorkStage) → v ≡ e → notes_at e.stage ≡ notes.Mark → stage ≡ stage_at e e.stage word → mark ≡ mark_at e e.stage word
+pub takes_mark : (e v : PlainWorkCall) (word mark : ℕ) (stage : WorkStage) → v ≡ e → notes_at e.stage ≡ notes.Mark → stage ≡ stage_at e e.stage word → mark ≡ mark_at e e.stage word
     → record v { mark = mark; stage = stage } ≡ next_at e e.stage word
 takes_mark e v word mark stage same is a b = rw (same, a, b) (taken_as e word notes.Mark is)
 
-pub takes_text : (e v : PlainWork) (word head count : ℕ) (text : List ℕ) (stage : WorkStage) → v ≡ e → notes_at e.stage ≡ notes.Text → stage ≡ stage_at e e.stage word → head ≡ head_at e e.stage word
+pub takes_text : (e v : PlainWorkCall) (word head count : ℕ) (text : List ℕ) (stage : WorkStage) → v ≡ e → notes_at e.stage ≡ notes.Text → stage ≡ stage_at e e.stage word → head ≡ head_at e e.stage word
     → count ≡ length_at e e.stage word → text ≡ text_after v.text v.length v.stage word → record v { head = head; length = count; text = text; stage = stage } ≡ next_at e e.stage word
 takes_text e v word head count text stage same is a b c d = rw (d, same, a, b, c) (taken_as e word notes.Text is)
 
-pub takes_input : (e v : PlainWork) (word : ℕ) (inputs : List Input) (stage : WorkStage) → v ≡ e → notes_at e.stage ≡ notes.Input → stage ≡ stage_at e e.stage word
+pub takes_input : (e v : PlainWorkCall) (word : ℕ) (inputs : List Input) (stage : WorkStage) → v ≡ e → notes_at e.stage ≡ notes.Input → stage ≡ stage_at e e.stage word
     → inputs ≡ inputs_after v.inputs v.cells v.stage word → record v { inputs = inputs; stage = stage } ≡ next_at e e.stage word
 takes_input e v word inputs stage same is a b = rw (b, same, a) (taken_as e word notes.Input is)
 
-pub takes_own : (e v : PlainWork) (word value kind : ℕ) (stage : WorkStage) → v ≡ e → notes_at e.stage ≡ notes.Own → stage ≡ stage_at e e.stage word
+pub takes_own : (e v : PlainWorkCall) (word value kind : ℕ) (stage : WorkStage) → v ≡ e → notes_at e.stage ≡ notes.Own → stage ≡ stage_at e e.stage word
     → value ≡ value_after v.value v.stage word → kind ≡ kind_after v.kind v.stage word → record v { value = value; kind = kind; stage = stage } ≡ next_at e e.stage word
 takes_own e v word value kind stage same is a b c = rw (b, c, same, a) (taken_as e word notes.Own is)
 
-pub takes_row : (e v : PlainWork) (word : ℕ) (row : List ℕ) (stage : WorkStage) → v ≡ e → notes_at e.stage ≡ notes.Row → stage ≡ stage_at v v.stage word
+pub takes_row : (e v : PlainWorkCall) (word : ℕ) (row : List ℕ) (stage : WorkStage) → v ≡ e → notes_at e.stage ≡ notes.Row → stage ≡ stage_at v v.stage word
     → row ≡ row_after v.row v.stage word → record v { row = row; stage = stage } ≡ next_at e e.stage word
 takes_row e v word row stage same is a b = rw (b, a, same) (taken_as e word notes.Row is)
 
-pub next_within : (e : PlainWork) (word room : ℕ) → IsWork e → e.cells ≤ room → IsWorkIn (next_at e e.stage word) room
-next_within e word room h fits = record { is = next_is e word e.stage h; room = subst (λ (n : ℕ). n ≤ room) (sym (ap (λ (x : PlainWork). x.cells) (next_noted e word e.stage))) fits }
+pub next_within : (e : PlainWorkCall) (word room : ℕ) → IsWork e → e.cells ≤ room → IsWorkIn (next_at e e.stage word) room
+next_within e word room h fits = record { is = next_is e word e.stage h; room = subst (λ (n : ℕ). n ≤ room) (sym (ap (λ (x : PlainWorkCall). x.cells) (next_noted e word e.stage))) fits }

@@ -1,7 +1,7 @@
 -- Each step of work leaves fewer.
 use Rattle.std.proofs.Common.{ℕ, ◌≡◌, ◌<◌, ◌≤◌, ◌+◌, ◌-◌, ◌*◌, ◌/◌, ◌^◌, ◌==◌, ◌&&◌, Bool, true, false, if◌then◌else◌, nat_lt, List, [], ◌∷◌, ◌++◌, take, Option, Some, None, refl, arith, length}
 use Rattle.std.proofs.lemmas.List.{length-set}
-use Rattle.ds_formula.specs.Plain.{Plain}
+use Rattle.ds_formula.specs.Plain.{PlainContent}
 use Rattle.ds_eval.specs.declared.inputs.Entry.{Entry}
 use Rattle.ds_eval.specs.declared.inputs.Input.{Input}
 use Rattle.ds_eval.specs.Inputs.{cell_in, with_entry}
@@ -14,7 +14,7 @@ use Rattle.ds_layout.specs.Header.{header_of}
 use Rattle.ds_layout.specs.Mark.{mark_of, state_of, held_after}
 use Rattle.ds_layout.specs.TextWords.{bytes_of}
 use Rattle.ds_layout.proofs.Packed.{IsHeader-header_of}
-use Rattle.ds_state.specs.Works.{PlainWork, IsWork}
+use Rattle.ds_state.specs.Works.{PlainWorkCall, IsWork}
 use Rattle.ds_state.specs.Standing.{shown_entry, value_for, word_for}
 use Rattle.ds_state.specs.Telling.{told_from}
 use Rattle.ds_state.proofs.Telling.{ToldFits, first_told}
@@ -26,11 +26,11 @@ use Rattle.ds_work.specs.WorkSteps.{at, next_at, claims_from, head_from, header_
 use Rattle.ds_work.specs.WorkRank.{left, steps_left, Falls}
 
 -- what holds of both branches holds of a test
-below : (r n : ℕ) (b : Bool) (x y : PlainWork) → (b ≡ true → steps_left r x < n) → (b ≡ false → steps_left r y < n) → steps_left r (if b then x else y) < n
+below : (r n : ℕ) (b : Bool) (x y : PlainWorkCall) → (b ≡ true → steps_left r x < n) → (b ≡ false → steps_left r y < n) → steps_left r (if b then x else y) < n
 below r n true x y h k = h refl
 below r n false x y h k = k refl
 
-module _ (r : ℕ) (e : PlainWork) (word : ℕ) where
+module _ (r : ℕ) (e : PlainWorkCall) (word : ℕ) where
   by_state : (st : State) → steps_left r (claims_from e word st) < left r e LoadMark
   by_state Clean = omega arith
   by_state (Held p) = omega arith
@@ -40,14 +40,14 @@ module _ (r : ℕ) (e : PlainWork) (word : ℕ) where
   by_head None = omega arith
   by_head (Some head) = omega arith
 
-  text_falls : (f : PlainWork) (part n : ℕ) → left r f Read < n → ((f.length + 7) / 8 - part + left r f Read < n) → steps_left r (text_from f part) < n
+  text_falls : (f : PlainWorkCall) (part n : ℕ) → left r f Read < n → ((f.length + 7) / 8 - part + left r f Read < n) → steps_left r (text_from f part) < n
   text_falls f part n none some = below r n (nat_lt part ((f.length + 7) / 8)) (at f (LoadText part)) (at f Read) (λ b. omega (arith, some)) (λ b. none)
 
   by_header : (o : Option Header) → header_of e.cells word ≡ o → steps_left r (header_from e o) < left r e LoadHeader
   by_header None is = omega arith
   by_header (Some header) is = text_falls (record e { length = header.length; text = [] }) 0 (left r e LoadHeader) (omega arith) (let short = (IsHeader-header_of e.cells word header is).0.length in omega (arith, short))
 
-  told_falls : (row : List ℕ) (n from k : ℕ) (o : Option ℕ) → ToldFits row n from o → 5 + 3 * (e.cells - from) < k → (f : PlainWork) → f.cells ≡ e.cells → steps_left r (told f o) < k
+  told_falls : (row : List ℕ) (n from k : ℕ) (o : Option ℕ) → ToldFits row n from o → 5 + 3 * (e.cells - from) < k → (f : PlainWorkCall) → f.cells ≡ e.cells → steps_left r (told f o) < k
   told_falls row n from k None first lt f same = omega (arith, lt)
   told_falls row n from k (Some d) first lt f same = let l = first.0 in omega (arith, lt, l, same)
 
@@ -94,23 +94,23 @@ module _ (r : ℕ) (e : PlainWork) (word : ℕ) where
   falls (BackCleared end) h = omega arith
   falls (Answer end) h = tt
 
-pub each_falls : (r word : ℕ) (e : PlainWork) → IsWork e → Falls r e (next_at e e.stage word) e.stage
+pub each_falls : (r word : ℕ) (e : PlainWorkCall) → IsWork e → Falls r e (next_at e e.stage word) e.stage
 each_falls r word e h = falls r e word e.stage h
 
 -- reading, giving up and an offer leave fewer too
-pub reading_falls : (e : PlainWork) (content : Plain) (inputs : List Input) → steps_left (length inputs) (read_from e content inputs) < left (length inputs) e Read
+pub reading_falls : (e : PlainWorkCall) (content : PlainContent) (inputs : List Input) → steps_left (length inputs) (read_from e content inputs) < left (length inputs) e Read
 reading_falls e content inputs = below (length inputs) (left (length inputs) e Read) (nat_lt 0 (length inputs)) (record e { content = content; inputs = inputs; stage = LoadValue 0 }) (record e { content = content; inputs = inputs; stage = LoadOwnValue })
     (λ b. omega arith) (λ b. omega arith)
 
-pub lacking_falls : (r : ℕ) (e : PlainWork) → left r e Give < left r e Read
+pub lacking_falls : (r : ℕ) (e : PlainWorkCall) → left r e Give < left r e Read
 lacking_falls r e = omega arith
 
-pub offer_falls : (r : ℕ) (e : PlainWork) (entry : Entry) → steps_left r (offered e entry) < left r e Wait
+pub offer_falls : (r : ℕ) (e : PlainWorkCall) (entry : Entry) → steps_left r (offered e entry) < left r e Wait
 offer_falls r e entry = go ((e.value == value_for entry) && (e.kind == word_for entry))
   where
     go : (b : Bool) → steps_left r (record e { entry = entry; stage = if b then Clear false else StoreValue }) < left r e Wait
     go true = omega arith
     go false = omega arith
 
-pub few : (r : ℕ) (e : PlainWork) → e.cells ≤ 1024 → left r e LoadMark ≤ 2 * r + 3 * e.cells + 52
+pub few : (r : ℕ) (e : PlainWorkCall) → e.cells ≤ 1024 → left r e LoadMark ≤ 2 * r + 3 * e.cells + 52
 few r e most = omega (arith, most)

@@ -1,10 +1,10 @@
 -- Each turn of a work that goes on leaves fewer.
 use Rattle.std.proofs.Common.{ℕ, ◌≡◌, ◌<◌, ◌≤◌, ◌∙◌, Bool, true, false, if◌then◌else◌, nat_lt, List, refl, ap, sym, subst, arith, length}
 use Rattle.ds_formula.specs.Cells.{count_of}
-use Rattle.ds_formula.specs.Plain.{Plain}
+use Rattle.ds_formula.specs.Plain.{PlainContent}
 use Rattle.ds_eval.specs.declared.inputs.Input.{Input}
-use Rattle.ds_state.specs.Works.{PlainWork, IsWork}
-use Rattle.ds_state.specs.World.{World}
+use Rattle.ds_state.specs.Works.{PlainWorkCall, IsWork}
+use Rattle.ds_state.specs.World.{PlainWorld}
 use Rattle.ds_state.specs.CallsFit.{CallFits}
 use Rattle.ds_state.specs.Sound.{IsSound}
 use Rattle.ds_state.specs.declared.situation.Situation.{Situation}
@@ -21,46 +21,46 @@ use Rattle.ds_work.proofs.Gathered.{content_few}
 use Rattle.ds_work.proofs.Next.{next_noted}
 use Rattle.ds_work.proofs.Ranks.{each_falls}
 
-pub after_goes : (e : PlainWork) (s : WorkStage) (word : ℕ) → ((end : WorkEnd) → s ≡ Answer end → ⊥) → after e s word ≡ Working (next_at e s word)
+pub after_goes : (e : PlainWorkCall) (s : WorkStage) (word : ℕ) → ((end : WorkEnd) → s ≡ Answer end → ⊥) → after e s word ≡ Working (next_at e s word)
 after_goes e (Answer end) word na = absurd (na end refl)
 after_goes e _ word na = refl
 
-pub falls_plain : (r : ℕ) (e f : PlainWork) (s : WorkStage) → Falls r e f s → IsPlainStep s → ((end : WorkEnd) → s ≡ Answer end → ⊥) → steps_left r f < left r e s
+pub falls_plain : (r : ℕ) (e f : PlainWorkCall) (s : WorkStage) → Falls r e f s → IsPlainStep s → ((end : WorkEnd) → s ≡ Answer end → ⊥) → steps_left r f < left r e s
 falls_plain r e f Read h plain na = absurd plain
 falls_plain r e f Wait h plain na = absurd plain
 falls_plain r e f (Answer end) h plain na = absurd (na end refl)
 falls_plain r e f _ h plain na = h
 
 -- reading leaves fewer, also where more references were counted on
-pub reading_less : (r : ℕ) (e : PlainWork) (content : Plain) (inputs : List Input) → length inputs ≤ r → steps_left r (read_from e content inputs) < left r e Read
+pub reading_less : (r : ℕ) (e : PlainWorkCall) (content : PlainContent) (inputs : List Input) → length inputs ≤ r → steps_left r (read_from e content inputs) < left r e Read
 reading_less r e content inputs few = go (nat_lt 0 (length inputs))
   where
     go : (b : Bool) → steps_left r (if b then record e { content = content; inputs = inputs; stage = LoadValue 0 } else record e { content = content; inputs = inputs; stage = LoadOwnValue }) < left r e Read
     go true = omega (arith, few)
     go false = omega arith
 
-pub read_cells : (e : PlainWork) (content : Plain) (inputs : List Input) → (read_from e content inputs).cells ≡ e.cells
+pub read_cells : (e : PlainWorkCall) (content : PlainContent) (inputs : List Input) → (read_from e content inputs).cells ≡ e.cells
 read_cells e content inputs = go (nat_lt 0 (length inputs))
   where
     go : (b : Bool) → (if b then record e { content = content; inputs = inputs; stage = LoadValue 0 } else record e { content = content; inputs = inputs; stage = LoadOwnValue }).cells ≡ e.cells
     go true = refl
     go false = refl
 
-module _ (p : ℕ) (old new : World) (sound : IsSound old) (e : PlainWork) (real : p < old.layout.processes) (mine : e.process ≡ p) (works : old.situation p ≡ Working e) (is : IsWork e) where
+module _ (p : ℕ) (old new : PlainWorld) (sound : IsSound old) (e : PlainWorkCall) (real : p < old.layout.processes) (mine : e.process ≡ p) (works : old.situation p ≡ Working e) (is : IsWork e) where
   count : count_of old.layout.shape ≡ e.cells
   count = (subst (λ (x : Situation). CallFits old p x) works (sound.calls p real)).cells
 
-  here : (f : PlainWork) → new.situation e.process ≡ Working f → new.situation p ≡ Working f
+  here : (f : PlainWorkCall) → new.situation e.process ≡ Working f → new.situation p ≡ Working f
   here f at = ap (λ q. new.situation q) (sym mine) ∙ at
 
-  at_own : (s : WorkStage) → e.stage ≡ s → (f : PlainWork) → steps_left e.cells f < left e.cells e s → steps_left e.cells f < steps_left e.cells e
+  at_own : (s : WorkStage) → e.stage ≡ s → (f : PlainWorkCall) → steps_left e.cells f < left e.cells e s → steps_left e.cells f < steps_left e.cells e
   at_own s same f lt = subst (λ (x : WorkStage). steps_left e.cells f < left e.cells e x) (sym same) lt
 
   go : (t : Taken) → TakesTurn e old new t → t ≡ Stepped → GoesOn p e new
   go t (steps word k na) same = record {
     work = next_at e e.stage word;
     works = here (next_at e e.stage word) (k.situation ∙ after_goes e e.stage word na);
-    cells = ap (λ (x : PlainWork). x.cells) (next_noted e word e.stage);
+    cells = ap (λ (x : PlainWorkCall). x.cells) (next_noted e word e.stage);
     fewer = falls_plain e.cells e (next_at e e.stage word) e.stage (each_falls e.cells word e is) k.plain na;
   }
   go t (reads content inputs stage k) same = record {
@@ -77,5 +77,5 @@ module _ (p : ℕ) (old new : World) (sound : IsSound old) (e : PlainWork) (real
   }
   go t (answers end stage k) same = absurd cc
 
-pub turns_fall : (p : ℕ) (old new : World) → IsSound old → (by : StepsBy old p Stepped new) → GoesOn p by.work new
+pub turns_fall : (p : ℕ) (old new : PlainWorld) → IsSound old → (by : StepsBy old p Stepped new) → GoesOn p by.work new
 turns_fall p old new sound by = go p old new sound by.work by.inside by.mine by.works by.is Stepped by.turn refl

@@ -9,8 +9,8 @@ use Rattle.ds_state.specs.CallsFit.{IdleFits}
 use Rattle.ds_state.proofs.EditFrame.{Framed, silent_framed, silent_keeps}
 use Rattle.ds_layout.specs.declared.place.Place.{Place}
 use Rattle.ds_layout.specs.declared.place.Place.TheVariants.{Version, Mark, Value, Announce}
-use Rattle.ds_state.specs.Works.{PlainWork, HELD_MOST}
-use Rattle.ds_state.specs.World.{World, of_cell, head_after_all}
+use Rattle.ds_state.specs.Works.{PlainWorkCall, HELD_MOST}
+use Rattle.ds_state.specs.World.{PlainWorld, of_cell, head_after_all}
 use Rattle.ds_state.specs.Owing.{HoldsNone, IsHeld, IsApart, Parts, Splits, Excuses, IsMark}
 use Rattle.ds_layout.specs.Mark.{IsHeldBy, freed_after}
 use Rattle.ds_state.specs.KnownWork.{WorkFits, IsAtRest}
@@ -36,7 +36,7 @@ use Rattle.ds_state.proofs.Buffers.{buffered}
 use Rattle.ds_work.proofs.WorkSteps.{on, clear_mine, clear_stands, store_value_mine}
 
 -- who works owes no head
-module _ (p : ℕ) (e : PlainWork) (place : Place) (old new : World) (moves : Moves p place old new) (was : old.situation p ≡ Working e) where
+module _ (p : ℕ) (e : PlainWorkCall) (place : Place) (old new : PlainWorld) (moves : Moves p place old new) (was : old.situation p ≡ Working e) where
   pub keeps_heads : (cell : ℕ) → KeepsOwing old new cell
   keeps_heads cell f issue its is same before last_of owes = elim (cases_eq f.process p) [
     | inl eq ↦ absurd (none (subst (λ (s : Situation). Splits old p s f.cell (head_after_all (of_cell cell old.counted))) was (subst (λ (q : ℕ). Splits old q (old.situation q) f.cell (head_after_all (of_cell cell old.counted))) eq owes)))
@@ -51,7 +51,7 @@ module _ (p : ℕ) (e : PlainWork) (place : Place) (old new : World) (moves : Mo
       none h = h
 
 -- the clear
-module _ (p : ℕ) (e : PlainWork) (changed : Bool) (old new : World) (sound : IsSound old) (turn : Turn p old new)
+module _ (p : ℕ) (e : PlainWorkCall) (changed : Bool) (old new : PlainWorld) (sound : IsSound old) (turn : Turn p old new)
     (fits : WorkFits old p (on e (works.Clear changed))) (was : old.situation p ≡ Working (on e (works.Clear changed)))
     (is : new.situation p ≡ Working (on e (works.FlushCleared (Published changed))))
     (pending : new.open_edits p ≡ old.open_edits p)
@@ -137,7 +137,7 @@ module _ (p : ℕ) (e : PlainWork) (changed : Bool) (old new : World) (sound : I
       (λ l. subst (λ (s : Situation). CallFits new p s) (sym is) call)
 
 -- work begins
-pub begin_work_keeps : (p next : ℕ) (e : PlainWork) (old new : World) → IsSound old → p < old.layout.processes → Turn p old new → SameMemory old.memory new.memory → new.open_edits p ≡ old.open_edits p
+pub begin_work_keeps : (p next : ℕ) (e : PlainWorkCall) (old new : PlainWorld) → IsSound old → p < old.layout.processes → Turn p old new → SameMemory old.memory new.memory → new.open_edits p ≡ old.open_edits p
     → old.situation p ≡ Idle next → new.situation p ≡ Working (on e works.LoadMark)
     → e.process ≡ p → e.next ≡ next → cells_of old.layout ≡ e.cells → old.layout.processes ≡ e.processes → e.cell < e.cells → Keeps p old new
 begin_work_keeps p next e old new sound real turn m pending was is mine number cells processes cell =
@@ -174,10 +174,10 @@ begin_work_keeps p next e old new sound real turn m pending was is mine number c
     }))
 
 -- facts of work do not rest on its stage (records over the whole call must be packed again: see the report)
-held_on : (w : World) (e : PlainWork) (s s' : WorkStage) → HasHeld w (on e s) → HasHeld w (on e s')
+held_on : (w : PlainWorld) (e : PlainWorkCall) (s s' : WorkStage) → HasHeld w (on e s) → HasHeld w (on e s')
 held_on w e s s' h = record { claim = record { even = h.claim.even; by = h.claim.by; cached = h.claim.cached; alone = h.claim.alone }; persisted = h.persisted }
 
-inputs_on : (w : World) (e : PlainWork) (s s' : WorkStage) (n : ℕ) → HasInputs w (on e s) n → HasInputs w (on e s') n
+inputs_on : (w : PlainWorld) (e : PlainWorkCall) (s s' : WorkStage) (n : ℕ) → HasInputs w (on e s) n → HasInputs w (on e s') n
 inputs_on w e s s' n h = record {
   head = h.head;
   content = h.content;
@@ -188,7 +188,7 @@ inputs_on w e s s' n h = record {
 }
 
 -- the store of the value
-module _ (p : ℕ) (e : PlainWork) (old new : World) (sound : IsSound old) (turn : Turn p old new)
+module _ (p : ℕ) (e : PlainWorkCall) (old new : PlainWorld) (sound : IsSound old) (turn : Turn p old new)
     (fits : WorkFits old p (on e works.StoreValue)) (was : old.situation p ≡ Working (on e works.StoreValue)) (is : new.situation p ≡ Working (on e works.StoreKind))
     (pending : new.open_edits p ≡ old.open_edits p) (store : StoresAt (Value e.cell) (value_for e.entry) old.memory new.memory) where
   held_p : IsHeld old.memory p e.cell
@@ -216,7 +216,7 @@ module _ (p : ℕ) (e : PlainWork) (old new : World) (sound : IsSound old) (turn
 
   store_call : WorkFits new p (on e works.StoreKind)
   store_call =
-      let e' : PlainWork = on e works.StoreValue in
+      let e' : PlainWorkCall = on e works.StoreValue in
       let g : Grows p (Value e.cell) old new = grows_own p (Value e.cell) old new store_moved turn.counted in
       let g' : Grows e.process (Value e.cell) old new = subst (λ (q : ℕ). Grows q (Value e.cell) old new) (sym fits.mine) g in
       record {

@@ -17,7 +17,7 @@ use Rattle.ds_layout.specs.Head.{head_of}
 use Rattle.ds_layout.specs.Header.{header_of}
 use Rattle.ds_layout.specs.TextWords.{bytes_of}
 use Rattle.ds_layout.specs.SheetMemory.{PerformsAt}
-use Rattle.ds_state.specs.Works.{PlainWork, TellsFits, StageFits}
+use Rattle.ds_state.specs.Works.{PlainWorkCall, TellsFits, StageFits}
 use Rattle.ds_state.specs.KnownWork.{WorkFits, WorkKnows, work_known}
 use Rattle.ds_state.specs.CallsFit.{CallFits}
 use Rattle.ds_state.specs.Sound.{IsSound}
@@ -32,7 +32,7 @@ use Rattle.ds_work.specs.WorkTakes as events
 use Rattle.ds_work.proofs.Next.{next_noted}
 use Rattle.ds_state.specs.Standing.{value_for, word_for, shown_entry}
 use Rattle.ds_state.specs.Telling.{told_from}
-use Rattle.ds_state.specs.World.{World}
+use Rattle.ds_state.specs.World.{PlainWorld}
 use Rattle.ds_state.specs.declared.work.Spread.{Spread}
 use Rattle.ds_state.specs.declared.work.Spread.TheVariants.{LoadRow, OrTold, FlushTold, BackTold}
 use Rattle.ds_state.specs.declared.work.WorkStage.{WorkStage}
@@ -56,33 +56,33 @@ pushed (x ∷ xs) row word h is zero lt = h zero (omega arith)
 pushed (x ∷ xs) row word h is (suc j) lt = pushed xs (λ k. row (suc k)) word (λ k l. h (suc k) (omega arith)) (is ∙ ap row (let e : length (x ∷ xs) ≡ suc (length xs) = omega arith in e)) j (omega arith)
 
 -- a cell that stands in its own row stands in the row that was loaded
-own_stands : (row : ℕ → ℕ) (e : PlainWork) → IsWholeRow row e → e.cell < e.cells → RefersToItself row e → StandsIn e.row e.cell
+own_stands : (row : ℕ → ℕ) (e : PlainWorkCall) → IsWholeRow row e → e.cell < e.cells → RefersToItself row e → StandsIn e.row e.cell
 own_stands row e whole inside own = subst (λ x. HasBit x e.cell) (sym (whole (e.cell / 64) (omega arith))) own
 
 -- ---- branches that keep what it sees
 
-abbrev Here : (ℕ → ℕ) → World → PlainWork → Type 0
+abbrev Here : (ℕ → ℕ) → PlainWorld → PlainWorkCall → Type 0
 Here row w e = IsAloneAt row w e e.stage
 
-either : (row : ℕ → ℕ) (w : World) (b : Bool) (x y : PlainWork) → Here row w x → Here row w y → Here row w (if b then x else y)
+either : (row : ℕ → ℕ) (w : PlainWorld) (b : Bool) (x y : PlainWorkCall) → Here row w x → Here row w y → Here row w (if b then x else y)
 either row w true x y h k = h
 either row w false x y h k = k
 
-text_alone : (row : ℕ → ℕ) (w : World) (e : PlainWork) (part : ℕ) → mark_now w e ≡ e.mark → Here row w (text_from e part)
+text_alone : (row : ℕ → ℕ) (w : PlainWorld) (e : PlainWorkCall) (part : ℕ) → mark_now w e ≡ e.mark → Here row w (text_from e part)
 text_alone row w e part h = either row w (nat_lt part (text_parts e)) _ _ h h
 
-header_alone : (row : ℕ → ℕ) (w : World) (e : PlainWork) (o : Option Header) → mark_now w e ≡ e.mark → Here row w (header_from e o)
+header_alone : (row : ℕ → ℕ) (w : PlainWorld) (e : PlainWorkCall) (o : Option Header) → mark_now w e ≡ e.mark → Here row w (header_from e o)
 header_alone row w e None h = h
 header_alone row w e (Some header) h = text_alone row w (record e { length = header.length; text = [] }) 0 h
 
-head_alone : (row : ℕ → ℕ) (w : World) (e : PlainWork) (word : ℕ) (o : Option Head) → mark_now w e ≡ e.mark → Here row w (head_from e word o)
+head_alone : (row : ℕ → ℕ) (w : PlainWorld) (e : PlainWorkCall) (word : ℕ) (o : Option Head) → mark_now w e ≡ e.mark → Here row w (head_from e word o)
 head_alone row w e word None h = h
 head_alone row w e word (Some head) h = h
 
-input_alone : (row : ℕ → ℕ) (w : World) (e : PlainWork) (i : ℕ) → mark_now w e ≡ e.mark → Here row w (input_from e i)
+input_alone : (row : ℕ → ℕ) (w : PlainWorld) (e : PlainWorkCall) (i : ℕ) → mark_now w e ≡ e.mark → Here row w (input_from e i)
 input_alone row w e i h = either row w (nat_lt i (length e.inputs)) _ _ h h
 
-tell_alone : (row : ℕ → ℕ) (w : World) (e : PlainWork) (d : ℕ) → IsToldTo row w e d → IsWholeRow row e → e.cell < e.cells → Here row w (tell_from e d)
+tell_alone : (row : ℕ → ℕ) (w : PlainWorld) (e : PlainWorkCall) (d : ℕ) → IsToldTo row w e d → IsWholeRow row e → e.cell < e.cells → Here row w (tell_from e d)
 tell_alone row w e d h whole inside = go (told_from e.row (e.cells - d) d) (first_told e.row (e.cells - d) d) h
   where
     go : (o : Option ℕ) → ToldFits e.row (e.cells - d) d o → IsToldTo row w e d → Here row w (told e o)
@@ -91,14 +91,14 @@ tell_alone row w e d h whole inside = go (told_from e.row (e.cells - d) d) (firs
     go (Some k) first (inl (is, low)) = (inl (is, λ own. first.2 e.cell (low own) (own_stands row e whole inside own)), whole)
     go (Some k) first (inr marked) = (inr marked, whole)
 
-row_alone : (row : ℕ → ℕ) (w : World) (e : PlainWork) (part : ℕ) → mark_now w e ≡ e.mark → IsRow row e → length e.row ≡ part → e.cell < e.cells → Here row w (row_from e part)
+row_alone : (row : ℕ → ℕ) (w : PlainWorld) (e : PlainWorkCall) (part : ℕ) → mark_now w e ≡ e.mark → IsRow row e → length e.row ≡ part → e.cell < e.cells → Here row w (row_from e part)
 row_alone row w e part is loaded size inside = go (nat_lt part (parts_of e)) refl
   where
     go : (b : Bool) → nat_lt part (parts_of e) ≡ b → Here row w (if b then at e (works.Telling (LoadRow part)) else tell_from e 0)
     go true more = (is, loaded)
     go false last = tell_alone row w e 0 (inl (is, λ own. omega arith)) (λ k l. loaded k (let none = ltb-false part ((e.cells + 63) / 64) last in omega arith)) inside
 
-claims_alone : (row : ℕ → ℕ) (w : World) (e : PlainWork) (word : ℕ) (s : State) → s ≡ state.Marked → word / 32 ≤ 2 ^ 58 → mark_now w e ≡ word → Here row w (claims_from e word s)
+claims_alone : (row : ℕ → ℕ) (w : PlainWorld) (e : PlainWorkCall) (word : ℕ) (s : State) → s ≡ state.Marked → word / 32 ≤ 2 ^ 58 → mark_now w e ≡ word → Here row w (claims_from e word s)
 claims_alone row w e word state.Marked is young h = rw (not_worn (word / 32) young) h
   where
     not_worn : (n : ℕ) → n ≤ 2 ^ 58 → nat_lt (2 ^ 58) n ≡ false
@@ -109,11 +109,11 @@ claims_alone row w e word (state.Held p) is young h = absurd (cc)
 -- ---- a step
 
 -- where it marks cells, the mark that it noted is even
-abbrev EvenAt : PlainWork → WorkStage → Type 0
+abbrev EvenAt : PlainWorkCall → WorkStage → Type 0
 EvenAt e (works.Telling spread) = IsEven e.mark
 EvenAt e _ = Unit {0}
 
-end_alone : (row : ℕ → ℕ) (old new : World) (e : PlainWork) (end : WorkEnd) → mark_now new e ≡ mark_now old e → EndsAlone row old e end → EndsAlone row new e end
+end_alone : (row : ℕ → ℕ) (old new : PlainWorld) (e : PlainWorkCall) (end : WorkEnd) → mark_now new e ≡ mark_now old e → EndsAlone row old e end → EndsAlone row new e end
 end_alone row old new e ends.NotDirty same h = h
 end_alone row old new e ends.Missed same h = h
 end_alone row old new e ends.Worn same h = h
@@ -122,7 +122,7 @@ end_alone row old new e (ends.Published false) same h = subst IsClean (sym same)
 end_alone row old new e ends.Again same h = h
 end_alone row old new e ends.NoMemory same h = h
 
-module _ (row : ℕ → ℕ) (shape : Shape) (e : PlainWork) (word : ℕ) (old new : World) where
+module _ (row : ℕ → ℕ) (shape : Shape) (e : PlainWorkCall) (word : ℕ) (old new : PlainWorld) where
   abbrev Performs : WorkStage → Type 0
   Performs s = PerformsAt (access_at shape e s) e.process old.memory new.memory word
 
@@ -231,30 +231,30 @@ module _ (row : ℕ → ℕ) (shape : Shape) (e : PlainWork) (word : ℕ) (old n
 
 -- ---- a turn
 
-even_at : (w : World) (p : ℕ) (e : PlainWork) → WorkFits w p e → EvenAt e e.stage
+even_at : (w : PlainWorld) (p : ℕ) (e : PlainWorkCall) → WorkFits w p e → EvenAt e e.stage
 even_at w p e fits = by e.stage fits.knows
   where
     by : (s : WorkStage) → WorkKnows w e (work_known (length e.inputs) s) → EvenAt e s
     by (works.Telling spread) knows = knows.hold.claim.even
     by _ knows = tt
 
-pub after_on : (e : PlainWork) (s : WorkStage) (word : ℕ) → ((end : WorkEnd) → s ≡ works.Answer end → ⊥) → after e s word ≡ Working (next_at e s word)
+pub after_on : (e : PlainWorkCall) (s : WorkStage) (word : ℕ) → ((end : WorkEnd) → s ≡ works.Answer end → ⊥) → after e s word ≡ Working (next_at e s word)
 after_on e (works.Answer end) word not = absurd (not end refl)
 after_on e _ word not = refl
 
-if_field : {A : Type 0} (b : Bool) (x y : PlainWork) (field : PlainWork → A) (v : A) → field x ≡ v → field y ≡ v → field (if b then x else y) ≡ v
+if_field : {A : Type 0} (b : Bool) (x y : PlainWorkCall) (field : PlainWorkCall → A) (v : A) → field x ≡ v → field y ≡ v → field (if b then x else y) ≡ v
 if_field true x y field v h k = h
 if_field false x y field v h k = k
 
 -- where the mark alone tells how it ends, work that is alone sees it
-unmarked : (row : ℕ → ℕ) (w : World) (e : PlainWork) (s : WorkStage) → IsAloneAt row w e s → IsUnmarkedAt w e s
+unmarked : (row : ℕ → ℕ) (w : PlainWorld) (e : PlainWorkCall) (s : WorkStage) → IsAloneAt row w e s → IsUnmarkedAt w e s
 unmarked row w e (works.Clear true) h = tt
 unmarked row w e (works.Clear false) h = h
 unmarked row w e _ h = tt
 
-module _ (row : ℕ → ℕ) (before : CellWords) (e : PlainWork) (old new : World) (h : IsAlone row before old e) where
+module _ (row : ℕ → ℕ) (before : CellWords) (e : PlainWorkCall) (old new : PlainWorld) (h : IsAlone row before old e) where
   -- where no word is touched
-  by_turn : (f : PlainWork) → Turns e f old new → f.cell ≡ e.cell → f.process ≡ e.process → (mark_now new f ≡ f.mark → IsAloneAt row new f f.stage) → mark_now old e ≡ e.mark → f.mark ≡ e.mark → ShowsAt before (shown_in old e.cell) f f.stage
+  by_turn : (f : PlainWorkCall) → Turns e f old new → f.cell ≡ e.cell → f.process ≡ e.process → (mark_now new f ≡ f.mark → IsAloneAt row new f f.stage) → mark_now old e ≡ e.mark → f.mark ≡ e.mark → ShowsAt before (shown_in old e.cell) f f.stage
       → GoesAlone row before e new Stepped
   by_turn f t cell process so was mark showing = (
     f,
@@ -282,16 +282,16 @@ module _ (row : ℕ → ℕ) (before : CellWords) (e : PlainWork) (old new : Wor
       stored true was = was
       stored false was = was
 
-module _ (row : ℕ → ℕ) (before : CellWords) (e : PlainWork) (old new : World) (sound : IsSound old) (low : e.process < old.layout.processes) (here : old.situation e.process ≡ Working e) (is : IsWork e) (h : IsAlone row before old e) where
+module _ (row : ℕ → ℕ) (before : CellWords) (e : PlainWorkCall) (old new : PlainWorld) (sound : IsSound old) (low : e.process < old.layout.processes) (here : old.situation e.process ≡ Working e) (is : IsWork e) (h : IsAlone row before old e) where
   fits : WorkFits old e.process e
   fits = subst (λ (x : Situation). CallFits old e.process x) here (sound.calls e.process low)
 
   pub turn_alone : (what : Taken) → events.TakesTurn e old new what → GoesAlone row before e new what
   turn_alone what (events.steps word t on) =
-      let cell : (next_at e e.stage word).cell ≡ e.cell = ap (λ (f : PlainWork). f.cell) (next_noted e word e.stage) in (
+      let cell : (next_at e e.stage word).cell ≡ e.cell = ap (λ (f : PlainWorkCall). f.cell) (next_noted e word e.stage) in (
         next_at e e.stage word,
         cell,
-        ap (λ (f : PlainWork). f.process) (next_noted e word e.stage),
+        ap (λ (f : PlainWorkCall). f.process) (next_noted e word e.stage),
         t.situation ∙ after_on e e.stage word on,
         record {
           at = alone row old.layout.shape e word old new e.stage (even_at old e.process e fits) is.cell is.told is.stage h.index t.memory h.at;
@@ -316,7 +316,7 @@ module _ (row : ℕ → ℕ) (before : CellWords) (e : PlainWork) (old new : Wor
 
 -- ---- an eviction
 
-module _ (row : ℕ → ℕ) (old new : World) (e : PlainWork) (same : mark_now new e ≡ mark_now old e) where
+module _ (row : ℕ → ℕ) (old new : PlainWorld) (e : PlainWorkCall) (same : mark_now new e ≡ mark_now old e) where
   told_same : (d : ℕ) → IsToldTo row old e d → IsToldTo row new e d
   told_same d (inl (is, low)) = inl (same ∙ is, low)
   told_same d (inr (is, own)) = inr (same ∙ is, own)

@@ -10,8 +10,8 @@ use Rattle.ds_layout.specs.declared.place.Place.TheVariants.{Mark}
 use Rattle.ds_layout.specs.declared.mark.State.{State}
 use Rattle.ds_layout.specs.declared.mark.State.TheVariants.{Clean, Marked, Held}
 use Rattle.ds_layout.specs.Mark.{mark_of, state_of, holder_of, present, state_by, tenure, IsHeldBy, held_after}
-use Rattle.ds_state.specs.Works.{PlainWork}
-use Rattle.ds_state.specs.World.{World}
+use Rattle.ds_state.specs.Works.{PlainWorkCall}
+use Rattle.ds_state.specs.World.{PlainWorld}
 use Rattle.ds_state.specs.Owing.{entry, IsHeld, IsMark}
 use Rattle.ds_state.specs.KnownWork.{BuffersClaim, WorkFits}
 use Rattle.ds_work.specs.WorkSteps.{StepsAt, claims_from}
@@ -36,7 +36,7 @@ back_first {p} {old} {new} x xs holds (entry, rest, m) =
     subst (λ (r : List (Entry Place)). WritesBack p x r old new) b (subst (λ (y : Entry Place). WritesBack p y rest old new) a m)
 
 -- who is none of the sheet's is nobody, and no mark is such a one's
-marked_free : (w : World) (cell word : ℕ) → IsMark w.layout cell word → state_of (mark_of w.layout.processes word) ≡ Marked → (q : ℕ) → IsHeldBy q word → ⊥
+marked_free : (w : PlainWorld) (cell word : ℕ) → IsMark w.layout cell word → state_of (mark_of w.layout.processes word) ≡ Marked → (q : ℕ) → IsHeldBy q word → ⊥
 marked_free w cell word mark marked q by =
     let real = (mark q by).0 in
     let some : holder_of (word / 2 % 16) ≡ Some q = ap holder_of by ∙ ap (λ (b : Bool). if b then None else Some (q + 1 - 1)) (ne_eqb (q + 1) 0 (λ x. omega (arith, x))) ∙ ap (λ (n : ℕ). Some n) (let n : q + 1 - 1 ≡ q = omega arith in n) in
@@ -45,7 +45,7 @@ marked_free w cell word mark marked q by =
     let both : Marked ≡ Held q = sym marked ∙ held in
     cc
 
-module _ (e : PlainWork) (word : ℕ) (old new : World) (sound : IsSound old) (real : e.process < old.layout.processes) where
+module _ (e : PlainWorkCall) (word : ℕ) (old new : PlainWorld) (sound : IsSound old) (real : e.process < old.layout.processes) where
   turn_of : (s : WorkStage) → StepsAt e s word old new → Turn e.process old new
   turn_of s t = record { layout = t.layout; counted = t.counted; situations = t.others; pendings = λ q ne. t.open_edits q }
 
@@ -58,7 +58,7 @@ module _ (e : PlainWork) (word : ℕ) (old new : World) (sound : IsSound old) (r
       seen = t.memory.0
 
       ends : (end : WorkEnd) → claims_from e word (state_of (mark_of e.processes word)) ≡ on e (works.Answer end) → Keeps e.process old new
-      ends end is = frame.loads e works.LoadMark (on e (works.Answer end)) old new sound real was (t.situation ∙ ap (λ (x : PlainWork). Working x) is) (turn_of _ t) (t.open_edits e.process) fits tt t.memory.1
+      ends end is = frame.loads e works.LoadMark (on e (works.Answer end)) old new sound real was (t.situation ∙ ap (λ (x : PlainWorkCall). Working x) is) (turn_of _ t) (t.open_edits e.process) fits tt t.memory.1
           (λ c x bit matters o. absurd o) (λ o. absurd o) (λ k. record { hold = k.hold; loaded = tt; own = tt; evaluated = tt }) (λ h. h)
 
       marked : state_of (mark_of e.processes word) ≡ Marked → (b : Bool) → nat_lt (2 ^ 58) (word / 32) ≡ b → Keeps e.process old new

@@ -7,8 +7,8 @@ use Rattle.ds_words.specs.declared.access.Entry.{Entry}
 use Rattle.ds_layout.specs.Places.{class_of}
 use Rattle.ds_layout.specs.declared.place.Place.{Place}
 use Rattle.ds_layout.specs.declared.place.Place.TheVariants.{Version, Mark}
-use Rattle.ds_state.specs.Works.{PlainWork}
-use Rattle.ds_state.specs.World.{World}
+use Rattle.ds_state.specs.Works.{PlainWorkCall}
+use Rattle.ds_state.specs.World.{PlainWorld}
 use Rattle.ds_state.specs.Owing.{entry, HoldsNone, WorkOwes, WorkParts, Owes, Parts, Splits, Excuses}
 use Rattle.ds_layout.specs.Mark.{IsHeldBy, freed_after}
 use Rattle.ds_state.specs.CallsFit.{CallFits}
@@ -35,7 +35,7 @@ use Rattle.ds_work.proofs.WorkClaims.{back_first}
 use Rattle.ds_work.proofs.WorkFrame as frame
 
 -- a held cell is let go, dirty
-module _ (e : PlainWork) (s : WorkStage) (end : WorkEnd) (old new : World) (sound : IsSound old) (real : e.process < old.layout.processes)
+module _ (e : PlainWorkCall) (s : WorkStage) (end : WorkEnd) (old new : PlainWorld) (sound : IsSound old) (real : e.process < old.layout.processes)
     (was : old.situation e.process ≡ Working (on e s)) (is : new.situation e.process ≡ Working (on e (works.FlushCleared end))) (tn : Turn e.process old new) (pending : new.open_edits e.process ≡ old.open_edits e.process)
     (fits : WorkFits old e.process (on e s)) (held : ClaimsBoth old e.process e.cell e.mark) (empty : old.memory.buffer e.process ≡ [])
     (owes : (c x : ℕ) → WorkOwes old.memory e.process e.row s c x → ⊥) (parts : WorkParts s → ⊥)
@@ -89,7 +89,7 @@ module _ (e : PlainWork) (s : WorkStage) (end : WorkEnd) (old new : World) (soun
         | inr ne ↦ ne (held.claim.alone r (subst (λ (x : ℕ). IsHeldBy e.process x) (store.elsewhere (Mark r) (λ same. ne cc)) by))
       ]
 
-module _ (e : PlainWork) (word : ℕ) (old new : World) (sound : IsSound old) (real : e.process < old.layout.processes) where
+module _ (e : PlainWorkCall) (word : ℕ) (old new : PlainWorld) (sound : IsSound old) (real : e.process < old.layout.processes) where
   turn_of : (s : WorkStage) → StepsAt e s word old new → Turn e.process old new
   turn_of s t = record { layout = t.layout; counted = t.counted; situations = t.others; pendings = λ q ne. t.open_edits q }
 

@@ -7,8 +7,8 @@ use Rattle.ds_words.specs.Memory.{SameMemory, StoresAt, FlushesAt, WritesBack, n
 use Rattle.ds_layout.specs.Places.{class_of}
 use Rattle.ds_layout.specs.declared.place.Place.{Place}
 use Rattle.ds_layout.specs.declared.place.Place.TheVariants.{Version, Mark, Value, Kind, Head, Announce}
-use Rattle.ds_state.specs.Works.{PlainWork, StageFits}
-use Rattle.ds_state.specs.World.{World}
+use Rattle.ds_state.specs.Works.{PlainWorkCall, StageFits}
+use Rattle.ds_state.specs.World.{PlainWorld}
 use Rattle.ds_state.specs.Owing.{entry, IsHeld, WorkOwes, Owes, WorkParts, Parts, CellOwes, IsApart, Excuses, IsIndexed}
 use Rattle.ds_state.specs.Standing.{Matters}
 use Rattle.ds_state.specs.KnownWork.{work_known, WorkKnows, work_held, WorkHolds, WorkFits}
@@ -31,17 +31,17 @@ use Rattle.ds_work.proofs.WorkSteps.{on}
 use Rattle.ds_work.proofs.WholeSteps.{keeps_heads}
 
 -- f, as the same process's work on the same cell
-abbrev pub kin : PlainWork → PlainWork → PlainWork
+abbrev pub kin : PlainWorkCall → PlainWorkCall → PlainWorkCall
 kin e f = record f { process = e.process; next = e.next; cell = e.cell; cells = e.cells; processes = e.processes }
 
 pub back_hold : (q c v v' : ℕ) → v ≤ v' → v' ≤ c → KeepsHold q c v c v'
 back_hold q c v v' least most = record { cached = λ k. refl; persisted = λ k same. omega arith; came = λ k. k }
 
 -- the sides of the cell's own words agree
-abbrev pub Agrees : World → ℕ → Type 0
+abbrev pub Agrees : PlainWorld → ℕ → Type 0
 Agrees w c = (w.memory.persisted (Value c) ≡ w.memory.cached (Value c)) × (w.memory.persisted (Kind c) ≡ w.memory.cached (Kind c))
 
-module _ (e : PlainWork) (s : WorkStage) (f : PlainWork) (old new : World) (sound : IsSound old) (real : e.process < old.layout.processes)
+module _ (e : PlainWorkCall) (s : WorkStage) (f : PlainWorkCall) (old new : PlainWorld) (sound : IsSound old) (real : e.process < old.layout.processes)
     (was : old.situation e.process ≡ Working (on e s)) (is : new.situation e.process ≡ Working (kin e f))
     (tn : Turn e.process old new) (pending : new.open_edits e.process ≡ old.open_edits e.process) (fits : WorkFits old e.process (on e s)) (fit_at : StageFits (kin e f) f.stage) where
   -- what is owed is owed after

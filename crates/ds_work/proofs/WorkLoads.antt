@@ -19,9 +19,9 @@ use Rattle.ds_layout.specs.Head.{head_of}
 use Rattle.ds_layout.specs.Header.{header_of, header_word}
 use Rattle.ds_layout.specs.TextWords.{part_word, bytes_of}
 use Rattle.ds_layout.proofs.Packed.{header_of-header_word}
-use Rattle.ds_state.specs.Works.{PlainWork}
+use Rattle.ds_state.specs.Works.{PlainWorkCall}
 use Rattle.ds_state.specs.Text.{IsText}
-use Rattle.ds_state.specs.World.{Edit, World, of_cell, head_after_all, IsHeadBy}
+use Rattle.ds_state.specs.World.{PlainEdit, PlainWorld, of_cell, head_after_all, IsHeadBy}
 use Rattle.ds_state.specs.Owing.{IsIndexed, CellOwes}
 use Rattle.ds_state.specs.Standing.{cached_side, entry_on, shown_entry}
 use Rattle.ds_state.specs.KnownWork.{WorkFits, ReadsPart, EntryStands, WordStands, Gathers, row_of}
@@ -65,7 +65,7 @@ joined text part word h is within =
     ∙ ap (λ (xs : List ℕ). take (8 * part) text ++ xs) cut
     ∙ next_part text (take (8 * part) text) part (min n 8) word h is within refl refl
 
-module _ (e : PlainWork) (word : ℕ) (old new : World) (sound : IsSound old) (real : e.process < old.layout.processes) where
+module _ (e : PlainWorkCall) (word : ℕ) (old new : PlainWorld) (sound : IsSound old) (real : e.process < old.layout.processes) where
   turn_of : (s : WorkStage) → StepsAt e s word old new → Turn e.process old new
   turn_of s t = record { layout = t.layout; counted = t.counted; situations = t.others; pendings = λ q ne. t.open_edits q }
 
@@ -84,7 +84,7 @@ module _ (e : PlainWork) (word : ℕ) (old new : World) (sound : IsSound old) (r
         let head : heads.Head = record { stamp = length b.0 + 1; process = b.1.process; number = b.1.number } in
         let some : head_of e.processes word ≡ Some head = ap (λ (n : ℕ). head_of n word) (sym fits.processes) ∙ ap (λ (n : ℕ). head_of old.layout.processes n) seen ∙ head_reads old sound e.cell b.0 b.1 b.2 in
         let by : IsHeadBy (of_cell e.cell old.counted) word b.1 =
-        subst (λ (n : ℕ). IsHeadBy (of_cell e.cell old.counted) n b.1) (sym seen) (subst (λ (es : List Edit). IsHeadBy es (head_after_all es) b.1) (sym b.2) (by_last b.0 b.1)) in
+        subst (λ (n : ℕ). IsHeadBy (of_cell e.cell old.counted) n b.1) (sym seen) (subst (λ (es : List PlainEdit). IsHeadBy es (head_after_all es) b.1) (sym b.2) (by_last b.0 b.1)) in
         frame.loads e works.LoadHead (record e { head = word; length = 0; text = []; stage = works.LoadHeader }) old new sound real was
         (t.situation ∙ ap (λ (o : Option heads.Head). Working (head_from e word o)) some) (turn_of _ t) (t.open_edits e.process) fits tt t.memory.1
         (λ c x bit matters o. absurd o) (λ o. absurd o)
@@ -99,10 +99,10 @@ module _ (e : PlainWork) (word : ℕ) (old new : World) (sound : IsSound old) (r
 
   -- ---- its record
 
-  module _ (texts : (by : Edit) → Contains old.counted by → IsText by.text) where
+  module _ (texts : (by : PlainEdit) → Contains old.counted by → IsText by.text) where
     pub load_header : WorkFits old e.process (on e works.LoadHeader) → old.situation e.process ≡ Working (on e works.LoadHeader) → StepsAt e works.LoadHeader word old new → Keeps e.process old new
     load_header fits was t =
-        let by : Edit = fits.knows.loaded.1.0 in
+        let by : PlainEdit = fits.knows.loaded.1.0 in
         let gave : IsHeadBy (of_cell e.cell old.counted) e.head by = fits.knows.loaded.1.1 in
         let there : Contains old.counted by = gave_counts old e.cell e.head by gave in
         let sheet : IsOfSheet old by = of_sheet_middle old sound.of_sheet e.cell gave.before by gave.after gave.parts in
@@ -125,7 +125,7 @@ module _ (e : PlainWork) (word : ℕ) (old new : World) (sound : IsSound old) (r
         ∙ header_of-header_word (cells_of old.layout) h (record { cell = omega arith; length = omega arith }) (record { cell = cell; length = short }) in
         by_length by gave (t.situation ∙ ap (λ (o : Option headers.Header). Working (header_from e o)) some) (nat_lt 0 ((length by.text + 7) / 8)) refl
       where
-        by_length : (by : Edit) → IsHeadBy (of_cell e.cell old.counted) e.head by → new.situation e.process ≡ Working (text_from (record e { length = length by.text; text = [] }) 0)
+        by_length : (by : PlainEdit) → IsHeadBy (of_cell e.cell old.counted) e.head by → new.situation e.process ≡ Working (text_from (record e { length = length by.text; text = [] }) 0)
             → (b : Bool) → nat_lt 0 ((length by.text + 7) / 8) ≡ b → Keeps e.process old new
         by_length by gave is true some =
             let more = ltb-true 0 ((length by.text + 7) / 8) some in
@@ -150,7 +150,7 @@ module _ (e : PlainWork) (word : ℕ) (old new : World) (sound : IsSound old) (r
     pub load_text : (part : ℕ) → WorkFits old e.process (on e (works.LoadText part)) → old.situation e.process ≡ Working (on e (works.LoadText part)) → StepsAt e (works.LoadText part) word old new → Keeps e.process old new
     load_text part fits was t =
         let r : ReadsPart old e.cell e.head e.length e.text part = fits.knows.loaded.1 in
-        let by : Edit = r.by in
+        let by : PlainEdit = r.by in
         let gave : IsHeadBy (of_cell e.cell old.counted) e.head by = r.gave in
         let there : Contains old.counted by = gave_counts old e.cell e.head by gave in
         let sheet : IsOfSheet old by = of_sheet_middle old sound.of_sheet e.cell gave.before by gave.after gave.parts in
@@ -169,7 +169,7 @@ module _ (e : PlainWork) (word : ℕ) (old new : World) (sound : IsSound old) (r
         ap (λ (k : ℕ). take k (e.text ++ bytes_of word)) size ∙ ap (λ (xs : List ℕ). take (length by.text) (xs ++ bytes_of word)) r.start ∙ joined by.text part word (texts by there) seen (omega arith) in
         by_length by gave size text (nat_lt (part + 1) ((e.length + 7) / 8)) refl
       where
-        by_length : (by : Edit) → IsHeadBy (of_cell e.cell old.counted) e.head by → e.length ≡ length by.text → take e.length (e.text ++ bytes_of word) ≡ take (8 * (part + 1)) by.text
+        by_length : (by : PlainEdit) → IsHeadBy (of_cell e.cell old.counted) e.head by → e.length ≡ length by.text → take e.length (e.text ++ bytes_of word) ≡ take (8 * (part + 1)) by.text
             → (b : Bool) → nat_lt (part + 1) ((e.length + 7) / 8) ≡ b → Keeps e.process old new
         by_length by gave size text true some =
             let more = ltb-true (part + 1) ((e.length + 7) / 8) some in

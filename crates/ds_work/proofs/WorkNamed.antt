@@ -6,8 +6,8 @@ use Rattle.ds_layout.specs.declared.place.Place.TheVariants.{Mark}
 use Rattle.ds_layout.specs.Places.{cells_of, IsPlace}
 use Rattle.ds_layout.specs.SheetMemory.{CanPerform, HasEntry}
 use Rattle.ds_state.specs.Text.{IsText}
-use Rattle.ds_state.specs.Works.{PlainWork}
-use Rattle.ds_state.specs.World.{Edit, World, of_cell, IsHeadBy}
+use Rattle.ds_state.specs.Works.{PlainWorkCall}
+use Rattle.ds_state.specs.World.{PlainEdit, PlainWorld, of_cell, IsHeadBy}
 use Rattle.ds_state.specs.Owing.{entry}
 use Rattle.ds_state.specs.KnownWork.{WorkFits, ReadsPart, value_entry, kind_entry}
 use Rattle.ds_work.specs.WorkSteps.{at, access_at}
@@ -20,7 +20,7 @@ use Rattle.ds_state.proofs.Found.{gave_counts}
 use Rattle.ds_state.proofs.Noted.{of_sheet_middle}
 use Rattle.ds_work.proofs.EachWork.{text_of, fits_at}
 
-module _ (w : World) (e : PlainWork) (sound : IsSound w) (real : e.process < w.layout.processes) where
+module _ (w : PlainWorld) (e : PlainWorkCall) (sound : IsSound w) (real : e.process < w.layout.processes) where
   inside : (s : WorkStage) → WorkFits w e.process (at e s) → e.cell < cells_of w.layout
   inside s fits = rw fits.cells fits.cell
 
@@ -30,7 +30,7 @@ module _ (w : World) (e : PlainWork) (sound : IsSound w) (real : e.process < w.l
   oldest : (x : Entry Place) (xs : List (Entry Place)) → w.memory.buffer e.process ≡ x ∷ xs → IsPlace w.layout x.place → HasEntry w.layout w.memory e.process
   oldest x xs is there = record { entry = x; rest = xs; oldest = is; there = there }
 
-  header : (by : Edit) → IsHeadBy (of_cell e.cell w.counted) e.head by → (e.head / 256 % 256 < w.layout.processes) × (e.head % 256 < 256)
+  header : (by : PlainEdit) → IsHeadBy (of_cell e.cell w.counted) e.head by → (e.head / 256 % 256 < w.layout.processes) × (e.head % 256 < 256)
   header by gave =
       let sheet : IsOfSheet w by = of_sheet_middle w sound.of_sheet e.cell gave.before by gave.after gave.parts in
       let is = gave.is in

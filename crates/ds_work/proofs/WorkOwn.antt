@@ -9,8 +9,8 @@ use Rattle.ds_eval.specs.Local.{local}
 use Rattle.ds_layout.specs.Places.{class_of}
 use Rattle.ds_layout.specs.declared.place.Place.{Place}
 use Rattle.ds_layout.specs.declared.place.Place.TheVariants.{Mark, Value, Kind}
-use Rattle.ds_state.specs.Works.{PlainWork, StageFits}
-use Rattle.ds_state.specs.World.{World}
+use Rattle.ds_state.specs.Works.{PlainWorkCall, StageFits}
+use Rattle.ds_state.specs.World.{PlainWorld}
 use Rattle.ds_state.specs.Owing.{entry, IsHeld, IsApart, Parts}
 use Rattle.ds_state.specs.Standing.{value_for, word_for}
 use Rattle.ds_state.specs.KnownWork.{WorkFits, value_entry, kind_entry}
@@ -39,7 +39,7 @@ own_kind : (a c : ℕ) → (Kind a ≡ Value c) ⊎ (Kind a ≡ Kind c) → a �
 own_kind a c (inl e) = cc
 own_kind a c (inr e) = cc
 
-module _ (e : PlainWork) (word : ℕ) (old new : World) (sound : IsSound old) (real : e.process < old.layout.processes) where
+module _ (e : PlainWorkCall) (word : ℕ) (old new : PlainWorld) (sound : IsSound old) (real : e.process < old.layout.processes) where
   turn_of : (s : WorkStage) → StepsAt e s word old new → Turn e.process old new
   turn_of s t = record { layout = t.layout; counted = t.counted; situations = t.others; pendings = λ q ne. t.open_edits q }
 
@@ -114,7 +114,7 @@ module _ (e : PlainWork) (word : ℕ) (old new : World) (sound : IsSound old) (r
 
   pub back_kind : WorkFits old e.process (on e works.BackKind) → old.situation e.process ≡ Working (on e works.BackKind) → StepsAt e works.BackKind word old new → Keeps e.process old new
   back_kind fits was t =
-      let f : PlainWork = record e { row = []; stage = works.Telling (LoadRow 0) } in
+      let f : PlainWorkCall = record e { row = []; stage = works.Telling (LoadRow 0) } in
       let some = fits.cell in
       let row : StageFits f (works.Telling (LoadRow 0)) = (refl, omega arith) in
       let m : WritesBack e.process (kind_entry e) [] old.memory new.memory = back_first (kind_entry e) [] fits.buffer t.memory.1 in
@@ -137,7 +137,7 @@ both_true true false e = absurd cc
 both_true false b e = absurd cc
 
 -- the offer: the entry of what was loaded
-module _ (e : PlainWork) (entry' : entries.Entry) (old new : World) (sound : IsSound old) (real : e.process < old.layout.processes)
+module _ (e : PlainWorkCall) (entry' : entries.Entry) (old new : PlainWorld) (sound : IsSound old) (real : e.process < old.layout.processes)
     (was : old.situation e.process ≡ Working (on e works.Wait)) (is : new.situation e.process ≡ Working (offered e entry')) (tn : Turn e.process old new) (pending : new.open_edits e.process ≡ old.open_edits e.process)
     (fits : WorkFits old e.process (on e works.Wait)) (m : SameMemory old.memory new.memory)
     (entry_is : entry' ≡ local old.layout.shape e.content (entry_in e.inputs)) where

@@ -2,15 +2,15 @@
 use Rattle.std.proofs.Common.{ℕ, ◌≡◌, ◌<◌, ◌⊎◌, Bool, true, false, if◌then◌else◌, nat_lt, List, [], refl, ap, sym, ◌∙◌, subst, arith, length, inl, inr}
 use Rattle.std.proofs.lemmas.Bool.{ltb-true, ltb-false}
 use Rattle.ds_formula.specs.Cells.{IsInside, index_of}
-use Rattle.ds_formula.specs.Plain.{Plain, Empty}
+use Rattle.ds_formula.specs.Plain.{PlainContent, Empty}
 use Rattle.ds_formula.specs.Grammar.{Reads, blank}
 use Rattle.ds_formula.proofs.Whole.{only_content}
 use Rattle.ds_eval.specs.declared.inputs.Entry as entries
 use Rattle.ds_eval.specs.declared.inputs.Input.{Input}
 use Rattle.ds_eval.specs.Inputs.{cell_in}
 use Rattle.ds_layout.specs.declared.layout.Layout.{Layout}
-use Rattle.ds_state.specs.Works.{PlainWork}
-use Rattle.ds_state.specs.World.{World, index_place}
+use Rattle.ds_state.specs.Works.{PlainWorkCall}
+use Rattle.ds_state.specs.World.{PlainWorld, index_place}
 use Rattle.ds_state.specs.Owing.{IsIndexed}
 use Rattle.ds_state.specs.Standing.{HasContent}
 use Rattle.ds_state.specs.KnownWork.{WorkFits, ReadsWhole, Gathers, row_of}
@@ -25,8 +25,8 @@ use Rattle.ds_work.proofs.WorkSteps.{on}
 use Rattle.ds_work.proofs.WorkOwn.{offer_keeps}
 use Rattle.ds_work.proofs.WorkFrame as frame
 
-module _ (e : PlainWork) (old new : World) (sound : IsSound old) (real : e.process < old.layout.processes) where
-  turns : (f : PlainWork) → Turns e f old new → Turn e.process old new
+module _ (e : PlainWorkCall) (old new : PlainWorld) (sound : IsSound old) (real : e.process < old.layout.processes) where
+  turns : (f : PlainWorkCall) → Turns e f old new → Turn e.process old new
   turns f t = record { layout = t.layout; counted = t.counted; situations = t.others; pendings = λ q ne. t.open_edits q }
 
   pub lacks_keeps : WorkFits old e.process (on e works.Read) → old.situation e.process ≡ Working (on e works.Read) → LacksAt e old new → Keeps e.process old new
@@ -36,7 +36,7 @@ module _ (e : PlainWork) (old new : World) (sound : IsSound old) (real : e.proce
   pub offers_keep : (entry : entries.Entry) → WorkFits old e.process (on e works.Wait) → old.situation e.process ≡ Working (on e works.Wait) → OffersAt e entry old new → Keeps e.process old new
   offers_keep entry fits was t = offer_keeps e entry old new sound real was t.turn.situation (turns _ t.turn) (t.turn.open_edits e.process) fits t.turn.memory t.is
 
-  module _ (content : Plain) (inputs : List Input) (fits : WorkFits old e.process (on e works.Read)) (was : old.situation e.process ≡ Working (on e works.Read)) (t : ReadsAt e content inputs old new) where
+  module _ (content : PlainContent) (inputs : List Input) (fits : WorkFits old e.process (on e works.Read)) (was : old.situation e.process ≡ Working (on e works.Read)) (t : ReadsAt e content inputs old new) where
     abbrev shape_is : new.layout ≡ old.layout
     shape_is = t.turn.layout
 

@@ -19,10 +19,10 @@ use Rattle.ds_layout.specs.Head.{head_of}
 use Rattle.ds_layout.specs.Header.{header_of}
 use Rattle.ds_layout.specs.TextWords.{bytes_of}
 use Rattle.ds_layout.specs.SheetMemory.{PerformsAt}
-use Rattle.ds_state.specs.Works.{PlainWork, TellsFits, IsSame, Differs, SEEN_MOST}
+use Rattle.ds_state.specs.Works.{PlainWorkCall, TellsFits, IsSame, Differs, SEEN_MOST}
 use Rattle.ds_state.specs.Standing.{value_for, word_for, shown_entry}
 use Rattle.ds_state.specs.Telling.{told_from}
-use Rattle.ds_state.specs.World.{World}
+use Rattle.ds_state.specs.World.{PlainWorld}
 use Rattle.ds_state.specs.declared.work.Spread.{Spread}
 use Rattle.ds_state.specs.declared.work.Spread.TheVariants.{LoadRow, OrTold, FlushTold, BackTold}
 use Rattle.ds_state.specs.declared.work.WorkStage.{WorkStage}
@@ -40,14 +40,14 @@ words_of v k = record { value = v; kind = k }
 both : (v k v' k' : ℕ) → v ≡ v' → k ≡ k' → words_of v k ≡ words_of v' k'
 both v k v' k' a b = ap (λ (x : ℕ). words_of x k) a ∙ ap (λ (x : ℕ). words_of v' x) b
 
-pub shown_same : (old new : World) (cell : ℕ) → new.memory.cached (Value cell) ≡ old.memory.cached (Value cell) → new.memory.cached (Kind cell) ≡ old.memory.cached (Kind cell) → shown_in new cell ≡ shown_in old cell
+pub shown_same : (old new : PlainWorld) (cell : ℕ) → new.memory.cached (Value cell) ≡ old.memory.cached (Value cell) → new.memory.cached (Kind cell) ≡ old.memory.cached (Kind cell) → shown_in new cell ≡ shown_in old cell
 shown_same old new cell value kind = both _ _ _ _ value kind
 
-pub shown_kept : (old new : World) (cell : ℕ) → SameMemory old.memory new.memory → shown_in new cell ≡ shown_in old cell
+pub shown_kept : (old new : PlainWorld) (cell : ℕ) → SameMemory old.memory new.memory → shown_in new cell ≡ shown_in old cell
 shown_kept old new cell same = shown_same old new cell (same.cached (Value cell)) (same.cached (Kind cell))
 
 -- where the words that were stored are not those that were noted, the cell shows others than before
-differ : (before now : CellWords) (e : PlainWork) → Differs e → HasNoted before e now (words_for e.entry) → now ≢ before
+differ : (before now : CellWords) (e : PlainWorkCall) → Differs e → HasNoted before e now (words_for e.entry) → now ≢ before
 differ before now e other (noted, stored) = λ same.
     let one : noted_by e ≡ words_for e.entry = noted ∙ sym same ∙ stored in
     other (ap (λ (c : CellWords). c.value) one, ap (λ (c : CellWords). c.kind) one)
@@ -55,49 +55,49 @@ differ before now e other (noted, stored) = λ same.
 -- ---- branches that keep what it shows
 
 module _ (before now : CellWords) where
-  abbrev pub Shows : PlainWork → Type 0
+  abbrev pub Shows : PlainWorkCall → Type 0
   Shows e = ShowsAt before now e e.stage
 
-  either : (b : Bool) (x y : PlainWork) → Shows x → Shows y → Shows (if b then x else y)
+  either : (b : Bool) (x y : PlainWorkCall) → Shows x → Shows y → Shows (if b then x else y)
   either true x y h k = h
   either false x y h k = k
 
-  claims_show : (e : PlainWork) (word : ℕ) (s : State) → now ≡ before → Shows (claims_from e word s)
+  claims_show : (e : PlainWorkCall) (word : ℕ) (s : State) → now ≡ before → Shows (claims_from e word s)
   claims_show e word state.Clean h = h
   claims_show e word (state.Held p) h = h
   claims_show e word state.Marked h = either (nat_lt SEEN_MOST (generation_of word)) _ _ h h
 
-  text_shows : (e : PlainWork) (part : ℕ) → now ≡ before → Shows (text_from e part)
+  text_shows : (e : PlainWorkCall) (part : ℕ) → now ≡ before → Shows (text_from e part)
   text_shows e part h = either (nat_lt part (text_parts e)) _ _ h h
 
-  header_shows : (e : PlainWork) (o : Option Header) → now ≡ before → Shows (header_from e o)
+  header_shows : (e : PlainWorkCall) (o : Option Header) → now ≡ before → Shows (header_from e o)
   header_shows e None h = h
   header_shows e (Some header) h = text_shows (record e { length = header.length; text = [] }) 0 h
 
-  head_shows : (e : PlainWork) (word : ℕ) (o : Option Head) → now ≡ before → Shows (head_from e word o)
+  head_shows : (e : PlainWorkCall) (word : ℕ) (o : Option Head) → now ≡ before → Shows (head_from e word o)
   head_shows e word None h = h
   head_shows e word (Some head) h = h
 
-  pub input_shows : (e : PlainWork) (i : ℕ) → now ≡ before → Shows (input_from e i)
+  pub input_shows : (e : PlainWorkCall) (i : ℕ) → now ≡ before → Shows (input_from e i)
   input_shows e i h = either (nat_lt i (length e.inputs)) _ _ h h
 
-  told_shows : (e : PlainWork) (o : Option ℕ) → HasNoted before e now (words_for e.entry) → Shows (told e o)
+  told_shows : (e : PlainWorkCall) (o : Option ℕ) → HasNoted before e now (words_for e.entry) → Shows (told e o)
   told_shows e None h = h
   told_shows e (Some d) h = h
 
-  tell_shows : (e : PlainWork) (d : ℕ) → HasNoted before e now (words_for e.entry) → Shows (tell_from e d)
+  tell_shows : (e : PlainWorkCall) (d : ℕ) → HasNoted before e now (words_for e.entry) → Shows (tell_from e d)
   tell_shows e d h = told_shows e (told_from e.row (e.cells - d) d) h
 
-  row_shows : (e : PlainWork) (part : ℕ) → HasNoted before e now (words_for e.entry) → Shows (row_from e part)
+  row_shows : (e : PlainWorkCall) (part : ℕ) → HasNoted before e now (words_for e.entry) → Shows (row_from e part)
   row_shows e part h = either (nat_lt part (parts_of e)) _ _ h (tell_shows e 0 h)
 
-  spread_shows : (e : PlainWork) (s : Spread) (word : ℕ) → HasNoted before e now (words_for e.entry) → Shows (spread_next e s word)
+  spread_shows : (e : PlainWorkCall) (s : Spread) (word : ℕ) → HasNoted before e now (words_for e.entry) → Shows (spread_next e s word)
   spread_shows e (LoadRow part) word h = row_shows (record e { row = e.row ++ word ∷ [] }) (part + 1) h
   spread_shows e (OrTold d) word h = h
   spread_shows e (FlushTold d) word h = h
   spread_shows e (BackTold d) word h = tell_shows e (d + 1) h
 
-  pub offer_shows : (e : PlainWork) (entry : entries.Entry) → HasNoted before e now before → Shows (offered e entry)
+  pub offer_shows : (e : PlainWorkCall) (entry : entries.Entry) → HasNoted before e now before → Shows (offered e entry)
   offer_shows e entry h = stored ((e.value == value_for entry) && (e.kind == word_for entry))
     where
       stored : (b : Bool) → ShowsAt before now (offered e entry) (if b then works.Clear false else works.StoreValue)
@@ -113,11 +113,11 @@ IsNoStore works.StoreKind = ⊥
 IsNoStore _ = Unit {0}
 
 -- where the mark alone tells how it ends, it is the one that was noted
-abbrev pub IsUnmarkedAt : World → PlainWork → WorkStage → Type 0
+abbrev pub IsUnmarkedAt : PlainWorld → PlainWorkCall → WorkStage → Type 0
 IsUnmarkedAt w e (works.Clear false) = mark_now w e ≡ e.mark
 IsUnmarkedAt w e _ = Unit {0}
 
-module _ (before : CellWords) (shape : Shape) (e : PlainWork) (word : ℕ) (old new : World) where
+module _ (before : CellWords) (shape : Shape) (e : PlainWorkCall) (word : ℕ) (old new : PlainWorld) where
   abbrev Performs : WorkStage → Type 0
   Performs s = PerformsAt (access_at shape e s) e.process old.memory new.memory word
 

@@ -12,8 +12,8 @@ use Rattle.ds_eval.proofs.Cells.{entry_found}
 use Rattle.ds_layout.specs.declared.place.Place.{Place}
 use Rattle.ds_layout.specs.declared.place.Place.TheVariants.{Mark, Value, Kind, Head}
 use Rattle.ds_layout.specs.declared.layout.Layout.{Layout}
-use Rattle.ds_state.specs.Works.{PlainWork}
-use Rattle.ds_state.specs.World.{World}
+use Rattle.ds_state.specs.Works.{PlainWorkCall}
+use Rattle.ds_state.specs.World.{PlainWorld}
 use Rattle.ds_state.specs.Owing.{entry, IsHeld, IsBelowBuffered, SpreadOwes, WorkOwes, RecoveryOwes, Owes, CellOwes, EditOwes, RecoveryExcuses, Excuses, IsExcused, IsIndexed}
 use Rattle.ds_layout.specs.Mark.{IsClean, IsHeldBy, freed_after}
 use Rattle.ds_state.specs.Standing.{cached_side, entry_on, value_for, word_for, HasContent, Stands, Matters, AllStand}
@@ -33,11 +33,11 @@ use Rattle.ds_state.proofs.Frames.{Moves, clean_free}
 use Rattle.ds_state.proofs.Telling.{matters_most, odd_above}
 use Rattle.ds_state.proofs.Bearing.{Buffered, Mine, MyMarks, text_same, stored_marks, all_stand, cell_owes_lasts, excused_lasts}
 
-abbrev pub on : PlainWork → WorkStage → PlainWork
+abbrev pub on : PlainWorkCall → WorkStage → PlainWorkCall
 on e s = record e { stage = s }
 
 -- who owes above the cached mark owes above any: it has not marked it
-module _ (w : World) (h : ℕ) (c x y : ℕ) (is : x ≡ w.memory.cached (Mark c)) (had : (v : ℕ) → Contains (w.memory.buffer h) (entry (Mark c) v) → v ≤ w.memory.cached (Mark c)) where
+module _ (w : PlainWorld) (h : ℕ) (c x y : ℕ) (is : x ≡ w.memory.cached (Mark c)) (had : (v : ℕ) → Contains (w.memory.buffer h) (entry (Mark c) v) → v ≤ w.memory.cached (Mark c)) where
   no_later : IsBelowBuffered w.memory h c x → ⊥
   no_later k = let v = had k.value (subst (λ (b : List (Entry Place)). Contains b (entry (Mark c) k.value)) (sym k.alone) (0, omega arith, refl)) in let l = k.below in omega arith
 
@@ -109,7 +109,7 @@ no_place a c (inl e) = cc
 no_place a c (inr e) = cc
 
 -- the clear: what was noted becomes what the clean mark says
-module _ (p : ℕ) (e : PlainWork) (changed : Bool) (old new : World) (sound : IsSound old) (buffered : Buffered old)
+module _ (p : ℕ) (e : PlainWorkCall) (changed : Bool) (old new : PlainWorld) (sound : IsSound old) (buffered : Buffered old)
     (fits : WorkFits old p (on e (works.Clear changed))) (was : old.situation p ≡ Working (on e (works.Clear changed)))
     (at : old.memory.cached (Mark e.cell) ≡ e.mark) (store : StoresAt (Mark e.cell) (freed_after e.mark) old.memory new.memory)
     (moves : Moves p (Mark e.cell) old new) (same_list : new.counted ≡ old.counted) where
@@ -212,11 +212,11 @@ same_kind : (a c : ℕ) → (Kind a ≡ Value c) ⊎ (Kind a ≡ Kind c) → a �
 same_kind a c (inl e) = cc
 same_kind a c (inr e) = cc
 
-pub held_both : (w : World) (e : PlainWork) → HasHeld w e → IsHeld w.memory e.process e.cell
+pub held_both : (w : PlainWorld) (e : PlainWorkCall) → HasHeld w e → IsHeld w.memory e.process e.cell
 held_both w e h = let a = h.claim.by in let b = h.claim.cached in let c = h.persisted in record { by = omega arith; same = omega arith }
 
 -- the stores: from here everyone is owed
-module _ (p : ℕ) (e : PlainWork) (s s' : WorkStage) (place : Place) (v : ℕ) (old new : World)
+module _ (p : ℕ) (e : PlainWorkCall) (s s' : WorkStage) (place : Place) (v : ℕ) (old new : PlainWorld)
     (was : old.situation p ≡ Working (on e s)) (is : new.situation p ≡ Working (on e s'))
     (held : IsHeld old.memory p e.cell)
     (own : (c : ℕ) → (place ≡ Value c) ⊎ (place ≡ Kind c) → e.cell ≡ c)
@@ -252,16 +252,16 @@ module _ (p : ℕ) (e : PlainWork) (s s' : WorkStage) (place : Place) (v : ℕ) 
   store_marks = stored_marks p place old new moves (λ c at. absurd (no_mark c at)) store.persisted store.buffer
 
 -- the value, then the kind
-pub store_value_mine : (p : ℕ) (e : PlainWork) (v : ℕ) (old new : World) → old.situation p ≡ Working (on e works.StoreValue) → new.situation p ≡ Working (on e works.StoreKind)
+pub store_value_mine : (p : ℕ) (e : PlainWorkCall) (v : ℕ) (old new : PlainWorld) → old.situation p ≡ Working (on e works.StoreValue) → new.situation p ≡ Working (on e works.StoreKind)
     → IsHeld old.memory p e.cell → StoresAt (Value e.cell) v old.memory new.memory → (moves : Moves p (Value e.cell) old new) → Mine p (Value e.cell) old new moves
 store_value_mine p e v old new was is held store moves = store_mine p e works.StoreValue works.StoreKind (Value e.cell) v old new was is held (λ c at. same_value e.cell c at) (λ c at. cc) (λ c at. cc) (λ c x. tt) store moves
 
-pub store_kind_mine : (p : ℕ) (e : PlainWork) (v : ℕ) (old new : World) → old.situation p ≡ Working (on e works.StoreKind) → new.situation p ≡ Working (on e works.FlushValue)
+pub store_kind_mine : (p : ℕ) (e : PlainWorkCall) (v : ℕ) (old new : PlainWorld) → old.situation p ≡ Working (on e works.StoreKind) → new.situation p ≡ Working (on e works.FlushValue)
     → IsHeld old.memory p e.cell → StoresAt (Kind e.cell) v old.memory new.memory → (moves : Moves p (Kind e.cell) old new) → Mine p (Kind e.cell) old new moves
 store_kind_mine p e v old new was is held store moves = store_mine p e works.StoreKind works.FlushValue (Kind e.cell) v old new was is held (λ c at. same_kind e.cell c at) (λ c at. cc) (λ c at. cc) (λ c x. tt) store moves
 
 -- a mark that is not clean comes to a cell: a claim, an `or`, a giving back
-module _ (p : ℕ) (cell n : ℕ) (old new : World) (store : StoresAt (Mark cell) n old.memory new.memory) (moves : Moves p (Mark cell) old new) (unclean : IsClean n → ⊥)
+module _ (p : ℕ) (cell n : ℕ) (old new : PlainWorld) (store : StoresAt (Mark cell) n old.memory new.memory) (moves : Moves p (Mark cell) old new) (unclean : IsClean n → ⊥)
     (owes : (r c x : ℕ) → IsIndexed old r c → Matters new c x → IsHeld old.memory p r → Owes old.memory p (old.situation p) r c x → CellOwes new r c x)
     (excuses : p < old.layout.processes → (c x : ℕ) → Matters new c x → Excuses old p (old.situation p) c x → IsExcused new c x) where
   pub mark_mine : Mine p (Mark cell) old new moves
@@ -278,14 +278,14 @@ module _ (p : ℕ) (cell n : ℕ) (old new : World) (store : StoresAt (Mark cell
   mark_marks = stored_marks p (Mark cell) old new moves (λ c at clean. absurd (let same : cell ≡ c = cc in unclean (subst (λ (x : ℕ). IsClean x) (ap (λ (y : ℕ). new.memory.cached (Mark y)) (sym same) ∙ store.there) clean))) store.persisted store.buffer
 
 -- the claim: nothing is owed yet
-pub claim_mine : (p : ℕ) (e e' : PlainWork) (n : ℕ) (old new : World) → old.situation p ≡ Working (on e works.Claim) → IsHeldBy p n
+pub claim_mine : (p : ℕ) (e e' : PlainWorkCall) (n : ℕ) (old new : PlainWorld) → old.situation p ≡ Working (on e works.Claim) → IsHeldBy p n
     → (store : StoresAt (Mark e.cell) n old.memory new.memory) → (moves : Moves p (Mark e.cell) old new) → Mine p (Mark e.cell) old new moves
 claim_mine p e e' n old new was by store moves = mark_mine p e.cell n old new store moves (λ clean. clean_free n p clean by)
     (λ r c x bit matters held o. absurd (subst (λ (t : Situation). Owes old.memory p t r c x) was o).1)
     (λ l c x matters o. absurd (subst (λ (t : Situation). Excuses old p t c x) was o))
 
 -- the `or` that tells a cell: every mark of it that matters is below
-module _ (p : ℕ) (e : PlainWork) (d n : ℕ) (old new : World) (sound : IsSound old) (buffered : Buffered old)
+module _ (p : ℕ) (e : PlainWorkCall) (d n : ℕ) (old new : PlainWorld) (sound : IsSound old) (buffered : Buffered old)
     (was : old.situation p ≡ Working (on e (works.Telling (OrTold d)))) (is : new.situation p ≡ Working (on e (works.Telling (FlushTold d))))
     (odd : n % 2 ≡ 1) (same_turn : n / 2 ≡ old.memory.cached (Mark d) / 2)
     (store : StoresAt (Mark d) n old.memory new.memory) (moves : Moves p (Mark d) old new) where
@@ -320,7 +320,7 @@ module _ (p : ℕ) (e : PlainWork) (d n : ℕ) (old new : World) (sound : IsSoun
   told_mine = mark_mine p d n old new store moves unclean told (λ l c x matters o. absurd (subst (λ (t : Situation). Excuses old p t c x) was o))
 
 -- telling: each step passes on what is still owed
-module _ (p : ℕ) (e e' : PlainWork) (spread spread' : Spread) (place : Place) (old new : World) (moves : Moves p place old new)
+module _ (p : ℕ) (e e' : PlainWorkCall) (spread spread' : Spread) (place : Place) (old new : PlainWorld) (moves : Moves p place old new)
     (was : old.situation p ≡ Working (on e (works.Telling spread))) (is : new.situation p ≡ Working (on e' (works.Telling spread')))
     (same : e'.cell ≡ e.cell) (no_value : (c : ℕ) → (place ≡ Value c) ⊎ (place ≡ Kind c) → ⊥) (no_head : (c : ℕ) → place ≡ Head c → ⊥)
     (holds : IsHeld old.memory p e.cell → IsHeld new.memory p e.cell)

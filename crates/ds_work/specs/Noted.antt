@@ -9,7 +9,7 @@ use Rattle.ds_layout.specs.Header.{header_of}
 use Rattle.ds_layout.specs.Mark.{mark_of, state_of, generation_of, held_after}
 use Rattle.ds_layout.specs.TextWords.{bytes_of}
 use Rattle.ds_layout.specs.declared.place.TheConstants.{ROW_PARTS}
-use Rattle.ds_state.specs.Works.{PlainWork, SEEN_MOST}
+use Rattle.ds_state.specs.Works.{PlainWorkCall, SEEN_MOST}
 use Rattle.ds_state.specs.Standing.{shown_entry}
 use Rattle.ds_state.specs.declared.work.Spread.TheVariants.{LoadRow}
 use Rattle.ds_state.specs.declared.work.WorkStage.{WorkStage}
@@ -36,19 +36,19 @@ notes_at stage = noted.Nothing
 
 -- the mark that work has noted after it loaded this word: the word, where it may be claimed, else the mark from
 -- before
-abbrev pub seen_mark : PlainWork → ℕ → State → ℕ
+abbrev pub seen_mark : PlainWorkCall → ℕ → State → ℕ
 seen_mark e word Clean = e.mark
 seen_mark e word (Held p) = e.mark
 seen_mark e word Marked = if nat_lt SEEN_MOST (generation_of word) then e.mark else word
 
 -- the mark that work has noted after a stage whose access found this word
-abbrev pub mark_at : PlainWork → WorkStage → ℕ → ℕ
+abbrev pub mark_at : PlainWorkCall → WorkStage → ℕ → ℕ
 mark_at e LoadMark word = seen_mark e word (state_of (mark_of e.processes word))
 mark_at e Claim word = if word == e.mark then held_after e.process e.mark else e.mark
 mark_at e _ word = e.mark
 
 -- the head that work has noted after a stage whose access found this word
-abbrev pub head_at : PlainWork → WorkStage → ℕ → ℕ
+abbrev pub head_at : PlainWorkCall → WorkStage → ℕ → ℕ
 head_at e LoadHead word = word
 head_at e _ word = e.head
 
@@ -58,7 +58,7 @@ length_in None = 0
 length_in (Some header) = header.length
 
 -- the length of the text that work has noted after a stage whose access found this word
-abbrev pub length_at : PlainWork → WorkStage → ℕ → ℕ
+abbrev pub length_at : PlainWorkCall → WorkStage → ℕ → ℕ
 length_at e LoadHead word = 0
 length_at e LoadHeader word = length_in (header_of e.cells word)
 length_at e _ word = e.length
@@ -71,7 +71,7 @@ text_after text count (LoadText part) word = take count (text ++ bytes_of word)
 text_after text count _ word = text
 
 -- the text that work has noted after a stage whose access found this word
-abbrev pub text_at : PlainWork → WorkStage → ℕ → List ℕ
+abbrev pub text_at : PlainWorkCall → WorkStage → ℕ → List ℕ
 text_at e stage word = text_after e.text e.length stage word
 
 -- the inputs after a stage: once its kind is loaded, an input has the entry that its cell shows
@@ -80,7 +80,7 @@ inputs_after inputs cells (LoadKind i value) word = with_entry inputs i (shown_e
 inputs_after inputs cells _ word = inputs
 
 -- the inputs that work has noted after a stage whose access found this word
-abbrev pub inputs_at : PlainWork → WorkStage → ℕ → List Input
+abbrev pub inputs_at : PlainWorkCall → WorkStage → ℕ → List Input
 inputs_at e stage word = inputs_after e.inputs e.cells stage word
 
 -- the value of the work's own cell after a stage: the word, where the stage loads that value
@@ -89,7 +89,7 @@ value_after value LoadOwnValue word = word
 value_after value _ word = value
 
 -- the value of its own cell that work has noted after a stage whose access found this word
-abbrev pub value_at : PlainWork → WorkStage → ℕ → ℕ
+abbrev pub value_at : PlainWorkCall → WorkStage → ℕ → ℕ
 value_at e stage word = value_after e.value stage word
 
 -- the kind of the work's own cell after a stage: the word, where the stage loads that kind
@@ -98,7 +98,7 @@ kind_after kind LoadOwnKind word = word
 kind_after kind _ word = kind
 
 -- the kind of its own cell that work has noted after a stage whose access found this word
-abbrev pub kind_at : PlainWork → WorkStage → ℕ → ℕ
+abbrev pub kind_at : PlainWorkCall → WorkStage → ℕ → ℕ
 kind_at e stage word = kind_after e.kind stage word
 
 -- the words of the index row after a stage: none when telling begins, one more for each part that is loaded
@@ -108,7 +108,7 @@ row_after row (Telling (LoadRow part)) word = row ++ word ∷ []
 row_after row _ word = row
 
 -- the words of its cell's index row that work has noted after a stage whose access found this word
-abbrev pub row_at : PlainWork → WorkStage → ℕ → List ℕ
+abbrev pub row_at : PlainWorkCall → WorkStage → ℕ → List ℕ
 row_at e stage word = row_after e.row stage word
 
 -- a stage that loads a kind has an input to note it in
@@ -122,7 +122,7 @@ FitsRow row (Telling (LoadRow part)) = length row < ROW_PARTS
 FitsRow row _ = Unit {0}
 
 -- the stage of work behind this one, whose access found this word
-abbrev pub stage_at : PlainWork → WorkStage → ℕ → WorkStage
+abbrev pub stage_at : PlainWorkCall → WorkStage → ℕ → WorkStage
 stage_at e stage word = (next_at e stage word).stage
 
 -- what the process does by its turn at a stage: it reads the content, waits, answers, or makes a step

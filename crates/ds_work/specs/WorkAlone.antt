@@ -4,8 +4,8 @@ use Rattle.std.specs.Prelude.{ℕ, ◌≡◌, ◌<◌, ◌≤◌, ◌+◌, ◌�
 use Rattle.ds_layout.specs.Bits.{HasBit, part_with, parts_for}
 use Rattle.ds_layout.specs.declared.place.Place.TheVariants as place
 use Rattle.ds_layout.specs.declared.mark.State.TheVariants.{Marked}
-use Rattle.ds_state.specs.Works.{PlainWork, SEEN_MOST}
-use Rattle.ds_state.specs.World.{World}
+use Rattle.ds_state.specs.Works.{PlainWorkCall, SEEN_MOST}
+use Rattle.ds_state.specs.World.{PlainWorld}
 use Rattle.ds_layout.specs.Mark.{IsClean, generation_of, dirtied}
 use Rattle.ds_state.specs.declared.work.Spread.{Spread}
 use Rattle.ds_state.specs.declared.work.Spread.TheVariants.{LoadRow, OrTold, FlushTold, BackTold}
@@ -20,17 +20,17 @@ use Rattle.ds_work.specs.WorkAnswers.{mark_now, state_now}
 use Rattle.ds_work.specs.WorkShows.{CellWords, shown_in, EndsShowing, ShowsAt}
 
 -- the work's cell is marked, and its mark has generations left
-pub record IsMarkedAt (w : World) (e : PlainWork) : Type 0 where
+pub record IsMarkedAt (w : PlainWorld) (e : PlainWorkCall) : Type 0 where
   pub marked : state_now w e ≡ Marked
   pub young : generation_of (mark_now w e) ≤ SEEN_MOST
 
 -- the work's cell stands in its own index row: its text refers to it, or did
-abbrev pub RefersToItself : (ℕ → ℕ) → PlainWork → Type 0
+abbrev pub RefersToItself : (ℕ → ℕ) → PlainWorkCall → Type 0
 RefersToItself row e = HasBit (row (part_with e.cell)) e.cell
 
 -- how work that is alone may end: with its value published and its cell clean, where the value is no other one or the
 -- cell does not stand in its own index row; with the cell dirty, where it stands there; or for want of memory
-abbrev pub EndsAlone : (ℕ → ℕ) → World → PlainWork → WorkEnd → Type 0
+abbrev pub EndsAlone : (ℕ → ℕ) → PlainWorld → PlainWorkCall → WorkEnd → Type 0
 EndsAlone row w e NotDirty = ⊥
 EndsAlone row w e Missed = ⊥
 EndsAlone row w e Worn = ⊥
@@ -41,30 +41,30 @@ EndsAlone row w e NoMemory = Unit {0}
 
 -- the cells below this one are told: the mark of the work's own cell is the one that it noted, and where the cell stands
 -- in its own row, it is not below; or it stands there, and is marked
-abbrev pub IsToldTo : (ℕ → ℕ) → World → PlainWork → ℕ → Type 0
+abbrev pub IsToldTo : (ℕ → ℕ) → PlainWorld → PlainWorkCall → ℕ → Type 0
 IsToldTo row w e d = ((mark_now w e ≡ e.mark) × (RefersToItself row e → d ≤ e.cell)) ⊎ ((mark_now w e ≡ dirtied e.mark) × RefersToItself row e)
 
 -- all cells are told: the work's own cell is marked where it stands in its own row, and only there
-abbrev pub IsTold : (ℕ → ℕ) → World → PlainWork → Type 0
+abbrev pub IsTold : (ℕ → ℕ) → PlainWorld → PlainWorkCall → Type 0
 IsTold row w e = ((mark_now w e ≡ e.mark) × (RefersToItself row e → ⊥)) ⊎ ((mark_now w e ≡ dirtied e.mark) × RefersToItself row e)
 
 -- the words of the index row that the work has loaded are those of `row`
-abbrev pub IsRow : (ℕ → ℕ) → PlainWork → Type 0
+abbrev pub IsRow : (ℕ → ℕ) → PlainWorkCall → Type 0
 IsRow row e = (part : ℕ) → part < length e.row → slice_index_or e.row part 0 ≡ row part
 
 -- the work has loaded each part of the index row
-abbrev pub IsWholeRow : (ℕ → ℕ) → PlainWork → Type 0
+abbrev pub IsWholeRow : (ℕ → ℕ) → PlainWorkCall → Type 0
 IsWholeRow row e = (part : ℕ) → part < parts_for e.cells → slice_index_or e.row part 0 ≡ row part
 
 -- what work that is alone sees of its cell's mark while it tells, and what it has loaded of the index row
-abbrev pub TellsAlone : (ℕ → ℕ) → World → PlainWork → Spread → Type 0
+abbrev pub TellsAlone : (ℕ → ℕ) → PlainWorld → PlainWorkCall → Spread → Type 0
 TellsAlone row w e (LoadRow part) = (mark_now w e ≡ e.mark) × IsRow row e
 TellsAlone row w e (OrTold d) = IsToldTo row w e d × IsWholeRow row e
 TellsAlone row w e (FlushTold d) = IsToldTo row w e (d + 1) × IsWholeRow row e
 TellsAlone row w e (BackTold d) = IsToldTo row w e (d + 1) × IsWholeRow row e
 
 -- what work that is alone sees of its cell's mark at each stage
-abbrev pub IsAloneAt : (ℕ → ℕ) → World → PlainWork → WorkStage → Type 0
+abbrev pub IsAloneAt : (ℕ → ℕ) → PlainWorld → PlainWorkCall → WorkStage → Type 0
 IsAloneAt row w e LoadMark = IsMarkedAt w e
 IsAloneAt row w e Claim = mark_now w e ≡ e.mark
 IsAloneAt row w e FlushClaim = mark_now w e ≡ e.mark
@@ -96,13 +96,13 @@ IsAloneAt row w e (Answer end) = EndsAlone row w e end
 
 -- work that is alone, at its own stage, in a world where its cell's index row has these words, on a cell that showed
 -- these before
-pub record IsAlone (row : ℕ → ℕ) (before : CellWords) (w : World) (e : PlainWork) : Type 0 where
+pub record IsAlone (row : ℕ → ℕ) (before : CellWords) (w : PlainWorld) (e : PlainWorkCall) : Type 0 where
   pub at : IsAloneAt row w e e.stage
   pub shows : ShowsAt before (shown_in w e.cell) e e.stage
   pub index : (part : ℕ) → w.memory.cached (place.Index e.cell part) ≡ row part
 
 -- what a turn of work that is alone leaves: it goes on alone, or it has ended so and its process is idle
-abbrev pub GoesAlone : (ℕ → ℕ) → CellWords → PlainWork → World → Taken → Type 0
+abbrev pub GoesAlone : (ℕ → ℕ) → CellWords → PlainWorkCall → PlainWorld → Taken → Type 0
 GoesAlone row before e w NotEnabled = Unit {0}
-GoesAlone row before e w Stepped = (f : PlainWork) × (f.cell ≡ e.cell) × (f.process ≡ e.process) × (w.situation e.process ≡ Working f) × IsAlone row before w f
+GoesAlone row before e w Stepped = (f : PlainWorkCall) × (f.cell ≡ e.cell) × (f.process ≡ e.process) × (w.situation e.process ≡ Working f) × IsAlone row before w f
 GoesAlone row before e w (Answered end) = (w.situation e.process ≡ Idle e.next) × EndsAlone row w e end × EndsShowing before (shown_in w e.cell) end

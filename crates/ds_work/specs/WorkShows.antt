@@ -3,8 +3,8 @@ use Rattle.std.specs.Prelude.{ℕ, ◌≡◌, ◌≢◌, true, false}
 use Rattle.ds_eval.specs.declared.inputs.Entry as entries
 use Rattle.ds_layout.specs.declared.place.Place.TheVariants as place
 use Rattle.ds_state.specs.EntryWords.{value_for, word_for}
-use Rattle.ds_state.specs.Works.{PlainWork}
-use Rattle.ds_state.specs.World.{World}
+use Rattle.ds_state.specs.Works.{PlainWorkCall}
+use Rattle.ds_state.specs.World.{PlainWorld}
 use Rattle.ds_state.specs.declared.work.WorkEnd.{WorkEnd}
 use Rattle.ds_state.specs.declared.work.WorkEnd.TheVariants.{NotDirty, Missed, Worn, Published, Again, NoMemory}
 use Rattle.ds_state.specs.declared.work.WorkStage.{WorkStage}
@@ -16,11 +16,11 @@ pub record CellWords : Type 0 where
   pub kind : ℕ
 
 -- the value and the kind of the cell with this number, as processes see them
-abbrev pub shown_in : World → ℕ → CellWords
+abbrev pub shown_in : PlainWorld → ℕ → CellWords
 shown_in w cell = record { value = w.memory.cached (place.Value cell); kind = w.memory.cached (place.Kind cell) }
 
 -- the value and the kind that the work loaded of its own cell
-abbrev pub noted_by : PlainWork → CellWords
+abbrev pub noted_by : PlainWorkCall → CellWords
 noted_by e = record { value = e.value; kind = e.kind }
 
 -- the value and the kind that an entry is stored with
@@ -39,12 +39,12 @@ EndsShowing before now Again = now ≢ before
 EndsShowing before now NoMemory = now ≡ before
 
 -- the work has noted what the cell showed before, and the cell shows this now
-abbrev pub HasNoted : CellWords → PlainWork → CellWords → CellWords → Type 0
+abbrev pub HasNoted : CellWords → PlainWorkCall → CellWords → CellWords → Type 0
 HasNoted before e now shown = (noted_by e ≡ before) × (now ≡ shown)
 
 -- what the cell shows at each stage of work that is alone: what it showed before, up to the stores of its value and its
 -- kind; then the words of the work's entry
-abbrev pub ShowsAt : CellWords → CellWords → PlainWork → WorkStage → Type 0
+abbrev pub ShowsAt : CellWords → CellWords → PlainWorkCall → WorkStage → Type 0
 ShowsAt before now e LoadMark = now ≡ before
 ShowsAt before now e Claim = now ≡ before
 ShowsAt before now e FlushClaim = now ≡ before

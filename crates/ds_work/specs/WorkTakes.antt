@@ -2,15 +2,15 @@
 use Rattle.std.specs.Prelude.{ℕ, ◌≡◌, ◌<◌, List, Result, Ok, Err}
 use Rattle.ds_formula.specs.declared.cells.Shape.{Shape}
 use Rattle.ds_formula.specs.Cells.{cell_at}
-use Rattle.ds_formula.specs.Plain.{Plain}
+use Rattle.ds_formula.specs.Plain.{PlainContent}
 use Rattle.ds_eval.specs.declared.inputs.Entry.{Entry}
 use Rattle.ds_eval.specs.declared.inputs.Input.{Input}
 use Rattle.ds_eval.specs.Tasks.{PlainTask}
 use Rattle.ds_layout.specs.declared.layout.Layout.{Layout}
 use Rattle.ds_layout.specs.Places.{cells_of}
 use Rattle.ds_layout.specs.Mark.{generation_of}
-use Rattle.ds_state.specs.Works.{PlainWork, IsWork}
-use Rattle.ds_state.specs.World.{World}
+use Rattle.ds_state.specs.Works.{PlainWorkCall, IsWork}
+use Rattle.ds_state.specs.World.{PlainWorld}
 use Rattle.ds_state.specs.declared.refusal.Refusal.{Refusal}
 use Rattle.ds_state.specs.declared.refusal.Refusal.TheVariants as refusal
 use Rattle.ds_state.specs.declared.situation.Situation.{Situation}
@@ -33,7 +33,7 @@ next_of (Recovering e) = Err refusal.Busy
 next_of (Showing e) = Err refusal.Busy
 
 -- work of the process on the cell, before its first step
-pub record IsAskedFor (layout : Layout) (process number index : ℕ) (e : PlainWork) : Type 0 where
+pub record IsAskedFor (layout : Layout) (process number index : ℕ) (e : PlainWorkCall) : Type 0 where
   pub process_is : e.process ≡ process
   pub next_is : e.next ≡ number
   pub cell_is : e.cell ≡ index
@@ -43,9 +43,9 @@ pub record IsAskedFor (layout : Layout) (process number index : ℕ) (e : PlainW
   pub first : e.stage ≡ LoadMark
 
 -- work of an idle process on the cell has begun
-pub record IsBegun (old : World) (process cell : ℕ) (new : World) : Type 0 where
+pub record IsBegun (old : PlainWorld) (process cell : ℕ) (new : PlainWorld) : Type 0 where
   pub next : ℕ
-  pub work : PlainWork
+  pub work : PlainWorkCall
   pub process_is : work.process ≡ process
   pub cell_is : work.cell ≡ cell
   pub begins : BeginsWork next work old new
@@ -60,13 +60,13 @@ RefusesIn (Recovering e) r = r ≡ refusal.Busy
 RefusesIn (Showing e) r = r ≡ refusal.Busy
 
 -- why this process may not begin work
-abbrev pub Refuses : World → ℕ → Refusal → Type 0
+abbrev pub Refuses : PlainWorld → ℕ → Refusal → Type 0
 Refuses w process r = RefusesIn (w.situation process) r
 
 -- ---- tasks and offers
 
 -- the task that a work waits for: process, cell, generation, shape, content and inputs
-abbrev pub task_at : Shape → PlainWork → PlainTask
+abbrev pub task_at : Shape → PlainWorkCall → PlainTask
 task_at shape e = record {
   process = e.process;
   cell = cell_at shape e.cell;
@@ -77,20 +77,20 @@ task_at shape e = record {
 }
 
 -- the process's work waits for an entry
-pub record Waits (w : World) (process : ℕ) (e : PlainWork) : Type 0 where
+pub record Waits (w : PlainWorld) (process : ℕ) (e : PlainWorkCall) : Type 0 where
   pub inside : process < w.layout.processes
   pub works : w.situation process ≡ Working e
   pub waits : e.stage ≡ Wait
 
 -- a work of the task's process waits for the entry of just this task
-pub record WaitsFor (w : World) (task : PlainTask) : Type 0 where
-  pub work : PlainWork
+pub record WaitsFor (w : PlainWorld) (task : PlainTask) : Type 0 where
+  pub work : PlainWorkCall
   pub waits : Waits w task.process work
   pub is : task ≡ task_at w.layout.shape work
 
 -- the process's work, which waited, is given this entry for its task
-pub record IsOffered (old : World) (process : ℕ) (entry : Entry) (new : World) : Type 0 where
-  pub work : PlainWork
+pub record IsOffered (old : PlainWorld) (process : ℕ) (entry : Entry) (new : PlainWorld) : Type 0 where
+  pub work : PlainWorkCall
   pub waits : Waits old process work
   pub mine : work.process ≡ process
   pub offers : OffersAt work entry old new
@@ -99,36 +99,36 @@ pub record IsOffered (old : World) (process : ℕ) (entry : Entry) (new : World)
 
 -- what a turn of the process's work does: it makes the step of its stage, or reads the content of its text, which may
 -- lack memory, or answers
-pub data TakesTurn (e : PlainWork) (old new : World) : Taken → Type 0 where
+pub data TakesTurn (e : PlainWorkCall) (old new : PlainWorld) : Taken → Type 0 where
   steps : (word : ℕ) → StepsAt e e.stage word old new → ((end : WorkEnd) → e.stage ≡ Answer end → ⊥) → TakesTurn e old new Stepped
-  reads : (content : Plain) (inputs : List Input) → e.stage ≡ Read → ReadsAt e content inputs old new → TakesTurn e old new Stepped
+  reads : (content : PlainContent) (inputs : List Input) → e.stage ≡ Read → ReadsAt e content inputs old new → TakesTurn e old new Stepped
   lacked : e.stage ≡ Read → LacksAt e old new → TakesTurn e old new Stepped
   answers : (end : WorkEnd) → e.stage ≡ Answer end → StepsAt e (Answer end) 0 old new → TakesTurn e old new (Answered end)
 
 -- the process is in this work, which is one of its sheet
-pub record IsIn (w : World) (process : ℕ) (e : PlainWork) : Type 0 where
+pub record IsIn (w : PlainWorld) (process : ℕ) (e : PlainWorkCall) : Type 0 where
   pub inside : process < w.layout.processes
   pub works : w.situation process ≡ Working e
   pub is : IsWork e
 
 -- the process takes one turn of the work that it is in
-pub record StepsBy (old : World) (process : ℕ) (taken : Taken) (new : World) : Type 0 where
+pub record StepsBy (old : PlainWorld) (process : ℕ) (taken : Taken) (new : PlainWorld) : Type 0 where
   pub inside : process < old.layout.processes
-  pub work : PlainWork
+  pub work : PlainWorkCall
   pub mine : work.process ≡ process
   pub works : old.situation process ≡ Working work
   pub is : IsWork work
   pub turn : TakesTurn work old new taken
 
 -- no work of the process goes on by a step: it is in none, or its work waits or answers
-abbrev pub CanNotAdvance : World → ℕ → Type 0
-CanNotAdvance w process = (new : World) → StepsBy w process Stepped new → ⊥
+abbrev pub CanNotAdvance : PlainWorld → ℕ → Type 0
+CanNotAdvance w process = (new : PlainWorld) → StepsBy w process Stepped new → ⊥
 
 -- the process is in no work, or its work waits
-abbrev pub CanNotStep : World → ℕ → Type 0
-CanNotStep w process = (e : PlainWork) → process < w.layout.processes → w.situation process ≡ Working e → e.stage ≡ Wait
+abbrev pub CanNotStep : PlainWorld → ℕ → Type 0
+CanNotStep w process = (e : PlainWorkCall) → process < w.layout.processes → w.situation process ≡ Working e → e.stage ≡ Wait
 
 -- the process takes one turn of its work; or, answered NotEnabled, it can not make a step of work
-abbrev pub StepTakes : World → ℕ → Taken → World → Type 0
+abbrev pub StepTakes : PlainWorld → ℕ → Taken → PlainWorld → Type 0
 StepTakes old process NotEnabled new = CanNotStep old process
 StepTakes old process taken new = StepsBy old process taken new

@@ -2,7 +2,7 @@
 
 ghost use Rattle.std.specs.Prelude.{◌≡◌, ◌<◌, IsTrue, IsFalse, IfSome, IfNone};
 ghost use Rattle.ds_formula.specs.Cells.{count_of};
-ghost use Rattle.ds_state.specs.Works.{PlainWork};
+ghost use Rattle.ds_state.specs.Works.{PlainWorkCall};
 ghost use Rattle.ds_state.specs.Value.{world_of};
 ghost use Rattle.ds_state.specs.declared.situation.Situation.TheVariants.{Idle, Working};
 ghost use Rattle.ds_work.specs.Noted.{turn_at};
@@ -36,7 +36,7 @@ pub enum Taken {
 #[inline(always)]
 fn work_of(situation: &Situation) -> Option<&WorkCall>
     ensures some { IfSome result (λ call. situation.now ≡ Working call.now) }
-    ensures none { IfNone result ((e : PlainWork) → situation.now ≡ Working e → ⊥) }
+    ensures none { IfNone result ((e : PlainWorkCall) → situation.now ≡ Working e → ⊥) }
 {
     match situation {
         Situation::Working(call) => Some(call),
@@ -48,8 +48,8 @@ fn work_of(situation: &Situation) -> Option<&WorkCall>
 // It reads the content of its text.
 #[inline(always)]
 fn read(alloc: Global, situation: &mut Situation, shape: Shape)
-    requires { (e : PlainWork) → situation.old ≡ Working e → count_of shape ≡ e.cells }
-    ensures { (e : PlainWork) → situation.old ≡ Working e → (f : PlainWork) × (situation.new ≡ Working f) × IsReading shape e f }
+    requires { (e : PlainWorkCall) → situation.old ≡ Working e → count_of shape ≡ e.cells }
+    ensures { (e : PlainWorkCall) → situation.old ≡ Working e → (f : PlainWorkCall) × (situation.new ≡ Working f) × IsReading shape e f }
 {
     if let Situation::Working(call) = situation {
         reading(alloc, call, shape);
@@ -59,7 +59,7 @@ fn read(alloc: Global, situation: &mut Situation, shape: Shape)
 // The step of its stage: the work goes on with the word that its access answers.
 #[inline(always)]
 fn step_on(world: &mut World, process: usize)
-    requires { (e : PlainWork) × IsIn (world_of world.old) process e × (turn_at e.stage ≡ Steps) }
+    requires { (e : PlainWorkCall) × IsIn (world_of world.old) process e × (turn_at e.stage ≡ Steps) }
     ensures takes { StepsBy (world_of world.old) process Stepped (world_of world.new) }
     ensures done { world.new.done ≡ world.old.done }
     ensures settled { world.new.settled ≡ world.old.settled }
@@ -77,7 +77,7 @@ fn step_on(world: &mut World, process: usize)
 // The step that reads the content.
 #[inline(always)]
 fn read_on(alloc: Global, world: &mut World, process: usize)
-    requires { (e : PlainWork) × IsIn (world_of world.old) process e × (turn_at e.stage ≡ Reads) }
+    requires { (e : PlainWorkCall) × IsIn (world_of world.old) process e × (turn_at e.stage ≡ Reads) }
     ensures takes { StepsBy (world_of world.old) process Stepped (world_of world.new) }
     ensures done { world.new.done ≡ world.old.done }
     ensures settled { world.new.settled ≡ world.old.settled }
@@ -98,7 +98,7 @@ fn room_of(situation: Situation) -> Option<Inputs> {
 // The answer: the process is idle after it, and the room of its inputs is left for the next work.
 #[inline(always)]
 fn close(world: &mut World, process: usize, next: usize, end: WorkEnd)
-    requires { (e : PlainWork) × IsIn (world_of world.old) process e × (turn_at e.stage ≡ Answers end) × (e.next ≡ next) }
+    requires { (e : PlainWorkCall) × IsIn (world_of world.old) process e × (turn_at e.stage ≡ Answers end) × (e.next ≡ next) }
     ensures takes { StepsBy (world_of world.old) process (Answered end) (world_of world.new) }
     ensures done { world.new.done ≡ world.old.done }
     ensures settled { world.new.settled ≡ world.old.settled }

@@ -4,12 +4,12 @@ ghost use Rattle.std.specs.Prelude.{ℕ, ◌≡◌, ◌<◌, ◌≤◌, ◌+◌,
 ghost use Rattle.ds_formula.specs.declared.cells.Shape.{Shape};
 ghost use Rattle.ds_formula.specs.Cells.{count_of};
 ghost use Rattle.ds_formula.specs.Limits.{CELLS_MOST};
-ghost use Rattle.ds_formula.specs.Plain.{Plain};
+ghost use Rattle.ds_formula.specs.Plain.{PlainContent};
 ghost use Rattle.ds_eval.specs.declared.inputs.Entry as entries;
 ghost use Rattle.ds_eval.specs.declared.inputs.Input.{Input};
 ghost use Rattle.ds_layout.specs.SheetMemory.{CanPerform};
-ghost use Rattle.ds_state.specs.World.{World};
-ghost use Rattle.ds_state.specs.Works.{PlainWork, IsWork, IsSame, Differs};
+ghost use Rattle.ds_state.specs.World.{PlainWorld};
+ghost use Rattle.ds_state.specs.Works.{PlainWorkCall, IsWork, IsSame, Differs};
 ghost use Rattle.ds_state.specs.Sound.{IsSound};
 ghost use Rattle.ds_state.specs.Rely.{Keeps};
 ghost use Rattle.ds_state.specs.declared.situation.Situation.TheVariants.{Working};
@@ -27,36 +27,36 @@ use ds_state::work::WorkCall;
 /// Each step of work leaves a sound sheet sound, and leaves each other process what it may count on.
 #[tactic(auto, using(crate::proofs::EachWork::work_steps_keep))]
 pub fn work_steps_keep_soundness()
-    ensures { (e : PlainWork) (stage : WorkStage) (word : ℕ) (old new : World) → IsSound old → e.process < old.layout.processes
+    ensures { (e : PlainWorkCall) (stage : WorkStage) (word : ℕ) (old new : PlainWorld) → IsSound old → e.process < old.layout.processes
         → old.situation e.process ≡ Working (at e stage) → StepsAt e stage word old new → Keeps e.process old new }
 {}
 
 /// So does the step that reads the content.
 pub fn reads_keep_soundness()
-    ensures { (e : PlainWork) (content : Plain) (inputs : List Input) (old new : World) → IsSound old → e.process < old.layout.processes
+    ensures { (e : PlainWorkCall) (content : PlainContent) (inputs : List Input) (old new : PlainWorld) → IsSound old → e.process < old.layout.processes
         → old.situation e.process ≡ Working (at e works.Read) → ReadsAt e content inputs old new → Keeps e.process old new }
 {}
 
 /// So does giving up for want of memory.
 pub fn lacks_keep_soundness()
-    ensures { (e : PlainWork) (old new : World) → IsSound old → e.process < old.layout.processes
+    ensures { (e : PlainWorkCall) (old new : PlainWorld) → IsSound old → e.process < old.layout.processes
         → old.situation e.process ≡ Working (at e works.Read) → LacksAt e old new → Keeps e.process old new }
 {}
 
 /// So does the offer of the entry that the inputs give.
 pub fn offers_keep_soundness()
-    ensures { (e : PlainWork) (entry : entries.Entry) (old new : World) → IsSound old → e.process < old.layout.processes
+    ensures { (e : PlainWorkCall) (entry : entries.Entry) (old new : PlainWorld) → IsSound old → e.process < old.layout.processes
         → old.situation e.process ≡ Working (at e works.Wait) → OffersAt e entry old new → Keeps e.process old new }
 {}
 
 /// So does the beginning of work, by an idle process.
 pub fn begins_of_work_keep_soundness()
-    ensures { (next : ℕ) (e : PlainWork) (old new : World) → IsSound old → e.process < old.layout.processes → BeginsWork next e old new → Keeps e.process old new }
+    ensures { (next : ℕ) (e : PlainWorkCall) (old new : PlainWorld) → IsSound old → e.process < old.layout.processes → BeginsWork next e old new → Keeps e.process old new }
 {}
 
 /// Each access of work can be performed.
 pub fn work_accesses_are_possible()
-    ensures { (w : World) (e : PlainWork) → IsSound w → e.process < w.layout.processes → (stage : WorkStage)
+    ensures { (w : PlainWorld) (e : PlainWorkCall) → IsSound w → e.process < w.layout.processes → (stage : WorkStage)
         → w.situation e.process ≡ Working (at e stage) → CanPerform w.layout w.memory e.process (access_at w.layout.shape e stage) }
 {}
 
@@ -65,18 +65,18 @@ pub fn work_accesses_are_possible()
 /// has r references has at most 2r + 3N + 52 of them, the offer and the answer among them.
 #[tactic(auto, using(crate::proofs::Ranks::each_falls, crate::proofs::Ranks::reading_falls, crate::proofs::Ranks::lacking_falls, crate::proofs::Ranks::offer_falls, crate::proofs::Ranks::few))]
 pub fn work_steps_are_few()
-    ensures falls { (r word : ℕ) (e : PlainWork) → IsWork e → Falls r e (next_at e e.stage word) e.stage }
-    ensures reading { (e : PlainWork) (content : Plain) (inputs : List Input)
+    ensures falls { (r word : ℕ) (e : PlainWorkCall) → IsWork e → Falls r e (next_at e e.stage word) e.stage }
+    ensures reading { (e : PlainWorkCall) (content : PlainContent) (inputs : List Input)
         → steps_left (length inputs) (read_from e content inputs) < left (length inputs) e works.Read }
-    ensures lacking { (r : ℕ) (e : PlainWork) → left r e works.Give < left r e works.Read }
-    ensures offer { (r : ℕ) (e : PlainWork) (entry : entries.Entry) → steps_left r (offered e entry) < left r e works.Wait }
-    ensures few { (r : ℕ) (e : PlainWork) → e.cells ≤ CELLS_MOST → left r e works.LoadMark ≤ 2 * r + 3 * e.cells + 52 }
+    ensures lacking { (r : ℕ) (e : PlainWorkCall) → left r e works.Give < left r e works.Read }
+    ensures offer { (r : ℕ) (e : PlainWorkCall) (entry : entries.Entry) → steps_left r (offered e entry) < left r e works.Wait }
+    ensures few { (r : ℕ) (e : PlainWorkCall) → e.cells ≤ CELLS_MOST → left r e works.LoadMark ≤ 2 * r + 3 * e.cells + 52 }
 {}
 
 /// A content has no more references on a sheet than that has cells.
 #[tactic(auto, using(crate::proofs::Gathered::content_few))]
 pub fn contents_have_few_references()
-    ensures { (shape : Shape) (text : List ℕ) (content : Plain) (inputs : List Input)
+    ensures { (shape : Shape) (text : List ℕ) (content : PlainContent) (inputs : List Input)
         → IsContent shape text content inputs → length inputs ≤ count_of shape }
 {}
 
@@ -86,7 +86,7 @@ pub fn contents_have_few_references()
 /// the entry. `Again`: the cell was marked meanwhile, and is left dirty. `NoMemory`: it is left dirty.
 #[tactic(auto, using(crate::proofs::Answering::answer_true))]
 pub fn work_answers_are_true()
-    ensures { (e : PlainWork) (stage : WorkStage) (word : ℕ) (old new : World) (end : WorkEnd) → IsSound old → e.process < old.layout.processes
+    ensures { (e : PlainWorkCall) (stage : WorkStage) (word : ℕ) (old new : PlainWorld) (end : WorkEnd) → IsSound old → e.process < old.layout.processes
         → old.situation e.process ≡ Working (at e stage) → StepsAt e stage word old new
         → IsDecided (next_at e stage word).stage end → IsTrueAnswer e stage old new end }
 {}
@@ -95,15 +95,15 @@ pub fn work_answers_are_true()
 /// found in its cell; work that is to say that it is as it was has an entry that does not.
 #[tactic(auto, using(crate::proofs::Ors::changed_differs, crate::proofs::Ors::unchanged_same))]
 pub fn changes_are_told()
-    ensures changed { (e : PlainWork) → IsWork e → e.stage ≡ works.Clear true → Differs e }
-    ensures same { (e : PlainWork) → IsWork e → e.stage ≡ works.Clear false → IsSame e }
+    ensures changed { (e : PlainWorkCall) → IsWork e → e.stage ≡ works.Clear true → Differs e }
+    ensures same { (e : PlainWorkCall) → IsWork e → e.stage ≡ works.Clear false → IsSame e }
 {}
 
 /// Work adds bits to no word but the mark of a cell whose bit stands in the row that it has loaded,
 /// and there the dirty bit alone.
 #[tactic(auto, using(crate::proofs::Ors::ors_only))]
 pub fn only_cells_of_the_row_are_marked()
-    ensures { (shape : Shape) (e : PlainWork) → IsWork e → OrsOnly e (access_at shape e e.stage) }
+    ensures { (shape : Shape) (e : PlainWorkCall) → IsWork e → OrsOnly e (access_at shape e e.stage) }
 {}
 
 /// A work that is under way is one of a sheet, whatever its words say.
@@ -116,5 +116,5 @@ pub fn works_are_of_a_sheet(call: &WorkCall)
 /// A turn of a work that goes on leaves fewer steps than there were.
 #[tactic(auto, using(crate::proofs::Turning::turns_fall))]
 pub fn turns_leave_fewer_steps()
-    ensures { (p : ℕ) (old new : World) → IsSound old → (by : StepsBy old p Stepped new) → GoesOn p by.work new }
+    ensures { (p : ℕ) (old new : PlainWorld) → IsSound old → (by : StepsBy old p Stepped new) → GoesOn p by.work new }
 {}

@@ -8,7 +8,7 @@ ghost use Rattle.ds_layout.specs.Mark.{mark_of, state_of, holder_code, dirty_bit
 ghost use Rattle.ds_state.specs.Standing.{stored_for, shown_entry};
 ghost use Rattle.ds_state.specs.Telling.{told_from};
 ghost use Rattle.ds_formula.specs.Limits.{TEXT_MOST};
-ghost use Rattle.ds_state.specs.Works.{PlainWork, StageFits, SEEN_MOST};
+ghost use Rattle.ds_state.specs.Works.{PlainWorkCall, StageFits, SEEN_MOST};
 ghost use Rattle.ds_state.specs.declared.work.WorkStage.TheVariants.{LoadMark, Claim, Clear, Give, Telling};
 ghost use Rattle.ds_state.specs.declared.work.Spread.TheVariants.{LoadRow};
 ghost use Rattle.ds_work.specs.WorkSteps.{record_header, record_text, input_place, access_at, next_at, claims_from, head_from, header_from, text_from, input_from, told, tell_from, row_from, spread_access};
@@ -132,7 +132,10 @@ fn record_header(call: &WorkCall) -> Place
     ensures { result ≡ record_header call.now.head }
 {
     let head = Head::parts(call.head);
-    Place::Header(head.process, head.number)
+    Place::Header {
+        process: head.process,
+        number: head.number,
+    }
 }
 
 // What the two words of a cell are to show.
@@ -176,7 +179,10 @@ fn want_telling(call: &WorkCall, spread: Spread) -> Access<Place>
     ensures { result ≡ spread_access call.now spread }
 {
     match spread {
-        Spread::LoadRow(part) => Access::Load(Place::Index(call.cell, part)),
+        Spread::LoadRow(part) => Access::Load(Place::Index {
+            row: call.cell,
+            part,
+        }),
         Spread::OrTold(cell) => Access::Or(Place::Mark(cell), DIRTY),
         Spread::FlushTold(cell) => Access::Flush(Place::Mark(cell)),
         Spread::BackTold(_) => Access::Back,
@@ -193,13 +199,19 @@ pub fn want(call: &WorkCall, shape: Shape) -> Access<Place>
     let kind = Place::Kind(call.cell);
     match call.stage {
         WorkStage::LoadMark => Access::Load(mark),
-        WorkStage::Claim => Access::SwapIf(mark, call.mark, claim(call)),
+        WorkStage::Claim => Access::SwapIf {
+            place: mark,
+            expected: call.mark,
+            value: claim(call),
+        },
         WorkStage::FlushClaim | WorkStage::FlushCleared(_) => Access::Flush(mark),
         WorkStage::LoadHead => Access::Load(Place::Head(call.cell)),
         WorkStage::LoadHeader => Access::Load(record_header(call)),
         WorkStage::LoadText(part) => Access::Load(record_text(call, part)),
         WorkStage::LoadValue(i) => Access::Load(Place::Value(input(call, shape, i))),
-        WorkStage::LoadKind(i, _) => Access::Load(Place::Kind(input(call, shape, i))),
+        WorkStage::LoadKind { input: i, value: _ } => Access::Load(Place::Kind(input(
+            call, shape, i,
+        ))),
         WorkStage::LoadOwnValue => Access::Load(value),
         WorkStage::LoadOwnKind => Access::Load(kind),
         WorkStage::StoreValue => Access::Store(value, stored(call.entry).value_word()),
@@ -207,10 +219,22 @@ pub fn want(call: &WorkCall, shape: Shape) -> Access<Place>
         WorkStage::FlushValue => Access::Flush(value),
         WorkStage::FlushKind => Access::Flush(kind),
         WorkStage::Telling(spread) => want_telling(call, spread),
-        WorkStage::Clear(_) => Access::SwapIf(mark, call.mark, release(call, false)),
-        WorkStage::Give => Access::SwapIf(mark, call.mark, release(call, true)),
+        WorkStage::Clear(_) => Access::SwapIf {
+            place: mark,
+            expected: call.mark,
+            value: release(call, false),
+        },
+        WorkStage::Give => Access::SwapIf {
+            place: mark,
+            expected: call.mark,
+            value: release(call, true),
+        },
         WorkStage::ClearDirty | WorkStage::GiveDirty => {
-            Access::SwapIf(mark, outrun(call), release(call, true))
+            Access::SwapIf {
+                place: mark,
+                expected: outrun(call),
+                value: release(call, true),
+            }
         }
         WorkStage::BackClaim | WorkStage::BackCleared(_) => Access::Back,
         WorkStage::BackValue | WorkStage::BackKind => Access::Back,
@@ -237,7 +261,7 @@ fn claims_from(call: &WorkCall, word: u64) -> WorkStage
 // The parts of the text one by one, then the content.
 fn text_from(length: usize, part: usize) -> WorkStage
     requires { length ≤ TEXT_MOST }
-    ensures { (e : PlainWork) → e.length ≡ length → result ≡ (text_from e part).stage }
+    ensures { (e : PlainWorkCall) → e.length ≡ length → result ≡ (text_from e part).stage }
 {
     if part < text_parts(length) {
         WorkStage::LoadText(part)
@@ -257,7 +281,7 @@ fn header_from(call: &WorkCall, word: u64) -> WorkStage
 
 // The inputs one by one, then the cell's own words.
 pub(crate) fn input_from(count: usize, i: usize) -> WorkStage
-    ensures { (e : PlainWork) → length e.inputs ≡ count → result ≡ (input_from e i).stage }
+    ensures { (e : PlainWorkCall) → length e.inputs ≡ count → result ≡ (input_from e i).stage }
 {
     if i < count {
         WorkStage::LoadValue(i)
@@ -276,7 +300,7 @@ fn told_from(row: &[u64], cells: usize, from: usize) -> Option<usize>
 // The next cell that is told; where all are told, the cell is let go.
 fn tell_from(row: &[u64], cells: usize, from: usize) -> WorkStage
     requires { from ≤ cells }
-    ensures { (e : PlainWork) → e.row ≡ row.now → e.cells ≡ cells → result ≡ (tell_from e from).stage }
+    ensures { (e : PlainWorkCall) → e.row ≡ row.now → e.cells ≡ cells → result ≡ (tell_from e from).stage }
 {
     match told_from(row, cells, from) {
         Some(cell) => WorkStage::Telling(Spread::OrTold(cell)),
@@ -288,7 +312,7 @@ fn tell_from(row: &[u64], cells: usize, from: usize) -> WorkStage
 #[inline(always)]
 fn row_from(row: &[u64], cells: usize, part: usize) -> WorkStage
     requires { part < parts_for cells }
-    ensures { (e : PlainWork) → e.row ≡ row.now → e.cells ≡ cells → result ≡ (row_from e (part + 1)).stage }
+    ensures { (e : PlainWorkCall) → e.row ≡ row.now → e.cells ≡ cells → result ≡ (row_from e (part + 1)).stage }
 {
     let last = bits::part(cells - 1);
     if part < last {
@@ -302,7 +326,7 @@ fn row_from(row: &[u64], cells: usize, part: usize) -> WorkStage
 fn row_next(row: &[u64], cells: usize, stage: WorkStage) -> WorkStage
     requires notes { notes_at stage ≡ noted.Row }
     requires part { (part : ℕ) → stage ≡ Telling (LoadRow part) → part < parts_for cells }
-    ensures { (e : PlainWork) (word : ℕ) → row.now ≡ row_after e.row stage word → e.cells ≡ cells → result ≡ stage_at e stage word }
+    ensures { (e : PlainWorkCall) (word : ℕ) → row.now ≡ row_after e.row stage word → e.cells ≡ cells → result ≡ stage_at e stage word }
 {
     match stage {
         WorkStage::Telling(Spread::LoadRow(part)) => row_from(row, cells, part),
@@ -365,8 +389,11 @@ fn next(call: &WorkCall, word: u64) -> WorkStage
         WorkStage::LoadHeader => header_from(call, word),
         WorkStage::LoadText(part) => text_from(call.length, part + 1),
         WorkStage::Read => WorkStage::Read,
-        WorkStage::LoadValue(i) => WorkStage::LoadKind(i, word),
-        WorkStage::LoadKind(i, _) => input_from(call.inputs.len(), i + 1),
+        WorkStage::LoadValue(i) => WorkStage::LoadKind {
+            input: i,
+            value: word,
+        },
+        WorkStage::LoadKind { input: i, value: _ } => input_from(call.inputs.len(), i + 1),
         WorkStage::LoadOwnValue => WorkStage::LoadOwnKind,
         WorkStage::LoadOwnKind => WorkStage::Wait,
         WorkStage::Wait => WorkStage::Wait,
@@ -470,7 +497,7 @@ fn note_input(inputs: &mut Inputs, stage: WorkStage, cells: usize, word: u64)
     ensures items { inputs.new.items ≡ inputs_after inputs.old.items cells stage word }
     ensures room { inputs.new.room ≡ inputs.old.room }
 {
-    if let WorkStage::LoadKind(i, value) = stage {
+    if let WorkStage::LoadKind { input: i, value } = stage {
         let _ = inputs.set(i, shown(value, word, cells));
     }
 }
@@ -517,7 +544,7 @@ fn notes_at(stage: WorkStage) -> Noting
     match stage {
         WorkStage::LoadMark | WorkStage::Claim => Noting::Mark,
         WorkStage::LoadHead | WorkStage::LoadHeader | WorkStage::LoadText(_) => Noting::Text,
-        WorkStage::LoadKind(_, _) => Noting::Input,
+        WorkStage::LoadKind { input: _, value: _ } => Noting::Input,
         WorkStage::LoadOwnValue | WorkStage::LoadOwnKind => Noting::Own,
         WorkStage::BackKind | WorkStage::Telling(Spread::LoadRow(_)) => Noting::Row,
         _ => Noting::Nothing,

@@ -7,7 +7,7 @@ ghost use Rattle.ds_formula.specs.Limits.{CELLS_MOST};
 ghost use Rattle.ds_eval.specs.Inputs.{entry_in};
 ghost use Rattle.ds_eval.specs.Local as evaluation;
 ghost use Rattle.ds_eval.specs.declared.inputs.Entry as entries;
-ghost use Rattle.ds_state.specs.Works.{PlainWork};
+ghost use Rattle.ds_state.specs.Works.{PlainWorkCall};
 ghost use Rattle.ds_state.specs.Value.{world_of};
 ghost use Rattle.ds_state.specs.declared.situation.Situation.TheVariants.{Working};
 ghost use Rattle.ds_state.specs.declared.work.WorkStage.TheVariants.{Wait};
@@ -40,7 +40,7 @@ pub enum TaskFault {
 fn waiting(situation: &Situation) -> Option<&WorkCall>
     ensures works { IfSome result (λ call. situation.now ≡ Working call.now) }
     ensures waits { IfSome result (λ call. call.now.stage ≡ Wait) }
-    ensures none { IfNone result ((e : PlainWork) → situation.now ≡ Working e → e.stage ≡ Wait → ⊥) }
+    ensures none { IfNone result ((e : PlainWorkCall) → situation.now ≡ Working e → e.stage ≡ Wait → ⊥) }
 {
     match situation {
         Situation::Working(call) => match call.stage {
@@ -110,7 +110,7 @@ fn take_entry(call: &mut WorkCall, entry: Entry)
 #[inline(always)]
 fn accept(situation: &mut Situation, entry: Entry)
     requires { entry.height ≤ CELLS_MOST }
-    ensures { (e : PlainWork) → situation.old ≡ Working e → situation.new ≡ Working (offered e entry) }
+    ensures { (e : PlainWorkCall) → situation.old ≡ Working e → situation.new ≡ Working (offered e entry) }
 {
     if let Situation::Working(call) = situation {
         take_entry(call, entry);
@@ -139,8 +139,8 @@ fn waits_for(world: &World, task: &Task) -> bool
 pub fn task_of(alloc: Global, world: &World, process: usize) -> Result<Task, TaskFault>
     ensures process { IfOk result (λ task. task.process ≡ process) }
     ensures task { IfOk result (λ task. WaitsFor (world_of world.now) task) }
-    ensures none { IfErr result (λ fault. fault ≡ NoTask → (e : PlainWork) → Waits (world_of world.now) process e → ⊥) }
-    ensures memory { IfErr result (λ fault. fault ≡ NoMemory → (e : PlainWork) × Waits (world_of world.now) process e) }
+    ensures none { IfErr result (λ fault. fault ≡ NoTask → (e : PlainWorkCall) → Waits (world_of world.now) process e → ⊥) }
+    ensures memory { IfErr result (λ fault. fault ≡ NoMemory → (e : PlainWorkCall) × Waits (world_of world.now) process e) }
 {
     if process >= world.situations.len() {
         return Err(TaskFault::NoTask);
@@ -179,9 +179,9 @@ pub fn accepts(world: &mut World, evaluated: &Evaluated) -> bool
 // The entry that a work which waits is to be given.
 #[inline(always)]
 fn own_entry(situation: &Situation, shape: Shape) -> Option<Entry>
-    ensures value { IfSome result (λ entry. (e : PlainWork) → situation.now ≡ Working e → entry ≡ evaluation.local shape e.content (entry_in e.inputs)) }
-    ensures waits { IfSome result (λ entry. (e : PlainWork) × (situation.now ≡ Working e) × (e.stage ≡ Wait)) }
-    ensures none { IfNone result ((e : PlainWork) → situation.now ≡ Working e → e.stage ≡ Wait → ⊥) }
+    ensures value { IfSome result (λ entry. (e : PlainWorkCall) → situation.now ≡ Working e → entry ≡ evaluation.local shape e.content (entry_in e.inputs)) }
+    ensures waits { IfSome result (λ entry. (e : PlainWorkCall) × (situation.now ≡ Working e) × (e.stage ≡ Wait)) }
+    ensures none { IfNone result ((e : PlainWorkCall) → situation.now ≡ Working e → e.stage ≡ Wait → ⊥) }
 {
     match waiting(situation) {
         Some(call) => Some(local(&call.content, shape, &call.inputs)),
@@ -194,7 +194,7 @@ fn own_entry(situation: &Situation, shape: Shape) -> Option<Entry>
 /// waited; else nothing changes.
 pub fn offer_own(world: &mut World, process: usize) -> bool
     ensures offered { IsTrue result → (entry : entries.Entry) × IsOffered (world_of world.old) process entry (world_of world.new) }
-    ensures none { IsFalse result → (e : PlainWork) → Waits (world_of world.old) process e → ⊥ }
+    ensures none { IsFalse result → (e : PlainWorkCall) → Waits (world_of world.old) process e → ⊥ }
     ensures unchanged { IsFalse result → world.new ≡ world.old }
     ensures sheet { world.new.sheet ≡ world.old.sheet }
     ensures done { world.new.done ≡ world.old.done }

@@ -1,5 +1,5 @@
 use Rattle.std.proofs.Common.{ℕ, ◌≡◌, arith, ap, sym, ◌∙◌, subst}
-use Rattle.ds_state.specs.Edits.{PlainEdit}
+use Rattle.ds_state.specs.Edits.{PlainEditCall}
 use Rattle.ds_state.specs.Value.{WorldValue}
 use Rattle.ds_core.specs.EditEvents.{IsEditing, EditStepTakes, reply_at}
 use Rattle.ds_core.specs.declared.reply.Reply.{Reply}
@@ -10,21 +10,21 @@ pub edit_on-requires : goal.edit_on-requires
 edit_on-requires c =
     let v : WorldValue = record { sheet = c.world.inside.words; situations = c.world.inside.situations.items; counted = c.world.inside.counted.items; open_edits = c.world.inside.open_edits.items; done = c.world.inside.done; settled = c.world.inside.settled; reports = c.world.inside.reports } in
     let p : ℕ = c.args.process in
-    let e : PlainEdit = c.in-Some.call.now in
+    let e : PlainEditCall = c.in-Some.call.now in
     let here : IsEditing v p e = editing_from v p e c.index.result.now (omega arith) c.index.ensures c.in-Some.ensures.some in
     let at : IsEditing c.args.world.now p e = subst (λ (w : WorldValue). IsEditing w p e) c.world.view_is here in
-    let stage : c.call.inside.stage ≡ e.stage = ap (λ (x : PlainEdit). x.stage) c.call.view_is in
+    let stage : c.call.inside.stage ≡ e.stage = ap (λ (x : PlainEditCall). x.stage) c.call.view_is in
     (e, at, stage, c.want-access.ensures)
 
 pub returns : goal.returns
 returns c =
     let v : WorldValue = record { sheet = c.world.inside.words; situations = c.world.inside.situations.items; counted = c.world.inside.counted.items; open_edits = c.world.inside.open_edits.items; done = c.world.inside.done; settled = c.world.inside.settled; reports = c.world.inside.reports } in
     let p : ℕ = c.args.process in
-    let e : PlainEdit = c.in-Some.call.now in
+    let e : PlainEditCall = c.in-Some.call.now in
     let here : IsEditing v p e = editing_from v p e c.index.result.now (omega arith) c.index.ensures c.in-Some.ensures.some in
     let at : IsEditing c.args.world.now p e = subst (λ (w : WorldValue). IsEditing w p e) c.world.view_is here in
-    let stage : c.call.inside.stage ≡ e.stage = ap (λ (x : PlainEdit). x.stage) c.call.view_is in
-    let number : c.call.inside.number ≡ e.number = ap (λ (x : PlainEdit). x.number) c.call.view_is in
-    let processes : c.call.inside.processes ≡ c.args.world.now.sheet.layout.processes = ap (λ (x : PlainEdit). x.processes) c.call.view_is ∙ processes_are v c.world.invariant.good p e here ∙ ap (λ (w : WorldValue). w.sheet.layout.processes) c.world.view_is in
+    let stage : c.call.inside.stage ≡ e.stage = ap (λ (x : PlainEditCall). x.stage) c.call.view_is in
+    let number : c.call.inside.number ≡ e.number = ap (λ (x : PlainEditCall). x.number) c.call.view_is in
+    let processes : c.call.inside.processes ≡ c.args.world.now.sheet.layout.processes = ap (λ (x : PlainEditCall). x.processes) c.call.view_is ∙ processes_are v c.world.invariant.good p e here ∙ ap (λ (w : WorldValue). w.sheet.layout.processes) c.world.view_is in
     let reply : c.reply.result ≡ reply_at c.args.world.now.sheet.layout.processes e.number c.call.inside.stage = c.reply.ensures ∙ ap (λ (n : ℕ). reply_at n c.call.inside.number c.call.inside.stage) processes ∙ ap (λ (n : ℕ). reply_at c.args.world.now.sheet.layout.processes n c.call.inside.stage) number in
     subst (λ (r : Reply). EditStepTakes c.args.world.now p r c.edit_on.new.world) (sym reply) (c.edit_on.ensures e at)

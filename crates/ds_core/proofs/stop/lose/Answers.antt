@@ -1,6 +1,6 @@
 use Rattle.std.proofs.Common.{◌≡◌, List, length, refl, sym, ◌∙◌, subst, arith}
 use Rattle.ds_layout.specs.SheetMemory.{memory}
-use Rattle.ds_state.specs.World.{Edit}
+use Rattle.ds_state.specs.World.{PlainEdit}
 use Rattle.ds_core.specs.StopEvents.{HasHeadPlace}
 use Rattle.ds_core.proofs.Lost.{IsSifted, sifted_first, sifted_out, sifted_in, sifted_last, sifted_at}
 use Rattle.ds_core.proofs.stop.lose.Goals as goal
@@ -15,7 +15,7 @@ is_lost-requires c =
     let size = h.size in
     let same = c.len-i-end.ensures in
     let lt = c.loop-i-test.true in
-    sifted_at (memory c.args.words.now) c.args.counted.now.items c.loop-i.counted.items c.loop-i.i c.loop-i.kept (λ (e : Edit). HasHeadPlace c.args.words.now.layout e) h c.requires c.index.result.now (omega arith) c.index.ensures
+    sifted_at (memory c.args.words.now) c.args.counted.now.items c.loop-i.counted.items c.loop-i.i c.loop-i.kept (λ (e : PlainEdit). HasHeadPlace c.args.words.now.layout e) h c.requires c.index.result.now (omega arith) c.index.ensures
 
 pub index_mut-requires : goal.index_mut-requires
 index_mut-requires c = let h : IsSifted (memory c.args.words.now) c.args.counted.now.items c.loop-i.counted.items c.loop-i.i c.loop-i.kept = c.loop-i.invariant.0 in let f = h.fewer in let s = h.size in let same = c.len-i-end.ensures in let lt = c.loop-i-test.true in omega arith
@@ -26,7 +26,7 @@ overflow_add-kept c = let h : IsSifted (memory c.args.words.now) c.args.counted.
 pub loop-i-preserved : goal.loop-i-preserved
 loop-i-preserved c =
     let m = memory c.args.words.now in
-    let old : List Edit = c.args.counted.now.items in
+    let old : List PlainEdit = c.args.counted.now.items in
     let h : IsSifted m old c.loop-i.counted.items c.loop-i.i c.loop-i.kept = c.loop-i.invariant.0 in
     let size = h.size in
     let same = c.len-i-end.ensures in
@@ -45,7 +45,7 @@ loop-i-preserved c =
 pub returns : goal.returns
 returns c =
     let m = memory c.args.words.now in
-    let old : List Edit = c.args.counted.now.items in
+    let old : List PlainEdit = c.args.counted.now.items in
     let h : IsSifted m old c.loop-i.counted.items c.loop-i.i c.loop-i.kept = c.loop-i.invariant.0 in
     let all : c.loop-i.i ≡ length old = (let a = c.loop-i.auto.i-end in let b = c.loop-i-test.false in let s = c.len-i-end.ensures in omega arith) in
     record {

@@ -1,5 +1,5 @@
 use Rattle.std.proofs.Common.{arith, ◌≡◌, ◌∙◌, ◌+◌, ◌||◌, Bool, true, false, ap, refl, subst, sym}
-use Rattle.ds_formula.specs.Plain.{Plain}
+use Rattle.ds_formula.specs.Plain.{PlainContent}
 use Rattle.ds_eval.specs.Inputs.{entry_in, PlainInputs}
 use Rattle.ds_eval.specs.Local.{local}
 use Rattle.ds_eval.specs.SheetContents.{contents_of}
@@ -17,7 +17,7 @@ loop-k-preserved c =
     let sheet = c.args.sheet.now in
     let k = c.loop-k.k in
     let h = content_at sheet k c.index.result.now (omega (arith, sheet.whole, c.count-k-end.ensures.value)) c.index.ensures in
-    let e = c.local-entry.ensures ∙ ap (λ (p : Plain). local sheet.shape p (entry_in c.loop-k.table.items)) h in
+    let e = c.local-entry.ensures ∙ ap (λ (p : PlainContent). local sheet.shape p (entry_in c.loop-k.table.items)) h in
     subst (λ (xs : List Input). IsRound sheet.shape (contents_of sheet) c.args.table.now.items xs (k + 1) (c.loop-k.changed || c.set-differs.result))
     (sym (ap (λ (p : PlainInputs). p.items) c.set-differs.ensures.after))
     (round_goes_on sheet.shape (contents_of sheet) c.args.table.now.items c.loop-k.table.items k c.loop-k.changed c.set-differs.result (c.loop-k.changed || c.set-differs.result) c.local-entry.result

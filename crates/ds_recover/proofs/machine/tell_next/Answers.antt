@@ -1,5 +1,5 @@
 use Rattle.std.proofs.Common.{◌≡◌, ◌+◌, ap, ◌∙◌, subst, refl, arith}
-use Rattle.ds_state.specs.Works.{PlainRecovery}
+use Rattle.ds_state.specs.Works.{PlainRecoverCall}
 use Rattle.ds_state.specs.RecoverStages.{IsStage}
 use Rattle.ds_state.specs.declared.work.RecoverStage.{RecoverStage}
 use Rattle.ds_state.specs.declared.work.RecoverStage.TheVariants.{Telling}
@@ -10,8 +10,8 @@ use Rattle.ds_recover.proofs.machine.tell_next.Goals as goal
 pub invariant_of-call : goal.invariant_of-call
 invariant_of-call c =
     let i = c.call.inside in
-    let e : PlainRecovery = record { process = i.process; cells = i.cells; processes = i.processes; mark = i.mark; row = i.row; announcement = i.announcement; cell = i.cell; stage = i.stage } in
-    let at : e.stage ≡ Telling c.args.cell (BackTold c.args.told) = ap (λ (x : PlainRecovery). x.stage) c.call.view_is ∙ c.requires in
+    let e : PlainRecoverCall = record { process = i.process; cells = i.cells; processes = i.processes; mark = i.mark; row = i.row; announcement = i.announcement; cell = i.cell; stage = i.stage } in
+    let at : e.stage ≡ Telling c.args.cell (BackTold c.args.told) = ap (λ (x : PlainRecoverCall). x.stage) c.call.view_is ∙ c.requires in
     let was : IsStage e (Telling c.args.cell (BackTold c.args.told)) = subst (λ (s : RecoverStage). IsStage e s) at c.call.invariant.stage in
     rw (c.tell_from-call-inside.ensures, c.as_slice.ensures)
     (staged e _ c.call.invariant refl refl refl (tell_stage e c.args.cell (c.args.told + 1) was.0 was.1.1 (let l = was.1.0 in omega arith)))

@@ -2,8 +2,8 @@ use Rattle.std.proofs.Common.{ℕ, ◌≡◌, ◌<◌, arith, ap, sym, ◌∙◌
 use Rattle.std.specs.Prelude.{Option, None, vec_capacity}
 use Rattle.std.proofs.lemmas.List.{get_or_default}
 use Rattle.ds_layout.specs.SheetMemory.{PerformsAt, memory}
-use Rattle.ds_state.specs.Works.{PlainRecovery}
-use Rattle.ds_state.specs.World.{Issue}
+use Rattle.ds_state.specs.Works.{PlainRecoverCall}
+use Rattle.ds_state.specs.World.{PlainIssue}
 use Rattle.ds_state.specs.Value.{WorldValue, IsReserved}
 use Rattle.ds_state.specs.declared.situation.Situation.TheVariants.{Idle}
 use Rattle.ds_recover.specs.declared.machine.Effect.{Effect}
@@ -15,7 +15,7 @@ use Rattle.ds_recover.proofs.step.step.Goals as goal
 pub perform-word-requires : goal.perform-word-requires
 perform-word-requires c =
     let v : WorldValue = record { sheet = c.world.inside.words; situations = c.world.inside.situations.items; counted = c.world.inside.counted.items; open_edits = c.world.inside.open_edits.items; done = c.world.inside.done; settled = c.world.inside.settled; reports = c.world.inside.reports } in
-    let e : PlainRecovery = c.in-Some.call.now in
+    let e : PlainRecoverCall = c.in-Some.call.now in
     let at : IsRecovering v c.args.process e = recovering_from v c.args.process e c.index.result.now (omega arith) c.index.ensures c.in-Some.ensures.some in
     rw c.want-access.ensures (perform_at v c.world.invariant.good c.args.process e at)
 
@@ -23,14 +23,14 @@ pub invariant_of-world : goal.invariant_of-world
 invariant_of-world c =
     let v : WorldValue = record { sheet = c.world.inside.words; situations = c.world.inside.situations.items; counted = c.world.inside.counted.items; open_edits = c.world.inside.open_edits.items; done = c.world.inside.done; settled = c.world.inside.settled; reports = c.world.inside.reports } in
     let p : ℕ = c.args.process in
-    let e : PlainRecovery = c.in-Some.call.now in
+    let e : PlainRecoverCall = c.in-Some.call.now in
     let word : ℕ = c.perform-word.result in
     let at : IsRecovering v p e = recovering_from v p e c.index.result.now (omega arith) c.index.ensures c.in-Some.ensures.some in
     let performs : PerformsAt (access_at e e.stage) p (memory v.sheet) (memory c.perform-word.new.self) word = rw (sym c.want-access.ensures) c.perform-word.ensures.performs in
     let there : p < _ = open_edit_there v c.world.invariant.good p e at in
     let situation : c.go_on.new.situation ≡ after e e.stage word = c.go_on.ensures e (c.index_mut.ensures.value ∙ get_or_default v.situations p c.index_mut.result.now (Idle 0) at.there ∙ at.is) in
     let pending : c.close.new.open_edit ≡ open_edit_at (get_or v.open_edits p None) e.stage = c.close.ensures ∙ ap (λ (w : Effect). open_edit_by c.index_mut-2.result.now w) c.effect_of-what.ensures ∙ resolved_by e e.stage c.index_mut-2.result.now
-    ∙ ap (λ (i : Option Issue). open_edit_at i e.stage) (c.index_mut-2.ensures.value ∙ get_or_default v.open_edits p c.index_mut-2.result.now None there) in
+    ∙ ap (λ (i : Option PlainIssue). open_edit_at i e.stage) (c.index_mut-2.ensures.value ∙ get_or_default v.open_edits p c.index_mut-2.result.now None there) in
     subst (λ (w : WorldValue). IsReserved w (vec_capacity c.world.inside.counted)) (sym (next_is v c.world.invariant.good p e at word c.perform-word.new.self c.perform-word.ensures.layout performs c.go_on.new.situation c.close.new.open_edit situation pending))
     (next_kept v c.world.invariant.good p e at word c.perform-word.new.self c.perform-word.ensures.layout performs _ c.world.invariant)
 
@@ -38,14 +38,14 @@ pub returns : goal.returns
 returns c =
     let v : WorldValue = record { sheet = c.world.inside.words; situations = c.world.inside.situations.items; counted = c.world.inside.counted.items; open_edits = c.world.inside.open_edits.items; done = c.world.inside.done; settled = c.world.inside.settled; reports = c.world.inside.reports } in
     let p : ℕ = c.args.process in
-    let e : PlainRecovery = c.in-Some.call.now in
+    let e : PlainRecoverCall = c.in-Some.call.now in
     let word : ℕ = c.perform-word.result in
     let at : IsRecovering v p e = recovering_from v p e c.index.result.now (omega arith) c.index.ensures c.in-Some.ensures.some in
     let performs : PerformsAt (access_at e e.stage) p (memory v.sheet) (memory c.perform-word.new.self) word = rw (sym c.want-access.ensures) c.perform-word.ensures.performs in
     let there : p < _ = open_edit_there v c.world.invariant.good p e at in
     let situation : c.go_on.new.situation ≡ after e e.stage word = c.go_on.ensures e (c.index_mut.ensures.value ∙ get_or_default v.situations p c.index_mut.result.now (Idle 0) at.there ∙ at.is) in
     let pending : c.close.new.open_edit ≡ open_edit_at (get_or v.open_edits p None) e.stage = c.close.ensures ∙ ap (λ (w : Effect). open_edit_by c.index_mut-2.result.now w) c.effect_of-what.ensures ∙ resolved_by e e.stage c.index_mut-2.result.now
-    ∙ ap (λ (i : Option Issue). open_edit_at i e.stage) (c.index_mut-2.ensures.value ∙ get_or_default v.open_edits p c.index_mut-2.result.now None there) in
+    ∙ ap (λ (i : Option PlainIssue). open_edit_at i e.stage) (c.index_mut-2.ensures.value ∙ get_or_default v.open_edits p c.index_mut-2.result.now None there) in
     rw (← c.world.view_is)
     (subst (λ (w : WorldValue). StepsBy v p c.effect_of-what.result w) (sym (next_is v c.world.invariant.good p e at word c.perform-word.new.self c.perform-word.ensures.layout performs c.go_on.new.situation c.close.new.open_edit situation pending))
     (next_takes v c.world.invariant.good p e at word c.perform-word.new.self c.perform-word.ensures.layout performs c.effect_of-what.result c.effect_of-what.ensures))

@@ -1,6 +1,6 @@
 use Rattle.std.proofs.Common.{◌≡◌, ◌<◌, ◌+◌, ap, sym, subst}
 use Rattle.ds_layout.specs.Places.{cells_of}
-use Rattle.ds_state.specs.Works.{PlainShow}
+use Rattle.ds_state.specs.Works.{PlainShowCall}
 use Rattle.ds_state.specs.Underway.{reports_under_way}
 use Rattle.ds_state.specs.Value.{WorldValue, world_of}
 use Rattle.ds_state.specs.declared.reports.TheConstants.{SETTLED_MOST}
@@ -12,8 +12,8 @@ use Rattle.ds_show.proofs.begin.enter.Goals as goal
 pub invariant_of-world : goal.invariant_of-world
 invariant_of-world c =
     let v : WorldValue = record { sheet = c.world.inside.words; situations = c.world.inside.situations.items; counted = c.world.inside.counted.items; open_edits = c.world.inside.open_edits.items; done = c.world.inside.done; settled = c.world.inside.settled; reports = c.world.inside.reports } in
-    let e : PlainShow = c.args.call in
-    let process : c.call.inside.process ≡ e.process = ap (λ (x : PlainShow). x.process) c.call.view_is in
+    let e : PlainShowCall = c.args.call in
+    let process : c.call.inside.process ≡ e.process = ap (λ (x : PlainShowCall). x.process) c.call.view_is in
     let low : e.process < v.sheet.layout.processes = subst (λ (x : WorldValue). e.process < x.sheet.layout.processes) (sym c.world.view_is) c.requires.process in
     let idle : (world_of v).situation e.process ≡ Idle e.next = subst (λ (x : WorldValue). (world_of x).situation e.process ≡ Idle e.next) (sym c.world.view_is) c.requires.idle in
     let first : e ≡ fresh e.process e.next (cells_of v.sheet.layout) v.sheet.layout.processes = subst (λ (x : WorldValue). e ≡ fresh e.process e.next (cells_of x.sheet.layout) x.sheet.layout.processes) (sym c.world.view_is) c.requires.first in

@@ -2,7 +2,7 @@ use Rattle.std.proofs.Common.{ℕ, ◌≡◌, ◌+◌, arith, ap, sym, ◌∙◌
 use Rattle.std.specs.Prelude.{vec_capacity}
 use Rattle.std.proofs.lemmas.List.{get_or_default}
 use Rattle.ds_layout.specs.SheetMemory.{PerformsAt, memory}
-use Rattle.ds_state.specs.Works.{PlainShow}
+use Rattle.ds_state.specs.Works.{PlainShowCall}
 use Rattle.ds_state.specs.Value.{WorldValue, IsReserved}
 use Rattle.ds_state.specs.declared.situation.Situation.TheVariants.{Idle}
 use Rattle.ds_show.specs.declared.machine.Effect.{Effect}
@@ -14,14 +14,14 @@ use Rattle.ds_show.proofs.step.step.Goals as goal
 pub perform-word-requires : goal.perform-word-requires
 perform-word-requires c =
     let v : WorldValue = record { sheet = c.world.inside.words; situations = c.world.inside.situations.items; counted = c.world.inside.counted.items; open_edits = c.world.inside.open_edits.items; done = c.world.inside.done; settled = c.world.inside.settled; reports = c.world.inside.reports } in
-    let e : PlainShow = c.in-Some.call.now in
+    let e : PlainShowCall = c.in-Some.call.now in
     let at : IsShowing v c.args.process e = showing_from v c.args.process e c.index.result.now (omega arith) c.index.ensures c.in-Some.ensures.some in
     rw c.want-access.ensures (perform_at v c.world.invariant.good c.args.process e at)
 
 pub settled_after-world-inside-requires : goal.settled_after-world-inside-requires
 settled_after-world-inside-requires c =
     let v : WorldValue = record { sheet = c.world.inside.words; situations = c.world.inside.situations.items; counted = c.world.inside.counted.items; open_edits = c.world.inside.open_edits.items; done = c.world.inside.done; settled = c.world.inside.settled; reports = c.world.inside.reports } in
-    let e : PlainShow = c.in-Some.call.now in
+    let e : PlainShowCall = c.in-Some.call.now in
     let at : IsShowing v c.args.process e = showing_from v c.args.process e c.index.result.now (omega arith) c.index.ensures c.in-Some.ensures.some in
     can_count v c.world.invariant.good c.args.process e at
 
@@ -29,7 +29,7 @@ pub invariant_of-world : goal.invariant_of-world
 invariant_of-world c =
     let v : WorldValue = record { sheet = c.world.inside.words; situations = c.world.inside.situations.items; counted = c.world.inside.counted.items; open_edits = c.world.inside.open_edits.items; done = c.world.inside.done; settled = c.world.inside.settled; reports = c.world.inside.reports } in
     let p : ℕ = c.args.process in
-    let e : PlainShow = c.in-Some.call.now in
+    let e : PlainShowCall = c.in-Some.call.now in
     let word : ℕ = c.perform-word.result in
     let at : IsShowing v p e = showing_from v p e c.index.result.now (omega arith) c.index.ensures c.in-Some.ensures.some in
     let performs : PerformsAt (access_at e.stage) p (memory v.sheet) (memory c.perform-word.new.self) word = rw (sym c.want-access.ensures) c.perform-word.ensures.performs in
@@ -42,7 +42,7 @@ pub returns : goal.returns
 returns c =
     let v : WorldValue = record { sheet = c.world.inside.words; situations = c.world.inside.situations.items; counted = c.world.inside.counted.items; open_edits = c.world.inside.open_edits.items; done = c.world.inside.done; settled = c.world.inside.settled; reports = c.world.inside.reports } in
     let p : ℕ = c.args.process in
-    let e : PlainShow = c.in-Some.call.now in
+    let e : PlainShowCall = c.in-Some.call.now in
     let word : ℕ = c.perform-word.result in
     let at : IsShowing v p e = showing_from v p e c.index.result.now (omega arith) c.index.ensures c.in-Some.ensures.some in
     let performs : PerformsAt (access_at e.stage) p (memory v.sheet) (memory c.perform-word.new.self) word = rw (sym c.want-access.ensures) c.perform-word.ensures.performs in

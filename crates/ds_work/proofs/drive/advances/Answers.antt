@@ -1,6 +1,6 @@
 use Rattle.std.proofs.Common.{ℕ, ◌≡◌, ◌<◌, ◌∙◌, arith, inl, inr, length, subst, sym}
 use Rattle.std.proofs.lemmas.List.{get_or_default}
-use Rattle.ds_state.specs.Works.{PlainWork}
+use Rattle.ds_state.specs.Works.{PlainWorkCall}
 use Rattle.ds_state.specs.Value.{WorldValue, world_of}
 use Rattle.ds_state.specs.declared.situation.Situation.TheVariants.{Idle, Working}
 use Rattle.ds_work.specs.WorkTakes.{CanNotAdvance}
@@ -11,7 +11,7 @@ pub returns-in-Waits-clause-none : goal.returns-in-Waits-clause-none
 returns-in-Waits-clause-none c = λ no.
     let v : WorldValue = record { sheet = c.world.inside.words; situations = c.world.inside.situations.items; counted = c.world.inside.counted.items; open_edits = c.world.inside.open_edits.items; done = c.world.inside.done; settled = c.world.inside.settled; reports = c.world.inside.reports } in
     let p : ℕ = c.args.process in
-    let e : PlainWork = c.in-Some.call.now in
+    let e : PlainWorkCall = c.in-Some.call.now in
     let there : p < length v.situations = omega arith in
     let works : (world_of v).situation p ≡ Working e = get_or_default v.situations p (Idle 0) c.index.result.now there ∙ sym c.index.ensures ∙ c.in-Some.ensures.some in
     subst (λ (w : WorldValue). CanNotAdvance (world_of w) p) c.world.view_is (elim c.in-Waits.is [

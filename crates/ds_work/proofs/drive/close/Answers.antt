@@ -1,6 +1,6 @@
 use Rattle.std.proofs.Common.{ℕ, ◌≡◌, ◌<◌, ◌∙◌, length, refl, ap, sym, subst, arith}
 use Rattle.ds_layout.specs.SheetMemory.{PerformsAt, memory}
-use Rattle.ds_state.specs.Works.{PlainWork}
+use Rattle.ds_state.specs.Works.{PlainWorkCall}
 use Rattle.ds_state.specs.Value.{WorldValue, world_of}
 use Rattle.ds_state.specs.declared.situation.Situation.TheVariants.{Idle}
 use Rattle.ds_state.specs.declared.work.WorkStage.{WorkStage}
@@ -14,7 +14,7 @@ pub invariant_of-world : goal.invariant_of-world
 invariant_of-world c =
     let v : WorldValue = record { sheet = c.world.inside.words; situations = c.world.inside.situations.items; counted = c.world.inside.counted.items; open_edits = c.world.inside.open_edits.items; done = c.world.inside.done; settled = c.world.inside.settled; reports = c.world.inside.reports } in
     let p : ℕ = c.args.process in
-    let e : PlainWork = c.requires.0 in
+    let e : PlainWorkCall = c.requires.0 in
     let is_in : IsIn (world_of v) p e = subst (λ (w : WorldValue). IsIn (world_of w) p e) (sym c.world.view_is) c.requires.1 in
     let low : p < v.sheet.layout.processes = is_in.inside in
     let there : p < length v.situations = (let n = c.world.invariant.good.situations in omega (arith, n, low)) in
@@ -29,7 +29,7 @@ pub returns-clause-takes : goal.returns-clause-takes
 returns-clause-takes c =
     let v : WorldValue = record { sheet = c.world.inside.words; situations = c.world.inside.situations.items; counted = c.world.inside.counted.items; open_edits = c.world.inside.open_edits.items; done = c.world.inside.done; settled = c.world.inside.settled; reports = c.world.inside.reports } in
     let p : ℕ = c.args.process in
-    let e : PlainWork = c.requires.0 in
+    let e : PlainWorkCall = c.requires.0 in
     let is_in : IsIn (world_of v) p e = subst (λ (w : WorldValue). IsIn (world_of w) p e) (sym c.world.view_is) c.requires.1 in
     let low : p < v.sheet.layout.processes = is_in.inside in
     let there : p < length v.situations = (let n = c.world.invariant.good.situations in omega (arith, n, low)) in

@@ -1,6 +1,6 @@
 use Rattle.std.proofs.Common.{ℕ, ◌≡◌, ◌≤◌, sym, subst}
 use Rattle.ds_formula.specs.Plain.{plain}
-use Rattle.ds_state.specs.Works.{PlainWork, IsWork, IsWorkIn}
+use Rattle.ds_state.specs.Works.{PlainWorkCall, IsWork, IsWorkIn}
 use Rattle.ds_work.specs.WorkSteps.{next_at}
 use Rattle.ds_work.proofs.Next.{takes_input, next_within}
 use Rattle.ds_work.proofs.machine.take_input.Goals as goal
@@ -14,4 +14,4 @@ pub returns : goal.returns
 returns c = made_so c
 
 pub invariant_of-call : goal.invariant_of-call
-invariant_of-call c = subst (λ (e : PlainWork). IsWorkIn e c.note_input.new.inputs.room) (sym (made_so c)) (next_within c.args.call.now c.args.word c.note_input.new.inputs.room (subst (λ (e : PlainWork). IsWork e) c.call.view_is c.call.invariant.is) (subst (λ (e : PlainWork). e.cells ≤ c.note_input.new.inputs.room) c.call.view_is (subst (λ (n : ℕ). c.call.inside.cells ≤ n) (sym c.note_input.ensures.room) c.call.invariant.room)))
+invariant_of-call c = subst (λ (e : PlainWorkCall). IsWorkIn e c.note_input.new.inputs.room) (sym (made_so c)) (next_within c.args.call.now c.args.word c.note_input.new.inputs.room (subst (λ (e : PlainWorkCall). IsWork e) c.call.view_is c.call.invariant.is) (subst (λ (e : PlainWorkCall). e.cells ≤ c.note_input.new.inputs.room) c.call.view_is (subst (λ (n : ℕ). c.call.inside.cells ≤ n) (sym c.note_input.ensures.room) c.call.invariant.room)))

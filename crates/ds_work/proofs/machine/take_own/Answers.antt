@@ -1,6 +1,6 @@
 use Rattle.std.proofs.Common.{◌≡◌, ◌≤◌, sym, subst}
 use Rattle.ds_formula.specs.Plain.{plain}
-use Rattle.ds_state.specs.Works.{PlainWork, IsWork, IsWorkIn}
+use Rattle.ds_state.specs.Works.{PlainWorkCall, IsWork, IsWorkIn}
 use Rattle.ds_work.specs.WorkSteps.{next_at}
 use Rattle.ds_work.proofs.Next.{takes_own, next_within}
 use Rattle.ds_work.proofs.machine.take_own.Goals as goal
@@ -14,4 +14,4 @@ pub returns : goal.returns
 returns c = made_so c
 
 pub invariant_of-call : goal.invariant_of-call
-invariant_of-call c = subst (λ (e : PlainWork). IsWorkIn e c.call.inside.inputs.room) (sym (made_so c)) (next_within c.args.call.now c.args.word c.call.inside.inputs.room (subst (λ (e : PlainWork). IsWork e) c.call.view_is c.call.invariant.is) (subst (λ (e : PlainWork). e.cells ≤ c.call.inside.inputs.room) c.call.view_is c.call.invariant.room))
+invariant_of-call c = subst (λ (e : PlainWorkCall). IsWorkIn e c.call.inside.inputs.room) (sym (made_so c)) (next_within c.args.call.now c.args.word c.call.inside.inputs.room (subst (λ (e : PlainWorkCall). IsWork e) c.call.view_is c.call.invariant.is) (subst (λ (e : PlainWorkCall). e.cells ≤ c.call.inside.inputs.room) c.call.view_is c.call.invariant.room))

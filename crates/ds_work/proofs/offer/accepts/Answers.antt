@@ -3,7 +3,7 @@ use Rattle.std.proofs.lemmas.List.{get_or_default}
 use Rattle.ds_eval.specs.Inputs.{entry_in}
 use Rattle.ds_eval.specs.Local.{local}
 use Rattle.ds_eval.specs.Tasks.{PlainTask, local_of}
-use Rattle.ds_state.specs.Works.{PlainWork}
+use Rattle.ds_state.specs.Works.{PlainWorkCall}
 use Rattle.ds_state.specs.Value.{WorldValue, world_of}
 use Rattle.ds_state.specs.declared.situation.Situation.TheVariants.{Idle, Working}
 use Rattle.ds_work.specs.WorkSteps.{offered}
@@ -17,7 +17,7 @@ invariant_of-world c =
     let task : PlainTask = c.args.evaluated.now.task in
     let p : ℕ = task.process in
     let for : WaitsFor (world_of v) task = subst (λ (w : WorldValue). WaitsFor (world_of w) task) (sym c.world.view_is) (subst (λ (t : PlainTask). WaitsFor (world_of c.args.world.now) t) c.task.ensures (c.if-not-waits_for.ensures.yes refl)) in
-    let e : PlainWork = for.work in
+    let e : PlainWorkCall = for.work in
     let low : p < v.sheet.layout.processes = for.waits.inside in
     let works : (world_of v).situation p ≡ Working e = for.waits.works in
     let there : p < length v.situations = (let n = c.world.invariant.good.situations in omega (arith, n, low)) in
@@ -32,7 +32,7 @@ returns-clause-offered c =
     let task : PlainTask = c.args.evaluated.now.task in
     let p : ℕ = task.process in
     let for : WaitsFor (world_of v) task = subst (λ (w : WorldValue). WaitsFor (world_of w) task) (sym c.world.view_is) (subst (λ (t : PlainTask). WaitsFor (world_of c.args.world.now) t) c.task.ensures (c.if-not-waits_for.ensures.yes refl)) in
-    let e : PlainWork = for.work in
+    let e : PlainWorkCall = for.work in
     let low : p < v.sheet.layout.processes = for.waits.inside in
     let works : (world_of v).situation p ≡ Working e = for.waits.works in
     let there : p < length v.situations = (let n = c.world.invariant.good.situations in omega (arith, n, low)) in

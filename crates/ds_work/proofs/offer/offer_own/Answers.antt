@@ -3,7 +3,7 @@ use Rattle.std.proofs.lemmas.List.{get_or_default}
 use Rattle.ds_eval.specs.Inputs.{entry_in}
 use Rattle.ds_eval.specs.Local.{local}
 use Rattle.ds_layout.specs.declared.layout.Layout.{Layout}
-use Rattle.ds_state.specs.Works.{PlainWork}
+use Rattle.ds_state.specs.Works.{PlainWorkCall}
 use Rattle.ds_state.specs.Value.{WorldValue, world_of}
 use Rattle.ds_state.specs.declared.situation.Situation.TheVariants.{Idle, Working}
 use Rattle.ds_work.specs.WorkSteps.{offered}
@@ -16,7 +16,7 @@ invariant_of-world c =
     let p : ℕ = c.args.process in
     let low : p < v.sheet.layout.processes = (let n = c.world.invariant.good.situations in let len = c.len.ensures in let lt = c.if-process-len.false in omega (arith, n, len, lt)) in
     let waits = c.in-Some.ensures.waits in
-    let e : PlainWork = waits.0 in
+    let e : PlainWorkCall = waits.0 in
     let works : (world_of v).situation p ≡ Working e = situation_at v p c.index.result.now c.world.invariant.good low c.index.ensures ∙ waits.1 in
     let there : p < length v.situations = (let n = c.world.invariant.good.situations in omega (arith, n, low)) in
     let is : c.in-Some.entry ≡ local v.sheet.layout.shape e.content (entry_in e.inputs) = c.in-Some.ensures.value e waits.1 ∙ ap (λ (l : Layout). local l.shape e.content (entry_in e.inputs)) c.layout.ensures in
@@ -29,7 +29,7 @@ returns-clause-offered c = λ yes.
     let p : ℕ = c.args.process in
     let low : p < v.sheet.layout.processes = (let n = c.world.invariant.good.situations in let len = c.len.ensures in let lt = c.if-process-len.false in omega (arith, n, len, lt)) in
     let waits = c.in-Some.ensures.waits in
-    let e : PlainWork = waits.0 in
+    let e : PlainWorkCall = waits.0 in
     let works : (world_of v).situation p ≡ Working e = situation_at v p c.index.result.now c.world.invariant.good low c.index.ensures ∙ waits.1 in
     let there : p < length v.situations = (let n = c.world.invariant.good.situations in omega (arith, n, low)) in
     let is : c.in-Some.entry ≡ local v.sheet.layout.shape e.content (entry_in e.inputs) = c.in-Some.ensures.value e waits.1 ∙ ap (λ (l : Layout). local l.shape e.content (entry_in e.inputs)) c.layout.ensures in
