@@ -23,7 +23,7 @@ use Rattle.ds_core.specs.declared.event.Event.TheVariants.{BeginEdit, BeginWork,
 use Rattle.ds_core.specs.declared.reply.Reply.{Reply}
 use Rattle.ds_core.specs.declared.reply.Reply.TheVariants.{Begun, Entered, Refused, NotEnabled}
 use Rattle.ds_core.proofs.Bound.{same_layout}
-use Rattle.ds_calls.specs.Kinds.{IsEditAnswer, IsWorkAnswer, IsReportAnswer, IsRecoveryAnswer, AnswersTo}
+use Rattle.ds_core.specs.Kinds.{IsEditAnswer, IsWorkAnswer, IsReportAnswer, IsRecoveryAnswer, AnswersTo}
 use Rattle.ds_calls.specs.Whole.{HasProcess, HasBegun, IsCalling, finishes, refused, IsWhole}
 use Rattle.ds_calls.specs.Driven.{CanGoOn, BeginsCall, IsDriven}
 

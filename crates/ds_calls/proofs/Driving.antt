@@ -17,7 +17,7 @@ use Rattle.ds_core.specs.declared.event.Event.{Event}
 use Rattle.ds_core.specs.declared.event.Event.TheVariants.{Step, Offer}
 use Rattle.ds_core.specs.declared.reply.Reply.TheVariants.{Stepped}
 use Rattle.ds_calls.specs.Wanted.{wanted, wanted_at, wants, evaluated}
-use Rattle.ds_calls.specs.Kinds.{AnswersTo}
+use Rattle.ds_core.specs.Kinds.{AnswersTo}
 use Rattle.ds_calls.specs.Driven.{GoesOn}
 
 -- ---- an offer

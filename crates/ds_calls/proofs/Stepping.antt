@@ -42,7 +42,7 @@ use Rattle.ds_core.specs.declared.reply.Reply.{Reply}
 use Rattle.ds_core.specs.declared.reply.Reply.TheVariants.{Stepped, Answered, NotEnabled}
 use Rattle.ds_core.proofs.Bound.{edit_goes_on, same_layout}
 use Rattle.ds_calls.specs.Wanted.{wants}
-use Rattle.ds_calls.specs.Kinds.{IsEditAnswer, IsWorkAnswer, IsReportAnswer, IsRecoveryAnswer, AnswersTo}
+use Rattle.ds_core.specs.Kinds.{IsEditAnswer, IsWorkAnswer, IsReportAnswer, IsRecoveryAnswer, AnswersTo}
 use Rattle.ds_calls.specs.Whole.{HasProcess, IsCalling, IsIdle}
 use Rattle.ds_calls.specs.Driven.{IsNotWaiting, GoesOn, IsAnswered}
 use Rattle.ds_calls.proofs.Driving.{wants_step}

@@ -10,7 +10,7 @@ use Rattle.ds_core.specs.Takes.{Fits}
 use Rattle.ds_core.specs.declared.event.Event.TheVariants.{Step}
 use Rattle.ds_core.specs.declared.reply.Reply.TheVariants.{Begun, Entered, Refused, Stepped, Answered}
 use Rattle.ds_calls.specs.Wanted.{wants}
-use Rattle.ds_calls.specs.Kinds.{AnswersTo}
+use Rattle.ds_core.specs.Kinds.{AnswersTo}
 use Rattle.ds_calls.specs.Whole.{IsCalling, IsIdle, HasBegun, Finishes}
 
 -- no work of the process waits for an entry

@@ -1,5 +1,4 @@
 pub mod Wanted
-pub mod Kinds
 pub mod Whole
 pub mod Driven
 pub mod Marked

@@ -4,7 +4,7 @@ ghost use Rattle.std.specs.Prelude.{◌≡◌};
 ghost use Rattle.ds_core.specs.declared.event.Event.TheVariants.{BeginEdit, BeginWork, BeginShow, BeginRecover};
 ghost use Rattle.ds_core.specs.Takes.{IsOfWorld, Fits, BeginTakes};
 ghost use Rattle.ds_core.specs.WorkEvents.{HasWork};
-ghost use Rattle.ds_calls.specs.Kinds.{IsEditAnswer, IsWorkAnswer, IsReportAnswer, IsRecoveryAnswer};
+ghost use Rattle.ds_core.specs.Kinds.{IsEditAnswer, IsWorkAnswer, IsReportAnswer, IsRecoveryAnswer};
 ghost use Rattle.ds_calls.specs.Whole.{HasProcess, IsWhole, request};
 ghost use Rattle.ds_calls.specs.Driven.{CanGoOn, BeginsCall, IsDriven};
 

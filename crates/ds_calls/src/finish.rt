@@ -7,7 +7,7 @@ ghost use Rattle.ds_core.specs.declared.reply.Reply.TheVariants.{Stepped};
 ghost use Rattle.ds_core.specs.StepEvents.{CanNotAdvance};
 ghost use Rattle.ds_core.specs.Takes.{Fits};
 ghost use Rattle.ds_core.specs.Own.{steps_left};
-ghost use Rattle.ds_calls.specs.Kinds.{AnswersTo};
+ghost use Rattle.ds_core.specs.Kinds.{AnswersTo};
 ghost use Rattle.ds_calls.specs.Whole.{IsCalling, IsIdle, Finishes};
 ghost use Rattle.ds_calls.specs.Driven.{IsNotWaiting, GoesOn, IsAnswered};
 

@@ -5,7 +5,7 @@ ghost use Rattle.ds_formula.specs.Cells.{cell_at};
 ghost use Rattle.ds_layout.specs.Places.{cells_of};
 ghost use Rattle.ds_core.specs.declared.event.Event.TheVariants.{BeginWork};
 ghost use Rattle.ds_calls.specs.declared.settle.Turn.TheVariants.{Ends, Works};
-ghost use Rattle.ds_calls.specs.Kinds.{IsWorkAnswer};
+ghost use Rattle.ds_core.specs.Kinds.{IsWorkAnswer};
 ghost use Rattle.ds_calls.specs.Whole.{HasProcess, KeepsFree, IsWhole};
 ghost use Rattle.ds_calls.specs.Settling.{ends, pass, first_turn, goes_behind, worked, Settling, works_left, IsInTurn, WorksOnce};
 

@@ -5,6 +5,7 @@ pub mod WorkEvents
 pub mod RecoveryEvents
 pub mod StepEvents
 pub mod StopEvents
+pub mod Kinds
 pub mod Takes
 pub mod Counts
 pub mod Own

@@ -10,7 +10,7 @@ use Rattle.ds_work.specs.WorkRank as works
 use Rattle.ds_show.specs.ShowSteps as shows
 use Rattle.ds_recover.specs.RecoverySteps as recoveries
 use Rattle.ds_core.specs.declared.event.Event.{Event}
-use Rattle.ds_core.specs.declared.event.Event.TheVariants.{Step, Stop, Crash}
+use Rattle.ds_core.specs.declared.event.Event.TheVariants.{BeginEdit, BeginWork, BeginShow, BeginRecover, Step, Offer, Evict, Stop, Crash}
 use Rattle.ds_core.specs.declared.reply.Reply.{Reply}
 use Rattle.ds_core.specs.declared.reply.Reply.TheVariants as reply
 
@@ -18,7 +18,15 @@ use Rattle.ds_core.specs.declared.reply.Reply.TheVariants as reply
 abbrev pub own_step : ℕ → Event → Reply → ℕ
 own_step p (Step q) reply.Stepped = if q == p then 1 else 0
 own_step p (Step q) (reply.Answered answer) = if q == p then 1 else 0
-own_step p event _ = 0
+own_step p (Step q) _ = 0
+own_step p (BeginEdit request) _ = 0
+own_step p (BeginWork q cell) _ = 0
+own_step p (BeginShow q) _ = 0
+own_step p (BeginRecover q) _ = 0
+own_step p (Offer value) _ = 0
+own_step p (Evict place) _ = 0
+own_step p (Stop q) _ = 0
+own_step p Crash _ = 0
 
 -- how many steps the process makes in a list of events with their replies
 abbrev pub own_steps : ℕ → List Event → List Reply → ℕ
@@ -28,9 +36,16 @@ own_steps p events replies = 0
 -- the event, with its reply, neither answers the process nor stops it
 abbrev pub IsUnanswered : ℕ → Event → Reply → Type 0
 IsUnanswered p (Step q) (reply.Answered answer) = q ≡ p → ⊥
+IsUnanswered p (Step q) _ = Unit {0}
+IsUnanswered p (BeginEdit request) _ = Unit {0}
+IsUnanswered p (BeginWork q cell) _ = Unit {0}
+IsUnanswered p (BeginShow q) _ = Unit {0}
+IsUnanswered p (BeginRecover q) _ = Unit {0}
+IsUnanswered p (Offer value) _ = Unit {0}
+IsUnanswered p (Evict place) _ = Unit {0}
 IsUnanswered p (Stop q) reply.Stopped = q ≡ p → ⊥
+IsUnanswered p (Stop q) _ = Unit {0}
 IsUnanswered p Crash _ = ⊥
-IsUnanswered p event _ = Unit {0}
 
 -- no event of a list answers the process or stops it
 abbrev pub AreUnanswered : ℕ → List Event → List Reply → Type 0
@@ -43,7 +58,8 @@ left_in (Editing e) = rank e e.stage
 left_in (Working e) = works.steps_left e.cells e
 left_in (Recovering e) = recoveries.rank e.cells e.stage
 left_in (Showing e) = shows.rank e
-left_in situation = 0
+left_in (Idle number) = 0
+left_in Stopped = 0
 
 -- how many steps the process's call has left at most, with the one that answers; 0 outside a call
 abbrev pub steps_left : ℕ → WorldValue → ℕ
@@ -60,9 +76,15 @@ IsInCall (Showing e) = Unit {0}
 
 -- the event neither stops the process nor crashes the machine
 abbrev pub IsUnhalted : ℕ → Event → Type 0
+IsUnhalted p (BeginEdit request) = Unit {0}
+IsUnhalted p (BeginWork q cell) = Unit {0}
+IsUnhalted p (BeginShow q) = Unit {0}
+IsUnhalted p (BeginRecover q) = Unit {0}
+IsUnhalted p (Step q) = Unit {0}
+IsUnhalted p (Offer value) = Unit {0}
+IsUnhalted p (Evict place) = Unit {0}
 IsUnhalted p (Stop q) = q ≡ p → ⊥
 IsUnhalted p Crash = ⊥
-IsUnhalted p event = Unit {0}
 
 -- no event of a list stops the process or crashes the machine
 abbrev pub AreUnhalted : ℕ → List Event → Type 0

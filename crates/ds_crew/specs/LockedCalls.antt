@@ -2,12 +2,11 @@
 use Rattle.std.specs.Prelude.{Option, Some, None}
 use Rattle.ds_state.specs.declared.situation.Situation.{Situation}
 use Rattle.ds_state.specs.declared.situation.Situation.TheVariants as situations
-use Rattle.ds_edit.specs.declared.answer.Answer.{Answer}
-use Rattle.ds_edit.specs.declared.answer.Answer.TheVariants as answers
 use Rattle.ds_core.specs.declared.event.Event.{Event}
 use Rattle.ds_core.specs.declared.event.Event.TheVariants.{Step}
 use Rattle.ds_core.specs.declared.reply.Reply.{Reply}
 use Rattle.ds_core.specs.declared.reply.Reply.TheVariants.{Stepped, Answered, NotEnabled, Refused}
+use Rattle.ds_core.specs.Kinds.{IsEditAnswer, IsWorkAnswer, IsReportAnswer, IsRecoveryAnswer}
 use Rattle.ds_crew.specs.declared.steps.Call.{Call}
 use Rattle.ds_crew.specs.declared.steps.Call.TheVariants.{Edit, Work, Report, Recovery}
 
@@ -24,18 +23,10 @@ call_in (situations.Showing e) = Some Report
 abbrev pub IsStepOf : Call → Reply → Type 0
 IsStepOf call Stepped = Unit {0}
 IsStepOf call NotEnabled = Unit {0}
-IsStepOf Edit (Answered (answers.Done number)) = Unit {0}
-IsStepOf Edit (Answered (answers.Overtaken number other)) = Unit {0}
-IsStepOf Work (Answered answers.NotDirty) = Unit {0}
-IsStepOf Work (Answered answers.Missed) = Unit {0}
-IsStepOf Work (Answered answers.Worn) = Unit {0}
-IsStepOf Work (Answered (answers.Published changed)) = Unit {0}
-IsStepOf Work (Answered answers.Again) = Unit {0}
-IsStepOf Work (Answered answers.NoMemory) = Unit {0}
-IsStepOf Report (Answered answers.Settled) = Unit {0}
-IsStepOf Report (Answered (answers.Unsettled place word)) = Unit {0}
-IsStepOf Recovery (Answered (answers.Last told)) = Unit {0}
-IsStepOf Recovery (Answered answers.Nothing) = Unit {0}
+IsStepOf Edit (Answered answer) = IsEditAnswer answer
+IsStepOf Work (Answered answer) = IsWorkAnswer answer
+IsStepOf Report (Answered answer) = IsReportAnswer answer
+IsStepOf Recovery (Answered answer) = IsRecoveryAnswer answer
 IsStepOf call reply = ⊥
 
 -- the last replies that each call can have: its answer; that its beginning is refused; or that its beginning, or a step of
@@ -45,10 +36,6 @@ IsEndOf call (Answered answer) = IsStepOf call (Answered answer)
 IsEndOf call (Refused why) = Unit {0}
 IsEndOf call NotEnabled = Unit {0}
 IsEndOf call reply = ⊥
-
--- the answer is one of work
-abbrev pub IsWorkAnswer : Answer → Type 0
-IsWorkAnswer answer = IsStepOf Work (Answered answer)
 
 -- the event is no step: it begins a call, offers an entry, or is of no process's call
 abbrev pub IsNoStep : Event → Type 0

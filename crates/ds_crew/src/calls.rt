@@ -4,7 +4,8 @@ ghost use Rattle.std.specs.Prelude.{◌≡◌, ◌<◌, ◌≤◌, ◌+◌, IfSo
 ghost use Rattle.ds_layout.specs.Places.{cells_of};
 ghost use Rattle.ds_core.specs.Counts.{IsReplyTo, done_of};
 ghost use Rattle.ds_core.specs.declared.event.Event.TheVariants.{BeginRecover};
-ghost use Rattle.ds_crew.specs.LockedCalls.{CountsNothing, IsEndOf, IsNoStep, IsStepOf, IsWorkAnswer};
+ghost use Rattle.ds_crew.specs.LockedCalls.{CountsNothing, IsEndOf, IsNoStep, IsStepOf};
+ghost use Rattle.ds_core.specs.Kinds.{IsWorkAnswer};
 ghost use Rattle.ds_crew.specs.Ends.{AfterReport, AfterStep, HasReceipt, HasReceiptOf, IsBegin, after_edit, after_recovery, edit_reply, recovery_reply, show_reply};
 ghost use Rattle.ds_crew.specs.declared.steps.Call.TheVariants.{Edit, Recovery, Report};
 

@@ -27,7 +27,8 @@ use Rattle.ds_state.specs.declared.stage.Stage.TheVariants.{StoreHeader}
 use Rattle.ds_state.specs.declared.situation.Situation.{Situation}
 use Rattle.ds_state.specs.declared.situation.Situation.TheVariants.{Idle, Stopped, Editing, Working, Recovering, Showing}
 use Rattle.ds_edit.specs.EditTakes.{Begins}
-use Rattle.ds_edit.specs.Begun.{next_of, RefersTo, IsAskedFor, IsIdle, Refuses}
+use Rattle.ds_state.specs.Refusals.{next_edit}
+use Rattle.ds_edit.specs.Begun.{RefersTo, IsAskedFor, IsIdle, Refuses}
 use Rattle.ds_edit.proofs.Answering.{begin_sound}
 
 -- the world in which the edit is issued
@@ -132,7 +133,7 @@ pub situation_at : (v : WorldValue) (process : ℕ) (read : Situation) → IsGoo
 situation_at v process read good low is = get_or_default v.situations process (Idle 0) read (let s = good.situations in omega arith) ∙ sym is
 
 -- why a process in another situation may not begin an edit
-pub refuses_of : (w : PlainWorld) (process : ℕ) (text : List ℕ) (s : Situation) (r : Refusal) → w.situation process ≡ s → Err r ≡ next_of s → Refuses w process text r
+pub refuses_of : (w : PlainWorld) (process : ℕ) (text : List ℕ) (s : Situation) (r : Refusal) → w.situation process ≡ s → Err r ≡ next_edit s → Refuses w process text r
 refuses_of w process text (Idle m) r at is = absurd (cc)
 refuses_of w process text Stopped r at is = rw at (let same : r ≡ refusal.Stopped = cc in same)
 refuses_of w process text (Editing e) r at is = rw at (let same : r ≡ refusal.Busy = cc in same)

@@ -1,8 +1,7 @@
 -- The answer of an edit is true.
 use Rattle.std.proofs.Common.{ℕ, ◌≡◌, ◌<◌, ◌≤◌, ◌+◌, ◌⊎◌, List, [], ◌∷◌, ◌++◌, refl, ap, sym, ◌∙◌, subst, arith, inl, inr, zero, suc, length, length-append, drop}
 use Rattle.std.specs.Prelude.{Contains}
-use Rattle.std.proofs.lemmas.Bool.Decides.{eqb_tells}
-use Rattle.std.proofs.lemmas.List.Elements.{All-contains, Contains-append_right}
+use Rattle.std.proofs.lemmas.List.Elements.{All-contains}
 use Rattle.ds_layout.specs.declared.head.Head.{Head}
 use Rattle.ds_layout.specs.Head.{head_of, IsHead}
 use Rattle.ds_layout.proofs.Packed.{head_of-head_word}
@@ -19,8 +18,8 @@ use Rattle.ds_state.specs.declared.situation.Situation.{Situation}
 use Rattle.ds_state.specs.declared.situation.Situation.TheVariants.{Editing}
 use Rattle.ds_state.proofs.Heads.{Small, small_counted, small_of_cell, small_before, cell_of-middle, by_most}
 use Rattle.ds_state.proofs.Few.{of_cell_few}
+use Rattle.ds_state.proofs.Found.{contains_at, contains_more, from_cell}
 use Rattle.ds_state.proofs.Noted.{when_rest, of_sheet_middle}
-use Rattle.ds_state.proofs.Outcomes.{kept, dropped}
 use Rattle.ds_edit.specs.EditAnswers.{Overtakes, IsTrueOf, IsTrueAnswer}
 
 -- an element of two lists joined is one of the first, or one of the second
@@ -35,25 +34,6 @@ in_either (x ∷ xs) ys (b ∷ before) e after parts =
       | inl h ↦ inl (h.0, ap (λ z. z ∷ xs) firsts ∙ ap (λ zs. b ∷ zs) h.1)
       | inr h ↦ inr (h.0, h.1)
     ]
-
-contains_at : (before : List PlainEdit) (e : PlainEdit) (after : List PlainEdit) → Contains (before ++ e ∷ after) e
-contains_at before e after = Contains-append_right before (e ∷ after) e (zero, omega arith, refl)
-
-contains_more : (x e : PlainEdit) (es : List PlainEdit) → Contains es e → Contains (x ∷ es) e
-contains_more x e es (k, l, is) = (suc k, omega arith, is)
-
-in_front : (x e : PlainEdit) (es fs : List PlainEdit) → (Contains fs e → Contains es e) → Contains (x ∷ fs) e → Contains (x ∷ es) e
-in_front x e es fs again (zero, l, is) = (zero, omega arith, is)
-in_front x e es fs again (suc k, l, is) = contains_more x e es (again (k, omega arith, is))
-
--- an edit of the cell is one of the list
-from_cell : (cell : ℕ) (es : List PlainEdit) (e : PlainEdit) → Contains (of_cell cell es) e → Contains es e
-unfolding of_cell
-from_cell cell [] e (k, l, is) = absurd (omega arith)
-from_cell cell (x ∷ es) e h = elim (eqb_tells x.cell cell) [
-  | inl its ↦ in_front x e es (of_cell cell es) (λ g. from_cell cell es e g) (subst (λ (xs : List PlainEdit). Contains xs e) (kept cell x es its.0) h)
-  | inr other ↦ contains_more x e es (from_cell cell es e (subst (λ (xs : List PlainEdit). Contains xs e) (dropped cell x es other.0) h))
-]
 
 -- what comes late comes later than before
 all_later : (count : ℕ) (es : List PlainEdit) (e : PlainEdit) → Contains (drop count es) e → Contains es e

@@ -1,5 +1,5 @@
 -- How an edit begins, or is refused.
-use Rattle.std.specs.Prelude.{ℕ, ◌≡◌, List, map, Result, Ok, Err}
+use Rattle.std.specs.Prelude.{ℕ, ◌≡◌, List, map}
 use Rattle.ds_formula.specs.declared.cells.Shape.{Shape}
 use Rattle.ds_formula.specs.declared.cells.Cell.{Cell}
 use Rattle.ds_formula.specs.Cells.{index_of}
@@ -16,15 +16,6 @@ use Rattle.ds_state.specs.declared.refusal.Refusal.TheVariants as refusal
 use Rattle.ds_state.specs.declared.situation.Situation.{Situation}
 use Rattle.ds_state.specs.declared.situation.Situation.TheVariants.{Idle, Stopped, Editing, Working, Recovering, Showing}
 use Rattle.ds_edit.specs.EditTakes.{Begins}
-
--- the number of the edit that a process in this situation may begin, or why it may begin none
-abbrev pub next_of : Situation → Result ℕ Refusal
-next_of (Idle number) = Ok number
-next_of Stopped = Err refusal.Stopped
-next_of (Editing e) = Err refusal.Busy
-next_of (Working e) = Err refusal.Busy
-next_of (Recovering e) = Err refusal.Busy
-next_of (Showing e) = Err refusal.Busy
 
 -- these are the numbers of the cells written in the content, in reading order
 pub record AreNumbers (shape : Shape) (content : PlainContent) (refs : List ℕ) : Type 0 where

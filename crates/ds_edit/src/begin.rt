@@ -12,7 +12,7 @@ ghost use Rattle.ds_state.specs.CallsFit.{IsSheetOf, HasRefs};
 ghost use Rattle.ds_state.specs.Edits.{IsEdit};
 ghost use Rattle.ds_state.specs.declared.stage.Stage.TheVariants.{StoreHeader};
 ghost use Rattle.ds_edit.specs.EditTakes.{Begins};
-ghost use Rattle.ds_edit.specs.Begun.{next_of, AreNumbers, RefersTo, IsAskedFor, IsBegun, IsIdle, RefusesIdle, Refuses};
+ghost use Rattle.ds_edit.specs.Begun.{AreNumbers, RefersTo, IsAskedFor, IsBegun, IsIdle, RefusesIdle, Refuses};
 
 use ds_formula::cells::{Cell, Shape};
 use ds_formula::content::Content;
@@ -22,26 +22,11 @@ use ds_layout::place::RECORDS;
 use ds_state::edit::EditCall;
 use ds_state::ledger::{Edit, Issue};
 use ds_state::refusal::Refusal;
-use ds_state::situation::{Situation, put};
+use ds_state::situation::{Situation, next_edit, put};
 use ds_state::stage::Stage;
 use ds_state::text::Text;
 use ds_state::world::World;
 use std::alloc::{AllocError, Global};
-
-// The number of the edit that the process may begin.
-#[inline(always)]
-fn next(situation: &Situation) -> Result<usize, Refusal>
-    ensures { result ≡ next_of situation.now }
-{
-    match situation {
-        Situation::Idle(number) => Ok(*number),
-        Situation::Stopped => Err(Refusal::Stopped),
-        Situation::Working(_) | Situation::Recovering(_) | Situation::Showing(_) => Err(
-            Refusal::Busy,
-        ),
-        Situation::Editing(_) => Err(Refusal::Busy),
-    }
-}
 
 // The numbers of the cells written in a content.
 #[inline(always)]
@@ -157,7 +142,7 @@ pub fn begin(
     ensures settled { world.new.settled ≡ world.old.settled }
     ensures reports { world.new.reports ≡ world.old.reports }
 {
-    let number = next(&world.situations[process])?;
+    let number = next_edit(&world.situations[process])?;
     let layout = world.words.layout();
     let (call, _content) = prepared(alloc, &layout, process, number, cell, text)?;
     issue(world, call);

@@ -1,7 +1,7 @@
 //! The words of a text, eight bytes each.
 
 ghost use Rattle.std.specs.Prelude.{◌≡◌, ◌<◌, slice_index};
-ghost use Rattle.ds_layout.specs.TextWords.{parts_for, part_of, part_word, bytes_of};
+ghost use Rattle.ds_layout.specs.TextWords.{parts_for, length_in, part_of, part_word, bytes_of};
 
 use crate::place::TEXT_PARTS;
 
@@ -10,6 +10,14 @@ pub fn text_parts(bytes: usize) -> usize
     ensures { result ≡ parts_for bytes }
 {
     bytes.div_ceil(8)
+}
+
+/// How many bytes of a text of so many bytes the part has: eight, or what is left in the last one.
+pub fn part_length(bytes: usize, part: usize) -> usize
+    requires { part < parts_for bytes }
+    ensures { result ≡ length_in bytes part }
+{
+    (bytes - 8 * part).min(8)
 }
 
 // The byte there, or 0 past the end.

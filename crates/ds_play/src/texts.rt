@@ -1,7 +1,7 @@
 //! The text of each answer.
 
 ghost use Rattle.std.specs.Prelude.{◌≡◌, ◌≢◌, IfOk, string_bytes};
-ghost use Rattle.ds_formula.specs.Cells.{IsInside, cell_at};
+ghost use Rattle.ds_formula.specs.Cells.{IsInside};
 ghost use Rattle.ds_layout.specs.Places.{IsPlace};
 ghost use Rattle.ds_layout.specs.SheetMemory.{memory};
 ghost use Rattle.ds_state.specs.Value.{world_of};
@@ -22,18 +22,8 @@ use ds_formula::cells::{Cell, Shape};
 use ds_layout::mark::State;
 use ds_layout::place::Place;
 use ds_state::world::World;
-use ds_streams::answer::{SHORT_LINE, done_line, refused_line, settled_lines};
+use ds_streams::answer::{SHORT_LINE, cell_at, done_line, refused_line, settled_lines};
 use std::alloc::{AllocError, Global};
-
-// The cell with this number; of a number that no cell has, some cell.
-fn cell_at(shape: Shape, index: usize) -> Cell
-    ensures { result ≡ cell_at shape index }
-{
-    Cell {
-        column: index % shape.columns,
-        row: index / shape.columns,
-    }
-}
 
 fn counts(counts: bool) -> &'static str
     ensures { result.now ≡ counts_text counts }

@@ -12,7 +12,7 @@ use crate::board::CallRefusal;
 use crate::request::LineFault;
 use ds_edit::answer::{Other, Told};
 use ds_eval::value::Value;
-use ds_formula::cells::{Cell, Shape};
+use ds_formula::cells::Shape;
 use ds_formula::fault::TextFault;
 use ds_layout::place::Place;
 use serde_json::{Value as Json, json};
@@ -69,20 +69,10 @@ impl LineFault {
     }
 }
 
-// The cell with this number; of a number that no cell has, some cell.
-fn cell_at(shape: &Shape, index: usize) -> Cell
-    ensures { result ≡ cell_at shape.now index }
-{
-    Cell {
-        column: index % shape.columns,
-        row: index / shape.columns,
-    }
-}
-
 fn cell_name(alloc: Global, shape: &Shape, index: usize) -> Result<String, AllocError>
     ensures { IfOk result (λ text. string_bytes text ≡ cell_text (cell_at shape.now index)) }
 {
-    cell_at(shape, index).to_string(alloc)
+    cell_at(*shape, index).to_string(alloc)
 }
 
 fn outcome(counts: bool) -> &'static str
@@ -143,7 +133,7 @@ fn place_name(alloc: Global, shape: &Shape, place: Place) -> Result<String, Allo
 {
     match place {
         Place::Mark(cell) => {
-            let cell = cell_at(shape, cell);
+            let cell = cell_at(*shape, cell);
             format!(in alloc; "mark {cell}")
         }
         Place::Announce(process) => format!(in alloc; "announce {process}"),

@@ -15,7 +15,8 @@ use Rattle.ds_state.specs.declared.situation.Situation.{Situation}
 use Rattle.ds_state.specs.declared.situation.Situation.TheVariants.{Idle, Stopped, Editing, Working, Recovering, Showing}
 use Rattle.ds_state.proofs.Underway.{after_set}
 use Rattle.ds_show.specs.ShowSteps.{Begins, fresh}
-use Rattle.ds_show.specs.ShowBegun.{next_of, RefusesIdle, Refuses}
+use Rattle.ds_state.specs.Refusals.{next_edit}
+use Rattle.ds_show.specs.ShowBegun.{RefusesIdle, Refuses}
 use Rattle.ds_show.proofs.ShowKeeps.{begin_keeps}
 
 -- the world in which the report is under way
@@ -56,7 +57,7 @@ pub situation_at : (v : WorldValue) (process : ℕ) (read : Situation) → IsGoo
 situation_at v process read good low is = get_or_default v.situations process (Idle 0) read (let s = good.situations in omega arith) ∙ sym is
 
 -- why a process that is not idle may not begin a report
-pub refuses_of : (v : WorldValue) (process : ℕ) (s : Situation) (r : Refusal) → (world_of v).situation process ≡ s → Err r ≡ next_of s → Refuses v process r
+pub refuses_of : (v : WorldValue) (process : ℕ) (s : Situation) (r : Refusal) → (world_of v).situation process ≡ s → Err r ≡ next_edit s → Refuses v process r
 refuses_of v process (Idle m) r at is = absurd (cc)
 refuses_of v process Stopped r at is = rw at (let same : r ≡ refusal.Stopped = cc in same)
 refuses_of v process (Editing e) r at is = rw at (let same : r ≡ refusal.Busy = cc in same)
@@ -65,7 +66,7 @@ refuses_of v process (Recovering e) r at is = rw at (let same : r ≡ refusal.Bu
 refuses_of v process (Showing e) r at is = rw at (let same : r ≡ refusal.Busy = cc in same)
 
 -- why an idle one may not
-pub refuses_idle : (v : WorldValue) (process next : ℕ) (s : Situation) (r : Refusal) → (world_of v).situation process ≡ s → Ok next ≡ next_of s → RefusesIdle v r → Refuses v process r
+pub refuses_idle : (v : WorldValue) (process next : ℕ) (s : Situation) (r : Refusal) → (world_of v).situation process ≡ s → Ok next ≡ next_edit s → RefusesIdle v r → Refuses v process r
 refuses_idle v process next (Idle m) r at is h = rw at h
 refuses_idle v process next Stopped r at is h = absurd (cc)
 refuses_idle v process next (Editing e) r at is h = absurd (cc)
@@ -74,7 +75,7 @@ refuses_idle v process next (Recovering e) r at is h = absurd (cc)
 refuses_idle v process next (Showing e) r at is h = absurd (cc)
 
 -- so it is idle, with that number
-pub idle_of : (w : PlainWorld) (process next : ℕ) (s : Situation) → w.situation process ≡ s → Ok next ≡ next_of s → w.situation process ≡ Idle next
+pub idle_of : (w : PlainWorld) (process next : ℕ) (s : Situation) → w.situation process ≡ s → Ok next ≡ next_edit s → w.situation process ≡ Idle next
 idle_of w process next (Idle m) at is = at ∙ (let same : m ≡ next = cc in ap (λ (n : ℕ). Idle n) same)
 idle_of w process next Stopped at is = absurd (cc)
 idle_of w process next (Editing e) at is = absurd (cc)
@@ -82,7 +83,3 @@ idle_of w process next (Working e) at is = absurd (cc)
 idle_of w process next (Recovering e) at is = absurd (cc)
 idle_of w process next (Showing e) at is = absurd (cc)
 
--- the error that is handed on
-pub handed_on : {X : Type 0} (r : Result X Refusal) (given : Refusal) (P : Refusal → Type 0) → IsErrAnd r (λ x. x ≡ given) → P given → IfErr r P
-handed_on (Ok x) given P is h = tt
-handed_on (Err x) given P is h = subst P (sym is) h

@@ -1,5 +1,5 @@
 -- How a report begins, or is refused.
-use Rattle.std.specs.Prelude.{ℕ, ◌≡◌, ◌<◌, ◌+◌, Result, Ok, Err}
+use Rattle.std.specs.Prelude.{ℕ, ◌≡◌, ◌<◌, ◌+◌}
 use Rattle.ds_state.specs.World.{PlainWorld}
 use Rattle.ds_state.specs.Value.{WorldValue, world_of}
 use Rattle.ds_state.specs.Underway.{reports_under_way}
@@ -9,15 +9,6 @@ use Rattle.ds_state.specs.declared.refusal.Refusal.TheVariants as refusal
 use Rattle.ds_state.specs.declared.situation.Situation.{Situation}
 use Rattle.ds_state.specs.declared.situation.Situation.TheVariants.{Idle, Stopped, Editing, Working, Recovering, Showing}
 use Rattle.ds_show.specs.ShowSteps.{Begins}
-
--- the number of the next edit of a process that may begin a report, or why it may not
-abbrev pub next_of : Situation → Result ℕ Refusal
-next_of (Idle number) = Ok number
-next_of Stopped = Err refusal.Stopped
-next_of (Editing e) = Err refusal.Busy
-next_of (Working e) = Err refusal.Busy
-next_of (Recovering e) = Err refusal.Busy
-next_of (Showing e) = Err refusal.Busy
 
 -- an idle process's report begins
 pub record IsBegun (old : PlainWorld) (p : ℕ) (new : PlainWorld) : Type 0 where

@@ -7,29 +7,15 @@ ghost use Rattle.ds_state.specs.Underway.{reports_in, reports_under_way};
 ghost use Rattle.ds_state.specs.declared.reports.TheConstants.{SETTLED_MOST};
 ghost use Rattle.ds_state.specs.declared.situation.Situation.TheVariants.{Idle};
 ghost use Rattle.ds_show.specs.ShowSteps.{Begins, fresh};
-ghost use Rattle.ds_show.specs.ShowBegun.{next_of, IsBegun, Refuses};
+ghost use Rattle.ds_show.specs.ShowBegun.{IsBegun, Refuses};
 
 use ds_layout::layout::Layout;
 use ds_state::refusal::Refusal;
 use ds_state::reports::SETTLED_MOST;
-use ds_state::situation::{Situation, put};
+use ds_state::situation::{Situation, next_edit, put};
 use ds_state::work::{ShowCall, ShowStage};
 use ds_state::world::World;
 use std::alloc::{AllocError, Global};
-
-// The number of the next edit of a process that may begin a report.
-fn next(situation: &Situation) -> Result<usize, Refusal>
-    ensures { result ≡ next_of situation.now }
-{
-    match situation {
-        Situation::Idle(number) => Ok(*number),
-        Situation::Stopped => Err(Refusal::Stopped),
-        Situation::Working(_) | Situation::Recovering(_) | Situation::Showing(_) => Err(
-            Refusal::Busy,
-        ),
-        Situation::Editing(_) => Err(Refusal::Busy),
-    }
-}
 
 // 1 where the process reports.
 fn reports_in(situation: &Situation) -> usize
@@ -123,7 +109,7 @@ pub fn begin(alloc: Global, world: &mut World, process: usize) -> Result<(), Ref
     ensures settled { world.new.settled ≡ world.old.settled }
     ensures reports { world.new.reports ≡ world.old.reports }
 {
-    let next = next(&world.situations[process])?;
+    let next = next_edit(&world.situations[process])?;
     if is_spent(world.settled, &world.situations) {
         return Err(Refusal::RecordsFull);
     }

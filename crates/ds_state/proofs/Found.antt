@@ -20,7 +20,7 @@ use Rattle.ds_state.proofs.Noted.{of_sheet_middle}
 pub contains_at : (before : List PlainEdit) (e : PlainEdit) (after : List PlainEdit) → Contains (before ++ e ∷ after) e
 contains_at before e after = Contains-append_right before (e ∷ after) e (zero, omega arith, refl)
 
-contains_more : (x e : PlainEdit) (es : List PlainEdit) → Contains es e → Contains (x ∷ es) e
+pub contains_more : (x e : PlainEdit) (es : List PlainEdit) → Contains es e → Contains (x ∷ es) e
 contains_more x e es (k, l, is) = (suc k, omega arith, is)
 
 in_front : (x e : PlainEdit) (es fs : List PlainEdit) → (Contains fs e → Contains es e) → Contains (x ∷ fs) e → Contains (x ∷ es) e

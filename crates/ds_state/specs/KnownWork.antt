@@ -1,5 +1,5 @@
 -- What work knows at each of its stages, and what its buffer holds.
-use Rattle.std.specs.Prelude.{ℕ, ◌≡◌, ◌<◌, ◌≤◌, ◌*◌, ◌⊎◌, List, [], ◌∷◌, length, take, Bool, true, false, None}
+use Rattle.std.specs.Prelude.{ℕ, ◌≡◌, ◌<◌, ◌≤◌, ◌⊎◌, List, [], ◌∷◌, length, take, Bool, true, false, None}
 use Rattle.ds_words.specs.declared.access.Entry.{Entry}
 use Rattle.ds_formula.specs.Cells.{IsInside, index_of}
 use Rattle.ds_formula.specs.declared.cells.Cell.{Cell}
@@ -8,6 +8,7 @@ use Rattle.ds_formula.specs.Refs.{Refers}
 use Rattle.ds_eval.specs.declared.inputs.Input.{Input}
 use Rattle.ds_eval.specs.Inputs.{entry_in, cell_in, entry_at, IsAscending}
 use Rattle.ds_eval.specs.Local.{local}
+use Rattle.ds_layout.specs.TextWords.{start_of}
 use Rattle.ds_layout.specs.declared.place.TheConstants.{RECORDS}
 use Rattle.ds_layout.specs.declared.place.Place.{Place}
 use Rattle.ds_layout.specs.declared.place.Place.TheVariants as place
@@ -146,7 +147,7 @@ pub record ReadsPart (w : PlainWorld) (cell head count : ℕ) (noted : List ℕ)
   pub by : PlainEdit
   pub gave : IsHeadBy (of_cell cell w.counted) head by
   pub size : count ≡ length by.text
-  pub start : noted ≡ take (8 * parts) by.text
+  pub start : noted ≡ take (start_of parts) by.text
 
 -- the noted head was given to the work's cell by a counted edit, and so many parts of its text are noted
 abbrev pub HasRead : PlainWorld → PlainWorkCall → ℕ → Type 0

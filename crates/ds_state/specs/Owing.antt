@@ -150,7 +150,23 @@ RecoveryExcuses m p c (recoveries.StoreOutcome how) x = ⊥
 RecoveryExcuses m p c (recoveries.FlushOutcome how) x = ⊥
 RecoveryExcuses m p c (recoveries.BackOutcome how) x = ⊥
 RecoveryExcuses m p c (recoveries.Answer how) x = ⊥
-RecoveryExcuses m p c _ x = Unit {0}
+RecoveryExcuses m p c (recoveries.LoadMark cell) x = Unit {0}
+RecoveryExcuses m p c (recoveries.FlushValue cell) x = Unit {0}
+RecoveryExcuses m p c (recoveries.FlushKind cell) x = Unit {0}
+RecoveryExcuses m p c (recoveries.BackValue cell) x = Unit {0}
+RecoveryExcuses m p c (recoveries.BackKind cell) x = Unit {0}
+RecoveryExcuses m p c (recoveries.Telling cell spread) x = Unit {0}
+RecoveryExcuses m p c (recoveries.Give cell) x = Unit {0}
+RecoveryExcuses m p c (recoveries.GiveDirty cell) x = Unit {0}
+RecoveryExcuses m p c (recoveries.FlushGiven cell) x = Unit {0}
+RecoveryExcuses m p c (recoveries.BackGiven cell) x = Unit {0}
+RecoveryExcuses m p c recoveries.LoadAnnounce x = Unit {0}
+RecoveryExcuses m p c recoveries.LoadHeader x = Unit {0}
+RecoveryExcuses m p c recoveries.LoadHead x = Unit {0}
+RecoveryExcuses m p c recoveries.FlushHead x = Unit {0}
+RecoveryExcuses m p c recoveries.BackHead x = Unit {0}
+RecoveryExcuses m p c recoveries.LoadDone x = Unit {0}
+RecoveryExcuses m p c (recoveries.OrMark how) x = Unit {0}
 
 -- the process owes the cell of its edit a mark above x
 abbrev pub Excuses : PlainWorld → ℕ → Situation → ℕ → ℕ → Type 0
@@ -175,7 +191,7 @@ SplitsAt _ head = ⊥
 
 -- a recovery at this stage may have the two sides of the head of its edit in doubt differ
 abbrev pub RecoverySplits : RecoverStage → Type 0
-RecoverySplits (recoveries.LoadDone) = ⊥
+RecoverySplits recoveries.LoadDone = ⊥
 RecoverySplits (recoveries.OrMark how) = ⊥
 RecoverySplits (recoveries.FlushMark how) = ⊥
 RecoverySplits (recoveries.BackMark how) = ⊥
@@ -183,7 +199,21 @@ RecoverySplits (recoveries.StoreOutcome how) = ⊥
 RecoverySplits (recoveries.FlushOutcome how) = ⊥
 RecoverySplits (recoveries.BackOutcome how) = ⊥
 RecoverySplits (recoveries.Answer how) = ⊥
-RecoverySplits _ = Unit {0}
+RecoverySplits (recoveries.LoadMark cell) = Unit {0}
+RecoverySplits (recoveries.FlushValue cell) = Unit {0}
+RecoverySplits (recoveries.FlushKind cell) = Unit {0}
+RecoverySplits (recoveries.BackValue cell) = Unit {0}
+RecoverySplits (recoveries.BackKind cell) = Unit {0}
+RecoverySplits (recoveries.Telling cell spread) = Unit {0}
+RecoverySplits (recoveries.Give cell) = Unit {0}
+RecoverySplits (recoveries.GiveDirty cell) = Unit {0}
+RecoverySplits (recoveries.FlushGiven cell) = Unit {0}
+RecoverySplits (recoveries.BackGiven cell) = Unit {0}
+RecoverySplits recoveries.LoadAnnounce = Unit {0}
+RecoverySplits recoveries.LoadHeader = Unit {0}
+RecoverySplits recoveries.LoadHead = Unit {0}
+RecoverySplits recoveries.FlushHead = Unit {0}
+RecoverySplits recoveries.BackHead = Unit {0}
 
 -- the process may have the two sides of the head of c differ, this one being the cached one
 abbrev pub Splits : PlainWorld → ℕ → Situation → ℕ → ℕ → Type 0

@@ -1,5 +1,5 @@
 -- What a world shows.
-use Rattle.std.specs.Prelude.{ℕ, ◌≡◌, ◌<◌, ◌-◌, ◌*◌, ◌++◌, List, [], ◌∷◌, length, map, take, min, Option, Some, None, zero, suc}
+use Rattle.std.specs.Prelude.{ℕ, ◌≡◌, ◌<◌, ◌++◌, List, [], ◌∷◌, length, map, take, Option, Some, None, zero, suc}
 use Rattle.std.specs.List.{range_with_len}
 use Rattle.ds_formula.specs.Cells.{index_of}
 use Rattle.ds_formula.specs.declared.cells.Cell.{Cell}
@@ -17,7 +17,7 @@ use Rattle.ds_layout.specs.declared.head.Head.{Head}
 use Rattle.ds_layout.specs.declared.header.Header.{Header}
 use Rattle.ds_layout.specs.Head.{head_of}
 use Rattle.ds_layout.specs.Header.{header_word, header_of}
-use Rattle.ds_layout.specs.TextWords.{part_word, bytes_of, parts_for}
+use Rattle.ds_layout.specs.TextWords.{part_word, bytes_of, length_in, parts_for}
 use Rattle.ds_state.specs.Edits.{text_parts}
 use Rattle.ds_state.specs.EntryWords.{shown_of}
 use Rattle.ds_state.specs.Stages.{point_at}
@@ -85,7 +85,7 @@ last_text (e ∷ f ∷ es) = last_text (f ∷ es)
 abbrev pub parts_at : Memory Place → ℕ → ℕ → ℕ → ℕ → List ℕ
 parts_at memory process number count zero = []
 parts_at memory process number count (suc part) =
-    parts_at memory process number count part ++ take (min (count - 8 * part) 8) (bytes_of (memory.cached (place.Text process number part)))
+    parts_at memory process number count part ++ take (length_in count part) (bytes_of (memory.cached (place.Text process number part)))
 
 -- the text that a record's header gives it; a word that is no header of the sheet gives none
 abbrev pub headed_at : Memory Place → ℕ → ℕ → Option Header → List ℕ

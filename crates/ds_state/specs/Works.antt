@@ -1,11 +1,12 @@
 -- Work, a recovery and a report under way, without where they lie in memory.
-use Rattle.std.specs.Prelude.{ℕ, ◌+◌, ◌*◌, ◌^◌, ◌≡◌, ◌<◌, ◌≤◌, List, length, slice_index_or, true, false}
+use Rattle.std.specs.Prelude.{ℕ, ◌+◌, ◌^◌, ◌≡◌, ◌<◌, ◌≤◌, List, length, slice_index_or, true, false}
 use Rattle.ds_layout.specs.Bits.{HasBit, part_with, parts_for}
 use Rattle.ds_state.specs.EntryWords.{value_for, word_for}
 use Rattle.ds_formula.specs.Refs.{IsPossible}
 use Rattle.ds_eval.specs.Inputs.{cell_in}
 use Rattle.ds_formula.specs.Limits.{CELLS_MOST, PROCESSES_MOST, TEXT_MOST}
 use Rattle.ds_layout.specs.Mark.{generation_of}
+use Rattle.ds_layout.specs.TextWords.{start_of}
 use Rattle.ds_state.specs.declared.work.Spread.TheVariants.{LoadRow, OrTold, FlushTold, BackTold}
 use Rattle.ds_state.specs.declared.work.WorkStage.TheVariants.{Claim, LoadText, LoadValue, LoadKind, StoreValue, StoreKind, FlushValue, FlushKind, BackValue, BackKind, Telling, Clear}
 use Rattle.ds_formula.specs.Plain.{PlainContent}
@@ -39,7 +40,7 @@ pub record PlainWorkCall : Type 0 where
 -- the part of a text that is looked at is one of the text, the reference one of the references, the part of the row
 -- is one of the row, and so many are loaded, and the cell that is told is one of the sheet
 abbrev pub StageFits : PlainWorkCall → WorkStage → Type 0
-StageFits e (LoadText part) = 8 * part < e.length
+StageFits e (LoadText part) = start_of part < e.length
 StageFits e (LoadValue i) = i < length e.inputs
 StageFits e (LoadKind i value) = i < length e.inputs
 StageFits e (Telling (LoadRow part)) = (length e.row ≡ part) × (part < parts_for e.cells)

@@ -17,7 +17,7 @@ use ds_layout::mark::{Mark, State};
 use ds_layout::place::Place;
 use ds_layout::sheet_words::SheetWords;
 use ds_layout::stored::{Kind, Stored};
-use ds_layout::text::{part_bytes, text_parts};
+use ds_layout::text::{part_bytes, part_length, text_parts};
 use std::alloc::{AllocError, Global};
 
 /// The words of a sheet, as they can be read by their places.
@@ -121,7 +121,7 @@ fn parts<W: SheetReader>(
             number,
             part,
         });
-        let rest = (count - 8 * part).min(8);
+        let rest = part_length(count, part);
         bytes.extend_from_slice(&part_bytes(word)[..rest])?;
     }
     Ok(bytes)

@@ -1,8 +1,10 @@
 //! What a process is doing.
 
 ghost use Rattle.std.specs.Prelude.{◌≡◌, ◌<◌, vec_len, slice_index_or, slice_set};
+ghost use Rattle.ds_state.specs.Refusals.{next_edit};
 
 use crate::edit::EditCall;
+use crate::refusal::Refusal;
 use crate::work::{RecoverCall, ShowCall, WorkCall};
 
 /// What a process is doing.
@@ -41,4 +43,18 @@ pub fn put(situations: &mut Vec<Situation>, process: usize, situation: Situation
     ensures count { vec_len situations.new ≡ vec_len situations.old }
 {
     situations[process] = situation;
+}
+
+/// The number of the next edit of a process in this situation, from 0 to 256, if it may begin an edit, work or a report.
+/// Else the refusal: `Busy` where it is in a call, `Stopped` where it is stopped.
+#[inline(always)]
+pub fn next_edit(situation: &Situation) -> Result<usize, Refusal>
+    ensures { result ≡ next_edit situation.now }
+{
+    match situation {
+        Situation::Idle(number) => Ok(*number),
+        Situation::Stopped => Err(Refusal::Stopped),
+        Situation::Editing(_) | Situation::Working(_) => Err(Refusal::Busy),
+        Situation::Recovering(_) | Situation::Showing(_) => Err(Refusal::Busy),
+    }
 }

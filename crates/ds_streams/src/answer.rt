@@ -4,19 +4,29 @@ ghost use Rattle.std.specs.Prelude.{◌≡◌, ◌++◌, IfOk, OnOk, string_byte
 ghost use Rattle.csv.specs.Records.{fields_of};
 ghost use Rattle.csv.specs.Writing.{row_text, default_writer};
 ghost use Rattle.ds_streams.specs.Csv.{IsReady, text_of};
-ghost use Rattle.ds_formula.specs.Cells.{count_of};
+ghost use Rattle.ds_formula.specs.Cells.{cell_at, count_of};
 ghost use Rattle.ds_eval.specs.Numbers.{value_text};
 ghost use Rattle.ds_streams.specs.AnswerTexts.{done_text, refused_text, rows_text, settled_text};
 
 use csv::{ByteRecord, Writer, WriterBuilder};
 use ds_eval::value::Value;
-use ds_formula::cells::Shape;
+use ds_formula::cells::{Cell, Shape};
 use ds_state::refusal::Refusal;
 use std::alloc::{AllocError, Global};
 
 /// How many bytes a line of a process and a number, or of a process and two words, takes at most: with room for them it
 /// is not moved while it is written.
 pub const SHORT_LINE: usize = 24;
+
+/// The cell with this number, as answers name it. Of a number that no cell has, it is a cell below the sheet.
+pub fn cell_at(shape: Shape, index: usize) -> Cell
+    ensures { result ≡ cell_at shape index }
+{
+    Cell {
+        column: index % shape.columns,
+        row: index / shape.columns,
+    }
+}
 
 /// `P NUMBER done`. An error is a want of memory.
 pub fn done_line(alloc: Global, process: usize, number: usize) -> Result<String, AllocError>

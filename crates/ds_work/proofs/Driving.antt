@@ -31,7 +31,8 @@ use Rattle.ds_work.specs.declared.drive.Taken.TheVariants.{Stepped, Answered}
 use Rattle.ds_work.specs.WorkSteps.{at, access_at, next_at, after, offered, IsPlainStep, StepsAt, Turns, BeginsWork, OffersAt}
 use Rattle.ds_work.specs.Noted.{turn_at}
 use Rattle.ds_work.specs.Reading.{IsReading}
-use Rattle.ds_work.specs.WorkTakes.{next_of, CanNotAdvance, IsAskedFor, IsOffered, Refuses, StepsBy, TakesTurn, answers, lacked, reads, steps}
+use Rattle.ds_state.specs.Refusals.{next_edit}
+use Rattle.ds_work.specs.WorkTakes.{CanNotAdvance, IsAskedFor, IsOffered, Refuses, StepsBy, TakesTurn, answers, lacked, reads, steps}
 use Rattle.ds_work.proofs.EachWork.{begins_keep, offer_keep, work_steps_keep, reads_keep, lacks_keep}
 use Rattle.ds_work.proofs.WorkNamed.{can_perform}
 
@@ -103,18 +104,13 @@ pub situation_at : (v : WorldValue) (p : ℕ) (read : Situation) → IsGood v �
 situation_at v p read good low is = get_or_default v.situations p (Idle 0) read (let s = good.situations in omega (arith, s, low)) ∙ sym is
 
 -- why a process in this situation may not begin work
-pub refuses_of : (w : PlainWorld) (p : ℕ) (s : Situation) (r : Refusal) → w.situation p ≡ s → Err r ≡ next_of s → Refuses w p r
+pub refuses_of : (w : PlainWorld) (p : ℕ) (s : Situation) (r : Refusal) → w.situation p ≡ s → Err r ≡ next_edit s → Refuses w p r
 refuses_of w p (Idle m) r at is = absurd (cc)
 refuses_of w p Stopped r at is = rw at (let same : r ≡ refusal.Stopped = cc in same)
 refuses_of w p (Editing e) r at is = rw at (let same : r ≡ refusal.Busy = cc in same)
 refuses_of w p (Working e) r at is = rw at (let same : r ≡ refusal.Busy = cc in same)
 refuses_of w p (Recovering e) r at is = rw at (let same : r ≡ refusal.Busy = cc in same)
 refuses_of w p (Showing e) r at is = rw at (let same : r ≡ refusal.Busy = cc in same)
-
--- the error that is handed on
-pub handed_on : {X : Type 0} (r : Result X Refusal) (given : Refusal) (P : Refusal → Type 0) → IsErrAnd r (λ x. x ≡ given) → P given → IfErr r P
-handed_on (Ok x) given P is h = tt
-handed_on (Err x) given P is h = subst P (sym is) h
 
 -- ---- works under way
 

@@ -1,5 +1,5 @@
 -- The events of works, from world to world: beginnings, steps, offers.
-use Rattle.std.specs.Prelude.{ℕ, ◌≡◌, ◌<◌, List, Result, Ok, Err}
+use Rattle.std.specs.Prelude.{ℕ, ◌≡◌, ◌<◌, List}
 use Rattle.ds_formula.specs.declared.cells.Shape.{Shape}
 use Rattle.ds_formula.specs.Cells.{cell_at}
 use Rattle.ds_formula.specs.Plain.{PlainContent}
@@ -22,15 +22,6 @@ use Rattle.ds_work.specs.declared.drive.Taken.{Taken}
 use Rattle.ds_work.specs.declared.drive.Taken.TheVariants.{NotEnabled, Stepped, Answered}
 
 -- ---- beginnings
-
--- the number of the next edit of a process that may begin work, or why it may not
-abbrev pub next_of : Situation → Result ℕ Refusal
-next_of (Idle number) = Ok number
-next_of Stopped = Err refusal.Stopped
-next_of (Editing e) = Err refusal.Busy
-next_of (Working e) = Err refusal.Busy
-next_of (Recovering e) = Err refusal.Busy
-next_of (Showing e) = Err refusal.Busy
 
 -- work of the process on the cell, before its first step
 pub record IsAskedFor (layout : Layout) (process number index : ℕ) (e : PlainWorkCall) : Type 0 where

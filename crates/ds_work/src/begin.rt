@@ -6,7 +6,7 @@ ghost use Rattle.ds_layout.specs.Places.{cells_of};
 ghost use Rattle.ds_state.specs.Value.{world_of};
 ghost use Rattle.ds_state.specs.declared.situation.Situation.TheVariants.{Idle};
 ghost use Rattle.ds_work.specs.WorkSteps.{BeginsWork};
-ghost use Rattle.ds_work.specs.WorkTakes.{next_of, IsAskedFor, IsBegun, Refuses};
+ghost use Rattle.ds_work.specs.WorkTakes.{IsAskedFor, IsBegun, Refuses};
 
 use ds_eval::inputs::{Entry, Inputs};
 use ds_eval::value::Value;
@@ -15,26 +15,11 @@ use ds_formula::content::Content;
 use ds_layout::layout::Layout;
 use ds_state::refusal::Refusal;
 use ds_state::row::Row;
-use ds_state::situation::{Situation, put};
+use ds_state::situation::{Situation, next_edit, put};
 use ds_state::text::Text;
 use ds_state::work::{WorkCall, WorkStage};
 use ds_state::world::World;
 use std::alloc::{AllocError, Global};
-
-// The number of the next edit of a process that may begin work.
-#[inline(always)]
-fn next(situation: &Situation) -> Result<usize, Refusal>
-    ensures { result ≡ next_of situation.now }
-{
-    match situation {
-        Situation::Idle(number) => Ok(*number),
-        Situation::Stopped => Err(Refusal::Stopped),
-        Situation::Working(_) | Situation::Recovering(_) | Situation::Showing(_) => Err(
-            Refusal::Busy,
-        ),
-        Situation::Editing(_) => Err(Refusal::Busy),
-    }
-}
 
 // No inputs, with room for so many: that of an answered work, where it is enough.
 fn inputs_for(alloc: Global, spare: &mut Option<Inputs>, count: usize) -> Result<Inputs, AllocError>
@@ -117,7 +102,7 @@ pub fn begin(alloc: Global, world: &mut World, process: usize, cell: Cell) -> Re
     ensures settled { world.new.settled ≡ world.old.settled }
     ensures reports { world.new.reports ≡ world.old.reports }
 {
-    let number = next(&world.situations[process])?;
+    let number = next_edit(&world.situations[process])?;
     let layout = world.words.layout();
     let inputs = inputs_for(alloc, &mut world.spare, layout.cells())?;
     let call = prepared(&layout, process, number, cell, inputs);

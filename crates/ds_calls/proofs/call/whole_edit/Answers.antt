@@ -1,5 +1,5 @@
 use Rattle.ds_core.specs.declared.event.Event.TheVariants.{BeginEdit}
-use Rattle.ds_calls.specs.Kinds.{IsEditAnswer}
+use Rattle.ds_core.specs.Kinds.{IsEditAnswer}
 use Rattle.ds_calls.specs.Whole.{request}
 use Rattle.ds_calls.proofs.Begins.{whole_of}
 use Rattle.ds_calls.proofs.call.whole_edit.Goals as goal

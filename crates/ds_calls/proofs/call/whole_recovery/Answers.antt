@@ -1,5 +1,5 @@
 use Rattle.ds_core.specs.declared.event.Event.TheVariants.{BeginRecover}
-use Rattle.ds_calls.specs.Kinds.{IsRecoveryAnswer}
+use Rattle.ds_core.specs.Kinds.{IsRecoveryAnswer}
 use Rattle.ds_calls.proofs.Begins.{whole_of}
 use Rattle.ds_calls.proofs.call.whole_recovery.Goals as goal
 

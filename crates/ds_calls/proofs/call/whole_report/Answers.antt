@@ -1,5 +1,5 @@
 use Rattle.ds_core.specs.declared.event.Event.TheVariants.{BeginShow}
-use Rattle.ds_calls.specs.Kinds.{IsReportAnswer}
+use Rattle.ds_core.specs.Kinds.{IsReportAnswer}
 use Rattle.ds_calls.proofs.Begins.{whole_of}
 use Rattle.ds_calls.proofs.call.whole_report.Goals as goal
 

@@ -1,5 +1,5 @@
 use Rattle.ds_core.specs.declared.event.Event.TheVariants.{BeginWork}
-use Rattle.ds_calls.specs.Kinds.{IsWorkAnswer}
+use Rattle.ds_core.specs.Kinds.{IsWorkAnswer}
 use Rattle.ds_calls.proofs.Begins.{whole_of}
 use Rattle.ds_calls.proofs.call.whole_work.Goals as goal
 

@@ -4,7 +4,7 @@ use Rattle.ds_edit.specs.declared.answer.Answer.{Answer}
 use Rattle.ds_core.specs.Own.{steps_left}
 use Rattle.ds_core.specs.declared.event.Event.{Event}
 use Rattle.ds_core.specs.declared.reply.Reply.{Reply}
-use Rattle.ds_calls.specs.Kinds.{AnswersTo}
+use Rattle.ds_core.specs.Kinds.{AnswersTo}
 use Rattle.ds_calls.specs.Whole.{IsCalling, Goes}
 use Rattle.ds_calls.proofs.finish.finish.Given as goal
 
