@@ -21,10 +21,10 @@ use Rattle.ds_edit.proofs.Stays.{each_falls}
 use Rattle.ds_core.specs.EditEvents.{reply_with, EditStepsBy}
 use Rattle.ds_core.specs.StepEvents.{edits, works, reports, recoveries}
 use Rattle.ds_core.specs.Takes.{Takes, WorldRun}
+use Rattle.ds_core.proofs.Did.{Did, did, nothing, edit_begins, work_begins, report_begins, recovery_begins, steps, offers, evicts, stops, crashes}
 use Rattle.ds_core.specs.declared.event.Event.{Event}
-use Rattle.ds_core.specs.declared.event.Event.TheVariants.{BeginEdit, BeginWork, BeginShow, BeginRecover, Step, Offer, Evict, Stop, Crash}
 use Rattle.ds_core.specs.declared.reply.Reply.{Reply}
-use Rattle.ds_core.specs.declared.reply.Reply.TheVariants.{Begun, Entered, Refused, Stepped, Answered, WrongTask, Evicted, Stopped, Crashed, NotEnabled}
+use Rattle.ds_core.specs.declared.reply.Reply.TheVariants.{Stepped, Answered}
 
 pub unanswered_at : (processes number : ℕ) (o : Option Outcome) → Stepped ≡ reply_with processes number o → o ≡ None
 unanswered_at processes number None is = refl
@@ -64,45 +64,24 @@ work_layout old new e what (work_events.reads content inputs at t) = t.turn.layo
 work_layout old new e what (work_events.lacked at t) = t.layout
 work_layout old new e what (work_events.answers end at t) = t.layout
 
+layout_by : (old new : WorldValue) (event : Event) (reply : Reply) → Did old new event reply → new.sheet.layout ≡ old.sheet.layout
+layout_by old new _ _ (nothing event reply none is same) = ap (λ (v : WorldValue). v.sheet.layout) same
+layout_by old new _ _ (edit_begins r number h) = h.begun.begins.layout
+layout_by old new _ _ (work_begins p cell h) = h.begun.begins.turn.layout
+layout_by old new _ _ (report_begins p h) = h.begun.begins.layout
+layout_by old new _ _ (recovery_begins p h) = h.begun.begins.layout
+layout_by old new _ _ (steps p reply is (edits h)) = h.steps.layout
+layout_by old new _ _ (steps p reply is (works h)) = work_layout (world_of old) (world_of new) h.steps.work h.what h.steps.turn
+layout_by old new _ _ (steps p reply is (reports h)) = h.steps.steps.layout
+layout_by old new _ _ (steps p reply is (recoveries h)) = h.steps.steps.layout
+layout_by old new _ _ (offers value h) = h.offered.offers.turn.layout
+layout_by old new _ _ (evicts word h) = h.evicts.layout
+layout_by old new _ _ (stops p h) = h.stops.layout
+layout_by old new _ _ (crashes h) = h.crashes.layout
+
 -- the sheet keeps its layout
 pub same_layout : (old new : WorldValue) (event : Event) (reply : Reply) → Takes old event reply new → new.sheet.layout ≡ old.sheet.layout
-same_layout old new (BeginEdit r) (Begun number) h = h.begun.begins.layout
-same_layout old new (BeginEdit r) (Refused why) h = ap (λ (v : WorldValue). v.sheet.layout) h.same
-same_layout old new (BeginEdit r) NotEnabled h = ap (λ (v : WorldValue). v.sheet.layout) h.same
-same_layout old new (BeginEdit r) _ h = absurd h
-same_layout old new (Step q) Stepped (edits h) = h.steps.layout
-same_layout old new (Step q) Stepped (works h) = work_layout (world_of old) (world_of new) h.steps.work h.what h.steps.turn
-same_layout old new (Step q) Stepped (reports h) = h.steps.steps.layout
-same_layout old new (Step q) Stepped (recoveries h) = h.steps.steps.layout
-same_layout old new (Step q) (Answered answer) (edits h) = h.steps.layout
-same_layout old new (Step q) (Answered answer) (works h) = work_layout (world_of old) (world_of new) h.steps.work h.what h.steps.turn
-same_layout old new (Step q) (Answered answer) (reports h) = h.steps.steps.layout
-same_layout old new (Step q) (Answered answer) (recoveries h) = h.steps.steps.layout
-same_layout old new (Step q) NotEnabled h = ap (λ (v : WorldValue). v.sheet.layout) h.same
-same_layout old new (Step q) _ h = absurd h
-same_layout old new (Evict place) Evicted h = h.evicts.layout
-same_layout old new (Evict place) NotEnabled h = ap (λ (v : WorldValue). v.sheet.layout) h.same
-same_layout old new (Evict place) _ h = absurd h
-same_layout old new (BeginWork q cell) Entered h = h.begun.begins.turn.layout
-same_layout old new (BeginWork q cell) (Refused why) h = ap (λ (v : WorldValue). v.sheet.layout) h.same
-same_layout old new (BeginWork q cell) NotEnabled h = ap (λ (v : WorldValue). v.sheet.layout) h.same
-same_layout old new (BeginWork q cell) _ h = absurd h
-same_layout old new (BeginShow q) Entered h = h.begun.begins.layout
-same_layout old new (BeginShow q) (Refused why) h = ap (λ (v : WorldValue). v.sheet.layout) h.same
-same_layout old new (BeginShow q) NotEnabled h = ap (λ (v : WorldValue). v.sheet.layout) h.same
-same_layout old new (BeginShow q) _ h = absurd h
-same_layout old new (BeginRecover q) Entered h = h.begun.begins.layout
-same_layout old new (BeginRecover q) (Refused why) h = ap (λ (v : WorldValue). v.sheet.layout) h.same
-same_layout old new (BeginRecover q) NotEnabled h = ap (λ (v : WorldValue). v.sheet.layout) h.same
-same_layout old new (BeginRecover q) _ h = absurd h
-same_layout old new (Offer value) Stepped h = h.offered.offers.turn.layout
-same_layout old new (Offer value) WrongTask h = ap (λ (v : WorldValue). v.sheet.layout) h.same
-same_layout old new (Offer value) _ h = absurd h
-same_layout old new (Stop q) Stopped h = h.stops.layout
-same_layout old new (Stop q) NotEnabled h = ap (λ (v : WorldValue). v.sheet.layout) h.same
-same_layout old new (Stop q) _ h = absurd h
-same_layout old new Crash Crashed h = h.crashes.layout
-same_layout old new Crash _ h = absurd h
+same_layout old new event reply h = layout_by old new event reply (did old new event reply h)
 
 pub run_sound : (events : List Event) (replies : List Reply) (old new : WorldValue) → IsSound (world_of old) → WorldRun old events replies new → IsSound (world_of new)
 run_sound [] [] old new sound run = subst (λ (v : WorldValue). IsSound (world_of v)) (sym run) sound

@@ -31,6 +31,8 @@ use Rattle.ds_edit.specs.declared.answer.Answer.{Answer}
 use Rattle.ds_core.specs.StepEvents as steps
 use Rattle.ds_core.specs.Takes.{Takes, WorldRun}
 use Rattle.ds_core.specs.WorkEvents.{TakesEntry}
+use Rattle.ds_core.proofs.Did as did_so
+use Rattle.ds_core.proofs.Did.{Did, did, IsNothing, IsOfStep, nothing, edit_begins, work_begins, report_begins, recovery_begins, offers, evicts, stops, crashes}
 use Rattle.ds_core.specs.Headline.{Happens}
 use Rattle.ds_eval.specs.Tasks.{PlainEvaluated}
 use Rattle.ds_core.specs.Own.{own_step, own_steps, IsUnanswered, AreUnanswered, IsUnhalted, AreUnhalted, IsInCall, left_in, steps_left}
@@ -59,6 +61,20 @@ not_free (Showing e) calls free = free
 
 not_own : (p q : ℕ) → q ≢ p → (q == p) ≡ false
 not_own p q ne = elim (eqb_tells q p) [ inl same ↦ absurd (ne same.1) | inr differs ↦ differs.0 ]
+
+-- an event that did nothing was no step
+no_step : (p : ℕ) (event : Event) (r : Reply) → IsNothing r → own_step p event r ≡ 0
+no_step p (Step q) reply.Stepped none = absurd none
+no_step p (Step q) (reply.Answered answer) none = absurd none
+no_step p (Step q) _ none = refl
+no_step p (BeginEdit request) r none = refl
+no_step p (BeginWork q cell) r none = refl
+no_step p (BeginShow q) r none = refl
+no_step p (BeginRecover q) r none = refl
+no_step p (Offer value) r none = refl
+no_step p (Evict word) r none = refl
+no_step p (Stop q) r none = refl
+no_step p Crash r none = refl
 
 -- what an event is to a process in a call, which it neither answers nor halts: nothing, a step of its own, or an offer
 -- to its work
@@ -96,37 +112,25 @@ module _ (p : ℕ) (old new : WorldValue) (sound : IsSound (world_of old)) (call
     | inr other ↦ others value.task.process other.1 (offer_leaves old new value sound h).turn.others
   ]
 
+  by_turn : (q : ℕ) (r : Reply) → IsOfStep r → IsUnanswered p (Step q) r → steps.StepsBy old q r new → OwnMove p old new (own_step p (Step q) r)
+  by_turn q reply.Stepped is u h = by_step q h
+  by_turn q (reply.Answered answer) is u h = by_answer q answer u h
+  by_turn q _ is u h = absurd is
+
+  by : (event : Event) (r : Reply) → Did old new event r → IsUnanswered p event r → OwnMove p old new (own_step p event r)
+  by _ _ (nothing event r none is same) u = subst (λ n. OwnMove p old new n) (sym (no_step p event r none)) (unchanged same)
+  by _ _ (edit_begins q n h) u = begins h.begun.edit.process h.begun.edit.number h.begun.begins.idle h.begun.begins.others
+  by _ _ (work_begins q cell h) u = begins q h.begun.next (ap (λ x. (world_of old).situation x) (sym h.begun.process_is) ∙ h.begun.begins.was) (work_begins_leaves old new q cell sound h).turn.others
+  by _ _ (report_begins q h) u = begins q h.begun.next h.begun.begins.idle h.begun.begins.others
+  by _ _ (recovery_begins q h) u = others q (λ same. not_free ((world_of old).situation p) calls (subst (λ x. MayRecover ((world_of old).situation x)) same h.begun.free)) h.begun.begins.others
+  by _ _ (did_so.steps q r is h) u = by_turn q r is u h
+  by _ _ (offers value h) u = by_offer value h
+  by _ _ (evicts word h) u = stays (h.evicts.situation p)
+  by _ _ (stops q h) u = others q u h.stops.others
+  by _ _ (crashes h) u = absurd u
+
   pub own_move : (event : Event) (r : Reply) → Takes old event r new → IsUnanswered p event r → OwnMove p old new (own_step p event r)
-  own_move (BeginEdit q) (reply.Begun number) h u = begins h.begun.edit.process h.begun.edit.number h.begun.begins.idle h.begun.begins.others
-  own_move (BeginEdit q) (reply.Refused why) h u = unchanged h.same
-  own_move (BeginEdit q) reply.NotEnabled h u = unchanged h.same
-  own_move (BeginEdit q) _ h u = absurd h
-  own_move (BeginWork q cell) reply.Entered h u = begins q h.begun.next (ap (λ x. (world_of old).situation x) (sym h.begun.process_is) ∙ h.begun.begins.was) (work_begins_leaves old new q cell sound h).turn.others
-  own_move (BeginWork q cell) (reply.Refused why) h u = unchanged h.same
-  own_move (BeginWork q cell) reply.NotEnabled h u = unchanged h.same
-  own_move (BeginWork q cell) _ h u = absurd h
-  own_move (BeginShow q) reply.Entered h u = begins q h.begun.next h.begun.begins.idle h.begun.begins.others
-  own_move (BeginShow q) (reply.Refused why) h u = unchanged h.same
-  own_move (BeginShow q) reply.NotEnabled h u = unchanged h.same
-  own_move (BeginShow q) _ h u = absurd h
-  own_move (BeginRecover q) reply.Entered h u = others q (λ same. not_free ((world_of old).situation p) calls (subst (λ x. MayRecover ((world_of old).situation x)) same h.begun.free)) h.begun.begins.others
-  own_move (BeginRecover q) (reply.Refused why) h u = unchanged h.same
-  own_move (BeginRecover q) reply.NotEnabled h u = unchanged h.same
-  own_move (BeginRecover q) _ h u = absurd h
-  own_move (Step q) reply.Stepped h u = by_step q h
-  own_move (Step q) (reply.Answered answer) h u = by_answer q answer u h
-  own_move (Step q) reply.NotEnabled h u = unchanged h.same
-  own_move (Step q) _ h u = absurd h
-  own_move (Offer value) reply.Stepped h u = by_offer value h
-  own_move (Offer value) reply.WrongTask h u = unchanged h.same
-  own_move (Offer value) _ h u = absurd h
-  own_move (Evict place) reply.Evicted h u = stays (h.evicts.situation p)
-  own_move (Evict place) reply.NotEnabled h u = unchanged h.same
-  own_move (Evict place) _ h u = absurd h
-  own_move (Stop q) reply.Stopped h u = others q u h.stops.others
-  own_move (Stop q) reply.NotEnabled h u = unchanged h.same
-  own_move (Stop q) _ h u = absurd h
-  own_move Crash r h u = absurd u
+  own_move event r h u = by event r (did old new event r h) u
 
 -- ---- a step left, for each of them
 

@@ -44,12 +44,14 @@ use Rattle.ds_core.specs.WorkEvents.{work_reply, WorkStepsBy}
 use Rattle.ds_core.specs.RecoveryEvents.{recovery_reply, RecoveryStepsBy}
 use Rattle.ds_core.specs.StepEvents.{edits, works, reports, recoveries}
 use Rattle.ds_core.specs.Takes.{Takes}
+use Rattle.ds_core.proofs.Did as did_so
+use Rattle.ds_core.proofs.Did.{Did, did, IsNothing, IsOfStep, nothing, edit_begins, work_begins, report_begins, recovery_begins, offers, evicts, stops, crashes}
 use Rattle.ds_core.specs.Own.{IsInCall, left_in, steps_left}
 use Rattle.ds_core.specs.Counts.{done_of, settled_of, IsReplyTo, KeepsReports}
 use Rattle.ds_core.specs.declared.event.Event.{Event}
 use Rattle.ds_core.specs.declared.event.Event.TheVariants.{BeginEdit, BeginWork, BeginShow, BeginRecover, Step, Offer, Evict, Stop, Crash}
 use Rattle.ds_core.specs.declared.reply.Reply.{Reply}
-use Rattle.ds_core.specs.declared.reply.Reply.TheVariants.{Begun, Entered, Refused, Stepped, Answered, WrongTask, Evicted, Stopped, Crashed, NotEnabled}
+use Rattle.ds_core.specs.declared.reply.Reply.TheVariants.{Begun, Entered, Stepped, Answered, Evicted, Stopped, Crashed, NotEnabled}
 use Rattle.ds_core.proofs.Bound.{edit_goes_on}
 
 -- what an event with this answer adds
@@ -151,44 +153,32 @@ recovery_adds old new p reply h is =
     let zero_done : done_of reply ≡ 0 = ap done_of h.is ∙ n.0 in
     adds_none old new (Step p) reply is (let d = h.steps.done in omega (arith, d, zero_done)) (ap settled_of h.is ∙ n.1) (record { settled = h.steps.settled; reports = h.steps.reports })
 
+nothing_adds : (reply : Reply) → IsNothing reply → (done_of reply ≡ 0) × (settled_of reply ≡ 0)
+nothing_adds (Answered answer) none = absurd none
+nothing_adds _ none = (refl, refl)
+
+step_reply : (p : ℕ) (reply : Reply) → IsOfStep reply → IsReplyTo (Step p) reply
+step_reply p Stepped is = tt
+step_reply p (Answered answer) is = tt
+step_reply p _ is = absurd is
+
+adds_by : (old new : WorldValue) (event : Event) (reply : Reply) → Did old new event reply → Adds old event reply new
+adds_by old new _ _ (nothing event reply none is same) = let zero = nothing_adds reply none in unchanged old new event reply is zero.0 zero.1 same
+adds_by old new _ _ (edit_begins r number h) = adds_none old new (BeginEdit r) (Begun number) tt (none old new h.done) refl h.reports
+adds_by old new _ _ (work_begins p cell h) = adds_none old new (BeginWork p cell) Entered tt (none old new h.done) refl h.reports
+adds_by old new _ _ (report_begins p h) = adds_none old new (BeginShow p) Entered tt (none old new h.done) refl h.reports
+adds_by old new _ _ (recovery_begins p h) = adds_none old new (BeginRecover p) Entered tt (none old new h.done) refl h.reports
+adds_by old new _ _ (did_so.steps p reply is (edits h)) = edit_adds old new p reply h (step_reply p reply is)
+adds_by old new _ _ (did_so.steps p reply is (works h)) = work_adds old new p reply h (step_reply p reply is)
+adds_by old new _ _ (did_so.steps p reply is (reports h)) = report_adds old new p reply h (step_reply p reply is)
+adds_by old new _ _ (did_so.steps p reply is (recoveries h)) = recovery_adds old new p reply h (step_reply p reply is)
+adds_by old new _ _ (offers value h) = adds_none old new (Offer value) Stepped tt (none old new h.done) refl h.reports
+adds_by old new _ _ (evicts word h) = adds_none old new (Evict word) Evicted tt (none old new h.done) refl h.reports
+adds_by old new _ _ (stops p h) = adds_none old new (Stop p) Stopped tt (none old new h.done) refl h.reports
+adds_by old new _ _ (crashes h) = adds_none old new Crash Crashed tt (none old new h.done) refl h.reports
+
 pub adds : (old new : WorldValue) (event : Event) (reply : Reply) → Takes old event reply new → Adds old event reply new
-adds old new (BeginEdit r) (Begun number) h = adds_none old new (BeginEdit r) (Begun number) tt (none old new h.done) refl h.reports
-adds old new (BeginEdit r) (Refused why) h = unchanged old new (BeginEdit r) (Refused why) tt refl refl h.same
-adds old new (BeginEdit r) NotEnabled h = unchanged old new (BeginEdit r) NotEnabled tt refl refl h.same
-adds old new (BeginEdit r) _ h = absurd h
-adds old new (Step p) Stepped (edits h) = edit_adds old new p Stepped h tt
-adds old new (Step p) Stepped (works h) = work_adds old new p Stepped h tt
-adds old new (Step p) Stepped (reports h) = report_adds old new p Stepped h tt
-adds old new (Step p) Stepped (recoveries h) = recovery_adds old new p Stepped h tt
-adds old new (Step p) (Answered answer) (edits h) = edit_adds old new p (Answered answer) h tt
-adds old new (Step p) (Answered answer) (works h) = work_adds old new p (Answered answer) h tt
-adds old new (Step p) (Answered answer) (reports h) = report_adds old new p (Answered answer) h tt
-adds old new (Step p) (Answered answer) (recoveries h) = recovery_adds old new p (Answered answer) h tt
-adds old new (Step p) NotEnabled h = unchanged old new (Step p) NotEnabled tt refl refl h.same
-adds old new (Step p) _ h = absurd h
-adds old new (Evict place) Evicted h = adds_none old new (Evict place) Evicted tt (none old new h.done) refl h.reports
-adds old new (Evict place) NotEnabled h = unchanged old new (Evict place) NotEnabled tt refl refl h.same
-adds old new (Evict place) _ h = absurd h
-adds old new (BeginWork p cell) Entered h = adds_none old new (BeginWork p cell) Entered tt (none old new h.done) refl h.reports
-adds old new (BeginWork p cell) (Refused why) h = unchanged old new (BeginWork p cell) (Refused why) tt refl refl h.same
-adds old new (BeginWork p cell) NotEnabled h = unchanged old new (BeginWork p cell) NotEnabled tt refl refl h.same
-adds old new (BeginWork p cell) _ h = absurd h
-adds old new (BeginShow p) Entered h = adds_none old new (BeginShow p) Entered tt (none old new h.done) refl h.reports
-adds old new (BeginShow p) (Refused why) h = unchanged old new (BeginShow p) (Refused why) tt refl refl h.same
-adds old new (BeginShow p) NotEnabled h = unchanged old new (BeginShow p) NotEnabled tt refl refl h.same
-adds old new (BeginShow p) _ h = absurd h
-adds old new (BeginRecover p) Entered h = adds_none old new (BeginRecover p) Entered tt (none old new h.done) refl h.reports
-adds old new (BeginRecover p) (Refused why) h = unchanged old new (BeginRecover p) (Refused why) tt refl refl h.same
-adds old new (BeginRecover p) NotEnabled h = unchanged old new (BeginRecover p) NotEnabled tt refl refl h.same
-adds old new (BeginRecover p) _ h = absurd h
-adds old new (Stop p) Stopped h = adds_none old new (Stop p) Stopped tt (none old new h.done) refl h.reports
-adds old new (Stop p) NotEnabled h = unchanged old new (Stop p) NotEnabled tt refl refl h.same
-adds old new (Stop p) _ h = absurd h
-adds old new (Offer value) Stepped h = adds_none old new (Offer value) Stepped tt (none old new h.done) refl h.reports
-adds old new (Offer value) WrongTask h = unchanged old new (Offer value) WrongTask tt refl refl h.same
-adds old new (Offer value) _ h = absurd h
-adds old new Crash Crashed h = adds_none old new Crash Crashed tt (none old new h.done) refl h.reports
-adds old new Crash _ h = absurd h
+adds old new event reply h = adds_by old new event reply (did old new event reply h)
 
 -- the process is still in a call, with fewer steps left
 pub record StepsOn (p : ℕ) (old new : WorldValue) : Type 0 where

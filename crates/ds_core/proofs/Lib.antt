@@ -1,3 +1,4 @@
+pub mod Did
 pub mod Good
 pub mod Traces
 pub mod Moves

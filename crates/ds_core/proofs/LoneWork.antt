@@ -28,11 +28,17 @@ use Rattle.ds_work.proofs.WorkAlone.{turn_alone, offer_alone, same_sees}
 use Rattle.ds_core.specs.StepEvents.{edits, works, reports, recoveries}
 use Rattle.ds_core.specs.Takes.{Takes, WorldRun}
 use Rattle.ds_core.specs.WorkEvents.{work_answer, work_reply, WorkStepsBy}
+use Rattle.ds_core.proofs.Did as did_so
+use Rattle.ds_core.proofs.Did.{Did, did, IsNothing, edit_begins, work_begins, report_begins, recovery_begins, steps, offers, evicts, stops, crashes}
 use Rattle.ds_core.specs.Solo.{IsLoneEvent, IsLone, IsLoneAnswer, IsLoneReply, AreLoneReplies, StandsInOwnRow}
 use Rattle.ds_core.specs.declared.event.Event.{Event}
 use Rattle.ds_core.specs.declared.event.Event.TheVariants.{BeginEdit, BeginWork, BeginShow, BeginRecover, Step, Offer, Evict, Stop, Crash}
 use Rattle.ds_core.specs.declared.reply.Reply.{Reply}
 use Rattle.ds_core.specs.declared.reply.Reply.TheVariants.{Stepped, Answered, WrongTask, Evicted, NotEnabled}
+
+says_nothing : (first last : PlainWorld) (cell : ℕ) (reply : Reply) → IsNothing reply → IsLoneReply first last cell reply
+says_nothing first last cell (Answered answer) none = absurd none
+says_nothing first last cell _ none = tt
 
 -- ---- it is over
 
@@ -49,29 +55,23 @@ module _ (first last : PlainWorld) (cell p n : ℕ) (old new : WorldValue) (idle
   idle_at : (q : ℕ) → q ≡ p → (world_of old).situation q ≡ Idle n
   idle_at q same = ap (λ x. (world_of old).situation x) same ∙ idle
 
+  by : (event : Event) (reply : Reply) → Did old new event reply → IsLoneEvent p event → IsOver first last cell p reply old new
+  by _ _ (did_so.nothing event reply none is all) same = nothing reply (says_nothing first last cell reply none) all
+  by _ _ (steps q reply is (edits h)) same = absurd (let bad : Idle n ≡ Editing h.edit = sym (idle_at q same) ∙ h.at in cc)
+  by _ _ (steps q reply is (works h)) same = absurd (let bad : Idle n ≡ Working h.steps.work = sym (idle_at q same) ∙ h.steps.works in cc)
+  by _ _ (steps q reply is (reports h)) same = absurd (let bad : Idle n ≡ Showing h.steps.show = sym (idle_at q same) ∙ h.steps.at in cc)
+  by _ _ (steps q reply is (recoveries h)) same = absurd (let bad : Idle n ≡ Recovering h.steps.recovery = sym (idle_at q same) ∙ h.steps.at in cc)
+  by _ _ (evicts word h) same = record { silent = tt; idle = λ k is. h.evicts.situation p ∙ is; words = λ x. h.evicts.memory.cached x }
+  by _ _ (offers value h) same = absurd (let bad : Idle n ≡ Working h.offered.work = sym (idle_at value.task.process same) ∙ h.offered.waits.works in cc)
+  by _ _ (edit_begins r k h) same = absurd same
+  by _ _ (work_begins q c h) same = absurd same
+  by _ _ (report_begins q h) same = absurd same
+  by _ _ (recovery_begins q h) same = absurd same
+  by _ _ (stops q h) same = absurd same
+  by _ _ (crashes h) same = absurd same
+
   over : (event : Event) (reply : Reply) → Takes old event reply new → IsLoneEvent p event → IsOver first last cell p reply old new
-  over (Step q) Stepped (edits h) same = absurd (let bad : Idle n ≡ Editing h.edit = sym (idle_at q same) ∙ h.at in cc)
-  over (Step q) Stepped (works h) same = absurd (let bad : Idle n ≡ Working h.steps.work = sym (idle_at q same) ∙ h.steps.works in cc)
-  over (Step q) Stepped (reports h) same = absurd (let bad : Idle n ≡ Showing h.steps.show = sym (idle_at q same) ∙ h.steps.at in cc)
-  over (Step q) Stepped (recoveries h) same = absurd (let bad : Idle n ≡ Recovering h.steps.recovery = sym (idle_at q same) ∙ h.steps.at in cc)
-  over (Step q) (Answered answer) (edits h) same = absurd (let bad : Idle n ≡ Editing h.edit = sym (idle_at q same) ∙ h.at in cc)
-  over (Step q) (Answered answer) (works h) same = absurd (let bad : Idle n ≡ Working h.steps.work = sym (idle_at q same) ∙ h.steps.works in cc)
-  over (Step q) (Answered answer) (reports h) same = absurd (let bad : Idle n ≡ Showing h.steps.show = sym (idle_at q same) ∙ h.steps.at in cc)
-  over (Step q) (Answered answer) (recoveries h) same = absurd (let bad : Idle n ≡ Recovering h.steps.recovery = sym (idle_at q same) ∙ h.steps.at in cc)
-  over (Step q) NotEnabled h same = nothing NotEnabled tt h.same
-  over (Step q) _ h same = absurd h
-  over (Evict r) Evicted h same = record { silent = tt; idle = λ k is. h.evicts.situation p ∙ is; words = λ x. h.evicts.memory.cached x }
-  over (Evict r) NotEnabled h same = nothing NotEnabled tt h.same
-  over (Evict r) _ h same = absurd h
-  over (Offer value) Stepped h same = absurd (let bad : Idle n ≡ Working h.offered.work = sym (idle_at value.task.process same) ∙ h.offered.waits.works in cc)
-  over (Offer value) WrongTask h same = nothing WrongTask tt h.same
-  over (Offer value) _ h same = absurd h
-  over (BeginEdit r) reply h same = absurd same
-  over (BeginWork q c) reply h same = absurd same
-  over (BeginShow q) reply h same = absurd same
-  over (BeginRecover q) reply h same = absurd same
-  over (Stop q) reply h same = absurd same
-  over Crash reply h same = absurd same
+  over event reply h same = by event reply (did old new event reply h) same
 
 rest : (first last : PlainWorld) (cell : ℕ) (events : List Event) (replies : List Reply) (old new : WorldValue) (p n : ℕ) → (world_of old).situation p ≡ Idle n → WorldRun old events replies new → IsLone p events
     → AreLoneReplies first last cell replies × ((r : Place) → (world_of new).memory.cached r ≡ (world_of old).memory.cached r)
@@ -167,18 +167,13 @@ module _ (first last : PlainWorld) (row : ℕ → ℕ) (before : CellWords) (p c
   still : (reply : Reply) → IsLoneReply first last cell reply → new ≡ old → Goes first last row before p cell reply new ⊎ Ends row before p cell reply new
   still reply silent same = inl (record { silent = silent; on = stays row before p cell old new sound u same })
 
-  event_goes : (event : Event) (reply : Reply) → Takes old event reply new → IsLoneEvent p event → Goes first last row before p cell reply new ⊎ Ends row before p cell reply new
-  event_goes (Step q) Stepped (edits h) same = absurd (no_edit row before p cell old new sound u q h.edit same h.at)
-  event_goes (Step q) Stepped (works h) same = by_work q Stepped same h
-  event_goes (Step q) Stepped (reports h) same = absurd (no_report row before p cell old new sound u q h.steps.show same h.steps.at)
-  event_goes (Step q) Stepped (recoveries h) same = absurd (no_recovery row before p cell old new sound u q h.steps.recovery same h.steps.at)
-  event_goes (Step q) (Answered answer) (edits h) same = absurd (no_edit row before p cell old new sound u q h.edit same h.at)
-  event_goes (Step q) (Answered answer) (works h) same = by_work q (Answered answer) same h
-  event_goes (Step q) (Answered answer) (reports h) same = absurd (no_report row before p cell old new sound u q h.steps.show same h.steps.at)
-  event_goes (Step q) (Answered answer) (recoveries h) same = absurd (no_recovery row before p cell old new sound u q h.steps.recovery same h.steps.at)
-  event_goes (Step q) NotEnabled h same = still NotEnabled tt h.same
-  event_goes (Step q) _ h same = absurd h
-  event_goes (Evict r) Evicted h same = inl (record {
+  by_event : (event : Event) (reply : Reply) → Did old new event reply → IsLoneEvent p event → Goes first last row before p cell reply new ⊎ Ends row before p cell reply new
+  by_event _ _ (did_so.nothing event reply none is all) same = still reply (says_nothing first last cell reply none) all
+  by_event _ _ (steps q reply is (edits h)) same = absurd (no_edit row before p cell old new sound u q h.edit same h.at)
+  by_event _ _ (steps q reply is (works h)) same = by_work q reply same h
+  by_event _ _ (steps q reply is (reports h)) same = absurd (no_report row before p cell old new sound u q h.steps.show same h.steps.at)
+  by_event _ _ (steps q reply is (recoveries h)) same = absurd (no_recovery row before p cell old new sound u q h.steps.recovery same h.steps.at)
+  by_event _ _ (evicts word h) same = inl (record {
     silent = tt;
     on = record {
       work = u.work;
@@ -189,9 +184,7 @@ module _ (first last : PlainWorld) (row : ℕ → ℕ) (before : CellWords) (p c
           (shown_same (world_of old) (world_of new) u.work.cell (h.evicts.memory.cached (Value u.work.cell)) (h.evicts.memory.cached (Kind u.work.cell))) u.alone;
     };
   })
-  event_goes (Evict r) NotEnabled h same = still NotEnabled tt h.same
-  event_goes (Evict r) _ h same = absurd h
-  event_goes (Offer value) Stepped h same =
+  by_event _ _ (offers value h) same =
       let o = h.offered in
       let one = same_work row before p cell old new sound u value.task.process o.work same o.waits.works in
       inl (record {
@@ -199,14 +192,15 @@ module _ (first last : PlainWorld) (row : ℕ → ℕ) (before : CellWords) (p c
         on = goes row before p cell old new sound u o.work one
             (offer_alone row before o.work (world_of old) (world_of new) (subst (λ (x : PlainWorkCall). IsAlone row before (world_of old) x) (sym one) u.alone) value.entry o.waits.waits o.offers.turn);
       })
-  event_goes (Offer value) WrongTask h same = still WrongTask tt h.same
-  event_goes (Offer value) _ h same = absurd h
-  event_goes (BeginEdit r) reply h same = absurd same
-  event_goes (BeginWork q c) reply h same = absurd same
-  event_goes (BeginShow q) reply h same = absurd same
-  event_goes (BeginRecover q) reply h same = absurd same
-  event_goes (Stop q) reply h same = absurd same
-  event_goes Crash reply h same = absurd same
+  by_event _ _ (edit_begins r k h) same = absurd same
+  by_event _ _ (work_begins q c h) same = absurd same
+  by_event _ _ (report_begins q h) same = absurd same
+  by_event _ _ (recovery_begins q h) same = absurd same
+  by_event _ _ (stops q h) same = absurd same
+  by_event _ _ (crashes h) same = absurd same
+
+  event_goes : (event : Event) (reply : Reply) → Takes old event reply new → IsLoneEvent p event → Goes first last row before p cell reply new ⊎ Ends row before p cell reply new
+  event_goes event reply h same = by_event event reply (did old new event reply h) same
 
 -- ---- over a run
 

@@ -55,6 +55,8 @@ use Rattle.ds_recover.specs.declared.machine.Effect.TheVariants as recovery_effe
 use Rattle.ds_recover.specs.declared.machine.RecoveryEnd.TheVariants as recovery_ends
 use Rattle.ds_core.specs.Takes.{Takes}
 use Rattle.ds_core.specs.Moments.{Moment, MomentFits, empty_ledger}
+use Rattle.ds_core.proofs.Did as did_so
+use Rattle.ds_core.proofs.Did.{Did, did, nothing, edit_begins, work_begins, report_begins, recovery_begins, offers, evicts, stops, crashes}
 use Rattle.ds_core.specs.Headline.{Happens, IsCall, IsWatched, IsUnrest, SettledFits, UnsettledFits, ReportsFit, kept_values}
 use Rattle.ds_core.specs.declared.event.Event.{Event}
 use Rattle.ds_core.specs.declared.event.Event.TheVariants.{BeginEdit, BeginWork, BeginShow, BeginRecover, Step, Offer, Evict, Stop, Crash}
@@ -140,52 +142,31 @@ module _ (p : ℕ) (old new : WorldValue) (good : IsGood old) (low : p < old.she
   by_recovery : (q : ℕ) (reply : Reply) → RecoveryStepsBy old q reply new → Either (Step q) reply
   by_recovery q reply h = by_turn (Step q) reply q (recovery_turn old new q reply good.sound h) (λ same f is. recovery_shows_not old new q reply h f is)
 
-  one_event : (event : Event) (reply : Reply) → Takes old event reply new → Either event reply
-  one_event (BeginEdit r) (Begun number) h = by_turn (BeginEdit r) (Begun number) h.begun.edit.process (record {
+  by : (event : Event) (reply : Reply) → Did old new event reply → Either event reply
+  by _ _ (nothing event reply none is same) = unchanged event reply same
+  by _ _ (edit_begins r number h) = by_turn (BeginEdit r) (Begun number) h.begun.edit.process (record {
     there = rw h.begun.asked.sheet.processes h.begun.asked.is.process;
     keeps = begin_sound h.begun.edit (world_of old) (world_of new) good.sound h.begun.asked.is h.begun.asked.sheet h.begun.asked.refs h.begun.begins;
     others = h.begun.begins.others;
   }) (λ same f is. let bad : Editing h.begun.edit ≡ Showing f = sym h.begun.begins.situation ∙ is in cc)
-  one_event (BeginEdit r) (Refused why) h = unchanged (BeginEdit r) (Refused why) h.same
-  one_event (BeginEdit r) NotEnabled h = unchanged (BeginEdit r) NotEnabled h.same
-  one_event (BeginEdit r) _ h = absurd h
-  one_event (BeginShow q) Entered h = began q h
-  one_event (BeginShow q) (Refused why) h = unchanged (BeginShow q) (Refused why) h.same
-  one_event (BeginShow q) NotEnabled h = unchanged (BeginShow q) NotEnabled h.same
-  one_event (BeginShow q) _ h = absurd h
-  one_event (Step q) Stepped (edits h) = by_edit q Stepped h
-  one_event (Step q) Stepped (reports h) = by_report q Stepped h
-  one_event (Step q) Stepped (works h) = by_work (Step q) Stepped q (work_leaves old new q Stepped good.sound h) (work_stays q old new Stepped h)
-  one_event (Step q) Stepped (recoveries h) = by_recovery q Stepped h
-  one_event (Step q) (Answered answer) (edits h) = by_edit q (Answered answer) h
-  one_event (Step q) (Answered answer) (reports h) = by_report q (Answered answer) h
-  one_event (Step q) (Answered answer) (works h) = by_work (Step q) (Answered answer) q (work_leaves old new q (Answered answer) good.sound h) (work_stays q old new (Answered answer) h)
-  one_event (Step q) (Answered answer) (recoveries h) = by_recovery q (Answered answer) h
-  one_event (Step q) NotEnabled h = unchanged (Step q) NotEnabled h.same
-  one_event (Step q) _ h = absurd h
-  one_event (Evict word) Evicted h = inr (record {
+  by _ _ (work_begins q cell h) = by_work (BeginWork q cell) Entered q (work_begins_leaves old new q cell good.sound h) (work_begins_stays q old new cell h)
+  by _ _ (report_begins q h) = began q h
+  by _ _ (recovery_begins q h) = by_turn (BeginRecover q) Entered q (recovery_begins_turn old new q good.sound h) (λ same f is. let bad : Recovering _ ≡ Showing f = sym h.begun.begins.situation ∙ is in cc)
+  by _ _ (did_so.steps q reply is (edits h)) = by_edit q reply h
+  by _ _ (did_so.steps q reply is (works h)) = by_work (Step q) reply q (work_leaves old new q reply good.sound h) (work_stays q old new reply h)
+  by _ _ (did_so.steps q reply is (reports h)) = by_report q reply h
+  by _ _ (did_so.steps q reply is (recoveries h)) = by_recovery q reply h
+  by _ _ (offers value h) = by_work (Offer value) Stepped value.task.process (offer_leaves old new value good.sound h) (offer_stays old new value h)
+  by _ _ (evicts word h) = inr (record {
     show = e;
     was = sym (h.evicts.situation p) ∙ at;
     passes = inr ((evict_sound word (world_of old) (world_of new) good.sound (buffered (world_of old) good.sound) h.evicts).1 p low);
   })
-  one_event (Evict word) NotEnabled h = unchanged (Evict word) NotEnabled h.same
-  one_event (Evict word) _ h = absurd h
-  one_event (Stop q) Stopped h = by_turn (Stop q) Stopped q (stop_turn old new q good.sound h) (λ same f is. let bad : situation.Stopped ≡ Showing f = sym h.stops.situation ∙ is in cc)
-  one_event (Stop q) NotEnabled h = unchanged (Stop q) NotEnabled h.same
-  one_event (Stop q) _ h = absurd h
-  one_event Crash Crashed h = absurd (let bad : situation.Stopped ≡ Showing e = sym (h.crashes.situation p low) ∙ at in cc)
-  one_event Crash _ h = absurd h
-  one_event (BeginWork q cell) Entered h = by_work (BeginWork q cell) Entered q (work_begins_leaves old new q cell good.sound h) (work_begins_stays q old new cell h)
-  one_event (BeginWork q cell) (Refused why) h = unchanged (BeginWork q cell) (Refused why) h.same
-  one_event (BeginWork q cell) NotEnabled h = unchanged (BeginWork q cell) NotEnabled h.same
-  one_event (BeginWork q cell) _ h = absurd h
-  one_event (BeginRecover q) Entered h = by_turn (BeginRecover q) Entered q (recovery_begins_turn old new q good.sound h) (λ same f is. let bad : Recovering _ ≡ Showing f = sym h.begun.begins.situation ∙ is in cc)
-  one_event (BeginRecover q) (Refused why) h = unchanged (BeginRecover q) (Refused why) h.same
-  one_event (BeginRecover q) NotEnabled h = unchanged (BeginRecover q) NotEnabled h.same
-  one_event (BeginRecover q) _ h = absurd h
-  one_event (Offer value) Stepped h = by_work (Offer value) Stepped value.task.process (offer_leaves old new value good.sound h) (offer_stays old new value h)
-  one_event (Offer value) WrongTask h = unchanged (Offer value) WrongTask h.same
-  one_event (Offer value) _ h = absurd h
+  by _ _ (stops q h) = by_turn (Stop q) Stopped q (stop_turn old new q good.sound h) (λ same f is. let bad : situation.Stopped ≡ Showing f = sym h.stops.situation ∙ is in cc)
+  by _ _ (crashes h) = absurd (let bad : situation.Stopped ≡ Showing e = sym (h.crashes.situation p low) ∙ at in cc)
+
+  one_event : (event : Event) (reply : Reply) → Takes old event reply new → Either event reply
+  one_event event reply h = by event reply (did old new event reply h)
 
 -- an answer that is no report's
 abbrev IsNoReport : call_answers.Answer → Type 0

@@ -22,6 +22,7 @@ use Rattle.ds_core.specs.StepEvents.{edits, works, reports, recoveries}
 use Rattle.ds_edit.specs.EditEndings.{outcome_at, answer_of}
 use Rattle.ds_core.specs.Takes.{Takes, WorldRun}
 use Rattle.ds_core.specs.Solo.{IsSoloEvent, IsSolo, IsDoneOnly, AreDoneOnly}
+use Rattle.ds_core.proofs.Did.{Did, did, IsNothing, IsOfStep, nothing, edit_begins, work_begins, report_begins, recovery_begins, steps, offers, evicts, stops, crashes}
 use Rattle.ds_core.specs.declared.event.Event.{Event}
 use Rattle.ds_core.specs.declared.event.Event.TheVariants.{BeginEdit, BeginWork, BeginShow, BeginRecover, Step, Offer, Evict, Stop, Crash}
 use Rattle.ds_edit.specs.declared.answer.Answer.{Answer as ReplyAnswer}
@@ -121,33 +122,38 @@ module _ (old new : WorldValue) (sound : IsSound (world_of old)) (p number : ℕ
   unchanged : new ≡ old → IsAlone new p number
   unchanged same = subst (λ (v : WorldValue). IsAlone v p number) (sym same) a
 
-  pub one_event : (event : Event) (reply : Reply) → Takes old event reply new → IsSoloEvent p event → IsDoneOnly number reply × IsAlone new p number
-  one_event (Step q) Stepped (edits h) same = (tt, stepped q same h)
-  one_event (Step q) Stepped (works h) same = absurd (no_work q same h.steps.work h.steps.works)
-  one_event (Step q) Stepped (reports h) same = absurd (no_report q same h.steps.show h.steps.at)
-  one_event (Step q) Stepped (recoveries h) same = absurd (no_recovery q same h.steps.recovery h.steps.at)
-  one_event (Step q) (Answered answer) (edits h) same = answered q answer same h
-  one_event (Step q) (Answered answer) (works h) same = absurd (no_work q same h.steps.work h.steps.works)
-  one_event (Step q) (Answered answer) (reports h) same = absurd (no_report q same h.steps.show h.steps.at)
-  one_event (Step q) (Answered answer) (recoveries h) same = absurd (no_recovery q same h.steps.recovery h.steps.at)
-  one_event (Step q) NotEnabled h same = (tt, unchanged h.same)
-  one_event (Step q) _ h same = absurd h
-  one_event (Evict r) Evicted h solo = (
+  silent : (reply : Reply) → IsNothing reply → IsDoneOnly number reply
+  silent (Answered answer) none = absurd none
+  silent _ none = tt
+
+  by_edit : (q : ℕ) (reply : Reply) → q ≡ p → IsOfStep reply → EditStepsBy old q reply new → IsDoneOnly number reply × IsAlone new p number
+  by_edit q Stepped same is h = (tt, stepped q same h)
+  by_edit q (Answered answer) same is h = answered q answer same h
+  by_edit q _ same is h = absurd is
+
+  by : (event : Event) (reply : Reply) → Did old new event reply → IsSoloEvent p event → IsDoneOnly number reply × IsAlone new p number
+  by _ _ (nothing event reply none is same) solo = (silent reply none, unchanged same)
+  by _ _ (edit_begins r n h) solo = absurd solo
+  by _ _ (work_begins q cell h) solo = absurd solo
+  by _ _ (report_begins q h) solo = absurd solo
+  by _ _ (recovery_begins q h) solo = absurd solo
+  by _ _ (steps q reply is (edits h)) same = by_edit q reply same is h
+  by _ _ (steps q reply is (works h)) same = absurd (no_work q same h.steps.work h.steps.works)
+  by _ _ (steps q reply is (reports h)) same = absurd (no_report q same h.steps.show h.steps.at)
+  by _ _ (steps q reply is (recoveries h)) same = absurd (no_recovery q same h.steps.recovery h.steps.at)
+  by _ _ (offers value h) solo = absurd solo
+  by _ _ (evicts word h) solo = (
     tt,
     record {
       only = subst EditsOnly (sym (h.evicts.situation p)) a.only;
       edit = λ e is. let before = a.edit e (sym (h.evicts.situation p) ∙ is) in (before.0, alone_same (world_of old) (world_of new) e.cell e.stage (h.evicts.memory.cached (place.Head e.cell)) before.1);
     },
   )
-  one_event (Evict r) NotEnabled h solo = (tt, unchanged h.same)
-  one_event (Evict r) _ h solo = absurd h
-  one_event (BeginEdit r) reply h solo = absurd solo
-  one_event (BeginWork q cell) reply h solo = absurd solo
-  one_event (BeginShow q) reply h solo = absurd solo
-  one_event (BeginRecover q) reply h solo = absurd solo
-  one_event (Offer value) reply h solo = absurd solo
-  one_event (Stop q) reply h solo = absurd solo
-  one_event Crash reply h solo = absurd solo
+  by _ _ (stops q h) solo = absurd solo
+  by _ _ (crashes h) solo = absurd solo
+
+  pub one_event : (event : Event) (reply : Reply) → Takes old event reply new → IsSoloEvent p event → IsDoneOnly number reply × IsAlone new p number
+  one_event event reply h solo = by event reply (did old new event reply h) solo
 
 pub solo_run : (events : List Event) (replies : List Reply) (old new : WorldValue) (p number : ℕ) → IsSound (world_of old) → IsAlone old p number → WorldRun old events replies new → IsSolo p events → AreDoneOnly number replies
 solo_run [] [] old new p number sound a run solo = tt

@@ -20,6 +20,7 @@ use Rattle.ds_core.specs.EditEvents.{EditStepsBy}
 use Rattle.ds_edit.specs.EditEndings.{answer_of, outcome_at}
 use Rattle.ds_core.specs.Takes.{Takes, WorldRun}
 use Rattle.ds_core.specs.SpentNumbers.{IsOut}
+use Rattle.ds_core.proofs.Did.{Did, did, nothing, edit_begins, work_begins, report_begins, recovery_begins, steps, offers, evicts, stops, crashes}
 use Rattle.ds_state.specs.Spent.{IsSpent}
 use Rattle.ds_state.specs.Rely.{Keeps}
 use Rattle.ds_state.proofs.Spent.{spent_grown, spent_stays, spent_evicted, spent_crashed, swap_unspent, answer_spent}
@@ -97,46 +98,25 @@ module _ (old new : WorldValue) (sound : IsSound (world_of old)) (p n : ℕ) (sp
   by_report : (q : ℕ) (reply : Reply) → ReportStepsBy old q reply new → Stays
   by_report q reply h = by_turn q (report_turn old new q reply sound h) h.steps.steps.counted
 
-  pub one_event : (event : Event) (reply : Reply) → Takes old event reply new → Stays
-  one_event (BeginEdit r) (Begun number) h =
+  by : (event : Event) (reply : Reply) → Did old new event reply → Stays
+  by _ _ (nothing event reply none is same) = unchanged same
+  by _ _ (edit_begins r number h) =
       let same = h.begun.begins.memory.persisted (Announce p) in
       (spent_grown (world_of old) (world_of new) p n (omega (arith, same)) spent, same_list h.begun.begins.counted)
-  one_event (BeginEdit r) (Refused why) h = unchanged h.same
-  one_event (BeginEdit r) NotEnabled h = unchanged h.same
-  one_event (BeginEdit r) _ h = absurd h
-  one_event (Step q) Stepped (edits h) = by_step q Stepped h
-  one_event (Step q) Stepped (works h) = by_work q Stepped h
-  one_event (Step q) Stepped (reports h) = by_report q Stepped h
-  one_event (Step q) Stepped (recoveries h) = by_recovery q Stepped h
-  one_event (Step q) (Answered answer) (edits h) = by_step q (Answered answer) h
-  one_event (Step q) (Answered answer) (works h) = by_work q (Answered answer) h
-  one_event (Step q) (Answered answer) (reports h) = by_report q (Answered answer) h
-  one_event (Step q) (Answered answer) (recoveries h) = by_recovery q (Answered answer) h
-  one_event (Step q) NotEnabled h = unchanged h.same
-  one_event (Step q) _ h = absurd h
-  one_event (Evict place) Evicted h = (spent_evicted place (world_of old) (world_of new) sound h.evicts p n spent, same_list h.evicts.counted)
-  one_event (Evict place) NotEnabled h = unchanged h.same
-  one_event (Evict place) _ h = absurd h
-  one_event (BeginWork q cell) Entered h = by_leaves q (work_begins_leaves old new q cell sound h)
-  one_event (BeginWork q cell) (Refused why) h = unchanged h.same
-  one_event (BeginWork q cell) NotEnabled h = unchanged h.same
-  one_event (BeginWork q cell) _ h = absurd h
-  one_event (BeginShow q) Entered h = by_turn q (report_begins_turn old new q sound h) h.begun.begins.counted
-  one_event (BeginShow q) (Refused why) h = unchanged h.same
-  one_event (BeginShow q) NotEnabled h = unchanged h.same
-  one_event (BeginShow q) _ h = absurd h
-  one_event (BeginRecover q) Entered h = by_turn q (recovery_begins_turn old new q sound h) h.begun.begins.counted
-  one_event (BeginRecover q) (Refused why) h = unchanged h.same
-  one_event (BeginRecover q) NotEnabled h = unchanged h.same
-  one_event (BeginRecover q) _ h = absurd h
-  one_event (Offer value) Stepped h = by_leaves value.task.process (offer_leaves old new value sound h)
-  one_event (Offer value) WrongTask h = unchanged h.same
-  one_event (Offer value) _ h = absurd h
-  one_event (Stop q) Stopped h = by_turn q (stop_turn old new q sound h) h.stops.counted
-  one_event (Stop q) NotEnabled h = unchanged h.same
-  one_event (Stop q) _ h = absurd h
-  one_event Crash Crashed h = (spent_crashed (world_of old) (world_of new) h.crashes p n spent, λ e there. out e (was_counted (world_of old) (world_of new) sound h.crashes e there))
-  one_event Crash _ h = absurd h
+  by _ _ (work_begins q cell h) = by_leaves q (work_begins_leaves old new q cell sound h)
+  by _ _ (report_begins q h) = by_turn q (report_begins_turn old new q sound h) h.begun.begins.counted
+  by _ _ (recovery_begins q h) = by_turn q (recovery_begins_turn old new q sound h) h.begun.begins.counted
+  by _ _ (steps q reply is (edits h)) = by_step q reply h
+  by _ _ (steps q reply is (works h)) = by_work q reply h
+  by _ _ (steps q reply is (reports h)) = by_report q reply h
+  by _ _ (steps q reply is (recoveries h)) = by_recovery q reply h
+  by _ _ (offers value h) = by_leaves value.task.process (offer_leaves old new value sound h)
+  by _ _ (evicts word h) = (spent_evicted word (world_of old) (world_of new) sound h.evicts p n spent, same_list h.evicts.counted)
+  by _ _ (stops q h) = by_turn q (stop_turn old new q sound h) h.stops.counted
+  by _ _ (crashes h) = (spent_crashed (world_of old) (world_of new) h.crashes p n spent, λ e there. out e (was_counted (world_of old) (world_of new) sound h.crashes e there))
+
+  pub one_event : (event : Event) (reply : Reply) → Takes old event reply new → Stays
+  one_event event reply h = by event reply (did old new event reply h)
 
 pub stays_out : (events : List Event) (replies : List Reply) (old new : WorldValue) (p n : ℕ) → IsSound (world_of old) → IsSpent (world_of old) p n → IsOut (world_of old) p n → WorldRun old events replies new
     → IsSpent (world_of new) p n × IsOut (world_of new) p n

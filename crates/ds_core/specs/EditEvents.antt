@@ -8,6 +8,7 @@ use Rattle.ds_state.specs.declared.stage.Stage.{Stage}
 use Rattle.ds_state.specs.declared.situation.Situation.TheVariants.{Editing}
 use Rattle.ds_edit.specs.EditTakes as edits
 use Rattle.ds_edit.specs.EditEndings.{answer_of, outcome_at}
+use Rattle.ds_edit.specs.declared.machine.Effect.{Effect}
 use Rattle.ds_core.specs.declared.reply.Reply.{Reply}
 use Rattle.ds_core.specs.declared.reply.Reply.TheVariants.{Stepped, Answered, NotEnabled}
 
@@ -20,6 +21,10 @@ reply_with processes number (Some how) = Answered (answer_of processes number ho
 abbrev pub reply_at : ℕ → ℕ → Stage → Reply
 reply_at processes number s = reply_with processes number (outcome_at s)
 
+-- the reply to a step of this effect, of the edit with this number
+abbrev pub reply_by : ℕ → ℕ → Effect → Reply
+reply_by processes number what = reply_with processes number (edits.outcome_by what)
+
 -- how many edits have been answered Done after a step of an edit: one more where its outcome is Done
 abbrev pub done_with : ℕ → Option Outcome → ℕ
 done_with done (Some outcome.Done) = done + 1
@@ -28,6 +33,10 @@ done_with done _ = done
 -- how many edits have been answered Done after the step of an edit at this stage
 abbrev pub done_at : ℕ → Stage → ℕ
 done_at done s = done_with done (outcome_at s)
+
+-- how many edits have been answered Done after a step of this effect
+abbrev pub done_by : ℕ → Effect → ℕ
+done_by done what = done_with done (edits.outcome_by what)
 
 -- the count of settled reports and the values kept of them are the same in both worlds
 pub record SameReports (old new : WorldValue) : Type 0 where

@@ -3,13 +3,14 @@
 ghost use Rattle.std.specs.Prelude.{◌≡◌, ◌<◌, ◌≤◌, ◌++◌, ◌*◌, ℕ, IsTrue, IsFalse, IfSome, IfNone, length, vec_capacity};
 ghost use Rattle.ds_formula.specs.Limits.{PROCESSES_MOST, EDITS_MOST};
 ghost use Rattle.ds_state.specs.Edits.{PlainEditCall};
-ghost use Rattle.ds_state.specs.declared.stage.Stage.TheVariants.{Swap};
 ghost use Rattle.ds_state.specs.declared.situation.Situation.TheVariants.{Editing};
 ghost use Rattle.ds_state.specs.Value.{WorldValue};
 ghost use Rattle.ds_state.specs.World.{edit_of};
 ghost use Rattle.ds_edit.specs.EditSteps.{access_at};
-ghost use Rattle.ds_edit.specs.EditTakes.{after, counted_at, open_edit_at};
-ghost use Rattle.ds_core.specs.EditEvents.{IsEditing, reply_at, done_at, EditStepsBy, EditStepTakes};
+ghost use Rattle.ds_edit.specs.EditTakes.{after_by, counted_by, open_edit_by, outcome_by};
+ghost use Rattle.ds_edit.specs.EditEndings.{outcome_at};
+ghost use Rattle.ds_edit.specs.declared.machine.Effect.TheVariants.{Counts};
+ghost use Rattle.ds_core.specs.EditEvents.{IsEditing, reply_at, reply_by, done_by, EditStepsBy, EditStepTakes};
 ghost use Rattle.ds_core.specs.declared.reply.Reply.TheVariants.{Stepped};
 ghost use Rattle.ds_core.specs.ReportEvents.{report_answer, report_reply};
 ghost use Rattle.ds_core.specs.WorkEvents.{work_answer, work_reply};
@@ -18,10 +19,9 @@ ghost use Rattle.ds_core.specs.StepEvents.{StepTakes, EvictTakes};
 
 use crate::reply::Reply;
 use ds_edit::answer::{Answer, Told};
-use ds_edit::machine::{got, want};
+use ds_edit::machine::{Effect, effect_of, got, outcome_of, want};
 use ds_layout::place::Place;
 use ds_recover::machine::RecoveryEnd;
-use ds_show::machine::Effect;
 use ds_state::edit::EditCall;
 use ds_state::ledger::{Edit, Issue};
 use ds_state::situation::Situation;
@@ -45,80 +45,86 @@ fn call_of(situation: &Situation) -> Option<&EditCall>
     }
 }
 
-// The process goes on with the word that its access answered.
+// The process goes on with the word that its access answered; the last step of its edit leaves it idle.
 #[inline(always)]
-fn go_on(situation: &mut Situation, word: u64)
-    ensures { (e : PlainEditCall) → situation.old ≡ Editing e → situation.new ≡ after e e.stage word }
+fn go_on(situation: &mut Situation, what: Effect, word: u64)
+    ensures { (e : PlainEditCall) → situation.old ≡ Editing e → situation.new ≡ after_by e word what }
 {
     if let Situation::Editing(call) = situation {
-        match call.stage {
-            Stage::Answer(_) => {
+        match what {
+            Effect::GoesOn | Effect::Counts => got(call, word),
+            Effect::Answers(_) => {
                 let number = call.number;
                 *situation = Situation::Idle(number + 1);
             }
-            _ => got(call, word),
         }
     }
 }
 
-// The edit of a process counts, where its swap found the head that it had noted.
+// What the step does to the list of counted edits.
 #[inline(always)]
-fn count(counted: &mut Vec<Edit>, situation: &Situation, stage: Stage, word: u64)
-    requires { (noted : ℕ) → stage ≡ Swap noted → word ≡ noted → length counted.old.items < vec_capacity counted.old }
-    ensures items { (e : PlainEditCall) → situation.now ≡ Editing e → counted.new.items ≡ counted.old.items ++ counted_at (edit_of e) stage word }
+fn count(counted: &mut Vec<Edit>, situation: &Situation, what: Effect)
+    requires { what ≡ Counts → length counted.old.items < vec_capacity counted.old }
+    ensures items { (e : PlainEditCall) → situation.now ≡ Editing e → counted.new.items ≡ counted.old.items ++ counted_by (edit_of e) what }
     ensures capacity { vec_capacity counted.new ≡ vec_capacity counted.old }
 {
-    if let Stage::Swap(noted) = stage {
-        if word == noted {
+    match what {
+        Effect::Counts => {
             if let Situation::Editing(call) = situation {
                 counted.push_reserved(Edit::of(call));
             }
         }
+        Effect::GoesOn | Effect::Answers(_) => {}
     }
 }
 
 // The edit is answered, where this was its last step.
 #[inline(always)]
-fn close(open_edit: &mut Option<Issue>, stage: Stage)
-    ensures { open_edit.new ≡ open_edit_at open_edit.old stage }
+fn close(open_edit: &mut Option<Issue>, what: Effect)
+    ensures { open_edit.new ≡ open_edit_by open_edit.old what }
 {
-    if let Stage::Answer(_) = stage {
-        *open_edit = None;
+    match what {
+        Effect::Answers(_) => *open_edit = None,
+        Effect::GoesOn | Effect::Counts => {}
     }
 }
 
 // One more edit was answered Done, where it was.
 #[inline(always)]
-fn done_after(done: u64, stage: Stage) -> u64
+fn done_after(done: u64, what: Effect) -> u64
     requires { done ≤ PROCESSES_MOST * EDITS_MOST }
-    ensures { result ≡ done_at done stage }
+    ensures { result ≡ done_by done what }
 {
-    match stage {
-        Stage::Answer(Outcome::Done) => done + 1,
-        _ => done,
+    match what {
+        Effect::Answers(Outcome::Done) => done + 1,
+        Effect::Answers(Outcome::Overtaken { noted: _, seen: _ }) => done,
+        Effect::GoesOn | Effect::Counts => done,
     }
 }
 
-fn reply(processes: usize, number: usize, stage: Stage) -> Reply
-    ensures { result ≡ reply_at processes number stage }
+fn reply(processes: usize, number: usize, what: Effect) -> Reply
+    ensures { result ≡ reply_by processes number what }
 {
-    match stage {
-        Stage::Answer(how) => Reply::Answered(Answer::of(processes, number, how)),
-        _ => Reply::Stepped,
+    match what {
+        Effect::GoesOn | Effect::Counts => Reply::Stepped,
+        Effect::Answers(how) => Reply::Answered(Answer::of(processes, number, how)),
     }
 }
 
-// A process makes the step of its edit that is at this stage, by this access.
+// A process makes the step of its edit that is at this stage, by this access. It answers what the step did.
 #[inline(always)]
-fn edit_on(world: &mut World, process: usize, stage: Stage, access: Access<Place>)
+fn edit_on(world: &mut World, process: usize, stage: Stage, access: Access<Place>) -> Effect
     requires { (e : PlainEditCall) × IsEditing world.old process e × (stage ≡ e.stage) × (access ≡ access_at e e.stage) }
-    ensures { (e : PlainEditCall) → IsEditing world.old process e → EditStepTakes world.old process (reply_at world.old.sheet.layout.processes e.number stage) world.new }
+    ensures takes { (e : PlainEditCall) → IsEditing world.old process e → EditStepTakes world.old process (reply_at world.old.sheet.layout.processes e.number stage) world.new }
+    ensures outcome { outcome_by result ≡ outcome_at stage }
 {
     let word = world.words.perform(process, access);
-    count(&mut world.counted, &world.situations[process], stage, word);
-    go_on(&mut world.situations[process], word);
-    close(&mut world.open_edits[process], stage);
-    world.done = done_after(world.done, stage);
+    let what = effect_of(stage, word);
+    count(&mut world.counted, &world.situations[process], what);
+    go_on(&mut world.situations[process], what, word);
+    close(&mut world.open_edits[process], what);
+    world.done = done_after(world.done, what);
+    what
 }
 
 // A process makes the next step of its edit. Where it has none, or the sheet has no such process,
@@ -134,8 +140,8 @@ fn edit_step(world: &mut World, process: usize) -> Reply
     };
     let (number, stage, access) = (call.number, call.stage, want(call));
     let processes = call.processes;
-    edit_on(world, process, stage, access);
-    reply(processes, number, stage)
+    let what = edit_on(world, process, stage, access);
+    reply(processes, number, what)
 }
 
 // A process makes the next step of its edit, where it has one that is not its answer, and says so;
@@ -152,7 +158,7 @@ pub(crate) fn edit_advances(world: &mut World, process: usize) -> bool
         return false;
     };
     let (stage, access) = (call.stage, want(call));
-    if let Stage::Answer(_) = stage {
+    if outcome_of(stage).is_some() {
         return false;
     }
     edit_on(world, process, stage, access);
@@ -171,12 +177,12 @@ fn report_answer(end: ShowEnd) -> Answer
 }
 
 // What a step of a report answers.
-fn report_reply(what: Effect) -> Reply
+fn report_reply(what: ds_show::machine::Effect) -> Reply
     ensures { result ≡ report_reply what }
 {
     match what {
-        Effect::GoesOn => Reply::Stepped,
-        Effect::Answers(end) => Reply::Answered(report_answer(end)),
+        ds_show::machine::Effect::GoesOn => Reply::Stepped,
+        ds_show::machine::Effect::Answers(end) => Reply::Answered(report_answer(end)),
     }
 }
 

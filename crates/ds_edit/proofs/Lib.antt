@@ -1,4 +1,5 @@
 pub mod Stays
+pub mod Effects
 pub mod Named
 pub mod Turns
 pub mod Recording

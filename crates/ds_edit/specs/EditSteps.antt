@@ -1,5 +1,5 @@
 -- The steps of an edit: what each stage does to the memory, and what comes then.
-use Rattle.std.specs.Prelude.{ℕ, ◌<◌, ◌+◌, ◌-◌, ◌*◌, ◌==◌, nat_lt, if◌then◌else◌, length, slice_index_or, Option, Some, None}
+use Rattle.std.specs.Prelude.{ℕ, ◌<◌, ◌+◌, ◌-◌, ◌*◌, ◌==◌, nat_lt, if◌then◌else◌, Bool, length, slice_index_or, Option, Some, None}
 use Rattle.ds_words.specs.declared.access.Access.{Access}
 use Rattle.ds_words.specs.declared.access.Access.TheVariants.{Nothing, Load, Store, Or, SwapIf, Flush, Back}
 use Rattle.ds_layout.specs.declared.place.Place.{Place}
@@ -91,9 +91,13 @@ abbrev pub help_from : ℕ → Option Head → Stage
 help_from noted None = Swap noted
 help_from noted (Some head) = FlushNoted head
 
--- the stage behind the swap: where the head was the noted one, it is the edit's own now; else the edit does not count
+-- whether a swap that expects this head and sees that one makes its edit count: where they are the same
+abbrev pub wins : ℕ → ℕ → Bool
+wins noted seen = seen == noted
+
+-- the stage behind the swap: where it won, the head is the edit's own now; else the edit does not count
 abbrev pub swung_from : PlainEditCall → ℕ → ℕ → Stage
-swung_from e noted seen = if seen == noted then FlushOwn (head_after e noted) else StoreOutcome (outcome.Overtaken noted seen)
+swung_from e noted seen = if wins noted seen then FlushOwn (head_after e noted) else StoreOutcome (outcome.Overtaken noted seen)
 
 -- the stage after a stage whose access answered the word; an answer is the last one
 abbrev pub next_at : PlainEditCall → Stage → ℕ → Stage

@@ -1,5 +1,5 @@
 -- The events of edits, from world to world.
-use Rattle.std.specs.Prelude.{ℕ, ◌≡◌, ◌≢◌, ◌+◌, ◌==◌, ◌++◌, if◌then◌else◌, List, [], ◌∷◌, length, Option, Some, None}
+use Rattle.std.specs.Prelude.{ℕ, ◌≡◌, ◌≢◌, ◌+◌, ◌++◌, if◌then◌else◌, List, [], ◌∷◌, length, Option, Some, None}
 use Rattle.ds_words.specs.Memory.{SameMemory}
 use Rattle.ds_layout.specs.SheetMemory.{PerformsAt}
 use Rattle.ds_state.specs.Edits.{PlainEditCall}
@@ -8,7 +8,10 @@ use Rattle.ds_state.specs.declared.stage.Stage.{Stage}
 use Rattle.ds_state.specs.declared.stage.Stage.TheVariants.{StoreHeader, Swap, Answer}
 use Rattle.ds_state.specs.declared.situation.Situation.{Situation}
 use Rattle.ds_state.specs.declared.situation.Situation.TheVariants.{Idle, Editing}
-use Rattle.ds_edit.specs.EditSteps.{access_at, next_at}
+use Rattle.ds_state.specs.declared.stage.Outcome.{Outcome}
+use Rattle.ds_edit.specs.EditSteps.{access_at, got_at, next_at, wins}
+use Rattle.ds_edit.specs.declared.machine.Effect.{Effect}
+use Rattle.ds_edit.specs.declared.machine.Effect.TheVariants.{GoesOn, Counts, Answers}
 
 -- what the process does after the step: its answer ends the edit
 abbrev pub after : PlainEditCall → Stage → ℕ → Situation
@@ -17,13 +20,43 @@ after e stage word = Editing (record e { stage = next_at e stage word })
 
 -- what counts by the step: the edit, where its swap finds the head that it noted
 abbrev pub counted_at : PlainEdit → Stage → ℕ → List PlainEdit
-counted_at e (Swap noted) word = if word == noted then e ∷ [] else []
+counted_at e (Swap noted) word = if wins noted word then e ∷ [] else []
 counted_at e stage word = []
 
 -- the process's issue after a step at this stage: none after the answer
 abbrev pub open_edit_at : Option PlainIssue → Stage → Option PlainIssue
 open_edit_at issue (Answer how) = None
 open_edit_at issue stage = issue
+
+-- what a step at this stage does, whose access answered the word: the edit counts where its swap wins
+abbrev pub effect_at : Stage → ℕ → Effect
+effect_at (Swap noted) word = if wins noted word then Counts else GoesOn
+effect_at (Answer how) word = Answers how
+effect_at stage word = GoesOn
+
+-- what the process does after a step of this effect, whose access answered the word
+abbrev pub after_by : PlainEditCall → ℕ → Effect → Situation
+after_by e word GoesOn = Editing (got_at e word)
+after_by e word Counts = Editing (got_at e word)
+after_by e word (Answers how) = Idle (e.number + 1)
+
+-- what counts by a step of this effect
+abbrev pub counted_by : PlainEdit → Effect → List PlainEdit
+counted_by e GoesOn = []
+counted_by e Counts = e ∷ []
+counted_by e (Answers how) = []
+
+-- the process's issue after a step of this effect
+abbrev pub open_edit_by : Option PlainIssue → Effect → Option PlainIssue
+open_edit_by issue GoesOn = issue
+open_edit_by issue Counts = issue
+open_edit_by issue (Answers how) = None
+
+-- how the edit ended, by the effect of its last step
+abbrev pub outcome_by : Effect → Option Outcome
+outcome_by GoesOn = None
+outcome_by Counts = None
+outcome_by (Answers how) = Some how
 
 -- one step of the edit at a stage, whose access answered the word
 pub record StepsAt (e : PlainEditCall) (stage : Stage) (word : ℕ) (old new : PlainWorld) : Type 0 where

@@ -9,7 +9,9 @@ ghost use Rattle.ds_layout.specs.declared.layout.Layout.{Layout};
 ghost use Rattle.ds_layout.specs.SheetMemory.{NamesPlace};
 ghost use Rattle.ds_state.specs.CallsFit.{IsSheetOf};
 ghost use Rattle.ds_state.specs.World.{done_place};
-ghost use Rattle.ds_edit.specs.EditSteps.{access_at, next_at, got_at, head_after, announced, reference_place, header_place, text_place, store_from, flush_from, back_from, index_from, help_from, swung_from, rank, Falls};
+ghost use Rattle.ds_edit.specs.EditSteps.{access_at, next_at, got_at, head_after, announced, reference_place, header_place, text_place, store_from, flush_from, back_from, index_from, help_from, wins, swung_from, rank, Falls};
+ghost use Rattle.ds_edit.specs.EditTakes.{effect_at};
+ghost use Rattle.ds_edit.specs.EditEndings.{outcome_at};
 
 use ds_layout::announcement::{Announcement, Phase};
 use ds_layout::bits;
@@ -21,6 +23,17 @@ use ds_layout::text::{part_word, text_parts};
 use ds_state::edit::EditCall;
 use ds_state::stage::{Outcome, Stage};
 use ds_words::access::Access;
+
+/// What a step does to its edit and to the ledger.
+#[derive(Clone, Copy, Debug, PartialEq, Eq)]
+pub enum Effect {
+    /// The edit goes on.
+    GoesOn,
+    /// The edit counts from now on, and goes on.
+    Counts,
+    /// The edit has ended so: its process answers that, and is idle.
+    Answers(Outcome),
+}
 
 fn parts(call: &EditCall) -> usize
     ensures { result ≡ text_parts call.now.text }
@@ -187,10 +200,18 @@ fn help_from(call: &EditCall, noted: u64) -> Stage
     }
 }
 
+// Whether a swap that expects this head and sees that one makes its edit count.
+#[inline(always)]
+fn wins(noted: u64, seen: u64) -> bool
+    ensures { result ≡ wins noted seen }
+{
+    seen == noted
+}
+
 fn swung_from(call: &EditCall, noted: u64, seen: u64) -> Stage
     ensures { result ≡ swung_from call.now noted seen }
 {
-    if seen == noted {
+    if wins(noted, seen) {
         Stage::FlushOwn(head_after(call, noted))
     } else {
         Stage::StoreOutcome(Outcome::Overtaken { noted, seen })
@@ -229,6 +250,35 @@ fn next(call: &EditCall, word: u64) -> Stage
         Stage::FlushOutcome(outcome) => Stage::BackOutcome(outcome),
         Stage::BackOutcome(outcome) => Stage::Answer(outcome),
         Stage::Answer(outcome) => Stage::Answer(outcome),
+    }
+}
+
+/// What the step at this stage does, whose access answered the word.
+#[inline(always)]
+pub fn effect_of(stage: Stage, word: u64) -> Effect
+    ensures { result ≡ effect_at stage word }
+{
+    match stage {
+        Stage::Swap(noted) => {
+            if wins(noted, word) {
+                Effect::Counts
+            } else {
+                Effect::GoesOn
+            }
+        }
+        Stage::Answer(how) => Effect::Answers(how),
+        _ => Effect::GoesOn,
+    }
+}
+
+/// How the edit ended, where the step at this stage is its last one.
+#[inline(always)]
+pub fn outcome_of(stage: Stage) -> Option<Outcome>
+    ensures { result ≡ outcome_at stage }
+{
+    match stage {
+        Stage::Answer(how) => Some(how),
+        _ => None,
     }
 }
 

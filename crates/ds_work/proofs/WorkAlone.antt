@@ -122,16 +122,17 @@ end_alone row old new e (ends.Published false) same h = subst IsClean (sym same)
 end_alone row old new e ends.Again same h = h
 end_alone row old new e ends.NoMemory same h = h
 
+-- what it told stays told, where its own mark stays
+told_stays : (row : ℕ → ℕ) (old new : PlainWorld) (e : PlainWorkCall) (d : ℕ) → mark_now new e ≡ mark_now old e → IsToldTo row old e d → IsToldTo row new e d
+told_stays row old new e d same (inl (is, low)) = inl (same ∙ is, low)
+told_stays row old new e d same (inr (is, own)) = inr (same ∙ is, own)
+
 module _ (row : ℕ → ℕ) (shape : Shape) (e : PlainWorkCall) (word : ℕ) (old new : PlainWorld) where
   abbrev Performs : WorkStage → Type 0
   Performs s = PerformsAt (access_at shape e s) e.process old.memory new.memory word
 
   same_mark : (s : WorkStage) → Performs s → (Changes (access_at shape e s) (Mark e.cell) → ⊥) → mark_now new e ≡ mark_now old e
   same_mark s m never = cached_kept class_of old.memory new.memory (access_at shape e s) e.process word (Mark e.cell) never m
-
-  stays : (d : ℕ) → mark_now new e ≡ mark_now old e → IsToldTo row old e d → IsToldTo row new e d
-  stays d same (inl (is, low)) = inl (same ∙ is, low)
-  stays d same (inr (is, own)) = inr (same ∙ is, own)
 
   -- a cell is marked
   ors_alone : (d : ℕ) → IsEven e.mark → TellsFits e (works.Telling (OrTold d)) → d < e.cells → Performs (works.Telling (OrTold d)) → IsToldTo row old e d → IsWholeRow row e → IsToldTo row new e (d + 1)
@@ -156,8 +157,8 @@ module _ (row : ℕ → ℕ) (shape : Shape) (e : PlainWorkCall) (word : ℕ) (o
   spread_alone (LoadRow part) even inside tells fits index m h =
       row_alone row new (record e { row = e.row ++ word ∷ [] }) (part + 1) (m.1.cached (Mark e.cell) ∙ h.0) (pushed e.row row word h.1 (m.0 ∙ index part ∙ ap row (sym fits.0))) (let size = fits.0 in omega (arith, length-append e.row (word ∷ []))) inside
   spread_alone (OrTold d) even inside tells fits index m h = (ors_alone d even tells fits m h.0 h.1, h.1)
-  spread_alone (FlushTold d) even inside tells fits index m h = (stays (d + 1) (m.1.cached (Mark e.cell)) h.0, h.1)
-  spread_alone (BackTold d) even inside tells fits index m h = tell_alone row new e (d + 1) (stays (d + 1) (m.1.2.cached (Mark e.cell)) h.0) h.1 inside
+  spread_alone (FlushTold d) even inside tells fits index m h = (told_stays row old new e (d + 1) (m.1.cached (Mark e.cell)) h.0, h.1)
+  spread_alone (BackTold d) even inside tells fits index m h = tell_alone row new e (d + 1) (told_stays row old new e (d + 1) (m.1.2.cached (Mark e.cell)) h.0) h.1 inside
 
   pub alone : (s : WorkStage) → EvenAt e s → e.cell < e.cells → TellsFits e s → StageFits e s → ((part : ℕ) → old.memory.cached (Index e.cell part) ≡ row part) → Performs s → IsAloneAt row old e s → Here row new (next_at e s word)
   alone works.LoadMark even inside tells fits index m h =
@@ -317,19 +318,15 @@ module _ (row : ℕ → ℕ) (before : CellWords) (e : PlainWorkCall) (old new :
 -- ---- an eviction
 
 module _ (row : ℕ → ℕ) (old new : PlainWorld) (e : PlainWorkCall) (same : mark_now new e ≡ mark_now old e) where
-  told_same : (d : ℕ) → IsToldTo row old e d → IsToldTo row new e d
-  told_same d (inl (is, low)) = inl (same ∙ is, low)
-  told_same d (inr (is, own)) = inr (same ∙ is, own)
-
   all_same : IsTold row old e → IsTold row new e
   all_same (inl (is, none)) = inl (same ∙ is, none)
   all_same (inr (is, own)) = inr (same ∙ is, own)
 
   tells : (s : Spread) → IsAloneAt row old e (works.Telling s) → IsAloneAt row new e (works.Telling s)
   tells (LoadRow part) h = (same ∙ h.0, h.1)
-  tells (OrTold d) h = (told_same d h.0, h.1)
-  tells (FlushTold d) h = (told_same (d + 1) h.0, h.1)
-  tells (BackTold d) h = (told_same (d + 1) h.0, h.1)
+  tells (OrTold d) h = (told_stays row old new e d same h.0, h.1)
+  tells (FlushTold d) h = (told_stays row old new e (d + 1) same h.0, h.1)
+  tells (BackTold d) h = (told_stays row old new e (d + 1) same h.0, h.1)
 
   sees : (s : WorkStage) → IsAloneAt row old e s → IsAloneAt row new e s
   sees works.LoadMark h = record { marked = ap (λ x. state_of (mark_of e.processes x)) same ∙ h.marked; young = subst (λ x. x / 32 ≤ 2 ^ 58) (sym same) h.young }

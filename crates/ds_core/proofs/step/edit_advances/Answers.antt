@@ -25,7 +25,7 @@ returns c =
     let at : IsEditing c.args.world.now p e = subst (λ (w : WorldValue). IsEditing w p e) c.world.view_is here in
     let stepped = stepped_at c.args.world.now.sheet.layout.processes e.number c.call.inside.stage c.in_default-stage.not-Answer in
     record {
-      steps = λ yes. subst (λ (r : Reply). EditStepTakes c.args.world.now p r c.edit_on.new.world) stepped (c.edit_on.ensures e at);
+      steps = λ yes. subst (λ (r : Reply). EditStepTakes c.args.world.now p r c.edit_on.new.world) stepped (c.edit_on.ensures.takes e at);
       none = λ no. absurd (cc);
       unchanged = λ no. absurd (cc);
     }
