@@ -79,6 +79,9 @@ pub fn evaluate(tree: &Tree, shape: Shape, inputs: &Inputs) -> Entry
     }
 }
 
+// How many arguments are looked at. No reader gives as many: it bounds the sums.
+const ARGUMENTS_MOST: usize = 255;
+
 // The value of a function. What the reader of formulas never gives has some value all the same: a wrong number of
 // arguments of ABS, MOD, QUOTIENT or IF is `#NUM!`, and SUM, MIN and MAX of none are 0.
 #[cycle(evaluation)]
@@ -86,8 +89,7 @@ fn call(function: Function, arguments: &[Tree], shape: Shape, inputs: &Inputs) -
     ensures value { result.height < count_of shape → result.value ≡ spec.formula_value shape (values_in inputs.now.items) (Called function (listed (map formula arguments.now))) }
     ensures height { result.height ≡ min (count_of shape) (heights.formulas_height shape (heights_in inputs.now.items) (listed (map formula arguments.now))) }
 {
-    // no reader gives as many: this bounds the sums
-    if arguments.len() > 255 {
+    if arguments.len() > ARGUMENTS_MOST {
         return unfit(arguments, shape, inputs);
     }
     match function {
@@ -113,26 +115,8 @@ fn call(function: Function, arguments: &[Tree], shape: Shape, inputs: &Inputs) -
             }
         }
         Function::Abs => absolute_of(arguments, shape, inputs),
-        Function::Mod => {
-            if arguments.len() != 2 {
-                return unfit(arguments, shape, inputs);
-            }
-            let pair = paired(arguments, shape, inputs);
-            Entry {
-                value: modulo(pair.left, pair.right),
-                height: pair.height,
-            }
-        }
-        Function::Quotient => {
-            if arguments.len() != 2 {
-                return unfit(arguments, shape, inputs);
-            }
-            let pair = paired(arguments, shape, inputs);
-            Entry {
-                value: quotient(pair.left, pair.right),
-                height: pair.height,
-            }
-        }
+        Function::Mod => modulo_of(arguments, shape, inputs),
+        Function::Quotient => quotient_of(arguments, shape, inputs),
         Function::If => conditional(arguments, shape, inputs),
     }
 }
@@ -157,7 +141,7 @@ fn unfit(arguments: &[Tree], shape: Shape, inputs: &Inputs) -> Entry
 // ABS of its one argument.
 #[cycle(evaluation)]
 fn absolute_of(arguments: &[Tree], shape: Shape, inputs: &Inputs) -> Entry
-    requires { length arguments.now ≤ 255 }
+    requires { length arguments.now ≤ spec.most_arguments }
     ensures value { result.height < count_of shape → result.value ≡ spec.formula_value shape (values_in inputs.now.items) (Called Function.Abs (listed (map formula arguments.now))) }
     ensures height { result.height ≡ min (count_of shape) (heights.formulas_height shape (heights_in inputs.now.items) (listed (map formula arguments.now))) }
 {
@@ -195,11 +179,45 @@ fn paired(arguments: &[Tree], shape: Shape, inputs: &Inputs) -> Pair
     }
 }
 
+// MOD of its two arguments.
+#[cycle(evaluation)]
+fn modulo_of(arguments: &[Tree], shape: Shape, inputs: &Inputs) -> Entry
+    requires { length arguments.now ≤ spec.most_arguments }
+    ensures value { result.height < count_of shape → result.value ≡ spec.formula_value shape (values_in inputs.now.items) (Called Function.Mod (listed (map formula arguments.now))) }
+    ensures height { result.height ≡ min (count_of shape) (heights.formulas_height shape (heights_in inputs.now.items) (listed (map formula arguments.now))) }
+{
+    if arguments.len() != 2 {
+        return unfit(arguments, shape, inputs);
+    }
+    let pair = paired(arguments, shape, inputs);
+    Entry {
+        value: modulo(pair.left, pair.right),
+        height: pair.height,
+    }
+}
+
+// QUOTIENT of its two arguments.
+#[cycle(evaluation)]
+fn quotient_of(arguments: &[Tree], shape: Shape, inputs: &Inputs) -> Entry
+    requires { length arguments.now ≤ spec.most_arguments }
+    ensures value { result.height < count_of shape → result.value ≡ spec.formula_value shape (values_in inputs.now.items) (Called Function.Quotient (listed (map formula arguments.now))) }
+    ensures height { result.height ≡ min (count_of shape) (heights.formulas_height shape (heights_in inputs.now.items) (listed (map formula arguments.now))) }
+{
+    if arguments.len() != 2 {
+        return unfit(arguments, shape, inputs);
+    }
+    let pair = paired(arguments, shape, inputs);
+    Entry {
+        value: quotient(pair.left, pair.right),
+        height: pair.height,
+    }
+}
+
 // IF (OpenFormula 6.15.4): the value of the chosen branch, 0 for one that is left out. References in the other
 // branch count for the height, and so it is read too; its value is dropped, an error included.
 #[cycle(evaluation)]
 fn conditional(arguments: &[Tree], shape: Shape, inputs: &Inputs) -> Entry
-    requires { length arguments.now ≤ 255 }
+    requires { length arguments.now ≤ spec.most_arguments }
     ensures value { result.height < count_of shape → result.value ≡ spec.formula_value shape (values_in inputs.now.items) (Called Function.If (listed (map formula arguments.now))) }
     ensures height { result.height ≡ min (count_of shape) (heights.formulas_height shape (heights_in inputs.now.items) (listed (map formula arguments.now))) }
 {
@@ -226,7 +244,7 @@ fn conditional(arguments: &[Tree], shape: Shape, inputs: &Inputs) -> Entry
 // What the arguments stand for: a reference or a range stands for its cells.
 #[cycle(evaluation)]
 fn gather(arguments: &[Tree], shape: Shape, inputs: &Inputs) -> Gathered
-    requires { length arguments.now ≤ 255 }
+    requires { length arguments.now ≤ spec.most_arguments }
     ensures tally { result.height < count_of shape → IsTally (spec.all_values shape (values_in inputs.now.items) (listed (map formula arguments.now))) result.tally }
     ensures height { result.height ≡ min (count_of shape) (heights.formulas_height shape (heights_in inputs.now.items) (listed (map formula arguments.now))) }
 {

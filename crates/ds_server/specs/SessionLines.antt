@@ -29,19 +29,19 @@ pub record ReadsLine (most left : ℕ) (bytes line : List ℕ) (rest : ℕ) : Ty
   pub short : length line ≤ most
   pub counted : length bytes + rest ≡ left
 
--- the bytes are a line of more than `most` bytes; so many could come before and can behind it
+-- the bytes are a line of more than `most` bytes; `left` bytes could come before it was read, and `rest` can behind it
 pub record ReadsLong (most left : ℕ) (bytes : List ℕ) (rest : ℕ) : Type 0 where
   pub whole : List ℕ
   pub is_line : IsLine bytes whole
   pub long : most < length whole
   pub counted : length bytes + rest ≡ left
 
--- the bytes have no line feed, and are within the limit
+-- the bytes have no line feed, and are no more than could come
 pub record ReadsPart (left : ℕ) (bytes : List ℕ) : Type 0 where
   pub no_feed : HasNoFeed bytes
   pub within : length bytes ≤ left
 
--- the bytes are one more than the limit, with no line feed within it
+-- the bytes are one more than could come, and no line feed stands before the last one
 pub record ReadsOver (left : ℕ) (bytes : List ℕ) : Type 0 where
   pub front : List ℕ
   pub last : ℕ

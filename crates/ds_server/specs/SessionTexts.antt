@@ -78,7 +78,7 @@ value_data value = text_data (value_text value)
 abbrev pub row_data : List Value → Data
 row_data values = array (items_of (map value_data values))
 
--- the values as rows, so many a row, and so many rows
+-- the values cut into rows: how many columns a row has, and how many rows there are
 abbrev pub rows_of : ℕ → ℕ → List Value → List (List Value)
 rows_of columns zero values = []
 rows_of columns (suc rows) values = take columns values ∷ rows_of columns rows (drop columns values)
@@ -95,35 +95,35 @@ place_text shape other = []
 
 -- ---- answers
 
--- {"last":..,"ok":"join","process":0}
+-- the answer to a join, with the process and its last edit: {"last":null,"ok":"join","process":0}
 abbrev pub joined_data : Shape → ℕ → Option Told → Data
 joined_data shape process last = object (member (codes "last") (last_data shape last) (member (codes "ok") (text_data (codes "join")) (member (codes "process") (number_data process) no_members)))
 
--- {"number":0,"ok":"done"}
+-- the answer of an edit that counts: {"number":0,"ok":"done"}
 abbrev pub done_data : ℕ → Data
 done_data n = object (member (codes "number") (number_data n) (member (codes "ok") (text_data (codes "done")) no_members))
 
--- {"by":{"number":0,"process":1},"number":0,"ok":"overtaken"}
+-- the answer of an edit that another one has overtaken: {"by":{"number":0,"process":1},"number":0,"ok":"overtaken"}
 abbrev pub overtaken_data : ℕ → Other → Data
 overtaken_data n by = object (member (codes "by") (other_data by) (member (codes "number") (number_data n) (member (codes "ok") (text_data (codes "overtaken")) no_members)))
 
--- {"ok":"settled","rows":[["3",""],["",""]]}
+-- the answer of a report that is settled, with the values row by row: {"ok":"settled","rows":[["3",""],["",""]]}
 abbrev pub settled_data : Shape → List Value → Data
 settled_data shape values = object (member (codes "ok") (text_data (codes "settled")) (member (codes "rows") (rows_data shape values) no_members))
 
--- {"ok":"unsettled","place":"mark A1","word":1}
+-- the answer of a report that found a word not at rest: {"ok":"unsettled","place":"mark A1","word":1}
 abbrev pub unsettled_data : Shape → Place → ℕ → Data
 unsettled_data shape at word = object (member (codes "ok") (text_data (codes "unsettled")) (member (codes "place") (text_data (place_text shape at)) (member (codes "word") (number_data word) no_members)))
 
--- {"last":{"cell":"A1","number":0,"outcome":"done"},"ok":"last"}
+-- what a process is told of its last edit: {"last":{"cell":"A1","number":0,"outcome":"done"},"ok":"last"}
 abbrev pub tells_data : Shape → Option Told → Data
 tells_data shape last = object (member (codes "last") (last_data shape last) (member (codes "ok") (text_data (codes "last")) no_members))
 
--- {"code":1,"error":"not-json"}
+-- an error by its code and name: {"code":1,"error":"not-json"}
 abbrev pub error_data : ℕ → List ℕ → Data
 error_data code name = object (member (codes "code") (number_data code) (member (codes "error") (text_data name) no_members))
 
--- {"code":11,"error":"text","fault":"NotWhole","offset":2}
+-- the error of a text with a fault, and the byte where the fault is: {"code":11,"error":"text","fault":"NotWhole","offset":2}
 abbrev pub text_fault_data : TextFault → Data
 text_fault_data at = object (member (codes "code") (number_data 11) (member (codes "error") (text_data (codes "text")) (member (codes "fault") (text_data (name_of_kind at.kind)) (member (codes "offset") (number_data at.offset) no_members))))
 

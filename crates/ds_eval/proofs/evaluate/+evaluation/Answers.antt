@@ -29,25 +29,25 @@ pub absolute_of-returns-then-arguments-ne1-clause-value : goal.absolute_of-retur
 absolute_of-returns-then-arguments-ne1-clause-value t c = λ h.
     c.unfit.ensures.value ∙ sym (wrong_abs c.args.shape (values_in c.args.inputs.now.items) c.args.arguments.now c.requires c.if-arguments-ne1.true)
 
-pub call-returns-then-arguments-gt255-clause-value : goal.call-returns-then-arguments-gt255-clause-value
-call-returns-then-arguments-gt255-clause-value t c = λ h.
+pub call-returns-then-arguments-gt-ARGUMENTS_MOST-clause-value : goal.call-returns-then-arguments-gt-ARGUMENTS_MOST-clause-value
+call-returns-then-arguments-gt-ARGUMENTS_MOST-clause-value t c = λ h.
     c.unfit.ensures.value ∙ sym (too_many c.args.shape (values_in c.args.inputs.now.items) c.args.function c.args.arguments.now (omega arith))
 
-pub call-returns-then-arguments-ne2-clause-value : goal.call-returns-then-arguments-ne2-clause-value
-call-returns-then-arguments-ne2-clause-value t c = λ h.
-    c.unfit-then-arguments-ne2.ensures.value ∙ (rw c.in-Mod.is (sym (wrong_mod c.args.shape (values_in c.args.inputs.now.items) c.args.arguments.now (omega arith) c.if-arguments-ne2.true)))
+pub modulo_of-returns-then-arguments-ne2-clause-value : goal.modulo_of-returns-then-arguments-ne2-clause-value
+modulo_of-returns-then-arguments-ne2-clause-value t c = λ h.
+    c.unfit.ensures.value ∙ sym (wrong_mod c.args.shape (values_in c.args.inputs.now.items) c.args.arguments.now c.requires c.if-arguments-ne2.true)
 
-pub call-returns-then-arguments-ne2-2-clause-value : goal.call-returns-then-arguments-ne2-2-clause-value
-call-returns-then-arguments-ne2-2-clause-value t c = λ h.
-    c.unfit-then-arguments-ne2-2.ensures.value ∙ (rw c.in-Quotient.is (sym (wrong_quotient c.args.shape (values_in c.args.inputs.now.items) c.args.arguments.now (omega arith) c.if-arguments-ne2-2.true)))
+pub modulo_of-returns-clause-value : goal.modulo_of-returns-clause-value
+modulo_of-returns-clause-value t c = λ h.
+    c.modulo.ensures ∙ sym (by_own c.args.shape (values_in c.args.inputs.now.items) functions.Mod c.args.arguments.now _ c.requires (c.paired-pair.ensures.values h))
 
-pub call-returns-else-arguments-ne2-clause-value : goal.call-returns-else-arguments-ne2-clause-value
-call-returns-else-arguments-ne2-clause-value t c = λ h.
-    c.modulo.ensures ∙ (rw c.in-Mod.is (sym (by_own c.args.shape (values_in c.args.inputs.now.items) functions.Mod c.args.arguments.now _ (omega arith) (c.paired-pair.ensures.values h))))
+pub quotient_of-returns-then-arguments-ne2-clause-value : goal.quotient_of-returns-then-arguments-ne2-clause-value
+quotient_of-returns-then-arguments-ne2-clause-value t c = λ h.
+    c.unfit.ensures.value ∙ sym (wrong_quotient c.args.shape (values_in c.args.inputs.now.items) c.args.arguments.now c.requires c.if-arguments-ne2.true)
 
-pub call-returns-else-arguments-ne2-2-clause-value : goal.call-returns-else-arguments-ne2-2-clause-value
-call-returns-else-arguments-ne2-2-clause-value t c = λ h.
-    c.quotient.ensures ∙ (rw c.in-Quotient.is (sym (by_own c.args.shape (values_in c.args.inputs.now.items) functions.Quotient c.args.arguments.now _ (omega arith) (c.paired-pair-in-Quotient.ensures.values h))))
+pub quotient_of-returns-clause-value : goal.quotient_of-returns-clause-value
+quotient_of-returns-clause-value t c = λ h.
+    c.quotient.ensures ∙ sym (by_own c.args.shape (values_in c.args.inputs.now.items) functions.Quotient c.args.arguments.now _ c.requires (c.paired-pair.ensures.values h))
 
 pub call-returns-in-Sum-clause-value : goal.call-returns-in-Sum-clause-value
 call-returns-in-Sum-clause-value t c = λ h.
