@@ -60,4 +60,4 @@ whole_runs p event old result new (refused why n fits) = record { events = event
 
 pub settling_runs : (p : ℕ) (first : WorldValue) (turn : Turn) (new : WorldValue) → Settling p first turn new → IsRun first new
 settling_runs p first turn new begins = no_events first
-settling_runs p first turn new (works passes cell old n result so_far whole) = runs_on first old new (settling_runs p first _ old so_far) (whole_runs p _ old result new whole)
+settling_runs p first turn new (works rounds cell old n result so_far whole) = runs_on first old new (settling_runs p first _ old so_far) (whole_runs p _ old result new whole)

@@ -10,11 +10,11 @@ use Rattle.ds_edit.specs.declared.answer.Answer.{Answer}
 use Rattle.ds_calls.specs.declared.settle.Turn.TheVariants.{Works}
 use Rattle.ds_calls.specs.Marked.{marked_from}
 use Rattle.ds_calls.specs.Whole.{IsIdle, KeepsFree}
-use Rattle.ds_calls.specs.Settling.{pass, ends, first_of, works_left}
+use Rattle.ds_calls.specs.Settling.{round, ends, first_of, works_left}
 
--- ---- a pass that begins with a cell, one that finds none, and none at all
+-- ---- a round that begins with a cell, one that finds none, and none at all
 
-pub pass_works : (w : WorldValue) (passes first : ℕ) → passes ≢ 0 → Some first ≡ marked_from (world_of w) (cells_of w.sheet.layout - 0) 0 → Works (passes - 1) first ≡ pass w passes
+pub pass_works : (w : WorldValue) (rounds first : ℕ) → rounds ≢ 0 → Some first ≡ marked_from (world_of w) (cells_of w.sheet.layout - 0) 0 → Works (rounds - 1) first ≡ round w rounds
 pass_works w zero first some is = absurd (some refl)
 pass_works w (suc k) first some is =
     sym (
@@ -22,18 +22,18 @@ pass_works w (suc k) first some is =
     ∙ ap (λ (n : ℕ). Works n first) (let e : k ≡ suc k - 1 = omega arith in e)
     )
 
-pub pass_ends : (w : WorldValue) (passes : ℕ) → None ≡ marked_from (world_of w) (cells_of w.sheet.layout - 0) 0 → ends w ≡ pass w passes
+pub pass_ends : (w : WorldValue) (rounds : ℕ) → None ≡ marked_from (world_of w) (cells_of w.sheet.layout - 0) 0 → ends w ≡ round w rounds
 pass_ends w zero is = refl
 pass_ends w (suc k) is =
     sym (ap (λ (o : Option ℕ). first_of w k o) (ap (λ (n : ℕ). marked_from (world_of w) n 0) (let e : cells_of w.sheet.layout ≡ cells_of w.sheet.layout - 0 = omega arith in e) ∙ sym is))
 
-pub pass_none : (w : WorldValue) (passes : ℕ) → passes ≡ 0 → ends w ≡ pass w passes
+pub pass_none : (w : WorldValue) (rounds : ℕ) → rounds ≡ 0 → ends w ≡ round w rounds
 pass_none w zero is = refl
 pass_none w (suc k) is = absurd (omega (arith, is))
 
 -- ---- fewer works are left
 
-pub few_works : (cells passes first : ℕ) → passes ≢ 0 → works_left cells (Works (passes - 1) first) ≤ passes * (cells + 1)
+pub few_works : (cells rounds first : ℕ) → rounds ≢ 0 → works_left cells (Works (rounds - 1) first) ≤ rounds * (cells + 1)
 few_works cells zero first some = absurd (some refl)
 few_works cells (suc k) first some =
     let e : suc k * (cells + 1) ≡ k * (cells + 1) + (cells + 1) = suc-mul k (cells + 1) in

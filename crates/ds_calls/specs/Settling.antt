@@ -1,4 +1,4 @@
--- A settle: whole works on the cells that are marked, in passes.
+-- A settle: whole works on the cells that are marked, in rounds.
 use Rattle.std.specs.Prelude.{ℕ, zero, suc, ◌≡◌, ◌<◌, ◌+◌, ◌-◌, ◌*◌, Option, Some, None, Result, Ok, Err}
 use Rattle.ds_formula.specs.Cells.{cell_at}
 use Rattle.ds_layout.specs.Places.{cells_of}
@@ -17,57 +17,57 @@ use Rattle.ds_calls.specs.Whole.{Whole, KeepsFree}
 abbrev pub ends : WorldValue → Turn
 ends w = Ends (Left (left_in (world_of w)))
 
--- a pass begins with work on the first marked cell; where none is marked, the settle ends
+-- a round begins with work on the first marked cell; where none is marked, the settle ends
 abbrev pub first_of : WorldValue → ℕ → Option ℕ → Turn
-first_of w passes None = ends w
-first_of w passes (Some cell) = Works passes cell
+first_of w rounds None = ends w
+first_of w rounds (Some cell) = Works rounds cell
 
--- a settle with so many passes left begins the next one; with none left it ends
-abbrev pub pass : WorldValue → ℕ → Turn
-pass w zero = ends w
-pass w (suc passes) = first_of w passes (marked_from (world_of w) (cells_of w.sheet.layout) 0)
+-- a settle with so many rounds left begins the next one; with none left it ends
+abbrev pub round : WorldValue → ℕ → Turn
+round w zero = ends w
+round w (suc rounds) = first_of w rounds (marked_from (world_of w) (cells_of w.sheet.layout) 0)
 
--- a pass goes on with the next marked cell; where none is marked, the next pass begins
+-- a round goes on with the next marked cell; where none is marked, the next round begins
 abbrev pub next_of : WorldValue → ℕ → Option ℕ → Turn
-next_of w passes None = pass w passes
-next_of w passes (Some cell) = Works passes cell
+next_of w rounds None = round w rounds
+next_of w rounds (Some cell) = Works rounds cell
 
--- a pass that has worked on a cell goes on behind that cell
+-- a round that has worked on a cell goes on behind that cell
 abbrev pub goes_behind : WorldValue → ℕ → ℕ → Turn
-goes_behind w passes cell = next_of w passes (marked_from (world_of w) (cells_of w.sheet.layout - (cell + 1)) (cell + 1))
+goes_behind w rounds cell = next_of w rounds (marked_from (world_of w) (cells_of w.sheet.layout - (cell + 1)) (cell + 1))
 
 -- what a settle does once a work of its has ended so: it ends where the begin was refused or memory was wanting, else
 -- it goes on behind the cell
 abbrev pub worked : WorldValue → ℕ → ℕ → Result Answer Refusal → Turn
-worked w passes cell (Err why) = Ends (Refused why)
-worked w passes cell (Ok answers.NoMemory) = Ends NoMemory
-worked w passes cell (Ok answer) = goes_behind w passes cell
+worked w rounds cell (Err why) = Ends (Refused why)
+worked w rounds cell (Ok answers.NoMemory) = Ends NoMemory
+worked w rounds cell (Ok answer) = goes_behind w rounds cell
 
--- a settle begins, with two passes more than the sheet has cells
+-- a settle begins, with two rounds more than the sheet has cells
 abbrev pub first_turn : WorldValue → Turn
-first_turn w = pass w (cells_of w.sheet.layout + 2)
+first_turn w = round w (cells_of w.sheet.layout + 2)
 
--- a settle by the process has come to this turn: it began with two passes more than the sheet has cells, and each work
+-- a settle by the process has come to this turn: it began with two rounds more than the sheet has cells, and each work
 -- so far was a whole one
 pub data Settling (p : ℕ) (first : WorldValue) : Turn → WorldValue → Type 0 where
   begins : Settling p first (first_turn first) first
-  works : (passes cell : ℕ) (old new : WorldValue) (result : Result Answer Refusal) → Settling p first (Works passes cell) old
-      → Whole p (BeginWork p (cell_at old.sheet.layout.shape cell)) old result new → Settling p first (worked new passes cell result) new
+  works : (rounds cell : ℕ) (old new : WorldValue) (result : Result Answer Refusal) → Settling p first (Works rounds cell) old
+      → Whole p (BeginWork p (cell_at old.sheet.layout.shape cell)) old result new → Settling p first (worked new rounds cell result) new
 
 -- a number that grows less with each work of a settle on a sheet of so many cells
 abbrev pub works_left : ℕ → Turn → ℕ
 works_left cells (Ends end) = 0
-works_left cells (Works passes cell) = 1 + passes * (cells + 1) + (cells - cell)
+works_left cells (Works rounds cell) = 1 + rounds * (cells + 1) + (cells - cell)
 
 -- the cell that the settle works on next is one of so many
 abbrev pub IsInTurn : ℕ → Turn → Type 0
 IsInTurn cells (Ends end) = Unit {0}
-IsInTurn cells (Works passes cell) = cell < cells
+IsInTurn cells (Works rounds cell) = cell < cells
 
 -- a whole work of the process on the cell, and what the settle does next
-pub record WorksOnce (p passes cell : ℕ) (old : WorldValue) (next : Turn) (new : WorldValue) : Type 0 where
+pub record WorksOnce (p rounds cell : ℕ) (old : WorldValue) (next : Turn) (new : WorldValue) : Type 0 where
   pub result : Result Answer Refusal
   pub whole : Whole p (BeginWork p (cell_at old.sheet.layout.shape cell)) old result new
-  pub next_is : next ≡ worked new passes cell result
+  pub next_is : next ≡ worked new rounds cell result
   pub layout : new.sheet.layout ≡ old.sheet.layout
   pub free : KeepsFree p old new

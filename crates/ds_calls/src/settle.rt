@@ -1,4 +1,4 @@
-//! Works on all cells that are marked, in passes, until a pass finds none.
+//! Works on all cells that are marked, in rounds, until a round finds none.
 
 ghost use Rattle.std.specs.Prelude.{◌≡◌, ◌<◌, ◌≤◌, ◌+◌, ◌*◌};
 ghost use Rattle.ds_formula.specs.Cells.{cell_at};
@@ -7,7 +7,7 @@ ghost use Rattle.ds_core.specs.declared.event.Event.TheVariants.{BeginWork};
 ghost use Rattle.ds_calls.specs.declared.settle.Turn.TheVariants.{Ends, Works};
 ghost use Rattle.ds_core.specs.Kinds.{IsWorkAnswer};
 ghost use Rattle.ds_calls.specs.Whole.{HasProcess, KeepsFree, IsWhole};
-ghost use Rattle.ds_calls.specs.Settling.{ends, pass, first_turn, goes_behind, worked, Settling, works_left, IsInTurn, WorksOnce};
+ghost use Rattle.ds_calls.specs.Settling.{ends, round, first_turn, goes_behind, worked, Settling, works_left, IsInTurn, WorksOnce};
 
 use crate::call::whole_work;
 use crate::marked::{cells, left, next_marked};
@@ -34,72 +34,72 @@ pub enum Turn {
     Ends(SettleEnd),
     /// A whole work on a cell.
     Works {
-        /// How many passes are left behind this one.
-        passes: usize,
+        /// How many rounds are left behind this one.
+        rounds: usize,
         /// The cell, by its number.
         cell: usize,
     },
 }
 
-// No work is due, or no pass is left.
+// No work is due, or no round is left.
 fn ended(world: &World) -> Turn
     ensures { result ≡ ends world.now }
 {
     Turn::Ends(SettleEnd::Left(left(world)))
 }
 
-// The next pass begins, with so many left.
-fn pass(world: &World, passes: usize) -> Turn
-    ensures value { result ≡ pass world.now passes }
-    ensures few { works_left (cells_of world.now.sheet.layout) result ≤ passes * (cells_of world.now.sheet.layout + 1) }
+// The next round begins, with so many left.
+fn round(world: &World, rounds: usize) -> Turn
+    ensures value { result ≡ round world.now rounds }
+    ensures few { works_left (cells_of world.now.sheet.layout) result ≤ rounds * (cells_of world.now.sheet.layout + 1) }
     ensures inside { IsInTurn (cells_of world.now.sheet.layout) result }
 {
-    if passes == 0 {
+    if rounds == 0 {
         return ended(world);
     }
     match next_marked(world, 0) {
         Some(cell) => Turn::Works {
-            passes: passes - 1,
+            rounds: rounds - 1,
             cell,
         },
         None => ended(world),
     }
 }
 
-/// A settle begins, with two passes more than the sheet has cells: with work on the first marked cell,
+/// A settle begins, with two rounds more than the sheet has cells: with work on the first marked cell,
 /// if there is one.
 pub fn first_turn(world: &World) -> Turn
     ensures value { result ≡ first_turn world.now }
     ensures inside { IsInTurn (cells_of world.now.sheet.layout) result }
 {
-    pass(world, cells(world) + 2)
+    round(world, cells(world) + 2)
 }
 
-// A pass goes on behind a cell.
-fn goes_behind(world: &World, passes: usize, cell: usize) -> Turn
+// A round goes on behind a cell.
+fn goes_behind(world: &World, rounds: usize, cell: usize) -> Turn
     requires { cell < cells_of world.now.sheet.layout }
-    ensures value { result ≡ goes_behind world.now passes cell }
-    ensures fewer { works_left (cells_of world.now.sheet.layout) result < works_left (cells_of world.now.sheet.layout) (Works passes cell) }
+    ensures value { result ≡ goes_behind world.now rounds cell }
+    ensures fewer { works_left (cells_of world.now.sheet.layout) result < works_left (cells_of world.now.sheet.layout) (Works rounds cell) }
     ensures inside { IsInTurn (cells_of world.now.sheet.layout) result }
 {
     match next_marked(world, cell + 1) {
-        Some(next) => Turn::Works { passes, cell: next },
-        None => pass(world, passes),
+        Some(next) => Turn::Works { rounds, cell: next },
+        None => round(world, rounds),
     }
 }
 
-/// What a settle does, with so many passes left behind this one, once its work on the cell has ended
+/// What a settle does, with so many rounds left behind this one, once its work on the cell has ended
 /// so: it ends where the begin was refused or memory was wanting, else it goes on behind the cell.
-pub fn worked(world: &World, passes: usize, cell: usize, answered: Result<Answer, Refusal>) -> Turn
+pub fn worked(world: &World, rounds: usize, cell: usize, answered: Result<Answer, Refusal>) -> Turn
     requires { cell < cells_of world.now.sheet.layout }
-    ensures value { result ≡ worked world.now passes cell answered }
-    ensures fewer { works_left (cells_of world.now.sheet.layout) result < works_left (cells_of world.now.sheet.layout) (Works passes cell) }
+    ensures value { result ≡ worked world.now rounds cell answered }
+    ensures fewer { works_left (cells_of world.now.sheet.layout) result < works_left (cells_of world.now.sheet.layout) (Works rounds cell) }
     ensures inside { IsInTurn (cells_of world.now.sheet.layout) result }
 {
     match answered {
         Err(refusal) => Turn::Ends(SettleEnd::Refused(refusal)),
         Ok(Answer::NoMemory) => Turn::Ends(SettleEnd::NoMemory),
-        Ok(_) => goes_behind(world, passes, cell),
+        Ok(_) => goes_behind(world, rounds, cell),
     }
 }
 
@@ -114,19 +114,19 @@ fn work_on(alloc: Global, world: &mut World, process: usize, cell: usize) -> Res
 }
 
 // A whole work of a settle, and what the settle does next.
-fn work(alloc: Global, world: &mut World, process: usize, passes: usize, cell: usize) -> Turn
+fn work(alloc: Global, world: &mut World, process: usize, rounds: usize, cell: usize) -> Turn
     requires process { HasProcess world.old process }
     requires cell { cell < cells_of world.old.sheet.layout }
-    ensures works { WorksOnce process passes cell world.old result world.new }
-    ensures fewer { works_left (cells_of world.new.sheet.layout) result < works_left (cells_of world.old.sheet.layout) (Works passes cell) }
+    ensures works { WorksOnce process rounds cell world.old result world.new }
+    ensures fewer { works_left (cells_of world.new.sheet.layout) result < works_left (cells_of world.old.sheet.layout) (Works rounds cell) }
     ensures inside { IsInTurn (cells_of world.new.sheet.layout) result }
 {
     let answered = work_on(alloc, world, process, cell);
-    worked(world, passes, cell, answered)
+    worked(world, rounds, cell, answered)
 }
 
-/// Works on each cell that is marked when its turn comes, ascending, in at most two passes more than
-/// the sheet has cells, until a pass finds none; each work is a whole one by a process of the sheet.
+/// Works on each cell that is marked when its turn comes, ascending, in at most two rounds more than
+/// the sheet has cells, until a round finds none; each work is a whole one by a process of the sheet.
 pub fn settle(alloc: Global, world: &mut World, process: usize) -> SettleEnd
     requires { HasProcess world.old process }
     ensures settles { Settling process world.old (Ends result) world.new }
@@ -136,7 +136,7 @@ pub fn settle(alloc: Global, world: &mut World, process: usize) -> SettleEnd
     'works: loop {
         match turn {
             Turn::Ends(end) => return end,
-            Turn::Works { passes, cell } => turn = work(alloc, world, process, passes, cell),
+            Turn::Works { rounds, cell } => turn = work(alloc, world, process, rounds, cell),
         }
     }
 }

@@ -5,7 +5,7 @@ use Rattle.ds_formula.specs.declared.cells.Shape.{Shape}
 use Rattle.ds_words.specs.Memory.{Memory, SameMemory, StoresAt, EvictsAt, StopsAt, Crashes}
 use Rattle.ds_words.specs.declared.access.Access.{Access}
 use Rattle.ds_words.specs.declared.access.Access.TheVariants as acts
-use Rattle.ds_words.specs.declared.access.Entry.{Entry}
+use Rattle.ds_words.specs.declared.access.BufferEntry.{BufferEntry}
 use Rattle.ds_layout.specs.declared.place.Place.{Place}
 use Rattle.ds_layout.specs.declared.place.Place.TheVariants.{Header, Version}
 use Rattle.ds_layout.specs.SheetMemory.{PerformsAt}
@@ -76,7 +76,7 @@ Spares p n (acts.Or r bits) = Elsewhere p n r
 Spares p n (acts.SwapIf r expected value) = Elsewhere p n r
 Spares p n access = Unit {0}
 
-abbrev pub FirstSpares : ℕ → ℕ → List (Entry Place) → Type 0
+abbrev pub FirstSpares : ℕ → ℕ → List (BufferEntry Place) → Type 0
 FirstSpares p n [] = Unit {0}
 FirstSpares p n (e ∷ rest) = Elsewhere p n e.place
 
@@ -98,8 +98,8 @@ sides_performed p n q (acts.SwapIf r expected value) old new word s f h = elim h
 sides_performed p n q (acts.Flush r) old new word s f h = record { cached = inl (h.1.cached (Header p n)); persisted = inr (h.1.persisted (Header p n)) }
 sides_performed p n q acts.Back old new word s f h =
     let b = h.1.2 in
-    let e : Entry Place = h.1.0 in
-    let first : Elsewhere p n e.place = subst (λ (xs : List (Entry Place)). FirstSpares p n xs) b.oldest f in
+    let e : BufferEntry Place = h.1.0 in
+    let first : Elsewhere p n e.place = subst (λ (xs : List (BufferEntry Place)). FirstSpares p n xs) b.oldest f in
     record { cached = inl (b.cached (Header p n)); persisted = inr (b.elsewhere (Header p n) (not_there p n e.place first)) }
 
 -- ---- of an edit with another number
@@ -114,13 +114,13 @@ record_spares p n e zero (suc count) ne = λ a b. ne b
 record_spares p n e (suc first) (suc count) ne = tt
 
 held_spares : (p n : ℕ) (w : PlainWorld) (e : PlainEdit) (h : Held) → (e.number ≡ n → ⊥) → Holds w e h → FirstSpares p n (w.memory.buffer e.process)
-held_spares p n w e held.empty ne h = subst (λ (xs : List (Entry Place)). FirstSpares p n xs) (sym h) tt
-held_spares p n w e (held.record_words first count) ne h = subst (λ (xs : List (Entry Place)). FirstSpares p n xs) (sym h) (record_spares p n e first count ne)
-held_spares p n w e (held.announcing_word a) ne h = subst (λ (xs : List (Entry Place)). FirstSpares p n xs) (sym h) tt
-held_spares p n w e (held.row_bits row) ne h = subst (λ (xs : List (Entry Place)). FirstSpares p n xs) (sym h.alone) tt
-held_spares p n w e (held.done_bits process number) ne h = subst (λ (xs : List (Entry Place)). FirstSpares p n xs) (sym h.alone) tt
-held_spares p n w e (held.head_from least) ne h = subst (λ (xs : List (Entry Place)). FirstSpares p n xs) (sym h.alone) tt
-held_spares p n w e held.mark ne h = subst (λ (xs : List (Entry Place)). FirstSpares p n xs) (sym h.alone) tt
+held_spares p n w e held.empty ne h = subst (λ (xs : List (BufferEntry Place)). FirstSpares p n xs) (sym h) tt
+held_spares p n w e (held.record_words first count) ne h = subst (λ (xs : List (BufferEntry Place)). FirstSpares p n xs) (sym h) (record_spares p n e first count ne)
+held_spares p n w e (held.announcing_word a) ne h = subst (λ (xs : List (BufferEntry Place)). FirstSpares p n xs) (sym h) tt
+held_spares p n w e (held.row_bits row) ne h = subst (λ (xs : List (BufferEntry Place)). FirstSpares p n xs) (sym h.alone) tt
+held_spares p n w e (held.done_bits process number) ne h = subst (λ (xs : List (BufferEntry Place)). FirstSpares p n xs) (sym h.alone) tt
+held_spares p n w e (held.head_from least) ne h = subst (λ (xs : List (BufferEntry Place)). FirstSpares p n xs) (sym h.alone) tt
+held_spares p n w e held.mark ne h = subst (λ (xs : List (BufferEntry Place)). FirstSpares p n xs) (sym h.alone) tt
 
 pub edit_sides : (p n : ℕ) (old new : PlainWorld) (e : PlainEditCall) (word : ℕ) → (e.number ≡ n → ⊥) → Holds old (edit_of e) (held_at (text_parts e.text) e.refs e.stage) → PerformsAt (edits.access_at e e.stage) e.process old.memory new.memory word
     → SidesStay old.memory new.memory (Header p n)
@@ -137,12 +137,12 @@ work_spares p n shape e (work_stages.Telling spread) = spread_spares p n e sprea
 work_spares p n shape e _ = tt
 
 work_first : (p n : ℕ) (w : PlainWorld) (e : PlainWorkCall) (h : WorkHeld) → WorkHolds w e h → FirstSpares p n (w.memory.buffer e.process)
-work_first p n w e works.empty h = subst (λ (xs : List (Entry Place)). FirstSpares p n xs) (sym h) tt
-work_first p n w e works.claim h = subst (λ (xs : List (Entry Place)). FirstSpares p n xs) (sym h.alone) tt
-work_first p n w e (works.a_mark cell) h = subst (λ (xs : List (Entry Place)). FirstSpares p n xs) (sym h.alone) tt
-work_first p n w e works.the_value h = subst (λ (xs : List (Entry Place)). FirstSpares p n xs) (sym h) tt
-work_first p n w e works.both_words h = subst (λ (xs : List (Entry Place)). FirstSpares p n xs) (sym h) tt
-work_first p n w e works.the_kind h = subst (λ (xs : List (Entry Place)). FirstSpares p n xs) (sym h) tt
+work_first p n w e works.empty h = subst (λ (xs : List (BufferEntry Place)). FirstSpares p n xs) (sym h) tt
+work_first p n w e works.claim h = subst (λ (xs : List (BufferEntry Place)). FirstSpares p n xs) (sym h.alone) tt
+work_first p n w e (works.a_mark cell) h = subst (λ (xs : List (BufferEntry Place)). FirstSpares p n xs) (sym h.alone) tt
+work_first p n w e works.the_value h = subst (λ (xs : List (BufferEntry Place)). FirstSpares p n xs) (sym h) tt
+work_first p n w e works.both_words h = subst (λ (xs : List (BufferEntry Place)). FirstSpares p n xs) (sym h) tt
+work_first p n w e works.the_kind h = subst (λ (xs : List (BufferEntry Place)). FirstSpares p n xs) (sym h) tt
 
 pub work_sides : (p n : ℕ) (shape : Shape) (old new : PlainWorld) (e : PlainWorkCall) (word : ℕ) → WorkHolds old e (work_held e e.stage) → PerformsAt (work_steps.access_at shape e e.stage) e.process old.memory new.memory word
     → SidesStay old.memory new.memory (Header p n)
@@ -151,10 +151,10 @@ work_sides p n shape old new e word h performs = sides_performed p n e.process (
 -- ---- of a recovery
 
 pub recovery_first : (p n q : ℕ) (w : PlainWorld) (word cell : ℕ) (h : RecoveryHeld) → RecoveryHolds w q word cell h → FirstSpares p n (w.memory.buffer q)
-recovery_first p n q w word cell recoveries.empty h = subst (λ (xs : List (Entry Place)). FirstSpares p n xs) (sym h) tt
-recovery_first p n q w word cell (recoveries.the_value c) h = subst (λ (xs : List (Entry Place)). FirstSpares p n xs) (sym h) tt
-recovery_first p n q w word cell (recoveries.both_words c) h = subst (λ (xs : List (Entry Place)). FirstSpares p n xs) (sym h) tt
-recovery_first p n q w word cell (recoveries.the_kind c) h = subst (λ (xs : List (Entry Place)). FirstSpares p n xs) (sym h) tt
-recovery_first p n q w word cell (recoveries.a_mark c) h = subst (λ (xs : List (Entry Place)). FirstSpares p n xs) (sym h.alone) tt
-recovery_first p n q w word cell recoveries.a_head h = subst (λ (xs : List (Entry Place)). FirstSpares p n xs) (sym h.alone) tt
-recovery_first p n q w word cell recoveries.the_outcome h = subst (λ (xs : List (Entry Place)). FirstSpares p n xs) (sym h) tt
+recovery_first p n q w word cell recoveries.empty h = subst (λ (xs : List (BufferEntry Place)). FirstSpares p n xs) (sym h) tt
+recovery_first p n q w word cell (recoveries.the_value c) h = subst (λ (xs : List (BufferEntry Place)). FirstSpares p n xs) (sym h) tt
+recovery_first p n q w word cell (recoveries.both_words c) h = subst (λ (xs : List (BufferEntry Place)). FirstSpares p n xs) (sym h) tt
+recovery_first p n q w word cell (recoveries.the_kind c) h = subst (λ (xs : List (BufferEntry Place)). FirstSpares p n xs) (sym h) tt
+recovery_first p n q w word cell (recoveries.a_mark c) h = subst (λ (xs : List (BufferEntry Place)). FirstSpares p n xs) (sym h.alone) tt
+recovery_first p n q w word cell recoveries.a_head h = subst (λ (xs : List (BufferEntry Place)). FirstSpares p n xs) (sym h.alone) tt
+recovery_first p n q w word cell recoveries.the_outcome h = subst (λ (xs : List (BufferEntry Place)). FirstSpares p n xs) (sym h) tt

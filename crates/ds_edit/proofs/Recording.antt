@@ -13,7 +13,7 @@ use Rattle.ds_state.specs.World.{PlainEdit, edit_of, PlainWorld, record_place, r
 use Rattle.ds_state.specs.Known.{writing, outside, last, AreBelow, Knowing}
 use Rattle.ds_state.specs.CallsFit.{record_words, record_entry, Holds, EditFits}
 use Rattle.std.specs.Prelude.{Contains}
-use Rattle.ds_words.specs.declared.access.Entry.{Entry}
+use Rattle.ds_words.specs.declared.access.BufferEntry.{BufferEntry}
 use Rattle.ds_state.specs.Owing.{entry, HoldsNone, SplitsAt, EditOwes}
 use Rattle.ds_layout.specs.Mark.{IsHeldBy}
 use Rattle.ds_state.proofs.Buffers.{buffered}
@@ -214,10 +214,10 @@ module _ (e : PlainEditCall) (s : Stage) (word : ℕ) (old new : PlainWorld) (so
 
       was_there : (c x q : ℕ) → Contains (new.memory.buffer q) (entry (Mark c) x) → Contains (old.memory.buffer q) (entry (Mark c) x)
       was_there c x q h = elim (cases_eq q e.process) [
-        | inr ne ↦ subst (λ (xs : List (Entry Place)). Contains xs (entry (Mark c) x)) (m.others q ne) h
+        | inr ne ↦ subst (λ (xs : List (BufferEntry Place)). Contains xs (entry (Mark c) x)) (m.others q ne) h
         | inl eq ↦ subst (λ (r : ℕ). Contains (old.memory.buffer r) (entry (Mark c) x)) (sym eq)
-            (subst (λ (xs : List (Entry Place)). Contains xs (entry (Mark c) x)) (sym m.oldest) (behind _ _ _ (subst (λ (xs : List (Entry Place)). Contains xs (entry (Mark c) x)) (ap new.memory.buffer eq ∙ m.mine) h)))
+            (subst (λ (xs : List (BufferEntry Place)). Contains xs (entry (Mark c) x)) (sym m.oldest) (behind _ _ _ (subst (λ (xs : List (BufferEntry Place)). Contains xs (entry (Mark c) x)) (ap new.memory.buffer eq ∙ m.mine) h)))
       ]
         where
-          behind : (y z : Entry Place) (ys : List (Entry Place)) → Contains ys z → Contains (y ∷ ys) z
+          behind : (y z : BufferEntry Place) (ys : List (BufferEntry Place)) → Contains ys z → Contains (y ∷ ys) z
           behind y z ys (i, l, is) = (suc i, omega arith, is)

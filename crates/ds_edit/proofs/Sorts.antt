@@ -8,7 +8,7 @@ use Rattle.ds_layout.specs.declared.place.Place.TheVariants.{Version, Announce, 
 use Rattle.ds_state.specs.Edits.{PlainEditCall, text_parts}
 use Rattle.ds_state.specs.World.{edit_of, PlainWorld, record_place}
 use Rattle.ds_state.specs.Known.{known_at}
-use Rattle.ds_words.specs.declared.access.Entry.{Entry}
+use Rattle.ds_words.specs.declared.access.BufferEntry.{BufferEntry}
 use Rattle.std.specs.Prelude.{Contains}
 use Rattle.std.proofs.Common.{List, ◌⊎◌}
 use Rattle.ds_state.specs.Owing.{entry, HoldsNone, SplitsAt, EditOwes, IsExcused}
@@ -72,7 +72,7 @@ module _ (e : PlainEditCall) (s : Stage) (word : ℕ) (old new : PlainWorld) (so
       let moves : Moves e.process Version old new = same_moves e.process old new tn m in
       let g : Grows e.process Version old new = grows_own e.process Version old new moves tn.counted in
       let my : Mine e.process Version old new moves = mine Version moves (λ c. m.cached (Head c)) (λ c is. cc) in
-      let f : Framed old new = framed Version moves my (no_new_marks e.process Version old new moves (λ c is. cc) (λ c x q h. subst (λ (xs : List (Entry Place)). Contains xs (entry (Mark c) x)) (m.buffer q) h)) in
+      let f : Framed old new = framed Version moves my (no_new_marks e.process Version old new moves (λ c is. cc) (λ c x q h. subst (λ (xs : List (BufferEntry Place)). Contains xs (entry (Mark c) x)) (m.buffer q) h)) in
       quiet_sound e.process old new tn sound moves f.bears f.stand f.apart (keeps Version moves)
       (λ l. fits_next e s word old new t fits plain small (free Version (λ r same. cc) g) (advance (stays Version (record_no_version e.process e.number) (λ same. cc) g)) held)
 

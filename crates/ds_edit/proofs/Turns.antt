@@ -2,7 +2,7 @@
 use Rattle.std.proofs.Common.{ℕ, ◌≡◌, ◌<◌, ◌^◌, List, [], ◌∷◌, ◌++◌, refl, ap, sym, ◌∙◌, subst, arith, length}
 use Rattle.std.specs.Prelude.{Option}
 use Rattle.std.proofs.lemmas.List.{append-nil}
-use Rattle.ds_words.specs.declared.access.Entry.{Entry}
+use Rattle.ds_words.specs.declared.access.BufferEntry.{BufferEntry}
 use Rattle.ds_words.specs.Memory.{Memory, WritesBack, BacksFirst}
 use Rattle.ds_layout.specs.declared.place.Place.{Place}
 use Rattle.ds_state.specs.Edits.{PlainEditCall, text_parts}
@@ -77,9 +77,9 @@ module _ (e : PlainEditCall) (s : Stage) (word : ℕ) (old new : PlainWorld) (t 
   })
 
 -- the entry that is written back is the oldest
-pub back_first : {p : ℕ} {old new : Memory Place} (x : Entry Place) (xs : List (Entry Place)) → old.buffer p ≡ x ∷ xs → BacksFirst p old new → WritesBack p x xs old new
+pub back_first : {p : ℕ} {old new : Memory Place} (x : BufferEntry Place) (xs : List (BufferEntry Place)) → old.buffer p ≡ x ∷ xs → BacksFirst p old new → WritesBack p x xs old new
 back_first {p} {old} {new} x xs holds (entry, rest, m) =
     let both : x ∷ xs ≡ entry ∷ rest = sym holds ∙ m.oldest in
     let a : entry ≡ x = cc in
     let b : rest ≡ xs = cc in
-    subst (λ (r : List (Entry Place)). WritesBack p x r old new) b (subst (λ (y : Entry Place). WritesBack p y rest old new) a m)
+    subst (λ (r : List (BufferEntry Place)). WritesBack p x r old new) b (subst (λ (y : BufferEntry Place). WritesBack p y rest old new) a m)

@@ -85,7 +85,7 @@ fn is_marked(world: &World, cell: Cell) -> bool {
 }
 
 // A process works on each cell that is marked when its turn comes. Whether there was one.
-fn pass(alloc: Global, world: &mut World, process: usize) -> Result<bool, Mismatch> {
+fn round(alloc: Global, world: &mut World, process: usize) -> Result<bool, Mismatch> {
     let mut found = false;
     let shape = world.words.layout().shape;
     for number in 0..shape.count() {
@@ -98,13 +98,13 @@ fn pass(alloc: Global, world: &mut World, process: usize) -> Result<bool, Mismat
     Ok(found)
 }
 
-// More passes than the sheet needs: values settle in four.
+// More rounds than the sheet needs: values settle in four.
 const PASSES: usize = 6;
 
-/// A process works on all cells, up to the first pass that finds none that is marked. Whether there was one.
+/// A process works on all cells, up to the first round that finds none that is marked. Whether there was one.
 pub fn settle(alloc: Global, world: &mut World, process: usize) -> Result<bool, Mismatch> {
     for _ in 0..PASSES {
-        if !pass(alloc, world, process)? {
+        if !round(alloc, world, process)? {
             return Ok(true);
         }
     }

@@ -4,7 +4,7 @@ use Rattle.std.specs.Prelude.{if◌then◌else◌, bit_or}
 use Rattle.std.proofs.lemmas.Bool.{ltb-true, lt-ltb, false≢true}
 use Rattle.std.proofs.lemmas.List.{map-append, length-map, length-replicate}
 use Rattle.ds_words.specs.declared.access.Class.{Class}
-use Rattle.ds_words.specs.declared.access.Entry.{Entry}
+use Rattle.ds_words.specs.declared.access.BufferEntry.{BufferEntry}
 use Rattle.ds_words.specs.declared.access.Access.{Access}
 use Rattle.ds_words.specs.declared.access.Access.TheVariants.{Nothing, Load, Store, Or, SwapIf, Flush, Back}
 use Rattle.ds_words.specs.Memory.{Memory, newer, IsFresh, SameMemory, StoresAt, OrsAt, SwapsAt, FlushesAt, WritesBack, BacksFirst, EvictsAt, Crashes, StopsAt, Performs}
@@ -95,7 +95,7 @@ side_zero layout f h r = same_if (is_place layout r) (f (number_of layout r)) 0 
     zero_if false = refl
 
 -- an entry for a place of the sheet is one for a word of it
-word_there : (layout : Layout) (x : Entry ℕ) → IsPlace layout (entry_at layout x).place → x.place < words_of layout
+word_there : (layout : Layout) (x : BufferEntry ℕ) → IsPlace layout (entry_at layout x).place → x.place < words_of layout
 unfolding entry_at
 word_there layout x k = subst (λ (n : ℕ). n < words_of layout) (number_of-place_of layout x.place) (number_of_below layout (place_of layout x.place) k)
 
@@ -137,12 +137,12 @@ module _ (layout : Layout) (old new : Memory ℕ) where
     mine =
         ap (map (entry_at layout)) h.mine
         ∙ map-append (entry_at layout) (old.buffer p) _
-        ∙ ap (λ (r : Place). map (entry_at layout) (old.buffer p) ++ (let e : Entry Place = record { place = r; class = class; value = old.cached (number_of layout place) } in e) ∷ []) (place_of-number_of layout place k)
-        ∙ ap (λ (x : ℕ). map (entry_at layout) (old.buffer p) ++ (let e : Entry Place = record { place = place; class = class; value = x } in e) ∷ []) (sym (side_at_place layout old.cached place k));
+        ∙ ap (λ (r : Place). map (entry_at layout) (old.buffer p) ++ (let e : BufferEntry Place = record { place = r; class = class; value = old.cached (number_of layout place) } in e) ∷ []) (place_of-number_of layout place k)
+        ∙ ap (λ (x : ℕ). map (entry_at layout) (old.buffer p) ++ (let e : BufferEntry Place = record { place = place; class = class; value = x } in e) ∷ []) (sym (side_at_place layout old.cached place k));
     others = λ q ne. ap (map (entry_at layout)) (h.others q ne);
   }
 
-  pub writes_back_at : (p : ℕ) (entry : Entry ℕ) (rest : List (Entry ℕ)) → IsPlace layout (entry_at layout entry).place → WritesBack p entry rest old new
+  pub writes_back_at : (p : ℕ) (entry : BufferEntry ℕ) (rest : List (BufferEntry ℕ)) → IsPlace layout (entry_at layout entry).place → WritesBack p entry rest old new
       → WritesBack p (entry_at layout entry) (map (entry_at layout) rest) (memory_at layout old) (memory_at layout new)
   unfolding entry_at
   writes_back_at p entry rest k h =
@@ -164,7 +164,7 @@ module _ (layout : Layout) (old new : Memory ℕ) where
   backs_at p has h =
       let both : has.entry ∷ has.rest ≡ entry_at layout h.0 ∷ map (entry_at layout) h.1 = sym has.oldest ∙ ap (map (entry_at layout)) h.2.oldest in
       let one : has.entry ≡ entry_at layout h.0 = cc in
-      (entry_at layout h.0, map (entry_at layout) h.1, writes_back_at p h.0 h.1 (subst (λ (x : Entry Place). IsPlace layout x.place) one has.there) h.2)
+      (entry_at layout h.0, map (entry_at layout) h.1, writes_back_at p h.0 h.1 (subst (λ (x : BufferEntry Place). IsPlace layout x.place) one has.there) h.2)
 
   pub evicts_at : (place : Place) → IsPlace layout place → EvictsAt (number_of layout place) old new → EvictsAt place (memory_at layout old) (memory_at layout new)
   evicts_at place k h = record {
@@ -245,7 +245,7 @@ can_perform layout v h p (Flush place) k = (
 )
 can_perform layout v h p Back k = has_entry (buffer_of v p) refl
   where
-    has_entry : (es : List (Entry ℕ)) → buffer_of v p ≡ es → words.HasEntry v p
+    has_entry : (es : List (BufferEntry ℕ)) → buffer_of v p ≡ es → words.HasEntry v p
     has_entry [] e =
         let bad : [] ≡ k.1.1.entry ∷ k.1.1.rest = sym (ap (map (entry_at layout)) e) ∙ k.1.1.oldest in
         cc
@@ -257,7 +257,7 @@ can_perform layout v h p Back k = has_entry (buffer_of v p) refl
           entry = x;
           rest = xs;
           oldest = e;
-          there = subst (λ (n : ℕ). x.place < n) (sym h.words) (word_there layout x (subst (λ (y : Entry Place). IsPlace layout y.place) one k.1.1.there));
+          there = subst (λ (n : ℕ). x.place < n) (sym h.words) (word_there layout x (subst (λ (y : BufferEntry Place). IsPlace layout y.place) one k.1.1.there));
         }
 
 -- the same, as the words of a sheet are kept

@@ -2,7 +2,7 @@
 use Rattle.std.specs.Prelude.{ℕ, ◌≡◌, ◌<◌, List, ◌∷◌, map, length, Bool, true, nat_lt, ◌&&◌, if◌then◌else◌, slice_index_or}
 use Rattle.ds_words.specs.declared.access.Class.{Class}
 use Rattle.ds_words.specs.declared.access.Class.TheVariants.{Stamped}
-use Rattle.ds_words.specs.declared.access.Entry.{Entry}
+use Rattle.ds_words.specs.declared.access.BufferEntry.{BufferEntry}
 use Rattle.ds_words.specs.declared.access.Access.{Access}
 use Rattle.ds_words.specs.declared.access.Access.TheVariants.{Nothing, Load, Store, Or, SwapIf, Flush, Back}
 use Rattle.ds_words.specs.declared.words.TheConstants.{BUFFER_ENTRIES}
@@ -36,7 +36,7 @@ unfoldable pub side_at : Layout → (ℕ → ℕ) → Place → ℕ
 side_at layout side place = if is_place layout place then side (number_of layout place) else 0
 
 -- an entry by the place of its word
-unfoldable pub entry_at : Layout → Entry ℕ → Entry Place
+unfoldable pub entry_at : Layout → BufferEntry ℕ → BufferEntry Place
 entry_at layout entry = record { place = place_of layout entry.place; class = entry.class; value = entry.value }
 
 -- a memory of words by their numbers as one by their places
@@ -69,8 +69,8 @@ NamesPlace layout Back = Unit {0}
 
 -- the buffer of the process has an entry, the oldest for a place of the sheet
 pub record HasEntry (layout : Layout) (memory : Memory Place) (p : ℕ) : Type 0 where
-  pub entry : Entry Place
-  pub rest : List (Entry Place)
+  pub entry : BufferEntry Place
+  pub rest : List (BufferEntry Place)
   pub oldest : memory.buffer p ≡ entry ∷ rest
   pub there : IsPlace layout entry.place
 

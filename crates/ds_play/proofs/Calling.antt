@@ -5,12 +5,12 @@ use Rattle.ds_core.specs.declared.reply.Reply.{Reply}
 use Rattle.ds_core.specs.declared.reply.Reply.TheVariants.{Begun, Entered}
 use Rattle.ds_calls.specs.Whole.{HasBegun}
 use Rattle.ds_play.specs.declared.drive.Until.{Until}
-use Rattle.ds_play.specs.declared.drive.Until.TheVariants.{OneStep, ToPoint, ToAnswer, InPass}
+use Rattle.ds_play.specs.declared.drive.Until.TheVariants.{OneStep, ToPoint, ToAnswer, InRound}
 use Rattle.ds_play.specs.declared.drive.Halt.{Halt}
 use Rattle.ds_play.specs.declared.drive.Halt.TheVariants.{At, Replied}
 use Rattle.ds_play.specs.ScriptTexts.{reply_text}
 use Rattle.ds_play.specs.Doing.{Says, Drives, called}
-use Rattle.ds_play.specs.Plays.{IsNoPass, halted, halt_text}
+use Rattle.ds_play.specs.Plays.{IsNoRound, halted, halt_text}
 
 pub begun_by : (w : WorldValue) (p : ℕ) (until : Until) (reply : Reply) → ((n : ℕ) × (reply ≡ Begun n)) ⊎ (reply ≡ Entered) → called w p until reply ≡ Drives p until
 begun_by w p until reply (inl h) = ap (λ (r : Reply). called w p until r) h.1
@@ -25,12 +25,12 @@ refused_by w p until (Begun n) a b = absurd (a n refl)
 refused_by w p until Entered a b = absurd (b refl)
 refused_by w p until reply a b = refl
 
--- a process that is not driven in a pass ends with a text
-pub no_pass : (w : WorldValue) (p : ℕ) (until : Until) (halt : Halt) → IsNoPass until → halted w p until halt ≡ Says (halt_text w p halt)
-no_pass w p (InPass passes cell) halt h = absurd h
-no_pass w p OneStep (At name) h = refl
-no_pass w p OneStep (Replied reply) h = refl
-no_pass w p (ToPoint name) (At at) h = refl
-no_pass w p (ToPoint name) (Replied reply) h = refl
-no_pass w p ToAnswer (At name) h = refl
-no_pass w p ToAnswer (Replied reply) h = refl
+-- a process that is not driven in a round ends with a text
+pub no_round : (w : WorldValue) (p : ℕ) (until : Until) (halt : Halt) → IsNoRound until → halted w p until halt ≡ Says (halt_text w p halt)
+no_round w p (InRound rounds cell) halt h = absurd h
+no_round w p OneStep (At name) h = refl
+no_round w p OneStep (Replied reply) h = refl
+no_round w p (ToPoint name) (At at) h = refl
+no_round w p (ToPoint name) (Replied reply) h = refl
+no_round w p ToAnswer (At name) h = refl
+no_round w p ToAnswer (Replied reply) h = refl

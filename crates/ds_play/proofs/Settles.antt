@@ -20,7 +20,7 @@ use Rattle.ds_calls.specs.Settling.{Settling, worked}
 use Rattle.ds_calls.proofs.Stepping.{answered_wants}
 use Rattle.ds_calls.proofs.Begins.{edit_begins, work_begins, report_begins, recovery_begins}
 use Rattle.ds_play.specs.declared.drive.Until.{Until}
-use Rattle.ds_play.specs.declared.drive.Until.TheVariants.{InPass, ToAnswer}
+use Rattle.ds_play.specs.declared.drive.Until.TheVariants.{InRound, ToAnswer}
 use Rattle.ds_play.specs.declared.order.Call.{Call}
 use Rattle.ds_play.specs.declared.order.Call.TheVariants as calls
 use Rattle.ds_play.specs.Orders.{beginning}
@@ -35,9 +35,9 @@ use Rattle.ds_play.proofs.Played.{leads_on, stays, one}
 abbrev pub GoesOnAlways : ℕ → Until → Type 0
 GoesOnAlways p until = (w : WorldValue) (event : Event) → driven w p until event Stepped ≡ Drives p until
 
-on_in_pass : (p passes cell : ℕ) → GoesOnAlways p (InPass passes cell)
-on_in_pass p passes cell w (Offer value) = refl
-on_in_pass p passes cell w event = refl
+on_in_round : (p rounds cell : ℕ) → GoesOnAlways p (InRound rounds cell)
+on_in_round p rounds cell w (Offer value) = refl
+on_in_round p rounds cell w event = refl
 
 on_to_answer : (p : ℕ) → GoesOnAlways p ToAnswer
 on_to_answer p w (Offer value) = refl
@@ -65,14 +65,14 @@ begun_drives w p until (Begun number) h = refl
 begun_drives w p until Entered h = refl
 begun_drives w p until _ h = absurd h
 
-whole_leads : (p passes cell : ℕ) (old : WorldValue) (result : Result Answer Refusal) (new : WorldValue) → Whole p (BeginWork p (cell_at old.sheet.layout.shape cell)) old result new
-    → Leads (Works p passes cell) old (at_turn new p (worked new passes cell result)) new
-whole_leads p passes cell old result new (whole.finishes reply mid n answer begun fits h) =
-    leads_on (Works p passes cell) (Drives p (InPass passes cell)) (at_turn new p (worked new passes cell (Ok answer))) old mid new
-    (one (Works p passes cell) (Drives p (InPass passes cell)) old mid (BeginWork p (cell_at old.sheet.layout.shape cell)) reply refl fits (begun_drives mid p (InPass passes cell) reply begun))
-    (finishes_leads p (InPass passes cell) (on_in_pass p passes cell) mid answer new h)
-whole_leads p passes cell old result new (whole.refused why n fits) =
-    one (Works p passes cell) (Says (reply_text new p (Refused why))) old new (BeginWork p (cell_at old.sheet.layout.shape cell)) (Refused why) refl fits refl
+whole_leads : (p rounds cell : ℕ) (old : WorldValue) (result : Result Answer Refusal) (new : WorldValue) → Whole p (BeginWork p (cell_at old.sheet.layout.shape cell)) old result new
+    → Leads (Works p rounds cell) old (at_turn new p (worked new rounds cell result)) new
+whole_leads p rounds cell old result new (whole.finishes reply mid n answer begun fits h) =
+    leads_on (Works p rounds cell) (Drives p (InRound rounds cell)) (at_turn new p (worked new rounds cell (Ok answer))) old mid new
+    (one (Works p rounds cell) (Drives p (InRound rounds cell)) old mid (BeginWork p (cell_at old.sheet.layout.shape cell)) reply refl fits (begun_drives mid p (InRound rounds cell) reply begun))
+    (finishes_leads p (InRound rounds cell) (on_in_round p rounds cell) mid answer new h)
+whole_leads p rounds cell old result new (whole.refused why n fits) =
+    one (Works p rounds cell) (Says (reply_text new p (Refused why))) old new (BeginWork p (cell_at old.sheet.layout.shape cell)) (Refused why) refl fits refl
 
 -- ---- a whole call
 
@@ -99,9 +99,9 @@ starts old new p call _ fits h = absurd h
 
 pub settling_leads : (p : ℕ) (first : WorldValue) (turn : Turn) (new : WorldValue) → Settling p first turn new → Leads (settle first p) first (at_turn new p turn) new
 settling_leads p first turn new settling.begins = stays (settle first p) (settle first p) first refl
-settling_leads p first turn new (settling.works passes cell old n result so_far whole) =
-    leads_on (settle first p) (Works p passes cell) (at_turn new p (worked new passes cell result)) first old new
-    (settling_leads p first _ old so_far) (whole_leads p passes cell old result new whole)
+settling_leads p first turn new (settling.works rounds cell old n result so_far whole) =
+    leads_on (settle first p) (Works p rounds cell) (at_turn new p (worked new rounds cell result)) first old new
+    (settling_leads p first _ old so_far) (whole_leads p rounds cell old result new whole)
 
 -- ---- a process that the sheet does not have
 

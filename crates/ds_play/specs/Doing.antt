@@ -18,14 +18,14 @@ use Rattle.ds_calls.specs.Wanted.{wants}
 use Rattle.ds_calls.specs.Settling.{first_turn, worked}
 use Rattle.ds_play.specs.declared.point.PointName.{PointName}
 use Rattle.ds_play.specs.declared.drive.Until.{Until}
-use Rattle.ds_play.specs.declared.drive.Until.TheVariants.{OneStep, ToPoint, ToAnswer, InPass}
+use Rattle.ds_play.specs.declared.drive.Until.TheVariants.{OneStep, ToPoint, ToAnswer, InRound}
 use Rattle.ds_play.specs.Points.{has_passed}
 use Rattle.ds_play.specs.ScriptTexts.{reply_text, answer_text, at_text, left_text, peek_text, word_text}
 use Rattle.ds_play.specs.Orders.{Deed}
 use Rattle.ds_play.specs.Orders as deed
 
 -- where a command stands: it ends with this text; wants one event; begins a call and drives it; drives the process up
--- to here; or begins work on a cell, in a pass of a settle with so many passes left
+-- to here; or begins work on a cell, in a round of a settle with so many rounds left
 pub data Doing : Type 0 where
   Says : List ℕ → Doing
   Once : ℕ → Event → Doing
@@ -41,7 +41,7 @@ asks (Says text) w = None
 asks (Once p event) w = Some event
 asks (Calls p event) w = Some event
 asks (Drives p until) w = Some (wants w p)
-asks (Works p passes cell) w = Some (events.BeginWork p (cell_at w.sheet.layout.shape cell))
+asks (Works p rounds cell) w = Some (events.BeginWork p (cell_at w.sheet.layout.shape cell))
 
 -- ---- turns of a settle
 
@@ -55,7 +55,7 @@ end_text w p NoMemory = answer_text w p answers.NoMemory
 -- where a settle by the process stands at this turn: it ends with a text, or works on a cell
 abbrev pub at_turn : WorldValue → ℕ → Turn → Doing
 at_turn w p (turns.Ends end) = Says (end_text w p end)
-at_turn w p (turns.Works passes cell) = Works p passes cell
+at_turn w p (turns.Works rounds cell) = Works p rounds cell
 
 -- ---- what it does when it is told
 
@@ -68,18 +68,18 @@ abbrev pub stepped : WorldValue → ℕ → Until → Doing
 stepped w p OneStep = Says (reply_text w p Stepped)
 stepped w p (ToPoint name) = to_point p name ((world_of w).situation p)
 stepped w p ToAnswer = Drives p ToAnswer
-stepped w p (InPass passes cell) = Drives p (InPass passes cell)
+stepped w p (InRound rounds cell) = Drives p (InRound rounds cell)
 
 -- what a command does after an offer to the work of the process that it drives, which is no step
 abbrev pub offered : WorldValue → ℕ → Until → Doing
 offered w p OneStep = Drives p OneStep
 offered w p (ToPoint name) = to_point p name ((world_of w).situation p)
 offered w p ToAnswer = Drives p ToAnswer
-offered w p (InPass passes cell) = Drives p (InPass passes cell)
+offered w p (InRound rounds cell) = Drives p (InRound rounds cell)
 
 -- what a command does once the call that it drives has ended, or can not go on: a settle takes its next turn
 abbrev pub ended : WorldValue → ℕ → Until → Reply → Doing
-ended w p (InPass passes cell) (Answered answer) = at_turn w p (worked w passes cell (Ok answer))
+ended w p (InRound rounds cell) (Answered answer) = at_turn w p (worked w rounds cell (Ok answer))
 ended w p until reply = Says (reply_text w p reply)
 
 -- what a command does when the event of the process that it drives has this reply
@@ -100,11 +100,11 @@ told (Says text) event reply w = Says text
 told (Once p asked) event reply w = Says (reply_text w p reply)
 told (Calls p asked) event reply w = called w p ToAnswer reply
 told (Drives p until) event reply w = driven w p until event reply
-told (Works p passes cell) event reply w = called w p (InPass passes cell) reply
+told (Works p rounds cell) event reply w = called w p (InRound rounds cell) reply
 
 -- ---- how it begins
 
--- a settle by the process, with two passes more than the sheet has cells
+-- a settle by the process, with two rounds more than the sheet has cells
 abbrev pub settle : WorldValue → ℕ → Doing
 settle w p = at_turn w p (first_turn w)
 

@@ -34,7 +34,7 @@ use Rattle.ds_play.specs.declared.order.Command.{Command}
 use Rattle.ds_play.specs.declared.order.Command.TheVariants as commands
 use Rattle.ds_play.specs.Points.{lacks}
 
--- what a line asks of a world: a whole call of a process, by the event that begins it; its beginning alone; passes of
+-- what a line asks of a world: a whole call of a process, by the event that begins it; its beginning alone; rounds of
 -- works until no cell is marked; one step; steps up to a point; steps to the end of the call; a stop, a crash, an
 -- eviction; what a cell shows; both sides of a word
 pub data Deed : Type 0 where

@@ -9,7 +9,7 @@ use Rattle.ds_calls.specs.Wanted.{wants}
 use Rattle.ds_play.specs.Doing.{Doing, Says, Drives, asks, told, ended}
 use Rattle.ds_play.specs.ScriptTexts.{at_text, reply_text}
 use Rattle.ds_play.specs.declared.drive.Until.{Until}
-use Rattle.ds_play.specs.declared.drive.Until.TheVariants.{InPass}
+use Rattle.ds_play.specs.declared.drive.Until.TheVariants.{InRound}
 use Rattle.ds_play.specs.declared.drive.Halt.{Halt}
 use Rattle.ds_play.specs.declared.drive.Halt.TheVariants.{At, Replied}
 
@@ -37,15 +37,15 @@ abbrev pub halted : WorldValue → ℕ → Until → Halt → Doing
 halted w p until (At name) = Says (at_text p name)
 halted w p until (Replied reply) = ended w p until reply
 
--- the text of a command whose process is driven no further, outside a pass of a settle
+-- the text of a command whose process is driven no further, outside a round of a settle
 abbrev pub halt_text : WorldValue → ℕ → Halt → List ℕ
 halt_text w p (At name) = at_text p name
 halt_text w p (Replied reply) = reply_text w p reply
 
--- the process is driven, but not in a pass of a settle
-abbrev pub IsNoPass : Until → Type 0
-IsNoPass (InPass passes cell) = ⊥
-IsNoPass until = Unit {0}
+-- the process is driven, but not in a round of a settle
+abbrev pub IsNoRound : Until → Type 0
+IsNoRound (InRound rounds cell) = ⊥
+IsNoRound until = Unit {0}
 
 -- the process that is driven wants a step: no work of its waits
 abbrev pub WantsStep : WorldValue → ℕ → Type 0

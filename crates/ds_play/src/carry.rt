@@ -8,7 +8,7 @@ ghost use Rattle.ds_core.specs.declared.event.Event.TheVariants.{BeginEdit};
 ghost use Rattle.ds_calls.specs.Whole.{request};
 ghost use Rattle.ds_play.specs.Orders.{CanDo, command_view, beginning};
 ghost use Rattle.ds_play.specs.Doing.{Once, Calls, Drives, to_point};
-ghost use Rattle.ds_play.specs.Plays.{Played, IsNoPass};
+ghost use Rattle.ds_play.specs.Plays.{Played, IsNoRound};
 ghost use Rattle.ds_play.specs.Script.{IsMade};
 ghost use Rattle.ds_play.specs.Running.{Obeys};
 
@@ -100,7 +100,7 @@ fn run(
     process: usize,
     until: Until,
 ) -> Result<Vec<u8>, AllocError>
-    requires { IsNoPass until }
+    requires { IsNoRound until }
     ensures { IfOk result (λ answer. Played (Drives process until) world.old answer.items world.new) }
 {
     let halt = drive(alloc, world, process, until);

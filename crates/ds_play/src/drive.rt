@@ -24,10 +24,10 @@ pub enum Until {
     ToPoint(PointName),
     /// To its answer.
     ToAnswer,
-    /// To the answer of its work on a cell, in a pass of a settle.
-    InPass {
-        /// How many passes are left behind this one.
-        passes: usize,
+    /// To the answer of its work on a cell, in a round of a settle.
+    InRound {
+        /// How many rounds are left behind this one.
+        rounds: usize,
         /// The cell, by its number.
         cell: usize,
     },
@@ -72,7 +72,7 @@ fn after_offer(world: &World, process: usize, until: Until) -> Option<Halt>
 {
     match until {
         Until::ToPoint(name) => at_point(world, process, name),
-        Until::OneStep | Until::ToAnswer | Until::InPass { passes: _, cell: _ } => None,
+        Until::OneStep | Until::ToAnswer | Until::InRound { rounds: _, cell: _ } => None,
     }
 }
 
@@ -84,7 +84,7 @@ fn after_step(world: &World, process: usize, until: Until) -> Option<Halt>
     match until {
         Until::OneStep => Some(Halt::Replied(Reply::Stepped)),
         Until::ToPoint(name) => at_point(world, process, name),
-        Until::ToAnswer | Until::InPass { passes: _, cell: _ } => None,
+        Until::ToAnswer | Until::InRound { rounds: _, cell: _ } => None,
     }
 }
 

@@ -1,4 +1,4 @@
-//! Works on all cells that are marked, in passes, until a pass finds none.
+//! Works on all cells that are marked, in rounds, until a round finds none.
 
 ghost use Rattle.std.specs.Prelude.{◌<◌, ◌≤◌, IfOk};
 ghost use Rattle.ds_formula.specs.Cells.{cell_at};
@@ -33,15 +33,15 @@ fn of_nobody(alloc: Global, world: &mut World, process: usize) -> Result<Vec<u8>
 {
     match first_turn(world) {
         Turn::Ends(end) => end_bytes(alloc, world, process, end),
-        Turn::Works { passes: _, cell } => {
+        Turn::Works { rounds: _, cell } => {
             let reply = begin(alloc, world, process, cell);
             reply_bytes(alloc, world, process, reply)
         }
     }
 }
 
-/// Works on each cell that is marked when its turn comes, ascending, in at most two passes more than
-/// the sheet has cells, until a pass finds none; and the text of that. An error is a want of memory.
+/// Works on each cell that is marked when its turn comes, ascending, in at most two rounds more than
+/// the sheet has cells, until a round finds none; and the text of that. An error is a want of memory.
 pub fn settle(alloc: Global, world: &mut World, process: usize) -> Result<Vec<u8>, AllocError>
     ensures { IfOk result (λ answer. Played (settle world.old process) world.old answer.items world.new) }
 {

@@ -2,7 +2,7 @@
 use Rattle.std.proofs.Common.{ℕ, ◌≡◌, ◌≢◌, ◌<◌, ◌⊎◌, List, ◌∷◌, refl, ap, sym, ◌∙◌, subst, arith, inl, inr, suc}
 use Rattle.std.specs.Prelude.{Contains, bit_or}
 use Rattle.std.proofs.lemmas.Bool.{cases_eq}
-use Rattle.ds_words.specs.declared.access.Entry.{Entry}
+use Rattle.ds_words.specs.declared.access.BufferEntry.{BufferEntry}
 use Rattle.ds_words.specs.Memory.{Memory, OrsAt, WritesBack, BacksFirst, newer}
 use Rattle.ds_layout.specs.Places.{class_of}
 use Rattle.ds_layout.specs.declared.mark.TheConstants.{DIRTY}
@@ -47,15 +47,15 @@ pends_from p old new g pending c k = record {
   persisted = elim (g.owned_persisted (Announce p) refl (λ x. cc)) [ inl same ↦ same ∙ k.persisted | inr up ↦ up ∙ k.cached ];
 }
 
-pub first_back : {p : ℕ} {old new : Memory Place} (x : Entry Place) (xs : List (Entry Place)) → old.buffer p ≡ x ∷ xs → BacksFirst p old new → WritesBack p x xs old new
+pub first_back : {p : ℕ} {old new : Memory Place} (x : BufferEntry Place) (xs : List (BufferEntry Place)) → old.buffer p ≡ x ∷ xs → BacksFirst p old new → WritesBack p x xs old new
 first_back {p} {old} {new} x xs holds (first, rest, m) =
     let both : x ∷ xs ≡ first ∷ rest = sym holds ∙ m.oldest in
     let a : first ≡ x = cc in
     let b : rest ≡ xs = cc in
-    subst (λ (r : List (Entry Place)). WritesBack p x r old new) b (subst (λ (y : Entry Place). WritesBack p y rest old new) a m)
+    subst (λ (r : List (BufferEntry Place)). WritesBack p x r old new) b (subst (λ (y : BufferEntry Place). WritesBack p y rest old new) a m)
 
 -- one entry is written back
-module _ (p : ℕ) (place : Place) (value : ℕ) (rest : List (Entry Place)) (old new : PlainWorld) (sound : IsSound old) (tn : Turn p old new)
+module _ (p : ℕ) (place : Place) (value : ℕ) (rest : List (BufferEntry Place)) (old new : PlainWorld) (sound : IsSound old) (tn : Turn p old new)
     (m : WritesBack p (entry place value) rest old.memory new.memory) (fitting : EntryFits old place (old.memory.cached place) value)
     (caught : IsOwnedBy old.memory p place → newer (class_of place) (old.memory.persisted place) value ≡ old.memory.cached place) where
   abbrev pub now : ℕ
@@ -85,8 +85,8 @@ module _ (p : ℕ) (place : Place) (value : ℕ) (rest : List (Entry Place)) (ol
   -- what was in a buffer
   pub was_there : (c x q : ℕ) → Contains (new.memory.buffer q) (entry (Mark c) x) → Contains (old.memory.buffer q) (entry (Mark c) x)
   was_there c x q h = elim (cases_eq q p) [
-    | inr ne ↦ subst (λ (xs : List (Entry Place)). Contains xs (entry (Mark c) x)) (m.others q ne) h
-    | inl eq ↦ subst (λ (xs : List (Entry Place)). Contains xs (entry (Mark c) x)) (sym (ap old.memory.buffer eq ∙ m.oldest)) (further (subst (λ (xs : List (Entry Place)). Contains xs (entry (Mark c) x)) (ap new.memory.buffer eq ∙ m.mine) h))
+    | inr ne ↦ subst (λ (xs : List (BufferEntry Place)). Contains xs (entry (Mark c) x)) (m.others q ne) h
+    | inl eq ↦ subst (λ (xs : List (BufferEntry Place)). Contains xs (entry (Mark c) x)) (sym (ap old.memory.buffer eq ∙ m.oldest)) (further (subst (λ (xs : List (BufferEntry Place)). Contains xs (entry (Mark c) x)) (ap new.memory.buffer eq ∙ m.mine) h))
   ]
     where
       further : Contains rest (entry (Mark c) x) → Contains (entry place value ∷ rest) (entry (Mark c) x)
@@ -97,7 +97,7 @@ module _ (e : PlainRecoverCall) (mark : ℕ) (row : List ℕ) (word : ℕ) (cell
     (tn : Turn e.process old new) (is : new.situation e.process ≡ Recovering (on e mark row word cell s')) (pending : new.open_edits e.process ≡ old.open_edits e.process)
     (passes : Passes e.process e.row s row s' old new) where
   -- a write-back of what is no head
-  pub backs : (place : Place) (value : ℕ) (rest : List (Entry Place)) (m : WritesBack e.process (entry place value) rest old.memory new.memory) (fitting : EntryFits old place (old.memory.cached place) value)
+  pub backs : (place : Place) (value : ℕ) (rest : List (BufferEntry Place)) (m : WritesBack e.process (entry place value) rest old.memory new.memory) (fitting : EntryFits old place (old.memory.cached place) value)
       (caught : IsOwnedBy old.memory e.process place → newer (class_of place) (old.memory.persisted place) value ≡ old.memory.cached place)
       → ((c : ℕ) → place ≡ Head c → ⊥)
       → ((r : ℕ) → (place ≡ Value r) ⊎ (place ≡ Kind r) → IsHeldBy e.process (old.memory.cached (Mark r)) → (c x : ℕ) → CellOwes new r c x)
@@ -119,7 +119,7 @@ module _ (e : PlainRecoverCall) (mark : ℕ) (row : List ℕ) (word : ℕ) (cell
       (stays e mark row word cell s s' old new sound was fits real tn is pending passes g freed resolved buffer rows))
 
   -- one that changes nothing but the buffer
-  pub backs_none : (place : Place) (value : ℕ) (rest : List (Entry Place)) (m : WritesBack e.process (entry place value) rest old.memory new.memory)
+  pub backs_none : (place : Place) (value : ℕ) (rest : List (BufferEntry Place)) (m : WritesBack e.process (entry place value) rest old.memory new.memory)
       → newer (class_of place) (old.memory.persisted place) value ≡ old.memory.persisted place
       → ((c x q : ℕ) → Contains (new.memory.buffer q) (entry (Mark c) x) → Contains (old.memory.buffer q) (entry (Mark c) x))
       → Grows e.process Version old new

@@ -3,7 +3,7 @@ use Rattle.std.proofs.Common.{ℕ, ◌≡◌, ◌<◌, ◌≤◌, ◌+◌, ◌/�
 use Rattle.std.specs.Prelude.{Option, Bool, Contains}
 use Rattle.std.proofs.lemmas.Bool.{cases_eq}
 use Rattle.std.proofs.lemmas.List.Elements.{All-weaker}
-use Rattle.ds_words.specs.declared.access.Entry.{Entry}
+use Rattle.ds_words.specs.declared.access.BufferEntry.{BufferEntry}
 use Rattle.ds_words.specs.Memory.{SameMemory}
 use Rattle.ds_layout.specs.declared.place.TheConstants.{RECORDS}
 use Rattle.ds_layout.specs.declared.place.Place.TheVariants.{Version, Mark, Value, Kind, Announce}
@@ -248,7 +248,7 @@ module _ (e : PlainRecoverCall) (old new : PlainWorld) (sound : IsSound old) (re
       } in
       quiet_sound q old new tb sound mb (bears q Version old new mb sound my)
       (all_stand q Version old new mb sound (buffered old sound) my (text_same old new mb.layout tb.counted)
-      (no_new_marks q Version old new mb (λ c at. cc) (λ c x k h. subst (λ (xs : List (Entry _)). Contains xs (entry (Mark c) x)) (b.memory.buffer k) h)))
+      (no_new_marks q Version old new mb (λ c at. cc) (λ c x k h. subst (λ (xs : List (BufferEntry _)). Contains xs (entry (Mark c) x)) (b.memory.buffer k) h)))
       (λ cell a. inl (elim (cases_eq a.holder q) [
         | inr ne ↦ apart_lasts q Version old new mb cell a ne
         | inl eq ↦ record { holder = q; held = held cell (subst (λ (k : ℕ). Rattle.ds_state.specs.Owing.IsHeld old.memory k cell) eq a.held); still = subst (λ (s : Situation). Parts s cell) (sym b.situation) tt }

@@ -2,7 +2,7 @@
 use Rattle.std.proofs.Common.{ℕ, ◌≡◌, ◌<◌, ◌⊎◌, List, [], ◌∷◌, ◌++◌, refl, ap, sym, ◌∙◌, subst, arith, inl, inr, Some}
 use Rattle.std.specs.Prelude.{Contains, Option}
 use Rattle.std.proofs.lemmas.Bool.{cases_eq}
-use Rattle.ds_words.specs.declared.access.Entry.{Entry}
+use Rattle.ds_words.specs.declared.access.BufferEntry.{BufferEntry}
 use Rattle.ds_words.specs.Memory.{SameMemory, FlushesAt}
 use Rattle.ds_layout.specs.Places.{class_of}
 use Rattle.ds_layout.specs.declared.place.Place.{Place}
@@ -173,7 +173,7 @@ module _ (e : PlainRecoverCall) (mark : ℕ) (row : List ℕ) (word : ℕ) (cell
       → RecoveryHolds new e.process word cell (recovery_held cell s') → IsStage (on e mark row word cell s') s' → Keeps e.process old new
   loads m freed resolved buffer rows =
       let moves : Moves e.process Version old new = same_moves e.process old new tn m in
-      silent_step moves (λ c. m.cached (Head c)) (λ my. no_new_marks e.process Version old new moves (λ c at. cc) (λ c x q h. subst (λ (xs : List (Entry Place)). Contains xs (entry (Mark c) x)) (m.buffer q) h))
+      silent_step moves (λ c. m.cached (Head c)) (λ my. no_new_marks e.process Version old new moves (λ c at. cc) (λ c x q h. subst (λ (xs : List (BufferEntry Place)). Contains xs (entry (Mark c) x)) (m.buffer q) h))
       (stays (grows_own e.process Version old new moves tn.counted) freed resolved buffer rows)
 
   pub flushes : (place : Place) → FlushesAt e.process place (class_of place) old.memory new.memory → (FreedFits new e.process e.mark (freed_at s) → FreedFits new e.process mark (freed_at s'))

@@ -1,7 +1,7 @@
 -- The later steps of a recovery: its mark, and its announcement's way back.
 use Rattle.std.proofs.Common.{ℕ, ◌≡◌, ◌<◌, ◌≤◌, ◌⊎◌, [], ◌∷◌, ◌++◌, ap, sym, ◌∙◌, subst, arith, inl, inr, Some, max}
 use Rattle.std.specs.Prelude.{Option, Bool, bit_or}
-use Rattle.ds_words.specs.declared.access.Entry.{Entry}
+use Rattle.ds_words.specs.declared.access.BufferEntry.{BufferEntry}
 use Rattle.ds_words.specs.Memory.{OrsAt, FlushesAt, WritesBack}
 use Rattle.ds_layout.specs.Places.{class_of}
 use Rattle.ds_layout.specs.declared.mark.TheConstants.{DIRTY}
@@ -99,7 +99,7 @@ module _ (e : PlainRecoverCall) (word : ℕ) (old new : PlainWorld) (sound : IsS
           → (c x : ℕ) → e.cell ≡ c → Matters new c x → IsBelowBuffered old.memory p c x → ⊥
       gone v alone enough behind c x at matters k =
           let both : entry (Mark e.cell) v ∷ [] ≡ entry (Mark c) k.value ∷ [] = sym alone ∙ k.alone in
-          let value : v ≡ k.value = ap (λ (y : Entry Place). y.value) (let one : entry (Mark e.cell) v ≡ entry (Mark c) k.value = cc in one) in
+          let value : v ≡ k.value = ap (λ (y : BufferEntry Place). y.value) (let one : entry (Mark e.cell) v ≡ entry (Mark c) k.value = cc in one) in
           let l = k.below in
           let p1 = ap (λ (y : ℕ). new.memory.persisted (Mark y)) at in
           let c1 = ap (λ (y : ℕ). new.memory.cached (Mark y)) at in

@@ -1,6 +1,6 @@
 -- Each access of a recovery can be performed.
 use Rattle.std.proofs.Common.{ℕ, ◌≡◌, ◌<◌, ◌≤◌, List, [], ◌∷◌, length, ap, arith}
-use Rattle.ds_words.specs.declared.access.Entry.{Entry}
+use Rattle.ds_words.specs.declared.access.BufferEntry.{BufferEntry}
 use Rattle.ds_words.specs.declared.words.TheConstants.{BUFFER_ENTRIES}
 use Rattle.ds_layout.specs.declared.layout.Layout.{Layout}
 use Rattle.ds_layout.specs.declared.place.Place.{Place}
@@ -51,10 +51,10 @@ pub each_named : (layout : Layout) (e : PlainRecoverCall) → cells_of layout �
 each_named layout e cells processes is = named layout e cells processes is.process e.stage is.stage
 
 module _ (e : PlainRecoverCall) (w : PlainWorld) (low : e.process < w.layout.processes) (cells : cells_of w.layout ≡ e.cells) where
-  room : (es : List (Entry Place)) → w.memory.buffer e.process ≡ es → length es ≤ 1 → (e.process < w.layout.processes) × (length (w.memory.buffer e.process) < BUFFER_ENTRIES)
+  room : (es : List (BufferEntry Place)) → w.memory.buffer e.process ≡ es → length es ≤ 1 → (e.process < w.layout.processes) × (length (w.memory.buffer e.process) < BUFFER_ENTRIES)
   room es is few = (low, let l = ap length is in omega arith)
 
-  first : (r : Place) (value : ℕ) (rest : List (Entry Place)) → w.memory.buffer e.process ≡ entry r value ∷ rest → IsPlace w.layout r → (e.process < w.layout.processes) × HasEntry w.layout w.memory e.process
+  first : (r : Place) (value : ℕ) (rest : List (BufferEntry Place)) → w.memory.buffer e.process ≡ entry r value ∷ rest → IsPlace w.layout r → (e.process < w.layout.processes) × HasEntry w.layout w.memory e.process
   first r value rest alone there = (low, record { entry = entry r value; rest = rest; oldest = alone; there = there })
 
   none : w.memory.buffer e.process ≡ [] → (e.process < w.layout.processes) × (length (w.memory.buffer e.process) < BUFFER_ENTRIES)

@@ -25,7 +25,7 @@ const FAULTY: &str = "=[.C1]";
 // More points than a call has.
 const POINTS: usize = 10;
 
-// The most passes of a settle.
+// The most rounds of a settle.
 const PASSES: usize = 6;
 
 fn value_text(alloc: Global, words: Words) -> Result<String, AllocError> {
@@ -339,8 +339,8 @@ impl Script {
         self.row(2, 3)
     }
 
-    // One pass over the cells: whether it has found one that is marked, or none as works are refused.
-    fn pass(&mut self, process: usize) -> Result<Option<bool>, AllocError> {
+    // One round over the cells: whether it has found one that is marked, or none as works are refused.
+    fn round(&mut self, process: usize) -> Result<Option<bool>, AllocError> {
         let mut has_found = false;
         for cell in 0..CELLS {
             if is_marked(self.model.memory.cached(Name::Mark(cell))) {
@@ -359,7 +359,7 @@ impl Script {
         let alloc = self.alloc;
         self.line(format!(in alloc; "settle {process}"))?;
         for _ in 0..PASSES {
-            match self.pass(process)? {
+            match self.round(process)? {
                 None => return Ok(()),
                 Some(true) => {}
                 Some(false) => break,

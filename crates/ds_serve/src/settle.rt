@@ -21,8 +21,8 @@ fn stopped_by(worked: Worked) -> Result<(), CallRefusal> {
     }
 }
 
-// One pass over the cells, with work on each that is marked when its turn comes: whether there was one.
-fn pass_over<L: Ledger, M: Ledger, R: Wait>(
+// One round over the cells, with work on each that is marked when its turn comes: whether there was one.
+fn one_round<L: Ledger, M: Ledger, R: Wait>(
     rt: &R,
     alloc: Global,
     sheet: &LockedSheet<L, M>,
@@ -42,7 +42,7 @@ fn pass_over<L: Ledger, M: Ledger, R: Wait>(
     Ok(from > 0)
 }
 
-// Works on the cells that are marked, in at most N + 2 passes over the N cells, until a pass finds
+// Works on the cells that are marked, in at most N + 2 rounds over the N cells, until a round finds
 // none. An error is why the begin of a work was refused, or that memory was wanting in one.
 pub(crate) fn settle<L: Ledger, M: Ledger, R: Wait>(
     rt: &R,
@@ -52,9 +52,9 @@ pub(crate) fn settle<L: Ledger, M: Ledger, R: Wait>(
 ) -> Result<(), CallRefusal>
     ensures { pass.new ≡ pass.old }
 {
-    let passes = sheet.layout().cells() + 2;
-    for _ in 0..passes {
-        if !pass_over(rt, alloc, sheet, pass)? {
+    let rounds = sheet.layout().cells() + 2;
+    for _ in 0..rounds {
+        if !one_round(rt, alloc, sheet, pass)? {
             break;
         }
     }

@@ -1,7 +1,7 @@
 -- Each kind of access keeps a world sound.
 use Rattle.std.proofs.Common.{ℕ, ◌≡◌, ◌≢◌, ◌<◌, ◌⊎◌, List, refl, ap, sym, ◌∙◌, subst, arith, inl, inr}
 use Rattle.ds_words.specs.declared.access.Class.{Class}
-use Rattle.ds_words.specs.declared.access.Entry.{Entry}
+use Rattle.ds_words.specs.declared.access.BufferEntry.{BufferEntry}
 use Rattle.ds_words.specs.Memory.{SameMemory, StoresAt, FlushesAt, WritesBack, EvictsAt, newer}
 use Rattle.ds_layout.specs.declared.layout.Layout.{Layout}
 use Rattle.ds_layout.specs.Places.{class_of}
@@ -75,7 +75,7 @@ module _ (p : ℕ) (old new : PlainWorld) (t : Turn p old new) where
     pub elsewhere : (r : Place) → r ≢ place → new.memory.persisted r ≡ old.memory.persisted r
     pub buffers : (q : ℕ) → q ≢ p → new.memory.buffer q ≡ old.memory.buffer q
 
-  pub written_backs : (place : Place) (value : ℕ) (rest : List (Entry Place)) → WritesBack p (entry place value) rest old.memory new.memory
+  pub written_backs : (place : Place) (value : ℕ) (rest : List (BufferEntry Place)) → WritesBack p (entry place value) rest old.memory new.memory
       → Backs place (newer (class_of place) (old.memory.persisted place) value)
   written_backs place value rest m = record { cached = m.cached; there = m.there; elsewhere = m.elsewhere; buffers = m.others }
 
@@ -176,7 +176,7 @@ module _ (place : Place) (old new : PlainWorld) (s : IsSound old) (buffered : Bu
   evict_marks = marks_at place refl
     where
       in_buffer : (c x q : ℕ) → Contains (new.memory.buffer q) (entry (Mark c) x) → Contains (old.memory.buffer q) (entry (Mark c) x)
-      in_buffer c x q h = subst (λ (xs : List (Entry Place)). Contains xs (entry (Mark c) x)) (v.memory.buffer q) h
+      in_buffer c x q h = subst (λ (xs : List (BufferEntry Place)). Contains xs (entry (Mark c) x)) (v.memory.buffer q) h
 
       marks_at : (r : Place) → r ≡ place → MyMarks nobody place old new moves
       marks_at (Mark d) at = backed_marks nobody place old new moves s buffered evict_mine (text_same old new v.layout v.counted) d (old.memory.cached (Mark d)) (sym at)

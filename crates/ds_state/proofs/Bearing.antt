@@ -3,7 +3,7 @@ use Rattle.std.proofs.Common.{ℕ, ◌≡◌, ◌≢◌, ◌<◌, ◌≤◌, ◌
 use Rattle.std.specs.Prelude.{Contains}
 use Rattle.std.proofs.lemmas.Bool.{cases_eq}
 use Rattle.std.proofs.lemmas.List.Elements.{Contains-append_cases}
-use Rattle.ds_words.specs.declared.access.Entry.{Entry}
+use Rattle.ds_words.specs.declared.access.BufferEntry.{BufferEntry}
 use Rattle.ds_words.specs.Memory.{Memory, FlushesAt}
 use Rattle.ds_layout.specs.Places.{class_of}
 use Rattle.ds_formula.specs.Cells.{IsInside, index_of}
@@ -456,7 +456,7 @@ module _ (p : ℕ) (place : Place) (old new : PlainWorld) (m : Moves p place old
     on_persisted = λ c x clean now. elim (marks.durable c x clean now) [ inl was ↦ same_durable c x clean now was | inr fresh ↦ fresh ];
   }
 
-pub in_push : (xs : List (Entry Place)) (y e : Entry Place) → Contains (xs ++ y ∷ []) e → Contains xs e ⊎ (y ≡ e)
+pub in_push : (xs : List (BufferEntry Place)) (y e : BufferEntry Place) → Contains (xs ++ y ∷ []) e → Contains xs e ⊎ (y ≡ e)
 in_push xs y e h = elim (Contains-append_cases xs (y ∷ []) e h) [
   | inl k ↦ inl k
   | inr k ↦ inr (only k)
@@ -494,7 +494,7 @@ module _ (p : ℕ) (place : Place) (old new : PlainWorld) (m : Moves p place old
     cached_marks = cached;
     durable = λ c x clean d. inl (elim d [
       | inl is ↦ inl (is ∙ persisted (Mark c))
-      | inr k ↦ inr (back_durable c x k (λ q h. subst (λ (xs : List (Entry Place)). Contains xs (entry (Mark c) x)) (buffer q) h))
+      | inr k ↦ inr (back_durable c x k (λ q h. subst (λ (xs : List (BufferEntry Place)). Contains xs (entry (Mark c) x)) (buffer q) h))
     ]);
   }
 
@@ -510,11 +510,11 @@ module _ (p : ℕ) (place : Place) (old new : PlainWorld) (m : Moves p place old
           | inr ne ↦ inl (inr (record {
             by = k.by;
             process = subst (λ (l : Layout). k.by < l.processes) m.layout k.process;
-            there = subst (λ (xs : List (Entry Place)). Contains xs (entry (Mark c) x)) (f.others k.by ne) k.there;
+            there = subst (λ (xs : List (BufferEntry Place)). Contains xs (entry (Mark c) x)) (f.others k.by ne) k.there;
             no_older = (let g = f.persisted (Mark c) in let n = k.no_older in omega arith);
           }))
           | inl eq ↦ elim (in_push (old.memory.buffer p) (entry (Mark d) (old.memory.cached (Mark d))) (entry (Mark c) x)
-              (subst (λ (xs : List (Entry Place)). Contains xs (entry (Mark c) x)) (ap new.memory.buffer eq ∙ f.mine) k.there)) [
+              (subst (λ (xs : List (BufferEntry Place)). Contains xs (entry (Mark c) x)) (ap new.memory.buffer eq ∙ f.mine) k.there)) [
                 | inl there ↦ inl (inr (record {
                   by = p;
                   process = subst (λ (l : Layout). p < l.processes) m.layout (subst (λ (q : ℕ). q < new.layout.processes) eq k.process);
@@ -522,8 +522,8 @@ module _ (p : ℕ) (place : Place) (old new : PlainWorld) (m : Moves p place old
                   no_older = (let g = f.persisted (Mark c) in let n = k.no_older in omega arith);
                 }))
                 | inr is ↦ (
-                    let at : Mark d ≡ Mark c = ap (λ (y : Entry Place). y.place) is in
-                    let v : old.memory.cached (Mark d) ≡ x = ap (λ (y : Entry Place). y.value) is in
+                    let at : Mark d ≡ Mark c = ap (λ (y : BufferEntry Place). y.place) is in
+                    let v : old.memory.cached (Mark d) ≡ x = ap (λ (y : BufferEntry Place). y.value) is in
                     inr (durable_now p place old new m sound buffered mine same_text c x clean (sym v ∙ ap old.memory.cached at) (inr k)))
               ]
         ]

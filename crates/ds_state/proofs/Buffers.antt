@@ -3,7 +3,7 @@ use Rattle.std.proofs.Common.{ℕ, ◌≡◌, ◌≢◌, ◌≤◌, List, [], �
 use Rattle.std.specs.Prelude.{Contains, map}
 use Rattle.std.specs.List.{range_with_len}
 use Rattle.std.proofs.lemmas.List.Elements.{All-contains, All-map}
-use Rattle.ds_words.specs.declared.access.Entry.{Entry}
+use Rattle.ds_words.specs.declared.access.BufferEntry.{BufferEntry}
 use Rattle.ds_layout.specs.declared.place.Place.{Place}
 use Rattle.ds_layout.specs.declared.place.Place.TheVariants.{Mark, Value, Kind, Announce, Head}
 use Rattle.ds_state.specs.Edits.{text_parts}
@@ -21,27 +21,27 @@ use Rattle.ds_state.specs.declared.situation.Situation.{Situation}
 use Rattle.ds_state.specs.declared.situation.Situation.TheVariants.{Idle, Stopped, Editing, Working, Recovering, Showing}
 use Rattle.ds_state.proofs.Bearing.{Buffered}
 
-none : {b : List (Entry Place)} (e : Entry Place) → b ≡ [] → Contains b e → ⊥
-none e is h = nothing (subst (λ (xs : List (Entry Place)). Contains xs e) is h)
+none : {b : List (BufferEntry Place)} (e : BufferEntry Place) → b ≡ [] → Contains b e → ⊥
+none e is h = nothing (subst (λ (xs : List (BufferEntry Place)). Contains xs e) is h)
   where
     nothing : Contains [] e → ⊥
     nothing (k, l, same) = omega arith
 
-one : {b : List (Entry Place)} (x e : Entry Place) → b ≡ x ∷ [] → Contains b e → x ≡ e
-one x e is h = only (subst (λ (xs : List (Entry Place)). Contains xs e) is h)
+one : {b : List (BufferEntry Place)} (x e : BufferEntry Place) → b ≡ x ∷ [] → Contains b e → x ≡ e
+one x e is h = only (subst (λ (xs : List (BufferEntry Place)). Contains xs e) is h)
   where
     only : Contains (x ∷ []) e → x ≡ e
     only (zero, l, same) = same
     only (suc k, l, same) = absurd (omega arith)
 
-not_mark : {b : List (Entry Place)} (r : Place) (v c x : ℕ) → r ≢ Mark c → b ≡ entry r v ∷ [] → Contains b (entry (Mark c) x) → ⊥
-not_mark r v c x apart is h = apart (ap (λ (y : Entry Place). y.place) (one (entry r v) (entry (Mark c) x) is h))
+not_mark : {b : List (BufferEntry Place)} (r : Place) (v c x : ℕ) → r ≢ Mark c → b ≡ entry r v ∷ [] → Contains b (entry (Mark c) x) → ⊥
+not_mark r v c x apart is h = apart (ap (λ (y : BufferEntry Place). y.place) (one (entry r v) (entry (Mark c) x) is h))
 
-a_mark_is : {b : List (Entry Place)} (w : PlainWorld) (d v c x : ℕ) → v ≤ w.memory.cached (Mark d) → b ≡ entry (Mark d) v ∷ [] → Contains b (entry (Mark c) x) → x ≤ w.memory.cached (Mark c)
+a_mark_is : {b : List (BufferEntry Place)} (w : PlainWorld) (d v c x : ℕ) → v ≤ w.memory.cached (Mark d) → b ≡ entry (Mark d) v ∷ [] → Contains b (entry (Mark c) x) → x ≤ w.memory.cached (Mark c)
 a_mark_is w d v c x had is h =
     let same : entry (Mark d) v ≡ entry (Mark c) x = one (entry (Mark d) v) (entry (Mark c) x) is h in
-    let at : Mark d ≡ Mark c = ap (λ (y : Entry Place). y.place) same in
-    let value : v ≡ x = ap (λ (y : Entry Place). y.value) same in
+    let at : Mark d ≡ Mark c = ap (λ (y : BufferEntry Place). y.place) same in
+    let value : v ≡ x = ap (λ (y : BufferEntry Place). y.value) same in
     let eq = ap (λ (y : Place). w.memory.cached y) at in
     omega arith
 
@@ -52,9 +52,9 @@ record_no_mark p n (suc k) c = λ same. cc
 holds_had : (w : PlainWorld) (e : PlainEdit) (held : Held) (c x : ℕ) → Holds w e held → Contains (w.memory.buffer e.process) (entry (Mark c) x) → x ≤ w.memory.cached (Mark c)
 holds_had w e empty c x h k = absurd (none (entry (Mark c) x) h k)
 holds_had w e (record_words first count) c x h k = absurd (
-    All-contains (λ (y : Entry Place). y.place ≢ Mark c) (map (record_entry e) (range_with_len first count)) (entry (Mark c) x)
-    (All-map (λ (y : Entry Place). y.place ≢ Mark c) (record_entry e) (range_with_len first count) (λ i d l. record_no_mark e.process e.number _ c))
-    (subst (λ (xs : List (Entry Place)). Contains xs (entry (Mark c) x)) h k) refl)
+    All-contains (λ (y : BufferEntry Place). y.place ≢ Mark c) (map (record_entry e) (range_with_len first count)) (entry (Mark c) x)
+    (All-map (λ (y : BufferEntry Place). y.place ≢ Mark c) (record_entry e) (range_with_len first count) (λ i d l. record_no_mark e.process e.number _ c))
+    (subst (λ (xs : List (BufferEntry Place)). Contains xs (entry (Mark c) x)) h k) refl)
 holds_had w e (announcing_word a) c x h k = absurd (not_mark (Announce e.process) (word_of w e a) c x (λ same. cc) h k)
 holds_had w e (row_bits row) c x h k = absurd (not_mark (index_place row e.cell) h.value c x (λ same. cc) h.alone k)
 holds_had w e (done_bits p n) c x h k = absurd (not_mark (done_place p n) h.value c x (λ same. cc) h.alone k)
@@ -66,22 +66,22 @@ work_had w e works.empty c x h k = absurd (none (entry (Mark c) x) h k)
 work_had w e claim c x h k = a_mark_is w e.cell h.value c x h.had h.alone k
 work_had w e (a_mark d) c x h k = a_mark_is w d h.value c x h.had h.alone k
 work_had w e the_value c x h k = absurd (not_mark (Value e.cell) _ c x (λ same. cc) h k)
-work_had w e both_words c x h k = absurd (two (subst (λ (xs : List (Entry Place)). Contains xs (entry (Mark c) x)) h k))
+work_had w e both_words c x h k = absurd (two (subst (λ (xs : List (BufferEntry Place)). Contains xs (entry (Mark c) x)) h k))
   where
     two : Contains (works.value_entry e ∷ works.kind_entry e ∷ []) (entry (Mark c) x) → ⊥
-    two (zero, l, same) = let p : Value e.cell ≡ Mark c = ap (λ (y : Entry Place). y.place) same in cc
-    two (suc zero, l, same) = let p : Kind e.cell ≡ Mark c = ap (λ (y : Entry Place). y.place) same in cc
+    two (zero, l, same) = let p : Value e.cell ≡ Mark c = ap (λ (y : BufferEntry Place). y.place) same in cc
+    two (suc zero, l, same) = let p : Kind e.cell ≡ Mark c = ap (λ (y : BufferEntry Place). y.place) same in cc
     two (suc (suc i), l, same) = omega arith
 work_had w e the_kind c x h k = absurd (not_mark (Kind e.cell) _ c x (λ same. cc) h k)
 
 recovery_had : (w : PlainWorld) (p word own : ℕ) (held : RecoveryHeld) (c x : ℕ) → RecoveryHolds w p word own held → Contains (w.memory.buffer p) (entry (Mark c) x) → x ≤ w.memory.cached (Mark c)
 recovery_had w p word own recoveries.empty c x h k = absurd (none (entry (Mark c) x) h k)
 recovery_had w p word own (recoveries.the_value cell) c x h k = absurd (not_mark (Value cell) _ c x (λ same. cc) h k)
-recovery_had w p word own (recoveries.both_words cell) c x h k = absurd (two (subst (λ (xs : List (Entry Place)). Contains xs (entry (Mark c) x)) h k))
+recovery_had w p word own (recoveries.both_words cell) c x h k = absurd (two (subst (λ (xs : List (BufferEntry Place)). Contains xs (entry (Mark c) x)) h k))
   where
     two : Contains (recoveries.value_now w cell ∷ recoveries.kind_now w cell ∷ []) (entry (Mark c) x) → ⊥
-    two (zero, l, same) = let p : Value cell ≡ Mark c = ap (λ (y : Entry Place). y.place) same in cc
-    two (suc zero, l, same) = let p : Kind cell ≡ Mark c = ap (λ (y : Entry Place). y.place) same in cc
+    two (zero, l, same) = let p : Value cell ≡ Mark c = ap (λ (y : BufferEntry Place). y.place) same in cc
+    two (suc zero, l, same) = let p : Kind cell ≡ Mark c = ap (λ (y : BufferEntry Place). y.place) same in cc
     two (suc (suc i), l, same) = omega arith
 recovery_had w p word own (recoveries.the_kind cell) c x h k = absurd (not_mark (Kind cell) _ c x (λ same. cc) h k)
 recovery_had w p word own (recoveries.a_mark d) c x h k = a_mark_is w d h.value c x h.had h.alone k

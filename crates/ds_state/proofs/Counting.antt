@@ -18,7 +18,7 @@ use Rattle.ds_state.specs.CallsFit.{CallFits}
 use Rattle.ds_state.specs.WordsFit.{RefersTo, IsKept, WordFits}
 use Rattle.ds_state.specs.Sound.{IsSound, IsOfSheet, Increasing}
 use Rattle.ds_state.specs.Rely.{IsOwnedBy, Grows, Rely, Keeps}
-use Rattle.ds_words.specs.declared.access.Entry.{Entry}
+use Rattle.ds_words.specs.declared.access.BufferEntry.{BufferEntry}
 use Rattle.ds_state.specs.Owing.{entry}
 use Rattle.ds_state.specs.declared.situation.Situation.{Situation}
 use Rattle.ds_state.proofs.Frames.{Moves, each_moved, stays_hold}
@@ -283,7 +283,7 @@ module _ (e : PlainEdit) (issue : PlainIssue) (old new : PlainWorld) (c : Counts
     others = rely_other s;
     sound = record {
       stand = all_stand e.process (Head e.cell) old new moves s buffered mine text
-          (no_new_marks e.process (Head e.cell) old new moves (λ d is. cc) (λ d x q h. subst (λ (xs : List (Entry Place)). Contains xs (entry (Mark d) x)) (c.memory.buffer q) h));
+          (no_new_marks e.process (Head e.cell) old new moves (λ d is. cc) (λ d x q h. subst (λ (xs : List (BufferEntry Place)). Contains xs (entry (Mark d) x)) (c.memory.buffer q) h));
       words = λ r. elim (place_cases r (Head e.cell)) [
         | inl eq ↦ subst (λ (x : Place). WordFits new x (new.memory.cached x) (new.memory.persisted x)) (sym eq) head_counts
         | inr ne ↦ subst (λ (x : ℕ). WordFits new r x (new.memory.persisted r)) (sym (c.memory.elsewhere r ne))

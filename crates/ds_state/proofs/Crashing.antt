@@ -1,7 +1,7 @@
 -- What a crash leaves.
 use Rattle.std.proofs.Common.{ℕ, ◌≡◌, ◌⊎◌, List, [], ◌∷◌, ◌++◌, ap, sym, ◌∙◌, subst, arith, inl, inr, length}
 use Rattle.std.specs.Prelude.{Contains}
-use Rattle.ds_words.specs.declared.access.Entry.{Entry}
+use Rattle.ds_words.specs.declared.access.BufferEntry.{BufferEntry}
 use Rattle.ds_formula.specs.Plain.{PlainContent}
 use Rattle.ds_layout.specs.declared.place.Place.{Place}
 use Rattle.ds_layout.specs.declared.place.Place.TheVariants.{Head, Mark, Value, Kind, Announce}
@@ -104,8 +104,8 @@ module _ (old new : PlainWorld) (sound : IsSound old) (crash : CrashesTo old new
   text c content (inl none) = inl none
   text c content (inr h) = inr (record { by = h.by; gave = kept c h.by h.gave; reads = rw crash.layout h.reads })
 
-  nothing_buffered : (q : ℕ) (e : Entry Place) → Contains (new.memory.buffer q) e → ⊥
-  nothing_buffered q e h = none (subst (λ (xs : List (Entry Place)). Contains xs e) (crash.memory.buffer q) h)
+  nothing_buffered : (q : ℕ) (e : BufferEntry Place) → Contains (new.memory.buffer q) e → ⊥
+  nothing_buffered q e h = none (subst (λ (xs : List (BufferEntry Place)). Contains xs e) (crash.memory.buffer q) h)
     where
       none : Contains [] e → ⊥
       none (k, l, is) = omega arith

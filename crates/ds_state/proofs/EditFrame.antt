@@ -2,7 +2,7 @@
 use Rattle.std.proofs.Common.{ℕ, ◌≡◌, ◌<◌, ◌≤◌, ◌⊎◌, List, [], ◌∷◌, refl, ap, sym, ◌∙◌, subst, arith, inl, inr, max, suc}
 use Rattle.std.specs.Prelude.{Contains}
 use Rattle.std.proofs.lemmas.Bool.{cases_eq}
-use Rattle.ds_words.specs.declared.access.Entry.{Entry}
+use Rattle.ds_words.specs.declared.access.BufferEntry.{BufferEntry}
 use Rattle.ds_words.specs.Memory.{FlushesAt, WritesBack, newer}
 use Rattle.ds_layout.specs.Places.{class_of}
 use Rattle.ds_layout.specs.declared.place.Place.{Place}
@@ -34,10 +34,10 @@ module _ (p : ℕ) (old new : PlainWorld) (m : Moves p Version old new) (sound :
   pub flush_any : (place : Place) → FlushesAt p place (class_of place) old.memory new.memory → MyMarks p Version old new m
   flush_any (Mark d) f = flushed_marks p Version old new m sound buffered mine text d (λ c is. cc) f
   flush_any place f = no_new_marks p Version old new m (λ c is. cc) (λ c x q h. elim (cases_eq q p) [
-    | inr ne ↦ subst (λ (xs : List (Entry Place)). Contains xs (entry (Mark c) x)) (f.others q ne) h
-    | inl eq ↦ elim (in_push (old.memory.buffer p) (entry place (old.memory.cached place)) (entry (Mark c) x) (subst (λ (xs : List (Entry Place)). Contains xs (entry (Mark c) x)) (ap new.memory.buffer eq ∙ f.mine) h)) [
+    | inr ne ↦ subst (λ (xs : List (BufferEntry Place)). Contains xs (entry (Mark c) x)) (f.others q ne) h
+    | inl eq ↦ elim (in_push (old.memory.buffer p) (entry place (old.memory.cached place)) (entry (Mark c) x) (subst (λ (xs : List (BufferEntry Place)). Contains xs (entry (Mark c) x)) (ap new.memory.buffer eq ∙ f.mine) h)) [
       | inl there ↦ subst (λ (r : ℕ). Contains (old.memory.buffer r) (entry (Mark c) x)) (sym eq) there
-      | inr is ↦ absurd (let at : place ≡ Mark c = ap (λ (y : Entry Place). y.place) is in cc)
+      | inr is ↦ absurd (let at : place ≡ Mark c = ap (λ (y : BufferEntry Place). y.place) is in cc)
     ]
   ])
 
@@ -45,15 +45,15 @@ max_cases : (a b : ℕ) → ((max a b ≡ a) × (b ≤ a)) ⊎ ((max a b ≡ b) 
 max_cases a b = grind arith
 
 module _ (p : ℕ) (place : Place) (value : ℕ) (old new : PlainWorld) (m : Moves p place old new) (sound : IsSound old) (buffered : Buffered old) (mine : Mine p place old new m)
-    (text : (c head : ℕ) (content : PlainContent) → HasContent old c head content → HasContent new c head content) (real : p < old.layout.processes) {rest : List (Entry Place)} (w : WritesBack p (entry place value) rest old.memory new.memory) where
+    (text : (c head : ℕ) (content : PlainContent) → HasContent old c head content → HasContent new c head content) (real : p < old.layout.processes) {rest : List (BufferEntry Place)} (w : WritesBack p (entry place value) rest old.memory new.memory) where
   nothing_new : (c x q : ℕ) → Contains (new.memory.buffer q) (entry (Mark c) x) → Contains (old.memory.buffer q) (entry (Mark c) x)
   nothing_new c x q h = elim (cases_eq q p) [
-    | inr ne ↦ subst (λ (xs : List (Entry Place)). Contains xs (entry (Mark c) x)) (w.others q ne) h
-    | inl eq ↦ subst (λ (r : ℕ). Contains (old.memory.buffer r) (entry (Mark c) x)) (sym eq) (subst (λ (xs : List (Entry Place)). Contains xs (entry (Mark c) x)) (sym w.oldest)
-        (behind (entry place value) (subst (λ (xs : List (Entry Place)). Contains xs (entry (Mark c) x)) (ap new.memory.buffer eq ∙ w.mine) h)))
+    | inr ne ↦ subst (λ (xs : List (BufferEntry Place)). Contains xs (entry (Mark c) x)) (w.others q ne) h
+    | inl eq ↦ subst (λ (r : ℕ). Contains (old.memory.buffer r) (entry (Mark c) x)) (sym eq) (subst (λ (xs : List (BufferEntry Place)). Contains xs (entry (Mark c) x)) (sym w.oldest)
+        (behind (entry place value) (subst (λ (xs : List (BufferEntry Place)). Contains xs (entry (Mark c) x)) (ap new.memory.buffer eq ∙ w.mine) h)))
   ]
     where
-      behind : (y : Entry Place) → Contains rest (entry (Mark c) x) → Contains (y ∷ rest) (entry (Mark c) x)
+      behind : (y : BufferEntry Place) → Contains rest (entry (Mark c) x) → Contains (y ∷ rest) (entry (Mark c) x)
       behind y (k, l, same) = (suc k, omega arith, same)
 
   -- whatever is written back
@@ -67,7 +67,7 @@ module _ (p : ℕ) (place : Place) (value : ℕ) (old new : PlainWorld) (m : Mov
           by = p;
           process = real;
           there = subst (λ (y : ℕ). Contains (old.memory.buffer p) (entry (Mark d) y)) (sym newer'.0)
-              (subst (λ (y : Place). Contains (old.memory.buffer p) (entry y value)) (sym at) (subst (λ (xs : List (Entry Place)). Contains xs (entry place value)) (sym w.oldest) (0, omega arith, refl)));
+              (subst (λ (y : Place). Contains (old.memory.buffer p) (entry y value)) (sym at) (subst (λ (xs : List (BufferEntry Place)). Contains xs (entry place value)) (sym w.oldest) (0, omega arith, refl)));
           no_older = (let e = newer'.0 in let l = newer'.1 in omega arith);
         })
       ] in
@@ -146,7 +146,7 @@ module _ (p : ℕ) (old new : PlainWorld) (moves : Moves p Version old new) (sam
   silent_framed = record {
     bears = bears p Version old new moves sound silent_mine;
     stand = all_stand p Version old new moves sound buffered silent_mine (text_same old new moves.layout same)
-        (no_new_marks p Version old new moves (λ c is. cc) (λ c x q h. subst (λ (xs : List (Entry Place)). Contains xs (entry (Mark c) x)) (buffer q) h));
+        (no_new_marks p Version old new moves (λ c is. cc) (λ c x q h. subst (λ (xs : List (BufferEntry Place)). Contains xs (entry (Mark c) x)) (buffer q) h));
     apart = λ cell a. inl (elim (cases_eq a.holder p) [
       | inr ne ↦ apart_lasts p Version old new moves cell a ne
       | inl eq ↦ absurd (parts cell (subst (λ (q : ℕ). Parts (old.situation q) cell) eq a.still))

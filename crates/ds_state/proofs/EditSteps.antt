@@ -1,7 +1,7 @@
 -- What an edit's steps leave of what it owes: each passes on what matters.
 use Rattle.std.proofs.Common.{ℕ, ◌≡◌, ◌≤◌, ◌%◌, ◌⊎◌, [], ◌∷◌, ap, sym, ◌∙◌, subst, arith, inl, inr}
 use Rattle.ds_words.specs.Memory.{StoresAt}
-use Rattle.ds_words.specs.declared.access.Entry.{Entry}
+use Rattle.ds_words.specs.declared.access.BufferEntry.{BufferEntry}
 use Rattle.ds_layout.specs.declared.place.Place.{Place}
 use Rattle.ds_layout.specs.declared.place.Place.TheVariants.{Head, Mark}
 use Rattle.ds_state.specs.Edits.{PlainEditCall}
@@ -65,7 +65,7 @@ pub back_mark_passes : (p : ℕ) (e : PlainEditCall) (own v : ℕ) (how : _) (ol
     → (x : ℕ) → Matters new e.cell x → EditOwes old.memory p e.cell (edits.BackMark own) x → EditOwes new.memory p e.cell (edits.StoreOutcome how) x
 back_mark_passes p e own v how old new alone enough behind x matters k =
     let both : entry (Mark e.cell) v ∷ [] ≡ entry (Mark e.cell) k.value ∷ [] = sym alone ∙ k.alone in
-    let value : v ≡ k.value = ap (λ (y : Entry Place). y.value) (let one : entry (Mark e.cell) v ≡ entry (Mark e.cell) k.value = cc in one) in
+    let value : v ≡ k.value = ap (λ (y : BufferEntry Place). y.value) (let one : entry (Mark e.cell) v ≡ entry (Mark e.cell) k.value = cc in one) in
     let l = k.below in
     elim matters.1 [
       | inl is ↦ omega arith

@@ -2,7 +2,7 @@
 use Rattle.std.proofs.Common.{ℕ, ◌≡◌, ◌<◌, ◌≤◌, List, [], refl, ap, sym, ◌∙◌, subst, arith, inl, inr, Some, None, length}
 use Rattle.std.specs.Prelude.{Contains, Option}
 use Rattle.std.proofs.lemmas.Bool.{cases_eq}
-use Rattle.ds_words.specs.declared.access.Entry.{Entry}
+use Rattle.ds_words.specs.declared.access.BufferEntry.{BufferEntry}
 use Rattle.ds_layout.specs.declared.place.Place.{Place}
 use Rattle.ds_layout.specs.declared.place.Place.TheVariants.{Version, Mark, Announce}
 use Rattle.ds_state.specs.Edits.{PlainEditCall, text_parts}
@@ -62,8 +62,8 @@ module _ (p : ℕ) (old new : PlainWorld) (sound : IsSound old) (real : p < old.
 
   marks : MyMarks p Version old new moves
   marks = no_new_marks p Version old new moves (λ c is. cc) (λ c x q h. elim (cases_eq q p) [
-    | inr ne ↦ subst (λ (xs : List (Entry Place)). Contains xs (entry (Mark c) x)) (stop.memory.others q ne) h
-    | inl eq ↦ absurd (nothing c x (subst (λ (xs : List (Entry Place)). Contains xs (entry (Mark c) x)) (ap new.memory.buffer eq ∙ stop.memory.mine) h))
+    | inr ne ↦ subst (λ (xs : List (BufferEntry Place)). Contains xs (entry (Mark c) x)) (stop.memory.others q ne) h
+    | inl eq ↦ absurd (nothing c x (subst (λ (xs : List (BufferEntry Place)). Contains xs (entry (Mark c) x)) (ap new.memory.buffer eq ∙ stop.memory.mine) h))
   ])
     where
       nothing : (c x : ℕ) → Contains [] (entry (Mark c) x) → ⊥

@@ -4,7 +4,7 @@ use Rattle.std.specs.Prelude.{Contains, slice_index_or, bit_or, IfSome, IfNone}
 use Rattle.std.specs.Int.{bit_at}
 use Rattle.std.proofs.lemmas.Bool.{cases_eq, eqb-true, eqb-false}
 use Rattle.ds_words.specs.Memory.{StoresAt}
-use Rattle.ds_words.specs.declared.access.Entry.{Entry}
+use Rattle.ds_words.specs.declared.access.BufferEntry.{BufferEntry}
 use Rattle.ds_layout.specs.Bits.{HasBit, HaveNoBit, IsFirstBit}
 use Rattle.ds_layout.specs.declared.mark.TheConstants.{DIRTY}
 use Rattle.ds_layout.specs.declared.place.Place.{Place}
@@ -67,7 +67,7 @@ durable_same old new c x layout same buffers (inl is) = inl (is ∙ same)
 durable_same old new c x layout same buffers (inr d) = inr (record {
   by = d.by;
   process = (let l = ap (λ (y : Layout). y.processes) layout in let k = d.process in omega arith);
-  there = subst (λ (b : List (Entry Place)). Contains b (entry (Mark c) x)) (buffers d.by) d.there;
+  there = subst (λ (b : List (BufferEntry Place)). Contains b (entry (Mark c) x)) (buffers d.by) d.there;
   no_older = (let k = d.no_older in omega arith);
 })
 
@@ -137,7 +137,7 @@ back_passes p row d d' v old new alone enough behind next c x matters (bit, inr 
     gone : d ≡ c → IsBelowBuffered old.memory p c x → ⊥
     gone at k =
         let both : entry (Mark d) v ∷ [] ≡ entry (Mark c) k.value ∷ [] = sym alone ∙ k.alone in
-        let value : v ≡ k.value = ap (λ (y : Entry Place). y.value) (let one : entry (Mark d) v ≡ entry (Mark c) k.value = cc in one) in
+        let value : v ≡ k.value = ap (λ (y : BufferEntry Place). y.value) (let one : entry (Mark d) v ≡ entry (Mark c) k.value = cc in one) in
         let l = k.below in
         let p1 = ap (λ (y : ℕ). new.memory.persisted (Mark y)) at in
         let c1 = ap (λ (y : ℕ). new.memory.cached (Mark y)) at in

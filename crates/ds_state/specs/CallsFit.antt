@@ -1,7 +1,7 @@
 -- What each process knows, and what its buffer holds.
 use Rattle.std.specs.Prelude.{ℕ, ◌≡◌, ◌<◌, ◌≤◌, ◌-◌, List, [], ◌∷◌, length, map, Option, Some, None, Contains, slice_index_or, suc}
 use Rattle.std.specs.List.{range_with_len}
-use Rattle.ds_words.specs.declared.access.Entry.{Entry}
+use Rattle.ds_words.specs.declared.access.BufferEntry.{BufferEntry}
 use Rattle.ds_formula.specs.Cells.{index_of}
 use Rattle.ds_formula.specs.declared.cells.Cell.{Cell}
 use Rattle.ds_formula.specs.declared.cells.Shape.{Shape}
@@ -57,7 +57,7 @@ held_at parts refs (BackOutcome how) = announcing_word (ended how)
 held_at parts refs _ = empty
 
 -- the buffer's entry of one word of the edit's record, by the number of that word
-abbrev pub record_entry : PlainEdit → ℕ → Entry Place
+abbrev pub record_entry : PlainEdit → ℕ → BufferEntry Place
 record_entry e k = entry (record_place e.process e.number k) (record_word e k)
 
 -- the process's buffer holds one entry alone: of the word at this place, with a value of which `Is` holds

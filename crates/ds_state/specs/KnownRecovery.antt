@@ -5,7 +5,7 @@ use Rattle.ds_layout.specs.declared.place.Place.TheVariants as place
 use Rattle.ds_layout.specs.declared.announcement.Phase.{Phase}
 use Rattle.ds_layout.specs.declared.announcement.Phase.TheVariants as phase
 use Rattle.ds_state.specs.World.{PlainEdit, PlainIssue, PlainWorld, announcement}
-use Rattle.ds_words.specs.declared.access.Entry.{Entry}
+use Rattle.ds_words.specs.declared.access.BufferEntry.{BufferEntry}
 use Rattle.ds_layout.specs.declared.place.Place.{Place}
 use Rattle.ds_state.specs.World.{of_cell, IsHeadBy}
 use Rattle.ds_state.specs.declared.work.Spread.{Spread}
@@ -182,11 +182,11 @@ recovery_held c (BackOutcome how) = the_outcome
 recovery_held c _ = empty
 
 -- the buffer's entry of the cell's value, with what the cached side has now
-abbrev pub value_now : PlainWorld → ℕ → Entry Place
+abbrev pub value_now : PlainWorld → ℕ → BufferEntry Place
 value_now w cell = entry (place.Value cell) (w.memory.cached (place.Value cell))
 
 -- the buffer's entry of the cell's kind, with what the cached side has now
-abbrev pub kind_now : PlainWorld → ℕ → Entry Place
+abbrev pub kind_now : PlainWorld → ℕ → BufferEntry Place
 kind_now w cell = entry (place.Kind cell) (w.memory.cached (place.Kind cell))
 
 -- the process's buffer holds one head of the cell alone: that of the edit in doubt, or a later one

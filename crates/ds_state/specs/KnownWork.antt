@@ -1,6 +1,6 @@
 -- What work knows at each of its stages, and what its buffer holds.
 use Rattle.std.specs.Prelude.{ℕ, ◌≡◌, ◌<◌, ◌≤◌, ◌⊎◌, List, [], ◌∷◌, length, take, Bool, true, false, None}
-use Rattle.ds_words.specs.declared.access.Entry.{Entry}
+use Rattle.ds_words.specs.declared.access.BufferEntry.{BufferEntry}
 use Rattle.ds_formula.specs.Cells.{IsInside, index_of}
 use Rattle.ds_formula.specs.declared.cells.Cell.{Cell}
 use Rattle.ds_formula.specs.Plain.{PlainContent}
@@ -285,11 +285,11 @@ abbrev pub HasClaim : PlainWorld → PlainWorkCall → Type 0
 HasClaim w e = BuffersClaim w e.process e.cell e.mark
 
 -- the buffer's entry of the work's cell's value, as it was stored
-abbrev pub value_entry : PlainWorkCall → Entry Place
+abbrev pub value_entry : PlainWorkCall → BufferEntry Place
 value_entry e = entry (place.Value e.cell) (value_for e.entry)
 
 -- the buffer's entry of the work's cell's kind, as it was stored
-abbrev pub kind_entry : PlainWorkCall → Entry Place
+abbrev pub kind_entry : PlainWorkCall → BufferEntry Place
 kind_entry e = entry (place.Kind e.cell) (word_for e.entry)
 
 -- the buffer of the work's process holds just what `WorkHeld` says

@@ -1,7 +1,7 @@
 -- Who owes whom a mark, whose sides may differ, and why.
 use Rattle.std.specs.Prelude.{ℕ, ◌≡◌, ◌≢◌, ◌<◌, ◌≤◌, ◌⊎◌, List, [], ◌∷◌, Some}
 use Rattle.ds_words.specs.Memory.{Memory}
-use Rattle.ds_words.specs.declared.access.Entry.{Entry}
+use Rattle.ds_words.specs.declared.access.BufferEntry.{BufferEntry}
 use Rattle.ds_layout.specs.declared.place.Place.{Place}
 use Rattle.ds_layout.specs.declared.place.Place.TheVariants as place
 use Rattle.ds_layout.specs.declared.layout.Layout.{Layout}
@@ -23,7 +23,7 @@ use Rattle.ds_state.specs.declared.situation.Situation.{Situation}
 use Rattle.ds_state.specs.declared.situation.Situation.TheVariants.{Idle, Stopped, Editing, Working, Recovering, Showing}
 
 -- a buffer's entry of the word at a place, with its class
-abbrev pub entry : Place → ℕ → Entry Place
+abbrev pub entry : Place → ℕ → BufferEntry Place
 entry r value = record { place = r; class = class_of r; value = value }
 
 -- both sides of the mark of r are of one tenure of q

@@ -25,7 +25,7 @@ use Rattle.ds_calls.specs.Wanted.{wanted, wanted_at}
 use Rattle.ds_calls.proofs.Driving.{offer_event, offer_fits}
 use Rattle.ds_play.specs.declared.point.PointName.{PointName}
 use Rattle.ds_play.specs.declared.drive.Until.{Until}
-use Rattle.ds_play.specs.declared.drive.Until.TheVariants.{OneStep, ToPoint, ToAnswer, InPass}
+use Rattle.ds_play.specs.declared.drive.Until.TheVariants.{OneStep, ToPoint, ToAnswer, InRound}
 use Rattle.ds_play.specs.ScriptTexts.{reply_text}
 use Rattle.ds_play.specs.Doing.{Says, called, offered, stepped, driven, ended}
 use Rattle.ds_play.specs.Plays.{WantsStep}
@@ -42,15 +42,15 @@ pub stays_within : (old new : WorldValue) (event : Event) (reply : Reply) (l : L
 stays_within old new event reply (left.Drives p OneStep) fits h = tt
 stays_within old new event reply (left.Drives p (ToPoint name)) fits h = tt
 stays_within old new event reply (left.Drives p ToAnswer) fits h = tt
-stays_within old new event reply (left.Drives p (InPass passes cell)) fits h = subst (λ (l : Layout). cell < cells_of l) (sym (same_layout old new event reply fits.takes)) h
-stays_within old new event reply (left.Works p passes cell) fits h = subst (λ (l : Layout). cell < cells_of l) (sym (same_layout old new event reply fits.takes)) h
+stays_within old new event reply (left.Drives p (InRound rounds cell)) fits h = subst (λ (l : Layout). cell < cells_of l) (sym (same_layout old new event reply fits.takes)) h
+stays_within old new event reply (left.Works p rounds cell) fits h = subst (λ (l : Layout). cell < cells_of l) (sym (same_layout old new event reply fits.takes)) h
 
-pub within_by : (w : WorldValue) (p : ℕ) (until : Until) (passes cell : ℕ) → until ≡ InPass passes cell → IsWithin w (left.Drives p until) → cell < cells_of w.sheet.layout
-within_by w p until passes cell is h = subst (λ (u : Until). IsWithin w (left.Drives p u)) is h
+pub within_by : (w : WorldValue) (p : ℕ) (until : Until) (rounds cell : ℕ) → until ≡ InRound rounds cell → IsWithin w (left.Drives p until) → cell < cells_of w.sheet.layout
+within_by w p until rounds cell is h = subst (λ (u : Until). IsWithin w (left.Drives p u)) is h
 
 -- ---- answers
 
--- a process that is not driven in a pass ends with its answer
+-- a process that is not driven in a round ends with its answer
 pub answered : (w : WorldValue) (p : ℕ) (until : Until) (answer : Answer) → (until ≡ OneStep) ⊎ (((name : PointName) × (until ≡ ToPoint name)) ⊎ (until ≡ ToAnswer)) → Remains None (ended w p until (Answered answer))
 answered w p until answer (inl is) = (reply_text w p (Answered answer), ap (λ (u : Until). ended w p u (Answered answer)) is)
 answered w p until answer (inr (inl is)) = (reply_text w p (Answered answer), ap (λ (u : Until). ended w p u (Answered answer)) is.1)
@@ -81,20 +81,20 @@ near p shape (Working e) = near_at p shape e e.stage
 near p shape s = lit< tt
 
 -- a beginning of work
-pub begins : (old new : WorldValue) (p passes cell : ℕ) (reply : Reply) (next : Option Left)
+pub begins : (old new : WorldValue) (p rounds cell : ℕ) (reply : Reply) (next : Option Left)
     → cell < cells_of old.sheet.layout → Fits old (BeginWork p (cell_at old.sheet.layout.shape cell)) reply new
-    → Remains next (called new p (InPass passes cell) reply) → IfSome next (λ l. l ≡ left.Drives p (InPass passes cell))
-    → TakesTurn (left.Works p passes cell) old (record { stepped = false; left = next }) new
-begins old new p passes cell reply next inside fits remains same = record {
+    → Remains next (called new p (InRound rounds cell) reply) → IfSome next (λ l. l ≡ left.Drives p (InRound rounds cell))
+    → TakesTurn (left.Works p rounds cell) old (record { stepped = false; left = next }) new
+begins old new p rounds cell reply next inside fits remains same = record {
   event = BeginWork p (cell_at old.sheet.layout.shape cell);
   reply = reply;
   asked = refl;
   fits = fits;
   is = refl;
   remains = remains;
-  within = if_some next (λ l. l ≡ left.Drives p (InPass passes cell)) (IsWithin new)
+  within = if_some next (λ l. l ≡ left.Drives p (InRound rounds cell)) (IsWithin new)
       (λ l is. subst (λ (x : Left). IsWithin new x) (sym is) (subst (λ (y : Layout). cell < cells_of y) (sym (same_layout old new (BeginWork p (cell_at old.sheet.layout.shape cell)) reply fits.takes)) inside)) same;
-  nearer = λ none. if_some next (λ l. l ≡ left.Drives p (InPass passes cell)) (λ l. events_to_step new l < 3)
+  nearer = λ none. if_some next (λ l. l ≡ left.Drives p (InRound rounds cell)) (λ l. events_to_step new l < 3)
       (λ l is. subst (λ (x : Left). events_to_step new x < 3) (sym is) (near p new.sheet.layout.shape ((world_of new).situation p))) same;
 }
 
@@ -156,7 +156,7 @@ untaken p reply a b = refl
 says : (w : WorldValue) (p : ℕ) (until : Until) (reply : Reply) → (reply ≡ Stepped → ⊥) → ((answer : Answer) → reply ≡ Answered answer → ⊥) → driven w p until (Step p) reply ≡ Says (reply_text w p reply)
 says w p until Stepped a b = absurd (a refl)
 says w p until (Answered answer) a b = absurd (b answer refl)
-says w p (InPass passes cell) reply a b = refl
+says w p (InRound rounds cell) reply a b = refl
 says w p until reply a b = refl
 
 pub can_not : (old new : WorldValue) (p : ℕ) (until : Until) (reply : Reply) → WantsStep old p → Fits old (Step p) reply new

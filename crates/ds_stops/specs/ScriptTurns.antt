@@ -6,7 +6,7 @@ use Rattle.ds_core.specs.Takes.{Fits}
 use Rattle.ds_core.specs.declared.event.Event.{Event}
 use Rattle.ds_core.specs.declared.event.Event.TheVariants.{Step, Offer}
 use Rattle.ds_core.specs.declared.reply.Reply.{Reply}
-use Rattle.ds_play.specs.declared.drive.Until.TheVariants.{InPass}
+use Rattle.ds_play.specs.declared.drive.Until.TheVariants.{InRound}
 use Rattle.ds_play.specs.Doing.{Doing, Says, Drives, Works, asks, told}
 use Rattle.ds_play.specs.Script.{step_taken}
 use Rattle.ds_stops.specs.declared.turn.Left.{Left}
@@ -16,7 +16,7 @@ use Rattle.ds_stops.specs.declared.turn.Turn.{Turn}
 -- where a command stands of which this is left
 abbrev pub doing_of : Left → Doing
 doing_of (left.Drives p until) = Drives p until
-doing_of (left.Works p passes cell) = Works p passes cell
+doing_of (left.Works p rounds cell) = Works p rounds cell
 
 -- what is left of a command whose machine stands here: nothing where it has ended with a text
 abbrev pub Remains : Option Left → Doing → Type 0
@@ -25,9 +25,9 @@ Remains (Some l) doing = doing ≡ doing_of l
 
 -- the cell that a settle works on is one of the sheet
 abbrev pub IsWithin : WorldValue → Left → Type 0
-IsWithin w (left.Drives p (InPass passes cell)) = cell < cells_of w.sheet.layout
+IsWithin w (left.Drives p (InRound rounds cell)) = cell < cells_of w.sheet.layout
 IsWithin w (left.Drives p until) = Unit {0}
-IsWithin w (left.Works p passes cell) = cell < cells_of w.sheet.layout
+IsWithin w (left.Works p rounds cell) = cell < cells_of w.sheet.layout
 
 -- the event with its reply is a step that was taken, or it is none
 abbrev pub IsStep : Bool → Event → Reply → Type 0

@@ -23,7 +23,7 @@ fn call(alloc: Global, world: &mut World, process: usize, call: Call<'_>) -> Opt
     after_begin(process, Until::ToAnswer, reply)
 }
 
-// A settle, with two passes more than the sheet has cells.
+// A settle, with two rounds more than the sheet has cells.
 fn settle(world: &World, process: usize) -> Option<Left>
     ensures remains { Remains result (settle world.now process) }
     ensures within { IfSome result (IsWithin world.now) }

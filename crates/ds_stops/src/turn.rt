@@ -4,7 +4,7 @@ ghost use Rattle.std.specs.Prelude.{◌≡◌, ◌<◌, IfSome};
 ghost use Rattle.ds_layout.specs.Places.{cells_of};
 ghost use Rattle.ds_state.specs.Value.{WorldValue, world_of};
 ghost use Rattle.ds_core.specs.declared.reply.Reply.TheVariants.{Answered};
-ghost use Rattle.ds_play.specs.declared.drive.Until.TheVariants.{InPass, ToPoint};
+ghost use Rattle.ds_play.specs.declared.drive.Until.TheVariants.{InRound, ToPoint};
 ghost use Rattle.ds_calls.specs.Settling.{IsInTurn};
 ghost use Rattle.ds_play.specs.Doing.{at_turn, called, offered, stepped, ended, to_point};
 ghost use Rattle.ds_play.specs.Plays.{WantsStep};
@@ -26,13 +26,13 @@ use std::alloc::Global;
 pub enum Left {
     /// The process is driven.
     Drives(usize, Until),
-    /// A settle of the process, with so many passes left behind this one, works on the cell with this number, and goes
+    /// A settle of the process, with so many rounds left behind this one, works on the cell with this number, and goes
     /// on behind it.
     Works {
         /// The process.
         process: usize,
-        /// How many passes are left behind this one.
-        passes: usize,
+        /// How many rounds are left behind this one.
+        rounds: usize,
         /// The cell, by its number.
         cell: usize,
     },
@@ -67,9 +67,9 @@ pub fn left_of(process: usize, turn: settle::Turn) -> Option<Left>
 {
     match turn {
         settle::Turn::Ends(_) => None,
-        settle::Turn::Works { passes, cell } => Some(Left::Works {
+        settle::Turn::Works { rounds, cell } => Some(Left::Works {
             process,
-            passes,
+            rounds,
             cell,
         }),
     }
@@ -95,7 +95,7 @@ fn after_offer(world: &World, process: usize, until: Until) -> Option<Left>
 {
     match until {
         Until::ToPoint(name) => to_point(world, process, name),
-        Until::OneStep | Until::ToAnswer | Until::InPass { passes: _, cell: _ } => {
+        Until::OneStep | Until::ToAnswer | Until::InRound { rounds: _, cell: _ } => {
             Some(Left::Drives(process, until))
         }
     }
@@ -110,7 +110,7 @@ fn after_step(world: &World, process: usize, until: Until) -> Option<Left>
     match until {
         Until::OneStep => None,
         Until::ToPoint(name) => to_point(world, process, name),
-        Until::ToAnswer | Until::InPass { passes: _, cell: _ } => {
+        Until::ToAnswer | Until::InRound { rounds: _, cell: _ } => {
             Some(Left::Drives(process, until))
         }
     }
@@ -120,15 +120,15 @@ fn after_step(world: &World, process: usize, until: Until) -> Option<Left>
 fn after_work(
     world: &World,
     process: usize,
-    passes: usize,
+    rounds: usize,
     cell: usize,
     answer: Answer,
 ) -> Option<Left>
     requires { cell < cells_of world.now.sheet.layout }
-    ensures remains { Remains result (ended world.now process (InPass passes cell) (Answered answer)) }
+    ensures remains { Remains result (ended world.now process (InRound rounds cell) (Answered answer)) }
     ensures within { IfSome result (IsWithin world.now) }
 {
-    let next = settle::worked(world, passes, cell, Ok(answer));
+    let next = settle::worked(world, rounds, cell, Ok(answer));
     left_of(process, next)
 }
 
@@ -140,19 +140,19 @@ fn after_answer(world: &World, process: usize, until: Until, answer: Answer) -> 
 {
     match until {
         Until::OneStep | Until::ToPoint(_) | Until::ToAnswer => None,
-        Until::InPass { passes, cell } => after_work(world, process, passes, cell, answer),
+        Until::InRound { rounds, cell } => after_work(world, process, rounds, cell, answer),
     }
 }
 
 // Work of a settle begins, or is refused.
-fn begin_work(alloc: Global, world: &mut World, process: usize, passes: usize, cell: usize) -> Turn
+fn begin_work(alloc: Global, world: &mut World, process: usize, rounds: usize, cell: usize) -> Turn
     requires { cell < cells_of world.old.sheet.layout }
-    ensures { TakesTurn (Left.Works process passes cell) world.old result world.new }
+    ensures { TakesTurn (Left.Works process rounds cell) world.old result world.new }
 {
     let reply = begin(alloc, world, process, cell);
     Turn {
         stepped: false,
-        left: after_begin(process, Until::InPass { passes, cell }, reply),
+        left: after_begin(process, Until::InRound { rounds, cell }, reply),
     }
 }
 
@@ -204,8 +204,8 @@ pub fn take_turn(alloc: Global, world: &mut World, left: Left) -> Turn
         Left::Drives(process, until) => go(alloc, world, process, until),
         Left::Works {
             process,
-            passes,
+            rounds,
             cell,
-        } => begin_work(alloc, world, process, passes, cell),
+        } => begin_work(alloc, world, process, rounds, cell),
     }
 }

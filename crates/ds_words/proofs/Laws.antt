@@ -4,7 +4,7 @@ use Rattle.std.proofs.lemmas.Bool.{cases_eq, ltb-true, lt-ltb, eqb-true}
 use Rattle.std.proofs.lemmas.List.{get_or-set_same, get_or-set_other, get_or-map, map-set, length-map}
 use Rattle.std.proofs.Math.ListN.{length-set, get_or-map as map-read}
 use Rattle.std.specs.Prelude.{map}
-use Rattle.ds_words.specs.declared.access.Entry.{Entry}
+use Rattle.ds_words.specs.declared.access.BufferEntry.{BufferEntry}
 use Rattle.ds_words.specs.declared.words.Word.{Word}
 use Rattle.ds_words.specs.Memory.{IsFresh, StoresAt, FlushesAt, WritesBack, BacksFirst, StopsAt, EvictsAt, Crashes, newer}
 use Rattle.ds_words.specs.declared.access.Class.{Class}
@@ -22,15 +22,15 @@ pub buffer_of-with_word : (v : WordsValue) (n : ℕ) (w : Word) (p : ℕ) → bu
 unfolding buffer_of with_word
 buffer_of-with_word v n w p = refl
 
-pub buffer_of-with_same : (v : WordsValue) (p : ℕ) (entries : List (Entry ℕ)) → HasProcess v p → buffer_of (with_buffer v p entries) p ≡ entries
+pub buffer_of-with_same : (v : WordsValue) (p : ℕ) (entries : List (BufferEntry ℕ)) → HasProcess v p → buffer_of (with_buffer v p entries) p ≡ entries
 unfolding buffer_of with_buffer
 buffer_of-with_same v p entries h = get_or-set_same v.buffers p entries [] h
 
-pub buffer_of-with_other : (v : WordsValue) (p q : ℕ) (entries : List (Entry ℕ)) → q ≢ p → buffer_of (with_buffer v p entries) q ≡ buffer_of v q
+pub buffer_of-with_other : (v : WordsValue) (p q : ℕ) (entries : List (BufferEntry ℕ)) → q ≢ p → buffer_of (with_buffer v p entries) q ≡ buffer_of v q
 unfolding buffer_of with_buffer
 buffer_of-with_other v p q entries ne = get_or-set_other v.buffers p q entries [] ne
 
-pub word_at-with_buffer : (v : WordsValue) (p : ℕ) (entries : List (Entry ℕ)) (r : ℕ) → word_at (with_buffer v p entries) r ≡ word_at v r
+pub word_at-with_buffer : (v : WordsValue) (p : ℕ) (entries : List (BufferEntry ℕ)) (r : ℕ) → word_at (with_buffer v p entries) r ≡ word_at v r
 unfolding word_at with_buffer
 word_at-with_buffer v p entries r = refl
 
@@ -38,7 +38,7 @@ pub SameShape-with_word : (v : WordsValue) (n : ℕ) (w : Word) → SameShape v 
 unfolding with_word
 SameShape-with_word v n w = record { classes = refl; words = length-set v.words n w; buffers = refl }
 
-pub SameShape-with_buffer : (v : WordsValue) (p : ℕ) (entries : List (Entry ℕ)) → SameShape v (with_buffer v p entries)
+pub SameShape-with_buffer : (v : WordsValue) (p : ℕ) (entries : List (BufferEntry ℕ)) → SameShape v (with_buffer v p entries)
 unfolding with_buffer
 SameShape-with_buffer v p entries = record { classes = refl; words = refl; buffers = length-set v.buffers p entries }
 
@@ -83,7 +83,7 @@ evicts-with v n h =
 pub flushes-with : (v : WordsValue) (p n : ℕ) → HasProcess v p
     → FlushesAt p n (class_at v n) (memory_of v) (memory_of (with_buffer v p (buffer_of v p ++ record { place = n; class = class_at v n; value = (word_at v n).cached } ∷ [])))
 flushes-with v p n h =
-    let entries : List (Entry ℕ) = buffer_of v p ++ record { place = n; class = class_at v n; value = (word_at v n).cached } ∷ [] in
+    let entries : List (BufferEntry ℕ) = buffer_of v p ++ record { place = n; class = class_at v n; value = (word_at v n).cached } ∷ [] in
     record {
       cached = λ r. ap (λ (x : Word). x.cached) (word_at-with_buffer v p entries r);
       persisted = λ r. ap (λ (x : Word). x.persisted) (word_at-with_buffer v p entries r);
@@ -99,7 +99,7 @@ stops-with v p h = record {
   others = λ q ne. buffer_of-with_other v p q [] ne;
 }
 
-pub writes_back : (v : WordsValue) (p : ℕ) (entry : Entry ℕ) (rest : List (Entry ℕ)) (w : Word) → HasProcess v p → buffer_of v p ≡ entry ∷ rest → HasWord v entry.place
+pub writes_back : (v : WordsValue) (p : ℕ) (entry : BufferEntry ℕ) (rest : List (BufferEntry ℕ)) (w : Word) → HasProcess v p → buffer_of v p ≡ entry ∷ rest → HasWord v entry.place
     → w.cached ≡ (word_at v entry.place).cached → w.persisted ≡ newer entry.class (word_at v entry.place).persisted entry.value
     → WritesBack p entry rest (memory_of v) (memory_of (with_word (with_buffer v p rest) entry.place w))
 unfolding with_buffer
@@ -115,20 +115,20 @@ writes_back v p entry rest w h oldest there c d =
     }
 
 -- the buffers as they are kept, each behind f
-pub nested_read : {X : Type 0} (f : X → List (Entry ℕ)) (xs : List X) (p : ℕ) (x : X) (ys : List (List (Entry ℕ))) → map f xs ≡ ys → p < length ys → x ≡ get_or xs p x → f x ≡ get_or ys p []
+pub nested_read : {X : Type 0} (f : X → List (BufferEntry ℕ)) (xs : List X) (p : ℕ) (x : X) (ys : List (List (BufferEntry ℕ))) → map f xs ≡ ys → p < length ys → x ≡ get_or xs p x → f x ≡ get_or ys p []
 nested_read f xs p x ys e lt is =
     let l : length ys ≡ length xs = ap length (sym e) ∙ length-map xs f in
     ap f is ∙ sym (get_or-map f xs p x [] (omega arith)) ∙ ap (λ zs. get_or zs p []) e
 
-pub nested_write : {X : Type 0} (f : X → List (Entry ℕ)) (v u : WordsValue) (xs : List X) (p : ℕ) (y : X) (entries : List (Entry ℕ))
+pub nested_write : {X : Type 0} (f : X → List (BufferEntry ℕ)) (v u : WordsValue) (xs : List X) (p : ℕ) (y : X) (entries : List (BufferEntry ℕ))
     → u.classes ≡ v.classes → u.words ≡ v.words → u.buffers ≡ map f (set xs p y) → map f xs ≡ v.buffers → f y ≡ entries → u ≡ with_buffer v p entries
 unfolding with_buffer
 nested_write f v u xs p y entries c w b e is =
-    let s : u.buffers ≡ set v.buffers p entries = b ∙ map-set f xs p y ∙ ap (λ (zs : List (List (Entry ℕ))). set zs p (f y)) e ∙ ap (λ (z : List (Entry ℕ)). set v.buffers p z) is in
-    let made : (cs : List _) → (ws : List Word) → List (List (Entry ℕ)) → WordsValue = λ cs ws bs. record { classes = cs; words = ws; buffers = bs } in
+    let s : u.buffers ≡ set v.buffers p entries = b ∙ map-set f xs p y ∙ ap (λ (zs : List (List (BufferEntry ℕ))). set zs p (f y)) e ∙ ap (λ (z : List (BufferEntry ℕ)). set v.buffers p z) is in
+    let made : (cs : List _) → (ws : List Word) → List (List (BufferEntry ℕ)) → WordsValue = λ cs ws bs. record { classes = cs; words = ws; buffers = bs } in
     ap (λ cs. made cs u.words u.buffers) c ∙ ap (λ ws. made v.classes ws u.buffers) w ∙ ap (λ bs. made v.classes v.words bs) s
 
-pub first_rest : (es : List (Entry ℕ)) (x : Entry ℕ) → 0 < length es → x ≡ get_or es 0 x → es ≡ x ∷ drop 1 es
+pub first_rest : (es : List (BufferEntry ℕ)) (x : BufferEntry ℕ) → 0 < length es → x ≡ get_or es 0 x → es ≡ x ∷ drop 1 es
 first_rest [] x lt is = absurd (omega arith)
 first_rest (y ∷ ys) x lt is = ap (λ z. z ∷ ys) (sym is)
 
@@ -140,14 +140,14 @@ map_two_more g f (x ∷ xs) zs zero y lt const e = ap (λ ws. set ws 0 y) e ∙ 
 map_two_more g f (x ∷ xs) zs (suc i) y lt const e =
     ap (λ ws. set ws (suc i) y) e ∙ ap (λ ws. g x ∷ ws) (map_two_more g f xs (map g (take i xs) ++ map f (drop i xs)) i y (omega arith) const refl)
 
-none_of : {X : Type 0} (xs : List X) (q : ℕ) → get_or (map (λ (x : X). let e : List (Entry ℕ) = [] in e) xs) q [] ≡ []
+none_of : {X : Type 0} (xs : List X) (q : ℕ) → get_or (map (λ (x : X). let e : List (BufferEntry ℕ) = [] in e) xs) q [] ≡ []
 none_of [] q = refl
 none_of (x ∷ xs) zero = refl
 none_of (x ∷ xs) (suc q) = none_of xs q
 
 -- a crash, with the buffers as they are kept
 pub crashes-with : {X : Type 0} (v u : WordsValue) (olds : List X)
-    → u.words ≡ map crashed v.words → u.buffers ≡ map (λ (b : X). let e : List (Entry ℕ) = [] in e) olds
+    → u.words ≡ map crashed v.words → u.buffers ≡ map (λ (b : X). let e : List (BufferEntry ℕ) = [] in e) olds
     → Crashes (memory_of v) (memory_of u)
 unfolding buffer_of word_at
 crashes-with v u olds w b =
@@ -159,19 +159,19 @@ crashes-with v u olds w b =
     }
 
 -- the first entry is the one that was known to be there
-first_there : (v : WordsValue) (p : ℕ) (entry : Entry ℕ) (rest : List (Entry ℕ)) → HasEntry v p → buffer_of v p ≡ entry ∷ rest → HasWord v entry.place
+first_there : (v : WordsValue) (p : ℕ) (entry : BufferEntry ℕ) (rest : List (BufferEntry ℕ)) → HasEntry v p → buffer_of v p ≡ entry ∷ rest → HasWord v entry.place
 first_there v p entry rest h oldest =
     let both : h.entry ∷ h.rest ≡ entry ∷ rest = sym h.oldest ∙ oldest in
     let one : h.entry ≡ entry = cc in
-    subst (λ (x : Entry ℕ). HasWord v x.place) one h.there
+    subst (λ (x : BufferEntry ℕ). HasWord v x.place) one h.there
 
-pub taken_there : (v u : WordsValue) (p : ℕ) (entry : Entry ℕ) (rest : List (Entry ℕ)) → HasEntry v p → buffer_of v p ≡ entry ∷ rest → u ≡ with_buffer v p rest → HasWord u entry.place
+pub taken_there : (v u : WordsValue) (p : ℕ) (entry : BufferEntry ℕ) (rest : List (BufferEntry ℕ)) → HasEntry v p → buffer_of v p ≡ entry ∷ rest → u ≡ with_buffer v p rest → HasWord u entry.place
 unfolding with_buffer
 taken_there v u p entry rest h oldest e =
     subst (λ (w : WordsValue). HasWord w entry.place) (sym e) (first_there v p entry rest h oldest)
 
 -- an entry taken out, and then written
-pub backs_first : (v u w : WordsValue) (p : ℕ) (entry : Entry ℕ) (rest : List (Entry ℕ)) (read : Word) (persisted : ℕ) → HasEntry v p → buffer_of v p ≡ entry ∷ rest → u ≡ with_buffer v p rest
+pub backs_first : (v u w : WordsValue) (p : ℕ) (entry : BufferEntry ℕ) (rest : List (BufferEntry ℕ)) (read : Word) (persisted : ℕ) → HasEntry v p → buffer_of v p ≡ entry ∷ rest → u ≡ with_buffer v p rest
     → read ≡ word_at u entry.place → persisted ≡ newer entry.class read.persisted entry.value
     → w ≡ with_word u entry.place (record { cached = read.cached; persisted = persisted }) → BacksFirst p (memory_of v) (memory_of w)
 backs_first v u w p entry rest read persisted h oldest taken is new set =
@@ -185,14 +185,14 @@ backs_first v u w p entry rest read persisted h oldest taken is new set =
           (writes_back v p entry rest x h.process oldest there (ap (λ (y : Word). y.cached) seen) (new ∙ ap (λ (y : Word). newer entry.class y.persisted entry.value) seen)),
     )
 
-pub backs_shape : (v u w : WordsValue) (p n : ℕ) (rest : List (Entry ℕ)) (x : Word) → u ≡ with_buffer v p rest → w ≡ with_word u n x → SameShape v w
+pub backs_shape : (v u w : WordsValue) (p n : ℕ) (rest : List (BufferEntry ℕ)) (x : Word) → u ≡ with_buffer v p rest → w ≡ with_word u n x → SameShape v w
 backs_shape v u w p n rest x e f =
     let first : SameShape v u = subst (λ y. SameShape v y) (sym e) (SameShape-with_buffer v p rest) in
     let second : SameShape u w = subst (λ y. SameShape u y) (sym f) (SameShape-with_word u n x) in
     SameShape-both v u w first second
 
 -- what the test of the oldest entry says
-pub HasEntry-tested : (v : WordsValue) (p : ℕ) (es : List (Entry ℕ)) (d : Entry ℕ) (n : ℕ) → HasProcess v p → es ≡ buffer_of v p → (length es == 0) ≡ false → n ≡ length v.words
+pub HasEntry-tested : (v : WordsValue) (p : ℕ) (es : List (BufferEntry ℕ)) (d : BufferEntry ℕ) (n : ℕ) → HasProcess v p → es ≡ buffer_of v p → (length es == 0) ≡ false → n ≡ length v.words
     → (IsTrue (nat_lt (get_or es 0 d).place n) → HasEntry v p) × (HasEntry v p → IsTrue (nat_lt (get_or es 0 d).place n))
 HasEntry-tested v p [] d n h e some words = cc
 HasEntry-tested v p (x ∷ xs) d n h e some words = (
@@ -206,7 +206,7 @@ HasEntry-tested v p (x ∷ xs) d n h e some words = (
   λ has. lt-ltb x.place n (subst (λ k. x.place < k) (sym words) (first_there v p x xs has (sym e))),
 )
 
-pub HasEntry-some : (v : WordsValue) (p : ℕ) (es : List (Entry ℕ)) → es ≡ buffer_of v p → HasEntry v p → (length es == 0) ≡ true → ⊥
+pub HasEntry-some : (v : WordsValue) (p : ℕ) (es : List (BufferEntry ℕ)) → es ≡ buffer_of v p → HasEntry v p → (length es == 0) ≡ true → ⊥
 HasEntry-some v p [] e h t =
     let bad : [] ≡ h.entry ∷ h.rest = e ∙ h.oldest in
     cc

@@ -2,7 +2,7 @@
 use Rattle.std.specs.Prelude.{ℕ, ◌≡◌, ◌≢◌, ◌⊎◌, List, [], ◌∷◌, ◌++◌, max, bit_or}
 use Rattle.ds_words.specs.declared.access.Class.{Class}
 use Rattle.ds_words.specs.declared.access.Class.TheVariants.{Stamped, Bit, Owned}
-use Rattle.ds_words.specs.declared.access.Entry.{Entry}
+use Rattle.ds_words.specs.declared.access.BufferEntry.{BufferEntry}
 use Rattle.ds_words.specs.declared.access.Access.{Access}
 use Rattle.ds_words.specs.declared.access.Access.TheVariants.{Nothing, Load, Store, Or, SwapIf, Flush, Back}
 
@@ -10,7 +10,7 @@ use Rattle.ds_words.specs.declared.access.Access.TheVariants.{Nothing, Load, Sto
 pub record Memory (P : Type 0) : Type 0 where
   pub cached : P → ℕ
   pub persisted : P → ℕ
-  pub buffer : ℕ → List (Entry P)
+  pub buffer : ℕ → List (BufferEntry P)
 
 -- each word is zero on both sides, and each buffer is empty
 pub record IsFresh {P : Type 0} (memory : Memory P) : Type 0 where
@@ -55,7 +55,7 @@ pub record FlushesAt {P : Type 0} (p : ℕ) (place : P) (class : Class) (old new
   pub others : (q : ℕ) → q ≢ p → new.buffer q ≡ old.buffer q
 
 -- the oldest entry of the process leaves its buffer, and the persisted side of its word becomes the newer value
-pub record WritesBack {P : Type 0} (p : ℕ) (entry : Entry P) (rest : List (Entry P)) (old new : Memory P) : Type 0 where
+pub record WritesBack {P : Type 0} (p : ℕ) (entry : BufferEntry P) (rest : List (BufferEntry P)) (old new : Memory P) : Type 0 where
   pub oldest : old.buffer p ≡ entry ∷ rest
   pub cached : (r : P) → new.cached r ≡ old.cached r
   pub there : new.persisted entry.place ≡ newer entry.class (old.persisted entry.place) entry.value
@@ -65,7 +65,7 @@ pub record WritesBack {P : Type 0} (p : ℕ) (entry : Entry P) (rest : List (Ent
 
 -- the process writes back the oldest entry of its buffer
 abbrev pub BacksFirst : {P : Type 0} → ℕ → Memory P → Memory P → Type 0
-BacksFirst {P} p old new = (entry : Entry P) × (rest : List (Entry P)) × WritesBack p entry rest old new
+BacksFirst {P} p old new = (entry : BufferEntry P) × (rest : List (BufferEntry P)) × WritesBack p entry rest old new
 
 -- the persisted side of the word becomes its cached side
 pub record EvictsAt {P : Type 0} (place : P) (old new : Memory P) : Type 0 where

@@ -2,7 +2,7 @@
 use Rattle.std.specs.Prelude.{ℕ, ◌≡◌, ◌<◌, List, [], ◌∷◌, length, slice_index_or, slice_set, replicate}
 use Rattle.ds_words.specs.declared.access.Class.{Class}
 use Rattle.ds_words.specs.declared.access.Class.TheVariants.{Stamped}
-use Rattle.ds_words.specs.declared.access.Entry.{Entry}
+use Rattle.ds_words.specs.declared.access.BufferEntry.{BufferEntry}
 use Rattle.ds_words.specs.declared.access.Access.{Access}
 use Rattle.ds_words.specs.declared.access.Access.TheVariants.{Nothing, Load, Store, Or, SwapIf, Flush, Back}
 use Rattle.ds_words.specs.declared.words.Word.{Word}
@@ -13,7 +13,7 @@ use Rattle.ds_words.specs.Memory.{Memory}
 pub record WordsValue : Type 0 where
   pub classes : List Class
   pub words : List Word
-  pub buffers : List (List (Entry ℕ))
+  pub buffers : List (List (BufferEntry ℕ))
 
 -- a word that is zero on both sides
 abbrev pub zero_word : Word
@@ -32,11 +32,11 @@ unfoldable pub class_at : WordsValue → ℕ → Class
 class_at v n = slice_index_or v.classes n Stamped
 
 -- the buffer of the process, empty where there is no such process
-unfoldable pub buffer_of : WordsValue → ℕ → List (Entry ℕ)
+unfoldable pub buffer_of : WordsValue → ℕ → List (BufferEntry ℕ)
 buffer_of v p = slice_index_or v.buffers p []
 
 -- the words with the buffer of the process changed
-unfoldable pub with_buffer : WordsValue → ℕ → List (Entry ℕ) → WordsValue
+unfoldable pub with_buffer : WordsValue → ℕ → List (BufferEntry ℕ) → WordsValue
 with_buffer v p entries = record v { buffers = slice_set v.buffers p entries }
 
 -- the words as a memory
@@ -76,8 +76,8 @@ HasRoom v p = length (buffer_of v p) < BUFFER_ENTRIES
 -- the oldest entry of the process is one for a word that is there
 pub record HasEntry (v : WordsValue) (p : ℕ) : Type 0 where
   pub process : HasProcess v p
-  pub entry : Entry ℕ
-  pub rest : List (Entry ℕ)
+  pub entry : BufferEntry ℕ
+  pub rest : List (BufferEntry ℕ)
   pub oldest : buffer_of v p ≡ entry ∷ rest
   pub there : HasWord v entry.place
 

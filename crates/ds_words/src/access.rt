@@ -17,7 +17,7 @@ pub enum Class {
 
 /// A value on its way to the persisted side of the word at a place.
 #[derive(Clone, Copy, Debug, Default, PartialEq, Eq)]
-pub struct Entry<P> {
+pub struct BufferEntry<P> {
     /// The place of the word.
     pub place: P,
     /// The word's class.

@@ -4,7 +4,7 @@ ghost use Rattle.std.specs.Prelude.{◌≡◌, ◌<◌, ◌↔◌, ◌∷◌, []
 ghost use Rattle.ds_words.specs.Memory.{StoresAt, OrsAt, SwapsAt, FlushesAt, BacksFirst, EvictsAt, Crashes, StopsAt, Performs};
 ghost use Rattle.ds_words.specs.Words.{memory_of, fresh_words, SameShape, HasWord, HasProcess, HasRoom, HasEntry, CanPerform, word_at, with_word, class_at, buffer_of, with_buffer, crashed};
 
-use crate::access::{Access, Class, Entry};
+use crate::access::{Access, Class, BufferEntry};
 use arrayvec::ArrayVec;
 use std::alloc::{AllocError, Global};
 use std::marker::Model;
@@ -26,7 +26,7 @@ pub struct Word {
 pub struct Words {
     classes: Vec<Class>,
     words: Vec<Word>,
-    buffers: Vec<ArrayVec<Entry<usize>, BUFFER_ENTRIES>>,
+    buffers: Vec<ArrayVec<BufferEntry<usize>, BUFFER_ENTRIES>>,
 }
 
 impl Model for Words {
@@ -58,7 +58,7 @@ fn lose_cached(words: &mut Vec<Word>)
 }
 
 // Each buffer is emptied.
-fn lose_buffers(buffers: &mut Vec<ArrayVec<Entry<usize>, BUFFER_ENTRIES>>)
+fn lose_buffers(buffers: &mut Vec<ArrayVec<BufferEntry<usize>, BUFFER_ENTRIES>>)
     ensures { map (λ b. b.items) buffers.new.items ≡ map (λ b. []) buffers.old.items }
 {
     for i in 0..buffers.len() {
@@ -69,7 +69,7 @@ fn lose_buffers(buffers: &mut Vec<ArrayVec<Entry<usize>, BUFFER_ENTRIES>>)
 
 // Takes the oldest entry out of a buffer. Most buffers hold one.
 #[inline(always)]
-fn take_first(buffer: &mut ArrayVec<Entry<usize>, BUFFER_ENTRIES>) -> Entry<usize>
+fn take_first(buffer: &mut ArrayVec<BufferEntry<usize>, BUFFER_ENTRIES>) -> BufferEntry<usize>
     requires { 0 < length buffer.old.items }
     ensures { buffer.old.items ≡ result ∷ buffer.new.items }
 {
@@ -278,7 +278,7 @@ impl Words {
         let class = self.class(number);
         let value = self.load(number);
         let buffer = &mut self.buffers[process];
-        buffer.push(Entry {
+        buffer.push(BufferEntry {
             place: number,
             class,
             value,
@@ -287,7 +287,7 @@ impl Words {
 
     // Takes the oldest entry out of a buffer.
     #[inline(always)]
-    fn taken(&mut self, process: usize) -> Entry<usize>
+    fn taken(&mut self, process: usize) -> BufferEntry<usize>
         requires process { HasProcess self.old process }
         requires some { 0 < length (buffer_of self.old process) }
         ensures oldest { buffer_of self.old process ≡ result ∷ drop 1 (buffer_of self.old process) }

@@ -3,7 +3,7 @@ use Rattle.std.proofs.Common.{ℕ, ◌≡◌, ◌≢◌, ◌<◌, ◌≤◌, ◌
 use Rattle.std.proofs.lemmas.Bool.{cases_eq, ne_eqb, lt-ltb}
 use Rattle.std.proofs.lemmas.Bool.Decides.{nat_tests}
 use Rattle.ds_words.specs.Memory.{Memory, SameMemory, StoresAt, FlushesAt, WritesBack, BacksFirst}
-use Rattle.ds_words.specs.declared.access.Entry.{Entry}
+use Rattle.ds_words.specs.declared.access.BufferEntry.{BufferEntry}
 use Rattle.ds_layout.specs.Places.{class_of}
 use Rattle.ds_layout.specs.declared.place.Place.{Place}
 use Rattle.ds_layout.specs.declared.place.Place.TheVariants.{Mark}
@@ -28,12 +28,12 @@ use Rattle.ds_state.proofs.Accesses.{Turn}
 use Rattle.ds_work.proofs.WorkSteps.{on, mark_marks, claim_mine}
 use Rattle.ds_work.proofs.WorkFrame as frame
 
-pub back_first : {p : ℕ} {old new : Memory Place} (x : Entry Place) (xs : List (Entry Place)) → old.buffer p ≡ x ∷ xs → BacksFirst p old new → WritesBack p x xs old new
+pub back_first : {p : ℕ} {old new : Memory Place} (x : BufferEntry Place) (xs : List (BufferEntry Place)) → old.buffer p ≡ x ∷ xs → BacksFirst p old new → WritesBack p x xs old new
 back_first {p} {old} {new} x xs holds (entry, rest, m) =
     let both : x ∷ xs ≡ entry ∷ rest = sym holds ∙ m.oldest in
     let a : entry ≡ x = cc in
     let b : rest ≡ xs = cc in
-    subst (λ (r : List (Entry Place)). WritesBack p x r old new) b (subst (λ (y : Entry Place). WritesBack p y rest old new) a m)
+    subst (λ (r : List (BufferEntry Place)). WritesBack p x r old new) b (subst (λ (y : BufferEntry Place). WritesBack p y rest old new) a m)
 
 -- who is none of the sheet's is nobody, and no mark is such a one's
 marked_free : (w : PlainWorld) (cell word : ℕ) → IsMark w.layout cell word → state_of (mark_of w.layout.processes word) ≡ Marked → (q : ℕ) → IsHeldBy q word → ⊥
@@ -138,7 +138,7 @@ module _ (e : PlainWorkCall) (word : ℕ) (old new : PlainWorld) (sound : IsSoun
 
   -- a flush that follows an empty buffer
   alone : (r : Place) → old.memory.buffer e.process ≡ [] → FlushesAt e.process r (class_of r) old.memory new.memory → new.memory.buffer e.process ≡ entry r (old.memory.cached r) ∷ []
-  alone r none m = m.mine ∙ ap (λ (xs : List (Entry Place)). xs ++ entry r (old.memory.cached r) ∷ []) none
+  alone r none m = m.mine ∙ ap (λ (xs : List (BufferEntry Place)). xs ++ entry r (old.memory.cached r) ∷ []) none
 
   pub flush_claim : WorkFits old e.process (on e works.FlushClaim) → old.situation e.process ≡ Working (on e works.FlushClaim) → StepsAt e works.FlushClaim word old new → Keeps e.process old new
   flush_claim fits was t = frame.flushes e works.FlushClaim (on e works.BackClaim) old new sound real was t.situation (turn_of _ t) (t.open_edits e.process) fits tt (Mark e.cell) t.memory.1

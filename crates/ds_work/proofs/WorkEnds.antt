@@ -3,7 +3,7 @@ use Rattle.std.proofs.Common.{ℕ, ◌≡◌, ◌≢◌, ◌<◌, ◌≤◌, ◌
 use Rattle.std.proofs.lemmas.Bool.{cases_eq, ne_eqb}
 use Rattle.std.proofs.lemmas.Bool.Decides.{nat_tests}
 use Rattle.ds_words.specs.Memory.{SameMemory, StoresAt, FlushesAt, WritesBack}
-use Rattle.ds_words.specs.declared.access.Entry.{Entry}
+use Rattle.ds_words.specs.declared.access.BufferEntry.{BufferEntry}
 use Rattle.ds_layout.specs.Places.{class_of}
 use Rattle.ds_layout.specs.declared.place.Place.{Place}
 use Rattle.ds_layout.specs.declared.place.Place.TheVariants.{Version, Mark}
@@ -157,7 +157,7 @@ module _ (e : PlainWorkCall) (word : ℕ) (old new : PlainWorld) (sound : IsSoun
       (λ c x bit matters o. absurd o) (λ o. absurd o) (λ k. record { hold = k.hold; loaded = tt; own = tt; evaluated = tt })
       (λ g. record {
         value = old.memory.cached (Mark e.cell);
-        alone = m.mine ∙ ap (λ (xs : List (Entry Place)). xs ++ entry (Mark e.cell) (old.memory.cached (Mark e.cell)) ∷ []) fits.buffer;
+        alone = m.mine ∙ ap (λ (xs : List (BufferEntry Place)). xs ++ entry (Mark e.cell) (old.memory.cached (Mark e.cell)) ∷ []) fits.buffer;
         had = g.marks_cached e.cell;
         is = λ q by. rw t.layout ((sound.words (Mark e.cell)).holder q by);
       })

@@ -2,7 +2,7 @@
 use Rattle.std.proofs.Common.{ℕ, ◌≡◌, ◌≢◌, ◌<◌, ◌≤◌, ◌⊎◌, List, refl, sym, ◌∙◌, subst, arith, length, inl, inr}
 use Rattle.std.specs.Prelude.{Contains}
 use Rattle.std.proofs.lemmas.Bool.{cases_eq}
-use Rattle.ds_words.specs.declared.access.Entry.{Entry}
+use Rattle.ds_words.specs.declared.access.BufferEntry.{BufferEntry}
 use Rattle.ds_words.specs.Memory.{SameMemory, StoresAt, FlushesAt, WritesBack, newer}
 use Rattle.ds_layout.specs.Places.{class_of}
 use Rattle.ds_layout.specs.declared.place.Place.{Place}
@@ -146,7 +146,7 @@ module _ (e : PlainWorkCall) (s : WorkStage) (f : PlainWorkCall) (old new : Plai
       let g : Grows e.process Version old new = grows_own e.process Version old new moves tn.counted in
       let hold = same_hold (m.cached (Mark e.cell)) (m.persisted (Mark e.cell)) in
       let fr : Framed old new = framed Version moves (quiet_mine Version moves (λ c at. elim at [ inl x ↦ cc | inr x ↦ cc ]) (λ c at. cc) hold passes)
-      (no_new_marks e.process Version old new moves (λ c at. cc) (λ c x q h. subst (λ (xs : List (Entry Place)). Contains xs (entry (Mark c) x)) (m.buffer q) h))
+      (no_new_marks e.process Version old new moves (λ c at. cc) (λ c x q h. subst (λ (xs : List (BufferEntry Place)). Contains xs (entry (Mark c) x)) (m.buffer q) h))
       (work_apart Version moves (λ o. hold) parts) in
       quiet_sound e.process old new tn sound moves fr.bears fr.stand fr.apart (keeps Version moves)
       (λ l. fits_new Version (λ x. cc) g fr.bears (advance (stays Version (λ r x. cc) (λ x. cc) (λ x. cc) g fr.bears))
@@ -166,7 +166,7 @@ module _ (e : PlainWorkCall) (s : WorkStage) (f : PlainWorkCall) (old new : Plai
       (λ l. fits_new Version (λ x. cc) g fr.bears (advance (stays Version (λ r x. cc) (λ x. cc) (λ x. cc) g fr.bears)) (held g))
 
   -- the oldest entry of the buffer is written back
-  pub backs : (place : Place) (value : ℕ) (rest : List (Entry Place)) → (m : WritesBack e.process (entry place value) rest old.memory new.memory) → EntryFits old place (old.memory.cached place) value
+  pub backs : (place : Place) (value : ℕ) (rest : List (BufferEntry Place)) → (m : WritesBack e.process (entry place value) rest old.memory new.memory) → EntryFits old place (old.memory.cached place) value
       → (IsOwnedBy old.memory e.process place → newer (class_of place) (old.memory.persisted place) value ≡ old.memory.cached place)
       → ((moves : Moves e.process place old new) → Mine e.process place old new moves)
       → ((cell : ℕ) → Mark cell ≡ place → (old.memory.persisted (Mark cell) ≤ new.memory.persisted (Mark cell)) × (new.memory.persisted (Mark cell) ≤ old.memory.cached (Mark cell)))

@@ -1,6 +1,6 @@
 -- Each access of work is possible.
 use Rattle.std.proofs.Common.{◌≡◌, ◌<◌, ◌/◌, ◌%◌, List, [], ◌∷◌, length, arith}
-use Rattle.ds_words.specs.declared.access.Entry.{Entry}
+use Rattle.ds_words.specs.declared.access.BufferEntry.{BufferEntry}
 use Rattle.ds_layout.specs.declared.place.Place.{Place}
 use Rattle.ds_layout.specs.declared.place.Place.TheVariants.{Mark}
 use Rattle.ds_layout.specs.Places.{cells_of, IsPlace}
@@ -24,10 +24,10 @@ module _ (w : PlainWorld) (e : PlainWorkCall) (sound : IsSound w) (real : e.proc
   inside : (s : WorkStage) → WorkFits w e.process (at e s) → e.cell < cells_of w.layout
   inside s fits = rw fits.cells fits.cell
 
-  room : (xs : List (Entry Place)) → w.memory.buffer e.process ≡ xs → length xs < 16 → length (w.memory.buffer e.process) < 16
+  room : (xs : List (BufferEntry Place)) → w.memory.buffer e.process ≡ xs → length xs < 16 → length (w.memory.buffer e.process) < 16
   room xs is few = rw is few
 
-  oldest : (x : Entry Place) (xs : List (Entry Place)) → w.memory.buffer e.process ≡ x ∷ xs → IsPlace w.layout x.place → HasEntry w.layout w.memory e.process
+  oldest : (x : BufferEntry Place) (xs : List (BufferEntry Place)) → w.memory.buffer e.process ≡ x ∷ xs → IsPlace w.layout x.place → HasEntry w.layout w.memory e.process
   oldest x xs is there = record { entry = x; rest = xs; oldest = is; there = there }
 
   header : (by : PlainEdit) → IsHeadBy (of_cell e.cell w.counted) e.head by → (e.head / 256 % 256 < w.layout.processes) × (e.head % 256 < 256)

@@ -2,7 +2,7 @@
 use Rattle.std.proofs.Common.{ℕ, ◌≡◌, ◌<◌, ◌==◌, ◌&&◌, ◌⊎◌, Bool, true, false, if◌then◌else◌, List, [], ◌∷◌, ◌++◌, refl, ap, sym, ◌∙◌, subst, arith, length, inl, inr}
 use Rattle.std.proofs.lemmas.Bool.{eqb-true}
 use Rattle.ds_words.specs.Memory.{SameMemory, StoresAt, FlushesAt, WritesBack}
-use Rattle.ds_words.specs.declared.access.Entry.{Entry}
+use Rattle.ds_words.specs.declared.access.BufferEntry.{BufferEntry}
 use Rattle.ds_eval.specs.declared.inputs.Entry as entries
 use Rattle.ds_eval.specs.Inputs.{entry_in}
 use Rattle.ds_eval.specs.Local.{local}
@@ -87,7 +87,7 @@ module _ (e : PlainWorkCall) (word : ℕ) (old new : PlainWorld) (sound : IsSoun
       let m : FlushesAt e.process (Value e.cell) (class_of (Value e.cell)) old.memory new.memory = t.memory.1 in
       frame.flushes e works.FlushValue (on e works.FlushKind) old new sound real was t.situation (turn_of _ t) (t.open_edits e.process) fits tt (Value e.cell) m
       (λ c x bit matters o. tt) (λ o. inl tt) (λ k. record { hold = k.hold; loaded = k.loaded; own = k.own; evaluated = k.evaluated })
-      (λ g. m.mine ∙ ap (λ (xs : List (Entry Place)). xs ++ entry (Value e.cell) (old.memory.cached (Value e.cell)) ∷ []) fits.buffer
+      (λ g. m.mine ∙ ap (λ (xs : List (BufferEntry Place)). xs ++ entry (Value e.cell) (old.memory.cached (Value e.cell)) ∷ []) fits.buffer
       ∙ ap (λ (v : ℕ). entry (Value e.cell) v ∷ []) fits.knows.own.0)
 
   pub flush_kind : WorkFits old e.process (on e works.FlushKind) → old.situation e.process ≡ Working (on e works.FlushKind) → StepsAt e works.FlushKind word old new → Keeps e.process old new
@@ -95,7 +95,7 @@ module _ (e : PlainWorkCall) (word : ℕ) (old new : PlainWorld) (sound : IsSoun
       let m : FlushesAt e.process (Kind e.cell) (class_of (Kind e.cell)) old.memory new.memory = t.memory.1 in
       frame.flushes e works.FlushKind (on e works.BackValue) old new sound real was t.situation (turn_of _ t) (t.open_edits e.process) fits tt (Kind e.cell) m
       (λ c x bit matters o. tt) (λ o. inl tt) (λ k. record { hold = k.hold; loaded = k.loaded; own = k.own; evaluated = k.evaluated })
-      (λ g. m.mine ∙ ap (λ (xs : List (Entry Place)). xs ++ entry (Kind e.cell) (old.memory.cached (Kind e.cell)) ∷ []) fits.buffer
+      (λ g. m.mine ∙ ap (λ (xs : List (BufferEntry Place)). xs ++ entry (Kind e.cell) (old.memory.cached (Kind e.cell)) ∷ []) fits.buffer
       ∙ ap (λ (v : ℕ). value_entry e ∷ entry (Kind e.cell) v ∷ []) fits.knows.own.1)
 
   pub back_value : WorkFits old e.process (on e works.BackValue) → old.situation e.process ≡ Working (on e works.BackValue) → StepsAt e works.BackValue word old new → Keeps e.process old new

@@ -3,7 +3,7 @@ use Rattle.std.proofs.Common.{ℕ, ◌≡◌, ◌≢◌, ◌<◌, ◌≤◌, ◌
 use Rattle.std.specs.Prelude.{Bool, Contains}
 use Rattle.std.proofs.lemmas.Bool.{cases_eq}
 use Rattle.ds_words.specs.Memory.{StoresAt}
-use Rattle.ds_words.specs.declared.access.Entry.{Entry}
+use Rattle.ds_words.specs.declared.access.BufferEntry.{BufferEntry}
 use Rattle.ds_formula.specs.Cells.{IsInside, index_of}
 use Rattle.ds_formula.specs.declared.cells.Cell.{Cell}
 use Rattle.ds_eval.specs.declared.inputs.Entry as entries
@@ -39,7 +39,7 @@ on e s = record e { stage = s }
 -- who owes above the cached mark owes above any: it has not marked it
 module _ (w : PlainWorld) (h : ℕ) (c x y : ℕ) (is : x ≡ w.memory.cached (Mark c)) (had : (v : ℕ) → Contains (w.memory.buffer h) (entry (Mark c) v) → v ≤ w.memory.cached (Mark c)) where
   no_later : IsBelowBuffered w.memory h c x → ⊥
-  no_later k = let v = had k.value (subst (λ (b : List (Entry Place)). Contains b (entry (Mark c) k.value)) (sym k.alone) (0, omega arith, refl)) in let l = k.below in omega arith
+  no_later k = let v = had k.value (subst (λ (b : List (BufferEntry Place)). Contains b (entry (Mark c) k.value)) (sym k.alone) (0, omega arith, refl)) in let l = k.below in omega arith
 
   spread_later : (row : List ℕ) (s : Spread) → SpreadOwes w.memory h row s c x → SpreadOwes w.memory h row s c y
   spread_later row (LoadRow part) k = k

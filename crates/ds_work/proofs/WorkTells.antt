@@ -3,7 +3,7 @@ use Rattle.std.proofs.Common.{ℕ, ◌≡◌, ◌<◌, ◌≤◌, ◌+◌, ◌-�
 use Rattle.std.specs.Prelude.{bit_or}
 use Rattle.std.proofs.lemmas.Bool.{cases_eq, cases_lt, ltb-false, ltb-true}
 use Rattle.ds_words.specs.Memory.{StoresAt, FlushesAt, WritesBack}
-use Rattle.ds_words.specs.declared.access.Entry.{Entry}
+use Rattle.ds_words.specs.declared.access.BufferEntry.{BufferEntry}
 use Rattle.ds_layout.specs.Places.{class_of, cells_of}
 use Rattle.ds_layout.specs.declared.place.Place.{Place}
 use Rattle.ds_layout.specs.declared.place.Place.TheVariants.{Version, Mark}
@@ -102,7 +102,7 @@ module _ (e : PlainWorkCall) (word : ℕ) (old new : PlainWorld) (sound : IsSoun
   pub flush_told : (d : ℕ) → WorkFits old e.process (on e (works.Telling (FlushTold d))) → old.situation e.process ≡ Working (on e (works.Telling (FlushTold d))) → StepsAt e (works.Telling (FlushTold d)) word old new → Keeps e.process old new
   flush_told d fits was t =
       let m : FlushesAt e.process (Mark d) (class_of (Mark d)) old.memory new.memory = t.memory.1 in
-      let alone : new.memory.buffer e.process ≡ entry (Mark d) (old.memory.cached (Mark d)) ∷ [] = m.mine ∙ ap (λ (xs : List (Entry Place)). xs ++ entry (Mark d) (old.memory.cached (Mark d)) ∷ []) fits.buffer in
+      let alone : new.memory.buffer e.process ≡ entry (Mark d) (old.memory.cached (Mark d)) ∷ [] = m.mine ∙ ap (λ (xs : List (BufferEntry Place)). xs ++ entry (Mark d) (old.memory.cached (Mark d)) ∷ []) fits.buffer in
       frame.flushes e (works.Telling (FlushTold d)) (on e (works.Telling (BackTold d))) old new sound real was t.situation (turn_of _ t) (t.open_edits e.process) fits fits.at (Mark d) m
       (λ c x bit matters o. flush_passes e.process e.row d old new alone c x o) (λ o. absurd o)
       (λ k. record { hold = k.hold; loaded = k.loaded; own = k.own; evaluated = k.evaluated })

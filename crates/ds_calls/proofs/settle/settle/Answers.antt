@@ -19,7 +19,7 @@ works-preserved c =
     let w = c.work-turn.ensures.works in
     record {
       settling = subst (λ (t : Turn). Settling c.args.process c.args.world.now t c.work-turn.new.world) (sym w.next_is)
-          (works c.in-Works.passes c.in-Works.cell c.works.world c.work-turn.new.world w.result (subst (λ (t : Turn). Settling c.args.process c.args.world.now t c.works.world) c.in-Works.is i.settling) w.whole);
+          (works c.in-Works.rounds c.in-Works.cell c.works.world c.work-turn.new.world w.result (subst (λ (t : Turn). Settling c.args.process c.args.world.now t c.works.world) c.in-Works.is i.settling) w.whole);
       there = subst (λ (l : Layout). c.args.process < l.processes) (sym w.layout) i.there;
       inside = c.work-turn.ensures.inside;
       free = λ h. w.free (i.free h);

@@ -30,6 +30,6 @@ returns-clause-works c =
 pub returns-clause-fewer : goal.returns-clause-fewer
 returns-clause-fewer c =
     let w = c.work_on-answered.ensures in
-    subst (λ (l : Layout). works_left (cells_of c.work_on-answered.new.world.sheet.layout) c.worked.result < works_left (cells_of l) (Works c.args.passes c.args.cell))
+    subst (λ (l : Layout). works_left (cells_of c.work_on-answered.new.world.sheet.layout) c.worked.result < works_left (cells_of l) (Works c.args.rounds c.args.cell))
     (run_keeps_layout c.args.world.now c.work_on-answered.new.world (whole_runs c.args.process (BeginWork c.args.process (cell_at c.args.world.now.sheet.layout.shape c.args.cell)) c.args.world.now c.work_on-answered.result c.work_on-answered.new.world w.whole))
     c.worked.ensures.fewer

@@ -2,7 +2,7 @@ use Rattle.std.proofs.Common.{List, ℕ, refl, sym, ap, arith}
 use Rattle.ds_formula.specs.Cells.{cell_at}
 use Rattle.ds_core.specs.declared.event.Event.TheVariants.{BeginWork}
 use Rattle.ds_calls.specs.declared.settle.Turn.{Turn}
-use Rattle.ds_play.specs.declared.drive.Until.TheVariants.{InPass}
+use Rattle.ds_play.specs.declared.drive.Until.TheVariants.{InRound}
 use Rattle.ds_play.specs.ScriptTexts.{reply_text}
 use Rattle.ds_play.specs.Doing.{Says, Works, at_turn, end_text, settle}
 use Rattle.ds_play.specs.Plays.{Played}
@@ -19,9 +19,9 @@ returns-in-Ends c =
 pub returns-in-Works : goal.returns-in-Works
 returns-in-Works c =
     answered c.reply_bytes.result (reply_text c.begin-reply.new.world c.args.process c.begin-reply.result) (λ (t : List ℕ). Played (settle c.args.world.now c.args.process) c.args.world.now t c.begin-reply.new.world) c.reply_bytes.ensures
-    (leads_from (settle c.args.world.now c.args.process) (Works c.args.process c.in-Works.passes c.in-Works.cell) (Says (reply_text c.begin-reply.new.world c.args.process c.begin-reply.result)) c.args.world.now c.begin-reply.new.world
+    (leads_from (settle c.args.world.now c.args.process) (Works c.args.process c.in-Works.rounds c.in-Works.cell) (Says (reply_text c.begin-reply.new.world c.args.process c.begin-reply.result)) c.args.world.now c.begin-reply.new.world
     (sym (ap (λ (t : Turn). at_turn c.args.world.now c.args.process t) c.in-Works.ensures.value))
-    (one (Works c.args.process c.in-Works.passes c.in-Works.cell) (Says (reply_text c.begin-reply.new.world c.args.process c.begin-reply.result)) c.args.world.now c.begin-reply.new.world
+    (one (Works c.args.process c.in-Works.rounds c.in-Works.cell) (Says (reply_text c.begin-reply.new.world c.args.process c.begin-reply.result)) c.args.world.now c.begin-reply.new.world
     (BeginWork c.args.process (cell_at c.args.world.now.sheet.layout.shape c.in-Works.cell)) c.begin-reply.result refl c.begin-reply.ensures
-    (of_nobody c.args.world.now c.begin-reply.new.world c.args.process (cell_at c.args.world.now.sheet.layout.shape c.in-Works.cell) (InPass c.in-Works.passes c.in-Works.cell) c.begin-reply.result c.begin-reply.ensures
+    (of_nobody c.args.world.now c.begin-reply.new.world c.args.process (cell_at c.args.world.now.sheet.layout.shape c.in-Works.cell) (InRound c.in-Works.rounds c.in-Works.cell) c.begin-reply.result c.begin-reply.ensures
     (λ below. let past = c.requires in omega (arith, below, past)))))

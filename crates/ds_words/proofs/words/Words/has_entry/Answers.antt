@@ -2,7 +2,7 @@ use Rattle.std.proofs.Common.{◌≡◌, ◌<◌, ◌==◌, length, arith, ap, s
 use Rattle.std.proofs.lemmas.Bool.{false≢true}
 use Rattle.std.proofs.lemmas.List.{length-map}
 use Rattle.ds_words.specs.Words.{buffer_of}
-use Rattle.ds_words.specs.declared.access.Entry.{Entry}
+use Rattle.ds_words.specs.declared.access.BufferEntry.{BufferEntry}
 use Rattle.ds_words.proofs.Laws.{nested_read, HasEntry-tested, HasEntry-some}
 use Rattle.ds_words.proofs.words.Words.has_entry.Goals as goal
 use Rattle.ds_words.proofs.words.Words.has_entry.Goals.{After-is_empty}
@@ -24,4 +24,4 @@ pub returns : goal.returns
 returns c =
     let before = (goal.at.returns c).After-is_empty in
     HasEntry-tested c.args.self.now c.args.process c.deref.result.now _ c.len-2.result (there before) (c.deref.ensures.0 ∙ same before)
-    (ap (λ (es : List (Entry _)). length es == 0) c.deref.ensures.0 ∙ sym c.is_empty.ensures ∙ c.if-is_empty.false) (omega (arith, c.self.inside.words.ok.0, ap length (ap (λ v. v.words) c.self.view_is)))
+    (ap (λ (es : List (BufferEntry _)). length es == 0) c.deref.ensures.0 ∙ sym c.is_empty.ensures ∙ c.if-is_empty.false) (omega (arith, c.self.inside.words.ok.0, ap length (ap (λ v. v.words) c.self.view_is)))
