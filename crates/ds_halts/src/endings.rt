@@ -1,9 +1,9 @@
 use crate::running::stops;
+use ds_faulty::streams::Full;
 use ds_stops::stops::stop_at_each;
 use ds_streams::ending::{ScriptEnd, ScriptFault};
 use ds_streams::streams::Writing;
 use std::alloc::{AllocError, Global};
-use std::io::{self, ErrorKind, Write};
 use std::str::from_utf8;
 
 // A script, how many steps it takes before its fault, the line of the fault, and its kind.
@@ -87,29 +87,6 @@ fn long_scripts(rt: HostRuntime) -> Result<(), AllocError> {
     assert_eq!(rt; end, ScriptEnd::Ended);
     assert!(rt; whole.as_slice() == text.as_slice());
     Ok(())
-}
-
-// Takes so many bytes, one a call, and then fails.
-#[derive(Drop)]
-struct Full {
-    room: usize,
-}
-
-impl Write for Full {
-    fn write(&mut self, bytes: &[u8]) -> io::Result<usize> {
-        if self.room == 0 {
-            return Err(io::Error::from(ErrorKind::Other));
-        }
-        self.room -= 1;
-        Ok(bytes.len().min(1))
-    }
-
-    fn flush(&mut self) -> io::Result<()> {
-        if self.room == 0 {
-            return Err(io::Error::from(ErrorKind::Other));
-        }
-        Ok(())
-    }
 }
 
 // A writer that fails at its k-th byte, for each k of two blocks of 45 bytes.

@@ -1,5 +1,5 @@
-use crate::faulty::{Failing, Full};
 use crate::running::answers;
+use ds_faulty::streams::{Failing, Full};
 use ds_play::script::run_script;
 use ds_streams::ending::{ScriptEnd, ScriptFault};
 use ds_streams::streams::{Reading, Writing};

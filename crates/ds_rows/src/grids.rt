@@ -1,6 +1,6 @@
 // Grids, their values, and how their reports end.
 
-use crate::faulty::{Failing, Full};
+use ds_faulty::streams::{Failing, Full};
 use ds_formula::cells::Cell;
 use ds_formula::fault::{FaultKind, TextFault};
 use ds_grid::ending::{GridEnd, GridFault};

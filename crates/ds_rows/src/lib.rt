@@ -6,8 +6,6 @@ mod calls;
 #[cfg(test)]
 mod endings;
 #[cfg(test)]
-mod faulty;
-#[cfg(test)]
 mod grids;
 #[cfg(test)]
 mod inputs;

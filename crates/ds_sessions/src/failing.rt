@@ -1,8 +1,8 @@
 use crate::talking::{expect_talk, new_world, talk};
+use ds_faulty::streams::{Failing, Full};
 use ds_server::session::{SessionEnd, session};
 use ds_streams::streams::{Reading, Writing};
 use std::alloc::AllocError;
-use std::io::{self, ErrorKind, Read, Write};
 
 // Two lines, and what they are answered.
 const LINES: &[u8] =
@@ -59,30 +59,6 @@ fn cut_lines(rt: HostRuntime) -> Result<(), AllocError> {
     Ok(())
 }
 
-// Gives one byte a call, and fails at a call.
-#[derive(Drop)]
-struct Failing<'a> {
-    bytes: &'a [u8],
-    calls: usize,
-}
-
-impl Read for Failing<'_> {
-    fn read(&mut self, buffer: &mut [u8]) -> io::Result<usize> {
-        if self.calls == 0 {
-            return Err(io::Error::from(ErrorKind::Other));
-        }
-        self.calls -= 1;
-        match (self.bytes, buffer) {
-            ([first, rest @ ..], [place, ..]) => {
-                *place = *first;
-                self.bytes = rest;
-                Ok(1)
-            }
-            _ => Ok(0),
-        }
-    }
-}
-
 // A reader that fails at its k-th call, for each k.
 #[test]
 fn failing_readers(rt: HostRuntime) -> Result<(), AllocError> {
@@ -113,29 +89,6 @@ fn failing_readers(rt: HostRuntime) -> Result<(), AllocError> {
         );
     }
     Ok(())
-}
-
-// Takes so many bytes, one a call, and then fails.
-#[derive(Drop)]
-struct Full {
-    room: usize,
-}
-
-impl Write for Full {
-    fn write(&mut self, bytes: &[u8]) -> io::Result<usize> {
-        if self.room == 0 {
-            return Err(io::Error::from(ErrorKind::Other));
-        }
-        self.room -= 1;
-        Ok(bytes.len().min(1))
-    }
-
-    fn flush(&mut self) -> io::Result<()> {
-        if self.room == 0 {
-            return Err(io::Error::from(ErrorKind::Other));
-        }
-        Ok(())
-    }
 }
 
 // A writer that fails at its k-th byte, for each k: the line whose answer is lost is carried out, and the next session
