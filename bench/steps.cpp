@@ -89,7 +89,7 @@ class Sheet {
         return true;
     }
 
-    // works on each marked cell, pass by pass, until a pass finds none
+    // works on each marked cell, round by round, until a round finds none
     void settle(int process) {
         for (bool found = true; found;) {
             found = false;
