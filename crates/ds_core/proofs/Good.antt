@@ -61,10 +61,6 @@ pub answers_at : (s : Stage) (how : Outcome) → outcome_at s ≡ Some how → s
 answers_at (Answer how') how is = let same : how' ≡ how = cc in ap (λ h. Answer h) same
 answers_at _ how is = absurd (cc)
 
-pub stepped_at : (processes number : ℕ) (s : Stage) → ((how : Outcome) → s ≡ Answer how → ⊥) → reply_at processes number s ≡ Stepped
-stepped_at processes number (Answer how) none = absurd (none how refl)
-stepped_at processes number _ none = refl
-
 pub goes_on_at : (s : Stage) (issue : Option PlainIssue) → outcome_at s ≡ None → open_edit_at issue s ≡ issue
 goes_on_at (Answer how) issue is = absurd (cc)
 goes_on_at _ issue is = refl

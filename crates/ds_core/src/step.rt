@@ -158,11 +158,13 @@ pub(crate) fn edit_advances(world: &mut World, process: usize) -> bool
         return false;
     };
     let (stage, access) = (call.stage, want(call));
-    if outcome_of(stage).is_some() {
-        return false;
+    match outcome_of(stage) {
+        Some(_) => false,
+        None => {
+            edit_on(world, process, stage, access);
+            true
+        }
     }
-    edit_on(world, process, stage, access);
-    true
 }
 
 // What a report answers that ended so.

@@ -42,7 +42,7 @@ count-requires c =
     λ is.
     let won = counts_swaps e.stage word (sym what ∙ is) in
     next_room v c.world.invariant.good p e at word c.perform-word.new.self c.perform-word.ensures.layout performs
-    _ won.0 c.world.invariant.reserved won.1.0 won.1.1
+    _ won.0 c.world.invariant.reserved won.1 won.2
 
 pub done_after-world-inside-requires : goal.done_after-world-inside-requires
 done_after-world-inside-requires c =

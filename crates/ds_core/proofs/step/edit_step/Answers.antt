@@ -8,8 +8,8 @@ use Rattle.ds_core.specs.declared.reply.Reply.{Reply}
 use Rattle.ds_core.proofs.Good.{editing_from, processes_are}
 use Rattle.ds_core.proofs.step.edit_step.Goals as goal
 
-pub edit_on-requires : goal.edit_on-requires
-edit_on-requires c =
+pub edit_on-what-requires : goal.edit_on-what-requires
+edit_on-what-requires c =
     let v : WorldValue = record { sheet = c.world.inside.words; situations = c.world.inside.situations.items; counted = c.world.inside.counted.items; open_edits = c.world.inside.open_edits.items; done = c.world.inside.done; settled = c.world.inside.settled; reports = c.world.inside.reports } in
     let p : ℕ = c.args.process in
     let e : PlainEditCall = c.in-Some.call.now in
