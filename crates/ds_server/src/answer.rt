@@ -15,6 +15,7 @@ use ds_eval::value::Value;
 use ds_formula::cells::Shape;
 use ds_formula::fault::TextFault;
 use ds_layout::place::Place;
+use ds_streams::answer::cell_at;
 use serde_json::{Value as Json, json};
 use std::alloc::{AllocError, Global};
 
