@@ -1,9 +1,11 @@
 //! The numbers of the words of a sheet.
 
-ghost use Rattle.std.specs.Prelude.{◌≡◌, ◌*◌, ◌<◌, ◌≤◌, ◌↔◌, IsTrue, IsSome, IfSome, IfOk};
+ghost use Rattle.std.specs.Prelude.{◌≡◌, ◌*◌, ◌/◌, ◌%◌, ◌<◌, ◌≤◌, ◌↔◌, IsTrue, IsSome, IfSome, IfOk};
 ghost use Rattle.ds_formula.specs.Limits.{CELLS_MOST, EDITS_MOST, PROCESSES_MOST, TEXT_MOST};
 ghost use Rattle.ds_layout.specs.Bits.{parts_for};
 ghost use Rattle.ds_layout.specs.declared.place.TheConstants as places;
+ghost use Rattle.ds_layout.specs.declared.place.TheConstants.{RECORDS, TEXT_PARTS, DONE_PARTS};
+ghost use Rattle.ds_layout.specs.declared.place.Place.TheVariants as place;
 ghost use Rattle.ds_layout.specs.declared.layout.TheConstants as constants;
 
 use crate::bits;
@@ -40,6 +42,49 @@ pub(crate) struct Starts {
     texts: usize,
     done: usize,
     words: usize,
+}
+
+// The word of an index row that stands there among those of all rows.
+fn index_place(at: usize, row_parts: usize) -> Place
+    requires { 0 < row_parts }
+    ensures { result ≡ place.Index (at / row_parts) (at % row_parts) }
+{
+    Place::Index {
+        row: at / row_parts,
+        part: at % row_parts,
+    }
+}
+
+// The header that stands there among all headers.
+fn header_place(at: usize) -> Place
+    ensures { result ≡ place.Header (at / RECORDS) (at % RECORDS) }
+{
+    Place::Header {
+        process: at / RECORDS,
+        number: at % RECORDS,
+    }
+}
+
+// The part of a text that stands there among those of all texts.
+fn text_place(at: usize) -> Place
+    ensures { result ≡ place.Text (at / TEXT_PARTS / RECORDS) (at / TEXT_PARTS % RECORDS) (at % TEXT_PARTS) }
+{
+    let record = at / TEXT_PARTS;
+    Place::Text {
+        process: record / RECORDS,
+        number: record % RECORDS,
+        part: at % TEXT_PARTS,
+    }
+}
+
+// The word of done bits that stands there among those of all processes.
+fn done_place(at: usize) -> Place
+    ensures { result ≡ place.Done (at / DONE_PARTS) (at % DONE_PARTS) }
+{
+    Place::Done {
+        process: at / DONE_PARTS,
+        part: at % DONE_PARTS,
+    }
 }
 
 impl Layout {
@@ -167,36 +212,18 @@ impl Layout {
             return Place::Kind(number - starts.kinds);
         }
         if number < starts.announcements {
-            let at = number - starts.index;
-            return Place::Index {
-                row: at / self.row_parts(),
-                part: at % self.row_parts(),
-            };
+            return index_place(number - starts.index, self.row_parts());
         }
         if number < starts.headers {
             return Place::Announce(number - starts.announcements);
         }
         if number < starts.texts {
-            let at = number - starts.headers;
-            return Place::Header {
-                process: at / RECORDS,
-                number: at % RECORDS,
-            };
+            return header_place(number - starts.headers);
         }
         if number < starts.done {
-            let at = number - starts.texts;
-            let record = at / TEXT_PARTS;
-            return Place::Text {
-                process: record / RECORDS,
-                number: record % RECORDS,
-                part: at % TEXT_PARTS,
-            };
+            return text_place(number - starts.texts);
         }
-        let at = number - starts.done;
-        Place::Done {
-            process: at / DONE_PARTS,
-            part: at % DONE_PARTS,
-        }
+        done_place(number - starts.done)
     }
 
     /// Whether the place is one of the sheet.

@@ -9,6 +9,8 @@ ghost use Rattle.ds_state.specs.Standing.{stored_for, shown_entry};
 ghost use Rattle.ds_state.specs.Telling.{told_from};
 ghost use Rattle.ds_formula.specs.Limits.{TEXT_MOST};
 ghost use Rattle.ds_state.specs.Works.{PlainWorkCall, StageFits, SEEN_MOST};
+ghost use Rattle.ds_words.specs.declared.access.Access.TheVariants.{SwapIf};
+ghost use Rattle.ds_layout.specs.declared.place.Place.TheVariants as places;
 ghost use Rattle.ds_state.specs.declared.work.WorkStage.TheVariants.{LoadMark, Claim, Clear, Give, Telling};
 ghost use Rattle.ds_state.specs.declared.work.Spread.TheVariants.{LoadRow};
 ghost use Rattle.ds_work.specs.WorkSteps.{record_header, record_text, input_place, access_at, next_at, claims_from, head_from, header_from, text_from, input_from, told, tell_from, row_from, spread_access};
@@ -189,6 +191,18 @@ fn want_telling(call: &WorkCall, spread: Spread) -> Access<Place>
     }
 }
 
+// The swap of the cell's mark that expects this word, for that one.
+#[inline(always)]
+fn swap_mark(call: &WorkCall, expected: u64, value: u64) -> Access<Place>
+    ensures { result ≡ SwapIf (places.Mark call.now.cell) expected value }
+{
+    Access::SwapIf {
+        place: Place::Mark(call.cell),
+        expected,
+        value,
+    }
+}
+
 /// What the work does next, on a sheet of this shape.
 #[inline(always)]
 pub fn want(call: &WorkCall, shape: Shape) -> Access<Place>
@@ -199,11 +213,7 @@ pub fn want(call: &WorkCall, shape: Shape) -> Access<Place>
     let kind = Place::Kind(call.cell);
     match call.stage {
         WorkStage::LoadMark => Access::Load(mark),
-        WorkStage::Claim => Access::SwapIf {
-            place: mark,
-            expected: call.mark,
-            value: claim(call),
-        },
+        WorkStage::Claim => swap_mark(call, call.mark, claim(call)),
         WorkStage::FlushClaim | WorkStage::FlushCleared(_) => Access::Flush(mark),
         WorkStage::LoadHead => Access::Load(Place::Head(call.cell)),
         WorkStage::LoadHeader => Access::Load(record_header(call)),
@@ -219,22 +229,10 @@ pub fn want(call: &WorkCall, shape: Shape) -> Access<Place>
         WorkStage::FlushValue => Access::Flush(value),
         WorkStage::FlushKind => Access::Flush(kind),
         WorkStage::Telling(spread) => want_telling(call, spread),
-        WorkStage::Clear(_) => Access::SwapIf {
-            place: mark,
-            expected: call.mark,
-            value: release(call, false),
-        },
-        WorkStage::Give => Access::SwapIf {
-            place: mark,
-            expected: call.mark,
-            value: release(call, true),
-        },
+        WorkStage::Clear(_) => swap_mark(call, call.mark, release(call, false)),
+        WorkStage::Give => swap_mark(call, call.mark, release(call, true)),
         WorkStage::ClearDirty | WorkStage::GiveDirty => {
-            Access::SwapIf {
-                place: mark,
-                expected: outrun(call),
-                value: release(call, true),
-            }
+            swap_mark(call, outrun(call), release(call, true))
         }
         WorkStage::BackClaim | WorkStage::BackCleared(_) => Access::Back,
         WorkStage::BackValue | WorkStage::BackKind => Access::Back,
