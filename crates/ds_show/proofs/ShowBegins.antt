@@ -82,4 +82,3 @@ idle_of w process next (Editing e) at is = absurd (cc)
 idle_of w process next (Working e) at is = absurd (cc)
 idle_of w process next (Recovering e) at is = absurd (cc)
 idle_of w process next (Showing e) at is = absurd (cc)
-

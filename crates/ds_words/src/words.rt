@@ -4,7 +4,7 @@ ghost use Rattle.std.specs.Prelude.{◌≡◌, ◌<◌, ◌↔◌, ◌∷◌, []
 ghost use Rattle.ds_words.specs.Memory.{StoresAt, OrsAt, SwapsAt, FlushesAt, BacksFirst, EvictsAt, Crashes, StopsAt, Performs};
 ghost use Rattle.ds_words.specs.Words.{memory_of, fresh_words, SameShape, HasWord, HasProcess, HasRoom, HasEntry, CanPerform, word_at, with_word, class_at, buffer_of, with_buffer, crashed};
 
-use crate::access::{Access, Class, BufferEntry};
+use crate::access::{Access, BufferEntry, Class};
 use arrayvec::ArrayVec;
 use std::alloc::{AllocError, Global};
 use std::marker::Model;
