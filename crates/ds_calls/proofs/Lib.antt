@@ -4,3 +4,11 @@ pub mod Stepping
 pub mod Begins
 pub mod Runs
 pub mod Settles
+pub mod Entries
+pub mod Leaving
+pub mod LoneTurns
+pub mod LoneCalls
+pub mod LoneFacts
+pub mod LoneRounds
+pub mod LoneSettles
+pub mod Ages

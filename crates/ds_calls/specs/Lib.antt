@@ -3,3 +3,4 @@ pub mod Whole
 pub mod Driven
 pub mod Marked
 pub mod Settling
+pub mod Lone

@@ -1,13 +1,21 @@
 //! What is true of whole calls, as functions that do nothing.
 
-ghost use Rattle.std.specs.Prelude.{ℕ, Result};
-ghost use Rattle.ds_state.specs.Value.{WorldValue};
+ghost use Rattle.std.specs.Prelude.{ℕ, ◌≤◌, ◌+◌, ◌*◌, List, Result, length};
+ghost use Rattle.ds_layout.specs.Places.{cells_of};
+ghost use Rattle.ds_state.specs.Value.{WorldValue, world_of, IsGood};
+ghost use Rattle.ds_state.specs.Fresh.{IsNew};
+ghost use Rattle.ds_state.specs.Works.{SEEN_MOST};
 ghost use Rattle.ds_state.specs.declared.refusal.Refusal.{Refusal};
 ghost use Rattle.ds_edit.specs.declared.answer.Answer.{Answer};
+ghost use Rattle.ds_core.specs.Takes.{WorldRun};
 ghost use Rattle.ds_core.specs.declared.event.Event.{Event};
+ghost use Rattle.ds_core.specs.declared.reply.Reply.{Reply};
+ghost use Rattle.ds_calls.specs.declared.settle.SettleEnd.{SettleEnd};
 ghost use Rattle.ds_calls.specs.declared.settle.Turn.{Turn};
-ghost use Rattle.ds_calls.specs.Whole.{Whole, IsRun};
+ghost use Rattle.ds_calls.specs.declared.settle.Turn.TheVariants.{Ends};
+ghost use Rattle.ds_calls.specs.Whole.{Whole, IsRun, HasProcess};
 ghost use Rattle.ds_calls.specs.Settling.{Settling};
+ghost use Rattle.ds_calls.specs.Lone.{AreIdle, AreYoung, EndsClean};
 
 /// What a whole call and a settle do to a world is a run of `ds_core::take`; so what is proved of
 /// runs is true of them.
@@ -17,4 +25,24 @@ pub fn calls_are_runs()
         (new : WorldValue) → Whole p event old result new → IsRun old new }
     ensures settles { (p : ℕ) (old : WorldValue) (turn : Turn) (new : WorldValue)
         → Settling p old turn new → IsRun old new }
+{}
+
+/// A settle of a world in which each process is idle, as before the first call, between calls, and
+/// after a crash once every process has recovered, ends with all cells clean, or for want of memory:
+/// two rounds more than the sheet has cells are enough, in whatever order its cells refer to each
+/// other, and whatever they show at first. The world is quiet then, so it shows the values from
+/// scratch. Each mark must have generations left for so many rounds.
+#[tactic(auto, using(crate::proofs::LoneSettles::settles_clean))]
+pub fn lone_settles_are_clean()
+    ensures { (p : ℕ) (old : WorldValue) (end : SettleEnd) (new : WorldValue) → IsGood old
+        → HasProcess old p → AreIdle (world_of old) → AreYoung (world_of old) (cells_of old.sheet.layout + 2)
+        → Settling p old (Ends end) new → EndsClean (world_of new) end }
+{}
+
+/// Each mark of a run from a new sheet has at most one generation for each event, so that it has
+/// generations left for many rounds: for so many as 2^58 less the events is twice of.
+pub fn marks_of_runs_are_young()
+    ensures { (old : WorldValue) (events : List Event) (replies : List Reply) (new : WorldValue) (rounds : ℕ)
+        → IsNew (world_of old) → IsGood old → WorldRun old events replies new
+        → length events + 2 * rounds ≤ SEEN_MOST → AreYoung (world_of new) rounds }
 {}

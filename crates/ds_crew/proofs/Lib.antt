@@ -1,3 +1,4 @@
 pub mod Rights
 pub mod Deals
 pub mod Crossing
+pub mod Settles

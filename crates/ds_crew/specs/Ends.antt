@@ -9,6 +9,7 @@ use Rattle.ds_core.specs.declared.reply.Reply.{Reply}
 use Rattle.ds_core.specs.declared.reply.Reply.TheVariants.{Answered}
 use Rattle.ds_core.specs.declared.reply.Reply.TheVariants as replies
 use Rattle.ds_crew.specs.Receipts.{PlainReceipt}
+use Rattle.ds_crew.specs.Kept.{HasSettled}
 use Rattle.ds_crew.specs.Passes.{PlainPass, asked}
 use Rattle.ds_crew.specs.declared.ended.Edited.{Edited}
 use Rattle.ds_crew.specs.declared.ended.Edited.TheVariants as edited
@@ -22,10 +23,11 @@ abbrev pub done_by : Edited → ℕ
 done_by (edited.Done receipt) = 1
 done_by end = 0
 
--- the pass has counted one report more as settled, and keeps so many values of it; all else stays
+-- the pass has counted one report more as settled, and keeps its values, which are so many; all else stays
 pub record IsSettled (cells : ℕ) (old new : PlainPass) : Type 0 where
   pub is : new ≡ record old { last = new.last; settleds = old.settleds + 1 }
   pub full : length new.last ≡ cells
+  pub settled : HasSettled old.process new.last
 
 -- the pass after a step of its process's report: a Settled is counted in its share, and the pass then keeps so many
 -- values; else all stays
@@ -71,6 +73,11 @@ after_recovery pass end = asked pass (BeginRecover pass.process) (recovery_reply
 abbrev pub IsBegin : Event → Type 0
 IsBegin (BeginEdit request) = Unit {0}
 IsBegin event = ⊥
+
+-- the beginning of a report
+abbrev pub IsShowBegin : Event → Type 0
+IsShowBegin (BeginShow process) = Unit {0}
+IsShowBegin event = ⊥
 
 -- the receipt names this process, this cell and this text
 pub record Names (process : ℕ) (cell : Cell) (text : List ℕ) (receipt : PlainReceipt) : Type 0 where

@@ -4,14 +4,16 @@ use Rattle.ds_eval.specs.declared.value.Value.{Value}
 use Rattle.ds_layout.specs.declared.layout.Layout.{Layout}
 use Rattle.ds_layout.specs.Places.{cells_of}
 use Rattle.ds_state.specs.Reports.{PlainReports}
-use Rattle.ds_state.specs.Value.{WorldValue, world_of}
+use Rattle.ds_state.specs.Value.{WorldValue, IsGood, world_of}
 use Rattle.ds_edit.specs.declared.answer.Answer.TheVariants.{Settled}
 use Rattle.ds_core.specs.Takes.{Fits}
-use Rattle.ds_core.specs.declared.event.Event.TheVariants.{Step}
+use Rattle.ds_core.specs.declared.event.Event.{Event}
+use Rattle.ds_core.specs.declared.event.Event.TheVariants.{Step, BeginEdit, BeginShow, BeginRecover}
 use Rattle.ds_core.specs.declared.reply.Reply.{Reply}
-use Rattle.ds_core.specs.declared.reply.Reply.TheVariants.{Answered, NotEnabled}
+use Rattle.ds_core.specs.declared.reply.Reply.TheVariants.{Answered, Begun, Entered, NotEnabled}
 use Rattle.ds_crew.specs.LockedCalls.{call_in}
 use Rattle.ds_crew.specs.declared.steps.Call.{Call}
+use Rattle.ds_crew.specs.declared.steps.Call.TheVariants.{Edit, Report, Recovery}
 
 -- the values of the process's last settled report; none where it has had none, or the sheet has no such process
 abbrev pub report_of : PlainReports → ℕ → List Value
@@ -31,3 +33,55 @@ last_after reply report before = before
 pub record StepsIn (call : Call) (process : ℕ) (old : WorldValue) (reply : Reply) (new : WorldValue) : Type 0 where
   pub taken : call_in ((world_of old).situation process) ≡ Some call → Fits old (Step process) reply new
   pub none : (call_in ((world_of old).situation process) ≡ Some call → ⊥) → (reply ≡ NotEnabled) × (new ≡ old)
+
+-- the event happened, with this reply, to a good world
+pub record Happened (event : Event) (reply : Reply) : Type 0 where
+  pub old : WorldValue
+  pub new : WorldValue
+  pub good : IsGood old
+  pub fits : Fits old event reply new
+
+-- a process's next step in this call was asked of a good world, with this reply
+pub record HasStepped (call : Call) (process : ℕ) (reply : Reply) : Type 0 where
+  pub old : WorldValue
+  pub new : WorldValue
+  pub good : IsGood old
+  pub steps : StepsIn call process old reply new
+
+-- a process's report was answered Settled, in a good world, and these are its values
+pub record HasSettled (process : ℕ) (values : List Value) : Type 0 where
+  pub old : WorldValue
+  pub new : WorldValue
+  pub good : IsGood old
+  pub fits : Fits old (Step process) (Answered Settled) new
+  pub values_are : values ≡ report_of new.reports process
+
+-- a process's next step in this call was asked of a good world, with this reply; or it was of a report whose values there
+-- is no room for
+pub data HasMade (call : Call) (process : ℕ) (reply : Reply) : Type 0 where
+  stepped : HasStepped call process reply → HasMade call process reply
+  no_room : call ≡ Report → reply ≡ NotEnabled → HasMade call process reply
+
+-- by this reply a call is under way
+abbrev pub IsEntry : Reply → Type 0
+IsEntry (Begun number) = Unit {0}
+IsEntry Entered = Unit {0}
+IsEntry reply = ⊥
+
+-- the event happened to a good world, and began a call
+pub record HasBegun (begin : Event) : Type 0 where
+  pub first : Reply
+  pub entry : IsEntry first
+  pub happened : Happened begin first
+
+-- the process's call that this event begins ended with this reply: at once, or by a step
+pub data HasEnded (call : Call) (process : ℕ) (begin : Event) (reply : Reply) : Type 0 where
+  at_once : Happened begin reply → HasEnded call process begin reply
+  by_step : HasBegun begin → HasMade call process reply → HasEnded call process begin reply
+
+-- the process's edit, report or recovery that this event begins ended with this reply
+abbrev pub HasUsed : ℕ → Event → Reply → Type 0
+HasUsed process (BeginEdit request) reply = (request.process ≡ process) × HasEnded Edit process (BeginEdit request) reply
+HasUsed process (BeginShow p) reply = (p ≡ process) × HasEnded Report process (BeginShow p) reply
+HasUsed process (BeginRecover p) reply = (p ≡ process) × HasEnded Recovery process (BeginRecover p) reply
+HasUsed process begin reply = ⊥

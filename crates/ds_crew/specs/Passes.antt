@@ -1,11 +1,11 @@
 -- What passes hold, and how they stand to a world.
-use Rattle.std.specs.Prelude.{ℕ, zero, suc, ◌≡◌, ◌≢◌, ◌⊎◌, ◌<◌, List, [], ◌∷◌, length, ◌++◌, Option, Some, None, slice_index_or, sum_by}
+use Rattle.std.specs.Prelude.{ℕ, zero, suc, ◌≡◌, ◌≢◌, ◌⊎◌, ◌<◌, List, [], ◌∷◌, length, ◌++◌, Option, Some, None, slice_index_or, sum_by, All}
 use Rattle.ds_eval.specs.declared.value.Value.{Value}
 use Rattle.ds_state.specs.Reports.{PlainReports}
 use Rattle.ds_state.specs.Value.{WorldValue}
 use Rattle.ds_core.specs.declared.event.Event.{Event}
 use Rattle.ds_core.specs.declared.reply.Reply.{Reply}
-use Rattle.ds_crew.specs.Kept.{report_of}
+use Rattle.ds_crew.specs.Kept.{HasUsed, report_of}
 
 -- a process, the values of its last settled report, its shares of the counts of Done and of Settled answers, and the
 -- edits, reports and recoveries that the pass was used for, in order: of each the event that began it, and its last
@@ -20,6 +20,10 @@ pub record PlainPass : Type 0 where
 -- the pass, once it was used for one call more, which this event began, and which had this as its last reply
 abbrev pub asked : PlainPass → Event → Reply → PlainPass
 asked pass begin reply = record pass { calls = pass.calls ++ (begin, reply) ∷ [] }
+
+-- each call that the list remembers was one of this process, that began and ended so
+abbrev pub HaveHappened : ℕ → List (Event × Reply) → Type 0
+HaveHappened process calls = All (λ call. HasUsed process call.0 call.1) calls
 
 -- the Done answers that all passes have counted
 abbrev pub dones_of : List PlainPass → ℕ

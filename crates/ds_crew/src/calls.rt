@@ -6,7 +6,8 @@ ghost use Rattle.ds_core.specs.Counts.{IsReplyTo, done_of};
 ghost use Rattle.ds_core.specs.declared.event.Event.TheVariants.{BeginRecover};
 ghost use Rattle.ds_crew.specs.LockedCalls.{CountsNothing, IsEndOf, IsNoStep, IsStepOf};
 ghost use Rattle.ds_core.specs.Kinds.{IsWorkAnswer};
-ghost use Rattle.ds_crew.specs.Ends.{AfterReport, AfterStep, HasReceipt, HasReceiptOf, IsBegin, after_edit, after_recovery, edit_reply, recovery_reply, show_reply};
+ghost use Rattle.ds_crew.specs.Ends.{AfterReport, AfterStep, HasReceipt, HasReceiptOf, IsBegin, IsShowBegin, after_edit, after_recovery, edit_reply, recovery_reply, show_reply};
+ghost use Rattle.ds_crew.specs.Kept.{Happened, HasBegun, HasEnded, HasMade, HasStepped, IsEntry};
 ghost use Rattle.ds_crew.specs.declared.steps.Call.TheVariants.{Edit, Recovery, Report};
 
 use crate::ended::{Edited, Receipt, Recovered, Shown, Worked};
@@ -30,7 +31,9 @@ impl<L: Ledger, M: Ledger> LockedSheet<L, M> {
     // An event that is no step.
     fn happen<R: Wait>(&self, rt: &R, alloc: Global, event: &Event) -> Reply
         requires { IsNoStep event.now }
-        ensures { IsReplyTo event.now result }
+        ensures happened { Happened event.now result }
+        ensures begun { IsEntry result → HasBegun event.now }
+        ensures reply { IsReplyTo event.now result }
     {
         self.kept.lock(rt).happen(alloc, event)
     }
@@ -38,13 +41,15 @@ impl<L: Ledger, M: Ledger> LockedSheet<L, M> {
     // A step of work or of a recovery.
     fn step<R: Wait>(&self, rt: &R, alloc: Global, process: usize, call: Call) -> Reply
         requires { CountsNothing call }
-        ensures { IsStepOf call result }
+        ensures happened { HasStepped call process result }
+        ensures reply { IsStepOf call result }
     {
         self.kept.lock(rt).step(alloc, process, call)
     }
 
     // A step of an edit.
     fn step_edit<R: Wait>(&self, rt: &R, alloc: Global, pass: &mut Pass<L, M>) -> Reply
+        ensures happened { HasStepped Edit pass.old.process result }
         ensures reply { IsStepOf Edit result }
         ensures pass { pass.new ≡ record pass.old { dones = pass.old.dones + done_of result } }
     {
@@ -60,7 +65,9 @@ impl<L: Ledger, M: Ledger> LockedSheet<L, M> {
 
     // A step of a report.
     fn step_report<R: Wait>(&self, rt: &R, alloc: Global, pass: &mut Pass<L, M>) -> Reply
+        ensures happened { HasMade Report pass.old.process result }
         ensures reply { IsStepOf Report result }
+        ensures process { pass.new.process ≡ pass.old.process }
         ensures pass { AfterStep (cells_of self.now.layout) pass.old result pass.new }
     {
         let cells = self.layout.cells();
@@ -150,6 +157,7 @@ fn recovered_by(reply: Reply) -> Recovered
 impl<L: Ledger, M: Ledger> LockedSheet<L, M> {
     // The steps of an edit, until its last reply.
     fn finish_edit<R: Wait>(&self, rt: &R, alloc: Global, pass: &mut Pass<L, M>) -> Reply
+        ensures happened { HasStepped Edit pass.old.process result }
         ensures end { IsEndOf Edit result }
         ensures pass { pass.new ≡ record pass.old { dones = pass.old.dones + done_of result } }
     {
@@ -162,6 +170,21 @@ impl<L: Ledger, M: Ledger> LockedSheet<L, M> {
             }
         }
         unreachable!()
+    }
+
+    // An edit, from the event that begins it to its last reply.
+    fn edit_as<R: Wait>(&self, rt: &R, alloc: Global, pass: &mut Pass<L, M>, begin: &Event) -> Reply
+        requires { IsBegin begin.now }
+        ensures ended { HasEnded Edit pass.old.process begin.now result }
+        ensures end { IsEndOf Edit result }
+        ensures pass { pass.new ≡ record pass.old { dones = pass.old.dones + done_of result } }
+    {
+        match self.happen(rt, alloc, begin) {
+            Reply::Begun(_) => self.finish_edit(rt, alloc, pass),
+            Reply::Refused(why) => Reply::Refused(why),
+            Reply::NotEnabled => Reply::NotEnabled,
+            _ => unreachable!(),
+        }
     }
 
     /// Gives a cell a text: a whole edit by the pass's process, which the pass remembers, with its end. A
@@ -183,19 +206,16 @@ impl<L: Ledger, M: Ledger> LockedSheet<L, M> {
             cell,
             text,
         });
-        let reply = match self.happen(rt, alloc, &begin) {
-            Reply::Begun(_) => self.finish_edit(rt, alloc, pass),
-            Reply::Refused(why) => Reply::Refused(why),
-            Reply::NotEnabled => Reply::NotEnabled,
-            _ => unreachable!(),
-        };
+        let reply = self.edit_as(rt, alloc, pass, &begin);
         pass.remember(&begin, &reply);
         edited_by(begin, reply)
     }
 
     // The steps of a report, until its last reply.
     fn finish_report<R: Wait>(&self, rt: &R, alloc: Global, pass: &mut Pass<L, M>) -> Reply
+        ensures happened { HasMade Report pass.old.process result }
         ensures end { IsEndOf Report result }
+        ensures process { pass.new.process ≡ pass.old.process }
         ensures pass { AfterStep (cells_of self.now.layout) pass.old result pass.new }
     {
         for _ in rt.forever() {
@@ -209,6 +229,22 @@ impl<L: Ledger, M: Ledger> LockedSheet<L, M> {
         unreachable!()
     }
 
+    // A report, from the event that begins it to its last reply.
+    fn show_as<R: Wait>(&self, rt: &R, alloc: Global, pass: &mut Pass<L, M>, begin: &Event) -> Reply
+        requires { IsShowBegin begin.now }
+        ensures ended { HasEnded Report pass.old.process begin.now result }
+        ensures end { IsEndOf Report result }
+        ensures process { pass.new.process ≡ pass.old.process }
+        ensures pass { AfterStep (cells_of self.now.layout) pass.old result pass.new }
+    {
+        match self.happen(rt, alloc, begin) {
+            Reply::Entered => self.finish_report(rt, alloc, pass),
+            Reply::Refused(why) => Reply::Refused(why),
+            Reply::NotEnabled => Reply::NotEnabled,
+            _ => unreachable!(),
+        }
+    }
+
     /// Reports the values of all cells: a whole report by the pass's process, which the pass remembers,
     /// with its end. A Settled is counted in the pass's share, and its values are those that the pass then
     /// keeps: `Pass::last`. Any other end leaves both as they were.
@@ -216,12 +252,7 @@ impl<L: Ledger, M: Ledger> LockedSheet<L, M> {
         ensures { AfterReport (cells_of self.now.layout) pass.old result pass.new }
     {
         let begin = Event::BeginShow(pass.process);
-        let reply = match self.happen(rt, alloc, &begin) {
-            Reply::Entered => self.finish_report(rt, alloc, pass),
-            Reply::Refused(why) => Reply::Refused(why),
-            Reply::NotEnabled => Reply::NotEnabled,
-            _ => unreachable!(),
-        };
+        let reply = self.show_as(rt, alloc, pass, &begin);
         pass.remember(&begin, &reply);
         shown_by(reply)
     }
@@ -326,7 +357,8 @@ impl<L: Ledger, M: Ledger> LockedSheet<L, M> {
         begin: &Event,
     ) -> Reply
         requires { begin.now ≡ BeginRecover process }
-        ensures { IsEndOf Recovery result }
+        ensures ended { HasEnded Recovery process begin.now result }
+        ensures end { IsEndOf Recovery result }
     {
         match self.happen(rt, alloc, begin) {
             Reply::Entered => self.finish_recovery(rt, alloc, process),
@@ -338,7 +370,8 @@ impl<L: Ledger, M: Ledger> LockedSheet<L, M> {
 
     // The steps of a recovery, until its last reply.
     fn finish_recovery<R: Wait>(&self, rt: &R, alloc: Global, process: usize) -> Reply
-        ensures { IsEndOf Recovery result }
+        ensures happened { HasStepped Recovery process result }
+        ensures end { IsEndOf Recovery result }
     {
         for _ in rt.forever() {
             match self.step(rt, alloc, process, Call::Recovery) {

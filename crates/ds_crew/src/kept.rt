@@ -7,7 +7,7 @@ ghost use Rattle.ds_core.specs.Takes.{Fits};
 ghost use Rattle.ds_core.specs.Counts.{done_of, settled_of, IsReplyTo};
 ghost use Rattle.ds_core.specs.declared.reply.Reply.TheVariants.{Answered};
 ghost use Rattle.ds_crew.specs.LockedCalls.{CountsNothing, IsNoStep, IsStepOf};
-ghost use Rattle.ds_crew.specs.Kept.{StepsIn, last_after, report_of};
+ghost use Rattle.ds_crew.specs.Kept.{Happened, HasMade, HasSettled, HasStepped, StepsIn, last_after, report_of};
 ghost use Rattle.ds_crew.specs.declared.steps.Call.TheVariants.{Edit, Report};
 
 use crate::steps::{Call, step};
@@ -68,8 +68,10 @@ impl<L: Ledger, M: Ledger> Kept<L, M> {
     pub(crate) fn happen(&mut self, alloc: Global, event: &Event) -> Reply
         requires { IsNoStep event.now }
         ensures fits { Fits self.old.world event.now result self.new.world }
+        ensures happened { Happened event.now result }
         ensures reply { IsReplyTo event.now result }
     {
+        self.world.is_always_good();
         take(alloc, &mut self.world, event)
     }
 
@@ -77,6 +79,7 @@ impl<L: Ledger, M: Ledger> Kept<L, M> {
     pub(crate) fn step(&mut self, alloc: Global, process: usize, call: Call) -> Reply
         requires { CountsNothing call }
         ensures steps { StepsIn call process self.old.world result self.new.world }
+        ensures happened { HasStepped call process result }
         ensures reply { IsStepOf call result }
     {
         step(alloc, &mut self.world, process, call)
@@ -86,6 +89,7 @@ impl<L: Ledger, M: Ledger> Kept<L, M> {
     pub(crate) fn step_edit(&mut self, alloc: Global, process: usize, share: &mut Share<L>) -> Reply
         requires { 0 < share.old.parts }
         ensures steps { StepsIn Edit process self.old.world result self.new.world }
+        ensures happened { HasStepped Edit process result }
         ensures reply { IsStepOf Edit result }
         ensures amount { share.new.amount ≡ share.old.amount + done_of result }
         ensures parts { share.new.parts ≡ share.old.parts }
@@ -116,6 +120,8 @@ impl<L: Ledger, M: Ledger> Kept<L, M> {
         requires { 0 < share.old.parts }
         ensures steps { cells_of self.old.world.sheet.layout ≡ cells → cells ≤ vec_capacity last.old
             → StepsIn Report process self.old.world result self.new.world }
+        ensures happened { HasMade Report process result }
+        ensures settled { result ≡ Answered Settled → HasSettled process last.new.items }
         ensures reply { IsStepOf Report result }
         ensures amount { share.new.amount ≡ share.old.amount + settled_of result }
         ensures parts { share.new.parts ≡ share.old.parts }

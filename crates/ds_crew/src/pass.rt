@@ -1,7 +1,8 @@
 //! Passes: who may drive which process.
 
 ghost use Rattle.std.specs.Prelude.{◌≡◌, []};
-ghost use Rattle.ds_crew.specs.Passes.{asked};
+ghost use Rattle.ds_crew.specs.Kept.{HasUsed};
+ghost use Rattle.ds_crew.specs.Passes.{HaveHappened, asked};
 
 use ds_core::event::Event;
 use ds_core::reply::Reply;
@@ -26,7 +27,7 @@ impl<L: Ledger, M: Ledger> Model for Pass<L, M> {
     ghost use Rattle.std.specs.Prelude.{◌≡◌};
     ghost use Rattle.std.specs.Coded.{codes};
     ghost use Rattle.ds_eval.specs.Code.{plain_code};
-    ghost use Rattle.ds_crew.specs.Passes.{PlainPass};
+    ghost use Rattle.ds_crew.specs.Passes.{HaveHappened, PlainPass};
 
     ghost Value = { PlainPass };
 
@@ -34,7 +35,7 @@ impl<L: Ledger, M: Ledger> Model for Pass<L, M> {
 
     ghost view = { λ p. record { process = p.process; last = p.last.items; dones = p.dones.amount; settleds = p.settleds.amount; calls = p.calls.items } };
 
-    ghost invariant = { λ p. (p.dones.parts ≡ 1) × (p.settleds.parts ≡ 1) };
+    ghost invariant = { λ p. (p.dones.parts ≡ 1) × (p.settleds.parts ≡ 1) × HaveHappened p.process p.calls.items };
 }
 
 // A pass of one part of both counts, with no calls yet.
@@ -64,8 +65,16 @@ impl<L: Ledger, M: Ledger> Pass<L, M> {
         self.process
     }
 
+    /// Each call that the pass remembers was one of its process, that began and ended so.
+    pub fn has_used(&self)
+        ensures { HaveHappened self.now.process self.now.calls }
+    {
+        let _calls = &self.calls;
+    }
+
     // The pass was used for one call more, which this event began, and which had this as its last reply.
     pub(crate) fn remember(&mut self, begin: &Event, reply: &Reply)
+        requires { HasUsed self.old.process begin.now reply.now }
         ensures { self.new ≡ asked self.old begin.now reply.now }
     {
         self.calls = self.calls.and(begin, reply);

@@ -6,7 +6,7 @@ ghost use Rattle.ds_edit.specs.declared.answer.Answer.TheVariants.{Settled};
 ghost use Rattle.ds_core.specs.Counts.{done_of, settled_of};
 ghost use Rattle.ds_core.specs.declared.reply.Reply.TheVariants.{Answered};
 ghost use Rattle.ds_crew.specs.LockedCalls.{call_in, IsStepOf};
-ghost use Rattle.ds_crew.specs.Kept.{HasReport, StepsIn};
+ghost use Rattle.ds_crew.specs.Kept.{HasMade, HasReport, HasSettled, HasStepped, StepsIn, report_of};
 
 use ds_core::event::Event;
 use ds_core::reply::Reply;
@@ -52,14 +52,17 @@ fn is_in(world: &World, process: usize, call: Call) -> bool
 // `NotEnabled`.
 pub(crate) fn step(alloc: Global, world: &mut World, process: usize, call: Call) -> Reply
     ensures steps { StepsIn call process world.old result world.new }
+    ensures happened { HasStepped call process result }
+    ensures made { HasMade call process result }
+    ensures settles { result ≡ Answered Settled → HasSettled process (report_of world.new.reports process) }
     ensures reply { IsStepOf call result }
     ensures done { world.new.done ≡ world.old.done + done_of result }
     ensures settled { world.new.settled ≡ world.old.settled + settled_of result }
     ensures report { result ≡ Answered Settled → HasReport world.old.sheet.layout process world.new.reports }
 {
+    world.is_always_good();
     if !is_in(world, process, call) {
         return Reply::NotEnabled;
     }
-    world.is_always_good();
     take(alloc, world, &Event::Step(process))
 }

@@ -13,3 +13,4 @@ pub mod Sound
 pub mod Truth
 pub mod Possible
 pub mod Alone
+pub mod EditLeaves

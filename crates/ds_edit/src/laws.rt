@@ -5,6 +5,7 @@ ghost use Rattle.ds_state.specs.Edits.{PlainEditCall, IsEdit};
 ghost use Rattle.ds_state.specs.World.{PlainWorld, edit_of};
 ghost use Rattle.ds_state.specs.Sound.{IsSound};
 ghost use Rattle.ds_state.specs.Rely.{Keeps};
+ghost use Rattle.ds_state.specs.Leaves.{Leaves};
 ghost use Rattle.ds_state.specs.CallsFit.{IsSheetOf, HasRefs};
 ghost use Rattle.ds_state.specs.declared.stage.Outcome.{Outcome};
 ghost use Rattle.ds_state.specs.declared.stage.Stage.TheVariants.{Answer};
@@ -46,4 +47,16 @@ pub fn accesses_are_possible()
     ensures { (e : PlainEditCall) (w : PlainWorld) → IsSound w
         → e.process < w.layout.processes → w.situation e.process ≡ Editing e
         → CanPerform w.layout w.memory e.process (access_at e e.stage) }
+{}
+
+/// Each step of an edit, and its beginning, leave the others what is theirs. What a step adds to the
+/// edits that count is that edit, whose number was not spent; and each report under way still has a
+/// middle.
+pub fn edits_leave_others()
+    ensures steps { (e : PlainEditCall) (word : ℕ) (old new : PlainWorld) → IsSound old
+        → e.process < old.layout.processes → old.situation e.process ≡ Editing e
+        → Steps e word old new → Leaves e.process old new }
+    ensures begins { (e : PlainEditCall) (old new : PlainWorld) → IsSound old
+        → IsEdit e → IsSheetOf old.layout e → HasRefs old.layout.shape e.text e.refs
+        → Begins e old new → Leaves e.process old new }
 {}

@@ -3,3 +3,4 @@ pub mod Driving
 pub mod Calling
 pub mod Settles
 pub mod Scripts
+pub mod Settled

@@ -5,3 +5,4 @@ pub mod Doing
 pub mod Plays
 pub mod Script
 pub mod Running
+pub mod LoneSettles

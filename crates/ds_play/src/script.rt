@@ -1,16 +1,23 @@
 //! Runs scripts.
 
-ghost use Rattle.std.specs.Prelude.{◌≡◌, ◌≢◌, ◌≤◌, ◌+◌, ◌<◌, ◌^◌, ◌-◌, Bool, List, ℕ, IfOk, IfErr, length, take, true};
+ghost use Rattle.std.specs.Prelude.{◌≡◌, ◌≢◌, ◌≤◌, ◌+◌, ◌*◌, ◌<◌, ◌^◌, ◌-◌, Bool, List, ℕ, IfOk, IfErr, length, take, true};
 ghost use Rattle.std.specs.Io.KnownBytes.{Consumes, Appends};
 ghost use Rattle.ds_state.specs.Fresh.{IsNew};
-ghost use Rattle.ds_state.specs.Value.{world_of, IsGood};
+ghost use Rattle.ds_state.specs.Value.{WorldValue, world_of, IsGood};
+ghost use Rattle.ds_state.specs.Works.{SEEN_MOST};
+ghost use Rattle.ds_layout.specs.Places.{cells_of};
+ghost use Rattle.ds_calls.specs.Whole.{HasProcess};
+ghost use Rattle.ds_calls.specs.Lone.{AreIdle};
 ghost use Rattle.ds_core.specs.Takes.{WorldRun};
 ghost use Rattle.ds_core.specs.Headline.{HasHeadline};
 ghost use Rattle.ds_streams.specs.Streams.{reader_of, writer_of, bytes_given, has_ended, read_failed, write_failed};
 ghost use Rattle.ds_streams.specs.Input.{Within};
 ghost use Rattle.ds_streams.specs.declared.ending.ScriptEnd.TheVariants as ends;
 ghost use Rattle.ds_play.specs.declared.script.Stop.TheVariants as stops;
-ghost use Rattle.ds_play.specs.Orders.{command_view};
+ghost use Rattle.ds_play.specs.Orders.{Settle, command_view};
+ghost use Rattle.ds_play.specs.Doing.{plan};
+ghost use Rattle.ds_play.specs.Plays.{Played};
+ghost use Rattle.ds_play.specs.LoneSettles.{SaysClean};
 ghost use Rattle.ds_play.specs.Script.{Progress, Carried, Writes, Outcome, is_whole};
 ghost use Rattle.ds_play.specs.Running.{Obeyed, Stopped, RanLines, HidesNone, after, break_of, ending_of};
 ghost use Rattle.ds_formula.specs.Limits.{INPUT_MOST};
@@ -238,4 +245,15 @@ pub fn scripts_are_runs()
     ensures headline { (whole : Bool) (script : List ℕ) (lines : ℕ) (p : Progress) (out rest : List ℕ)
         → Carried whole script lines p out rest → (run : WorldRun p.start p.events p.replies p.world)
         → HasHeadline p.start p.events p.replies p.world run }
+{}
+
+/// A line `settle P` of a script, where each process is idle, as before its first call, between calls,
+/// and after a crash once every process has recovered, answers `clean`, unless memory is wanting. So
+/// it is in each script with fewer than 2^58 events, and some for the settle itself.
+pub fn lone_settles_answer_clean()
+    ensures { (whole : Bool) (script : List ℕ) (lines : ℕ) (at : Progress) (out rest : List ℕ)
+        → Carried whole script lines at out rest → (p : ℕ) (text : List ℕ) (new : WorldValue)
+        → HasProcess at.world p → AreIdle (world_of at.world)
+        → length at.events + 2 * (cells_of at.world.sheet.layout + 2) ≤ SEEN_MOST
+        → Played (plan at.world (Settle p)) at.world text new → SaysClean p text }
 {}

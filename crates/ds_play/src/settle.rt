@@ -1,10 +1,14 @@
 //! Works on all cells that are marked, in rounds, until a round finds none.
 
-ghost use Rattle.std.specs.Prelude.{◌<◌, ◌≤◌, IfOk};
+ghost use Rattle.std.specs.Prelude.{◌<◌, ◌≤◌, ◌+◌, ℕ, List, IfOk};
 ghost use Rattle.ds_formula.specs.Cells.{cell_at};
 ghost use Rattle.ds_layout.specs.Places.{cells_of};
 ghost use Rattle.ds_core.specs.declared.event.Event.TheVariants.{BeginWork};
 ghost use Rattle.ds_core.specs.Takes.{Fits};
+ghost use Rattle.ds_state.specs.Value.{WorldValue, world_of, IsGood};
+ghost use Rattle.ds_calls.specs.Whole.{HasProcess};
+ghost use Rattle.ds_calls.specs.Lone.{AreIdle, AreYoung};
+ghost use Rattle.ds_play.specs.LoneSettles.{SaysClean};
 ghost use Rattle.ds_play.specs.Doing.{settle};
 ghost use Rattle.ds_play.specs.Plays.{Played};
 
@@ -51,3 +55,12 @@ pub fn settle(alloc: Global, world: &mut World, process: usize) -> Result<Vec<u8
     let end = ds_calls::settle::settle(alloc, world, process);
     end_bytes(alloc, world, process, end)
 }
+
+/// A settle of a world in which each process is idle answers `clean`, unless memory is wanting: before
+/// the first call, between calls, and after a crash once every process has recovered. Two rounds more
+/// than the sheet has cells are enough, in whatever order its cells refer to each other.
+pub fn lone_settles_are_clean()
+    ensures { (p : ℕ) (old : WorldValue) (text : List ℕ) (new : WorldValue) → IsGood old
+        → HasProcess old p → AreIdle (world_of old) → AreYoung (world_of old) (cells_of old.sheet.layout + 2)
+        → Played (settle old p) old text new → SaysClean p text }
+{}

@@ -17,3 +17,4 @@ pub mod RecoveryPossible
 pub mod RecoveryBegins
 pub mod RecoveryLaws
 pub mod RecoveryGood
+pub mod RecoveryLeaves

@@ -24,8 +24,8 @@ fn may_recover(situation: &Situation) -> bool
     }
 }
 
-// The process's recovery of the sheet, before its first step.
-fn fresh(layout: &Layout, process: usize) -> RecoverCall
+/// The process's recovery of the sheet, before its first step.
+pub fn fresh(layout: &Layout, process: usize) -> RecoverCall
     requires { process < layout.now.processes }
     ensures { result ≡ fresh process (cells_of layout.now) layout.now.processes }
 {

@@ -8,6 +8,7 @@ ghost use Rattle.ds_state.specs.World.{PlainIssue, PlainWorld};
 ghost use Rattle.ds_state.specs.Owing.{HoldsNone};
 ghost use Rattle.ds_state.specs.Sound.{IsSound};
 ghost use Rattle.ds_state.specs.Rely.{Keeps};
+ghost use Rattle.ds_state.specs.Leaves.{Leaves};
 ghost use Rattle.ds_state.specs.Works.{PlainRecoverCall};
 ghost use Rattle.ds_state.specs.RecoverStages.{IsRecovery};
 ghost use Rattle.ds_state.specs.declared.work.RecoverStage.TheVariants.{Answer};
@@ -89,4 +90,14 @@ pub fn no_cell_stays_held()
     ensures { (e : PlainRecoverCall) (how : Option Bool) (word : ℕ) (old new : PlainWorld) → IsSound old
         → e.process < old.layout.processes → old.situation e.process ≡ Recovering e → e.stage ≡ Answer how
         → Steps e word old new → HoldsNone new e.process }
+{}
+
+/// Each step of a recovery, and its beginning, leave the others what is theirs: no edit comes to
+/// count, and each report under way still has a middle.
+pub fn recoveries_leave_others()
+    ensures steps { (e : PlainRecoverCall) (word : ℕ) (old new : PlainWorld) → IsSound old
+        → e.process < old.layout.processes → old.situation e.process ≡ Recovering e
+        → Steps e word old new → Leaves e.process old new }
+    ensures begins { (p : ℕ) (old new : PlainWorld) → IsSound old → p < old.layout.processes
+        → IsBegun old p new → Leaves p old new }
 {}

@@ -3,3 +3,4 @@ pub mod ShowBegun
 pub mod ShowTakes
 pub mod ShowRuns
 pub mod ShowSolo
+pub mod ShowMiddles

@@ -47,8 +47,8 @@ fn is_spent(settled: u64, situations: &[Situation]) -> bool
     SETTLED_MOST - settled <= under_way(situations) as u64
 }
 
-// The process's report of the sheet, before its first step, with room for all that it is to note.
-fn fresh(
+/// The process's report of the sheet, before its first step, with room for all that it is to note.
+pub fn fresh(
     alloc: Global,
     layout: &Layout,
     process: usize,

@@ -1,19 +1,24 @@
 //! What is true of each report, as functions that do nothing.
 
-ghost use Rattle.std.specs.Prelude.{ℕ, ◌≡◌, ◌<◌, ◌≤◌, ◌+◌, ◌*◌, List};
+ghost use Rattle.std.specs.Prelude.{ℕ, ◌≡◌, ◌<◌, ◌≤◌, ◌+◌, ◌*◌, List, Contains};
 ghost use Rattle.ds_layout.specs.declared.layout.Layout.{Layout};
 ghost use Rattle.ds_layout.specs.Places.{cells_of};
 ghost use Rattle.ds_layout.specs.SheetMemory.{CanPerform, NamesPlace};
-ghost use Rattle.ds_state.specs.World.{PlainWorld};
+ghost use Rattle.ds_state.specs.World.{PlainEdit, PlainWorld};
 ghost use Rattle.ds_state.specs.Sound.{IsSound};
 ghost use Rattle.ds_state.specs.Rely.{Keeps};
+ghost use Rattle.ds_state.specs.Middles.{Middle, Middles, HaveMiddles, IsMiddle, but_for};
+ghost use Rattle.ds_state.specs.Leaves.{Leaves};
+ghost use Rattle.ds_state.specs.Lasts.{Lasts};
+ghost use Rattle.ds_state.specs.KnownShow.{middle, seen_at};
 ghost use Rattle.ds_state.specs.Works.{PlainShowCall};
 ghost use Rattle.ds_state.specs.ShowStages.{IsShow};
 ghost use Rattle.ds_state.specs.declared.work.ShowEnd.{ShowEnd};
 ghost use Rattle.ds_state.specs.declared.work.ShowEnd.TheVariants.{Settled};
 ghost use Rattle.ds_state.specs.declared.work.ShowStage.TheVariants.{Answer};
 ghost use Rattle.ds_state.specs.declared.situation.Situation.TheVariants.{Showing};
-ghost use Rattle.ds_show.specs.ShowSteps.{Steps, Begins, access_at, next_at, rank, Falls};
+ghost use Rattle.ds_show.specs.ShowSteps.{Steps, Begins, access_at, next_at, got_at, fresh, rank, Falls};
+ghost use Rattle.ds_show.specs.ShowMiddles.{middle_after, WasSettled, IsReport};
 ghost use Rattle.ds_show.specs.ShowRuns.{Call, IsTrueReport};
 ghost use Rattle.ds_show.specs.ShowSolo.{SoloCall};
 
@@ -73,4 +78,61 @@ pub fn solo_reports_are_settled()
     ensures { (p : ℕ) → (now : PlainWorld) (past : List PlainWorld) → SoloCall p now past
         → (e : PlainShowCall) (end : ShowEnd) → now.situation p ≡ Showing e → e.stage ≡ Answer end
         → end ≡ Settled }
+{}
+
+/// A report has a middle from its begin on: a sound world of its call, of the time up to now. Each
+/// load of a kind makes it the world before that step, and the load of the last one, which ends the
+/// first collect, does so for good; its other steps leave it.
+pub fn reports_have_middles()
+    ensures begin { (p next : ℕ) (old new : PlainWorld) → IsSound old → p < old.layout.processes
+        → Begins p next old new
+        → Middle new new p (fresh p next (cells_of old.layout) old.layout.processes) new }
+    ensures step { (e : PlainShowCall) (word : ℕ) (old new : PlainWorld) → IsSound old
+        → e.process < old.layout.processes → old.situation e.process ≡ Showing e
+        → Steps e word old new → (first mid : PlainWorld) → Middle first old e.process e mid
+        → Middle first new e.process (got_at e word) (middle_after old mid e.stage) }
+{}
+
+/// So all reports under way have their middles, also where one begins, or goes on, or answers.
+pub fn middles_go_on()
+    ensures begins { (firsts mids : ℕ → PlainWorld) (old new : PlainWorld) → Middles firsts mids old
+        → (p next : ℕ) → IsSound old → p < old.layout.processes → Begins p next old new
+        → Middles (but_for firsts p new) (but_for mids p new) new }
+    ensures steps { (firsts mids : ℕ → PlainWorld) (old new : PlainWorld) → Middles firsts mids old
+        → (e : PlainShowCall) (word : ℕ) → IsSound old → e.process < old.layout.processes
+        → old.situation e.process ≡ Showing e → Steps e word old new
+        → Middles firsts (but_for mids e.process (middle_after old (mids e.process) e.stage)) new }
+{}
+
+/// What is so of a report's middle, where its first collect is through: it lies between what was
+/// noted and now, and all that was seen again is there as it was noted. Where the report is settled,
+/// its values are those from scratch of the edits that counted there; each of its process's that
+/// counts did, and each that counted at its begin.
+pub fn middles_are_true()
+    ensures says { (first w : PlainWorld) (p : ℕ) (e : PlainShowCall) (mid : PlainWorld) (i j : ℕ)
+        → Middle first w p e mid → seen_at e.cells e.processes e.stage ≡ middle i j
+        → IsMiddle first w p e i j mid }
+    ensures settles { (first w : PlainWorld) (p : ℕ) (e : PlainShowCall) (mid : PlainWorld)
+        → Middle first w p e mid → e.stage ≡ Answer Settled → WasSettled first w p e mid }
+{}
+
+/// Each step of a report, and its beginning, leave the others what is theirs: no edit comes to
+/// count, and each report under way has a middle, this one too.
+pub fn reports_leave_others()
+    ensures steps { (e : PlainShowCall) (word : ℕ) (old new : PlainWorld) → IsSound old
+        → e.process < old.layout.processes → old.situation e.process ≡ Showing e
+        → Steps e word old new → Leaves e.process old new }
+    ensures begins { (p next : ℕ) (old new : PlainWorld) → IsSound old → p < old.layout.processes
+        → Begins p next old new → Leaves p old new }
+{}
+
+/// Where reports have middles, one that is settled has had a middle with all edits that its seat was
+/// told are done, and stays such a one.
+pub fn settled_reports_last()
+    ensures settled { (w : PlainWorld) (p : ℕ) (e : PlainShowCall) (held : List PlainEdit) → HaveMiddles w
+        → p < w.layout.processes → w.situation p ≡ Showing e → e.stage ≡ Answer Settled
+        → ((d : PlainEdit) → Contains held d → (d.process ≡ p) × Contains w.counted d)
+        → IsReport w p e held }
+    ensures stays { (old new : PlainWorld) (p : ℕ) (e : PlainShowCall) (held : List PlainEdit)
+        → Lasts old new → IsReport old p e held → IsReport new p e held }
 {}

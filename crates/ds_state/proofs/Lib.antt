@@ -23,9 +23,11 @@ pub mod Counting
 pub mod Padded
 pub mod Few
 pub mod Accesses
+pub mod Middles
 pub mod Noted
 pub mod Underway
 pub mod Spent
+pub mod Leaves
 pub mod Outcomes
 pub mod Dones
 pub mod Made

@@ -17,7 +17,10 @@ pub mod WordsFit
 pub mod Sound
 pub mod Calm
 pub mod Rely
+pub mod Lasts
+pub mod Middles
 pub mod Spent
+pub mod Leaves
 pub mod Fresh
 pub mod Events
 pub mod Crashes

@@ -1,11 +1,11 @@
 //! What is true of each world, as functions that do nothing.
 
-ghost use Rattle.std.specs.Prelude.{ℕ, ◌≡◌, ◌<◌, ◌≤◌, ◌+◌, ◌*◌, List, length, Some};
+ghost use Rattle.std.specs.Prelude.{ℕ, ◌≡◌, ◌<◌, ◌≤◌, ◌+◌, ◌*◌, List, length, Some, Contains};
 ghost use Rattle.ds_layout.specs.Mark.{mark_word};
 ghost use Rattle.ds_layout.specs.declared.place.Place.{Place};
 ghost use Rattle.ds_layout.specs.declared.place.Place.TheVariants.{Mark};
 ghost use Rattle.ds_layout.specs.declared.place.TheConstants.{RECORDS};
-ghost use Rattle.ds_state.specs.World.{PlainWorld, of_cell};
+ghost use Rattle.ds_state.specs.World.{PlainEdit, PlainWorld, of_cell};
 ghost use Rattle.ds_state.specs.Shown.{last_text, mark_at, text_at, IsQuiet, MayHold, values_shown};
 ghost use Rattle.ds_state.specs.KnownShow.{AreScratch};
 ghost use Rattle.ds_state.specs.Value.{WorldValue, IsGood};
@@ -13,11 +13,15 @@ ghost use Rattle.ds_state.specs.Fresh.{IsNew};
 ghost use Rattle.ds_state.specs.Events.{Evicts};
 ghost use Rattle.ds_state.specs.Sound.{IsSound};
 ghost use Rattle.ds_state.specs.Rely.{Rely, Keeps};
+ghost use Rattle.ds_state.specs.Lasts.{Lasts};
+ghost use Rattle.ds_state.specs.Middles.{Middle, Middles};
+ghost use Rattle.ds_state.specs.Leaves.{Leaves};
+ghost use Rattle.ds_state.specs.Works.{PlainShowCall};
 ghost use Rattle.ds_state.specs.Spent.{IsSpent};
 ghost use Rattle.ds_state.specs.Edits.{PlainEditCall};
 ghost use Rattle.ds_state.specs.declared.stage.Outcome.{Outcome};
 ghost use Rattle.ds_state.specs.declared.stage.Stage.TheVariants.{Swap, Answer};
-ghost use Rattle.ds_state.specs.declared.situation.Situation.TheVariants.{Editing};
+ghost use Rattle.ds_state.specs.declared.situation.Situation.TheVariants.{Stopped, Editing, Showing};
 ghost use Rattle.ds_state.specs.Crashes.{CrashesTo, StopsIn};
 ghost use Rattle.ds_state.specs.CallsFit.{CallFits};
 ghost use Rattle.ds_state.specs.Calm.{IsCalm, IsLocalAt};
@@ -116,4 +120,40 @@ pub fn calm_sheets_are_right()
 pub fn quiet_sheets_are_right()
     ensures { (w : PlainWorld) → IsSound w → IsQuiet w
         → AreScratch w.layout.shape w.counted (values_shown w) }
+{}
+
+/// Whatever a process does, and at each eviction, what lasts does: marks and announcements grow, a
+/// cell with a clean mark keeps its value and kind while it has that mark, and the edits that count
+/// stay, in their order. It lasts from any moment to any later one.
+pub fn sheets_last()
+    ensures kept { (p : ℕ) (old new : PlainWorld) → Keeps p old new → Lasts old new }
+    ensures evicted { (place : Place) (old new : PlainWorld) → Evicts place old new → Lasts old new }
+    ensures same { (w : PlainWorld) → Lasts w w }
+    ensures on { (old mid new : PlainWorld) → Lasts old mid → Lasts mid new → Lasts old new }
+    ensures counts { (old new : PlainWorld) → Lasts old new → (d : PlainEdit) → Contains old.counted d → Contains new.counted d }
+{}
+
+/// The middle of a report stays that report's while all stays that its process may count on. So the
+/// middles of all reports under way stay while a process steps, begins or answers that does not
+/// report then, while one stops, and at each eviction. A new
+/// sheet, one in which every process is stopped, and one after a crash, has no report under way.
+pub fn middles_stay()
+    ensures one { (p : ℕ) (first old new : PlainWorld) (e : PlainShowCall) (mid : PlainWorld) → Rely p old new
+        → Middle first old p e mid → Middle first new p e mid }
+    ensures others { (firsts mids : ℕ → PlainWorld) (old new : PlainWorld) → Middles firsts mids old
+        → (p : ℕ) → Keeps p old new → ((e : PlainShowCall) → new.situation p ≡ Showing e → ⊥) → Middles firsts mids new }
+    ensures stopped { (firsts mids : ℕ → PlainWorld) (old new : PlainWorld) → Middles firsts mids old
+        → (p : ℕ) → IsSound old → p < old.layout.processes → StopsIn p old new → Middles firsts mids new }
+    ensures evicted { (firsts mids : ℕ → PlainWorld) (old new : PlainWorld) → Middles firsts mids old
+        → (place : Place) → IsSound old → Evicts place old new → Middles firsts mids new }
+    ensures none { (firsts mids : ℕ → PlainWorld) (w : PlainWorld) → IsNew w → Middles firsts mids w }
+    ensures rest { (firsts mids : ℕ → PlainWorld) (w : PlainWorld)
+        → ((p : ℕ) → p < w.layout.processes → w.situation p ≡ Stopped) → Middles firsts mids w }
+    ensures crashed { (firsts mids : ℕ → PlainWorld) (old new : PlainWorld) → CrashesTo old new → Middles firsts mids new }
+{}
+
+/// What a stop leaves, and what one doing of a process after another leaves.
+pub fn doings_leave_others()
+    ensures stops { (p : ℕ) (old new : PlainWorld) → IsSound old → p < old.layout.processes → StopsIn p old new → Leaves p old new }
+    ensures on { (p : ℕ) (old mid new : PlainWorld) → Leaves p old mid → Leaves p mid new → Leaves p old new }
 {}

@@ -68,6 +68,23 @@ fn prepared(layout: &Layout, process: usize, next: usize, cell: Cell, inputs: In
     }
 }
 
+/// Work of the process on the cell, before its first step, with room for all that it will gather. An
+/// error is a want of memory.
+pub fn fresh(
+    alloc: Global,
+    layout: &Layout,
+    process: usize,
+    next: usize,
+    cell: Cell,
+) -> Result<WorkCall, AllocError>
+    requires process { process < layout.now.processes }
+    requires cell { IsInside layout.now.shape cell }
+    ensures { IfOk result (λ call. IsAskedFor layout.now process next (index_of layout.now.shape cell) call) }
+{
+    let inputs = Inputs::with_capacity(alloc, layout.cells())?;
+    Ok(prepared(layout, process, next, cell, inputs))
+}
+
 // The process is in that work from now on.
 #[inline(always)]
 fn start(world: &mut World, call: WorkCall, cell: Cell, next: usize)

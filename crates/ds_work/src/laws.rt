@@ -12,6 +12,7 @@ ghost use Rattle.ds_state.specs.World.{PlainWorld};
 ghost use Rattle.ds_state.specs.Works.{PlainWorkCall, IsWork, IsSame, Differs};
 ghost use Rattle.ds_state.specs.Sound.{IsSound};
 ghost use Rattle.ds_state.specs.Rely.{Keeps};
+ghost use Rattle.ds_state.specs.Leaves.{Leaves};
 ghost use Rattle.ds_state.specs.declared.situation.Situation.TheVariants.{Working};
 ghost use Rattle.ds_state.specs.declared.work.WorkStage.{WorkStage};
 ghost use Rattle.ds_state.specs.declared.work.WorkStage.TheVariants as works;
@@ -117,4 +118,20 @@ pub fn works_are_of_a_sheet(call: &WorkCall)
 #[tactic(auto, using(crate::proofs::Turning::turns_fall))]
 pub fn turns_leave_fewer_steps()
     ensures { (p : ℕ) (old new : PlainWorld) → IsSound old → (by : StepsBy old p Stepped new) → GoesOn p by.work new }
+{}
+
+/// Each step of work leaves the others what is theirs, and so do reading the content, giving up for
+/// want of memory, an offer, and its beginning: no edit comes to count, and each report under way
+/// still has a middle.
+pub fn works_leave_others()
+    ensures steps { (e : PlainWorkCall) (stage : WorkStage) (word : ℕ) (old new : PlainWorld) → IsSound old → e.process < old.layout.processes
+        → old.situation e.process ≡ Working (at e stage) → StepsAt e stage word old new → Leaves e.process old new }
+    ensures reads { (e : PlainWorkCall) (content : PlainContent) (inputs : List Input) (old new : PlainWorld) → IsSound old → e.process < old.layout.processes
+        → old.situation e.process ≡ Working (at e works.Read) → ReadsAt e content inputs old new → Leaves e.process old new }
+    ensures lacks { (e : PlainWorkCall) (old new : PlainWorld) → IsSound old → e.process < old.layout.processes
+        → old.situation e.process ≡ Working (at e works.Read) → LacksAt e old new → Leaves e.process old new }
+    ensures offers { (e : PlainWorkCall) (entry : entries.Entry) (old new : PlainWorld) → IsSound old → e.process < old.layout.processes
+        → old.situation e.process ≡ Working (at e works.Wait) → OffersAt e entry old new → Leaves e.process old new }
+    ensures begins { (next : ℕ) (e : PlainWorkCall) (old new : PlainWorld) → IsSound old → e.process < old.layout.processes
+        → BeginsWork next e old new → Leaves e.process old new }
 {}

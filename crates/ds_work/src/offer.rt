@@ -117,6 +117,15 @@ fn accept(situation: &mut Situation, entry: Entry)
     }
 }
 
+/// Evaluates the task of a work that waits, in place and without memory, and offers it its entry.
+pub fn offer_to(call: &mut WorkCall, shape: Shape)
+    requires { call.old.stage ≡ Wait }
+    ensures { call.new ≡ offered call.old (evaluation.local shape call.old.content (entry_in call.old.inputs)) }
+{
+    let entry = local(&call.content, shape, &call.inputs);
+    take_entry(call, entry);
+}
+
 // Whether the task's process waits for the entry of just this task.
 fn waits_for(world: &World, task: &Task) -> bool
     ensures yes { IsTrue result → WaitsFor (world_of world.now) task.now }

@@ -1,0 +1,137 @@
+-- A crash takes no edit whose number is spent, and what was told stays true.
+use Rattle.std.proofs.Common.{ℕ, ◌≡◌, ◌≢◌, ◌+◌, ◌*◌, ◌%◌, ◌==◌, ◌<◌, List, [], ◌∷◌, ◌++◌, refl, ap, sym, ◌∙◌, subst, arith, inl, inr, zero, suc, length, Bool, true, false, cond, Some}
+use Rattle.std.specs.Prelude.{Contains, filter, if◌then◌else◌}
+use Rattle.std.proofs.lemmas.Bool.{eq-eqb}
+use Rattle.std.proofs.lemmas.Bool.Decides.{eqb_tells}
+use Rattle.std.proofs.lemmas.List.Elements.{All-contains, Contains-append_right}
+use Rattle.ds_words.specs.Memory.{Memory}
+use Rattle.ds_layout.specs.declared.place.Place.{Place}
+use Rattle.ds_layout.specs.declared.place.Place.TheVariants.{Head, Announce}
+use Rattle.ds_state.specs.World.{PlainEdit, PlainIssue, PlainWorld, of_cell, head_after_all, head_by}
+use Rattle.ds_state.specs.WordsFit.{IsOnItsWay}
+use Rattle.ds_state.specs.Owing.{IsPending, Splits}
+use Rattle.ds_state.specs.Crashes.{is_lost, survivors, CrashesTo}
+use Rattle.ds_state.specs.Spent.{IsSpent}
+use Rattle.ds_state.specs.Sound.{IsSound, IsOfSheet, Increasing}
+use Rattle.ds_state.specs.declared.stage.Outcome.{Outcome}
+use Rattle.ds_state.specs.declared.stage.Outcome.TheVariants.{Done, Overtaken}
+use Rattle.ds_state.specs.declared.situation.Situation.{Situation}
+use Rattle.ds_state.specs.declared.situation.Situation.TheVariants.{Stopped}
+use Rattle.ds_state.proofs.Heads.{IsSmall, Small, small_counted, small_of_cell, head_push}
+use Rattle.ds_state.proofs.Losing.{increasing_cell}
+use Rattle.ds_state.proofs.Spent.{spent_crashed}
+use Rattle.ds_recover.specs.declared.machine.RecoveryEnd.TheVariants.{Last, Nothing}
+use Rattle.ds_shared.specs.declared.board.Told.{Told}
+use Rattle.ds_shared.specs.declared.board.Told.TheVariants.{Edited, Worked, Recovered, Shown}
+use Rattle.ds_shared.specs.Rule.{IsTold, IsTrueTold, CountsAs}
+
+-- ---- lists
+
+behind : {A : Type 0} (x : A) (xs : List A) (e : A) → Contains xs e → Contains (x ∷ xs) e
+behind x xs e (k, l, is) = (suc k, (omega arith), is)
+
+to_filter : {A : Type 0} (p : A → Bool) (xs : List A) (e : A) → Contains xs e → p e ≡ true → Contains (filter p xs) e
+to_filter p [] e (k, lt, is) keep = absurd (omega arith)
+to_filter p (x ∷ xs) e (zero, lt, is) keep = subst (λ b. Contains (cond b (x ∷ filter p xs) (filter p xs)) e) (sym (ap p is ∙ keep)) (zero, (omega arith), is)
+to_filter p (x ∷ xs) e (suc k, lt, is) keep = by (p x) (to_filter p xs e (k, (omega arith), is) keep)
+  where
+    by : (b : Bool) → Contains (filter p xs) e → Contains (cond b (x ∷ filter p xs) (filter p xs)) e
+    by true rest = behind x (filter p xs) e rest
+    by false rest = rest
+
+from_filter : {A : Type 0} (p : A → Bool) (xs : List A) (e : A) → Contains (filter p xs) e → Contains xs e
+from_filter p [] e (k, lt, is) = absurd (omega arith)
+from_filter p (x ∷ xs) e h = by (from_filter p xs e) (p x) h
+  where
+    by : (Contains (filter p xs) e → Contains xs e) → (b : Bool) → Contains (cond b (x ∷ filter p xs) (filter p xs)) e → Contains (x ∷ xs) e
+    by again true (zero, lt, is) = (zero, (omega arith), is)
+    by again true (suc k, lt, is) = behind x xs e (again (k, (omega arith), is))
+    by again false rest = behind x xs e (again rest)
+
+-- ---- what is lost
+
+abbrev keep : Memory Place → PlainEdit → Bool
+keep m e = if is_lost m e then false else true
+
+-- what is lost differs on its sides, and is the cached head
+record LostHead (m : Memory Place) (e : PlainEdit) : Type 0 where
+  differ : m.cached (Head e.cell) ≢ m.persisted (Head e.cell)
+  its : m.cached (Head e.cell) % 65536 ≡ e.process * 256 + e.number
+
+lost_head : (m : Memory Place) (e : PlainEdit) → keep m e ≡ false → LostHead m e
+lost_head m e lost = elim (eqb_tells (m.cached (Head e.cell)) (m.persisted (Head e.cell))) [
+  | inl same ↦ absurd (let kept : keep m e ≡ true = rw same.0 refl in let bad : true ≡ false = sym kept ∙ lost in cc)
+  | inr differ ↦ elim (eqb_tells (m.cached (Head e.cell) % 65536) (e.process * 256 + e.number)) [
+    | inl its ↦ record { differ = differ.1; its = its.1 }
+    | inr other ↦ absurd (let kept : keep m e ≡ true = rw (differ.0, other.0) refl in let bad : true ≡ false = sym kept ∙ lost in cc)
+  ]
+]
+
+in_cell : (es : List PlainEdit) (e : PlainEdit) → Contains es e → Contains (of_cell e.cell es) e
+unfolding of_cell
+in_cell es e there = to_filter (λ (f : PlainEdit). f.cell == e.cell) es e there (eq-eqb e.cell e.cell refl)
+
+module _ (w : PlainWorld) (sound : IsSound w) (e : PlainEdit) (there : Contains w.counted e) (at : w.situation e.process ≡ Stopped) (spent : IsSpent w e.process e.number) where
+  on_its_way : LostHead w.memory e → IsOnItsWay w (of_cell e.cell w.counted) (w.memory.persisted (Head e.cell)) → ⊥
+  on_its_way lost b =
+      let small : Small (b.before ++ b.last ∷ []) = subst (λ (xs : List PlainEdit). Small xs) b.parts (small_of_cell e.cell w.counted (small_counted w sound.of_sheet)) in
+      let increasing : Increasing (b.before ++ b.last ∷ []) = subst (λ (xs : List PlainEdit). Increasing xs) b.parts (increasing_cell e.cell w.counted sound.increasing) in
+      let mine : Contains (b.before ++ b.last ∷ []) e = subst (λ (xs : List PlainEdit). Contains xs e) b.parts (in_cell w.counted e there) in
+      let tiny : IsSmall b.last = All-contains (λ (f : PlainEdit). IsSmall f) (b.before ++ b.last ∷ []) b.last small (Contains-append_right b.before (b.last ∷ []) b.last (zero, omega arith, refl)) in
+      let own : IsSmall e = All-contains (λ (f : PlainEdit). IsSmall f) (b.before ++ b.last ∷ []) e small mine in
+      let cached : w.memory.cached (Head e.cell) ≡ head_by (length b.before + 1) b.last = (sound.words (Head e.cell)).last ∙ ap head_after_all b.parts ∙ head_push b.before b.last in
+      let its = lost.its in
+      let p = tiny.process in
+      let n = tiny.number in
+      let p' = own.process in
+      let n' = own.number in
+      let process : b.last.process ≡ e.process = omega arith in
+      let number : b.last.number ≡ e.number = omega arith in
+      let is : w.situation b.last.process ≡ Stopped = ap w.situation process ∙ at in
+      let k : IsPending w b.last.process b.last.cell = subst (λ (s : Situation). Splits w b.last.process s b.last.cell (head_after_all (of_cell e.cell w.counted))) is b.owes in
+      let one : Some k.issue ≡ Some b.issue = sym k.issued ∙ b.open_edits in
+      let issue : k.issue ≡ b.issue = cc in
+      let same : k.issue.edit.number ≡ e.number = ap (λ (i : PlainIssue). i.edit.number) issue ∙ (ap (λ (f : PlainEdit). f.number) b.same ∙ number) in
+      let word = k.persisted in
+      let place : w.memory.persisted (Announce b.last.process) ≡ w.memory.persisted (Announce e.process) = ap (λ (q : ℕ). w.memory.persisted (Announce q)) process in
+      omega (arith, word, place, same, spent)
+
+  pub never_lost : keep w.memory e ≡ true
+  never_lost = by (keep w.memory e) refl
+    where
+      by : (b : Bool) → keep w.memory e ≡ b → keep w.memory e ≡ true
+      by true is = is
+      by false is = elim (sound.words (Head e.cell)).sides [
+        | inl same ↦ absurd ((lost_head w.memory e is).differ (sym same))
+        | inr b ↦ absurd (on_its_way (lost_head w.memory e is) b)
+      ]
+
+module _ (old new : PlainWorld) (sound : IsSound old) (rest : (p : ℕ) → p < old.layout.processes → old.situation p ≡ Stopped) (crash : CrashesTo old new) where
+  fewer : (d : PlainEdit) → Contains new.counted d → Contains old.counted d
+  unfolding survivors
+  fewer d h = from_filter (keep old.memory) old.counted d (subst (λ (l : List PlainEdit). Contains l d) crash.counted h)
+
+  safe : (d : PlainEdit) → Contains old.counted d → IsSpent old d.process d.number → Contains new.counted d
+  unfolding survivors
+  safe d h spent =
+      let of : IsOfSheet old d = All-contains (λ (f : PlainEdit). IsOfSheet old f) old.counted d sound.of_sheet h in
+      subst (λ (l : List PlainEdit). Contains l d) (sym crash.counted) (to_filter (keep old.memory) old.counted d h (never_lost old sound d h (rest d.process of.process) spent))
+
+  stays : (d : PlainEdit) (how : Outcome) → IsSpent old d.process d.number → IsTrueTold old.counted d how → IsTrueTold new.counted d how
+  stays d Done spent there = safe d there spent
+  stays d (Overtaken noted seen) spent out = λ h. out (fewer d h)
+
+  counts : (q n : ℕ) (how : Bool) → IsSpent old q n → CountsAs old.counted q n how → CountsAs new.counted q n how
+  counts q n true spent h = (h.0, safe h.0 h.1 (subst (λ (z : ℕ × ℕ). IsSpent old z.0 z.1) (λ i. (sym h.2 i, sym h.3 i)) spent), h.2, h.3)
+  counts q n false spent out = λ d there own is. out d (fewer d there) own is
+
+  pub told_crashed : (q : ℕ) (t : Told) → IsTold old q t → IsTold new q t
+  told_crashed q (Edited d how) h = record {
+    own = h.own;
+    spent = spent_crashed old new crash q d.number h.spent;
+    holds = stays d how (subst (λ (z : ℕ). IsSpent old z d.number) (sym h.own) h.spent) h.holds;
+  }
+  told_crashed q (Worked cell end) h = tt
+  told_crashed q (Recovered Nothing) h = tt
+  told_crashed q (Recovered (Last number cell how)) h = record { spent = spent_crashed old new crash q number h.spent; holds = counts q number how h.spent h.holds }
+  told_crashed q (Shown e) h = tt

@@ -1,0 +1,159 @@
+-- The words after a crash, of which some were evicted before.
+use Rattle.std.proofs.Common.{ℕ, ◌≡◌, ◌+◌, ◌*◌, ◌<◌, ◌≤◌, List, [], ◌∷◌, length, length-set, get_or, set, refl, ap, sym, ◌∙◌, subst, arith, zero, suc, Bool, true, false, le_refl}
+use Rattle.std.specs.Prelude.{if◌then◌else◌}
+use Rattle.std.proofs.lemmas.List.{get_or-set_same, get_or-set_other}
+use Rattle.std.proofs.Common.{inl, inr}
+use Rattle.std.proofs.lemmas.Bool.Decides.{leb_tells}
+use mathlib.Core.Logic.{dite}
+use native.Mathlib.Decide.{ℕ_discrete}
+use Rattle.ds_words.specs.Memory.{EvictsAt}
+use Rattle.ds_layout.specs.declared.layout.Layout.{Layout}
+use Rattle.ds_layout.specs.declared.place.Place.{Place}
+use Rattle.ds_layout.specs.Places.{words_of, place_of, number_of, IsPlace}
+use Rattle.ds_layout.specs.SheetMemory.{memory_at}
+use Rattle.ds_layout.proofs.Places.{number_of-place_of, IsPlace-place_of}
+use Rattle.ds_layout.proofs.Sheet.{evicts_at, side_same}
+use Rattle.ds_state.specs.World.{PlainWorld}
+use Rattle.ds_state.specs.Events.{Evicts}
+use Rattle.ds_state.specs.Crashes.{survivors, CrashesTo}
+use Rattle.ds_state.specs.Sound.{IsSound}
+use Rattle.ds_state.specs.declared.situation.Situation.TheVariants.{Stopped}
+use Rattle.ds_state.proofs.Accesses.{evict_sound}
+use Rattle.ds_state.proofs.Buffers.{buffered}
+use Rattle.ds_state.proofs.CrashSound.{crash_sound}
+use Rattle.ds_state.proofs.Spent.{spent_evicted}
+use Rattle.ds_recover.specs.declared.machine.RecoveryEnd.TheVariants.{Last, Nothing}
+use Rattle.ds_shared.specs.declared.board.Told.{Told}
+use Rattle.ds_shared.specs.declared.board.Told.TheVariants.{Edited, Worked, Recovered, Shown}
+use Rattle.ds_shared.specs.Table.{two_sided}
+use Rattle.ds_shared.specs.Rule.{Behind, world_on, IsTold, AtRest, Survives}
+use Rattle.ds_shared.proofs.Losses.{told_crashed}
+
+told_evicted : (place : Place) (old new : PlainWorld) → IsSound old → Evicts place old new → (q : ℕ) (t : Told) → IsTold old q t → IsTold new q t
+told_evicted place old new sound v q (Edited d how) h = record { own = h.own; spent = spent_evicted place old new sound v q d.number h.spent; holds = subst (λ l. Rattle.ds_shared.specs.Rule.IsTrueTold l d how) (sym v.counted) h.holds }
+told_evicted place old new sound v q (Worked cell end) h = tt
+told_evicted place old new sound v q (Recovered Nothing) h = tt
+told_evicted place old new sound v q (Recovered (Last number cell how)) h = record { spent = spent_evicted place old new sound v q number h.spent; holds = subst (λ l. Rattle.ds_shared.specs.Rule.CountsAs l q number how) (sym v.counted) h.holds }
+told_evicted place old new sound v q (Shown e) h = tt
+
+-- the words after so many of them were evicted, those that are chosen
+abbrev backed : (ℕ → Bool) → List ℕ → ℕ → List ℕ
+backed c ws zero = ws
+backed c ws (suc k) = if c k then set (backed c ws k) (2 * k + 1) (get_or (backed c ws k) (2 * k) 0) else backed c ws k
+
+-- the side of a word that a crash leaves
+abbrev pub left_side : (ℕ → Bool) → List ℕ → ℕ → ℕ
+left_side c ws n = if c n then get_or ws (2 * n) 0 else get_or ws (2 * n + 1) 0
+
+module _ (layout : Layout) (c : ℕ → Bool) (ws : List ℕ) (long : length ws ≡ 2 * words_of layout) where
+  record Backed (k : ℕ) (w : List ℕ) : Type 0 where
+    size : length w ≡ length ws
+    cached : (n : ℕ) → get_or w (2 * n) 0 ≡ get_or ws (2 * n) 0
+    done : (n : ℕ) → n < k → get_or w (2 * n + 1) 0 ≡ left_side c ws n
+    rest : (n : ℕ) → k ≤ n → get_or w (2 * n + 1) 0 ≡ get_or ws (2 * n + 1) 0
+
+  backed_is : (k : ℕ) → k ≤ words_of layout → Backed k (backed c ws k)
+  backed_is zero few = record { size = refl; cached = λ n. refl; done = λ n low. absurd (omega arith); rest = λ n low. refl }
+  backed_is (suc k) few = by (backed_is k (omega arith)) (c k) refl
+    where
+      by : Backed k (backed c ws k) → (b : Bool) → c k ≡ b → Backed (suc k) (if b then set (backed c ws k) (2 * k + 1) (get_or (backed c ws k) (2 * k) 0) else backed c ws k)
+      by r true is = let w : List ℕ = backed c ws k in let v : ℕ = get_or w (2 * k) 0 in let size = r.size in record {
+        size = length-set w (2 * k + 1) v ∙ r.size;
+        cached = λ n. get_or-set_other w (2 * k + 1) (2 * n) v 0 (λ e. omega arith) ∙ r.cached n;
+        done = λ n low. dite (ℕ_discrete n k)
+            (λ e. ap (λ (m : ℕ). get_or (set w (2 * k + 1) v) (2 * m + 1) 0) e ∙ (get_or-set_same w (2 * k + 1) v 0 (omega arith) ∙ (r.cached k ∙ sym (ap (λ (m : ℕ). left_side c ws m) e ∙ ap (λ (b : Bool). if b then get_or ws (2 * k) 0 else get_or ws (2 * k + 1) 0) is))))
+            (λ ne. get_or-set_other w (2 * k + 1) (2 * n + 1) v 0 (λ e. ne (omega arith)) ∙ r.done n (omega arith));
+        rest = λ n low. get_or-set_other w (2 * k + 1) (2 * n + 1) v 0 (λ e. omega arith) ∙ r.rest n (omega arith);
+      }
+      by r false is = record {
+        size = r.size;
+        cached = r.cached;
+        done = λ n low. dite (ℕ_discrete n k)
+            (λ e. ap (λ (m : ℕ). get_or (backed c ws k) (2 * m + 1) 0) e ∙ (r.rest k (le_refl k) ∙ sym (ap (λ (m : ℕ). left_side c ws m) e ∙ ap (λ (b : Bool). if b then get_or ws (2 * k) 0 else get_or ws (2 * k + 1) 0) is)))
+            (λ ne. r.done n (omega arith));
+        rest = λ n low. r.rest n (omega arith);
+      }
+
+  module _ (b : Behind) (rests : AtRest layout ws b) where
+    record Evicted (w : List ℕ) : Type 0 where
+      sound : IsSound (world_on layout w b)
+      told : (q : ℕ) (t : Told) → IsTold (world_on layout ws b) q t → IsTold (world_on layout w b) q t
+
+    evicted : (k : ℕ) → k ≤ words_of layout → Evicted (backed c ws k)
+    evicted zero few = record { sound = rests.sound; told = λ q t h. h }
+    evicted (suc k) few = by (evicted k (omega arith)) (backed_is k (omega arith)) (c k)
+      where
+        by : Evicted (backed c ws k) → Backed k (backed c ws k) → (t : Bool) → Evicted (if t then set (backed c ws k) (2 * k + 1) (get_or (backed c ws k) (2 * k) 0) else backed c ws k)
+        by r f true =
+            let w : List ℕ = backed c ws k in
+            let v : ℕ = get_or w (2 * k) 0 in
+            let w' : List ℕ = set w (2 * k + 1) v in
+            let size = f.size in
+            let at : EvictsAt k (two_sided w b.buffer) (two_sided w' b.buffer) = record {
+              cached = λ n. get_or-set_other w (2 * k + 1) (2 * n) v 0 (λ e. omega arith);
+              there = get_or-set_same w (2 * k + 1) v 0 (omega arith);
+              elsewhere = λ n ne. get_or-set_other w (2 * k + 1) (2 * n + 1) v 0 (λ e. ne (omega arith));
+              buffer = λ q. refl;
+            } in
+            let place : Place = place_of layout k in
+            let is : number_of layout place ≡ k = number_of-place_of layout k in
+            let there : IsPlace layout place = IsPlace-place_of layout k (omega arith) in
+            let e : Evicts place (world_on layout w b) (world_on layout w' b) = record {
+              layout = refl;
+              memory = evicts_at layout (two_sided w b.buffer) (two_sided w' b.buffer) place there (subst (λ (n : ℕ). EvictsAt n (two_sided w b.buffer) (two_sided w' b.buffer)) (sym is) at);
+              situation = λ q. refl;
+              counted = refl;
+              open_edits = λ q. refl;
+            } in record {
+              sound = (evict_sound place (world_on layout w b) (world_on layout w' b) r.sound (buffered (world_on layout w b) r.sound) e).0;
+              told = λ q t h. told_evicted place (world_on layout w b) (world_on layout w' b) r.sound e q t (r.told q t h);
+            }
+        by r f false = r
+
+    -- the words after the crash
+    module _ (ws' : List ℕ) (size : length ws' ≡ length ws) (cached : (n : ℕ) → n < words_of layout → get_or ws' (2 * n) 0 ≡ left_side c ws n) (persisted : (n : ℕ) → n < words_of layout → get_or ws' (2 * n + 1) 0 ≡ left_side c ws n) where
+      count : ℕ
+      count = words_of layout
+
+      mid : List ℕ
+      mid = backed c ws (words_of layout)
+
+      facts : Backed (words_of layout) mid
+      unfolding mid
+      facts = backed_is (words_of layout) (le_refl (words_of layout))
+
+      beyond : (w : List ℕ) (i : ℕ) → length w ≤ i → ◌≡◌ {A = ℕ} (get_or w i 0) 0
+      beyond [] i l = refl
+      beyond (x ∷ w) zero l = absurd (omega arith)
+      beyond (x ∷ w) (suc i) l = beyond w i (omega arith)
+
+      both : (side : ℕ → ℕ) → ((n : ℕ) → n < words_of layout → side n ≡ left_side c ws n) → ((n : ℕ) → words_of layout ≤ n → side n ≡ 0) → (n : ℕ) → side n ≡ get_or mid (2 * n + 1) 0
+      both side low high n = let s = facts.size in elim (leb_tells (words_of layout) n) [
+        | inl g ↦ (let k = g.1 in high n k ∙ sym (beyond mid (2 * n + 1) (omega (arith, s, k, long))))
+        | inr l ↦ low n l.1 ∙ sym (facts.done n l.1)
+      ]
+
+      after : Behind
+      after = record { situation = λ p. Stopped; buffer = λ q. []; counted = survivors (memory_at layout (two_sided mid b.buffer)) b.counted; open_edits = b.open_edits }
+
+      crash : CrashesTo (world_on layout mid b) (world_on layout ws' after)
+      unfolding after
+      crash = record {
+        layout = refl;
+        memory = record {
+          cached = side_same layout (λ n. get_or ws' (2 * n) 0) (λ n. get_or mid (2 * n + 1) 0) (both (λ n. get_or ws' (2 * n) 0) cached (λ n g. beyond ws' (2 * n) (omega arith)));
+          persisted = side_same layout (λ n. get_or ws' (2 * n + 1) 0) (λ n. get_or mid (2 * n + 1) 0) (both (λ n. get_or ws' (2 * n + 1) 0) persisted (λ n g. beyond ws' (2 * n + 1) (omega arith)));
+          buffer = λ q. refl;
+        };
+        situation = λ q low. refl;
+        counted = refl;
+        open_edits = λ q. refl;
+      }
+
+      pub survives : Survives layout ws ws' b
+      unfolding after mid
+      survives = let e = evicted (words_of layout) (le_refl (words_of layout)) in record {
+        behind = after;
+        rests = record { sound = crash_sound (world_on layout mid b) (world_on layout ws' after) e.sound crash; stopped = λ p low. refl; buffer = λ p low. refl };
+        told = λ q t h. told_crashed (world_on layout mid b) (world_on layout ws' after) e.sound rests.stopped crash q t (e.told q t h);
+      }

@@ -1,0 +1,30 @@
+-- The text of a cell, as the words of a closed sheet show it.
+use Rattle.std.proofs.Common.{ℕ, ◌≡◌, List, [], sym, refl}
+use Rattle.std.specs.Prelude.{Option, Some, None}
+use Rattle.ds_words.specs.Memory.{Memory}
+use Rattle.ds_layout.specs.declared.layout.Layout.{Layout}
+use Rattle.ds_layout.specs.declared.head.Head.{Head}
+use Rattle.ds_layout.specs.declared.place.Place.{Place}
+use Rattle.ds_layout.specs.declared.place.Place.TheVariants as place
+use Rattle.ds_layout.specs.Head.{head_of}
+use Rattle.ds_layout.specs.SheetMemory.{memory_at}
+use Rattle.ds_state.specs.World.{of_cell}
+use Rattle.ds_state.specs.Sound.{IsSound}
+use Rattle.ds_state.specs.Shown.{last_text, named_at, text_at}
+use Rattle.ds_state.proofs.LastText.{text_at_head, text_without_head}
+use Rattle.ds_state.proofs.ReadBack.{record_read}
+use Rattle.ds_shared.specs.Table.{two_sided}
+use Rattle.ds_shared.specs.Rule.{Behind, world_on}
+
+module _ (layout : Layout) (words : List ℕ) (cell : ℕ) (b : Behind) (s : IsSound (world_on layout words b)) where
+  abbrev pub closed : Memory Place
+  closed = memory_at layout (two_sided words (λ q. []))
+
+  by_head : (found : Option Head) → head_of layout.processes (closed.cached (place.Head cell)) ≡ found → named_at layout closed found ≡ last_text (of_cell cell b.counted)
+  by_head None is = sym (text_without_head (world_on layout words b) cell s is)
+  by_head (Some head) is =
+      let h = text_at_head (world_on layout words b) cell head s is in
+      record_read layout closed head.process head.number h.cell (last_text (of_cell cell b.counted)) h.within (record { header = h.stands.header; parts = record { is = h.stands.parts.is; each = h.stands.parts.each } })
+
+  pub text_closed : text_at layout closed cell ≡ last_text (of_cell cell b.counted)
+  text_closed = by_head (head_of layout.processes (closed.cached (place.Head cell))) refl

@@ -1,0 +1,92 @@
+-- What a call on the shared sheet answers.
+use Rattle.std.specs.Prelude.{ℕ, ◌≡◌, ◌<◌, Bool, true, false, List, ◌∷◌, Option, Some, None, Vec}
+use Rattle.std.specs.Global.{Global}
+use Rattle.ds_eval.specs.declared.value.Value.{Value}
+use Rattle.ds_show.specs.ShowSteps.{answered}
+use Rattle.ds_state.specs.declared.refusal.Refusal.{Refusal}
+use Rattle.ds_state.specs.declared.situation.Situation.{Situation}
+use Rattle.ds_state.specs.declared.situation.Situation.TheVariants.{Idle, Stopped}
+use Rattle.ds_state.specs.Works.{PlainShowCall}
+use Rattle.ds_state.specs.declared.work.WorkEnd.{WorkEnd}
+use Rattle.ds_state.specs.declared.work.WorkEnd.TheVariants as works
+use Rattle.ds_state.specs.declared.work.ShowEnd.TheVariants as shows
+use Rattle.ds_state.specs.declared.work.ShowStage.{ShowStage}
+use Rattle.ds_state.specs.declared.work.ShowStage.TheVariants as stages
+use Rattle.ds_layout.specs.declared.place.Place.TheVariants as place
+use Rattle.ds_recover.specs.declared.machine.RecoveryEnd.{RecoveryEnd}
+use Rattle.ds_recover.specs.declared.machine.RecoveryEnd.TheVariants as recoveries
+use Rattle.ds_edit.specs.declared.answer.Answer.{Answer}
+use Rattle.ds_edit.specs.declared.answer.Answer.TheVariants as answers
+use Rattle.ds_edit.specs.EditEndings.{answer_of}
+use Rattle.ds_shared.specs.declared.board.Told.{Told}
+use Rattle.ds_shared.specs.declared.board.Told.TheVariants.{Edited, Worked, Recovered, Shown}
+use Rattle.ds_shared.specs.declared.ended.Ended.{Ended}
+use Rattle.ds_shared.specs.declared.ended.Ended.TheVariants as ends
+use Rattle.ds_shared.specs.declared.pass.Pass.{Pass}
+use Rattle.ds_shared.specs.declared.sheet.SharedSheet.{SharedSheet}
+
+-- the pass is one of the sheet
+pub record IsOf (s : SharedSheet) (p : Pass) : Type 0 where
+  pub table : p.place.table_id ≡ s.board.shared.table_id
+  pub process : p.process < s.layout.processes
+
+abbrev pub IfAnswered : Ended → (Answer → Type 0) → Type 0
+IfAnswered (ends.Answered a) P = P a
+IfAnswered (ends.Refused r) P = Unit {0}
+IfAnswered ends.Stopped P = Unit {0}
+
+abbrev pub IfRefused : Ended → (Refusal → Type 0) → Type 0
+IfRefused (ends.Answered a) P = Unit {0}
+IfRefused (ends.Refused r) P = P r
+IfRefused ends.Stopped P = Unit {0}
+
+abbrev pub IfStopped : Ended → Type 0 → Type 0
+IfStopped (ends.Answered a) P = Unit {0}
+IfStopped (ends.Refused r) P = Unit {0}
+IfStopped ends.Stopped P = P
+
+-- the answer of a work that ended so
+abbrev pub work_answer : WorkEnd → Answer
+work_answer works.NotDirty = answers.NotDirty
+work_answer works.Missed = answers.Missed
+work_answer works.Worn = answers.Worn
+work_answer (works.Published changed) = answers.Published changed
+work_answer works.Again = answers.Again
+work_answer works.NoMemory = answers.NoMemory
+
+-- the answer of a recovery that ended so
+abbrev pub recovery_answer : RecoveryEnd → Answer
+recovery_answer recoveries.Nothing = answers.Nothing
+recovery_answer (recoveries.Last number cell counts) = answers.Last (record { number = number; cell = cell; counts = counts })
+
+-- the answer of a report at its last stage
+abbrev pub show_answer : ShowStage → Answer
+show_answer (stages.Answer (shows.AtMark cell word)) = answers.Unsettled (place.Mark cell) word
+show_answer (stages.Answer (shows.AtAnnounce process word)) = answers.Unsettled (place.Announce process) word
+show_answer _ = answers.Settled
+
+-- the values are those of a settled report; another one has none
+abbrev pub ShowsAt : PlainShowCall → ShowStage → Option (Vec Value Global) → Type 0
+ShowsAt e (stages.Answer shows.Settled) (Some values) = values.items ≡ answered e
+ShowsAt e (stages.Answer shows.Settled) None = ⊥
+ShowsAt e _ values = Unit {0}
+
+abbrev pub ShowsValues : PlainShowCall → Option (Vec Value Global) → Type 0
+ShowsValues e values = ShowsAt e e.stage values
+
+-- the answer of a call of which this is told
+abbrev pub answer_for : ℕ → Told → Answer
+answer_for processes (Edited d how) = answer_of processes d.number how
+answer_for processes (Worked cell end) = work_answer end
+answer_for processes (Recovered end) = recovery_answer end
+answer_for processes (Shown e) = show_answer e.stage
+
+-- the call was told of, as the last one, and the answer says that
+pub record Tells (processes : ℕ) (old new : List Told) (t : Told) (a : Answer) : Type 0 where
+  pub last : new ≡ t ∷ old
+  pub answer : a ≡ answer_for processes t
+
+-- what the process of a pass does between calls
+abbrev pub doing : Bool → ℕ → Situation
+doing true number = Stopped
+doing false number = Idle number

@@ -1,0 +1,20 @@
+//! The right to act for a process.
+
+ghost use Rattle.std.specs.Prelude.{◌≤◌};
+ghost use Rattle.ds_layout.specs.declared.place.TheConstants.{RECORDS};
+ghost use Rattle.ds_shared.specs.Known.{IsKnown};
+ghost use Rattle.ds_eval.specs.Code.{plain_code};
+ghost use Rattle.std.specs.Coded.{codes};
+
+use crate::board::Place;
+
+/// The right to act for a process of a sheet.
+#[derive(Drop)]
+pub struct Pass {
+    pub(crate) place: Place,
+    pub(crate) process: usize,
+    pub(crate) number: usize,
+    pub(crate) stopped: bool,
+    pub ghost few: { number ≤ RECORDS },
+    pub ghost known: { IsKnown place process number stopped } by { Prim.hlevel (codes, plain_code) },
+}

@@ -1,0 +1,163 @@
+//! Reports of the shared sheet.
+
+ghost use Rattle.std.specs.Prelude.{◌<◌, ◌≤◌, ◌≡◌, MatchBool, length, vec_capacity};
+ghost use Rattle.ds_layout.specs.Places.{cells_of};
+ghost use Rattle.ds_state.specs.Works.{PlainShowCall};
+ghost use Rattle.ds_state.specs.ShowStages.{IsShow};
+ghost use Rattle.ds_state.specs.KnownShow.{values_of, noted};
+ghost use Rattle.ds_work.specs.WorkTakes.{RefusesIn};
+ghost use Rattle.ds_shared.specs.declared.board.Told.{Told};
+ghost use Rattle.ds_shared.specs.declared.board.Told.TheVariants.{Shown};
+ghost use Rattle.ds_shared.specs.ShowRules.{IsEnded};
+ghost use Rattle.ds_shared.specs.Rule.{In, ReportHolds};
+ghost use Rattle.ds_shared.specs.Known.{outcomes};
+ghost use Rattle.ds_shared.specs.Answers.{IsOf, IfAnswered, IfRefused, IfStopped, ShowsValues, Tells, show_answer, doing};
+
+use crate::drive::drive;
+use crate::ended::Ended;
+use crate::fuse::Fuse;
+use crate::machine::Machine;
+use crate::pass::Pass;
+use crate::sheet::SharedSheet;
+use ds_edit::answer::Answer;
+use ds_eval::value::Value;
+use ds_layout::layout::Layout;
+use ds_layout::place::Place;
+use ds_layout::stored::Stored;
+use ds_show::begin::fresh;
+use ds_show::machine::{got, want};
+use ds_state::refusal::Refusal;
+use ds_state::shown::shown;
+use ds_state::work::{ShowCall, ShowEnd, ShowStage};
+use ds_words::access::Access;
+use std::alloc::Global;
+
+// It is a report of a sheet.
+fn is_show(call: &ShowCall)
+    ensures { IsShow call.now }
+{
+    let _stage = call.stage;
+}
+
+impl Machine for ShowCall {
+    ghost use Rattle.ds_shared.specs.ShowRules.{show_rules};
+
+    ghost rules = { show_rules };
+
+    fn is_going(&self, layout: &Layout) -> bool {
+        let _layout = layout;
+        match self.stage {
+            ShowStage::Answer(_) => false,
+            _ => true,
+        }
+    }
+
+    fn want(&self, layout: &Layout) -> Access<Place> {
+        let _layout = layout;
+        want(self)
+    }
+
+    fn got(&mut self, alloc: Global, layout: &Layout, word: u64) {
+        let (_alloc, _layout) = (alloc, layout);
+        got(self, word);
+        is_show(self);
+    }
+
+    fn law(&self, layout: &Layout) {
+        let _layout = layout;
+    }
+}
+
+// The answer of a report at its end.
+fn answer(call: &ShowCall) -> Answer
+    ensures { result ≡ show_answer call.now.stage }
+{
+    match call.stage {
+        ShowStage::Answer(ShowEnd::AtMark { cell, word }) => {
+            Answer::Unsettled(Place::Mark(cell), word)
+        }
+        ShowStage::Answer(ShowEnd::AtAnnounce { process, word }) => {
+            Answer::Unsettled(Place::Announce(process), word)
+        }
+        _ => Answer::Settled,
+    }
+}
+
+// The values that these words of cells show, in room that is reserved.
+fn fill(report: &mut Vec<Value>, cells: usize, values: &[u64], kinds: &[u64])
+    requires room { cells ≤ vec_capacity report.old }
+    requires values { length values.now ≡ cells }
+    requires kinds { length kinds.now ≡ cells }
+    ensures { report.new.items ≡ values_of cells (noted values.now) (noted kinds.now) }
+{
+    report.clear();
+    for cell in 0..cells {
+        let stored = Stored::read(values[cell], kinds[cell], cells);
+        report.push_reserved(shown(stored));
+    }
+}
+
+// The values of a settled report, in room that is reserved.
+fn read_off(call: &ShowCall, mut values: Vec<Value>) -> Option<Vec<Value>>
+    requires room { call.now.cells ≤ vec_capacity values }
+    requires ended { IsEnded call.now.stage }
+    ensures { ShowsValues call.now result }
+{
+    is_show(call);
+    match call.stage {
+        ShowStage::Answer(ShowEnd::Settled) => {
+            fill(
+                &mut values,
+                call.cells,
+                call.values.as_slice(),
+                call.kinds.as_slice(),
+            );
+            Some(values)
+        }
+        _ => None,
+    }
+}
+
+impl SharedSheet {
+    /// A report of the whole sheet. Where it is settled, the values are read off what it loaded.
+    pub fn show<F: Fuse>(
+        &self,
+        alloc: Global,
+        pass: &mut Pass,
+        fuse: &mut F,
+    ) -> (Ended, Option<Vec<Value>>)
+        requires { IsOf self.now pass.old }
+        ensures pass { IsOf self.now pass.new × (pass.new.process ≡ pass.old.process) }
+        ensures answered { IfAnswered result.0 (λ a. (e : PlainShowCall) × Tells self.now.layout.processes (outcomes pass.old.place) (outcomes pass.new.place) (Shown e) a × ShowsValues e result.1 × ReportHolds self.now.layout pass.old.process (outcomes pass.old.place) e e.stage) }
+        ensures stopped { IfStopped result.0 (F.spent fuse.new) }
+        ensures kept { (t : Told) → In (outcomes pass.old.place) t → In (outcomes pass.new.place) t }
+        ensures refused { IfRefused result.0 (λ r. RefusesIn (doing pass.old.stopped pass.old.number) r) }
+        ensures unchanged { IfRefused result.0 (λ r. pass.new ≡ pass.old) }
+    {
+        if pass.stopped {
+            return (Ended::Refused(Refusal::Stopped), None);
+        }
+        let values = match Vec::with_capacity(alloc, self.layout.cells()) {
+            Ok(values) => values,
+            Err(_) => return (Ended::Refused(Refusal::NoMemory), None),
+        };
+        let mut call = match fresh(alloc, &self.layout, pass.process, pass.number) {
+            Ok(call) => call,
+            Err(_) => return (Ended::Refused(Refusal::NoMemory), None),
+        };
+        is_show(&call);
+        if !drive(
+            alloc,
+            &self.board.shared,
+            &self.layout,
+            &mut pass.place,
+            &mut call,
+            fuse,
+        ) {
+            pass.stopped = true;
+            return (Ended::Stopped, None);
+        }
+        is_show(&call);
+        (Ended::Answered(answer(&call)), read_off(&call, values))
+    }
+}

@@ -1,0 +1,293 @@
+ghost use Rattle.std.specs.Prelude.{◌≡◌, ◌<◌, All, IfSome};
+ghost use Rattle.std.specs.Mem.Slots.{slots_items};
+ghost use Rattle.ds_shared.specs.Rule.{Behind, AtRest};
+ghost use Rattle.ds_formula.specs.Cells.{IsInside};
+ghost use Rattle.ds_shared.specs.Answers.{IsOf};
+
+use crate::ended::Ended;
+use crate::fuse::{Fuse, Whole};
+use crate::pass::Pass;
+use crate::sheet::{ClosedSheet, SharedSheet};
+use ds_edit::answer::Answer;
+use ds_eval::value::Value;
+use ds_formula::cells::{Cell, Shape};
+use ds_layout::layout::Layout;
+use ds_layout::place::Place;
+use std::alloc::Global;
+use std::test::Fail;
+use std::thread::{Threads, join};
+
+#[derive(Drop)]
+struct Times {
+    left: u64,
+}
+
+impl Fuse for Times {
+    ghost spent = { λ f. f.left ≡ 0 };
+
+    fn go(&mut self) -> bool {
+        if self.left == 0 {
+            return false;
+        }
+        self.left -= 1;
+        true
+    }
+}
+
+// The passes of a sheet of two processes.
+fn two(sheet: &SharedSheet, mut passes: Vec<Pass, Global>) -> Option<(Pass, Pass)>
+    requires { All (λ p. IsOf sheet.now p) passes.items }
+    ensures { IfSome result (λ r. IsOf sheet.now r.0 × IsOf sheet.now r.1) }
+{
+    let second = passes.pop()?;
+    let first = passes.pop()?;
+    Some((first, second))
+}
+
+// A sheet of two columns, two rows and two processes.
+fn opened(alloc: Global) -> Option<(SharedSheet, Pass, Pass, Cell, Cell)>
+    ensures passes { IfSome result (λ r. IsOf r.0 r.1 × IsOf r.0 r.2) }
+    ensures cells { IfSome result (λ r. IsInside r.0.layout.shape r.3 × IsInside r.0.layout.shape r.4) }
+{
+    let shape = Shape::new(2, 2)?;
+    let layout = Layout::new(shape, 2)?;
+    let (a, b) = (Cell { column: 0, row: 0 }, Cell { column: 1, row: 1 });
+    if !layout.shape.contains(a) || !layout.shape.contains(b) {
+        return None;
+    }
+    match SharedSheet::make(alloc, layout) {
+        Ok((sheet, passes)) => {
+            let (first, second) = two(&sheet, passes)?;
+            Some((sheet, first, second, a, b))
+        }
+        Err(_) => None,
+    }
+}
+
+// The sheet is closed with both passes.
+fn ended(alloc: Global, sheet: SharedSheet, first: Pass, second: Pass) -> Option<ClosedSheet>
+    requires first { IsOf sheet first }
+    requires second { IsOf sheet second }
+    ensures { IfSome result (λ c. (c.layout ≡ sheet.layout) × ((b : Behind) × AtRest c.layout (slots_items c.table.words) b)) }
+{
+    let mut passes: Vec<Pass, Global> = match Vec::with_capacity(alloc, 2) {
+        Ok(passes) => passes,
+        Err(_) => return None,
+    };
+    if passes.push(first).is_err() || passes.push(second).is_err() {
+        return None;
+    }
+    Some(sheet.close(passes))
+}
+
+// Edits a cell so often, and counts the answers Done and Overtaken.
+fn many(
+    alloc: Global,
+    sheet: &SharedSheet,
+    mut pass: Pass,
+    cell: Cell,
+    times: u64,
+) -> (Pass, u64, u64)
+    requires { IsOf sheet.now pass × IsInside sheet.now.layout.shape cell }
+    ensures { IsOf sheet.now result.0 }
+{
+    let mut done: u64 = 0;
+    let mut late: u64 = 0;
+    for _round in 0..times {
+        match sheet.edit(alloc, &mut pass, cell, b"=1+2", &mut Whole) {
+            Ended::Answered(Answer::Done(_)) => done = done.wrapping_add(1),
+            Ended::Answered(Answer::Overtaken(_, other)) if other.process < 2 => {
+                late = late.wrapping_add(1);
+            }
+            _ => (),
+        }
+    }
+    (pass, done, late)
+}
+
+// Two threads, each with so many edits of a cell. Both passes come back.
+fn race<R: Threads + Sync>(
+    rt: &R,
+    alloc: Global,
+    sheet: &SharedSheet,
+    first: Pass,
+    second: Pass,
+    a: Cell,
+    b: Cell,
+    times: u64,
+) -> ((Pass, u64, u64), (Pass, u64, u64))
+    requires passes { IsOf sheet.now first × IsOf sheet.now second }
+    requires cells { IsInside sheet.now.layout.shape a × IsInside sheet.now.layout.shape b }
+    ensures { IsOf sheet.now result.0.0 × IsOf sheet.now result.1.0 }
+{
+    join(
+        rt,
+        || -> (Pass, u64, u64)
+            requires { IsOf sheet.now first × IsInside sheet.now.layout.shape a }
+            ensures { IsOf sheet.entry.now result.0 }
+        { many(alloc, sheet, first, a, times) },
+        || -> (Pass, u64, u64)
+            requires { IsOf sheet.now second × IsInside sheet.now.layout.shape b }
+            ensures { IsOf sheet.entry.now result.0 }
+        { many(alloc, sheet, second, b, times) },
+    )
+}
+
+#[test]
+fn threads_edit_cells_of_their_own(rt: HostRuntime) -> Result<(), Fail> {
+    let Some((sheet, first, second, a, b)) = opened(rt.alloc()) else {
+        return Ok(());
+    };
+    let (x, y) = race(&rt, rt.alloc(), &sheet, first, second, a, b, 100);
+    let Some(closed) = ended(rt.alloc(), sheet, x.0, y.0) else {
+        return Ok(());
+    };
+    let one = closed.cached(Place::Head(0));
+    let two = closed.text_of(rt.alloc(), b);
+    closed.free();
+    let two = two?;
+    assert_eq!(rt; x.1, 100);
+    assert_eq!(rt; y.1, 100);
+    assert_eq!(rt; one / 65536, 100);
+    assert_eq!(rt; two.as_slice(), b"=1+2".as_slice());
+    Ok(())
+}
+
+#[test]
+fn threads_edit_one_cell(rt: HostRuntime) -> Result<(), Fail> {
+    let Some((sheet, first, second, a, _b)) = opened(rt.alloc()) else {
+        return Ok(());
+    };
+    let (x, y) = race(&rt, rt.alloc(), &sheet, first, second, a, a, 100);
+    let Some(closed) = ended(rt.alloc(), sheet, x.0, y.0) else {
+        return Ok(());
+    };
+    let head = closed.cached(Place::Head(0));
+    closed.free();
+    assert_eq!(rt; x.1.wrapping_add(x.2), 100);
+    assert_eq!(rt; y.1.wrapping_add(y.2), 100);
+    assert_eq!(rt; head / 65536, x.1.wrapping_add(y.1));
+    Ok(())
+}
+
+// Works on both cells once.
+fn work_all(alloc: Global, sheet: &SharedSheet, pass: &mut Pass, a: Cell, b: Cell)
+    requires pass { IsOf sheet.now pass.old }
+    requires cells { IsInside sheet.now.layout.shape a × IsInside sheet.now.layout.shape b }
+    ensures { IsOf sheet.now pass.new }
+{
+    let _first = sheet.work(alloc, pass, a, &mut Whole);
+    let _last = sheet.work(alloc, pass, b, &mut Whole);
+}
+
+fn shows(value: i64) -> [Value; 4] {
+    [
+        Value::Number(value),
+        Value::Blank,
+        Value::Blank,
+        Value::Blank,
+    ]
+}
+
+#[test]
+fn a_write_is_read_back(rt: HostRuntime) -> Result<(), Fail> {
+    let Some((sheet, first, mut second, a, b)) = opened(rt.alloc()) else {
+        return Ok(());
+    };
+    let (first, done) = join(
+        &rt,
+        || -> (Pass, u64, u64)
+            requires { IsOf sheet first × IsInside sheet.layout.shape a }
+            ensures { IsOf sheet result.0 }
+        { many(rt.alloc(), &sheet, first, a, 1) },
+        || true,
+    );
+    work_all(rt.alloc(), &sheet, &mut second, a, b);
+    let (said, values) = sheet.show(rt.alloc(), &mut second, &mut Whole);
+    let Some(closed) = ended(rt.alloc(), sheet, first.0, second) else {
+        return Ok(());
+    };
+    let value = closed.value_of(a);
+    closed.free();
+    assert_eq!(rt; done, true);
+    assert_eq!(rt; said, Ended::Answered(Answer::Settled));
+    assert_eq!(rt; value, Value::Number(3));
+    if let Some(values) = values {
+        assert_eq!(rt; values.as_slice(), shows(3).as_slice());
+    }
+    Ok(())
+}
+
+// A record that was never announced is written again.
+#[test]
+fn a_record_is_taken_back(rt: HostRuntime) -> Result<(), Fail> {
+    let Some((sheet, mut first, mut second, a, b)) = opened(rt.alloc()) else {
+        return Ok(());
+    };
+    let broken = sheet.edit(rt.alloc(), &mut first, a, b"1", &mut Times { left: 6 });
+    let nothing = sheet.recover(rt.alloc(), &mut first, &mut Whole);
+    let done = sheet.edit(rt.alloc(), &mut first, a, b"2", &mut Whole);
+    work_all(rt.alloc(), &sheet, &mut second, a, b);
+    let (said, values) = sheet.show(rt.alloc(), &mut second, &mut Whole);
+    assert_eq!(rt; broken, Ended::Stopped);
+    assert_eq!(rt; nothing, Ended::Answered(Answer::Nothing));
+    assert_eq!(rt; done, Ended::Answered(Answer::Done(0)));
+    assert_eq!(rt; said, Ended::Answered(Answer::Settled));
+    if let Some(values) = values {
+        assert_eq!(rt; values.as_slice(), shows(2).as_slice());
+    }
+    Ok(())
+}
+
+// An edit under a fuse of so many steps, a crash that leaves one side of every word, and what both
+// recoveries tell.
+fn broken_off(alloc: Global, steps: u64, cached: bool) -> Option<(Ended, Ended, Ended)> {
+    let (sheet, mut first, second, a, _b) = opened(alloc)?;
+    let edited = sheet.edit(alloc, &mut first, a, b"7", &mut Times { left: steps });
+    let count = sheet.layout.words();
+    let choice: Vec<bool, Global> = match vec![in alloc; cached; count] {
+        Ok(choice) => choice,
+        Err(_) => return None,
+    };
+    let mut closed = ended(alloc, sheet, first, second)?;
+    closed.crash_with(choice.as_slice());
+    match closed.reopen(alloc) {
+        Ok((sheet, passes)) => {
+            let (mut first, mut second) = two(&sheet, passes)?;
+            let one = sheet.recover(alloc, &mut first, &mut Whole);
+            let two = sheet.recover(alloc, &mut second, &mut Whole);
+            Some((edited, one, two))
+        }
+        Err(closed) => {
+            closed.free();
+            None
+        }
+    }
+}
+
+fn told(steps: u64, unannounced: u64, undone: u64) -> Ended {
+    if steps <= unannounced {
+        return Ended::Answered(Answer::Nothing);
+    }
+    Ended::Answered(Answer::Last(ds_edit::answer::Told {
+        number: 0,
+        cell: 0,
+        counts: steps > undone,
+    }))
+}
+
+#[test]
+fn edits_are_resolved(rt: HostRuntime) -> Result<(), Fail> {
+    for steps in 0..20u64 {
+        if let Some((edited, one, two)) = broken_off(rt.alloc(), steps, false) {
+            assert_eq!(rt; edited == Ended::Answered(Answer::Done(0)), steps == 19);
+            assert_eq!(rt; one, told(steps, 8, 12));
+            assert_eq!(rt; two, Ended::Answered(Answer::Nothing));
+        }
+        if let Some((_edited, one, two)) = broken_off(rt.alloc(), steps, true) {
+            assert_eq!(rt; one, told(steps, 6, 10));
+            assert_eq!(rt; two, Ended::Answered(Answer::Nothing));
+        }
+    }
+    Ok(())
+}
