@@ -19,6 +19,7 @@ use Rattle.ds_core.specs.declared.reply.Reply.{Reply}
 use Rattle.ds_core.specs.declared.reply.Reply.TheVariants.{Begun, Answered}
 use Rattle.ds_core.proofs.Moved.{put_here}
 use Rattle.ds_core.proofs.Closing.{contains_none, up, IsAsked, orderly, asked, the_move}
+use Rattle.ds_core.proofs.Unrepeated.{IsBehind, behind_closed, unrepeated}
 
 abbrev test : ℕ → ℕ → Placed → Bool
 test p n e = is_edit_of p n e.edit
@@ -96,7 +97,7 @@ module _ (old : WorldValue) (events : List Event) (replies : List Reply) (new : 
   at i = (h.run.moment i).ledger
 
   -- the process's edit was closed as one that counts, at this place
-  module _ (k p n place : ℕ) (it : Placed) (lt : place < length events) (until : place ≤ k) (closed : IsClosed h.run.moment place p it) (there : Contains (at place).counted it) (number : it.edit.number ≡ n) where
+  module _ (k p n place : ℕ) (it : Placed) (lt : place < length events) (until : place ≤ k) (within_run : k ≤ length events) (closed : IsClosed h.run.moment place p it) (there : Contains (at place).counted it) (number : it.edit.number ≡ n) (spent : IsBehind p n (at (place + 1))) where
     stands : Contains (at (length events)).counted it
     stands = (h.closed place p it lt closed (length events) lt (omega arith)).1 there
 
@@ -119,6 +120,7 @@ module _ (old : WorldValue) (events : List Event) (replies : List Reply) (new : 
       earlier = early;
       begun = subst (λ i. Happens events replies it.place (BeginEdit begun.request) (Begun i)) number begun.begun;
       mine = begun.process ∙ process;
+      last = unrepeated old events replies new h.run place p n k it lt until within_run closed number spent;
       once = ap (λ (es : List PlainEdit). filter (is_edit_of p n) es) (sym last_list)
           ∙ just_one p n (at (length events)).counted it (h.run.fits (length events) (omega arith)).once stands process number
           ∙ ap (λ (x : PlainEdit). x ∷ []) (begun.is ∙ ap (λ i. record { process = i; number = it.edit.number; cell = index_of old.sheet.layout.shape begun.request.cell; text = begun.request.text }) process
@@ -129,10 +131,16 @@ module _ (old : WorldValue) (events : List Event) (replies : List Reply) (new : 
   closed_at : (k p number : ℕ) (doubt counts : Bool) (And : Open → Type 0) (c : Closes (at k) p number doubt counts And (at (k + 1))) → IsClosed h.run.moment k p c.open_edit.it
   closed_at k p number doubt counts And c = record { open_edit = c.open_edit; was = c.was; is = refl; gone = ap (λ (l : Ledger). l.opens p) c.is ∙ put_here (at k).opens p None }
 
+  -- its number is spent behind that place
+  spent_at : (k p number : ℕ) (doubt counts : Bool) (And : Open → Type 0) (c : Closes (at k) p number doubt counts And (at (k + 1))) → IsBehind p number (at (k + 1))
+  spent_at k p number doubt counts And c = subst (λ n. IsBehind p n (at (k + 1))) c.number_is (behind_closed (at (k + 1)) p (record { it = c.open_edit.it; counts = counts })
+      (ap (λ (l : Ledger). l.told p) c.is ∙ put_here (at k).told p _) (ap (λ (l : Ledger). l.opens p) c.is ∙ put_here (at k).opens p None))
+
   done_once : (k p n : ℕ) → Happens events replies k (Step p) (Answered (Done n)) → IsAcknowledged old events replies k p n new.counted
   done_once k p n done =
       let c : Closes (at k) p n false true (λ o. Unit {0}) (at (k + 1)) = h.run.ledger k (Step p) (Answered (Done n)) done in
-      stands_once k p n k c.open_edit.it (within events k (Step p) done.event_is) (omega arith) (closed_at k p n false true _ c) c.stands c.number_is
+      stands_once k p n k c.open_edit.it (within events k (Step p) done.event_is) (omega arith) (let l = within events k (Step p) done.event_is in omega arith) (closed_at k p n false true _ c) c.stands c.number_is
+      (spent_at k p n false true _ c)
 
   -- ---- what a recovery tells
 
@@ -142,16 +150,25 @@ module _ (old : WorldValue) (events : List Event) (replies : List Reply) (new : 
     early : place < k
     closed : IsClosed h.run.moment place q c.it
     stands : Stands (at place).counted c.it c.counts
+    spent : IsBehind q c.it.edit.number (at (place + 1))
 
   later : (k q : ℕ) (c : Closed) → WasClosed k q c → WasClosed (k + 1) q c
-  later k q c w = record { place = w.place; early = (let l = w.early in omega arith); closed = w.closed; stands = w.stands }
+  later k q c w = record { place = w.place; early = (let l = w.early in omega arith); closed = w.closed; stands = w.stands; spent = w.spent }
 
   told_closed : (k : ℕ) → k ≤ length events → (q : ℕ) (c : Closed) → (at k).told q ≡ Some c → WasClosed k q c
   told_closed zero lt q c is = absurd (let first : (at 0).told q ≡ None = ap (λ (m : Moment). m.ledger.told q) h.run.first in let bad : None ≡ Some c = sym first ∙ is in cc)
-  told_closed (suc k) lt q c is = up (λ i. WasClosed i q c) k (elim ((the_move old events replies new h.run k (omega arith)).moves.told q c (ap (λ i. (at i).told q) (let same : k + 1 ≡ suc k = omega arith in same) ∙ is)) [
-    | inl before ↦ later k q c (told_closed k (omega arith) q c before)
-    | inr now ↦ record { place = k; early = omega arith; closed = record { open_edit = now.o; was = now.was; is = now.same; gone = now.gone }; stands = now.stands }
-  ])
+  told_closed (suc k) lt q c is =
+      let here : (at (k + 1)).told q ≡ Some c = ap (λ i. (at i).told q) (let same : k + 1 ≡ suc k = omega arith in same) ∙ is in
+      up (λ i. WasClosed i q c) k (elim ((the_move old events replies new h.run k (omega arith)).moves.told q c here) [
+        | inl before ↦ later k q c (told_closed k (omega arith) q c before)
+        | inr now ↦ record {
+          place = k;
+          early = omega arith;
+          closed = record { open_edit = now.o; was = now.was; is = now.same; gone = now.gone };
+          stands = now.stands;
+          spent = behind_closed (at (k + 1)) q c here now.gone;
+        }
+      ])
 
   -- ---- what is told as done counts
 
@@ -160,11 +177,12 @@ module _ (old : WorldValue) (events : List Event) (replies : List Reply) (new : 
     IsDone = IsToldDone old events replies k p told new.counted
 
     -- closed at this place as one that counts
-    by_closed : (place : ℕ) (it : Placed) → place < length events → place ≤ k → IsClosed h.run.moment place p it → Contains (at place).counted it → it.edit.number ≡ told.number → it.edit.cell ≡ told.cell → IsDone
+    by_closed : (place : ℕ) (it : Placed) → place < length events → place ≤ k → IsClosed h.run.moment place p it → Contains (at place).counted it → it.edit.number ≡ told.number → it.edit.cell ≡ told.cell
+        → IsBehind p told.number (at (place + 1)) → IsDone
     unfolding stands_once begun
-    by_closed place it low until closed there number cell =
-        let b = begun k p told.number place it low until closed there number in
-        record { it = stands_once k p told.number place it low until closed there number; cell = sym cell ∙ ap (λ (x : PlainEdit). x.cell) b.is }
+    by_closed place it low until closed there number cell spent =
+        let b = begun k p told.number place it low until (omega (arith, lt)) closed there number spent in
+        record { it = stands_once k p told.number place it low until (omega (arith, lt)) closed there number spent; cell = sym cell ∙ ap (λ (x : PlainEdit). x.cell) b.is }
 
     by_told : (o : Option Closed) → (at k).told p ≡ o → Last told ≡ told_of o → IsDone
     by_told None is same = absurd (cc)
@@ -174,9 +192,11 @@ module _ (old : WorldValue) (events : List Event) (replies : List Reply) (new : 
         let early = w.early in
         by_closed w.place c.it (omega arith) (omega arith) w.closed (subst (λ (b : Bool). Stands (at w.place).counted c.it b) (sym (ap (λ (t : Told). t.counts) one) ∙ counts) w.stands)
         (sym (ap (λ (t : Told). t.number) one)) (sym (ap (λ (t : Told). t.cell) one))
+        (subst (λ n. IsBehind p n (at (w.place + 1))) (sym (ap (λ (t : Told). t.number) one)) w.spent)
 
     by_moves : Resolves (at k) p (Last told) (at (k + 1)) → IsDone
     by_moves (inl c) = by_closed k c.open_edit.it lt (omega arith) (closed_at k p told.number true told.counts _ c) (subst (λ (b : Bool). Stands (at k).counted c.open_edit.it b) counts c.stands) c.number_is c.also
+        (spent_at k p told.number true told.counts _ c)
     by_moves (inr (inl f)) = by_told ((at k).told p) refl f.repeats
     by_moves (inr (inr r)) = by_told ((at k).told p) refl r.repeats
 

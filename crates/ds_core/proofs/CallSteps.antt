@@ -43,6 +43,8 @@ use Rattle.ds_core.specs.declared.reply.Reply.TheVariants as reply
 use Rattle.ds_core.proofs.Turns.{IsTurn, edit_turn, report_turn, recovery_turn, work_leaves, work_begins_leaves, offer_leaves}
 use Rattle.ds_core.proofs.Bound.{same_layout, run_layout, run_sound}
 use Rattle.ds_core.proofs.Counts.{steps_on}
+use Rattle.ds_core.proofs.CallKinds.{step_stays, step_ends}
+use Rattle.ds_core.specs.Kinds.{AnswersTo}
 
 -- a step of a process, whatever call it is in, is a turn of it
 pub step_turn : (old new : WorldValue) (q : ℕ) (r : Reply) → IsSound (world_of old) → steps.StepsBy old q r new → IsTurn q old new
@@ -235,7 +237,7 @@ recovery_some cells (recoveries.FlushOutcome how) = omega arith
 recovery_some cells (recoveries.BackOutcome how) = omega arith
 recovery_some cells (recoveries.Answer how) = omega arith
 
-some_left : (w : PlainWorld) (p : ℕ) (s : Situation) → CallFits w p s → IsInCall s → 0 < left_in s
+pub some_left : (w : PlainWorld) (p : ℕ) (s : Situation) → CallFits w p s → IsInCall s → 0 < left_in s
 some_left w p (Idle n) fits calls = absurd calls
 some_left w p Stopped fits calls = absurd calls
 some_left w p (Editing e) fits calls = each_some e fits.is
@@ -302,35 +304,66 @@ one p (Stop q) reply.Stopped on = inl on
 one p (Stop q) _ on = inl tt
 one p Crash r on = absurd on
 
--- the first answer to the process in a run
-pub record FindsAnswer (p : ℕ) (events : List Event) (replies : List Reply) : Type 0 where
+-- the first answer to the process in a run, which is one of the call of this situation
+pub record FindsAnswer (s : Situation) (p : ℕ) (events : List Event) (replies : List Reply) : Type 0 where
   pub k : ℕ
   pub answer : Answer
   pub happens : Happens events replies k (Step p) (reply.Answered answer)
+  pub to : AnswersTo s answer
 
-first_answer : (p : ℕ) (events : List Event) (replies : List Reply) → AreUnhalted p events → AreUnanswered p events replies ⊎ FindsAnswer p events replies
-first_answer p [] replies on = inl tt
-first_answer p (event ∷ events) [] on = inl tt
-first_answer p (event ∷ events) (r ∷ replies) on = elim (one p event r on.0) [
-  | inl no_answer ↦ elim (first_answer p events replies on.1) [
-    | inl rest ↦ inl (no_answer, rest)
-    | inr f ↦ inr (record { k = suc f.k; answer = f.answer; happens = record { event_is = f.happens.event_is; reply_is = f.happens.reply_is } })
-  ]
-  | inr a ↦ inr (record { k = 0; answer = a.answer; happens = record { event_is = ap (λ e. Some e) a.event_is; reply_is = ap (λ x. Some x) a.reply_is } })
+-- an event that neither answers nor halts the process leaves it in a call of the same kind
+same_kind : (p n : ℕ) (old new : WorldValue) → IsSound (world_of old) → OwnMove p old new n → (answer : Answer) → AnswersTo ((world_of new).situation p) answer → AnswersTo ((world_of old).situation p) answer
+same_kind p n old new sound (stays same) answer to = subst (λ (s : Situation). AnswersTo s answer) same to
+same_kind p n old new sound (steps_once h) answer to = (step_stays old new p sound h).same answer to
+same_kind p n old new sound (is_offered value mine h) answer to =
+    let o = h.offered in
+    let was : (world_of old).situation p ≡ Working o.work = ap (λ x. (world_of old).situation x) (sym mine) ∙ o.waits.works in
+    let now : (world_of new).situation p ≡ Working (offered o.work value.entry) = ap (λ x. (world_of new).situation x) (sym (o.mine ∙ mine)) ∙ o.offers.turn.situation in
+    subst (λ (s : Situation). AnswersTo s answer) (sym was) (subst (λ (s : Situation). AnswersTo s answer) now to)
+
+-- an answer of the first event is one of the process's call
+of_its_call : (old new : WorldValue) (p : ℕ) (event : Event) (r : Reply) → Takes old event r new → (a : IsAnswered p event r) → AnswersTo ((world_of old).situation p) a.answer
+of_its_call old new p event r takes a = (step_ends old new p a.answer
+    (subst (λ (x : Reply). Takes old (Step p) x new) a.reply_is (subst (λ (x : Event). Takes old x r new) a.event_is takes))).to
+
+first_answer : (events : List Event) (replies : List Reply) (old new : WorldValue) (p : ℕ) → IsSound (world_of old) → p < old.sheet.layout.processes → IsInCall ((world_of old).situation p)
+    → WorldRun old events replies new → AreUnhalted p events → AreUnanswered p events replies ⊎ FindsAnswer ((world_of old).situation p) p events replies
+first_answer [] replies old new p sound low calls run on = inl tt
+first_answer (event ∷ events) [] old new p sound low calls run on = inl tt
+first_answer (event ∷ events) (r ∷ replies) old new p sound low calls run on = elim (one p event r on.0) [
+  | inl no_answer ↦ (
+      let move = own_move p old run.0 sound calls event r run.1.takes no_answer in
+      let first = stays_in p (own_step p event r) old run.0 sound calls move in
+      elim (first_answer events replies run.0 new p run.1.good.sound (rw (same_layout old run.0 event r run.1.takes) low) first.calls run.2 on.1) [
+        | inl rest ↦ inl (no_answer, rest)
+        | inr f ↦ inr (record {
+          k = suc f.k;
+          answer = f.answer;
+          happens = record { event_is = f.happens.event_is; reply_is = f.happens.reply_is };
+          to = same_kind p (own_step p event r) old run.0 sound move f.answer f.to;
+        })
+      ])
+  | inr a ↦ inr (record {
+    k = 0;
+    answer = a.answer;
+    happens = record { event_is = ap (λ e. Some e) a.event_is; reply_is = ap (λ x. Some x) a.reply_is };
+    to = of_its_call old run.0 p event r run.1.takes a;
+  })
 ]
 
 pub answered : (old : WorldValue) (events : List Event) (replies : List Reply) (new : WorldValue) (p : ℕ) → IsSound (world_of old) → p < old.sheet.layout.processes → IsInCall ((world_of old).situation p)
-    → WorldRun old events replies new → AreUnhalted p events → steps_left p old ≤ own_steps p events replies → FindsAnswer p events replies
-answered old events replies new p sound low calls run on enough = elim (first_answer p events replies on) [
+    → WorldRun old events replies new → AreUnhalted p events → steps_left p old ≤ own_steps p events replies → FindsAnswer ((world_of old).situation p) p events replies
+answered old events replies new p sound low calls run on enough = elim (first_answer events replies old new p sound low calls run on) [
   | inl never ↦ absurd (let few = short old events replies new p sound low calls run never in omega arith)
   | inr f ↦ f
 ]
 
 pub wait_free : (old : WorldValue) (events : List Event) (replies : List Reply) (new : WorldValue) (p : ℕ) → IsSound (world_of old) → p < old.sheet.layout.processes → IsInCall ((world_of old).situation p)
-    → WorldRun old events replies new → AreUnhalted p events → steps_left p old ≤ own_steps p events replies → (k : ℕ) × (answer : Answer) × Happens events replies k (Step p) (reply.Answered answer)
+    → WorldRun old events replies new → AreUnhalted p events → steps_left p old ≤ own_steps p events replies
+    → (k : ℕ) × (answer : Answer) × Happens events replies k (Step p) (reply.Answered answer) × AnswersTo ((world_of old).situation p) answer
 wait_free old events replies new p sound low calls run on enough =
     let f = answered old events replies new p sound low calls run on enough in
-    (f.k, f.answer, f.happens)
+    (f.k, f.answer, f.happens, f.to)
 
 pub edit_few : (old : WorldValue) (events : List Event) (replies : List Reply) (new : WorldValue) (p : ℕ) (e : PlainEditCall) → IsSound (world_of old) → p < old.sheet.layout.processes → (world_of old).situation p ≡ Editing e
     → WorldRun old events replies new → AreUnanswered p events replies → own_steps p events replies < 67 + 3 * length e.refs

@@ -5,6 +5,7 @@ pub mod Moves
 pub mod Turns
 pub mod Bound
 pub mod Counts
+pub mod CallKinds
 pub mod CallSteps
 pub mod WorkOwnSteps
 pub mod Runs
@@ -13,6 +14,7 @@ pub mod LoneWork
 pub mod Spent
 pub mod Moved
 pub mod Closing
+pub mod Unrepeated
 pub mod Acknowledged
 pub mod Examples
 pub mod Carry
@@ -21,6 +23,7 @@ pub mod Crash
 pub mod Lost
 pub mod Stopped
 pub mod Alone
+pub mod AloneReport
 pub mod AtWork
 pub mod AtRecovery
 pub mod Stepping

@@ -6,7 +6,7 @@ use Rattle.ds_formula.specs.declared.cells.Shape.{Shape}
 use Rattle.ds_state.specs.World.{PlainEdit}
 use Rattle.ds_core.specs.Moments.{Placed, Open, Closed, Ledger}
 use Rattle.ds_core.specs.Headline.{IsIssueOf}
-use Rattle.ds_core.specs.LedgerSteps.{put, in_doubt, Stands, Issues, Counts, Closes, Forgets, Loses, AnswerMoves, LedgerMoves}
+use Rattle.ds_core.specs.LedgerSteps.{put, in_doubt, next_number, Stands, Issues, Counts, Closes, Forgets, Loses, AnswerMoves, LedgerMoves}
 use Rattle.ds_core.specs.declared.event.Event.{Event}
 use Rattle.ds_core.specs.declared.event.Event.TheVariants.{BeginEdit, BeginWork, BeginShow, BeginRecover, Step, Offer, Evict, Stop, Crash}
 use Rattle.ds_edit.specs.declared.answer.Answer.{Answer}
@@ -14,8 +14,9 @@ use Rattle.ds_edit.specs.declared.answer.Answer.TheVariants.{Done, Overtaken, No
 use Rattle.ds_core.specs.declared.reply.Reply.{Reply}
 use Rattle.ds_core.specs.declared.reply.Reply.TheVariants.{Begun, Entered, Refused, Stepped, Answered, WrongTask, Evicted, Stopped, Crashed, NotEnabled}
 
-abbrev pub IsFresh : ℕ → (PlainEdit → Type 0) → ℕ → Open → Type 0
-IsFresh k I q o = (o.it.place ≡ k) × (o.it.edit.process ≡ q) × I o.it.edit
+-- the open edit was begun just now, under the process's next number
+abbrev pub IsFresh : ℕ → (PlainEdit → Type 0) → Ledger → ℕ → Open → Type 0
+IsFresh k I old q o = (o.it.place ≡ k) × (o.it.edit.process ≡ q) × I o.it.edit × (o.it.edit.number ≡ next_number (old.told q))
 
 pub record WasOpen (old : Ledger) (q : ℕ) (now : Open) : Type 0 where
   pub o : Open
@@ -56,9 +57,14 @@ pub record ClosesAs (old : Ledger) (q : ℕ) (c : Closed) (new : Ledger) : Type 
 abbrev pub IsToldSo : Ledger → Ledger → ℕ → Closed → Type 0
 IsToldSo old new q c = (old.told q ≡ Some c) ⊎ ClosesAs old q c new
 
+-- what is told of a process stays, or an open edit is closed
+abbrev pub TellsOn : Ledger → Ledger → ℕ → Type 0
+TellsOn old new q = (new.told q ≡ old.told q) ⊎ ((c : Closed) × (new.told q ≡ Some c) × ClosesAs old q c new)
+
 pub record Moved (k : ℕ) (I : PlainEdit → Type 0) (old new : Ledger) : Type 0 where
-  pub opens : (q : ℕ) (o : Open) → new.opens q ≡ Some o → IsFresh k I q o ⊎ WasOpen old q o
+  pub opens : (q : ℕ) (o : Open) → new.opens q ≡ Some o → IsFresh k I old q o ⊎ WasOpen old q o
   pub told : (q : ℕ) (c : Closed) → new.told q ≡ Some c → IsToldSo old new q c
+  pub tells : (q : ℕ) → TellsOn old new q
   pub counted : (new.counted ≡ old.counted) ⊎ (Pushes old new ⊎ Filters old new)
 
 put_cases : {A : Type 0} (f : ℕ → Option A) (p : ℕ) (x : Option A) (q : ℕ) (r : Option A) → put f p x q ≡ r → ((q ≡ p) × (x ≡ r)) ⊎ ((q ≢ p) × (f q ≡ r))
@@ -78,21 +84,23 @@ doubt_keeps : (x : Option Open) (o : Open) → x ≡ Some o → in_doubt x ≡ N
 doubt_keeps None o a b = absurd (cc)
 doubt_keeps (Some y) o a b = absurd (cc)
 
-none_some : (x : Option Open) (o : Open) → x ≡ None → x ≡ Some o → ⊥
+pub none_some : (x : Option Open) (o : Open) → x ≡ None → x ≡ Some o → ⊥
 none_some x o a b = let e : None ≡ Some o = sym a ∙ b in cc
 
 same_moved : (k : ℕ) (I : PlainEdit → Type 0) (old new : Ledger) → new ≡ old → Moved k I old new
-same_moved k I old new h = subst (λ (l : Ledger). Moved k I old l) (sym h) (record { opens = λ q o is. inr (was_open old q o is); told = λ q c is. inl is; counted = inl refl })
+same_moved k I old new h = subst (λ (l : Ledger). Moved k I old l) (sym h) (record { opens = λ q o is. inr (was_open old q o is); told = λ q c is. inl is; tells = λ q. inl refl; counted = inl refl })
 
 issues_moved : (k : ℕ) (I : PlainEdit → Type 0) (old : Ledger) (edit : PlainEdit) (new : Ledger) → I edit → Issues k old edit new → Moved k I old new
 issues_moved k I old edit new i h = subst (λ (l : Ledger). Moved k I old l) (sym h.is) (record {
   opens = λ q o is. elim (put_cases old.opens edit.process _ q (Some o) is) [
     | inl here ↦ inl (
         let one : record { it = record { place = k; edit = edit }; before = old.counted; doubt = false } ≡ o = let s = here.1 in cc in
-        (sym (ap (λ (x : Open). x.it.place) one), sym (ap (λ (x : Open). x.it.edit.process) one) ∙ sym here.0, subst I (ap (λ (x : Open). x.it.edit) one) i))
+        (sym (ap (λ (x : Open). x.it.place) one), sym (ap (λ (x : Open). x.it.edit.process) one) ∙ sym here.0, subst I (ap (λ (x : Open). x.it.edit) one) i,
+          sym (ap (λ (x : Open). x.it.edit.number) one) ∙ h.next ∙ ap (λ x. next_number (old.told x)) (sym here.0)))
     | inr there ↦ inr (was_open old q o there.1)
   ];
   told = λ q c is. inl is;
+  tells = λ q. inl refl;
   counted = inl refl;
 })
 
@@ -100,19 +108,22 @@ counts_moved : (k : ℕ) (I : PlainEdit → Type 0) (old : Ledger) (p : ℕ) (ne
 counts_moved k I old p new h = subst (λ (l : Ledger). Moved k I old l) (sym h.is) (record {
   opens = λ q o is. inr (was_open old q o is);
   told = λ q c is. inl is;
+  tells = λ q. inl refl;
   counted = inr (inl (record { p = p; o = h.open_edit; was = h.was; is = refl; keeps = λ q o was gone. none_some (old.opens q) o gone was }));
 })
 
 gone_moved : (k : ℕ) (I : PlainEdit → Type 0) (old : Ledger) (p : ℕ) (told : ℕ → Option Closed) → ((q : ℕ) (c : Closed) → told q ≡ Some c → IsToldSo old (record old { opens = put old.opens p None; told = told }) q c)
+    → ((q : ℕ) → TellsOn old (record old { opens = put old.opens p None; told = told }) q)
     → Moved k I old (record old { opens = put old.opens p None; told = told })
-gone_moved k I old p told so = record {
+gone_moved k I old p told so on = record {
   opens = λ q o is. elim (put_cases old.opens p None q (Some o) is) [ inl here ↦ absurd (let s = here.1 in cc) | inr there ↦ inr (was_open old q o there.1) ];
   told = so;
+  tells = on;
   counted = inl refl;
 }
 
 closes_moved : (k : ℕ) (I : PlainEdit → Type 0) (old : Ledger) (p number : ℕ) (doubt counts : Bool) (And : Open → Type 0) (new : Ledger) → Closes old p number doubt counts And new → Moved k I old new
-closes_moved k I old p number doubt counts And new h = subst (λ (l : Ledger). Moved k I old l) (sym h.is) (gone_moved k I old p _ so)
+closes_moved k I old p number doubt counts And new h = subst (λ (l : Ledger). Moved k I old l) (sym h.is) (gone_moved k I old p _ so on)
   where
     so : (q : ℕ) (c : Closed) → put old.told p (Some (record { it = h.open_edit.it; counts = counts })) q ≡ Some c → IsToldSo old (record old { opens = put old.opens p None; told = put old.told p (Some (record { it = h.open_edit.it; counts = counts })) }) q c
     so q c is = elim (put_cases old.told p (Some (record { it = h.open_edit.it; counts = counts })) q (Some c) is) [
@@ -126,8 +137,20 @@ closes_moved k I old p number doubt counts And new h = subst (λ (l : Ledger). M
       | inr there ↦ inl there.1
     ]
 
+    on : (q : ℕ) → TellsOn old (record old { opens = put old.opens p None; told = put old.told p (Some (record { it = h.open_edit.it; counts = counts })) }) q
+    on q = elim (put_cases old.told p (Some (record { it = h.open_edit.it; counts = counts })) q _ refl) [
+      | inl here ↦ inr (record { it = h.open_edit.it; counts = counts }, sym here.1, record {
+        o = h.open_edit;
+        was = ap old.opens here.0 ∙ h.was;
+        same = refl;
+        gone = ap (λ x. put old.opens p None x) here.0 ∙ put_here old.opens p None;
+        stands = h.stands;
+      })
+      | inr there ↦ inl (sym there.1)
+    ]
+
 forgets_moved : (k : ℕ) (I : PlainEdit → Type 0) (old : Ledger) (p : ℕ) (answer : Answer) (new : Ledger) → Forgets old p answer new → Moved k I old new
-forgets_moved k I old p answer new h = subst (λ (l : Ledger). Moved k I old l) (sym h.is) (gone_moved k I old p old.told (λ q c is. inl is))
+forgets_moved k I old p answer new h = subst (λ (l : Ledger). Moved k I old l) (sym h.is) (gone_moved k I old p old.told (λ q c is. inl is) (λ q. inl refl))
 
 stop_moved : (k : ℕ) (I : PlainEdit → Type 0) (old : Ledger) (p : ℕ) (new : Ledger) → new ≡ record old { opens = put old.opens p (in_doubt (old.opens p)) } → Moved k I old new
 stop_moved k I old p new h = subst (λ (l : Ledger). Moved k I old l) (sym h) (record {
@@ -136,6 +159,7 @@ stop_moved k I old p new h = subst (λ (l : Ledger). Moved k I old l) (sym h) (r
     | inr there ↦ inr (was_open old q o there.1)
   ];
   told = λ q c is. inl is;
+  tells = λ q. inl refl;
   counted = inl refl;
 })
 
@@ -143,6 +167,7 @@ loses_moved : (k : ℕ) (I : PlainEdit → Type 0) (old new : Ledger) → Loses 
 loses_moved k I old new h = subst (λ (l : Ledger). Moved k I old l) (sym h.is) (record {
   opens = λ q o is. inr (doubted old q o (old.opens q) refl is);
   told = λ q c is. inl is;
+  tells = λ q. inl refl;
   counted = inr (inr (record { stays = h.stays; lost_open = h.lost_open; is = refl; keeps = λ q o was gone. doubt_keeps (old.opens q) o was gone }));
 })
 

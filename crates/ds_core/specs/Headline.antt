@@ -134,14 +134,15 @@ pub record HasHeadline (old : WorldValue) (events : List Event) (replies : List 
 
 -- ---- what a caller is told
 
--- of the process and this number the list has just one edit, with the cell and text of a request whose begin before
--- this place was answered with this number
+-- of the process and this number the list has just one edit, with the cell and text of the last request of the process
+-- before this place whose begin was answered with this number
 pub record IsAcknowledged (old : WorldValue) (events : List Event) (replies : List Reply) (k p number : ℕ) (edits : List PlainEdit) : Type 0 where
   pub request : PlainRequest
   pub start : ℕ
   pub earlier : start < k
   pub begun : Happens events replies start (BeginEdit request) (Begun number)
   pub mine : request.process ≡ p
+  pub last : (j : ℕ) (other : PlainRequest) → start < j → j < k → other.process ≡ p → Happens events replies j (BeginEdit other) (Begun number) → ⊥
   pub once : filter (is_edit_of p number) edits ≡ record { process = p; number = number; cell = index_of old.sheet.layout.shape request.cell; text = request.text } ∷ []
 
 -- the edit that a recovery tells as done stands in the list just once, as it was asked for, and the cell that is told

@@ -9,22 +9,25 @@ ghost use Rattle.ds_state.specs.Sound.{IsSound};
 ghost use Rattle.ds_state.specs.declared.stage.Stage.TheVariants.{StoreHeader};
 ghost use Rattle.ds_state.specs.declared.situation.Situation.TheVariants.{Editing, Working, Recovering, Showing};
 ghost use Rattle.ds_core.specs.declared.event.Event.{Event};
-ghost use Rattle.ds_core.specs.declared.event.Event.TheVariants.{Step};
+ghost use Rattle.ds_core.specs.declared.event.Event.TheVariants.{Step, BeginShow};
 ghost use Rattle.ds_edit.specs.declared.answer.Other.{Other};
 ghost use Rattle.ds_edit.specs.declared.answer.Told.{Told};
 ghost use Rattle.ds_edit.specs.declared.answer.Answer.{Answer};
-ghost use Rattle.ds_edit.specs.declared.answer.Answer.TheVariants.{Done, Overtaken, Last};
-ghost use Rattle.ds_core.specs.declared.reply.Reply.TheVariants.{Answered};
+ghost use Rattle.ds_edit.specs.declared.answer.Answer.TheVariants.{Done, Overtaken, Last, Settled};
+ghost use Rattle.ds_core.specs.declared.reply.Reply.TheVariants.{Answered, Entered};
 ghost use Rattle.ds_core.specs.declared.reply.Reply.{Reply};
 ghost use Rattle.ds_core.specs.Takes.{Takes, WorldRun};
 ghost use Rattle.ds_core.specs.Headline.{Happens, RunFits, Headline, HasHeadline, IsAcknowledged, IsToldDone};
 ghost use Rattle.ds_core.specs.Own.{own_steps, steps_left, AreUnanswered, AreUnhalted, IsInCall, WorkGoesOn};
+ghost use Rattle.ds_core.specs.Kinds.{AnswersTo};
 ghost use Rattle.ds_state.specs.Spent.{IsSpent};
 ghost use Rattle.ds_core.specs.SpentNumbers.{IsOut};
 ghost use Rattle.ds_core.specs.Solo.{IsSolo, AreDoneOnly, IsLone, IsLoneAnswer, AreLoneReplies};
 ghost use Rattle.ds_state.specs.Works.{PlainWorkCall, PlainShowCall, PlainRecoverCall};
 ghost use Rattle.ds_state.specs.declared.work.WorkStage.TheVariants.{LoadMark};
 ghost use Rattle.ds_layout.specs.Bits.{parts_for};
+ghost use Rattle.ds_layout.specs.Places.{cells_of};
+ghost use Rattle.ds_state.specs.Shown.{IsQuiet};
 ghost use Rattle.ds_work.specs.WorkAlone.{IsMarkedAt};
 
 /// An edit that is answered Overtaken does not count then and never will: its number is spent, and
@@ -76,8 +79,8 @@ pub fn calls_are_short()
 {}
 
 /// Calls are wait-free (Herlihy, "Wait-Free Synchronization", TOPLAS 1991): one that makes as many
-/// steps of its own as it has left is answered, whatever the other processes do between them, but
-/// where its process is stopped or a crash comes. Work makes no step while it waits for the entry of
+/// steps of its own as it has left is answered, and by an answer of its kind of call, whatever the
+/// other processes do between them, but where its process is stopped or a crash comes. Work makes no step while it waits for the entry of
 /// its task.
 #[tactic(auto, using(crate::proofs::CallSteps::wait_free))]
 pub fn calls_are_answered()
@@ -85,7 +88,8 @@ pub fn calls_are_answered()
         (p : ℕ) → IsSound (world_of old) → p < old.sheet.layout.processes
         → IsInCall ((world_of old).situation p) → WorldRun old events replies new
         → AreUnhalted p events → steps_left p old ≤ own_steps p events replies
-        → (k : ℕ) × (answer : Answer) × Happens events replies k (Step p) (Answered answer) }
+        → (k : ℕ) × (answer : Answer) × Happens events replies k (Step p) (Answered answer)
+        × AnswersTo ((world_of old).situation p) answer }
 {}
 
 /// An edit that is alone from its beginning on, but for evictions, is done.
@@ -159,6 +163,18 @@ pub fn solo_edits_are_answered()
         → WorldRun old events replies new → IsSolo p events
         → 67 + 3 * length e.refs ≤ own_steps p events replies
         → (k : ℕ) × Happens events replies k (Step p) (Answered (Done e.number)) }
+{}
+
+/// A report that begins in a quiet world, and is alone from its beginning on but for evictions, is
+/// answered within 2P + 4N + 1 steps of its own on a sheet of N cells for P processes, and the answer
+/// is Settled.
+#[tactic(auto, using(crate::proofs::AloneReport::solo_settled))]
+pub fn solo_reports_are_answered()
+    ensures { (old mid new : WorldValue) (events : List Event) (replies : List Reply)
+        (p : ℕ) → IsSound (world_of old) → IsQuiet (world_of old)
+        → Takes old (BeginShow p) Entered mid → WorldRun mid events replies new → IsSolo p events
+        → 2 * old.sheet.layout.processes + 4 * cells_of old.sheet.layout + 1 ≤ own_steps p events replies
+        → (k : ℕ) × Happens events replies k (Step p) (Answered Settled) }
 {}
 
 /// Work on a marked cell whose mark has generations left, which is alone from its beginning on, but

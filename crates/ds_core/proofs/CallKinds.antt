@@ -1,0 +1,184 @@
+-- A step of a call stays in a call of its kind, or is answered as calls of its kind are.
+use Rattle.std.proofs.Common.{ℕ, ◌≡◌, ◌≢◌, ◌<◌, ◌+◌, ◌/◌, refl, sym, ap, ◌∙◌, subst, Some, None}
+use Rattle.ds_state.specs.Value.{WorldValue, world_of}
+use Rattle.ds_state.specs.Sound.{IsSound}
+use Rattle.ds_state.specs.Edits.{PlainEditCall}
+use Rattle.ds_state.specs.Works.{PlainWorkCall, PlainShowCall, PlainRecoverCall}
+use Rattle.ds_state.specs.declared.situation.Situation.{Situation}
+use Rattle.ds_state.specs.declared.situation.Situation.TheVariants.{Idle, Editing, Working, Recovering, Showing}
+use Rattle.ds_state.specs.declared.stage.Outcome.TheVariants as outcomes
+use Rattle.ds_state.specs.declared.stage.Stage.{Stage}
+use Rattle.ds_state.specs.declared.stage.Stage.TheVariants as stages
+use Rattle.ds_state.specs.declared.work.WorkEnd.{WorkEnd}
+use Rattle.ds_state.specs.declared.work.WorkEnd.TheVariants as work_ends
+use Rattle.ds_state.specs.declared.work.ShowEnd.TheVariants as show_ends
+use Rattle.ds_state.specs.declared.work.ShowStage.{ShowStage}
+use Rattle.ds_state.specs.declared.work.ShowStage.TheVariants as show_stages
+use Rattle.ds_state.specs.declared.work.RecoverStage.{RecoverStage}
+use Rattle.ds_state.specs.declared.work.RecoverStage.TheVariants as recover_stages
+use Rattle.ds_edit.specs.EditTakes as edit_worlds
+use Rattle.ds_edit.specs.declared.answer.Answer.{Answer}
+use Rattle.ds_work.specs.WorkTakes as work_events
+use Rattle.ds_work.specs.declared.drive.Taken.{Taken}
+use Rattle.ds_work.specs.declared.drive.Taken.TheVariants as taken
+use Rattle.ds_work.proofs.Turning.{turns_fall}
+use Rattle.ds_show.specs.ShowSteps as show_steps
+use Rattle.ds_recover.specs.RecoverySteps as recovery_steps
+use Rattle.ds_recover.specs.declared.machine.RecoveryEnd.TheVariants as recovery_ends
+use Rattle.ds_edit.specs.EditEndings.{answer_of}
+use Rattle.ds_core.specs.EditEvents.{EditStepsBy, reply_at}
+use Rattle.ds_core.specs.WorkEvents.{WorkStepsBy, work_reply, work_answer}
+use Rattle.ds_core.specs.ReportEvents.{ReportStepsBy, report_reply, report_answer}
+use Rattle.ds_core.specs.RecoveryEvents.{RecoveryStepsBy, recovery_reply, recovery_answer}
+use Rattle.ds_core.specs.StepEvents.{StepsBy, edits, works, reports, recoveries}
+use Rattle.ds_core.specs.Own.{IsInCall}
+use Rattle.ds_core.specs.declared.reply.Reply.TheVariants.{Stepped, Answered, NotEnabled}
+use Rattle.ds_core.proofs.Bound.{edit_goes_on}
+use Rattle.ds_core.specs.Kinds.{IsEditAnswer, IsWorkAnswer, IsReportAnswer, IsRecoveryAnswer, AnswersTo}
+
+-- ---- a step that goes on
+
+-- the process is still in a call of the same kind
+pub record StaysIn (old : WorldValue) (p : ℕ) (new : WorldValue) : Type 0 where
+  pub calls : IsInCall ((world_of new).situation p)
+  pub same : (answer : Answer) → AnswersTo ((world_of new).situation p) answer → AnswersTo ((world_of old).situation p) answer
+
+-- two situations of one kind
+stays_by : (old new : WorldValue) (p : ℕ) (s t : Situation) → (world_of old).situation p ≡ s → (world_of new).situation p ≡ t → IsInCall t → ((answer : Answer) → AnswersTo t answer → AnswersTo s answer) → StaysIn old p new
+stays_by old new p s t was now calls same = record {
+  calls = subst IsInCall (sym now) calls;
+  same = λ answer h. subst (λ (x : Situation). AnswersTo x answer) (sym was) (same answer (subst (λ (x : Situation). AnswersTo x answer) now h));
+}
+
+edit_stays : (old new : WorldValue) (p : ℕ) → IsSound (world_of old) → EditStepsBy old p Stepped new → StaysIn old p new
+edit_stays old new p sound h = let g = edit_goes_on old new p sound h in stays_by old new p (Editing h.edit) (Editing g.edit) h.at g.edits tt (λ answer x. x)
+
+work_stays : (old new : WorldValue) (p : ℕ) → IsSound (world_of old) → WorkStepsBy old p Stepped new → StaysIn old p new
+work_stays old new p sound h = by h.what h.steps h.is
+  where
+    by : (what : Taken) → work_events.StepsBy (world_of old) p what (world_of new) → Stepped ≡ work_reply what → StaysIn old p new
+    by taken.Stepped s is = let g = turns_fall p (world_of old) (world_of new) sound s in stays_by old new p (Working s.work) (Working g.work) s.works g.works tt (λ answer x. x)
+    by taken.NotEnabled s is = absurd (cc)
+    by (taken.Answered end) s is = absurd (cc)
+
+pub report_on : (e : PlainShowCall) (s : ShowStage) (word : ℕ) → Stepped ≡ report_reply (show_steps.effect_at s) → show_steps.after e s word ≡ Showing (show_steps.next_at e s word)
+report_on e (show_stages.Answer end) word is = absurd (cc)
+report_on e _ word is = refl
+
+report_stays : (old new : WorldValue) (p : ℕ) → ReportStepsBy old p Stepped new → StaysIn old p new
+report_stays old new p h =
+    let e : PlainShowCall = h.steps.show in
+    let goes : Stepped ≡ report_reply (show_steps.effect_at e.stage) = h.is ∙ ap report_reply h.steps.is in
+    let now : (world_of new).situation p ≡ Showing (show_steps.next_at e e.stage h.steps.word) = ap (λ q. (world_of new).situation q) (sym h.steps.mine) ∙ h.steps.steps.situation ∙ report_on e e.stage h.steps.word goes in
+    stays_by old new p (Showing e) (Showing (show_steps.next_at e e.stage h.steps.word)) h.steps.at now tt (λ answer x. x)
+
+recovery_on : (e : PlainRecoverCall) (s : RecoverStage) (word : ℕ) → Stepped ≡ recovery_reply (recovery_steps.effect_at e s) → recovery_steps.after e s word ≡ Recovering (recovery_steps.next_at e s word)
+recovery_on e (recover_stages.Answer None) word is = absurd (cc)
+recovery_on e (recover_stages.Answer (Some how)) word is = absurd (cc)
+recovery_on e _ word is = refl
+
+recovery_stays : (old new : WorldValue) (p : ℕ) → RecoveryStepsBy old p Stepped new → StaysIn old p new
+recovery_stays old new p h =
+    let e : PlainRecoverCall = h.steps.recovery in
+    let goes : Stepped ≡ recovery_reply (recovery_steps.effect_at e e.stage) = h.is ∙ ap recovery_reply h.steps.is in
+    let now : (world_of new).situation p ≡ Recovering (recovery_steps.next_at e e.stage h.steps.word) =
+    ap (λ q. (world_of new).situation q) (sym h.steps.mine) ∙ h.steps.steps.situation ∙ recovery_on e e.stage h.steps.word goes in
+    stays_by old new p (Recovering e) (Recovering (recovery_steps.next_at e e.stage h.steps.word)) h.steps.at now tt (λ answer x. x)
+
+pub step_stays : (old new : WorldValue) (p : ℕ) → IsSound (world_of old) → StepsBy old p Stepped new → StaysIn old p new
+step_stays old new p sound (edits h) = edit_stays old new p sound h
+step_stays old new p sound (works h) = work_stays old new p sound h
+step_stays old new p sound (reports h) = report_stays old new p h
+step_stays old new p sound (recoveries h) = recovery_stays old new p h
+
+-- ---- a step that answers
+
+-- the answer is one of the call, and the process is idle
+pub record EndsIn (old : WorldValue) (p : ℕ) (answer : Answer) (new : WorldValue) : Type 0 where
+  pub to : AnswersTo ((world_of old).situation p) answer
+  pub next : ℕ
+  pub idle : (world_of new).situation p ≡ Idle next
+
+ends_by : (old new : WorldValue) (p next : ℕ) (s : Situation) (answer : Answer) → (world_of old).situation p ≡ s → (world_of new).situation p ≡ Idle next → AnswersTo s answer → EndsIn old p answer new
+ends_by old new p next s answer was now h = record { to = subst (λ (x : Situation). AnswersTo x answer) (sym was) h; next = next; idle = now }
+
+-- an answer by its reply
+answer_is : (kind : Answer → Type 0) (a b : Answer) → Answered a ≡ Answered b → kind b → kind a
+answer_is kind a b is h = let same : a ≡ b = cc in subst kind (sym same) h
+
+-- what an edit does at a stage that answers
+record EditEnds (e : PlainEditCall) (s : Stage) (word : ℕ) (answer : Answer) : Type 0 where
+  next : ℕ
+  after : edit_worlds.after e s word ≡ Idle next
+  is : IsEditAnswer answer
+
+edit_answered : (processes : ℕ) (e : PlainEditCall) (s : Stage) (word : ℕ) (answer : Answer) → Answered answer ≡ reply_at processes e.number s → EditEnds e s word answer
+edit_answered processes e (stages.Answer outcomes.Done) word answer is = record { next = e.number + 1; after = refl; is = answer_is IsEditAnswer answer (answer_of processes e.number outcomes.Done) is tt }
+edit_answered processes e (stages.Answer (outcomes.Overtaken noted seen)) word answer is =
+    record { next = e.number + 1; after = refl; is = answer_is IsEditAnswer answer (answer_of processes e.number (outcomes.Overtaken noted seen)) is tt }
+edit_answered processes e _ word answer is = absurd (cc)
+
+edit_ends : (old new : WorldValue) (p : ℕ) (answer : Answer) → EditStepsBy old p (Answered answer) new → EndsIn old p answer new
+edit_ends old new p answer h =
+    let g = edit_answered old.sheet.layout.processes h.edit h.edit.stage h.word answer h.is in
+    ends_by old new p g.next (Editing h.edit) answer h.at (ap (λ q. (world_of new).situation q) (sym h.mine) ∙ h.steps.situation ∙ g.after) g.is
+
+each_work_answer : (end : WorkEnd) → IsWorkAnswer (work_answer end)
+each_work_answer work_ends.NotDirty = tt
+each_work_answer work_ends.Missed = tt
+each_work_answer work_ends.Worn = tt
+each_work_answer (work_ends.Published changed) = tt
+each_work_answer work_ends.Again = tt
+each_work_answer work_ends.NoMemory = tt
+
+work_ends_in : (old new : WorldValue) (p : ℕ) (answer : Answer) → WorkStepsBy old p (Answered answer) new → EndsIn old p answer new
+work_ends_in old new p answer h = by h.what h.steps h.is
+  where
+    turned : (e : PlainWorkCall) (end : WorkEnd) → e.process ≡ p → (world_of old).situation p ≡ Working e → work_events.TakesTurn e (world_of old) (world_of new) (taken.Answered end) → Answered answer ≡ work_reply (taken.Answered end) → EndsIn old p answer new
+    turned e end mine at (work_events.answers _ at_answer s) is =
+        ends_by old new p e.next (Working e) answer at (ap (λ q. (world_of new).situation q) (sym mine) ∙ s.situation) (answer_is IsWorkAnswer answer (work_answer end) is (each_work_answer end))
+
+    by : (what : Taken) → work_events.StepsBy (world_of old) p what (world_of new) → Answered answer ≡ work_reply what → EndsIn old p answer new
+    by (taken.Answered end) s is = turned s.work end s.mine s.works s.turn is
+    by taken.NotEnabled s is = absurd (cc)
+    by taken.Stepped s is = absurd (cc)
+
+-- what a report does at a stage that answers
+record ReportEnds (e : PlainShowCall) (s : ShowStage) (word : ℕ) (answer : Answer) : Type 0 where
+  after : show_steps.after e s word ≡ Idle e.next
+  is : IsReportAnswer answer
+
+report_answered : (e : PlainShowCall) (s : ShowStage) (word : ℕ) (answer : Answer) → Answered answer ≡ report_reply (show_steps.effect_at s) → ReportEnds e s word answer
+report_answered e (show_stages.Answer show_ends.Settled) word answer is = record { after = refl; is = answer_is IsReportAnswer answer (report_answer show_ends.Settled) is tt }
+report_answered e (show_stages.Answer (show_ends.AtMark cell seen)) word answer is = record { after = refl; is = answer_is IsReportAnswer answer (report_answer (show_ends.AtMark cell seen)) is tt }
+report_answered e (show_stages.Answer (show_ends.AtAnnounce q seen)) word answer is = record { after = refl; is = answer_is IsReportAnswer answer (report_answer (show_ends.AtAnnounce q seen)) is tt }
+report_answered e _ word answer is = absurd (cc)
+
+report_ends : (old new : WorldValue) (p : ℕ) (answer : Answer) → ReportStepsBy old p (Answered answer) new → EndsIn old p answer new
+report_ends old new p answer h =
+    let g = report_answered h.steps.show h.steps.show.stage h.steps.word answer (h.is ∙ ap report_reply h.steps.is) in
+    ends_by old new p h.steps.show.next (Showing h.steps.show) answer h.steps.at (ap (λ q. (world_of new).situation q) (sym h.steps.mine) ∙ h.steps.steps.situation ∙ g.after) g.is
+
+-- what a recovery does at a stage that answers
+record RecoveryEnds (e : PlainRecoverCall) (s : RecoverStage) (word : ℕ) (answer : Answer) : Type 0 where
+  next : ℕ
+  after : recovery_steps.after e s word ≡ Idle next
+  is : IsRecoveryAnswer answer
+
+recovery_answered : (e : PlainRecoverCall) (s : RecoverStage) (word : ℕ) (answer : Answer) → Answered answer ≡ recovery_reply (recovery_steps.effect_at e s) → RecoveryEnds e s word answer
+recovery_answered e (recover_stages.Answer None) word answer is = record { next = 0; after = refl; is = answer_is IsRecoveryAnswer answer (recovery_answer recovery_ends.Nothing) is tt }
+recovery_answered e (recover_stages.Answer (Some how)) word answer is =
+    record { next = e.announcement / 4; after = refl; is = answer_is IsRecoveryAnswer answer (recovery_answer (recovery_steps.end_of e (Some how))) is tt }
+recovery_answered e _ word answer is = absurd (cc)
+
+recovery_ends_in : (old new : WorldValue) (p : ℕ) (answer : Answer) → RecoveryStepsBy old p (Answered answer) new → EndsIn old p answer new
+recovery_ends_in old new p answer h =
+    let g = recovery_answered h.steps.recovery h.steps.recovery.stage h.steps.word answer (h.is ∙ ap recovery_reply h.steps.is) in
+    ends_by old new p g.next (Recovering h.steps.recovery) answer h.steps.at (ap (λ q. (world_of new).situation q) (sym h.steps.mine) ∙ h.steps.steps.situation ∙ g.after) g.is
+
+pub step_ends : (old new : WorldValue) (p : ℕ) (answer : Answer) → StepsBy old p (Answered answer) new → EndsIn old p answer new
+step_ends old new p answer (edits h) = edit_ends old new p answer h
+step_ends old new p answer (works h) = work_ends_in old new p answer h
+step_ends old new p answer (reports h) = report_ends old new p answer h
+step_ends old new p answer (recoveries h) = recovery_ends_in old new p answer h
+
