@@ -72,7 +72,7 @@ module _ (p : ℕ) (old new : WorldValue) (sound : IsSound (world_of old)) (low 
   settles : (answer : Answer) → ReportStepsBy old p (Answered answer) new → answer ≡ Settled
   settles answer h =
       let s = answering h.steps.show.stage answer (h.is ∙ ap report_reply h.steps.is) in
-      s.2.1 ∙ ap report_answer (solo_settles p (world_of old) a.past a.solo h.steps.show s.0 h.steps.at s.1)
+      s.2 ∙ ap report_answer (solo_settles p (world_of old) a.past a.solo h.steps.show s.0 h.steps.at s.1)
 
   -- a step is one of the report
   is_report : (r : Reply) → StepsBy old p r new → ReportStepsBy old p r new

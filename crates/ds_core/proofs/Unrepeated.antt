@@ -1,5 +1,5 @@
 -- No begin of a process is answered with the number of an edit that it has open, or that was closed under its number.
-use Rattle.std.proofs.Common.{ℕ, ◌≡◌, ◌<◌, ◌≤◌, ◌+◌, ◌⊎◌, List, refl, ap, sym, ◌∙◌, subst, arith, inl, inr, zero, suc, length, Some, None}
+use Rattle.std.proofs.Common.{ℕ, ◌≡◌, ◌<◌, ◌≤◌, ◌+◌, ◌-◌, ◌⊎◌, List, refl, ap, sym, ◌∙◌, subst, arith, inl, inr, zero, suc, length, Some, None}
 use Rattle.std.specs.Prelude.{Option}
 use Rattle.std.proofs.lemmas.Bool.{cases_lt}
 use Rattle.ds_state.specs.Value.{WorldValue}
@@ -30,21 +30,20 @@ module _ (old : WorldValue) (events : List Event) (replies : List Reply) (new : 
   at i = (run.moment i).ledger
 
   behind_next : (k p n : ℕ) → k < length events → IsBehind p n (at k) → IsBehind p n (at (k + 1))
-  behind_next k p n lt h = record {
-    next = elim (m.tells p) [
-      | inl same ↦ subst (λ (x : Option Closed). n < next_number x) (sym same) h.next
-      | inr closes ↦ subst (λ (x : Option Closed). n < next_number x) (sym closes.1)
-          (let more : n < closes.2.o.it.edit.number = h.opens closes.2.o closes.2.was in
-           let same : closes.2.o.it.edit.number ≡ closes.0.it.edit.number = ap (λ (x : Placed). x.edit.number) closes.2.same in omega arith)
-    ];
-    opens = λ o is. elim (m.opens p o is) [
-      | inl fresh ↦ (let same = fresh.3 in let more = h.next in omega arith)
-      | inr was ↦ (let more = h.opens was.o was.was in let same = ap (λ (x : Placed). x.edit.number) was.same in omega arith)
-    ];
-  }
-    where
-      abbrev m : _
-      m = (the_move old events replies new run k lt).moves
+  behind_next k p n lt h =
+      let m = (the_move old events replies new run k lt).moves in
+      record {
+        next = elim (m.tells p) [
+          | inl same ↦ subst (λ (x : Option Closed). n < next_number x) (sym same) h.next
+          | inr closes ↦ subst (λ (x : Option Closed). n < next_number x) (sym closes.1)
+              (let more : n < closes.2.o.it.edit.number = h.opens closes.2.o closes.2.was in
+               let same : closes.2.o.it.edit.number ≡ closes.0.it.edit.number = ap (λ (x : Placed). x.edit.number) closes.2.same in omega arith)
+        ];
+        opens = λ o is. elim (m.opens p o is) [
+          | inl fresh ↦ (let same = fresh.3 in let more = h.next in omega arith)
+          | inr was ↦ (let more = h.opens was.o was.was in let same = ap (λ (x : Placed). x.edit.number) was.same in omega arith)
+        ];
+      }
 
   -- from the place on at which the edit was closed under its number
   behind : (place p n : ℕ) → IsBehind p n (at (place + 1)) → (j : ℕ) → place < j → j ≤ length events → IsBehind p n (at j)

@@ -168,7 +168,6 @@ pub fn solo_edits_are_answered()
 /// A report that begins in a quiet world, and is alone from its beginning on but for evictions, is
 /// answered within 2P + 4N + 1 steps of its own on a sheet of N cells for P processes, and the answer
 /// is Settled.
-#[tactic(auto, using(crate::proofs::AloneReport::solo_settled))]
 pub fn solo_reports_are_answered()
     ensures { (old mid new : WorldValue) (events : List Event) (replies : List Reply)
         (p : ℕ) → IsSound (world_of old) → IsQuiet (world_of old)
