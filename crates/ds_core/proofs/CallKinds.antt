@@ -181,4 +181,3 @@ step_ends old new p answer (edits h) = edit_ends old new p answer h
 step_ends old new p answer (works h) = work_ends_in old new p answer h
 step_ends old new p answer (reports h) = report_ends old new p answer h
 step_ends old new p answer (recoveries h) = recovery_ends_in old new p answer h
-

@@ -94,9 +94,12 @@ issues_moved : (k : ℕ) (I : PlainEdit → Type 0) (old : Ledger) (edit : Plain
 issues_moved k I old edit new i h = subst (λ (l : Ledger). Moved k I old l) (sym h.is) (record {
   opens = λ q o is. elim (put_cases old.opens edit.process _ q (Some o) is) [
     | inl here ↦ inl (
-        let one : record { it = record { place = k; edit = edit }; before = old.counted; doubt = false } ≡ o = let s = here.1 in cc in
-        (sym (ap (λ (x : Open). x.it.place) one), sym (ap (λ (x : Open). x.it.edit.process) one) ∙ sym here.0, subst I (ap (λ (x : Open). x.it.edit) one) i,
-          sym (ap (λ (x : Open). x.it.edit.number) one) ∙ h.next ∙ ap (λ x. next_number (old.told x)) (sym here.0)))
+        let one : record { it = record { place = k; edit = edit }; before = old.counted; doubt = false } ≡ o = let s = here.1 in cc in (
+          sym (ap (λ (x : Open). x.it.place) one),
+          sym (ap (λ (x : Open). x.it.edit.process) one) ∙ sym here.0,
+          subst I (ap (λ (x : Open). x.it.edit) one) i,
+          sym (ap (λ (x : Open). x.it.edit.number) one) ∙ h.next ∙ ap (λ x. next_number (old.told x)) (sym here.0),
+        ))
     | inr there ↦ inr (was_open old q o there.1)
   ];
   told = λ q c is. inl is;
@@ -139,13 +142,17 @@ closes_moved k I old p number doubt counts And new h = subst (λ (l : Ledger). M
 
     on : (q : ℕ) → TellsOn old (record old { opens = put old.opens p None; told = put old.told p (Some (record { it = h.open_edit.it; counts = counts })) }) q
     on q = elim (put_cases old.told p (Some (record { it = h.open_edit.it; counts = counts })) q _ refl) [
-      | inl here ↦ inr (record { it = h.open_edit.it; counts = counts }, sym here.1, record {
-        o = h.open_edit;
-        was = ap old.opens here.0 ∙ h.was;
-        same = refl;
-        gone = ap (λ x. put old.opens p None x) here.0 ∙ put_here old.opens p None;
-        stands = h.stands;
-      })
+      | inl here ↦ inr (
+        record { it = h.open_edit.it; counts = counts },
+        sym here.1,
+        record {
+          o = h.open_edit;
+          was = ap old.opens here.0 ∙ h.was;
+          same = refl;
+          gone = ap (λ x. put old.opens p None x) here.0 ∙ put_here old.opens p None;
+          stands = h.stands;
+        },
+      )
       | inr there ↦ inl (sym there.1)
     ]
 

@@ -37,7 +37,7 @@ module _ (old : WorldValue) (events : List Event) (replies : List Reply) (new : 
           | inl same ↦ subst (λ (x : Option Closed). n < next_number x) (sym same) h.next
           | inr closes ↦ subst (λ (x : Option Closed). n < next_number x) (sym closes.1)
               (let more : n < closes.2.o.it.edit.number = h.opens closes.2.o closes.2.was in
-               let same : closes.2.o.it.edit.number ≡ closes.0.it.edit.number = ap (λ (x : Placed). x.edit.number) closes.2.same in omega arith)
+              let same : closes.2.o.it.edit.number ≡ closes.0.it.edit.number = ap (λ (x : Placed). x.edit.number) closes.2.same in omega arith)
         ];
         opens = λ o is. elim (m.opens p o is) [
           | inl fresh ↦ (let same = fresh.3 in let more = h.next in omega arith)
