@@ -30,7 +30,7 @@ loop-k-preserved c =
           let q : to_z w64 (of_z w64 z) ≡ z = to_z-of_z w64 _ (search rules) in
           let f : NoGreater (to_z w64 (of_z w64 z)) = omega (arith, ints, clamps) in
           let g : NoLess (to_z w64 (of_z w64 z)) = omega (arith, ints, clamps) in
-          let m : IsMore z c.loop-k.sum w.with-sum.result = record { y = to_z w64 (of_z w64 z); same = q; no_greater = f; no_less = g; count = e.count; sum = e.sum; least = e.least; greatest = e.greatest } in
+          let m : IsMore z c.loop-k.sum w.with-sum.result = record { y = to_z w64 (of_z w64 z); same = q; no_greater = f; no_less = g; count = e.count; zeros = e.zeros; sum = e.sum; least = e.least; greatest = e.greatest } in
           let v = sym w.in-Number.is ∙ here in
           record {
             counted = λ vs t. rw w.sum-is (subst (λ (ws : List Value). AreCounted ws w.with-sum.result) (one_more read vs first k _ v) (number_counted _ z c.loop-k.sum w.with-sum.result m (c.loop-k.invariant.counted vs t)));
