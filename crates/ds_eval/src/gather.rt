@@ -140,8 +140,11 @@ fn totals_with_row(
         match value {
             Value::Number(number) => sum = sum.with(number),
             Value::Blank => {}
-            Value::DivZero | Value::Num if errors.skips() => {}
-            Value::DivZero | Value::Num | Value::Circular => return Err(value),
+            Value::DivZero | Value::Num | Value::Circular => {
+                if errors.heeds(value) {
+                    return Err(value);
+                }
+            }
         }
     }
     Ok(sum)

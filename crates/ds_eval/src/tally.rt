@@ -16,16 +16,19 @@ pub enum CellErrors {
 }
 
 impl CellErrors {
+    ghost use Rattle.std.specs.Prelude.{[], ◌∷◌, Some};
+    ghost use Rattle.ds_eval.specs.declared.value.Value as values;
+    ghost use Rattle.ds_eval.specs.Numbers.{first_error};
     ghost use Rattle.ds_eval.specs.Evaluation.{as_seen};
-    ghost use Rattle.ds_eval.specs.Rows.{skips};
 
-    /// Whether they are skipped.
-    pub fn skips(self) -> bool
-        ensures { result ≡ skips self }
+    /// Whether the error of a cell is heeded.
+    pub fn heeds(self, error: Value) -> bool
+        requires { first_error (error ∷ []) ≡ Some error }
+        ensures { as_seen self error ≡ (if result then error else Value.Blank) }
     {
         match self {
-            CellErrors::Heeded => false,
-            CellErrors::Skipped => true,
+            CellErrors::Heeded => true,
+            CellErrors::Skipped => error == Value::Circular,
         }
     }
 
@@ -33,9 +36,12 @@ impl CellErrors {
     pub fn seen(self, value: Value) -> Value
         ensures { result ≡ as_seen self value }
     {
-        match value {
-            Value::DivZero | Value::Num if self.skips() => Value::Blank,
-            _ => value,
+        match self {
+            CellErrors::Heeded => value,
+            CellErrors::Skipped => match value {
+                Value::DivZero | Value::Num => Value::Blank,
+                Value::Blank | Value::Number(_) | Value::Circular => value,
+            },
         }
     }
 }
