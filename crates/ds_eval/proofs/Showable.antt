@@ -1,19 +1,12 @@
 -- What a content that was read gives of entries that cells can show, a cell can show.
-use Rattle.std.proofs.Common.{◌≡◌, ◌≢◌, ◌⊎◌, ℕ, zero, suc, ◌%◌, ◌^◌, ◌<◌, ◌≤◌, min, ℤ, pos, negsuc, neg_ℤ, ◌*ℤ◌, ◌+ℤ◌, ◌-ℤ◌, int_div, nat_lt, leb, Bool, true, false, cond, int_eq, int_lt, ◌==◌, if◌then◌else◌, List, [], ◌∷◌, ◌++◌, map, fold, refl, sym, ap, subst, ◌∙◌, inl, inr, arith}
+use Rattle.std.proofs.Common.{◌≡◌, ◌≢◌, ◌⊎◌, ℕ, zero, suc, ◌%◌, ◌^◌, ◌<◌, ◌≤◌, min, ℤ, pos, negsuc, nat_lt, Bool, true, false, ◌==◌, if◌then◌else◌, List, refl, sym, ap, subst, inl, inr, arith}
 use Rattle.std.proofs.lemmas.Bool.{cases_lt, ltb-true, lt-ltb, ne_eqb}
 use Rattle.std.proofs.lemmas.Bool.Decides.{nat_tests}
-use Rattle.std.specs.Int.{int_min, int_max}
 use Rattle.std.specs.Prelude.{unsigned_abs}
 use Rattle.ds_formula.specs.declared.cells.Shape.{Shape}
 use Rattle.ds_formula.specs.declared.cells.Cell.{Cell}
-use Rattle.ds_formula.specs.declared.content.Sign.{Sign}
-use Rattle.ds_formula.specs.declared.content.Sign.TheVariants as signs
-use Rattle.ds_formula.specs.declared.content.Operator.{Operator}
-use Rattle.ds_formula.specs.declared.content.Operator.TheVariants as operators
-use Rattle.ds_formula.specs.declared.content.Function.{Function}
-use Rattle.ds_formula.specs.declared.content.Function.TheVariants as functions
 use Rattle.ds_formula.specs.Cells.{IsInside, count_of}
-use Rattle.ds_formula.specs.Plain.{Formula, Literal, At, Area, Signed, Joined, Called, Formulas, Nothing, Then, PlainContent, count}
+use Rattle.ds_formula.specs.Plain.{Formula, Literal, At, Area, Signed, Joined, Called, Formulas, Nothing, Then, PlainContent}
 use Rattle.ds_formula.specs.Refs.{Refers}
 use Rattle.ds_formula.specs.Grammar.{Reads, ReadsLong, blank, constant, computed}
 use Rattle.ds_formula.proofs.Formed.{Formed, AllFormed, level_good}

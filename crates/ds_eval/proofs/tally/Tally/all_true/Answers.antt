@@ -1,4 +1,3 @@
-use Rattle.std.proofs.Common.{sym, ◌∙◌, rules}
 use Rattle.ds_eval.proofs.Tallies.{all_told}
 use Rattle.ds_eval.proofs.tally.Tally.all_true.Goals as goal
 

@@ -1,4 +1,3 @@
-use Rattle.std.proofs.Common.{sym, ◌∙◌, rules}
 use Rattle.ds_eval.proofs.Tallies.{some_told}
 use Rattle.ds_eval.proofs.tally.Tally.some_true.Goals as goal
 
