@@ -1,5 +1,5 @@
 -- The values of calls, by their arguments.
-use Rattle.std.proofs.Common.{◌≡◌, ℕ, suc, ◌+◌, ◌<◌, ◌≤◌, true, false, leb, List, [], ◌∷◌, ◌++◌, map, length, get_or, take, ℤ, refl, sym, ap, subst, ◌∙◌, arith, append_assoc, append-nil}
+use Rattle.std.proofs.Common.{◌≡◌, ℕ, zero, suc, ◌+◌, ◌<◌, ◌≤◌, Bool, true, false, ◌&&◌, if◌then◌else◌, leb, List, [], ◌∷◌, ◌++◌, map, length, get_or, take, ℤ, pos, refl, sym, ap, subst, ◌∙◌, arith, append_assoc, append-nil}
 use Rattle.std.proofs.lemmas.Bool.Decides.{nat_tests}
 use Rattle.std.proofs.lemmas.List.{map-append, take_more}
 use Rattle.ds_formula.specs.declared.cells.Shape.{Shape}
@@ -15,9 +15,11 @@ use Rattle.ds_formula.specs.declared.content.Tree.TheVariants as trees
 use Rattle.ds_formula.specs.Plain.{Formula, Literal, At, Area, Signed, Joined, Called, formula, listed, count}
 use Rattle.ds_eval.proofs.Views.{formula_number, formula_reference, formula_range, formula_prefix, formula_binary, formula_call}
 use Rattle.ds_eval.specs.declared.value.Value.{Value}
-use Rattle.ds_eval.specs.declared.value.Value.TheVariants.{Num}
+use Rattle.ds_eval.specs.declared.value.Value.TheVariants.{Num, Number}
+use Rattle.ds_eval.specs.declared.tally.CellErrors.{CellErrors}
 use Rattle.ds_eval.specs.declared.tally.Tally.{Tally}
-use Rattle.ds_eval.specs.Evaluation.{formula_value, all_values, own_values, applied, stands_for, first_cells, cell_of, cells_of, look}
+use Rattle.ds_formula.specs.Functions.{all_functions, knows, takes, takes_ranges}
+use Rattle.ds_eval.specs.Evaluation.{Argument, argument_of, as_seen, values_of, all_values, own_value, operand, applied, is_computed, formula_value, arguments, first_cells, cell_of, cells_of, look}
 use Rattle.ds_eval.specs.Tally.{IsTally}
 
 count_listed : (fs : List Formula) → count (listed fs) ≡ length fs
@@ -37,62 +39,120 @@ above_most n m h = grind (arith, nat_tests)
 count_of_arguments : (xs : List Tree) → count (listed (map formula xs)) ≡ length xs
 count_of_arguments xs = count_listed (map formula xs) ∙ length_map formula xs
 
-pub too_many : (shape : Shape) (read : Cell → Value) (function : Function) (xs : List Tree) → 255 < length xs → formula_value shape read (Called function (listed (map formula xs))) ≡ Num
-too_many shape read function xs h = rw (count_of_arguments xs, above_most (length xs) 255 h) refl
+-- all functions are known
+knows_all : (g : Function) → knows all_functions g ≡ true
+unfolding knows
+knows_all functions.Sum = refl
+knows_all functions.Min = refl
+knows_all functions.Max = refl
+knows_all functions.Abs = refl
+knows_all functions.Mod = refl
+knows_all functions.Quotient = refl
+knows_all functions.If = refl
+knows_all functions.Count = refl
+knows_all functions.And = refl
+knows_all functions.Or = refl
+knows_all functions.Not = refl
 
-pub few : (shape : Shape) (read : Cell → Value) (function : Function) (xs : List Tree) → length xs ≤ 255
-    → formula_value shape read (Called function (listed (map formula xs))) ≡ applied function (all_values shape read (listed (map formula xs))) (own_values shape read (listed (map formula xs)))
-few shape read function xs h = rw (count_of_arguments xs, at_most (length xs) 255 h) refl
+both : (a b c : Bool) → a ≡ true → b ≡ true → c ≡ true → (a && (b && c)) ≡ true
+both a b c e f g = rw (e, f, g) refl
+
+no_second : (a b c : Bool) → b ≡ false → (a && (b && c)) ≡ false
+no_second true b c e = rw e refl
+no_second false b c e = refl
+
+no_third : (a b c : Bool) → c ≡ false → (a && (b && c)) ≡ false
+no_third true true c e = e
+no_third true false c e = refl
+no_third false b c e = refl
+
+both_true : (a b : Bool) → (a && b) ≡ true → (a ≡ true) × (b ≡ true)
+both_true true b e = (refl, e)
+both_true false b e = absurd cc
+
+at_least : (n m : ℕ) → leb n m ≡ true → n ≤ m
+at_least n m e = grind (arith, nat_tests)
+
+-- a function that takes no ranges takes three arguments at most
+pub few_taken : (g : Function) (n : ℕ) → takes_ranges g ≡ false → takes g n ≡ true → n ≤ 3
+few_taken functions.Sum n r t = absurd cc
+few_taken functions.Min n r t = absurd cc
+few_taken functions.Max n r t = absurd cc
+few_taken functions.Abs n r t = let l = at_least n 1 (both_true (leb 1 n) (leb n 1) t).1 in omega (arith, l)
+few_taken functions.Mod n r t = let l = at_least n 2 (both_true (leb 2 n) (leb n 2) t).1 in omega (arith, l)
+few_taken functions.Quotient n r t = let l = at_least n 2 (both_true (leb 2 n) (leb n 2) t).1 in omega (arith, l)
+few_taken functions.If n r t = let l = at_least n 3 (both_true (leb 2 n) (leb n 3) t).1 in omega (arith, l)
+few_taken functions.Count n r t = absurd cc
+few_taken functions.And n r t = absurd cc
+few_taken functions.Or n r t = absurd cc
+few_taken functions.Not n r t = let l = at_least n 1 (both_true (leb 1 n) (leb n 1) t).1 in omega (arith, l)
 
 module _ (shape : Shape) (read : Cell → Value) where
   abbrev own : Tree → Value
   own t = formula_value shape read (formula t)
 
-  abbrev call : Function → List Tree → Value
-  call function xs = formula_value shape read (Called function (listed (map formula xs)))
+  abbrev pub call : Function → List Tree → Value
+  call g xs = formula_value shape read (Called g (listed (map formula xs)))
 
-  pub wrong_abs : (xs : List Tree) → length xs ≤ 255 → (length xs ≡ 1 → ⊥) → call functions.Abs xs ≡ Num
-  wrong_abs [] h n = few shape read functions.Abs [] h
-  wrong_abs (x ∷ []) h n = absurd (n refl)
-  wrong_abs (x ∷ y ∷ xs) h n = few shape read functions.Abs (x ∷ y ∷ xs) h
+  abbrev pub given : Bool → List Tree → List Argument
+  given ranges xs = arguments shape read ranges (listed (map formula xs))
 
-  pub wrong_mod : (xs : List Tree) → length xs ≤ 255 → (length xs ≡ 2 → ⊥) → call functions.Mod xs ≡ Num
-  wrong_mod [] h n = few shape read functions.Mod [] h
-  wrong_mod (x ∷ []) h n = few shape read functions.Mod (x ∷ []) h
-  wrong_mod (x ∷ y ∷ []) h n = absurd (n refl)
-  wrong_mod (x ∷ y ∷ z ∷ xs) h n = few shape read functions.Mod (x ∷ y ∷ z ∷ xs) h
+  by_test : (g : Function) (xs : List Tree) (b : Bool) → is_computed all_functions g (count (listed (map formula xs))) ≡ b → call g xs ≡ (if b then applied g (given (takes_ranges g) xs) else Num)
+  by_test g xs b e = ap (λ (t : Bool). if t then applied g (given (takes_ranges g) xs) else Num) e
 
-  pub wrong_quotient : (xs : List Tree) → length xs ≤ 255 → (length xs ≡ 2 → ⊥) → call functions.Quotient xs ≡ Num
-  wrong_quotient [] h n = few shape read functions.Quotient [] h
-  wrong_quotient (x ∷ []) h n = few shape read functions.Quotient (x ∷ []) h
-  wrong_quotient (x ∷ y ∷ []) h n = absurd (n refl)
-  wrong_quotient (x ∷ y ∷ z ∷ xs) h n = few shape read functions.Quotient (x ∷ y ∷ z ∷ xs) h
+  -- a call that is computed
+  pub computed : (g : Function) (xs : List Tree) (b : Bool) → length xs ≤ 255 → takes g (length xs) ≡ true → takes_ranges g ≡ b → call g xs ≡ applied g (given b xs)
+  computed g xs b l t r =
+      by_test g xs true (both (knows all_functions g) _ _ (knows_all g) (ap (takes g) (count_of_arguments xs) ∙ t) (ap (λ (n : ℕ). leb n 255) (count_of_arguments xs) ∙ at_most (length xs) 255 l))
+      ∙ ap (λ (c : Bool). applied g (given c xs)) r
 
-  pub wrong_if : (xs : List Tree) → length xs ≤ 255 → (2 ≤ length xs → length xs ≤ 3 → ⊥) → call functions.If xs ≡ Num
-  wrong_if [] h n = few shape read functions.If [] h
-  wrong_if (x ∷ []) h n = few shape read functions.If (x ∷ []) h
-  wrong_if (x ∷ y ∷ []) h n = absurd (n (omega arith) (omega arith))
-  wrong_if (x ∷ y ∷ z ∷ []) h n = absurd (n (omega arith) (omega arith))
-  wrong_if (x ∷ y ∷ z ∷ w ∷ xs) h n = few shape read functions.If (x ∷ y ∷ z ∷ w ∷ xs) h
+  -- a call with more arguments than are computed, or with a number that the function does not take
+  pub too_many : (g : Function) (xs : List Tree) → 255 < length xs → call g xs ≡ Num
+  too_many g xs h = by_test g xs false (no_third (knows all_functions g) (takes g (count (listed (map formula xs)))) _ (ap (λ (n : ℕ). leb n 255) (count_of_arguments xs) ∙ above_most (length xs) 255 h))
 
-  -- a call, where its arguments' own values are known
-  pub by_own : (function : Function) (xs : List Tree) (vs : List Value) → length xs ≤ 255 → own_values shape read (listed (map formula xs)) ≡ vs
-      → call function xs ≡ applied function (all_values shape read (listed (map formula xs))) vs
-  by_own function xs vs l e = few shape read function xs l ∙ ap (λ (ws : List Value). applied function (all_values shape read (listed (map formula xs))) ws) e
+  pub not_taken : (g : Function) (xs : List Tree) → takes g (length xs) ≡ false → call g xs ≡ Num
+  not_taken g xs h = by_test g xs false (no_second (knows all_functions g) _ (leb (count (listed (map formula xs))) 255) (ap (takes g) (count_of_arguments xs) ∙ h))
 
-  -- ---- what the arguments stand for
+  -- ---- the value of one argument
 
-  all_push : (fs : List Formula) (f : Formula) → all_values shape read (listed (fs ++ f ∷ [])) ≡ all_values shape read (listed fs) ++ stands_for shape read f (formula_value shape read f)
-  all_push [] f = append-nil (stands_for shape read f (formula_value shape read f))
-  all_push (g ∷ fs) f =
-      ap (λ (vs : List Value). stands_for shape read g (formula_value shape read g) ++ vs) (all_push fs f)
-      ∙ sym (append_assoc (stands_for shape read g (formula_value shape read g)) (all_values shape read (listed fs)) (stands_for shape read f (formula_value shape read f)))
+  own_alone : (f : Formula) (v : Value) → own_value (argument_of false shape read f v) ≡ v
+  own_alone (Literal z) v = refl
+  own_alone (At c) v = refl
+  own_alone (Area a) v = refl
+  own_alone (Signed s f) v = refl
+  own_alone (Joined o f g) v = refl
+  own_alone (Called g fs) v = refl
 
-  pub all_more : (xs : List Tree) (i : ℕ) (x : Tree) → i < length xs → x ≡ get_or xs i x → all_values shape read (listed (map formula (take (i + 1) xs))) ≡ all_values shape read (listed (map formula (take i xs))) ++ stands_for shape read (formula x) (own x)
-  all_more xs i x h e =
-      ap (λ (ts : List Tree). all_values shape read (listed (map formula ts))) (take_more xs i x h ∙ ap (λ (y : Tree). take i xs ++ y ∷ []) (sym e))
-      ∙ ap (λ (fs : List Formula). all_values shape read (listed fs)) (map-append formula (take i xs) (x ∷ []))
-      ∙ all_push (map formula (take i xs)) (formula x)
+  pub operand_at : (xs : List Tree) (k : ℕ) (x : Tree) → k < length xs → x ≡ get_or xs k x → own x ≡ operand k (given false xs)
+  operand_at [] k x h e = absurd (omega (arith, h))
+  operand_at (y ∷ ys) zero x h e = ap own e ∙ sym (own_alone (formula y) (own y))
+  operand_at (y ∷ ys) (suc k) x h e = operand_at ys k x (omega (arith, h)) e
+
+  pub operand_past : (xs : List Tree) (k : ℕ) → length xs ≤ k → operand k (given false xs) ≡ Number (pos 0)
+  operand_past [] k h = refl
+  operand_past (y ∷ ys) zero h = absurd (omega (arith, h))
+  operand_past (y ∷ ys) (suc k) h = operand_past ys k (omega (arith, h))
+
+  -- ---- the values of all arguments
+
+  module _ (errors : CellErrors) where
+    abbrev stands_for : Formula → List Value
+    stands_for f = values_of errors (argument_of true shape read f (formula_value shape read f))
+
+    abbrev pub values : List Tree → List Value
+    values xs = all_values errors (given true xs)
+
+    all_push : (fs : List Formula) (f : Formula) → all_values errors (arguments shape read true (listed (fs ++ f ∷ []))) ≡ all_values errors (arguments shape read true (listed fs)) ++ stands_for f
+    all_push [] f = append-nil (stands_for f)
+    all_push (g ∷ fs) f =
+        ap (λ (vs : List Value). stands_for g ++ vs) (all_push fs f)
+        ∙ sym (append_assoc (stands_for g) (all_values errors (arguments shape read true (listed fs))) (stands_for f))
+
+    pub all_more : (xs : List Tree) (i : ℕ) (x : Tree) → i < length xs → x ≡ get_or xs i x → values (take (i + 1) xs) ≡ values (take i xs) ++ stands_for (formula x)
+    all_more xs i x h e =
+        ap (λ (ts : List Tree). values ts) (take_more xs i x h ∙ ap (λ (y : Tree). take i xs ++ y ∷ []) (sym e))
+        ∙ ap (λ (fs : List Formula). all_values errors (arguments shape read true (listed fs))) (map-append formula (take i xs) (x ∷ []))
+        ∙ all_push (map formula (take i xs)) (formula x)
 
 -- the cells of a range, one more
 pub cells_more : (read : Cell → Value) (vs : List Value) (area : Rect) (columns k : ℕ)
@@ -102,21 +162,28 @@ cells_more read vs area columns k =
     ∙ ap (λ (ws : List Value). vs ++ ws) (sym (map-append read (first_cells area columns k) (cell_of area columns k ∷ [])))
     ∙ ap (λ (n : ℕ). vs ++ map read (first_cells area columns n)) (let e : suc k ≡ k + 1 = omega arith in e)
 
-module _ (shape : Shape) (read : Cell → Value) where
+map_twice : (f : Cell → Value) (g : Value → Value) (cs : List Cell) → map (λ c. g (f c)) cs ≡ map g (map f cs)
+map_twice f g [] = refl
+map_twice f g (c ∷ cs) = ap (λ (vs : List Value). g (f c) ∷ vs) (map_twice f g cs)
+
+module _ (shape : Shape) (read : Cell → Value) (errors : CellErrors) where
   -- the values of an argument, by what it is
+  abbrev value_list : Formula → List Value
+  value_list f = values_of errors (argument_of true shape read f (formula_value shape read f))
+
   abbrev stands : Tree → List Value
-  stands x = stands_for shape read (formula x) (formula_value shape read (formula x))
+  stands x = value_list (formula x)
 
-  stands_as : (x : Tree) (f : Formula) → formula x ≡ f → stands x ≡ stands_for shape read f (formula_value shape read f)
-  stands_as x f e = ap (λ (g : Formula). stands_for shape read g (formula_value shape read g)) e
+  stands_as : (x : Tree) (f : Formula) → formula x ≡ f → stands x ≡ value_list f
+  stands_as x f e = ap (λ (g : Formula). value_list g) e
 
-  pub stands_cell : (x : Tree) (c : Cell) → x ≡ trees.Reference c → look shape read c ∷ [] ≡ stands x
+  pub stands_cell : (x : Tree) (c : Cell) → x ≡ trees.Reference c → as_seen errors (look shape read c) ∷ [] ≡ stands x
   stands_cell x c e = sym (stands_as x (At c) (ap formula e ∙ formula_reference c))
 
-  pub stands_range : (x : Tree) (r : Rect) → x ≡ trees.Range r → map read (cells_of shape r) ≡ stands x
-  stands_range x r e = sym (stands_as x (Area r) (ap formula e ∙ formula_range r))
+  pub stands_range : (x : Tree) (r : Rect) → x ≡ trees.Range r → map (λ c. as_seen errors (read c)) (cells_of shape r) ≡ stands x
+  stands_range x r e = map_twice read (as_seen errors) (cells_of shape r) ∙ sym (stands_as x (Area r) (ap formula e ∙ formula_range r))
 
-  stands_itself : (x : Tree) (f : Formula) → formula x ≡ f → stands_for shape read f (formula_value shape read f) ≡ formula_value shape read f ∷ [] → formula_value shape read (formula x) ∷ [] ≡ stands x
+  stands_itself : (x : Tree) (f : Formula) → formula x ≡ f → value_list f ≡ formula_value shape read f ∷ [] → formula_value shape read (formula x) ∷ [] ≡ stands x
   stands_itself x f e h = ap (λ (g : Formula). formula_value shape read g ∷ []) e ∙ sym h ∙ sym (stands_as x f e)
 
   pub stands_number : (x : Tree) (n : ℤ) → x ≡ trees.Number n → formula_value shape read (formula x) ∷ [] ≡ stands x
@@ -133,7 +200,7 @@ module _ (shape : Shape) (read : Cell → Value) where
 
   pub gathered : (xs : List Tree) (i : ℕ) (x : Tree) (t u m : Tally) (ws : List Value) → i < length xs → x ≡ get_or xs i x → m ≡ u
       → ((vs : List Value) → IsTally vs t → IsTally (vs ++ ws) u) → ws ≡ stands x
-      → IsTally (all_values shape read (listed (map formula (take i xs)))) t → IsTally (all_values shape read (listed (map formula (take (i + 1) xs)))) m
+      → IsTally (values shape read errors (take i xs)) t → IsTally (values shape read errors (take (i + 1) xs)) m
   gathered xs i x t u m ws h e p f q b =
-      rw (all_more shape read xs i x h e) (subst (λ (y : Tally). IsTally (all_values shape read (listed (map formula (take i xs))) ++ stands x) y) (sym p)
-      (subst (λ (zs : List Value). IsTally (all_values shape read (listed (map formula (take i xs))) ++ zs) u) q (f _ b)))
+      rw (all_more shape read errors xs i x h e) (subst (λ (y : Tally). IsTally (values shape read errors (take i xs) ++ stands x) y) (sym p)
+      (subst (λ (zs : List Value). IsTally (values shape read errors (take i xs) ++ zs) u) q (f _ b)))

@@ -1,5 +1,5 @@
 -- Heights, one cell or one argument at a time.
-use Rattle.std.proofs.Common.{◌≡◌, ℕ, suc, ◌+◌, ◌≤◌, ◌<◌, min, max, List, [], ◌∷◌, ◌++◌, map, length, get_or, take, sym, ap, ◌∙◌, arith}
+use Rattle.std.proofs.Common.{◌≡◌, ℕ, zero, suc, ◌+◌, ◌≤◌, ◌<◌, min, max, List, [], ◌∷◌, ◌++◌, map, length, get_or, take, refl, sym, ap, ◌∙◌, arith}
 use Rattle.std.specs.Global.{Vec}
 use Rattle.std.proofs.lemmas.List.{map-append, take_more, take_all}
 use Rattle.ds_formula.specs.declared.cells.Shape.{Shape}
@@ -11,6 +11,7 @@ use Rattle.ds_formula.specs.declared.content.Tree.TheVariants as trees
 use Rattle.ds_formula.specs.Plain.{Formula, formula, listed}
 use Rattle.ds_eval.specs.Evaluation.{first_cells, cell_of}
 use Rattle.ds_eval.specs.Local.{above, formula_height, formulas_height}
+use Rattle.ds_eval.specs.Operands.{operand_height}
 use Rattle.ds_eval.proofs.Views.{formula_call}
 
 pub above_push : (hs : List ℕ) (h : ℕ) → above (hs ++ h ∷ []) ≡ max (above hs) (suc h)
@@ -48,3 +49,23 @@ module _ (shape : Shape) (heights : Cell → ℕ) where
   formulas_done most g t function v i e h p =
       p ∙ ap (λ (ts : List Tree). min most (formulas_height shape heights (listed (map formula ts)))) (take_all i v.items h)
       ∙ ap (λ (f : Formula). min most (formula_height shape heights f)) (sym (ap formula e ∙ formula_call function v))
+
+  -- ---- up to three arguments
+
+  pub operand_height_at : (xs : List Tree) (k : ℕ) (x : Tree) → k < length xs → x ≡ get_or xs k x → formula_height shape heights (formula x) ≡ operand_height shape heights k (listed (map formula xs))
+  operand_height_at [] k x h e = absurd (omega (arith, h))
+  operand_height_at (y ∷ ys) zero x h e = ap (λ (t : Tree). formula_height shape heights (formula t)) e
+  operand_height_at (y ∷ ys) (suc k) x h e = operand_height_at ys k x (omega (arith, h)) e
+
+  pub operand_height_past : (xs : List Tree) (k : ℕ) → length xs ≤ k → operand_height shape heights k (listed (map formula xs)) ≡ 0
+  operand_height_past [] k h = refl
+  operand_height_past (y ∷ ys) zero h = absurd (omega (arith, h))
+  operand_height_past (y ∷ ys) (suc k) h = operand_height_past ys k (omega (arith, h))
+
+  pub three_heights : (xs : List Tree) → length xs ≤ 3
+      → formulas_height shape heights (listed (map formula xs)) ≡ max (operand_height shape heights 0 (listed (map formula xs))) (max (operand_height shape heights 1 (listed (map formula xs))) (operand_height shape heights 2 (listed (map formula xs))))
+  three_heights [] h = refl
+  three_heights (x ∷ []) h = omega arith
+  three_heights (x ∷ y ∷ []) h = omega arith
+  three_heights (x ∷ y ∷ z ∷ []) h = omega arith
+  three_heights (x ∷ y ∷ z ∷ w ∷ ws) h = absurd (omega (arith, h))

@@ -1,5 +1,5 @@
 -- Heights and values rest on the cells of the sheet that are written in a content, and on nothing else.
-use Rattle.std.proofs.Common.{◌≡◌, ℕ, zero, suc, ◌*◌, ◌<◌, ◌≤◌, min, max, Bool, true, false, leb, ◌==◌, if◌then◌else◌, List, [], ◌∷◌, ◌++◌, map, refl, sym, ap, subst, ◌∙◌, inl, inr, arith}
+use Rattle.std.proofs.Common.{◌≡◌, ℕ, zero, suc, ◌*◌, ◌<◌, ◌≤◌, min, max, Bool, true, false, ◌==◌, if◌then◌else◌, List, [], ◌∷◌, ◌++◌, map, refl, sym, ap, subst, ◌∙◌, inl, inr, arith}
 use Rattle.std.proofs.lemmas.Bool.{cases_lt}
 use Rattle.std.proofs.lemmas.List.{map-append}
 use Rattle.ds_formula.specs.declared.cells.Shape.{Shape}
@@ -12,7 +12,8 @@ use Rattle.ds_eval.specs.declared.value.Value.{Value}
 use Rattle.ds_eval.specs.declared.value.Value.TheVariants.{Blank, Num, Number, Circular}
 use Rattle.ds_eval.specs.declared.inputs.Entry.{Entry}
 use Rattle.ds_eval.specs.Numbers.{with_number, with_numbers, signed, joined}
-use Rattle.ds_eval.specs.Evaluation.{is_inside, width, height, cell_of, first_cells, stands_for, applied, most_arguments, formula_value, own_values, all_values, content_value}
+use Rattle.ds_formula.specs.Functions.{all_functions, takes_ranges}
+use Rattle.ds_eval.specs.Evaluation.{is_inside, width, height, cell_of, first_cells, Argument, Own, Cells, argument_of, applied, is_computed, formula_value, arguments, content_value}
 use Rattle.ds_eval.specs.Local.{above, reference_height, formula_height, formulas_height, content_height, entry_at, local, value_of, height_of}
 use Rattle.ds_eval.proofs.Heights.{above_push}
 use Rattle.ds_eval.proofs.Ranges.{inside_from, inside_is, within_range, number_in}
@@ -114,13 +115,15 @@ module _ (shape : Shape) where
   look_on r s c true e h = h (inside_from shape c e)
   look_on r s c false e h = refl
 
-  stands_on : (r s : Cell → Value) (f : Formula) (v w : Value) → v ≡ w → ((d : Cell) → Mentions f d → IsInside shape d → r d ≡ s d) → stands_for shape r f v ≡ stands_for shape s f w
-  stands_on r s (Literal z) v w e h = ap (λ (x : Value). x ∷ []) e
-  stands_on r s (At c) v w e h = ap (λ (x : Value). x ∷ []) (look_on r s c (is_inside shape c) refl (h c refl))
-  stands_on r s (Area a) v w e h = range_on r s a (width shape a * height shape a) (omega arith) h
-  stands_on r s (Signed t f) v w e h = ap (λ (x : Value). x ∷ []) e
-  stands_on r s (Joined o f g) v w e h = ap (λ (x : Value). x ∷ []) e
-  stands_on r s (Called g fs) v w e h = ap (λ (x : Value). x ∷ []) e
+  argument_on : (r s : Cell → Value) (b : Bool) (f : Formula) (v w : Value) → v ≡ w → ((d : Cell) → Mentions f d → IsInside shape d → r d ≡ s d) → argument_of b shape r f v ≡ argument_of b shape s f w
+  argument_on r s b (Literal z) v w e h = ap Own e
+  argument_on r s true (At c) v w e h = ap (λ (x : Value). Cells (x ∷ [])) (look_on r s c (is_inside shape c) refl (h c refl))
+  argument_on r s false (At c) v w e h = ap Own e
+  argument_on r s true (Area a) v w e h = ap Cells (range_on r s a (width shape a * height shape a) (omega arith) h)
+  argument_on r s false (Area a) v w e h = ap Own e
+  argument_on r s b (Signed t f) v w e h = ap Own e
+  argument_on r s b (Joined o f g) v w e h = ap Own e
+  argument_on r s b (Called g fs) v w e h = ap Own e
 
   mutual
     formula_on : (r s : Cell → Value) (f : Formula) → ((d : Cell) → Mentions f d → IsInside shape d → r d ≡ s d) → formula_value shape r f ≡ formula_value shape s f
@@ -131,21 +134,13 @@ module _ (shape : Shape) where
     formula_on r s (Joined o f g) h =
         ap (λ (x : Value). with_numbers x (formula_value shape r g) (joined o)) (formula_on r s f (λ d m. h d (inl m)))
         ∙ ap (λ (x : Value). with_numbers (formula_value shape s f) x (joined o)) (formula_on r s g (λ d m. h d (inr m)))
-    formula_on r s (Called g fs) h =
-        ap (λ (xs : List Value). if leb (count fs) most_arguments then applied g xs (own_values shape r fs) else Num) (all_on r s fs h)
-        ∙ ap (λ (xs : List Value). if leb (count fs) most_arguments then applied g (all_values shape s fs) xs else Num) (own_on r s fs h)
+    formula_on r s (Called g fs) h = ap (λ (xs : List Argument). if is_computed all_functions g (count fs) then applied g xs else Num) (arguments_on r s (takes_ranges g) fs h)
 
-    own_on : (r s : Cell → Value) (fs : Formulas) → ((d : Cell) → SomeMentions fs d → IsInside shape d → r d ≡ s d) → own_values shape r fs ≡ own_values shape s fs
-    own_on r s Nothing h = refl
-    own_on r s (Then f fs) h =
-        ap (λ (x : Value). x ∷ own_values shape r fs) (formula_on r s f (λ d m. h d (inl m)))
-        ∙ ap (λ (xs : List Value). formula_value shape s f ∷ xs) (own_on r s fs (λ d m. h d (inr m)))
-
-    all_on : (r s : Cell → Value) (fs : Formulas) → ((d : Cell) → SomeMentions fs d → IsInside shape d → r d ≡ s d) → all_values shape r fs ≡ all_values shape s fs
-    all_on r s Nothing h = refl
-    all_on r s (Then f fs) h =
-        ap (λ (xs : List Value). xs ++ all_values shape r fs) (stands_on r s f (formula_value shape r f) (formula_value shape s f) (formula_on r s f (λ d m. h d (inl m))) (λ d m. h d (inl m)))
-        ∙ ap (λ (xs : List Value). stands_for shape s f (formula_value shape s f) ++ xs) (all_on r s fs (λ d m. h d (inr m)))
+    arguments_on : (r s : Cell → Value) (b : Bool) (fs : Formulas) → ((d : Cell) → SomeMentions fs d → IsInside shape d → r d ≡ s d) → arguments shape r b fs ≡ arguments shape s b fs
+    arguments_on r s b Nothing h = refl
+    arguments_on r s b (Then f fs) h =
+        ap (λ (x : Argument). x ∷ arguments shape r b fs) (argument_on r s b f (formula_value shape r f) (formula_value shape s f) (formula_on r s f (λ d m. h d (inl m))) (λ d m. h d (inl m)))
+        ∙ ap (λ (xs : List Argument). argument_of b shape s f (formula_value shape s f) ∷ xs) (arguments_on r s b fs (λ d m. h d (inr m)))
 
   pub value_on : (r s : Cell → Value) (p : PlainContent) → ((d : Cell) → Refers p d → IsInside shape d → r d ≡ s d) → content_value shape r p ≡ content_value shape s p
   value_on r s Empty h = refl

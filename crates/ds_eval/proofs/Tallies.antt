@@ -1,14 +1,15 @@
 -- One more value in a tally.
-use Rattle.std.proofs.Common.{◌≡◌, ◌⊎◌, inl, inr, ℕ, ◌+◌, ◌-◌, ◌^◌, ◌<◌, ℤ, pos, negsuc, ◌+ℤ◌, true, false, List, [], ◌∷◌, ◌++◌, length, Option, Some, None, refl, sym, ap, subst, ◌∙◌, arith, length-append}
+use Rattle.std.proofs.Common.{◌≡◌, ◌⊎◌, inl, inr, ℕ, suc, ◌+◌, ◌-◌, ◌^◌, ◌<◌, ◌≤◌, ◌==◌, nat_lt, ℤ, pos, negsuc, ◌+ℤ◌, int_eq, Bool, true, false, not, ◌&&◌, ◌||◌, if◌then◌else◌, List, [], ◌∷◌, ◌++◌, length, Option, Some, None, refl, sym, ap, subst, ◌∙◌, arith, length-append}
 use Rattle.std.specs.Int.{int_min, int_max}
 use Rattle.std.specs.Option.{is_some}
 use Rattle.std.proofs.lemmas.List.Sums.{fold_push}
+use Rattle.std.proofs.lemmas.Bool.Decides.{nat_tests}
 use Rattle.ds_eval.specs.declared.value.Value.{Value}
 use Rattle.ds_eval.specs.declared.value.Value.TheVariants.{Blank, Number, DivZero, Num, Circular}
 use Rattle.ds_eval.specs.declared.tally.Totals.{Totals}
 use Rattle.ds_eval.specs.declared.tally.Tally.{Tally}
-use Rattle.ds_eval.specs.Numbers.{numbers, first_error, least, greatest}
-use Rattle.ds_eval.specs.Tally.{AreTotals, AreCounted, IsTally}
+use Rattle.ds_eval.specs.Numbers.{numbers, first_error, error_or, with_all, least, greatest, truth, all_true, some_true}
+use Rattle.ds_eval.specs.Tally.{zeros, AreTotals, AreCounted, IsTally}
 
 -- the first error, where there is one, else the second
 abbrev first_or : Option Value → Option Value → Option Value
@@ -68,12 +69,46 @@ greatest_more : (ns : List ℤ) (z x y : ℤ) → NoLess z → (length ns ≡ 0 
 greatest_more [] z x y f none some e = e ∙ ap (λ (w : ℤ). int_max w z) (none refl) ∙ f
 greatest_more (n ∷ ns) z x y f none some e = e ∙ ap (λ (w : ℤ). int_max w z) (some (omega arith)) ∙ sym (greatest_push (n ∷ ns) z (omega arith))
 
+-- ---- zeros
+
+zeros_push : (ns : List ℤ) (z : ℤ) → zeros (ns ++ z ∷ []) ≡ zeros ns + (if int_eq z (pos 0) then 1 else 0)
+zeros_push [] z = omega arith
+zeros_push (n ∷ ns) z = let k = zeros_push ns z in omega (arith, k)
+
+one_at_most : (b : Bool) → (if b then 1 else 0) ≤ 1
+one_at_most true = omega arith
+one_at_most false = omega arith
+
+zeros_few : (ns : List ℤ) → zeros ns ≤ length ns
+zeros_few [] = omega arith
+zeros_few (n ∷ ns) = let k = zeros_few ns in let o = one_at_most (int_eq n (pos 0)) in omega (arith, k, o)
+
+no_zero_more : (b : Bool) (k : ℕ) (t : Bool) → (k == 0) ≡ t → (((if b then 1 else 0) + k) == 0) ≡ (not b && t)
+no_zero_more true k t e = grind (arith, nat_tests)
+no_zero_more false k t e = ap (λ (n : ℕ). n == 0) (let z : 0 + k ≡ k = omega arith in z) ∙ e
+
+fewer_more : (b : Bool) (k n : ℕ) (t : Bool) → nat_lt k n ≡ t → k ≤ n → nat_lt ((if b then 1 else 0) + k) (suc n) ≡ (not b || t)
+fewer_more true k n true e l = grind (arith, nat_tests)
+fewer_more true k n false e l = grind (arith, nat_tests)
+fewer_more false k n t e l = grind (arith, nat_tests)
+
+-- no number is 0 just where all hold
+pub no_zeros : (ns : List ℤ) → (zeros ns == 0) ≡ all_true ns
+no_zeros [] = refl
+no_zeros (n ∷ ns) = no_zero_more (int_eq n (pos 0)) (zeros ns) (all_true ns) (no_zeros ns)
+
+-- fewer zeros than numbers are there just where some number holds
+pub fewer_zeros : (ns : List ℤ) → nat_lt (zeros ns) (length ns) ≡ some_true ns
+fewer_zeros [] = refl
+fewer_zeros (n ∷ ns) = fewer_more (int_eq n (pos 0)) (zeros ns) (length ns) (some_true ns) (fewer_zeros ns) (zeros_few ns)
+
 -- ---- one more value
 
-totals_more : (ns : List ℤ) (z : ℤ) (t u : Totals) → NoGreater z → NoLess z → u.count ≡ t.count + 1 → u.sum ≡ t.sum +ℤ z → u.least ≡ int_min t.least z → u.greatest ≡ int_max t.greatest z
+totals_more : (ns : List ℤ) (z : ℤ) (t u : Totals) → NoGreater z → NoLess z → u.count ≡ t.count + 1 → u.zeros ≡ t.zeros + (if int_eq z (pos 0) then 1 else 0) → u.sum ≡ t.sum +ℤ z → u.least ≡ int_min t.least z → u.greatest ≡ int_max t.greatest z
     → AreTotals ns t → AreTotals (ns ++ z ∷ []) u
-totals_more ns z t u f g a b c d h = record {
+totals_more ns z t u f g a o b c d h = record {
   count = a ∙ ap (λ (n : ℕ). n + 1) h.count ∙ sym (length-append ns (z ∷ []));
+  zeros = o ∙ ap (λ (n : ℕ). n + (if int_eq z (pos 0) then 1 else 0)) h.zeros ∙ sym (zeros_push ns z);
   sum = b ∙ ap (λ (x : ℤ). x +ℤ z) h.sum ∙ sym (fold_push ◌+ℤ◌ (pos 0) ns z);
   least = λ _. least_more ns z t.least u.least f h.no_least h.least c;
   greatest = λ _. greatest_more ns z t.greatest u.greatest g h.no_greatest h.greatest d;
@@ -88,6 +123,7 @@ pub record IsMore (z : ℤ) (t u : Totals) : Type 0 where
   pub no_greater : NoGreater y
   pub no_less : NoLess y
   pub count : u.count ≡ t.count + 1
+  pub zeros : u.zeros ≡ t.zeros + (if int_eq y (pos 0) then 1 else 0)
   pub sum : u.sum ≡ t.sum +ℤ y
   pub least : u.least ≡ int_min t.least y
   pub greatest : u.greatest ≡ int_max t.greatest y
@@ -96,7 +132,7 @@ number_totals : (vs : List Value) (z : ℤ) (t u : Totals) → IsMore z t u → 
 number_totals vs z t u m h =
     let ns = numbers vs in
     let more : AreTotals (ns ++ z ∷ []) u =
-    subst (λ (x : ℤ). AreTotals (ns ++ x ∷ []) u) m.same (totals_more ns m.y t u m.no_greater m.no_less m.count m.sum m.least m.greatest h) in
+    subst (λ (x : ℤ). AreTotals (ns ++ x ∷ []) u) m.same (totals_more ns m.y t u m.no_greater m.no_less m.count m.zeros m.sum m.least m.greatest h) in
     subst (λ (xs : List ℤ). AreTotals xs u) (sym (numbers_push vs z)) more
 
 blank_totals : (vs : List Value) (t : Totals) → AreTotals (numbers vs) t → AreTotals (numbers (vs ++ Blank ∷ [])) t
@@ -193,3 +229,18 @@ is_error Blank (inr (inr e)) = absurd cc
 is_error (Number z) (inl e) = absurd cc
 is_error (Number z) (inr (inl e)) = absurd cc
 is_error (Number z) (inr (inr e)) = absurd cc
+
+-- ---- what a tally says of its numbers
+
+from_totals : (vs : List Value) (t : Tally) (f : List ℤ → Value) (v : Value) → t.error ≡ None → IsTally vs t → (AreTotals (numbers vs) t.totals → v ≡ f (numbers vs)) → v ≡ with_all vs f
+from_totals vs t f v e h g =
+    let none : first_error vs ≡ None = sym h.error ∙ e in
+    g (h.totals none) ∙ ap (λ (o : Option Value). error_or o (f (numbers vs))) (sym none)
+
+pub all_told : (vs : List Value) (t : Tally) (v : Value) → t.error ≡ None → v ≡ truth (t.totals.zeros == 0) → IsTally vs t → v ≡ with_all vs (λ ns. truth (all_true ns))
+all_told vs t v e is h = from_totals vs t (λ ns. truth (all_true ns)) v e h (λ a. is ∙ ap (λ (n : ℕ). truth (n == 0)) a.zeros ∙ ap truth (no_zeros (numbers vs)))
+
+pub some_told : (vs : List Value) (t : Tally) (v : Value) → t.error ≡ None → v ≡ truth (nat_lt t.totals.zeros t.totals.count) → IsTally vs t → v ≡ with_all vs (λ ns. truth (some_true ns))
+some_told vs t v e is h =
+    from_totals vs t (λ ns. truth (some_true ns)) v e h
+    (λ a. is ∙ ap (λ (n : ℕ). truth (nat_lt n t.totals.count)) a.zeros ∙ ap (λ (n : ℕ). truth (nat_lt (zeros (numbers vs)) n)) a.count ∙ ap truth (fewer_zeros (numbers vs)))

@@ -81,6 +81,10 @@ function_number functions.Abs = 3
 function_number functions.Mod = 4
 function_number functions.Quotient = 5
 function_number functions.If = 6
+function_number functions.Count = 7
+function_number functions.And = 8
+function_number functions.Or = 9
+function_number functions.Not = 10
 
 -- the function with the number
 abbrev pub function_of : ℕ → Function
@@ -90,7 +94,11 @@ function_of (suc (suc zero)) = functions.Max
 function_of (suc (suc (suc zero))) = functions.Abs
 function_of (suc (suc (suc (suc zero)))) = functions.Mod
 function_of (suc (suc (suc (suc (suc zero))))) = functions.Quotient
-function_of other = functions.If
+function_of (suc (suc (suc (suc (suc (suc zero)))))) = functions.If
+function_of (suc (suc (suc (suc (suc (suc (suc zero))))))) = functions.Count
+function_of (suc (suc (suc (suc (suc (suc (suc (suc zero)))))))) = functions.And
+function_of (suc (suc (suc (suc (suc (suc (suc (suc (suc zero))))))))) = functions.Or
+function_of other = functions.Not
 
 -- a function's number leads back to it
 pub function_back : (x : Function) → function_of (function_number x) ≡ x
@@ -101,6 +109,10 @@ function_back functions.Abs = refl
 function_back functions.Mod = refl
 function_back functions.Quotient = refl
 function_back functions.If = refl
+function_back functions.Count = refl
+function_back functions.And = refl
+function_back functions.Or = refl
+function_back functions.Not = refl
 
 -- what marks were built into so far: a formula, or arguments
 pub data Part : Type 0 where

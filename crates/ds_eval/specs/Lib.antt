@@ -3,6 +3,7 @@ pub mod Evaluation
 pub mod Scratch
 pub mod Local
 pub mod Inputs
+pub mod Operands
 pub mod Rows
 pub mod Tally
 pub mod CodeSteps

@@ -1,5 +1,5 @@
 -- Values, and exact arithmetic on them.
-use Rattle.std.specs.Prelude.{ℕ, suc, ◌/◌, ◌^◌, ℤ, pos, negsuc, ◌+ℤ◌, ◌-ℤ◌, ◌*ℤ◌, neg_ℤ, int_div, int_lt, Bool, not, nat_lt, if◌then◌else◌, codes, List, [], ◌∷◌, fold, Option, Some, None}
+use Rattle.std.specs.Prelude.{ℕ, suc, ◌/◌, ◌^◌, ℤ, pos, negsuc, ◌+ℤ◌, ◌-ℤ◌, ◌*ℤ◌, neg_ℤ, int_div, int_lt, Bool, true, false, not, ◌&&◌, ◌||◌, nat_lt, if◌then◌else◌, codes, List, [], ◌∷◌, fold, Option, Some, None}
 use Rattle.std.specs.Ordering.{int_eq}
 use Rattle.std.specs.Int.{int_min, int_max}
 use Rattle.std.specs.Fmt.{signed_decimal}
@@ -92,6 +92,24 @@ least (n ∷ ns) = fold int_min n ns
 abbrev pub greatest : List ℤ → ℤ
 greatest [] = pos 0
 greatest (n ∷ ns) = fold int_max n ns
+
+-- a number as a condition: it holds where it is not 0
+abbrev pub is_true : ℤ → Bool
+is_true z = not (int_eq z (pos 0))
+
+-- AND (OpenFormula 6.15.2): whether no number is 0, also where there is none
+abbrev pub all_true : List ℤ → Bool
+all_true [] = true
+all_true (n ∷ ns) = is_true n && all_true ns
+
+-- OR (OpenFormula 6.15.8): whether some number is not 0
+abbrev pub some_true : List ℤ → Bool
+some_true [] = false
+some_true (n ∷ ns) = is_true n || some_true ns
+
+-- NOT (OpenFormula 6.15.7): 1 for 0, else 0
+abbrev pub negated : ℤ → Value
+negated a = truth (int_eq a (pos 0))
 
 -- ---- values as numbers, and the first error
 

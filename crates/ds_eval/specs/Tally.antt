@@ -1,14 +1,21 @@
 -- What is kept of many values while they are gone through.
-use Rattle.std.specs.Prelude.{◌≡◌, ◌-◌, ◌^◌, ◌<◌, ℤ, pos, negsuc, List, length, None}
+use Rattle.std.specs.Prelude.{◌≡◌, ℕ, ◌+◌, ◌-◌, ◌^◌, ◌<◌, ℤ, pos, negsuc, List, [], ◌∷◌, length, None, if◌then◌else◌}
+use Rattle.std.specs.Ordering.{int_eq}
 use Rattle.ds_eval.specs.declared.value.Value.{Value}
 use Rattle.ds_eval.specs.declared.tally.Totals.{Totals}
 use Rattle.ds_eval.specs.declared.tally.Tally.{Tally}
 use Rattle.ds_eval.specs.Numbers.{numbers, first_error, total, least, greatest}
 
--- there are so many numbers, with this sum, and with this least and greatest one; where there are none, these are the
+-- how many of the numbers are 0
+abbrev pub zeros : List ℤ → ℕ
+zeros [] = 0
+zeros (n ∷ ns) = (if int_eq n (pos 0) then 1 else 0) + zeros ns
+
+-- there are so many numbers, with so many zeros, with this sum, and with this least and greatest one; where there are none, these are the
 -- greatest and the least that a number could be
 pub record AreTotals (ns : List ℤ) (totals : Totals) : Type 0 where
   pub count : totals.count ≡ length ns
+  pub zeros : totals.zeros ≡ zeros ns
   pub sum : totals.sum ≡ total ns
   pub least : 0 < length ns → totals.least ≡ least ns
   pub greatest : 0 < length ns → totals.greatest ≡ greatest ns

@@ -18,8 +18,8 @@ fn exact(outcome: Option<i64>) -> Value
     }
 }
 
-// What a comparison gives: 1 or 0.
-fn truth(is_true: bool) -> Value
+/// What a comparison gives: 1 or 0.
+pub fn truth(is_true: bool) -> Value
     ensures { result ≡ exact.truth is_true }
 {
     Value::Number(if is_true { 1 } else { 0 })
@@ -93,6 +93,22 @@ pub fn absolute(value: Value) -> Value
 {
     match as_number(value) {
         Ok(number) => exact(number.checked_abs()),
+        Err(error) => error,
+    }
+}
+
+fn negated_number(number: i64) -> Value
+    ensures { result ≡ exact.negated number }
+{
+    truth(number == 0)
+}
+
+/// NOT (OpenFormula 6.15.7): 1 for 0, else 0.
+pub fn negated(value: Value) -> Value
+    ensures { result ≡ exact.with_number value exact.negated }
+{
+    match as_number(value) {
+        Ok(number) => negated_number(number),
         Err(error) => error,
     }
 }

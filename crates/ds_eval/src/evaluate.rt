@@ -2,17 +2,22 @@
 //!
 //! Both are found in one pass. Where references lead round and round, at the height of all cells, no value is claimed.
 
-ghost use Rattle.std.specs.Prelude.{◌≡◌, ◌<◌, ◌≤◌, [], ◌∷◌, length, map, min};
+ghost use Rattle.std.specs.Prelude.{◌≡◌, ◌<◌, ◌≤◌, true, false, List, length, map, min};
 ghost use Rattle.ds_formula.specs.Cells.{count_of};
 ghost use Rattle.ds_formula.specs.Plain.{formula, listed, Called};
 ghost use Rattle.ds_eval.specs.Evaluation as spec;
 ghost use Rattle.ds_eval.specs.Inputs.{values_in, heights_in};
 ghost use Rattle.ds_eval.specs.Local as heights;
+ghost use Rattle.ds_formula.specs.Functions.{takes_ranges};
 ghost use Rattle.ds_eval.specs.Tally.{IsTally};
+ghost use Rattle.ds_eval.specs.Operands.{errors_of, operand_height, AreOperands};
 
-use crate::arithmetic::{absolute, choice, joined, modulo, never_blank, quotient, signed};
+use crate::arithmetic::{
+    absolute, choice, joined, modulo, negated, never_blank, quotient, signed,
+};
 use crate::gather::{Gathered, raised, with_range};
 use crate::inputs::{Entry, Inputs};
+use crate::tally::{CellErrors, Tally};
 use crate::value::Value;
 use ds_formula::cells::{Cell, Shape};
 use ds_formula::content::{Function, Tree};
@@ -58,7 +63,7 @@ pub fn evaluate(tree: &Tree, shape: Shape, inputs: &Inputs) -> Entry
         }
         Tree::Range(area) => Entry {
             value: Value::Num,
-            height: with_range(shape, inputs, *area, Gathered::new()).height,
+            height: with_range(shape, inputs, CellErrors::Heeded, *area, Gathered::new()).height,
         },
         Tree::Prefix(sign, operand) => {
             let entry = evaluate(operand, shape, inputs);
@@ -82,42 +87,103 @@ pub fn evaluate(tree: &Tree, shape: Shape, inputs: &Inputs) -> Entry
 // How many arguments are looked at. No reader gives as many: it bounds the sums.
 const ARGUMENTS_MOST: usize = 255;
 
-// The value of a function. What the reader of formulas never gives has some value all the same: a wrong number of
-// arguments of ABS, MOD, QUOTIENT or IF is `#NUM!`, and SUM, MIN and MAX of none are 0.
+// The value of a function. What the reader of formulas never gives has some value all the same: a number of arguments that
+// the function does not take is `#NUM!`.
 #[cycle(evaluation)]
 fn call(function: Function, arguments: &[Tree], shape: Shape, inputs: &Inputs) -> Entry
     ensures value { result.height < count_of shape → result.value ≡ spec.formula_value shape (values_in inputs.now.items) (Called function (listed (map formula arguments.now))) }
     ensures height { result.height ≡ min (count_of shape) (heights.formulas_height shape (heights_in inputs.now.items) (listed (map formula arguments.now))) }
 {
-    if arguments.len() > ARGUMENTS_MOST {
+    let count = arguments.len();
+    if count > ARGUMENTS_MOST || !function.takes(count) {
         return unfit(arguments, shape, inputs);
     }
+    if function.takes_ranges() {
+        let errors = cell_errors(function);
+        let gathered = gather(errors, arguments, shape, inputs);
+        Entry {
+            value: summary(function, gathered.tally),
+            height: gathered.height,
+        }
+    } else {
+        let operands = operands_of(arguments, shape, inputs);
+        Entry {
+            value: operation(function, operands),
+            height: operands.height,
+        }
+    }
+}
+
+// What a function of many values makes of the errors of cells.
+fn cell_errors(function: Function) -> CellErrors
+    ensures { result ≡ errors_of function }
+{
     match function {
-        Function::Sum => {
-            let gathered = gather(arguments, shape, inputs);
-            Entry {
-                value: gathered.tally.total(),
-                height: gathered.height,
-            }
+        Function::Count => CellErrors::Skipped,
+        Function::Sum
+        | Function::Min
+        | Function::Max
+        | Function::Abs
+        | Function::Mod
+        | Function::Quotient
+        | Function::If
+        | Function::And
+        | Function::Or
+        | Function::Not => CellErrors::Heeded,
+    }
+}
+
+// The value of a function of many values, by their tally.
+fn summary(function: Function, tally: Tally) -> Value
+    requires { takes_ranges function ≡ true }
+    ensures { (all : List spec.Argument) → IsTally (spec.all_values (errors_of function) all) tally → result ≡ spec.applied function all }
+{
+    match function {
+        Function::Sum => tally.total(),
+        Function::Min => tally.least(),
+        Function::Max => tally.greatest(),
+        Function::Count => tally.count(),
+        Function::And => tally.all_true(),
+        Function::Or => tally.some_true(),
+        Function::Abs | Function::Mod | Function::Quotient | Function::If | Function::Not => {
+            Value::Num
         }
-        Function::Min => {
-            let gathered = gather(arguments, shape, inputs);
-            Entry {
-                value: gathered.tally.least(),
-                height: gathered.height,
-            }
-        }
-        Function::Max => {
-            let gathered = gather(arguments, shape, inputs);
-            Entry {
-                value: gathered.tally.greatest(),
-                height: gathered.height,
-            }
-        }
-        Function::Abs => absolute_of(arguments, shape, inputs),
-        Function::Mod => modulo_of(arguments, shape, inputs),
-        Function::Quotient => quotient_of(arguments, shape, inputs),
-        Function::If => conditional(arguments, shape, inputs),
+    }
+}
+
+// The values of up to three arguments, 0 for one that is left out, and one more than the greatest height of a cell written
+// in them.
+#[derive(Clone, Copy, Debug)]
+struct Operands {
+    first: Value,
+    second: Value,
+    third: Value,
+    height: usize,
+}
+
+// The value of a function of a few values.
+fn operation(function: Function, operands: Operands) -> Value
+    requires { takes_ranges function ≡ false }
+    ensures { (all : List spec.Argument) → AreOperands all operands → result ≡ spec.applied function all }
+{
+    let Operands {
+        first,
+        second,
+        third,
+        ..
+    } = operands;
+    match function {
+        Function::Abs => absolute(first),
+        Function::Mod => modulo(first, second),
+        Function::Quotient => quotient(first, second),
+        Function::If => choice(first, second, third),
+        Function::Not => negated(first),
+        Function::Sum
+        | Function::Min
+        | Function::Max
+        | Function::Count
+        | Function::And
+        | Function::Or => Value::Num,
     }
 }
 
@@ -138,114 +204,47 @@ fn unfit(arguments: &[Tree], shape: Shape, inputs: &Inputs) -> Entry
     }
 }
 
-// ABS of its one argument.
+// The value of the argument with this number, 0 where it is left out, and one more than the greatest height of a cell
+// written in it.
 #[cycle(evaluation)]
-fn absolute_of(arguments: &[Tree], shape: Shape, inputs: &Inputs) -> Entry
-    requires { length arguments.now ≤ spec.most_arguments }
-    ensures value { result.height < count_of shape → result.value ≡ spec.formula_value shape (values_in inputs.now.items) (Called Function.Abs (listed (map formula arguments.now))) }
-    ensures height { result.height ≡ min (count_of shape) (heights.formulas_height shape (heights_in inputs.now.items) (listed (map formula arguments.now))) }
+fn operand(arguments: &[Tree], k: usize, shape: Shape, inputs: &Inputs) -> Entry
+    ensures value { result.height < count_of shape → result.value ≡ spec.operand k (spec.arguments shape (values_in inputs.now.items) false (listed (map formula arguments.now))) }
+    ensures height { result.height ≡ min (count_of shape) (operand_height shape (heights_in inputs.now.items) k (listed (map formula arguments.now))) }
 {
-    if arguments.len() != 1 {
-        return unfit(arguments, shape, inputs);
-    }
-    let entry = evaluate(&arguments[0], shape, inputs);
-    Entry {
-        value: absolute(entry.value),
-        height: entry.height,
+    if k < arguments.len() {
+        evaluate(&arguments[k], shape, inputs)
+    } else {
+        Entry {
+            value: Value::Number(0),
+            height: 0,
+        }
     }
 }
 
-// The values of two arguments, and one more than the greatest height of a cell written in them.
-#[derive(Clone, Copy, Debug)]
-struct Pair {
-    left: Value,
-    right: Value,
-    height: usize,
-}
-
-// The values of the two arguments of a function.
+// The values of the arguments. A branch of IF that is not chosen counts for the height, and so it is read too; its value
+// is dropped, an error included.
 #[cycle(evaluation)]
-fn paired(arguments: &[Tree], shape: Shape, inputs: &Inputs) -> Pair
-    requires { length arguments.now ≡ 2 }
-    ensures values { result.height < count_of shape → spec.own_values shape (values_in inputs.now.items) (listed (map formula arguments.now)) ≡ result.left ∷ result.right ∷ [] }
+fn operands_of(arguments: &[Tree], shape: Shape, inputs: &Inputs) -> Operands
+    requires { length arguments.now ≤ 3 }
+    ensures values { result.height < count_of shape → AreOperands (spec.arguments shape (values_in inputs.now.items) false (listed (map formula arguments.now))) result }
     ensures height { result.height ≡ min (count_of shape) (heights.formulas_height shape (heights_in inputs.now.items) (listed (map formula arguments.now))) }
 {
-    let left = evaluate(&arguments[0], shape, inputs);
-    let right = evaluate(&arguments[1], shape, inputs);
-    Pair {
-        left: left.value,
-        right: right.value,
-        height: left.height.max(right.height),
-    }
-}
-
-// MOD of its two arguments.
-#[cycle(evaluation)]
-fn modulo_of(arguments: &[Tree], shape: Shape, inputs: &Inputs) -> Entry
-    requires { length arguments.now ≤ spec.most_arguments }
-    ensures value { result.height < count_of shape → result.value ≡ spec.formula_value shape (values_in inputs.now.items) (Called Function.Mod (listed (map formula arguments.now))) }
-    ensures height { result.height ≡ min (count_of shape) (heights.formulas_height shape (heights_in inputs.now.items) (listed (map formula arguments.now))) }
-{
-    if arguments.len() != 2 {
-        return unfit(arguments, shape, inputs);
-    }
-    let pair = paired(arguments, shape, inputs);
-    Entry {
-        value: modulo(pair.left, pair.right),
-        height: pair.height,
-    }
-}
-
-// QUOTIENT of its two arguments.
-#[cycle(evaluation)]
-fn quotient_of(arguments: &[Tree], shape: Shape, inputs: &Inputs) -> Entry
-    requires { length arguments.now ≤ spec.most_arguments }
-    ensures value { result.height < count_of shape → result.value ≡ spec.formula_value shape (values_in inputs.now.items) (Called Function.Quotient (listed (map formula arguments.now))) }
-    ensures height { result.height ≡ min (count_of shape) (heights.formulas_height shape (heights_in inputs.now.items) (listed (map formula arguments.now))) }
-{
-    if arguments.len() != 2 {
-        return unfit(arguments, shape, inputs);
-    }
-    let pair = paired(arguments, shape, inputs);
-    Entry {
-        value: quotient(pair.left, pair.right),
-        height: pair.height,
-    }
-}
-
-// IF (OpenFormula 6.15.4): the value of the chosen branch, 0 for one that is left out. References in the other
-// branch count for the height, and so it is read too; its value is dropped, an error included.
-#[cycle(evaluation)]
-fn conditional(arguments: &[Tree], shape: Shape, inputs: &Inputs) -> Entry
-    requires { length arguments.now ≤ spec.most_arguments }
-    ensures value { result.height < count_of shape → result.value ≡ spec.formula_value shape (values_in inputs.now.items) (Called Function.If (listed (map formula arguments.now))) }
-    ensures height { result.height ≡ min (count_of shape) (heights.formulas_height shape (heights_in inputs.now.items) (listed (map formula arguments.now))) }
-{
-    let count = arguments.len();
-    if count == 2 {
-        let pair = paired(arguments, shape, inputs);
-        return Entry {
-            value: choice(pair.left, pair.right, Value::Number(0)),
-            height: pair.height,
-        };
-    }
-    if count != 3 {
-        return unfit(arguments, shape, inputs);
-    }
-    let condition = evaluate(&arguments[0], shape, inputs);
-    let left = evaluate(&arguments[1], shape, inputs);
-    let right = evaluate(&arguments[2], shape, inputs);
-    Entry {
-        value: choice(condition.value, left.value, right.value),
-        height: condition.height.max(left.height.max(right.height)),
+    let first = operand(arguments, 0, shape, inputs);
+    let second = operand(arguments, 1, shape, inputs);
+    let third = operand(arguments, 2, shape, inputs);
+    Operands {
+        first: first.value,
+        second: second.value,
+        third: third.value,
+        height: first.height.max(second.height.max(third.height)),
     }
 }
 
 // What the arguments stand for: a reference or a range stands for its cells.
 #[cycle(evaluation)]
-fn gather(arguments: &[Tree], shape: Shape, inputs: &Inputs) -> Gathered
+fn gather(errors: CellErrors, arguments: &[Tree], shape: Shape, inputs: &Inputs) -> Gathered
     requires { length arguments.now ≤ spec.most_arguments }
-    ensures tally { result.height < count_of shape → IsTally (spec.all_values shape (values_in inputs.now.items) (listed (map formula arguments.now))) result.tally }
+    ensures tally { result.height < count_of shape → IsTally (spec.all_values errors (spec.arguments shape (values_in inputs.now.items) true (listed (map formula arguments.now)))) result.tally }
     ensures height { result.height ≡ min (count_of shape) (heights.formulas_height shape (heights_in inputs.now.items) (listed (map formula arguments.now))) }
 {
     let mut gathered = Gathered::new();
@@ -253,9 +252,9 @@ fn gather(arguments: &[Tree], shape: Shape, inputs: &Inputs) -> Gathered
         gathered = match argument {
             Tree::Reference(cell) => {
                 let entry = look(shape, inputs, *cell);
-                gathered.with(entry.value, entry.height)
+                gathered.with(errors.seen(entry.value), entry.height)
             }
-            Tree::Range(area) => with_range(shape, inputs, *area, gathered),
+            Tree::Range(area) => with_range(shape, inputs, errors, *area, gathered),
             Tree::Number(_) | Tree::Prefix(_, _) | Tree::Binary(_, _, _) | Tree::Call(_, _) => {
                 let entry = evaluate(argument, shape, inputs);
                 gathered.with(entry.value, entry.height)

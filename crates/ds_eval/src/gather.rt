@@ -7,12 +7,12 @@ ghost use Rattle.ds_eval.specs.declared.value.Value as values;
 ghost use Rattle.ds_eval.specs.Evaluation as spec;
 ghost use Rattle.ds_eval.specs.Inputs.{values_in, heights_in, entry_in, cell_in};
 ghost use Rattle.ds_eval.specs.Local.{above};
-ghost use Rattle.ds_eval.specs.Rows.{right_of, row_from};
+ghost use Rattle.ds_eval.specs.Rows.{right_of, row_from, seen_in};
 ghost use Rattle.ds_eval.specs.Numbers.{first_error};
 ghost use Rattle.ds_eval.specs.Tally.{AreCounted, IsTally};
 
 use crate::inputs::{Entry, Inputs};
-use crate::tally::{Tally, Totals};
+use crate::tally::{CellErrors, Tally, Totals};
 use crate::value::Value;
 use ds_formula::cells::{Cell, Rect, Shape};
 
@@ -116,10 +116,11 @@ fn height_with_row(
     height.max(raised(greatest, most))
 }
 
-// The totals with the values of a row of so many columns, or the first error there. A loop of its own is faster than
-// one with the heights.
+// The totals with the values of a row of so many columns, or the first error there that is heeded. A loop of its own is
+// faster than one with the heights.
 fn totals_with_row(
     inputs: &Inputs,
+    errors: CellErrors,
     place: Option<usize>,
     first: Cell,
     columns: usize,
@@ -129,8 +130,8 @@ fn totals_with_row(
     requires within { IfSome place (λ p. p + columns ≤ length inputs.now.items) }
     requires cells { IfSome place (λ p. (k : ℕ) → k < columns → cell_in inputs.now.items (p + k) ≡ right_of first k) }
     requires count { totals.count < 2 ^ 31 }
-    ensures counted { IfOk result (λ r. (vs : List values.Value) → AreCounted vs totals → AreCounted (vs ++ map (values_in inputs.now.items) (row_from first columns)) r) }
-    ensures error { IfErr result (λ e. (vs : List values.Value) → first_error vs ≡ None → first_error (vs ++ map (values_in inputs.now.items) (row_from first columns)) ≡ Some e) }
+    ensures counted { IfOk result (λ r. (vs : List values.Value) → AreCounted vs totals → AreCounted (vs ++ map (seen_in errors inputs.now.items) (row_from first columns)) r) }
+    ensures error { IfErr result (λ e. (vs : List values.Value) → first_error vs ≡ None → first_error (vs ++ map (seen_in errors inputs.now.items) (row_from first columns)) ≡ Some e) }
     ensures count { IfOk result (λ r. r.count ≤ totals.count + columns) }
 {
     let mut sum = totals;
@@ -139,7 +140,11 @@ fn totals_with_row(
         match value {
             Value::Number(number) => sum = sum.with(number),
             Value::Blank => {}
-            Value::DivZero | Value::Num | Value::Circular => return Err(value),
+            Value::DivZero | Value::Num | Value::Circular => {
+                if errors.heeds(value) {
+                    return Err(value);
+                }
+            }
         }
     }
     Ok(sum)
@@ -148,6 +153,7 @@ fn totals_with_row(
 // The tally with the values of a row of so many columns.
 fn tally_with_row(
     inputs: &Inputs,
+    errors: CellErrors,
     place: Option<usize>,
     first: Cell,
     columns: usize,
@@ -157,13 +163,13 @@ fn tally_with_row(
     requires within { IfSome place (λ p. p + columns ≤ length inputs.now.items) }
     requires cells { IfSome place (λ p. (k : ℕ) → k < columns → cell_in inputs.now.items (p + k) ≡ right_of first k) }
     requires count { tally.totals.count < 2 ^ 31 }
-    ensures tally { (vs : List values.Value) → IsTally vs tally → IsTally (vs ++ map (values_in inputs.now.items) (row_from first columns)) result }
+    ensures tally { (vs : List values.Value) → IsTally vs tally → IsTally (vs ++ map (seen_in errors inputs.now.items) (row_from first columns)) result }
     ensures count { result.totals.count ≤ tally.totals.count + columns }
 {
     if tally.error.is_some() {
         return tally;
     }
-    match totals_with_row(inputs, place, first, columns, tally.totals) {
+    match totals_with_row(inputs, errors, place, first, columns, tally.totals) {
         Ok(totals) => Tally {
             totals,
             error: None,
@@ -178,6 +184,7 @@ fn tally_with_row(
 // With the cells of a row of so many columns, which is looked for at this place first.
 fn with_row(
     inputs: &Inputs,
+    errors: CellErrors,
     most: usize,
     first: Cell,
     columns: usize,
@@ -186,22 +193,28 @@ fn with_row(
 ) -> Gathered
     requires within { first.column + columns ≤ COLUMNS_MOST }
     requires count { gathered.tally.totals.count < 2 ^ 31 }
-    ensures tally { (vs : List values.Value) → IsTally vs gathered.tally → IsTally (vs ++ map (values_in inputs.now.items) (row_from first columns)) result.tally }
+    ensures tally { (vs : List values.Value) → IsTally vs gathered.tally → IsTally (vs ++ map (seen_in errors inputs.now.items) (row_from first columns)) result.tally }
     ensures count { result.tally.totals.count ≤ gathered.tally.totals.count + columns }
     ensures height { result.height ≡ max gathered.height (min most (above (map (heights_in inputs.now.items) (row_from first columns)))) }
 {
     let place = inputs.row_at(first, columns, near);
     Gathered {
-        tally: tally_with_row(inputs, place, first, columns, gathered.tally),
+        tally: tally_with_row(inputs, errors, place, first, columns, gathered.tally),
         height: height_with_row(inputs, most, place, first, columns, gathered.height),
     }
 }
 
 /// With the cells of a range. From the height on at which references lead round and round no more values are read.
-pub fn with_range(shape: Shape, inputs: &Inputs, area: Rect, gathered: Gathered) -> Gathered
+pub fn with_range(
+    shape: Shape,
+    inputs: &Inputs,
+    errors: CellErrors,
+    area: Rect,
+    gathered: Gathered,
+) -> Gathered
     requires count { gathered.tally.totals.count < 2 ^ 30 }
     requires height { gathered.height ≤ count_of shape }
-    ensures tally { result.height < count_of shape → (vs : List values.Value) → IsTally vs gathered.tally → IsTally (vs ++ map (values_in inputs.now.items) (spec.cells_of shape area)) result.tally }
+    ensures tally { result.height < count_of shape → (vs : List values.Value) → IsTally vs gathered.tally → IsTally (vs ++ map (seen_in errors inputs.now.items) (spec.cells_of shape area)) result.tally }
     ensures count { result.tally.totals.count ≤ gathered.tally.totals.count + 2048 }
     ensures height { result.height ≡ max gathered.height (min (count_of shape) (above (map (heights_in inputs.now.items) (spec.cells_of shape area)))) }
 {
@@ -219,7 +232,7 @@ pub fn with_range(shape: Shape, inputs: &Inputs, area: Rect, gathered: Gathered)
                 column: area.first.column,
                 row: area.first.row + row,
             };
-            sum = with_row(inputs, most, first, columns, near, sum);
+            sum = with_row(inputs, errors, most, first, columns, near, sum);
             near = near.saturating_add(apart);
         }
     }

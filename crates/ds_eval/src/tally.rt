@@ -1,20 +1,72 @@
-//! Many values at once: SUM, MIN and MAX.
+//! Many values at once: SUM, MIN, MAX, COUNT, AND and OR.
 
-ghost use Rattle.std.specs.Prelude.{◌≡◌, ◌+◌, ◌*◌, ◌<◌, ◌≤◌, ◌^◌, pos, neg_ℤ, ◌≤ℤ◌};
+ghost use Rattle.std.specs.Prelude.{◌≡◌, ◌+◌, ◌*◌, ◌<◌, ◌≤◌, ◌^◌, pos, neg_ℤ, ◌≤ℤ◌, if◌then◌else◌};
+ghost use Rattle.std.specs.Ordering.{int_eq};
 
+use crate::arithmetic::truth;
 use crate::value::Value;
 
-/// What SUM, MIN and MAX want of some numbers.
+/// What a function makes of the errors of cells that it reads in references and ranges.
+#[derive(Clone, Copy, Debug, PartialEq, Eq)]
+pub enum CellErrors {
+    /// The first one is its value.
+    Heeded,
+    /// `#DIV/0!` and `#NUM!` are left out, as blanks are. `Err:522` is heeded.
+    Skipped,
+}
+
+impl CellErrors {
+    ghost use Rattle.std.specs.Prelude.{[], ◌∷◌, Some};
+    ghost use Rattle.ds_eval.specs.declared.value.Value as values;
+    ghost use Rattle.ds_eval.specs.Numbers.{first_error};
+    ghost use Rattle.ds_eval.specs.Evaluation.{as_seen};
+
+    /// Whether the error of a cell is heeded.
+    pub fn heeds(self, error: Value) -> bool
+        requires { first_error (error ∷ []) ≡ Some error }
+        ensures { as_seen self error ≡ (if result then error else Value.Blank) }
+    {
+        match self {
+            CellErrors::Heeded => true,
+            CellErrors::Skipped => error == Value::Circular,
+        }
+    }
+
+    /// The value of a cell to the function.
+    pub fn seen(self, value: Value) -> Value
+        ensures { result ≡ as_seen self value }
+    {
+        match self {
+            CellErrors::Heeded => value,
+            CellErrors::Skipped => match value {
+                Value::DivZero | Value::Num => Value::Blank,
+                Value::Blank | Value::Number(_) | Value::Circular => value,
+            },
+        }
+    }
+}
+
+// 1 for a number that is 0, else 0.
+fn one_if_zero(number: i64) -> usize
+    ensures value { result ≡ (if int_eq number (pos 0) then 1 else 0) }
+    ensures at_most { result ≤ 1 }
+{
+    if number == 0 { 1 } else { 0 }
+}
+
+/// What functions of many values want of some numbers.
 /// The sum is bounded by the count, so that it cannot leave 128 bits. Before the first number the least one is the
 /// greatest that a number could be, and the greatest one the least.
 #[derive(Clone, Copy, Debug)]
 pub struct Totals {
     count: usize,
+    zeros: usize,
     sum: i128,
     least: i64,
     greatest: i64,
     ghost above: { neg_ℤ (pos (2 ^ 63 * count)) ≤ℤ sum },
     ghost below: { sum ≤ℤ pos (2 ^ 63 * count) },
+    ghost few_zeros: { zeros ≤ count },
 }
 
 impl Totals {
@@ -29,23 +81,34 @@ impl Totals {
     {
         Totals {
             count: 0,
+            zeros: 0,
             sum: 0,
             least: i64::MAX,
             greatest: i64::MIN,
         }
     }
 
+    // The sum with one more number.
+    fn sum_with(self, number: i64) -> i128
+        requires { self.count < 2 ^ 32 }
+        ensures { result ≡ self.sum +ℤ number }
+    {
+        self.sum + i128::from(number)
+    }
+
     /// Those with one more number.
     pub fn with(self, number: i64) -> Totals
         requires { self.count < 2 ^ 32 }
         ensures count { result.count ≡ self.count + 1 }
+        ensures zeros { result.zeros ≡ self.zeros + (if int_eq number (pos 0) then 1 else 0) }
         ensures sum { result.sum ≡ self.sum +ℤ number }
         ensures least { result.least ≡ int_min self.least number }
         ensures greatest { result.greatest ≡ int_max self.greatest number }
     {
         Totals {
             count: self.count + 1,
-            sum: self.sum + i128::from(number),
+            zeros: self.zeros + one_if_zero(number),
+            sum: self.sum_with(number),
             least: self.least.min(number),
             greatest: self.greatest.max(number),
         }
@@ -62,7 +125,7 @@ pub struct Tally {
 }
 
 impl Tally {
-    ghost use Rattle.std.specs.Prelude.{List, [], ◌∷◌, ◌++◌};
+    ghost use Rattle.std.specs.Prelude.{List, [], ◌∷◌, ◌++◌, length};
     ghost use Rattle.ds_eval.specs.declared.value.Value as values;
     ghost use Rattle.ds_eval.specs.Numbers as exact;
     ghost use Rattle.ds_eval.specs.Tally.{IsTally};
@@ -129,6 +192,39 @@ impl Tally {
             Some(error) => error,
             None if self.totals.count == 0 => Value::Number(0),
             None => Value::Number(self.totals.greatest),
+        }
+    }
+
+    /// COUNT (OpenFormula 6.13.6): how many numbers there are.
+    pub fn count(self) -> Value
+        ensures { (vs : List values.Value) → IsTally vs self → result ≡ exact.with_all vs (λ ns. exact.in_range (pos (length ns))) }
+    {
+        match self.error {
+            Some(error) => error,
+            None => match i64::try_from(self.totals.count) {
+                Ok(count) => Value::Number(count),
+                Err(_) => Value::Num,
+            },
+        }
+    }
+
+    /// AND (OpenFormula 6.15.2): whether none is 0, 1 of no numbers.
+    pub fn all_true(self) -> Value
+        ensures { (vs : List values.Value) → IsTally vs self → result ≡ exact.with_all vs (λ ns. exact.truth (exact.all_true ns)) }
+    {
+        match self.error {
+            Some(error) => error,
+            None => truth(self.totals.zeros == 0),
+        }
+    }
+
+    /// OR (OpenFormula 6.15.8): whether some one is not 0, 0 of no numbers.
+    pub fn some_true(self) -> Value
+        ensures { (vs : List values.Value) → IsTally vs self → result ≡ exact.with_all vs (λ ns. exact.truth (exact.some_true ns)) }
+    {
+        match self.error {
+            Some(error) => error,
+            None => truth(self.totals.zeros < self.totals.count),
         }
     }
 }

@@ -12,7 +12,7 @@ use Rattle.ds_formula.specs.declared.content.Sign.TheVariants.{Plus, Minus}
 use Rattle.ds_formula.specs.declared.content.Operator.{Operator}
 use Rattle.ds_formula.specs.declared.content.Operator.TheVariants.{Multiply, Add, Subtract, Equal, NotEqual, Less, Greater, LessOrEqual, GreaterOrEqual}
 use Rattle.ds_formula.specs.declared.content.Function.{Function}
-use Rattle.ds_formula.specs.declared.content.Function.TheVariants.{Sum, Min, Max, Abs, Mod, Quotient, If}
+use Rattle.ds_formula.specs.declared.content.Function.TheVariants.{Sum, Min, Max, Abs, Mod, Quotient, If, Count, And, Or, Not}
 use Rattle.ds_formula.specs.declared.tokens.Leaf.{Leaf}
 use Rattle.ds_formula.specs.declared.tokens.Leaf.TheVariants.{Number, Reference, Range}
 use Rattle.ds_formula.specs.declared.tokens.Lead.{Lead}
@@ -21,7 +21,7 @@ use Rattle.ds_formula.specs.declared.tokens.Follow.TheVariants.{Infix, Close, Se
 use Rattle.ds_formula.specs.Cells.{IsInside}
 use Rattle.ds_formula.specs.Bytes.{Read, ◌>>=◌, begins, skipped, number_from, number_at, byte_at, unexpected_stop}
 use Rattle.ds_formula.specs.References.{without_dollar, letters_from, letters_at, row_at, cell_of, corner_at, area_of, both_inside, behind_corner, reference_at}
-use Rattle.ds_formula.specs.Functions.{name_of}
+use Rattle.ds_formula.specs.Functions.{Scope, scope_of, name_of}
 use Rattle.ds_formula.specs.Tokens.{name_at, lead_of, lead_at, after_less, after_greater, follow_of, follow_at, found, infix_of}
 use Rattle.ds_formula.specs.Names.{cell_text}
 use Rattle.ds_formula.specs.Texts.{sign_text, operator_text}
@@ -30,14 +30,14 @@ use Rattle.ds_formula.proofs.Digits.{unequal, is_digit, not_skipped, decimal_sta
 
 -- ---- numbers
 
-lead_here : (s : Shape) (b : ℕ) (bs : List ℕ) → 33 ≤ b → lead_at s (b ∷ bs) ≡ lead_of s (b ∷ bs)
+lead_here : (s : Scope) (b : ℕ) (bs : List ℕ) → 33 ≤ b → lead_at s (b ∷ bs) ≡ lead_of s (b ∷ bs)
 unfolding lead_at
 lead_here s b bs h = ap (lead_of s) (not_skipped b bs h)
 
 abbrev numbered : ℕ × List ℕ → Read Lead
 numbered x = Ok (leads.Leaf (Number (pos x.0)), x.1)
 
-digit_lead : (s : Shape) (b : ℕ) (bs : List ℕ) → 48 ≤ b → b ≤ 57 → lead_of s (b ∷ bs) ≡ (number_at (2 ^ 63 - 1) (b ∷ bs) >>= numbered)
+digit_lead : (s : Scope) (b : ℕ) (bs : List ℕ) → 48 ≤ b → b ≤ 57 → lead_of s (b ∷ bs) ≡ (number_at (2 ^ 63 - 1) (b ∷ bs) >>= numbered)
 unfolding lead_of
 digit_lead s b bs l h =
     let p : eqb b 40 ≡ false = unequal b 40 (λ e. omega (arith, l, e)) in
@@ -47,7 +47,7 @@ digit_lead s b bs l h =
     let d : is_ascii_digit b ≡ true = is_digit b l h in
     rw (p, q, r, u, d) refl
 
-pub literal_back : (s : Shape) (n : ℕ) (rest : List ℕ) → n ≤ 2 ^ 63 - 1 → Parts rest → lead_at s (decimal n ++ rest) ≡ Ok (leads.Leaf (Number (pos n)), rest)
+pub literal_back : (s : Scope) (n : ℕ) (rest : List ℕ) → n ≤ 2 ^ 63 - 1 → Parts rest → lead_at s (decimal n ++ rest) ≡ Ok (leads.Leaf (Number (pos n)), rest)
 literal_back s n rest l e =
     let d = decimal_starts n (omega (arith, l)) in
     let p : decimal n ++ rest ≡ d.head ∷ (d.tail ++ rest) = ap (λ (x : List ℕ). x ++ rest) d.is in
@@ -149,7 +149,7 @@ corner_back s c rest h e =
 abbrev leafed : Leaf × List ℕ → Read Lead
 leafed x = Ok (leads.Leaf x.0, x.1)
 
-bracket_lead : (s : Shape) (bs : List ℕ) (l : Leaf) (rest : List ℕ) → reference_at s (91 ∷ bs) ≡ Ok (l, rest) → lead_at s (91 ∷ bs) ≡ Ok (leads.Leaf l, rest)
+bracket_lead : (s : Scope) (bs : List ℕ) (l : Leaf) (rest : List ℕ) → reference_at s.shape (91 ∷ bs) ≡ Ok (l, rest) → lead_at s (91 ∷ bs) ≡ Ok (leads.Leaf l, rest)
 unfolding lead_at lead_of
 bracket_lead s bs l rest h = ap (λ (x : Read Leaf). x >>= leafed) h
 
@@ -165,19 +165,19 @@ range_of : (s : Shape) (text : List ℕ) (a b : Cell) (bs rest : List ℕ) → c
 unfolding byte_at
 range_of s text a b bs rest h = ap (λ (x : Read (Option Cell)). x >>= λ o. byte_at 93 o.1 >>= λ end. both_inside text (Some a) o.0 end) h
 
-pub reference_back : (s : Shape) (c : Cell) (rest : List ℕ) → IsInside s c → lead_at s (91 ∷ 46 ∷ (cell_text c ++ 93 ∷ rest)) ≡ Ok (leads.Leaf (Reference c), rest)
+pub reference_back : (s : Scope) (c : Cell) (rest : List ℕ) → IsInside s.shape c → lead_at s (91 ∷ 46 ∷ (cell_text c ++ 93 ∷ rest)) ≡ Ok (leads.Leaf (Reference c), rest)
 reference_back s c rest h =
     bracket_lead s (46 ∷ (cell_text c ++ 93 ∷ rest)) (Reference c) rest
-    (reference_of s (46 ∷ (cell_text c ++ 93 ∷ rest)) (Some c) (93 ∷ rest) (corner_back s c (93 ∷ rest) h refl) ∙ end_of s (91 ∷ 46 ∷ (cell_text c ++ 93 ∷ rest)) c rest)
+    (reference_of s.shape (46 ∷ (cell_text c ++ 93 ∷ rest)) (Some c) (93 ∷ rest) (corner_back s.shape c (93 ∷ rest) h refl) ∙ end_of s.shape (91 ∷ 46 ∷ (cell_text c ++ 93 ∷ rest)) c rest)
 
-pub range_back : (s : Shape) (a b : Cell) (rest : List ℕ) → IsInside s a → IsInside s b
+pub range_back : (s : Scope) (a b : Cell) (rest : List ℕ) → IsInside s.shape a → IsInside s.shape b
     → (n : ℕ) × (lead_at s (91 ∷ 46 ∷ (cell_text a ++ 58 ∷ 46 ∷ (cell_text b ++ 93 ∷ rest))) ≡ Ok (leads.Leaf (Range (area_of a b) n), rest))
 range_back s a b rest h k =
     let behind : List ℕ = 46 ∷ (cell_text b ++ 93 ∷ rest) in
     let text : List ℕ = 46 ∷ (cell_text a ++ 58 ∷ behind) in (
       length (91 ∷ text),
       bracket_lead s text (Range (area_of a b) (length (91 ∷ text))) rest
-          (reference_of s text (Some a) (58 ∷ behind) (corner_back s a (58 ∷ behind) h refl) ∙ range_of s (91 ∷ text) a b behind rest (corner_back s b (93 ∷ rest) k refl)),
+          (reference_of s.shape text (Some a) (58 ∷ behind) (corner_back s.shape a (58 ∷ behind) h refl) ∙ range_of s.shape (91 ∷ text) a b behind rest (corner_back s.shape b (93 ∷ rest) k refl)),
     )
 
 pub area_back : (s : Shape) (r : Rect) → IsArea s r → area_of r.first r.last ≡ r
@@ -192,7 +192,7 @@ area_back s r h =
 
 -- ---- names, signs and brackets
 
-pub name_back : (s : Shape) (g : Function) (rest : List ℕ) → lead_at s (name_of g ++ 40 ∷ rest) ≡ Ok (leads.Name g (length (name_of g ++ 40 ∷ rest)), 40 ∷ rest)
+pub name_back : (s : Shape) (g : Function) (rest : List ℕ) → lead_at (scope_of s) (name_of g ++ 40 ∷ rest) ≡ Ok (leads.Name g (length (name_of g ++ 40 ∷ rest)), 40 ∷ rest)
 unfolding lead_at lead_of name_at
 name_back s Sum rest = refl
 name_back s Min rest = refl
@@ -201,13 +201,17 @@ name_back s Abs rest = refl
 name_back s Mod rest = refl
 name_back s Quotient rest = refl
 name_back s If rest = refl
+name_back s Count rest = refl
+name_back s And rest = refl
+name_back s Or rest = refl
+name_back s Not rest = refl
 
-pub sign_back : (s : Shape) (g : Sign) (rest : List ℕ) → lead_at s (sign_text g ++ rest) ≡ Ok (leads.Prefix g, rest)
+pub sign_back : (s : Scope) (g : Sign) (rest : List ℕ) → lead_at s (sign_text g ++ rest) ≡ Ok (leads.Prefix g, rest)
 unfolding lead_at lead_of
 sign_back s Plus rest = refl
 sign_back s Minus rest = refl
 
-pub open_back : (s : Shape) (rest : List ℕ) → lead_at s (40 ∷ rest) ≡ Ok (leads.Open, rest)
+pub open_back : (s : Scope) (rest : List ℕ) → lead_at s (40 ∷ rest) ≡ Ok (leads.Open, rest)
 unfolding lead_at lead_of
 open_back s rest = refl
 

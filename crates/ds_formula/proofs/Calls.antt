@@ -1,6 +1,5 @@
 -- Calls and their arguments.
 use Rattle.std.proofs.Common.{◌≡◌, ℕ, ◌+◌, ◌<◌, ◌≤◌, Bool, true, false, cond, List, [], ◌∷◌, ◌++◌, map, length, length-append, Ok, Err, refl, sym, ap, subst, ◌∙◌, arith}
-use Rattle.ds_formula.specs.declared.cells.Shape.{Shape}
 use Rattle.ds_formula.specs.declared.content.Function.{Function}
 use Rattle.ds_formula.specs.declared.content.Tree.{Tree}
 use Rattle.ds_formula.specs.declared.fault.FaultKind.TheVariants.{WrongArguments}
@@ -12,7 +11,7 @@ use Rattle.ds_formula.specs.declared.parser.Refusal.{Refusal}
 use Rattle.ds_formula.specs.declared.parser.Refusal.TheVariants.{Memory, Stopped}
 use Rattle.ds_formula.specs.Plain.{Formula, Formulas, Nothing, Then, listed, count, formula}
 use Rattle.ds_formula.specs.Bytes.{begins, skipped, byte_at}
-use Rattle.ds_formula.specs.Functions.{takes}
+use Rattle.ds_formula.specs.Functions.{Scope, takes}
 use Rattle.ds_formula.specs.Ranges.{first_of, as_argument}
 use Rattle.ds_formula.specs.Tokens.{follow_at}
 use Rattle.ds_formula.specs.Forms.{Arguments, last, more, Level, NoSemicolon, bracketed}
@@ -29,7 +28,7 @@ followed [] fs = fs
 followed (g ∷ gs) fs = Then g (followed gs fs)
 
 -- the arguments so far; the last one may be followed by more
-pub record ArgumentsSoFar (s : Shape) (g : Function) (text : List ℕ) (fs : List Formula) (r : Ranges) (rest : List ℕ) : Type 0 where
+pub record ArgumentsSoFar (s : Scope) (g : Function) (text : List ℕ) (fs : List Formula) (r : Ranges) (rest : List ℕ) : Type 0 where
   pub before : List Formula
   pub earlier : Ranges
   pub latest : Formula
@@ -42,7 +41,7 @@ pub record ArgumentsSoFar (s : Shape) (g : Function) (text : List ℕ) (fs : Lis
   pub walked : (f : Function) (n name : ℕ) (i : List Bracket) → Walk s AnOperand (Call f n name ∷ i) text AnOperator (Call f (n + length before) name ∷ i) rest
   pub shorter : length rest < length text
 
-pub arguments_first : (s : Shape) (g : Function) (text : List ℕ) (f : Formula) (r : Ranges) (rest : List ℕ) → Level s 0 text f r rest → length rest < length text → ArgumentsSoFar s g text (f ∷ []) (as_argument g r) rest
+pub arguments_first : (s : Scope) (g : Function) (text : List ℕ) (f : Formula) (r : Ranges) (rest : List ℕ) → Level s 0 text f r rest → length rest < length text → ArgumentsSoFar s g text (f ∷ []) (as_argument g r) rest
 arguments_first s g text f r rest v k = record {
   before = [];
   earlier = Placed;
@@ -70,7 +69,7 @@ first_assoc Placed b c = refl
 first_assoc (Bare n) b c = refl
 first_assoc (Misplaced n) b c = refl
 
-pub arguments_more : (s : Shape) (g : Function) (text : List ℕ) (fs : List Formula) (r : Ranges) (rest after : List ℕ) (f : Formula) (t : Ranges) (behind : List ℕ)
+pub arguments_more : (s : Scope) (g : Function) (text : List ℕ) (fs : List Formula) (r : Ranges) (rest after : List ℕ) (f : Formula) (t : Ranges) (behind : List ℕ)
     → ArgumentsSoFar s g text fs r rest → follow_at rest ≡ Ok (Semicolon, after) → length after ≤ length rest → Level s 0 after f t behind → length behind < length after
     → ArgumentsSoFar s g text (fs ++ f ∷ []) (first_of r (as_argument g t)) behind
 arguments_more s g text fs r rest after f t behind so h shrinks v k = record {
@@ -96,14 +95,14 @@ arguments_more s g text fs r rest after f t behind so h shrinks v k = record {
   shorter = omega (arith, so.shorter, k, shrinks);
 }
 
-pub arguments_done : (s : Shape) (g : Function) (text : List ℕ) (fs : List Formula) (r : Ranges) (rest : List ℕ) → ArgumentsSoFar s g text fs r rest → NoSemicolon rest → Arguments s g text (listed fs) r rest
+pub arguments_done : (s : Scope) (g : Function) (text : List ℕ) (fs : List Formula) (r : Ranges) (rest : List ℕ) → ArgumentsSoFar s g text fs r rest → NoSemicolon rest → Arguments s g text (listed fs) r rest
 arguments_done s g text fs r rest so n =
     let a = so.reaches (Then so.latest Nothing) (as_argument g so.latest_ranges) rest (last so.found n) in
     let b : Arguments s g text (listed fs) (first_of so.earlier (as_argument g so.latest_ranges)) rest =
     subst (λ (x : Formulas). Arguments s g text x (first_of so.earlier (as_argument g so.latest_ranges)) rest) (followed_listed so.before so.latest ∙ ap listed (sym so.all)) a in
     subst (λ (x : Ranges). Arguments s g text (listed fs) x rest) (sym so.ranges) b
 
-pub arguments_refused : (s : Shape) (g : Function) (text : List ℕ) (fs : List Formula) (r : Ranges) (rest after : List ℕ) (e : Refusal)
+pub arguments_refused : (s : Scope) (g : Function) (text : List ℕ) (fs : List Formula) (r : Ranges) (rest after : List ℕ) (e : Refusal)
     → ArgumentsSoFar s g text fs r rest → follow_at rest ≡ Ok (Semicolon, after) → Refuses s after e → ArgumentsRefuse s text e
 arguments_refused s g text fs r rest after Memory so h x = tt
 arguments_refused s g text fs r rest after (Stopped stop) so h x = λ f n name i.
@@ -111,20 +110,20 @@ arguments_refused s g text fs r rest after (Stopped stop) so h x = λ f n name i
     let y = x (Call f (m + 1) name ∷ i) in
     (y.0, y.1, y.2, joined (so.walked f n name i) (joined (follow_step h refl) y.3), y.4)
 
-pub arguments_first_refused : (s : Shape) (text : List ℕ) (e : Refusal) → Refuses s text e → ArgumentsRefuse s text e
+pub arguments_first_refused : (s : Scope) (text : List ℕ) (e : Refusal) → Refuses s text e → ArgumentsRefuse s text e
 arguments_first_refused s text Memory x = tt
 arguments_first_refused s text (Stopped stop) x = λ f n name i. x (Call f n name ∷ i)
 
 -- ---- calls, behind the name
 
-pub call_done : (s : Shape) (g : Function) (text inner : List ℕ) (fs : Formulas) (r : Ranges) (mid rest : List ℕ) → Ok inner ≡ byte_at 40 (skipped text) → Arguments s g inner fs r mid → follow_at mid ≡ Ok (Close, rest) → takes g (count fs) ≡ true
+pub call_done : (s : Scope) (g : Function) (text inner : List ℕ) (fs : Formulas) (r : Ranges) (mid rest : List ℕ) → Ok inner ≡ byte_at 40 (skipped text) → Arguments s g inner fs r mid → follow_at mid ≡ Ok (Close, rest) → takes g (count fs) ≡ true
     → forms.Call s g text fs r rest
 call_done s g text inner fs r mid rest h v k y = bracketed (sym h) v k y
 
-pub call_no_bracket : (s : Shape) (g : Function) (name : ℕ) (text : List ℕ) (stop : Stop) → Err stop ≡ byte_at 40 (skipped text) → CallRefuses s g name text (Stopped stop)
+pub call_no_bracket : (s : Scope) (g : Function) (name : ℕ) (text : List ℕ) (stop : Stop) → Err stop ≡ byte_at 40 (skipped text) → CallRefuses s g name text (Stopped stop)
 call_no_bracket s g name text stop e = λ i. (ItsBracket g name, i, text, stay, ap (by_bracket g name i) (sym e))
 
-pub call_empty : (s : Shape) (g : Function) (name : ℕ) (text inner : List ℕ) → Ok inner ≡ byte_at 40 (skipped text) → begins 41 (skipped inner) ≡ true → CallRefuses s g name text (Stopped (record { kind = WrongArguments; left = name }))
+pub call_empty : (s : Scope) (g : Function) (name : ℕ) (text inner : List ℕ) → Ok inner ≡ byte_at 40 (skipped text) → begins 41 (skipped inner) ≡ true → CallRefuses s g name text (Stopped (record { kind = WrongArguments; left = name }))
 call_empty s g name text inner h e = λ i. (
   FirstArgument name,
   Call g 1 name ∷ i,
@@ -133,13 +132,13 @@ call_empty s g name text inner h e = λ i. (
   ap (λ (t : Bool). cond t (wrong_arguments name) (turn s AnOperand (Call g 1 name ∷ i) inner)) e,
 )
 
-first_cases : (s : Shape) (name : ℕ) {d e : Due} {i j : List Bracket} {text rest : List ℕ} (stop : Stop) → d ≡ AnOperand → begins 41 (skipped text) ≡ false → Walk s d i text e j rest → turn s e j rest ≡ Stops stop → Faulty s (FirstArgument name) i text stop
+first_cases : (s : Scope) (name : ℕ) {d e : Due} {i j : List Bracket} {text rest : List ℕ} (stop : Stop) → d ≡ AnOperand → begins 41 (skipped text) ≡ false → Walk s d i text e j rest → turn s e j rest ≡ Stops stop → Faulty s (FirstArgument name) i text stop
 first_cases s name {i = i} {text = text} stop same n stay f =
     (FirstArgument name, i, text, stay, first_turn s i text name n ∙ subst (λ (x : Due). turn s x i text ≡ Stops stop) same f)
 first_cases s name {i = i} {text = text} stop same n (step {e = e} {f = f} {j = j} {k = k} {next = next} {rest = rest} h v) q =
     (f, k, rest, step (first_turn s i text name n ∙ subst (λ (x : Due). turn s x i text ≡ Goes e j next) same h) v, q)
 
-pub call_arguments_refused : (s : Shape) (g : Function) (name : ℕ) (text inner : List ℕ) (e : Refusal) → Ok inner ≡ byte_at 40 (skipped text) → begins 41 (skipped inner) ≡ false → ArgumentsRefuse s inner e → CallRefuses s g name text e
+pub call_arguments_refused : (s : Scope) (g : Function) (name : ℕ) (text inner : List ℕ) (e : Refusal) → Ok inner ≡ byte_at 40 (skipped text) → begins 41 (skipped inner) ≡ false → ArgumentsRefuse s inner e → CallRefuses s g name text e
 call_arguments_refused s g name text inner Memory h n x = tt
 call_arguments_refused s g name text inner (Stopped stop) h n x = λ i.
     let y = x g 1 name i in
@@ -151,21 +150,21 @@ pub record Ended (text : List ℕ) : Type 0 where
   pub no_operator : NoOperator text
   pub no_semicolon : NoSemicolon text
 
-arguments_end : (s : Shape) (g : Function) (text : List ℕ) (fs : Formulas) (r : Ranges) (rest : List ℕ) → Arguments s g text fs r rest → Ended rest
+arguments_end : (s : Scope) (g : Function) (text : List ℕ) (fs : Formulas) (r : Ranges) (rest : List ℕ) → Arguments s g text fs r rest → Ended rest
 arguments_end s g text fs r rest (last v n) = record { no_operator = no_operator s text _ _ rest v; no_semicolon = n }
 arguments_end s g text fs r rest (more v h w) = arguments_end s g _ _ _ rest w
 
-all_walk : {s : Shape} {g : Function} {text inner : List ℕ} {fs : Formulas} {r : Ranges} {mid : List ℕ} (name : ℕ) (i : List Bracket) → byte_at 40 (skipped text) ≡ Ok inner → Arguments s g inner fs r mid
+all_walk : {s : Scope} {g : Function} {text inner : List ℕ} {fs : Formulas} {r : Ranges} {mid : List ℕ} (name : ℕ) (i : List Bracket) → byte_at 40 (skipped text) ≡ Ok inner → Arguments s g inner fs r mid
     → Walk s (ItsBracket g name) i text AnOperator (Call g (count fs) name ∷ i) mid
 all_walk {fs = fs} name i h v = joined (bracket_step h) (first_walk name (arguments_open v) (arguments_walk v 1 (count fs) name i (omega arith)))
 
-pub call_unclosed : (s : Shape) (g : Function) (name : ℕ) (text inner : List ℕ) (fs : Formulas) (r : Ranges) (mid : List ℕ) (stop : Stop)
+pub call_unclosed : (s : Scope) (g : Function) (name : ℕ) (text inner : List ℕ) (fs : Formulas) (r : Ranges) (mid : List ℕ) (stop : Stop)
     → Ok inner ≡ byte_at 40 (skipped text) → Arguments s g inner fs r mid → Err stop ≡ close_at mid → CallRefuses s g name text (Stopped stop)
 call_unclosed s g name text inner fs r mid stop h v e = λ i.
     let end = arguments_end s g inner fs r mid v in
     (AnOperator, Call g (count fs) name ∷ i, mid, all_walk name i (sym h) v, call_open g (count fs) name i mid stop end.no_operator end.no_semicolon e)
 
-pub call_wrong : (s : Shape) (g : Function) (name : ℕ) (text inner : List ℕ) (fs : Formulas) (r : Ranges) (mid rest : List ℕ)
+pub call_wrong : (s : Scope) (g : Function) (name : ℕ) (text inner : List ℕ) (fs : Formulas) (r : Ranges) (mid rest : List ℕ)
     → Ok inner ≡ byte_at 40 (skipped text) → Arguments s g inner fs r mid → follow_at mid ≡ Ok (Close, rest) → takes g (count fs) ≡ false
     → CallRefuses s g name text (Stopped (record { kind = WrongArguments; left = name }))
 call_wrong s g name text inner fs r mid rest h v k y = λ i. (

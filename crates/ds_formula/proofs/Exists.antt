@@ -14,7 +14,7 @@ use Rattle.ds_formula.specs.declared.tokens.Follow.TheVariants.{Infix, Semicolon
 use Rattle.ds_formula.specs.declared.parser.Refusal.TheVariants.{Stopped}
 use Rattle.ds_formula.specs.Plain.{Formula, listed, count, Formulas}
 use Rattle.ds_formula.specs.Bytes.{Read, begins, skipped, byte_at}
-use Rattle.ds_formula.specs.Functions.{takes}
+use Rattle.ds_formula.specs.Functions.{Scope, scope_of, takes}
 use Rattle.ds_formula.specs.Ranges.{misplaced}
 use Rattle.ds_formula.specs.Tokens.{lead_at, follow_at}
 use Rattle.ds_formula.specs.Forms.{Operand, Call, Arguments, Level, Expression, leaf_formula, leaf_ranges, leaf, sign, group, call, level_of}
@@ -29,23 +29,23 @@ use Rattle.ds_formula.proofs.Shorter.{lead_shorter, follow_shorter, bracket_shor
 use Rattle.ds_formula.proofs.Whole.{blank_read}
 
 -- a form at the front of the text, or its first fault
-data Outcome (Found : Formula → Ranges → List ℕ → Type 0) (s : Shape) (text : List ℕ) : Type 0 where
+data Outcome (Found : Formula → Ranges → List ℕ → Type 0) (s : Scope) (text : List ℕ) : Type 0 where
   found : (f : Formula) (r : Ranges) (rest : List ℕ) → Found f r rest → length rest < length text → Outcome Found s text
   refused : (stop : Stop) → Refuses s text (Stopped stop) → Outcome Found s text
 
 -- so of each text that is shorter than n
-abbrev Reader : Shape → ℕ → ℕ → Type 0
+abbrev Reader : Scope → ℕ → ℕ → Type 0
 Reader s l n = (text : List ℕ) → length text < n → Outcome (Level s l text) s text
 
-abbrev OperandReader : Shape → ℕ → Type 0
+abbrev OperandReader : Scope → ℕ → Type 0
 OperandReader s n = (text : List ℕ) → length text < n → Outcome (Operand s text) s text
 
 -- ---- a level, by those of what is behind an operator
 
-abbrev LevelReader : Shape → ℕ → Type 0
+abbrev LevelReader : Scope → ℕ → Type 0
 LevelReader s n = (l : ℕ) → l ≤ 3 → Reader s l n
 
-module _ (s : Shape) (l n : ℕ) (inner : LevelReader s n) where
+module _ (s : Scope) (l n : ℕ) (inner : LevelReader s n) where
   -- the same, where less than m is left
   abbrev LevelOn : ℕ → List ℕ → Type 0
   LevelOn m text = (f : Formula) (r : Ranges) (rest : List ℕ) → length rest < m → ClimbSoFar s l text f r rest → Outcome (Level s l text) s text
@@ -73,17 +73,17 @@ module _ (s : Shape) (l n : ℕ) (inner : LevelReader s n) where
   level_from text k most (refused stop x) = refused stop x
   level_from text k most (found f r rest v j) = level_on (suc (length rest)) text k f r rest (omega arith) (climb_first s l text f r rest most v j)
 
-all_levels : (s : Shape) (n : ℕ) → OperandReader s n → LevelReader s n
+all_levels : (s : Scope) (n : ℕ) → OperandReader s n → LevelReader s n
 all_levels s zero operands l most text k = absurd (omega (arith, k))
 all_levels s (suc n) operands l most text k = level_from s l n (all_levels s n (λ shorter j. operands shorter (omega (arith, j)))) text k most (operands text k)
 
 -- ---- arguments
 
-data ArgumentsOutcome (s : Shape) (g : Function) (text : List ℕ) : Type 0 where
+data ArgumentsOutcome (s : Scope) (g : Function) (text : List ℕ) : Type 0 where
   arguments_found : (fs : List Formula) (r : Ranges) (rest : List ℕ) → Arguments s g text (listed fs) r rest → length rest < length text → ArgumentsOutcome s g text
   arguments_stop : (stop : Stop) → ArgumentsRefuse s text (Stopped stop) → ArgumentsOutcome s g text
 
-module _ (s : Shape) (g : Function) (n : ℕ) (inner : Reader s 0 n) where
+module _ (s : Scope) (g : Function) (n : ℕ) (inner : Reader s 0 n) where
   -- the same, where less than m is left
   abbrev ArgumentsOn : ℕ → List ℕ → Type 0
   ArgumentsOn m text = (fs : List Formula) (r : Ranges) (rest : List ℕ) → length rest < m → ArgumentsSoFar s g text fs r rest → ArgumentsOutcome s g text
@@ -144,26 +144,26 @@ module _ (s : Shape) (g : Function) (n : ℕ) (inner : Reader s 0 n) where
 
 -- ---- operands
 
-signed : (s : Shape) (text mid : List ℕ) (g : Sign) → Ok (leads.Prefix g, mid) ≡ lead_at s text → length mid < length text → Outcome (Operand s mid) s mid → Outcome (Operand s text) s text
+signed : (s : Scope) (text mid : List ℕ) (g : Sign) → Ok (leads.Prefix g, mid) ≡ lead_at s text → length mid < length text → Outcome (Operand s mid) s mid → Outcome (Operand s text) s text
 signed s text mid g e h (found f r rest v j) = found _ _ rest (sign (sym e) v) (omega (arith, h, j))
 signed s text mid g e h (refused stop x) = refused stop (sign_refused s text g mid (Stopped stop) e x)
 
-closed : (s : Shape) (text opened : List ℕ) (f : Formula) (r : Ranges) (mid : List ℕ) → Ok (leads.Open, opened) ≡ lead_at s text → length opened < length text → Level s 0 opened f r mid → length mid < length opened
+closed : (s : Scope) (text opened : List ℕ) (f : Formula) (r : Ranges) (mid : List ℕ) → Ok (leads.Open, opened) ≡ lead_at s text → length opened < length text → Level s 0 opened f r mid → length mid < length opened
     → (x : Result (List ℕ) Stop) → x ≡ close_at mid → Outcome (Operand s text) s text
 closed s text opened f r mid e h v j (Ok rest) c =
     let k = close_here mid rest c in
     found f r rest (group (sym e) v k) (omega (arith, h, j, follow_shorter mid _ rest k))
 closed s text opened f r mid e h v j (Err stop) c = refused stop (group_unclosed s text opened f r mid stop e v c)
 
-grouped : (s : Shape) (text opened : List ℕ) → Ok (leads.Open, opened) ≡ lead_at s text → length opened < length text → Outcome (Level s 0 opened) s opened → Outcome (Operand s text) s text
+grouped : (s : Scope) (text opened : List ℕ) → Ok (leads.Open, opened) ≡ lead_at s text → length opened < length text → Outcome (Level s 0 opened) s opened → Outcome (Operand s text) s text
 grouped s text opened e h (found f r mid v j) = closed s text opened f r mid e h v j (close_at mid) refl
 grouped s text opened e h (refused stop x) = refused stop (group_refused s text opened (Stopped stop) e x)
 
-called : (s : Shape) (g : Function) (n : ℕ) (inner : Reader s 0 n) (text : List ℕ) (name : ℕ) (mid : List ℕ) → Ok (leads.Name g name, mid) ≡ lead_at s text → length mid < length text → CallOutcome s g n inner name mid → Outcome (Operand s text) s text
+called : (s : Scope) (g : Function) (n : ℕ) (inner : Reader s 0 n) (text : List ℕ) (name : ℕ) (mid : List ℕ) → Ok (leads.Name g name, mid) ≡ lead_at s text → length mid < length text → CallOutcome s g n inner name mid → Outcome (Operand s text) s text
 called s g n inner text name mid e h (call_found fs r rest v j) = found _ r rest (call (sym e) v) (omega (arith, h, j))
 called s g n inner text name mid e h (call_stop stop x) = refused stop (call_refused s text g name mid (Stopped stop) e x)
 
-operand_at : (s : Shape) (n : ℕ) → OperandReader s n → (text : List ℕ) → length text < suc n → (x : Read Lead) → x ≡ lead_at s text → Outcome (Operand s text) s text
+operand_at : (s : Scope) (n : ℕ) → OperandReader s n → (text : List ℕ) → length text < suc n → (x : Read Lead) → x ≡ lead_at s text → Outcome (Operand s text) s text
 operand_at s n shorter text k (Err stop) e = refused stop (lead_refused s text stop e)
 operand_at s n shorter text k (Ok (leads.Leaf l, rest)) e = found (leaf_formula l) (leaf_ranges l) rest (leaf (sym e)) (lead_shorter s text _ rest e)
 operand_at s n shorter text k (Ok (leads.Prefix g, mid)) e = let h = lead_shorter s text _ mid e in signed s text mid g e h (shorter mid (omega (arith, h, k)))
@@ -172,26 +172,26 @@ operand_at s n shorter text k (Ok (leads.Name g name, mid)) e =
     let h = lead_shorter s text _ mid e in
     called s g n (all_levels s n shorter 0 (omega arith)) text name mid e h (call_at s g n (all_levels s n shorter 0 (omega arith)) name mid (omega (arith, h, k)) (byte_at 40 (skipped mid)) refl)
 
-operands : (s : Shape) (n : ℕ) → OperandReader s n
+operands : (s : Scope) (n : ℕ) → OperandReader s n
 operands s zero text k = absurd (omega (arith, k))
 operands s (suc n) text k = operand_at s n (operands s n) text k (lead_at s text) refl
 
 -- ---- whole texts
 
 -- the whole text is that of an expression, or it has a first fault
-data WholeOutcome (s : Shape) (text : List ℕ) : Type 0 where
+data WholeOutcome (s : Scope) (text : List ℕ) : Type 0 where
   whole_found : (f : Formula) (r : Ranges) → Expression s text f r → WholeOutcome s text
   whole_stop : (stop : Stop) → Faulty s AnOperand [] text stop → WholeOutcome s text
 
-whole_end : (s : Shape) (text : List ℕ) (f : Formula) (r : Ranges) (mid : List ℕ) → Level s 0 text f r mid → (x : Result (List ℕ) Stop) → x ≡ end_at mid → WholeOutcome s text
+whole_end : (s : Scope) (text : List ℕ) (f : Formula) (r : Ranges) (mid : List ℕ) → Level s 0 text f r mid → (x : Result (List ℕ) Stop) → x ≡ end_at mid → WholeOutcome s text
 whole_end s text f r mid v (Ok rest) e = whole_found f r (mid, rest, v, end_here mid rest e)
 whole_end s text f r mid v (Err stop) e = whole_stop stop (whole_unended s text f r mid stop v e)
 
-whole_level : (s : Shape) (text : List ℕ) → Outcome (Level s 0 text) s text → WholeOutcome s text
+whole_level : (s : Scope) (text : List ℕ) → Outcome (Level s 0 text) s text → WholeOutcome s text
 whole_level s text (found f r mid v j) = whole_end s text f r mid v (end_at mid) refl
 whole_level s text (refused stop x) = whole_stop stop (whole_refused s text (Stopped stop) x)
 
-whole : (s : Shape) (text : List ℕ) → WholeOutcome s text
+whole : (s : Scope) (text : List ℕ) → WholeOutcome s text
 whole s text = whole_level s text (all_levels s (suc (length text)) (operands s (suc (length text))) 0 (omega arith) text (omega arith))
 
 -- ---- contents and faults
@@ -205,15 +205,15 @@ fits_or_not f = elim (cases_lt NODE_LIMIT (nodes f)) [
   ]
 ]
 
-fitting : (s : Shape) (text body : List ℕ) (f : Formula) (r : Ranges) → length text ≤ TEXT_LIMIT → expression_of text ≡ Some body → Expression s body f r → misplaced r ≡ None → Fits f ⊎ (Fits f → ⊥) → IsAnswered s text
+fitting : (s : Shape) (text body : List ℕ) (f : Formula) (r : Ranges) → length text ≤ TEXT_LIMIT → expression_of text ≡ Some body → Expression (scope_of s) body f r → misplaced r ≡ None → Fits f ⊎ (Fits f → ⊥) → IsAnswered s text
 fitting s text body f r l b v p (inl fits) = inl (_, record { short = l; reads = computed text body f r b v p fits })
 fitting s text body f r l b v p (inr large) = inr (_, within _ l (too_deep text body f r b v p large))
 
-placing : (s : Shape) (text body : List ℕ) (f : Formula) (r : Ranges) → length text ≤ TEXT_LIMIT → expression_of text ≡ Some body → Expression s body f r → (x : Option ℕ) → x ≡ misplaced r → IsAnswered s text
+placing : (s : Shape) (text body : List ℕ) (f : Formula) (r : Ranges) → length text ≤ TEXT_LIMIT → expression_of text ≡ Some body → Expression (scope_of s) body f r → (x : Option ℕ) → x ≡ misplaced r → IsAnswered s text
 placing s text body f r l b v None p = fitting s text body f r l b v (sym p) (fits_or_not f)
 placing s text body f r l b v (Some left) p = inr (_, within _ l (range text body f r left b v (sym p)))
 
-formula_read : (s : Shape) (text body : List ℕ) → length text ≤ TEXT_LIMIT → expression_of text ≡ Some body → WholeOutcome s body → IsAnswered s text
+formula_read : (s : Shape) (text body : List ℕ) → length text ≤ TEXT_LIMIT → expression_of text ≡ Some body → WholeOutcome (scope_of s) body → IsAnswered s text
 formula_read s text body l b (whole_found f r v) = placing s text body f r l b v (misplaced r) refl
 formula_read s text body l b (whole_stop stop x) = inr (_, within _ l (in_formula text body stop b x))
 
@@ -223,10 +223,10 @@ constant_read s text some l b (Err stop) e = inr (_, within _ l (in_constant tex
 
 text_read : (s : Shape) (text : List ℕ) → 0 < length text → length text ≤ TEXT_LIMIT → (x : Option (List ℕ)) → x ≡ expression_of text → IsAnswered s text
 text_read s text some l None e = constant_read s text some l (sym e) (constant_of text) refl
-text_read s text some l (Some body) e = formula_read s text body l (sym e) (whole s body)
+text_read s text some l (Some body) e = formula_read s text body l (sym e) (whole (scope_of s) body)
 
 short_read : (s : Shape) (text : List ℕ) → length text ≤ TEXT_LIMIT → IsAnswered s text
-short_read s [] l = inl (_, blank_read s [] refl)
+short_read s [] l = inl (_, blank_read (scope_of s) [] refl)
 short_read s (b ∷ bs) l = text_read s (b ∷ bs) (omega arith) l (expression_of (b ∷ bs)) refl
 
 -- each text has a content or a fault

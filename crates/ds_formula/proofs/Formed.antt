@@ -1,5 +1,5 @@
 -- What was read is well formed, and how its ranges stand follows from it.
-use Rattle.std.proofs.Common.{◌≡◌, ◌⊎◌, inl, inr, ℕ, ℤ, pos, ◌-◌, ◌^◌, ◌≤◌, Bool, true, false, cond, leb, eqb, ◌&&◌, List, [], ◌∷◌, take, drop, Option, Some, None, Result, Ok, Err, refl, sym, ap, subst, ◌∙◌, arith}
+use Rattle.std.proofs.Common.{◌≡◌, ◌⊎◌, inl, inr, ℕ, ℤ, pos, ◌-◌, ◌^◌, ◌≤◌, Bool, true, false, cond, leb, eqb, ◌&&◌, List, [], ◌∷◌, drop, Option, Some, None, Result, Ok, Err, refl, sym, ap, subst, ◌∙◌, arith}
 use Rattle.std.proofs.lemmas.Bool.{leb-true}
 use Rattle.std.specs.Char.{is_ascii_digit, is_ascii_alphabetic}
 use Rattle.ds_formula.specs.declared.cells.Shape.{Shape}
@@ -20,9 +20,9 @@ use Rattle.ds_formula.specs.Plain.{Formula, Literal, At, Area, Signed, Joined, C
 use Rattle.ds_formula.specs.Refs.{Mentions, SomeMentions, Refers}
 use Rattle.ds_formula.specs.Bytes.{Read, ◌>>=◌, stop_at, unexpected_stop, begins, skipped, number_from, goes_on_as_fraction, number_at, byte_at}
 use Rattle.ds_formula.specs.References.{letters_at, row_at, without_dollar, cell_of, corner_at, inside_sheet, both_inside, behind_corner, reference_at}
-use Rattle.ds_formula.specs.Functions.{takes, takes_ranges, function_named}
+use Rattle.ds_formula.specs.Functions.{Scope, takes, takes_ranges, function_named}
 use Rattle.ds_formula.specs.Ranges.{used, first_of, as_argument, misplaced}
-use Rattle.ds_formula.specs.Tokens.{word_length, known, name_at, lead_of, lead_at}
+use Rattle.ds_formula.specs.Tokens.{word_length, word_at, known, name_at, lead_of, lead_at}
 use Rattle.ds_formula.specs.Forms.{leaf_formula, leaf_ranges, Operand, leaf, sign, group, call, Call, bracketed, Arguments, last, more, Level, tightest, looser, Chain, ends, goes_on}
 use Rattle.ds_formula.specs.Grammar.{ReadsLong, blank, constant, computed}
 
@@ -177,7 +177,7 @@ name_good : (s : Shape) (text : List ℕ) (f : Option Function) (rest : List ℕ
 name_good s text (Some f) rest = tt
 name_good s text None rest = tt
 
-lead_good : (s : Shape) (text : List ℕ) → LeadGood s (lead_of s text)
+lead_good : (s : Scope) (text : List ℕ) → LeadGood s.shape (lead_of s text)
 unfolding lead_of name_at
 lead_good s [] = tt
 lead_good s (b ∷ bs) =
@@ -185,25 +185,25 @@ lead_good s (b ∷ bs) =
     let open_one : Read Lead = Ok (leads.Open, bs) in
     let plus : Read Lead = Ok (leads.Prefix Plus, bs) in
     let minus : Read Lead = Ok (leads.Prefix Minus, bs) in
-    let ref : Read Lead = reference_at s text >>= λ x. Ok (leads.Leaf x.0, x.1) in
+    let ref : Read Lead = reference_at s.shape text >>= λ x. Ok (leads.Leaf x.0, x.1) in
     let num : Read Lead = number_at (2 ^ 63 - 1) text >>= λ x. Ok (leads.Leaf (Number (pos x.0)), x.1) in
     let none : Read Lead = Err (unexpected_stop text) in
-    let y5 : Read Lead = cond (is_ascii_alphabetic b) (name_at text) none in
+    let y5 : Read Lead = cond (is_ascii_alphabetic b) (name_at s.functions text) none in
     let y4 : Read Lead = cond (is_ascii_digit b) num y5 in
     let y3 : Read Lead = cond (eqb b 91) ref y4 in
     let y2 : Read Lead = cond (eqb b 45) minus y3 in
     let y1 : Read Lead = cond (eqb b 43) plus y2 in
-    either (LeadGood s) (eqb b 40) open_one y1 (λ _. tt)
-    (λ _. either (LeadGood s) (eqb b 43) plus y2 (λ _. tt)
-    (λ _. either (LeadGood s) (eqb b 45) minus y3 (λ _. tt)
-    (λ _. either (LeadGood s) (eqb b 91) ref y4 (λ _. bind_with (LeafGood s) (LeadGood s) (reference_at s text) (λ x. Ok (leads.Leaf x.0, x.1)) (reference_good s text) (λ _. tt) (λ x p. p))
-    (λ _. either (LeadGood s) (is_ascii_digit b) num y5
-    (λ _. bind_with (NumberGood (2 ^ 63 - 1)) (LeadGood s) (number_at (2 ^ 63 - 1) text) (λ x. Ok (leads.Leaf (Number (pos x.0)), x.1)) (number_good (2 ^ 63 - 1) text) (λ _. tt) (λ x p. record { value = x.0; is = refl; small = p }))
-    (λ _. either (LeadGood s) (is_ascii_alphabetic b) (name_at text) none (λ _. name_good s text (function_named (take (word_length text) text)) (drop (word_length text) text)) (λ _. tt))))))
+    either (LeadGood s.shape) (eqb b 40) open_one y1 (λ _. tt)
+    (λ _. either (LeadGood s.shape) (eqb b 43) plus y2 (λ _. tt)
+    (λ _. either (LeadGood s.shape) (eqb b 45) minus y3 (λ _. tt)
+    (λ _. either (LeadGood s.shape) (eqb b 91) ref y4 (λ _. bind_with (LeafGood s.shape) (LeadGood s.shape) (reference_at s.shape text) (λ x. Ok (leads.Leaf x.0, x.1)) (reference_good s.shape text) (λ _. tt) (λ x p. p))
+    (λ _. either (LeadGood s.shape) (is_ascii_digit b) num y5
+    (λ _. bind_with (NumberGood (2 ^ 63 - 1)) (LeadGood s.shape) (number_at (2 ^ 63 - 1) text) (λ x. Ok (leads.Leaf (Number (pos x.0)), x.1)) (number_good (2 ^ 63 - 1) text) (λ _. tt) (λ x p. record { value = x.0; is = refl; small = p }))
+    (λ _. either (LeadGood s.shape) (is_ascii_alphabetic b) (name_at s.functions text) none (λ _. name_good s.shape text (function_named s.functions (word_at text)) (drop (word_length text) text)) (λ _. tt))))))
 
-leaf_formed : (s : Shape) (text : List ℕ) (l : Leaf) (rest : List ℕ) → lead_at s text ≡ Ok (leads.Leaf l, rest) → Formed s (leaf_formula l)
+leaf_formed : (s : Scope) (text : List ℕ) (l : Leaf) (rest : List ℕ) → lead_at s text ≡ Ok (leads.Leaf l, rest) → Formed s.shape (leaf_formula l)
 unfolding lead_at
-leaf_formed s text l rest e = subst (λ (x : Read Lead). LeadGood s x) e (lead_good s (skipped text))
+leaf_formed s text l rest e = subst (λ (x : Read Lead). LeadGood s.shape x) e (lead_good s (skipped text))
 
 -- ---- forms
 
@@ -259,18 +259,18 @@ leaf_kind (Number n) = refl
 leaf_kind (Reference c) = refl
 leaf_kind (Range r n) = refl
 
-module _ {s : Shape} where
+module _ {s : Scope} where
   mutual
-    operand_good : {text rest : List ℕ} {f : Formula} {r : Ranges} → Operand s text f r rest → Good s f r
+    operand_good : {text rest : List ℕ} {f : Formula} {r : Ranges} → Operand s text f r rest → Good s.shape f r
     operand_good (leaf {text} {l = l} {rest = rest} h) = record { formed = leaf_formed s text l rest h; kinds = leaf_kind l }
     operand_good (sign {r = r} h v) = let d = operand_good v in record { formed = d.formed; kinds = kind_used r ∙ ap used d.kinds }
     operand_good (group h v k) = level_good v
     operand_good (call h v) = call_good v
 
-    call_good : {g : Function} {text rest : List ℕ} {fs : Formulas} {r : Ranges} → Call s g text fs r rest → Good s (Called g fs) r
+    call_good : {g : Function} {text rest : List ℕ} {fs : Formulas} {r : Ranges} → Call s g text fs r rest → Good s.shape (Called g fs) r
     call_good (bracketed h v k y) = let d = arguments_good v in record { formed = (y, d.formed); kinds = d.kinds }
 
-    arguments_good : {g : Function} {text rest : List ℕ} {fs : Formulas} {r : Ranges} → Arguments s g text fs r rest → AllGood s g fs r
+    arguments_good : {g : Function} {text rest : List ℕ} {fs : Formulas} {r : Ranges} → Arguments s g text fs r rest → AllGood s.shape g fs r
     arguments_good {g} (last {f = f} {r = r} v n) =
         let d = level_good v in record { formed = (d.formed, tt); kinds = kind_argument g r ∙ ap (as_argument g) d.kinds ∙ sym (first_placed (as_argument g (kind_of f))) }
     arguments_good {g} (more {f = f} {fs = fs} {r = r} {s = t} v h w) =
@@ -281,11 +281,11 @@ module _ {s : Shape} where
         let a = kind_argument g r in
         record { formed = (d.formed, e.formed); kinds = kind_first (as_argument g r) t ∙ cc }
 
-    pub level_good : {l : ℕ} {text rest : List ℕ} {f : Formula} {r : Ranges} → Level s l text f r rest → Good s f r
+    pub level_good : {l : ℕ} {text rest : List ℕ} {f : Formula} {r : Ranges} → Level s l text f r rest → Good s.shape f r
     level_good (tightest h v) = operand_good v
     level_good (looser h v w) = chain_good w (level_good v)
 
-    chain_good : {l : ℕ} {text rest : List ℕ} {f g : Formula} {r t : Ranges} → Chain s l f r text g t rest → Good s f r → Good s g t
+    chain_good : {l : ℕ} {text rest : List ℕ} {f g : Formula} {r t : Ranges} → Chain s l f r text g t rest → Good s.shape f r → Good s.shape g t
     chain_good (ends n) d = d
     chain_good (goes_on {r = r} {s = u} h e v w) d =
         let b = level_good v in

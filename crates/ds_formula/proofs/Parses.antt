@@ -1,7 +1,6 @@
 -- What the reader of levels has found so far, and what is behind its forms.
 use Rattle.std.proofs.Common.{◌≡◌, ◌⊎◌, inl, inr, ℕ, zero, suc, ◌+◌, ◌-◌, ◌<◌, ◌≤◌, List, [], ◌∷◌, length, Ok, Err, refl, sym, ap, subst, arith, add-one}
 use Rattle.std.proofs.lemmas.Bool.{cases_lt}
-use Rattle.ds_formula.specs.declared.cells.Shape.{Shape}
 use Rattle.ds_formula.specs.declared.content.Operator.{Operator}
 use Rattle.ds_formula.specs.declared.content.Operator.TheVariants.{Multiply, Add, Subtract, Equal, NotEqual, Less, Greater, LessOrEqual, GreaterOrEqual}
 use Rattle.ds_formula.specs.declared.content.Function.{Function}
@@ -12,6 +11,7 @@ use Rattle.ds_formula.specs.declared.tokens.Lead.TheVariants as leads
 use Rattle.ds_formula.specs.declared.tokens.Follow.TheVariants.{Infix}
 use Rattle.ds_formula.specs.declared.parser.Refusal.{Refusal}
 use Rattle.ds_formula.specs.declared.parser.Refusal.TheVariants.{Memory, Stopped}
+use Rattle.ds_formula.specs.Functions.{Scope}
 use Rattle.ds_formula.specs.Plain.{Formula, Joined}
 use Rattle.ds_formula.specs.Ranges.{used, first_of}
 use Rattle.ds_formula.specs.Tokens.{lead_at, follow_at}
@@ -22,7 +22,7 @@ use Rattle.ds_formula.proofs.Walks.{joined, lead_step, follow_step, level_walk}
 use Rattle.ds_formula.proofs.Steps.{NoOperator, NoneFrom, same_operator, group_open, whole_open}
 
 -- a refusal of what is behind a walk
-pub later : (s : Shape) (d : Due) (text : List ℕ) (e : Due) (mid : List ℕ) (x : Refusal) → ((i : List Bracket) → (j : List Bracket) × Walk s d i text e j mid) → RefusesAt s e mid x → RefusesAt s d text x
+pub later : (s : Scope) (d : Due) (text : List ℕ) (e : Due) (mid : List ℕ) (x : Refusal) → ((i : List Bracket) → (j : List Bracket) × Walk s d i text e j mid) → RefusesAt s e mid x → RefusesAt s d text x
 later s d text e mid Memory w r = tt
 later s d text e mid (Stopped stop) w r = λ i.
     let v = w i in
@@ -30,7 +30,7 @@ later s d text e mid (Stopped stop) w r = λ i.
     (f.0, f.1, f.2, joined v.1 f.3, f.4)
 
 -- the turn where an operand is due is a fault
-pub lead_refused : (s : Shape) (text : List ℕ) (stop : Stop) → Err stop ≡ lead_at s text → Refuses s text (Stopped stop)
+pub lead_refused : (s : Scope) (text : List ℕ) (stop : Stop) → Err stop ≡ lead_at s text → Refuses s text (Stopped stop)
 lead_refused s text stop e = λ i. (AnOperand, i, text, stay, ap (by_lead i) (sym e))
 
 -- ---- what is behind a form
@@ -57,15 +57,15 @@ at_end l text n inner o after e (inl same) = n o after e same
 at_end l text n inner o after e (inr above) = inner o after above e
 
 mutual
-  none_behind : (s : Shape) (l : ℕ) (text : List ℕ) (f : Formula) (r : Ranges) (rest : List ℕ) → Level s l text f r rest → NoneFrom l rest
+  none_behind : (s : Scope) (l : ℕ) (text : List ℕ) (f : Formula) (r : Ranges) (rest : List ℕ) → Level s l text f r rest → NoneFrom l rest
   none_behind s l text f r rest (tightest h v) o after k e = let m = most o in omega (arith, k, h, m)
   none_behind s l text f r rest (looser h v w) o after k e = none_after s l _ _ _ _ _ _ w (none_behind s (suc l) text _ _ _ v) o after k e
 
-  none_after : (s : Shape) (l : ℕ) (f : Formula) (r : Ranges) (text : List ℕ) (g : Formula) (t : Ranges) (rest : List ℕ) → Chain s l f r text g t rest → NoneFrom (suc l) text → NoneFrom l rest
+  none_after : (s : Scope) (l : ℕ) (f : Formula) (r : Ranges) (text : List ℕ) (g : Formula) (t : Ranges) (rest : List ℕ) → Chain s l f r text g t rest → NoneFrom (suc l) text → NoneFrom l rest
   none_after s l f r text g t rest (ends n) inner o after k e = at_end l rest n inner o after e (le_cases l (level_of o) k)
   none_after s l f r text g t rest (goes_on h p v w) inner o after k e = none_after s l _ _ _ _ _ _ w (none_behind s (suc l) _ _ _ _ v) o after k e
 
-pub no_operator : (s : Shape) (text : List ℕ) (f : Formula) (r : Ranges) (rest : List ℕ) → Level s 0 text f r rest → NoOperator rest
+pub no_operator : (s : Scope) (text : List ℕ) (f : Formula) (r : Ranges) (rest : List ℕ) → Level s 0 text f r rest → NoOperator rest
 no_operator s text f r rest v o after e = none_behind s 0 text f r rest v o after (omega arith) e
 
 -- ---- levels, as operators are added
@@ -73,7 +73,7 @@ no_operator s text f r rest v o after e = none_behind s 0 text f r rest v o afte
 none_of : (l : ℕ) (text : List ℕ) → NoneFrom l text → NoneOf l text
 none_of l text n o behind e k = n o behind (omega (arith, k)) e
 
-module _ (s : Shape) (text : List ℕ) (f : Formula) (r : Ranges) (rest : List ℕ) where
+module _ (s : Scope) (text : List ℕ) (f : Formula) (r : Ranges) (rest : List ℕ) where
   lower : (d k : ℕ) → k + d ≤ 3 → Level s (k + d) text f r rest → NoneFrom k rest → Level s k text f r rest
   lower zero k l v n = subst (λ (x : ℕ). Level s x text f r rest) (let e : k + 0 ≡ k = omega arith in e) v
   lower (suc d) k l v n =
@@ -88,21 +88,21 @@ module _ (s : Shape) (text : List ℕ) (f : Formula) (r : Ranges) (rest : List �
       lower (j - k) k (omega (arith, l, m)) (subst (λ (x : ℕ). Level s x text f r rest) e v) n
 
 -- a form that operators of the level may still be added to: at the tightest level it is an operand
-pub data Open (s : Shape) (l : ℕ) (text : List ℕ) (f : Formula) (r : Ranges) (rest : List ℕ) : Type 0 where
+pub data Open (s : Scope) (l : ℕ) (text : List ℕ) (f : Formula) (r : Ranges) (rest : List ℕ) : Type 0 where
   bare : l ≡ 3 → Operand s text f r rest → Open s l text f r rest
   begun : {start : Formula} {starts : Ranges} {mid : List ℕ}
       → l < 3 → Level s (suc l) text start starts mid → ((h : Formula) (t : Ranges) (end : List ℕ) → Chain s l f r rest h t end → Chain s l start starts mid h t end) → Open s l text f r rest
 
-closed : {s : Shape} {l : ℕ} {text : List ℕ} {f : Formula} {r : Ranges} {rest : List ℕ} → Open s l text f r rest → NoneOf l rest → Level s l text f r rest
+closed : {s : Scope} {l : ℕ} {text : List ℕ} {f : Formula} {r : Ranges} {rest : List ℕ} → Open s l text f r rest → NoneOf l rest → Level s l text f r rest
 closed (bare e v) n = tightest e v
 closed (begun k v on) n = looser k v (on _ _ _ (ends n))
 
-at_most : {s : Shape} {l : ℕ} {text : List ℕ} {f : Formula} {r : Ranges} {rest : List ℕ} → Open s l text f r rest → l ≤ 3
+at_most : {s : Scope} {l : ℕ} {text : List ℕ} {f : Formula} {r : Ranges} {rest : List ℕ} → Open s l text f r rest → l ≤ 3
 at_most (bare e v) = omega (arith, e)
 at_most (begun k v on) = omega (arith, k)
 
 -- an operand, and what the operators of this level and of tighter ones added so far: the last was of the open level
-pub record ClimbSoFar (s : Shape) (at : ℕ) (text : List ℕ) (f : Formula) (r : Ranges) (rest : List ℕ) : Type 0 where
+pub record ClimbSoFar (s : Scope) (at : ℕ) (text : List ℕ) (f : Formula) (r : Ranges) (rest : List ℕ) : Type 0 where
   pub level : ℕ
   pub from : at ≤ level
   pub so_far : Open s level text f r rest
@@ -110,7 +110,7 @@ pub record ClimbSoFar (s : Shape) (at : ℕ) (text : List ℕ) (f : Formula) (r 
   pub walked : (i : List Bracket) → Walk s AnOperand i text AnOperator i rest
   pub shorter : length rest < length text
 
-pub climb_first : (s : Shape) (at : ℕ) (text : List ℕ) (f : Formula) (r : Ranges) (rest : List ℕ) → at ≤ 3 → Operand s text f r rest → length rest < length text → ClimbSoFar s at text f r rest
+pub climb_first : (s : Scope) (at : ℕ) (text : List ℕ) (f : Formula) (r : Ranges) (rest : List ℕ) → at ≤ 3 → Operand s text f r rest → length rest < length text → ClimbSoFar s at text f r rest
 climb_first s at text f r rest k v j =
     record {
       level = 3;
@@ -122,20 +122,20 @@ climb_first s at text f r rest k v j =
     }
 
 -- the operator at the front is of the open level, or of a looser one
-no_tighter : (s : Shape) (at : ℕ) (text : List ℕ) (f : Formula) (r : Ranges) (rest : List ℕ) (o : Operator) (after : List ℕ)
+no_tighter : (s : Scope) (at : ℕ) (text : List ℕ) (f : Formula) (r : Ranges) (rest : List ℕ) (o : Operator) (after : List ℕ)
     → (so : ClimbSoFar s at text f r rest) → follow_at rest ≡ Ok (Infix o, after) → (so.level ≡ level_of o) ⊎ (suc (level_of o) ≤ so.level)
 no_tighter s at text f r rest o after so h = elim (cases_lt so.level (level_of o)) [
   | inl lt ↦ absurd (so.tighter o after (omega (arith, lt)) h)
   | inr le ↦ le_cases (level_of o) so.level le
 ]
 
-added_same : (s : Shape) (l : ℕ) (text : List ℕ) (f : Formula) (r : Ranges) (rest : List ℕ) (o : Operator) (after : List ℕ) (g : Formula) (t : Ranges) (behind : List ℕ)
+added_same : (s : Scope) (l : ℕ) (text : List ℕ) (f : Formula) (r : Ranges) (rest : List ℕ) (o : Operator) (after : List ℕ) (g : Formula) (t : Ranges) (behind : List ℕ)
     → Open s l text f r rest → follow_at rest ≡ Ok (Infix o, after) → level_of o ≡ l → Level s (suc l) after g t behind → Open s l text (Joined o f g) (first_of (used r) (used t)) behind
 added_same s l text f r rest o after g t behind (bare e v) h same w = absurd (let m = most o in omega (arith, m, e, same))
 added_same s l text f r rest o after g t behind (begun k v on) h same w = begun k v (λ x y end c. on x y end (goes_on h same w c))
 
 -- the operator and its right side, added to what is open
-added : (s : Shape) (l : ℕ) (text : List ℕ) (f : Formula) (r : Ranges) (rest : List ℕ) (o : Operator) (after : List ℕ) (g : Formula) (t : Ranges) (behind : List ℕ)
+added : (s : Scope) (l : ℕ) (text : List ℕ) (f : Formula) (r : Ranges) (rest : List ℕ) (o : Operator) (after : List ℕ) (g : Formula) (t : Ranges) (behind : List ℕ)
     → Open s l text f r rest → follow_at rest ≡ Ok (Infix o, after) → Level s (suc (level_of o)) after g t behind → (l ≡ level_of o) ⊎ (suc (level_of o) ≤ l)
     → Open s (level_of o) text (Joined o f g) (first_of (used r) (used t)) behind
 added s l text f r rest o after g t behind grown h w (inl same) =
@@ -146,7 +146,7 @@ added s l text f r rest o after g t behind grown h w (inr below) =
     let all = closed grown (λ p mid e a. none p mid (omega (arith, a, below)) e) in
     begun (most o) (lowered s text f r rest l (suc (level_of o)) below (at_most grown) all none) (λ x y end c. goes_on h refl w c)
 
-pub climb_more : (s : Shape) (at : ℕ) (text : List ℕ) (f : Formula) (r : Ranges) (rest : List ℕ) (o : Operator) (after : List ℕ) (g : Formula) (t : Ranges) (behind : List ℕ)
+pub climb_more : (s : Scope) (at : ℕ) (text : List ℕ) (f : Formula) (r : Ranges) (rest : List ℕ) (o : Operator) (after : List ℕ) (g : Formula) (t : Ranges) (behind : List ℕ)
     → ClimbSoFar s at text f r rest → (follow_at rest ≡ Ok (Infix o, after)) × (at ≤ level_of o) → length after ≤ length rest → Level s (level_of o + 1) after g t behind → length behind < length after
     → ClimbSoFar s at text (Joined o f g) (first_of (used r) (used t)) behind
 climb_more s at text f r rest o after g t behind so h shrinks v k =
@@ -160,34 +160,34 @@ climb_more s at text f r rest o after g t behind so h shrinks v k =
       shorter = omega (arith, so.shorter, k, shrinks);
     }
 
-pub climb_done : (s : Shape) (at : ℕ) (text : List ℕ) (f : Formula) (r : Ranges) (rest : List ℕ) → ClimbSoFar s at text f r rest → NoneFrom at rest → Level s at text f r rest
+pub climb_done : (s : Scope) (at : ℕ) (text : List ℕ) (f : Formula) (r : Ranges) (rest : List ℕ) → ClimbSoFar s at text f r rest → NoneFrom at rest → Level s at text f r rest
 climb_done s at text f r rest so n =
     lowered s text f r rest so.level at so.from (at_most so.so_far) (closed so.so_far (λ o mid e k. n o mid (omega (arith, k, so.from)) e)) n
 
-pub climb_refused : (s : Shape) (at : ℕ) (text : List ℕ) (f : Formula) (r : Ranges) (rest : List ℕ) (o : Operator) (after : List ℕ) (e : Refusal)
+pub climb_refused : (s : Scope) (at : ℕ) (text : List ℕ) (f : Formula) (r : Ranges) (rest : List ℕ) (o : Operator) (after : List ℕ) (e : Refusal)
     → ClimbSoFar s at text f r rest → (follow_at rest ≡ Ok (Infix o, after)) × (at ≤ level_of o) → Refuses s after e → Refuses s text e
 climb_refused s at text f r rest o after e so h x = later s AnOperand text AnOperand after e (λ i. (i, joined (so.walked i) (follow_step h.0 refl))) x
 
 -- ---- operands
 
-pub sign_refused : (s : Shape) (text : List ℕ) (g : Sign) (mid : List ℕ) (e : Refusal) → Ok (leads.Prefix g, mid) ≡ lead_at s text → Refuses s mid e → Refuses s text e
+pub sign_refused : (s : Scope) (text : List ℕ) (g : Sign) (mid : List ℕ) (e : Refusal) → Ok (leads.Prefix g, mid) ≡ lead_at s text → Refuses s mid e → Refuses s text e
 sign_refused s text g mid e h x = later s AnOperand text AnOperand mid e (λ i. (i, lead_step (sym h) refl)) x
 
-pub group_refused : (s : Shape) (text inner : List ℕ) (e : Refusal) → Ok (leads.Open, inner) ≡ lead_at s text → Refuses s inner e → Refuses s text e
+pub group_refused : (s : Scope) (text inner : List ℕ) (e : Refusal) → Ok (leads.Open, inner) ≡ lead_at s text → Refuses s inner e → Refuses s text e
 group_refused s text inner e h x = later s AnOperand text AnOperand inner e (λ i. (Group ∷ i, lead_step (sym h) refl)) x
 
-pub group_unclosed : (s : Shape) (text inner : List ℕ) (f : Formula) (r : Ranges) (mid : List ℕ) (stop : Stop)
+pub group_unclosed : (s : Scope) (text inner : List ℕ) (f : Formula) (r : Ranges) (mid : List ℕ) (stop : Stop)
     → Ok (leads.Open, inner) ≡ lead_at s text → Level s 0 inner f r mid → Err stop ≡ close_at mid → Refuses s text (Stopped stop)
 group_unclosed s text inner f r mid stop h v e = λ i. (AnOperator, Group ∷ i, mid, joined (lead_step (sym h) refl) (level_walk v (Group ∷ i)), group_open i mid stop (no_operator s inner f r mid v) e)
 
-pub call_refused : (s : Shape) (text : List ℕ) (g : Function) (left : ℕ) (mid : List ℕ) (e : Refusal) → Ok (leads.Name g left, mid) ≡ lead_at s text → CallRefuses s g left mid e → Refuses s text e
+pub call_refused : (s : Scope) (text : List ℕ) (g : Function) (left : ℕ) (mid : List ℕ) (e : Refusal) → Ok (leads.Name g left, mid) ≡ lead_at s text → CallRefuses s g left mid e → Refuses s text e
 call_refused s text g left mid e h x = later s AnOperand text (ItsBracket g left) mid e (λ i. (i, lead_step (sym h) refl)) x
 
 -- ---- whole texts
 
-pub whole_refused : (s : Shape) (text : List ℕ) (e : Refusal) → Refuses s text e → WholeRefuses s text e
+pub whole_refused : (s : Scope) (text : List ℕ) (e : Refusal) → Refuses s text e → WholeRefuses s text e
 whole_refused s text Memory x = tt
 whole_refused s text (Stopped stop) x = x []
 
-pub whole_unended : (s : Shape) (text : List ℕ) (f : Formula) (r : Ranges) (rest : List ℕ) (stop : Stop) → Level s 0 text f r rest → Err stop ≡ end_at rest → WholeRefuses s text (Stopped stop)
+pub whole_unended : (s : Scope) (text : List ℕ) (f : Formula) (r : Ranges) (rest : List ℕ) (stop : Stop) → Level s 0 text f r rest → Err stop ≡ end_at rest → WholeRefuses s text (Stopped stop)
 whole_unended s text f r rest stop v e = (AnOperator, [], rest, level_walk v [], whole_open rest stop (no_operator s text f r rest v) e)

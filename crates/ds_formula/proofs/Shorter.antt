@@ -18,7 +18,7 @@ use Rattle.ds_formula.specs.declared.tokens.Lead.TheVariants as leads
 use Rattle.ds_formula.specs.declared.tokens.Follow.{Follow}
 use Rattle.ds_formula.specs.Bytes.{Read, ◌>>=◌, stop_at, unexpected_stop, begins, is_space, skipped, number_from, goes_on_as_fraction, number_at, byte_at}
 use Rattle.ds_formula.specs.References.{without_dollar, letters_from, letters_at, row_at, cell_of, corner_at, inside_sheet, both_inside, behind_corner, reference_at}
-use Rattle.ds_formula.specs.Functions.{function_named}
+use Rattle.ds_formula.specs.Functions.{Scope, function_named}
 use Rattle.ds_formula.specs.Tokens.{is_name_byte, word_length, known, name_at, lead_of, lead_at, after_less, after_greater, follow_token, found, follow_of, follow_at}
 use Rattle.ds_formula.proofs.Bytes.{from_shorter}
 use Rattle.ds_formula.proofs.Digits.{is_digit}
@@ -140,40 +140,40 @@ known_below n text None rest h = tt
 name_byte : (b : ℕ) → is_ascii_alphabetic b ≡ true → is_name_byte b ≡ true
 name_byte b e = rw e refl
 
-name_below : (n b : ℕ) (bs : List ℕ) → length (b ∷ bs) ≤ n → is_ascii_alphabetic b ≡ true → Below n (name_at (b ∷ bs))
+name_below : (gs : List Function) (n b : ℕ) (bs : List ℕ) → length (b ∷ bs) ≤ n → is_ascii_alphabetic b ≡ true → Below n (name_at gs (b ∷ bs))
 unfolding name_at
-name_below n b bs h e =
+name_below gs n b bs h e =
     let w : word_length (b ∷ bs) ≡ 1 + word_length bs = ap (λ (t : Bool). cond t (1 + word_length bs) 0) (name_byte b e) in
     let d = length-drop (word_length (b ∷ bs)) (b ∷ bs) in
-    known_below n (b ∷ bs) (function_named (take (word_length (b ∷ bs)) (b ∷ bs))) (drop (word_length (b ∷ bs)) (b ∷ bs)) (omega (arith, w, d, h))
+    known_below n (b ∷ bs) (function_named gs (take (word_length (b ∷ bs)) (b ∷ bs))) (drop (word_length (b ∷ bs)) (b ∷ bs)) (omega (arith, w, d, h))
 
-lead_of_below : (n : ℕ) (s : Shape) (text : List ℕ) → length text ≤ n → Below n (lead_of s text)
+lead_of_below : (n : ℕ) (s : Scope) (text : List ℕ) → length text ≤ n → Below n (lead_of s text)
 unfolding lead_of
 lead_of_below n s [] h = tt
 lead_of_below n s (b ∷ bs) h =
     let less : length bs < n = omega (arith, h) in
     let text = b ∷ bs in
     let wrong : Read Lead = Err (unexpected_stop text) in
-    let by_letter : Read Lead = cond (is_ascii_alphabetic b) (name_at text) wrong in
+    let by_letter : Read Lead = cond (is_ascii_alphabetic b) (name_at s.functions text) wrong in
     let by_digit : Read Lead = cond (is_ascii_digit b) (number_at (2 ^ 63 - 1) text >>= λ x. Ok (leads.Leaf (Number (pos x.0)), x.1)) by_letter in
-    let by_bracket : Read Lead = cond (eqb b 91) (reference_at s text >>= λ x. Ok (leads.Leaf x.0, x.1)) by_digit in
+    let by_bracket : Read Lead = cond (eqb b 91) (reference_at s.shape text >>= λ x. Ok (leads.Leaf x.0, x.1)) by_digit in
     let by_minus : Read Lead = cond (eqb b 45) (Ok (leads.Prefix Minus, bs)) by_bracket in
     let by_plus : Read Lead = cond (eqb b 43) (Ok (leads.Prefix Plus, bs)) by_minus in
     either (Below n) (eqb b 40) (Ok (leads.Open, bs)) by_plus (λ _. less)
     (λ _. either (Below n) (eqb b 43) (Ok (leads.Prefix Plus, bs)) by_minus (λ _. less)
     (λ _. either (Below n) (eqb b 45) (Ok (leads.Prefix Minus, bs)) by_bracket (λ _. less)
-    (λ _. either (Below n) (eqb b 91) (reference_at s text >>= λ x. Ok (leads.Leaf x.0, x.1)) by_digit
-    (λ _. bind_with (Below n) (Below n) (reference_at s text) (λ x. Ok (leads.Leaf x.0, x.1)) (reference_below n s text h) (λ _. tt) (λ x k. k))
+    (λ _. either (Below n) (eqb b 91) (reference_at s.shape text >>= λ x. Ok (leads.Leaf x.0, x.1)) by_digit
+    (λ _. bind_with (Below n) (Below n) (reference_at s.shape text) (λ x. Ok (leads.Leaf x.0, x.1)) (reference_below n s.shape text h) (λ _. tt) (λ x k. k))
     (λ _. either (Below n) (is_ascii_digit b) (number_at (2 ^ 63 - 1) text >>= λ x. Ok (leads.Leaf (Number (pos x.0)), x.1)) by_letter
     (λ _. bind_with (Below n) (Below n) (number_at (2 ^ 63 - 1) text) (λ x. Ok (leads.Leaf (Number (pos x.0)), x.1)) (number_below n (2 ^ 63 - 1) text h) (λ _. tt) (λ x k. k))
-    (λ _. either (Below n) (is_ascii_alphabetic b) (name_at text) wrong (λ e. name_below n b bs h e) (λ _. tt))))))
+    (λ _. either (Below n) (is_ascii_alphabetic b) (name_at s.functions text) wrong (λ e. name_below s.functions n b bs h e) (λ _. tt))))))
 
-lead_below : (s : Shape) (text : List ℕ) → Below (length text) (lead_at s text)
+lead_below : (s : Scope) (text : List ℕ) → Below (length text) (lead_at s text)
 unfolding lead_at
 lead_below s text = lead_of_below (length text) s (skipped text) (skipped_shorter text)
 
 -- the token where an operand is due is not empty
-pub lead_shorter : (s : Shape) (text : List ℕ) (t : Lead) (rest : List ℕ) → Ok (t, rest) ≡ lead_at s text → length rest < length text
+pub lead_shorter : (s : Scope) (text : List ℕ) (t : Lead) (rest : List ℕ) → Ok (t, rest) ≡ lead_at s text → length rest < length text
 lead_shorter s text t rest e = subst (Below (length text)) (sym e) (lead_below s text)
 
 -- ---- behind an operand

@@ -2,12 +2,12 @@
 use Rattle.std.proofs.Common.{◌≡◌, ℕ, ◌≤◌, leb, Bool, true, cond, List, [], ◌∷◌, Option, Some, None, Result, Ok, Err, refl, sym, ap, subst, ◌∙◌}
 use Rattle.std.proofs.lemmas.Bool.{leb-true, le-leb}
 use Rattle.std.proofs.lemmas.Option.{cond_some}
-use Rattle.ds_formula.specs.declared.cells.Shape.{Shape}
 use Rattle.ds_formula.specs.declared.content.Operator.{Operator}
 use Rattle.ds_formula.specs.declared.content.Function.{Function}
 use Rattle.ds_formula.specs.declared.tokens.Stop.{Stop}
 use Rattle.ds_formula.specs.declared.tokens.Follow.{Follow}
 use Rattle.ds_formula.specs.declared.tokens.Follow.TheVariants.{Infix, Close, Semicolon, End}
+use Rattle.ds_formula.specs.Functions.{Scope}
 use Rattle.ds_formula.specs.Bytes.{Read, unexpected_stop, skipped}
 use Rattle.ds_formula.specs.Tokens.{follow_of, follow_token, found, follow_at, lead_at}
 use Rattle.ds_formula.specs.declared.tokens.Lead.{Lead}
@@ -144,5 +144,5 @@ pub whole_open : (text : List ℕ) (s : Stop) → NoOperator text → lost s ≡
 whole_open text s n e = whole_case text s (follow_at text) refl n e
 
 -- the token at the front, by its variant
-pub lead_as : (s : Shape) (text : List ℕ) (t u : Lead) (rest : List ℕ) → Ok (t, rest) ≡ lead_at s text → t ≡ u → Ok (u, rest) ≡ lead_at s text
+pub lead_as : (s : Scope) (text : List ℕ) (t u : Lead) (rest : List ℕ) → Ok (t, rest) ≡ lead_at s text → t ≡ u → Ok (u, rest) ≡ lead_at s text
 lead_as s text t u rest e h = subst (λ (x : Lead). Ok (x, rest) ≡ lead_at s text) h e

@@ -1,11 +1,11 @@
 -- At the front of a text stands one form.
 use Rattle.std.proofs.Common.{◌≡◌, ℕ, List, Result, Ok, sym, ap, ◌∙◌, arith}
-use Rattle.ds_formula.specs.declared.cells.Shape.{Shape}
 use Rattle.ds_formula.specs.declared.content.Function.{Function}
 use Rattle.ds_formula.specs.declared.ranges.Ranges.{Ranges}
 use Rattle.ds_formula.specs.declared.tokens.Stop.{Stop}
 use Rattle.ds_formula.specs.declared.tokens.Lead.{Lead}
 use Rattle.ds_formula.specs.declared.tokens.Follow.{Follow}
+use Rattle.ds_formula.specs.Functions.{Scope}
 use Rattle.ds_formula.specs.Plain.{Formula, Formulas}
 use Rattle.ds_formula.specs.Bytes.{Read, skipped, byte_at}
 use Rattle.ds_formula.specs.Ranges.{used}
@@ -30,7 +30,7 @@ follow_is : (x y : Follow × List ℕ) → read_follow x ≡ read_follow y → x
 follow_is x y e = cc
 
 -- one token at the front
-both : (s : Shape) (text text' : List ℕ) (t u : Lead) (x y : List ℕ) → text ≡ text' → lead_at s text ≡ Ok (t, x) → lead_at s text' ≡ Ok (u, y) → (t ≡ u) × (x ≡ y)
+both : (s : Scope) (text text' : List ℕ) (t u : Lead) (x y : List ℕ) → text ≡ text' → lead_at s text ≡ Ok (t, x) → lead_at s text' ≡ Ok (u, y) → (t ≡ u) × (x ≡ y)
 both s text text' t u x y p h k =
     let e = lead_is (t, x) (u, y) (sym h ∙ ap (lead_at s) p ∙ k) in
     (ap (λ (z : Lead × List ℕ). z.0) e, ap (λ (z : Lead × List ℕ). z.1) e)
@@ -46,7 +46,7 @@ opened x = Ok x
 opened_is : (x y : List ℕ) → opened x ≡ opened y → x ≡ y
 opened_is x y e = cc
 
-module _ {s : Shape} where
+module _ {s : Scope} where
   mutual
     pub one_operand : {text text' : List ℕ} {f g : Formula} {r t : Ranges} {x y : List ℕ} → text ≡ text' → Operand s text f r x → Operand s text' g t y → Same Formula f g r t x y
     one_operand p (leaf {l = l} h) (leaf {l = m} h2) =

@@ -1,7 +1,6 @@
 -- A form is a walk that leaves open what was open.
 use Rattle.std.proofs.Common.{◌≡◌, ℕ, ◌+◌, Bool, true, false, cond, eqb, List, [], ◌∷◌, Ok, refl, ap, subst, ◌∙◌, arith}
 use Rattle.std.proofs.lemmas.Bool.{eqb-true}
-use Rattle.ds_formula.specs.declared.cells.Shape.{Shape}
 use Rattle.ds_formula.specs.declared.content.Function.{Function}
 use Rattle.ds_formula.specs.declared.ranges.Ranges.{Ranges}
 use Rattle.ds_formula.specs.declared.tokens.Lead.{Lead}
@@ -9,14 +8,14 @@ use Rattle.ds_formula.specs.declared.tokens.Follow.{Follow}
 use Rattle.ds_formula.specs.declared.tokens.Follow.TheVariants.{Close}
 use Rattle.ds_formula.specs.Plain.{Formula, Formulas, count}
 use Rattle.ds_formula.specs.Bytes.{begins, skipped, byte_at}
-use Rattle.ds_formula.specs.Functions.{takes}
+use Rattle.ds_formula.specs.Functions.{Scope, takes}
 use Rattle.ds_formula.specs.Tokens.{lead_at, lead_of, follow_at}
 use Rattle.ds_formula.specs.Forms.{Operand, leaf, sign, group, call, Arguments, last, more, Level, tightest, looser, Chain, ends, goes_on, bracketed}
 use Rattle.ds_formula.specs.Forms as forms
 use Rattle.ds_formula.specs.Turns.{Bracket, Group, Call, Due, AnOperand, FirstArgument, ItsBracket, AnOperator, Goes, wrong_arguments, by_lead, by_follow, by_bracket, turn, Walk, stay, step}
 
 -- a closing bracket begins no operand
-at_close : (s : Shape) (text : List ℕ) (x : Lead × List ℕ) → lead_of s text ≡ Ok x → begins 41 text ≡ false
+at_close : (s : Scope) (text : List ℕ) (x : Lead × List ℕ) → lead_of s text ≡ Ok x → begins 41 text ≡ false
 unfolding lead_of
 at_close s [] x e = refl
 at_close s (b ∷ bs) x e = split (eqb b 41) refl
@@ -25,15 +24,15 @@ at_close s (b ∷ bs) x e = split (eqb b 41) refl
     split false p = refl
     split true p = absurd (let h : lead_of s (41 ∷ bs) ≡ Ok x = subst (λ (c : ℕ). lead_of s (c ∷ bs) ≡ Ok x) (eqb-true b 41 p) e in cc)
 
-pub no_close : (s : Shape) (text : List ℕ) (x : Lead × List ℕ) → lead_at s text ≡ Ok x → begins 41 (skipped text) ≡ false
+pub no_close : (s : Scope) (text : List ℕ) (x : Lead × List ℕ) → lead_at s text ≡ Ok x → begins 41 (skipped text) ≡ false
 unfolding lead_at
 no_close s text x e = at_close s (skipped text) x e
 
 -- where an operand may stand, a first argument may
-pub first_turn : (s : Shape) (i : List Bracket) (text : List ℕ) (name : ℕ) → begins 41 (skipped text) ≡ false → turn s (FirstArgument name) i text ≡ turn s AnOperand i text
+pub first_turn : (s : Scope) (i : List Bracket) (text : List ℕ) (name : ℕ) → begins 41 (skipped text) ≡ false → turn s (FirstArgument name) i text ≡ turn s AnOperand i text
 first_turn s i text name e = ap (λ (t : Bool). cond t (wrong_arguments name) (turn s AnOperand i text)) e
 
-module _ {s : Shape} where
+module _ {s : Scope} where
   pub joined : {d e f : Due} {i j k : List Bracket} {text mid rest : List ℕ} → Walk s d i text e j mid → Walk s e j mid f k rest → Walk s d i text f k rest
   joined stay w = w
   joined (step h v) w = step h (joined v w)

@@ -7,19 +7,20 @@ use Rattle.ds_formula.specs.declared.fault.TextFault.{TextFault}
 use Rattle.ds_formula.specs.declared.ranges.Ranges.{Ranges}
 use Rattle.ds_formula.specs.declared.tokens.Stop.{Stop}
 use Rattle.ds_formula.specs.declared.tokens.Follow.TheVariants.{End}
+use Rattle.ds_formula.specs.Functions.{Scope, scope_of}
 use Rattle.ds_formula.specs.Plain.{Formula, PlainContent, plain, Empty, Constant, Computed}
 use Rattle.ds_formula.specs.Ranges.{misplaced}
 use Rattle.ds_formula.specs.Tokens.{follow_at}
 use Rattle.ds_formula.specs.Forms.{Expression}
 use Rattle.ds_formula.specs.Turns.{Bracket, Due, AnOperand, AnOperator, Goes, Stops, Ends, by_follow, turn, Walk, stay, step, Faulty}
 use Rattle.ds_formula.specs.Sizes.{Fits}
-use Rattle.ds_formula.specs.Grammar.{expression_of, placed, ReadsLong, blank, constant, computed, Reads, FaultsLong, in_constant, in_formula, range, too_deep, Faults, too_long, within, Answers}
+use Rattle.ds_formula.specs.Grammar.{expression_of, placed, ReadsLongIn, blank, constant, computed, ReadsIn, FaultsLongIn, in_constant, in_formula, range, too_deep, FaultsIn, too_long, within, Answers}
 use Rattle.ds_formula.specs.Parsing.{IsAccepted, IsRefused, misplaced_range, too_large}
 use Rattle.ds_formula.proofs.Walks.{level_walk}
 use Rattle.ds_formula.proofs.Unique.{one_level}
 
 -- no token leads on
-abbrev Stuck : Shape → Due → List Bracket → List ℕ → Type 0
+abbrev Stuck : Scope → Due → List Bracket → List ℕ → Type 0
 Stuck s d i text = (e : Due) (j : List Bracket) (next : List ℕ) → turn s d i text ≡ Goes e j next → ⊥
 
 record SamePlace (d e : Due) (i j : List Bracket) (x y : List ℕ) : Type 0 where
@@ -27,7 +28,7 @@ record SamePlace (d e : Due) (i j : List Bracket) (x y : List ℕ) : Type 0 wher
   brackets : i ≡ j
   rest : x ≡ y
 
-same_walk : {s : Shape} {d d' e f : Due} {i i' j k : List Bracket} {text text' x y : List ℕ} → d ≡ d' → i ≡ i' → text ≡ text' → Walk s d i text e j x → Stuck s e j x → Walk s d' i' text' f k y → Stuck s f k y → SamePlace e f j k x y
+same_walk : {s : Scope} {d d' e f : Due} {i i' j k : List Bracket} {text text' x y : List ℕ} → d ≡ d' → i ≡ i' → text ≡ text' → Walk s d i text e j x → Stuck s e j x → Walk s d' i' text' f k y → Stuck s f k y → SamePlace e f j k x y
 same_walk pd pi p stay st stay su = record { due = pd; brackets = pi; rest = p }
 same_walk {s} pd pi p stay st (step {e = e2} {j = j2} {next = next2} h2 v2) su = absurd (st e2 j2 next2 cc)
 same_walk {s} pd pi p (step {e = e1} {j = j1} {next = next1} h v) st stay su = absurd (su e1 j1 next1 cc)
@@ -35,19 +36,19 @@ same_walk {s} pd pi p (step {e = e1} {j = j1} {next = next1} h v) st (step {e = 
     let q : Goes e1 j1 next1 ≡ Goes e2 j2 next2 = cc in
     same_walk (cc) (cc) (cc) v st v2 su
 
-stuck_fault : (s : Shape) (d : Due) (i : List Bracket) (text : List ℕ) (stop : Stop) → turn s d i text ≡ Stops stop → Stuck s d i text
+stuck_fault : (s : Scope) (d : Due) (i : List Bracket) (text : List ℕ) (stop : Stop) → turn s d i text ≡ Stops stop → Stuck s d i text
 stuck_fault s d i text stop h e j next k = cc
 
-ends_here : (s : Shape) (mid rest : List ℕ) → follow_at mid ≡ Ok (End, rest) → turn s AnOperator [] mid ≡ Ends
+ends_here : (s : Scope) (mid rest : List ℕ) → follow_at mid ≡ Ok (End, rest) → turn s AnOperator [] mid ≡ Ends
 ends_here s mid rest h = ap (by_follow [] mid) h
 
-stuck_end : (s : Shape) (mid : List ℕ) → turn s AnOperator [] mid ≡ Ends → Stuck s AnOperator [] mid
+stuck_end : (s : Scope) (mid : List ℕ) → turn s AnOperator [] mid ≡ Ends → Stuck s AnOperator [] mid
 stuck_end s mid h e j next k = cc
 
-one_expression : (s : Shape) (text text' : List ℕ) (f g : Formula) (r t : Ranges) → text ≡ text' → Expression s text f r → Expression s text' g t → (f ≡ g) × (r ≡ t)
+one_expression : (s : Scope) (text text' : List ℕ) (f g : Formula) (r t : Ranges) → text ≡ text' → Expression s text f r → Expression s text' g t → (f ≡ g) × (r ≡ t)
 one_expression s text text' f g r t p a b = let d = one_level p a.2 b.2 in (d.form, d.ranges)
 
-not_both : (s : Shape) (text text' : List ℕ) (f : Formula) (r : Ranges) (stop : Stop) → text ≡ text' → Expression s text f r → Faulty s AnOperand [] text' stop → ⊥
+not_both : (s : Scope) (text text' : List ℕ) (f : Formula) (r : Ranges) (stop : Stop) → text ≡ text' → Expression s text f r → Faulty s AnOperand [] text' stop → ⊥
 not_both s text text' f r stop p a b =
     let e = ends_here s a.0 a.1 a.3 in
     let same = same_walk refl refl p (level_walk a.2 []) (stuck_end s a.0 e) b.3 (stuck_fault s b.0 b.1 b.2 stop b.4) in
@@ -58,7 +59,7 @@ not_both s text text' f r stop p a b =
     let k = b.4 in
     cc
 
-one_stop : (s : Shape) (text text' : List ℕ) (u v : Stop) → text ≡ text' → Faulty s AnOperand [] text u → Faulty s AnOperand [] text' v → u ≡ v
+one_stop : (s : Scope) (text text' : List ℕ) (u v : Stop) → text ≡ text' → Faulty s AnOperand [] text u → Faulty s AnOperand [] text' v → u ≡ v
 one_stop s text text' u v p a b =
     let same = same_walk refl refl p a.3 (stuck_fault s a.0 a.1 a.2 u a.4) b.3 (stuck_fault s b.0 b.1 b.2 v b.4) in
     let p0 = same.due in
@@ -99,7 +100,7 @@ empty_body : (x : List ℕ) → expression_of [] ≡ body_is x → ⊥
 unfolding expression_of
 empty_body x h = cc
 
-content_of : (s : Shape) (text : List ℕ) (c d : PlainContent) → ReadsLong s text c → ReadsLong s text d → c ≡ d
+content_of : (s : Scope) (text : List ℕ) (c d : PlainContent) → ReadsLongIn s text c → ReadsLongIn s text d → c ≡ d
 content_of s text c d blank blank = refl
 content_of s text c d blank (constant t2 z2 l2 n2 e2) = absurd (omega (arith, l2))
 content_of s text c d blank (computed t2 b2 f2 r2 n2 e2 m2 k2) = absurd (empty_body b2 n2)
@@ -110,13 +111,13 @@ content_of s text c d (computed t b f r n e m k) blank = absurd (empty_body b n)
 content_of s text c d (computed t b f r n e m k) (constant t2 z2 l2 n2 e2) = absurd (no_body t b n2 n)
 content_of s text c d (computed t b f r n e m k) (computed t2 b2 f2 r2 n2 e2 m2 k2) = ap Computed (one_expression s b b2 f f2 r r2 (same_body t b b2 n n2) e e2).0
 
-pub only_content : (s : Shape) (text : List ℕ) (c d : PlainContent) → Reads s text c → Reads s text d → c ≡ d
+pub only_content : (s : Scope) (text : List ℕ) (c d : PlainContent) → ReadsIn s text c → ReadsIn s text d → c ≡ d
 only_content s text c d a b = content_of s text c d a.reads b.reads
 
 placed_or_not : (r t : Ranges) (left : ℕ) → r ≡ t → misplaced r ≡ None → misplaced t ≡ Some left → ⊥
 placed_or_not r t left p h k = let e : misplaced r ≡ misplaced t = ap misplaced p in cc
 
-both_of : (s : Shape) (text : List ℕ) (c : PlainContent) (x : TextFault) → ReadsLong s text c → FaultsLong s text x → ⊥
+both_of : (s : Scope) (text : List ℕ) (c : PlainContent) (x : TextFault) → ReadsLongIn s text c → FaultsLongIn s text x → ⊥
 both_of s text c x blank (in_constant t2 p2 l2 n2 e2) = omega (arith, l2)
 both_of s text c x blank (in_formula t2 b2 p2 n2 e2) = empty_body b2 n2
 both_of s text c x blank (range t2 b2 f2 r2 left2 n2 e2 m2) = empty_body b2 n2
@@ -130,14 +131,14 @@ both_of s text c x (computed t b f r n e m k) (in_formula t2 b2 p2 n2 e2) = not_
 both_of s text c x (computed t b f r n e m k) (range t2 b2 f2 r2 left2 n2 e2 m2) = placed_or_not r r2 left2 (one_expression s b b2 f f2 r r2 (same_body t b b2 n n2) e e2).1 m m2
 both_of s text c x (computed t b f r n e m k) (too_deep t2 b2 f2 r2 n2 e2 m2 k2) = k2 (subst Fits (one_expression s b b2 f f2 r r2 (same_body t b b2 n n2) e e2).0 k)
 
-pub only_one : (s : Shape) (text : List ℕ) (c : PlainContent) (x : TextFault) → Reads s text c → Faults s text x → ⊥
+pub only_one : (s : Scope) (text : List ℕ) (c : PlainContent) (x : TextFault) → ReadsIn s text c → FaultsIn s text x → ⊥
 only_one s text c x a (too_long l) = omega (arith, a.short, l)
 only_one s text c x a (within x2 l f) = both_of s text c x a.reads f
 
 same_left : (r t : Ranges) (a b : ℕ) → r ≡ t → misplaced r ≡ Some a → misplaced t ≡ Some b → a ≡ b
 same_left r t a b p h k = let e : misplaced r ≡ misplaced t = ap misplaced p in cc
 
-fault_of : (s : Shape) (text : List ℕ) (x y : TextFault) → FaultsLong s text x → FaultsLong s text y → x ≡ y
+fault_of : (s : Scope) (text : List ℕ) (x y : TextFault) → FaultsLongIn s text x → FaultsLongIn s text y → x ≡ y
 fault_of s text x y (in_constant t p l n e) (in_constant t2 p2 l2 n2 e2) = ap (placed t) (same_failed p p2 (sym e ∙ e2))
 fault_of s text x y (in_constant t p l n e) (in_formula t2 b2 p2 n2 e2) = absurd (no_body t b2 n n2)
 fault_of s text x y (in_constant t p l n e) (range t2 b2 f2 r2 left2 n2 e2 m2) = absurd (no_body t b2 n n2)
@@ -157,7 +158,7 @@ fault_of s text x y (too_deep t b f r n e m k) (in_formula t2 b2 p2 n2 e2) = abs
 fault_of s text x y (too_deep t b f r n e m k) (range t2 b2 f2 r2 left2 n2 e2 m2) = absurd (placed_or_not r r2 left2 (one_expression s b b2 f f2 r r2 (same_body t b b2 n n2) e e2).1 m m2)
 fault_of s text x y (too_deep t b f r n e m k) (too_deep t2 b2 f2 r2 n2 e2 m2 k2) = refl
 
-pub only_fault : (s : Shape) (text : List ℕ) (x y : TextFault) → Faults s text x → Faults s text y → x ≡ y
+pub only_fault : (s : Scope) (text : List ℕ) (x y : TextFault) → FaultsIn s text x → FaultsIn s text y → x ≡ y
 only_fault s text x y (too_long l) (too_long l2) = refl
 only_fault s text x y (too_long l) (within x2 l2 f2) = absurd (omega (arith, l, l2))
 only_fault s text x y (within x1 l f) (too_long l2) = absurd (omega (arith, l, l2))
@@ -165,15 +166,15 @@ only_fault s text x y (within x1 l f) (within x2 l2 f2) = fault_of s text x y f 
 
 -- ---- the answer
 
-pub blank_read : (s : Shape) (text : List ℕ) → length text ≡ 0 → Reads s text Empty
+pub blank_read : (s : Scope) (text : List ℕ) → length text ≡ 0 → ReadsIn s text Empty
 blank_read s [] h = record { short = omega arith; reads = blank }
 blank_read s (b ∷ bs) h = absurd (omega (arith, h))
 
-refused : (s : Shape) (text body : List ℕ) (f : Formula) (r : Ranges) (e : TextFault) → expression_of text ≡ Some body → Expression s body f r → IsRefused text r f e → FaultsLong s text e
+refused : (s : Scope) (text body : List ℕ) (f : Formula) (r : Ranges) (e : TextFault) → expression_of text ≡ Some body → Expression s body f r → IsRefused text r f e → FaultsLongIn s text e
 refused s text body f r e b v (misplaced_range left h) = range text body f r left b v h
 refused s text body f r e b v (too_large h k) = too_deep text body f r b v h k
 
-pub formula_answer : (s : Shape) (text body : List ℕ) (f : Formula) (r : Ranges) (x : Result Content TextFault) → length text ≤ TEXT_LIMIT → expression_of text ≡ Some body → Expression s body f r
+pub formula_answer : (s : Shape) (text body : List ℕ) (f : Formula) (r : Ranges) (x : Result Content TextFault) → length text ≤ TEXT_LIMIT → expression_of text ≡ Some body → Expression (scope_of s) body f r
     → IfOk x (λ c. IsAccepted r f (plain c)) → IfErr x (λ e. IsRefused text r f e) → Answers s text x
-formula_answer s text body f r (Ok c) l b v ok err = subst (λ (p : PlainContent). Reads s text p) (sym ok.is) (record { short = l; reads = computed text body f r b v ok.placed ok.fits })
-formula_answer s text body f r (Err e) l b v ok err = inr (within e l (refused s text body f r e b v err))
+formula_answer s text body f r (Ok c) l b v ok err = subst (λ (p : PlainContent). ReadsIn (scope_of s) text p) (sym ok.is) (record { short = l; reads = computed text body f r b v ok.placed ok.fits })
+formula_answer s text body f r (Err e) l b v ok err = inr (within e l (refused (scope_of s) text body f r e b v err))

@@ -11,7 +11,7 @@ use Rattle.ds_formula.specs.declared.content.Sign.{Sign}
 use Rattle.ds_formula.specs.declared.content.Sign.TheVariants.{Plus, Minus}
 use Rattle.ds_formula.specs.declared.content.Operator.{Operator}
 use Rattle.ds_formula.specs.declared.content.Function.{Function}
-use Rattle.ds_formula.specs.declared.content.Function.TheVariants.{Sum, Min, Max, Abs, Mod, Quotient, If}
+use Rattle.ds_formula.specs.declared.content.Function.TheVariants.{Sum, Min, Max, Abs, Mod, Quotient, If, Count, And, Or, Not}
 use Rattle.ds_formula.specs.declared.ranges.Ranges.{Ranges}
 use Rattle.ds_formula.specs.declared.ranges.Ranges.TheVariants.{Placed, Bare}
 use Rattle.ds_formula.specs.declared.tokens.Follow.{Follow}
@@ -20,7 +20,7 @@ use Rattle.ds_formula.specs.Plain.{Formula, Literal, At, Area, Signed, Joined, C
 use Rattle.ds_formula.specs.Bytes.{Read, begins}
 use Rattle.ds_formula.specs.Cells.{IsInside}
 use Rattle.ds_formula.specs.References.{area_of}
-use Rattle.ds_formula.specs.Functions.{name_of, takes}
+use Rattle.ds_formula.specs.Functions.{scope_of, name_of, takes}
 use Rattle.ds_formula.specs.Ranges.{used, first_of, as_argument}
 use Rattle.ds_formula.specs.Tokens.{follow_at}
 use Rattle.ds_formula.specs.Forms.{Operand, leaf, sign, group, call, bracketed, Arguments, last, more, Level, tightest, looser, Chain, ends, goes_on, level_of, NoSemicolon}
@@ -74,6 +74,10 @@ name_leads Abs rest = record { no_equals = refl; no_greater = refl }
 name_leads Mod rest = record { no_equals = refl; no_greater = refl }
 name_leads Quotient rest = record { no_equals = refl; no_greater = refl }
 name_leads If rest = record { no_equals = refl; no_greater = refl }
+name_leads Count rest = record { no_equals = refl; no_greater = refl }
+name_leads And rest = record { no_equals = refl; no_greater = refl }
+name_leads Or rest = record { no_equals = refl; no_greater = refl }
+name_leads Not rest = record { no_equals = refl; no_greater = refl }
 
 sign_leads : (g : Sign) (rest : List ℕ) → Leads (sign_text g ++ rest)
 sign_leads Plus rest = record { no_equals = refl; no_greater = refl }
@@ -108,10 +112,10 @@ nothing_behind o after h = let e = front_same End (Infix o) [] after (sym end_ba
 
 module _ (s : Shape) where
   abbrev pub OperandOf : List ℕ → Formula → List ℕ → Type 0
-  OperandOf text f rest = (r : Ranges) × Operand s text f r rest
+  OperandOf text f rest = (r : Ranges) × Operand (scope_of s) text f r rest
 
   abbrev pub LevelOf : ℕ → List ℕ → Formula → List ℕ → Type 0
-  LevelOf k text f rest = (r : Ranges) × Level s k text f r rest
+  LevelOf k text f rest = (r : Ranges) × Level (scope_of s) k text f r rest
 
   -- a form of the level that operators of the level may still be added to
   pub record Open (k : ℕ) (text : List ℕ) (f : Formula) (rest : List ℕ) : Type 0 where
@@ -119,14 +123,14 @@ module _ (s : Shape) where
     pub starts : Ranges
     pub mid : List ℕ
     pub ranges : Ranges
-    pub first : Level s (suc k) text start starts mid
-    pub reaches : (h : Formula) (t : Ranges) (end : List ℕ) → Chain s k f ranges rest h t end → Chain s k start starts mid h t end
+    pub first : Level (scope_of s) (suc k) text start starts mid
+    pub reaches : (h : Formula) (t : Ranges) (end : List ℕ) → Chain (scope_of s) k f ranges rest h t end → Chain (scope_of s) k start starts mid h t end
 
   weaker : (j k : ℕ) (rest : List ℕ) → j ≤ k → NoneFrom j rest → NoneFrom k rest
   weaker j k rest l n o after h e = n o after (omega (arith, l, h)) e
 
   looser_one : (j k : ℕ) (text : List ℕ) (f : Formula) (rest : List ℕ) → k ≤ j → j ≤ 3 → LevelOf j text f rest → NoneFrom k rest → LevelOf k text f rest
-  looser_one j k text f rest l m v n = (v.0, lowered s text f v.0 rest j k l m v.1 n)
+  looser_one j k text f rest l m v n = (v.0, lowered (scope_of s) text f v.0 rest j k l m v.1 n)
 
   of_operand : (k : ℕ) (text : List ℕ) (f : Formula) (rest : List ℕ) → k ≤ 3 → OperandOf text f rest → NoneFrom k rest → LevelOf k text f rest
   of_operand k text f rest l v n = looser_one 3 k text f rest l (omega arith) (v.0, tightest refl v.1) n
@@ -140,7 +144,7 @@ module _ (s : Shape) where
   operand_at_three : (text : List ℕ) (f : Formula) (rest : List ℕ) → LevelOf 3 text f rest → OperandOf text f rest
   operand_at_three text f rest v = inverted v.0 refl v.1
     where
-      inverted : {k : ℕ} (r : Ranges) → k ≡ 3 → Level s k text f r rest → OperandOf text f rest
+      inverted : {k : ℕ} (r : Ranges) → k ≡ 3 → Level (scope_of s) k text f r rest → OperandOf text f rest
       inverted r e (tightest h v) = (r, v)
       inverted r e (looser h v w) = absurd (omega (arith, e, h))
 
@@ -167,7 +171,7 @@ module _ (s : Shape) where
   group_back f rest b =
       let v = b.closed 0 (41 ∷ rest) (close_parts rest) (omega arith) (none_close rest) in
       let e : (text_of f ++ 41 ∷ []) ++ rest ≡ text_of f ++ (41 ∷ rest) = append_assoc (text_of f) (41 ∷ []) rest in
-      (v.0, subst (λ (x : List ℕ). Operand s (40 ∷ x) f v.0 rest) (sym e) (group (open_back s (text_of f ++ (41 ∷ rest))) v.1 (close_back rest)))
+      (v.0, subst (λ (x : List ℕ). Operand (scope_of s) (40 ∷ x) f v.0 rest) (sym e) (group (open_back (scope_of s) (text_of f ++ (41 ∷ rest))) v.1 (close_back rest)))
 
   wrap_closed : (f : Formula) (k : ℕ) (rest : List ℕ) (t : Bool) → ltb (precedence f) k ≡ t → k ≤ 3 → Backs f → Parts rest → NoneFrom k rest → LevelOf k (cond t (in_parentheses (text_of f)) (text_of f) ++ rest) f rest
   wrap_closed f k rest true e l b p n = of_operand k (in_parentheses (text_of f) ++ rest) f rest l (group_back f rest b) n
@@ -187,26 +191,26 @@ module _ (s : Shape) where
 
   literal_writes : (z : ℤ) → IsLiteral z → Backs (Literal z)
   literal_writes z h = from_operand (Literal z) refl (λ rest p.
-      let t = literal_back s h.value rest h.small p in
-      (_, subst (λ (x : ℤ). Operand s (signed_decimal x ++ rest) (Literal x) Placed rest) (sym h.is) (leaf t)))
+      let t = literal_back (scope_of s) h.value rest h.small p in
+      (_, subst (λ (x : ℤ). Operand (scope_of s) (signed_decimal x ++ rest) (Literal x) Placed rest) (sym h.is) (leaf t)))
 
   reference_writes : (c : Cell) → IsInside s c → Backs (At c)
   reference_writes c h = from_operand (At c) refl (λ rest p.
       let e : (91 ∷ 46 ∷ (cell_text c ++ 93 ∷ [])) ++ rest ≡ 91 ∷ 46 ∷ (cell_text c ++ 93 ∷ rest) = ap (λ (x : List ℕ). 91 ∷ 46 ∷ x) (append_assoc (cell_text c) (93 ∷ []) rest) in
-      (Placed, subst (λ (x : List ℕ). Operand s x (At c) Placed rest) (sym e) (leaf (reference_back s c rest h))))
+      (Placed, subst (λ (x : List ℕ). Operand (scope_of s) x (At c) Placed rest) (sym e) (leaf (reference_back (scope_of s) c rest h))))
 
   range_writes : (r : Rect) → IsArea s r → Backs (Area r)
   range_writes r h = from_operand (Area r) refl (λ rest p.
       let e : (91 ∷ 46 ∷ (cell_text r.first ++ (58 ∷ 46 ∷ (cell_text r.last ++ 93 ∷ [])))) ++ rest ≡ 91 ∷ 46 ∷ (cell_text r.first ++ (58 ∷ 46 ∷ (cell_text r.last ++ 93 ∷ rest))) = simp append_assoc in
-      let t = range_back s r.first r.last rest h.first h.last in
-      let v : Operand s (91 ∷ 46 ∷ (cell_text r.first ++ (58 ∷ 46 ∷ (cell_text r.last ++ 93 ∷ rest)))) (Area (area_of r.first r.last)) (Bare t.0) rest = leaf t.1 in
-      (Bare t.0, subst (λ (x : List ℕ). Operand s x (Area r) (Bare t.0) rest) (sym e) (subst (λ (x : Rect). Operand s (91 ∷ 46 ∷ (cell_text r.first ++ (58 ∷ 46 ∷ (cell_text r.last ++ 93 ∷ rest)))) (Area x) (Bare t.0) rest) (area_back s r h) v)))
+      let t = range_back (scope_of s) r.first r.last rest h.first h.last in
+      let v : Operand (scope_of s) (91 ∷ 46 ∷ (cell_text r.first ++ (58 ∷ 46 ∷ (cell_text r.last ++ 93 ∷ rest)))) (Area (area_of r.first r.last)) (Bare t.0) rest = leaf t.1 in
+      (Bare t.0, subst (λ (x : List ℕ). Operand (scope_of s) x (Area r) (Bare t.0) rest) (sym e) (subst (λ (x : Rect). Operand (scope_of s) (91 ∷ 46 ∷ (cell_text r.first ++ (58 ∷ 46 ∷ (cell_text r.last ++ 93 ∷ rest)))) (Area x) (Bare t.0) rest) (area_back s r h) v)))
 
   sign_writes : (g : Sign) (f : Formula) → Backs f → Backs (Signed g f)
   sign_writes g f b = from_operand (Signed g f) refl (λ rest p.
       let inner = wrapped 3 f in
       let v = operand_at_three (inner ++ rest) f rest (wrap_closed f 3 rest (ltb (precedence f) 3) refl (omega arith) b p (λ o after h e. let m = most o in omega (arith, m, h))) in
-      (used v.0, subst (λ (x : List ℕ). Operand s x (Signed g f) (used v.0) rest) (sym (append_assoc (sign_text g) inner rest)) (sign (sign_back s g (inner ++ rest)) v.1)))
+      (used v.0, subst (λ (x : List ℕ). Operand (scope_of s) x (Signed g f) (used v.0) rest) (sym (append_assoc (sign_text g) inner rest)) (sign (sign_back (scope_of s) g (inner ++ rest)) v.1)))
 
   joined_open : (o : Operator) (f g : Formula) (rest : List ℕ) → Backs f → Backs g → Formed s g → Parts rest → NoneFrom (suc (level_of o)) rest → Open (level_of o) (text_of (Joined o f g) ++ rest) (Joined o f g) rest
   joined_open o f g rest bf bg fg p n =
@@ -219,7 +223,7 @@ module _ (s : Shape) where
       let e1 : k + 1 ≡ suc k = add-one k in
       let none : NoneFrom (k + 1) rest = subst (λ (x : ℕ). NoneFrom x rest) (sym e1) n in
       let v = wrap_closed g (k + 1) rest (ltb (precedence g) (k + 1)) refl (omega (arith, lt)) bg p none in
-      let w : Level s (suc k) after g v.0 rest = subst (λ (x : ℕ). Level s x after g v.0 rest) e1 v.1 in
+      let w : Level (scope_of s) (suc k) after g v.0 rest = subst (λ (x : ℕ). Level (scope_of s) x after g v.0 rest) e1 v.1 in
       let here = operator_back o after (wrapped_leads (ltb (precedence g) (k + 1)) (text_of g) rest (text_leads s g rest fg)) in
       let none_mid : NoneFrom (suc k) mid = λ q x l h. (let c = sym here ∙ h in let same : o ≡ q = follow_same o q after x c in omega (arith, l, ap level_of same)) in
       let u = wrap_open f k mid (ltb (precedence f) k) refl lt bf (operator_parts o after) none_mid in
@@ -243,22 +247,26 @@ module _ (s : Shape) where
   some_arguments Mod Nothing h = absurd cc
   some_arguments Quotient Nothing h = absurd cc
   some_arguments If Nothing h = absurd cc
+  some_arguments Count Nothing h = absurd cc
+  some_arguments And Nothing h = absurd cc
+  some_arguments Or Nothing h = absurd cc
+  some_arguments Not Nothing h = absurd cc
 
   abbrev ArgumentsOf : Function → List ℕ → Formulas → List ℕ → Type 0
-  ArgumentsOf g text fs rest = (r : Ranges) × Arguments s g text fs r rest
+  ArgumentsOf g text fs rest = (r : Ranges) × Arguments (scope_of s) g text fs r rest
 
   call_writes : (g : Function) (fs : Formulas) → takes g (count fs) ≡ true → ((rest : List ℕ) → ArgumentsOf g (texts_of fs ++ 41 ∷ rest) fs (41 ∷ rest)) → Backs (Called g fs)
   call_writes g fs y h = from_operand (Called g fs) refl (λ rest p.
       let v = h rest in
       let inner = texts_of fs ++ 41 ∷ rest in
       let e : (name_of g ++ (40 ∷ (texts_of fs ++ 41 ∷ []))) ++ rest ≡ name_of g ++ (40 ∷ inner) = simp append_assoc in
-      (v.0, subst (λ (x : List ℕ). Operand s x (Called g fs) v.0 rest) (sym e) (call (name_back s g inner) (bracketed (bracket_back inner) v.1 (close_back rest) y))))
+      (v.0, subst (λ (x : List ℕ). Operand (scope_of s) x (Called g fs) v.0 rest) (sym e) (call (name_back s g inner) (bracketed (bracket_back inner) v.1 (close_back rest) y))))
 
   last_writes : (g : Function) (f : Formula) (rest : List ℕ) → Backs f → ArgumentsOf g ((text_of f ++ []) ++ 41 ∷ rest) (Then f Nothing) (41 ∷ rest)
   last_writes g f rest b =
       let v = b.closed 0 (41 ∷ rest) (close_parts rest) (omega arith) (none_close rest) in
       let e : text_of f ++ [] ≡ text_of f = append-nil (text_of f) in
-      (as_argument g v.0, subst (λ (x : List ℕ). Arguments s g (x ++ 41 ∷ rest) (Then f Nothing) (as_argument g v.0) (41 ∷ rest)) (sym e) (last v.1 (close_no_semicolon rest)))
+      (as_argument g v.0, subst (λ (x : List ℕ). Arguments (scope_of s) g (x ++ 41 ∷ rest) (Then f Nothing) (as_argument g v.0) (41 ∷ rest)) (sym e) (last v.1 (close_no_semicolon rest)))
 
   more_writes : (g : Function) (f h : Formula) (fs : Formulas) (rest : List ℕ) → Backs f → ArgumentsOf g ((text_of h ++ others_of fs) ++ 41 ∷ rest) (Then h fs) (41 ∷ rest)
       → ArgumentsOf g ((text_of f ++ (59 ∷ (text_of h ++ others_of fs))) ++ 41 ∷ rest) (Then f (Then h fs)) (41 ∷ rest)
@@ -266,7 +274,7 @@ module _ (s : Shape) where
       let next = (text_of h ++ others_of fs) ++ 41 ∷ rest in
       let v = b.closed 0 (59 ∷ next) (semicolon_parts next) (omega arith) (none_semicolon next) in
       let e : (text_of f ++ (59 ∷ (text_of h ++ others_of fs))) ++ 41 ∷ rest ≡ text_of f ++ (59 ∷ next) = append_assoc (text_of f) (59 ∷ (text_of h ++ others_of fs)) (41 ∷ rest) in
-      (first_of (as_argument g v.0) w.0, subst (λ (x : List ℕ). Arguments s g x (Then f (Then h fs)) (first_of (as_argument g v.0) w.0) (41 ∷ rest)) (sym e) (more v.1 (semicolon_back next) w.1))
+      (first_of (as_argument g v.0) w.0, subst (λ (x : List ℕ). Arguments (scope_of s) g x (Then f (Then h fs)) (first_of (as_argument g v.0) w.0) (41 ∷ rest)) (sym e) (more v.1 (semicolon_back next) w.1))
 
   mutual
     pub writes_back : (f : Formula) → Formed s f → Backs f
@@ -285,4 +293,4 @@ module _ (s : Shape) where
   pub level_back : (f : Formula) → Formed s f → LevelOf 0 (text_of f) f []
   level_back f h =
       let v = (writes_back f h).closed 0 [] (record { digit = refl; fraction = refl }) (omega arith) (λ o after l e. nothing_behind o after e) in
-      (v.0, subst (λ (x : List ℕ). Level s 0 x f v.0 []) (append-nil (text_of f)) v.1)
+      (v.0, subst (λ (x : List ℕ). Level (scope_of s) 0 x f v.0 []) (append-nil (text_of f)) v.1)

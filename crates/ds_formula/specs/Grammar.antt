@@ -8,6 +8,7 @@ use Rattle.ds_formula.specs.declared.ranges.Ranges.{Ranges}
 use Rattle.ds_formula.specs.Limits.{TEXT_MOST}
 use Rattle.ds_formula.specs.declared.tokens.Stop.{Stop}
 use Rattle.ds_formula.specs.Plain.{Formula, PlainContent, plain, Empty, Constant, Computed}
+use Rattle.ds_formula.specs.Functions.{Scope, scope_of}
 use Rattle.ds_formula.specs.Bytes.{◌>>=◌, unexpected_stop, begins, number_at}
 use Rattle.ds_formula.specs.Ranges.{misplaced}
 use Rattle.ds_formula.specs.Forms.{Expression}
@@ -55,35 +56,55 @@ expression_behind None = None
 unfoldable pub expression_of : List ℕ → Option (List ℕ)
 expression_of text = expression_behind (or_else (behind (codes "=") text) (behind (codes "of:=") text))
 
+-- ---- in any scope
+
 -- the text has this content, however long it is
-pub data ReadsLong (shape : Shape) : List ℕ → PlainContent → Type 0 where
-  blank : ReadsLong shape [] Empty
-  constant : (text : List ℕ) (z : ℤ) → 0 < length text → expression_of text ≡ None → constant_of text ≡ Ok z → ReadsLong shape text (Constant z)
+pub data ReadsLongIn (scope : Scope) : List ℕ → PlainContent → Type 0 where
+  blank : ReadsLongIn scope [] Empty
+  constant : (text : List ℕ) (z : ℤ) → 0 < length text → expression_of text ≡ None → constant_of text ≡ Ok z → ReadsLongIn scope text (Constant z)
   computed : (text body : List ℕ) (f : Formula) (r : Ranges)
-      → expression_of text ≡ Some body → Expression shape body f r → misplaced r ≡ None → Fits f → ReadsLong shape text (Computed f)
+      → expression_of text ≡ Some body → Expression scope body f r → misplaced r ≡ None → Fits f → ReadsLongIn scope text (Computed f)
 
 -- the text has this content
-pub record Reads (shape : Shape) (text : List ℕ) (content : PlainContent) : Type 0 where
+pub record ReadsIn (scope : Scope) (text : List ℕ) (content : PlainContent) : Type 0 where
   pub short : length text ≤ TEXT_MOST
-  pub reads : ReadsLong shape text content
+  pub reads : ReadsLongIn scope text content
 
 -- a fault by the bytes left, and by the bytes before it
 abbrev pub placed : List ℕ → Stop → TextFault
 placed text stop = record { kind = stop.kind; offset = length text - stop.left }
 
 -- the text has this fault; faults of tokens come first, then misplaced ranges, then the size
-pub data FaultsLong (shape : Shape) : List ℕ → TextFault → Type 0 where
-  in_constant : (text : List ℕ) (stop : Stop) → 0 < length text → expression_of text ≡ None → constant_of text ≡ Err stop → FaultsLong shape text (placed text stop)
-  in_formula : (text body : List ℕ) (stop : Stop) → expression_of text ≡ Some body → Faulty shape AnOperand [] body stop → FaultsLong shape text (placed text stop)
+pub data FaultsLongIn (scope : Scope) : List ℕ → TextFault → Type 0 where
+  in_constant : (text : List ℕ) (stop : Stop) → 0 < length text → expression_of text ≡ None → constant_of text ≡ Err stop → FaultsLongIn scope text (placed text stop)
+  in_formula : (text body : List ℕ) (stop : Stop) → expression_of text ≡ Some body → Faulty scope AnOperand [] body stop → FaultsLongIn scope text (placed text stop)
   range : (text body : List ℕ) (f : Formula) (r : Ranges) (left : ℕ)
-      → expression_of text ≡ Some body → Expression shape body f r → misplaced r ≡ Some left → FaultsLong shape text (record { kind = RangeNotAllowed; offset = length text - left })
+      → expression_of text ≡ Some body → Expression scope body f r → misplaced r ≡ Some left → FaultsLongIn scope text (record { kind = RangeNotAllowed; offset = length text - left })
   too_deep : (text body : List ℕ) (f : Formula) (r : Ranges)
-      → expression_of text ≡ Some body → Expression shape body f r → misplaced r ≡ None → (Fits f → ⊥) → FaultsLong shape text (record { kind = TooDeep; offset = 0 })
+      → expression_of text ≡ Some body → Expression scope body f r → misplaced r ≡ None → (Fits f → ⊥) → FaultsLongIn scope text (record { kind = TooDeep; offset = 0 })
 
 -- the text has this fault, its length first
-pub data Faults (shape : Shape) (text : List ℕ) : TextFault → Type 0 where
-  too_long : TEXT_MOST < length text → Faults shape text (record { kind = TooLong; offset = TEXT_MOST })
-  within : (fault : TextFault) → length text ≤ TEXT_MOST → FaultsLong shape text fault → Faults shape text fault
+pub data FaultsIn (scope : Scope) (text : List ℕ) : TextFault → Type 0 where
+  too_long : TEXT_MOST < length text → FaultsIn scope text (record { kind = TooLong; offset = TEXT_MOST })
+  within : (fault : TextFault) → length text ≤ TEXT_MOST → FaultsLongIn scope text fault → FaultsIn scope text fault
+
+-- ---- in a sheet, where all functions may be named
+
+-- the text has this content in a sheet of the shape, however long it is
+abbrev pub ReadsLong : Shape → List ℕ → PlainContent → Type 0
+ReadsLong shape = ReadsLongIn (scope_of shape)
+
+-- the text has this content in a sheet of the shape
+abbrev pub Reads : Shape → List ℕ → PlainContent → Type 0
+Reads shape = ReadsIn (scope_of shape)
+
+-- the text has this fault in a sheet of the shape, whatever its length
+abbrev pub FaultsLong : Shape → List ℕ → TextFault → Type 0
+FaultsLong shape = FaultsLongIn (scope_of shape)
+
+-- the text has this fault in a sheet of the shape
+abbrev pub Faults : Shape → List ℕ → TextFault → Type 0
+Faults shape = FaultsIn (scope_of shape)
 
 -- the answer where memory ran out
 abbrev pub no_memory : TextFault

@@ -1,6 +1,5 @@
 -- The steps of the reader of expressions.
 use Rattle.std.specs.Prelude.{◌≡◌, ℕ, ◌-◌, nat_le, length, List, [], ◌∷◌, Option, Some, None, Result, Ok, Err, if◌then◌else◌}
-use Rattle.ds_formula.specs.declared.cells.Shape.{Shape}
 use Rattle.ds_formula.specs.declared.content.Operator.{Operator}
 use Rattle.ds_formula.specs.declared.content.Function.{Function}
 use Rattle.ds_formula.specs.declared.tokens.Stop.{Stop}
@@ -9,6 +8,7 @@ use Rattle.ds_formula.specs.declared.tokens.Follow.TheVariants.{Infix, Close, Se
 use Rattle.ds_formula.specs.declared.fault.TextFault.{TextFault}
 use Rattle.ds_formula.specs.declared.fault.FaultKind.TheVariants.{RangeNotAllowed, TooDeep}
 use Rattle.ds_formula.specs.declared.ranges.Ranges.{Ranges}
+use Rattle.ds_formula.specs.Functions.{Scope}
 use Rattle.ds_formula.specs.Plain.{Formula, PlainContent, Computed}
 use Rattle.ds_formula.specs.Ranges.{misplaced}
 use Rattle.ds_formula.specs.Sizes.{Fits}
@@ -68,27 +68,27 @@ abbrev pub end_at : List ℕ → Result (List ℕ) Stop
 end_at text = behind_end text (follow_at text)
 
 -- want of memory, or the first fault where this is due, whatever is open around
-abbrev pub RefusesAt : Shape → Due → List ℕ → Refusal → Type 0
-RefusesAt shape due text Memory = Unit {0}
-RefusesAt shape due text (Stopped stop) = (open_ones : List Bracket) → Faulty shape due open_ones text stop
+abbrev pub RefusesAt : Scope → Due → List ℕ → Refusal → Type 0
+RefusesAt scope due text Memory = Unit {0}
+RefusesAt scope due text (Stopped stop) = (open_ones : List Bracket) → Faulty scope due open_ones text stop
 
 -- want of memory, or the first fault where an operand is due, whatever is open around
-abbrev pub Refuses : Shape → List ℕ → Refusal → Type 0
-Refuses shape = RefusesAt shape AnOperand
+abbrev pub Refuses : Scope → List ℕ → Refusal → Type 0
+Refuses scope = RefusesAt scope AnOperand
 
 -- want of memory, or the first fault behind the name of a call, whatever is open around
-abbrev pub CallRefuses : Shape → Function → ℕ → List ℕ → Refusal → Type 0
-CallRefuses shape f place = RefusesAt shape (ItsBracket f place)
+abbrev pub CallRefuses : Scope → Function → ℕ → List ℕ → Refusal → Type 0
+CallRefuses scope f place = RefusesAt scope (ItsBracket f place)
 
 -- want of memory, or the first fault among the arguments of a call, whatever is open around
-abbrev pub ArgumentsRefuse : Shape → List ℕ → Refusal → Type 0
-ArgumentsRefuse shape text Memory = Unit {0}
-ArgumentsRefuse shape text (Stopped stop) = (f : Function) (n name : ℕ) (open_ones : List Bracket) → Faulty shape AnOperand (Call f n name ∷ open_ones) text stop
+abbrev pub ArgumentsRefuse : Scope → List ℕ → Refusal → Type 0
+ArgumentsRefuse scope text Memory = Unit {0}
+ArgumentsRefuse scope text (Stopped stop) = (f : Function) (n name : ℕ) (open_ones : List Bracket) → Faulty scope AnOperand (Call f n name ∷ open_ones) text stop
 
 -- want of memory, or the first fault of a whole text
-abbrev pub WholeRefuses : Shape → List ℕ → Refusal → Type 0
-WholeRefuses shape text Memory = Unit {0}
-WholeRefuses shape text (Stopped stop) = Faulty shape AnOperand [] text stop
+abbrev pub WholeRefuses : Scope → List ℕ → Refusal → Type 0
+WholeRefuses scope text Memory = Unit {0}
+WholeRefuses scope text (Stopped stop) = Faulty scope AnOperand [] text stop
 
 -- an expression may be a content: its ranges stand where they may, and it isn't too large
 pub record IsAccepted (ranges : Ranges) (f : Formula) (content : PlainContent) : Type 0 where

@@ -1,7 +1,6 @@
 -- The tokens of a formula.
 use Rattle.std.specs.Prelude.{ℕ, ◌+◌, ◌-◌, ◌^◌, Bool, ◌||◌, ◌==◌, Option, Some, None, List, [], ◌∷◌, take, drop, length, Ok, Err, if◌then◌else◌, pos}
 use Rattle.std.specs.Char.{is_ascii_alphabetic, is_ascii_digit}
-use Rattle.ds_formula.specs.declared.cells.Shape.{Shape}
 use Rattle.ds_formula.specs.declared.content.Sign.TheVariants.{Plus, Minus}
 use Rattle.ds_formula.specs.declared.content.Operator.{Operator}
 use Rattle.ds_formula.specs.declared.content.Operator.TheVariants.{Multiply, Add, Subtract, Equal, NotEqual, Less, Greater, LessOrEqual, GreaterOrEqual}
@@ -14,7 +13,7 @@ use Rattle.ds_formula.specs.declared.tokens.Follow.TheVariants.{Infix, Close, Se
 use Rattle.ds_formula.specs.declared.fault.FaultKind.TheVariants.{UnknownFunction}
 use Rattle.ds_formula.specs.Bytes.{Read, ◌>>=◌, stop_at, unexpected_stop, skipped, number_at}
 use Rattle.ds_formula.specs.References.{reference_at}
-use Rattle.ds_formula.specs.Functions.{function_named}
+use Rattle.ds_formula.specs.Functions.{Scope, function_named}
 
 -- whether a byte is one of a name: a letter, a digit, `.` or `_`
 abbrev pub is_name_byte : ℕ → Bool
@@ -30,25 +29,29 @@ abbrev pub known : List ℕ → Option Function → List ℕ → Read Lead
 known text (Some f) rest = Ok (Name f (length text), rest)
 known text None rest = Err (stop_at UnknownFunction text)
 
--- the function whose name is at the front: it goes as far as bytes of a name do
-unfoldable pub name_at : List ℕ → Read Lead
-name_at text = known text (function_named (take (word_length text) text)) (drop (word_length text) text)
+-- the word at the front: it goes as far as bytes of a name do
+abbrev pub word_at : List ℕ → List ℕ
+word_at text = take (word_length text) text
+
+-- the function of the list whose name is the word at the front
+unfoldable pub name_at : List Function → List ℕ → Read Lead
+name_at functions text = known text (function_named functions (word_at text)) (drop (word_length text) text)
 
 -- the token at the front where an operand is due: a number, a reference, a range, `(`, a sign or a name
-unfoldable pub lead_of : Shape → List ℕ → Read Lead
-lead_of shape [] = Err (unexpected_stop [])
-lead_of shape (b ∷ bs) =
+unfoldable pub lead_of : Scope → List ℕ → Read Lead
+lead_of scope [] = Err (unexpected_stop [])
+lead_of scope (b ∷ bs) =
     if b == 40 then Ok (Open, bs)
     else (if b == 43 then Ok (Prefix Plus, bs)
     else (if b == 45 then Ok (Prefix Minus, bs)
-    else (if b == 91 then (reference_at shape (b ∷ bs) >>= λ x. Ok (Leaf x.0, x.1))
+    else (if b == 91 then (reference_at scope.shape (b ∷ bs) >>= λ x. Ok (Leaf x.0, x.1))
     else (if is_ascii_digit b then (number_at (2 ^ 63 - 1) (b ∷ bs) >>= λ x. Ok (Leaf (Number (pos x.0)), x.1))
-    else (if is_ascii_alphabetic b then name_at (b ∷ bs)
+    else (if is_ascii_alphabetic b then name_at scope.functions (b ∷ bs)
     else Err (unexpected_stop (b ∷ bs)))))))
 
 -- the token at the front where an operand is due, behind white space, and what is behind it
-unfoldable pub lead_at : Shape → List ℕ → Read Lead
-lead_at shape text = lead_of shape (skipped text)
+unfoldable pub lead_at : Scope → List ℕ → Read Lead
+lead_at scope text = lead_of scope (skipped text)
 
 -- the operator `<>`, `<=` or `<`, by what is behind its first byte
 abbrev pub after_less : List ℕ → Operator × List ℕ

@@ -1,7 +1,6 @@
 -- Which token may stand where, and the fault of the first that may not: no tree and no levels, only what is due and which
 -- brackets are open.
 use Rattle.std.specs.Prelude.{◌≡◌, ℕ, ◌+◌, List, [], ◌∷◌, Result, Ok, Err, if◌then◌else◌}
-use Rattle.ds_formula.specs.declared.cells.Shape.{Shape}
 use Rattle.ds_formula.specs.declared.content.Function.{Function}
 use Rattle.ds_formula.specs.declared.tokens.Stop.{Stop}
 use Rattle.ds_formula.specs.declared.tokens.Lead.{Lead}
@@ -10,7 +9,7 @@ use Rattle.ds_formula.specs.declared.tokens.Follow.{Follow}
 use Rattle.ds_formula.specs.declared.tokens.Follow.TheVariants.{Infix, Close, Semicolon, End}
 use Rattle.ds_formula.specs.declared.fault.FaultKind.TheVariants.{WrongArguments}
 use Rattle.ds_formula.specs.Bytes.{Read, unexpected_stop, begins, skipped, byte_at}
-use Rattle.ds_formula.specs.Functions.{takes}
+use Rattle.ds_formula.specs.Functions.{Scope, takes}
 use Rattle.ds_formula.specs.Tokens.{lead_at, follow_at}
 
 -- a bracket that is open: of a group, or of a call, with the number of the argument and the place of the name
@@ -83,17 +82,17 @@ by_follow open_ones text (Ok x) = after_follow open_ones text x.0 x.1
 by_follow open_ones text (Err s) = Stops s
 
 -- what comes of the token at the front, by what is due and open
-abbrev pub turn : Shape → Due → List Bracket → List ℕ → Turn
-turn shape AnOperand open_ones text = by_lead open_ones (lead_at shape text)
-turn shape (FirstArgument name) open_ones text = if begins 41 (skipped text) then wrong_arguments name else by_lead open_ones (lead_at shape text)
-turn shape (ItsBracket f name) open_ones text = by_bracket f name open_ones (byte_at 40 (skipped text))
-turn shape AnOperator open_ones text = by_follow open_ones text (follow_at text)
+abbrev pub turn : Scope → Due → List Bracket → List ℕ → Turn
+turn scope AnOperand open_ones text = by_lead open_ones (lead_at scope text)
+turn scope (FirstArgument name) open_ones text = if begins 41 (skipped text) then wrong_arguments name else by_lead open_ones (lead_at scope text)
+turn scope (ItsBracket f name) open_ones text = by_bracket f name open_ones (byte_at 40 (skipped text))
+turn scope AnOperator open_ones text = by_follow open_ones text (follow_at text)
 
 -- the tokens up to the rest may stand there, and lead from the one place to the other
-pub data Walk (shape : Shape) : Due → List Bracket → List ℕ → Due → List Bracket → List ℕ → Type 0 where
-  stay : {d : Due} {i : List Bracket} {text : List ℕ} → Walk shape d i text d i text
-  step : {d e f : Due} {i j k : List Bracket} {text next rest : List ℕ} → turn shape d i text ≡ Goes e j next → Walk shape e j next f k rest → Walk shape d i text f k rest
+pub data Walk (scope : Scope) : Due → List Bracket → List ℕ → Due → List Bracket → List ℕ → Type 0 where
+  stay : {d : Due} {i : List Bracket} {text : List ℕ} → Walk scope d i text d i text
+  step : {d e f : Due} {i j k : List Bracket} {text next rest : List ℕ} → turn scope d i text ≡ Goes e j next → Walk scope e j next f k rest → Walk scope d i text f k rest
 
 -- the first fault from the left, where this is due and open
-abbrev pub Faulty : Shape → Due → List Bracket → List ℕ → Stop → Type 0
-Faulty shape d i text stop = (e : Due) × (j : List Bracket) × (rest : List ℕ) × Walk shape d i text e j rest × (turn shape e j rest ≡ Stops stop)
+abbrev pub Faulty : Scope → Due → List Bracket → List ℕ → Stop → Type 0
+Faulty scope d i text stop = (e : Due) × (j : List Bracket) × (rest : List ℕ) × Walk scope d i text e j rest × (turn scope e j rest ≡ Stops stop)

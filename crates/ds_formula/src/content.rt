@@ -62,7 +62,7 @@ pub enum Operator {
     GreaterOrEqual,
 }
 
-/// A function (OpenFormula 6.15 and 6.16, 6.18).
+/// A function (OpenFormula 6.13, 6.15, 6.16 and 6.18).
 #[derive(Clone, Copy, Debug, PartialEq, Eq)]
 pub enum Function {
     /// `SUM`: the sum of its numbers.
@@ -79,4 +79,12 @@ pub enum Function {
     Quotient,
     /// `IF`: one of two branches, by a condition.
     If,
+    /// `COUNT`: how many numbers there are.
+    Count,
+    /// `AND`: whether none of its numbers is 0.
+    And,
+    /// `OR`: whether some of its numbers is not 0.
+    Or,
+    /// `NOT`: whether its number is 0.
+    Not,
 }

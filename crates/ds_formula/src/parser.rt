@@ -2,6 +2,7 @@
 
 ghost use Rattle.std.specs.Prelude.{◌≡◌, ◌≤◌, ◌<◌, IfOk, IfErr, IfSome, option_map, length, map};
 ghost use Rattle.ds_formula.specs.Plain.{formula, listed, Joined, Signed};
+ghost use Rattle.ds_formula.specs.Functions.{scope_of};
 ghost use Rattle.ds_formula.specs.Ranges.{used, first_of};
 ghost use Rattle.ds_formula.specs.Bytes.{result_of};
 ghost use Rattle.ds_formula.specs.Forms.{level_of, leaf_formula, leaf_ranges, Operand, Call, Arguments, Level, Expression};
@@ -175,9 +176,9 @@ fn level<'a>(
     text: &'a [u8],
 ) -> Result<(Parsed, &'a [u8]), Refusal>
     requires { at ≤ 3 }
-    ensures found { IfOk result (λ x. Level shape.now at text.now (formula x.0.tree) x.0.ranges x.1.now) }
+    ensures found { IfOk result (λ x. Level (scope_of shape.now) at text.now (formula x.0.tree) x.0.ranges x.1.now) }
     ensures shorter { IfOk result (λ x. length x.1.now < length text.now) }
-    ensures refused { IfErr result (λ e. Refuses shape.now text.now e) }
+    ensures refused { IfErr result (λ e. Refuses (scope_of shape.now) text.now e) }
 {
     let (mut left, mut rest) = operand(alloc, shape, text)?;
     while let Some((operator, after)) = operator(at, rest) {
@@ -191,9 +192,9 @@ fn level<'a>(
 // The operand at the front, behind any number of signs, and what is behind it.
 #[cycle(parser)]
 fn operand<'a>(alloc: Global, shape: &Shape, text: &'a [u8]) -> Result<(Parsed, &'a [u8]), Refusal>
-    ensures found { IfOk result (λ x. Operand shape.now text.now (formula x.0.tree) x.0.ranges x.1.now) }
+    ensures found { IfOk result (λ x. Operand (scope_of shape.now) text.now (formula x.0.tree) x.0.ranges x.1.now) }
     ensures shorter { IfOk result (λ x. length x.1.now < length text.now) }
-    ensures refused { IfErr result (λ e. Refuses shape.now text.now e) }
+    ensures refused { IfErr result (λ e. Refuses (scope_of shape.now) text.now e) }
 {
     let (lead, rest) = read_lead(shape, text)?;
     match lead {
@@ -229,9 +230,9 @@ fn call<'a>(
     place: usize,
     text: &'a [u8],
 ) -> Result<(Vec<Tree>, Ranges, &'a [u8]), Refusal>
-    ensures found { IfOk result (λ x. Call shape.now function text.now (listed (map formula x.0.items)) x.1 x.2.now) }
+    ensures found { IfOk result (λ x. Call (scope_of shape.now) function text.now (listed (map formula x.0.items)) x.1 x.2.now) }
     ensures shorter { IfOk result (λ x. length x.2.now < length text.now) }
-    ensures refused { IfErr result (λ e. CallRefuses shape.now function place text.now e) }
+    ensures refused { IfErr result (λ e. CallRefuses (scope_of shape.now) function place text.now e) }
 {
     let rest = byte(b'(', skip(text))?;
     let wrong = Stop {
@@ -257,9 +258,9 @@ fn arguments<'a>(
     function: Function,
     text: &'a [u8],
 ) -> Result<(Vec<Tree>, Ranges, &'a [u8]), Refusal>
-    ensures found { IfOk result (λ x. Arguments shape.now function text.now (listed (map formula x.0.items)) x.1 x.2.now) }
+    ensures found { IfOk result (λ x. Arguments (scope_of shape.now) function text.now (listed (map formula x.0.items)) x.1 x.2.now) }
     ensures shorter { IfOk result (λ x. length x.2.now < length text.now) }
-    ensures refused { IfErr result (λ e. ArgumentsRefuse shape.now text.now e) }
+    ensures refused { IfErr result (λ e. ArgumentsRefuse (scope_of shape.now) text.now e) }
 {
     let mut trees = Vec::new(alloc);
     let (first, mut rest) = level(alloc, shape, 0, text)?;
@@ -276,8 +277,8 @@ fn arguments<'a>(
 
 // The whole text's expression.
 pub(crate) fn expression(alloc: Global, shape: &Shape, text: &[u8]) -> Result<Parsed, Refusal>
-    ensures found { IfOk result (λ x. Expression shape.now text.now (formula x.tree) x.ranges) }
-    ensures refused { IfErr result (λ e. WholeRefuses shape.now text.now e) }
+    ensures found { IfOk result (λ x. Expression (scope_of shape.now) text.now (formula x.tree) x.ranges) }
+    ensures refused { IfErr result (λ e. WholeRefuses (scope_of shape.now) text.now e) }
 {
     let (parsed, rest) = level(alloc, shape, 0, text)?;
     end(rest)?;

@@ -4,6 +4,7 @@ ghost use Rattle.std.specs.Prelude.{◌≡◌, ◌≤◌, ◌<◌, ◌^◌, ◌-
 ghost use Rattle.ds_formula.specs.Cells.{IsInside};
 ghost use Rattle.ds_formula.specs.Bytes.{begins, unexpected_stop, result_of, number_from, number_at, byte_at, is_space, skipped};
 ghost use Rattle.ds_formula.specs.References.{letters_from, letters_at, row_at, without_dollar, cell_of, corner_at, area_of, reference_at, capped};
+ghost use Rattle.ds_formula.specs.Functions.{all_functions, scope_of};
 ghost use Rattle.ds_formula.specs.Tokens.{is_name_byte, word_length, name_at, lead_of, lead_at, follow_of, follow_at, after_less, after_greater};
 
 use crate::cells::{Cell, Rect, Shape};
@@ -307,7 +308,7 @@ fn word_length(text: &[u8]) -> usize
 #[tactic(auto, unfolding(crate::specs::Tokens::name_at))]
 fn name(text: &[u8]) -> Result<(Lead, &[u8]), Stop>
     requires { 1 ≤ word_length text.now }
-    ensures is { result_of (λ x. (x.0, x.1.now)) result ≡ name_at text.now }
+    ensures is { result_of (λ x. (x.0, x.1.now)) result ≡ name_at all_functions text.now }
     ensures shorter { IfOk result (λ x. length x.1.now < length text.now) }
 {
     let end = word_length(text);
@@ -323,7 +324,7 @@ fn name(text: &[u8]) -> Result<(Lead, &[u8]), Stop>
 #[tactic(auto, unfolding(crate::specs::Tokens::lead_of))]
 #[inline(always)]
 fn lead_of<'a>(shape: &Shape, text: &'a [u8]) -> Result<(Lead, &'a [u8]), Stop>
-    ensures is { result_of (λ x. (x.0, x.1.now)) result ≡ lead_of shape.now text.now }
+    ensures is { result_of (λ x. (x.0, x.1.now)) result ≡ lead_of (scope_of shape.now) text.now }
     ensures shorter { IfOk result (λ x. length x.1.now < length text.now) }
 {
     match text {
@@ -347,7 +348,7 @@ fn lead_of<'a>(shape: &Shape, text: &'a [u8]) -> Result<(Lead, &'a [u8]), Stop>
 #[tactic(auto, unfolding(crate::specs::Tokens::lead_at))]
 #[inline(always)]
 pub(crate) fn read_lead<'a>(shape: &Shape, text: &'a [u8]) -> Result<(Lead, &'a [u8]), Stop>
-    ensures is { result_of (λ x. (x.0, x.1.now)) result ≡ lead_at shape.now text.now }
+    ensures is { result_of (λ x. (x.0, x.1.now)) result ≡ lead_at (scope_of shape.now) text.now }
     ensures shorter { IfOk result (λ x. length x.1.now < length text.now) }
 {
     lead_of(shape, skip(text))

@@ -3,7 +3,8 @@ use Rattle.ds_formula.specs.declared.cells.Cell.{Cell}
 use Rattle.ds_eval.specs.declared.value.Value.{Value}
 use Rattle.ds_eval.specs.declared.gather.Gathered.{Gathered}
 use Rattle.ds_eval.specs.Evaluation.{width, height, first_cells}
-use Rattle.ds_eval.specs.Inputs.{values_in, heights_in}
+use Rattle.ds_eval.specs.Inputs.{heights_in}
+use Rattle.ds_eval.specs.Rows.{seen_in}
 use Rattle.ds_eval.specs.Tally.{IsTally}
 use Rattle.ds_eval.proofs.Rows.{rows_values, rows_height}
 use Rattle.ds_eval.proofs.gather.with_range.Goals as goal
@@ -17,7 +18,7 @@ count_in g = g.tally.totals.count
 
 pub loop-row-preserved : goal.loop-row-preserved
 loop-row-preserved c =
-    let read = values_in c.args.inputs.now.items in
+    let read = seen_in c.args.errors c.args.inputs.now.items in
     let heights = heights_in c.args.inputs.now.items in
     let area = c.args.area in
     let columns = c.width-columns.result in
@@ -49,12 +50,12 @@ loop-row-preserved c =
 pub returns-then-columns-eq0-clause-tally : goal.returns-then-columns-eq0-clause-tally
 returns-then-columns-eq0-clause-tally c = λ l vs t.
     let n : 0 ≡ width c.args.shape c.args.area * height c.args.shape c.args.area = let z : 0 ≡ 0 * height c.args.shape c.args.area = omega arith in z ∙ ap (λ (x : ℕ). x * height c.args.shape c.args.area) (sym c.if-columns-eq0.true ∙ c.width-columns.ensures.value) in
-    subst (λ (k : ℕ). IsTally (vs ++ map (values_in c.args.inputs.now.items) (first_cells c.args.area (width c.args.shape c.args.area) k)) c.args.gathered.tally) n
+    subst (λ (k : ℕ). IsTally (vs ++ map (seen_in c.args.errors c.args.inputs.now.items) (first_cells c.args.area (width c.args.shape c.args.area) k)) c.args.gathered.tally) n
     (subst (λ (ws : List Value). IsTally ws c.args.gathered.tally) (sym (append-nil vs)) t)
 
 pub returns-clause-tally : goal.returns-clause-tally
 returns-clause-tally c = λ l vs t.
     let r : c.loop-row.row ≡ height c.args.shape c.args.area = omega (arith, c.loop-row-test.false, c.loop-row.auto.row-end, c.height-rows.ensures.value) in
     let f = c.loop-row.invariant.tally l vs t in
-    subst (λ (k : ℕ). IsTally (vs ++ map (values_in c.args.inputs.now.items) (first_cells c.args.area k (k * height c.args.shape c.args.area))) c.loop-row.sum.tally) c.width-columns.ensures.value
-    (subst (λ (k : ℕ). IsTally (vs ++ map (values_in c.args.inputs.now.items) (first_cells c.args.area c.width-columns.result (c.width-columns.result * k))) c.loop-row.sum.tally) r f)
+    subst (λ (k : ℕ). IsTally (vs ++ map (seen_in c.args.errors c.args.inputs.now.items) (first_cells c.args.area k (k * height c.args.shape c.args.area))) c.loop-row.sum.tally) c.width-columns.ensures.value
+    (subst (λ (k : ℕ). IsTally (vs ++ map (seen_in c.args.errors c.args.inputs.now.items) (first_cells c.args.area c.width-columns.result (c.width-columns.result * k))) c.loop-row.sum.tally) r f)

@@ -13,7 +13,7 @@ returns-in-Number-clause-tally c =
     let q : to_z w64 (of_z w64 z) ≡ z = to_z-of_z w64 _ (search rules) in
     let f : NoGreater (to_z w64 (of_z w64 z)) = omega (arith, ints, clamps) in
     let g : NoLess (to_z w64 (of_z w64 z)) = omega (arith, ints, clamps) in
-    let m : IsMore z c.args.self.totals c.with.result = record { y = to_z w64 (of_z w64 z); same = q; no_greater = f; no_less = g; count = e.count; sum = e.sum; least = e.least; greatest = e.greatest } in
+    let m : IsMore z c.args.self.totals c.with.result = record { y = to_z w64 (of_z w64 z); same = q; no_greater = f; no_less = g; count = e.count; zeros = e.zeros; sum = e.sum; least = e.least; greatest = e.greatest } in
     rw c.in-Number.is (λ vs h. number_more vs z c.args.self c.with.result m h)
 
 pub returns-in-DivZero-clause-tally : goal.returns-in-DivZero-clause-tally

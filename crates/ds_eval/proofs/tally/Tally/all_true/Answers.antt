@@ -1,0 +1,5 @@
+use Rattle.ds_eval.proofs.Tallies.{all_told}
+use Rattle.ds_eval.proofs.tally.Tally.all_true.Goals as goal
+
+pub returns-in-None : goal.returns-in-None
+returns-in-None c = λ vs t. all_told vs c.args.self c.truth.result c.in-None.is c.truth.ensures t
