@@ -1,12 +1,14 @@
 //! The numbers of the words of a sheet.
 
-ghost use Rattle.std.specs.Prelude.{◌≡◌, ◌*◌, ◌/◌, ◌%◌, ◌<◌, ◌≤◌, ◌↔◌, IsTrue, IsSome, IfSome, IfOk};
+ghost use Rattle.std.specs.Prelude.{◌≡◌, ◌*◌, ◌/◌, ◌%◌, ◌<◌, ◌≤◌, ◌-◌, ◌^◌, ◌↔◌, IsTrue, IsSome, IfSome, IfOk};
 ghost use Rattle.ds_formula.specs.Limits.{CELLS_MOST, EDITS_MOST, PROCESSES_MOST, TEXT_MOST};
 ghost use Rattle.ds_layout.specs.Bits.{parts_for};
 ghost use Rattle.ds_layout.specs.declared.place.TheConstants as places;
 ghost use Rattle.ds_layout.specs.declared.place.TheConstants.{RECORDS, TEXT_PARTS, DONE_PARTS};
 ghost use Rattle.ds_layout.specs.declared.place.Place.TheVariants as place;
 ghost use Rattle.ds_layout.specs.declared.layout.TheConstants as constants;
+ghost use Rattle.ds_layout.specs.declared.head.TheConstants as heads;
+ghost use Rattle.ds_layout.specs.declared.mark.TheConstants as marks;
 
 use crate::bits;
 use crate::place::{DONE_PARTS, Place, RECORDS, TEXT_PARTS};
@@ -314,11 +316,14 @@ impl Layout {
     }
 }
 
-/// The constants of this crate are the limits of the definitions.
+/// The constants of this crate are the limits of the definitions, the last stamp of a head the last
+/// that fits its 48 bits, and the bit that says dirty the lowest of a mark.
 pub fn constants_are_limits()
     ensures edits { places.RECORDS ≡ EDITS_MOST }
     ensures text { 8 * places.TEXT_PARTS ≡ TEXT_MOST }
     ensures processes { constants.PROCESS_LIMIT ≡ PROCESSES_MOST }
     ensures row { places.ROW_PARTS ≡ parts_for CELLS_MOST }
     ensures done { places.DONE_PARTS ≡ parts_for EDITS_MOST }
+    ensures stamp { heads.LAST_STAMP ≡ 2 ^ 48 - 1 }
+    ensures dirty { marks.DIRTY ≡ 1 }
 {}

@@ -1,6 +1,7 @@
 //! What is true of each world, as functions that do nothing.
 
-ghost use Rattle.std.specs.Prelude.{ℕ, ◌≡◌, ◌<◌, ◌≤◌, ◌+◌, ◌*◌, List, length, Some, Contains};
+ghost use Rattle.std.specs.Prelude.{ℕ, ◌≡◌, ◌<◌, ◌≤◌, ◌+◌, ◌-◌, ◌*◌, ◌^◌, List, length, Some, Contains};
+ghost use Rattle.ds_state.specs.declared.reports.TheConstants as constants;
 ghost use Rattle.ds_layout.specs.Mark.{mark_word};
 ghost use Rattle.ds_layout.specs.declared.place.Place.{Place};
 ghost use Rattle.ds_layout.specs.declared.place.Place.TheVariants.{Mark};
@@ -156,4 +157,9 @@ pub fn middles_stay()
 pub fn doings_leave_others()
     ensures stops { (p : ℕ) (old new : PlainWorld) → IsSound old → p < old.layout.processes → StopsIn p old new → Leaves p old new }
     ensures on { (p : ℕ) (old mid new : PlainWorld) → Leaves p old mid → Leaves p mid new → Leaves p old new }
+{}
+
+/// As many reports can be counted as a word has numbers, less one.
+pub fn constants_are_limits()
+    ensures { constants.SETTLED_MOST ≡ 2 ^ 64 - 1 }
 {}

@@ -9,6 +9,10 @@ use Rattle.ds_words.specs.declared.words.Word.{Word}
 use Rattle.ds_words.specs.declared.words.TheConstants.{BUFFER_ENTRIES}
 use Rattle.ds_words.specs.Memory.{Memory}
 
+-- how many entries a buffer may have
+abbrev pub BUFFER_MOST : ℕ
+BUFFER_MOST = 16
+
 -- the class and both sides of each word, and the buffer of each process
 pub record WordsValue : Type 0 where
   pub classes : List Class

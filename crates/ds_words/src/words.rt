@@ -2,7 +2,8 @@
 
 ghost use Rattle.std.specs.Prelude.{◌≡◌, ◌<◌, ◌↔◌, ◌∷◌, [], length, drop, map, IfOk, IsTrue};
 ghost use Rattle.ds_words.specs.Memory.{StoresAt, OrsAt, SwapsAt, FlushesAt, BacksFirst, EvictsAt, Crashes, StopsAt, Performs};
-ghost use Rattle.ds_words.specs.Words.{memory_of, fresh_words, SameShape, HasWord, HasProcess, HasRoom, HasEntry, CanPerform, word_at, with_word, class_at, buffer_of, with_buffer, crashed};
+ghost use Rattle.ds_words.specs.declared.words.TheConstants as constants;
+ghost use Rattle.ds_words.specs.Words.{BUFFER_MOST, memory_of, fresh_words, SameShape, HasWord, HasProcess, HasRoom, HasEntry, CanPerform, word_at, with_word, class_at, buffer_of, with_buffer, crashed};
 
 use crate::access::{Access, BufferEntry, Class};
 use arrayvec::ArrayVec;
@@ -387,3 +388,8 @@ impl Words {
         }
     }
 }
+
+/// The constant of this crate is the limit of the definitions.
+pub fn constants_are_limits()
+    ensures { constants.BUFFER_ENTRIES ≡ BUFFER_MOST }
+{}
