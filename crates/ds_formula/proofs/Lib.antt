@@ -7,6 +7,7 @@ pub mod Parses
 pub mod Calls
 pub mod Unique
 pub mod Whole
+pub mod Memory
 pub mod Marks
 pub mod Lists
 pub mod Texts

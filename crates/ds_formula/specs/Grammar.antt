@@ -110,10 +110,16 @@ Faults shape = FaultsIn (scope_of shape)
 abbrev pub no_memory : TextFault
 no_memory = record { kind = NoMemory; offset = 0 }
 
--- what may be answered to a text: its content, its fault, or that memory ran out
+-- reading the text takes memory: it is a formula, and within the limit of its length
+pub record TakesMemory (text : List ℕ) : Type 0 where
+  pub short : length text ≤ TEXT_MOST
+  pub body : List ℕ
+  pub formula : expression_of text ≡ Some body
+
+-- what may be answered to a text: its content, its fault, or, of a formula, that memory ran out
 abbrev pub Answers : Shape → List ℕ → Result Content TextFault → Type 0
 Answers shape text (Ok c) = Reads shape text (plain c)
-Answers shape text (Err e) = (e ≡ no_memory) ⊎ Faults shape text e
+Answers shape text (Err e) = ((e ≡ no_memory) × TakesMemory text) ⊎ Faults shape text e
 
 -- the text has a content, or it has a fault
 abbrev pub IsAnswered : Shape → List ℕ → Type 0

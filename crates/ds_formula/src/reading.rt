@@ -124,7 +124,8 @@ fn fits(tree: &Tree) -> bool
 /// (OpenFormula 5.2), any other one a constant.
 ///
 /// The first fault from the left is answered: `TooLong` before all else, then what is wrong with a token, then
-/// `RangeNotAllowed`, then `TooDeep`. `NoMemory` says nothing of the text.
+/// `RangeNotAllowed`, then `TooDeep`. `NoMemory` is answered to formulas within the limit of length alone, and says no more
+/// of the text.
 pub fn read_content(alloc: Global, shape: &Shape, text: &[u8]) -> Result<Content, TextFault>
     ensures { Answers shape.now text.now result }
 {

@@ -1,4 +1,4 @@
-use Rattle.std.proofs.Common.{sym, inr, arith}
+use Rattle.std.proofs.Common.{refl, sym, inl, inr, arith}
 use Rattle.ds_formula.specs.Grammar.{constant, in_constant, in_formula, too_long, within}
 use Rattle.ds_formula.specs.Plain.{formula}
 use Rattle.ds_formula.proofs.Whole.{blank_read, formula_answer}
@@ -24,3 +24,6 @@ pub returns-in-Err-Stopped : goal.returns-in-Err-Stopped
 returns-in-Err-Stopped c =
     rw c.placed-in-Err-Stopped.ensures (inr (within _ (omega arith) (in_formula c.args.text.now c.in-Some.body.now c.in-Err-Stopped.stop (sym c.in-Some.ensures)
     (rw c.in-Err-Stopped.field-0-is at c.in-Err-Stopped.ensures.refused))))
+
+pub returns-in-Err-Memory : goal.returns-in-Err-Memory
+returns-in-Err-Memory c = inl (refl, record { short = omega arith; body = c.in-Some.body.now; formula = sym c.in-Some.ensures })
