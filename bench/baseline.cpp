@@ -24,7 +24,8 @@ struct Rect {
 };
 
 enum class Form { Number, Reference, Range, Prefix, Binary, Call };
-enum class Function { Sum, Min, Max, Abs, Mod, Quotient, If };
+// those of many values, of one, of two, and IF
+enum class Function { Sum, Min, Max, Count, And, Or, Abs, Not, Mod, Quotient, If };
 
 struct Tree {
     Form form;
@@ -179,21 +180,21 @@ class Parser {
     }
 
     TreePointer call() {
-        static const std::string names[] = {"SUM", "MIN", "MAX", "ABS", "MOD", "QUOTIENT", "IF"};
+        static const std::string names[] = {"SUM", "MIN", "MAX", "COUNT", "AND", "OR", "ABS", "NOT", "MOD", "QUOTIENT", "IF"};
         std::string name;
         for (; isalpha(peek()); at++) name += toupper(peek());
         auto tree = node(Form::Call);
         int found = 0;
-        while (found < 7 && names[found] != name) found++;
+        while (found < 11 && names[found] != name) found++;
         skip();
-        if (found == 7 || !take('(')) return fail();
+        if (found == 11 || !take('(')) return fail();
         tree->function = Function(found);
         do {
             tree->parts.push_back(expression());
             skip();
         } while (good && take(';'));
         size_t count = tree->parts.size();
-        bool fits = found < 3 || (found == 3 && count == 1) || ((found == 4 || found == 5) && count == 2) || (found == 6 && (count == 2 || count == 3));
+        bool fits = found < 6 || (found < 8 && count == 1) || (found < 10 && count == 2) || (found == 10 && (count == 2 || count == 3));
         return good && fits && take(')') ? std::move(tree) : fail();
     }
 
@@ -203,10 +204,10 @@ class Parser {
         return deepest + 1;
     }
 
-    // a range stands only as an argument of SUM, MIN or MAX
+    // a range stands only as an argument of a function of many values
     static bool placed(const Tree &tree, bool range_may) {
         if (tree.form == Form::Range) return range_may;
-        bool may = tree.form == Form::Call && tree.function <= Function::Max;
+        bool may = tree.form == Form::Call && tree.function <= Function::Or;
         for (auto &part : tree.parts)
             if (!placed(*part, may)) return false;
         return true;
@@ -244,7 +245,7 @@ Value in_range(__int128 number) {
 struct Tally {
     __int128 sum = 0;
     int64_t least = INT64_MAX, greatest = INT64_MIN;
-    bool some = false;
+    int64_t count = 0, zeros = 0;
     Kind error = Kind::Blank;
 
     void add(Value value) {
@@ -252,7 +253,8 @@ struct Tally {
             sum += value.number;
             least = std::min(least, value.number);
             greatest = std::max(greatest, value.number);
-            some = true;
+            count++;
+            zeros += value.number == 0;
         } else if (value.kind != Kind::Blank && error == Kind::Blank) {
             error = value.kind;
         }
@@ -342,26 +344,36 @@ class Evaluation {
 
     Tally tally(const Tree &tree) const {
         Tally all;
+        bool skips = tree.function == Function::Count; // errors of cells
         for (auto &part : tree.parts) {
             if (part->form != Form::Reference && part->form != Form::Range) {
                 all.add(evaluate(*part));
                 continue;
             }
             for (int row = part->area.top; row <= part->area.bottom; row++)
-                for (int column = part->area.left; column <= part->area.right; column++) all.add(at(column, row));
+                for (int column = part->area.left; column <= part->area.right; column++) {
+                    Value value = at(column, row);
+                    if (!skips || value.kind == Kind::Number || value.kind == Kind::Circular) all.add(value);
+                }
         }
         return all;
     }
 
     Value call(const Tree &tree) const {
-        if (tree.function <= Function::Max) {
+        if (tree.function <= Function::Or) {
             Tally all = tally(tree);
             if (all.error != Kind::Blank) return {all.error};
-            if (tree.function == Function::Sum) return in_range(all.sum);
-            return {Kind::Number, !all.some ? 0 : tree.function == Function::Min ? all.least : all.greatest};
+            switch (tree.function) {
+            case Function::Sum: return in_range(all.sum);
+            case Function::Count: return {Kind::Number, all.count};
+            case Function::And: return {Kind::Number, all.zeros == 0};
+            case Function::Or: return {Kind::Number, all.zeros < all.count};
+            default: return {Kind::Number, all.count == 0 ? 0 : tree.function == Function::Min ? all.least : all.greatest};
+            }
         }
         Value first = evaluate(*tree.parts[0]);
         if (first.kind != Kind::Number) return first;
+        if (tree.function == Function::Not) return {Kind::Number, first.number == 0};
         if (tree.function == Function::Abs) return in_range(first.number < 0 ? -__int128(first.number) : first.number);
         if (tree.function == Function::If) {
             if (first.number != 0) return evaluate(*tree.parts[1]);

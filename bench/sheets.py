@@ -36,6 +36,12 @@ def below(times):
     return texts
 
 
+def folds_above():
+    """Each cell is COUNT, AND or OR of all rows above it, by turns."""
+    folds = ["COUNT", "AND", "OR"]
+    return ["1" if k < COLUMNS else f"={folds[k % 3]}([.A1:.P{k // COLUMNS}])" for k in range(COUNT)]
+
+
 def budget():
     """Totals in the first row and the first columns, of twelve months each."""
     texts = [""] * 3 + [f"=SUM([.{c}2:.{c}64])" for c in "DEFGHIJKLMNO"] + [""]
@@ -53,7 +59,8 @@ def script(texts, columns=COLUMNS):
 
 
 def sheets():
-    """The texts and the columns of each sheet by its name; the eight behind the first are those that have a target."""
+    """The texts and the columns of each sheet by its name; the eight behind the first are those that have a target of
+    three times the plain program, and the last one has one of one and a half times."""
     places = list(range(COUNT))
     shuffled = random.Random(5).sample(places, COUNT)
     all_above = ["1" if k < COLUMNS else f"=SUM([.A1:.P{k // COLUMNS}])" for k in places]
@@ -72,6 +79,7 @@ def sheets():
     yield "all_circular_ten_times", ["=SUM(" + ";".join(["[.A1:.P64]"] * 10) + ")"] * COUNT, COLUMNS
     yield "below", below(1), COLUMNS
     yield "below_nine_times", below(9), COLUMNS
+    yield "folds_above", folds_above(), COLUMNS
 
 
 def main():

@@ -71,6 +71,8 @@ Places (N is one of the edits of P, from 0; PART is from 0):
 
 A text is empty, a whole number or a formula, as =[.A1]*2 or =SUM([.A1:.B3];7):
 a reference is [.A1], a range [.A1:.B3], and ; parts arguments. =A1 is refused: write =[.A1].
+Functions: SUM MIN MAX COUNT AND OR of one argument or more, ranges among them;
+ABS and NOT of one; MOD and QUOTIENT of two; IF of two or three.
 Limits: 26 columns, 64 rows, 1024 cells; 8 processes, 256 edits of each;
 120 bytes a text, 512 a line, 1048576 a script.
 Empty lines and lines that begin with # are skipped. The answers come when the input has ended.
@@ -90,6 +92,8 @@ const REPORT_HELP: &str = "\
 The grid is CSV without a heading line: a record is a row, a field the text of a cell.
 A text is empty, a whole number or a formula, as =[.A1]*2 or =SUM([.A1:.B3];7):
 a reference is [.A1], a range [.A1:.B3], and ; parts arguments. =A1 is refused: write =[.A1].
+Functions: SUM MIN MAX COUNT AND OR of one argument or more, ranges among them;
+ABS and NOT of one; MOD and QUOTIENT of two; IF of two or three.
 Limits: 26 columns, 64 rows, 1024 cells; 120 bytes a text, 1048576 the grid.
 What is written is the values, as CSV. Nothing is written where a fault is told:
   empty grid        no record

@@ -16,3 +16,4 @@ pub mod Results
 pub mod Sheets
 pub mod Showable
 pub mod Meant
+pub mod Longer

@@ -1,17 +1,20 @@
 //! Laws over the definitions alone: functions without other work, whose contracts are the theorems.
 
-ghost use Rattle.std.specs.Prelude.{◌≡◌, ◌≢◌, ℕ, min, ℤ, pos, List};
+ghost use Rattle.std.specs.Prelude.{◌≡◌, ◌≢◌, ℕ, min, ℤ, pos, List, ◌++◌};
 ghost use Rattle.ds_formula.specs.declared.cells.Shape as shapes;
 ghost use Rattle.ds_formula.specs.declared.cells.Cell as cells;
 ghost use Rattle.ds_formula.specs.declared.cells.Rect as areas;
 ghost use Rattle.ds_formula.specs.Cells.{IsInside, index_of, count_of};
 ghost use Rattle.ds_formula.specs.Plain.{PlainContent, Formula};
 ghost use Rattle.ds_formula.specs.Refs.{Refers};
-ghost use Rattle.ds_formula.specs.Grammar.{Reads};
+ghost use Rattle.ds_formula.specs.declared.content.Function.{Function};
+ghost use Rattle.ds_formula.specs.Functions.{first_functions, scope_with};
+ghost use Rattle.ds_formula.specs.Uses.{ContentCallsOnly};
+ghost use Rattle.ds_formula.specs.Grammar.{Reads, ReadsIn};
 ghost use Rattle.ds_eval.specs.declared.value.Value as values;
 ghost use Rattle.ds_eval.specs.declared.inputs.Entry as entries;
 ghost use Rattle.ds_eval.specs.Scratch.{Runs, at, IsScratch, WalkLaw};
-ghost use Rattle.ds_eval.specs.Evaluation.{formula_value, cells_of};
+ghost use Rattle.ds_eval.specs.Evaluation.{formula_value, content_value, content_value_with, cells_of};
 ghost use Rattle.ds_eval.specs.Numbers.{floor_div};
 ghost use Rattle.ds_eval.specs.Meanings.{IsAbove, AreCellsOf, IsFloor};
 ghost use Rattle.ds_eval.specs.Local.{local, content_height, height_of, IsLocal, IsShown};
@@ -68,4 +71,16 @@ pub fn range_law()
 /// MOD rests on the whole number below a quotient, or at it.
 pub fn floor_law()
     ensures { (a b : ℤ) → b ≢ pos 0 → IsFloor a b (floor_div a b) }
+{}
+
+/// A content that calls some functions alone has the same value where further functions are known.
+pub fn values_stay()
+    ensures { (old new : List Function) (shape : shapes.Shape) (read : cells.Cell → values.Value) (content : PlainContent) → ContentCallsOnly old content → content_value_with old shape read content ≡ content_value_with (old ++ new) shape read content }
+{}
+
+/// So of the first seven functions and of all: a content without COUNT, AND, OR and NOT, as that of each text which was
+/// read without them, has the value that it had without them.
+pub fn first_values_stay()
+    ensures called { (shape : shapes.Shape) (read : cells.Cell → values.Value) (content : PlainContent) → ContentCallsOnly first_functions content → content_value_with first_functions shape read content ≡ content_value shape read content }
+    ensures read { (shape : shapes.Shape) (text : List ℕ) (content : PlainContent) (read : cells.Cell → values.Value) → ReadsIn (scope_with first_functions shape) text content → content_value_with first_functions shape read content ≡ content_value shape read content }
 {}

@@ -212,9 +212,10 @@ impl Tally {
     pub fn all_true(self) -> Value
         ensures { (vs : List values.Value) → IsTally vs self → result ≡ exact.with_all vs (λ ns. exact.truth (exact.all_true ns)) }
     {
+        let no_zero = self.totals.zeros == 0;
         match self.error {
             Some(error) => error,
-            None => truth(self.totals.zeros == 0),
+            None => truth(no_zero),
         }
     }
 

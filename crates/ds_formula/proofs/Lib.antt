@@ -18,3 +18,6 @@ pub mod Writes
 pub mod ReadsBack
 pub mod Shorter
 pub mod Exists
+pub mod Suffixes
+pub mod Longer
+pub mod Known

@@ -77,6 +77,10 @@ pub record Scope : Type 0 where
   pub shape : Shape
   pub functions : List Function
 
+-- the cells of a sheet of this shape, and these functions
+abbrev pub scope_with : List Function → Shape → Scope
+scope_with functions shape = record { shape = shape; functions = functions }
+
 -- what the texts of a sheet may name: its cells, and all functions
 abbrev pub scope_of : Shape → Scope
-scope_of shape = record { shape = shape; functions = all_functions }
+scope_of = scope_with all_functions

@@ -3,12 +3,14 @@ use Rattle.std.specs.Prelude.{◌≡◌, ◌⊎◌, ℕ, ℤ, pos, neg_ℤ, ◌�
 use Rattle.ds_formula.specs.declared.cells.Shape.{Shape}
 use Rattle.ds_formula.specs.declared.content.Content.{Content}
 use Rattle.ds_formula.specs.declared.fault.TextFault.{TextFault}
-use Rattle.ds_formula.specs.declared.fault.FaultKind.TheVariants.{TooLong, RangeNotAllowed, TooDeep, NoMemory}
+use Rattle.ds_formula.specs.declared.fault.FaultKind.TheVariants.{TooLong, UnknownFunction, RangeNotAllowed, TooDeep, NoMemory}
 use Rattle.ds_formula.specs.declared.ranges.Ranges.{Ranges}
 use Rattle.ds_formula.specs.Limits.{TEXT_MOST}
 use Rattle.ds_formula.specs.declared.tokens.Stop.{Stop}
 use Rattle.ds_formula.specs.Plain.{Formula, PlainContent, plain, Empty, Constant, Computed}
-use Rattle.ds_formula.specs.Functions.{Scope, scope_of}
+use Rattle.ds_formula.specs.declared.content.Function.{Function}
+use Rattle.ds_formula.specs.Functions.{Scope, scope_of, function_named}
+use Rattle.ds_formula.specs.Tokens.{word_at}
 use Rattle.ds_formula.specs.Bytes.{◌>>=◌, unexpected_stop, begins, number_at}
 use Rattle.ds_formula.specs.Ranges.{misplaced}
 use Rattle.ds_formula.specs.Forms.{Expression}
@@ -131,3 +133,9 @@ pub record OneAnswer (shape : Shape) (text : List ℕ) : Type 0 where
   pub content : (c d : PlainContent) → Reads shape text c → Reads shape text d → c ≡ d
   pub fault : (e f : TextFault) → Faults shape text e → Faults shape text f → e ≡ f
   pub never_both : (c : PlainContent) (e : TextFault) → Reads shape text c → Faults shape text e → ⊥
+
+-- the fault is an unknown name, and the word that stands there is the name of one of these functions
+pub record IsNameAmong (functions : List Function) (text : List ℕ) (fault : TextFault) : Type 0 where
+  pub unknown : fault.kind ≡ UnknownFunction
+  pub function : Function
+  pub named : function_named functions (word_at (drop fault.offset text)) ≡ Some function

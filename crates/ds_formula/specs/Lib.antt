@@ -6,6 +6,7 @@ pub mod Refs
 pub mod Bytes
 pub mod References
 pub mod Functions
+pub mod Uses
 pub mod Tokens
 pub mod Ranges
 pub mod Forms

@@ -7,6 +7,7 @@ mod copies;
 pub mod decimal;
 pub mod fault;
 mod functions;
+pub mod laws;
 mod names;
 mod parser;
 mod ranges;

@@ -50,7 +50,7 @@ fn values(rt: HostRuntime) {
 // named.
 #[test]
 fn faults(rt: HostRuntime) {
-    let cases: [(&[u8], GridEnd); 9] = [
+    let cases: [(&[u8], GridEnd); 12] = [
         (b"", GridEnd::Grid(GridFault::EmptyGrid)),
         (b"\n\r\n", GridEnd::Grid(GridFault::EmptyGrid)),
         (b"1\n2,3\n", GridEnd::Grid(GridFault::BadCsv)),
@@ -62,6 +62,12 @@ fn faults(rt: HostRuntime) {
         (b"1,=1.5\n=1+,2\n", fault(1, 0, FaultKind::NotWhole, 2)),
         (b"1\n=[.B1]\n", fault(0, 1, FaultKind::OutsideSheet, 1)),
         (b"\xff\n", fault(0, 0, FaultKind::BadToken, 0)),
+        (b"=NOT()\n", fault(0, 0, FaultKind::WrongArguments, 1)),
+        (b"=NOT(1;2)\n", fault(0, 0, FaultKind::WrongArguments, 1)),
+        (
+            b"=NOT([.A1:.A1])\n",
+            fault(0, 0, FaultKind::RangeNotAllowed, 5),
+        ),
         (b"\"=1\n\"\n1\x00\n", fault(0, 1, FaultKind::BadToken, 1)),
     ];
     for (grid, expected) in cases {

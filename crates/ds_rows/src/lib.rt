@@ -6,6 +6,8 @@ mod calls;
 #[cfg(test)]
 mod endings;
 #[cfg(test)]
+mod functions;
+#[cfg(test)]
 mod grids;
 #[cfg(test)]
 mod inputs;

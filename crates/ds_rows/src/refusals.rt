@@ -1,7 +1,7 @@
 use crate::running::expect_answers;
 
 // A text that is set in A1, and its refusal.
-const REFUSED: [(&str, &str); 8] = [
+const REFUSED: [(&str, &str); 12] = [
     ("=1.5", "NotWhole 2"),
     ("=[.C1]", "OutsideSheet 1"),
     (
@@ -13,6 +13,10 @@ const REFUSED: [(&str, &str); 8] = [
     ("=SUM()", "WrongArguments 1"),
     ("=PI(1)", "UnknownFunction 1"),
     ("=1,5", "BadToken 2"),
+    ("=NOT()", "WrongArguments 1"),
+    ("=NOT(1;2)", "WrongArguments 1"),
+    ("=NOT([.A1:.A2])", "RangeNotAllowed 5"),
+    ("=COUNT()", "WrongArguments 1"),
 ];
 
 #[test]

@@ -144,6 +144,37 @@ const FOURTH: [(&str, &str); 24] = [
     ("=SUM(-[.A1:.A2])", "RangeNotAllowed 6"),
 ];
 
+// COUNT, AND, OR and NOT.
+const FIFTH: [(&str, &str); 24] = [
+    ("=NOT()", "WrongArguments 1"),
+    ("=NOT(1;2)", "WrongArguments 1"),
+    ("=NOT([.A1:.A2])", "RangeNotAllowed 5"),
+    ("=COUNT()", "WrongArguments 1"),
+    ("=AND( )", "WrongArguments 1"),
+    ("=1+OR()", "WrongArguments 3"),
+    ("=COUNT([.A1:.B2];[.A2];5)", ""),
+    ("=and(1)", ""),
+    ("=Or([.a1:.b2])", ""),
+    ("=NoT([.A1])", ""),
+    ("=COUNTA(1)", "UnknownFunction 1"),
+    ("=XOR(1)", "UnknownFunction 1"),
+    ("=NOT 1", "BadToken 5"),
+    ("=COUNT([.A1:.A2]+1)", "RangeNotAllowed 7"),
+    ("=AND((([.A1:.B2])))", ""),
+    ("=NOT(([.A1:.A2]))", "RangeNotAllowed 6"),
+    ("=1+NOT(1;2)+PI()", "WrongArguments 3"),
+    ("=OR(1;;2)", "BadToken 6"),
+    ("=COUNT", "Unfinished 6"),
+    ("=AND(NOT(", "Unfinished 9"),
+    ("=COUNT(-[.A1:.A2])", "RangeNotAllowed 8"),
+    ("=IF(AND(1;0);COUNT(1);OR(0))", ""),
+    ("=NOT(NOT(NOT(NOT(NOT(NOT(NOT(NOT(NOT(NOT(NOT(NOT(NOT(NOT(NOT(1)))))))))))))))", ""),
+    (
+        "=NOT(NOT(NOT(NOT(NOT(NOT(NOT(NOT(NOT(NOT(NOT(NOT(NOT(NOT(NOT(NOT(1))))))))))))))))",
+        "TooDeep 0",
+    ),
+];
+
 fn expect_read(rt: &(impl Abort + AllocGlobal), text: &str, want: &str) -> Result<(), Fail> {
     let shape = Shape::new(2, 2).ok_or("shape")?;
     let mut got = String::new(rt.alloc());
@@ -186,8 +217,16 @@ fn fourth_texts(rt: HostRuntime) -> Result<(), Fail> {
     Ok(())
 }
 
+#[test]
+fn fifth_texts(rt: HostRuntime) -> Result<(), Fail> {
+    for (text, want) in FIFTH {
+        expect_read(&rt, text, want)?;
+    }
+    Ok(())
+}
+
 // A text, the text that its content is written as, and the cells written in it.
-const WRITTEN: [(&str, &str, &str); 13] = [
+const WRITTEN: [(&str, &str, &str); 15] = [
     ("", "", ""),
     ("+007", "7", ""),
     ("-9223372036854775808", "-9223372036854775808", ""),
@@ -209,6 +248,12 @@ const WRITTEN: [(&str, &str, &str); 13] = [
         "=IF([.C1];MOD(7;[.B1]);QUOTIENT(ABS([.C1]);3))",
         "B1 C1 ",
     ),
+    (
+        "=not(Count([.B1:.A2];1))",
+        "=NOT(COUNT([.A1:.B2];1))",
+        "A1 B1 A2 B2 ",
+    ),
+    ("=or(and([.C1]);(0))", "=OR(AND([.C1]);0)", "C1 "),
 ];
 
 #[test]

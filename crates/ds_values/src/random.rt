@@ -69,6 +69,18 @@ fn draw_operator(state: &mut u64) -> Operator {
     }
 }
 
+// A function of many values.
+fn draw_function(state: &mut u64) -> Function {
+    match draw(state, 6) {
+        0 => Function::Sum,
+        1 => Function::Min,
+        2 => Function::Max,
+        3 => Function::Count,
+        4 => Function::And,
+        _ => Function::Or,
+    }
+}
+
 fn small(alloc: Global, state: &mut u64) -> Result<Tree, AllocError> {
     match draw(state, 5) {
         0 => Ok(leaf(state)),
@@ -80,12 +92,7 @@ fn small(alloc: Global, state: &mut u64) -> Result<Tree, AllocError> {
             let mut arguments = Vec::new(alloc);
             arguments.push(argument(state))?;
             arguments.push(argument(state))?;
-            let function = match draw(state, 3) {
-                0 => Function::Sum,
-                1 => Function::Min,
-                _ => Function::Max,
-            };
-            Ok(Tree::Call(function, arguments))
+            Ok(Tree::Call(draw_function(state), arguments))
         }
         _ => {
             let left = Box::new(alloc, leaf(state))?;
@@ -99,10 +106,20 @@ fn large(alloc: Global, state: &mut u64) -> Result<Tree, AllocError> {
     let first = small(alloc, state)?;
     let second = small(alloc, state)?;
     let mut arguments = Vec::new(alloc);
-    match draw(state, 6) {
+    match draw(state, 8) {
         0 => {
             arguments.push(first)?;
             Ok(Tree::Call(Function::Abs, arguments))
+        }
+        4 => {
+            arguments.push(first)?;
+            Ok(Tree::Call(Function::Not, arguments))
+        }
+        5 => {
+            arguments.push(first)?;
+            arguments.push(argument(state))?;
+            arguments.push(second)?;
+            Ok(Tree::Call(draw_function(state), arguments))
         }
         1 => {
             arguments.push(first)?;
@@ -206,9 +223,13 @@ fn both(left: Value, right: Value) -> Result<(i128, i128), Value> {
     Ok((left, right))
 }
 
-// What SUM, MIN and MAX make of their numbers, and the first error among them.
+// What functions of many values make of their numbers, and the first error among them.
 #[derive(Clone, Copy)]
 struct Tally {
+    // whether `#DIV/0!` and `#NUM!` of cells are passed over
+    skips: bool,
+    count: i128,
+    zeros: i128,
     sum: i128,
     least: Option<i128>,
     greatest: Option<i128>,
@@ -216,8 +237,11 @@ struct Tally {
 }
 
 impl Tally {
-    fn new() -> Tally {
+    fn new(skips: bool) -> Tally {
         Tally {
+            skips,
+            count: 0,
+            zeros: 0,
             sum: 0,
             least: None,
             greatest: None,
@@ -232,6 +256,10 @@ impl Tally {
         }
         match plain(value) {
             Ok(number) => {
+                self.count = self.count.wrapping_add(1);
+                if number == 0 {
+                    self.zeros = self.zeros.wrapping_add(1);
+                }
                 self.sum = self.sum.wrapping_add(number);
                 self.least = Some(self.least.unwrap_or(number).min(number));
                 self.greatest = Some(self.greatest.unwrap_or(number).max(number));
@@ -240,13 +268,24 @@ impl Tally {
         }
     }
 
+    fn add_cell(&mut self, value: Value) {
+        let passed = self.skips && (value == Value::DivZero || value == Value::Num);
+        if !passed {
+            self.add(value);
+        }
+    }
+
     fn add_all(&mut self, area: Rect, values: &[Value]) {
         for k in 0..CELLS {
             let cell = cell_at(k);
             if is_within(area, cell) {
-                self.add(read(values, cell));
+                self.add_cell(read(values, cell));
             }
         }
+    }
+
+    fn truth(&self, holds: bool) -> Value {
+        self.answer(Some(if holds { 1 } else { 0 }))
     }
 
     fn answer(&self, number: Option<i128>) -> Value {
@@ -268,6 +307,13 @@ fn called(function: Function, values: [Value; 3], tally: &Tally) -> Value {
         Function::Sum => tally.answer(Some(tally.sum)),
         Function::Min => tally.answer(tally.least),
         Function::Max => tally.answer(tally.greatest),
+        Function::Count => tally.answer(Some(tally.count)),
+        Function::And => tally.truth(tally.zeros == 0),
+        Function::Or => tally.truth(tally.zeros < tally.count),
+        Function::Not => match plain(values[0]) {
+            Ok(number) => fit(if number == 0 { 1 } else { 0 }),
+            Err(error) => error,
+        },
         Function::Abs => match plain(values[0]) {
             Ok(number) => fit(number.wrapping_abs()),
             Err(error) => error,
@@ -305,14 +351,14 @@ fn formula_value(tree: &Tree, values: &[Value]) -> Value {
         }
         Tree::Call(function, arguments) => {
             let mut first_values = [Value::Blank; 3];
-            let mut tally = Tally::new();
+            let mut tally = Tally::new(*function == Function::Count);
             for (i, argument) in arguments.iter().enumerate() {
                 let value = formula_value(argument, values);
                 if i < 3 {
                     first_values[i] = value;
                 }
                 match argument {
-                    Tree::Reference(cell) => tally.add(read(values, *cell)),
+                    Tree::Reference(cell) => tally.add_cell(read(values, *cell)),
                     Tree::Range(area) => tally.add_all(*area, values),
                     _ => tally.add(value),
                 }
