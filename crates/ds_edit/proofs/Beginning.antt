@@ -8,7 +8,14 @@ use Rattle.ds_formula.specs.declared.cells.Shape.{Shape}
 use Rattle.ds_formula.specs.declared.cells.Cell.{Cell}
 use Rattle.ds_formula.specs.Cells.{IsInside, index_of, count_of}
 use Rattle.ds_formula.specs.Refs.{IsPossible}
+use Rattle.ds_formula.specs.declared.fault.TextFault.{TextFault}
+use Rattle.ds_formula.specs.declared.fault.FaultKind.{FaultKind}
+use Rattle.ds_formula.specs.declared.fault.FaultKind.TheVariants as kinds
+use Rattle.ds_formula.specs.Functions.{scope_of}
+use Rattle.ds_formula.specs.Grammar.{Answers}
 use Rattle.ds_formula.proofs.Formed.{read_inside}
+use Rattle.ds_formula.proofs.Memory.{of_formulas}
+use Rattle.ds_state.specs.Refusals.{refusal_by, refusal_of}
 use Rattle.ds_layout.specs.declared.layout.Layout.{Layout}
 use Rattle.ds_layout.specs.Places.{cells_of}
 use Rattle.ds_layout.specs.declared.place.TheConstants.{RECORDS}
@@ -28,7 +35,7 @@ use Rattle.ds_state.specs.declared.situation.Situation.{Situation}
 use Rattle.ds_state.specs.declared.situation.Situation.TheVariants.{Idle, Stopped, Editing, Working, Recovering, Showing}
 use Rattle.ds_edit.specs.EditTakes.{Begins}
 use Rattle.ds_state.specs.Refusals.{next_edit}
-use Rattle.ds_edit.specs.Begun.{RefersTo, IsAskedFor, IsIdle, Refuses}
+use Rattle.ds_edit.specs.Begun.{RefusesIdle, RefersTo, IsAskedFor, IsIdle, Refuses}
 use Rattle.ds_edit.proofs.Answering.{begin_sound}
 
 -- the world in which the edit is issued
@@ -140,6 +147,15 @@ refuses_of w process text (Editing e) r at is = rw at (let same : r ≡ refusal.
 refuses_of w process text (Working e) r at is = rw at (let same : r ≡ refusal.Busy = cc in same)
 refuses_of w process text (Recovering e) r at is = rw at (let same : r ≡ refusal.Busy = cc in same)
 refuses_of w process text (Showing e) r at is = rw at (let same : r ≡ refusal.Busy = cc in same)
+
+-- the refusal that the answer to a text without a content is
+pub text_refused : (shape : Shape) (number : ℕ) (text : List ℕ) (fault : TextFault) → Answers shape text (Err fault) → RefusesIdle shape number text (refusal_of fault)
+text_refused shape number text fault (inl (is, takes)) = subst (λ (f : TextFault). RefusesIdle shape number text (refusal_of f)) (sym is) (inl takes)
+text_refused shape number text fault (inr faults) = by fault.kind refl
+  where
+    by : (kind : FaultKind) → fault.kind ≡ kind → RefusesIdle shape number text (refusal_by kind fault)
+    by kinds.NoMemory is = inl (of_formulas (scope_of shape) text fault faults is)
+    by _ is = faults
 
 -- the error that is handed on
 pub handed_on : {X : Type 0} (r : Result X Refusal) (given : Refusal) (P : Refusal → Type 0) → IsErrAnd r (λ x. x ≡ given) → P given → IfErr r P

@@ -1,11 +1,11 @@
 -- How an edit begins, or is refused.
-use Rattle.std.specs.Prelude.{ℕ, ◌≡◌, List, map}
+use Rattle.std.specs.Prelude.{ℕ, ◌≡◌, ◌≢◌, ◌⊎◌, List, map}
 use Rattle.ds_formula.specs.declared.cells.Shape.{Shape}
 use Rattle.ds_formula.specs.declared.cells.Cell.{Cell}
 use Rattle.ds_formula.specs.Cells.{index_of}
 use Rattle.ds_formula.specs.Plain.{PlainContent}
 use Rattle.ds_formula.specs.Refs.{AreRefs}
-use Rattle.ds_formula.specs.Grammar.{Reads, Faults}
+use Rattle.ds_formula.specs.Grammar.{Reads, Faults, TakesMemory}
 use Rattle.ds_layout.specs.declared.place.TheConstants.{RECORDS}
 use Rattle.ds_layout.specs.declared.layout.Layout.{Layout}
 use Rattle.ds_state.specs.Edits.{PlainEditCall, IsEdit}
@@ -47,13 +47,14 @@ pub record IsBegun (old : PlainWorld) (process cell : ℕ) (text : List ℕ) (nu
 abbrev pub IsIdle : PlainWorld → ℕ → ℕ → Type 0
 IsIdle w process number = w.situation process ≡ Idle number
 
--- why an idle process may not begin its edit of this number, to the text
+-- why an idle process may not begin its edit of this number, to the text: memory is wanting where the text is read, or,
+-- with records left, for its references
 abbrev pub RefusesIdle : Shape → ℕ → List ℕ → Refusal → Type 0
 RefusesIdle shape number text refusal.Busy = ⊥
 RefusesIdle shape number text refusal.Stopped = ⊥
 RefusesIdle shape number text (refusal.Text fault) = Faults shape text fault
 RefusesIdle shape number text refusal.RecordsFull = (number ≡ RECORDS) × ((content : PlainContent) × Reads shape text content)
-RefusesIdle shape number text refusal.NoMemory = Unit {0}
+RefusesIdle shape number text refusal.NoMemory = TakesMemory text ⊎ ((number ≢ RECORDS) × ((content : PlainContent) × Reads shape text content))
 
 -- why a process may not begin an edit to the text: by its situation
 abbrev pub RefusesIn : Shape → List ℕ → Situation → Refusal → Type 0
