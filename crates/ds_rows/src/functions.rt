@@ -26,11 +26,21 @@ const ROWS: [Row; 14] = [
         values: "0,1\n3,0\n",
     },
     Row {
-        texts: ["=NOT([.A2])", "=AND([.A2])", "", "=OR(MOD(1;0);9223372036854775807+1)"],
+        texts: [
+            "=NOT([.A2])",
+            "=AND([.A2])",
+            "",
+            "=OR(MOD(1;0);9223372036854775807+1)",
+        ],
         values: "1,1\n,#DIV/0!\n",
     },
     Row {
-        texts: ["=COUNT(MOD(1;0))", "=COUNT([.B2])", "", "=9223372036854775807+1"],
+        texts: [
+            "=COUNT(MOD(1;0))",
+            "=COUNT([.B2])",
+            "",
+            "=9223372036854775807+1",
+        ],
         values: "#DIV/0!,0\n,#NUM!\n",
     },
     Row {
@@ -38,7 +48,12 @@ const ROWS: [Row; 14] = [
         values: "0,1\n0,\n",
     },
     Row {
-        texts: ["=count([.b1:.b2])", "1", "=aNd(1;[.b1])", "=Or(0;NoT([.B1]))"],
+        texts: [
+            "=count([.b1:.b2])",
+            "1",
+            "=aNd(1;[.b1])",
+            "=Or(0;NoT([.B1]))",
+        ],
         values: "2,1\n1,0\n",
     },
     Row {
@@ -51,7 +66,12 @@ const ROWS: [Row; 14] = [
         values: "#DIV/0!,#NUM!\n#DIV/0!,#NUM!\n",
     },
     Row {
-        texts: ["=AND([.A1])", "=OR([.A1:.B2])", "=NOT([.A2])", "=COUNT([.A1:.B1])"],
+        texts: [
+            "=AND([.A1])",
+            "=OR([.A1:.B2])",
+            "=NOT([.A2])",
+            "=COUNT([.A1:.B1])",
+        ],
         values: "Err:522,Err:522\nErr:522,Err:522\n",
     },
     Row {

@@ -168,7 +168,10 @@ const FIFTH: [(&str, &str); 24] = [
     ("=AND(NOT(", "Unfinished 9"),
     ("=COUNT(-[.A1:.A2])", "RangeNotAllowed 8"),
     ("=IF(AND(1;0);COUNT(1);OR(0))", ""),
-    ("=NOT(NOT(NOT(NOT(NOT(NOT(NOT(NOT(NOT(NOT(NOT(NOT(NOT(NOT(NOT(1)))))))))))))))", ""),
+    (
+        "=NOT(NOT(NOT(NOT(NOT(NOT(NOT(NOT(NOT(NOT(NOT(NOT(NOT(NOT(NOT(1)))))))))))))))",
+        "",
+    ),
     (
         "=NOT(NOT(NOT(NOT(NOT(NOT(NOT(NOT(NOT(NOT(NOT(NOT(NOT(NOT(NOT(NOT(1))))))))))))))))",
         "TooDeep 0",

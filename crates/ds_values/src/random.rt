@@ -102,40 +102,42 @@ fn small(alloc: Global, state: &mut u64) -> Result<Tree, AllocError> {
     }
 }
 
+// A function of so many values as there are arguments, one to three.
+fn draw_few(state: &mut u64, count: u64) -> Function {
+    match count {
+        1 if draw(state, 2) == 0 => Function::Abs,
+        1 => Function::Not,
+        2 if draw(state, 2) == 0 => Function::Mod,
+        2 => Function::Quotient,
+        _ => Function::If,
+    }
+}
+
 fn large(alloc: Global, state: &mut u64) -> Result<Tree, AllocError> {
     let first = small(alloc, state)?;
     let second = small(alloc, state)?;
     let mut arguments = Vec::new(alloc);
-    match draw(state, 8) {
+    match draw(state, 6) {
         0 => {
             arguments.push(first)?;
-            Ok(Tree::Call(Function::Abs, arguments))
-        }
-        4 => {
-            arguments.push(first)?;
-            Ok(Tree::Call(Function::Not, arguments))
-        }
-        5 => {
-            arguments.push(first)?;
-            arguments.push(argument(state))?;
-            arguments.push(second)?;
-            Ok(Tree::Call(draw_function(state), arguments))
+            Ok(Tree::Call(draw_few(state, 1), arguments))
         }
         1 => {
             arguments.push(first)?;
             arguments.push(second)?;
-            Ok(Tree::Call(Function::Mod, arguments))
+            Ok(Tree::Call(draw_few(state, 2), arguments))
         }
         2 => {
             arguments.push(first)?;
             arguments.push(second)?;
-            Ok(Tree::Call(Function::Quotient, arguments))
+            arguments.push(small(alloc, state)?)?;
+            Ok(Tree::Call(draw_few(state, 3), arguments))
         }
         3 => {
             arguments.push(first)?;
+            arguments.push(argument(state))?;
             arguments.push(second)?;
-            arguments.push(small(alloc, state)?)?;
-            Ok(Tree::Call(Function::If, arguments))
+            Ok(Tree::Call(draw_function(state), arguments))
         }
         _ => {
             let left = Box::new(alloc, first)?;
