@@ -3,4 +3,5 @@ pub mod Driving
 pub mod Calling
 pub mod Settles
 pub mod Scripts
+pub mod RecoverPlayed
 pub mod Settled

@@ -5,3 +5,4 @@ pub mod Carrying
 pub mod Lines
 pub mod Telling
 pub mod Ending
+pub mod CleanBlocks

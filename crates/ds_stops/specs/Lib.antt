@@ -1,3 +1,4 @@
 pub mod StopBlocks
 pub mod ScriptTurns
 pub mod Reaching
+pub mod CleanBlocks

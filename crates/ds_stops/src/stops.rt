@@ -1,6 +1,6 @@
 //! A crash behind each step of a script.
 
-ghost use Rattle.std.specs.Prelude.{◌≡◌, ◌≢◌, ◌<◌, ◌≤◌, ◌^◌, Bool, true, List, ℕ, IfOk, IfErr, length};
+ghost use Rattle.std.specs.Prelude.{◌≡◌, ◌≢◌, ◌<◌, ◌≤◌, ◌+◌, ◌*◌, ◌^◌, Bool, true, List, ℕ, IfOk, IfErr, length};
 ghost use Rattle.std.specs.Io.KnownBytes.{Appends};
 ghost use Rattle.ds_state.specs.Value.{world_of, IsGood};
 ghost use Rattle.ds_state.specs.Fresh.{IsNew};
@@ -11,6 +11,10 @@ ghost use Rattle.ds_formula.specs.Limits.{INPUT_MOST};
 ghost use Rattle.ds_streams.specs.Streams.{writer_of, write_failed};
 ghost use Rattle.ds_streams.specs.declared.ending.ScriptEnd.TheVariants as ends;
 ghost use Rattle.ds_stops.specs.Reaching.{FallsShort, end_of};
+ghost use Rattle.ds_layout.specs.Places.{cells_of};
+ghost use Rattle.ds_state.specs.Works.{SEEN_MOST};
+ghost use Rattle.ds_calls.specs.Whole.{HasProcess};
+ghost use Rattle.ds_stops.specs.CleanBlocks.{TellsClean};
 ghost use Rattle.ds_stops.specs.StopBlocks.{IsBlock, StopsWith, StopsWithin, block_events, block_replies};
 
 use crate::block::block;
@@ -158,4 +162,13 @@ pub fn blocks_are_runs()
     ensures headline { (whole : Bool) (script : List ℕ) (k : ℕ) (text : List ℕ) → (b : IsBlock whole script k text)
         → (run : WorldRun b.stands.progress.start (block_events b) (block_replies b) b.new)
         → HasHeadline b.stands.progress.start (block_events b) (block_replies b) b.new run }
+{}
+
+/// Behind the crash of a block every process recovers, so that the settle is alone: its line is `clean`,
+/// or names a want of memory. So it is in each block of fewer than 2^58 events, less some for the settle.
+#[tactic(auto, using(crate::proofs::CleanBlocks::blocks_clean))]
+pub fn blocks_are_clean()
+    ensures { (whole : Bool) (script : List ℕ) (k : ℕ) (text : List ℕ) → (b : IsBlock whole script k text)
+        → HasProcess b.crashed 0 → length (block_events b) + 2 * (cells_of b.crashed.sheet.layout + 2) ≤ SEEN_MOST
+        → TellsClean b.answers }
 {}

@@ -1,0 +1,101 @@
+-- A whole recovery of a stopped process that is played to its end leaves the process idle, and the others as they were.
+use Rattle.std.proofs.Common.{ℕ, ◌≡◌, ◌≢◌, ◌<◌, List, [], ◌∷◌, refl, ap, sym, ◌∙◌, subst, Some, None}
+use Rattle.ds_state.specs.Works.{PlainRecoverCall}
+use Rattle.ds_state.specs.Value.{WorldValue, world_of, IsGood}
+use Rattle.ds_state.specs.declared.situation.Situation.{Situation}
+use Rattle.ds_state.specs.declared.situation.Situation.TheVariants.{Idle, Stopped, Editing, Working, Recovering, Showing}
+use Rattle.ds_recover.specs.RecoverBegun.{MayRecover}
+use Rattle.ds_recover.specs.RecoverySteps as recoveries
+use Rattle.ds_edit.specs.declared.answer.Answer.{Answer}
+use Rattle.ds_core.specs.StepEvents as steps
+use Rattle.ds_core.specs.RecoveryEvents.{RecoveryStepsBy, recovery_reply}
+use Rattle.ds_core.specs.Takes.{Fits}
+use Rattle.ds_core.specs.declared.event.Event.{Event}
+use Rattle.ds_core.specs.declared.event.Event.TheVariants.{BeginRecover, Step}
+use Rattle.ds_core.specs.declared.reply.Reply.{Reply}
+use Rattle.ds_core.specs.declared.reply.Reply.TheVariants.{Entered, Refused, Stepped, Answered, NotEnabled}
+use Rattle.ds_core.proofs.Bound.{same_layout}
+use Rattle.ds_core.proofs.CallKinds.{recovery_on, step_ends}
+use Rattle.ds_core.proofs.Turns.{recovery_turn}
+use Rattle.ds_calls.specs.Wanted.{wants, wanted}
+use Rattle.ds_calls.specs.Whole.{HasProcess}
+use Rattle.ds_play.specs.declared.drive.Until.TheVariants.{ToAnswer}
+use Rattle.ds_play.specs.Doing.{Doing, Says, Calls, Drives, asks, told}
+use Rattle.ds_play.specs.Plays.{Plays}
+
+-- the process is idle now, and nobody else did anything
+pub record IsRecovered (p : ℕ) (old new : WorldValue) : Type 0 where
+  pub next : ℕ
+  pub idle : (world_of new).situation p ≡ Idle next
+  pub others : (q : ℕ) → q ≢ p → (world_of new).situation q ≡ (world_of old).situation q
+  pub layout : new.sheet.layout ≡ old.sheet.layout
+  pub good : IsGood new
+
+-- a command that has its text wants no event
+says_ends : (events : List Event) (replies : List Reply) (before after : List ℕ) (w new : WorldValue) → Plays (Says before) w events replies (Says after) new → new ≡ w
+says_ends [] [] before after w new h = h.1
+says_ends (event ∷ events) (reply ∷ replies) before after w new h = absurd (let bad : None ≡ Some event = h.1 in cc)
+says_ends [] (reply ∷ replies) before after w new h = absurd h
+says_ends (event ∷ events) [] before after w new h = absurd h
+
+module _ (p : ℕ) where
+  behind : (old mid new : WorldValue) → ((q : ℕ) → q ≢ p → (world_of mid).situation q ≡ (world_of old).situation q) → mid.sheet.layout ≡ old.sheet.layout → IsRecovered p mid new → IsRecovered p old new
+  behind old mid new others layout r = record { next = r.next; idle = r.idle; others = λ q ne. r.others q ne ∙ others q ne; layout = r.layout ∙ layout; good = r.good }
+
+  -- a step of a process that recovers is one of its recovery
+  its_step : (w mid : WorldValue) (reply : Reply) (e : PlainRecoverCall) → (world_of w).situation p ≡ Recovering e → steps.StepsBy w p reply mid → RecoveryStepsBy w p reply mid
+  its_step w mid reply e at (steps.recoveries h) = h
+  its_step w mid reply e at (steps.edits h) = absurd (let bad : Editing h.edit ≡ Recovering e = sym h.at ∙ at in cc)
+  its_step w mid reply e at (steps.works h) = absurd (let bad : Working h.steps.work ≡ Recovering e = sym h.steps.works ∙ at in cc)
+  its_step w mid reply e at (steps.reports h) = absurd (let bad : Showing h.steps.show ≡ Recovering e = sym h.steps.at ∙ at in cc)
+
+  driven_on : (events : List Event) (replies : List Reply) (w new : WorldValue) (text : List ℕ) (e : PlainRecoverCall) → IsGood w → HasProcess w p → (world_of w).situation p ≡ Recovering e
+      → Plays (Drives p ToAnswer) w events replies (Says text) new → IsRecovered p w new
+  driven_on [] [] w new text e good there at h = absurd (let bad : Says text ≡ Drives p ToAnswer = h.0 in cc)
+  driven_on [] (reply ∷ replies) w new text e good there at h = absurd h
+  driven_on (event ∷ events) [] w new text e good there at h = absurd h
+  driven_on (event ∷ events) (reply ∷ replies) w new text e good there at h =
+      let wanted_is : wants w p ≡ Step p = ap (λ (s : Situation). wanted p w.sheet.layout.shape s) at in
+      let asked : Some (wants w p) ≡ Some event = h.1 in
+      let is : event ≡ Step p = (let same : wants w p ≡ event = cc in sym same ∙ wanted_is) in
+      by reply (subst (λ (x : Event). Fits w x reply h.0) is h.2) (subst (λ (x : Event). Plays (told (Drives p ToAnswer) x reply h.0) h.0 events replies (Says text) new) is h.3)
+    where
+      by : (r : Reply) → Fits w (Step p) r h.0 → Plays (told (Drives p ToAnswer) (Step p) r h.0) h.0 events replies (Says text) new → IsRecovered p w new
+      by Stepped fits on =
+          let s = its_step w h.0 Stepped e at fits.takes in
+          let layout = same_layout w h.0 (Step p) Stepped fits.takes in
+          let goes : Stepped ≡ recovery_reply (recoveries.effect_at s.steps.recovery s.steps.recovery.stage) = s.is ∙ ap recovery_reply s.steps.is in
+          behind w h.0 new (recovery_turn w h.0 p Stepped good.sound s).others layout
+          (driven_on events replies h.0 new text (recoveries.next_at s.steps.recovery s.steps.recovery.stage s.steps.word) fits.good (rw layout there)
+          (ap (λ q. (world_of h.0).situation q) (sym s.steps.mine) ∙ s.steps.steps.situation ∙ recovery_on s.steps.recovery s.steps.recovery.stage s.steps.word goes) on)
+      by (Answered answer) fits on =
+          let s = its_step w h.0 (Answered answer) e at fits.takes in
+          let ends = step_ends w h.0 p answer fits.takes in
+          let same = says_ends events replies _ text h.0 new on in
+          subst (λ (v : WorldValue). IsRecovered p w v) (sym same) (record {
+            next = ends.next;
+            idle = ends.idle;
+            others = (recovery_turn w h.0 p (Answered answer) good.sound s).others;
+            layout = same_layout w h.0 (Step p) (Answered answer) fits.takes;
+            good = fits.good;
+          })
+      by NotEnabled fits on = absurd (fits.takes.no_recovery e there at)
+      by _ fits on = absurd fits.takes
+
+  pub recovered : (events : List Event) (replies : List Reply) (w new : WorldValue) (text : List ℕ) → IsGood w → HasProcess w p → (world_of w).situation p ≡ Stopped
+      → Plays (Calls p (BeginRecover p)) w events replies (Says text) new → IsRecovered p w new
+  recovered [] [] w new text good there at h = absurd (let bad : Says text ≡ Calls p (BeginRecover p) = h.0 in cc)
+  recovered [] (reply ∷ replies) w new text good there at h = absurd h
+  recovered (event ∷ events) [] w new text good there at h = absurd h
+  recovered (event ∷ events) (reply ∷ replies) w new text good there at h =
+      let asked : Some (BeginRecover p) ≡ Some event = h.1 in
+      let is : event ≡ BeginRecover p = cc in
+      by reply (subst (λ (x : Event). Fits w x reply h.0) is h.2) (subst (λ (x : Event). Plays (told (Calls p (BeginRecover p)) x reply h.0) h.0 events replies (Says text) new) is h.3)
+    where
+      by : (r : Reply) → Fits w (BeginRecover p) r h.0 → Plays (told (Calls p (BeginRecover p)) (BeginRecover p) r h.0) h.0 events replies (Says text) new → IsRecovered p w new
+      by Entered fits on =
+          let layout = same_layout w h.0 (BeginRecover p) Entered fits.takes in
+          behind w h.0 new fits.takes.begun.begins.others layout (driven_on events replies h.0 new text _ fits.good (rw layout there) fits.takes.begun.begins.situation on)
+      by (Refused why) fits on = absurd (fits.takes.holds.calls (subst MayRecover (sym at) tt))
+      by NotEnabled fits on = absurd (fits.takes.none there)
+      by _ fits on = absurd fits.takes
