@@ -66,27 +66,6 @@ no_third true true c e = e
 no_third true false c e = refl
 no_third false b c e = refl
 
-both_true : (a b : Bool) → (a && b) ≡ true → (a ≡ true) × (b ≡ true)
-both_true true b e = (refl, e)
-both_true false b e = absurd cc
-
-at_least : (n m : ℕ) → leb n m ≡ true → n ≤ m
-at_least n m e = grind (arith, nat_tests)
-
--- a function that takes no ranges takes three arguments at most
-pub few_taken : (g : Function) (n : ℕ) → takes_ranges g ≡ false → takes g n ≡ true → n ≤ 3
-few_taken functions.Sum n r t = absurd cc
-few_taken functions.Min n r t = absurd cc
-few_taken functions.Max n r t = absurd cc
-few_taken functions.Abs n r t = let l = at_least n 1 (both_true (leb 1 n) (leb n 1) t).1 in omega (arith, l)
-few_taken functions.Mod n r t = let l = at_least n 2 (both_true (leb 2 n) (leb n 2) t).1 in omega (arith, l)
-few_taken functions.Quotient n r t = let l = at_least n 2 (both_true (leb 2 n) (leb n 2) t).1 in omega (arith, l)
-few_taken functions.If n r t = let l = at_least n 3 (both_true (leb 2 n) (leb n 3) t).1 in omega (arith, l)
-few_taken functions.Count n r t = absurd cc
-few_taken functions.And n r t = absurd cc
-few_taken functions.Or n r t = absurd cc
-few_taken functions.Not n r t = let l = at_least n 1 (both_true (leb 1 n) (leb n 1) t).1 in omega (arith, l)
-
 module _ (shape : Shape) (read : Cell → Value) where
   abbrev own : Tree → Value
   own t = formula_value shape read (formula t)

@@ -12,9 +12,7 @@ ghost use Rattle.ds_formula.specs.Functions.{takes_ranges};
 ghost use Rattle.ds_eval.specs.Tally.{IsTally};
 ghost use Rattle.ds_eval.specs.Operands.{errors_of, operand_height, AreOperands};
 
-use crate::arithmetic::{
-    absolute, choice, joined, modulo, negated, never_blank, quotient, signed,
-};
+use crate::arithmetic::{absolute, choice, joined, modulo, negated, never_blank, quotient, signed};
 use crate::gather::{Gathered, raised, with_range};
 use crate::inputs::{Entry, Inputs};
 use crate::tally::{CellErrors, Tally};

@@ -226,7 +226,7 @@ text_read s text some l None e = constant_read s text some l (sym e) (constant_o
 text_read s text some l (Some body) e = formula_read s text body l (sym e) (whole (scope_of s) body)
 
 short_read : (s : Shape) (text : List ℕ) → length text ≤ TEXT_LIMIT → IsAnswered s text
-short_read s [] l = inl (_, blank_read (scope_of s) [] refl)
+short_read s [] l = inl (_, blank_read s [] refl)
 short_read s (b ∷ bs) l = text_read s (b ∷ bs) (omega arith) l (expression_of (b ∷ bs)) refl
 
 -- each text has a content or a fault

@@ -14,7 +14,7 @@ use Rattle.ds_formula.specs.Tokens.{follow_at}
 use Rattle.ds_formula.specs.Forms.{Expression}
 use Rattle.ds_formula.specs.Turns.{Bracket, Due, AnOperand, AnOperator, Goes, Stops, Ends, by_follow, turn, Walk, stay, step, Faulty}
 use Rattle.ds_formula.specs.Sizes.{Fits}
-use Rattle.ds_formula.specs.Grammar.{expression_of, placed, ReadsLongIn, blank, constant, computed, ReadsIn, FaultsLongIn, in_constant, in_formula, range, too_deep, FaultsIn, too_long, within, Answers}
+use Rattle.ds_formula.specs.Grammar.{expression_of, placed, ReadsLongIn, blank, constant, computed, Reads, FaultsLongIn, in_constant, in_formula, range, too_deep, Faults, too_long, within, Answers}
 use Rattle.ds_formula.specs.Parsing.{IsAccepted, IsRefused, misplaced_range, too_large}
 use Rattle.ds_formula.proofs.Walks.{level_walk}
 use Rattle.ds_formula.proofs.Unique.{one_level}
@@ -111,8 +111,8 @@ content_of s text c d (computed t b f r n e m k) blank = absurd (empty_body b n)
 content_of s text c d (computed t b f r n e m k) (constant t2 z2 l2 n2 e2) = absurd (no_body t b n2 n)
 content_of s text c d (computed t b f r n e m k) (computed t2 b2 f2 r2 n2 e2 m2 k2) = ap Computed (one_expression s b b2 f f2 r r2 (same_body t b b2 n n2) e e2).0
 
-pub only_content : (s : Scope) (text : List ℕ) (c d : PlainContent) → ReadsIn s text c → ReadsIn s text d → c ≡ d
-only_content s text c d a b = content_of s text c d a.reads b.reads
+pub only_content : (s : Shape) (text : List ℕ) (c d : PlainContent) → Reads s text c → Reads s text d → c ≡ d
+only_content s text c d a b = content_of (scope_of s) text c d a.reads b.reads
 
 placed_or_not : (r t : Ranges) (left : ℕ) → r ≡ t → misplaced r ≡ None → misplaced t ≡ Some left → ⊥
 placed_or_not r t left p h k = let e : misplaced r ≡ misplaced t = ap misplaced p in cc
@@ -131,9 +131,9 @@ both_of s text c x (computed t b f r n e m k) (in_formula t2 b2 p2 n2 e2) = not_
 both_of s text c x (computed t b f r n e m k) (range t2 b2 f2 r2 left2 n2 e2 m2) = placed_or_not r r2 left2 (one_expression s b b2 f f2 r r2 (same_body t b b2 n n2) e e2).1 m m2
 both_of s text c x (computed t b f r n e m k) (too_deep t2 b2 f2 r2 n2 e2 m2 k2) = k2 (subst Fits (one_expression s b b2 f f2 r r2 (same_body t b b2 n n2) e e2).0 k)
 
-pub only_one : (s : Scope) (text : List ℕ) (c : PlainContent) (x : TextFault) → ReadsIn s text c → FaultsIn s text x → ⊥
+pub only_one : (s : Shape) (text : List ℕ) (c : PlainContent) (x : TextFault) → Reads s text c → Faults s text x → ⊥
 only_one s text c x a (too_long l) = omega (arith, a.short, l)
-only_one s text c x a (within x2 l f) = both_of s text c x a.reads f
+only_one s text c x a (within x2 l f) = both_of (scope_of s) text c x a.reads f
 
 same_left : (r t : Ranges) (a b : ℕ) → r ≡ t → misplaced r ≡ Some a → misplaced t ≡ Some b → a ≡ b
 same_left r t a b p h k = let e : misplaced r ≡ misplaced t = ap misplaced p in cc
@@ -158,15 +158,15 @@ fault_of s text x y (too_deep t b f r n e m k) (in_formula t2 b2 p2 n2 e2) = abs
 fault_of s text x y (too_deep t b f r n e m k) (range t2 b2 f2 r2 left2 n2 e2 m2) = absurd (placed_or_not r r2 left2 (one_expression s b b2 f f2 r r2 (same_body t b b2 n n2) e e2).1 m m2)
 fault_of s text x y (too_deep t b f r n e m k) (too_deep t2 b2 f2 r2 n2 e2 m2 k2) = refl
 
-pub only_fault : (s : Scope) (text : List ℕ) (x y : TextFault) → FaultsIn s text x → FaultsIn s text y → x ≡ y
+pub only_fault : (s : Shape) (text : List ℕ) (x y : TextFault) → Faults s text x → Faults s text y → x ≡ y
 only_fault s text x y (too_long l) (too_long l2) = refl
 only_fault s text x y (too_long l) (within x2 l2 f2) = absurd (omega (arith, l, l2))
 only_fault s text x y (within x1 l f) (too_long l2) = absurd (omega (arith, l, l2))
-only_fault s text x y (within x1 l f) (within x2 l2 f2) = fault_of s text x y f f2
+only_fault s text x y (within x1 l f) (within x2 l2 f2) = fault_of (scope_of s) text x y f f2
 
 -- ---- the answer
 
-pub blank_read : (s : Scope) (text : List ℕ) → length text ≡ 0 → ReadsIn s text Empty
+pub blank_read : (s : Shape) (text : List ℕ) → length text ≡ 0 → Reads s text Empty
 blank_read s [] h = record { short = omega arith; reads = blank }
 blank_read s (b ∷ bs) h = absurd (omega (arith, h))
 
@@ -176,5 +176,5 @@ refused s text body f r e b v (too_large h k) = too_deep text body f r b v h k
 
 pub formula_answer : (s : Shape) (text body : List ℕ) (f : Formula) (r : Ranges) (x : Result Content TextFault) → length text ≤ TEXT_LIMIT → expression_of text ≡ Some body → Expression (scope_of s) body f r
     → IfOk x (λ c. IsAccepted r f (plain c)) → IfErr x (λ e. IsRefused text r f e) → Answers s text x
-formula_answer s text body f r (Ok c) l b v ok err = subst (λ (p : PlainContent). ReadsIn (scope_of s) text p) (sym ok.is) (record { short = l; reads = computed text body f r b v ok.placed ok.fits })
+formula_answer s text body f r (Ok c) l b v ok err = subst (λ (p : PlainContent). Reads s text p) (sym ok.is) (record { short = l; reads = computed text body f r b v ok.placed ok.fits })
 formula_answer s text body f r (Err e) l b v ok err = inr (within e l (refused (scope_of s) text body f r e b v err))
