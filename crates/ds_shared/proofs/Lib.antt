@@ -12,3 +12,4 @@ pub mod Driving
 pub mod Passing
 pub mod Dealt
 pub mod Texts
+pub mod Ordered

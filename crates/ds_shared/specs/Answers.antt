@@ -1,5 +1,5 @@
 -- What a call on the shared sheet answers.
-use Rattle.std.specs.Prelude.{ℕ, ◌≡◌, ◌<◌, Bool, true, false, List, ◌∷◌, Option, Some, None, Vec}
+use Rattle.std.specs.Prelude.{ℕ, ◌≡◌, ◌<◌, ◌+◌, Bool, true, false, List, ◌∷◌, Option, Some, None, Vec}
 use Rattle.std.specs.Global.{Global}
 use Rattle.ds_eval.specs.declared.value.Value.{Value}
 use Rattle.ds_show.specs.ShowSteps.{answered}
@@ -59,6 +59,11 @@ abbrev pub recovery_answer : RecoveryEnd → Answer
 recovery_answer recoveries.Nothing = answers.Nothing
 recovery_answer (recoveries.Last number cell counts) = answers.Last (record { number = number; cell = cell; counts = counts })
 
+-- the number of a process's next edit behind this answer of its recovery
+abbrev pub number_behind : Answer → ℕ
+number_behind (answers.Last told) = told.number + 1
+number_behind _ = 0
+
 -- the answer of a report at its last stage
 abbrev pub show_answer : ShowStage → Answer
 show_answer (stages.Answer (shows.AtMark cell word)) = answers.Unsettled (place.Mark cell) word
@@ -69,7 +74,7 @@ show_answer _ = answers.Settled
 abbrev pub ShowsAt : PlainShowCall → ShowStage → Option (Vec Value Global) → Type 0
 ShowsAt e (stages.Answer shows.Settled) (Some values) = values.items ≡ answered e
 ShowsAt e (stages.Answer shows.Settled) None = ⊥
-ShowsAt e _ values = Unit {0}
+ShowsAt e _ values = values ≡ None
 
 abbrev pub ShowsValues : PlainShowCall → Option (Vec Value Global) → Type 0
 ShowsValues e values = ShowsAt e e.stage values

@@ -1,5 +1,5 @@
 -- The rule of the table: a sound world stands behind the words and the views.
-use Rattle.std.specs.Prelude.{ℕ, ◌≡◌, ◌≢◌, ◌⊎◌, ◌*◌, ◌<◌, ◌≤◌, ◌==◌, if◌then◌else◌, zero, suc, Bool, true, false, List, [], ◌∷◌, ◌++◌, length, Option, Contains}
+use Rattle.std.specs.Prelude.{ℕ, ◌≡◌, ◌≢◌, ◌⊎◌, ◌+◌, ◌*◌, ◌<◌, ◌≤◌, ◌==◌, slice_index, if◌then◌else◌, zero, suc, Bool, true, false, List, [], ◌∷◌, ◌++◌, length, Option, Contains}
 use mathlib.Core.Option.{some}
 use lib.ListN.{get_elem?}
 use Rattle.atomic_table.specs.Table.{State, Me}
@@ -232,6 +232,11 @@ pub record Closes (layout : Layout) (words : List ℕ) (Holds : ℕ → Told →
   pub behind : Behind
   pub rests : AtRest layout words behind
   pub told : (p : ℕ) (t : Told) → Holds p t → IsTold (world_on layout words behind) p t
+
+-- what a crash leaves of the word with this number: both its sides are the cached one where it was chosen, else the
+-- persisted one
+abbrev pub HasSideLeft : Bool → List ℕ → List ℕ → ℕ → Type 0
+HasSideLeft chosen words words' n = let side : ℕ = if chosen then slice_index words (2 * n) else slice_index words (2 * n + 1) in (slice_index words' (2 * n) ≡ side) × (slice_index words' (2 * n + 1) ≡ side)
 
 -- behind these words, too, stands a sound world at rest, and what was told stays true
 pub record Survives (layout : Layout) (words words' : List ℕ) (b : Behind) : Type 0 where

@@ -1,6 +1,6 @@
 //! Edits on the shared sheet.
 
-ghost use Rattle.std.specs.Prelude.{◌<◌, ◌≡◌, MatchBool};
+ghost use Rattle.std.specs.Prelude.{◌<◌, ◌≡◌, ◌+◌, MatchBool, false};
 ghost use Rattle.ds_formula.specs.Cells.{IsInside, index_of};
 ghost use Rattle.ds_state.specs.Edits.{IsEdit};
 ghost use Rattle.ds_state.specs.declared.stage.Outcome.{Outcome};
@@ -93,6 +93,7 @@ impl SharedSheet {
         requires cell { IsInside self.now.layout.shape cell }
         ensures pass { IsOf self.now pass.new × (pass.new.process ≡ pass.old.process) }
         ensures answered { IfAnswered result (λ a. (how : Outcome) × Tells self.now.layout.processes (outcomes pass.old.place) (outcomes pass.new.place) (Edited (record { process = pass.old.process; number = pass.old.number; cell = index_of self.now.layout.shape cell; text = text.now }) how) a) }
+        ensures runs { IfAnswered result (λ a. (pass.new.stopped ≡ false) × (pass.new.number ≡ pass.old.number + 1)) }
         ensures stopped { IfStopped result (F.spent fuse.new) }
         ensures kept { (t : Told) → In (outcomes pass.old.place) t → In (outcomes pass.new.place) t }
         ensures refused { IfRefused result (λ r. RefusesIn self.now.layout.shape text.now (doing pass.old.stopped pass.old.number) r) }

@@ -1,6 +1,6 @@
 //! Recoveries on the shared sheet.
 
-ghost use Rattle.std.specs.Prelude.{◌<◌, ◌≡◌, ◌≤◌, MatchBool, Option, Bool};
+ghost use Rattle.std.specs.Prelude.{◌<◌, ◌≡◌, ◌≤◌, MatchBool, Option, Bool, false};
 ghost use Rattle.ds_layout.specs.declared.place.TheConstants.{RECORDS};
 ghost use Rattle.ds_state.specs.RecoverStages.{IsRecovery};
 ghost use Rattle.ds_state.specs.declared.work.RecoverStage.TheVariants.{Answer as Ends};
@@ -11,7 +11,7 @@ ghost use Rattle.ds_shared.specs.declared.board.Told.TheVariants.{Recovered};
 ghost use Rattle.ds_shared.specs.RecoverRules.{IsEnded};
 ghost use Rattle.ds_shared.specs.Rule.{In};
 ghost use Rattle.ds_shared.specs.Known.{outcomes};
-ghost use Rattle.ds_shared.specs.Answers.{IsOf, IfAnswered, IfRefused, IfStopped, Tells, recovery_answer};
+ghost use Rattle.ds_shared.specs.Answers.{IsOf, IfAnswered, IfRefused, IfStopped, Tells, recovery_answer, number_behind};
 
 use crate::drive::drive;
 use crate::ended::Ended;
@@ -117,6 +117,7 @@ impl SharedSheet {
         requires { IsOf self.now pass.old }
         ensures pass { IsOf self.now pass.new × (pass.new.process ≡ pass.old.process) }
         ensures answered { IfAnswered result (λ a. (end : End) × Tells self.now.layout.processes (outcomes pass.old.place) (outcomes pass.new.place) (Recovered end) a) }
+        ensures runs { IfAnswered result (λ a. (pass.new.stopped ≡ false) × (pass.new.number ≡ number_behind a)) }
         ensures stopped { IfStopped result (F.spent fuse.new) }
         ensures kept { (t : Told) → In (outcomes pass.old.place) t → In (outcomes pass.new.place) t }
         ensures refused { IfRefused result (λ r. ⊥) }

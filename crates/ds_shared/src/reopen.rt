@@ -1,6 +1,7 @@
 //! A closed sheet is opened again.
 
-ghost use Rattle.std.specs.Prelude.{◌≡◌, ◌+◌, ◌*◌, ◌<◌, ◌≤◌, ℕ, [], true, length, IfOk, IfErr, All};
+ghost use Rattle.std.specs.Prelude.{◌≡◌, ◌+◌, ◌*◌, ◌<◌, ◌≤◌, ℕ, [], true, length, map, IfOk, IfErr, All};
+ghost use Rattle.std.specs.List.{range_with_len};
 ghost use Rattle.std.specs.Mem.Slots.{slots_items, slots_len};
 ghost use Rattle.ds_layout.specs.Places.{words_of};
 ghost use Rattle.ds_shared.specs.Rule.{Behind, AtRest};
@@ -29,7 +30,7 @@ impl ClosedSheet {
     fn opened(&self, alloc: Global) -> Result<(SharedSheet, Vec<Pass, Global>), AllocError>
         requires { (b : Behind) × AtRest self.now.layout (slots_items self.now.table.words) b }
         ensures layout { IfOk result (λ r. r.0.layout ≡ self.now.layout) }
-        ensures count { IfOk result (λ r. length r.1.items ≡ self.now.layout.processes) }
+        ensures order { IfOk result (λ r. map (λ p. p.process) r.1.items ≡ range_with_len 0 self.now.layout.processes) }
         ensures fit { IfOk result (λ r. All (λ p. IsOf r.0 p × (p.stopped ≡ true) × (outcomes p.place ≡ [])) r.1.items) }
     {
         let layout = self.layout;
@@ -59,7 +60,7 @@ impl ClosedSheet {
     pub fn reopen(self, alloc: Global) -> Result<(SharedSheet, Vec<Pass, Global>), ClosedSheet>
         requires { (b : Behind) × AtRest self.layout (slots_items self.table.words) b }
         ensures layout { IfOk result (λ r. r.0.layout ≡ self.layout) }
-        ensures count { IfOk result (λ r. length r.1.items ≡ self.layout.processes) }
+        ensures order { IfOk result (λ r. map (λ p. p.process) r.1.items ≡ range_with_len 0 self.layout.processes) }
         ensures fit { IfOk result (λ r. All (λ p. IsOf r.0 p × (p.stopped ≡ true) × (outcomes p.place ≡ [])) r.1.items) }
         ensures back { IfErr result (λ c. c ≡ self) }
     {

@@ -1,6 +1,7 @@
 //! A sheet is made with a pass for each process, and closed with all of them.
 
-ghost use Rattle.std.specs.Prelude.{◌≡◌, ◌+◌, ◌*◌, ◌<◌, ◌≤◌, ℕ, [], length, IfOk, All, Contains};
+ghost use Rattle.std.specs.Prelude.{◌≡◌, ◌+◌, ◌*◌, ◌<◌, ◌≤◌, ℕ, [], length, map, false, IfOk, All, Contains};
+ghost use Rattle.std.specs.List.{range_with_len};
 ghost use Rattle.std.specs.Mem.Slots.{slots_items, slots_len};
 ghost use Rattle.ds_layout.specs.Places.{words_of};
 ghost use Rattle.ds_shared.specs.declared.pass.Pass.{Pass};
@@ -21,8 +22,8 @@ impl SharedSheet {
         layout: Layout,
     ) -> Result<(SharedSheet, Vec<Pass, Global>), AllocError>
         ensures layout { IfOk result (λ r. r.0.layout ≡ layout) }
-        ensures count { IfOk result (λ r. length r.1.items ≡ layout.processes) }
-        ensures fit { IfOk result (λ r. All (λ p. IsOf r.0 p × (outcomes p.place ≡ [])) r.1.items) }
+        ensures order { IfOk result (λ r. map (λ p. p.process) r.1.items ≡ range_with_len 0 layout.processes) }
+        ensures fit { IfOk result (λ r. All (λ p. IsOf r.0 p × (p.stopped ≡ false) × (p.number ≡ 0) × (outcomes p.place ≡ [])) r.1.items) }
     {
         let count = layout.words() * 2;
         let words: Vec<u64, Global> = vec![in alloc; 0; count]?;

@@ -1,6 +1,6 @@
 //! The shared sheet.
 
-ghost use Rattle.std.specs.Prelude.{◌≡◌, ◌+◌, ◌*◌, ◌<◌, slice_index, slice_set, length, IfOk};
+ghost use Rattle.std.specs.Prelude.{◌≡◌, ◌+◌, ◌*◌, ◌<◌, ℕ, false, slice_index, slice_index_or, slice_set, length, IfOk};
 ghost use Rattle.std.specs.Mem.Slots.{slots_items, slots_len, IsFull};
 ghost use Rattle.ds_layout.specs.Places.{words_of};
 
@@ -85,7 +85,7 @@ impl ClosedSheet {
     ghost use Rattle.ds_layout.specs.SheetMemory.{memory_at};
     ghost use Rattle.ds_state.specs.Shown.{mark_at, value_at};
     ghost use Rattle.ds_shared.specs.Table.{two_sided};
-    ghost use Rattle.ds_shared.specs.Rule.{Behind, AtRest, Survives};
+    ghost use Rattle.ds_shared.specs.Rule.{Behind, AtRest, Survives, HasSideLeft};
     ghost use Rattle.std.specs.Prelude.{[]};
 
     /// The value of a cell, as its words show it.
@@ -127,6 +127,7 @@ impl ClosedSheet {
     pub fn crash_with(&mut self, choice: &[bool])
         requires { length choice.now ≡ words_of self.old.layout }
         ensures layout { self.new.layout ≡ self.old.layout }
+        ensures words { (n : ℕ) → n < words_of self.old.layout → HasSideLeft (slice_index_or choice.now n false) (slots_items self.old.table.words) (slots_items self.new.table.words) n }
         ensures survives { (b : Behind) → AtRest self.old.layout (slots_items self.old.table.words) b → Survives self.old.layout (slots_items self.old.table.words) (slots_items self.new.table.words) b }
     {
         for number in 0..self.layout.words() {

@@ -1,6 +1,6 @@
 //! Reports of the shared sheet.
 
-ghost use Rattle.std.specs.Prelude.{◌<◌, ◌≤◌, ◌≡◌, MatchBool, length, vec_capacity};
+ghost use Rattle.std.specs.Prelude.{◌<◌, ◌≤◌, ◌≡◌, MatchBool, length, vec_capacity, None, false};
 ghost use Rattle.ds_layout.specs.Places.{cells_of};
 ghost use Rattle.ds_state.specs.Works.{PlainShowCall};
 ghost use Rattle.ds_state.specs.ShowStages.{IsShow};
@@ -129,10 +129,11 @@ impl SharedSheet {
         requires { IsOf self.now pass.old }
         ensures pass { IsOf self.now pass.new × (pass.new.process ≡ pass.old.process) }
         ensures answered { IfAnswered result.0 (λ a. (e : PlainShowCall) × Tells self.now.layout.processes (outcomes pass.old.place) (outcomes pass.new.place) (Shown e) a × ShowsValues e result.1 × ReportHolds self.now.layout pass.old.process (outcomes pass.old.place) e e.stage) }
-        ensures stopped { IfStopped result.0 (F.spent fuse.new) }
+        ensures runs { IfAnswered result.0 (λ a. (pass.new.stopped ≡ false) × (pass.new.number ≡ pass.old.number)) }
+        ensures stopped { IfStopped result.0 (F.spent fuse.new × (result.1 ≡ None)) }
         ensures kept { (t : Told) → In (outcomes pass.old.place) t → In (outcomes pass.new.place) t }
         ensures refused { IfRefused result.0 (λ r. RefusesIn (doing pass.old.stopped pass.old.number) r) }
-        ensures unchanged { IfRefused result.0 (λ r. pass.new ≡ pass.old) }
+        ensures unchanged { IfRefused result.0 (λ r. (pass.new ≡ pass.old) × (result.1 ≡ None)) }
     {
         if pass.stopped {
             return (Ended::Refused(Refusal::Stopped), None);

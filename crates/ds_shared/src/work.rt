@@ -1,6 +1,6 @@
 //! Works on the shared sheet.
 
-ghost use Rattle.std.specs.Prelude.{◌<◌, ◌≡◌, MatchBool};
+ghost use Rattle.std.specs.Prelude.{◌<◌, ◌≡◌, MatchBool, false};
 ghost use Rattle.ds_formula.specs.Cells.{IsInside, index_of};
 ghost use Rattle.ds_layout.specs.Places.{cells_of};
 ghost use Rattle.ds_state.specs.declared.work.WorkEnd.{WorkEnd as End};
@@ -105,6 +105,7 @@ impl SharedSheet {
         requires cell { IsInside self.now.layout.shape cell }
         ensures pass { IsOf self.now pass.new × (pass.new.process ≡ pass.old.process) }
         ensures answered { IfAnswered result (λ a. (end : End) × Tells self.now.layout.processes (outcomes pass.old.place) (outcomes pass.new.place) (Worked (index_of self.now.layout.shape cell) end) a) }
+        ensures runs { IfAnswered result (λ a. (pass.new.stopped ≡ false) × (pass.new.number ≡ pass.old.number)) }
         ensures stopped { IfStopped result (F.spent fuse.new) }
         ensures kept { (t : Told) → In (outcomes pass.old.place) t → In (outcomes pass.new.place) t }
         ensures refused { IfRefused result (λ r. RefusesIn (doing pass.old.stopped pass.old.number) r) }

@@ -4,6 +4,13 @@ use Rattle.std.specs.Mem.Slots.{slots_items, slots_counts}
 use Rattle.ds_shared.proofs.Powerless.{survives}
 use Rattle.ds_shared.proofs.sheet.ClosedSheet.crash_with.Goals as goal
 
+pub returns-clause-words : goal.returns-clause-words
+returns-clause-words c = λ n low.
+    let i = c.loop-number.invariant.2 in
+    let end = c.words-number-end.ensures.value in
+    let over = c.loop-number-test.false in
+    i.done n (omega arith)
+
 pub returns-clause-survives : goal.returns-clause-survives
 returns-clause-survives c = λ b rests.
     let i = c.loop-number.invariant.2 in

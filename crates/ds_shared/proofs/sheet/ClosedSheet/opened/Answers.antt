@@ -1,7 +1,9 @@
-use Rattle.std.proofs.Common.{rules, ◌≡◌, ◌∙◌, sym, refl, ap, subst, ◌+◌, ◌*◌, ◌<◌, ℕ, [], ◌∷◌, arith, List, length, length-append}
+use Rattle.std.proofs.Common.{rules, ◌≡◌, ◌∙◌, sym, refl, ap, subst, ◌+◌, ◌*◌, ◌<◌, ℕ, [], ◌∷◌, arith, List, length, map, ◌++◌}
 use Rattle.std.specs.Prelude.{true}
 use Rattle.std.specs.Mem.Slots.{slots_items, slots_counts}
 use Rattle.std.proofs.lemmas.List.Elements.{All-push, All-same}
+use Rattle.std.proofs.lemmas.List.{map_push}
+use Rattle.ds_shared.proofs.Ordered.{one_more}
 use Rattle.ds_layout.specs.Places.{words_of}
 use Rattle.ds_state.specs.declared.situation.Situation.TheVariants.{Stopped}
 use Rattle.ds_state.specs.World.{PlainWorld}
@@ -47,6 +49,6 @@ loop-process-preserved c = let t = cut Stopped c.loop-process.process c.args.sel
       search rules,
       rw c.split_seat-place.ensures.2 t.left,
       ap (λ m. m.1) c.split_seat-place.ensures.2 ∙ c.loop-process.invariant.2,
-      ap length c.in_ok-push.ensures.items ∙ (length-append c.loop-process.passes.items (x ∷ []) ∙ ap (λ (n : ℕ). n + 1) c.loop-process.invariant.3),
+      ap (map (λ (q : Pass). q.process)) c.in_ok-push.ensures.items ∙ (map_push (λ (q : Pass). q.process) c.loop-process.passes.items x ∙ (ap (λ (l : List ℕ). l ++ c.loop-process.process ∷ []) c.loop-process.invariant.3 ∙ sym (one_more 0 c.loop-process.process c.loop-process.process (omega arith)))),
       All-same Mine _ _ c.in_ok-push.ensures.items (All-push Mine c.loop-process.passes.items x c.loop-process.invariant.4 (c.split_seat-place.ensures.3 ∙ c.loop-process.invariant.0, search rules, refl, ap (λ m. told_in m.0.entries) me)),
     )

@@ -1,5 +1,7 @@
-use Rattle.std.proofs.Common.{rules, ◌≡◌, ◌∙◌, sym, refl, ap, subst, ◌+◌, ◌*◌, ◌<◌, ℕ, [], ◌∷◌, arith, replicate, List, length, length-append, false}
+use Rattle.std.proofs.Common.{rules, ◌≡◌, ◌∙◌, sym, refl, ap, subst, ◌+◌, ◌*◌, ◌<◌, ℕ, [], ◌∷◌, arith, replicate, List, length, map, ◌++◌, false}
 use Rattle.std.proofs.lemmas.List.Elements.{All-push, All-same}
+use Rattle.std.proofs.lemmas.List.{map_push}
+use Rattle.ds_shared.proofs.Ordered.{one_more}
 use Rattle.ds_state.specs.declared.situation.Situation.TheVariants.{Idle}
 use Rattle.ds_shared.specs.Rule.{Ruled, first_view, told_in, lone, newcomer}
 use Rattle.ds_shared.specs.Known.{outcomes}
@@ -31,10 +33,10 @@ pub loop-process-preserved : goal.loop-process-preserved
 loop-process-preserved c = let t = cut (Idle 0) c.loop-process.process c.args.layout.processes _ (search rules) c.loop-process.invariant.1 in
     let me : c.split_seat-place.result.me ≡ (lone (newcomer (Idle 0) c.loop-process.process), []) = c.split_seat-place.ensures.4 ∙ ap (λ (v : View). (v, [])) t.right in
     let x : Pass = record { place = c.split_seat-place.result; process = c.loop-process.process; number = 0; stopped = false; few = c.push-arg-1.given.0; known = c.push-arg-1.given.1.0 } in
-    let Mine : Pass → Type 0 = λ (p : Pass). (p.place.table_id ≡ c.in_ok-board.board.shared.table_id) × (p.process < c.args.layout.processes) × (outcomes p.place ≡ []) in (
+    let Mine : Pass → Type 0 = λ (p : Pass). (p.place.table_id ≡ c.in_ok-board.board.shared.table_id) × (p.process < c.args.layout.processes) × (p.stopped ≡ false) × (p.number ≡ 0) × (outcomes p.place ≡ []) in (
       search rules,
       rw c.split_seat-place.ensures.2 t.left,
       ap (λ m. m.1) c.split_seat-place.ensures.2 ∙ c.loop-process.invariant.2,
-      ap length c.in_ok-push.ensures.items ∙ (length-append c.loop-process.passes.items (x ∷ []) ∙ ap (λ (n : ℕ). n + 1) c.loop-process.invariant.3),
-      All-same Mine _ _ c.in_ok-push.ensures.items (All-push Mine c.loop-process.passes.items x c.loop-process.invariant.4 (c.split_seat-place.ensures.3 ∙ c.loop-process.invariant.0, search rules, ap (λ m. told_in m.0.entries) me)),
+      ap (map (λ (q : Pass). q.process)) c.in_ok-push.ensures.items ∙ (map_push (λ (q : Pass). q.process) c.loop-process.passes.items x ∙ (ap (λ (l : List ℕ). l ++ c.loop-process.process ∷ []) c.loop-process.invariant.3 ∙ sym (one_more 0 c.loop-process.process c.loop-process.process (omega arith)))),
+      All-same Mine _ _ c.in_ok-push.ensures.items (All-push Mine c.loop-process.passes.items x c.loop-process.invariant.4 (c.split_seat-place.ensures.3 ∙ c.loop-process.invariant.0, search rules, refl, refl, ap (λ m. told_in m.0.entries) me)),
     )
