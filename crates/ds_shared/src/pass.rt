@@ -6,7 +6,7 @@ ghost use Rattle.ds_shared.specs.Known.{IsKnown};
 ghost use Rattle.ds_eval.specs.Code.{plain_code};
 ghost use Rattle.std.specs.Coded.{codes};
 
-use crate::board::Place;
+use ds_drives::board::Place;
 
 /// The right to act for a process of a sheet.
 #[derive(Drop)]

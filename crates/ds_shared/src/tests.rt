@@ -1,13 +1,14 @@
 ghost use Rattle.std.specs.Prelude.{◌≡◌, ◌<◌, All, IfSome};
 ghost use Rattle.std.specs.Mem.Slots.{slots_items};
-ghost use Rattle.ds_shared.specs.Rule.{Behind, AtRest};
+ghost use Rattle.ds_drives.specs.Rule.{Behind, AtRest};
 ghost use Rattle.ds_formula.specs.Cells.{IsInside};
 ghost use Rattle.ds_shared.specs.Answers.{IsOf};
 
 use crate::ended::Ended;
-use crate::fuse::{Fuse, Whole};
+
 use crate::pass::Pass;
 use crate::sheet::{ClosedSheet, SharedSheet};
+use ds_drives::fuse::{Fuse, Whole};
 use ds_edit::answer::Answer;
 use ds_eval::value::Value;
 use ds_formula::cells::{Cell, Shape};
@@ -47,7 +48,7 @@ fn two(sheet: &SharedSheet, mut passes: Vec<Pass, Global>) -> Option<(Pass, Pass
 // A sheet of two columns, two rows and two processes.
 fn opened(alloc: Global) -> Option<(SharedSheet, Pass, Pass, Cell, Cell)>
     ensures passes { IfSome result (λ r. IsOf r.0 r.1 × IsOf r.0 r.2) }
-    ensures cells { IfSome result (λ r. IsInside r.0.layout.shape r.3 × IsInside r.0.layout.shape r.4) }
+    ensures cells { IfSome result (λ r. IsInside r.0.board.layout.shape r.3 × IsInside r.0.board.layout.shape r.4) }
 {
     let shape = Shape::new(2, 2)?;
     let layout = Layout::new(shape, 2)?;
@@ -88,7 +89,7 @@ fn many(
     cell: Cell,
     times: u64,
 ) -> (Pass, u64, u64)
-    requires { IsOf sheet.now pass × IsInside sheet.now.layout.shape cell }
+    requires { IsOf sheet.now pass × IsInside sheet.now.board.layout.shape cell }
     ensures { IsOf sheet.now result.0 }
 {
     let mut done: u64 = 0;
@@ -117,17 +118,17 @@ fn race<R: Threads + Sync>(
     times: u64,
 ) -> ((Pass, u64, u64), (Pass, u64, u64))
     requires passes { IsOf sheet.now first × IsOf sheet.now second }
-    requires cells { IsInside sheet.now.layout.shape a × IsInside sheet.now.layout.shape b }
+    requires cells { IsInside sheet.now.board.layout.shape a × IsInside sheet.now.board.layout.shape b }
     ensures { IsOf sheet.now result.0.0 × IsOf sheet.now result.1.0 }
 {
     join(
         rt,
         || -> (Pass, u64, u64)
-            requires { IsOf sheet.now first × IsInside sheet.now.layout.shape a }
+            requires { IsOf sheet.now first × IsInside sheet.now.board.layout.shape a }
             ensures { IsOf sheet.entry.now result.0 }
         { many(alloc, sheet, first, a, times) },
         || -> (Pass, u64, u64)
-            requires { IsOf sheet.now second × IsInside sheet.now.layout.shape b }
+            requires { IsOf sheet.now second × IsInside sheet.now.board.layout.shape b }
             ensures { IsOf sheet.entry.now result.0 }
         { many(alloc, sheet, second, b, times) },
     )
@@ -173,7 +174,7 @@ fn threads_edit_one_cell(rt: HostRuntime) -> Result<(), Fail> {
 // Works on both cells once.
 fn work_all(alloc: Global, sheet: &SharedSheet, pass: &mut Pass, a: Cell, b: Cell)
     requires pass { IsOf sheet.now pass.old }
-    requires cells { IsInside sheet.now.layout.shape a × IsInside sheet.now.layout.shape b }
+    requires cells { IsInside sheet.now.board.layout.shape a × IsInside sheet.now.board.layout.shape b }
     ensures { IsOf sheet.now pass.new }
 {
     let _first = sheet.work(alloc, pass, a, &mut Whole);
@@ -197,7 +198,7 @@ fn a_write_is_read_back(rt: HostRuntime) -> Result<(), Fail> {
     let (first, done) = join(
         &rt,
         || -> (Pass, u64, u64)
-            requires { IsOf sheet first × IsInside sheet.layout.shape a }
+            requires { IsOf sheet first × IsInside sheet.board.layout.shape a }
             ensures { IsOf sheet result.0 }
         { many(rt.alloc(), &sheet, first, a, 1) },
         || true,
