@@ -1,11 +1,16 @@
 -- The passes of a sheet are joined in one seat.
-use Rattle.std.proofs.Common.{ℕ, ◌≡◌, ◌⊎◌, ◌<◌, List, [], ◌∷◌, ◌++◌, length, refl, sym, ap, subst, ◌∙◌, inl, inr, ⊎_elim, arith, Contains}
-use Rattle.std.proofs.lemmas.List.Elements.{Contains-push_cases}
+use Rattle.std.proofs.Common.{ℕ, ◌≡◌, ◌⊎◌, ◌+◌, ◌<◌, map, length-append, List, [], ◌∷◌, ◌++◌, length, refl, sym, ap, subst, ◌∙◌, inl, inr, ⊎_elim, arith, Contains}
+use Rattle.std.specs.Prelude.{Bool}
+use Rattle.std.specs.List.{range_with_len}
+use Rattle.std.proofs.lemmas.List.{map_push}
+use Rattle.std.proofs.lemmas.List.Elements.{Contains-push_cases, Contains-append_left, Contains-append_right}
 use Rattle.ds_drives.specs.declared.board.Seated.{Seated}
 use Rattle.ds_drives.specs.declared.board.View.{View}
-use Rattle.ds_drives.specs.Views.{In, lone, sole, united}
+use Rattle.ds_drives.specs.Views.{In, lone, sole, united, newcomer, first_now, deeds_at}
 use Rattle.ds_drives.proofs.Dealt.{in_left, in_right, in_append}
 use Rattle.ds_shared.specs.declared.pass.Pass.{Pass}
+use Rattle.ds_shared.specs.Answers.{IsFresh}
+use Rattle.ds_shared.proofs.Ordered.{one_more}
 
 -- the pass waits to be joined, or its process is one of the view
 abbrev pub IsTaken : List Pass → View → Pass → Type 0
@@ -41,3 +46,23 @@ none_left ps p v e known = ⊎_elim (λ (t : Contains ps p). absurd (let h = t.1
 -- what is remembered stays so
 pub past_kept : (v w : View) (e : Seated) → In v.past e → In (united v w).past e
 past_kept v w e here = in_left v.past w.past e here
+
+-- ---- dealt
+
+-- one pass more, which is the next process's
+pub in_order : (xs ys : List Pass) (x : Pass) (p : ℕ) → ys ≡ xs ++ x ∷ [] → x.process ≡ p → map (λ (q : Pass). q.process) xs ≡ range_with_len 0 p → map (λ (q : Pass). q.process) ys ≡ range_with_len 0 (p + 1)
+in_order xs ys x p is own so_far = ap (map (λ (q : Pass). q.process)) is ∙ (map_push (λ (q : Pass). q.process) xs x ∙ ((λ i. so_far i ++ own i ∷ []) ∙ sym (one_more 0 p p (omega arith))))
+
+pub fresh_at : (x : Pass) (p : ℕ) (stopped : Bool) → x.stopped ≡ stopped → x.number ≡ 0 → x.place.me ≡ (lone (newcomer (first_now stopped) p), []) → IsFresh stopped x
+fresh_at x p stopped is number me = record { stopped_is = is; number = number; told = ap (λ m. (deeds_at m).told) me; steps = ap (λ m. (deeds_at m).steps) me }
+
+pub one_longer : (xs ys : List Pass) (x : Pass) → ys ≡ xs ++ x ∷ [] → length ys ≡ length xs + 1
+one_longer xs ys x is = ap length is ∙ length-append xs (x ∷ [])
+
+-- ---- popped
+
+pub last_there : (ps qs : List Pass) (x : Pass) → ps ≡ qs ++ x ∷ [] → Contains ps x
+last_there ps qs x e = subst (λ (l : List Pass). Contains l x) (sym e) (Contains-append_right qs (x ∷ []) x (0, omega arith, refl))
+
+pub still_there : (ps qs : List Pass) (x p : Pass) → ps ≡ qs ++ x ∷ [] → Contains qs p → Contains ps p
+still_there ps qs x p e there = subst (λ (l : List Pass). Contains l p) (sym e) (Contains-append_left qs (x ∷ []) p there)
