@@ -30,12 +30,17 @@ use Rattle.ds_shared.specs.Known.{outcomes, steps_of}
 use Rattle.ds_shared.specs.declared.ended.Ended.{Ended}
 use Rattle.ds_shared.specs.declared.ended.Ended.TheVariants as ends
 use Rattle.ds_shared.specs.declared.pass.Pass.{Pass}
+use Rattle.ds_shared.specs.declared.pass.Past.{Past}
 use Rattle.ds_shared.specs.declared.sheet.SharedSheet.{SharedSheet}
 
 -- the pass is one of the sheet
 pub record IsOf (s : SharedSheet) (p : Pass) : Type 0 where
   pub table : p.place.table_id ≡ s.board.table.shared.table_id
   pub process : p.process < s.board.layout.processes
+
+-- the past is that of the sheet
+abbrev pub IsPastOf : SharedSheet → Past → Type 0
+IsPastOf s past = past.place.table_id ≡ s.board.table.shared.table_id
 
 -- the pass has begun no call: stopped or not, with number 0, told nothing, before its first step
 pub record IsFresh (stopped : Bool) (p : Pass) : Type 0 where

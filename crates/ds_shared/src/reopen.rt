@@ -5,9 +5,9 @@ ghost use Rattle.std.specs.List.{range_with_len};
 ghost use Rattle.std.specs.Mem.Slots.{slots_items, slots_len};
 ghost use Rattle.ds_drives.specs.Rule.{AreTrue, AtRest, Behind};
 ghost use Rattle.ds_shared.specs.Known.{outcomes, past_in};
-ghost use Rattle.ds_shared.specs.Answers.{IsFresh, IsOf};
+ghost use Rattle.ds_shared.specs.Answers.{IsFresh, IsOf, IsPastOf};
 
-use crate::pass::Pass;
+use crate::pass::{Pass, Past};
 use crate::seats::dealt;
 use crate::sheet::{ClosedSheet, SharedSheet};
 use ds_drives::board::Board;
@@ -28,14 +28,14 @@ impl ClosedSheet {
 
     /// Opens a sheet with these words, in which every process has stopped, with a pass for each, in
     /// order. It asks for what `close` and `crash_with` leave: a sound world at rest has the words,
-    /// and what is remembered is true of it. The sheet remembers it, too. Where memory is wanting
-    /// the words are handed back.
-    pub fn reopen(self, alloc: Global) -> Result<(SharedSheet, Vec<Pass, Global>), ClosedSheet>
+    /// and what is remembered is true of it. It is the past of the new sheet. Where memory is
+    /// wanting the words are handed back.
+    pub fn reopen(self, alloc: Global) -> Result<(SharedSheet, Past, Vec<Pass, Global>), ClosedSheet>
         requires { (b : Behind) × AtRest self.layout (slots_items self.table.words) b × AreTrue self.layout (slots_items self.table.words) b (past_in self.before) }
         ensures layout { IfOk result (λ r. r.0.board.layout ≡ self.layout) }
-        ensures order { IfOk result (λ r. map (λ p. p.process) r.1.items ≡ range_with_len 0 self.layout.processes) }
-        ensures fit { IfOk result (λ r. All (λ p. IsOf r.0 p × IsFresh true p) r.1.items) }
-        ensures before { IfOk result (λ r. past_in r.0.before ≡ past_in self.before) }
+        ensures order { IfOk result (λ r. map (λ p. p.process) r.2.items ≡ range_with_len 0 self.layout.processes) }
+        ensures fit { IfOk result (λ r. All (λ p. IsOf r.0 p × IsFresh true p) r.2.items) }
+        ensures past { IfOk result (λ r. IsPastOf r.0 r.1 × (past_in r.1.place ≡ past_in self.before)) }
         ensures back { IfErr result (λ c. c ≡ self) }
     {
         let Ok(words) = self.copied(alloc) else {
@@ -54,7 +54,7 @@ impl ClosedSheet {
             Ok((board, mut before)) => {
                 table.free();
                 let passes = dealt(&board, &mut before, true, passes);
-                Ok((SharedSheet { board, before }, passes))
+                Ok((SharedSheet { board }, Past { place: before }, passes))
             }
             Err(before) => Err(ClosedSheet {
                 table,

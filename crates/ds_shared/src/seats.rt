@@ -8,9 +8,9 @@ ghost use Rattle.ds_drives.specs.Views.{In, sole, first_now, first_view};
 ghost use Rattle.ds_drives.specs.Rule.{Closes};
 ghost use Rattle.ds_shared.specs.declared.pass.Pass.{Pass};
 ghost use Rattle.ds_shared.specs.Known.{IsMemory, outcomes, past_in, steps_of};
-ghost use Rattle.ds_shared.specs.Answers.{IsFresh, IsOf};
+ghost use Rattle.ds_shared.specs.Answers.{IsFresh, IsOf, IsPastOf};
 
-use crate::pass::Pass;
+use crate::pass::{Pass, Past};
 use crate::sheet::{ClosedSheet, SharedSheet};
 use ds_drives::board::{Board, Place};
 use ds_layout::layout::Layout;
@@ -43,38 +43,37 @@ pub(crate) fn dealt(
 }
 
 impl SharedSheet {
-    /// A new sheet, whose words are all 0, and a pass for each process, in order: between calls, and
-    /// told nothing yet. An error is a want of memory.
+    /// A new sheet, whose words are all 0, with no past, and a pass for each process, in order:
+    /// between calls, and told nothing yet. An error is a want of memory.
     pub fn make(
         alloc: Global,
         layout: Layout,
-    ) -> Result<(SharedSheet, Vec<Pass, Global>), AllocError>
+    ) -> Result<(SharedSheet, Past, Vec<Pass, Global>), AllocError>
         ensures layout { IfOk result (λ r. r.0.board.layout ≡ layout) }
-        ensures order { IfOk result (λ r. map (λ p. p.process) r.1.items ≡ range_with_len 0 layout.processes) }
-        ensures fit { IfOk result (λ r. All (λ p. IsOf r.0 p × IsFresh false p) r.1.items) }
-        ensures before { IfOk result (λ r. past_in r.0.before ≡ []) }
+        ensures order { IfOk result (λ r. map (λ p. p.process) r.2.items ≡ range_with_len 0 layout.processes) }
+        ensures fit { IfOk result (λ r. All (λ p. IsOf r.0 p × IsFresh false p) r.2.items) }
+        ensures past { IfOk result (λ r. IsPastOf r.0 r.1 × (past_in r.1.place ≡ [])) }
     {
         let passes: Vec<Pass, Global> = Vec::with_capacity(alloc, layout.processes)?;
         let (board, mut before) = Board::make(alloc, layout)?;
         let passes = dealt(&board, &mut before, false, passes);
-        Ok((SharedSheet { board, before }, passes))
+        Ok((SharedSheet { board }, Past { place: before }, passes))
     }
 
     /// Ends the sheet, with passes between calls or broken off in one. Its words are those of a sound
     /// world in which each of these passes' processes does what its pass says; from there stops alone
     /// lead to one at rest. All that these passes were told, and what was told before the sheet was
     /// opened, is true of it, and is remembered.
-    pub fn close(self, mut passes: Vec<Pass, Global>) -> ClosedSheet
-        requires { All (λ p. IsOf self p) passes.items }
+    pub fn close(self, past: Past, mut passes: Vec<Pass, Global>) -> ClosedSheet
+        requires past { IsPastOf self past }
+        requires fit { All (λ p. IsOf self p) passes.items }
         ensures layout { result.layout ≡ self.board.layout }
         ensures handed { (p : Pass) → Contains passes.items p → In (past_in result.before) (sole p.place) }
-        ensures before { (e : Seated) → In (past_in self.before) e → In (past_in result.before) e }
+        ensures before { (e : Seated) → In (past_in past.place) e → In (past_in result.before) e }
         ensures stand { Closes self.board.layout (slots_items result.table.words) (λ e. (p : Pass) × Contains passes.items p × (e ≡ sole p.place)) (past_in result.before) }
     {
-        let SharedSheet {
-            board,
-            before: mut seat,
-        } = self;
+        let SharedSheet { board } = self;
+        let Past { place: mut seat } = past;
         while let Some(pass) = passes.pop() {
             let Pass {
                 place,

@@ -3,7 +3,7 @@
 ghost use Rattle.std.specs.Prelude.{◌≡◌, ◌+◌, ◌*◌, ◌<◌, ℕ, false, slice_index, slice_index_or, slice_set, length, IfOk};
 ghost use Rattle.std.specs.Mem.Slots.{slots_items, slots_len, IsFull};
 ghost use Rattle.ds_layout.specs.Places.{words_of};
-ghost use Rattle.ds_shared.specs.Known.{IsMemory, past_in};
+ghost use Rattle.ds_shared.specs.Known.{past_in};
 
 use atomic_table::Closed;
 use ds_drives::board::{self, Board};
@@ -15,12 +15,10 @@ use ds_layout::place::Place;
 use ds_state::shown::{SheetReader, mark, text, value};
 use std::alloc::{AllocError, Global};
 
-/// A sheet that threads share. It remembers what was told before it was opened again.
+/// A sheet that threads share.
 #[derive(Drop)]
 pub struct SharedSheet {
     pub(crate) board: Board,
-    pub(crate) before: board::Place,
-    pub ghost memory: { IsMemory before × (before.table_id ≡ board.table.shared.table_id) },
 }
 
 /// The words, once no seat is left. It remembers what was told. Call `free` at the end.

@@ -9,7 +9,7 @@ use Rattle.ds_shared.proofs.sheet.SharedSheet.close.Given as goal
 abbrev pub invariant-loop-pass : goal.invariant-loop-pass
 invariant-loop-pass l = (l.seat.table_id ≡ l.board.table.shared.table_id) × (l.seat.me.1 ≡ []) × All (λ p. p.place.table_id ≡ l.board.table.shared.table_id) l.passes.items
     × ((p : Pass) → Contains l.fn.passes.items p → IsTaken l.passes.items l.seat.me.0 p) × ((p : Pass) → Contains l.passes.items p → Contains l.fn.passes.items p)
-    × AreOf l.fn.passes.items l.seat.me.0 × ((e : Seated) → In (past_in l.fn.self.before) e → In l.seat.me.0.past e)
+    × AreOf l.fn.passes.items l.seat.me.0 × ((e : Seated) → In (past_in l.fn.past.place) e → In l.seat.me.0.past e)
 
 abbrev pub decreases-loop-pass : goal.decreases-loop-pass
 decreases-loop-pass l = goal.left-loop-pass l
