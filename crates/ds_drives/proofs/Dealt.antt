@@ -212,6 +212,7 @@ opens layout words b stopped past sound middles long now buffer true_then = reco
           };
         }
     one_seat (suc j) v at x inside = absurd (some-ne-none v (sym at))
+
     one_past : (j : ℕ) (v : View) → get_elem? (first_view stopped layout.processes past ∷ []) j ≡ some v → AreTrue layout words b v.past
     one_past zero v at x d inside here = true_then x d (subst (λ (z : View). In z.past x) (sym (some-injective (first_view stopped layout.processes past) v at)) inside) here
     one_past (suc j) v at x d inside here = absurd (some-ne-none v (sym at))

@@ -59,6 +59,7 @@ module _ (layout : Layout) (words : List ℕ) where
     where
       runs : b.situation p ≢ Stopped → Rested first b p
       runs r = record { behind = stopped b p; after = stops b p sound low r; by = stop b (stopped b p) p so_far (stops_in b p r) }
+
       by_stop : (s : Situation) → b.situation p ≡ s → Rested first b p
       by_stop Stopped at = record { behind = b; after = still b p sound low at; by = so_far }
       by_stop (Idle n) at = runs (λ e. cc)

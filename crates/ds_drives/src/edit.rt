@@ -76,13 +76,6 @@ impl Board {
         ensures me { MatchBool result ((n : ℕ) × Asked F.said fuse.old fuse.new n 0 × IsSettled edit_rules self.now.layout (steps_later (deeds_at place.old.me) n) place.new.me call.new) ((n : ℕ) × Asked F.said fuse.old fuse.new n 1 × IsBroken edit_rules self.now.layout call.old place.old.me (steps_later (deeds_at place.old.me) n) place.new.me) }
     {
         is_edit(call);
-        drive(
-            alloc,
-            &self.table.shared,
-            &self.layout,
-            place,
-            call,
-            fuse,
-        )
+        drive(alloc, &self.table.shared, &self.layout, place, call, fuse)
     }
 }

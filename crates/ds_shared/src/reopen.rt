@@ -30,7 +30,10 @@ impl ClosedSheet {
     /// order. It asks for what `close` and `crash_with` leave: a sound world at rest has the words,
     /// and what is remembered is true of it. It is the past of the new sheet. Where memory is
     /// wanting the words are handed back.
-    pub fn reopen(self, alloc: Global) -> Result<(SharedSheet, Past, Vec<Pass, Global>), ClosedSheet>
+    pub fn reopen(
+        self,
+        alloc: Global,
+    ) -> Result<(SharedSheet, Past, Vec<Pass, Global>), ClosedSheet>
         requires { (b : Behind) × AtRest self.layout (slots_items self.table.words) b × AreTrue self.layout (slots_items self.table.words) b (past_in self.before) }
         ensures layout { IfOk result (λ r. r.0.board.layout ≡ self.layout) }
         ensures order { IfOk result (λ r. map (λ p. p.process) r.2.items ≡ range_with_len 0 self.layout.processes) }

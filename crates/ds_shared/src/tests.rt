@@ -6,7 +6,6 @@ ghost use Rattle.ds_formula.specs.Cells.{IsInside};
 ghost use Rattle.ds_shared.specs.Answers.{IsOf, IsPastOf};
 
 use crate::ended::Ended;
-
 use crate::pass::{Pass, Past};
 use crate::sheet::{ClosedSheet, SharedSheet};
 use ds_drives::fuse::{Fuse, Whole};
@@ -67,7 +66,13 @@ fn opened(alloc: Global) -> Option<(SharedSheet, Past, Pass, Pass, Cell, Cell)>
 }
 
 // The sheet is closed with both passes.
-fn ended(alloc: Global, sheet: SharedSheet, past: Past, first: Pass, second: Pass) -> Option<ClosedSheet>
+fn ended(
+    alloc: Global,
+    sheet: SharedSheet,
+    past: Past,
+    first: Pass,
+    second: Pass,
+) -> Option<ClosedSheet>
     requires past { IsPastOf sheet past }
     requires first { IsOf sheet first }
     requires second { IsOf sheet second }
