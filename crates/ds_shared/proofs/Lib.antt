@@ -1,14 +1,6 @@
-pub mod Words
-pub mod Behinds
-pub mod Machines
-pub mod Resting
 pub mod Losses
 pub mod Powerless
-pub mod Edits
-pub mod Recoveries
-pub mod Works
-pub mod Shows
-pub mod Driving
 pub mod Passing
-pub mod Dealt
+pub mod Joined
+pub mod Ordered
 pub mod Texts

@@ -7,7 +7,7 @@ use Rattle.std.proofs.lemmas.List.Elements.{All-contains, Contains-append_right}
 use Rattle.ds_words.specs.Memory.{Memory}
 use Rattle.ds_layout.specs.declared.place.Place.{Place}
 use Rattle.ds_layout.specs.declared.place.Place.TheVariants.{Head, Announce}
-use Rattle.ds_state.specs.World.{PlainEdit, PlainIssue, PlainWorld, of_cell, head_after_all, head_by}
+use Rattle.ds_state.specs.World.{PlainEdit, PlainIssue, PlainWorld, edit_of, of_cell, head_after_all, head_by}
 use Rattle.ds_state.specs.WordsFit.{IsOnItsWay}
 use Rattle.ds_state.specs.Owing.{IsPending, Splits}
 use Rattle.ds_state.specs.Crashes.{is_lost, survivors, CrashesTo}
@@ -21,9 +21,9 @@ use Rattle.ds_state.proofs.Heads.{IsSmall, Small, small_counted, small_of_cell, 
 use Rattle.ds_state.proofs.Losing.{increasing_cell}
 use Rattle.ds_state.proofs.Spent.{spent_crashed}
 use Rattle.ds_recover.specs.declared.machine.RecoveryEnd.TheVariants.{Last, Nothing}
-use Rattle.ds_shared.specs.declared.board.Told.{Told}
-use Rattle.ds_shared.specs.declared.board.Told.TheVariants.{Edited, Worked, Recovered, Shown}
-use Rattle.ds_shared.specs.Rule.{IsTold, IsTrueTold, CountsAs}
+use Rattle.ds_drives.specs.declared.board.Told.{Told}
+use Rattle.ds_drives.specs.declared.board.Told.TheVariants.{Edited, Worked, Recovered, Shown}
+use Rattle.ds_drives.specs.Rule.{IsTold, IsTrueTold, CountsAs}
 
 -- ---- lists
 
@@ -129,9 +129,9 @@ module _ (old new : PlainWorld) (sound : IsSound old) (rest : (p : ℕ) → p < 
   told_crashed q (Edited d how) h = record {
     own = h.own;
     spent = spent_crashed old new crash q d.number h.spent;
-    holds = stays d how (subst (λ (z : ℕ). IsSpent old z d.number) (sym h.own) h.spent) h.holds;
+    holds = stays (edit_of d) how (subst (λ (z : ℕ). IsSpent old z d.number) (sym h.own) h.spent) h.holds;
   }
-  told_crashed q (Worked cell end) h = tt
-  told_crashed q (Recovered Nothing) h = tt
-  told_crashed q (Recovered (Last number cell how)) h = record { spent = spent_crashed old new crash q number h.spent; holds = counts q number how h.spent h.holds }
+  told_crashed q (Worked e end) h = tt
+  told_crashed q (Recovered e Nothing) h = tt
+  told_crashed q (Recovered e (Last number cell how)) h = record { spent = spent_crashed old new crash q number h.spent; holds = counts q number how h.spent h.holds }
   told_crashed q (Shown e) h = tt

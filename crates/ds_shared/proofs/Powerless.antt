@@ -13,7 +13,7 @@ use Rattle.ds_layout.specs.Places.{words_of, place_of, number_of, IsPlace}
 use Rattle.ds_layout.specs.SheetMemory.{memory_at}
 use Rattle.ds_layout.proofs.Places.{number_of-place_of, IsPlace-place_of}
 use Rattle.ds_layout.proofs.Sheet.{evicts_at, side_same}
-use Rattle.ds_state.specs.World.{PlainWorld}
+use Rattle.ds_state.specs.World.{PlainWorld, edit_of}
 use Rattle.ds_state.specs.Events.{Evicts}
 use Rattle.ds_state.specs.Crashes.{survivors, CrashesTo}
 use Rattle.ds_state.specs.Sound.{IsSound}
@@ -23,17 +23,17 @@ use Rattle.ds_state.proofs.Buffers.{buffered}
 use Rattle.ds_state.proofs.CrashSound.{crash_sound}
 use Rattle.ds_state.proofs.Spent.{spent_evicted}
 use Rattle.ds_recover.specs.declared.machine.RecoveryEnd.TheVariants.{Last, Nothing}
-use Rattle.ds_shared.specs.declared.board.Told.{Told}
-use Rattle.ds_shared.specs.declared.board.Told.TheVariants.{Edited, Worked, Recovered, Shown}
-use Rattle.ds_shared.specs.Table.{two_sided}
-use Rattle.ds_shared.specs.Rule.{Behind, world_on, IsTold, AtRest, Survives}
+use Rattle.ds_drives.specs.declared.board.Told.{Told}
+use Rattle.ds_drives.specs.declared.board.Told.TheVariants.{Edited, Worked, Recovered, Shown}
+use Rattle.ds_drives.specs.Table.{two_sided}
+use Rattle.ds_drives.specs.Rule.{Behind, world_on, IsTold, AtRest, Survives}
 use Rattle.ds_shared.proofs.Losses.{told_crashed}
 
 told_evicted : (place : Place) (old new : PlainWorld) → IsSound old → Evicts place old new → (q : ℕ) (t : Told) → IsTold old q t → IsTold new q t
-told_evicted place old new sound v q (Edited d how) h = record { own = h.own; spent = spent_evicted place old new sound v q d.number h.spent; holds = subst (λ l. Rattle.ds_shared.specs.Rule.IsTrueTold l d how) (sym v.counted) h.holds }
-told_evicted place old new sound v q (Worked cell end) h = tt
-told_evicted place old new sound v q (Recovered Nothing) h = tt
-told_evicted place old new sound v q (Recovered (Last number cell how)) h = record { spent = spent_evicted place old new sound v q number h.spent; holds = subst (λ l. Rattle.ds_shared.specs.Rule.CountsAs l q number how) (sym v.counted) h.holds }
+told_evicted place old new sound v q (Edited d how) h = record { own = h.own; spent = spent_evicted place old new sound v q d.number h.spent; holds = subst (λ l. Rattle.ds_drives.specs.Rule.IsTrueTold l (edit_of d) how) (sym v.counted) h.holds }
+told_evicted place old new sound v q (Worked e end) h = tt
+told_evicted place old new sound v q (Recovered e Nothing) h = tt
+told_evicted place old new sound v q (Recovered e (Last number cell how)) h = record { spent = spent_evicted place old new sound v q number h.spent; holds = subst (λ l. Rattle.ds_drives.specs.Rule.CountsAs l q number how) (sym v.counted) h.holds }
 told_evicted place old new sound v q (Shown e) h = tt
 
 -- the words after so many of them were evicted, those that are chosen

@@ -1,12 +1,12 @@
 -- What a call on the shared sheet answers.
-use Rattle.std.specs.Prelude.{ℕ, ◌≡◌, ◌<◌, Bool, true, false, List, ◌∷◌, Option, Some, None, Vec}
+use Rattle.std.specs.Prelude.{ℕ, ◌≡◌, ◌<◌, ◌+◌, Bool, true, false, List, [], ◌∷◌, Option, Some, None, Vec}
 use Rattle.std.specs.Global.{Global}
 use Rattle.ds_eval.specs.declared.value.Value.{Value}
 use Rattle.ds_show.specs.ShowSteps.{answered}
 use Rattle.ds_state.specs.declared.refusal.Refusal.{Refusal}
 use Rattle.ds_state.specs.declared.situation.Situation.{Situation}
 use Rattle.ds_state.specs.declared.situation.Situation.TheVariants.{Idle, Stopped}
-use Rattle.ds_state.specs.Works.{PlainShowCall}
+use Rattle.ds_state.specs.Works.{PlainShowCall, PlainWorkCall}
 use Rattle.ds_state.specs.declared.work.WorkEnd.{WorkEnd}
 use Rattle.ds_state.specs.declared.work.WorkEnd.TheVariants as works
 use Rattle.ds_state.specs.declared.work.ShowEnd.TheVariants as shows
@@ -18,28 +18,50 @@ use Rattle.ds_recover.specs.declared.machine.RecoveryEnd.TheVariants as recoveri
 use Rattle.ds_edit.specs.declared.answer.Answer.{Answer}
 use Rattle.ds_edit.specs.declared.answer.Answer.TheVariants as answers
 use Rattle.ds_edit.specs.EditEndings.{answer_of}
-use Rattle.ds_shared.specs.declared.board.Told.{Told}
-use Rattle.ds_shared.specs.declared.board.Told.TheVariants.{Edited, Worked, Recovered, Shown}
+use Rattle.ds_drives.specs.declared.board.Told.{Told}
+use Rattle.ds_drives.specs.declared.board.Told.TheVariants.{Edited, Worked, Recovered, Shown}
+use Rattle.ds_drives.specs.Fuses.{Asked}
+use Rattle.ds_drives.specs.Views.{deeds_at}
+use Rattle.ds_drives.specs.Rules.{Rules}
+use Rattle.ds_drives.specs.Rule.{CallHolds}
+use Rattle.ds_drives.specs.Machines.{IsBroken}
+use Rattle.ds_layout.specs.declared.layout.Layout.{Layout}
+use Rattle.ds_shared.specs.Known.{outcomes, steps_of}
 use Rattle.ds_shared.specs.declared.ended.Ended.{Ended}
 use Rattle.ds_shared.specs.declared.ended.Ended.TheVariants as ends
 use Rattle.ds_shared.specs.declared.pass.Pass.{Pass}
+use Rattle.ds_shared.specs.declared.pass.Past.{Past}
 use Rattle.ds_shared.specs.declared.sheet.SharedSheet.{SharedSheet}
 
 -- the pass is one of the sheet
 pub record IsOf (s : SharedSheet) (p : Pass) : Type 0 where
-  pub table : p.place.table_id ≡ s.board.shared.table_id
-  pub process : p.process < s.layout.processes
+  pub table : p.place.table_id ≡ s.board.table.shared.table_id
+  pub process : p.process < s.board.layout.processes
 
+-- the past is that of the sheet
+abbrev pub IsPastOf : SharedSheet → Past → Type 0
+IsPastOf s past = past.place.table_id ≡ s.board.table.shared.table_id
+
+-- the pass has begun no call: stopped or not, with number 0, told nothing, before its first step
+pub record IsFresh (stopped : Bool) (p : Pass) : Type 0 where
+  pub stopped_is : p.stopped ≡ stopped
+  pub number : p.number ≡ 0
+  pub told : outcomes p.place ≡ []
+  pub steps : steps_of p.place ≡ 0
+
+-- the call was answered, and this is so of the answer
 abbrev pub IfAnswered : Ended → (Answer → Type 0) → Type 0
 IfAnswered (ends.Answered a) P = P a
 IfAnswered (ends.Refused r) P = Unit {0}
 IfAnswered ends.Stopped P = Unit {0}
 
+-- the call was refused, and this is so of the cause
 abbrev pub IfRefused : Ended → (Refusal → Type 0) → Type 0
 IfRefused (ends.Answered a) P = Unit {0}
 IfRefused (ends.Refused r) P = P r
 IfRefused ends.Stopped P = Unit {0}
 
+-- the call was stopped by its fuse, and this is so
 abbrev pub IfStopped : Ended → Type 0 → Type 0
 IfStopped (ends.Answered a) P = Unit {0}
 IfStopped (ends.Refused r) P = Unit {0}
@@ -59,6 +81,11 @@ abbrev pub recovery_answer : RecoveryEnd → Answer
 recovery_answer recoveries.Nothing = answers.Nothing
 recovery_answer (recoveries.Last number cell counts) = answers.Last (record { number = number; cell = cell; counts = counts })
 
+-- the number of a process's next edit behind this answer of its recovery
+abbrev pub number_behind : Answer → ℕ
+number_behind (answers.Last told) = told.number + 1
+number_behind _ = 0
+
 -- the answer of a report at its last stage
 abbrev pub show_answer : ShowStage → Answer
 show_answer (stages.Answer (shows.AtMark cell word)) = answers.Unsettled (place.Mark cell) word
@@ -69,22 +96,49 @@ show_answer _ = answers.Settled
 abbrev pub ShowsAt : PlainShowCall → ShowStage → Option (Vec Value Global) → Type 0
 ShowsAt e (stages.Answer shows.Settled) (Some values) = values.items ≡ answered e
 ShowsAt e (stages.Answer shows.Settled) None = ⊥
-ShowsAt e _ values = Unit {0}
+ShowsAt e _ values = values ≡ None
 
+-- so it is at its last stage
 abbrev pub ShowsValues : PlainShowCall → Option (Vec Value Global) → Type 0
 ShowsValues e values = ShowsAt e e.stage values
 
 -- the answer of a call of which this is told
 abbrev pub answer_for : ℕ → Told → Answer
-answer_for processes (Edited d how) = answer_of processes d.number how
-answer_for processes (Worked cell end) = work_answer end
-answer_for processes (Recovered end) = recovery_answer end
+answer_for processes (Edited e how) = answer_of processes e.number how
+answer_for processes (Worked e end) = work_answer end
+answer_for processes (Recovered e end) = recovery_answer end
 answer_for processes (Shown e) = show_answer e.stage
 
--- the call was told of, as the last one, and the answer says that
-pub record Tells (processes : ℕ) (old new : List Told) (t : Told) (a : Answer) : Type 0 where
-  pub last : new ≡ t ∷ old
-  pub answer : a ≡ answer_for processes t
+-- the call was told of, as the last one, and the answer says that; it came to its end by its own steps
+pub record Tells (layout : Layout) (old new : Pass) (t : Told) (a : Answer) : Type 0 where
+  pub last : outcomes new.place ≡ t ∷ outcomes old.place
+  pub answer : a ≡ answer_for layout.processes t
+  pub holds : CallHolds layout old.process (outcomes old.place) t
+
+-- how often the fuse said no: once in a call that it stopped
+abbrev pub noes : Ended → ℕ
+noes (ends.Answered a) = 0
+noes (ends.Refused r) = 0
+noes ends.Stopped = 1
+
+-- the fuse was asked before each step, and said yes each time; where the call was stopped it then said no
+pub record IsAskedEachStep {F : Type 0} (said : F → F → ℕ → ℕ → Type 0) (old new : F) (before after : Pass) (how : Ended) : Type 0 where
+  pub taken : ℕ
+  pub steps : steps_of after.place ≡ steps_of before.place + taken
+  pub asked : Asked said old new taken (noes how)
+
+-- the pass's call, which began so, was broken off: the pass is stopped, and was told no more; its process is in this call
+-- still, or, before the first step, where it was
+pub record BreaksOff {C : Type 0} (r : Rules C) (layout : Layout) (first : C) (old new : Pass) : Type 0 where
+  pub stopped : new.stopped ≡ true
+  pub told : outcomes new.place ≡ outcomes old.place
+  pub view : IsBroken r layout first old.place.me (deeds_at new.place.me) new.place.me
+
+-- the work is the pass's, of this cell
+pub record IsWorkOf (e : PlainWorkCall) (p : Pass) (cell : ℕ) : Type 0 where
+  pub process : e.process ≡ p.process
+  pub next : e.next ≡ p.number
+  pub cell_is : e.cell ≡ cell
 
 -- what the process of a pass does between calls
 abbrev pub doing : Bool → ℕ → Situation

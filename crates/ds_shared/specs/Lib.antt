@@ -1,9 +1,2 @@
-pub mod Table
-pub mod Rule
-pub mod Machines
-pub mod EditRules
-pub mod RecoverRules
-pub mod WorkRules
-pub mod ShowRules
 pub mod Known
 pub mod Answers

@@ -1,19 +1,15 @@
-//! The words of a sheet on an atomic table.
+//! A sheet that threads share with no lock: edits, works, recoveries and reports, each step of which
+//! is one atomic step on one word.
 #![tactic(auto)]
 
-pub mod board;
-mod drive;
 pub mod edit;
 pub mod ended;
-pub mod fuse;
-pub mod machine;
 pub mod pass;
 pub mod recover;
 pub mod reopen;
 pub mod seats;
 pub mod sheet;
 pub mod show;
-mod steps;
 #[cfg(test)]
 mod tests;
 pub mod work;

@@ -2,11 +2,18 @@
 
 ghost use Rattle.std.specs.Prelude.{◌≤◌};
 ghost use Rattle.ds_layout.specs.declared.place.TheConstants.{RECORDS};
-ghost use Rattle.ds_shared.specs.Known.{IsKnown};
+ghost use Rattle.ds_shared.specs.Known.{IsKnown, IsMemory};
 ghost use Rattle.ds_eval.specs.Code.{plain_code};
 ghost use Rattle.std.specs.Coded.{codes};
 
-use crate::board::Place;
+use ds_drives::board::Place;
+
+/// What was told before a sheet was opened. Its owner keeps it for the close.
+#[derive(Drop)]
+pub struct Past {
+    pub(crate) place: Place,
+    pub ghost memory: { IsMemory place } by { Prim.hlevel (codes, plain_code) },
+}
 
 /// The right to act for a process of a sheet.
 #[derive(Drop)]

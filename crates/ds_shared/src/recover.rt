@@ -1,31 +1,28 @@
 //! Recoveries on the shared sheet.
 
-ghost use Rattle.std.specs.Prelude.{◌<◌, ◌≡◌, ◌≤◌, MatchBool, Option, Bool};
+ghost use Rattle.std.specs.Prelude.{◌<◌, ◌≡◌, ◌≤◌, Option, Bool, false};
+ghost use Rattle.ds_layout.specs.Places.{cells_of};
 ghost use Rattle.ds_layout.specs.declared.place.TheConstants.{RECORDS};
+ghost use Rattle.ds_state.specs.Works.{PlainRecoverCall};
 ghost use Rattle.ds_state.specs.RecoverStages.{IsRecovery};
 ghost use Rattle.ds_state.specs.declared.work.RecoverStage.TheVariants.{Answer as Ends};
-ghost use Rattle.ds_recover.specs.RecoverySteps.{end_of, next_number};
+ghost use Rattle.ds_recover.specs.RecoverySteps.{end_of, next_number, fresh as begun};
 ghost use Rattle.ds_recover.specs.declared.machine.RecoveryEnd.{RecoveryEnd as End};
-ghost use Rattle.ds_shared.specs.declared.board.Told.{Told};
-ghost use Rattle.ds_shared.specs.declared.board.Told.TheVariants.{Recovered};
-ghost use Rattle.ds_shared.specs.RecoverRules.{IsEnded};
-ghost use Rattle.ds_shared.specs.Rule.{In};
+ghost use Rattle.ds_drives.specs.declared.board.Told.{Told};
+ghost use Rattle.ds_drives.specs.declared.board.Told.TheVariants.{Recovered};
+ghost use Rattle.ds_drives.specs.RecoverRules.{IsEnded, recover_rules};
+ghost use Rattle.ds_drives.specs.Views.{In};
 ghost use Rattle.ds_shared.specs.Known.{outcomes};
-ghost use Rattle.ds_shared.specs.Answers.{IsOf, IfAnswered, IfRefused, IfStopped, Tells, recovery_answer};
+ghost use Rattle.ds_shared.specs.Answers.{IsOf, IfAnswered, IfRefused, IfStopped, IsAskedEachStep, BreaksOff, Tells, recovery_answer, number_behind};
 
-use crate::drive::drive;
 use crate::ended::Ended;
-use crate::fuse::Fuse;
-use crate::machine::Machine;
 use crate::pass::Pass;
 use crate::sheet::SharedSheet;
+use ds_drives::fuse::Fuse;
 use ds_edit::answer::{self, Answer};
-use ds_layout::layout::Layout;
-use ds_layout::place::Place;
 use ds_recover::begin::fresh;
-use ds_recover::machine::{Effect, RecoveryEnd, effect_of, got, want};
-use ds_state::work::{RecoverCall, RecoverStage};
-use ds_words::access::Access;
+use ds_recover::machine::{Effect, RecoveryEnd, effect_of};
+use ds_state::work::RecoverCall;
 use std::alloc::Global;
 
 // It is a recovery of a sheet.
@@ -33,35 +30,6 @@ fn is_recovery(call: &RecoverCall)
     ensures { IsRecovery call.now }
 {
     let _stage = call.stage;
-}
-
-impl Machine for RecoverCall {
-    ghost use Rattle.ds_shared.specs.RecoverRules.{recover_rules};
-
-    ghost rules = { recover_rules };
-
-    fn is_going(&self, layout: &Layout) -> bool {
-        let _layout = layout;
-        match self.stage {
-            RecoverStage::Answer(_) => false,
-            _ => true,
-        }
-    }
-
-    fn want(&self, layout: &Layout) -> Access<Place> {
-        let _layout = layout;
-        want(self)
-    }
-
-    fn got(&mut self, alloc: Global, layout: &Layout, word: u64) {
-        let (_alloc, _layout) = (alloc, layout);
-        got(self, word);
-        is_recovery(self);
-    }
-
-    fn law(&self, layout: &Layout) {
-        let _layout = layout;
-    }
 }
 
 // How the recovery ended, and the number of the process's next edit.
@@ -116,21 +84,15 @@ impl SharedSheet {
     pub fn recover<F: Fuse>(&self, alloc: Global, pass: &mut Pass, fuse: &mut F) -> Ended
         requires { IsOf self.now pass.old }
         ensures pass { IsOf self.now pass.new × (pass.new.process ≡ pass.old.process) }
-        ensures answered { IfAnswered result (λ a. (end : End) × Tells self.now.layout.processes (outcomes pass.old.place) (outcomes pass.new.place) (Recovered end) a) }
-        ensures stopped { IfStopped result (F.spent fuse.new) }
+        ensures answered { IfAnswered result (λ a. (e : PlainRecoverCall) × (end : End) × (e.process ≡ pass.old.process) × Tells self.now.board.layout pass.old pass.new (Recovered e end) a) }
+        ensures runs { IfAnswered result (λ a. (pass.new.stopped ≡ false) × (pass.new.number ≡ number_behind a)) }
+        ensures steps { IsAskedEachStep F.said fuse.old fuse.new pass.old pass.new result }
+        ensures stopped { IfStopped result ((e : PlainRecoverCall) × (e ≡ begun pass.old.process (cells_of self.now.board.layout) self.now.board.layout.processes) × BreaksOff recover_rules self.now.board.layout e pass.old pass.new) }
         ensures kept { (t : Told) → In (outcomes pass.old.place) t → In (outcomes pass.new.place) t }
         ensures refused { IfRefused result (λ r. ⊥) }
     {
-        let mut call = fresh(&self.layout, pass.process);
-        is_recovery(&call);
-        if !drive(
-            alloc,
-            &self.board.shared,
-            &self.layout,
-            &mut pass.place,
-            &mut call,
-            fuse,
-        ) {
+        let mut call = fresh(&self.board.layout, pass.process);
+        if !self.board.recover(alloc, &mut pass.place, &mut call, fuse) {
             pass.stopped = true;
             return Ended::Stopped;
         }

@@ -1,15 +1,16 @@
 //! A closed sheet is opened again.
 
-ghost use Rattle.std.specs.Prelude.{◌≡◌, ◌+◌, ◌*◌, ◌<◌, ◌≤◌, ℕ, [], true, length, IfOk, IfErr, All};
+ghost use Rattle.std.specs.Prelude.{◌≡◌, ◌*◌, ◌<◌, ◌≤◌, [], true, map, IfOk, IfErr, All};
+ghost use Rattle.std.specs.List.{range_with_len};
 ghost use Rattle.std.specs.Mem.Slots.{slots_items, slots_len};
-ghost use Rattle.ds_layout.specs.Places.{words_of};
-ghost use Rattle.ds_shared.specs.Rule.{Behind, AtRest};
-ghost use Rattle.ds_shared.specs.Known.{outcomes};
-ghost use Rattle.ds_shared.specs.Answers.{IsOf};
+ghost use Rattle.ds_drives.specs.Rule.{AreTrue, AtRest, Behind};
+ghost use Rattle.ds_shared.specs.Known.{outcomes, past_in};
+ghost use Rattle.ds_shared.specs.Answers.{IsFresh, IsOf, IsPastOf};
 
-use crate::board::{Behead, Board, Key};
-use crate::pass::Pass;
+use crate::pass::{Pass, Past};
+use crate::seats::dealt;
 use crate::sheet::{ClosedSheet, SharedSheet};
+use ds_drives::board::Board;
 use std::alloc::{AllocError, Global};
 
 impl ClosedSheet {
@@ -25,50 +26,44 @@ impl ClosedSheet {
         Ok(words)
     }
 
-    // A sheet with its words, and a stopped pass for each process.
-    fn opened(&self, alloc: Global) -> Result<(SharedSheet, Vec<Pass, Global>), AllocError>
-        requires { (b : Behind) × AtRest self.now.layout (slots_items self.now.table.words) b }
-        ensures layout { IfOk result (λ r. r.0.layout ≡ self.now.layout) }
-        ensures count { IfOk result (λ r. length r.1.items ≡ self.now.layout.processes) }
-        ensures fit { IfOk result (λ r. All (λ p. IsOf r.0 p × (p.stopped ≡ true) × (outcomes p.place ≡ [])) r.1.items) }
-    {
-        let layout = self.layout;
-        let words = self.copied(alloc)?;
-        let mut passes: Vec<Pass, Global> = Vec::with_capacity(alloc, layout.processes)?;
-        let key = Key {
-            layout,
-            stopped: true,
-        };
-        let (board, mut first) = Board::of_words(alloc, words.as_slice(), &key)?;
-        let _count = layout.words();
-        for process in 0..layout.processes {
-            let place = board.shared.split_seat::<Behead>(&mut first);
-            passes.push(Pass {
-                place,
-                process,
-                number: 0,
-                stopped: true,
-            })?;
-        }
-        Ok((SharedSheet { board, layout }, passes))
-    }
-
-    /// Opens a sheet with these words, in which every process has stopped, with a pass for each. It
-    /// asks for what `close` and `crash_with` leave: that a sound world at rest has the words. Where
-    /// memory is wanting the words are handed back.
-    pub fn reopen(self, alloc: Global) -> Result<(SharedSheet, Vec<Pass, Global>), ClosedSheet>
-        requires { (b : Behind) × AtRest self.layout (slots_items self.table.words) b }
-        ensures layout { IfOk result (λ r. r.0.layout ≡ self.layout) }
-        ensures count { IfOk result (λ r. length r.1.items ≡ self.layout.processes) }
-        ensures fit { IfOk result (λ r. All (λ p. IsOf r.0 p × (p.stopped ≡ true) × (outcomes p.place ≡ [])) r.1.items) }
+    /// Opens a sheet with these words, in which every process has stopped, with a pass for each, in
+    /// order. It asks for what `close` and `crash_with` leave: a sound world at rest has the words,
+    /// and what is remembered is true of it. It is the past of the new sheet. Where memory is
+    /// wanting the words are handed back.
+    pub fn reopen(
+        self,
+        alloc: Global,
+    ) -> Result<(SharedSheet, Past, Vec<Pass, Global>), ClosedSheet>
+        requires { (b : Behind) × AtRest self.layout (slots_items self.table.words) b × AreTrue self.layout (slots_items self.table.words) b (past_in self.before) }
+        ensures layout { IfOk result (λ r. r.0.board.layout ≡ self.layout) }
+        ensures order { IfOk result (λ r. map (λ p. p.process) r.2.items ≡ range_with_len 0 self.layout.processes) }
+        ensures fit { IfOk result (λ r. All (λ p. IsOf r.0 p × IsFresh true p) r.2.items) }
+        ensures past { IfOk result (λ r. IsPastOf r.0 r.1 × (past_in r.1.place ≡ past_in self.before)) }
         ensures back { IfErr result (λ c. c ≡ self) }
     {
-        match self.opened(alloc) {
-            Ok(opened) => {
-                self.free();
-                Ok(opened)
+        let Ok(words) = self.copied(alloc) else {
+            return Err(self);
+        };
+        let passes: Vec<Pass, Global> = match Vec::with_capacity(alloc, self.layout.processes) {
+            Ok(passes) => passes,
+            Err(_) => return Err(self),
+        };
+        let ClosedSheet {
+            table,
+            layout,
+            before,
+        } = self;
+        match Board::remake(alloc, layout, words.as_slice(), before) {
+            Ok((board, mut before)) => {
+                table.free();
+                let passes = dealt(&board, &mut before, true, passes);
+                Ok((SharedSheet { board }, Past { place: before }, passes))
             }
-            Err(_) => Err(self),
+            Err(before) => Err(ClosedSheet {
+                table,
+                layout,
+                before,
+            }),
         }
     }
 }

@@ -1,67 +1,79 @@
-//! A sheet is made with a pass for each process, and closed with all of them.
+//! A sheet is made with a pass for each process, and closed with passes.
 
-ghost use Rattle.std.specs.Prelude.{◌≡◌, ◌+◌, ◌*◌, ◌<◌, ◌≤◌, ℕ, [], length, IfOk, All, Contains};
-ghost use Rattle.std.specs.Mem.Slots.{slots_items, slots_len};
-ghost use Rattle.ds_layout.specs.Places.{words_of};
+ghost use Rattle.std.specs.Prelude.{◌≡◌, ◌+◌, ◌*◌, ◌<◌, ◌≤◌, ℕ, [], length, map, vec_capacity, Bool, true, false, IfOk, All, Contains};
+ghost use Rattle.std.specs.List.{range_with_len};
+ghost use Rattle.std.specs.Mem.Slots.{slots_items};
+ghost use Rattle.ds_drives.specs.declared.board.Seated.{Seated};
+ghost use Rattle.ds_drives.specs.Views.{In, sole, first_now, first_view};
+ghost use Rattle.ds_drives.specs.Rule.{Closes};
 ghost use Rattle.ds_shared.specs.declared.pass.Pass.{Pass};
-ghost use Rattle.ds_shared.specs.Rule.{In, Closes};
-ghost use Rattle.ds_shared.specs.Known.{outcomes};
-ghost use Rattle.ds_shared.specs.Answers.{IsOf};
+ghost use Rattle.ds_shared.specs.Known.{IsMemory, outcomes, past_in, steps_of};
+ghost use Rattle.ds_shared.specs.Answers.{IsFresh, IsOf, IsPastOf};
 
-use crate::board::{Behead, Board, Key, Unite};
-use crate::pass::Pass;
+use crate::pass::{Pass, Past};
 use crate::sheet::{ClosedSheet, SharedSheet};
+use ds_drives::board::{Board, Place};
 use ds_layout::layout::Layout;
 use std::alloc::{AllocError, Global};
 
+// A pass for each process, in order, off a seat that runs all of them before their first call.
+pub(crate) fn dealt(
+    board: &Board,
+    rest: &mut Place,
+    stopped: bool,
+    mut passes: Vec<Pass, Global>,
+) -> Vec<Pass, Global>
+    requires room { (passes.items ≡ []) × (board.now.layout.processes ≤ vec_capacity passes) }
+    requires rest { (rest.old.table_id ≡ board.now.table.shared.table_id) × (rest.old.me ≡ (first_view stopped board.now.layout.processes (past_in rest.old), [])) }
+    ensures rest { IsMemory rest.new × (past_in rest.new ≡ past_in rest.old) × (rest.new.table_id ≡ rest.old.table_id) }
+    ensures order { map (λ p. p.process) result.items ≡ range_with_len 0 board.now.layout.processes }
+    ensures fit { All (λ p. (p.place.table_id ≡ board.now.table.shared.table_id) × (p.process < board.now.layout.processes) × IsFresh stopped p) result.items }
+{
+    let processes = board.layout.processes;
+    for process in 0..processes {
+        let place = board.deal(rest, process, stopped);
+        passes.push_reserved(Pass {
+            place,
+            process,
+            number: 0,
+            stopped,
+        });
+    }
+    passes
+}
+
 impl SharedSheet {
-    /// A new sheet, and a pass for each process. An error is a want of memory.
+    /// A new sheet, whose words are all 0, with no past, and a pass for each process, in order:
+    /// between calls, and told nothing yet. An error is a want of memory.
     pub fn make(
         alloc: Global,
         layout: Layout,
-    ) -> Result<(SharedSheet, Vec<Pass, Global>), AllocError>
-        ensures layout { IfOk result (λ r. r.0.layout ≡ layout) }
-        ensures count { IfOk result (λ r. length r.1.items ≡ layout.processes) }
-        ensures fit { IfOk result (λ r. All (λ p. IsOf r.0 p × (outcomes p.place ≡ [])) r.1.items) }
+    ) -> Result<(SharedSheet, Past, Vec<Pass, Global>), AllocError>
+        ensures layout { IfOk result (λ r. r.0.board.layout ≡ layout) }
+        ensures order { IfOk result (λ r. map (λ p. p.process) r.2.items ≡ range_with_len 0 layout.processes) }
+        ensures fit { IfOk result (λ r. All (λ p. IsOf r.0 p × IsFresh false p) r.2.items) }
+        ensures past { IfOk result (λ r. IsPastOf r.0 r.1 × (past_in r.1.place ≡ [])) }
     {
-        let count = layout.words() * 2;
-        let words: Vec<u64, Global> = vec![in alloc; 0; count]?;
-        let mut passes: Vec<Pass, Global> = Vec::with_capacity(alloc, layout.processes)?;
-        let key = Key {
-            layout,
-            stopped: false,
-        };
-        let (board, mut first) = Board::of_words(alloc, words.as_slice(), &key)?;
-        for process in 0..layout.processes {
-            let place = board.shared.split_seat::<Behead>(&mut first);
-            passes.push(Pass {
-                place,
-                process,
-                number: 0,
-                stopped: false,
-            })?;
-        }
-        Ok((SharedSheet { board, layout }, passes))
+        let passes: Vec<Pass, Global> = Vec::with_capacity(alloc, layout.processes)?;
+        let (board, mut before) = Board::make(alloc, layout)?;
+        let passes = dealt(&board, &mut before, false, passes);
+        Ok((SharedSheet { board }, Past { place: before }, passes))
     }
 
-    /// Ends the sheet, with passes between calls or stopped in one. In a sound world that has its words
-    /// all processes have stopped, and what any of these passes was told is true of it.
-    pub fn close(self, mut passes: Vec<Pass, Global>) -> ClosedSheet
-        requires some { 0 < length passes.items }
+    /// Ends the sheet, with passes between calls or broken off in one. Its words are those of a sound
+    /// world in which each of these passes' processes does what its pass says; from there stops alone
+    /// lead to one at rest. All that these passes were told, and what was told before the sheet was
+    /// opened, is true of it, and is remembered.
+    pub fn close(self, past: Past, mut passes: Vec<Pass, Global>) -> ClosedSheet
+        requires past { IsPastOf self past }
         requires fit { All (λ p. IsOf self p) passes.items }
-        ensures layout { result.layout ≡ self.layout }
-        ensures stand { Closes self.layout (slots_items result.table.words) (λ q t. (p : Pass) × Contains passes.items p × (q ≡ p.process) × In (outcomes p.place) t) }
+        ensures layout { result.layout ≡ self.board.layout }
+        ensures handed { (p : Pass) → Contains passes.items p → In (past_in result.before) (sole p.place) }
+        ensures before { (e : Seated) → In (past_in past.place) e → In (past_in result.before) e }
+        ensures stand { Closes self.board.layout (slots_items result.table.words) (λ e. (p : Pass) × Contains passes.items p × (e ≡ sole p.place)) (past_in result.before) }
     {
-        let SharedSheet { board, layout } = self;
-        let Some(last) = passes.pop() else {
-            unreachable!()
-        };
-        let Pass {
-            place: mut seat,
-            process: _,
-            number: _,
-            stopped: _,
-        } = last;
+        let SharedSheet { board } = self;
+        let Past { place: mut seat } = past;
         while let Some(pass) = passes.pop() {
             let Pass {
                 place,
@@ -69,11 +81,14 @@ impl SharedSheet {
                 number: _,
                 stopped: _,
             } = pass;
-            board.shared.join_seat::<Unite>(&mut seat, place);
+            board.join(&mut seat, place);
         }
+        let layout = board.layout;
+        let (table, before) = board.close(seat);
         ClosedSheet {
-            table: board.close_with(seat),
+            table,
             layout,
+            before,
         }
     }
 }

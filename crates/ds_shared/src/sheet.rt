@@ -1,11 +1,12 @@
 //! The shared sheet.
 
-ghost use Rattle.std.specs.Prelude.{◌≡◌, ◌+◌, ◌*◌, ◌<◌, slice_index, slice_set, length, IfOk};
+ghost use Rattle.std.specs.Prelude.{◌≡◌, ◌+◌, ◌*◌, ◌<◌, ℕ, false, slice_index, slice_index_or, slice_set, length, IfOk};
 ghost use Rattle.std.specs.Mem.Slots.{slots_items, slots_len, IsFull};
 ghost use Rattle.ds_layout.specs.Places.{words_of};
+ghost use Rattle.ds_shared.specs.Known.{past_in};
 
-use crate::board::Board;
 use atomic_table::Closed;
+use ds_drives::board::{self, Board};
 use ds_eval::value::Value;
 use ds_formula::cells::Cell;
 use ds_layout::layout::Layout;
@@ -18,21 +19,20 @@ use std::alloc::{AllocError, Global};
 #[derive(Drop)]
 pub struct SharedSheet {
     pub(crate) board: Board,
-    pub(crate) layout: Layout,
-    pub ghost sized: { (board.shared.table_id.words ≡ 2 * words_of layout) × (board.shared.key.layout ≡ layout) × (board.shared.table_id.slots ≡ 0) },
 }
 
-/// The words, once no seat is left. Call `free` at the end.
+/// The words, once no seat is left. It remembers what was told. Call `free` at the end.
 pub struct ClosedSheet {
     pub(crate) table: Closed<u8, Global>,
     pub(crate) layout: Layout,
+    pub(crate) before: board::Place,
     pub ghost full: { IsFull table.words × (slots_len table.slots ≡ 0) },
     pub ghost sized: { slots_len table.words ≡ 2 * words_of layout },
 }
 
 impl SheetReader for ClosedSheet {
     ghost use Rattle.ds_layout.specs.SheetMemory.{memory_at};
-    ghost use Rattle.ds_shared.specs.Table.{two_sided};
+    ghost use Rattle.ds_drives.specs.Table.{two_sided};
     ghost use Rattle.std.specs.Prelude.{[]};
 
     ghost sheet = { λ s. s.layout };
@@ -54,7 +54,7 @@ impl ClosedSheet {
     ghost use Rattle.ds_state.specs.Shown.{last_text};
     ghost use Rattle.ds_state.specs.World.{of_cell};
     ghost use Rattle.ds_state.specs.Sound.{IsSound};
-    ghost use Rattle.ds_shared.specs.Rule.{Behind, world_on};
+    ghost use Rattle.ds_drives.specs.Rule.{Behind, world_on};
 
     /// The text of a cell: that of the last of its edits that count. An error is a want of memory.
     pub fn text_of(&self, alloc: Global, cell: Cell) -> Result<Vec<u8>, AllocError>
@@ -75,7 +75,11 @@ impl ClosedSheet {
 
     /// Gives the memory back.
     pub fn free(self) {
-        let ClosedSheet { table, layout: _ } = self;
+        let ClosedSheet {
+            table,
+            layout: _,
+            before: _,
+        } = self;
         table.free();
     }
 }
@@ -84,8 +88,8 @@ impl ClosedSheet {
     ghost use Rattle.ds_formula.specs.Cells.{IsInside, index_of};
     ghost use Rattle.ds_layout.specs.SheetMemory.{memory_at};
     ghost use Rattle.ds_state.specs.Shown.{mark_at, value_at};
-    ghost use Rattle.ds_shared.specs.Table.{two_sided};
-    ghost use Rattle.ds_shared.specs.Rule.{Behind, AtRest, Survives};
+    ghost use Rattle.ds_drives.specs.Table.{two_sided};
+    ghost use Rattle.ds_drives.specs.Rule.{Behind, AtRest, Survives, HasSideLeft};
     ghost use Rattle.std.specs.Prelude.{[]};
 
     /// The value of a cell, as its words show it.
@@ -108,7 +112,7 @@ impl ClosedSheet {
     fn set_word(&mut self, number: usize, value: u64)
         requires { number < slots_len self.old.table.words }
         ensures words { slots_items self.new.table.words ≡ slice_set (slots_items self.old.table.words) number value }
-        ensures layout { self.new.layout ≡ self.old.layout }
+        ensures layout { (self.new.layout ≡ self.old.layout) × (self.new.before ≡ self.old.before) }
     {
         self.table.words.put(number, value);
     }
@@ -127,6 +131,8 @@ impl ClosedSheet {
     pub fn crash_with(&mut self, choice: &[bool])
         requires { length choice.now ≡ words_of self.old.layout }
         ensures layout { self.new.layout ≡ self.old.layout }
+        ensures before { past_in self.new.before ≡ past_in self.old.before }
+        ensures words { (n : ℕ) → n < words_of self.old.layout → HasSideLeft (slice_index_or choice.now n false) (slots_items self.old.table.words) (slots_items self.new.table.words) n }
         ensures survives { (b : Behind) → AtRest self.old.layout (slots_items self.old.table.words) b → Survives self.old.layout (slots_items self.old.table.words) (slots_items self.new.table.words) b }
     {
         for number in 0..self.layout.words() {

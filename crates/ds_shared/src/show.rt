@@ -1,35 +1,31 @@
 //! Reports of the shared sheet.
 
-ghost use Rattle.std.specs.Prelude.{◌<◌, ◌≤◌, ◌≡◌, MatchBool, length, vec_capacity};
+ghost use Rattle.std.specs.Prelude.{◌<◌, ◌≤◌, ◌≡◌, length, vec_capacity, None, false};
 ghost use Rattle.ds_layout.specs.Places.{cells_of};
 ghost use Rattle.ds_state.specs.Works.{PlainShowCall};
 ghost use Rattle.ds_state.specs.ShowStages.{IsShow};
 ghost use Rattle.ds_state.specs.KnownShow.{values_of, noted};
+ghost use Rattle.ds_show.specs.ShowSteps.{fresh as begun};
 ghost use Rattle.ds_work.specs.WorkTakes.{RefusesIn};
-ghost use Rattle.ds_shared.specs.declared.board.Told.{Told};
-ghost use Rattle.ds_shared.specs.declared.board.Told.TheVariants.{Shown};
-ghost use Rattle.ds_shared.specs.ShowRules.{IsEnded};
-ghost use Rattle.ds_shared.specs.Rule.{In, ReportHolds};
+ghost use Rattle.ds_drives.specs.declared.board.Told.{Told};
+ghost use Rattle.ds_drives.specs.declared.board.Told.TheVariants.{Shown};
+ghost use Rattle.ds_drives.specs.ShowRules.{IsEnded, show_rules};
+ghost use Rattle.ds_drives.specs.Views.{In};
 ghost use Rattle.ds_shared.specs.Known.{outcomes};
-ghost use Rattle.ds_shared.specs.Answers.{IsOf, IfAnswered, IfRefused, IfStopped, ShowsValues, Tells, show_answer, doing};
+ghost use Rattle.ds_shared.specs.Answers.{IsOf, IfAnswered, IfRefused, IfStopped, IsAskedEachStep, BreaksOff, ShowsValues, Tells, show_answer, doing};
 
-use crate::drive::drive;
 use crate::ended::Ended;
-use crate::fuse::Fuse;
-use crate::machine::Machine;
 use crate::pass::Pass;
 use crate::sheet::SharedSheet;
+use ds_drives::fuse::Fuse;
 use ds_edit::answer::Answer;
 use ds_eval::value::Value;
-use ds_layout::layout::Layout;
 use ds_layout::place::Place;
 use ds_layout::stored::Stored;
 use ds_show::begin::fresh;
-use ds_show::machine::{got, want};
 use ds_state::refusal::Refusal;
 use ds_state::shown::shown;
 use ds_state::work::{ShowCall, ShowEnd, ShowStage};
-use ds_words::access::Access;
 use std::alloc::Global;
 
 // It is a report of a sheet.
@@ -37,35 +33,6 @@ fn is_show(call: &ShowCall)
     ensures { IsShow call.now }
 {
     let _stage = call.stage;
-}
-
-impl Machine for ShowCall {
-    ghost use Rattle.ds_shared.specs.ShowRules.{show_rules};
-
-    ghost rules = { show_rules };
-
-    fn is_going(&self, layout: &Layout) -> bool {
-        let _layout = layout;
-        match self.stage {
-            ShowStage::Answer(_) => false,
-            _ => true,
-        }
-    }
-
-    fn want(&self, layout: &Layout) -> Access<Place> {
-        let _layout = layout;
-        want(self)
-    }
-
-    fn got(&mut self, alloc: Global, layout: &Layout, word: u64) {
-        let (_alloc, _layout) = (alloc, layout);
-        got(self, word);
-        is_show(self);
-    }
-
-    fn law(&self, layout: &Layout) {
-        let _layout = layout;
-    }
 }
 
 // The answer of a report at its end.
@@ -128,36 +95,29 @@ impl SharedSheet {
     ) -> (Ended, Option<Vec<Value>>)
         requires { IsOf self.now pass.old }
         ensures pass { IsOf self.now pass.new × (pass.new.process ≡ pass.old.process) }
-        ensures answered { IfAnswered result.0 (λ a. (e : PlainShowCall) × Tells self.now.layout.processes (outcomes pass.old.place) (outcomes pass.new.place) (Shown e) a × ShowsValues e result.1 × ReportHolds self.now.layout pass.old.process (outcomes pass.old.place) e e.stage) }
-        ensures stopped { IfStopped result.0 (F.spent fuse.new) }
+        ensures answered { IfAnswered result.0 (λ a. (e : PlainShowCall) × (e.process ≡ pass.old.process) × Tells self.now.board.layout pass.old pass.new (Shown e) a × ShowsValues e result.1) }
+        ensures runs { IfAnswered result.0 (λ a. (pass.new.stopped ≡ false) × (pass.new.number ≡ pass.old.number)) }
+        ensures steps { IsAskedEachStep F.said fuse.old fuse.new pass.old pass.new result.0 }
+        ensures stopped { IfStopped result.0 ((result.1 ≡ None) × ((e : PlainShowCall) × (e ≡ begun pass.old.process pass.old.number (cells_of self.now.board.layout) self.now.board.layout.processes) × BreaksOff show_rules self.now.board.layout e pass.old pass.new)) }
         ensures kept { (t : Told) → In (outcomes pass.old.place) t → In (outcomes pass.new.place) t }
         ensures refused { IfRefused result.0 (λ r. RefusesIn (doing pass.old.stopped pass.old.number) r) }
-        ensures unchanged { IfRefused result.0 (λ r. pass.new ≡ pass.old) }
+        ensures unchanged { IfRefused result.0 (λ r. (pass.new ≡ pass.old) × (result.1 ≡ None)) }
     {
         if pass.stopped {
             return (Ended::Refused(Refusal::Stopped), None);
         }
-        let values = match Vec::with_capacity(alloc, self.layout.cells()) {
+        let values = match Vec::with_capacity(alloc, self.board.layout.cells()) {
             Ok(values) => values,
             Err(_) => return (Ended::Refused(Refusal::NoMemory), None),
         };
-        let mut call = match fresh(alloc, &self.layout, pass.process, pass.number) {
+        let mut call = match fresh(alloc, &self.board.layout, pass.process, pass.number) {
             Ok(call) => call,
             Err(_) => return (Ended::Refused(Refusal::NoMemory), None),
         };
-        is_show(&call);
-        if !drive(
-            alloc,
-            &self.board.shared,
-            &self.layout,
-            &mut pass.place,
-            &mut call,
-            fuse,
-        ) {
+        if !self.board.show(alloc, &mut pass.place, &mut call, fuse) {
             pass.stopped = true;
             return (Ended::Stopped, None);
         }
-        is_show(&call);
         (Ended::Answered(answer(&call)), read_off(&call, values))
     }
 }

@@ -1,13 +1,14 @@
-ghost use Rattle.std.specs.Prelude.{◌≡◌, ◌<◌, All, IfSome};
+ghost use Rattle.std.specs.Prelude.{◌≡◌, ◌+◌, ◌<◌, All, IfSome};
 ghost use Rattle.std.specs.Mem.Slots.{slots_items};
-ghost use Rattle.ds_shared.specs.Rule.{Behind, AtRest};
+ghost use Rattle.ds_drives.specs.Rule.{AreTrue, AtRest, Behind};
+ghost use Rattle.ds_shared.specs.Known.{past_in};
 ghost use Rattle.ds_formula.specs.Cells.{IsInside};
-ghost use Rattle.ds_shared.specs.Answers.{IsOf};
+ghost use Rattle.ds_shared.specs.Answers.{IsOf, IsPastOf};
 
 use crate::ended::Ended;
-use crate::fuse::{Fuse, Whole};
-use crate::pass::Pass;
+use crate::pass::{Pass, Past};
 use crate::sheet::{ClosedSheet, SharedSheet};
+use ds_drives::fuse::{Fuse, Whole};
 use ds_edit::answer::Answer;
 use ds_eval::value::Value;
 use ds_formula::cells::{Cell, Shape};
@@ -23,7 +24,7 @@ struct Times {
 }
 
 impl Fuse for Times {
-    ghost spent = { λ f. f.left ≡ 0 };
+    ghost said = { λ first now yeses noes. first.left ≡ now.left + yeses };
 
     fn go(&mut self) -> bool {
         if self.left == 0 {
@@ -45,9 +46,9 @@ fn two(sheet: &SharedSheet, mut passes: Vec<Pass, Global>) -> Option<(Pass, Pass
 }
 
 // A sheet of two columns, two rows and two processes.
-fn opened(alloc: Global) -> Option<(SharedSheet, Pass, Pass, Cell, Cell)>
-    ensures passes { IfSome result (λ r. IsOf r.0 r.1 × IsOf r.0 r.2) }
-    ensures cells { IfSome result (λ r. IsInside r.0.layout.shape r.3 × IsInside r.0.layout.shape r.4) }
+fn opened(alloc: Global) -> Option<(SharedSheet, Past, Pass, Pass, Cell, Cell)>
+    ensures passes { IfSome result (λ r. IsPastOf r.0 r.1 × IsOf r.0 r.2 × IsOf r.0 r.3) }
+    ensures cells { IfSome result (λ r. IsInside r.0.board.layout.shape r.4 × IsInside r.0.board.layout.shape r.5) }
 {
     let shape = Shape::new(2, 2)?;
     let layout = Layout::new(shape, 2)?;
@@ -56,19 +57,26 @@ fn opened(alloc: Global) -> Option<(SharedSheet, Pass, Pass, Cell, Cell)>
         return None;
     }
     match SharedSheet::make(alloc, layout) {
-        Ok((sheet, passes)) => {
+        Ok((sheet, past, passes)) => {
             let (first, second) = two(&sheet, passes)?;
-            Some((sheet, first, second, a, b))
+            Some((sheet, past, first, second, a, b))
         }
         Err(_) => None,
     }
 }
 
 // The sheet is closed with both passes.
-fn ended(alloc: Global, sheet: SharedSheet, first: Pass, second: Pass) -> Option<ClosedSheet>
+fn ended(
+    alloc: Global,
+    sheet: SharedSheet,
+    past: Past,
+    first: Pass,
+    second: Pass,
+) -> Option<ClosedSheet>
+    requires past { IsPastOf sheet past }
     requires first { IsOf sheet first }
     requires second { IsOf sheet second }
-    ensures { IfSome result (λ c. (c.layout ≡ sheet.layout) × ((b : Behind) × AtRest c.layout (slots_items c.table.words) b)) }
+    ensures { IfSome result (λ c. (c.layout ≡ sheet.board.layout) × ((b : Behind) × AtRest c.layout (slots_items c.table.words) b × AreTrue c.layout (slots_items c.table.words) b (past_in c.before))) }
 {
     let mut passes: Vec<Pass, Global> = match Vec::with_capacity(alloc, 2) {
         Ok(passes) => passes,
@@ -77,7 +85,7 @@ fn ended(alloc: Global, sheet: SharedSheet, first: Pass, second: Pass) -> Option
     if passes.push(first).is_err() || passes.push(second).is_err() {
         return None;
     }
-    Some(sheet.close(passes))
+    Some(sheet.close(past, passes))
 }
 
 // Edits a cell so often, and counts the answers Done and Overtaken.
@@ -88,7 +96,7 @@ fn many(
     cell: Cell,
     times: u64,
 ) -> (Pass, u64, u64)
-    requires { IsOf sheet.now pass × IsInside sheet.now.layout.shape cell }
+    requires { IsOf sheet.now pass × IsInside sheet.now.board.layout.shape cell }
     ensures { IsOf sheet.now result.0 }
 {
     let mut done: u64 = 0;
@@ -117,17 +125,17 @@ fn race<R: Threads + Sync>(
     times: u64,
 ) -> ((Pass, u64, u64), (Pass, u64, u64))
     requires passes { IsOf sheet.now first × IsOf sheet.now second }
-    requires cells { IsInside sheet.now.layout.shape a × IsInside sheet.now.layout.shape b }
+    requires cells { IsInside sheet.now.board.layout.shape a × IsInside sheet.now.board.layout.shape b }
     ensures { IsOf sheet.now result.0.0 × IsOf sheet.now result.1.0 }
 {
     join(
         rt,
         || -> (Pass, u64, u64)
-            requires { IsOf sheet.now first × IsInside sheet.now.layout.shape a }
+            requires { IsOf sheet.now first × IsInside sheet.now.board.layout.shape a }
             ensures { IsOf sheet.entry.now result.0 }
         { many(alloc, sheet, first, a, times) },
         || -> (Pass, u64, u64)
-            requires { IsOf sheet.now second × IsInside sheet.now.layout.shape b }
+            requires { IsOf sheet.now second × IsInside sheet.now.board.layout.shape b }
             ensures { IsOf sheet.entry.now result.0 }
         { many(alloc, sheet, second, b, times) },
     )
@@ -135,11 +143,11 @@ fn race<R: Threads + Sync>(
 
 #[test]
 fn threads_edit_cells_of_their_own(rt: HostRuntime) -> Result<(), Fail> {
-    let Some((sheet, first, second, a, b)) = opened(rt.alloc()) else {
+    let Some((sheet, past, first, second, a, b)) = opened(rt.alloc()) else {
         return Ok(());
     };
     let (x, y) = race(&rt, rt.alloc(), &sheet, first, second, a, b, 100);
-    let Some(closed) = ended(rt.alloc(), sheet, x.0, y.0) else {
+    let Some(closed) = ended(rt.alloc(), sheet, past, x.0, y.0) else {
         return Ok(());
     };
     let one = closed.cached(Place::Head(0));
@@ -155,11 +163,11 @@ fn threads_edit_cells_of_their_own(rt: HostRuntime) -> Result<(), Fail> {
 
 #[test]
 fn threads_edit_one_cell(rt: HostRuntime) -> Result<(), Fail> {
-    let Some((sheet, first, second, a, _b)) = opened(rt.alloc()) else {
+    let Some((sheet, past, first, second, a, _b)) = opened(rt.alloc()) else {
         return Ok(());
     };
     let (x, y) = race(&rt, rt.alloc(), &sheet, first, second, a, a, 100);
-    let Some(closed) = ended(rt.alloc(), sheet, x.0, y.0) else {
+    let Some(closed) = ended(rt.alloc(), sheet, past, x.0, y.0) else {
         return Ok(());
     };
     let head = closed.cached(Place::Head(0));
@@ -173,7 +181,7 @@ fn threads_edit_one_cell(rt: HostRuntime) -> Result<(), Fail> {
 // Works on both cells once.
 fn work_all(alloc: Global, sheet: &SharedSheet, pass: &mut Pass, a: Cell, b: Cell)
     requires pass { IsOf sheet.now pass.old }
-    requires cells { IsInside sheet.now.layout.shape a × IsInside sheet.now.layout.shape b }
+    requires cells { IsInside sheet.now.board.layout.shape a × IsInside sheet.now.board.layout.shape b }
     ensures { IsOf sheet.now pass.new }
 {
     let _first = sheet.work(alloc, pass, a, &mut Whole);
@@ -191,20 +199,20 @@ fn shows(value: i64) -> [Value; 4] {
 
 #[test]
 fn a_write_is_read_back(rt: HostRuntime) -> Result<(), Fail> {
-    let Some((sheet, first, mut second, a, b)) = opened(rt.alloc()) else {
+    let Some((sheet, past, first, mut second, a, b)) = opened(rt.alloc()) else {
         return Ok(());
     };
     let (first, done) = join(
         &rt,
         || -> (Pass, u64, u64)
-            requires { IsOf sheet first × IsInside sheet.layout.shape a }
+            requires { IsOf sheet first × IsInside sheet.board.layout.shape a }
             ensures { IsOf sheet result.0 }
         { many(rt.alloc(), &sheet, first, a, 1) },
         || true,
     );
     work_all(rt.alloc(), &sheet, &mut second, a, b);
     let (said, values) = sheet.show(rt.alloc(), &mut second, &mut Whole);
-    let Some(closed) = ended(rt.alloc(), sheet, first.0, second) else {
+    let Some(closed) = ended(rt.alloc(), sheet, past, first.0, second) else {
         return Ok(());
     };
     let value = closed.value_of(a);
@@ -221,7 +229,7 @@ fn a_write_is_read_back(rt: HostRuntime) -> Result<(), Fail> {
 // A record that was never announced is written again.
 #[test]
 fn a_record_is_taken_back(rt: HostRuntime) -> Result<(), Fail> {
-    let Some((sheet, mut first, mut second, a, b)) = opened(rt.alloc()) else {
+    let Some((sheet, _past, mut first, mut second, a, b)) = opened(rt.alloc()) else {
         return Ok(());
     };
     let broken = sheet.edit(rt.alloc(), &mut first, a, b"1", &mut Times { left: 6 });
@@ -242,17 +250,17 @@ fn a_record_is_taken_back(rt: HostRuntime) -> Result<(), Fail> {
 // An edit under a fuse of so many steps, a crash that leaves one side of every word, and what both
 // recoveries tell.
 fn broken_off(alloc: Global, steps: u64, cached: bool) -> Option<(Ended, Ended, Ended)> {
-    let (sheet, mut first, second, a, _b) = opened(alloc)?;
+    let (sheet, past, mut first, second, a, _b) = opened(alloc)?;
     let edited = sheet.edit(alloc, &mut first, a, b"7", &mut Times { left: steps });
-    let count = sheet.layout.words();
+    let count = sheet.board.layout.words();
     let choice: Vec<bool, Global> = match vec![in alloc; cached; count] {
         Ok(choice) => choice,
         Err(_) => return None,
     };
-    let mut closed = ended(alloc, sheet, first, second)?;
+    let mut closed = ended(alloc, sheet, past, first, second)?;
     closed.crash_with(choice.as_slice());
     match closed.reopen(alloc) {
-        Ok((sheet, passes)) => {
+        Ok((sheet, _past, passes)) => {
             let (mut first, mut second) = two(&sheet, passes)?;
             let one = sheet.recover(alloc, &mut first, &mut Whole);
             let two = sheet.recover(alloc, &mut second, &mut Whole);

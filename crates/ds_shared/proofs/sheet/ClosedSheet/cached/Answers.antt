@@ -1,6 +1,6 @@
 use Rattle.std.proofs.Common.{◌≡◌, ◌∙◌, ◌*◌, ℕ, ap, arith, get_or}
 use Rattle.std.specs.Mem.Slots.{slots_items}
-use Rattle.ds_shared.proofs.Dealt.{elem_index}
+use Rattle.ds_shared.proofs.Ordered.{elem_index}
 use Rattle.ds_shared.proofs.sheet.ClosedSheet.cached.Goals as goal
 
 pub returns : goal.returns

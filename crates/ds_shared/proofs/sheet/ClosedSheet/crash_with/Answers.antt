@@ -4,9 +4,16 @@ use Rattle.std.specs.Mem.Slots.{slots_items, slots_counts}
 use Rattle.ds_shared.proofs.Powerless.{survives}
 use Rattle.ds_shared.proofs.sheet.ClosedSheet.crash_with.Goals as goal
 
+pub returns-clause-words : goal.returns-clause-words
+returns-clause-words c = λ n low.
+    let i = c.loop-number.invariant.3 in
+    let end = c.words-number-end.ensures.value in
+    let over = c.loop-number-test.false in
+    i.done n (omega arith)
+
 pub returns-clause-survives : goal.returns-clause-survives
 returns-clause-survives c = λ b rests.
-    let i = c.loop-number.invariant.2 in
+    let i = c.loop-number.invariant.3 in
     let end = c.words-number-end.ensures.value in
     let over = c.loop-number-test.false in
     survives c.args.self.now.layout (λ n. get_or c.args.choice.now n false) (slots_items c.args.self.now.table.words)

@@ -1,5 +1,5 @@
 use Rattle.std.specs.Mem.Slots.{slots_items}
-use Rattle.ds_shared.proofs.Dealt.{elem_index}
+use Rattle.ds_shared.proofs.Ordered.{elem_index}
 use Rattle.ds_shared.proofs.sheet.ClosedSheet.side.Goals as goal
 
 pub returns : goal.returns

@@ -1,8 +1,8 @@
 use Rattle.std.proofs.Common.{◌≡◌, ◌∙◌, ◌*◌, ℕ, [], sym, ap, arith, get_or}
 use Rattle.std.specs.Mem.Slots.{slots_items}
 use Rattle.ds_layout.proofs.Sheet.{side_at_place}
-use Rattle.ds_shared.specs.Table.{two_sided}
-use Rattle.ds_shared.proofs.Dealt.{elem_index}
+use Rattle.ds_drives.specs.Table.{two_sided}
+use Rattle.ds_shared.proofs.Ordered.{elem_index}
 use Rattle.ds_shared.proofs.sheet.ClosedSheetSheetReader.load.Goals as goal
 
 pub returns : goal.returns

@@ -1,33 +1,44 @@
-use Rattle.std.proofs.Common.{rules, ◌≡◌, ap, subst, ◌<◌, ℕ, arith, Contains, Some}
-use Rattle.std.proofs.lemmas.List.Elements.{All-pop}
+use Rattle.std.proofs.Common.{rules, ◌≡◌, ◌∙◌, ap, subst, sym, ◌<◌, ◌++◌, ℕ, arith, Contains, Some, List, [], ◌∷◌, inl, inr}
+use Rattle.std.proofs.lemmas.List.Elements.{All-pop, Contains-append_left, Contains-append_right}
+use Rattle.ds_drives.specs.declared.board.Seated.{Seated}
+use Rattle.ds_drives.specs.declared.board.View.{View}
+use Rattle.ds_drives.specs.Views.{In, sole}
+use Rattle.ds_drives.proofs.Dealt.{in_left, in_right}
 use Rattle.ds_shared.specs.declared.pass.Pass.{Pass}
-use Rattle.std.specs.Mem.Slots.{slots_items}
-use Rattle.ds_layout.specs.declared.layout.Layout.{Layout}
-use Rattle.ds_shared.specs.Known.{outcomes}
-use Rattle.ds_shared.specs.Rule.{In, Closes}
-use Rattle.ds_shared.proofs.Dealt.{joins, popped, none_left, ended}
-use Rattle.ds_shared.proofs.Driving.{some_words}
+use Rattle.ds_shared.proofs.Joined.{IsTaken, AreOf, popped, still_of, none_left, past_kept, still_there, last_there}
 use Rattle.ds_shared.proofs.sheet.SharedSheet.close.Goals as goal
 
-pub join_seat-requires : goal.join_seat-requires
-join_seat-requires c = let mine = (All-pop (λ (p : Pass). p.place.table_id ≡ c.args.self.board.shared.table_id) _ _ (Some c.in-Some-pop.pass) c.in-Some-pop.ensures.items c.loop-pass.invariant.1).1 in
-    let some : 0 < c.args.self.board.shared.table_id.words = (let a = c.args.self.sized.0 in let n = some_words c.args.self.layout in omega arith) in
-    (c.loop-pass.invariant.0, mine, ap (λ m. m.1) c.in-Some-pop.pass.known.alone, some, joins {S = ℕ} _ _ _ _ _)
-
 pub loop-pass-preserved : goal.loop-pass-preserved
-loop-pass-preserved c = (
-  search rules,
-  (All-pop (λ (p : Pass). p.place.table_id ≡ c.args.self.board.shared.table_id) _ _ (Some c.in-Some-pop.pass) c.in-Some-pop.ensures.items c.loop-pass.invariant.1).0,
-  λ p there. rw (ap (λ m. m.0) c.join_seat.ensures.2) (popped _ _ _ _ _ c.in-Some-pop.ensures.items (c.loop-pass.invariant.2 p there)),
-)
+loop-pass-preserved c =
+    let i = c.loop-pass.invariant in
+    let joined = c.join.ensures.1 in
+    let view = ap (λ m. m.0) joined in
+    let here = i.4 c.in-Some.pass (last_there _ _ _ c.in-Some.ensures.items) in (
+      c.join.ensures.0 ∙ i.0,
+      ap (λ m. m.1) joined ∙ i.1,
+      (All-pop (λ (p : Pass). p.place.table_id ≡ c.args.self.board.table.shared.table_id) _ _ (Some c.in-Some.pass) c.in-Some.ensures.items i.2).0,
+      (λ p there. rw view (popped _ _ _ p c.loop-pass.seat.me.0 c.in-Some.ensures.items (i.3 p there))),
+      (λ p there. i.4 p (still_there _ _ _ p c.in-Some.ensures.items there)),
+      subst (λ (v : View). AreOf c.args.passes.items v) (sym view) (still_of c.args.passes.items c.in-Some.pass c.loop-pass.seat.me.0 here i.5),
+      (λ e inside. subst (λ (v : View). In v.past e) (sym view) (past_kept c.loop-pass.seat.me.0 c.in-Some.pass.place.me.0 e (i.6 e inside))),
+    )
+
+pub returns-clause-handed : goal.returns-clause-handed
+returns-clause-handed c = λ p there.
+    subst (λ (es : List Seated). In es (sole p.place)) (sym c.close-table.ensures.past) (in_right _ _ (sole p.place) (none_left _ p c.loop-pass.seat.me.0 (search rules) (c.loop-pass.invariant.3 p there)))
+
+pub returns-clause-before : goal.returns-clause-before
+returns-clause-before c = λ e inside.
+    subst (λ (es : List Seated). In es e) (sym c.close-table.ensures.past) (in_left _ _ e (c.loop-pass.invariant.6 e inside))
 
 pub returns-clause-stand : goal.returns-clause-stand
 returns-clause-stand c =
-    let e = ended _ _ _ _ _ c.close_with.ensures.values.2 in
-    let key : c.args.self.board.shared.key.layout ≡ c.args.self.layout = c.args.self.sized.1 in
-    subst (λ (l : Layout). Closes l (slots_items c.close_with.result.words) (λ q d. (p : Pass) × Contains c.args.passes.items p × (q ≡ p.process) × In (outcomes p.place) d)) key
-    (record {
-      behind = e.behind;
-      rests = e.rests;
-      told = λ q d t. e.told q d (none_left _ t.0 _ (search rules) (c.loop-pass.invariant.2 t.0 t.1) q d (t.2, t.3));
-    })
+    let s = c.close-table.ensures.stand in record {
+      last = s.last;
+      sound = s.sound;
+      stands = λ e t. s.stands e (subst (λ (x : Seated). In c.loop-pass.seat.me.0.entries x) (sym t.2) (none_left _ t.0 c.loop-pass.seat.me.0 (search rules) (c.loop-pass.invariant.3 t.0 t.1)));
+      behind = s.behind;
+      stops = s.stops;
+      rests = s.rests;
+      told = λ e d inside here. s.told e d (subst (λ (es : List Seated). In es e) c.close-table.ensures.past inside) here;
+    }

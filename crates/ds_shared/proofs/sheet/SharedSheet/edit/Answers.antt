@@ -1,15 +1,14 @@
-use Rattle.std.proofs.Common.{rules, ◌∙◌, sym, ap, ℕ}
-use Rattle.ds_shared.proofs.Passing.{sits}
-use Rattle.ds_shared.proofs.Edits.{edit_begins}
-use Rattle.ds_shared.specs.Known.{sole}
-use Rattle.ds_state.specs.World.{PlainEdit}
+use Rattle.std.proofs.Common.{rules, refl, ap}
+use Rattle.ds_drives.specs.EditRules.{edit_rules}
+use Rattle.ds_shared.proofs.Passing.{broken_done, broken_view}
 use Rattle.ds_shared.proofs.sheet.SharedSheet.edit.Goals as goal
 
-pub drive-requires-clause-poised : goal.drive-requires-clause-poised
-drive-requires-clause-poised g c =
+pub returns-then-not-edit-clause-stopped : goal.returns-then-not-edit-clause-stopped
+returns-then-not-edit-clause-stopped g c =
     let asked = c.in-Ok.ensures.asked in
-    let own = ap (λ (z : PlainEdit). z.process) asked.asked in
-    let number = ap (λ (z : PlainEdit). z.number) asked.asked in
-    let known = c.args.pass.now.known in
-    sits c.args.self.now.layout c.args.pass.now.place _ _ _ _ _ known own
-    (edit_begins c.args.self.now.layout (sole c.args.pass.now.place) c.in-Ok.begun.0 (known.idle (search rules) ∙ ap (λ (n : ℕ). Rattle.ds_state.specs.declared.situation.Situation.TheVariants.Idle n) (sym number)) asked.is asked.sheet asked.refs c.in-Ok.ensures.first)
+    let b = c.if-not-edit.ensures.me in (
+      c.in-Ok.begun.0,
+      record { is = asked.is; sheet = asked.sheet; refs = asked.refs; first = c.in-Ok.ensures.first },
+      asked.asked,
+      record { stopped = refl; told = ap (λ d. d.told) (broken_done _ _ _ _ _ _ b.2); view = broken_view _ _ _ _ _ _ b.2 },
+    )

@@ -1,15 +1,11 @@
-use Rattle.std.proofs.Common.{rules}
-use Rattle.ds_state.specs.declared.situation.Situation.TheVariants.{Working}
-use Rattle.ds_shared.proofs.Passing.{sits}
-use Rattle.ds_shared.proofs.Works.{work_begins}
-use Rattle.ds_shared.specs.Known.{sole}
+use Rattle.std.proofs.Common.{rules, refl, ap}
+use Rattle.ds_shared.proofs.Passing.{broken_done, broken_view}
 use Rattle.ds_shared.proofs.sheet.SharedSheet.work.Goals as goal
 
-pub drive-requires-clause-poised : goal.drive-requires-clause-poised
-drive-requires-clause-poised g c =
-    let l = c.args.self.now.layout in
-    let s = c.args.pass.now.place in
-    let known = c.args.pass.now.known in
-    let asked = c.in-Ok.ensures in
-    sits l s _ _ _ c.in-Ok.call.process (Working c.in-Ok.call) known asked.process_is
-    (work_begins l (sole s) _ _ c.in-Ok.call (known.idle (search rules)) (record { process_is = λ i. c.in-Ok.call.process; next_is = asked.next_is; cell_is = asked.cell_is; cells = asked.cells; processes = asked.processes; inside = asked.inside; first = asked.first }))
+pub returns-then-not-work-clause-stopped : goal.returns-then-not-work-clause-stopped
+returns-then-not-work-clause-stopped g c =
+    let b = c.if-not-work.ensures.me in (
+      c.in-Ok.call,
+      c.in-Ok.ensures,
+      record { stopped = refl; told = ap (λ d. d.told) (broken_done _ _ _ _ _ _ b.2); view = broken_view _ _ _ _ _ _ b.2 },
+    )

@@ -1,0 +1,172 @@
+-- What stands behind the words goes on by a step of one process.
+use Rattle.std.proofs.Common.{ℕ, ◌≡◌, ◌≢◌, ◌*◌, ◌<◌, List, [], ◌∷◌, length, get_or, set, map, refl, sym, ap, subst, ◌∙◌, inl, inr, arith, le_refl, le_trans}
+use Rattle.std.proofs.lemmas.List.{length-map}
+use Rattle.std.specs.Prelude.{Contains, Option, Bool, true, false}
+use Rattle.ds_words.specs.declared.access.BufferEntry.{BufferEntry}
+use Rattle.ds_words.specs.declared.access.Access.{Access}
+use Rattle.ds_words.specs.declared.access.Access.TheVariants.{Nothing, Load, Store, Or, SwapIf, Flush, Back}
+use Rattle.ds_words.specs.declared.words.TheConstants.{BUFFER_ENTRIES}
+use Rattle.ds_layout.specs.declared.layout.Layout.{Layout}
+use Rattle.ds_layout.specs.declared.place.Place.{Place}
+use Rattle.ds_layout.specs.Places.{words_of, class_of, place_of, IsPlace}
+use Rattle.ds_layout.specs.SheetMemory.{memory_at, access_at, entry_at, CanPerform, HasBuffer, PerformsAt}
+use Rattle.ds_layout.proofs.Places.{place_of-number_of, number_of-place_of, number_of_below}
+use Rattle.ds_layout.proofs.Sheet.{performs_at}
+use Rattle.ds_state.specs.World.{PlainEdit, PlainIssue, edit_of}
+use Rattle.ds_state.specs.Sound.{IsSound}
+use Rattle.ds_state.specs.Spent.{IsSpent}
+use Rattle.ds_state.specs.Leaves.{Leaves}
+use Rattle.ds_state.proofs.Middles.{lasts_counts}
+use Rattle.ds_state.specs.declared.stage.Outcome.{Outcome}
+use Rattle.ds_state.specs.declared.stage.Outcome.TheVariants.{Done, Overtaken}
+use Rattle.ds_state.specs.declared.situation.Situation.{Situation}
+use Rattle.ds_recover.specs.declared.machine.RecoveryEnd.TheVariants.{Last, Nothing}
+use Rattle.ds_drives.specs.declared.board.Seated.{Seated}
+use Rattle.ds_drives.specs.declared.board.Told.{Told}
+use Rattle.ds_drives.specs.declared.board.Told.TheVariants.{Edited, Worked, Recovered, Shown}
+use Rattle.ds_drives.specs.Table.{two_sided, word_of, change, answer, oldest_of, buffer_after}
+use Rattle.ds_drives.specs.Views.{In}
+use Rattle.ds_drives.specs.Rule.{put, Behind, world_on, class_in, IsTold, IsTrueTold, CountsAs, CallsHold, After, Serves}
+use Rattle.ds_drives.proofs.Words.{IsThere, performs}
+
+-- ---- what was told stays true
+
+module _ (layout : Layout) (words words' : List ℕ) (b b' : Behind) (p : ℕ) (s : Situation) (x : List (BufferEntry ℕ)) (f : After layout words words' b b' p s x) where
+  -- no edit with a spent number came
+  none_came : (d : PlainEdit) → IsSpent (world_on layout words b) d.process d.number → (Contains b.counted d → ⊥) → Contains b'.counted d → ⊥
+  none_came d spent out there = elim (f.came d there) [
+    | inl old ↦ out old
+    | inr new ↦ (
+        let less : d.number < d.number = new.1 d.number (subst (λ (z : ℕ). IsSpent (world_on layout words b) z d.number) new.0 spent) in
+        absurd (omega arith))
+  ]
+
+  stays : (d : PlainEdit) (how : Outcome) → IsSpent (world_on layout words b) d.process d.number → IsTrueTold b.counted d how → IsTrueTold b'.counted d how
+  stays d Done spent there = f.kept d there
+  stays d (Overtaken noted seen) spent out = none_came d spent out
+
+  counts : (q n : ℕ) (how : Bool) → IsSpent (world_on layout words b) q n → CountsAs b.counted q n how → CountsAs b'.counted q n how
+  counts q n true spent h = (h.0, f.kept h.0 h.1, h.2, h.3)
+  counts q n false spent out = λ d there own is. none_came d (subst (λ (z : ℕ × ℕ). IsSpent (world_on layout words b) z.0 z.1) (λ i. (sym own i, sym is i)) spent) (λ was. out d was own is) there
+
+  pub told_on : (q : ℕ) (t : Told) → IsTold (world_on layout words b) q t → IsTold (world_on layout words' b') q t
+  told_on q (Edited d how) h = record {
+    own = h.own;
+    spent = le_trans h.spent (f.announced q);
+    holds = stays (edit_of d) how (subst (λ (z : ℕ). IsSpent (world_on layout words b) z d.number) (sym h.own) h.spent) h.holds;
+  }
+  told_on q (Worked e end) h = tt
+  told_on q (Recovered e Nothing) h = tt
+  told_on q (Recovered e (Last number cell how)) h = record { spent = le_trans h.spent (f.announced q); holds = counts q number how h.spent h.holds }
+  told_on q (Shown e) h = tt
+
+module _ (layout : Layout) where
+  pub after_both : (words mid words' : List ℕ) (a b c : Behind) (p : ℕ) (s t : Situation) (x y : List (BufferEntry ℕ)) → After layout words mid a b p s x → After layout mid words' b c p t y → After layout words words' a c p t y
+  after_both words mid words' a b c p s t x y f g = record {
+    sound = g.sound;
+    now = g.now;
+    buffer = g.buffer;
+    others = λ q ne. g.others q ne ∙ f.others q ne;
+    other_buffers = λ q ne. g.other_buffers q ne ∙ f.other_buffers q ne;
+    announced = λ q. le_trans (f.announced q) (g.announced q);
+    kept = λ d h. g.kept d (f.kept d h);
+    came = λ d h. elim (g.came d h) [ inl k ↦ f.came d k | inr k ↦ inr (k.0, λ m spent. k.1 m (le_trans spent (f.announced p))) ];
+    middles = λ h. g.middles (f.middles h);
+  }
+
+  pub after_none : (words : List ℕ) (b : Behind) (p : ℕ) (s : Situation) (x : List (BufferEntry ℕ)) → IsSound (world_on layout words b) → b.situation p ≡ s → b.buffer p ≡ x → After layout words words b b p s x
+  after_none words b p s x sound now buffer = record { sound = sound; now = now; buffer = buffer; others = λ q ne. refl; other_buffers = λ q ne. refl; announced = λ q. le_refl _; kept = λ d h. h; came = λ d h. inl h; middles = λ h. h }
+
+  -- what a process leaves
+  pub after_left : (words words' : List ℕ) (b b' : Behind) (p : ℕ) (s : Situation) (x : List (BufferEntry ℕ)) → Leaves p (world_on layout words b) (world_on layout words' b') → b'.situation p ≡ s → b'.buffer p ≡ x
+      → ((q : ℕ) → q ≢ p → b'.buffer q ≡ b.buffer q) → After layout words words' b b' p s x
+  after_left words words' b b' p s x k now buffer other_buffers = record {
+    sound = k.sound;
+    now = now;
+    buffer = buffer;
+    others = k.situations;
+    other_buffers = other_buffers;
+    announced = k.announced;
+    kept = lasts_counts (world_on layout words b) (world_on layout words' b') k.lasts;
+    came = k.came;
+    middles = k.middles;
+  }
+
+  -- ---- one access
+
+  word_there : (y : BufferEntry ℕ) → IsPlace layout (entry_at layout y).place → y.place < words_of layout
+  unfolding entry_at
+  word_there y k = subst (λ (n : ℕ). n < words_of layout) (number_of-place_of layout y.place) (number_of_below layout (place_of layout y.place) k)
+
+  abbrev pub read : List ℕ → Access Place → List (BufferEntry ℕ) → ℕ
+  read words access x = get_or words (word_of (access_at layout access) (oldest_of x)) 0
+
+  abbrev pub written : List ℕ → Access Place → List (BufferEntry ℕ) → List ℕ
+  written words access x = set words (word_of (access_at layout access) (oldest_of x)) (change (access_at layout access) (oldest_of x) (read words access x))
+
+  abbrev pub answered : List ℕ → Access Place → List (BufferEntry ℕ) → ℕ
+  answered words access x = answer (access_at layout access) (read words access x)
+
+  abbrev pub kept_back : List ℕ → Access Place → List (BufferEntry ℕ) → List (BufferEntry ℕ)
+  kept_back words access x = buffer_after (class_in layout) (access_at layout access) x (read words access x)
+
+  -- the table has what the access takes
+  there : (words : List ℕ) (b : Behind) (p : ℕ) (access : Access Place) → length words ≡ 2 * words_of layout → CanPerform layout (memory_at layout (two_sided words b.buffer)) p access
+      → (x : List (BufferEntry ℕ)) → b.buffer p ≡ x → IsThere words (access_at layout access) x
+  there words b p Nothing long can x same = tt
+  there words b p (Load r) long can x same = (let l = number_of_below layout r can.0 in omega arith)
+  there words b p (Store r v) long can x same = (let l = number_of_below layout r can.0 in omega arith)
+  there words b p (Or r k) long can x same = (let l = number_of_below layout r can.0 in omega arith)
+  there words b p (SwapIf r o v) long can x same = (let l = number_of_below layout r can.0 in omega arith)
+  there words b p (Flush r) long can x same = (let l = number_of_below layout r can.0 in omega arith)
+  there words b p Back long can [] same =
+      let bad : [] ≡ can.1.1.entry ∷ can.1.1.rest = sym (ap (map (entry_at layout)) same) ∙ can.1.1.oldest in
+      cc
+  there words b p Back long can (y ∷ x) same =
+      let both : entry_at layout y ∷ map (entry_at layout) x ≡ can.1.1.entry ∷ can.1.1.rest = sym (ap (map (entry_at layout)) same) ∙ can.1.1.oldest in
+      let one : can.1.1.entry ≡ entry_at layout y = cc in
+      let k = word_there y (subst (λ (z : BufferEntry Place). IsPlace layout z.place) one can.1.1.there) in
+      omega arith
+
+  pub performed : (words : List ℕ) (b : Behind) (p : ℕ) (access : Access Place) (x : List (BufferEntry ℕ)) → length words ≡ 2 * words_of layout → CanPerform layout (memory_at layout (two_sided words b.buffer)) p access → b.buffer p ≡ x
+      → PerformsAt access p (memory_at layout (two_sided words b.buffer)) (memory_at layout (two_sided (written words access x) (put b.buffer p (kept_back words access x)))) (answered words access x)
+  performed words b p access x long can same =
+      performs_at layout (two_sided words b.buffer) (two_sided (written words access x) (put b.buffer p (kept_back words access x)))
+      (class_in layout) (λ place k. ap class_of (place_of-number_of layout place k)) access p (answered words access x) can
+      (performs (class_in layout) p words b.buffer (access_at layout access) x same (there words b p access long can x same))
+
+  -- what the world lets the process do, its buffer serves
+  pub serves : (words : List ℕ) (b : Behind) (p : ℕ) (access : Access Place) → HasBuffer layout (memory_at layout (two_sided words b.buffer)) p access
+      → (x : List (BufferEntry ℕ)) → b.buffer p ≡ x → Serves layout (access_at layout access) x
+  serves words b p Nothing has x same = tt
+  serves words b p (Load r) has x same = tt
+  serves words b p (Store r v) has x same = tt
+  serves words b p (Or r k) has x same = tt
+  serves words b p (SwapIf r o v) has x same = tt
+  serves words b p (Flush r) has x same = subst (λ (y : List (BufferEntry ℕ)). length y < BUFFER_ENTRIES) same (subst (λ (n : ℕ). n < BUFFER_ENTRIES) (length-map (b.buffer p) (entry_at layout)) has.1)
+  serves words b p Back has [] same =
+      let bad : [] ≡ has.1.entry ∷ has.1.rest = sym (ap (map (entry_at layout)) same) ∙ has.1.oldest in
+      cc
+  serves words b p Back has (y ∷ x) same =
+      let both : entry_at layout y ∷ map (entry_at layout) x ≡ has.1.entry ∷ has.1.rest = sym (ap (map (entry_at layout)) same) ∙ has.1.oldest in
+      let one : has.1.entry ≡ entry_at layout y = cc in
+      word_there y (subst (λ (z : BufferEntry Place). IsPlace layout z.place) one has.1.there)
+
+  -- an empty buffer
+  pub nothing_kept : (x : List (BufferEntry ℕ)) → map (entry_at layout) x ≡ [] → x ≡ []
+  nothing_kept [] e = refl
+  nothing_kept (y ∷ x) e = cc
+
+  -- ---- what stands behind after a step
+
+  -- the process is in another situation, with another buffer, other edits count and other edits are open
+  abbrev pub came_to : Behind → ℕ → Situation → List (BufferEntry ℕ) → List PlainEdit → (ℕ → Option PlainIssue) → Behind
+  came_to b p s x counted open_edits = record { situation = put b.situation p s; buffer = put b.buffer p x; counted = counted; open_edits = open_edits }
+
+  -- where only the answer is left, it is given
+  pub record Ends (words : List ℕ) (b : Behind) (p : ℕ) (e : Seated) : Type 0 where
+    pub behind : Behind
+    pub own : e.process ≡ p
+    pub after : After layout words words b behind p e.now e.buffer
+    pub told : (t : Told) → In e.deeds.told t → IsTold (world_on layout words behind) p t
+    pub calls : CallsHold layout p e.deeds.told

@@ -1,0 +1,270 @@
+-- Seats are made, cut and joined.
+use Rattle.std.proofs.Common.{◌≡◌, ◌≢◌, ◌⊎◌, ℕ, zero, suc, ◌+◌, ◌*◌, ◌<◌, ◌≤◌, eqb, Bool, false, cond, List, [], ◌∷◌, ◌++◌, replicate, get_or, set, length, refl, sym, ap, subst, ◌∙◌, inl, inr, ⊎_elim, arith, eq-eqb, ne_eqb, le_refl, Contains}
+use Rattle.std.specs.Prelude.{None}
+use Rattle.std.proofs.lemmas.List.{length-replicate}
+use Rattle.std.proofs.lemmas.List.Elements.{Contains-push_cases}
+use mathlib.Core.Option.{some, some-injective, some-ne-none}
+use lib.ListN.{get_elem?}
+use Rattle.atomic_table.specs.Table.{State, Splits, Joins, opening, Final, Seen}
+use Rattle.atomic_table.proofs.Lists.{at_set}
+use Rattle.ds_words.specs.Memory.{IsFresh}
+use Rattle.ds_layout.specs.declared.layout.Layout.{Layout}
+use Rattle.ds_layout.specs.Places.{words_of}
+use Rattle.ds_layout.proofs.Sheet.{fresh_at}
+use Rattle.ds_state.specs.Fresh.{IsNew}
+use Rattle.ds_state.specs.Sound.{IsSound}
+use Rattle.ds_state.specs.declared.situation.Situation.{Situation}
+use Rattle.ds_state.specs.declared.situation.Situation.TheVariants.{Idle}
+use Rattle.ds_state.specs.World.{PlainWorld}
+use Rattle.ds_state.specs.Middles.{HaveMiddles}
+use Rattle.ds_state.proofs.Middles.{middles_new}
+use Rattle.ds_state.proofs.New.{new_sound}
+use Rattle.ds_drives.specs.declared.board.Seated.{Seated}
+use Rattle.ds_drives.specs.declared.board.Told.{Told}
+use Rattle.ds_drives.specs.declared.board.View.{View}
+use Rattle.ds_drives.specs.Table.{two_sided}
+use Rattle.ds_drives.specs.Views.{In, lone, newcomer, newcomers_from, first_now, first_view, headed, tailed, united, nobody, bygone, HasRest}
+use Rattle.ds_drives.specs.Rule.{put, Behind, world_on, IsTold, CallsHold, Stands, Fits, AreTrue, Ruled, Closes}
+use Rattle.ds_drives.proofs.Words.{put_here, put_else}
+use Rattle.ds_drives.proofs.Resting.{rests}
+
+snoc_at : {A : Type 0} (l : List A) (a b : A) (j : ℕ) → get_elem? (l ++ a ∷ []) j ≡ some b → ((j < length l) × (get_elem? l j ≡ some b)) ⊎ ((j ≡ length l) × (a ≡ b))
+snoc_at [] a b zero e = inr (refl, some-injective a b e)
+snoc_at [] a b (suc j) e = absurd (some-ne-none b (sym e))
+snoc_at (x ∷ xs) a b zero e = inl (omega arith, e)
+snoc_at (x ∷ xs) a b (suc j) e = ⊎_elim (λ t. inl (let h = t.0 in omega arith, t.1)) (λ t. inr (ap suc t.0, t.1)) (snoc_at xs a b j e)
+
+pub in_append : {X : Type 0} (xs ys : List X) (x : X) → In (xs ++ ys) x → In xs x ⊎ In ys x
+in_append [] ys x t = inr t
+in_append (z ∷ zs) ys x t = ⊎_elim (λ e. inl (inl e)) (λ h. ⊎_elim (λ a. inl (inr a)) (λ b. inr b) (in_append zs ys x h)) t
+
+pub in_left : {X : Type 0} (xs ys : List X) (x : X) → In xs x → In (xs ++ ys) x
+in_left [] ys x t = absurd t
+in_left (z ∷ zs) ys x t = ⊎_elim (λ e. inl e) (λ h. inr (in_left zs ys x h)) t
+
+pub in_right : {X : Type 0} (xs ys : List X) (x : X) → In ys x → In (xs ++ ys) x
+in_right [] ys x t = t
+in_right (z ∷ zs) ys x t = inr (in_right zs ys x t)
+
+-- the owners of which one takes over from another
+abbrev swapped : (ℕ → ℕ) → ℕ → ℕ → ℕ → ℕ
+swapped f other id q = cond (eqb (f q) other) id (f q)
+
+swapped_here : (f : ℕ → ℕ) (other id q : ℕ) → f q ≡ other → swapped f other id q ≡ id
+swapped_here f other id q e = rw (eq-eqb (f q) other e)
+
+swapped_else : (f : ℕ → ℕ) (other id q : ℕ) → f q ≢ other → swapped f other id q ≡ f q
+swapped_else f other id q n = rw (ne_eqb (f q) other n)
+
+was : {A : Type 0} (l : List A) (i j : ℕ) (a b : A) → ¬ (j ≡ i) → get_elem? (set l i a) j ≡ some b → get_elem? l j ≡ some b
+was l i j a b n e = ⊎_elim (λ t. absurd (n t.0)) (λ t. t.1) (at_set l i j a b e)
+
+owned : (layout : Layout) (words : List ℕ) (b : Behind) (f g : ℕ → ℕ) (i j : ℕ) (e : Seated) → Fits layout words b f i e → g e.process ≡ j → Fits layout words b g j e
+owned layout words b f g i j e h mine = record { low = h.low; mine = mine; stands = h.stands }
+
+module _ {S : Type 0} (layout : Layout) where
+  -- the first process, which no other of the view is, gets a seat of its own
+  pub splits : (id : ℕ) (e : Seated) (es past : List Seated) → ((x : Seated) → In es x → x.process ≢ e.process) → Splits (Ruled {S = S} layout) id (record { entries = e ∷ es; past = past }) (record { entries = es; past = past }) (lone e)
+  splits id e es past apart s h at =
+      let v : View = record { entries = e ∷ es; past = past } in
+      let rest : View = record { entries = es; past = past } in
+      let last : ℕ = length (set s.views id rest) in
+      let mine = h.knows id v at e (inl refl) in record {
+        behind = h.behind;
+        owner = put h.owner e.process last;
+        sound = h.sound;
+        long = h.long;
+        middles = h.middles;
+        knows = λ j u there x inside. ⊎_elim
+            (λ (t : (j < last) × (get_elem? (set s.views id rest) j ≡ some u)). ⊎_elim
+            (λ (a : (j ≡ id) × (rest ≡ u)).
+            let here : In es x = subst (λ (z : View). In z.entries x) (sym a.1) inside in
+            let f = h.knows id v at x (inr here) in
+            owned _ _ _ _ _ _ _ _ f (put_else h.owner e.process last x.process (apart x here) ∙ (f.mine ∙ sym a.0)))
+            (λ (b : (j ≢ id) × (get_elem? s.views j ≡ some u)).
+            let f = h.knows j u b.1 x inside in
+            owned _ _ _ _ _ _ _ _ f (put_else h.owner e.process last x.process (λ same. b.0 (sym f.mine ∙ (ap h.owner same ∙ mine.mine))) ∙ f.mine))
+            (at_set s.views id j rest u t.1))
+            (λ (t : (j ≡ last) × (lone e ≡ u)). ⊎_elim
+            (λ (same : e ≡ x). subst (λ (z : ℕ × Seated). Fits layout s.words h.behind (put h.owner e.process last) z.0 z.1) (λ i. (sym t.0 i, same i))
+            (owned _ _ _ _ _ _ _ _ mine (put_here h.owner e.process last e.process refl)))
+            (λ none. absurd none)
+            (subst (λ (z : View). In z.entries x) (sym t.1) inside))
+            (snoc_at (set s.views id rest) (lone e) u j there);
+        past = λ j u there x d inside here. ⊎_elim
+            (λ (t : (j < last) × (get_elem? (set s.views id rest) j ≡ some u)). ⊎_elim
+            (λ (a : (j ≡ id) × (rest ≡ u)). h.past id v at x d (subst (λ (z : View). In z.past x) (sym a.1) inside) here)
+            (λ (b : (j ≢ id) × (get_elem? s.views j ≡ some u)). h.past j u b.1 x d inside here)
+            (at_set s.views id j rest u t.1))
+            (λ (t : (j ≡ last) × (lone e ≡ u)). absurd (subst (λ (z : View). In z.past x) (sym t.1) inside))
+            (snoc_at (set s.views id rest) (lone e) u j there);
+      }
+
+  -- what a view knows is true
+  known_true : (s : State S View) (h : Ruled layout s) (j : ℕ) (v : View) → get_elem? s.views j ≡ some v → (x : Seated) (d : Told) → In (v.past ++ v.entries) x → In x.deeds.told d → IsTold (world_on layout s.words h.behind) x.process d
+  known_true s h j v at x d inside here = ⊎_elim
+      (λ (a : In v.past x). h.past j v at x d a here)
+      (λ (b : In v.entries x). (h.knows j v at x b).stands.told d here)
+      (in_append v.past v.entries x inside)
+
+  -- what a seat knows is remembered by a seat of no process
+  pub remembers : (id : ℕ) (v : View) → Splits (Ruled {S = S} layout) id v v (bygone v)
+  remembers id v s h at =
+      let last : ℕ = length (set s.views id v) in record {
+        behind = h.behind;
+        owner = h.owner;
+        sound = h.sound;
+        long = h.long;
+        middles = h.middles;
+        knows = λ j u there x inside. ⊎_elim
+            (λ (t : (j < last) × (get_elem? (set s.views id v) j ≡ some u)). ⊎_elim
+            (λ (a : (j ≡ id) × (v ≡ u)). subst (λ (n : ℕ). Fits layout s.words h.behind h.owner n x) (sym a.0) (h.knows id v at x (subst (λ (z : View). In z.entries x) (sym a.1) inside)))
+            (λ (b : (j ≢ id) × (get_elem? s.views j ≡ some u)). h.knows j u b.1 x inside)
+            (at_set s.views id j v u t.1))
+            (λ (t : (j ≡ last) × (bygone v ≡ u)). absurd (subst (λ (z : View). In z.entries x) (sym t.1) inside))
+            (snoc_at (set s.views id v) (bygone v) u j there);
+        past = λ j u there x d inside here. ⊎_elim
+            (λ (t : (j < last) × (get_elem? (set s.views id v) j ≡ some u)). ⊎_elim
+            (λ (a : (j ≡ id) × (v ≡ u)). h.past id v at x d (subst (λ (z : View). In z.past x) (sym a.1) inside) here)
+            (λ (b : (j ≢ id) × (get_elem? s.views j ≡ some u)). h.past j u b.1 x d inside here)
+            (at_set s.views id j v u t.1))
+            (λ (t : (j ≡ last) × (bygone v ≡ u)). known_true s h id v at x d (subst (λ (z : View). In z.past x) (sym t.1) inside) here)
+            (snoc_at (set s.views id v) (bygone v) u j there);
+      }
+
+  pub joins : (id other : ℕ) (v w : View) → Joins (Ruled {S = S} layout) id v other w (united v w) nobody
+  joins id other v w s h at apart there = record {
+    behind = h.behind;
+    owner = swapped h.owner other id;
+    sound = h.sound;
+    long = h.long;
+    middles = h.middles;
+    knows = λ j u now x inside. ⊎_elim
+        (λ (t : (j ≡ other) × (nobody ≡ u)). absurd (subst (λ (z : View). In z.entries x) (sym t.1) inside))
+        (λ (t : (j ≢ other) × (get_elem? (set s.views id (united v w)) j ≡ some u)). ⊎_elim
+        (λ (a : (j ≡ id) × (united v w ≡ u)). ⊎_elim
+        (λ (in_v : In v.entries x). let f = h.knows id v at x in_v in
+        owned _ _ _ _ _ _ _ _ f (swapped_else h.owner other id x.process (λ e. apart (sym e ∙ f.mine)) ∙ (f.mine ∙ sym a.0)))
+        (λ (in_w : In w.entries x). let f = h.knows other w (was s.views id other (united v w) w apart there) x in_w in
+        owned _ _ _ _ _ _ _ _ f (swapped_here h.owner other id x.process f.mine ∙ sym a.0))
+        (in_append v.entries w.entries x (subst (λ (z : View). In z.entries x) (sym a.1) inside)))
+        (λ (b : (j ≢ id) × (get_elem? s.views j ≡ some u)). let f = h.knows j u b.1 x inside in
+        owned _ _ _ _ _ _ _ _ f (swapped_else h.owner other id x.process (λ e. t.0 (sym f.mine ∙ e)) ∙ f.mine))
+        (at_set s.views id j (united v w) u t.1))
+        (at_set (set s.views id (united v w)) other j nobody u now);
+    past = λ j u now x d inside here. ⊎_elim
+        (λ (t : (j ≡ other) × (nobody ≡ u)). absurd (subst (λ (z : View). In z.past x) (sym t.1) inside))
+        (λ (t : (j ≢ other) × (get_elem? (set s.views id (united v w)) j ≡ some u)). ⊎_elim
+        (λ (a : (j ≡ id) × (united v w ≡ u)). ⊎_elim
+        (λ (in_v : In v.past x). h.past id v at x d in_v here)
+        (λ (in_w : In w.past x). h.past other w (was s.views id other (united v w) w apart there) x d in_w here)
+        (in_append v.past w.past x (subst (λ (z : View). In z.past x) (sym a.1) inside)))
+        (λ (b : (j ≢ id) × (get_elem? s.views j ≡ some u)). h.past j u b.1 x d inside here)
+        (at_set s.views id j (united v w) u t.1))
+        (at_set (set s.views id (united v w)) other j nobody u now);
+  }
+
+pub record IsNewSeat (s : Situation) (low high : ℕ) (x : Seated) : Type 0 where
+  pub above : low ≤ x.process
+  pub below : x.process < high
+  pub now : x.now ≡ s
+  pub buffer : x.buffer ≡ []
+  pub told : x.deeds.told ≡ []
+
+pub all_new : (s : Situation) (p n : ℕ) (x : Seated) → In (newcomers_from s p n) x → IsNewSeat s p (p + n) x
+all_new s p zero x t = absurd t
+all_new s p (suc n) x t = ⊎_elim
+    (λ (e : newcomer s p ≡ x). subst (IsNewSeat s p (p + suc n)) e (record { above = le_refl p; below = omega arith; now = refl; buffer = refl; told = refl }))
+    (λ h. let r = all_new s (suc p) n x h in record { above = (let a = r.above in omega arith); below = (let a = r.below in omega arith); now = r.now; buffer = r.buffer; told = r.told }) t
+
+zeros : (n i : ℕ) → ◌≡◌ {A = ℕ} (get_or (replicate n 0) i 0) 0
+zeros zero i = refl
+zeros (suc n) zero = refl
+zeros (suc n) (suc i) = zeros n i
+
+-- a table opens with a sound world in which each process of the sheet does the same, and has flushed nothing, and what
+-- was told before is true of it
+pub opens : {S : Type 0} (layout : Layout) (words : List ℕ) (b : Behind) (stopped : Bool) (past : List Seated) → IsSound (world_on layout words b) → HaveMiddles (world_on layout words b) → length words ≡ 2 * words_of layout
+    → ((p : ℕ) → p < layout.processes → b.situation p ≡ first_now stopped) → ((p : ℕ) → p < layout.processes → b.buffer p ≡ []) → AreTrue layout words b past
+    → Ruled {S = S} layout (opening words [] (first_view stopped layout.processes past))
+opens layout words b stopped past sound middles long now buffer true_then = record {
+  behind = b;
+  owner = λ q. 0;
+  sound = sound;
+  long = long;
+  middles = middles;
+  knows = one_seat;
+  past = one_past;
+}
+  where
+    one_seat : (j : ℕ) (v : View) → get_elem? (first_view stopped layout.processes past ∷ []) j ≡ some v → (x : Seated) → In v.entries x → Fits layout words b (λ q. 0) j x
+    one_seat zero v at x inside =
+        let r = all_new (first_now stopped) 0 layout.processes x (subst (λ (z : View). In z.entries x) (sym (some-injective (first_view stopped layout.processes past) v at)) inside) in
+        let low : x.process < layout.processes = (let h = r.below in omega arith) in
+        record {
+          low = low;
+          mine = refl;
+          stands = record {
+            now = now x.process low ∙ sym r.now;
+            buffer = buffer x.process low ∙ sym r.buffer;
+            told = λ u t. absurd (subst (λ (l : List Told). In l u) r.told t);
+            calls = subst (λ (l : List Told). CallsHold layout x.process l) (sym r.told) tt;
+          };
+        }
+    one_seat (suc j) v at x inside = absurd (some-ne-none v (sym at))
+
+    one_past : (j : ℕ) (v : View) → get_elem? (first_view stopped layout.processes past ∷ []) j ≡ some v → AreTrue layout words b v.past
+    one_past zero v at x d inside here = true_then x d (subst (λ (z : View). In z.past x) (sym (some-injective (first_view stopped layout.processes past) v at)) inside) here
+    one_past (suc j) v at x d inside here = absurd (some-ne-none v (sym at))
+
+-- nothing has happened
+blank : Behind
+blank = record { situation = λ p. Idle 0; buffer = λ p. []; counted = []; open_edits = λ p. None }
+
+pub opens_new : {S : Type 0} (layout : Layout) (count : ℕ) → count ≡ 2 * words_of layout → Ruled {S = S} layout (opening (replicate count 0) [] (first_view false layout.processes []))
+unfolding blank
+opens_new layout count is =
+    let fresh : IsFresh (two_sided (replicate count 0) blank.buffer) = record {
+      cached = λ n. zeros count (2 * n);
+      persisted = λ n. zeros count (2 * n + 1);
+      buffer = λ q. refl;
+    } in
+    let w : PlainWorld = world_on layout (replicate count 0) blank in
+    let new : IsNew w = record { memory = fresh_at layout (two_sided (replicate count 0) blank.buffer) fresh; situation = λ p. refl; counted = refl; open_edits = λ p. refl } in
+    opens layout (replicate count 0) blank false [] (new_sound w new) ((λ p. w), (λ p. w), middles_new (λ p. w) (λ p. w) w new)
+    (length-replicate count 0 ∙ is) (λ p low. refl) (λ p low. refl) (λ x d none here. absurd none)
+
+pub record Cut (s : Situation) (p processes : ℕ) (past : List Seated) (v : View) : Type 0 where
+  pub left : HasRest s (p + 1) processes past (tailed v)
+  pub right : headed v ≡ lone (newcomer s p)
+
+cut_from : (s : Situation) (p processes n : ℕ) (past : List Seated) → p < processes → p + n ≡ processes → Cut s p processes past (record { entries = newcomers_from s p n; past = past })
+cut_from s p processes zero past h e = absurd (omega arith)
+cut_from s p processes (suc k) past h e = record {
+  left = (k, (omega arith), ap (λ (q : ℕ). record { entries = newcomers_from s q k; past = past }) (omega arith));
+  right = refl;
+}
+
+pub cut : (s : Situation) (p processes : ℕ) (past : List Seated) (v : View) → p < processes → HasRest s p processes past v → Cut s p processes past v
+cut s p processes past v h f = subst (Cut s p processes past) (sym f.2) (cut_from s p processes f.0 past h f.1)
+
+split_from : (s : Situation) (layout : Layout) (id p n : ℕ) (past : List Seated) → p < layout.processes → p + n ≡ layout.processes → let v : View = record { entries = newcomers_from s p n; past = past } in Splits (Ruled {S = ℕ} layout) id v (tailed v) (headed v)
+split_from s layout id p zero past h e = absurd (omega arith)
+split_from s layout id p (suc k) past h e = splits {S = ℕ} layout id (newcomer s p) (newcomers_from s (suc p) k) past (λ x t same. let a = (all_new s (suc p) k x t).above in absurd (omega arith))
+
+pub may_split : (s : Situation) (layout : Layout) (id p : ℕ) (past : List Seated) (v : View) → p < layout.processes → HasRest s p layout.processes past v → Splits (Ruled {S = ℕ} layout) id v (tailed v) (headed v)
+may_split s layout id p past v h f = subst (λ (u : View). Splits (Ruled {S = ℕ} layout) id u (tailed u) (headed u)) (sym f.2) (split_from s layout id p f.0 past h f.1)
+
+-- what the last seat knows is true of a sound world at rest, whose words these are
+pub ended : (layout : Layout) (id : ℕ) (v : View) (ws xs : List ℕ) → Final (Seen (Ruled {S = ℕ} layout) id v) ws xs → Closes layout ws (In v.entries) (v.past ++ v.entries)
+ended layout id v ws xs f =
+    let h = f.1.0 in
+    let stops = rests layout ws h.behind (subst (λ (l : List ℕ). IsSound (world_on layout l h.behind)) f.2 h.sound) in record {
+      last = h.behind;
+      sound = subst (λ (l : List ℕ). IsSound (world_on layout l h.behind)) f.2 h.sound;
+      stands = λ e t. subst (λ (l : List ℕ). Stands layout l h.behind e) f.2 (h.knows id v f.1.1 e t).stands;
+      behind = stops.behind;
+      stops = stops.by;
+      rests = stops.rests;
+      told = λ e d t here. stops.told e.process d (subst (λ (l : List ℕ). IsTold (world_on layout l h.behind) e.process d) f.2 (known_true {S = ℕ} layout f.0 h id v f.1.1 e d t here));
+    }

@@ -1,0 +1,87 @@
+-- The words of an access lie on the table.
+use Rattle.std.proofs.Common.{ℕ, ◌≡◌, ◌+◌, ◌*◌, ◌<◌, List, [], ◌∷◌, arith, refl, sym, ap, subst, ◌∙◌}
+use Rattle.atomic_table.specs.Table.{Me}
+use Rattle.ds_words.specs.declared.access.BufferEntry.{BufferEntry}
+use Rattle.ds_words.specs.declared.access.Access.{Access}
+use Rattle.ds_words.specs.declared.access.Access.TheVariants.{Nothing, Load, Store, Or, SwapIf, Flush, Back}
+use Rattle.ds_layout.specs.declared.layout.Layout.{Layout}
+use Rattle.ds_layout.specs.declared.place.Place.{Place}
+use Rattle.ds_layout.specs.declared.place.Place.TheVariants as place
+use Rattle.ds_layout.specs.Places.{words_of}
+use Rattle.ds_layout.specs.SheetMemory.{access_at, NamesPlace}
+use Rattle.ds_layout.proofs.Places.{number_of_below}
+use Rattle.ds_drives.specs.Table.{word_of, oldest_of, HasRoom, IsBelow}
+use Rattle.ds_state.specs.declared.situation.Situation.{Situation}
+use Rattle.ds_drives.specs.declared.board.Deeds.{Deeds}
+use Rattle.ds_drives.specs.declared.board.Seated.{Seated}
+use Rattle.ds_drives.specs.declared.board.View.{View}
+use Rattle.ds_drives.specs.Fuses.{Asked}
+use Rattle.ds_drives.specs.Views.{lone, steps_later, deeds_at}
+use Rattle.ds_drives.specs.Rule.{Serves, Ready, Poised}
+
+-- the words of an access lie on the table, and a flush finds room
+pub below : (layout : Layout) (a : Access Place) → NamesPlace layout a → IsBelow (words_of layout) (access_at layout a)
+below layout Nothing h = tt
+below layout (Load r) h = number_of_below layout r h
+below layout (Store r v) h = number_of_below layout r h
+below layout (Or r k) h = number_of_below layout r h
+below layout (SwapIf r o v) h = number_of_below layout r h
+below layout (Flush r) h = number_of_below layout r h
+below layout Back h = tt
+
+pub some_words : (layout : Layout) → 0 < words_of layout
+some_words layout = (let n = number_of_below layout place.Version tt in omega arith)
+
+pub within : (layout : Layout) (count : ℕ) (a : Access ℕ) (x : List (BufferEntry ℕ)) → 0 < words_of layout → IsBelow (words_of layout) a → Serves layout a x → count ≡ 2 * words_of layout → word_of a (oldest_of x) < count
+within layout count Nothing x some h s is = omega arith
+within layout count (Load n) x some h s is = omega arith
+within layout count (Store n v) x some h s is = omega arith
+within layout count (Or n k) x some h s is = omega arith
+within layout count (SwapIf n o v) x some h s is = omega arith
+within layout count (Flush n) x some h s is = omega arith
+within layout count Back [] some h s is = absurd s
+within layout count Back (y ∷ x) some h s is = omega arith
+
+pub room : (layout : Layout) (a : Access ℕ) (x : List (BufferEntry ℕ)) → Serves layout a x → HasRoom a x
+room layout Nothing x s = tt
+room layout (Load n) x s = tt
+room layout (Store n v) x s = tt
+room layout (Or n k) x s = tt
+room layout (SwapIf n o v) x s = tt
+room layout (Flush n) x s = s
+room layout Back x s = tt
+
+-- the seat has done just this
+abbrev pub HeldBy : Deeds → Me ℕ View → Type 0
+HeldBy held me = (deeds_at me ≡ held) × (me.1 ≡ [])
+
+pub held_still : (layout : Layout) (held : Deeds) (me : Me ℕ View) (p : ℕ) (s : Situation) (x : List (BufferEntry ℕ)) → Poised layout held me p s x → HeldBy held me
+held_still layout held me p s x h = subst (HeldBy held) (sym h.at) (h.held_is, refl)
+
+-- no step is none, and one more is one more
+pub none_more : (d : Deeds) → d ≡ steps_later d 0
+none_more d = let e : d.steps ≡ d.steps + 0 = omega arith in ap (λ (n : ℕ). (let x : Deeds = record { told = d.told; steps = n } in x)) e
+
+pub one_more : (d : Deeds) (n : ℕ) → steps_later (steps_later d n) 1 ≡ steps_later d (n + 1)
+one_more d n = let e : d.steps + n + 1 ≡ d.steps + (n + 1) = omega arith in ap (λ (m : ℕ). (let x : Deeds = record { told = d.told; steps = m } in x)) e
+
+-- a seat with one process, which may begin a call
+pub sits : (layout : Layout) (me : Me ℕ View) (seat : Seated) (q : ℕ) (now : Situation) → me ≡ (lone seat, []) → seat.process ≡ q → Ready layout seat q now [] → Poised layout (steps_later (deeds_at me) 0) me q now []
+sits layout me seat q now alone own ready = record {
+  seat = seat;
+  at = alone;
+  held_is = sym (ap deeds_at alone) ∙ none_more (deeds_at me);
+  own = own;
+  ready = ready;
+}
+
+-- ---- fuses
+
+pub asked_none : {F : Type 0} (said : F → F → ℕ → ℕ → Type 0) (f : F) → Asked said f f 0 0
+asked_none said f first y n h = let a : y ≡ y + 0 = omega arith in let b : n ≡ n + 0 = omega arith in subst (λ (z : ℕ × ℕ). said first f z.0 z.1) (λ i. (a i, b i)) h
+
+pub asked_also : {F : Type 0} (said : F → F → ℕ → ℕ → Type 0) (f g h : F) (a b c d : ℕ) → Asked said f g a b → Asked said g h c d → Asked said f h (a + c) (b + d)
+asked_also said f g h a b c d one two first y n k = let p : y + a + c ≡ y + (a + c) = omega arith in let q : n + b + d ≡ n + (b + d) = omega arith in subst (λ (z : ℕ × ℕ). said first h z.0 z.1) (λ i. (p i, q i)) (two first (y + a) (n + b) (one first y n k))
+
+pub asked_stop : {F : Type 0} (said : F → F → ℕ → ℕ → Type 0) (f g h : F) (n : ℕ) → Asked said f g n 0 → Asked said g h 0 1 → Asked said f h n 1
+asked_stop said f g h n one two first y m k = let p : y + n + 0 ≡ y + n = omega arith in let q : m + 0 + 1 ≡ m + 1 = omega arith in subst (λ (z : ℕ × ℕ). said first h z.0 z.1) (λ i. (p i, q i)) (two first (y + n) (m + 0) (one first y m k))

@@ -1,0 +1,10 @@
+pub mod Words
+pub mod Behinds
+pub mod Machines
+pub mod Resting
+pub mod Edits
+pub mod Recoveries
+pub mod Works
+pub mod Shows
+pub mod Driving
+pub mod Dealt

@@ -1,0 +1,318 @@
+-- Recoveries are calls whose steps the rule allows.
+use Rattle.std.proofs.Common.{ℕ, ◌≡◌, ◌*◌, ◌<◌, ◌≤◌, ◌/◌, ◌-◌, List, [], ◌∷◌, length, refl, sym, ap, subst, ◌∙◌, inl, inr, arith, suc, zero}
+use Rattle.std.specs.Prelude.{Contains, Option, Some, None, Bool, true, false, ◌==◌, ◌&&◌, if◌then◌else◌}
+use Rattle.std.proofs.lemmas.Bool.{eqb-true, eq-eqb}
+use Rattle.ds_words.specs.declared.access.BufferEntry.{BufferEntry}
+use Rattle.ds_layout.specs.declared.layout.Layout.{Layout}
+use Rattle.ds_layout.specs.declared.announcement.Phase.TheVariants as phase
+use Rattle.ds_layout.specs.declared.place.Place.TheVariants as place
+use Rattle.ds_layout.specs.Places.{words_of, cells_of}
+use Rattle.ds_state.specs.Works.{PlainRecoverCall}
+use Rattle.ds_state.specs.World.{PlainEdit, PlainWorld, phase_among, is_edit_of}
+use Rattle.ds_state.specs.KnownRecovery.{phase_for, Tells}
+use Rattle.ds_state.specs.CallsFit.{RecoveryFits}
+use Rattle.ds_state.specs.Sound.{IsSound}
+use Rattle.ds_state.specs.Middles.{HaveMiddles}
+use Rattle.ds_state.specs.Spent.{IsSpent}
+use Rattle.ds_state.specs.declared.situation.Situation.{Situation}
+use Rattle.ds_state.specs.declared.situation.Situation.TheVariants.{Idle, Stopped, Editing, Working, Recovering, Showing}
+use Rattle.ds_layout.specs.declared.announcement.Announcement.{Announcement}
+use Rattle.ds_layout.specs.Announcement.{announcement_of}
+use Rattle.ds_layout.specs.Head.{head_of}
+use Rattle.ds_layout.specs.Bits.{bit_in}
+use Rattle.ds_state.specs.declared.work.Spread.{Spread}
+use Rattle.ds_state.specs.declared.work.Spread.TheVariants as spreads
+use Rattle.ds_state.specs.declared.work.RecoverStage.TheVariants as stages
+use Rattle.ds_state.specs.declared.work.RecoverStage.{RecoverStage}
+use Rattle.ds_state.specs.declared.work.RecoverStage.TheVariants.{Answer}
+use Rattle.ds_recover.specs.RecoverySteps as recovery
+use Rattle.ds_recover.specs.RecoverySteps.{Steps, after, next_number, end_of, number_of, fresh, RepeatsAs}
+use Rattle.ds_recover.specs.RecoverBegun.{MayRecover, IsBegun}
+use Rattle.ds_recover.proofs.RecoveryLaws as laws
+use Rattle.ds_recover.proofs.RecoveryLeaves.{recovery_leaves, begin_leaves}
+use Rattle.ds_recover.proofs.RecoveryRank.{each_falls}
+use Rattle.ds_state.specs.RecoverStages.{IsRecovery}
+use Rattle.ds_drives.specs.declared.board.Seated.{Seated}
+use Rattle.ds_drives.specs.declared.board.Deeds.{Deeds}
+use Rattle.ds_drives.specs.declared.board.Told.{Told}
+use Rattle.ds_drives.specs.declared.board.Told.TheVariants.{Edited, Recovered}
+use Rattle.ds_drives.specs.Views.{In, seated}
+use Rattle.ds_drives.specs.Rules.{Ran}
+use Rattle.ds_drives.specs.Rule.{put, Behind, world_on, IsTold, CallHolds, CallsHold, Recalls, CountsAs, After, Ready}
+use Rattle.ds_drives.specs.Machines.{Lawful, IsSettled}
+use Rattle.atomic_table.specs.Table.{Me}
+use Rattle.ds_drives.specs.declared.board.View.{View}
+use Rattle.ds_drives.specs.RecoverRules.{IsGoing, IsEnded, IsRecoveryOn, landed_at, recover_rules}
+use Rattle.ds_drives.proofs.Words.{put_here, put_else}
+use Rattle.ds_drives.proofs.Behinds.{told_on, after_none, after_left, after_both, written, answered, kept_back, performed, serves, came_to, Ends}
+use Rattle.ds_drives.proofs.Resting.{stopped, stops, still}
+use Rattle.ds_drives.proofs.Machines.{lawful}
+
+after_going : (e : PlainRecoverCall) (s : RecoverStage) (word : ℕ) → IsGoing s → after e s word ≡ Recovering (recovery.next_at e s word)
+after_going e (Answer how) word g = absurd g
+after_going e _ word g = refl
+
+landed_going : (e : PlainRecoverCall) (s : RecoverStage) (x : List (BufferEntry ℕ)) (held : Deeds) → IsGoing s → landed_at e s x held ≡ seated e.process (Recovering (record e { stage = s })) x held
+landed_going e (Answer how) x held g = absurd g
+landed_going e _ x held g = refl
+
+-- the same process, on the same sheet
+pub record Same (e f : PlainRecoverCall) : Type 0 where
+  pub process : f.process ≡ e.process
+  pub cells : f.cells ≡ e.cells
+  pub processes : f.processes ≡ e.processes
+
+same : (e f : PlainRecoverCall) → f.process ≡ e.process → f.cells ≡ e.cells → f.processes ≡ e.processes → Same e f
+same e f a b c = record { process = a; cells = b; processes = c }
+
+same_if : (e : PlainRecoverCall) (b : Bool) (f g : PlainRecoverCall) → Same e f → Same e g → Same e (if b then f else g)
+same_if e true f g x y = x
+same_if e false f g x y = y
+
+same_announced : (e : PlainRecoverCall) (word : ℕ) (o : Option Announcement) → Same e (recovery.announced_from e word o)
+same_announced e word None = same _ _ refl refl refl
+same_announced e word (Some a) = same _ _ refl refl refl
+
+same_spread : (e : PlainRecoverCall) (cell : ℕ) (s : Spread) (word : ℕ) → Same e (recovery.spread_next e cell s word)
+same_spread e cell (spreads.LoadRow part) word = same _ _ refl refl refl
+same_spread e cell (spreads.OrTold d) word = same _ _ refl refl refl
+same_spread e cell (spreads.FlushTold d) word = same _ _ refl refl refl
+same_spread e cell (spreads.BackTold d) word = same _ _ refl refl refl
+
+pub next_same : (e : PlainRecoverCall) (s : RecoverStage) (word : ℕ) → Same e (recovery.next_at e s word)
+next_same e (stages.LoadMark cell) word = same_if e (recovery.reads_held e.process word) _ _ (same _ _ refl refl refl) (same _ _ refl refl refl)
+next_same e (stages.FlushValue cell) word = same _ _ refl refl refl
+next_same e (stages.FlushKind cell) word = same _ _ refl refl refl
+next_same e (stages.BackValue cell) word = same _ _ refl refl refl
+next_same e (stages.BackKind cell) word = same _ _ refl refl refl
+next_same e (stages.Telling cell spread) word = same_spread e cell spread word
+next_same e (stages.Give cell) word = same_if e (word == e.mark) _ _ (same _ _ refl refl refl) (same _ _ refl refl refl)
+next_same e (stages.GiveDirty cell) word = same _ _ refl refl refl
+next_same e (stages.FlushGiven cell) word = same _ _ refl refl refl
+next_same e (stages.BackGiven cell) word = same _ _ refl refl refl
+next_same e stages.LoadAnnounce word = same_announced e word (announcement_of word)
+next_same e stages.LoadHeader word = same _ _ refl refl refl
+next_same e stages.LoadHead word = same_if e (recovery.is_shown e.process (number_of e) (head_of e.processes word)) _ _ (same _ _ refl refl refl) (same _ _ refl refl refl)
+next_same e stages.FlushHead word = same _ _ refl refl refl
+next_same e stages.BackHead word = same _ _ refl refl refl
+next_same e stages.LoadDone word = same_if e (bit_in word (number_of e) == 1) _ _ (same _ _ refl refl refl) (same _ _ refl refl refl)
+next_same e (stages.OrMark how) word = same _ _ refl refl refl
+next_same e (stages.FlushMark how) word = same _ _ refl refl refl
+next_same e (stages.BackMark how) word = same _ _ refl refl refl
+next_same e (stages.StoreOutcome how) word = same _ _ refl refl refl
+next_same e (stages.FlushOutcome how) word = same _ _ refl refl refl
+next_same e (stages.BackOutcome how) word = same _ _ refl refl refl
+next_same e (stages.Answer how) word = same _ _ refl refl refl
+
+-- ---- what it tells
+
+is_edit : (e : PlainEdit) (p n : ℕ) → is_edit_of p n e ≡ true → (e.process ≡ p) × (e.number ≡ n)
+is_edit e p n is = both (e.process == p) (e.number == n) refl refl is
+  where
+    both : (a b : Bool) → (e.process == p) ≡ a → (e.number == n) ≡ b → (a && b) ≡ true → (e.process ≡ p) × (e.number ≡ n)
+    both true true x y t = (eqb-true e.process p x, eqb-true e.number n y)
+    both true false x y t = absurd (cc)
+    both false b x y t = absurd (cc)
+
+edit_is : (e : PlainEdit) (p n : ℕ) → e.process ≡ p → e.number ≡ n → is_edit_of p n e ≡ true
+edit_is e p n x y = rw (eq-eqb e.process p x, eq-eqb e.number n y) refl
+
+counts_done : (es : List PlainEdit) (p n : ℕ) → phase_among es p n ≡ phase.Done → CountsAs es p n true
+counts_done [] p n is = absurd (cc)
+counts_done (e ∷ es) p n is = by (counts_done es p n) (is_edit_of p n e) refl is
+  where
+    by : (phase_among es p n ≡ phase.Done → CountsAs es p n true) → (b : Bool) → is_edit_of p n e ≡ b → (if b then phase.Done else phase_among es p n) ≡ phase.Done → CountsAs (e ∷ es) p n true
+    by again true hit t = (e, (0, (omega arith), refl), (is_edit e p n hit).0, (is_edit e p n hit).1)
+    by again false miss t = let r = again t in (r.0, (suc r.1.0, (let l = r.1.1 in omega arith), r.1.2), r.2, r.3)
+
+counts_not : (es : List PlainEdit) (p n : ℕ) → phase_among es p n ≡ phase.NotDone → CountsAs es p n false
+counts_not [] p n is = λ d there own num. absurd (let l = there.1 in omega arith)
+counts_not (e ∷ es) p n is = by (counts_not es p n) (is_edit_of p n e) refl is
+  where
+    by : (phase_among es p n ≡ phase.NotDone → CountsAs es p n false) → (b : Bool) → is_edit_of p n e ≡ b → (if b then phase.Done else phase_among es p n) ≡ phase.NotDone → CountsAs (e ∷ es) p n false
+    by again true hit t = absurd (cc)
+    by again false miss t = λ d there own num. in_list d there own num
+      where
+        in_list : (d : PlainEdit) → Contains (e ∷ es) d → d.process ≡ p → d.number ≡ n → ⊥
+        in_list d (zero, l, same) own num = (let yes : is_edit_of p n e ≡ true = edit_is e p n (ap (λ (z : PlainEdit). z.process) same ∙ own) (ap (λ (z : PlainEdit). z.number) same ∙ num) in cc)
+        in_list d (suc j, l, same) own num = again t d (j, (omega arith), same) own num
+
+counts_as : (es : List PlainEdit) (p n : ℕ) (how : Bool) → phase_among es p n ≡ phase_for how → CountsAs es p n how
+counts_as es p n true is = counts_done es p n is
+counts_as es p n false is = counts_not es p n is
+
+spent_by : (w : PlainWorld) (p n word : ℕ) (how : Bool) → Tells word how → w.memory.persisted (place.Announce p) ≡ word → n ≡ word / 4 - 1 → IsSpent w p n
+spent_by w p n word true t there is = let k = t.is in omega (arith, there, k, is)
+spent_by w p n word false t there is = let k = t.is in omega (arith, there, k, is)
+
+tells : (e : PlainRecoverCall) (how : Option Bool) (w : PlainWorld) → RecoveryFits w e.process (record e { stage = Answer how }) → RepeatsAs w e.process (end_of e how) → IsTold w e.process (Recovered (record e { stage = Answer how }) (end_of e how))
+tells e None w fits says = tt
+tells e (Some how) w fits says = record {
+  spent = spent_by w e.process (number_of e) e.announcement how fits.resolved.2 fits.resolved.1 refl;
+  holds = counts_as w.counted e.process (number_of e) how says.1;
+}
+
+-- what was told before is of an edit that was announced
+recalls : (e : PlainRecoverCall) (how : Option Bool) (w : PlainWorld) (held : List Told) → RecoveryFits w e.process (record e { stage = Answer how }) → ((t : Told) → In held t → IsTold w e.process t) → Recalls held (end_of e how)
+recalls e None w held fits told = λ d ended here. let t = told (Edited d ended) here in let spent = t.spent in let there = fits.resolved.1 in let is = fits.resolved.2 in absurd (omega (arith, spent, there, is))
+recalls e (Some k) w held fits told = λ d ended here. let t = told (Edited d ended) here in at_most d.number k t.spent fits.resolved.1 fits.resolved.2
+  where
+    at_most : (n : ℕ) (k : Bool) → IsSpent w e.process n → w.memory.persisted (place.Announce e.process) ≡ e.announcement → Tells e.announcement k → n ≤ number_of e
+    at_most n true spent there t = let is = t.is in omega (arith, spent, there, is)
+    at_most n false spent there t = let is = t.is in omega (arith, spent, there, is)
+
+module _ (layout : Layout) where
+  module _ (words : List ℕ) (b : Behind) (e : PlainRecoverCall) (x : List (BufferEntry ℕ)) (long : length words ≡ 2 * words_of layout)
+      (sound : IsSound (world_on layout words b)) (low : e.process < layout.processes) (at : b.situation e.process ≡ Recovering e) (same : b.buffer e.process ≡ x) where
+    abbrev word : ℕ
+    word = answered layout words (recovery.access_at e e.stage) x
+
+    abbrev behind : Behind
+    behind = came_to layout b e.process (after e e.stage word) (kept_back layout words (recovery.access_at e e.stage) x) b.counted (put b.open_edits e.process (recovery.open_edit_at (b.open_edits e.process) e.stage))
+
+    abbrev old : PlainWorld
+    old = world_on layout words b
+
+    abbrev new : PlainWorld
+    new = world_on layout (written layout words (recovery.access_at e e.stage) x) behind
+
+    steps : Steps e word old new
+    steps = record {
+      layout = refl;
+      memory = performed layout words b e.process (recovery.access_at e e.stage) x long (laws.accesses e old sound low at) same;
+      situation = put_here b.situation e.process (after e e.stage word) e.process refl;
+      others = λ q n. put_else b.situation e.process (after e e.stage word) q n;
+      counted = refl;
+      open_edits = put_here b.open_edits e.process (recovery.open_edit_at (b.open_edits e.process) e.stage) e.process refl;
+      others_open_edits = λ q n. put_else b.open_edits e.process (recovery.open_edit_at (b.open_edits e.process) e.stage) q n;
+    }
+
+    pub recovery_step : IsGoing e.stage
+        → (b' : Behind) × After layout words (written layout words (recovery.access_at e e.stage) x) b b' e.process (Recovering (recovery.got_at e word)) (kept_back layout words (recovery.access_at e e.stage) x)
+    recovery_step going = (
+      behind,
+      after_left layout words (written layout words (recovery.access_at e e.stage) x) b behind e.process (Recovering (recovery.got_at e word)) (kept_back layout words (recovery.access_at e e.stage) x)
+          (recovery_leaves e word old new sound low at steps) (steps.situation ∙ after_going e e.stage word going) (put_here b.buffer e.process _ e.process refl) (λ q n. put_else b.buffer e.process _ q n),
+    )
+
+  ends : (s : RecoverStage) (words : List ℕ) (b : Behind) (e : PlainRecoverCall) (x : List (BufferEntry ℕ)) (ts : Deeds) → Ran recover_rules layout (record e { stage = s }) → IsSound (world_on layout words b) → HaveMiddles (world_on layout words b) → e.process < layout.processes
+      → b.situation e.process ≡ Recovering (record e { stage = s }) → b.buffer e.process ≡ x → ((t : Told) → In ts.told t → IsTold (world_on layout words b) e.process t) → CallsHold layout e.process ts.told → Ends layout words b e.process (landed_at e s x ts)
+  ends (Answer how) words b e x ts ran sound middles low at same old reports =
+      let e' : PlainRecoverCall = record e { stage = Answer how } in
+      let s' : Situation = Idle (next_number e.announcement how) in
+      let b' : Behind = record b {
+        situation = put b.situation e.process s';
+        open_edits = put b.open_edits e.process None;
+      } in
+      let w : PlainWorld = world_on layout words b in
+      let w' : PlainWorld = world_on layout words b' in
+      let t : Steps e' 0 w w' = record {
+        layout = refl;
+        memory = (refl, record { cached = λ r. refl; persisted = λ r. refl; buffer = λ q. refl });
+        situation = put_here b.situation e.process s' e.process refl;
+        others = λ q n. put_else b.situation e.process s' q n;
+        counted = refl;
+        open_edits = put_here b.open_edits e.process None e.process refl;
+        others_open_edits = λ q n. put_else b.open_edits e.process None q n;
+      } in
+      let says : IsTold w' e.process (Recovered e' (end_of e how)) = same_told how (tells e how w (laws.fits_of e' w sound low at) (laws.repeated e' how w sound low at refl)) in
+      let aft : After layout words words b b' e.process s' x = after_left layout words words b b' e.process s' x (recovery_leaves e' 0 w w' sound low at t) t.situation same (λ q n. refl) in
+      record {
+        behind = b';
+        own = refl;
+        after = aft;
+        told = λ u inside. elim inside [
+          | inl new ↦ subst (λ (z : Told). IsTold w' e.process z) new says
+          | inr last ↦ told_on layout words words b b' e.process s' x aft e.process u (old u last)
+        ];
+        calls = ((ran, (how, refl, refl), recalls e how w ts.told (laws.fits_of e' w sound low at) old), reports);
+      }
+    where
+      same_told : (o : Option Bool) → IsTold (world_on layout words b) e.process (Recovered (record e { stage = Answer how }) (end_of e o))
+          → IsTold (world_on layout words (record b { situation = put b.situation e.process (Idle (next_number e.announcement how)); open_edits = put b.open_edits e.process None })) e.process (Recovered (record e { stage = Answer how }) (end_of e o))
+      same_told None h = tt
+      same_told (Some k) h = record { spent = h.spent; holds = h.holds }
+  ends _ words b e x ts ran sound middles low at same old reports = record { behind = b; own = refl; after = after_none layout words b e.process _ x sound at same; told = old; calls = reports }
+
+  apart : (s : RecoverStage) → IsGoing s → IsEnded s → ⊥
+  apart s go end = subst IsGoing end.1 go
+
+  pub recoveries_lawful : Lawful recover_rules layout
+  recoveries_lawful = lawful recover_rules layout
+      (λ e n. (next_same e e.stage n).process)
+      (λ words b e x long sound low at same fits go. recovery_step words b e x long sound low at same go)
+      (λ words b e f x sound low at same is. (b, after_none layout words b e.process (Recovering f) x sound (at ∙ ap Recovering is) same))
+      (λ e f is. sym (ap (λ (z : PlainRecoverCall). z.process) is))
+      (λ first e n h. (next_same e e.stage n).process ∙ h)
+      (λ words b e x ts ran sound middles low at same old reports. ends e.stage words b e x ts ran sound middles low at same old reports)
+      (λ e f x ts is go. landed_going e e.stage x ts (subst (λ (z : PlainRecoverCall). IsGoing z.stage) (sym is) go))
+      (λ e f is end. is)
+      (λ e. apart e.stage)
+      (λ words b e x sound low at same fits. let can = laws.accesses e (world_on layout words b) sound low at in (can.0, serves layout words b e.process (recovery.access_at e e.stage) can.1 x same))
+
+  -- ---- the beginning
+
+  -- a process in no call begins
+  begins : (words : List ℕ) (b : Behind) (p : ℕ) → IsSound (world_on layout words b) → p < layout.processes → MayRecover (b.situation p) → b.buffer p ≡ []
+      → (b' : Behind) × After layout words words b b' p (Recovering (fresh p (cells_of layout) layout.processes)) []
+  begins words b p sound low free empty =
+      let s : Situation = Recovering (fresh p (cells_of layout) layout.processes) in
+      let b' : Behind = record b { situation = put b.situation p s } in
+      let t : IsBegun (world_on layout words b) p (world_on layout words b') = record {
+        free = free;
+        begins = record {
+          layout = refl;
+          memory = record { cached = λ r. refl; persisted = λ r. refl; buffer = λ q. refl };
+          situation = put_here b.situation p s p refl;
+          others = λ q n. put_else b.situation p s q n;
+          counted = refl;
+          open_edits = λ q. refl;
+        };
+      } in
+      (b', after_left layout words words b b' p s [] (begin_leaves p (world_on layout words b) (world_on layout words b') sound low t) t.begins.situation empty (λ q n. refl))
+
+  -- a process that runs stops first
+  begins_after : (words : List ℕ) (b c : Behind) (p : ℕ) → p < layout.processes → After layout words words b c p Stopped []
+      → (b' : Behind) × After layout words words b b' p (Recovering (fresh p (cells_of layout) layout.processes)) []
+  begins_after words b c p low f =
+      let g = begins words c p f.sound low (subst MayRecover (sym f.now) tt) f.buffer in
+      (g.0, after_both layout words words words b c g.0 p Stopped (Recovering (fresh p (cells_of layout) layout.processes)) [] [] f g.1)
+
+  pub recovery_begins : (seat : Seated) (p : ℕ) → Ready layout seat p (Recovering (fresh p (cells_of layout) layout.processes)) []
+  recovery_begins seat p words b sound low at same = by (b.situation p) refl
+    where
+      by : (s : Situation) → b.situation p ≡ s → (b' : Behind) × After layout words words b b' p (Recovering (fresh p (cells_of layout) layout.processes)) []
+      by Stopped is = begins_after words b b p low (still layout words b p sound low is)
+      by (Idle n) is = begins_after words b (stopped layout words b p) p low (stops layout words b p sound low (λ e. cc))
+      by (Editing e) is = begins_after words b (stopped layout words b p) p low (stops layout words b p sound low (λ e'. cc))
+      by (Working e) is = begins_after words b (stopped layout words b p) p low (stops layout words b p sound low (λ e'. cc))
+      by (Recovering e) is = begins_after words b (stopped layout words b p) p low (stops layout words b p sound low (λ e'. cc))
+      by (Showing e) is = begins_after words b (stopped layout words b p) p low (stops layout words b p sound low (λ e'. cc))
+
+-- ---- one step
+
+pub falls_going : (e f : PlainRecoverCall) (s : RecoverStage) → IsGoing s → recovery.Falls e s f → recovery.rank e.cells f.stage < recovery.rank e.cells s
+falls_going e f (Answer how) g h = absurd g
+falls_going e f _ g h = h
+
+pub fewer_left : (e f : PlainRecoverCall) (word : ℕ) → f ≡ recovery.got_at e word → IsRecovery e → IsGoing e.stage → recovery.rank f.cells f.stage < recovery.rank e.cells e.stage
+fewer_left e f word is good go =
+    let h : recovery.rank e.cells (recovery.got_at e word).stage < recovery.rank e.cells e.stage = falls_going e (recovery.got_at e word) e.stage go (each_falls e word good) in
+    subst (λ (z : ℕ × RecoverStage). recovery.rank z.0 z.1 < recovery.rank e.cells e.stage) (λ i. (sym (ap (λ (z : PlainRecoverCall). z.cells) is ∙ (next_same e e.stage word).cells) i, sym (ap (λ (z : PlainRecoverCall). z.stage) is) i)) h
+
+pub fits_still : (layout : Layout) (e f : PlainRecoverCall) (word : ℕ) → f ≡ recovery.got_at e word → IsRecovery f → IsRecoveryOn layout e → IsRecoveryOn layout f
+fits_still layout e f word is good on = record {
+  is = good;
+  cells = on.cells ∙ sym (ap (λ (z : PlainRecoverCall). z.cells) is ∙ (next_same e e.stage word).cells);
+  processes = on.processes ∙ sym (ap (λ (z : PlainRecoverCall). z.processes) is ∙ (next_same e e.stage word).processes);
+}
+
+-- the call that has ended is told as it is
+pub held_at : (layout : Layout) (e : PlainRecoverCall) (s : RecoverStage) (x : List (BufferEntry ℕ)) (held : Deeds) (how : Option Bool) → s ≡ Answer how → CallsHold layout e.process (landed_at e s x held).deeds.told → CallHolds layout e.process held.told (Recovered (record e { stage = s }) (end_of e how))
+held_at layout e s x held how is h = subst (λ (z : RecoverStage). CallHolds layout e.process held.told (Recovered (record e { stage = z }) (end_of e how))) (sym is) (one (subst (λ (z : RecoverStage). CallsHold layout e.process (landed_at e z x held).deeds.told) is h))
+  where
+    one : CallsHold layout e.process (landed_at e (Answer how) x held).deeds.told → CallHolds layout e.process held.told (Recovered (record e { stage = Answer how }) (end_of e how))
+    one k = k.0
+
+pub call_held : (layout : Layout) (held : Deeds) (me : Me ℕ View) (e : PlainRecoverCall) (how : Option Bool) → e.stage ≡ Answer how → IsSettled recover_rules layout held me e → CallHolds layout e.process held.told (Recovered e (end_of e how))
+call_held layout held me e how is s = held_at layout e e.stage s.buffer held how is s.calls

@@ -1,0 +1,105 @@
+-- Every process stops: what was told stays true.
+use Rattle.std.proofs.Common.{ℕ, ◌≡◌, ◌≢◌, ◌<◌, ◌≤◌, List, [], zero, suc, refl, ap, subst, ◌∙◌, arith, le_refl, map}
+use mathlib.Core.Logic.{dite}
+use native.Mathlib.Decide.{ℕ_discrete}
+use Rattle.ds_layout.specs.declared.layout.Layout.{Layout}
+use Rattle.ds_layout.specs.SheetMemory.{entry_at}
+use Rattle.ds_state.specs.CallsFit.{CallFits, StoppedFits}
+use Rattle.ds_state.specs.Crashes.{StopsIn}
+use Rattle.ds_state.specs.Sound.{IsSound}
+use Rattle.ds_state.specs.declared.situation.Situation.{Situation}
+use Rattle.ds_state.specs.declared.situation.Situation.TheVariants.{Idle, Stopped, Editing, Working, Recovering, Showing}
+use Rattle.ds_state.proofs.Leaves.{stop_leaves}
+use Rattle.ds_drives.specs.declared.board.Told.{Told}
+use Rattle.ds_drives.specs.Rule.{put, Behind, world_on, IsTold, After, AtRest, Stops, none, stop}
+use Rattle.ds_drives.proofs.Words.{put_here, put_else}
+use Rattle.ds_drives.proofs.Behinds.{told_on, after_none, after_left, nothing_kept}
+
+module _ (layout : Layout) (words : List ℕ) where
+  abbrev pub stopped : Behind → ℕ → Behind
+  stopped b p = record b { situation = put b.situation p Stopped; buffer = put b.buffer p [] }
+
+  -- a process that runs stops
+  pub stops_in : (b : Behind) (p : ℕ) → b.situation p ≢ Stopped → StopsIn p (world_on layout words b) (world_on layout words (stopped b p))
+  stops_in b p runs = record {
+    runs = runs;
+    layout = refl;
+    memory = record {
+      cached = λ r. refl;
+      persisted = λ r. refl;
+      mine = ap (map (entry_at layout)) (put_here b.buffer p [] p refl);
+      others = λ q n. ap (map (entry_at layout)) (put_else b.buffer p [] q n);
+    };
+    situation = put_here b.situation p Stopped p refl;
+    others = λ q n. put_else b.situation p Stopped q n;
+    counted = refl;
+    open_edits = λ q. refl;
+  }
+
+  pub stops : (b : Behind) (p : ℕ) → IsSound (world_on layout words b) → p < layout.processes → b.situation p ≢ Stopped → After layout words words b (stopped b p) p Stopped []
+  stops b p sound low runs =
+      let t : StopsIn p (world_on layout words b) (world_on layout words (stopped b p)) = stops_in b p runs in
+      after_left layout words words b (stopped b p) p Stopped [] (stop_leaves p (world_on layout words b) (world_on layout words (stopped b p)) sound low t) t.situation (put_here b.buffer p [] p refl) (λ q n. put_else b.buffer p [] q n)
+
+  -- a process that has stopped has an empty buffer
+  pub still : (b : Behind) (p : ℕ) → IsSound (world_on layout words b) → p < layout.processes → b.situation p ≡ Stopped → After layout words words b b p Stopped []
+  still b p sound low at =
+      let fits : StoppedFits (world_on layout words b) p = subst (λ (s : Situation). CallFits (world_on layout words b) p s) at (sound.calls p low) in
+      after_none layout words b p Stopped [] sound at (nothing_kept layout (b.buffer p) fits.buffer)
+
+  -- it comes to rest: by a stop, or it has stopped
+  record Rested (first b : Behind) (p : ℕ) : Type 0 where
+    behind : Behind
+    after : After layout words words b behind p Stopped []
+    by : Stops layout words first behind
+
+  -- whatever it does
+  comes_to_rest : (first b : Behind) (p : ℕ) → Stops layout words first b → IsSound (world_on layout words b) → p < layout.processes → Rested first b p
+  comes_to_rest first b p so_far sound low = by_stop (b.situation p) refl
+    where
+      runs : b.situation p ≢ Stopped → Rested first b p
+      runs r = record { behind = stopped b p; after = stops b p sound low r; by = stop b (stopped b p) p so_far (stops_in b p r) }
+
+      by_stop : (s : Situation) → b.situation p ≡ s → Rested first b p
+      by_stop Stopped at = record { behind = b; after = still b p sound low at; by = so_far }
+      by_stop (Idle n) at = runs (λ e. cc)
+      by_stop (Editing e) at = runs (λ e'. cc)
+      by_stop (Working e) at = runs (λ e'. cc)
+      by_stop (Recovering e) at = runs (λ e'. cc)
+      by_stop (Showing e) at = runs (λ e'. cc)
+
+  -- the first so many processes have stopped, and what was told stayed true
+  pub record Rest (b : Behind) (n : ℕ) : Type 0 where
+    pub behind : Behind
+    pub by : Stops layout words b behind
+    pub sound : IsSound (world_on layout words behind)
+    pub now : (p : ℕ) → p < n → behind.situation p ≡ Stopped
+    pub buffer : (p : ℕ) → p < n → behind.buffer p ≡ []
+    pub told : (q : ℕ) (t : Told) → IsTold (world_on layout words b) q t → IsTold (world_on layout words behind) q t
+
+  first_rest : (b : Behind) (n : ℕ) → n ≤ layout.processes → IsSound (world_on layout words b) → Rest b n
+  first_rest b zero few sound = record { behind = b; by = none; sound = sound; now = λ p low. absurd (omega arith); buffer = λ p low. absurd (omega arith); told = λ q t h. h }
+  first_rest b (suc n) few sound =
+      let r : Rest b n = first_rest b n (omega arith) sound in
+      let one : Rested b r.behind n = comes_to_rest b r.behind n r.by r.sound (omega arith) in record {
+        behind = one.behind;
+        by = one.by;
+        sound = one.after.sound;
+        now = λ p low. dite (ℕ_discrete p n) (λ e. ap one.behind.situation e ∙ one.after.now) (λ ne. one.after.others p ne ∙ r.now p (omega arith));
+        buffer = λ p low. dite (ℕ_discrete p n) (λ e. ap one.behind.buffer e ∙ one.after.buffer) (λ ne. one.after.other_buffers p ne ∙ r.buffer p (omega arith));
+        told = λ q t h. told_on layout words words r.behind one.behind n Stopped [] one.after q t (r.told q t h);
+      }
+
+  pub record Rests (b : Behind) : Type 0 where
+    pub behind : Behind
+    pub by : Stops layout words b behind
+    pub rests : AtRest layout words behind
+    pub told : (q : ℕ) (t : Told) → IsTold (world_on layout words b) q t → IsTold (world_on layout words behind) q t
+
+  pub rests : (b : Behind) → IsSound (world_on layout words b) → Rests b
+  rests b sound = let r = first_rest b layout.processes (le_refl layout.processes) sound in record {
+    behind = r.behind;
+    by = r.by;
+    rests = record { sound = r.sound; stopped = r.now; buffer = r.buffer };
+    told = r.told;
+  }

@@ -1,0 +1,21 @@
+use Rattle.std.proofs.Common.{rules, ◌≡◌, ◌+◌, ◌*◌, ◌<◌, ℕ, arith, subst, sym, ap}
+use Rattle.ds_drives.specs.Views.{HasRest, first_now}
+use Rattle.ds_drives.specs.declared.board.View.{View}
+use Rattle.ds_drives.proofs.Dealt.{cut, may_split}
+use Rattle.ds_drives.proofs.Driving.{some_words}
+use Rattle.ds_drives.proofs.board.Board.deal.Goals as goal
+
+pub split_seat-requires : goal.split_seat-requires
+split_seat-requires c = (
+  c.requires.place.0,
+  (let a = c.args.self.now.sized.0 in let n = some_words c.args.self.now.layout in omega arith),
+  rw c.args.self.now.sized.1 (may_split (first_now c.args.stopped) c.args.self.now.layout _ c.args.process _ _ c.requires.low c.requires.rest),
+)
+
+pub returns-clause-rest : goal.returns-clause-rest
+returns-clause-rest c = let t = cut (first_now c.args.stopped) c.args.process c.args.self.now.layout.processes _ _ c.requires.low c.requires.rest in
+    rw c.split_seat.ensures.2 t.left
+
+pub returns-clause-dealt : goal.returns-clause-dealt
+returns-clause-dealt c = let t = cut (first_now c.args.stopped) c.args.process c.args.self.now.layout.processes _ _ c.requires.low c.requires.rest in
+    (c.split_seat.ensures.3, rw (c.split_seat.ensures.4, t.right) (search rules))

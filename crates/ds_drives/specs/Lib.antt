@@ -1,0 +1,10 @@
+pub mod Table
+pub mod Fuses
+pub mod Views
+pub mod Rules
+pub mod EditRules
+pub mod RecoverRules
+pub mod WorkRules
+pub mod ShowRules
+pub mod Rule
+pub mod Machines

@@ -1,0 +1,57 @@
+-- A report, as one loop drives it.
+use Rattle.std.specs.Prelude.{ℕ, ◌≡◌, List, ◌∷◌}
+use Rattle.ds_words.specs.declared.access.BufferEntry.{BufferEntry}
+use Rattle.ds_layout.specs.declared.layout.Layout.{Layout}
+use Rattle.ds_layout.specs.Places.{cells_of}
+use Rattle.ds_state.specs.Works.{PlainShowCall}
+use Rattle.ds_state.specs.ShowStages.{IsShow}
+use Rattle.ds_state.specs.declared.work.ShowEnd.{ShowEnd}
+use Rattle.ds_state.specs.declared.work.ShowStage.{ShowStage}
+use Rattle.ds_state.specs.declared.work.ShowStage.TheVariants.{Answer}
+use Rattle.ds_state.specs.declared.situation.Situation.TheVariants.{Idle, Showing}
+use Rattle.ds_show.specs.ShowSteps.{access_at, got_at, rank, fresh}
+use Rattle.ds_drives.specs.declared.board.Seated.{Seated}
+use Rattle.ds_drives.specs.declared.board.Deeds.{Deeds}
+use Rattle.ds_drives.specs.declared.board.Told.TheVariants.{Shown}
+use Rattle.ds_drives.specs.Views.{seated, told_also}
+use Rattle.ds_drives.specs.Rules.{Rules}
+
+-- not only its answer is left
+abbrev pub IsGoing : ShowStage → Type 0
+IsGoing (Answer end) = ⊥
+IsGoing _ = Unit {0}
+
+abbrev pub IsEnded : ShowStage → Type 0
+IsEnded stage = (end : ShowEnd) × (stage ≡ Answer end)
+
+-- the report is one of the sheet
+pub record IsShowOn (layout : Layout) (e : PlainShowCall) : Type 0 where
+  pub is : IsShow e
+  pub cells : cells_of layout ≡ e.cells
+  pub processes : layout.processes ≡ e.processes
+
+-- the process at a stage of its report: where only its answer is left, it is idle
+abbrev pub landed_at : PlainShowCall → ShowStage → List (BufferEntry ℕ) → Deeds → Seated
+landed_at e (Answer end) buffer deeds = seated e.process (Idle e.next) buffer (told_also deeds (Shown (record e { stage = Answer end })))
+landed_at e stage buffer deeds = seated e.process (Showing (record e { stage = stage })) buffer deeds
+
+-- the same process and number
+pub record IsOfOne (e f : PlainShowCall) : Type 0 where
+  pub process : f.process ≡ e.process
+  pub next : f.next ≡ e.next
+
+abbrev pub show_rules : Rules PlainShowCall
+show_rules = record {
+  process = λ e. e.process;
+  doing = Showing;
+  begun = λ layout e. e ≡ fresh e.process e.next (cells_of layout) layout.processes;
+  access = λ layout e. access_at e.stage;
+  next = got_at;
+  land = λ e buffer deeds. landed_at e e.stage buffer deeds;
+  goes = λ e. IsGoing e.stage;
+  ends = λ e. IsEnded e.stage;
+  fits = IsShowOn;
+  turns = λ layout e f. e ≡ f;
+  stays = IsOfOne;
+  rank = rank;
+}

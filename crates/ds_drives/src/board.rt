@@ -1,0 +1,239 @@
+//! The table, its rule, and what a seat knows.
+
+ghost use Rattle.std.specs.Prelude.{◌≡◌, ◌+◌, ◌*◌, ◌<◌, ◌≤◌, ℕ, [], ◌++◌, replicate, length, true, false, IfOk, IfErr};
+ghost use Rattle.std.specs.Mem.Slots.{slots_items, slots_len, IsFull};
+ghost use Rattle.ds_layout.specs.Places.{words_of};
+ghost use Rattle.ds_drives.specs.Views.{HasRest, In, bygone, first_now, first_view, lone, newcomer, past_of, united};
+ghost use Rattle.ds_drives.specs.Rule.{AreTrue, AtRest, Behind, Closes};
+
+use atomic_table::{Closed, Join, Play, Seat, Split, Table, TableRule};
+use ds_layout::layout::Layout;
+use ds_recover::machine::RecoveryEnd;
+use ds_state::edit::EditCall;
+use ds_state::situation::Situation;
+use ds_state::stage::Outcome;
+use ds_state::work::{RecoverCall, ShowCall, WorkCall, WorkEnd};
+use ds_words::access::BufferEntry;
+use std::alloc::{AllocError, Global};
+use std::marker::{Brand, PhantomData};
+
+/// What a process has done. No value of it is made.
+pub struct Deeds {
+    /// What its calls were answered, the last one first.
+    pub told: [Told; 0],
+    /// How many steps it took.
+    pub steps: usize,
+}
+
+/// A process of a view. No value of it is made.
+pub struct Seated {
+    /// Which process it is.
+    pub process: usize,
+    /// What it does.
+    pub now: Situation,
+    /// What it has flushed, by the numbers of words.
+    pub buffer: [BufferEntry<usize>; 0],
+    /// What it has done.
+    pub deeds: Deeds,
+}
+
+/// A call that has ended, with all that it loaded, and how it ended. No value of it is made.
+pub enum Told {
+    /// An edit.
+    Edited(EditCall, Outcome),
+    /// A work.
+    Worked(WorkCall, WorkEnd),
+    /// A recovery.
+    Recovered(RecoverCall, RecoveryEnd),
+    /// A report.
+    Shown(ShowCall),
+}
+
+/// What a seat knows. No value of it is made.
+pub struct View {
+    /// The processes that it runs.
+    pub entries: [Seated; 0],
+    /// Processes as they were when sheets before this one were closed.
+    pub past: [Seated; 0],
+}
+
+/// A seat at a table.
+pub type Place = Seat<u8, View>;
+
+/// What is fixed when the table is made.
+#[derive(Drop)]
+pub struct Key {
+    /// The sheet that its words are of.
+    pub layout: Layout,
+    /// Whether every process is stopped at first.
+    pub stopped: bool,
+    /// A seat of a sheet before, which remembers what was told.
+    pub before: Option<Place>,
+}
+
+/// The rule of the table.
+pub struct Law;
+
+impl TableRule<u8, View, Key> for Law {
+    ghost use Rattle.ds_drives.specs.Rule.{Ruled};
+    ghost use Rattle.ds_drives.specs.Views.{first_view, past_of};
+
+    ghost holds = { λ k s. Ruled k.layout s };
+
+    ghost first = { λ k. first_view k.stopped k.layout.processes (past_of k.before) };
+}
+
+/// Where a step lands: the view after it, by the number found.
+pub(crate) trait Landing {
+    ghost use Rattle.std.specs.Prelude.{ℕ};
+    ghost use Rattle.ds_drives.specs.declared.board.View.{View};
+
+    ghost next: { ℕ → View };
+
+    ghost says: { ℕ → Type 0 };
+}
+
+impl Landing for Brand {
+    ghost use Rattle.std.specs.Prelude.{[]};
+
+    ghost next = { λ n. record { entries = []; past = [] } };
+
+    ghost says = { λ n. Unit {0} };
+}
+
+pub(crate) struct Lands<J> {
+    of: PhantomData<J>,
+}
+
+impl<J: Landing> Play<u8, View> for Lands<J> {
+    ghost use Rattle.std.specs.Prelude.{◌≡◌};
+
+    ghost then = { λ st m n m'. (m' ≡ (J.next n, m.1)) × J.says n };
+}
+
+// The first process goes to a seat of its own.
+struct Behead;
+
+impl Split<View> for Behead {
+    ghost use Rattle.ds_drives.specs.Views.{tailed, headed};
+
+    ghost left = { tailed };
+
+    ghost right = { headed };
+}
+
+// A seat of no process remembers what another one knows.
+struct Remember;
+
+impl Split<View> for Remember {
+    ghost use Rattle.ds_drives.specs.Views.{bygone};
+
+    ghost left = { λ v. v };
+
+    ghost right = { bygone };
+}
+
+// A seat takes in the processes of another one.
+struct Unite;
+
+impl Join<View> for Unite {
+    ghost use Rattle.ds_drives.specs.Views.{united, nobody};
+
+    ghost both = { united };
+
+    ghost spent = { nobody };
+}
+
+/// The words of a sheet, which threads share. Nothing steps on them but the calls of this crate.
+#[derive(Drop)]
+pub struct Board {
+    pub(crate) table: Table<u8, View, Key, Law, Global>,
+    /// Its sheet.
+    pub layout: Layout,
+    pub ghost sized: { (table.shared.table_id.words ≡ 2 * words_of layout) × (table.shared.key.layout ≡ layout) × (table.shared.table_id.slots ≡ 0) },
+}
+
+impl Board {
+    /// A board of a new sheet, and a seat that runs every process. An error is a want of memory.
+    pub fn make(alloc: Global, layout: Layout) -> Result<(Board, Place), AllocError>
+        ensures layout { IfOk result (λ r. r.0.layout ≡ layout) }
+        ensures place { IfOk result (λ r. (r.1.table_id ≡ r.0.table.shared.table_id) × (r.1.me ≡ (first_view false layout.processes [], []))) }
+    {
+        let count = layout.words() * 2;
+        let words: Vec<u64, Global> = vec![in alloc; 0; count]?;
+        let key = Key {
+            layout,
+            stopped: false,
+            before: None,
+        };
+        let (table, place) = Table::of_words(alloc, words.as_slice(), &key)?;
+        Ok((Board { table, layout }, place))
+    }
+
+    /// A board with these words, and a seat that runs every process, each of which has stopped. The
+    /// seat of a sheet before remembers what was told there; where memory is wanting it comes back.
+    pub fn remake(
+        alloc: Global,
+        layout: Layout,
+        words: &[u64],
+        before: Place,
+    ) -> Result<(Board, Place), Place>
+        requires long { length words.now ≡ 2 * words_of layout }
+        requires rests { (b : Behind) × AtRest layout words.now b × AreTrue layout words.now b before.me.0.past }
+        ensures layout { IfOk result (λ r. r.0.layout ≡ layout) }
+        ensures place { IfOk result (λ r. (r.1.table_id ≡ r.0.table.shared.table_id) × (r.1.me ≡ (first_view true layout.processes before.me.0.past, []))) }
+        ensures back { IfErr result (λ s. s ≡ before) }
+    {
+        let key = Key {
+            layout,
+            stopped: true,
+            before: Some(before),
+        };
+        match Table::of_words(alloc, words, &key) {
+            Ok((table, place)) => Ok((Board { table, layout }, place)),
+            Err(_) => match key.before {
+                Some(before) => Err(before),
+                None => unreachable!(),
+            },
+        }
+    }
+
+    /// A seat for the first process of one that runs all from this one on, before their first call.
+    pub fn deal(&self, rest: &mut Place, process: usize, stopped: bool) -> Place
+        requires place { (rest.old.table_id ≡ self.now.table.shared.table_id) × (rest.old.me.1 ≡ []) }
+        requires low { process < self.now.layout.processes }
+        requires rest { HasRest (first_now stopped) process self.now.layout.processes rest.old.me.0.past rest.old.me.0 }
+        ensures place { (rest.new.table_id ≡ rest.old.table_id) × (rest.new.me.1 ≡ []) }
+        ensures rest { HasRest (first_now stopped) (process + 1) self.now.layout.processes rest.old.me.0.past rest.new.me.0 }
+        ensures past { rest.new.me.0.past ≡ rest.old.me.0.past }
+        ensures dealt { (result.table_id ≡ rest.old.table_id) × (result.me ≡ (lone (newcomer (first_now stopped) process), [])) }
+    {
+        let _process = process;
+        let _stopped = stopped;
+        let _words = self.layout.words();
+        self.table.shared.split_seat::<Behead>(rest)
+    }
+
+    /// A seat takes in the processes of another one.
+    pub fn join(&self, place: &mut Place, other: Place)
+        requires place { place.old.table_id ≡ self.now.table.shared.table_id }
+        requires other { (other.table_id ≡ self.now.table.shared.table_id) × (other.me.1 ≡ []) }
+        ensures { (place.new.table_id ≡ place.old.table_id) × (place.new.me ≡ (united place.old.me.0 other.me.0, place.old.me.1)) }
+    {
+        let _words = self.layout.words();
+        self.table.shared.join_seat::<Unite>(place, other);
+    }
+
+    /// Ends the board, with a seat: its words, and a seat that remembers what this one knows.
+    pub fn close(self, mut place: Place) -> (Closed<u8, Global>, Place)
+        requires { (place.table_id ≡ self.table.shared.table_id) × (place.me.1 ≡ []) }
+        ensures counts { (slots_len result.0.words ≡ 2 * words_of self.layout) × (slots_len result.0.slots ≡ 0) × IsFull result.0.words }
+        ensures past { result.1.me.0.past ≡ place.me.0.past ++ place.me.0.entries }
+        ensures stand { Closes self.layout (slots_items result.0.words) (In place.me.0.entries) (place.me.0.past ++ place.me.0.entries) }
+    {
+        let _words = self.layout.words();
+        let before = self.table.shared.split_seat::<Remember>(&mut place);
+        let Board { table, layout: _ } = self;
+        (table.close_with(place), before)
+    }
+}

@@ -1,0 +1,64 @@
+//! The loop that drives a call.
+
+ghost use Rattle.std.specs.Prelude.{◌≡◌, ◌*◌, ℕ, [], MatchBool};
+ghost use Rattle.ds_layout.specs.Places.{words_of};
+ghost use Rattle.ds_drives.specs.Fuses.{Asked};
+ghost use Rattle.ds_drives.specs.Views.{deeds_at, steps_later};
+ghost use Rattle.ds_drives.specs.Rules.{Came};
+ghost use Rattle.ds_drives.specs.Rule.{Poised};
+ghost use Rattle.ds_drives.specs.Machines.{IsServed, IsSettled, IsBroken};
+
+use crate::board::{Key, Law, Place, View};
+use crate::fuse::Fuse;
+use crate::machine::Machine;
+use crate::steps::{Buffer, access, answer, keep, numbered, oldest};
+use arrayvec::ArrayVec;
+use atomic_table::Shared;
+use ds_layout::layout::Layout;
+use std::alloc::Global;
+use std::marker::Brand;
+
+/// Takes the call's steps, as long as the fuse says yes. Says whether it came to its end.
+pub(crate) fn drive<M: Machine, F: Fuse>(
+    alloc: Global,
+    shared: &Shared<u8, View, Key, Law>,
+    layout: &Layout,
+    seat: &mut Place,
+    call: &mut M,
+    fuse: &mut F,
+) -> bool
+    requires table { (seat.old.table_id ≡ shared.now.table_id) × (shared.now.table_id.words ≡ 2 * words_of layout.now) × (shared.now.key.layout ≡ layout.now) }
+    requires fits { M.rules.fits layout.now call.old }
+    requires goes { M.rules.goes call.old }
+    requires serves { IsServed M.rules layout.now call.old [] }
+    requires begun { M.rules.begun layout.now call.old }
+    requires poised { Poised layout.now (steps_later (deeds_at seat.old.me) 0) seat.old.me (M.rules.process call.old) (M.rules.doing call.old) [] }
+    requires stays { M.rules.stays call.old call.old }
+    ensures seat { (seat.new.table_id ≡ seat.old.table_id) × (seat.new.id ≡ seat.old.id) }
+    ensures fits { M.rules.fits layout.now call.new }
+    ensures stays { M.rules.stays call.old call.new }
+    ensures came { Came M.rules layout.now call.old call.new }
+    ensures me { MatchBool result ((n : ℕ) × Asked F.said fuse.old fuse.new n 0 × IsSettled M.rules layout.now (steps_later (deeds_at seat.old.me) n) seat.new.me call.new) ((n : ℕ) × Asked F.said fuse.old fuse.new n 1 × IsBroken M.rules layout.now call.old seat.old.me (steps_later (deeds_at seat.old.me) n) seat.new.me) }
+{
+    call.law(layout);
+    let _count = layout.words();
+    let mut buffer: Buffer = ArrayVec::new();
+    while call.is_going(layout) {
+        if !fuse.go() {
+            return false;
+        }
+        let wanted = numbered(layout, call.want(layout));
+        let found = access::<Brand, M>(
+            shared,
+            seat,
+            layout,
+            call,
+            &buffer,
+            wanted,
+            oldest(&buffer),
+        );
+        keep(&mut buffer, layout, wanted, found);
+        call.got(alloc, layout, answer(wanted, found));
+    }
+    true
+}

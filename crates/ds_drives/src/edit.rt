@@ -1,0 +1,81 @@
+//! Edits on the board.
+
+ghost use Rattle.std.specs.Prelude.{◌≡◌, ◌<◌, ℕ, [], MatchBool};
+ghost use Rattle.ds_state.specs.Edits.{IsEdit};
+ghost use Rattle.ds_state.specs.declared.situation.Situation.TheVariants.{Idle};
+ghost use Rattle.ds_drives.specs.EditRules.{IsFirst, edit_rules};
+ghost use Rattle.ds_drives.specs.Fuses.{Asked};
+ghost use Rattle.ds_drives.specs.Views.{deeds_at, lone, sole, steps_later};
+ghost use Rattle.ds_drives.specs.Rules.{Came};
+ghost use Rattle.ds_drives.specs.Machines.{IsBroken, IsSettled};
+
+use crate::board::{Board, Place};
+use crate::drive::drive;
+use crate::fuse::Fuse;
+use crate::machine::Machine;
+use ds_edit::machine::{got, want};
+use ds_layout::layout::Layout;
+use ds_layout::place;
+use ds_state::edit::EditCall;
+use ds_state::stage::Stage;
+use ds_words::access::Access;
+use std::alloc::Global;
+
+// It is an edit of a sheet.
+fn is_edit(call: &EditCall)
+    ensures { IsEdit call.now }
+{
+    let _stage = call.stage;
+}
+
+impl Machine for EditCall {
+    ghost use Rattle.ds_drives.specs.EditRules.{edit_rules};
+
+    ghost rules = { edit_rules };
+
+    fn is_going(&self, layout: &Layout) -> bool {
+        let _layout = layout;
+        match self.stage {
+            Stage::Answer(_) => false,
+            _ => true,
+        }
+    }
+
+    fn want(&self, layout: &Layout) -> Access<place::Place> {
+        let _layout = layout;
+        want(self)
+    }
+
+    fn got(&mut self, alloc: Global, layout: &Layout, word: u64) {
+        let (_alloc, _layout) = (alloc, layout);
+        got(self, word);
+        is_edit(self);
+    }
+
+    fn law(&self, layout: &Layout) {
+        let _layout = layout;
+    }
+}
+
+impl Board {
+    /// An idle process makes the edit, as long as the fuse says yes. Says whether it came to its end.
+    pub fn edit<F: Fuse>(
+        &self,
+        alloc: Global,
+        place: &mut Place,
+        call: &mut EditCall,
+        fuse: &mut F,
+    ) -> bool
+        requires place { (place.old.table_id ≡ self.now.table.shared.table_id) × (place.old.me ≡ (lone (sole place.old), [])) × ((sole place.old).process ≡ call.old.process) }
+        requires idle { (sole place.old).now ≡ Idle call.old.number }
+        requires begun { IsFirst self.now.layout call.old }
+        ensures place { place.new.table_id ≡ place.old.table_id }
+        ensures fits { edit_rules.fits self.now.layout call.new }
+        ensures stays { edit_rules.stays call.old call.new }
+        ensures came { Came edit_rules self.now.layout call.old call.new }
+        ensures me { MatchBool result ((n : ℕ) × Asked F.said fuse.old fuse.new n 0 × IsSettled edit_rules self.now.layout (steps_later (deeds_at place.old.me) n) place.new.me call.new) ((n : ℕ) × Asked F.said fuse.old fuse.new n 1 × IsBroken edit_rules self.now.layout call.old place.old.me (steps_later (deeds_at place.old.me) n) place.new.me) }
+    {
+        is_edit(call);
+        drive(alloc, &self.table.shared, &self.layout, place, call, fuse)
+    }
+}

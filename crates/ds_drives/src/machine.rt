@@ -1,0 +1,40 @@
+//! A call of any kind, as one loop drives it.
+
+ghost use Rattle.std.specs.Prelude.{◌<◌, ◌≡◌, MatchBool};
+ghost use Rattle.ds_drives.specs.Machines.{Lawful};
+
+use ds_layout::layout::Layout;
+use ds_layout::place::Place;
+use ds_words::access::Access;
+use std::alloc::Global;
+
+/// A call of a process: an edit, work, a recovery or a report.
+pub(crate) trait Machine {
+    ghost use Rattle.ds_drives.specs.Rules.{Rules};
+
+    /// What the call says of itself.
+    ghost rules: { Rules Self };
+
+    /// Whether a step that touches a word is left, or the answer alone.
+    fn is_going(&self, layout: &Layout) -> bool
+        requires { rules.fits layout.now self.now }
+        ensures { MatchBool result (rules.goes self.now) (rules.ends self.now) };
+
+    /// The access of its next step.
+    fn want(&self, layout: &Layout) -> Access<Place>
+        requires { rules.fits layout.now self.now }
+        ensures { result ≡ rules.access layout.now self.now };
+
+    /// Goes on with the word that its access answered, up to its next step that touches a word.
+    fn got(&mut self, alloc: Global, layout: &Layout, word: u64)
+        requires fits { rules.fits layout.now self.old }
+        requires goes { rules.goes self.old }
+        ensures turns { rules.turns layout.now (rules.next self.old word) self.new }
+        ensures fits { rules.fits layout.now self.new }
+        ensures stays { (first : Self) → rules.stays first self.old → rules.stays first self.new }
+        ensures fewer { rules.rank self.new < rules.rank self.old };
+
+    /// Its steps are ones that the table's rule allows.
+    fn law(&self, layout: &Layout)
+        ensures { Lawful rules layout.now };
+}

@@ -1,0 +1,82 @@
+//! Reports on the board.
+
+ghost use Rattle.std.specs.Prelude.{◌≡◌, ◌<◌, ℕ, [], MatchBool};
+ghost use Rattle.ds_layout.specs.Places.{cells_of};
+ghost use Rattle.ds_state.specs.ShowStages.{IsShow};
+ghost use Rattle.ds_state.specs.declared.situation.Situation.TheVariants.{Idle};
+ghost use Rattle.ds_show.specs.ShowSteps.{fresh};
+ghost use Rattle.ds_drives.specs.ShowRules.{show_rules};
+ghost use Rattle.ds_drives.specs.Fuses.{Asked};
+ghost use Rattle.ds_drives.specs.Views.{deeds_at, lone, sole, steps_later};
+ghost use Rattle.ds_drives.specs.Rules.{Came};
+ghost use Rattle.ds_drives.specs.Machines.{IsBroken, IsSettled};
+
+use crate::board::{Board, Place};
+use crate::drive::drive;
+use crate::fuse::Fuse;
+use crate::machine::Machine;
+use ds_layout::layout::Layout;
+use ds_layout::place;
+use ds_show::machine::{got, want};
+use ds_state::work::{ShowCall, ShowStage};
+use ds_words::access::Access;
+use std::alloc::Global;
+
+// It is a report of a sheet.
+fn is_show(call: &ShowCall)
+    ensures { IsShow call.now }
+{
+    let _stage = call.stage;
+}
+
+impl Machine for ShowCall {
+    ghost use Rattle.ds_drives.specs.ShowRules.{show_rules};
+
+    ghost rules = { show_rules };
+
+    fn is_going(&self, layout: &Layout) -> bool {
+        let _layout = layout;
+        match self.stage {
+            ShowStage::Answer(_) => false,
+            _ => true,
+        }
+    }
+
+    fn want(&self, layout: &Layout) -> Access<place::Place> {
+        let _layout = layout;
+        want(self)
+    }
+
+    fn got(&mut self, alloc: Global, layout: &Layout, word: u64) {
+        let (_alloc, _layout) = (alloc, layout);
+        got(self, word);
+        is_show(self);
+    }
+
+    fn law(&self, layout: &Layout) {
+        let _layout = layout;
+    }
+}
+
+impl Board {
+    /// An idle process reports the sheet, as long as the fuse says yes. Says whether it came to its end.
+    pub fn show<F: Fuse>(
+        &self,
+        alloc: Global,
+        place: &mut Place,
+        call: &mut ShowCall,
+        fuse: &mut F,
+    ) -> bool
+        requires place { (place.old.table_id ≡ self.now.table.shared.table_id) × (place.old.me ≡ (lone (sole place.old), [])) × ((sole place.old).process ≡ call.old.process) }
+        requires idle { (sole place.old).now ≡ Idle call.old.next }
+        requires begun { call.old ≡ fresh call.old.process call.old.next (cells_of self.now.layout) self.now.layout.processes }
+        ensures place { place.new.table_id ≡ place.old.table_id }
+        ensures fits { show_rules.fits self.now.layout call.new }
+        ensures stays { show_rules.stays call.old call.new }
+        ensures came { Came show_rules self.now.layout call.old call.new }
+        ensures me { MatchBool result ((n : ℕ) × Asked F.said fuse.old fuse.new n 0 × IsSettled show_rules self.now.layout (steps_later (deeds_at place.old.me) n) place.new.me call.new) ((n : ℕ) × Asked F.said fuse.old fuse.new n 1 × IsBroken show_rules self.now.layout call.old place.old.me (steps_later (deeds_at place.old.me) n) place.new.me) }
+    {
+        is_show(call);
+        drive(alloc, &self.table.shared, &self.layout, place, call, fuse)
+    }
+}

@@ -1,0 +1,137 @@
+//! One access is one step on the table.
+
+ghost use Rattle.std.specs.Prelude.{◌≡◌, ◌+◌, ◌*◌, ◌<◌, ◌^◌, ℕ, length};
+ghost use Rattle.atomic_table.specs.Table.{Allows};
+ghost use Rattle.ds_words.specs.declared.words.TheConstants.{BUFFER_ENTRIES};
+ghost use Rattle.ds_layout.specs.Places.{words_of};
+ghost use Rattle.ds_layout.specs.SheetMemory.{access_at, NamesPlace};
+ghost use Rattle.ds_drives.specs.Rule.{Ruled, class_in};
+ghost use Rattle.ds_drives.specs.Table.{oldest_of, rest_of, word_of, change, told, answer, buffer_after, HasRoom, IsBelow};
+
+use crate::board::{Key, Landing, Lands, Law, Place, View};
+use arrayvec::ArrayVec;
+use atomic_table::Shared;
+use ds_layout::layout::Layout;
+use ds_layout::place;
+use ds_words::access::{Access, BufferEntry, Class};
+use ds_words::words::BUFFER_ENTRIES;
+
+/// What a process has flushed and not written back.
+pub(crate) type Buffer = ArrayVec<BufferEntry<usize>, BUFFER_ENTRIES>;
+
+/// The oldest entry.
+pub(crate) fn oldest(buffer: &Buffer) -> Option<BufferEntry<usize>>
+    ensures { result ≡ oldest_of buffer.now.items }
+{
+    if buffer.is_empty() {
+        None
+    } else {
+        Some(buffer[0])
+    }
+}
+
+/// The access by the number of its word.
+pub(crate) fn numbered(layout: &Layout, access: Access<place::Place>) -> Access<usize>
+    requires { NamesPlace layout.now access }
+    ensures { result ≡ access_at layout.now access }
+{
+    match access {
+        Access::Nothing => Access::Nothing,
+        Access::Load(place) => Access::Load(layout.number(place)),
+        Access::Store(place, value) => Access::Store(layout.number(place), value),
+        Access::Or(place, bits) => Access::Or(layout.number(place), bits),
+        Access::SwapIf {
+            place,
+            expected,
+            value,
+        } => Access::SwapIf {
+            place: layout.number(place),
+            expected,
+            value,
+        },
+        Access::Flush(place) => Access::Flush(layout.number(place)),
+        Access::Back => Access::Back,
+    }
+}
+
+/// Makes the access on the table, and answers what its step tells. The call, the layout and the
+/// buffer tell the proof whose step it is.
+pub(crate) fn access<J: Landing, M>(
+    shared: &Shared<u8, View, Key, Law>,
+    seat: &mut Place,
+    layout: &Layout,
+    call: &M,
+    buffer: &Buffer,
+    want: Access<usize>,
+    oldest: Option<BufferEntry<usize>>,
+) -> u64
+    requires table { seat.old.table_id ≡ shared.now.table_id }
+    requires within { (word_of want oldest < shared.now.table_id.words) × (shared.now.table_id.words < 2 ^ 32) }
+    requires step { Allows (Ruled shared.now.key.layout) shared.now.table_id.slots seat.old.id seat.old.me (word_of want oldest) (change want oldest) (λ n m'. (m' ≡ (J.next (told want oldest n), seat.old.me.1)) × J.says (told want oldest n)) }
+    ensures seat { (seat.new.table_id ≡ seat.old.table_id) × (seat.new.id ≡ seat.old.id) }
+    ensures landed { seat.new.me ≡ (J.next result, seat.old.me.1) }
+    ensures said { J.says result }
+{
+    let (_layout, _call, _buffer) = (layout, call, buffer);
+    match want {
+        Access::Nothing => shared.load::<Lands<J>>(seat, 0),
+        Access::Load(word) => shared.load::<Lands<J>>(seat, 2 * word),
+        Access::Store(word, value) => {
+            shared.store::<Lands<J>>(seat, 2 * word, value);
+            value
+        }
+        Access::Or(word, bits) => shared.fetch_or::<Lands<J>>(seat, 2 * word, bits),
+        Access::SwapIf {
+            place: word,
+            expected,
+            value,
+        } => { shared.compare_exchange::<Lands<J>>(seat, 2 * word, expected, value) }
+        Access::Flush(word) => shared.load::<Lands<J>>(seat, 2 * word),
+        Access::Back => match oldest {
+            None => shared.load::<Lands<J>>(seat, 0),
+            Some(entry) => {
+                let word = 2 * entry.place + 1;
+                match entry.class {
+                    Class::Stamped => shared.fetch_max::<Lands<J>>(seat, word, entry.value),
+                    Class::Bit => shared.fetch_or::<Lands<J>>(seat, word, entry.value),
+                    Class::Owned => {
+                        shared.store::<Lands<J>>(seat, word, entry.value);
+                        entry.value
+                    }
+                }
+            }
+        },
+    }
+}
+
+/// What the access answers, where its step told this number.
+pub(crate) fn answer(want: Access<usize>, found: u64) -> u64
+    ensures { result ≡ answer want found }
+{
+    match want {
+        Access::Load(_) | Access::SwapIf { .. } => found,
+        Access::Nothing | Access::Store(_, _) | Access::Or(_, _) => 0,
+        Access::Flush(_) | Access::Back => 0,
+    }
+}
+
+/// The buffer after an access whose step told this number.
+pub(crate) fn keep(buffer: &mut Buffer, layout: &Layout, want: Access<usize>, found: u64)
+    requires room { HasRoom want buffer.old.items }
+    requires word { IsBelow (words_of layout.now) want }
+    ensures { buffer.new.items ≡ buffer_after (class_in layout.now) want buffer.old.items found }
+{
+    match want {
+        Access::Flush(word) => buffer.push(BufferEntry {
+            place: word,
+            class: layout.place(word).class(),
+            value: found,
+        }),
+        Access::Back => {
+            if !buffer.is_empty() {
+                let _entry = buffer.remove(0);
+            }
+        }
+        _ => {}
+    }
+}

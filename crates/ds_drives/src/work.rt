@@ -1,0 +1,88 @@
+//! Works on the board.
+
+ghost use Rattle.std.specs.Prelude.{◌≡◌, ◌<◌, ℕ, [], MatchBool};
+ghost use Rattle.ds_layout.specs.Places.{cells_of};
+ghost use Rattle.ds_state.specs.declared.situation.Situation.TheVariants.{Idle};
+ghost use Rattle.ds_work.specs.WorkTakes.{IsAskedFor};
+ghost use Rattle.ds_drives.specs.WorkRules.{Turned, work_rules};
+ghost use Rattle.ds_drives.specs.Fuses.{Asked};
+ghost use Rattle.ds_drives.specs.Views.{deeds_at, lone, sole, steps_later};
+ghost use Rattle.ds_drives.specs.Rules.{Came};
+ghost use Rattle.ds_drives.specs.Machines.{IsBroken, IsSettled};
+
+use crate::board::{Board, Place};
+use crate::drive::drive;
+use crate::fuse::Fuse;
+use crate::machine::Machine;
+use ds_layout::layout::Layout;
+use ds_layout::place;
+use ds_state::work::{WorkCall, WorkStage};
+use ds_words::access::Access;
+use ds_work::laws::works_are_of_a_sheet;
+use ds_work::machine::{got, want};
+use ds_work::offer::offer_to;
+use ds_work::reading::reading;
+use std::alloc::Global;
+
+// It reads its content, or takes its entry, where one of these is next.
+fn turn(alloc: Global, layout: &Layout, call: &mut WorkCall)
+    requires { cells_of layout.now ≡ call.old.cells }
+    ensures { Turned layout.now call.old call.new }
+{
+    match call.stage {
+        WorkStage::Read => reading(alloc, call, layout.shape),
+        WorkStage::Wait => offer_to(call, layout.shape),
+        _ => (),
+    }
+}
+
+impl Machine for WorkCall {
+    ghost use Rattle.ds_drives.specs.WorkRules.{work_rules};
+
+    ghost rules = { work_rules };
+
+    fn is_going(&self, layout: &Layout) -> bool {
+        let _layout = layout;
+        match self.stage {
+            WorkStage::Answer(_) => false,
+            _ => true,
+        }
+    }
+
+    fn want(&self, layout: &Layout) -> Access<place::Place> {
+        want(self, layout.shape)
+    }
+
+    fn got(&mut self, alloc: Global, layout: &Layout, word: u64) {
+        got(self, word);
+        turn(alloc, layout, self);
+        works_are_of_a_sheet(self);
+    }
+
+    fn law(&self, layout: &Layout) {
+        let _layout = layout;
+    }
+}
+
+impl Board {
+    /// An idle process works, as long as the fuse says yes. Says whether it came to its end.
+    pub fn work<F: Fuse>(
+        &self,
+        alloc: Global,
+        place: &mut Place,
+        call: &mut WorkCall,
+        fuse: &mut F,
+    ) -> bool
+        requires place { (place.old.table_id ≡ self.now.table.shared.table_id) × (place.old.me ≡ (lone (sole place.old), [])) × ((sole place.old).process ≡ call.old.process) }
+        requires idle { (sole place.old).now ≡ Idle call.old.next }
+        requires begun { IsAskedFor self.now.layout call.old.process call.old.next call.old.cell call.old }
+        ensures place { place.new.table_id ≡ place.old.table_id }
+        ensures fits { work_rules.fits self.now.layout call.new }
+        ensures stays { work_rules.stays call.old call.new }
+        ensures came { Came work_rules self.now.layout call.old call.new }
+        ensures me { MatchBool result ((n : ℕ) × Asked F.said fuse.old fuse.new n 0 × IsSettled work_rules self.now.layout (steps_later (deeds_at place.old.me) n) place.new.me call.new) ((n : ℕ) × Asked F.said fuse.old fuse.new n 1 × IsBroken work_rules self.now.layout call.old place.old.me (steps_later (deeds_at place.old.me) n) place.new.me) }
+    {
+        works_are_of_a_sheet(call);
+        drive(alloc, &self.table.shared, &self.layout, place, call, fuse)
+    }
+}
