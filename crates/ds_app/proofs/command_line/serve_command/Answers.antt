@@ -15,7 +15,9 @@ returns c =
     let four = grown _ _ _ _ _ c.in_ok-arg-3.ensures three c.number_option-processes.ensures.rule c.number_option-processes.ensures.local in
     let five = grown _ _ _ _ _ c.in_ok-arg-4.ensures four c.number_option-workers.ensures.rule c.number_option-workers.ensures.local in
     let six = grown _ _ _ _ _ c.in_ok-server.ensures five c.number_option-sessions.ensures.rule c.number_option-sessions.ensures.local in
+    let seven = grown _ _ _ _ _ c.in_ok-arg-5.ensures six c.number_option-at_once.ensures.rule c.number_option-at_once.ensures.local in
+    let eight = grown _ _ _ _ _ c.in_ok-arg-6.ensures seven c.number_option-idle.ensures.rule c.number_option-idle.ensures.local in
     IfOk-weaker c.bin_name.result _ _ (λ r h. record {
-      is = ap app_of_fields h.0 ∙ six.is;
-      local = ap has_globals h.0 ∙ six.local;
+      is = ap app_of_fields h.0 ∙ eight.is;
+      local = ap has_globals h.0 ∙ eight.local;
     }) c.bin_name.ensures
