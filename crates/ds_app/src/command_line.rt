@@ -4,7 +4,7 @@ ghost use Rattle.std.specs.Prelude.{◌≡◌, ◌↔◌, IfErr, IfOk, IsTrue, S
 ghost use Rattle.std.specs.String.{string_bytes};
 ghost use Rattle.clap.specs.Words.{app_of, fault_of, found_of, one_of, rows_of, rule_of};
 ghost use Rattle.ds_app.specs.declared.command_line.OptionsFault.TheVariants.{CommandLine};
-ghost use Rattle.ds_app.specs.CommandLines.{Asks, AsksNothing, IsAskedBy, IsCommand, IsRefusedFor, IsWanting, dsheet, listen as listen_rule, number_option as number_rule, report_command as report_app, run_command as run_app, serve_command as serve_app};
+ghost use Rattle.ds_app.specs.CommandLines.{Asks, AsksNothing, IsAskedBy, IsCommand, IsRefusedFor, IsWanting, dsheet, listen as listen_rule, number_option as number_rule, report_command as report_app, run_command as run_app, serve_command as serve_app, sheet_command as sheet_app};
 
 use crate::serving::{OutOfLimits, Serving, read_serving};
 use clap::{Arg, ArgAction, ArgMatches, Command, Error, value_parser};
@@ -189,8 +189,9 @@ fn listen_option<'a>(alloc: Global) -> Arg<'a>
         .help("The address and the port, as 127.0.0.1:8080")
 }
 
-fn serve_command<'a>(alloc: Global) -> Result<Command<'a>, AllocError>
-    ensures { IfOk result (IsCommand serve_app) }
+// `dsheet serve` with its sheet, its processes and its sessions.
+fn sheet_command<'a>(alloc: Global) -> Result<Command<'a>, AllocError>
+    ensures { IfOk result (IsCommand sheet_app) }
 {
     let columns = number_option(alloc, "columns", "2", "Columns of the sheet, 1 to 26");
     let rows = number_option(alloc, "rows", "2", "Rows of the sheet, 1 to 64");
@@ -198,17 +199,25 @@ fn serve_command<'a>(alloc: Global) -> Result<Command<'a>, AllocError>
     let workers = number_option(alloc, "workers", "0", "Workers, fewer than the processes");
     let sessions_help = "Sessions that join a process before the server ends; 0: until it is told to stop";
     let sessions = number_option(alloc, "sessions", "0", sessions_help);
-    let at_once_help = "Sessions at once, at least 1; a connection beyond them is refused";
-    let at_once = number_option(alloc, "at-once", "64", at_once_help);
-    let idle_help = "Seconds for which a client may say or take nothing; 0: for ever";
-    let idle = number_option(alloc, "idle", "300", idle_help);
     let command = Command::new(alloc, "serve")
         .about("Serves a sheet to clients, each a session of JSON lines over a connection")
         .after_help(SERVE_HELP);
     let sheet = command.arg(listen_option(alloc))?.arg(columns)?.arg(rows)?;
     let server = sheet.arg(processes)?.arg(workers)?.arg(sessions)?;
-    let bounded = server.arg(at_once)?.arg(idle)?;
-    bounded.bin_name("dsheet serve")
+    Ok(server)
+}
+
+fn serve_command<'a>(alloc: Global) -> Result<Command<'a>, AllocError>
+    ensures { IfOk result (IsCommand serve_app) }
+{
+    let command = sheet_command(alloc)?;
+    let at_once_help = "Sessions at once, at least 1; a connection beyond them is refused";
+    let at_once = number_option(alloc, "at-once", "64", at_once_help);
+    let idle_help = "Seconds for which a client may say or take nothing; 0: for ever";
+    let idle = number_option(alloc, "idle", "300", idle_help);
+    let one = command.arg(at_once)?;
+    let two = one.arg(idle)?;
+    two.bin_name("dsheet serve")
 }
 
 fn program<'a>(alloc: Global) -> Result<Command<'a>, AllocError>

@@ -1,10 +1,13 @@
 //! `dsheet serve`.
 
+ghost use Rattle.std.specs.Prelude.{◌≤◌};
+ghost use Rattle.ds_formula.specs.Limits.{PROCESSES_MOST};
 ghost use Rattle.ds_app.specs.Servings.{IsWithinLimits};
 
 use crate::control::{Control, listen};
 use crate::serving::Serving;
 use crate::status::{NO_MEMORY, STREAM_FAILED};
+use ds_serve::counts::Taken;
 use ds_serve::door::Door;
 use ds_serve::server::{ServeError, Service};
 use log::Log;
@@ -55,7 +58,9 @@ pub fn serve<
     let (shape, processes) = (serving.shape, serving.processes);
     let (served, ()) = thread::join(
         rt,
-        || {
+        || -> Result<Taken, ServeError>
+            requires { (1 ≤ processes) × (processes ≤ PROCESSES_MOST) }
+        {
             let served =
                 ds_serve::server::serve(rt, rt.alloc(), &listener, shape, processes, &door, service);
             door.end();
