@@ -263,14 +263,15 @@ passed "a session that is too long: all answers, and why it ends"
 
 # ---- descriptors
 
-# Room for one session alone. The next client waits until the first has ended, and is served then, however often a
+# Room for one session alone, beside the listener and what waits for standard input. The next client waits until the first has ended, and is served then, however often a
 # descriptor is wanting before.
+exec 9<>"$room/control"
 (
     for descriptor in 3 4 5 6 7 8 9; do
         eval "exec $descriptor>&-"
     done
     ulimit -n 6
-    exec timeout "$whole" "$program" serve --listen 127.0.0.1:0 --sessions 2 </dev/null 2>"$log"
+    exec timeout "$whole" "$program" serve --listen 127.0.0.1:0 --sessions 2 <"$room/control" 2>"$log"
 ) &
 server=$!
 listens
