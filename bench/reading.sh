@@ -2,7 +2,7 @@
 # The time to read formulas, by the byte, beside that of a plain scan of as many bytes: a script of 2,048 formulas of 116
 # bytes, each refused at its end, where it is read whole and no edit has begun; and one of as many comment lines, whose
 # bytes are only searched for their ends. The least of nine runs each, less the run of an empty script.
-# Run it after a build: ./dsheet --help >/dev/null; bench/reading.sh
+# Run it after a build: ./dsheet build; bench/reading.sh
 set -eu
 top=$(CDPATH= cd -- "$(dirname -- "$0")/.." && pwd)
 program=$top/crates/ds_app/out/ds_app

@@ -4,7 +4,7 @@
 # same sheets, settle and report, beside `dsheet report`, a plain program that makes the same steps (steps.cpp) and
 # ssconvert, where that is installed; and whole edits and works of `dsheet run`, beside that plain program, by time and,
 # where valgrind is installed, by instructions. Answers are compared first.
-# Run it after a build: ./dsheet --help >/dev/null; bench/run.sh
+# Run it after a build: ./dsheet build; bench/run.sh
 set -eu
 here=$(CDPATH= cd -- "$(dirname -- "$0")" && pwd)
 program=$here/../crates/ds_app/out/ds_app

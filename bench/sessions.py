@@ -25,7 +25,7 @@ def over_loopback(program, clients_program, clients, workers):
     port = free_port()
     words = [program, "serve", "--listen", f"127.0.0.1:{port}", "--columns", "16", "--rows", "64", "--processes", "8"]
     words += ["--workers", str(workers), "--sessions", str(clients)]
-    server = subprocess.Popen(words, stdin=subprocess.DEVNULL)
+    server = subprocess.Popen(words, stdin=subprocess.DEVNULL, stderr=subprocess.DEVNULL)
     try:
         asked = [clients_program, str(port), str(clients), str(EDITS)]
         return float(subprocess.run(asked, stdout=subprocess.PIPE, check=True, timeout=60).stdout)

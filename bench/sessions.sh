@@ -1,7 +1,7 @@
 #!/bin/sh
 # What an edit costs over loopback, with 1, 2 and 4 clients and 0, 1 and 2 workers, beside the same edit in a script: the
 # medians of interleaved runs (11, or as many as the first argument says).
-# Run it after a build: ./dsheet --help >/dev/null; bench/sessions.sh
+# Run it after a build: ./dsheet build; bench/sessions.sh
 set -eu
 here=$(CDPATH= cd -- "$(dirname -- "$0")" && pwd)
 work=$(mktemp -d)

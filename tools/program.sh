@@ -75,6 +75,8 @@ onto_full examples/sum run
 expect "run: a full device" "$status" 3 "dsheet: .*"
 onto_full examples/sum run --stops
 expect "run --stops: a full device" "$status" 3 "dsheet: .*"
+onto_full /dev/null --help
+expect "help: a full device" "$status" 3 "dsheet: standard output: .*"
 onto_full examples/grid report
 expect "report: a full device" "$status" 3 "dsheet: .*"
 head -c 1048577 /dev/zero | tr '\0' '\n' >"$said.long"
@@ -92,107 +94,5 @@ status=0
 "$program" run </ >/dev/null 2>&- || status=$?
 expect "standard error is closed: a read that fails" "$status" 3 ""
 
-# ---- the server
-
-# Wrong options of the server.
-on /dev/null serve --listen nowhere
-expect "an address that is none" "$status" 2 "dsheet: --listen: .*"
-on /dev/null serve --listen 127.0.0.1:0 --processes 9
-expect "too many processes" "$status" 2 "dsheet: --processes: from 1 to 8"
-on /dev/null serve --listen 127.0.0.1:0 --workers 2
-expect "no process without a worker" "$status" 2 "dsheet: --workers: .*"
-on /dev/null serve --listen 127.0.0.1:0 --columns many
-expect "a number that is none" "$status" 2 "error: invalid value 'many' .*"
-
-# The most seconds that a server may take, and that it may take for one answer.
-whole=60
-answer=20
-
-# A port below those that the system gives out by itself.
-draw_port() {
-    port=$((20000 + RANDOM % 12000))
-}
-
-# Connects to the server as file descriptor 3, which takes a moment to listen.
-connect() {
-    for _ in $(seq 200); do
-        if { exec 3<>"/dev/tcp/127.0.0.1/$port"; } 2>/dev/null; then
-            return 0
-        fi
-        sleep 0.05
-    done
-    echo "the server does not listen on $port: $(head -c 300 "$log")" >&2
-    exit 1
-}
-
-# Prints the next lines of the answers, this many.
-answers() {
-    local line
-    for _ in $(seq "$1"); do
-        if ! IFS= read -r -t "$answer" -u 3 line; then
-            echo "the server on $port does not answer in $answer seconds: $(head -c 300 "$log")" >&2
-            exit 1
-        fi
-        printf '%s\n' "$line"
-    done
-}
-
-# Says the lines of a file, and prints so many lines of the answers.
-talk() {
-    connect
-    cat "examples/serve/$1" >&3
-    answers "$2"
-    exec 3>&-
-}
-
-draw_port
-timeout "$whole" "$program" serve --listen "127.0.0.1:$port" --sessions 1 2>"$log" &
-server=$!
-connect
-on /dev/null serve --listen "127.0.0.1:$port"
-expect "an address that is taken" "$status" 3 "dsheet: 127.0.0.1:$port: .*"
-cat examples/serve/session >&3
-answers 4 | cmp - examples/serve/session.answers
-exec 3>&-
-status=0
-wait "$server" || status=$?
-cp "$log" "$said"
-expect "a session" "$status" 0 ""
-
-draw_port
-timeout "$whole" "$program" serve --listen "127.0.0.1:$port" --processes 3 --workers 1 --sessions 3 2>"$log" &
-server=$!
-(talk first 3) >/dev/null &
-first=$!
-(talk second 3) >/dev/null
-wait "$first"
-talk last 2 | tail -n 1 | cmp - <(echo '{"ok":"settled","rows":[["42","41"],["83","166"]]}')
-status=0
-wait "$server" || status=$?
-cp "$log" "$said"
-expect "two clients and a worker" "$status" 0 ""
-
-# A server with descriptors for one connection alone: the next one waits until the first has ended, and is served then.
-draw_port
-(
-    for descriptor in 3 4 5 6 7 8 9; do
-        eval "exec $descriptor>&-"
-    done
-    ulimit -n 5
-    exec timeout "$whole" "$program" serve --listen "127.0.0.1:$port" --sessions 2 2>"$log"
-) &
-server=$!
-connect
-echo '{"op":"join","process":0}' >&3
-answers 1 | cmp - <(echo '{"last":null,"ok":"join","process":0}')
-exec 4<&3-
-connect
-echo '{"op":"join","process":1}' >&3
-sleep 0.3
-exec 4>&-
-answers 1 | cmp - <(echo '{"last":null,"ok":"join","process":1}')
-exec 3>&-
-status=0
-wait "$server" || status=$?
-cp "$log" "$said"
-expect "no descriptor for a second client" "$status" 0 ".*accept: .*"
+tools/serving.sh "$program"
+tools/load.sh "$program"

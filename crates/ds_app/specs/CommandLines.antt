@@ -43,12 +43,17 @@ abbrev pub report_command : App
 report_command = new_app (codes "report")
 
 -- `dsheet serve --listen ADDRESS [--columns N] [--rows N] [--processes N] [--workers N] [--sessions N]`
-abbrev pub serve_command : App
-serve_command = with_rule
+abbrev pub sheet_command : App
+sheet_command = with_rule
     (with_rule (with_rule (with_rule (with_rule (with_rule (new_app (codes "serve")) listen)
     (number_option (codes "columns") (codes "2"))) (number_option (codes "rows") (codes "2")))
     (number_option (codes "processes") (codes "2"))) (number_option (codes "workers") (codes "0")))
-    (number_option (codes "sessions") (codes "1"))
+    (number_option (codes "sessions") (codes "0"))
+
+-- the same with [--at-once N] [--idle SECONDS]
+abbrev pub serve_command : App
+serve_command = with_rule (with_rule sheet_command (number_option (codes "at-once") (codes "64")))
+    (number_option (codes "idle") (codes "300"))
 
 -- the program, which has a version and wants one of its three subcommands
 abbrev pub dsheet_alone : App

@@ -23,12 +23,12 @@ pub record IsAddressOf (rows : List Row) (name : Text) (address : SocketAddr) : 
   pub has : first_of name rows ≡ Some text
   pub spells : IsSocketText text address
 
--- the server has from 1 to 8 processes, fewer workers than processes, and at least one connection to serve
+-- the server has from 1 to 8 processes, fewer workers than processes, and room for one session at least
 pub record IsWithinLimits (s : Serving) : Type 0 where
   pub some : 1 ≤ s.processes
   pub most : s.processes ≤ PROCESSES_MOST
   pub workers : s.workers < s.processes
-  pub sessions : 1 ≤ s.sessions
+  pub at_once : 1 ≤ s.at_once
 
 -- the matches of `dsheet serve` ask for this server: each of its parts is the value of its option, and it is within
 -- the limits
@@ -39,6 +39,8 @@ pub record IsServing (matches : List Row) (s : Serving) : Type 0 where
   pub processes : IsNumberOf matches (codes "processes") s.processes
   pub workers : IsNumberOf matches (codes "workers") s.workers
   pub sessions : IsNumberOf matches (codes "sessions") s.sessions
+  pub at_once : IsNumberOf matches (codes "at-once") s.at_once
+  pub idle : IsNumberOf matches (codes "idle") s.idle
   pub within : IsWithinLimits s
 
 -- the option of this name has no number of 16 bits as its value
@@ -61,9 +63,9 @@ HasNoProcesses matches = (processes : ℕ) → IsNumberOf matches (codes "proces
 abbrev pub HasNoWorkers : List Row → Type 0
 HasNoWorkers matches = (processes workers : ℕ) → IsNumberOf matches (codes "processes") processes → processes ≤ PROCESSES_MOST → IsNumberOf matches (codes "workers") workers → workers < processes → ⊥
 
--- the option has no number of connections from 1 to 65,535
-abbrev pub HasNoSessions : List Row → Type 0
-HasNoSessions matches = (sessions : ℕ) → IsNumberOf matches (codes "sessions") sessions → 1 ≤ sessions → sessions < 65536 → ⊥
+-- the option has no number of sessions at once from 1 to 65,535
+abbrev pub HasNoRoom : List Row → Type 0
+HasNoRoom matches = (at_once : ℕ) → IsNumberOf matches (codes "at-once") at_once → 1 ≤ at_once → at_once < 65536 → ⊥
 
 -- the options that an error names have no values within the limits
 abbrev pub IsOutOfLimits : List Row → OutOfLimits → Type 0
@@ -71,4 +73,6 @@ IsOutOfLimits matches limits.Listen = HasNoAddress matches (codes "listen")
 IsOutOfLimits matches limits.Shape = HasNoShape matches
 IsOutOfLimits matches limits.Processes = HasNoProcesses matches
 IsOutOfLimits matches limits.Workers = HasNoWorkers matches
-IsOutOfLimits matches limits.Sessions = HasNoSessions matches
+IsOutOfLimits matches limits.Sessions = HasNoNumber matches (codes "sessions")
+IsOutOfLimits matches limits.AtOnce = HasNoRoom matches
+IsOutOfLimits matches limits.Idle = HasNoNumber matches (codes "idle")

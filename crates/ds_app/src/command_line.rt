@@ -4,7 +4,7 @@ ghost use Rattle.std.specs.Prelude.{◌≡◌, ◌↔◌, IfErr, IfOk, IsTrue, S
 ghost use Rattle.std.specs.String.{string_bytes};
 ghost use Rattle.clap.specs.Words.{app_of, fault_of, found_of, one_of, rows_of, rule_of};
 ghost use Rattle.ds_app.specs.declared.command_line.OptionsFault.TheVariants.{CommandLine};
-ghost use Rattle.ds_app.specs.CommandLines.{Asks, AsksNothing, IsAskedBy, IsCommand, IsRefusedFor, IsWanting, dsheet, listen as listen_rule, number_option as number_rule, report_command as report_app, run_command as run_app, serve_command as serve_app};
+ghost use Rattle.ds_app.specs.CommandLines.{Asks, AsksNothing, IsAskedBy, IsCommand, IsRefusedFor, IsWanting, dsheet, listen as listen_rule, number_option as number_rule, report_command as report_app, run_command as run_app, serve_command as serve_app, sheet_command as sheet_app};
 
 use crate::serving::{OutOfLimits, Serving, read_serving};
 use clap::{Arg, ArgAction, ArgMatches, Command, Error, value_parser};
@@ -108,8 +108,10 @@ Exit status: 0 ended; 1 a fault in the grid; 2 wrong words on the command line;
 3 a failed read or write, or a grid over 1048576 bytes; 4 no memory.";
 
 const SERVE_HELP: &str = "\
-Serves so many connections, each in its thread, and then ends. The last processes are the workers': they go
-round the cells and work on those that are marked; no session can join them.
+Serves connections, each a session in its thread, until a line \"stop\" comes on standard input, or until as many
+sessions have joined a process as --sessions says; the sessions that are there then answer what they have read, or
+end with their clients. The last processes are the workers': they go round the cells and work on those that are
+marked; no session can join them. Once it listens it says so on standard error, with its port.
 
 The protocol: a line of JSON in, a line of JSON out, before the next line is read. Cells are texts, as \"A1\".
   {\"op\":\"join\",\"process\":0}                   takes a process, and tells of its last edit, as last does
@@ -121,9 +123,14 @@ are answered, on a new sheet:
   {\"number\":0,\"ok\":\"done\"}
   {\"ok\":\"settled\",\"rows\":[[\"3\",\"\"],[\"\",\"\"]]}
   {\"last\":{\"cell\":\"A1\",\"number\":0,\"outcome\":\"done\"},\"ok\":\"last\"}
+A set may also be answered \"overtaken\", with the edit that has overtaken it: it does not count. A report may be
+answered \"unsettled\", with a word of the sheet that was not at rest: others were editing. Ask again.
 Refusals have a code: 1 not-json, 2 unknown-op, 3 bad-field, 4 process-taken, 5 line-too-long (over 4096
-bytes), 6 not-joined, 7 already-joined, 11 text, 13 stopped, 14 records-full, 15 no-memory. They change no text.
-A session is of at most 1048576 bytes; at its end its process is free again.
+bytes), 6 not-joined, 7 already-joined, 11 text, 13 stopped, 14 records-full (a process has 256 edits in all),
+15 no-memory. They change no text.
+A session is of at most 1048576 bytes; at its end its process is free again. What ends a connection is told as its
+last line: 16 busy (as many sessions as --at-once), 17 too-long, 18 idle (nothing said or taken for --idle seconds),
+19 where the client speaks HTTP or TLS.
 
 Example:
   dsheet serve --listen 127.0.0.1:8080 &
@@ -131,7 +138,7 @@ Example:
 
 Exit status: 0 ended; 2 wrong words on the command line; 3 the address can not be listened on, or no connection
 taken from it; 4 no memory.
-Each session that does not end with its input is one line on standard error.";
+Each session that does not end with its client is one line on standard error, and so is what all came to.";
 
 const HELP: &str = "\
 Examples:
@@ -186,21 +193,35 @@ fn listen_option<'a>(alloc: Global) -> Arg<'a>
         .help("The address and the port, as 127.0.0.1:8080")
 }
 
-fn serve_command<'a>(alloc: Global) -> Result<Command<'a>, AllocError>
-    ensures { IfOk result (IsCommand serve_app) }
+// `dsheet serve` with its sheet, its processes and its sessions.
+fn sheet_command<'a>(alloc: Global) -> Result<Command<'a>, AllocError>
+    ensures { IfOk result (IsCommand sheet_app) }
 {
     let columns = number_option(alloc, "columns", "2", "Columns of the sheet, 1 to 26");
     let rows = number_option(alloc, "rows", "2", "Rows of the sheet, 1 to 64");
     let processes = number_option(alloc, "processes", "2", "Processes, 1 to 8");
     let workers = number_option(alloc, "workers", "0", "Workers, fewer than the processes");
-    let sessions_help = "Connections that are served, at least 1";
-    let sessions = number_option(alloc, "sessions", "1", sessions_help);
+    let sessions_help = "Sessions that join a process before the server ends; 0: until it is told to stop";
+    let sessions = number_option(alloc, "sessions", "0", sessions_help);
     let command = Command::new(alloc, "serve")
         .about("Serves a sheet to clients, each a session of JSON lines over a connection")
         .after_help(SERVE_HELP);
     let sheet = command.arg(listen_option(alloc))?.arg(columns)?.arg(rows)?;
     let server = sheet.arg(processes)?.arg(workers)?.arg(sessions)?;
-    server.bin_name("dsheet serve")
+    Ok(server)
+}
+
+fn serve_command<'a>(alloc: Global) -> Result<Command<'a>, AllocError>
+    ensures { IfOk result (IsCommand serve_app) }
+{
+    let command = sheet_command(alloc)?;
+    let at_once_help = "Sessions at once, at least 1; a connection beyond them is refused";
+    let at_once = number_option(alloc, "at-once", "64", at_once_help);
+    let idle_help = "Seconds for which a client may say or take nothing; 0: for ever";
+    let idle = number_option(alloc, "idle", "300", idle_help);
+    let one = command.arg(at_once)?;
+    let two = one.arg(idle)?;
+    two.bin_name("dsheet serve")
 }
 
 fn program<'a>(alloc: Global) -> Result<Command<'a>, AllocError>

@@ -2,12 +2,15 @@
 #![tactic(auto)]
 
 mod command_line;
+mod control;
+mod descriptors;
 mod progress;
 mod serve;
 mod serving;
 mod status;
 
 use crate::command_line::{Action, OptionsFault, options};
+use crate::descriptors::stand_ins;
 use crate::progress::Progress;
 use crate::serve::serve;
 use crate::status::{NO_MEMORY, STREAM_FAILED, WRONG_WORDS, grid_status, script_status};
@@ -22,6 +25,7 @@ use ds_streams::input::{InputEnd, read_input};
 use ds_streams::line::INPUT_LIMIT;
 use ds_streams::streams::{Reading, Writing};
 use log::Log;
+use std::fs::{File, Files};
 use std::io::{self, BufWriter, IsTerminal};
 use std::net::{Net, TcpListener, TcpStream};
 use std::process::ExitCode;
@@ -39,10 +43,16 @@ fn tell(rt: &impl Eprint, end: &ScriptEnd) {
     };
 }
 
+// Tells on standard error that memory was wanting, and gives its status.
+fn no_memory(rt: &impl Eprint) -> u8 {
+    let _told = eprintln!(rt; "dsheet: no memory");
+    NO_MEMORY
+}
+
 // `dsheet run`: a script from standard input, answers to standard output, the fault to standard error.
 fn run<R: AllocGlobal + Input + Print + Eprint>(rt: &R) -> u8 {
     let Ok(buffered) = BufWriter::new(rt.alloc(), io::writer(rt)) else {
-        return NO_MEMORY;
+        return no_memory(rt);
     };
     let mut reader = Reading::new(rt.reader());
     let mut writer = Writing::new(buffered);
@@ -55,11 +65,11 @@ fn run<R: AllocGlobal + Input + Print + Eprint>(rt: &R) -> u8 {
 // fault to standard error; there it shows how far it is, where that is asked for.
 fn stops<R: AllocGlobal + Input + Print + Eprint>(rt: &R, shows: bool) -> u8 {
     let Ok(buffered) = BufWriter::new(rt.alloc(), io::writer(rt)) else {
-        return NO_MEMORY;
+        return no_memory(rt);
     };
     let mut reader = Reading::new(rt.reader());
     let Ok(input) = read_input(rt.alloc(), &mut reader, INPUT_LIMIT) else {
-        return NO_MEMORY;
+        return no_memory(rt);
     };
     let mut writer = Writing::new(Progress::new(buffered, rt, shows));
     let end = match input.end {
@@ -75,7 +85,7 @@ fn stops<R: AllocGlobal + Input + Print + Eprint>(rt: &R, shows: bool) -> u8 {
 // `dsheet report`: a grid from standard input, its values to standard output, the fault to standard error.
 fn report<R: AllocGlobal + Input + Print + Eprint>(rt: &R) -> u8 {
     let Ok(buffered) = BufWriter::new(rt.alloc(), io::writer(rt)) else {
-        return NO_MEMORY;
+        return no_memory(rt);
     };
     let mut reader = Reading::new(rt.reader());
     let mut writer = Writing::new(buffered);
@@ -95,7 +105,8 @@ fn explain(rt: &(impl Print + Eprint), error: &Error) -> u8 {
         NO_MEMORY
     } else if error.use_stderr() {
         WRONG_WORDS
-    } else if printed.is_err() {
+    } else if let Err(error) = printed {
+        let _told = eprintln!(rt; "dsheet: standard output: {error}");
         STREAM_FAILED
     } else {
         0
@@ -106,6 +117,7 @@ fn explain(rt: &(impl Print + Eprint), error: &Error) -> u8 {
 fn dispatch<
     R: AllocGlobal
         + Env
+        + Files<File = File>
         + Input
         + Print
         + Eprint
@@ -116,16 +128,17 @@ fn dispatch<
         + Net<Stream = TcpStream, Listener = TcpListener>
         + Sync,
 >(rt: &R, is_terminal: bool) -> u8 {
+    let _kept = stand_ins(rt);
     let arguments = match std::env::args(rt) {
         Ok(arguments) => arguments,
-        Err(error) if error.kind() == io::ErrorKind::OutOfMemory => return NO_MEMORY,
+        Err(error) if error.kind() == io::ErrorKind::OutOfMemory => return no_memory(rt),
         Err(_) => {
             let _told = eprintln!(rt; "dsheet: an argument is not UTF-8");
             return WRONG_WORDS;
         }
     };
     let Ok(words) = arguments.collect::<Vec<String>>(rt.alloc()) else {
-        return NO_MEMORY;
+        return no_memory(rt);
     };
     match options(rt.alloc(), words.as_slice()) {
         Ok(Action::Run) => run(rt),

@@ -22,8 +22,12 @@ pub struct Serving {
     pub processes: usize,
     /// How many of them, the last ones, work on marked cells: fewer than there are.
     pub workers: usize,
-    /// How many connections it serves before it ends, 1 to 65,535.
+    /// How many sessions join a process before it ends, at most 65,535. 0: as many as come, until it is told to stop.
     pub sessions: usize,
+    /// How many sessions there may be at once, 1 to 65,535.
+    pub at_once: usize,
+    /// For how many seconds a client may say nothing, or take nothing, at most 65,535. 0: for ever.
+    pub idle: usize,
 }
 
 /// Which value of an option is out of its limits.
@@ -41,9 +45,15 @@ pub enum OutOfLimits {
     /// There are as many workers as processes, or more.
     #[error("--workers: fewer than the processes")]
     Workers,
-    /// No connection is to be served.
-    #[error("--sessions: at least 1")]
+    /// The number of sessions is none.
+    #[error("--sessions: from 0 to 65535")]
     Sessions,
+    /// No session may be there at once.
+    #[error("--at-once: from 1 to 65535")]
+    AtOnce,
+    /// The time for which a client may be silent is none.
+    #[error("--idle: from 0 to 65535 seconds")]
+    Idle,
 }
 
 // The number of an option; none where it has none.
@@ -101,9 +111,15 @@ pub fn read_serving(matches: &ArgMatches<'_>) -> Result<Serving, OutOfLimits>
         Some(workers) if workers < processes => workers,
         _ => return Err(OutOfLimits::Workers),
     };
-    let sessions = match number(matches, "sessions") {
-        Some(sessions) if 1 <= sessions => sessions,
-        _ => return Err(OutOfLimits::Sessions),
+    let Some(sessions) = number(matches, "sessions") else {
+        return Err(OutOfLimits::Sessions);
+    };
+    let at_once = match number(matches, "at-once") {
+        Some(at_once) if 1 <= at_once => at_once,
+        _ => return Err(OutOfLimits::AtOnce),
+    };
+    let Some(idle) = number(matches, "idle") else {
+        return Err(OutOfLimits::Idle);
     };
     Ok(Serving {
         listen,
@@ -111,5 +127,7 @@ pub fn read_serving(matches: &ArgMatches<'_>) -> Result<Serving, OutOfLimits>
         processes,
         workers,
         sessions,
+        at_once,
+        idle,
     })
 }

@@ -6,7 +6,8 @@ use crossbeam_queue::ArrayQueue;
 use ds_crew::locked::{Closed, LockedSheet};
 use ds_crew::pass::Pass;
 use ds_serve::queues::{gathered, queues};
-use ds_serve::server::serve_sheet;
+use ds_serve::door::Door;
+use ds_serve::server::{Service, serve_sheet};
 use ds_state::world::World;
 use log::Log;
 use std::alloc::Global;
@@ -47,25 +48,6 @@ pub enum Clients {
         join: &'static [u8],
         rest: &'static [u8],
     },
-}
-
-impl Clients {
-    // How many connections they make.
-    fn count(&self) -> usize {
-        match self {
-            Clients::Each(clients) => clients.len(),
-            Clients::Beside {
-                first: _,
-                fast: _,
-                rest: _,
-            } => 2,
-            Clients::Unread {
-                lines: _,
-                join: _,
-                rest: _,
-            } => 2,
-        }
-    }
 }
 
 /// What a server and its clients came to.
@@ -217,13 +199,25 @@ fn run<
 ) -> Result<Vec<u8>, Fail> {
     let listener = TcpListener::bind(rt, "127.0.0.1:0")?;
     let at = listener.local_addr()?;
-    let count = clients.count();
+    let door = Door::new();
+    let service = Service {
+        workers,
+        sessions: 0,
+        at_once: 64,
+        idle: 60,
+    };
     let (answers, served) = thread::join(
         rt,
-        || talk_all(rt, alloc, at, clients),
-        || serve_sheet(rt, alloc, &listener, sheet, queues, workers, count),
+        || {
+            let answers = talk_all(rt, alloc, at, clients);
+            door.tell();
+            answers
+        },
+        || serve_sheet(rt, alloc, &listener, sheet, queues, &door, service),
     );
-    served?;
+    if served.is_err() {
+        return Err(Fail::from("the server ended ill"));
+    }
     Ok(answers?)
 }
 

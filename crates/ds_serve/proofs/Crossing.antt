@@ -1,4 +1,4 @@
--- That a queue of passes and a locked word may be shared by threads, and that a connection may move to one.
+-- That a queue of passes, a locked word and a door may be shared by threads, and that a connection may move to one.
 use Rattle.std.proofs.Crossing.{crosses}
 use denote.Param.Send.{IsSend, IsSync, sendable}
 use denote.Builtin.{bool}
@@ -13,9 +13,13 @@ use Rattle.atomic_table.proofs.send_lease.SendLease.TheSendSync.{the_sync as lea
 use Rattle.crossbeam_queue.specs.contracts.array_queue.plain.ArrayQueue as ArrayQueue
 use Rattle.ds_crew.specs.contracts.pass.Pass as Pass
 use Rattle.ds_crew.proofs.Crossing.{pass_send}
+use Rattle.ds_serve.specs.contracts.door.Door as Door
 
 pub told_sync : IsSync (Mutex.the_row bool)
 told_sync = search (sendable, crosses) depth 40
+
+pub door_sync : IsSync Door.the_row
+door_sync = search (sendable, crosses) depth 40
 
 pub stream_send : IsSend TcpStream.the_row
 stream_send = search (sendable, crosses) depth 40

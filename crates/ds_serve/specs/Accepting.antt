@@ -1,20 +1,58 @@
--- Which failures of an accept end a server.
-use Rattle.std.specs.Prelude.{◌≡◌, Bool, true, false}
+-- What a server makes of the connections that it is given, and when it ends.
+use Rattle.std.specs.Prelude.{◌≡◌, ◌<◌, ◌≤◌, ◌+◌, ℕ, Bool, true, false, Ok, Err}
 use Rattle.std.specs.IoError.{error_kind}
-use Rattle.std.specs.declared.io.Error.{Error}
 use Rattle.std.specs.declared.io.ErrorKind.{ErrorKind}
-use Rattle.std.specs.declared.io.ErrorKind.TheVariants.{ConnectionAborted, ConnectionReset, TimedOut, NetworkDown, NetworkUnreachable, HostUnreachable}
+use Rattle.std.specs.declared.io.ErrorKind.TheVariants.{WouldBlock, ConnectionAborted, ConnectionReset, TimedOut, NetworkDown, NetworkUnreachable, HostUnreachable, OutOfMemory, Uncategorized}
+use Rattle.ds_serve.specs.declared.accepting.Step.{Step}
+use Rattle.ds_serve.specs.declared.accepting.Step.TheVariants as steps
+use Rattle.ds_serve.specs.declared.counts.Ending.{Ending}
+use Rattle.ds_serve.specs.declared.counts.Ending.TheVariants.{Told, Joined}
+use Rattle.ds_serve.specs.declared.counts.Taken.{Taken}
+use Rattle.ds_serve.specs.declared.accepting.Waited.{Waited}
+use Rattle.ds_serve.specs.declared.accepting.Waited.TheVariants as waited
+use Rattle.ds_serve.specs.declared.server.ServeError.{ServeError}
+use Rattle.ds_serve.specs.declared.server.ServeError.TheVariants.{Listener, NoMemory}
 
--- a failure of this kind is of one connection alone, or of the way to its client
-abbrev pub is_of_connection : ErrorKind → Bool
-is_of_connection ConnectionAborted = true
-is_of_connection ConnectionReset = true
-is_of_connection TimedOut = true
-is_of_connection NetworkDown = true
-is_of_connection NetworkUnreachable = true
-is_of_connection HostUnreachable = true
-is_of_connection kind = false
+-- a failure of this kind passes: no connection came in time, it is of one connection alone or of the way to its client,
+-- or descriptors or memory are wanting
+abbrev pub passes : ErrorKind → Bool
+passes WouldBlock = true
+passes ConnectionAborted = true
+passes ConnectionReset = true
+passes TimedOut = true
+passes NetworkDown = true
+passes NetworkUnreachable = true
+passes HostUnreachable = true
+passes OutOfMemory = true
+passes Uncategorized = true
+passes kind = false
 
--- the failure is the listener's, or memory was wanting: no connection alone has caused it
-abbrev pub IsOfListener : Error → Type 0
-IsOfListener error = is_of_connection (error_kind error) ≡ false
+-- a server that is to serve so many sessions (0: for ever) takes no more connections for this reason: it was told to
+-- stop; or it has an end, and as many have joined a process
+abbrev pub HasEnded : ℕ → Ending → Type 0
+HasEnded most Told = Unit {0}
+HasEnded most (Joined count) = (0 < most) × (most ≤ count)
+
+-- a wait for a connection ends so only where there is one, where no more are taken, or at a failure that does not pass
+abbrev pub Waits : ℕ → Waited → Type 0
+Waits most (waited.Connected stream) = Unit {0}
+Waits most (waited.Over ending) = HasEnded most ending
+Waits most (waited.Failed error) = passes (error_kind error) ≡ false
+
+-- a server that is to serve so many sessions (0: for ever) has ended well: for a reason that ends it, and with each
+-- connection that it took either a session or refused
+pub record IsServed (most : ℕ) (taken : Taken) : Type 0 where
+  pub ended : HasEnded most taken.ending
+  pub all : taken.connections ≡ taken.sessions + taken.refused
+
+-- a server ends ill only at a failure of its listener that does not pass, or for want of memory before its first
+-- connection
+abbrev pub IsLasting : ServeError → Type 0
+IsLasting (Listener error) = passes (error_kind error) ≡ false
+IsLasting NoMemory = Unit {0}
+
+-- the next step of a server that is to serve so many sessions: a session; or its end, for a reason that ends it
+abbrev pub IsStep : ℕ → Step → Type 0
+IsStep most (steps.Session stream) = Unit {0}
+IsStep most (steps.Ended (Ok taken)) = IsServed most taken
+IsStep most (steps.Ended (Err error)) = IsLasting error

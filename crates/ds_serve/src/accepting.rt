@@ -1,61 +1,183 @@
-//! The next connection, and what is no reason to end.
+//! The connections that a server takes, and when it takes no more.
 
-ghost use Rattle.std.specs.Prelude.{◌≡◌, IfErr};
-ghost use Rattle.ds_serve.specs.Accepting.{IsOfListener, is_of_connection};
+ghost use Rattle.std.specs.Prelude.{◌≡◌, IfSome};
+ghost use Rattle.ds_serve.specs.Accepting.{HasEnded, IsStep, Waits, passes};
 
+use crate::counts::{Counts, Ending, Taken};
+use crate::door::Door;
+use crate::farewell::{Farewell, refuse};
+use crate::server::ServeError;
+use crate::wire::TICK;
 use log::{Log, warn};
+use std::alloc::Global;
 use std::io::{self, ErrorKind};
 use std::net::{TcpListener, TcpStream};
+use std::os::fd::OwnedFd;
 use std::sync::Wait;
 use std::thread;
 use std::time::{Clock, Duration};
 
-// How many failures that are not of one connection alone are overlooked, one behind another.
+// How many failures that do not pass are overlooked, one behind another.
 const OVERLOOKED: u32 = 100;
 
-// How long it is rested behind each of them, in milliseconds.
+// How long it is rested behind a failure, in milliseconds.
 const REST: u64 = 100;
 
-// Whether a failure of this kind is of one connection alone, or of the way to its client.
-fn is_of_connection(kind: ErrorKind) -> bool
-    ensures { result ≡ is_of_connection kind }
+// How many descriptors are left free beside those of sessions: one for a connection that is refused, and one more.
+const SPARE: u64 = 2;
+
+/// What the wait for a connection came to.
+#[derive(Drop)]
+pub(crate) enum Waited {
+    /// A connection.
+    Connected(TcpStream),
+    /// No more are taken.
+    Over(Ending),
+    /// The listener has failed for good.
+    Failed(io::Error),
+}
+
+/// The next of a server's connections that becomes a session.
+#[derive(Drop)]
+pub(crate) enum Step {
+    /// It is counted as one.
+    Session(TcpStream),
+    /// There is none: the server has ended, well or ill.
+    Ended(Result<Taken, ServeError>),
+}
+
+// Whether a failure of this kind passes: no connection came in time, it is of one connection alone or of the way to its
+// client, or descriptors or memory are wanting, which a session that ends gives back.
+fn passes(kind: ErrorKind) -> bool
+    ensures { result ≡ passes kind }
 {
     match kind {
-        ErrorKind::ConnectionAborted
+        ErrorKind::WouldBlock
+        | ErrorKind::ConnectionAborted
         | ErrorKind::ConnectionReset
         | ErrorKind::TimedOut
         | ErrorKind::NetworkDown
         | ErrorKind::NetworkUnreachable
-        | ErrorKind::HostUnreachable => true,
+        | ErrorKind::HostUnreachable
+        | ErrorKind::OutOfMemory
+        | ErrorKind::Uncategorized => true,
         _ => false,
     }
 }
 
-// The next connection. One that breaks off before it is taken is a line in the log, and the one behind it is waited
-// for. Any other failure, as where no descriptor is free, is a line in the log, too, and a rest: a connection may be
-// taken when another one has ended. An error is that of the listener, which has failed so 101 times one behind another,
-// within some ten seconds or more.
-pub(crate) fn next_connection<R: Wait + Clock + Log>(
-    rt: &R,
-    listener: &TcpListener,
-) -> io::Result<TcpStream>
-    ensures { IfErr result IsOfListener }
+// Whether it is rested behind a failure of this kind, since descriptors or memory are wanting.
+fn is_want(kind: ErrorKind) -> bool {
+    kind == ErrorKind::OutOfMemory || kind == ErrorKind::Uncategorized
+}
+
+/// Has an accept of the listener wait for a tick, and fail then.
+pub(crate) fn prepare(listener: &TcpListener) -> io::Result<()> {
+    let socket = TcpStream::from(OwnedFd::from(listener.try_clone()?));
+    socket.set_read_timeout(Some(Duration::from_millis(TICK)))
+}
+
+/// How many sessions there may be at once: this many, or as many as descriptors are left for, where these are fewer;
+/// one at least.
+pub(crate) fn room(alloc: Global, listener: &TcpListener, at_once: u64) -> u64 {
+    let mut held = Vec::new(alloc);
+    for _ in 0..at_once.saturating_add(SPARE) {
+        let Ok(copy) = listener.try_clone() else {
+            break;
+        };
+        if held.push(copy).is_err() {
+            break;
+        }
+    }
+    let left = (held.len() as u64).saturating_sub(SPARE);
+    left.max(1).min(at_once)
+}
+
+// Why no more connections are taken, where that is so: of a server that is to serve so many sessions (0: for ever).
+fn ending(door: &Door, most: u64) -> Option<Ending>
+    ensures { IfSome result (HasEnded most) }
+{
+    if door.is_told() {
+        return Some(Ending::Told);
+    }
+    let joined = door.joined();
+    if most > 0 && joined >= most {
+        Some(Ending::Joined(joined))
+    } else {
+        None
+    }
+}
+
+// Waits for a connection, until no more are taken. A failure that passes is waited out; want of descriptors is one line
+// in the log, however long it lasts. Any other failure is a line in the log and a rest; behind 100 of them one behind
+// another the listener has failed for good.
+fn wait<R: Wait + Clock + Log>(rt: &R, listener: &TcpListener, door: &Door, most: u64) -> Waited
+    ensures { Waits most result }
 {
     let mut left = OVERLOOKED;
+    let mut wants = false;
     for _ in rt.forever() {
+        if let Some(ending) = ending(door, most) {
+            return Waited::Over(ending);
+        }
         let error = match listener.accept() {
-            Ok((stream, _)) => return Ok(stream),
+            Ok((stream, _)) => return Waited::Connected(stream),
             Err(error) => error,
         };
-        warn!(rt; "accept: {error}");
-        if is_of_connection(error.kind()) {
+        if passes(error.kind()) {
+            if is_want(error.kind()) {
+                if !wants {
+                    warn!(rt; "accept: {error}");
+                }
+                wants = true;
+                thread::sleep(rt, Duration::from_millis(REST));
+            }
             continue;
         }
+        warn!(rt; "accept: {error}");
         if left == 0 {
-            return Err(error);
+            return Waited::Failed(error);
         }
         left -= 1;
         thread::sleep(rt, Duration::from_millis(REST));
+    }
+    unreachable!()
+}
+
+/// The next connection that becomes a session, where fewer than `at_once` are there. Those before it are refused: they
+/// are told that the server is busy, and closed. Or how the server has ended; then the door is shut.
+pub(crate) fn next_session<R: Wait + Clock + Log>(
+    rt: &R,
+    listener: &TcpListener,
+    door: &Door,
+    counts: &mut Counts,
+    most: u64,
+    at_once: u64,
+) -> Step
+    requires { counts.old.pending ≡ 0 }
+    ensures pending { counts.new.pending ≡ 0 }
+    ensures step { IsStep most result }
+{
+    for _ in rt.forever() {
+        let stream = match wait(rt, listener, door, most) {
+            Waited::Connected(stream) => stream,
+            Waited::Over(ending) => {
+                door.shut();
+                return Step::Ended(Ok(counts.taken(ending)));
+            }
+            Waited::Failed(error) => {
+                door.shut();
+                return Step::Ended(Err(ServeError::Listener(error)));
+            }
+        };
+        let Some(arrival) = counts.arrive(stream) else {
+            let error = io::Error::from(ErrorKind::QuotaExceeded);
+            return Step::Ended(Err(ServeError::Listener(error)));
+        };
+        if door.running() < at_once {
+            door.enter();
+            return Step::Session(counts.begin(arrival));
+        }
+        refuse(&counts.refuse(arrival), Farewell::Busy);
     }
     unreachable!()
 }

@@ -8,6 +8,7 @@ ghost use Rattle.ds_server.specs.Replies.{last_view, set_view, report_view};
 ghost use Rattle.ds_serve.specs.Desks.{Deals, IsToldBy};
 
 use crate::settle::settle;
+use crate::visit::Visit;
 use crossbeam_queue::ArrayQueue;
 use ds_crew::ended::{Edited, Recovered, Shown};
 use ds_crew::locked::LockedSheet;
@@ -26,20 +27,24 @@ pub struct Desk<'a, L: Ledger, M: Ledger, R: Wait> {
     rt: &'a R,
     sheet: &'a LockedSheet<L, M>,
     queues: &'a [ArrayQueue<Pass<L, M>>],
+    visit: &'a Visit<'a>,
     pass: Option<Pass<L, M>>,
 }
 
 impl<'a, L: Ledger, M: Ledger, R: Wait> Desk<'a, L, M, R> {
-    /// Before a process is joined. Each process has a queue, which holds its pass while nobody has it.
+    /// Before a process is joined. Each process has a queue, which holds its pass while nobody has it. The visit notes
+    /// which process is joined, and counts what the calls come to.
     pub fn new(
         rt: &'a R,
         sheet: &'a LockedSheet<L, M>,
         queues: &'a [ArrayQueue<Pass<L, M>>],
+        visit: &'a Visit<'a>,
     ) -> Desk<'a, L, M, R> {
         Desk {
             rt,
             sheet,
             queues,
+            visit,
             pass: None,
         }
     }
@@ -152,6 +157,7 @@ impl<'a, L: Ledger, M: Ledger, R: Wait> Board for Desk<'a, L, M, R> {
                 match told(recovered) {
                     Ok(last) => {
                         self.pass = Some(pass);
+                        self.visit.joins(process);
                         Ok(last)
                     }
                     Err(why) => {
@@ -174,14 +180,18 @@ impl<'a, L: Ledger, M: Ledger, R: Wait> Board for Desk<'a, L, M, R> {
         let Some(pass) = &mut self.pass else {
             unreachable!()
         };
-        edited(self.rt, alloc, self.sheet, pass, cell, text)
+        let end = edited(self.rt, alloc, self.sheet, pass, cell, text);
+        self.visit.counts_set(&end);
+        end
     }
 
     fn report(&mut self, alloc: Global, _process: usize) -> Result<ReportEnd, CallRefusal> {
         let Some(pass) = &mut self.pass else {
             unreachable!()
         };
-        reported(self.rt, alloc, self.sheet, pass)
+        let end = reported(self.rt, alloc, self.sheet, pass);
+        self.visit.counts_report(&end);
+        end
     }
 
     fn last(&mut self, alloc: Global, _process: usize) -> Result<Option<Told>, CallRefusal> {

@@ -2,8 +2,14 @@
 #![tactic(auto)]
 
 mod accepting;
+mod connection;
+pub mod counts;
 pub mod desk;
+pub mod door;
+mod farewell;
 pub mod queues;
 pub mod server;
 mod settle;
+pub mod visit;
+mod wire;
 mod worker;

@@ -1,102 +1,149 @@
 //! Serves connections, each in its thread.
 
-ghost use Rattle.std.specs.Prelude.{◌≡◌, ◌≤◌, IfErr};
+ghost use Rattle.std.specs.Prelude.{◌≡◌, ◌≤◌, IfErr, IfOk};
 ghost use Rattle.ds_formula.specs.Limits.{PROCESSES_MOST};
-ghost use Rattle.ds_serve.specs.Accepting.{IsOfListener};
+ghost use Rattle.ds_serve.specs.Accepting.{IsLasting, IsServed};
 
-use crate::accepting::next_connection;
-use crate::desk::Desk;
+use crate::accepting::{Step, next_session, prepare, room};
+use crate::connection::served;
+use crate::counts::{Counts, Taken};
+use crate::door::Door;
 use crate::queues::{gathered, put_back, queues as own_queues};
+use crate::wire::ticks_of;
 use crate::worker::work_on;
 use crossbeam_queue::ArrayQueue;
 use ds_crew::locked::LockedSheet;
 use ds_crew::pass::Pass;
 use ds_formula::cells::Shape;
-use ds_server::session::{SessionEnd, session};
 use ds_state::world::World;
-use ds_streams::streams::{Reading, Writing};
-use log::{Log, warn};
-use std::alloc::Global;
-use std::io::{self, BufReader, ErrorKind};
+use log::{Log, error, info, warn};
+use std::alloc::{AllocError, Global};
+use std::io::{self, ErrorKind};
 use std::marker::Brand;
 use std::net::{TcpListener, TcpStream};
 use std::sync::ledger::{Blank, Ledger};
 use std::sync::{Mutex, Wait};
 use std::thread;
-use std::thread::Threads;
+use std::thread::{Scope, Threads};
 use std::time::Clock;
 
-// One session over a connection.
-fn one<L: Ledger, M: Ledger, R: Wait>(
-    rt: &R,
-    alloc: Global,
-    sheet: &LockedSheet<L, M>,
-    queues: &[ArrayQueue<Pass<L, M>>],
-    stream: &TcpStream,
-) -> SessionEnd {
-    let Ok(buffered) = BufReader::new(alloc, stream) else {
-        return SessionEnd::NoMemory;
-    };
-    let mut reader = Reading::new(buffered);
-    let mut writer = Writing::new(stream);
-    let mut desk = Desk::new(rt, sheet, queues);
-    session(alloc, &mut reader, &mut writer, &mut desk)
+/// What a server is to be beside its sheet.
+#[derive(Clone, Copy, Debug, PartialEq, Eq)]
+pub struct Service {
+    /// How many processes, the last ones, work on marked cells.
+    pub workers: usize,
+    /// How many sessions are to join a process before no more connections are taken. 0: as many as come, until the
+    /// server is told to stop.
+    pub sessions: u64,
+    /// How many sessions there may be at once, 1 or more. A connection beyond them is refused.
+    pub at_once: u64,
+    /// For how many seconds a client may say nothing, or take nothing. 0: for ever.
+    pub idle: u64,
 }
 
-// How a session ended, as the log says it.
-fn end_text(end: SessionEnd) -> &'static str {
-    match end {
-        SessionEnd::Ended => "ended",
-        SessionEnd::TooLong => "too long",
-        SessionEnd::ReadFailed => "read failed",
-        SessionEnd::WriteFailed => "write failed",
-        SessionEnd::NoMemory => "no memory",
+/// Why a server has ended ill.
+#[derive(Debug, Drop)]
+pub enum ServeError {
+    /// Its listener has failed for good: 101 times one behind another, with a rest of a tenth of a second behind each,
+    /// and never for one connection alone, nor for want of descriptors or memory.
+    Listener(io::Error),
+    /// Memory was wanting before the first connection.
+    NoMemory,
+}
+
+impl From<AllocError> for ServeError {
+    ghost from_gives = { λ _ error. IsLasting error };
+
+    fn from(_error: AllocError) -> ServeError {
+        ServeError::NoMemory
     }
 }
 
-// The same, with a line in the log where it does not end with its reader.
-fn served<L: Ledger, M: Ledger, R: Wait + Log>(
-    rt: &R,
+// Starts a session in a thread of its own. One that no thread can be started for ends at once, with a line in the log.
+fn start<
+    's,
+    E,
+    L: Ledger + Send + Sync,
+    M: Ledger + Send + Sync,
+    R: Threads + Wait + Clock + Log + Sync,
+>(
+    scope: &'s Scope<'s, E>,
+    rt: &'s R,
     alloc: Global,
-    sheet: &LockedSheet<L, M>,
-    queues: &[ArrayQueue<Pass<L, M>>],
+    sheet: &'s LockedSheet<L, M>,
+    queues: &'s [ArrayQueue<Pass<L, M>>],
+    door: &'s Door,
     stream: TcpStream,
 ) {
-    match one(rt, alloc, sheet, queues, &stream) {
-        SessionEnd::Ended => {}
-        end => warn!(rt; "session: {}", end_text(end)),
+    if scope
+        .spawn(move || served(rt, alloc, sheet, queues, door, stream))
+        .is_err()
+    {
+        door.leave();
+        warn!(rt; "a session has no thread");
     }
 }
 
-// Serves so many connections, each in its thread, and returns when all have ended. One that no thread can be started for
-// is dropped, with a line in the log.
+// Takes connections, each of which is a session or is refused, until no more are taken.
+fn take_all<
+    's,
+    E,
+    L: Ledger + Send + Sync,
+    M: Ledger + Send + Sync,
+    R: Threads + Wait + Clock + Log + Sync,
+>(
+    scope: &'s Scope<'s, E>,
+    rt: &'s R,
+    alloc: Global,
+    listener: &TcpListener,
+    sheet: &'s LockedSheet<L, M>,
+    queues: &'s [ArrayQueue<Pass<L, M>>],
+    door: &'s Door,
+    service: Service,
+) -> Result<Taken, ServeError>
+    ensures served { IfOk result (IsServed service.sessions) }
+    ensures lasting { IfErr result IsLasting }
+{
+    let Service {
+        workers: _,
+        sessions,
+        at_once,
+        idle,
+    } = service;
+    door.set_patience(ticks_of(idle));
+    let mut counts = Counts::new();
+    for session in 0..u64::MAX {
+        let stream = match next_session(rt, listener, door, &mut counts, sessions, at_once) {
+            Step::Session(stream) => stream,
+            Step::Ended(result) => return result,
+        };
+        start(scope, rt, alloc, sheet, queues, door, stream);
+    }
+    Err(ServeError::Listener(io::Error::from(
+        ErrorKind::QuotaExceeded,
+    )))
+}
+
+// The same, and returns when all sessions have ended, too.
 fn accept<L: Ledger + Send + Sync, M: Ledger + Send + Sync, R: Threads + Wait + Clock + Log + Sync>(
     rt: &R,
     alloc: Global,
     listener: &TcpListener,
     sheet: &LockedSheet<L, M>,
     queues: &[ArrayQueue<Pass<L, M>>],
-    sessions: usize,
-) -> io::Result<()>
-    ensures { IfErr result IsOfListener }
+    door: &Door,
+    service: Service,
+) -> Result<Taken, ServeError>
+    ensures served { IfOk result (IsServed service.sessions) }
+    ensures lasting { IfErr result IsLasting }
 {
     thread::scope(
         thread::scope_env(),
         rt,
-        |scope| -> io::Result<()>
-            ensures { IfErr result IsOfListener }
-        {
-            for _session in 0..sessions {
-                let stream = next_connection(rt, listener)?;
-                if scope
-                    .spawn(move || served(rt, alloc, sheet, queues, stream))
-                    .is_err()
-                {
-                    warn!(rt; "session: no thread");
-                }
-            }
-            Ok(())
-        },
+        |scope| -> Result<Taken, ServeError>
+            ensures served { IfOk result (IsServed service.sessions) }
+            ensures lasting { IfErr result IsLasting }
+        { take_all(scope, rt, alloc, listener, sheet, queues, door, service) },
     )
 }
 
@@ -112,37 +159,51 @@ fn serve_beside<
     sheet: &LockedSheet<L, M>,
     queues: &[ArrayQueue<Pass<L, M>>],
     taken: &[ArrayQueue<Pass<L, M>>],
-    sessions: usize,
-) -> io::Result<()>
-    ensures { IfErr result IsOfListener }
+    door: &Door,
+    service: Service,
+) -> Result<Taken, ServeError>
+    ensures served { IfOk result (IsServed service.sessions) }
+    ensures lasting { IfErr result IsLasting }
 {
     let stop = Mutex::new(false);
     let told = &stop;
     thread::scope(
         thread::scope_env(),
         rt,
-        |scope| -> io::Result<()>
-            ensures { IfErr result IsOfListener }
+        |scope| -> Result<Taken, ServeError>
+            ensures served { IfOk result (IsServed service.sessions) }
+            ensures lasting { IfErr result IsLasting }
         {
             for place in 0..taken.len() {
                 let _ = scope.spawn(move || work_on(rt, alloc, sheet, taken, place, told));
             }
-            let result = accept(rt, alloc, listener, sheet, queues, sessions);
+            let result = accept(rt, alloc, listener, sheet, queues, door, service);
             *told.lock(rt) = true;
             result
         },
     )
 }
 
-/// Serves so many connections, each in its thread, while a worker goes round for each of the last
-/// processes, this many; returns when all have ended. The workers' passes are taken before the first
-/// connection, and put back behind the last.
+// The service, with as many sessions at once as descriptors are left for; the log says where these are fewer.
+fn fitted<R: Log>(rt: &R, alloc: Global, listener: &TcpListener, service: Service) -> Service
+    ensures { result.sessions ≡ service.sessions }
+{
+    let at_once = room(alloc, listener, service.at_once);
+    if at_once < service.at_once {
+        warn!(rt; "descriptors for {at_once} sessions at once");
+    }
+    Service { at_once, ..service }
+}
+
+/// Serves connections, each in its thread, while a worker goes round for each of the last
+/// processes, so many; returns when the service is over and all sessions have ended. The workers' passes are taken before
+/// the first connection, and put back behind the last.
 ///
-/// A connection that breaks off before it is taken, and a failure to take one that does not last, are a line
-/// in the log each, and do not end the server. An error is that of the listener, which has failed for good:
-/// 101 times one behind another, with a rest of a tenth of a second behind each, and never for a connection
-/// alone; the connections that were taken before it are served to their ends. Or it is want of memory before
-/// the first connection, with which the workers' passes are lost.
+/// It ends well only when the door tells it to stop, or when as many sessions have joined a process as it was to serve.
+/// Each connection that it took is then a session, or was refused since there were as many sessions as there may be at
+/// once. A connection that breaks off before it is taken, and want of descriptors, end nothing. An error is that of the
+/// listener, which has failed for good; the connections that were taken before it are served to their ends. Or it is want
+/// of memory before the first connection, with which the workers' passes are lost.
 pub fn serve_sheet<
     L: Ledger + Send + Sync,
     M: Ledger + Send + Sync,
@@ -153,22 +214,55 @@ pub fn serve_sheet<
     listener: &TcpListener,
     sheet: &LockedSheet<L, M>,
     queues: &[ArrayQueue<Pass<L, M>>],
-    workers: usize,
-    sessions: usize,
-) -> io::Result<()>
-    ensures { IfErr result IsOfListener }
+    door: &Door,
+    service: Service,
+) -> Result<Taken, ServeError>
+    ensures served { IfOk result (IsServed service.sessions) }
+    ensures lasting { IfErr result IsLasting }
 {
-    let first = queues.len().saturating_sub(workers);
+    if prepare(listener).is_err() {
+        warn!(rt; "no time-out of accepts: what tells the server to stop is seen at the next connection");
+    }
+    let service = fitted(rt, alloc, listener, service);
+    let first = queues.len().saturating_sub(service.workers);
     let passes = gathered(rt, alloc, &queues[first..])?;
     let taken = own_queues(rt, alloc, passes)?;
     let taken = taken.as_slice();
-    let result = serve_beside(rt, alloc, listener, sheet, queues, taken, sessions);
+    let result = serve_beside(rt, alloc, listener, sheet, queues, taken, door, service);
     for queue in taken {
         if let Some(pass) = queue.pop(rt) {
             put_back(rt, queues, pass);
         }
     }
     result
+}
+
+// Closes the sheet with the passes of all its processes, and says in the log where one is lost, or keeps other values
+// than the sheet.
+fn close<L: Ledger, M: Ledger, R: Wait + Log>(
+    rt: &R,
+    alloc: Global,
+    sheet: LockedSheet<L, M>,
+    queues: &[ArrayQueue<Pass<L, M>>],
+    processes: usize,
+)
+    requires { (L.parts ≡ processes) × (M.parts ≡ processes) }
+{
+    match gathered(rt, alloc, queues) {
+        Ok(passes) if passes.len() == processes && processes > 0 => {
+            if sheet.close(passes).stray.is_some() {
+                error!(rt; "a process keeps other values than the sheet");
+            }
+        }
+        _ => error!(rt; "a process was lost"),
+    }
+}
+
+// The last line of the log.
+fn sum_up<R: Log>(rt: &R, taken: &Taken, door: &Door) {
+    let totals = door.totals();
+    info!(rt; "served {} connections, {} of them refused as busy; {} sessions joined; edits: {} done, {} overtaken; {} calls refused; {} reports",
+        taken.connections(), taken.refused(), totals.joined, totals.done, totals.overtaken, totals.refused, totals.reports);
 }
 
 // So of a world, with these blanks.
@@ -183,52 +277,49 @@ fn serve_world<
     world: World,
     dones: Blank,
     settleds: Blank,
-    workers: usize,
-    sessions: usize,
-) -> io::Result<()>
+    door: &Door,
+    service: Service,
+) -> Result<Taken, ServeError>
     requires names { (dones.name ≡ L.name) × (settleds.name ≡ M.name) }
     requires parts { (dones.parts ≡ L.parts) × (settleds.parts ≡ M.parts) }
     requires processes { (L.parts ≡ world.sheet.layout.processes) × (M.parts ≡ world.sheet.layout.processes) }
-    ensures { IfErr result IsOfListener }
+    ensures served { IfOk result (IsServed service.sessions) }
+    ensures lasting { IfErr result IsLasting }
 {
+    let processes = world.words.layout().processes;
     let Ok((sheet, passes)) = LockedSheet::<L, M>::make(alloc, world, dones, settleds) else {
-        return Err(io::Error::from(ErrorKind::OutOfMemory));
+        return Err(ServeError::NoMemory);
     };
     let queues = own_queues(rt, alloc, passes)?;
-    serve_sheet(
-        rt,
-        alloc,
-        listener,
-        &sheet,
-        queues.as_slice(),
-        workers,
-        sessions,
-    )
+    let queues = queues.as_slice();
+    let taken = serve_sheet(rt, alloc, listener, &sheet, queues, door, service)?;
+    close(rt, alloc, sheet, queues, processes);
+    sum_up(rt, &taken, door);
+    Ok(taken)
 }
 
-/// Serves a new sheet of this shape with 1 to 8 processes: so many connections, each in its thread,
-/// while the last processes, so many, are workers. Returns when all have ended. An error is that of the
-/// listener, which has failed for good (`serve_sheet` says when), or want of memory before the first
-/// connection is taken; no connection that breaks off ends the server.
+/// Serves a new sheet of this shape with 1 to 8 processes, as `serve_sheet` says, and closes it: the log says what the
+/// sessions came to, and where a process was lost or keeps other values than the sheet. An error is that of the listener,
+/// which has failed for good, or want of memory before the first connection is taken; no connection that breaks off, and
+/// no want of descriptors, ends the server.
 pub fn serve<R: Threads + Wait + Clock + Log + Sync>(
     rt: &R,
     alloc: Global,
     listener: &TcpListener,
     shape: Shape,
     processes: usize,
-    workers: usize,
-    sessions: usize,
-) -> io::Result<()>
+    door: &Door,
+    service: Service,
+) -> Result<Taken, ServeError>
     requires some { 1 ≤ processes }
     requires most { processes ≤ PROCESSES_MOST }
-    ensures { IfErr result IsOfListener }
+    ensures served { IfOk result (IsServed service.sessions) }
+    ensures lasting { IfErr result IsLasting }
 {
     let Ok(world) = World::new(alloc, shape, processes) else {
-        return Err(io::Error::from(ErrorKind::OutOfMemory));
+        return Err(ServeError::NoMemory);
     };
     let parts = processes as u64;
     let (dones, settleds) = (Blank::new(parts), Blank::new(parts));
-    serve_world::<Brand, Brand, _>(
-        rt, alloc, listener, world, dones, settleds, workers, sessions,
-    )
+    serve_world::<Brand, Brand, _>(rt, alloc, listener, world, dones, settleds, door, service)
 }

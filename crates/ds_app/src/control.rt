@@ -1,0 +1,130 @@
+//! Standard input of a server: what tells it to stop.
+
+use ds_serve::door::Door;
+use mio::unix::SourceFd;
+use mio::{Events, Interest, Poll, Token};
+use std::io::BufRead;
+use std::net::Net;
+use std::sync::Wait;
+use std::time::Duration;
+
+// The line that tells the server to stop.
+const STOP: &[u8] = b"stop";
+
+// How long standard input is waited for before it is asked whether the server has ended, in milliseconds.
+const TICK: u64 = 250;
+
+// The descriptor of standard input.
+const INPUT: i32 = 0;
+
+// How much of the line that is being read is that which tells the server to stop.
+#[derive(Clone, Copy)]
+enum Heard {
+    // So many bytes of it, and nothing else.
+    Part(usize),
+    // Something else.
+    Other,
+}
+
+impl Heard {
+    // With one byte more of the line.
+    fn and(self, byte: u8) -> Heard {
+        match self {
+            Heard::Part(count) if STOP.get(count) == Some(&byte) => Heard::Part(count + 1),
+            _ => Heard::Other,
+        }
+    }
+
+    // Whether the line is that which tells the server to stop.
+    fn is_stop(self) -> bool {
+        match self {
+            Heard::Part(count) => count == STOP.len(),
+            Heard::Other => false,
+        }
+    }
+}
+
+// Reads on with one read, and tells the door to stop where a line says so. False at the end, and where the read fails.
+fn hears<B: BufRead>(reader: &mut B, heard: &mut Heard, door: &Door) -> bool {
+    let Ok(bytes) = reader.fill_buf() else {
+        return false;
+    };
+    let count = bytes.len();
+    let mut line = *heard;
+    for byte in bytes {
+        if *byte == b'\n' {
+            if line.is_stop() {
+                door.tell();
+            }
+            line = Heard::Part(0);
+        } else if *byte != b'\r' {
+            line = line.and(*byte);
+        }
+    }
+    *heard = line;
+    reader.consume(count);
+    count > 0
+}
+
+/// Standard input, which is waited for.
+#[derive(Drop)]
+pub struct Control {
+    poll: Poll,
+    events: Events,
+    // Whether it can be waited for. Otherwise it is a file, or nothing, whose reads do not wait.
+    waits: bool,
+}
+
+impl Control {
+    /// None where the system has no room for it: the server is then told nothing.
+    pub fn new<R: AllocGlobal + Net>(rt: &R) -> Option<Control> {
+        let poll = Poll::new(rt).ok()?;
+        let events = Events::with_capacity(rt.alloc(), 1).ok()?;
+        let waits = poll
+            .registry()
+            .register(&mut SourceFd(&INPUT), Token(0), Interest::READABLE)
+            .is_ok();
+        Some(Control {
+            poll,
+            events,
+            waits,
+        })
+    }
+
+    // Whether there is something to read, when it was waited for at most a tick; none where the wait fails.
+    fn is_ready(&mut self) -> Option<bool> {
+        if !self.waits {
+            return Some(true);
+        }
+        let tick = Some(Duration::from_millis(TICK));
+        self.poll.poll(&mut self.events, tick).ok()?;
+        if self.events.iter().next().is_none() {
+            return Some(false);
+        }
+        let registry = self.poll.registry();
+        registry
+            .reregister(&mut SourceFd(&INPUT), Token(0), Interest::READABLE)
+            .ok()?;
+        Some(true)
+    }
+}
+
+/// Reads standard input, and tells the door to stop at a line `stop`, until the input or the server ends.
+pub fn listen<R: Input + Wait>(rt: &R, mut control: Control, door: &Door) {
+    let mut reader = rt.reader();
+    let mut heard = Heard::Part(0);
+    for _ in rt.forever() {
+        if door.has_ended() {
+            return;
+        }
+        match control.is_ready() {
+            Some(true) => {
+                if !hears(&mut reader, &mut heard, door) {
+                    return;
+                }
+            }
+            Some(false) => {}
+            None => return,
+        }
+    }
+}

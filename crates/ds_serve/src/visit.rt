@@ -1,0 +1,75 @@
+//! What one session notes of itself beside its calls.
+
+use crate::door::Door;
+use ds_server::board::{CallRefusal, EditEnd, ReportEnd};
+use std::sync::atomic::{AtomicBool, AtomicU64, Ordering};
+
+/// A session, as the log tells it: which process it has joined, and whether its client was silent for too long. It
+/// counts in the totals of its server.
+#[derive(Drop)]
+pub struct Visit<'a> {
+    door: &'a Door,
+    // The process that was joined, and 1; 0 before.
+    seat: AtomicU64,
+    idle: AtomicBool,
+}
+
+impl<'a> Visit<'a> {
+    /// Before anything is read.
+    pub fn new(door: &'a Door) -> Visit<'a> {
+        Visit {
+            door,
+            seat: AtomicU64::new(0),
+            idle: AtomicBool::new(false),
+        }
+    }
+
+    /// The process that the session has joined, if it has.
+    pub fn process(&self) -> Option<u64> {
+        match self.seat.load(Ordering::SeqCst) {
+            0 => None,
+            seat => Some(seat - 1),
+        }
+    }
+
+    // Whether the session is to read no more: the server was told to stop, or takes no more connections, and this one
+    // has joined no process.
+    pub(crate) fn is_over(&self) -> bool {
+        self.door.is_told() || (self.door.is_shut() && self.seat.load(Ordering::SeqCst) == 0)
+    }
+
+    // Whether the server was told to stop.
+    pub(crate) fn is_told(&self) -> bool {
+        self.door.is_told()
+    }
+
+    // Its client has neither said nor taken anything for too long.
+    pub(crate) fn waits_no_longer(&self) {
+        self.idle.store(true, Ordering::SeqCst);
+    }
+
+    pub(crate) fn was_idle(&self) -> bool {
+        self.idle.load(Ordering::SeqCst)
+    }
+
+    pub(crate) fn joins(&self, process: usize) {
+        self.seat
+            .store((process as u64).wrapping_add(1), Ordering::SeqCst);
+        self.door.count_joined();
+    }
+
+    pub(crate) fn counts_set(&self, end: &Result<EditEnd, CallRefusal>) {
+        match end {
+            Ok(EditEnd::Done(_)) => self.door.count_done(),
+            Ok(EditEnd::Overtaken(_, _)) => self.door.count_overtaken(),
+            Err(_) => self.door.count_refused(),
+        }
+    }
+
+    pub(crate) fn counts_report(&self, end: &Result<ReportEnd, CallRefusal>) {
+        match end {
+            Ok(_) => self.door.count_report(),
+            Err(_) => self.door.count_refused(),
+        }
+    }
+}
