@@ -7,7 +7,6 @@ use Rattle.ds_formula.specs.declared.cells.Cell.{Cell}
 use Rattle.ds_formula.specs.Plain.{PlainContent}
 use Rattle.ds_formula.specs.Refs.{Refers}
 use Rattle.ds_formula.specs.Grammar.{Reads}
-use Rattle.ds_formula.specs.Functions.{scope_of}
 use Rattle.ds_formula.proofs.Whole.{only_content, blank_read}
 use Rattle.ds_eval.specs.Local.{local}
 use Rattle.ds_eval.proofs.Neighbours as neighbours
@@ -81,14 +80,14 @@ module _ (w : PlainWorld) (sound : IsSound w) where
       let last = (sound.words (Head c)).last in
       elim h [
         | inl none ↦ subst (λ (text : List ℕ). Reads w.layout.shape text content) (sym (none_left (of_cell c w.counted) small (sym last ∙ none.0)))
-            (subst (λ (x : PlainContent). Reads w.layout.shape [] x) (sym none.1) (blank_read (scope_of w.layout.shape) [] refl))
+            (subst (λ (x : PlainContent). Reads w.layout.shape [] x) (sym none.1) (blank_read w.layout.shape [] refl))
         | inr t ↦ subst (λ (text : List ℕ). Reads w.layout.shape text content)
             (sym (ap last_text t.gave.parts ∙ its_last t.gave.before t.by t.gave.after (subst (λ (xs : List PlainEdit). Small xs) t.gave.parts small) (ap head_after_all (sym t.gave.parts) ∙ sym last ∙ t.gave.is)))
             t.reads
       ]
 
   pub one_content : (c : ℕ) (content other : PlainContent) → HasContent w c (w.memory.cached (Head c)) content → HasContent w c (w.memory.cached (Head c)) other → content ≡ other
-  one_content c content other h k = only_content (scope_of w.layout.shape) (last_text (of_cell c w.counted)) content other (reads_last c content h) (reads_last c other k)
+  one_content c content other h k = only_content w.layout.shape (last_text (of_cell c w.counted)) content other (reads_last c content h) (reads_last c other k)
 
 abbrev words_of : ℕ → ℕ → CellWords
 words_of v k = record { value = v; kind = k }

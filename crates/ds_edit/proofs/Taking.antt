@@ -5,7 +5,6 @@ use Rattle.std.proofs.lemmas.Bool.{cases_eq, eq-eqb}
 use Rattle.std.proofs.lemmas.Grind.{get_or_default_zero}
 use Rattle.std.proofs.lemmas.List.Elements.{All-push, All-weaker}
 use Rattle.ds_words.specs.Memory.{StoresAt, FlushesAt, WritesBack}
-use Rattle.ds_formula.specs.Functions.{scope_of}
 use Rattle.ds_formula.proofs.Whole.{only_content}
 use Rattle.ds_layout.specs.Places.{class_of}
 use Rattle.ds_layout.specs.declared.place.Place.{Place}
@@ -90,7 +89,7 @@ module _ (e : PlainEditCall) (word : ℕ) (old new : PlainWorld) (sound : IsSoun
     found : (row : ℕ) → RefersTo old.layout.shape e.text row → HasBit (old.memory.cached (index_place row e.cell)) e.cell × HasBit (old.memory.persisted (index_place row e.cell)) e.cell
     found row refers =
         let refs : HasRefs old.layout.shape e.text e.refs = fits.refs in
-        let same : refers.content ≡ refs.content = only_content (scope_of old.layout.shape) e.text refers.content refs.content refers.reads refs.reads in
+        let same : refers.content ≡ refs.content = only_content old.layout.shape e.text refers.content refs.content refers.reads refs.reads in
         let there : Contains e.refs row = subst (λ (x : ℕ). Contains e.refs x) refers.is (refs.all refers.cell (rw (sym same) refers.refers)) in
         let at : slice_index_or e.refs there.0 0 ≡ row = sym (get_or_default_zero e.refs there.0 row there.1) ∙ there.2 in (
           subst (λ (x : ℕ). HasBit (old.memory.cached (index_place x e.cell)) e.cell) at (fits.knows.indexed.cached there.0 there.1),

@@ -85,7 +85,7 @@ content_at (x ∷ xs) (suc i) lt = content_at xs i (omega arith)
 -- a text that has no content has this fault, and those before it have one
 pub first_fault : (shape : Shape) (rows : List (List (List ℕ))) (contents : List Content) (index : ℕ) (cell : Cell) (text : List ℕ) (fault : TextFault) → AreRead shape rows contents → length contents ≡ index
     → index_of shape cell ≡ index → IsInside shape cell → text ≡ text_at rows cell → Answers shape text (Err fault) → fault.kind ≢ NoMemory → IsFirstFault shape rows cell fault
-first_fault shape rows contents index cell text fault read all back inside is (inl none) not = absurd (not (ap (λ (f : TextFault). f.kind) none))
+first_fault shape rows contents index cell text fault read all back inside is (inl none) not = absurd (not (ap (λ (f : TextFault). f.kind) none.0))
 first_fault shape rows contents index cell text fault read all back inside is (inr faults) not = record {
   inside = inside;
   faults = subst (λ (t : List ℕ). Faults shape t fault) is faults;

@@ -29,7 +29,6 @@ use Rattle.ds_state.specs.Standing.{cached_side, entry_on, shown_entry, value_fo
 use Rattle.ds_state.specs.CallsFit.{CallFits, DoubtFits}
 use Rattle.ds_state.specs.KnownShow.{IsPendingWord, moment_of, values_of, IsRight, IsStill}
 use Rattle.ds_state.specs.Shown.{last_text}
-use Rattle.ds_formula.specs.Functions.{scope_of}
 use Rattle.ds_formula.proofs.Whole.{blank_read}
 use Rattle.ds_state.specs.Sound.{IsSound}
 use Rattle.ds_state.specs.declared.situation.Situation.{Situation}
@@ -103,7 +102,7 @@ module _ (w : PlainWorld) (sound : IsSound w) where
       let last = (sound.words (Head c)).last in
       elim h [
         | inl none ↦ subst (λ (text : List ℕ). Reads w.layout.shape text content) (sym (none_left (of_cell c w.counted) small (sym last ∙ none.0)))
-            (subst (λ (x : PlainContent). Reads w.layout.shape [] x) (sym none.1) (blank_read (scope_of w.layout.shape) [] refl))
+            (subst (λ (x : PlainContent). Reads w.layout.shape [] x) (sym none.1) (blank_read w.layout.shape [] refl))
         | inr t ↦ subst (λ (text : List ℕ). Reads w.layout.shape text content)
             (sym (ap last_text t.gave.parts ∙ its_last t.gave.before t.by t.gave.after (subst (λ (xs : List PlainEdit). Small xs) t.gave.parts small) (ap head_after_all (sym t.gave.parts) ∙ sym last ∙ t.gave.is)))
             t.reads

@@ -4,7 +4,6 @@ use Rattle.std.proofs.lemmas.Bool.{ltb-true, ltb-false}
 use Rattle.ds_formula.specs.Cells.{IsInside, index_of}
 use Rattle.ds_formula.specs.Plain.{PlainContent, Empty}
 use Rattle.ds_formula.specs.Grammar.{Reads, blank}
-use Rattle.ds_formula.specs.Functions.{scope_of}
 use Rattle.ds_formula.proofs.Whole.{only_content}
 use Rattle.ds_eval.specs.declared.inputs.Entry as entries
 use Rattle.ds_eval.specs.declared.inputs.Input.{Input}
@@ -42,7 +41,7 @@ module _ (e : PlainWorkCall) (old new : PlainWorld) (sound : IsSound old) (real 
     shape_is = t.turn.layout
 
     has : ((e.head ≡ 0) × (e.text ≡ [])) ⊎ ReadsWhole old e.cell e.head e.text → HasContent old e.cell e.head content
-    has (inl none) = inl (none.0, only_content (scope_of old.layout.shape) [] content Empty (subst (λ (xs : List ℕ). Reads old.layout.shape xs content) none.1 t.is.reads) (record { short = omega arith; reads = blank }))
+    has (inl none) = inl (none.0, only_content old.layout.shape [] content Empty (subst (λ (xs : List ℕ). Reads old.layout.shape xs content) none.1 t.is.reads) (record { short = omega arith; reads = blank }))
     has (inr w) = inr (record { by = w.by; gave = w.gave; reads = subst (λ (xs : List ℕ). Reads old.layout.shape xs content) w.text t.is.reads })
 
     now : HasContent old e.cell e.head content → HasContent new e.cell e.head content
