@@ -201,7 +201,8 @@ fn sheet_command<'a>(alloc: Global) -> Result<Command<'a>, AllocError>
     let rows = number_option(alloc, "rows", "2", "Rows of the sheet, 1 to 64");
     let processes = number_option(alloc, "processes", "2", "Processes, 1 to 8");
     let workers = number_option(alloc, "workers", "0", "Workers, fewer than the processes");
-    let sessions_help = "Sessions that join a process before the server ends; 0: until it is told to stop";
+    let sessions_help =
+        "Sessions that join a process before the server ends; 0: until it is told to stop";
     let sessions = number_option(alloc, "sessions", "0", sessions_help);
     let command = Command::new(alloc, "serve")
         .about("Serves a sheet to clients, each a session of JSON lines over a connection")

@@ -61,8 +61,15 @@ pub fn serve<
         || -> Result<Taken, ServeError>
             requires { (1 ≤ processes) × (processes ≤ PROCESSES_MOST) }
         {
-            let served =
-                ds_serve::server::serve(rt, rt.alloc(), &listener, shape, processes, &door, service);
+            let served = ds_serve::server::serve(
+                rt,
+                rt.alloc(),
+                &listener,
+                shape,
+                processes,
+                &door,
+                service,
+            );
             door.end();
             served
         },

@@ -26,6 +26,7 @@ const FIRST: usize = 8;
 // How often a line of the log is tried to be written while another one is, and how long it is rested between, in
 // milliseconds. A log that nobody reads holds one thread by that, and the lines of the others are lost.
 const TRIES: u32 = 20;
+
 const REST: u64 = 5;
 
 // How a session over a connection ended, and what its client is told at the end, if anything.

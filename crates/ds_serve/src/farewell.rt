@@ -84,7 +84,14 @@ pub(crate) fn refuse(mut stream: &TcpStream, farewell: Farewell) {
 
 // What requests of HTTP begin with.
 const METHODS: [&[u8]; 8] = [
-    b"GET ", b"POST ", b"PUT ", b"HEAD ", b"OPTIONS ", b"DELETE ", b"CONNECT ", b"PRI * ",
+    b"GET ",
+    b"POST ",
+    b"PUT ",
+    b"HEAD ",
+    b"OPTIONS ",
+    b"DELETE ",
+    b"CONNECT ",
+    b"PRI * ",
 ];
 
 // What a handshake of TLS begins with.

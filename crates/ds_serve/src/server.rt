@@ -119,9 +119,7 @@ fn take_all<
         };
         start(scope, rt, alloc, sheet, queues, door, stream);
     }
-    Err(ServeError::Listener(io::Error::from(
-        ErrorKind::QuotaExceeded,
-    )))
+    Err(ServeError::Listener(io::Error::from(ErrorKind::QuotaExceeded)))
 }
 
 // The same, and returns when all sessions have ended, too.
