@@ -21,6 +21,7 @@ abbrev pub IsGoing : Stage → Type 0
 IsGoing (Answer how) = ⊥
 IsGoing _ = Unit {0}
 
+-- an edit at this stage answers
 abbrev pub IsEnded : Stage → Type 0
 IsEnded stage = (how : Outcome) × (stage ≡ Answer how)
 
@@ -41,6 +42,7 @@ abbrev pub landed_at : PlainEditCall → Stage → List (BufferEntry ℕ) → De
 landed_at e (Answer how) buffer deeds = seated e.process (Idle (e.number + 1)) buffer (told_also deeds (Edited (record e { stage = Answer how }) how))
 landed_at e stage buffer deeds = seated e.process (Editing (record e { stage = stage })) buffer deeds
 
+-- the rules of an edit
 abbrev pub edit_rules : Rules PlainEditCall
 edit_rules = record {
   process = λ e. e.process;

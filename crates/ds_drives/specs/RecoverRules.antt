@@ -20,6 +20,7 @@ abbrev pub IsGoing : RecoverStage → Type 0
 IsGoing (Answer how) = ⊥
 IsGoing _ = Unit {0}
 
+-- a recovery at this stage answers
 abbrev pub IsEnded : RecoverStage → Type 0
 IsEnded stage = (how : Option Bool) × (stage ≡ Answer how)
 
@@ -34,6 +35,7 @@ abbrev pub landed_at : PlainRecoverCall → RecoverStage → List (BufferEntry �
 landed_at e (Answer how) buffer deeds = seated e.process (Idle (next_number e.announcement how)) buffer (told_also deeds (Recovered (record e { stage = Answer how }) (end_of e how)))
 landed_at e stage buffer deeds = seated e.process (Recovering (record e { stage = stage })) buffer deeds
 
+-- the rules of a recovery
 abbrev pub recover_rules : Rules PlainRecoverCall
 recover_rules = record {
   process = λ e. e.process;

@@ -21,6 +21,7 @@ abbrev pub IsGoing : ShowStage → Type 0
 IsGoing (Answer end) = ⊥
 IsGoing _ = Unit {0}
 
+-- a report at this stage answers
 abbrev pub IsEnded : ShowStage → Type 0
 IsEnded stage = (end : ShowEnd) × (stage ≡ Answer end)
 
@@ -40,6 +41,7 @@ pub record IsOfOne (e f : PlainShowCall) : Type 0 where
   pub process : f.process ≡ e.process
   pub next : f.next ≡ e.next
 
+-- the rules of a report
 abbrev pub show_rules : Rules PlainShowCall
 show_rules = record {
   process = λ e. e.process;

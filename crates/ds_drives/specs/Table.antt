@@ -61,6 +61,7 @@ told_back Stamped found value = found
 told_back Bit found value = found
 told_back Owned found value = value
 
+-- what a call of the table tells of an access, with the oldest entry of the buffer, where the word is this
 abbrev pub told : Access ℕ → Option (BufferEntry ℕ) → ℕ → ℕ
 told (Store n value) oldest found = value
 told Back None found = found

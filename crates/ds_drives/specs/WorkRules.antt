@@ -27,6 +27,7 @@ IsGoing Read = ⊥
 IsGoing Wait = ⊥
 IsGoing _ = Unit {0}
 
+-- a work at this stage answers
 abbrev pub IsEnded : WorkStage → Type 0
 IsEnded stage = (end : WorkEnd) × (stage ≡ Answer end)
 
@@ -54,6 +55,7 @@ pub record IsOfOne (e f : PlainWorkCall) : Type 0 where
   pub next : f.next ≡ e.next
   pub cell : f.cell ≡ e.cell
 
+-- the rules of a work
 abbrev pub work_rules : Rules PlainWorkCall
 work_rules = record {
   process = λ e. e.process;

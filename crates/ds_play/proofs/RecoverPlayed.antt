@@ -58,17 +58,19 @@ module _ (p : ℕ) where
       let wanted_is : wants w p ≡ Step p = ap (λ (s : Situation). wanted p w.sheet.layout.shape s) at in
       let asked : Some (wants w p) ≡ Some event = h.1 in
       let is : event ≡ Step p = (let same : wants w p ≡ event = cc in sym same ∙ wanted_is) in
-      by reply (subst (λ (x : Event). Fits w x reply h.0) is h.2) (subst (λ (x : Event). Plays (told (Drives p ToAnswer) x reply h.0) h.0 events replies (Says text) new) is h.3)
+      by (λ f good_on there_on at_on on. driven_on events replies h.0 new text f good_on there_on at_on on) reply
+      (subst (λ (x : Event). Fits w x reply h.0) is h.2) (subst (λ (x : Event). Plays (told (Drives p ToAnswer) x reply h.0) h.0 events replies (Says text) new) is h.3)
     where
-      by : (r : Reply) → Fits w (Step p) r h.0 → Plays (told (Drives p ToAnswer) (Step p) r h.0) h.0 events replies (Says text) new → IsRecovered p w new
-      by Stepped fits on =
+      by : ((f : PlainRecoverCall) → IsGood h.0 → HasProcess h.0 p → (world_of h.0).situation p ≡ Recovering f → Plays (Drives p ToAnswer) h.0 events replies (Says text) new → IsRecovered p h.0 new)
+          → (r : Reply) → Fits w (Step p) r h.0 → Plays (told (Drives p ToAnswer) (Step p) r h.0) h.0 events replies (Says text) new → IsRecovered p w new
+      by go Stepped fits on =
           let s = its_step w h.0 Stepped e at fits.takes in
           let layout = same_layout w h.0 (Step p) Stepped fits.takes in
           let goes : Stepped ≡ recovery_reply (recoveries.effect_at s.steps.recovery s.steps.recovery.stage) = s.is ∙ ap recovery_reply s.steps.is in
           behind w h.0 new (recovery_turn w h.0 p Stepped good.sound s).others layout
-          (driven_on events replies h.0 new text (recoveries.next_at s.steps.recovery s.steps.recovery.stage s.steps.word) fits.good (rw layout there)
+          (go (recoveries.next_at s.steps.recovery s.steps.recovery.stage s.steps.word) fits.good (rw layout there)
           (ap (λ q. (world_of h.0).situation q) (sym s.steps.mine) ∙ s.steps.steps.situation ∙ recovery_on s.steps.recovery s.steps.recovery.stage s.steps.word goes) on)
-      by (Answered answer) fits on =
+      by go (Answered answer) fits on =
           let s = its_step w h.0 (Answered answer) e at fits.takes in
           let ends = step_ends w h.0 p answer fits.takes in
           let same = says_ends events replies _ text h.0 new on in
@@ -79,8 +81,8 @@ module _ (p : ℕ) where
             layout = same_layout w h.0 (Step p) (Answered answer) fits.takes;
             good = fits.good;
           })
-      by NotEnabled fits on = absurd (fits.takes.no_recovery e there at)
-      by _ fits on = absurd fits.takes
+      by go NotEnabled fits on = absurd (fits.takes.no_recovery e there at)
+      by go _ fits on = absurd fits.takes
 
   pub recovered : (events : List Event) (replies : List Reply) (w new : WorldValue) (text : List ℕ) → IsGood w → HasProcess w p → (world_of w).situation p ≡ Stopped
       → Plays (Calls p (BeginRecover p)) w events replies (Says text) new → IsRecovered p w new
