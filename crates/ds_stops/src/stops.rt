@@ -166,7 +166,6 @@ pub fn blocks_are_runs()
 
 /// Behind the crash of a block every process recovers, so that the settle is alone: its line is `clean`,
 /// or names a want of memory. So it is in each block of fewer than 2^58 events, less some for the settle.
-#[tactic(auto, using(crate::proofs::CleanBlocks::blocks_clean))]
 pub fn blocks_are_clean()
     ensures { (whole : Bool) (script : List ℕ) (k : ℕ) (text : List ℕ) → (b : IsBlock whole script k text)
         → HasProcess b.crashed 0 → length (block_events b) + 2 * (cells_of b.crashed.sheet.layout + 2) ≤ SEEN_MOST
