@@ -17,6 +17,7 @@ use Rattle.ds_eval.proofs.Views.{formula_number, formula_reference, formula_rang
 use Rattle.ds_eval.specs.declared.value.Value.{Value}
 use Rattle.ds_eval.specs.declared.value.Value.TheVariants.{Num, Number}
 use Rattle.ds_eval.specs.declared.tally.CellErrors.{CellErrors}
+use Rattle.ds_eval.specs.declared.tally.Wants.{Wants}
 use Rattle.ds_eval.specs.declared.tally.Tally.{Tally}
 use Rattle.ds_formula.specs.Functions.{all_functions, knows, takes, takes_ranges}
 use Rattle.ds_eval.specs.Evaluation.{Argument, argument_of, as_seen, values_of, all_values, own_value, operand, applied, is_computed, formula_value, arguments, first_cells, cell_of, cells_of, look}
@@ -177,9 +178,9 @@ module _ (shape : Shape) (read : Cell → Value) (errors : CellErrors) where
   pub stands_call : (x : Tree) (g : Function) (v : Vec Tree) → x ≡ trees.Call g v → formula_value shape read (formula x) ∷ [] ≡ stands x
   stands_call x g v e = stands_itself x (Called g (listed (map formula v.items))) (ap formula e ∙ formula_call g v) refl
 
-  pub gathered : (xs : List Tree) (i : ℕ) (x : Tree) (t u m : Tally) (ws : List Value) → i < length xs → x ≡ get_or xs i x → m ≡ u
-      → ((vs : List Value) → IsTally vs t → IsTally (vs ++ ws) u) → ws ≡ stands x
-      → IsTally (values shape read errors (take i xs)) t → IsTally (values shape read errors (take (i + 1) xs)) m
-  gathered xs i x t u m ws h e p f q b =
-      rw (all_more shape read errors xs i x h e) (subst (λ (y : Tally). IsTally (values shape read errors (take i xs) ++ stands x) y) (sym p)
-      (subst (λ (zs : List Value). IsTally (values shape read errors (take i xs) ++ zs) u) q (f _ b)))
+  pub gathered : (w : Wants) (xs : List Tree) (i : ℕ) (x : Tree) (t u m : Tally) (ws : List Value) → i < length xs → x ≡ get_or xs i x → m ≡ u
+      → ((vs : List Value) → IsTally w vs t → IsTally w (vs ++ ws) u) → ws ≡ stands x
+      → IsTally w (values shape read errors (take i xs)) t → IsTally w (values shape read errors (take (i + 1) xs)) m
+  gathered w xs i x t u m ws h e p f q b =
+      rw (all_more shape read errors xs i x h e) (subst (λ (y : Tally). IsTally w (values shape read errors (take i xs) ++ stands x) y) (sym p)
+      (subst (λ (zs : List Value). IsTally w (values shape read errors (take i xs) ++ zs) u) q (f _ b)))

@@ -6,6 +6,8 @@ use Rattle.std.proofs.lemmas.List.Sums.{fold_push}
 use Rattle.std.proofs.lemmas.Bool.Decides.{nat_tests}
 use Rattle.ds_eval.specs.declared.value.Value.{Value}
 use Rattle.ds_eval.specs.declared.value.Value.TheVariants.{Blank, Number, DivZero, Num, Circular}
+use Rattle.ds_eval.specs.declared.tally.Wants.{Wants}
+use Rattle.ds_eval.specs.declared.tally.Wants.TheVariants.{Sum, Least, Greatest, Zeros}
 use Rattle.ds_eval.specs.declared.tally.Totals.{Totals}
 use Rattle.ds_eval.specs.declared.tally.Tally.{Tally}
 use Rattle.ds_eval.specs.Numbers.{numbers, first_error, error_or, with_all, least, greatest, truth, all_true, some_true}
@@ -104,39 +106,40 @@ fewer_zeros (n ∷ ns) = fewer_more (int_eq n (pos 0)) (zeros ns) (length ns) (s
 
 -- ---- one more value
 
-totals_more : (ns : List ℤ) (z : ℤ) (t u : Totals) → NoGreater z → NoLess z → u.count ≡ t.count + 1 → u.zeros ≡ t.zeros + (if int_eq z (pos 0) then 1 else 0) → u.sum ≡ t.sum +ℤ z → u.least ≡ int_min t.least z → u.greatest ≡ int_max t.greatest z
-    → AreTotals ns t → AreTotals (ns ++ z ∷ []) u
-totals_more ns z t u f g a o b c d h = record {
+totals_more : (w : Wants) (ns : List ℤ) (z : ℤ) (t u : Totals) → NoGreater z → NoLess z → u.count ≡ t.count + 1 → (w ≡ Zeros → u.zeros ≡ t.zeros + (if int_eq z (pos 0) then 1 else 0)) → (w ≡ Sum → u.sum ≡ t.sum +ℤ z)
+    → (w ≡ Least → u.least ≡ int_min t.least z) → (w ≡ Greatest → u.greatest ≡ int_max t.greatest z)
+    → AreTotals w ns t → AreTotals w (ns ++ z ∷ []) u
+totals_more w ns z t u f g a o b c d h = record {
   count = a ∙ ap (λ (n : ℕ). n + 1) h.count ∙ sym (length-append ns (z ∷ []));
-  zeros = o ∙ ap (λ (n : ℕ). n + (if int_eq z (pos 0) then 1 else 0)) h.zeros ∙ sym (zeros_push ns z);
-  sum = b ∙ ap (λ (x : ℤ). x +ℤ z) h.sum ∙ sym (fold_push ◌+ℤ◌ (pos 0) ns z);
-  least = λ _. least_more ns z t.least u.least f h.no_least h.least c;
-  greatest = λ _. greatest_more ns z t.greatest u.greatest g h.no_greatest h.greatest d;
+  zeros = λ q. o q ∙ ap (λ (n : ℕ). n + (if int_eq z (pos 0) then 1 else 0)) (h.zeros q) ∙ sym (zeros_push ns z);
+  sum = λ q. b q ∙ ap (λ (x : ℤ). x +ℤ z) (h.sum q) ∙ sym (fold_push ◌+ℤ◌ (pos 0) ns z);
+  least = λ q _. least_more ns z t.least u.least f h.no_least (h.least q) (c q);
+  greatest = λ q _. greatest_more ns z t.greatest u.greatest g h.no_greatest (h.greatest q) (d q);
   no_least = λ e. absurd (omega (arith, e, length-append ns (z ∷ [])));
   no_greatest = λ e. absurd (omega (arith, e, length-append ns (z ∷ [])));
 }
 
 -- the totals with one more number, which is y by its bits
-pub record IsMore (z : ℤ) (t u : Totals) : Type 0 where
+pub record IsMore (w : Wants) (z : ℤ) (t u : Totals) : Type 0 where
   pub y : ℤ
   pub same : y ≡ z
   pub no_greater : NoGreater y
   pub no_less : NoLess y
   pub count : u.count ≡ t.count + 1
-  pub zeros : u.zeros ≡ t.zeros + (if int_eq y (pos 0) then 1 else 0)
-  pub sum : u.sum ≡ t.sum +ℤ y
-  pub least : u.least ≡ int_min t.least y
-  pub greatest : u.greatest ≡ int_max t.greatest y
+  pub zeros : w ≡ Zeros → u.zeros ≡ t.zeros + (if int_eq y (pos 0) then 1 else 0)
+  pub sum : w ≡ Sum → u.sum ≡ t.sum +ℤ y
+  pub least : w ≡ Least → u.least ≡ int_min t.least y
+  pub greatest : w ≡ Greatest → u.greatest ≡ int_max t.greatest y
 
-number_totals : (vs : List Value) (z : ℤ) (t u : Totals) → IsMore z t u → AreTotals (numbers vs) t → AreTotals (numbers (vs ++ Number z ∷ [])) u
-number_totals vs z t u m h =
+number_totals : (w : Wants) (vs : List Value) (z : ℤ) (t u : Totals) → IsMore w z t u → AreTotals w (numbers vs) t → AreTotals w (numbers (vs ++ Number z ∷ [])) u
+number_totals w vs z t u m h =
     let ns = numbers vs in
-    let more : AreTotals (ns ++ z ∷ []) u =
-    subst (λ (x : ℤ). AreTotals (ns ++ x ∷ []) u) m.same (totals_more ns m.y t u m.no_greater m.no_less m.count m.zeros m.sum m.least m.greatest h) in
-    subst (λ (xs : List ℤ). AreTotals xs u) (sym (numbers_push vs z)) more
+    let more : AreTotals w (ns ++ z ∷ []) u =
+    subst (λ (x : ℤ). AreTotals w (ns ++ x ∷ []) u) m.same (totals_more w ns m.y t u m.no_greater m.no_less m.count m.zeros m.sum m.least m.greatest h) in
+    subst (λ (xs : List ℤ). AreTotals w xs u) (sym (numbers_push vs z)) more
 
-blank_totals : (vs : List Value) (t : Totals) → AreTotals (numbers vs) t → AreTotals (numbers (vs ++ Blank ∷ [])) t
-blank_totals vs t h = subst (λ (xs : List ℤ). AreTotals xs t) (sym (numbers_skip vs Blank refl)) h
+blank_totals : (w : Wants) (vs : List Value) (t : Totals) → AreTotals w (numbers vs) t → AreTotals w (numbers (vs ++ Blank ∷ [])) t
+blank_totals w vs t h = subst (λ (xs : List ℤ). AreTotals w xs t) (sym (numbers_skip vs Blank refl)) h
 
 pub number_error : (vs : List Value) (z : ℤ) → first_error (vs ++ Number z ∷ []) ≡ first_error vs
 number_error vs z = error_push vs (Number z) ∙ or_none (first_error vs)
@@ -144,20 +147,20 @@ number_error vs z = error_push vs (Number z) ∙ or_none (first_error vs)
 pub blank_error : (vs : List Value) → first_error (vs ++ Blank ∷ []) ≡ first_error vs
 blank_error vs = error_push vs Blank ∙ or_none (first_error vs)
 
-pub number_counted : (vs : List Value) (z : ℤ) (t u : Totals) → IsMore z t u → AreCounted vs t → AreCounted (vs ++ Number z ∷ []) u
-number_counted vs z t u m h = record { no_error = number_error vs z ∙ h.no_error; sums = number_totals vs z t u m h.sums }
+pub number_counted : (w : Wants) (vs : List Value) (z : ℤ) (t u : Totals) → IsMore w z t u → AreCounted w vs t → AreCounted w (vs ++ Number z ∷ []) u
+number_counted w vs z t u m h = record { no_error = number_error vs z ∙ h.no_error; sums = number_totals w vs z t u m h.sums }
 
-pub blank_counted : (vs : List Value) (t : Totals) → AreCounted vs t → AreCounted (vs ++ Blank ∷ []) t
-blank_counted vs t h = record { no_error = blank_error vs ∙ h.no_error; sums = blank_totals vs t h.sums }
+pub blank_counted : (w : Wants) (vs : List Value) (t : Totals) → AreCounted w vs t → AreCounted w (vs ++ Blank ∷ []) t
+blank_counted w vs t h = record { no_error = blank_error vs ∙ h.no_error; sums = blank_totals w vs t h.sums }
 
-pub number_more : (vs : List Value) (z : ℤ) (t : Tally) (u : Totals) → IsMore z t.totals u → IsTally vs t → IsTally (vs ++ Number z ∷ []) (record { totals = u; error = t.error })
-number_more vs z t u m h = record {
+pub number_more : (w : Wants) (vs : List Value) (z : ℤ) (t : Tally) (u : Totals) → IsMore w z t.totals u → IsTally w vs t → IsTally w (vs ++ Number z ∷ []) (record { totals = u; error = t.error })
+number_more w vs z t u m h = record {
   error = h.error ∙ sym (number_error vs z);
-  totals = λ none. number_totals vs z t.totals u m (h.totals (sym (number_error vs z) ∙ none));
+  totals = λ none. number_totals w vs z t.totals u m (h.totals (sym (number_error vs z) ∙ none));
 }
 
-pub blank_more : (vs : List Value) (t : Tally) → IsTally vs t → IsTally (vs ++ Blank ∷ []) t
-blank_more vs t h = record { error = h.error ∙ sym (blank_error vs); totals = λ none. blank_totals vs t.totals (h.totals (sym (blank_error vs) ∙ none)) }
+pub blank_more : (w : Wants) (vs : List Value) (t : Tally) → IsTally w vs t → IsTally w (vs ++ Blank ∷ []) t
+blank_more w vs t h = record { error = h.error ∙ sym (blank_error vs); totals = λ none. blank_totals w vs t.totals (h.totals (sym (blank_error vs) ∙ none)) }
 
 abbrev no_error : Option Value
 no_error = None
@@ -166,8 +169,8 @@ never_none : (o : Option Value) (v : Value) → first_or o (Some v) ≡ no_error
 never_none None v e = cc
 never_none (Some w) v e = cc
 
-pub error_more : (vs : List Value) (v : Value) (t u : Tally) → first_error (v ∷ []) ≡ Some v → u.error ≡ first_or t.error (Some v) → IsTally vs t → IsTally (vs ++ v ∷ []) u
-error_more vs v t u f e h =
+pub error_more : (w : Wants) (vs : List Value) (v : Value) (t u : Tally) → first_error (v ∷ []) ≡ Some v → u.error ≡ first_or t.error (Some v) → IsTally w vs t → IsTally w (vs ++ v ∷ []) u
+error_more w vs v t u f e h =
     let pushed = error_push vs v ∙ ap (first_or (first_error vs)) f in
     record {
       error = e ∙ ap (λ (o : Option Value). first_or o (Some v)) h.error ∙ sym pushed;
@@ -197,8 +200,8 @@ some_error None e n = cc
 some_error (Some v) e n = cc
 
 -- behind an error nothing counts
-pub after_error : (vs ws : List Value) (t : Tally) → is_some t.error ≡ true → IsTally vs t → IsTally (vs ++ ws) t
-after_error vs ws t e h =
+pub after_error : (w : Wants) (vs ws : List Value) (t : Tally) → is_some t.error ≡ true → IsTally w vs t → IsTally w (vs ++ ws) t
+after_error w vs ws t e h =
     let same = still vs ws t.error e h.error in
     record { error = h.error ∙ sym same; totals = λ none. absurd (some_error t.error e (h.error ∙ sym same ∙ none)) }
 
@@ -208,14 +211,14 @@ not_some : (o : Option Value) → is_some o ≡ false → o ≡ None
 not_some None e = refl
 not_some (Some v) e = absurd cc
 
-pub counted : (vs : List Value) (t : Tally) → is_some t.error ≡ false → IsTally vs t → AreCounted vs t.totals
-counted vs t e h = let none = sym h.error ∙ not_some t.error e in record { no_error = none; sums = h.totals none }
+pub counted : (w : Wants) (vs : List Value) (t : Tally) → is_some t.error ≡ false → IsTally w vs t → AreCounted w vs t.totals
+counted w vs t e h = let none = sym h.error ∙ not_some t.error e in record { no_error = none; sums = h.totals none }
 
-pub tally_of : (vs : List Value) (t : Totals) → AreCounted vs t → IsTally vs (record { totals = t; error = None })
-tally_of vs t h = record { error = sym h.no_error; totals = λ none. h.sums }
+pub tally_of : (w : Wants) (vs : List Value) (t : Totals) → AreCounted w vs t → IsTally w vs (record { totals = t; error = None })
+tally_of w vs t h = record { error = sym h.no_error; totals = λ none. h.sums }
 
-pub tally_stopped : (vs : List Value) (t : Totals) (e : Value) → first_error vs ≡ Some e → IsTally vs (record { totals = t; error = Some e })
-tally_stopped vs t e h = record { error = sym h; totals = λ none. absurd (let x : Some e ≡ no_error = sym h ∙ none in cc) }
+pub tally_stopped : (w : Wants) (vs : List Value) (t : Totals) (e : Value) → first_error vs ≡ Some e → IsTally w vs (record { totals = t; error = Some e })
+tally_stopped w vs t e h = record { error = sym h; totals = λ none. absurd (let x : Some e ≡ no_error = sym h ∙ none in cc) }
 
 -- ---- which values are errors
 
@@ -232,15 +235,15 @@ is_error (Number z) (inr (inr e)) = absurd cc
 
 -- ---- what a tally says of its numbers
 
-from_totals : (vs : List Value) (t : Tally) (f : List ℤ → Value) (v : Value) → t.error ≡ None → IsTally vs t → (AreTotals (numbers vs) t.totals → v ≡ f (numbers vs)) → v ≡ with_all vs f
-from_totals vs t f v e h g =
+from_totals : (w : Wants) (vs : List Value) (t : Tally) (f : List ℤ → Value) (v : Value) → t.error ≡ None → IsTally w vs t → (AreTotals w (numbers vs) t.totals → v ≡ f (numbers vs)) → v ≡ with_all vs f
+from_totals w vs t f v e h g =
     let none : first_error vs ≡ None = sym h.error ∙ e in
     g (h.totals none) ∙ ap (λ (o : Option Value). error_or o (f (numbers vs))) (sym none)
 
-pub all_told : (vs : List Value) (t : Tally) (v : Value) → t.error ≡ None → v ≡ truth (t.totals.zeros == 0) → IsTally vs t → v ≡ with_all vs (λ ns. truth (all_true ns))
-all_told vs t v e is h = from_totals vs t (λ ns. truth (all_true ns)) v e h (λ a. is ∙ ap (λ (n : ℕ). truth (n == 0)) a.zeros ∙ ap truth (no_zeros (numbers vs)))
+pub all_told : (vs : List Value) (t : Tally) (v : Value) → t.error ≡ None → v ≡ truth (t.totals.zeros == 0) → IsTally Zeros vs t → v ≡ with_all vs (λ ns. truth (all_true ns))
+all_told vs t v e is h = from_totals Zeros vs t (λ ns. truth (all_true ns)) v e h (λ a. is ∙ ap (λ (n : ℕ). truth (n == 0)) (a.zeros refl) ∙ ap truth (no_zeros (numbers vs)))
 
-pub some_told : (vs : List Value) (t : Tally) (v : Value) → t.error ≡ None → v ≡ truth (nat_lt t.totals.zeros t.totals.count) → IsTally vs t → v ≡ with_all vs (λ ns. truth (some_true ns))
+pub some_told : (vs : List Value) (t : Tally) (v : Value) → t.error ≡ None → v ≡ truth (nat_lt t.totals.zeros t.totals.count) → IsTally Zeros vs t → v ≡ with_all vs (λ ns. truth (some_true ns))
 some_told vs t v e is h =
-    from_totals vs t (λ ns. truth (some_true ns)) v e h
-    (λ a. is ∙ ap (λ (n : ℕ). truth (nat_lt n t.totals.count)) a.zeros ∙ ap (λ (n : ℕ). truth (nat_lt (zeros (numbers vs)) n)) a.count ∙ ap truth (fewer_zeros (numbers vs)))
+    from_totals Zeros vs t (λ ns. truth (some_true ns)) v e h
+    (λ a. is ∙ ap (λ (n : ℕ). truth (nat_lt n t.totals.count)) (a.zeros refl) ∙ ap (λ (n : ℕ). truth (nat_lt (zeros (numbers vs)) n)) a.count ∙ ap truth (fewer_zeros (numbers vs)))

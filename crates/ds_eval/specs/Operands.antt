@@ -7,6 +7,8 @@ use Rattle.ds_formula.specs.declared.content.Function.TheVariants as functions
 use Rattle.ds_formula.specs.Plain.{Formulas, Nothing, Then}
 use Rattle.ds_eval.specs.declared.tally.CellErrors.{CellErrors}
 use Rattle.ds_eval.specs.declared.tally.CellErrors.TheVariants.{Heeded, Skipped}
+use Rattle.ds_eval.specs.declared.tally.Wants.{Wants}
+use Rattle.ds_eval.specs.declared.tally.Wants.TheVariants as wanted
 use Rattle.ds_eval.specs.declared.evaluate.Operands.{Operands}
 use Rattle.ds_eval.specs.Evaluation.{Argument, operand}
 use Rattle.ds_eval.specs.Local.{formula_height}
@@ -15,6 +17,15 @@ use Rattle.ds_eval.specs.Local.{formula_height}
 abbrev pub errors_of : Function → CellErrors
 errors_of functions.Count = Skipped
 errors_of other = Heeded
+
+-- what a function wants of the numbers among many values
+abbrev pub wants_of : Function → Wants
+wants_of functions.Sum = wanted.Sum
+wants_of functions.Min = wanted.Least
+wants_of functions.Max = wanted.Greatest
+wants_of functions.And = wanted.Zeros
+wants_of functions.Or = wanted.Zeros
+wants_of other = wanted.Count
 
 -- one more than the greatest height of a cell written in the argument with this number, 0 where it is left out
 abbrev pub operand_height : Shape → (Cell → ℕ) → ℕ → Formulas → ℕ

@@ -10,12 +10,12 @@ ghost use Rattle.ds_eval.specs.Inputs.{values_in, heights_in};
 ghost use Rattle.ds_eval.specs.Local as heights;
 ghost use Rattle.ds_formula.specs.Functions.{takes_ranges};
 ghost use Rattle.ds_eval.specs.Tally.{IsTally};
-ghost use Rattle.ds_eval.specs.Operands.{errors_of, operand_height, AreOperands};
+ghost use Rattle.ds_eval.specs.Operands.{errors_of, wants_of, operand_height, AreOperands};
 
 use crate::arithmetic::{absolute, choice, joined, modulo, negated, never_blank, quotient, signed};
 use crate::gather::{Gathered, raised, with_range};
 use crate::inputs::{Entry, Inputs};
-use crate::tally::{CellErrors, Tally};
+use crate::tally::{CellErrors, Fold, Tally, Wants};
 use crate::value::Value;
 use ds_formula::cells::{Cell, Shape};
 use ds_formula::content::{Function, Tree};
@@ -61,7 +61,7 @@ pub fn evaluate(tree: &Tree, shape: Shape, inputs: &Inputs) -> Entry
         }
         Tree::Range(area) => Entry {
             value: Value::Num,
-            height: with_range(shape, inputs, CellErrors::Heeded, *area, Gathered::new()).height,
+            height: with_range(shape, inputs, HEIGHTS, *area, Gathered::new()).height,
         },
         Tree::Prefix(sign, operand) => {
             let entry = evaluate(operand, shape, inputs);
@@ -82,6 +82,12 @@ pub fn evaluate(tree: &Tree, shape: Shape, inputs: &Inputs) -> Entry
     }
 }
 
+// How a range is read whose values nobody wants.
+const HEIGHTS: Fold = Fold {
+    errors: CellErrors::Heeded,
+    wants: Wants::Count,
+};
+
 // How many arguments are looked at. No reader gives as many: it bounds the sums.
 const ARGUMENTS_MOST: usize = 255;
 
@@ -97,8 +103,7 @@ fn call(function: Function, arguments: &[Tree], shape: Shape, inputs: &Inputs) -
         return unfit(arguments, shape, inputs);
     }
     if function.takes_ranges() {
-        let errors = cell_errors(function);
-        let gathered = gather(errors, arguments, shape, inputs);
+        let gathered = gather(fold_of(function), arguments, shape, inputs);
         Entry {
             value: summary(function, gathered.tally),
             height: gathered.height,
@@ -131,10 +136,39 @@ fn cell_errors(function: Function) -> CellErrors
     }
 }
 
+// What a function of many values wants of their numbers.
+fn wants(function: Function) -> Wants
+    ensures { result ≡ wants_of function }
+{
+    match function {
+        Function::Sum => Wants::Sum,
+        Function::Min => Wants::Least,
+        Function::Max => Wants::Greatest,
+        Function::And | Function::Or => Wants::Zeros,
+        Function::Count
+        | Function::Abs
+        | Function::Mod
+        | Function::Quotient
+        | Function::If
+        | Function::Not => Wants::Count,
+    }
+}
+
+// How a function of many values reads them.
+fn fold_of(function: Function) -> Fold
+    ensures errors { result.errors ≡ errors_of function }
+    ensures wants { result.wants ≡ wants_of function }
+{
+    Fold {
+        errors: cell_errors(function),
+        wants: wants(function),
+    }
+}
+
 // The value of a function of many values, by their tally.
 fn summary(function: Function, tally: Tally) -> Value
     requires { takes_ranges function ≡ true }
-    ensures { (all : List spec.Argument) → IsTally (spec.all_values (errors_of function) all) tally → result ≡ spec.applied function all }
+    ensures { (all : List spec.Argument) → IsTally (wants_of function) (spec.all_values (errors_of function) all) tally → result ≡ spec.applied function all }
 {
     match function {
         Function::Sum => tally.total(),
@@ -240,9 +274,9 @@ fn operands_of(arguments: &[Tree], shape: Shape, inputs: &Inputs) -> Operands
 
 // What the arguments stand for: a reference or a range stands for its cells.
 #[cycle(evaluation)]
-fn gather(errors: CellErrors, arguments: &[Tree], shape: Shape, inputs: &Inputs) -> Gathered
+fn gather(fold: Fold, arguments: &[Tree], shape: Shape, inputs: &Inputs) -> Gathered
     requires { length arguments.now ≤ spec.most_arguments }
-    ensures tally { result.height < count_of shape → IsTally (spec.all_values errors (spec.arguments shape (values_in inputs.now.items) true (listed (map formula arguments.now)))) result.tally }
+    ensures tally { result.height < count_of shape → IsTally fold.wants (spec.all_values fold.errors (spec.arguments shape (values_in inputs.now.items) true (listed (map formula arguments.now)))) result.tally }
     ensures height { result.height ≡ min (count_of shape) (heights.formulas_height shape (heights_in inputs.now.items) (listed (map formula arguments.now))) }
 {
     let mut gathered = Gathered::new();
@@ -250,12 +284,12 @@ fn gather(errors: CellErrors, arguments: &[Tree], shape: Shape, inputs: &Inputs)
         gathered = match argument {
             Tree::Reference(cell) => {
                 let entry = look(shape, inputs, *cell);
-                gathered.with(errors.seen(entry.value), entry.height)
+                gathered.with(fold.wants, fold.errors.seen(entry.value), entry.height)
             }
-            Tree::Range(area) => with_range(shape, inputs, errors, *area, gathered),
+            Tree::Range(area) => with_range(shape, inputs, fold, *area, gathered),
             Tree::Number(_) | Tree::Prefix(_, _) | Tree::Binary(_, _, _) | Tree::Call(_, _) => {
                 let entry = evaluate(argument, shape, inputs);
-                gathered.with(entry.value, entry.height)
+                gathered.with(fold.wants, entry.value, entry.height)
             }
         };
     }

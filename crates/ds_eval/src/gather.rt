@@ -12,7 +12,7 @@ ghost use Rattle.ds_eval.specs.Numbers.{first_error};
 ghost use Rattle.ds_eval.specs.Tally.{AreCounted, IsTally};
 
 use crate::inputs::{Entry, Inputs};
-use crate::tally::{CellErrors, Tally, Totals};
+use crate::tally::{Fold, Tally, Totals, Wants};
 use crate::value::Value;
 use ds_formula::cells::{Cell, Rect, Shape};
 
@@ -44,7 +44,7 @@ pub struct Gathered {
 impl Gathered {
     /// What is known of no cells.
     pub fn new() -> Gathered
-        ensures tally { IsTally [] result.tally }
+        ensures tally { (wants : Wants) → IsTally wants [] result.tally }
         ensures count { result.tally.totals.count ≡ 0 }
         ensures height { result.height ≡ 0 }
     {
@@ -55,14 +55,14 @@ impl Gathered {
     }
 
     /// With one more value, at a height one more than its cell's.
-    pub fn with(self, value: Value, height: usize) -> Gathered
+    pub fn with(self, wants: Wants, value: Value, height: usize) -> Gathered
         requires { self.tally.totals.count < 2 ^ 32 }
-        ensures tally { (vs : List values.Value) → IsTally vs self.tally → IsTally (vs ++ value ∷ []) result.tally }
+        ensures tally { (vs : List values.Value) → IsTally wants vs self.tally → IsTally wants (vs ++ value ∷ []) result.tally }
         ensures count { result.tally.totals.count ≤ self.tally.totals.count + 1 }
         ensures height { result.height ≡ max self.height height }
     {
         Gathered {
-            tally: self.tally.with(value),
+            tally: self.tally.with(wants, value),
             height: self.height.max(height),
         }
     }
@@ -118,9 +118,10 @@ fn height_with_row(
 
 // The totals with the values of a row of so many columns, or the first error there that is heeded. A loop of its own is
 // faster than one with the heights.
+#[inline(always)]
 fn totals_with_row(
     inputs: &Inputs,
-    errors: CellErrors,
+    fold: Fold,
     place: Option<usize>,
     first: Cell,
     columns: usize,
@@ -130,18 +131,18 @@ fn totals_with_row(
     requires within { IfSome place (λ p. p + columns ≤ length inputs.now.items) }
     requires cells { IfSome place (λ p. (k : ℕ) → k < columns → cell_in inputs.now.items (p + k) ≡ right_of first k) }
     requires count { totals.count < 2 ^ 31 }
-    ensures counted { IfOk result (λ r. (vs : List values.Value) → AreCounted vs totals → AreCounted (vs ++ map (seen_in errors inputs.now.items) (row_from first columns)) r) }
-    ensures error { IfErr result (λ e. (vs : List values.Value) → first_error vs ≡ None → first_error (vs ++ map (seen_in errors inputs.now.items) (row_from first columns)) ≡ Some e) }
+    ensures counted { IfOk result (λ r. (vs : List values.Value) → AreCounted fold.wants vs totals → AreCounted fold.wants (vs ++ map (seen_in fold.errors inputs.now.items) (row_from first columns)) r) }
+    ensures error { IfErr result (λ e. (vs : List values.Value) → first_error vs ≡ None → first_error (vs ++ map (seen_in fold.errors inputs.now.items) (row_from first columns)) ≡ Some e) }
     ensures count { IfOk result (λ r. r.count ≤ totals.count + columns) }
 {
     let mut sum = totals;
     for k in 0..columns {
         let value = entry_right_of(inputs, place, first, k).value;
         match value {
-            Value::Number(number) => sum = sum.with(number),
+            Value::Number(number) => sum = sum.with(fold.wants, number),
             Value::Blank => {}
             Value::DivZero | Value::Num | Value::Circular => {
-                if errors.heeds(value) {
+                if fold.errors.heeds(value) {
                     return Err(value);
                 }
             }
@@ -150,10 +151,72 @@ fn totals_with_row(
     Ok(sum)
 }
 
+// The same, in a loop that knows what is wanted and that the whole row is there, where it is.
+#[inline(always)]
+fn wanted_with_row(
+    inputs: &Inputs,
+    fold: Fold,
+    place: Option<usize>,
+    first: Cell,
+    columns: usize,
+    totals: Totals,
+) -> Result<Totals, Value>
+    requires columns { first.column + columns ≤ COLUMNS_MOST }
+    requires within { IfSome place (λ p. p + columns ≤ length inputs.now.items) }
+    requires cells { IfSome place (λ p. (k : ℕ) → k < columns → cell_in inputs.now.items (p + k) ≡ right_of first k) }
+    requires count { totals.count < 2 ^ 31 }
+    ensures counted { IfOk result (λ r. (vs : List values.Value) → AreCounted fold.wants vs totals → AreCounted fold.wants (vs ++ map (seen_in fold.errors inputs.now.items) (row_from first columns)) r) }
+    ensures error { IfErr result (λ e. (vs : List values.Value) → first_error vs ≡ None → first_error (vs ++ map (seen_in fold.errors inputs.now.items) (row_from first columns)) ≡ Some e) }
+    ensures count { IfOk result (λ r. r.count ≤ totals.count + columns) }
+{
+    let Some(start) = place else {
+        return totals_with_row(inputs, fold, None, first, columns, totals);
+    };
+    let place = Some(start);
+    let errors = fold.errors;
+    match fold.wants {
+        Wants::Count => {
+            let fold = Fold {
+                errors,
+                wants: Wants::Count,
+            };
+            totals_with_row(inputs, fold, place, first, columns, totals)
+        }
+        Wants::Sum => {
+            let fold = Fold {
+                errors,
+                wants: Wants::Sum,
+            };
+            totals_with_row(inputs, fold, place, first, columns, totals)
+        }
+        Wants::Least => {
+            let fold = Fold {
+                errors,
+                wants: Wants::Least,
+            };
+            totals_with_row(inputs, fold, place, first, columns, totals)
+        }
+        Wants::Greatest => {
+            let fold = Fold {
+                errors,
+                wants: Wants::Greatest,
+            };
+            totals_with_row(inputs, fold, place, first, columns, totals)
+        }
+        Wants::Zeros => {
+            let fold = Fold {
+                errors,
+                wants: Wants::Zeros,
+            };
+            totals_with_row(inputs, fold, place, first, columns, totals)
+        }
+    }
+}
+
 // The tally with the values of a row of so many columns.
 fn tally_with_row(
     inputs: &Inputs,
-    errors: CellErrors,
+    fold: Fold,
     place: Option<usize>,
     first: Cell,
     columns: usize,
@@ -163,13 +226,13 @@ fn tally_with_row(
     requires within { IfSome place (λ p. p + columns ≤ length inputs.now.items) }
     requires cells { IfSome place (λ p. (k : ℕ) → k < columns → cell_in inputs.now.items (p + k) ≡ right_of first k) }
     requires count { tally.totals.count < 2 ^ 31 }
-    ensures tally { (vs : List values.Value) → IsTally vs tally → IsTally (vs ++ map (seen_in errors inputs.now.items) (row_from first columns)) result }
+    ensures tally { (vs : List values.Value) → IsTally fold.wants vs tally → IsTally fold.wants (vs ++ map (seen_in fold.errors inputs.now.items) (row_from first columns)) result }
     ensures count { result.totals.count ≤ tally.totals.count + columns }
 {
     if tally.error.is_some() {
         return tally;
     }
-    match totals_with_row(inputs, errors, place, first, columns, tally.totals) {
+    match wanted_with_row(inputs, fold, place, first, columns, tally.totals) {
         Ok(totals) => Tally {
             totals,
             error: None,
@@ -184,7 +247,7 @@ fn tally_with_row(
 // With the cells of a row of so many columns, which is looked for at this place first.
 fn with_row(
     inputs: &Inputs,
-    errors: CellErrors,
+    fold: Fold,
     most: usize,
     first: Cell,
     columns: usize,
@@ -193,13 +256,13 @@ fn with_row(
 ) -> Gathered
     requires within { first.column + columns ≤ COLUMNS_MOST }
     requires count { gathered.tally.totals.count < 2 ^ 31 }
-    ensures tally { (vs : List values.Value) → IsTally vs gathered.tally → IsTally (vs ++ map (seen_in errors inputs.now.items) (row_from first columns)) result.tally }
+    ensures tally { (vs : List values.Value) → IsTally fold.wants vs gathered.tally → IsTally fold.wants (vs ++ map (seen_in fold.errors inputs.now.items) (row_from first columns)) result.tally }
     ensures count { result.tally.totals.count ≤ gathered.tally.totals.count + columns }
     ensures height { result.height ≡ max gathered.height (min most (above (map (heights_in inputs.now.items) (row_from first columns)))) }
 {
     let place = inputs.row_at(first, columns, near);
     Gathered {
-        tally: tally_with_row(inputs, errors, place, first, columns, gathered.tally),
+        tally: tally_with_row(inputs, fold, place, first, columns, gathered.tally),
         height: height_with_row(inputs, most, place, first, columns, gathered.height),
     }
 }
@@ -208,13 +271,13 @@ fn with_row(
 pub fn with_range(
     shape: Shape,
     inputs: &Inputs,
-    errors: CellErrors,
+    fold: Fold,
     area: Rect,
     gathered: Gathered,
 ) -> Gathered
     requires count { gathered.tally.totals.count < 2 ^ 30 }
     requires height { gathered.height ≤ count_of shape }
-    ensures tally { result.height < count_of shape → (vs : List values.Value) → IsTally vs gathered.tally → IsTally (vs ++ map (seen_in errors inputs.now.items) (spec.cells_of shape area)) result.tally }
+    ensures tally { result.height < count_of shape → (vs : List values.Value) → IsTally fold.wants vs gathered.tally → IsTally fold.wants (vs ++ map (seen_in fold.errors inputs.now.items) (spec.cells_of shape area)) result.tally }
     ensures count { result.tally.totals.count ≤ gathered.tally.totals.count + 2048 }
     ensures height { result.height ≡ max gathered.height (min (count_of shape) (above (map (heights_in inputs.now.items) (spec.cells_of shape area)))) }
 {
@@ -232,7 +295,7 @@ pub fn with_range(
                 column: area.first.column,
                 row: area.first.row + row,
             };
-            sum = with_row(inputs, errors, most, first, columns, near, sum);
+            sum = with_row(inputs, fold, most, first, columns, near, sum);
             near = near.saturating_add(apart);
         }
     }

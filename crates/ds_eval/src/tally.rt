@@ -46,6 +46,30 @@ impl CellErrors {
     }
 }
 
+/// What a function wants of many numbers, beside how many there are: each loop keeps that alone.
+#[derive(Clone, Copy, Debug, PartialEq, Eq)]
+pub enum Wants {
+    /// No more than that: COUNT.
+    Count,
+    /// Their sum: SUM.
+    Sum,
+    /// The least: MIN.
+    Least,
+    /// The greatest: MAX.
+    Greatest,
+    /// How many are 0: AND and OR.
+    Zeros,
+}
+
+/// How a function of many values reads them.
+#[derive(Clone, Copy, Debug, PartialEq, Eq)]
+pub struct Fold {
+    /// What it makes of the errors of cells.
+    pub errors: CellErrors,
+    /// What it wants of the numbers.
+    pub wants: Wants,
+}
+
 // 1 for a number that is 0, else 0.
 fn one_if_zero(number: i64) -> usize
     ensures value { result ≡ (if int_eq number (pos 0) then 1 else 0) }
@@ -54,7 +78,7 @@ fn one_if_zero(number: i64) -> usize
     if number == 0 { 1 } else { 0 }
 }
 
-/// What functions of many values want of some numbers.
+/// What functions of many values want of some numbers: how many there are, and of the rest what the fold wants.
 /// The sum is bounded by the count, so that it cannot leave 128 bits. Before the first number the least one is the
 /// greatest that a number could be, and the greatest one the least.
 #[derive(Clone, Copy, Debug)]
@@ -72,11 +96,12 @@ pub struct Totals {
 impl Totals {
     ghost use Rattle.std.specs.Prelude.{[], ◌+ℤ◌};
     ghost use Rattle.std.specs.Int.{int_min, int_max};
+    ghost use Rattle.ds_eval.specs.declared.tally.Wants.TheVariants as wanted;
     ghost use Rattle.ds_eval.specs.Tally.{AreTotals};
 
     /// Those of no numbers.
     pub fn new() -> Totals
-        ensures totals { AreTotals [] result }
+        ensures totals { (wants : Wants) → AreTotals wants [] result }
         ensures count { result.count ≡ 0 }
     {
         Totals {
@@ -96,21 +121,95 @@ impl Totals {
         self.sum + i128::from(number)
     }
 
-    /// Those with one more number.
-    pub fn with(self, number: i64) -> Totals
+    // One more number, of which nothing else is wanted.
+    fn one_more(self) -> Totals
         requires { self.count < 2 ^ 32 }
         ensures count { result.count ≡ self.count + 1 }
-        ensures zeros { result.zeros ≡ self.zeros + (if int_eq number (pos 0) then 1 else 0) }
+    {
+        Totals {
+            count: self.count + 1,
+            zeros: self.zeros,
+            sum: self.sum,
+            least: self.least,
+            greatest: self.greatest,
+        }
+    }
+
+    // One more number in the sum.
+    fn with_summed(self, number: i64) -> Totals
+        requires { self.count < 2 ^ 32 }
+        ensures count { result.count ≡ self.count + 1 }
         ensures sum { result.sum ≡ self.sum +ℤ number }
+    {
+        Totals {
+            count: self.count + 1,
+            zeros: self.zeros,
+            sum: self.sum_with(number),
+            least: self.least,
+            greatest: self.greatest,
+        }
+    }
+
+    // One more number that may be the least.
+    fn with_least(self, number: i64) -> Totals
+        requires { self.count < 2 ^ 32 }
+        ensures count { result.count ≡ self.count + 1 }
         ensures least { result.least ≡ int_min self.least number }
+    {
+        Totals {
+            count: self.count + 1,
+            zeros: self.zeros,
+            sum: self.sum,
+            least: self.least.min(number),
+            greatest: self.greatest,
+        }
+    }
+
+    // One more number that may be the greatest.
+    fn with_greatest(self, number: i64) -> Totals
+        requires { self.count < 2 ^ 32 }
+        ensures count { result.count ≡ self.count + 1 }
         ensures greatest { result.greatest ≡ int_max self.greatest number }
     {
         Totals {
             count: self.count + 1,
-            zeros: self.zeros + one_if_zero(number),
-            sum: self.sum_with(number),
-            least: self.least.min(number),
+            zeros: self.zeros,
+            sum: self.sum,
+            least: self.least,
             greatest: self.greatest.max(number),
+        }
+    }
+
+    // One more number that may be 0.
+    fn with_tested(self, number: i64) -> Totals
+        requires { self.count < 2 ^ 32 }
+        ensures count { result.count ≡ self.count + 1 }
+        ensures zeros { result.zeros ≡ self.zeros + (if int_eq number (pos 0) then 1 else 0) }
+    {
+        Totals {
+            count: self.count + 1,
+            zeros: self.zeros + one_if_zero(number),
+            sum: self.sum,
+            least: self.least,
+            greatest: self.greatest,
+        }
+    }
+
+    /// Those with one more number, as far as they are wanted.
+    pub fn with(self, wants: Wants, number: i64) -> Totals
+        requires { self.count < 2 ^ 32 }
+        ensures count { result.count ≡ self.count + 1 }
+        ensures zeros { wants ≡ wanted.Zeros → result.zeros ≡ self.zeros + (if int_eq number (pos 0) then 1 else 0) }
+        ensures sum { wants ≡ wanted.Sum → result.sum ≡ self.sum +ℤ number }
+        ensures least { wants ≡ wanted.Least → result.least ≡ int_min self.least number }
+        ensures greatest { wants ≡ wanted.Greatest → result.greatest ≡ int_max self.greatest number }
+    {
+        match wants {
+            Wants::Count => self.one_more(),
+            Wants::Sum => self.with_summed(number),
+            Wants::Least => self.with_least(number),
+            Wants::Greatest => self.with_greatest(number),
+            Wants::Zeros => self.with_tested(number),
         }
     }
 }
@@ -129,10 +228,11 @@ impl Tally {
     ghost use Rattle.ds_eval.specs.declared.value.Value as values;
     ghost use Rattle.ds_eval.specs.Numbers as exact;
     ghost use Rattle.ds_eval.specs.Tally.{IsTally};
+    ghost use Rattle.ds_eval.specs.declared.tally.Wants.TheVariants as wanted;
 
     /// The tally of no values.
     pub fn new() -> Tally
-        ensures tally { IsTally [] result }
+        ensures tally { (wants : Wants) → IsTally wants [] result }
         ensures count { result.totals.count ≡ 0 }
     {
         Tally {
@@ -142,14 +242,14 @@ impl Tally {
     }
 
     /// With one more value: a blank is left out.
-    pub fn with(self, value: Value) -> Tally
+    pub fn with(self, wants: Wants, value: Value) -> Tally
         requires { self.totals.count < 2 ^ 32 }
-        ensures tally { (vs : List values.Value) → IsTally vs self → IsTally (vs ++ value ∷ []) result }
+        ensures tally { (vs : List values.Value) → IsTally wants vs self → IsTally wants (vs ++ value ∷ []) result }
         ensures count { result.totals.count ≤ self.totals.count + 1 }
     {
         match value {
             Value::Number(number) => Tally {
-                totals: self.totals.with(number),
+                totals: self.totals.with(wants, number),
                 error: self.error,
             },
             Value::Blank => self,
@@ -162,7 +262,7 @@ impl Tally {
 
     /// SUM (OpenFormula 6.16.61): added exactly before the range is asked for.
     pub fn total(self) -> Value
-        ensures { (vs : List values.Value) → IsTally vs self → result ≡ exact.with_all vs (λ ns. exact.in_range (exact.total ns)) }
+        ensures { (vs : List values.Value) → IsTally wanted.Sum vs self → result ≡ exact.with_all vs (λ ns. exact.in_range (exact.total ns)) }
     {
         match self.error {
             Some(error) => error,
@@ -175,7 +275,7 @@ impl Tally {
 
     /// MIN (OpenFormula 6.18.48): 0 of no numbers.
     pub fn least(self) -> Value
-        ensures { (vs : List values.Value) → IsTally vs self → result ≡ exact.with_all vs (λ ns. Value.Number (exact.least ns)) }
+        ensures { (vs : List values.Value) → IsTally wanted.Least vs self → result ≡ exact.with_all vs (λ ns. Value.Number (exact.least ns)) }
     {
         match self.error {
             Some(error) => error,
@@ -186,7 +286,7 @@ impl Tally {
 
     /// MAX (OpenFormula 6.18.45): 0 of no numbers.
     pub fn greatest(self) -> Value
-        ensures { (vs : List values.Value) → IsTally vs self → result ≡ exact.with_all vs (λ ns. Value.Number (exact.greatest ns)) }
+        ensures { (vs : List values.Value) → IsTally wanted.Greatest vs self → result ≡ exact.with_all vs (λ ns. Value.Number (exact.greatest ns)) }
     {
         match self.error {
             Some(error) => error,
@@ -197,7 +297,7 @@ impl Tally {
 
     /// COUNT (OpenFormula 6.13.6): how many numbers there are.
     pub fn count(self) -> Value
-        ensures { (vs : List values.Value) → IsTally vs self → result ≡ exact.with_all vs (λ ns. exact.in_range (pos (length ns))) }
+        ensures { (vs : List values.Value) → IsTally wanted.Count vs self → result ≡ exact.with_all vs (λ ns. exact.in_range (pos (length ns))) }
     {
         match self.error {
             Some(error) => error,
@@ -210,7 +310,7 @@ impl Tally {
 
     /// AND (OpenFormula 6.15.2): whether none is 0, 1 of no numbers.
     pub fn all_true(self) -> Value
-        ensures { (vs : List values.Value) → IsTally vs self → result ≡ exact.with_all vs (λ ns. exact.truth (exact.all_true ns)) }
+        ensures { (vs : List values.Value) → IsTally wanted.Zeros vs self → result ≡ exact.with_all vs (λ ns. exact.truth (exact.all_true ns)) }
     {
         let no_zero = self.totals.zeros == 0;
         match self.error {
@@ -221,7 +321,7 @@ impl Tally {
 
     /// OR (OpenFormula 6.15.8): whether some one is not 0, 0 of no numbers.
     pub fn some_true(self) -> Value
-        ensures { (vs : List values.Value) → IsTally vs self → result ≡ exact.with_all vs (λ ns. exact.truth (exact.some_true ns)) }
+        ensures { (vs : List values.Value) → IsTally wanted.Zeros vs self → result ≡ exact.with_all vs (λ ns. exact.truth (exact.some_true ns)) }
     {
         match self.error {
             Some(error) => error,

@@ -4,7 +4,9 @@ use Rattle.ds_formula.specs.Plain.{Formula, formula}
 use Rattle.ds_eval.specs.declared.value.Value.{Value}
 use Rattle.ds_eval.specs.declared.tally.Tally.{Tally}
 use Rattle.ds_eval.specs.declared.tally.CellErrors.{CellErrors}
+use Rattle.ds_eval.specs.declared.tally.Wants.{Wants}
 use Rattle.ds_eval.specs.Tally.{IsTally}
+use Rattle.ds_eval.specs.Operands.{errors_of}
 use Rattle.ds_eval.specs.declared.gather.Gathered.{Gathered}
 use Rattle.ds_eval.specs.Inputs.{values_in, heights_in}
 use Rattle.ds_eval.specs.Local.{formula_height}
@@ -40,7 +42,8 @@ pub call-returns-then-takes_ranges-clause-value : goal.call-returns-then-takes_r
 call-returns-then-takes_ranges-clause-value t c = λ h.
     let read = values_in c.args.inputs.now.items in
     c.summary.ensures (given c.args.shape read true c.args.arguments.now)
-    (subst (λ (e : CellErrors). IsTally (values c.args.shape read e c.args.arguments.now) c.gather-gathered.result.tally) c.cell_errors-errors.ensures (c.gather-gathered.ensures.tally h))
+    (subst (λ (w : Wants). IsTally w (values c.args.shape read (errors_of c.args.function) c.args.arguments.now) c.gather-gathered.result.tally) c.fold_of.ensures.wants
+    (subst (λ (e : CellErrors). IsTally c.fold_of.result.wants (values c.args.shape read e c.args.arguments.now) c.gather-gathered.result.tally) c.fold_of.ensures.errors (c.gather-gathered.ensures.tally h)))
     ∙ sym (computed c.args.shape read c.args.function c.args.arguments.now true (omega (arith, c.if-count-gt-ARGUMENTS_MOST.false)) (sym c.takes.ensures ∙ c.if-not-takes.false) (sym c.takes_ranges.ensures ∙ c.if-takes_ranges.true))
 
 pub call-returns-else-takes_ranges-clause-value : goal.call-returns-else-takes_ranges-clause-value
@@ -81,12 +84,20 @@ unfit-loop-argument-preserved t c =
     formulas_more c.args.shape (heights_in c.args.inputs.now.items) (count_of c.args.shape) c.loop-argument.height c.evaluate-next.result.height c.max-height.result c.args.arguments.now c.loop-argument.argument-index c.argument-item.result
     c.loop-argument-test.true c.argument-item.is c.loop-argument.invariant c.evaluate-next.ensures.height (search rules)
 
+pub gather-loop-argument-init : goal.gather-loop-argument-init
+gather-loop-argument-init t c = record {
+  count = omega (arith, c.new-gathered.ensures.count);
+  tally = λ l. c.new-gathered.ensures.tally c.args.fold.wants;
+  height = omega (arith, c.new-gathered.ensures.height);
+}
+
 pub gather-loop-argument-preserved : goal.gather-loop-argument-preserved
 gather-loop-argument-preserved t c =
     let shape = c.args.shape in
     let xs = c.args.arguments.now in
     let read = values_in c.args.inputs.now.items in
-    let errors = c.args.errors in
+    let errors = c.args.fold.errors in
+    let wants = c.args.fold.wants in
     let heights = heights_in c.args.inputs.now.items in
     let i = c.loop-argument.argument-index in
     let x = c.argument-item.result in
@@ -99,7 +110,7 @@ gather-loop-argument-preserved t c =
           record {
             count = omega (arith, w.with-gathered.ensures.count, ap count_in w.gathered-is);
             tally = λ l.
-                gathered shape read errors xs i x old.tally w.with-gathered.result.tally new.tally (w.seen.result ∷ []) c.loop-argument-test.true c.argument-item.is (ap tally_of w.gathered-is) w.with-gathered.ensures.tally
+                gathered shape read errors wants xs i x old.tally w.with-gathered.result.tally new.tally (w.seen.result ∷ []) c.loop-argument-test.true c.argument-item.is (ap tally_of w.gathered-is) w.with-gathered.ensures.tally
                 (ap alone (w.seen.ensures ∙ ap (as_seen errors) w.look-entry.ensures.value) ∙ stands_cell shape read errors x w.in-Reference.cell w.in-Reference.is) (c.loop-argument.invariant.tally (omega (arith, l, m)));
             height = formulas_more shape heights (count_of shape) old.height w.look-entry.result.height new.height xs i x c.loop-argument-test.true c.argument-item.is c.loop-argument.invariant.height
                 (w.look-entry.ensures.height ∙ ap (λ (g : Formula). min (count_of shape) (formula_height shape heights g)) (sym f)) m;
@@ -110,7 +121,7 @@ gather-loop-argument-preserved t c =
           record {
             count = omega (arith, w.with_range-gathered.ensures.count, ap count_in w.gathered-is);
             tally = λ l.
-                gathered shape read errors xs i x old.tally w.with_range-gathered.result.tally new.tally _ c.loop-argument-test.true c.argument-item.is (ap tally_of w.gathered-is)
+                gathered shape read errors wants xs i x old.tally w.with_range-gathered.result.tally new.tally _ c.loop-argument-test.true c.argument-item.is (ap tally_of w.gathered-is)
                 (w.with_range-gathered.ensures.tally (omega (arith, l, ap height_of w.gathered-is)))
                 (stands_range shape read errors x w.in-Range.area w.in-Range.is) (c.loop-argument.invariant.tally (omega (arith, l, m)));
             height = formulas_more shape heights (count_of shape) old.height _ new.height xs i x c.loop-argument-test.true c.argument-item.is c.loop-argument.invariant.height
@@ -121,7 +132,7 @@ gather-loop-argument-preserved t c =
           record {
             count = omega (arith, w.with-gathered-in-Number.ensures.count, ap count_in w.gathered-is);
             tally = λ l.
-                gathered shape read errors xs i x old.tally w.with-gathered-in-Number.result.tally new.tally (w.evaluate-entry.result.value ∷ []) c.loop-argument-test.true c.argument-item.is (ap tally_of w.gathered-is) w.with-gathered-in-Number.ensures.tally
+                gathered shape read errors wants xs i x old.tally w.with-gathered-in-Number.result.tally new.tally (w.evaluate-entry.result.value ∷ []) c.loop-argument-test.true c.argument-item.is (ap tally_of w.gathered-is) w.with-gathered-in-Number.ensures.tally
                 (ap alone (w.evaluate-entry.ensures.value (omega (arith, l, m))) ∙ elim w.in-Number.is [
                   | inl p ↦ stands_number shape read errors x p.0 p.1
                   | inr q ↦ elim q [

@@ -10,7 +10,7 @@ use Rattle.ds_eval.proofs.evaluate.+evaluation.Given as goal
 abbrev pub invariant-gather-loop-argument : goal.invariant-gather-loop-argument
 invariant-gather-loop-argument l = record {
   count : l.gathered.tally.totals.count ≤ 2048 * l.argument-index;
-  tally : l.gathered.height < count_of l.shape → IsTally (all_values l.errors (arguments l.shape (values_in l.inputs.items) true (listed (map formula (take l.argument-index l.arguments))))) l.gathered.tally;
+  tally : l.gathered.height < count_of l.shape → IsTally l.fold.wants (all_values l.fold.errors (arguments l.shape (values_in l.inputs.items) true (listed (map formula (take l.argument-index l.arguments))))) l.gathered.tally;
   height : l.gathered.height ≡ min (count_of l.shape) (formulas_height l.shape (heights_in l.inputs.items) (listed (map formula (take l.argument-index l.arguments))));
 }
 

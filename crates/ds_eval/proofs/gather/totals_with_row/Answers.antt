@@ -28,7 +28,7 @@ heeded errors b v u f e h = sym (e ∙ ap (λ (t : Bool). if t then v else Blank
 
 pub loop-k-preserved : goal.loop-k-preserved
 loop-k-preserved c =
-    let read = seen_in c.args.errors c.args.inputs.now.items in
+    let read = seen_in c.args.fold.errors c.args.inputs.now.items in
     let first = c.args.first in
     let k = c.loop-k.k in
     let here = ap (λ (e : Entry). e.value) c.entry_right_of-value.ensures in
@@ -39,24 +39,24 @@ loop-k-preserved c =
           let q : to_z w64 (of_z w64 z) ≡ z = to_z-of_z w64 _ (search rules) in
           let f : NoGreater (to_z w64 (of_z w64 z)) = omega (arith, ints, clamps) in
           let g : NoLess (to_z w64 (of_z w64 z)) = omega (arith, ints, clamps) in
-          let m : IsMore z c.loop-k.sum w.with-sum.result = record { y = to_z w64 (of_z w64 z); same = q; no_greater = f; no_less = g; count = e.count; zeros = e.zeros; sum = e.sum; least = e.least; greatest = e.greatest } in
-          let v = ap (as_seen c.args.errors) (sym w.in-Number.is ∙ here) in
+          let m : IsMore c.args.fold.wants z c.loop-k.sum w.with-sum.result = record { y = to_z w64 (of_z w64 z); same = q; no_greater = f; no_less = g; count = e.count; zeros = e.zeros; sum = e.sum; least = e.least; greatest = e.greatest } in
+          let v = ap (as_seen c.args.fold.errors) (sym w.in-Number.is ∙ here) in
           record {
-            counted = λ vs t. rw w.sum-is (subst (λ (ws : List Value). AreCounted ws w.with-sum.result) (one_more read vs first k _ v) (number_counted _ z c.loop-k.sum w.with-sum.result m (c.loop-k.invariant.counted vs t)));
+            counted = λ vs t. rw w.sum-is (subst (λ (ws : List Value). AreCounted c.args.fold.wants ws w.with-sum.result) (one_more read vs first k _ v) (number_counted c.args.fold.wants _ z c.loop-k.sum w.with-sum.result m (c.loop-k.invariant.counted vs t)));
             no_error = λ vs t. sym (ap first_error (one_more read vs first k _ v)) ∙ number_error (vs ++ map read (row_from first k)) z ∙ c.loop-k.invariant.no_error vs t;
             count = let n = ap (λ (s : Totals). s.count) w.sum-is in omega (arith, n, e.count, c.loop-k.invariant.count);
           }
       | in-Blank w ↦
-          let v = ap (as_seen c.args.errors) (sym w.in-Blank.is ∙ here) in
+          let v = ap (as_seen c.args.fold.errors) (sym w.in-Blank.is ∙ here) in
           record {
-            counted = λ vs t. rw w.sum-is (subst (λ (ws : List Value). AreCounted ws c.loop-k.sum) (one_more read vs first k _ v) (blank_counted _ c.loop-k.sum (c.loop-k.invariant.counted vs t)));
+            counted = λ vs t. rw w.sum-is (subst (λ (ws : List Value). AreCounted c.args.fold.wants ws c.loop-k.sum) (one_more read vs first k _ v) (blank_counted c.args.fold.wants _ c.loop-k.sum (c.loop-k.invariant.counted vs t)));
             no_error = λ vs t. sym (ap first_error (one_more read vs first k _ v)) ∙ blank_error (vs ++ map read (row_from first k)) ∙ c.loop-k.invariant.no_error vs t;
             count = let n = ap (λ (s : Totals). s.count) w.sum-is in omega (arith, n, c.loop-k.invariant.count);
           }
       | in-DivZero+else-heeds w ↦
-          let v = passed c.args.errors w.heeds.result _ _ w.if-heeds.false w.heeds.ensures here in
+          let v = passed c.args.fold.errors w.heeds.result _ _ w.if-heeds.false w.heeds.ensures here in
           record {
-            counted = λ vs t. rw w.sum-is (subst (λ (ws : List Value). AreCounted ws c.loop-k.sum) (one_more read vs first k _ v) (blank_counted _ c.loop-k.sum (c.loop-k.invariant.counted vs t)));
+            counted = λ vs t. rw w.sum-is (subst (λ (ws : List Value). AreCounted c.args.fold.wants ws c.loop-k.sum) (one_more read vs first k _ v) (blank_counted c.args.fold.wants _ c.loop-k.sum (c.loop-k.invariant.counted vs t)));
             no_error = λ vs t. sym (ap first_error (one_more read vs first k _ v)) ∙ blank_error (vs ++ map read (row_from first k)) ∙ c.loop-k.invariant.no_error vs t;
             count = let n = ap (λ (s : Totals). s.count) w.sum-is in omega (arith, n, c.loop-k.invariant.count);
           }
@@ -64,15 +64,15 @@ loop-k-preserved c =
 
 pub returns-then-heeds-clause-error : goal.returns-then-heeds-clause-error
 returns-then-heeds-clause-error c = λ vs t.
-    let read = seen_in c.args.errors c.args.inputs.now.items in
+    let read = seen_in c.args.fold.errors c.args.inputs.now.items in
     let first = c.args.first in
     let k = c.loop-k.k in
     let v = c.entry_right_of-value.result.value in
-    let here = heeded c.args.errors c.heeds.result v _ c.if-heeds.true c.heeds.ensures (ap (λ (e : Entry). e.value) c.entry_right_of-value.ensures) in
+    let here = heeded c.args.fold.errors c.heeds.result v _ c.if-heeds.true c.heeds.ensures (ap (λ (e : Entry). e.value) c.entry_right_of-value.ensures) in
     error_in_row read vs first (k + 1) c.args.columns v (omega (arith, c.loop-k-test.true))
     (sym (ap first_error (one_more read vs first k v here)) ∙ first_here (vs ++ map read (row_from first k)) v (is_error v c.in-DivZero.is) (c.loop-k.invariant.no_error vs t))
 
 pub returns-clause-counted : goal.returns-clause-counted
 returns-clause-counted c = λ vs t.
     let e : c.loop-k.k ≡ c.args.columns = omega (arith, c.loop-k-test.false, c.loop-k.auto.k-end) in
-    subst (λ (n : ℕ). AreCounted (vs ++ map (seen_in c.args.errors c.args.inputs.now.items) (row_from c.args.first n)) c.loop-k.sum) e (c.loop-k.invariant.counted vs t)
+    subst (λ (n : ℕ). AreCounted c.args.fold.wants (vs ++ map (seen_in c.args.fold.errors c.args.inputs.now.items) (row_from c.args.first n)) c.loop-k.sum) e (c.loop-k.invariant.counted vs t)

@@ -18,7 +18,7 @@ count_in g = g.tally.totals.count
 
 pub loop-row-preserved : goal.loop-row-preserved
 loop-row-preserved c =
-    let read = seen_in c.args.errors c.args.inputs.now.items in
+    let read = seen_in c.args.fold.errors c.args.inputs.now.items in
     let heights = heights_in c.args.inputs.now.items in
     let area = c.args.area in
     let columns = c.width-columns.result in
@@ -31,8 +31,8 @@ loop-row-preserved c =
           let n = ap count_in w.sum-is in
           record {
             tally = λ l vs t.
-                subst (λ (g : Gathered). IsTally (vs ++ map read (first_cells area columns (columns * (row + 1)))) g.tally) (sym w.sum-is)
-                (subst (λ (ws : List Value). IsTally ws w.with_row-sum.result.tally) (rows_values read vs area columns row first refl)
+                subst (λ (g : Gathered). IsTally c.args.fold.wants (vs ++ map read (first_cells area columns (columns * (row + 1)))) g.tally) (sym w.sum-is)
+                (subst (λ (ws : List Value). IsTally c.args.fold.wants ws w.with_row-sum.result.tally) (rows_values read vs area columns row first refl)
                 (w.with_row-sum.ensures.tally _ (c.loop-row.invariant.tally (omega (arith, w.if-sum-most.true, c.count-most.ensures.value)) vs t)));
             count = omega (arith, n, w.with_row-sum.ensures.count, c.loop-row.invariant.count, c.width-columns.ensures.within);
             height = omega (arith, s, more, w.with_row-sum.ensures.height, c.loop-row.invariant.height, c.count-most.ensures.value);
@@ -50,12 +50,12 @@ loop-row-preserved c =
 pub returns-then-columns-eq0-clause-tally : goal.returns-then-columns-eq0-clause-tally
 returns-then-columns-eq0-clause-tally c = λ l vs t.
     let n : 0 ≡ width c.args.shape c.args.area * height c.args.shape c.args.area = let z : 0 ≡ 0 * height c.args.shape c.args.area = omega arith in z ∙ ap (λ (x : ℕ). x * height c.args.shape c.args.area) (sym c.if-columns-eq0.true ∙ c.width-columns.ensures.value) in
-    subst (λ (k : ℕ). IsTally (vs ++ map (seen_in c.args.errors c.args.inputs.now.items) (first_cells c.args.area (width c.args.shape c.args.area) k)) c.args.gathered.tally) n
-    (subst (λ (ws : List Value). IsTally ws c.args.gathered.tally) (sym (append-nil vs)) t)
+    subst (λ (k : ℕ). IsTally c.args.fold.wants (vs ++ map (seen_in c.args.fold.errors c.args.inputs.now.items) (first_cells c.args.area (width c.args.shape c.args.area) k)) c.args.gathered.tally) n
+    (subst (λ (ws : List Value). IsTally c.args.fold.wants ws c.args.gathered.tally) (sym (append-nil vs)) t)
 
 pub returns-clause-tally : goal.returns-clause-tally
 returns-clause-tally c = λ l vs t.
     let r : c.loop-row.row ≡ height c.args.shape c.args.area = omega (arith, c.loop-row-test.false, c.loop-row.auto.row-end, c.height-rows.ensures.value) in
     let f = c.loop-row.invariant.tally l vs t in
-    subst (λ (k : ℕ). IsTally (vs ++ map (seen_in c.args.errors c.args.inputs.now.items) (first_cells c.args.area k (k * height c.args.shape c.args.area))) c.loop-row.sum.tally) c.width-columns.ensures.value
-    (subst (λ (k : ℕ). IsTally (vs ++ map (seen_in c.args.errors c.args.inputs.now.items) (first_cells c.args.area c.width-columns.result (c.width-columns.result * k))) c.loop-row.sum.tally) r f)
+    subst (λ (k : ℕ). IsTally c.args.fold.wants (vs ++ map (seen_in c.args.fold.errors c.args.inputs.now.items) (first_cells c.args.area k (k * height c.args.shape c.args.area))) c.loop-row.sum.tally) c.width-columns.ensures.value
+    (subst (λ (k : ℕ). IsTally c.args.fold.wants (vs ++ map (seen_in c.args.fold.errors c.args.inputs.now.items) (first_cells c.args.area c.width-columns.result (c.width-columns.result * k))) c.loop-row.sum.tally) r f)

@@ -10,7 +10,7 @@ use Rattle.ds_eval.proofs.gather.with_range.Given as goal
 
 abbrev pub invariant-loop-row : goal.invariant-loop-row
 invariant-loop-row l = record {
-  tally : l.sum.height < count_of l.fn.shape → (vs : List Value) → IsTally vs l.initial.sum.tally → IsTally (vs ++ map (seen_in l.errors l.inputs.items) (first_cells l.area l.columns (l.columns * l.row))) l.sum.tally;
+  tally : l.sum.height < count_of l.fn.shape → (vs : List Value) → IsTally l.fold.wants vs l.initial.sum.tally → IsTally l.fold.wants (vs ++ map (seen_in l.fold.errors l.inputs.items) (first_cells l.area l.columns (l.columns * l.row))) l.sum.tally;
   count : l.sum.tally.totals.count ≤ l.initial.sum.tally.totals.count + 26 * l.row;
   height : l.sum.height ≡ max l.initial.sum.height (min (count_of l.fn.shape) (above (map (heights_in l.inputs.items) (first_cells l.area l.columns (l.columns * l.row)))));
 }
