@@ -12,6 +12,8 @@ mod grids;
 #[cfg(test)]
 mod inputs;
 #[cfg(test)]
+mod journals;
+#[cfg(test)]
 mod large;
 #[cfg(test)]
 mod refusals;
