@@ -189,21 +189,21 @@ pub fn passages(
 ) -> Result<Vec<Passage>, AllocError> {
     let mut passages = Vec::new(alloc);
     for (row, line) in rows.iter().zip(lines.iter()) {
-        match (&row.what, row.reply) {
+        match (row.what, row.reply) {
             (Happening::Steps(process, Access::Flush(place)), Reply::Stepped) => {
                 passages.push(Passage {
-                    process: *process,
-                    place: *place,
+                    process,
+                    place,
                     from: *line,
                     to: end,
                     end: PassageEnd::Buffered,
                 })?;
             }
             (Happening::Steps(process, Access::Back), Reply::Stepped) => {
-                write_back(&mut passages, *process, *line);
+                write_back(&mut passages, process, *line);
             }
             (Happening::Stops(process), Reply::Stopped) => {
-                lose(&mut passages, Some(*process), *line);
+                lose(&mut passages, Some(process), *line);
             }
             (Happening::Crashes, _) => lose(&mut passages, None, *line),
             _ => {}

@@ -77,9 +77,9 @@ pub struct Lane {
 }
 
 // The points of a call, in their order.
-fn points_of(begin: &Begin) -> &'static [PointName] {
+fn points_of(begin: Begin) -> &'static [PointName] {
     match begin {
-        Begin::Edit(_, _) => &[
+        Begin::Edit(_) => &[
             PointName::Written,
             PointName::Announced,
             PointName::Indexed,
@@ -153,9 +153,9 @@ fn step_style(access: Access<Place>) -> Style {
 }
 
 fn style_of(row: &Row) -> Style {
-    match (&row.what, row.reply) {
+    match (row.what, row.reply) {
         (Happening::Begins(_, _), Reply::Begun(_) | Reply::Entered) => Style::Begin,
-        (Happening::Steps(_, access), Reply::Stepped) => step_style(*access),
+        (Happening::Steps(_, access), Reply::Stepped) => step_style(access),
         (Happening::Steps(_, _), Reply::Answered(_)) => Style::Answer,
         (Happening::TakesEntry(_), _) => Style::Inner,
         _ => Style::Refused,
@@ -208,7 +208,7 @@ fn entries(
     for (row, line) in rows.iter().zip(lines.iter()) {
         number = number.saturating_add(1);
         if is_of(row, process) {
-            if let Happening::Begins(_, begin) = &row.what {
+            if let Happening::Begins(_, begin) = row.what {
                 points = points_of(begin);
                 reached = 0;
             }
@@ -223,9 +223,9 @@ fn entries(
 
 // How a row ends the call of a process that is in one.
 fn ends(row: &Row, process: usize) -> Option<RailEnd> {
-    match (&row.what, row.reply) {
-        (Happening::Steps(by, _), Reply::Answered(_)) if *by == process => Some(RailEnd::Answered),
-        (Happening::Stops(by), Reply::Stopped) if *by == process => Some(RailEnd::Lost),
+    match (row.what, row.reply) {
+        (Happening::Steps(by, _), Reply::Answered(_)) if by == process => Some(RailEnd::Answered),
+        (Happening::Stops(by), Reply::Stopped) if by == process => Some(RailEnd::Lost),
         (Happening::Crashes, _) => Some(RailEnd::Lost),
         _ => None,
     }
@@ -233,8 +233,8 @@ fn ends(row: &Row, process: usize) -> Option<RailEnd> {
 
 // Whether a call of the process begins by the row.
 fn begins(row: &Row, process: usize) -> bool {
-    match (&row.what, row.reply) {
-        (Happening::Begins(by, _), Reply::Begun(_) | Reply::Entered) => *by == process,
+    match (row.what, row.reply) {
+        (Happening::Begins(by, _), Reply::Begun(_) | Reply::Entered) => by == process,
         _ => false,
     }
 }

@@ -25,11 +25,11 @@ pub fn one_line(alloc: Global, text: &[u8]) -> Result<Vec<u8>, AllocError> {
 }
 
 // The text of a call that begins.
-fn call_text(alloc: Global, begin: &Begin) -> Result<Vec<u8>, AllocError> {
+fn call_text(alloc: Global, begin: Begin, text: &[u8]) -> Result<Vec<u8>, AllocError> {
     match begin {
-        Begin::Edit(cell, text) => {
+        Begin::Edit(cell) => {
             let mut line = format!(in alloc; "set {cell} ")?.into_bytes();
-            line.extend_from_slice(text.as_slice())?;
+            line.extend_from_slice(text)?;
             Ok(line)
         }
         Begin::Work(cell) => Ok(format!(in alloc; "work {cell}")?.into_bytes()),
@@ -87,16 +87,16 @@ fn step_text(
 
 /// The text of a row, as it stands in the lane of its process.
 pub fn row_text(alloc: Global, layout: Layout, row: &Row) -> Result<Vec<u8>, AllocError> {
-    match (&row.what, row.reply) {
+    match (row.what, row.reply) {
         (Happening::Begins(_, begin), Reply::Begun(_) | Reply::Entered) => {
-            call_text(alloc, begin)
+            call_text(alloc, begin, &row.text)
         }
         (Happening::Steps(_, access), Reply::Stepped) => {
-            step_text(alloc, layout, *access, row.touch)
+            step_text(alloc, layout, access, row.touch)
         }
         (Happening::TakesEntry(_), _) => Ok(format!(in alloc; "take the entry")?.into_bytes()),
         (Happening::Evicts(place), _) => {
-            let place = place_name(alloc, layout, *place)?;
+            let place = place_name(alloc, layout, place)?;
             Ok(format!(in alloc; "evict {place}")?.into_bytes())
         }
         _ => one_line(alloc, &row.answer),

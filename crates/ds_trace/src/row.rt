@@ -5,7 +5,6 @@ use ds_formula::cells::Cell;
 use ds_layout::layout::Layout;
 use ds_layout::place::Place;
 use ds_play::point::PointName;
-use ds_state::text::Text;
 use ds_words::access::Access;
 use ds_words::words::Word;
 
@@ -21,10 +20,10 @@ pub struct Touch {
 }
 
 /// A call that begins.
-#[derive(Clone, Copy, Debug)]
+#[derive(Clone, Copy, Debug, PartialEq, Eq)]
 pub enum Begin {
-    /// An edit of the cell, with the text that it is to hold.
-    Edit(Cell, Text),
+    /// An edit of the cell.
+    Edit(Cell),
     /// Work on the cell.
     Work(Cell),
     /// A report.
@@ -34,7 +33,7 @@ pub enum Begin {
 }
 
 /// What happened in a run.
-#[derive(Clone, Copy, Debug)]
+#[derive(Clone, Copy, Debug, PartialEq, Eq)]
 pub enum Happening {
     /// The process begins a call, or is refused it.
     Begins(usize, Begin),
@@ -63,6 +62,8 @@ pub struct Row {
     pub behind: Option<PointName>,
     /// How many edits count then.
     pub counted: usize,
+    /// The text that an edit is to have which begins; else it is empty.
+    pub text: Vec<u8>,
     /// The reply as scripts write it, in one or more lines.
     pub answer: Vec<u8>,
 }

@@ -1,5 +1,11 @@
 //! The trace of a script.
 
+ghost use Rattle.std.specs.Prelude.{◌≡◌, ◌<◌, ◌^◌, IfErr, IfOk, length};
+ghost use Rattle.ds_play.specs.Script.{IsMade};
+ghost use Rattle.ds_trace.specs.Traces.{IsTraceOf, IsUntraced, PassesLine, StopsLine, why_not};
+ghost use Rattle.ds_trace.specs.declared.script.Stop.TheVariants as stops;
+ghost use Rattle.ds_trace.specs.declared.script.Untraced.TheVariants as untraced;
+
 use crate::play::carry_out;
 use crate::row::{Note, Row, Trace};
 use crate::turn::NoTrace;
@@ -31,25 +37,33 @@ enum Stop {
 }
 
 impl From<ScriptFault> for Stop {
+    ghost from_gives = { λ f s. s ≡ stops.Fault f };
+
     fn from(fault: ScriptFault) -> Stop {
         Stop::Fault(fault)
     }
 }
 
 impl From<NoTrace> for Stop {
+    ghost from_gives = { λ why s. s ≡ stops.NoTrace why };
+
     fn from(why: NoTrace) -> Stop {
         Stop::NoTrace(why)
     }
 }
 
 impl From<AllocError> for Untraced {
+    ghost from_gives = { λ _ s. s ≡ untraced.NoMemory };
+
     fn from(_error: AllocError) -> Untraced {
         Untraced::NoMemory
     }
 }
 
 // Why a script has no trace that is stopped at this line, counted from 1.
-fn why_not(line: usize, stop: Stop) -> Untraced {
+fn why_not(line: usize, stop: Stop) -> Untraced
+    ensures { result ≡ why_not line stop }
+{
     match stop {
         Stop::Fault(kind) => Untraced::Fault { line, kind },
         Stop::NoTrace(NoTrace::TooManyEvents) => Untraced::TooManyEvents,
@@ -101,7 +115,10 @@ fn obey(
     world: &mut World,
     rows: &mut Vec<Row>,
     notes: &mut Vec<Note>,
-) -> Result<Begun, Stop> {
+) -> Result<Begun, Stop>
+    ensures passes { IfOk result (λ now. PassesLine begun world.old line.now now world.new rows.old.items rows.new.items) }
+    ensures stops { IfErr result (λ stop. StopsLine begun world.old line.now stop) }
+{
     let Some(command) = read_order(line, begun, world)? else {
         return Ok(begun);
     };
@@ -112,7 +129,9 @@ fn obey(
 }
 
 // A new world of two columns, two rows and two processes.
-fn fresh(alloc: Global) -> Result<World, AllocError> {
+fn fresh(alloc: Global) -> Result<World, AllocError>
+    ensures { IfOk result (λ w. IsMade 2 2 2 w) }
+{
     let shape = Shape {
         columns: 2,
         rows: 2,
@@ -122,7 +141,11 @@ fn fresh(alloc: Global) -> Result<World, AllocError> {
 
 /// The trace of a script, from a new sheet of two columns, two rows and two processes on, or from the one that it
 /// begins with. Where it is not `whole`, what comes behind its last line feed is left out.
-pub fn trace(alloc: Global, script: &[u8], whole: bool) -> Result<Trace, Untraced> {
+pub fn trace(alloc: Global, script: &[u8], whole: bool) -> Result<Trace, Untraced>
+    requires { length script.now < 2 ^ 62 }
+    ensures trace { IfOk result (λ trace. IsTraceOf whole script.now trace) }
+    ensures untraced { IfErr result (λ why. IsUntraced whole script.now why) }
+{
     let mut world = fresh(alloc)?;
     let mut rows = Vec::new(alloc);
     let mut notes = Vec::new(alloc);

@@ -1,5 +1,11 @@
 //! The word that an event touches.
 
+ghost use Rattle.std.specs.Prelude.{◌≡◌, IfSome, Option};
+ghost use Rattle.ds_layout.specs.Places.{IsPlace};
+ghost use Rattle.ds_state.specs.Value.{WorldValue};
+ghost use Rattle.ds_trace.specs.Rows.{Names, TouchesAt, access_of};
+ghost use Rattle.ds_trace.specs.Looks.{HasSeen};
+
 use crate::row::{Happening, Row, Touch};
 use ds_layout::place::Place;
 use ds_play::point::{PointName, is_past};
@@ -38,7 +44,9 @@ pub fn last_point(situation: &Situation) -> Option<PointName> {
 }
 
 /// The access that the next step of a process makes: none where it is in no call.
-pub fn wanted(world: &World, process: usize) -> Access<Place> {
+pub fn wanted(world: &World, process: usize) -> Access<Place>
+    ensures { result ≡ access_of world.now process }
+{
     if process >= world.situations.len() {
         return Access::Nothing;
     }
@@ -101,7 +109,9 @@ pub fn oldest(rows: &[Row], process: usize) -> Option<Place> {
 }
 
 /// The word that an access of a process touches, behind these rows.
-pub fn place_of(rows: &[Row], process: usize, access: Access<Place>) -> Option<Place> {
+pub fn place_of(rows: &[Row], process: usize, access: Access<Place>) -> Option<Place>
+    ensures { Names access result }
+{
     match access {
         Access::Nothing => None,
         Access::Load(place) | Access::Store(place, _) => Some(place),
@@ -123,7 +133,9 @@ pub struct Before {
 }
 
 /// Both sides of a word, before the event that touches it; none where the sheet has no such word.
-pub fn look(world: &World, place: Option<Place>) -> Option<Before> {
+pub fn look(world: &World, place: Option<Place>) -> Option<Before>
+    ensures { HasSeen world.now place result }
+{
     let place = place?;
     if !world.words.layout().contains(place) {
         return None;
@@ -135,11 +147,11 @@ pub fn look(world: &World, place: Option<Place>) -> Option<Before> {
 }
 
 /// The same word behind the event.
-pub fn after(world: &World, before: Option<Before>) -> Option<Touch> {
+pub fn after(world: &World, before: Option<Before>) -> Option<Touch>
+    requires { IfSome before (λ b. IsPlace world.now.sheet.layout b.place) }
+    ensures { (old : WorldValue) (place : Option Place) → HasSeen old place before → TouchesAt old world.now place result }
+{
     let Before { place, word } = before?;
-    if !world.words.layout().contains(place) {
-        return None;
-    }
     Some(Touch {
         place,
         before: word,
