@@ -1,4 +1,0 @@
-pub mod Rows
-pub mod Looks
-pub mod Trails
-pub mod Traces
