@@ -1,0 +1,16 @@
+//! Scripts whose calls under way are carried out in all orders of their steps.
+#![tactic(auto)]
+
+mod describe;
+mod ends;
+pub mod explore;
+mod flaw;
+mod graph;
+mod judge;
+mod lines;
+pub mod options;
+mod orders;
+mod position;
+mod script;
+mod search;
+mod touched;
