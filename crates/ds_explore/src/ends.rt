@@ -1,6 +1,5 @@
 //! What is told behind an order: every process recovers, process 0 settles and reports.
 
-use crate::position::Position;
 use ds_calls::call::{whole_recovery, whole_report};
 use ds_calls::settle::{SettleEnd, settle};
 use ds_core::reply::Reply;
@@ -69,24 +68,6 @@ pub(crate) fn end(alloc: Global, world: &mut World) -> Result<Ending, AllocError
         reported,
         text,
     })
-}
-
-/// What an order comes to: what each call under way was answered, and what is told behind.
-pub(crate) fn outcome_text(
-    alloc: Global,
-    position: &Position,
-    ending: &Ending,
-    crashed: bool,
-) -> Result<Vec<u8>, AllocError> {
-    let mut text = Vec::new(alloc);
-    for seat in &position.seats {
-        text.extend_from_slice(&seat.text)?;
-    }
-    if crashed {
-        text.extend_from_slice(b"crashed\n")?;
-    }
-    text.extend_from_slice(&ending.text)?;
-    Ok(text)
 }
 
 /// The values that process 0 has reported.

@@ -26,6 +26,11 @@ pub enum Flaw {
 }
 
 impl fmt::Display for Flaw {
+    ghost use Rattle.std.specs.Prelude.{Some};
+    ghost use Rattle.ds_explore.specs.Explored.{flaw_text};
+
+    ghost output = { λ flaw. Some (flaw_text flaw) };
+
     fn fmt<W: fmt::Write>(&self, f: &mut fmt::Formatter<W>) -> fmt::Result {
         match self {
             Flaw::ToldOtherwise(process) => write!(

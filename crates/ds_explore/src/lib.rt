@@ -1,13 +1,14 @@
 //! Scripts whose calls under way are carried out in all orders of their steps.
 #![tactic(auto)]
 
+mod answers;
 mod describe;
 mod ends;
 pub mod explore;
-mod flaw;
+pub mod flaw;
 mod graph;
 mod judge;
-mod lines;
+pub mod lines;
 pub mod options;
 mod orders;
 mod position;

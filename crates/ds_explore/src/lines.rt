@@ -1,5 +1,8 @@
 //! The lines that a script goes on with.
 
+ghost use Rattle.std.specs.Prelude.{◌≡◌, ◌++◌, ◌∷◌, ℕ, List, IfOk, string_bytes};
+ghost use Rattle.ds_explore.specs.Lines.{IsLines, line_text, place_text, words_of};
+
 use ds_formula::cells::Shape;
 use ds_layout::place::Place;
 use ds_play::point::PointName;
@@ -14,7 +17,12 @@ pub enum FoundLine {
     /// The process goes on to its answer.
     Run(usize),
     /// The process goes on to a point.
-    RunTo(usize, PointName),
+    RunTo {
+        /// The process.
+        process: usize,
+        /// The point.
+        name: PointName,
+    },
     /// The process stops.
     Stop(usize),
     /// A word is evicted.
@@ -30,7 +38,9 @@ pub enum FoundLine {
 }
 
 // A place as scripts write it.
-fn place_text(alloc: Global, shape: Shape, place: Place) -> Result<String, AllocError> {
+fn place_line(alloc: Global, shape: Shape, place: Place) -> Result<String, AllocError>
+    ensures { IfOk result (λ text. string_bytes text ≡ place_text shape place) }
+{
     match place {
         Place::Version => format!(in alloc; "version"),
         Place::Head(cell) => format!(in alloc; "head {}", cell_at(shape, cell)),
@@ -49,24 +59,51 @@ fn place_text(alloc: Global, shape: Shape, place: Place) -> Result<String, Alloc
     }
 }
 
-/// The line as scripts write it, with its end.
-pub(crate) fn line_text(
+// The words of a line.
+fn words(alloc: Global, shape: Shape, line: FoundLine) -> Result<String, AllocError>
+    ensures { IfOk result (λ text. string_bytes text ≡ words_of shape line) }
+{
+    match line {
+        FoundLine::Step(process) => format!(in alloc; "step {process}"),
+        FoundLine::Run(process) => format!(in alloc; "run {process}"),
+        FoundLine::RunTo { process, name } => {
+            let name = name.name();
+            format!(in alloc; "run {process} to {name}")
+        }
+        FoundLine::Stop(process) => format!(in alloc; "stop {process}"),
+        FoundLine::Evict(place) => {
+            let place = place_line(alloc, shape, place)?;
+            format!(in alloc; "evict {place}")
+        }
+        FoundLine::Crash => format!(in alloc; "crash"),
+        FoundLine::Recover(process) => format!(in alloc; "recover {process}"),
+        FoundLine::Settle => format!(in alloc; "settle 0"),
+        FoundLine::Report => format!(in alloc; "report 0"),
+    }
+}
+
+// The line as scripts write it, with its end.
+fn line_bytes(alloc: Global, shape: Shape, line: FoundLine) -> Result<Vec<u8>, AllocError>
+    ensures { IfOk result (λ text. text.items ≡ line_text shape line) }
+{
+    let words = words(alloc, shape, line)?;
+    let mut text = words.into_bytes();
+    text.push(b'\n')?;
+    Ok(text)
+}
+
+/// The lines as scripts write them. An error is a want of memory.
+pub(crate) fn lines_text(
     alloc: Global,
     shape: Shape,
-    line: FoundLine,
-) -> Result<String, AllocError> {
-    match line {
-        FoundLine::Step(process) => format!(in alloc; "step {process}\n"),
-        FoundLine::Run(process) => format!(in alloc; "run {process}\n"),
-        FoundLine::RunTo(process, name) => format!(in alloc; "run {process} to {}\n", name.name()),
-        FoundLine::Stop(process) => format!(in alloc; "stop {process}\n"),
-        FoundLine::Evict(place) => {
-            let place = place_text(alloc, shape, place)?;
-            format!(in alloc; "evict {place}\n")
-        }
-        FoundLine::Crash => format!(in alloc; "crash\n"),
-        FoundLine::Recover(process) => format!(in alloc; "recover {process}\n"),
-        FoundLine::Settle => format!(in alloc; "settle 0\n"),
-        FoundLine::Report => format!(in alloc; "report 0\n"),
+    lines: &[FoundLine],
+) -> Result<Vec<u8>, AllocError>
+    ensures { IfOk result (λ text. IsLines shape text.items) }
+{
+    let mut text = Vec::new(alloc);
+    for line in lines {
+        let bytes = line_bytes(alloc, shape, *line)?;
+        text.extend_from_slice(&bytes)?;
     }
+    Ok(text)
 }

@@ -9,12 +9,12 @@ pub struct Options {
     pub stops: bool,
     /// An eviction of each word whose sides differ, at each state.
     pub evictions: bool,
-    /// How many states there may be.
+    /// How many states are gone through at most.
     pub most: usize,
 }
 
-/// Is told how many states there are so far, once for each.
+/// Is told how many states there are so far, again and again.
 pub trait Watcher {
-    /// So many states were found.
+    /// So many states were found so far.
     fn found(&mut self, states: usize);
 }

@@ -14,14 +14,14 @@ pub(crate) struct Orders {
     pub(crate) state: u32,
 }
 
-// No order.
-const NONE: Orders = Orders {
-    count: 0,
-    length: u64::MAX,
-    state: 0,
-};
-
 impl Orders {
+    /// No order.
+    pub(crate) const NONE: Orders = Orders {
+        count: 0,
+        length: u64::MAX,
+        state: 0,
+    };
+
     // As many more as come to a state.
     fn join(&mut self, way: Way, state: u32) {
         self.count = self.count.saturating_add(way.orders);
@@ -50,7 +50,7 @@ pub(crate) fn count_orders(
     nodes: &[Node],
 ) -> Result<(Vec<Orders>, Vec<Way>), AllocError> {
     let ways = ways(alloc, states, nodes)?;
-    let mut orders = vec![in alloc; NONE; outcomes]?;
+    let mut orders = vec![in alloc; Orders::NONE; outcomes]?;
     for node in nodes {
         let way = way_to(&ways, node.state);
         add(&mut orders, node.end, way, node.state);

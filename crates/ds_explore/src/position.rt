@@ -1,5 +1,8 @@
 //! A world with calls under way, and what they were answered.
 
+ghost use Rattle.std.specs.Prelude.{◌-◌, ◌^◌, true, IfErr};
+ghost use Rattle.ds_stops.specs.Reaching.{FallsShort};
+
 use ds_calls::finish::step_once;
 use ds_core::event::Event;
 use ds_core::reply::Reply;
@@ -12,6 +15,7 @@ use ds_play::texts::reply_bytes;
 use ds_state::situation::Situation;
 use ds_state::world::World;
 use ds_stops::reach::{Short, reach};
+use ds_streams::line::INPUT_LIMIT;
 use ds_words::access::{Access, BufferEntry};
 use ds_work::offer::offer_own;
 use std::alloc::{AllocError, Global};
@@ -48,7 +52,12 @@ pub(crate) struct Position {
 }
 
 /// The world that a script leads to. An error is why it does not end.
-pub(crate) fn start(alloc: Global, script: &[u8]) -> Result<World, Short> {
+pub(crate) fn start(alloc: Global, script: &[u8]) -> Result<World, Short>
+    ensures { IfErr result (FallsShort true script.now (2 ^ 64 - 1)) }
+{
+    if script.len() > INPUT_LIMIT {
+        return Err(Short::NoMemory);
+    }
     let shape = Shape {
         columns: 2,
         rows: 2,
@@ -102,7 +111,9 @@ pub(crate) fn step(alloc: Global, world: &mut World, process: usize) -> (Access<
 }
 
 // How many entries of a buffer are there at the start: those that the call writes back beyond those that it flushes.
-fn entries_at(alloc: Global, script: &[u8], process: usize) -> Result<usize, Short> {
+fn entries_at(alloc: Global, script: &[u8], process: usize) -> Result<usize, Short>
+    ensures { IfErr result (FallsShort true script.now (2 ^ 64 - 1)) }
+{
     let mut world = start(alloc, script)?;
     let mut flushed = 0usize;
     let mut written = 0usize;
@@ -134,11 +145,9 @@ fn unknown(alloc: Global, count: usize) -> Result<Vec<BufferEntry<Place>>, Alloc
 }
 
 /// How many entries the buffer of each process has where the script ends.
-pub(crate) fn buffered(
-    alloc: Global,
-    script: &[u8],
-    processes: usize,
-) -> Result<Vec<usize>, Short> {
+pub(crate) fn buffered(alloc: Global, script: &[u8], processes: usize) -> Result<Vec<usize>, Short>
+    ensures { IfErr result (FallsShort true script.now (2 ^ 64 - 1)) }
+{
     let mut counts = Vec::new(alloc);
     for process in 0..processes {
         let count = entries_at(alloc, script, process)?;
@@ -249,6 +258,15 @@ impl Position {
                 Ok(())
             }
         }
+    }
+
+    /// What the call of each process was answered, or that it was stopped.
+    pub(crate) fn answers(&self, alloc: Global) -> Result<Vec<Vec<u8>>, AllocError> {
+        let mut answers = Vec::new(alloc);
+        for seat in &self.seats {
+            answers.push(seat.text.clone()?)?;
+        }
+        Ok(answers)
     }
 
     /// Whether a call is under way.

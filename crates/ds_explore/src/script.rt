@@ -86,7 +86,10 @@ impl Lines {
             return Ok(());
         };
         if let Some(name) = steps.point {
-            self.lines.push(FoundLine::RunTo(steps.process, name))?;
+            self.lines.push(FoundLine::RunTo {
+                process: steps.process,
+                name,
+            })?;
         }
         for _ in 0..steps.behind {
             self.lines.push(FoundLine::Step(steps.process))?;

@@ -1,7 +1,10 @@
 //! Goes through all orders.
 
+ghost use Rattle.std.specs.Prelude.{◌≡◌, ◌-◌, ◌^◌, true, IfErr};
+ghost use Rattle.ds_stops.specs.Reaching.{FallsShort};
+
 use crate::describe::Numbers;
-use crate::ends::{end, outcome_text};
+use crate::ends::end;
 use crate::flaw::Flaw;
 use crate::graph::{Edge, Node};
 use crate::judge::Judge;
@@ -19,14 +22,51 @@ use std::collections::HashMap;
 /// An outcome of orders.
 #[derive(Drop)]
 pub(crate) struct Outcome {
-    /// What the calls were answered, and what is told behind.
-    pub(crate) text: Vec<u8>,
-    /// What is told behind the order.
-    pub(crate) tail: Vec<u8>,
+    // What each call was answered.
+    answers: Vec<Vec<u8>>,
+    // What is told behind the order.
+    tail: Vec<u8>,
     /// What is wrong with it.
     pub(crate) flaws: Vec<Flaw>,
     /// Whether the order ends with a crash.
     pub(crate) crashed: bool,
+}
+
+// Whether the text has this part.
+fn contains(text: &[u8], part: &[u8]) -> bool {
+    if part.is_empty() {
+        return true;
+    }
+    text.windows(part.len()).any(|window| window == part)
+}
+
+impl Outcome {
+    /// Whether a script that has these answers has this outcome: its calls are answered so, and behind the order this is
+    /// told, and nothing else.
+    pub(crate) fn is_in(&self, answers: &[u8]) -> bool {
+        for answer in &self.answers {
+            if !contains(answers, answer) {
+                return false;
+            }
+        }
+        answers.ends_with(&self.tail)
+    }
+
+    // What distinguishes it from all others.
+    fn key(&self, alloc: Global) -> Result<Vec<u8>, AllocError> {
+        let mut key = Vec::new(alloc);
+        for answer in &self.answers {
+            key.extend_from_slice(answer)?;
+        }
+        if self.crashed {
+            key.extend_from_slice(b"crashed\n")?;
+        }
+        key.extend_from_slice(&self.tail)?;
+        for flaw in &self.flaws {
+            key.extend_from_slice(format!(in alloc; "{flaw}\n")?.as_bytes())?;
+        }
+        Ok(key)
+    }
 }
 
 /// Where orders begin.
@@ -88,7 +128,9 @@ enum Next {
 }
 
 // How a crash or the end of memory is named here.
-fn memory<T: Drop>(made: Result<T, AllocError>) -> Result<T, Short> {
+fn memory<T: Drop>(made: Result<T, AllocError>) -> Result<T, Short>
+    ensures { IfErr result (λ short. short ≡ Short.NoMemory) }
+{
     match made {
         Ok(value) => Ok(value),
         Err(_) => Err(Short::NoMemory),
@@ -112,11 +154,9 @@ fn moves(alloc: Global, processes: usize, touched: &Touched) -> Result<Vec<Move>
 
 impl<'a> Start<'a> {
     /// The orders of the calls that are under way where the script ends. An error is why it does not end.
-    pub(crate) fn new(
-        alloc: Global,
-        script: &'a [u8],
-        options: Options,
-    ) -> Result<Start<'a>, Short> {
+    pub(crate) fn new(alloc: Global, script: &'a [u8], options: Options) -> Result<Start<'a>, Short>
+        ensures { IfErr result (FallsShort true script.now (2 ^ 64 - 1)) }
+    {
         let world = start(alloc, script)?;
         let Layout { shape, processes } = world.words.layout();
         let buffered = buffered(alloc, script, processes)?;
@@ -204,10 +244,9 @@ impl<'a> Start<'a> {
         crashed: bool,
     ) -> Result<Outcome, AllocError> {
         let ending = end(alloc, &mut position.world)?;
-        let text = outcome_text(alloc, position, &ending, crashed)?;
         let flaws = self.judge.flaws(alloc, position, &ending)?;
         Ok(Outcome {
-            text,
+            answers: position.answers(alloc)?,
             tail: ending.text,
             flaws,
             crashed,
@@ -235,10 +274,7 @@ impl Search {
 
     // The number of an outcome.
     fn number(&mut self, alloc: Global, outcome: Outcome) -> Result<usize, AllocError> {
-        let mut key = outcome.text.clone()?;
-        for flaw in &outcome.flaws {
-            key.extend_from_slice(format!(in alloc; "{flaw}\n")?.as_bytes())?;
-        }
+        let key = outcome.key(alloc)?;
         if let Some(number) = self.found.get(key.as_slice()) {
             return Ok(*number);
         }
