@@ -1,0 +1,4 @@
+pub mod Answers
+pub mod Owned
+pub mod Statuses
+pub mod Worlds
