@@ -20,13 +20,13 @@ use std::alloc::{AllocError, Global};
 /// An edit that was answered Done.
 #[derive(Clone, Copy, Debug)]
 pub struct Told<'a> {
-    /// Its process.
+    /// Its process, below those of the sheet.
     pub process: usize,
-    /// Its number among those of the process, from 0.
+    /// Its number among those of the process, 0 to 255.
     pub number: usize,
-    /// Its cell.
+    /// Its cell, one of the sheet.
     pub cell: Cell,
-    /// Its text.
+    /// Its text, at most 120 bytes.
     pub text: &'a [u8],
 }
 
@@ -66,7 +66,8 @@ fn edit_line(alloc: Global, told: Told<'_>) -> Result<Vec<u8>, AllocError> {
     Ok(line)
 }
 
-/// The new sheet that the first line of a journal asks for.
+/// The new sheet that the first line of a journal asks for. The fault is that of the line, that it is no `sheet`, or want
+/// of memory.
 pub fn begin(alloc: Global, line: &[u8]) -> Result<World, JournalFault>
     ensures { IfOk result (λ world. Follows (line.now ∷ []) world) }
 {
@@ -82,7 +83,8 @@ pub fn begin(alloc: Global, line: &[u8]) -> Result<World, JournalFault>
     }
 }
 
-/// The journal of a new sheet of this shape with so many processes: its line is read again, and has to give that sheet.
+/// The journal of a new sheet of this shape with so many processes, 1 to 8: its line is read again, and has to give that
+/// sheet. The fault is that there is no such sheet, or want of memory.
 pub fn open(alloc: Global, shape: Shape, processes: usize) -> Result<Opened, JournalFault>
     ensures { IfOk result (λ opened. Opens shape.columns shape.rows processes opened.line.items opened.world) }
 {
