@@ -1,0 +1,7 @@
+mod Adding
+mod Crashes
+mod Lists
+mod Making
+mod Numbered
+mod Reading
+mod Texts
