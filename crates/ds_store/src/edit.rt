@@ -1,0 +1,70 @@
+//! The edits that a store keeps.
+
+ghost use Rattle.std.specs.Prelude.{◌≡◌, ◌∷◌, ◌++◌, [], ℕ, List, IfOk, map};
+ghost use Rattle.std.specs.String.{string_bytes};
+ghost use Rattle.ds_journal.specs.Journals.{Keeps};
+ghost use Rattle.ds_store.specs.Stores.{KeepAll, asked_by};
+
+use ds_formula::cells::Cell;
+use ds_journal::fault::JournalFault;
+use ds_journal::journal::{Told, keep};
+use ds_state::world::World;
+use std::alloc::Global;
+use std::str;
+
+/// An edit that was answered Done, and that is to be kept.
+#[derive(Debug, Drop)]
+pub struct ToldEdit {
+    /// Its process, below those of the sheet.
+    pub process: usize,
+    /// Its number among those of the process, 0 to 255.
+    pub number: usize,
+    /// Its cell, one of the sheet.
+    pub cell: Cell,
+    /// Its text, at most 120 bytes.
+    pub text: Vec<u8>,
+}
+
+/// A line as text.
+pub(crate) fn text_of(alloc: Global, line: &[u8]) -> Result<String, JournalFault>
+    ensures { IfOk result (λ text. string_bytes text ≡ line.now) }
+{
+    let Ok(text) = str::from_utf8(line) else {
+        return Err(JournalFault::Other);
+    };
+    match String::from_str(alloc, text) {
+        Ok(text) => Ok(text),
+        Err(_) => Err(JournalFault::NoMemory),
+    }
+}
+
+// The line that keeps an edit in the journal of this world, which follows it.
+fn kept(alloc: Global, world: &mut World, edit: &ToldEdit) -> Result<String, JournalFault>
+    ensures { IfOk result (λ text. Keeps world.old (asked_by edit.now) edit.now.number (string_bytes text) world.new) }
+{
+    let told = Told {
+        process: edit.process,
+        number: edit.number,
+        cell: edit.cell,
+        text: edit.text.as_slice(),
+    };
+    let line = keep(alloc, world, told)?;
+    text_of(alloc, &line)
+}
+
+/// The lines that keep edits, in their order, in the journal of this world, which follows each. An error is that of the
+/// first edit that can not be kept; the world is of no use then.
+pub(crate) fn kept_all(
+    alloc: Global,
+    world: &mut World,
+    edits: &[ToldEdit],
+) -> Result<Vec<String>, JournalFault>
+    ensures { IfOk result (λ texts. KeepAll world.old edits.now (map string_bytes texts.items) world.new) }
+{
+    let mut texts = Vec::with_capacity(alloc, edits.len())?;
+    for edit in edits {
+        let text = kept(alloc, world, edit)?;
+        texts.push_reserved(text);
+    }
+    Ok(texts)
+}

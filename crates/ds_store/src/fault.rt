@@ -1,0 +1,108 @@
+//! What is wrong with a store.
+
+use ds_journal::fault::JournalFault;
+use ds_lines::lines::LinesFault;
+use sqlite::{Error, ErrorCode};
+use std::alloc::AllocError;
+use std::fmt;
+
+/// Why a store can not be opened, or has failed.
+#[derive(Clone, Copy, Debug, PartialEq, Eq)]
+pub enum StoreFault {
+    /// The database gives this error: the file can not be opened, read or written, or holds no database.
+    Database(Error),
+    /// Another program has the file open.
+    Busy,
+    /// The file is a database of something else.
+    Foreign,
+    /// There is no line of this number, from 1.
+    Missing(usize),
+    /// The line of this number, from 1, can not be followed.
+    Line {
+        /// Its number.
+        number: usize,
+        /// Why it can not.
+        fault: JournalFault,
+    },
+    /// An edit that was told can not be kept.
+    Edit(JournalFault),
+    /// The sheet of the store has another shape, or another number of processes, than the one that was asked for.
+    OtherSheet {
+        /// Its columns.
+        columns: usize,
+        /// Its rows.
+        rows: usize,
+        /// Its processes.
+        processes: usize,
+    },
+    /// An allocation failed.
+    NoMemory,
+}
+
+impl From<Error> for StoreFault {
+    fn from(error: Error) -> StoreFault {
+        match error {
+            Error::SqliteFailure(ErrorCode::OutOfMemory) => StoreFault::NoMemory,
+            Error::SqliteFailure(ErrorCode::DatabaseBusy) => StoreFault::Busy,
+            Error::SqlInputError(_) => StoreFault::Foreign,
+            other => StoreFault::Database(other),
+        }
+    }
+}
+
+impl From<LinesFault> for StoreFault {
+    fn from(fault: LinesFault) -> StoreFault {
+        match fault {
+            LinesFault::Database(error) => StoreFault::from(error),
+            LinesFault::Missing(number) => StoreFault::Missing(number),
+            LinesFault::NoMemory => StoreFault::NoMemory,
+        }
+    }
+}
+
+impl From<JournalFault> for StoreFault {
+    fn from(fault: JournalFault) -> StoreFault {
+        match fault {
+            JournalFault::NoMemory => StoreFault::NoMemory,
+            fault => StoreFault::Edit(fault),
+        }
+    }
+}
+
+impl From<AllocError> for StoreFault {
+    fn from(_error: AllocError) -> StoreFault {
+        StoreFault::NoMemory
+    }
+}
+
+impl StoreFault {
+    /// That the line of this number, from 1, can not be followed for this fault.
+    pub fn at_line(number: usize, fault: JournalFault) -> StoreFault {
+        match fault {
+            JournalFault::NoMemory => StoreFault::NoMemory,
+            fault => StoreFault::Line { number, fault },
+        }
+    }
+}
+
+impl fmt::Display for StoreFault {
+    fn fmt<W: fmt::Write>(&self, f: &mut fmt::Formatter<W>) -> fmt::Result {
+        match self {
+            StoreFault::Database(error) => write!(f, "{error}"),
+            StoreFault::Busy => f.write_str("another program has it open"),
+            StoreFault::Foreign => f.write_str("it is a database of something else"),
+            StoreFault::Missing(number) => write!(f, "line {number} is missing"),
+            StoreFault::Line { number, fault } => write!(f, "line {number}: {fault}"),
+            StoreFault::Edit(fault) => write!(f, "an edit can not be kept: {fault}"),
+            StoreFault::OtherSheet {
+                columns,
+                rows,
+                processes,
+            } => write!(
+                f,
+                "its sheet has {columns} columns, {rows} rows and {processes} processes"
+            ),
+            StoreFault::NoMemory => f.write_str("no memory"),
+        }
+    }
+}
