@@ -5,7 +5,7 @@ use Rattle.clap.specs.Words.{HasKind, Row, Text, fault_of, subcommand_of}
 use Rattle.clap.specs.declared.error.Error.{Error}
 use Rattle.ds_app.specs.declared.command_line.Action.{Action}
 use Rattle.ds_app.specs.declared.command_line.OptionsFault.{OptionsFault}
-use Rattle.ds_app.specs.declared.command_line.OptionsFault.TheVariants.{CommandLine, NoCommand, OutOfLimits}
+use Rattle.ds_app.specs.declared.command_line.OptionsFault.TheVariants.{CommandLine, NoCommand, NoFile, OutOfLimits}
 use Rattle.ds_app.specs.CommandLines.{AsksNothing, IsRefusedFor, NamesNothing, dsheet}
 
 -- the subcommand that the words name asks for nothing
@@ -13,6 +13,7 @@ pub refused_for : (words : List Text) (name : Text) (rows : List Row) (fault : O
     → AsksNothing name rows fault → IsRefusedFor words fault
 refused_for words name rows (CommandLine error) is h = absurd h
 refused_for words name rows NoCommand is h = subst (λ o. NamesNothing o NoCommand) (sym is) h
+refused_for words name rows NoFile is h = subst (λ o. NamesNothing o NoFile) (sym is) h
 refused_for words name rows (OutOfLimits limit) is h = subst (λ o. NamesNothing o (OutOfLimits limit)) (sym is) h
 
 -- an error of `clap`'s is told as it is

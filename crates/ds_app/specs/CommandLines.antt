@@ -1,15 +1,15 @@
 -- The command line of `dsheet`, and what its words ask for.
-use Rattle.std.specs.Prelude.{◌≡◌, ◌≢◌, List, [], ◌∷◌, Option, Some, None, false, true, codes, pos}
-use Rattle.clap.specs.Words.{App, app_of, Row, Rule, Text, HasKind, fault_of, kind_of, new_app, new_rule, one_of, subcommand_of, with_rule, with_subcommand}
+use Rattle.std.specs.Prelude.{◌≡◌, ◌≢◌, ◌⊎◌, List, [], ◌∷◌, Option, Some, None, false, true, codes, pos}
+use Rattle.clap.specs.Words.{App, app_of, Row, Rule, Text, HasKind, fault_of, first_of, kind_of, new_app, new_rule, one_of, subcommand_of, with_rule, with_subcommand}
 use Rattle.clap.specs.declared.error.kind.ErrorKind.TheVariants.{OutOfMemory}
 use Rattle.clap.specs.declared.builder.command.Command.{Command}
 use Rattle.clap.specs.declared.builder.command.Command.TheViews.{out-Command as fields_of}
 use Rattle.clap.specs.declared.builder.action.ArgAction.TheVariants.{SetTrue}
 use Rattle.clap.specs.declared.builder.value_parser.ValueParser.TheVariants.{Signed}
 use Rattle.ds_app.specs.declared.command_line.Action.{Action}
-use Rattle.ds_app.specs.declared.command_line.Action.TheVariants.{Run, Stops, Report, Serve}
+use Rattle.ds_app.specs.declared.command_line.Action.TheVariants.{Run, Stops, Report, Serve, Keep, Check, Export, Import, Compact}
 use Rattle.ds_app.specs.declared.command_line.OptionsFault.{OptionsFault}
-use Rattle.ds_app.specs.declared.command_line.OptionsFault.TheVariants.{CommandLine, NoCommand, OutOfLimits}
+use Rattle.ds_app.specs.declared.command_line.OptionsFault.TheVariants.{CommandLine, NoCommand, NoFile, OutOfLimits}
 use Rattle.ds_app.specs.Servings.{IsOutOfLimits, IsServing}
 
 -- `clap`'s command is this one, with no global argument
@@ -50,12 +50,33 @@ sheet_command = with_rule
     (number_option (codes "processes") (codes "2"))) (number_option (codes "workers") (codes "0")))
     (number_option (codes "sessions") (codes "0"))
 
--- the same with [--at-once N] [--idle SECONDS]
-abbrev pub serve_command : App
-serve_command = with_rule (with_rule sheet_command (number_option (codes "at-once") (codes "64")))
-    (number_option (codes "idle") (codes "300"))
+-- the option `--store` with one value
+abbrev pub store : Rule
+store = record (new_rule (codes "store")) { long = Some (codes "store"); value_names = 1 }
 
--- the program, which has a version and wants one of its three subcommands
+-- the same with [--at-once N] [--idle SECONDS] [--store FILE]
+abbrev pub serve_command : App
+serve_command = with_rule (with_rule (with_rule sheet_command (number_option (codes "at-once") (codes "64")))
+    (number_option (codes "idle") (codes "300"))) store
+
+-- an argument of this name, which has to be there
+abbrev pub file : Text → Rule
+file name = record (new_rule name) { value_names = 1; required = true }
+
+-- `dsheet COMMAND FILE`
+abbrev pub file_command : Text → App
+file_command name = with_rule (new_app name) (file (codes "file"))
+
+-- `dsheet compact FILE NEW`
+abbrev pub compact_command : App
+compact_command = with_rule (file_command (codes "compact")) (file (codes "new"))
+
+-- the program with the subcommands that work on a store
+abbrev pub with_stores : App → App
+with_stores app = with_subcommand (with_subcommand (with_subcommand (with_subcommand app (file_command (codes "check")).top)
+    (file_command (codes "export")).top) (file_command (codes "import")).top) compact_command.top
+
+-- the program, which has a version and wants one of its subcommands
 abbrev pub dsheet_alone : App
 dsheet_alone = record (new_app (codes "dsheet")) {
   top = record (new_app (codes "dsheet")).top {
@@ -67,25 +88,43 @@ dsheet_alone = record (new_app (codes "dsheet")) {
 
 -- the program with its subcommands
 abbrev pub dsheet : App
-dsheet = with_subcommand (with_subcommand (with_subcommand dsheet_alone run_command.top) report_command.top) serve_command.top
+dsheet = with_stores (with_subcommand (with_subcommand (with_subcommand dsheet_alone run_command.top) report_command.top) serve_command.top)
+
+-- the argument or option of this name has this value
+abbrev pub Names : List Row → Text → Text → Type 0
+Names rows name value = first_of name rows ≡ Some value
 
 -- a subcommand of this name with these matches asks for this
 abbrev pub Asks : Text → List Row → Action → Type 0
 Asks name rows Run = (name ≡ codes "run") × (one_of (codes "stops") rows ≡ Some (codes "true") → ⊥)
 Asks name rows Stops = (name ≡ codes "run") × (one_of (codes "stops") rows ≡ Some (codes "true"))
 Asks name rows Report = name ≡ codes "report"
-Asks name rows (Serve serving) = (name ≡ codes "serve") × IsServing rows serving
+Asks name rows (Serve serving) = (name ≡ codes "serve") × IsServing rows serving × (first_of (codes "store") rows ≡ None)
+Asks name rows (Keep serving path) = (name ≡ codes "serve") × IsServing rows serving × Names rows (codes "store") path.now
+Asks name rows (Check path) = (name ≡ codes "check") × Names rows (codes "file") path.now
+Asks name rows (Export path) = (name ≡ codes "export") × Names rows (codes "file") path.now
+Asks name rows (Import path) = (name ≡ codes "import") × Names rows (codes "file") path.now
+Asks name rows (Compact path new) = (name ≡ codes "compact") × Names rows (codes "file") path.now × Names rows (codes "new") new.now
 
 -- the words of the command line ask for this, by the subcommand and the matches that `clap` reads from them
 abbrev pub IsAskedBy : List Text → Action → Type 0
 IsAskedBy words action = (name : Text) × (rows : List Row) × (subcommand_of dsheet words ≡ Some (name, rows)) × Asks name rows action
 
--- a subcommand of this name with these matches asks for nothing, for this fault: it is none of the three, or an option of
--- `serve` is out of its limits
+-- a subcommand of this name with these matches asks for nothing, for this fault: it is none of these, an argument is
+-- missing, or an option of `serve` is out of its limits
 abbrev pub AsksNothing : Text → List Row → OptionsFault → Type 0
 AsksNothing name rows (CommandLine error) = ⊥
-AsksNothing name rows NoCommand = (name ≢ codes "run") × (name ≢ codes "report") × (name ≢ codes "serve")
+AsksNothing name rows NoCommand = (name ≢ codes "run") × (name ≢ codes "report") × (name ≢ codes "serve") × (name ≢ codes "check")
+    × (name ≢ codes "export") × (name ≢ codes "import") × (name ≢ codes "compact")
+AsksNothing name rows NoFile = (first_of (codes "file") rows ≡ None) ⊎ (first_of (codes "new") rows ≡ None)
 AsksNothing name rows (OutOfLimits limit) = (name ≡ codes "serve") × IsOutOfLimits rows limit
+
+-- the same of a subcommand that none but those on a store can be
+abbrev pub AsksOfStore : Text → List Row → OptionsFault → Type 0
+AsksOfStore name rows (CommandLine error) = ⊥
+AsksOfStore name rows NoCommand = (name ≢ codes "check") × (name ≢ codes "export") × (name ≢ codes "import") × (name ≢ codes "compact")
+AsksOfStore name rows NoFile = AsksNothing name rows NoFile
+AsksOfStore name rows (OutOfLimits limit) = ⊥
 
 -- there is no subcommand, or it asks for nothing, for this fault
 abbrev pub NamesNothing : Option (Text × List Row) → OptionsFault → Type 0

@@ -4,6 +4,8 @@ use Rattle.ds_streams.specs.declared.ending.ScriptEnd.{ScriptEnd}
 use Rattle.ds_streams.specs.declared.ending.ScriptEnd.TheVariants.{Ended, Fault, TooLong, ReadFailed, WriteFailed, NoMemory}
 use Rattle.ds_grid.specs.declared.ending.GridEnd.{GridEnd}
 use Rattle.ds_grid.specs.declared.ending.GridEnd.TheVariants as grids
+use Rattle.ds_store.specs.declared.fault.StoreFault.{StoreFault}
+use Rattle.ds_store.specs.declared.fault.StoreFault.TheVariants as stores
 
 -- the exit status of `dsheet run`, by how the script ended
 abbrev pub status_of : ScriptEnd → ℕ
@@ -23,3 +25,14 @@ grid_status_of grids.TooLong = 3
 grid_status_of grids.ReadFailed = 3
 grid_status_of grids.WriteFailed = 3
 grid_status_of grids.NoMemory = 4
+
+-- the exit status of the commands on a store, by what is wrong with it
+abbrev pub store_status_of : StoreFault → ℕ
+store_status_of (stores.Database error) = 3
+store_status_of stores.Busy = 3
+store_status_of stores.Foreign = 1
+store_status_of (stores.Missing number) = 1
+store_status_of (stores.Line number fault) = 1
+store_status_of (stores.Edit fault) = 1
+store_status_of (stores.OtherSheet columns rows processes) = 1
+store_status_of stores.NoMemory = 4

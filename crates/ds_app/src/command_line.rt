@@ -1,10 +1,10 @@
 //! The command line, by `clap`.
 
-ghost use Rattle.std.specs.Prelude.{◌≡◌, ◌↔◌, IfErr, IfOk, IsTrue, Some, [], codes, false, map};
+ghost use Rattle.std.specs.Prelude.{◌≡◌, ◌↔◌, IfErr, IfOk, IsTrue, None, Some, [], codes, false, map};
 ghost use Rattle.std.specs.String.{string_bytes};
-ghost use Rattle.clap.specs.Words.{app_of, fault_of, found_of, one_of, rows_of, rule_of};
-ghost use Rattle.ds_app.specs.declared.command_line.OptionsFault.TheVariants.{CommandLine};
-ghost use Rattle.ds_app.specs.CommandLines.{Asks, AsksNothing, IsAskedBy, IsCommand, IsRefusedFor, IsWanting, dsheet, listen as listen_rule, number_option as number_rule, report_command as report_app, run_command as run_app, serve_command as serve_app, sheet_command as sheet_app};
+ghost use Rattle.clap.specs.Words.{App, app_of, fault_of, first_of, found_of, one_of, rows_of, rule_of};
+ghost use Rattle.ds_app.specs.declared.command_line.OptionsFault.TheVariants.{CommandLine, NoFile};
+ghost use Rattle.ds_app.specs.CommandLines.{Asks, AsksNothing, AsksOfStore, IsAskedBy, IsCommand, IsRefusedFor, IsWanting, Names, compact_command as compact_app, dsheet, file as file_rule, file_command as file_app, listen as listen_rule, number_option as number_rule, report_command as report_app, run_command as run_app, serve_command as serve_app, sheet_command as sheet_app, store as store_rule, with_stores};
 
 use crate::serving::{OutOfLimits, Serving, read_serving};
 use clap::{Arg, ArgAction, ArgMatches, Command, Error, value_parser};
@@ -12,7 +12,7 @@ use std::alloc::{AllocError, Global};
 
 /// What the words ask for.
 #[derive(Clone, Copy, Debug, PartialEq, Eq)]
-pub enum Action {
+pub enum Action<'a> {
     /// `dsheet run`: a script on standard input.
     Run,
     /// `dsheet run --stops`: the same, crashed behind each of its steps.
@@ -21,6 +21,16 @@ pub enum Action {
     Report,
     /// `dsheet serve`: sessions over connections.
     Serve(Serving),
+    /// `dsheet serve --store FILE`: the same, over the sheet of a store.
+    Keep(Serving, &'a str),
+    /// `dsheet check FILE`: what a store has.
+    Check(&'a str),
+    /// `dsheet export FILE`: the lines of a store.
+    Export(&'a str),
+    /// `dsheet import FILE`: a store of lines on standard input.
+    Import(&'a str),
+    /// `dsheet compact FILE NEW`: a new store of the texts of an old one.
+    Compact(&'a str, &'a str),
 }
 
 /// Why the words ask for nothing.
@@ -28,6 +38,8 @@ pub enum Action {
 pub enum OptionsFault {
     /// They are not of the command line, or ask for help. `clap` says what they are.
     CommandLine(Error),
+    /// They name no file where one has to be.
+    NoFile,
     /// They name no command.
     NoCommand,
     /// The value of an option is out of its limits.
@@ -140,6 +152,52 @@ Exit status: 0 ended; 2 wrong words on the command line; 3 the address can not b
 taken from it; 4 no memory.
 Each session that does not end with its client is one line on standard error, and so is what all came to.";
 
+const CHECK_ABOUT: &str = "Reads a store, and says what it has, or which line is unsound";
+
+const CHECK_HELP: &str = "\
+Reads each line of the store, makes its edit on a new sheet, and says how many edits of each process there are, of the
+256 that it may make. Nothing in the file is believed: a line whose edit is not answered done is a fault.
+
+Example:
+  dsheet check sheet.db
+
+Exit status: 0 sound; 1 a line that can not be followed, or another database; 2 wrong words on the command line;
+3 the file can not be opened or read, or another program has it open; 4 no memory.";
+
+const EXPORT_ABOUT: &str =
+    "Writes the lines of a store to standard output: a script, which run reads";
+
+const EXPORT_HELP: &str = "\
+Example:
+  dsheet export sheet.db > sheet.script
+  dsheet run < sheet.script
+
+Exit status: as of check; 3 also where standard output can not be written.";
+
+const IMPORT_ABOUT: &str = "Makes a store of the lines on standard input, as export writes them";
+
+const IMPORT_HELP: &str = "\
+The first line is \"sheet COLUMNS ROWS PROCESSES\", each other one \"set PROCESS CELL TEXT\", a comment, or empty.
+Every edit is made on a new sheet, and has to be answered done. The file must not have anything yet.
+
+Example:
+  printf 'sheet 2 2 2\\nset 0 A1 =1+2\\n' | dsheet import sheet.db
+
+Exit status: as of check; 3 also where standard input can not be read, or is over 1048576 bytes.";
+
+const COMPACT_ABOUT: &str =
+    "Makes a new store whose edits give each cell the text that it has in an old one";
+
+const COMPACT_HELP: &str = "\
+A process has 256 edits in all. Where they are spent, the new store goes on with the same texts: one edit for each
+cell that has one, by the processes in turn. The numbers of its edits are its own: what was told of those of the old
+store can not be asked of the new one. The new file must not have anything yet; the old one stays.
+
+Example:
+  dsheet compact sheet.db next.db
+
+Exit status: as of check.";
+
 const HELP: &str = "\
 Examples:
   printf 'set 0 A1 =1+2\\nsettle 0\\nreport 0\\n' | dsheet run
@@ -193,6 +251,67 @@ fn listen_option<'a>(alloc: Global) -> Arg<'a>
         .help("The address and the port, as 127.0.0.1:8080")
 }
 
+// The option of `serve` that has the store.
+fn store_option<'a>(alloc: Global) -> Arg<'a>
+    ensures rule { rule_of result ≡ store_rule }
+    ensures local { result.global ≡ false }
+{
+    Arg::new(alloc, "store")
+        .long("store")
+        .value_name("FILE")
+        .help(
+            "Keeps the edits in this file, which is made where there is none, and begins with those it has",
+        )
+}
+
+// An argument that has to be there.
+fn file_argument<'a>(alloc: Global, name: &'a str, value_name: &'a str, help: &'a str) -> Arg<'a>
+    ensures rule { rule_of result ≡ file_rule name.now }
+    ensures local { result.global ≡ false }
+{
+    Arg::new(alloc, name)
+        .value_name(value_name)
+        .required(true)
+        .help(help)
+}
+
+// A command on a file.
+fn file_command<'a>(
+    alloc: Global,
+    name: &'a str,
+    about: &'a str,
+    after: &'a str,
+) -> Result<Command<'a>, AllocError>
+    ensures { IfOk result (IsCommand (file_app name.now)) }
+{
+    let file = file_argument(alloc, "file", "FILE", "The file of the store");
+    Command::new(alloc, name)
+        .about(about)
+        .after_help(after)
+        .arg(file)
+}
+
+// `dsheet compact`.
+fn compact_command<'a>(alloc: Global) -> Result<Command<'a>, AllocError>
+    ensures { IfOk result (IsCommand compact_app) }
+{
+    let new = file_argument(alloc, "new", "NEW", "The file of the new store");
+    let command = file_command(alloc, "compact", COMPACT_ABOUT, COMPACT_HELP)?;
+    command.arg(new)
+}
+
+// A command with those on stores below it.
+fn with_stores<'a>(alloc: Global, command: Command<'a>) -> Result<Command<'a>, AllocError>
+    ensures { (app : App) → IsCommand app command → IfOk result (IsCommand (with_stores app)) }
+{
+    let check = file_command(alloc, "check", CHECK_ABOUT, CHECK_HELP)?;
+    let export = file_command(alloc, "export", EXPORT_ABOUT, EXPORT_HELP)?;
+    let import = file_command(alloc, "import", IMPORT_ABOUT, IMPORT_HELP)?;
+    let compact = compact_command(alloc)?;
+    let two = command.subcommand(check)?.subcommand(export)?;
+    two.subcommand(import)?.subcommand(compact)
+}
+
 // `dsheet serve` with its sheet, its processes and its sessions.
 fn sheet_command<'a>(alloc: Global) -> Result<Command<'a>, AllocError>
     ensures { IfOk result (IsCommand sheet_app) }
@@ -222,7 +341,8 @@ fn serve_command<'a>(alloc: Global) -> Result<Command<'a>, AllocError>
     let idle = number_option(alloc, "idle", "300", idle_help);
     let one = command.arg(at_once)?;
     let two = one.arg(idle)?;
-    two.bin_name("dsheet serve")
+    let three = two.arg(store_option(alloc))?;
+    three.bin_name("dsheet serve")
 }
 
 fn program<'a>(alloc: Global) -> Result<Command<'a>, AllocError>
@@ -237,7 +357,8 @@ fn program<'a>(alloc: Global) -> Result<Command<'a>, AllocError>
     let (run, report) = (run_command(alloc)?, report_command(alloc)?);
     let serve = serve_command(alloc)?;
     let two = command.subcommand(run)?.subcommand(report)?;
-    two.subcommand(serve)?.bin_name("dsheet")
+    let three = two.subcommand(serve)?;
+    with_stores(alloc, three)?.bin_name("dsheet")
 }
 
 impl From<Error> for OptionsFault {
@@ -263,8 +384,48 @@ fn is_stops(found: &ArgMatches<'_>) -> bool
     found.get_one::<bool>(STOPS) == Some(true)
 }
 
+// The value of an argument.
+fn value_of<'a>(found: &ArgMatches<'a>, name: &str) -> Result<&'a str, OptionsFault>
+    ensures named { IfOk result (λ value. Names (rows_of (found_of found.now)) name.now value.now) }
+    ensures none { IfErr result (λ fault. (fault ≡ NoFile) × (first_of name.now (rows_of (found_of found.now)) ≡ None)) }
+{
+    match found.get_str(name) {
+        Some(value) => Ok(value),
+        None => Err(OptionsFault::NoFile),
+    }
+}
+
+// What the options of `dsheet serve` ask for.
+fn served<'a>(found: &ArgMatches<'a>) -> Result<Action<'a>, OptionsFault>
+    ensures action { IfOk result (Asks (codes "serve") (rows_of (found_of found.now))) }
+    ensures fault { IfErr result (AsksNothing (codes "serve") (rows_of (found_of found.now))) }
+{
+    let serving = match read_serving(found) {
+        Ok(serving) => serving,
+        Err(limit) => return Err(OptionsFault::OutOfLimits(limit)),
+    };
+    match value_of(found, "store") {
+        Ok(path) => Ok(Action::Keep(serving, path)),
+        Err(_) => Ok(Action::Serve(serving)),
+    }
+}
+
+// What a subcommand on a store asks for.
+fn asked_of_store<'a>(name: &str, found: &ArgMatches<'a>) -> Result<Action<'a>, OptionsFault>
+    ensures action { IfOk result (Asks name.now (rows_of (found_of found.now))) }
+    ensures fault { IfErr result (AsksOfStore name.now (rows_of (found_of found.now))) }
+{
+    match name {
+        "check" => Ok(Action::Check(value_of(found, "file")?)),
+        "export" => Ok(Action::Export(value_of(found, "file")?)),
+        "import" => Ok(Action::Import(value_of(found, "file")?)),
+        "compact" => Ok(Action::Compact(value_of(found, "file")?, value_of(found, "new")?)),
+        _ => Err(OptionsFault::NoCommand),
+    }
+}
+
 // What a subcommand with these matches asks for.
-fn asked(name: &str, found: &ArgMatches<'_>) -> Result<Action, OptionsFault>
+fn asked<'a>(name: &str, found: &ArgMatches<'a>) -> Result<Action<'a>, OptionsFault>
     ensures action { IfOk result (Asks name.now (rows_of (found_of found.now))) }
     ensures fault { IfErr result (AsksNothing name.now (rows_of (found_of found.now))) }
 {
@@ -272,17 +433,14 @@ fn asked(name: &str, found: &ArgMatches<'_>) -> Result<Action, OptionsFault>
         "run" if is_stops(found) => Ok(Action::Stops),
         "run" => Ok(Action::Run),
         "report" => Ok(Action::Report),
-        "serve" => match read_serving(found) {
-            Ok(serving) => Ok(Action::Serve(serving)),
-            Err(limit) => Err(OptionsFault::OutOfLimits(limit)),
-        },
-        _ => Err(OptionsFault::NoCommand),
+        "serve" => served(found),
+        _ => asked_of_store(name, found),
     }
 }
 
 /// What the words ask for, of which the first is the program's name; an error is `clap`'s for help and for wrong words,
 /// or names the option that is out of its limits.
-pub fn options(alloc: Global, words: &[String]) -> Result<Action, OptionsFault>
+pub fn options<'a>(alloc: Global, words: &'a [String]) -> Result<Action<'a>, OptionsFault>
     ensures action { IfOk result (IsAskedBy (map string_bytes words.now)) }
     ensures accepted { IfOk result (λ _. fault_of dsheet (map string_bytes words.now) ≡ []) }
     ensures fault { IfErr result (IsRefusedFor (map string_bytes words.now)) }

@@ -8,18 +8,21 @@ mod progress;
 mod serve;
 mod serving;
 mod status;
+mod stores;
 
 use crate::command_line::{Action, OptionsFault, options};
 use crate::descriptors::stand_ins;
 use crate::progress::Progress;
-use crate::serve::serve;
+use crate::serve::{serve, serve_store};
 use crate::status::{NO_MEMORY, STREAM_FAILED, WRONG_WORDS, grid_status, script_status};
+use crate::stores::{check, compact, export, import};
 use clap::Error;
 use clap::error::ErrorKind;
 use ds_grid::ending::GridEnd;
 use ds_grid::report::report_grid;
 use ds_play::script::run_script;
 use ds_stops::stops::stop_at_each;
+use ds_store::open::Databases;
 use ds_streams::ending::ScriptEnd;
 use ds_streams::input::{InputEnd, read_input};
 use ds_streams::line::INPUT_LIMIT;
@@ -126,6 +129,7 @@ fn dispatch<
         + Clock
         + Log
         + Net<Stream = TcpStream, Listener = TcpListener>
+        + Databases
         + Sync,
 >(rt: &R, is_terminal: bool) -> u8 {
     let _kept = stand_ins(rt);
@@ -145,7 +149,16 @@ fn dispatch<
         Ok(Action::Stops) => stops(rt, is_terminal),
         Ok(Action::Report) => report(rt),
         Ok(Action::Serve(serving)) => serve(rt, serving),
+        Ok(Action::Keep(serving, path)) => serve_store(rt, serving, path),
+        Ok(Action::Check(path)) => check(rt, path),
+        Ok(Action::Export(path)) => export(rt, path),
+        Ok(Action::Import(path)) => import(rt, path),
+        Ok(Action::Compact(path, new)) => compact(rt, path, new),
         Err(OptionsFault::CommandLine(error)) => explain(rt, &error),
+        Err(OptionsFault::NoFile) => {
+            let _told = eprintln!(rt; "dsheet: no file");
+            WRONG_WORDS
+        }
         Err(OptionsFault::NoCommand) => {
             let _told = eprintln!(rt; "dsheet: no command");
             WRONG_WORDS

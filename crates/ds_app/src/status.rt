@@ -1,9 +1,10 @@
 //! Exit statuses.
 
 ghost use Rattle.std.specs.Prelude.{◌≡◌};
-ghost use Rattle.ds_app.specs.Statuses.{status_of, grid_status_of};
+ghost use Rattle.ds_app.specs.Statuses.{status_of, grid_status_of, store_status_of};
 
 use ds_grid::ending::GridEnd;
+use ds_store::fault::StoreFault;
 use ds_streams::ending::ScriptEnd;
 
 /// The status of wrong words on the command line, and of options out of their limits.
@@ -38,5 +39,24 @@ pub fn grid_status(end: &GridEnd) -> u8
         GridEnd::Grid(_) | GridEnd::CellFault { cell: _, fault: _ } => 1,
         GridEnd::TooLong | GridEnd::ReadFailed | GridEnd::WriteFailed => 3,
         GridEnd::NoMemory => 4,
+    }
+}
+
+/// The status of a store that has no journal of the sheet that was asked for.
+pub const BAD_STORE: u8 = 1;
+
+/// The status that tells why a store can not be opened, or has failed: 1 what it has is no journal of the sheet that was
+/// asked for, 3 the file can not be opened, read or written, 4 want of memory.
+pub fn store_status(fault: &StoreFault) -> u8
+    ensures { result ≡ store_status_of fault.now }
+{
+    match fault {
+        StoreFault::Database(_) | StoreFault::Busy => STREAM_FAILED,
+        StoreFault::NoMemory => NO_MEMORY,
+        StoreFault::Foreign
+        | StoreFault::Missing(_)
+        | StoreFault::Line { .. }
+        | StoreFault::Edit(_)
+        | StoreFault::OtherSheet { .. } => BAD_STORE,
     }
 }

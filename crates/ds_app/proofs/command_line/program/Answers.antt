@@ -10,8 +10,9 @@ returns c =
     let alone : IsCommand dsheet_alone c.arg_required_else_help-command.result = search rules in
     let one = grown_below _ _ _ _ _ c.in_ok-subcommand.ensures alone c.in_ok-run.ensures in
     let two = grown_below _ _ _ _ _ c.in_ok-two.ensures one c.in_ok-report.ensures in
-    let three = grown_below _ _ _ _ _ c.in_ok-subcommand-2.ensures two c.in_ok-serve.ensures in
+    let three = grown_below _ _ _ _ _ c.in_ok-three.ensures two c.in_ok-serve.ensures in
+    let all = c.in_ok-with_stores.ensures _ three in
     IfOk-weaker c.bin_name.result _ _ (λ r h. record {
-      is = ap app_of_fields h.0 ∙ three.is;
-      local = ap has_globals h.0 ∙ three.local;
+      is = ap app_of_fields h.0 ∙ all.is;
+      local = ap has_globals h.0 ∙ all.local;
     }) c.bin_name.ensures
