@@ -1,0 +1,10 @@
+pub mod AnswerKinds
+pub mod Answers
+pub mod Calls
+pub mod Events
+pub mod Failures
+pub mod Handles
+pub mod Making
+pub mod Owned
+pub mod Reading
+pub mod Rows
