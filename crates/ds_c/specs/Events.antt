@@ -2,12 +2,12 @@
 use Rattle.std.specs.Prelude.{ℕ, ◌≡◌, ◌<◌, Result}
 use Rattle.ds_formula.specs.declared.cells.Cell.{Cell}
 use Rattle.ds_formula.specs.Cells.{IsInside}
-use Rattle.ds_eval.specs.Tasks.{PlainEvaluated}
+use Rattle.ds_eval.specs.Tasks.{PlainTask, PlainEvaluated, local_of}
 use Rattle.ds_edit.specs.declared.answer.Answer.{Answer}
 use Rattle.ds_state.specs.Value.{WorldValue, world_of}
 use Rattle.ds_state.specs.Works.{PlainWorkCall}
 use Rattle.ds_state.specs.declared.refusal.Refusal.{Refusal}
-use Rattle.ds_work.specs.WorkTakes.{Waits}
+use Rattle.ds_work.specs.WorkTakes.{Waits, WaitsFor}
 use Rattle.ds_core.specs.declared.event.Event.{Event}
 use Rattle.ds_core.specs.declared.event.Event.TheVariants.{Offer, Evict, Crash}
 use Rattle.ds_core.specs.declared.reply.Reply.{Reply}
@@ -51,11 +51,16 @@ pub record Settles (p : ℕ) (old : WorldValue) (row : AnswerRow) (new : WorldVa
   pub settles : Settling p old (Ends end) new
   pub row_is : row ≡ settle_row end
 
--- the task that the work of the process waits for is evaluated and offered to it
+-- a task with its entry
+abbrev pub evaluated : PlainTask → PlainEvaluated
+evaluated task = record { task = task; entry = local_of task }
+
+-- a task of the process is evaluated and offered to it
 pub record Offers (p : ℕ) (old : WorldValue) (row : AnswerRow) (new : WorldValue) : Type 0 where
-  pub value : PlainEvaluated
-  pub process_is : value.task.process ≡ p
-  pub replies : Replies (Offer value) old row new
+  pub task : PlainTask
+  pub process_is : task.process ≡ p
+  pub waited : WaitsFor (world_of old) task
+  pub replies : Replies (Offer (evaluated task)) old row new
 
 -- the word that the row names is evicted; there is nothing to tell
 pub record Evicts (named : PlaceRow) (old : WorldValue) (told : Unit {0}) (new : WorldValue) : Type 0 where

@@ -12,3 +12,7 @@ pub record Holds (h : Handle) (v : WorldValue) : Type 0 where
 -- the handle holds no world
 abbrev pub IsEmpty : Handle → Type 0
 IsEmpty h = h.held ≢ HELD
+
+-- the handle holds a world
+abbrev pub IsFull : Handle → Type 0
+IsFull h = h.held ≡ HELD

@@ -8,7 +8,7 @@ use Rattle.ds_c.specs.declared.handle.Handle.{Handle}
 use Rattle.ds_c.specs.declared.failure.Failure.{Failure}
 use Rattle.ds_c.specs.declared.failure.Failure.TheVariants.{Empty, Full, BadShape, NoMemory}
 use Rattle.ds_c.specs.Failures.{failure_number}
-use Rattle.ds_c.specs.Handles.{Holds, IsEmpty}
+use Rattle.ds_c.specs.Handles.{Holds, IsEmpty, IsFull}
 
 -- a new sheet with so many columns, rows and processes, of which no call was answered
 pub record IsMade (columns rows processes : ℕ) (v : WorldValue) : Type 0 where
@@ -35,7 +35,7 @@ CanNotMake columns rows processes why = ⊥
 pub data Makes (columns rows processes : ℕ) (old new : Handle) (number : ℕ) : Type 0 where
   made : (v : WorldValue) → IsEmpty old → IsMade columns rows processes v → Holds new v → number ≡ 0 → Makes columns rows processes old new number
   fails : (why : Failure) → IsEmpty old → CanNotMake columns rows processes why → new ≡ old → number ≡ failure_number why → Makes columns rows processes old new number
-  full : (v : WorldValue) → Holds old v → new ≡ old → number ≡ failure_number Full → Makes columns rows processes old new number
+  full : IsFull old → new ≡ old → number ≡ failure_number Full → Makes columns rows processes old new number
 
 -- a handle that held a world is empty; or it was empty, and stays
 pub data Frees (old new : Handle) (number : ℕ) : Type 0 where

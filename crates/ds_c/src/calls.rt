@@ -2,14 +2,14 @@
 
 ghost use Rattle.std.specs.Prelude.{◌≡◌, IfOk, IfErr, Some};
 ghost use Rattle.ds_formula.specs.Cells.{IsInside};
-ghost use Rattle.ds_core.specs.declared.event.Event.TheVariants.{BeginEdit, BeginWork, BeginShow, BeginRecover, Step, Stop};
+ghost use Rattle.ds_core.specs.declared.event.Event.TheVariants.{BeginEdit, BeginWork, BeginShow, BeginRecover, Step, Offer, Stop};
 ghost use Rattle.ds_core.specs.Kinds.{IsEditAnswer, IsWorkAnswer, IsReportAnswer, IsRecoveryAnswer};
 ghost use Rattle.ds_calls.specs.Whole.{HasProcess, request};
 ghost use Rattle.ds_c.specs.Calls.{Does};
 ghost use Rattle.ds_layout.specs.Places.{IsPlace};
 ghost use Rattle.ds_c.specs.Rows.{place_named};
 ghost use Rattle.ds_c.specs.Reading.{Never};
-ghost use Rattle.ds_c.specs.Events.{Replies, Ended, Settles, Offers, Evicts, Crashes, LacksProcess, LacksRequest, LacksTask, LacksWord};
+ghost use Rattle.ds_c.specs.Events.{evaluated, Replies, Ended, Settles, Offers, Evicts, Crashes, LacksProcess, LacksRequest, LacksTask, LacksWord};
 
 use crate::answer::AnswerRow;
 use crate::failure::Failure;
@@ -17,7 +17,7 @@ use crate::rows::PlaceRow;
 use ds_calls::{call, settle};
 use ds_core::event::Event;
 use ds_core::take::take;
-use ds_eval::task::evaluate;
+use ds_eval::task::{Task, evaluate};
 use ds_formula::cells::Cell;
 use ds_layout::place::Place;
 use ds_state::world::World;
@@ -122,13 +122,20 @@ pub fn step(alloc: Global, world: &mut World, process: usize) -> Result<AnswerRo
     Ok(AnswerRow::of_reply(take(alloc, world, &Event::Step(process))))
 }
 
+// The task is evaluated, and its entry is offered.
+fn offer_task(alloc: Global, world: &mut World, task: Task) -> AnswerRow
+    ensures { Replies (Offer (evaluated task)) world.old result world.new }
+{
+    AnswerRow::of_reply(take(alloc, world, &Event::Offer(evaluate(task))))
+}
+
 /// The task that the work of a process waits for is evaluated, and its entry is offered.
 pub fn offer(alloc: Global, world: &mut World, process: usize) -> Result<AnswerRow, Failure>
     ensures { Does (Offers process) (LacksTask process) world.old result world.new }
 {
     find_process(world, process)?;
     match task_of(alloc, world, process) {
-        Ok(task) => Ok(AnswerRow::of_reply(take(alloc, world, &Event::Offer(evaluate(task))))),
+        Ok(task) => Ok(offer_task(alloc, world, task)),
         Err(TaskFault::NoTask) => Err(Failure::NoTask),
         Err(TaskFault::NoMemory) => Err(Failure::NoMemory),
     }

@@ -12,7 +12,7 @@ use crate::calls;
 use crate::failure::Failure;
 use crate::handle::Handle;
 use crate::rows::PlaceRow;
-use crate::tell::{number, tell};
+use crate::tell::{status, tell};
 use ds_formula::cells::Cell;
 use std::alloc::Global;
 
@@ -159,7 +159,7 @@ pub extern "C" fn ds_c_world_evict(alloc: Global, handle: &mut Handle, place: &P
     };
     let told = calls::evict(alloc, &mut world, *place);
     *handle = Handle::of(world);
-    number(told)
+    status(told)
 }
 
 /// All that is not persisted is lost, and each process stops.
@@ -172,5 +172,5 @@ pub extern "C" fn ds_c_world_crash(alloc: Global, handle: &mut Handle) -> u32
     };
     let told = calls::crash(alloc, &mut world);
     *handle = Handle::of(world);
-    number(told)
+    status(told)
 }

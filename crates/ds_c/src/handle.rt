@@ -1,6 +1,6 @@
 //! Handles: what a C program has of a world.
 
-ghost use Rattle.std.specs.Prelude.{◌≡◌, ◌↔◌, IsTrue, IsSome, IfSome, IfNone, Some, None, Option};
+ghost use Rattle.std.specs.Prelude.{◌≡◌, IsTrue, IsFalse, IsSome, IfSome, IfNone, Some, None, Option};
 ghost use Rattle.ds_state.specs.Value.{WorldValue};
 ghost use Rattle.ds_c.specs.declared.handle.TheConstants.{HELD};
 ghost use Rattle.ds_c.specs.Owned.{state_owns, world_coded};
@@ -73,7 +73,7 @@ pub struct Handle {
 }
 
 impl Handle {
-    ghost use Rattle.ds_c.specs.Handles.{Holds, IsEmpty};
+    ghost use Rattle.ds_c.specs.Handles.{Holds, IsEmpty, IsFull};
 
     /// A handle that holds the world of the box.
     pub fn of(world: Box<World>) -> Handle
@@ -97,7 +97,8 @@ impl Handle {
 
     /// Whether it holds no world.
     pub fn is_empty(&self) -> bool
-        ensures { IsTrue result ↔ IsEmpty self.now }
+        ensures empty { IsTrue result → IsEmpty self.now }
+        ensures full { IsFalse result → IsFull self.now }
     {
         self.held != HELD
     }

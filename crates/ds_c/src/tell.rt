@@ -9,7 +9,7 @@ use crate::rows::ValueRow;
 use ds_eval::value::Value;
 
 /// By its number alone.
-pub fn number(told: Result<(), Failure>) -> u32
+pub fn status(told: Result<(), Failure>) -> u32
     ensures { Numbers told result }
 {
     match told {

@@ -5,6 +5,6 @@ use Rattle.ds_c.proofs.tell.write_values.Given as goal
 
 abbrev pub invariant-loop-i : goal.invariant-loop-i
 invariant-loop-i l = record {
-  written : take l.i l.room.now ≡ map value_row (take l.i l.args.values.now);
-  same_length : length l.room.now ≡ length l.args.values.now;
+  written : take l.i l.room ≡ map value_row (take l.i l.values);
+  same_length : length l.room ≡ length l.values;
 }
