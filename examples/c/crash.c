@@ -1,6 +1,7 @@
 /* An edit is under way when a crash comes, once behind each of its steps: what became of it, by a recovery, and what
  * the cell shows then. Of one more, the head of its cell is evicted before the crash. */
 #include <dsheet.h>
+#include <stdbool.h>
 #include <stdio.h>
 #include <stdlib.h>
 #include <string.h>

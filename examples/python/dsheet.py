@@ -26,7 +26,7 @@ A crash in mid-edit: the edit was announced, and its cell's head was not persist
 ...     told.name, told.holds
 'BEGUN'
 0
-('LAST', False)
+('LAST', 0)
 
 What is wrong has a name.
 
@@ -72,7 +72,7 @@ class Answer(ctypes.Structure):
     """What was replied to an event, answered by a call, or the end of a settle: struct dsheet_answer."""
 
     _fields_ = [("kind", ctypes.c_uint32), ("cause", ctypes.c_uint32), ("fault", ctypes.c_uint32),
-                ("holds", ctypes.c_bool), ("number", ctypes.c_size_t), ("process", ctypes.c_size_t),
+                ("holds", ctypes.c_uint32), ("number", ctypes.c_size_t), ("process", ctypes.c_size_t),
                 ("other", ctypes.c_size_t), ("cell", ctypes.c_size_t), ("seen", ctypes.c_uint64)]
 
     @property
@@ -98,7 +98,7 @@ class _Value(ctypes.Structure):
 class Mark(ctypes.Structure):
     """The mark of a cell: struct dsheet_mark. state is 0 clean, 1 marked, 2 held."""
 
-    _fields_ = [("state", ctypes.c_uint32), ("dirty", ctypes.c_bool), ("holder", ctypes.c_size_t),
+    _fields_ = [("state", ctypes.c_uint32), ("dirty", ctypes.c_uint32), ("holder", ctypes.c_size_t),
                 ("generation", ctypes.c_uint64)]
 
 

@@ -23,7 +23,6 @@
 #ifndef DSHEET_H
 #define DSHEET_H
 
-#include <stdbool.h>
 #include <stddef.h>
 #include <stdint.h>
 
@@ -55,7 +54,7 @@ struct dsheet_world {
 
 #define DSHEET_WORLD_INIT {0, 0}
 
-/* Which reply, answer or end a dsheet_answer is, and which of its fields are used. The others are 0 or false. */
+/* Which reply, answer or end a dsheet_answer is, and which of its fields are used. The others are 0. */
 enum dsheet_kind {
     DSHEET_BEGUN = 1,       /* The edit has begun. number: its number. */
     DSHEET_ENTERED = 2,     /* The work, the report or the recovery has begun. */
@@ -117,7 +116,7 @@ struct dsheet_answer {
     uint32_t kind;  /* enum dsheet_kind */
     uint32_t cause; /* enum dsheet_cause */
     uint32_t fault; /* enum dsheet_fault */
-    bool holds;
+    uint32_t holds; /* 1 or 0: whether the edit counts, or whether the value has changed */
     size_t number;  /* of an edit, from 0; the offset of a fault; of a settle, how many cells are left */
     size_t process; /* of another edit, or of an announcement */
     size_t other;   /* the number of that other edit */
@@ -150,7 +149,7 @@ enum dsheet_mark_state {
 /* The mark of a cell. */
 struct dsheet_mark {
     uint32_t state;      /* enum dsheet_mark_state */
-    bool dirty;          /* also one that is held may be */
+    uint32_t dirty;      /* 1 or 0; also one that is held may be */
     size_t holder;       /* the process; 0 where it is not held */
     uint64_t generation; /* how often the holder changed */
 };
@@ -232,12 +231,16 @@ uint32_t ds_c_world_values(struct dsheet_world *, size_t process, struct dsheet_
  * 1,024 cells, with so many processes (1 to 8), all idle. DSHEET_FULL, DSHEET_BAD_SHAPE, DSHEET_NO_MEMORY, DSHEET_NULL.
  * A world takes some 100 KB for each process, and 200 KB more for 1,024 cells. */
 DSHEET_FUNCTION uint32_t dsheet_world_make(struct dsheet_world *world, size_t columns, size_t rows, size_t processes) {
-    return world ? ds_c_world_make(world, columns, rows, processes) : DSHEET_NULL;
+    if (!world)
+        return DSHEET_NULL;
+    return ds_c_world_make(world, columns, rows, processes);
 }
 
 /* Gives the memory of the world back. The handle holds none then. DSHEET_EMPTY, DSHEET_NULL. */
 DSHEET_FUNCTION uint32_t dsheet_world_free(struct dsheet_world *world) {
-    return world ? ds_c_world_free(world) : DSHEET_NULL;
+    if (!world)
+        return DSHEET_NULL;
+    return ds_c_world_free(world);
 }
 
 /* ---- Events ----
@@ -257,50 +260,66 @@ DSHEET_FUNCTION uint32_t dsheet_world_begin_edit(struct dsheet_world *world, siz
  * DSHEET_REFUSED. DSHEET_NO_CELL too. */
 DSHEET_FUNCTION uint32_t dsheet_world_begin_work(struct dsheet_world *world, size_t process, size_t column, size_t row,
                                                  struct dsheet_answer *answer) {
-    return world && answer ? ds_c_world_begin_work(world, process, column, row, answer) : DSHEET_NULL;
+    if (!world || !answer)
+        return DSHEET_NULL;
+    return ds_c_world_begin_work(world, process, column, row, answer);
 }
 
 /* A process begins a report of all values. DSHEET_ENTERED or DSHEET_REFUSED. */
 DSHEET_FUNCTION uint32_t dsheet_world_begin_report(struct dsheet_world *world, size_t process,
                                                    struct dsheet_answer *answer) {
-    return world && answer ? ds_c_world_begin_report(world, process, answer) : DSHEET_NULL;
+    if (!world || !answer)
+        return DSHEET_NULL;
+    return ds_c_world_begin_report(world, process, answer);
 }
 
 /* A process, stopped or idle, begins to recover. DSHEET_ENTERED or DSHEET_REFUSED. */
 DSHEET_FUNCTION uint32_t dsheet_world_begin_recovery(struct dsheet_world *world, size_t process,
                                                      struct dsheet_answer *answer) {
-    return world && answer ? ds_c_world_begin_recovery(world, process, answer) : DSHEET_NULL;
+    if (!world || !answer)
+        return DSHEET_NULL;
+    return ds_c_world_begin_recovery(world, process, answer);
 }
 
 /* A process makes the next step of its call: one access to one side of one word. DSHEET_STEPPED; the answer of the
  * call where it is its last step; DSHEET_NOT_ENABLED where the process is in no call, or its work waits for an entry:
  * dsheet_world_offer has it go on. */
 DSHEET_FUNCTION uint32_t dsheet_world_step(struct dsheet_world *world, size_t process, struct dsheet_answer *answer) {
-    return world && answer ? ds_c_world_step(world, process, answer) : DSHEET_NULL;
+    if (!world || !answer)
+        return DSHEET_NULL;
+    return ds_c_world_step(world, process, answer);
 }
 
 /* What the work of a process waits for is evaluated, and offered to it: it goes on, DSHEET_STEPPED. DSHEET_NO_TASK
  * where it waits for nothing; DSHEET_NO_MEMORY. */
 DSHEET_FUNCTION uint32_t dsheet_world_offer(struct dsheet_world *world, size_t process, struct dsheet_answer *answer) {
-    return world && answer ? ds_c_world_offer(world, process, answer) : DSHEET_NULL;
+    if (!world || !answer)
+        return DSHEET_NULL;
+    return ds_c_world_offer(world, process, answer);
 }
 
 /* A process stops: it loses its call and its buffer of writes, and the words stay. DSHEET_STOPPED, or
  * DSHEET_NOT_ENABLED where it has stopped before. It can go on once it has recovered. */
 DSHEET_FUNCTION uint32_t dsheet_world_stop(struct dsheet_world *world, size_t process, struct dsheet_answer *answer) {
-    return world && answer ? ds_c_world_stop(world, process, answer) : DSHEET_NULL;
+    if (!world || !answer)
+        return DSHEET_NULL;
+    return ds_c_world_stop(world, process, answer);
 }
 
 /* A word is evicted: its persisted side becomes its cached one, as may happen to any word at any moment. DSHEET_EMPTY,
  * DSHEET_NO_WORD, DSHEET_NULL. */
 DSHEET_FUNCTION uint32_t dsheet_world_evict(struct dsheet_world *world, const struct dsheet_place *place) {
-    return world && place ? ds_c_world_evict(world, place) : DSHEET_NULL;
+    if (!world || !place)
+        return DSHEET_NULL;
+    return ds_c_world_evict(world, place);
 }
 
 /* A crash: each word keeps its persisted side alone, every buffer is emptied, and every process stops. DSHEET_EMPTY,
  * DSHEET_NULL. */
 DSHEET_FUNCTION uint32_t dsheet_world_crash(struct dsheet_world *world) {
-    return world ? ds_c_world_crash(world) : DSHEET_NULL;
+    if (!world)
+        return DSHEET_NULL;
+    return ds_c_world_crash(world);
 }
 
 /* ---- Whole calls ----
@@ -318,24 +337,32 @@ DSHEET_FUNCTION uint32_t dsheet_world_edit(struct dsheet_world *world, size_t pr
 /* Whole work on a cell: one of the answers of work. DSHEET_NO_CELL too. */
 DSHEET_FUNCTION uint32_t dsheet_world_work(struct dsheet_world *world, size_t process, size_t column, size_t row,
                                            struct dsheet_answer *answer) {
-    return world && answer ? ds_c_world_work(world, process, column, row, answer) : DSHEET_NULL;
+    if (!world || !answer)
+        return DSHEET_NULL;
+    return ds_c_world_work(world, process, column, row, answer);
 }
 
 /* A whole report: DSHEET_SETTLED, and dsheet_world_values has its values; or what was not at rest. */
 DSHEET_FUNCTION uint32_t dsheet_world_report(struct dsheet_world *world, size_t process, struct dsheet_answer *answer) {
-    return world && answer ? ds_c_world_report(world, process, answer) : DSHEET_NULL;
+    if (!world || !answer)
+        return DSHEET_NULL;
+    return ds_c_world_report(world, process, answer);
 }
 
 /* A whole recovery, of a process that is stopped or idle: DSHEET_LAST or DSHEET_NOTHING. It may make calls then. */
 DSHEET_FUNCTION uint32_t dsheet_world_recover(struct dsheet_world *world, size_t process,
                                               struct dsheet_answer *answer) {
-    return world && answer ? ds_c_world_recover(world, process, answer) : DSHEET_NULL;
+    if (!world || !answer)
+        return DSHEET_NULL;
+    return ds_c_world_recover(world, process, answer);
 }
 
 /* Whole works on all cells that are marked, in rounds, until a round finds none: DSHEET_LEFT, DSHEET_REFUSED or
  * DSHEET_WORK_NO_MEMORY. */
 DSHEET_FUNCTION uint32_t dsheet_world_settle(struct dsheet_world *world, size_t process, struct dsheet_answer *answer) {
-    return world && answer ? ds_c_world_settle(world, process, answer) : DSHEET_NULL;
+    if (!world || !answer)
+        return DSHEET_NULL;
+    return ds_c_world_settle(world, process, answer);
 }
 
 /* ---- What a world shows ----
@@ -343,25 +370,33 @@ DSHEET_FUNCTION uint32_t dsheet_world_settle(struct dsheet_world *world, size_t 
 
 /* How large the sheet is. */
 DSHEET_FUNCTION uint32_t dsheet_world_size(struct dsheet_world *world, struct dsheet_size *size) {
-    return world && size ? ds_c_world_size(world, size) : DSHEET_NULL;
+    if (!world || !size)
+        return DSHEET_NULL;
+    return ds_c_world_size(world, size);
 }
 
 /* The value of a cell, as processes see it. It need not be up to date: that says a report. DSHEET_NO_CELL too. */
 DSHEET_FUNCTION uint32_t dsheet_world_value(struct dsheet_world *world, size_t column, size_t row,
                                             struct dsheet_value *value) {
-    return world && value ? ds_c_world_value(world, column, row, value) : DSHEET_NULL;
+    if (!world || !value)
+        return DSHEET_NULL;
+    return ds_c_world_value(world, column, row, value);
 }
 
 /* The mark of a cell, as processes see it. DSHEET_NO_CELL too. */
 DSHEET_FUNCTION uint32_t dsheet_world_mark(struct dsheet_world *world, size_t column, size_t row,
                                            struct dsheet_mark *mark) {
-    return world && mark ? ds_c_world_mark(world, column, row, mark) : DSHEET_NULL;
+    if (!world || !mark)
+        return DSHEET_NULL;
+    return ds_c_world_mark(world, column, row, mark);
 }
 
 /* Both sides of a word. DSHEET_NO_WORD too. */
 DSHEET_FUNCTION uint32_t dsheet_world_word(struct dsheet_world *world, const struct dsheet_place *place,
                                            struct dsheet_word *word) {
-    return world && place && word ? ds_c_world_word(world, place, word) : DSHEET_NULL;
+    if (!world || !place || !word)
+        return DSHEET_NULL;
+    return ds_c_world_word(world, place, word);
 }
 
 /* The text of a cell, as processes see it: that of its last edit that counts, at most 120 bytes, with no zero behind

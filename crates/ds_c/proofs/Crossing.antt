@@ -1,6 +1,6 @@
 -- That a world may cross threads: type by type, so that no search is long.
 use Rattle.std.proofs.Crossing.{crosses}
-use denote.Param.Send.{IsSend, IsSync, sendable, view_send}
+use denote.Param.Send.{IsSend, sendable, view_send}
 use denote.Param.SendFields.{declared_send, as_row_send}
 use denote.Builtin.{usize}
 use denote.Hole.{as_row}

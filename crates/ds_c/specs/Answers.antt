@@ -1,5 +1,5 @@
 -- Replies and answers as rows of numbers.
-use Rattle.std.specs.Prelude.{ℕ, false, Result, Ok, Err}
+use Rattle.std.specs.Prelude.{ℕ, Result, Ok, Err}
 use Rattle.ds_calls.specs.declared.settle.SettleEnd.{SettleEnd}
 use Rattle.ds_calls.specs.declared.settle.SettleEnd.TheVariants as ends
 use Rattle.ds_core.specs.declared.reply.Reply.{Reply}
@@ -16,10 +16,11 @@ use Rattle.ds_c.specs.declared.answer.AnswerRow.{AnswerRow}
 use Rattle.ds_c.specs.declared.answer_kind.AnswerKind.{AnswerKind}
 use Rattle.ds_c.specs.declared.answer_kind.AnswerKind.TheVariants as kind
 use Rattle.ds_c.specs.AnswerKinds.{kind_number}
+use Rattle.ds_c.specs.Flags.{flag}
 
 -- a row that has its kind alone
 abbrev pub plain_row : AnswerKind → AnswerRow
-plain_row k = record { kind = kind_number k; cause = 0; fault = 0; holds = false; number = 0; process = 0; other = 0; cell = 0; seen = 0 }
+plain_row k = record { kind = kind_number k; cause = 0; fault = 0; holds = 0; number = 0; process = 0; other = 0; cell = 0; seen = 0 }
 
 -- the number of what is wrong with a text
 abbrev pub fault_number : FaultKind → ℕ
@@ -56,10 +57,10 @@ answer_row (answer.Overtaken n other) = record (plain_row kind.Overtaken) { numb
 answer_row answer.NotDirty = plain_row kind.NotDirty
 answer_row answer.Missed = plain_row kind.Missed
 answer_row answer.Worn = plain_row kind.Worn
-answer_row (answer.Published changed) = record (plain_row kind.Published) { holds = changed }
+answer_row (answer.Published changed) = record (plain_row kind.Published) { holds = flag changed }
 answer_row answer.Again = plain_row kind.Again
 answer_row answer.NoMemory = plain_row kind.NoMemory
-answer_row (answer.Last told) = record (plain_row kind.Last) { number = told.number; cell = told.cell; holds = told.counts }
+answer_row (answer.Last told) = record (plain_row kind.Last) { number = told.number; cell = told.cell; holds = flag told.counts }
 answer_row answer.Nothing = plain_row kind.Nothing
 answer_row answer.Settled = plain_row kind.Settled
 answer_row (answer.Unsettled at seen) = unsettled_row at seen

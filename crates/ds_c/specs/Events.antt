@@ -1,5 +1,5 @@
 -- Events and whole calls, as a caller is told of them.
-use Rattle.std.specs.Prelude.{ℕ, ◌≡◌, ◌<◌, Result}
+use Rattle.std.specs.Prelude.{ℕ, ◌≡◌, Result}
 use Rattle.ds_formula.specs.declared.cells.Cell.{Cell}
 use Rattle.ds_formula.specs.Cells.{IsInside}
 use Rattle.ds_eval.specs.Tasks.{PlainTask, PlainEvaluated, local_of}

@@ -3,6 +3,7 @@ pub mod Answers
 pub mod Calls
 pub mod Events
 pub mod Failures
+pub mod Flags
 pub mod Handles
 pub mod Making
 pub mod Owned

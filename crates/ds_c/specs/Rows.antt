@@ -1,5 +1,5 @@
 -- Values, marks, words and sheets as rows of numbers.
-use Rattle.std.specs.Prelude.{ℕ, pos, ◌==◌, Option, Some, None, if◌then◌else◌}
+use Rattle.std.specs.Prelude.{pos, ◌==◌, Option, Some, None, if◌then◌else◌}
 use Rattle.ds_eval.specs.declared.value.Value.{Value}
 use Rattle.ds_eval.specs.declared.value.Value.TheVariants as value
 use Rattle.ds_layout.specs.declared.layout.Layout.{Layout}
@@ -10,6 +10,7 @@ use Rattle.ds_layout.specs.Mark.{state_of}
 use Rattle.ds_layout.specs.declared.place.Place.{Place}
 use Rattle.ds_layout.specs.declared.place.Place.TheVariants as place
 use Rattle.ds_words.specs.declared.words.Word.{Word}
+use Rattle.ds_c.specs.Flags.{flag}
 use Rattle.ds_c.specs.declared.rows.ValueRow.{ValueRow}
 use Rattle.ds_c.specs.declared.rows.MarkRow.{MarkRow}
 use Rattle.ds_c.specs.declared.rows.SizeRow.{SizeRow}
@@ -26,9 +27,9 @@ value_row value.Circular = record { kind = 4; number = pos 0 }
 
 -- the row of a mark in this state
 abbrev pub row_in : Mark → State → MarkRow
-row_in m state.Clean = record { state = 0; dirty = m.dirty; holder = 0; generation = m.generation }
-row_in m state.Marked = record { state = 1; dirty = m.dirty; holder = 0; generation = m.generation }
-row_in m (state.Held p) = record { state = 2; dirty = m.dirty; holder = p; generation = m.generation }
+row_in m state.Clean = record { state = 0; dirty = flag m.dirty; holder = 0; generation = m.generation }
+row_in m state.Marked = record { state = 1; dirty = flag m.dirty; holder = 0; generation = m.generation }
+row_in m (state.Held p) = record { state = 2; dirty = flag m.dirty; holder = p; generation = m.generation }
 
 -- the row of a mark
 abbrev pub mark_row : Mark → MarkRow

@@ -21,8 +21,9 @@ pub struct AnswerRow {
     pub cause: u32,
     /// What is wrong with a text: the number of its kind of fault, from 1.
     pub fault: u32,
-    /// Whether it counts, or whether the value has changed.
-    pub holds: bool,
+    /// Whether the edit counts, or whether the value has changed: 1 or 0. It is no `bool`, since a row of the caller's
+    /// may have any bytes.
+    pub holds: u32,
     /// The number of an edit, from 0; of a text's fault, its offset in bytes; of a settle, how many cells are left.
     pub number: usize,
     /// A process.
@@ -39,7 +40,7 @@ const BLANK: AnswerRow = AnswerRow {
     kind: 0,
     cause: 0,
     fault: 0,
-    holds: false,
+    holds: 0,
     number: 0,
     process: 0,
     other: 0,
@@ -115,7 +116,7 @@ impl AnswerRow {
             Answer::Missed => AnswerRow::plain(AnswerKind::Missed),
             Answer::Worn => AnswerRow::plain(AnswerKind::Worn),
             Answer::Published(changed) => AnswerRow {
-                holds: changed,
+                holds: changed as u32,
                 ..AnswerRow::plain(AnswerKind::Published)
             },
             Answer::Again => AnswerRow::plain(AnswerKind::Again),
@@ -123,7 +124,7 @@ impl AnswerRow {
             Answer::Last(told) => AnswerRow {
                 number: told.number,
                 cell: told.cell,
-                holds: told.counts,
+                holds: told.counts as u32,
                 ..AnswerRow::plain(AnswerKind::Last)
             },
             Answer::Nothing => AnswerRow::plain(AnswerKind::Nothing),

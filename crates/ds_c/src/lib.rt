@@ -7,6 +7,7 @@ mod calls;
 mod events;
 mod failure;
 mod handle;
+mod laws;
 mod make;
 mod parts;
 mod reads;

@@ -25,8 +25,8 @@ pub struct ValueRow {
 pub struct MarkRow {
     /// Which state it is in: 0 clean, 1 marked, 2 held.
     pub state: u32,
-    /// Whether it is dirty: also one that is held may be.
-    pub dirty: bool,
+    /// Whether it is dirty, 1 or 0: also one that is held may be.
+    pub dirty: u32,
     /// The process that holds it; 0 where it is not held.
     pub holder: usize,
     /// How often the holder changed.
@@ -97,7 +97,7 @@ impl MarkRow {
         };
         MarkRow {
             state,
-            dirty: mark.dirty,
+            dirty: mark.dirty as u32,
             holder,
             generation: mark.generation,
         }

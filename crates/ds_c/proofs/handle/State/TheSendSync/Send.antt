@@ -1,5 +1,4 @@
 -- A state goes where a box of its value may go.
-use mathlib.Core.List.{[]}
 use mir.Raw.{raw}
 use base.Shift.{Keyless}
 use denote.Memory.{lone}
