@@ -1,12 +1,13 @@
 #!/usr/bin/env bash
 # The library for other languages: builds the archive, which proves its crate, unless it is there and newer than all
 # sources; then the C program, with warnings as errors, and the shared object; runs both examples, which have to say
-# the same and what examples/c/crash.stdout has, and the doctest of the Python module. Where valgrind is there, the C
-# program may lose no memory under it. Needs cc, make and python3.
+# the same and what examples/c/crash.stdout has, and the doctest of the Python module; then tools/embedding.c, which makes
+# every call, right and wrong. Where valgrind is there, the C programs may lose no memory. Needs cc, make and python3.
 set -euo pipefail
 cd "$(dirname "$0")/.."
 out=crates/ds_c/out
 work=$(mktemp -d)
+export PYTHONDONTWRITEBYTECODE=1
 trap 'rm -rf "$work"' EXIT
 
 # Whether the archive was built of the sources as they stand.
@@ -39,7 +40,12 @@ echo 'int main(void) { return 0; }' | cc -std=c99 -Wall -Wextra -Werror -pedanti
 echo 'int main() { return 0; }' | cc -std=c++11 -Wall -Wextra -Werror -fsyntax-only -x c++ - \
     -include crates/ds_c/include/dsheet.h
 echo "embedding: the header as C99 and as C++11 ... ok"
+cc -std=c99 -Wall -Wextra -Werror -pedantic -O1 -Icrates/ds_c/include -Wl,--wrap=malloc -o "$work/calls" \
+    tools/embedding.c "$out/libdsheet.a"
+"$work/calls"
+echo "embedding: each function, with each argument that can be wrong ... ok"
 if command -v valgrind >/dev/null; then
     valgrind -q --error-exitcode=1 --leak-check=full "$out/crash" >/dev/null
+    valgrind -q --error-exitcode=1 --leak-check=full "$work/calls"
     echo "embedding: no memory is lost ... ok"
 fi

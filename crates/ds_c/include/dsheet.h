@@ -10,8 +10,9 @@
  *
  * What each function does is proved (the clause of its export in crates/ds_c), if its caller does what is said above
  * it, and the following, which nothing can check:
- *   - A pointer that is not null points to an object of its type, and a buffer has as many items as the call says.
- *     They are the call's alone while it runs: no two pointers of one call overlap, and no other thread touches them.
+ *   - A pointer that is not null points to an object of its type, aligned for it, and a buffer has as many items as
+ *     the call says. A row or a buffer that a call writes need not have been set. They are the call's alone while it
+ *     runs: no two pointers of one call overlap, and no other thread touches them.
  *   - A handle is zero, or as the library left it. It may be moved, by a copy whose original is not used again. Of two
  *     copies only one may be used.
  *   - One call at a time uses a handle. Another thread may use it later, if a lock, a join or the like stands between.
@@ -229,7 +230,7 @@ uint32_t ds_c_world_values(struct dsheet_world *, size_t process, struct dsheet_
 
 /* Makes a world in a handle that holds none: an empty sheet of so many columns (1 to 26) and rows (1 to 64), at most
  * 1,024 cells, with so many processes (1 to 8), all idle. DSHEET_FULL, DSHEET_BAD_SHAPE, DSHEET_NO_MEMORY, DSHEET_NULL.
- * A world takes some 100 KB for each process, and 200 KB more for 1,024 cells. */
+ * A world takes some 120 KB for each process, and 350 KB more for 1,024 cells. */
 DSHEET_FUNCTION uint32_t dsheet_world_make(struct dsheet_world *world, size_t columns, size_t rows, size_t processes) {
     if (!world)
         return DSHEET_NULL;
