@@ -1,8 +1,10 @@
 -- Worlds are made, and freed.
 use Rattle.std.specs.Prelude.{ℕ, ◌≡◌, ◌≤◌}
 use Rattle.ds_formula.specs.Limits.{PROCESSES_MOST}
+use Rattle.ds_formula.specs.Cells.{count_of}
 use Rattle.ds_formula.specs.Shapes.{MayHave}
-use Rattle.ds_state.specs.Value.{WorldValue, world_of}
+use Rattle.ds_state.specs.Value.{WorldValue, world_of, IsGood}
+use Rattle.ds_state.specs.Reports.{no_reports}
 use Rattle.ds_state.specs.Fresh.{IsNew}
 use Rattle.ds_c.specs.declared.handle.Handle.{Handle}
 use Rattle.ds_c.specs.declared.failure.Failure.{Failure}
@@ -10,14 +12,16 @@ use Rattle.ds_c.specs.declared.failure.Failure.TheVariants.{Empty, Full, BadShap
 use Rattle.ds_c.specs.Failures.{failure_number}
 use Rattle.ds_c.specs.Handles.{Holds, IsEmpty, IsFull}
 
--- a new sheet with so many columns, rows and processes, of which no call was answered
+-- a new and good sheet with so many columns, rows and processes, of which no call was answered
 pub record IsMade (columns rows processes : ℕ) (v : WorldValue) : Type 0 where
   pub new : IsNew (world_of v)
+  pub good : IsGood v
   pub columns_are : v.sheet.layout.shape.columns ≡ columns
   pub rows_are : v.sheet.layout.shape.rows ≡ rows
   pub processes_are : v.sheet.layout.processes ≡ processes
   pub done : v.done ≡ 0
   pub settled : v.settled ≡ 0
+  pub reports : v.reports ≡ no_reports v.sheet.layout.processes (count_of v.sheet.layout.shape)
 
 -- there may be a sheet with so many columns, rows and processes
 pub record MayBe (columns rows processes : ℕ) : Type 0 where

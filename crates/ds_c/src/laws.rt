@@ -1,12 +1,16 @@
-//! What is true of the calls of the library, as a function that does nothing.
+//! What is true of the calls of the library, as functions that do nothing.
 
-ghost use Rattle.std.specs.Prelude.{ℕ};
+ghost use Rattle.std.specs.Prelude.{ℕ, List};
 ghost use Rattle.ds_state.specs.Value.{WorldValue};
 ghost use Rattle.ds_core.specs.declared.event.Event.{Event};
+ghost use Rattle.ds_core.specs.declared.reply.Reply.{Reply};
+ghost use Rattle.ds_core.specs.Takes.{WorldRun};
+ghost use Rattle.ds_core.specs.Headline.{HasHeadline};
 ghost use Rattle.ds_core.specs.Kinds.{IsEditAnswer, IsWorkAnswer, IsReportAnswer, IsRecoveryAnswer};
 ghost use Rattle.ds_calls.specs.Whole.{IsRun};
 ghost use Rattle.ds_c.specs.declared.answer.AnswerRow.{AnswerRow};
 ghost use Rattle.ds_c.specs.declared.rows.PlaceRow.{PlaceRow};
+ghost use Rattle.ds_c.specs.Making.{IsMade};
 ghost use Rattle.ds_c.specs.Events.{Replies, Ended, Settles, Offers, Evicts, Crashes};
 
 /// What each call of the library does to a world is a run of `ds_core::take`: so what is proved of runs from a new
@@ -30,3 +34,17 @@ pub fn calls_are_runs()
     ensures settles { (p : ℕ) (old : WorldValue) (row : AnswerRow) (new : WorldValue)
         → Settles p old row new → IsRun old new }
 {}
+
+/// Two runs, one behind the other, are a run.
+pub fn runs_go_on()
+    ensures { (old : WorldValue) (mid : WorldValue) (new : WorldValue) → IsRun old mid → IsRun mid new → IsRun old new }
+{}
+
+/// A world that `ds_c_world_make` has made is one from which every run has the headline.
+pub fn made_worlds_have_the_headline()
+    ensures { (columns : ℕ) (rows : ℕ) (processes : ℕ) (old : WorldValue) (events : List Event) (replies : List Reply)
+        (new : WorldValue) → IsMade columns rows processes old → (run : WorldRun old events replies new)
+        → HasHeadline old events replies new run }
+{
+    ds_core::laws::runs_have_the_headline();
+}

@@ -21,11 +21,12 @@ fn made(alloc: Global, columns: usize, rows: usize, processes: usize) -> Result<
     if !(1..=PROCESS_LIMIT).contains(&processes) {
         return Err(Failure::BadShape);
     }
-    match World::new(alloc, shape, processes) {
-        Ok(world) => match Box::new(alloc, world) {
-            Ok(world) => Ok(world),
-            Err(_) => Err(Failure::NoMemory),
-        },
+    let Ok(world) = World::new(alloc, shape, processes) else {
+        return Err(Failure::NoMemory);
+    };
+    world.is_always_good();
+    match Box::new(alloc, world) {
+        Ok(world) => Ok(world),
         Err(_) => Err(Failure::NoMemory),
     }
 }
