@@ -1,0 +1,4 @@
+mod AsBox
+mod CallRuns
+mod Carried
+mod Crossing

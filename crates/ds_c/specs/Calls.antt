@@ -1,0 +1,50 @@
+-- What a call does to the world that a handle holds, and how its caller is told.
+use Rattle.std.specs.Prelude.{ℕ, ◌≡◌, ◌<◌, ◌≤◌, ◌++◌, List, length, drop, Result, Ok, Err}
+use Rattle.ds_state.specs.Value.{WorldValue}
+use Rattle.ds_c.specs.declared.handle.Handle.{Handle}
+use Rattle.ds_c.specs.declared.failure.Failure.{Failure}
+use Rattle.ds_c.specs.declared.failure.Failure.TheVariants.{Empty, TooSmall}
+use Rattle.ds_c.specs.Failures.{failure_number}
+use Rattle.ds_c.specs.Handles.{Holds, IsEmpty}
+
+-- a call leads from the one world to the other so, and tells this; or it fails for a cause that holds, and the world
+-- stays
+abbrev pub Does : {R : Type 0} → (WorldValue → R → WorldValue → Type 0) → (WorldValue → Failure → Type 0) → WorldValue → Result R Failure → WorldValue → Type 0
+Does P Fails old (Ok told) new = P old told new
+Does P Fails old (Err why) new = Fails old why × (new ≡ old)
+
+-- the call was made on the world that the handle held, and the handle holds what it led to
+pub record OnWorld {R : Type 0} (Call : WorldValue → Result R Failure → WorldValue → Type 0) (Tells : Result R Failure → ℕ → Type 0) (old new : Handle) (number : ℕ) : Type 0 where
+  pub world : WorldValue
+  pub next : WorldValue
+  pub told : Result R Failure
+  pub held : Holds old world
+  pub holds : Holds new next
+  pub does : Call world told next
+  pub tells : Tells told number
+
+-- the call was made on the world of the handle; or the handle is empty and stays, which is the failure that is told
+pub data OnHandle {R : Type 0} (Call : WorldValue → Result R Failure → WorldValue → Type 0) (Tells : Result R Failure → ℕ → Type 0) (old new : Handle) (number : ℕ) : Type 0 where
+  called : OnWorld Call Tells old new number → OnHandle Call Tells old new number
+  empty : IsEmpty old → new ≡ old → Tells (Err Empty) number → OnHandle Call Tells old new number
+
+-- a result as a number alone: 0, or that of the failure
+abbrev pub Numbers : {R : Type 0} → Result R Failure → ℕ → Type 0
+Numbers (Ok told) number = number ≡ 0
+Numbers (Err why) number = number ≡ failure_number why
+
+-- a result as a number, and as a row of the caller's, which stays where the call failed
+abbrev pub Tells : {R : Type 0} → R → R → Result R Failure → ℕ → Type 0
+Tells before after (Ok row) number = (after ≡ row) × (number ≡ 0)
+Tells before after (Err why) number = (after ≡ before) × (number ≡ failure_number why)
+
+-- the items stand in the caller's buffer from its start, and what is behind them stays; or it is too small for them,
+-- and stays
+pub data Fills {T : Type 0} (items before after : List T) (number : ℕ) : Type 0 where
+  fits : length items ≤ length before → after ≡ items ++ drop (length items) before → number ≡ 0 → Fills items before after number
+  small : length before < length items → after ≡ before → number ≡ failure_number TooSmall → Fills items before after number
+
+-- a result as a number, and as items in a buffer of the caller's, with their count
+abbrev pub Hands : {T : Type 0} → List T → List T → ℕ → ℕ → Result (List T) Failure → ℕ → Type 0
+Hands before after count counted (Ok items) number = Fills items before after number × (counted ≡ length items)
+Hands before after count counted (Err why) number = (after ≡ before) × (counted ≡ count) × (number ≡ failure_number why)

@@ -1,0 +1,11 @@
+pub mod AnswerKinds
+pub mod Answers
+pub mod Calls
+pub mod Events
+pub mod Failures
+pub mod Flags
+pub mod Handles
+pub mod Making
+pub mod Owned
+pub mod Reading
+pub mod Rows

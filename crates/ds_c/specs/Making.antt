@@ -1,0 +1,47 @@
+-- Worlds are made, and freed.
+use Rattle.std.specs.Prelude.{ℕ, ◌≡◌, ◌≤◌}
+use Rattle.ds_formula.specs.Limits.{PROCESSES_MOST}
+use Rattle.ds_formula.specs.Cells.{count_of}
+use Rattle.ds_formula.specs.Shapes.{MayHave}
+use Rattle.ds_state.specs.Value.{WorldValue, world_of, IsGood}
+use Rattle.ds_state.specs.Reports.{no_reports}
+use Rattle.ds_state.specs.Fresh.{IsNew}
+use Rattle.ds_c.specs.declared.handle.Handle.{Handle}
+use Rattle.ds_c.specs.declared.failure.Failure.{Failure}
+use Rattle.ds_c.specs.declared.failure.Failure.TheVariants.{Empty, Full, BadShape, NoMemory}
+use Rattle.ds_c.specs.Failures.{failure_number}
+use Rattle.ds_c.specs.Handles.{Holds, IsEmpty, IsFull}
+
+-- a new and good sheet with so many columns, rows and processes, of which no call was answered
+pub record IsMade (columns rows processes : ℕ) (v : WorldValue) : Type 0 where
+  pub new : IsNew (world_of v)
+  pub good : IsGood v
+  pub columns_are : v.sheet.layout.shape.columns ≡ columns
+  pub rows_are : v.sheet.layout.shape.rows ≡ rows
+  pub processes_are : v.sheet.layout.processes ≡ processes
+  pub done : v.done ≡ 0
+  pub settled : v.settled ≡ 0
+  pub reports : v.reports ≡ no_reports v.sheet.layout.processes (count_of v.sheet.layout.shape)
+
+-- there may be a sheet with so many columns, rows and processes
+pub record MayBe (columns rows processes : ℕ) : Type 0 where
+  pub shape : MayHave columns rows
+  pub some : 1 ≤ processes
+  pub few : processes ≤ PROCESSES_MOST
+
+-- why there is no such world: there may be no such sheet, or an allocation failed
+abbrev pub CanNotMake : ℕ → ℕ → ℕ → Failure → Type 0
+CanNotMake columns rows processes BadShape = MayBe columns rows processes → ⊥
+CanNotMake columns rows processes NoMemory = MayBe columns rows processes
+CanNotMake columns rows processes why = ⊥
+
+-- an empty handle gets a new world; or it stays, for a cause that holds; or it is full, and stays
+pub data Makes (columns rows processes : ℕ) (old new : Handle) (number : ℕ) : Type 0 where
+  made : (v : WorldValue) → IsEmpty old → IsMade columns rows processes v → Holds new v → number ≡ 0 → Makes columns rows processes old new number
+  fails : (why : Failure) → IsEmpty old → CanNotMake columns rows processes why → new ≡ old → number ≡ failure_number why → Makes columns rows processes old new number
+  full : IsFull old → new ≡ old → number ≡ failure_number Full → Makes columns rows processes old new number
+
+-- a handle that held a world is empty; or it was empty, and stays
+pub data Frees (old new : Handle) (number : ℕ) : Type 0 where
+  freed : (v : WorldValue) → Holds old v → IsEmpty new → number ≡ 0 → Frees old new number
+  empty : IsEmpty old → new ≡ old → number ≡ failure_number Empty → Frees old new number

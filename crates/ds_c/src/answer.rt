@@ -1,0 +1,190 @@
+//! What C is told of a call: replies and values as rows of numbers.
+
+ghost use Rattle.std.specs.Prelude.{◌≡◌};
+ghost use Rattle.ds_c.specs.Answers.{answer_row, reply_row, refusal_row, result_row, settle_row, plain_row, fault_number};
+
+use crate::answer_kind::AnswerKind;
+use ds_calls::settle::SettleEnd;
+use ds_core::reply::Reply;
+use ds_edit::answer::Answer;
+use ds_formula::fault::FaultKind;
+use ds_layout::place::Place;
+use ds_state::refusal::Refusal;
+
+/// What was replied to an event, or answered by a call. `kind` says which; fields that it does not use are 0.
+#[repr(C)]
+#[derive(Clone, Copy, Debug, PartialEq, Eq)]
+pub struct AnswerRow {
+    /// Which reply or answer it is: the number of an `AnswerKind`.
+    pub kind: u32,
+    /// Why the call is refused: 1 for the text, 2 busy, 3 stopped, 4 for want of records, 5 of memory.
+    pub cause: u32,
+    /// What is wrong with a text: the number of its kind of fault, from 1.
+    pub fault: u32,
+    /// Whether the edit counts, or whether the value has changed: 1 or 0. It is no `bool`, since a row of the caller's
+    /// may have any bytes.
+    pub holds: u32,
+    /// The number of an edit, from 0; of a text's fault, its offset in bytes; of a settle, how many cells are left.
+    pub number: usize,
+    /// A process.
+    pub process: usize,
+    /// The number of an edit of that process.
+    pub other: usize,
+    /// A cell, by its number.
+    pub cell: usize,
+    /// The word that a report saw.
+    pub seen: u64,
+}
+
+const BLANK: AnswerRow = AnswerRow {
+    kind: 0,
+    cause: 0,
+    fault: 0,
+    holds: 0,
+    number: 0,
+    process: 0,
+    other: 0,
+    cell: 0,
+    seen: 0,
+};
+
+// The number of a kind of fault: from 1 on, in the order of the variants.
+fn fault_number(kind: FaultKind) -> u32
+    ensures { result ≡ fault_number kind }
+{
+    match kind {
+        FaultKind::TooLong => 1,
+        FaultKind::BadToken => 2,
+        FaultKind::NotWhole => 3,
+        FaultKind::NumberTooLarge => 4,
+        FaultKind::UnknownFunction => 5,
+        FaultKind::WrongArguments => 6,
+        FaultKind::OutsideSheet => 7,
+        FaultKind::RangeNotAllowed => 8,
+        FaultKind::TooDeep => 9,
+        FaultKind::Unfinished => 10,
+        FaultKind::NoMemory => 11,
+    }
+}
+
+impl AnswerRow {
+    // A row of this kind alone.
+    fn plain(kind: AnswerKind) -> AnswerRow
+        ensures { result ≡ plain_row kind }
+    {
+        AnswerRow {
+            kind: kind.number(),
+            ..BLANK
+        }
+    }
+
+    /// The row of a refusal.
+    pub fn of_refusal(refusal: Refusal) -> AnswerRow
+        ensures { result ≡ refusal_row refusal }
+    {
+        let row = AnswerRow::plain(AnswerKind::Refused);
+        match refusal {
+            Refusal::Text(fault) => AnswerRow {
+                cause: 1,
+                fault: fault_number(fault.kind),
+                number: fault.offset,
+                ..row
+            },
+            Refusal::Busy => AnswerRow { cause: 2, ..row },
+            Refusal::Stopped => AnswerRow { cause: 3, ..row },
+            Refusal::RecordsFull => AnswerRow { cause: 4, ..row },
+            Refusal::NoMemory => AnswerRow { cause: 5, ..row },
+        }
+    }
+
+    /// The row of an answer.
+    pub fn of_answer(answer: Answer) -> AnswerRow
+        ensures { result ≡ answer_row answer }
+    {
+        match answer {
+            Answer::Done(number) => AnswerRow {
+                number,
+                ..AnswerRow::plain(AnswerKind::Done)
+            },
+            Answer::Overtaken(number, other) => AnswerRow {
+                number,
+                process: other.process,
+                other: other.number,
+                ..AnswerRow::plain(AnswerKind::Overtaken)
+            },
+            Answer::NotDirty => AnswerRow::plain(AnswerKind::NotDirty),
+            Answer::Missed => AnswerRow::plain(AnswerKind::Missed),
+            Answer::Worn => AnswerRow::plain(AnswerKind::Worn),
+            Answer::Published(changed) => AnswerRow {
+                holds: changed as u32,
+                ..AnswerRow::plain(AnswerKind::Published)
+            },
+            Answer::Again => AnswerRow::plain(AnswerKind::Again),
+            Answer::NoMemory => AnswerRow::plain(AnswerKind::NoMemory),
+            Answer::Last(told) => AnswerRow {
+                number: told.number,
+                cell: told.cell,
+                holds: told.counts as u32,
+                ..AnswerRow::plain(AnswerKind::Last)
+            },
+            Answer::Nothing => AnswerRow::plain(AnswerKind::Nothing),
+            Answer::Settled => AnswerRow::plain(AnswerKind::Settled),
+            Answer::Unsettled(Place::Mark(cell), seen) => AnswerRow {
+                cell,
+                seen,
+                ..AnswerRow::plain(AnswerKind::UnsettledMark)
+            },
+            Answer::Unsettled(Place::Announce(process), seen) => AnswerRow {
+                process,
+                seen,
+                ..AnswerRow::plain(AnswerKind::UnsettledAnnouncement)
+            },
+            Answer::Unsettled(_, _) => AnswerRow::plain(AnswerKind::UnsettledWord),
+        }
+    }
+
+    /// The row of a reply to an event.
+    pub fn of_reply(reply: Reply) -> AnswerRow
+        ensures { result ≡ reply_row reply }
+    {
+        match reply {
+            Reply::Begun(number) => AnswerRow {
+                number,
+                ..AnswerRow::plain(AnswerKind::Begun)
+            },
+            Reply::Entered => AnswerRow::plain(AnswerKind::Entered),
+            Reply::Refused(refusal) => AnswerRow::of_refusal(refusal),
+            Reply::Stepped => AnswerRow::plain(AnswerKind::Stepped),
+            Reply::Answered(answer) => AnswerRow::of_answer(answer),
+            Reply::WrongTask => AnswerRow::plain(AnswerKind::WrongTask),
+            Reply::Evicted => AnswerRow::plain(AnswerKind::Evicted),
+            Reply::Stopped => AnswerRow::plain(AnswerKind::Stopped),
+            Reply::Crashed => AnswerRow::plain(AnswerKind::Crashed),
+            Reply::NotEnabled => AnswerRow::plain(AnswerKind::NotEnabled),
+        }
+    }
+
+    /// The row of what a whole call came to.
+    pub fn of_result(ended: Result<Answer, Refusal>) -> AnswerRow
+        ensures { result ≡ result_row ended }
+    {
+        match ended {
+            Ok(answer) => AnswerRow::of_answer(answer),
+            Err(refusal) => AnswerRow::of_refusal(refusal),
+        }
+    }
+
+    /// The row of how a settle ended.
+    pub fn of_settle(end: SettleEnd) -> AnswerRow
+        ensures { result ≡ settle_row end }
+    {
+        match end {
+            SettleEnd::Left(cells) => AnswerRow {
+                number: cells,
+                ..AnswerRow::plain(AnswerKind::Left)
+            },
+            SettleEnd::Refused(refusal) => AnswerRow::of_refusal(refusal),
+            SettleEnd::NoMemory => AnswerRow::plain(AnswerKind::NoMemory),
+        }
+    }
+}

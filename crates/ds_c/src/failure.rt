@@ -1,0 +1,47 @@
+//! Why a call of the library was not carried out.
+
+ghost use Rattle.std.specs.Prelude.{◌≡◌};
+ghost use Rattle.ds_c.specs.Failures.{failure_number};
+
+/// Why a call of the library was not carried out. The world, and the handle, are as they were. C has it as a number;
+/// `include/dsheet.h` has one more, for pointers that are null, which do not get here.
+#[derive(Clone, Copy, Debug, PartialEq, Eq)]
+pub enum Failure {
+    /// The handle holds no world: none was made, or it was freed.
+    Empty,
+    /// The handle holds a world already.
+    Full,
+    /// No sheet has this many columns, rows or processes.
+    BadShape,
+    /// The sheet has no such process.
+    NoProcess,
+    /// The sheet has no such cell.
+    NoCell,
+    /// The sheet has no such word.
+    NoWord,
+    /// The process is in no work that waits for an entry.
+    NoTask,
+    /// The buffer is too small. How many items it has to have room for is told.
+    TooSmall,
+    /// An allocation failed.
+    NoMemory,
+}
+
+impl Failure {
+    /// Its number, as C has it; 0 is that of a call that was carried out.
+    pub fn number(self) -> u32
+        ensures { result ≡ failure_number self }
+    {
+        match self {
+            Failure::Empty => 1,
+            Failure::Full => 2,
+            Failure::BadShape => 3,
+            Failure::NoProcess => 4,
+            Failure::NoCell => 5,
+            Failure::NoWord => 6,
+            Failure::NoTask => 7,
+            Failure::TooSmall => 8,
+            Failure::NoMemory => 9,
+        }
+    }
+}

@@ -1,0 +1,117 @@
+//! Handles: what a C program has of a world.
+
+ghost use Rattle.std.specs.Prelude.{◌≡◌, IsTrue, IsFalse, IsSome, IfSome, IfNone, Some, None, Option};
+ghost use Rattle.ds_state.specs.Value.{WorldValue};
+ghost use Rattle.ds_c.specs.declared.handle.TheConstants.{HELD};
+ghost use Rattle.ds_c.specs.Owned.{state_owns, world_coded};
+
+use crate::parts::Parts;
+use ds_state::world::World;
+use std::alloc::Global;
+use std::marker::Model;
+use std::ptr;
+
+/// The first word of a handle that holds a world: "dsheet" and a version. One that was filled with zeros, or whose
+/// world was freed, does not have it.
+pub const HELD: u64 = 0x6473_6865_6574_0001;
+
+/// A world in a box, or nothing, behind a pointer that names no type: no type that owns memory may cross to C.
+#[repr(C)]
+#[derive(Drop)]
+pub struct State {
+    at: *mut u8,
+    alloc: Global,
+    pub ghost value: { Option WorldValue } by { world_coded },
+}
+
+impl Model for State {
+    ghost also_owns = { λ s. state_owns s.alloc s.at s.value };
+}
+
+// A state goes where its world may go.
+unsafe impl Send for State {}
+
+impl State {
+    fn of_parts(parts: Parts<World, Global>) -> State
+        ensures { result.value ≡ Some parts.value }
+    {
+        let Parts { ptr, alloc } = parts;
+        State {
+            at: ptr as *mut u8,
+            alloc,
+        }
+    }
+
+    fn into_parts(self) -> Parts<World, Global>
+        requires { IsSome self.value }
+        ensures { Some result.value ≡ self.value }
+    {
+        let State { at, alloc } = self;
+        Parts {
+            ptr: at as *mut World,
+            alloc,
+        }
+    }
+
+    fn empty(alloc: Global) -> State
+        ensures { result.value ≡ None }
+    {
+        State {
+            at: ptr::null_mut(),
+            alloc,
+        }
+    }
+}
+
+/// A handle, in memory of the C program. It holds a world where its first word is `HELD`. During a call it holds none.
+#[repr(C)]
+#[derive(Drop)]
+pub struct Handle {
+    held: u64,
+    state: State,
+    pub ghost fits: { held ≡ HELD → IsSome state.value },
+}
+
+impl Handle {
+    ghost use Rattle.ds_c.specs.Handles.{Holds, IsEmpty, IsFull};
+
+    /// A handle that holds the world of the box.
+    pub fn of(world: Box<World>) -> Handle
+        ensures { Holds result world.value }
+    {
+        Handle {
+            held: HELD,
+            state: State::of_parts(Parts::of(world)),
+        }
+    }
+
+    /// A handle that holds no world.
+    pub fn empty(alloc: Global) -> Handle
+        ensures { IsEmpty result }
+    {
+        Handle {
+            held: 0,
+            state: State::empty(alloc),
+        }
+    }
+
+    /// Whether it holds no world.
+    pub fn is_empty(&self) -> bool
+        ensures empty { IsTrue result → IsEmpty self.now }
+        ensures full { IsFalse result → IsFull self.now }
+    {
+        self.held != HELD
+    }
+
+    /// Takes its world out of it; it holds none then. `None` where it holds none: then it stays as it is.
+    pub fn take(&mut self, alloc: Global) -> Option<Box<World>>
+        ensures some { IfSome result (λ world. Holds self.old world.value × IsEmpty self.new) }
+        ensures none { IfNone result (IsEmpty self.old × (self.new ≡ self.old)) }
+    {
+        if self.held != HELD {
+            return None;
+        }
+        let Handle { held: _, state } = std::mem::replace(self, Handle::empty(alloc));
+        Some(state.into_parts().into_box())
+    }
+}

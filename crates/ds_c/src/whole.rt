@@ -1,0 +1,112 @@
+//! Exports: whole calls.
+
+ghost use Rattle.ds_core.specs.declared.event.Event.TheVariants.{BeginEdit, BeginWork, BeginShow, BeginRecover};
+ghost use Rattle.ds_core.specs.Kinds.{IsEditAnswer, IsWorkAnswer, IsReportAnswer, IsRecoveryAnswer};
+ghost use Rattle.ds_calls.specs.Whole.{request};
+ghost use Rattle.ds_c.specs.Calls.{OnHandle, Does, Tells};
+ghost use Rattle.ds_c.specs.Events.{cell_of, Ended, Settles, LacksProcess, LacksRequest};
+
+use crate::answer::AnswerRow;
+use crate::calls;
+use crate::failure::Failure;
+use crate::handle::Handle;
+use crate::tell::tell;
+use ds_formula::cells::Cell;
+use std::alloc::Global;
+
+/// A whole edit of a cell to a text by a process. The text is copied.
+#[unsafe(no_mangle)]
+pub extern "C" fn ds_c_world_edit(
+    alloc: Global,
+    handle: &mut Handle,
+    process: usize,
+    column: usize,
+    row: usize,
+    text: &[u8],
+    answer: &mut AnswerRow,
+) -> u32
+    ensures { OnHandle (Does (Ended IsEditAnswer process (BeginEdit (request process (cell_of column row) text.now))) (LacksRequest process (cell_of column row))) (Tells answer.old answer.new) handle.old handle.new result }
+{
+    let Some(mut world) = handle.take(alloc) else {
+        return Failure::Empty.number();
+    };
+    let cell = Cell { column, row };
+    let told = calls::edit(alloc, &mut world, process, cell, text);
+    *handle = Handle::of(world);
+    tell(told, answer)
+}
+
+/// Whole work on a cell by a process, with its evaluation.
+#[unsafe(no_mangle)]
+pub extern "C" fn ds_c_world_work(
+    alloc: Global,
+    handle: &mut Handle,
+    process: usize,
+    column: usize,
+    row: usize,
+    answer: &mut AnswerRow,
+) -> u32
+    ensures { OnHandle (Does (Ended IsWorkAnswer process (BeginWork process (cell_of column row))) (LacksRequest process (cell_of column row))) (Tells answer.old answer.new) handle.old handle.new result }
+{
+    let Some(mut world) = handle.take(alloc) else {
+        return Failure::Empty.number();
+    };
+    let cell = Cell { column, row };
+    let told = calls::work(alloc, &mut world, process, cell);
+    *handle = Handle::of(world);
+    tell(told, answer)
+}
+
+/// A whole report by a process. Where it is settled, `ds_c_world_values` has its values.
+#[unsafe(no_mangle)]
+pub extern "C" fn ds_c_world_report(
+    alloc: Global,
+    handle: &mut Handle,
+    process: usize,
+    answer: &mut AnswerRow,
+) -> u32
+    ensures { OnHandle (Does (Ended IsReportAnswer process (BeginShow process)) (LacksProcess process)) (Tells answer.old answer.new) handle.old handle.new result }
+{
+    let Some(mut world) = handle.take(alloc) else {
+        return Failure::Empty.number();
+    };
+    let told = calls::report(alloc, &mut world, process);
+    *handle = Handle::of(world);
+    tell(told, answer)
+}
+
+/// A whole recovery of a process, stopped or idle.
+#[unsafe(no_mangle)]
+pub extern "C" fn ds_c_world_recover(
+    alloc: Global,
+    handle: &mut Handle,
+    process: usize,
+    answer: &mut AnswerRow,
+) -> u32
+    ensures { OnHandle (Does (Ended IsRecoveryAnswer process (BeginRecover process)) (LacksProcess process)) (Tells answer.old answer.new) handle.old handle.new result }
+{
+    let Some(mut world) = handle.take(alloc) else {
+        return Failure::Empty.number();
+    };
+    let told = calls::recover(alloc, &mut world, process);
+    *handle = Handle::of(world);
+    tell(told, answer)
+}
+
+/// Works on all cells that are marked, in rounds, by whole works of a process.
+#[unsafe(no_mangle)]
+pub extern "C" fn ds_c_world_settle(
+    alloc: Global,
+    handle: &mut Handle,
+    process: usize,
+    answer: &mut AnswerRow,
+) -> u32
+    ensures { OnHandle (Does (Settles process) (LacksProcess process)) (Tells answer.old answer.new) handle.old handle.new result }
+{
+    let Some(mut world) = handle.take(alloc) else {
+        return Failure::Empty.number();
+    };
+    let told = calls::settle(alloc, &mut world, process);
+    *handle = Handle::of(world);
+    tell(told, answer)
+}

@@ -1,0 +1,297 @@
+"""dsheet for Python, by ctypes over the shared object that examples/c/Makefile links.
+
+The library is looked for where DSHEET_LIBRARY says, else where the Makefile leaves it.
+
+>>> with World(columns=2, rows=2, processes=2) as world:
+...     world.edit(0, "A1", "20").name
+...     world.edit(0, "B1", "=[.A1]*2+2").name
+...     world.settle(0).number
+...     world.report(1).name
+...     world.values(1)
+'DONE'
+'DONE'
+0
+'SETTLED'
+[20, 42, None, None]
+
+A crash in mid-edit: the edit was announced, and its cell's head was not persisted.
+
+>>> with World(columns=2, rows=2, processes=2) as world:
+...     world.begin_edit(0, "A1", "5").name
+...     while world.word("HEAD", 0) == (0, 0):
+...         _ = world.step(0)
+...     world.word("HEAD", 0)[1]
+...     world.crash()
+...     told = world.recover(0)
+...     told.name, told.holds
+'BEGUN'
+0
+('LAST', 0)
+
+What is wrong has a name.
+
+>>> World(columns=27, rows=1, processes=1)
+Traceback (most recent call last):
+    ...
+dsheet.Refused: BAD_SHAPE
+>>> with World(columns=1, rows=1, processes=1) as world:
+...     world.edit(1, "A1", "1")
+Traceback (most recent call last):
+    ...
+dsheet.Refused: NO_PROCESS
+>>> with World(columns=1, rows=1, processes=1) as world:
+...     answer = world.edit(0, "A1", "=1+")
+...     answer.name, answer.why, answer.number
+('REFUSED', 'UNFINISHED', 3)
+"""
+
+import ctypes
+import os
+import pathlib
+
+STATUSES = ("OK EMPTY FULL BAD_SHAPE NO_PROCESS NO_CELL NO_WORD NO_TASK TOO_SMALL NO_MEMORY NULL").split()
+KINDS = ("_ BEGUN ENTERED REFUSED STEPPED WRONG_TASK EVICTED STOPPED CRASHED NOT_ENABLED DONE OVERTAKEN NOT_DIRTY MISSED "
+         "WORN PUBLISHED AGAIN WORK_NO_MEMORY LAST NOTHING SETTLED UNSETTLED_MARK UNSETTLED_ANNOUNCEMENT UNSETTLED_WORD "
+         "LEFT").split()
+CAUSES = "_ TEXT BUSY STOPPED RECORDS_FULL NO_MEMORY".split()
+FAULTS = ("_ TOO_LONG BAD_TOKEN NOT_WHOLE NUMBER_TOO_LARGE UNKNOWN_FUNCTION WRONG_ARGUMENTS OUTSIDE_SHEET "
+          "RANGE_NOT_ALLOWED TOO_DEEP UNFINISHED NO_MEMORY").split()
+PLACES = "VERSION HEAD MARK VALUE KIND INDEX ANNOUNCE HEADER TEXT DONE".split()
+ERRORS = {2: "#DIV/0!", 3: "#NUM!", 4: "Err:522"}
+
+
+class Refused(Exception):
+    """A call was not carried out, and nothing has changed: its message is the name of the status."""
+
+
+class _World(ctypes.Structure):
+    _fields_ = [("held", ctypes.c_uint64), ("at", ctypes.c_void_p)]
+
+
+class Answer(ctypes.Structure):
+    """What was replied to an event, answered by a call, or the end of a settle: struct dsheet_answer."""
+
+    _fields_ = [("kind", ctypes.c_uint32), ("cause", ctypes.c_uint32), ("fault", ctypes.c_uint32),
+                ("holds", ctypes.c_uint32), ("number", ctypes.c_size_t), ("process", ctypes.c_size_t),
+                ("other", ctypes.c_size_t), ("cell", ctypes.c_size_t), ("seen", ctypes.c_uint64)]
+
+    @property
+    def name(self):
+        """The name of its kind, as in the header."""
+        return KINDS[self.kind]
+
+    @property
+    def why(self):
+        """The name of the cause of a refusal, of a text that of its fault; None of other answers."""
+        if self.name != "REFUSED":
+            return None
+        return FAULTS[self.fault] if CAUSES[self.cause] == "TEXT" else CAUSES[self.cause]
+
+
+class _Value(ctypes.Structure):
+    _fields_ = [("kind", ctypes.c_uint32), ("number", ctypes.c_int64)]
+
+    def read(self):
+        return {0: None, 1: self.number}.get(self.kind, ERRORS.get(self.kind))
+
+
+class Mark(ctypes.Structure):
+    """The mark of a cell: struct dsheet_mark. state is 0 clean, 1 marked, 2 held."""
+
+    _fields_ = [("state", ctypes.c_uint32), ("dirty", ctypes.c_uint32), ("holder", ctypes.c_size_t),
+                ("generation", ctypes.c_uint64)]
+
+
+class Size(ctypes.Structure):
+    """How large a sheet is: struct dsheet_size."""
+
+    _fields_ = [("columns", ctypes.c_size_t), ("rows", ctypes.c_size_t), ("processes", ctypes.c_size_t)]
+
+
+class _Place(ctypes.Structure):
+    _fields_ = [("kind", ctypes.c_uint32), ("owner", ctypes.c_size_t), ("number", ctypes.c_size_t),
+                ("part", ctypes.c_size_t)]
+
+
+class _Word(ctypes.Structure):
+    _fields_ = [("cached", ctypes.c_uint64), ("persisted", ctypes.c_uint64)]
+
+
+_at = os.environ.get("DSHEET_LIBRARY") or pathlib.Path(__file__).parents[2] / "crates/ds_c/out/libdsheet.so"
+_library = ctypes.CDLL(str(_at))
+_number = ctypes.c_size_t
+_signatures = {
+    "make": [_number, _number, _number], "free": [],
+    "begin_edit": [_number, _number, _number, ctypes.c_char_p, _number, ctypes.POINTER(Answer)],
+    "begin_work": [_number, _number, _number, ctypes.POINTER(Answer)],
+    "begin_report": [_number, ctypes.POINTER(Answer)], "begin_recovery": [_number, ctypes.POINTER(Answer)],
+    "step": [_number, ctypes.POINTER(Answer)], "offer": [_number, ctypes.POINTER(Answer)],
+    "stop": [_number, ctypes.POINTER(Answer)], "evict": [ctypes.POINTER(_Place)], "crash": [],
+    "edit": [_number, _number, _number, ctypes.c_char_p, _number, ctypes.POINTER(Answer)],
+    "work": [_number, _number, _number, ctypes.POINTER(Answer)],
+    "report": [_number, ctypes.POINTER(Answer)], "recover": [_number, ctypes.POINTER(Answer)],
+    "settle": [_number, ctypes.POINTER(Answer)], "size": [ctypes.POINTER(Size)],
+    "value": [_number, _number, ctypes.POINTER(_Value)], "mark": [_number, _number, ctypes.POINTER(Mark)],
+    "word": [ctypes.POINTER(_Place), ctypes.POINTER(_Word)],
+    "text": [_number, _number, ctypes.c_char_p, _number, ctypes.POINTER(_number)],
+    "values": [_number, ctypes.POINTER(_Value), _number, ctypes.POINTER(_number)],
+}
+_functions = {}
+for _name, _arguments in _signatures.items():
+    _function = getattr(_library, "dsheet_world_" + _name)
+    _function.restype = ctypes.c_uint32
+    _function.argtypes = [ctypes.POINTER(_World)] + _arguments
+    _functions[_name] = _function
+
+
+def _cell(name):
+    """The column and the row of a cell, each from 0: "B3" is 1 and 2."""
+    return ord(name[0]) - ord("A"), int(name[1:]) - 1
+
+
+class World:
+    """A sheet and its processes. One thread at a time may use it. Each method is a function of the header."""
+
+    def __init__(self, columns, rows, processes):
+        self._world = _World()
+        self._call("make", columns, rows, processes)
+
+    def __enter__(self):
+        return self
+
+    def __exit__(self, *_):
+        self.free()
+
+    def _call(self, name, *arguments):
+        status = _functions[name](ctypes.byref(self._world), *arguments)
+        if status:
+            raise Refused(STATUSES[status])
+
+    def _ask(self, row, name, *arguments):
+        self._call(name, *arguments, ctypes.byref(row))
+        return row
+
+    def free(self):
+        self._call("free")
+
+    def begin_edit(self, process, cell, text):
+        data = text.encode()
+        return self._ask(Answer(), "begin_edit", process, *_cell(cell), data, len(data))
+
+    def begin_work(self, process, cell):
+        return self._ask(Answer(), "begin_work", process, *_cell(cell))
+
+    def begin_report(self, process):
+        return self._ask(Answer(), "begin_report", process)
+
+    def begin_recovery(self, process):
+        return self._ask(Answer(), "begin_recovery", process)
+
+    def step(self, process):
+        return self._ask(Answer(), "step", process)
+
+    def offer(self, process):
+        return self._ask(Answer(), "offer", process)
+
+    def stop(self, process):
+        return self._ask(Answer(), "stop", process)
+
+    def evict(self, kind, owner=0, number=0, part=0):
+        self._call("evict", ctypes.byref(_Place(PLACES.index(kind), owner, number, part)))
+
+    def crash(self):
+        self._call("crash")
+
+    def edit(self, process, cell, text):
+        data = text.encode()
+        return self._ask(Answer(), "edit", process, *_cell(cell), data, len(data))
+
+    def work(self, process, cell):
+        return self._ask(Answer(), "work", process, *_cell(cell))
+
+    def report(self, process):
+        return self._ask(Answer(), "report", process)
+
+    def recover(self, process):
+        return self._ask(Answer(), "recover", process)
+
+    def settle(self, process):
+        return self._ask(Answer(), "settle", process)
+
+    def size(self):
+        return self._ask(Size(), "size")
+
+    def value(self, cell):
+        """None for a blank, a number, or the text of an error."""
+        return self._ask(_Value(), "value", *_cell(cell)).read()
+
+    def mark(self, cell):
+        return self._ask(Mark(), "mark", *_cell(cell))
+
+    def word(self, kind, owner=0, number=0, part=0):
+        """Its cached side and its persisted one."""
+        word = self._ask(_Word(), "word", ctypes.byref(_Place(PLACES.index(kind), owner, number, part)))
+        return word.cached, word.persisted
+
+    def text(self, cell):
+        buffer, length = ctypes.create_string_buffer(120), _number()
+        self._call("text", *_cell(cell), buffer, 120, ctypes.byref(length))
+        return buffer.raw[:length.value].decode("latin-1")
+
+    def values(self, process):
+        """Those of the process's last settled report, row by row from the left."""
+        size = self.size()
+        buffer, count = (_Value * (size.columns * size.rows))(), _number()
+        self._call("values", process, buffer, len(buffer), ctypes.byref(count))
+        return [value.read() for value in buffer[:count.value]]
+
+
+def main():
+    """What examples/c/crash.c does, with the same words."""
+
+    def show_value(world):
+        value = world.value("A1")
+        return "A1 is blank" if value is None else f"A1 is {value}"
+
+    def make():
+        world = World(columns=1, rows=2, processes=2)
+        world.edit(1, "A1", "9")
+        return world
+
+    def edit_partly(world, steps):
+        world.begin_edit(0, "A1", "5")
+        return any(world.step(0).name == "DONE" for _ in range(steps))
+
+    def crash_and_ask(world):
+        world.crash()
+        told = world.recover(0)
+        world.recover(1)
+        world.settle(0)
+        if told.name == "NOTHING":
+            return "was never announced"
+        return "is done" if told.holds else "is not done"
+
+    answered, before, steps = False, "", 0
+    while not answered:
+        with make() as world:
+            answered = edit_partly(world, steps)
+            told = crash_and_ask(world)
+            if told != before:
+                print(f"a crash behind step {steps}: the edit {told}; {show_value(world)}")
+            before, steps = told, steps + 1
+    print("and it is so to its answer")
+
+    steps, found = 0, False
+    while not found:
+        with make() as world:
+            edit_partly(world, steps)
+            cached, persisted = world.word("HEAD", 0)
+            found = cached != persisted
+            if found:
+                world.evict("HEAD", 0)
+                print(f"evicted before the crash: the edit {crash_and_ask(world)}; {show_value(world)}")
+            steps += 1
+
+
+if __name__ == "__main__":
+    main()

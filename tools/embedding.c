@@ -1,0 +1,223 @@
+/* Calls each function of dsheet.h as it may be called, with each argument that can be wrong, and where an allocation
+ * fails. tools/embedding.sh builds it, with -Wl,--wrap=malloc, and runs it. */
+#include <dsheet.h>
+#include <stdbool.h>
+#include <stdio.h>
+#include <stdlib.h>
+#include <string.h>
+
+static void wanted(bool holds, const char *what, int line) {
+    if (!holds) {
+        fprintf(stderr, "embedding.c:%d: not so: %s\n", line, what);
+        exit(1);
+    }
+}
+
+#define WANT(holds) wanted(holds, #holds, __LINE__)
+
+static struct dsheet_world world = DSHEET_WORLD_INIT;
+static struct dsheet_answer answer;
+static struct dsheet_place head_of_a1 = {DSHEET_PLACE_HEAD, 0, 0, 0};
+static const size_t most = SIZE_MAX;
+
+/* How many allocations succeed before one fails; where it is negative, all do. */
+static long allocations = -1;
+
+void *__real_malloc(size_t size);
+void *__wrap_malloc(size_t size);
+
+void *__wrap_malloc(size_t size) {
+    if (allocations == 0)
+        return NULL;
+    allocations -= allocations > 0;
+    return __real_malloc(size);
+}
+
+static void edit(size_t process, size_t column, size_t row, const char *text) {
+    WANT(dsheet_world_edit(&world, process, column, row, text, strlen(text), &answer) == DSHEET_OK);
+}
+
+static void handles(void) {
+    WANT(dsheet_world_make(NULL, 1, 1, 1) == DSHEET_NULL);
+    WANT(dsheet_world_free(NULL) == DSHEET_NULL);
+    WANT(dsheet_world_free(&world) == DSHEET_EMPTY);
+    WANT(dsheet_world_crash(&world) == DSHEET_EMPTY);
+    WANT(dsheet_world_step(&world, 0, &answer) == DSHEET_EMPTY);
+    WANT(dsheet_world_make(&world, 0, 1, 1) == DSHEET_BAD_SHAPE);
+    WANT(dsheet_world_make(&world, 27, 1, 1) == DSHEET_BAD_SHAPE);
+    WANT(dsheet_world_make(&world, 1, 65, 1) == DSHEET_BAD_SHAPE);
+    WANT(dsheet_world_make(&world, 26, 64, 1) == DSHEET_BAD_SHAPE);
+    WANT(dsheet_world_make(&world, most, most, 1) == DSHEET_BAD_SHAPE);
+    WANT(dsheet_world_make(&world, 1, 1, 0) == DSHEET_BAD_SHAPE);
+    WANT(dsheet_world_make(&world, 1, 1, 9) == DSHEET_BAD_SHAPE);
+    WANT(dsheet_world_make(&world, 16, 64, 8) == DSHEET_OK);
+    WANT(dsheet_world_make(&world, 1, 1, 1) == DSHEET_FULL);
+    WANT(dsheet_world_free(&world) == DSHEET_OK);
+    WANT(dsheet_world_free(&world) == DSHEET_EMPTY);
+    WANT(dsheet_world_make(&world, 2, 3, 2) == DSHEET_OK);
+    struct dsheet_size size;
+    WANT(dsheet_world_size(&world, NULL) == DSHEET_NULL);
+    WANT(dsheet_world_size(&world, &size) == DSHEET_OK);
+    WANT(size.columns == 2 && size.rows == 3 && size.processes == 2);
+}
+
+/* Each argument of each call that can be wrong. */
+static void refusals(void) {
+    struct dsheet_world *w = &world;
+    struct dsheet_place nowhere = {10, 0, 0, 0}, outside = {DSHEET_PLACE_HEAD, 6, 0, 0};
+    struct dsheet_word word;
+    struct dsheet_value value;
+    struct dsheet_mark mark;
+    size_t count;
+    WANT(dsheet_world_edit(NULL, 0, 0, 0, "1", 1, &answer) == DSHEET_NULL);
+    WANT(dsheet_world_edit(w, 0, 0, 0, NULL, 1, &answer) == DSHEET_NULL);
+    WANT(dsheet_world_edit(w, 0, 0, 0, "1", 1, NULL) == DSHEET_NULL);
+    WANT(dsheet_world_edit(w, 2, 0, 0, "1", 1, &answer) == DSHEET_NO_PROCESS);
+    WANT(dsheet_world_edit(w, most, 0, 0, "1", 1, &answer) == DSHEET_NO_PROCESS);
+    WANT(dsheet_world_edit(w, 0, 2, 0, "1", 1, &answer) == DSHEET_NO_CELL);
+    WANT(dsheet_world_edit(w, 0, 0, 3, "1", 1, &answer) == DSHEET_NO_CELL);
+    WANT(dsheet_world_begin_edit(w, 0, 0, 0, NULL, 1, &answer) == DSHEET_NULL);
+    WANT(dsheet_world_begin_edit(w, 0, 0, most, "1", 1, &answer) == DSHEET_NO_CELL);
+    WANT(dsheet_world_begin_work(w, 0, 0, 0, NULL) == DSHEET_NULL);
+    WANT(dsheet_world_begin_work(w, 0, 2, 0, &answer) == DSHEET_NO_CELL);
+    WANT(dsheet_world_work(w, 0, 0, 0, NULL) == DSHEET_NULL);
+    WANT(dsheet_world_work(w, 2, 0, 0, &answer) == DSHEET_NO_PROCESS);
+    uint32_t (*const calls[])(struct dsheet_world *, size_t, struct dsheet_answer *) = {
+        dsheet_world_begin_report, dsheet_world_begin_recovery, dsheet_world_step,   dsheet_world_offer,
+        dsheet_world_stop,         dsheet_world_report,         dsheet_world_recover, dsheet_world_settle};
+    for (size_t at = 0; at < sizeof calls / sizeof *calls; at++) {
+        WANT(calls[at](NULL, 0, &answer) == DSHEET_NULL);
+        WANT(calls[at](w, 0, NULL) == DSHEET_NULL);
+        WANT(calls[at](w, 2, &answer) == DSHEET_NO_PROCESS);
+    }
+    WANT(dsheet_world_offer(w, 0, &answer) == DSHEET_NO_TASK);
+    WANT(dsheet_world_evict(w, NULL) == DSHEET_NULL);
+    WANT(dsheet_world_evict(w, &nowhere) == DSHEET_NO_WORD);
+    WANT(dsheet_world_evict(w, &outside) == DSHEET_NO_WORD);
+    WANT(dsheet_world_word(w, &head_of_a1, NULL) == DSHEET_NULL);
+    WANT(dsheet_world_word(w, &outside, &word) == DSHEET_NO_WORD);
+    WANT(dsheet_world_value(w, 0, 0, NULL) == DSHEET_NULL);
+    WANT(dsheet_world_value(w, 2, 0, &value) == DSHEET_NO_CELL);
+    WANT(dsheet_world_mark(w, 0, 0, NULL) == DSHEET_NULL);
+    WANT(dsheet_world_mark(w, 0, 3, &mark) == DSHEET_NO_CELL);
+    WANT(dsheet_world_text(w, 0, 0, NULL, 1, &count) == DSHEET_NULL);
+    WANT(dsheet_world_text(w, 0, 0, NULL, 0, NULL) == DSHEET_NULL);
+    WANT(dsheet_world_text(w, 2, 0, NULL, 0, &count) == DSHEET_NO_CELL);
+    WANT(dsheet_world_values(w, 0, NULL, 1, &count) == DSHEET_NULL);
+    WANT(dsheet_world_values(w, 2, NULL, 0, &count) == DSHEET_NO_PROCESS);
+}
+
+/* Whole calls, and what the sheet shows behind them. */
+static void whole_calls(void) {
+    struct dsheet_value values[6], value;
+    struct dsheet_mark mark;
+    char text[13] = "------------";
+    size_t count = 99;
+    edit(0, 0, 0, "20");
+    WANT(answer.kind == DSHEET_DONE && answer.number == 0);
+    edit(1, 1, 2, "=MOD([.A1];0)");
+    WANT(answer.kind == DSHEET_DONE && answer.number == 0);
+    edit(0, 0, 1, "=1+");
+    WANT(answer.kind == DSHEET_REFUSED && answer.cause == DSHEET_CAUSE_TEXT);
+    WANT(answer.fault == DSHEET_FAULT_UNFINISHED && answer.number == 3);
+    WANT(dsheet_world_mark(&world, 0, 0, &mark) == DSHEET_OK && mark.state == DSHEET_MARKED && mark.dirty == 1);
+    WANT(dsheet_world_report(&world, 0, &answer) == DSHEET_OK);
+    WANT(answer.kind == DSHEET_UNSETTLED_MARK && answer.cell == 0);
+    WANT(dsheet_world_values(&world, 0, NULL, 0, &count) == DSHEET_OK && count == 0);
+    WANT(dsheet_world_work(&world, 1, 0, 0, &answer) == DSHEET_OK);
+    WANT(answer.kind == DSHEET_PUBLISHED && answer.holds == 1);
+    WANT(dsheet_world_work(&world, 1, 0, 0, &answer) == DSHEET_OK && answer.kind == DSHEET_NOT_DIRTY);
+    WANT(dsheet_world_value(&world, 0, 0, &value) == DSHEET_OK && value.kind == DSHEET_NUMBER && value.number == 20);
+    WANT(dsheet_world_settle(&world, 0, &answer) == DSHEET_OK && answer.kind == DSHEET_LEFT && answer.number == 0);
+    WANT(dsheet_world_report(&world, 0, &answer) == DSHEET_OK && answer.kind == DSHEET_SETTLED);
+    WANT(dsheet_world_values(&world, 0, values, 5, &count) == DSHEET_TOO_SMALL && count == 6);
+    WANT(dsheet_world_values(&world, 0, values, 6, &count) == DSHEET_OK && count == 6);
+    WANT(values[0].number == 20 && values[1].kind == DSHEET_BLANK && values[5].kind == DSHEET_DIV_ZERO);
+    WANT(dsheet_world_text(&world, 1, 2, text, 12, &count) == DSHEET_TOO_SMALL && count == 13);
+    WANT(strcmp(text, "------------") == 0);
+    WANT(dsheet_world_text(&world, 1, 2, text, 13, &count) == DSHEET_OK && memcmp(text, "=MOD([.A1];0)", 13) == 0);
+    WANT(dsheet_world_text(&world, 0, 1, NULL, 0, &count) == DSHEET_OK && count == 0);
+}
+
+/* Calls that are begun and driven by steps, to their answers. */
+static void event_by_event(void) {
+    unsigned offers = 0, steps = 0;
+    WANT(dsheet_world_step(&world, 0, &answer) == DSHEET_OK && answer.kind == DSHEET_NOT_ENABLED);
+    WANT(dsheet_world_begin_edit(&world, 0, 0, 0, NULL, 0, &answer) == DSHEET_OK);
+    WANT(answer.kind == DSHEET_BEGUN && answer.number == 1);
+    WANT(dsheet_world_begin_report(&world, 0, &answer) == DSHEET_OK);
+    WANT(answer.kind == DSHEET_REFUSED && answer.cause == DSHEET_CAUSE_BUSY);
+    while (answer.kind != DSHEET_DONE)
+        WANT(dsheet_world_step(&world, 0, &answer) == DSHEET_OK && steps++ < 67);
+    WANT(dsheet_world_begin_work(&world, 1, 0, 0, &answer) == DSHEET_OK && answer.kind == DSHEET_ENTERED);
+    while (answer.kind != DSHEET_PUBLISHED) {
+        WANT(dsheet_world_step(&world, 1, &answer) == DSHEET_OK);
+        if (answer.kind == DSHEET_NOT_ENABLED) {
+            WANT(dsheet_world_offer(&world, 1, &answer) == DSHEET_OK && answer.kind == DSHEET_STEPPED);
+            offers++;
+        }
+    }
+    WANT(offers == 1 && answer.holds == 1);
+    WANT(dsheet_world_begin_report(&world, 1, &answer) == DSHEET_OK && answer.kind == DSHEET_ENTERED);
+    while (answer.kind != DSHEET_UNSETTLED_MARK)
+        WANT(dsheet_world_step(&world, 1, &answer) == DSHEET_OK);
+    WANT(answer.cell == 5);
+}
+
+/* Stops, evictions, a crash and recoveries. */
+static void losses(void) {
+    struct dsheet_word word = {0, 0};
+    WANT(dsheet_world_stop(&world, 1, &answer) == DSHEET_OK && answer.kind == DSHEET_STOPPED);
+    WANT(dsheet_world_stop(&world, 1, &answer) == DSHEET_OK && answer.kind == DSHEET_NOT_ENABLED);
+    WANT(dsheet_world_edit(&world, 1, 0, 0, "1", 1, &answer) == DSHEET_OK);
+    WANT(answer.kind == DSHEET_REFUSED && answer.cause == DSHEET_CAUSE_STOPPED);
+    WANT(dsheet_world_begin_recovery(&world, 1, &answer) == DSHEET_OK && answer.kind == DSHEET_ENTERED);
+    while (answer.kind != DSHEET_LAST)
+        WANT(dsheet_world_step(&world, 1, &answer) == DSHEET_OK);
+    WANT(answer.number == 0 && answer.cell == 5 && answer.holds == 1);
+    WANT(dsheet_world_word(&world, &head_of_a1, &word) == DSHEET_OK && word.cached == word.persisted);
+    WANT(dsheet_world_begin_edit(&world, 1, 0, 0, "7", 1, &answer) == DSHEET_OK && answer.number == 1);
+    while (word.cached == word.persisted) {
+        WANT(dsheet_world_step(&world, 1, &answer) == DSHEET_OK);
+        WANT(dsheet_world_word(&world, &head_of_a1, &word) == DSHEET_OK);
+    }
+    WANT(dsheet_world_evict(&world, &head_of_a1) == DSHEET_OK);
+    WANT(dsheet_world_word(&world, &head_of_a1, &word) == DSHEET_OK && word.cached == word.persisted);
+    WANT(dsheet_world_crash(&world) == DSHEET_OK);
+    WANT(dsheet_world_recover(&world, 1, &answer) == DSHEET_OK && answer.kind == DSHEET_LAST);
+    WANT(answer.number == 1 && answer.cell == 0 && answer.holds == 1);
+    WANT(dsheet_world_recover(&world, 0, &answer) == DSHEET_OK && answer.kind == DSHEET_LAST && answer.number == 1);
+}
+
+/* Each allocation of a call fails in turn. */
+static void want_of_memory(void) {
+    struct dsheet_world other = DSHEET_WORLD_INIT;
+    uint32_t status = DSHEET_NO_MEMORY;
+    char text[13];
+    size_t count;
+    for (long made = 0; status != DSHEET_OK; made++) {
+        allocations = made;
+        status = dsheet_world_make(&other, 2, 3, 2);
+        allocations = -1;
+        WANT(status == DSHEET_OK ? made > 5 : status == DSHEET_NO_MEMORY);
+        WANT(dsheet_world_free(&other) == (status == DSHEET_OK ? DSHEET_OK : DSHEET_EMPTY));
+    }
+    allocations = 0;
+    WANT(dsheet_world_text(&world, 1, 2, text, 13, &count) == DSHEET_NO_MEMORY);
+    WANT(dsheet_world_edit(&world, 0, 0, 0, "=1+2", 4, &answer) == DSHEET_OK);
+    WANT(answer.kind == DSHEET_REFUSED && answer.cause == DSHEET_CAUSE_NO_MEMORY);
+    allocations = -1;
+    edit(0, 0, 0, "=1+2");
+    WANT(answer.kind == DSHEET_DONE);
+}
+
+int main(void) {
+    handles();
+    refusals();
+    whole_calls();
+    event_by_event();
+    losses();
+    want_of_memory();
+    WANT(dsheet_world_free(&world) == DSHEET_OK);
+    return 0;
+}
