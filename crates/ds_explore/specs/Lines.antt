@@ -28,7 +28,7 @@ place_text shape (place.Kind cell) = celled (codes "kind") shape cell
 place_text shape (place.Index row part) = numbered (celled (codes "index") shape row) part
 place_text shape (place.Announce process) = numbered (codes "announce") process
 place_text shape (place.Header process number) = numbered (numbered (codes "header") process) number
-place_text shape (place.Text process number part) = numbered (numbered (numbered (codes "text") process) number) part
+place_text shape (place.Text process number part) = codes "text " ++ (decimal process ++ (codes " " ++ (decimal number ++ (codes " " ++ decimal part))))
 place_text shape (place.Done process part) = numbered (numbered (codes "done") process) part
 
 -- the words of a line, without its end

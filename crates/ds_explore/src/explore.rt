@@ -3,7 +3,7 @@
 ghost use Rattle.std.specs.Prelude.{◌≡◌, ◌≢◌, ◌++◌, ◌∷◌, ◌||◌, ◌<◌, ◌^◌, ◌-◌, ◌⊎◌, Bool, true, ℕ, suc, List, [], IfOk, IfErr, length, string_bytes};
 ghost use Rattle.std.specs.Io.KnownBytes.{Appends};
 ghost use Rattle.ds_streams.specs.Streams.{writer_of, write_failed};
-ghost use Rattle.ds_explore.specs.Explored.{IsWrong, IsBlock, IsOutcome, IsWritten, WritesAll, Explores, heading_text, figures_text, endless_text, end_of, end_short};
+ghost use Rattle.ds_explore.specs.Explored.{wrong_text, IsWrong, IsBlock, IsOutcome, IsWritten, WritesAll, Explores, heading_text, figures_text, endless_text, end_of, end_short};
 
 use crate::answers::{answers_to, continued};
 use crate::flaw::Flaw;
@@ -108,6 +108,13 @@ fn find<T: Watcher>(
     })
 }
 
+// The line for what is wrong.
+fn wrong_line(alloc: Global, flaw: Flaw) -> Result<Vec<u8>, AllocError>
+    ensures { IfOk result (λ line. line.items ≡ wrong_text flaw) }
+{
+    Ok(format!(in alloc; "wrong: {flaw}\n")?.into_bytes())
+}
+
 // The lines for what is wrong.
 fn wrong_lines(alloc: Global, flaws: &[Flaw]) -> Result<Block, AllocError>
     ensures { IfOk result (λ block. IsWrong block.flawed block.text.items) }
@@ -115,8 +122,8 @@ fn wrong_lines(alloc: Global, flaws: &[Flaw]) -> Result<Block, AllocError>
     let mut text = Vec::new(alloc);
     let mut flawed = false;
     for flaw in flaws {
-        let line = format!(in alloc; "wrong: {flaw}\n")?;
-        text.extend_from_slice(line.as_bytes())?;
+        let line = wrong_line(alloc, *flaw)?;
+        text.extend_from_slice(&line)?;
         flawed = true;
     }
     Ok(Block { text, flawed })
@@ -244,7 +251,7 @@ fn write_found<W: Write>(
                     Ok(()) => {}
                     Err(_) => return ExploreEnd::WriteFailed,
                 }
-                wrong = wrong || made.flawed;
+                wrong |= made.flawed;
             }
             Err(_) => return ExploreEnd::NoMemory,
         }
