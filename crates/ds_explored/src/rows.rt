@@ -89,27 +89,7 @@ fn edits(rt: HostRuntime) -> Result<(), AllocError> {
     Ok(())
 }
 
-// Calls that meet: nothing is wrong with what they come to.
-const MEETINGS: [(&str, Options); 8] = [
-    ("begin 0 set A1 1\nbegin 1 set A1 2\n", CRASHES),
-    ("begin 0 set A1 1\nbegin 1 set A1 2\n", STOPS),
-    ("begin 0 set A1 1\n", ALL),
-    (
-        "sheet 2 2 3\nset 0 A1 1\nbegin 0 set A1 2\nbegin 1 work A1\nbegin 2 work A1\n",
-        STEPS,
-    ),
-    (
-        "sheet 2 2 3\nset 0 B1 =[.A1]\nsettle 0\nbegin 0 set A1 2\nbegin 1 work A1\nbegin 2 work B1\n",
-        CRASHES,
-    ),
-    ("set 0 A1 1\nbegin 0 work A1\nbegin 1 recover\n", CRASHES),
-    (
-        "begin 0 set A1 1\nrun 0 to swung\nstop 0\nbegin 0 recover\nbegin 1 work A1\n",
-        CRASHES,
-    ),
-    ("begin 0 set A1 1\nbegin 1 report\n", CRASHES),
-];
-
+// An exploration ends, and tells of nothing that is wrong.
 fn expect_nothing_wrong(rt: &(impl Abort + AllocGlobal), script: &str, options: Options) {
     let (text, end) = explored(rt.alloc(), script.as_bytes(), options);
     assert_eq!(rt; end, ExploreEnd::Ended, "{script}");
@@ -117,10 +97,43 @@ fn expect_nothing_wrong(rt: &(impl Abort + AllocGlobal), script: &str, options: 
     assert!(rt; !text.contains("wrong"), "{script}");
 }
 
+// Two edits of one cell.
 #[test]
-fn meetings(rt: HostRuntime) {
-    for (script, options) in MEETINGS {
-        expect_nothing_wrong(&rt, script, options);
+fn two_edits(rt: HostRuntime) {
+    for options in [CRASHES, STOPS, ALL] {
+        expect_nothing_wrong(&rt, "begin 0 set A1 1\nbegin 1 set A1 2\n", options);
+    }
+}
+
+// An edit and two works, on its cell, and on it and one that refers to it.
+#[test]
+fn an_edit_and_two_works(rt: HostRuntime) {
+    expect_nothing_wrong(
+        &rt,
+        "sheet 2 2 3\nset 0 A1 1\nbegin 0 set A1 2\nbegin 1 work A1\nbegin 2 work A1\n",
+        CRASHES,
+    );
+    expect_nothing_wrong(
+        &rt,
+        "sheet 2 2 3\nset 0 B1 =[.A1]\nsettle 0\nbegin 0 set A1 2\nbegin 1 work A1\nbegin 2 work B1\n",
+        CRASHES,
+    );
+}
+
+// A work and a recovery, of an idle process and of one whose edit was stopped.
+#[test]
+fn a_work_and_a_recovery(rt: HostRuntime) {
+    for options in [CRASHES, STOPS, ALL] {
+        expect_nothing_wrong(
+            &rt,
+            "set 0 A1 1\nbegin 0 work A1\nbegin 1 recover\n",
+            options,
+        );
+        expect_nothing_wrong(
+            &rt,
+            "begin 0 set A1 1\nrun 0 to swung\nstop 0\nbegin 0 recover\nbegin 1 work A1\n",
+            options,
+        );
     }
 }
 
