@@ -1,0 +1,116 @@
+-- What an exploration writes.
+use Rattle.std.specs.Prelude.{ℕ, suc, ◌≡◌, ◌<◌, ◌-◌, ◌^◌, ◌⊎◌, ◌||◌, Bool, true, false, List, [], ◌++◌, length, codes}
+use Rattle.std.specs.Fmt.{decimal}
+use Rattle.ds_formula.specs.Limits.{INPUT_MOST}
+use Rattle.ds_formula.specs.declared.cells.Shape.{Shape}
+use Rattle.ds_play.specs.Script.{Finishes}
+use Rattle.ds_streams.specs.ScriptEndings.{name_of_fault}
+use Rattle.ds_stops.specs.StopBlocks.{BreaksBefore}
+use Rattle.ds_stops.specs.declared.reach.Short.{Short}
+use Rattle.ds_stops.specs.declared.reach.Short.TheVariants as shorts
+use Rattle.ds_explore.specs.declared.flaw.Flaw.{Flaw}
+use Rattle.ds_explore.specs.declared.flaw.Flaw.TheVariants as flaw
+use Rattle.ds_explore.specs.declared.explore.ExploreEnd.{ExploreEnd}
+use Rattle.ds_explore.specs.declared.explore.ExploreEnd.TheVariants as ends
+use Rattle.ds_explore.specs.Lines.{GoesOn}
+
+-- ---- an outcome
+
+-- what is wrong with an outcome, in words
+abbrev pub flaw_text : Flaw → List ℕ
+flaw_text (flaw.ToldOtherwise process) = codes "the edit of " ++ (decimal process ++ codes " is told otherwise than it was answered")
+flaw_text (flaw.ToldTwice process) = codes "the recovery of " ++ (decimal process ++ codes " tells otherwise than the one before")
+flaw_text (flaw.OvertakenByNone process) = codes "the edit of " ++ (decimal process ++ codes " is overtaken by an edit that is not done")
+flaw_text (flaw.TextOfNone cell) = codes "cell " ++ (decimal cell ++ codes " has a text of no edit that is done and could be its last one")
+flaw_text (flaw.ValueOfNone cell) = codes "cell " ++ (decimal cell ++ codes " has a value that is not that of the texts")
+flaw_text flaw.NotClean = codes "the settle does not end clean"
+flaw_text flaw.NotSettled = codes "the report is not settled"
+flaw_text (flaw.Refused process) = codes "the recovery of " ++ (decimal process ++ codes " is refused")
+flaw_text flaw.AnsweredOtherwise = codes "the script is answered otherwise than the order was"
+
+-- a line for what is wrong
+abbrev pub wrong_text : Flaw → List ℕ
+wrong_text f = codes "wrong: " ++ (flaw_text f ++ codes "\n")
+
+-- the text is lines for what is wrong; whether there is one
+pub data IsWrong : Bool → List ℕ → Type 0 where
+  right : IsWrong false []
+  one_flaw_more : (flawed : Bool) (text : List ℕ) (f : Flaw) → IsWrong flawed text → IsWrong true (text ++ wrong_text f)
+
+-- the line at the head of an outcome: its number, and how many orders lead to it
+abbrev pub heading_text : ℕ → ℕ → List ℕ
+heading_text number orders = codes "outcome " ++ (decimal number ++ (codes ": orders " ++ (decimal orders ++ codes "\n")))
+
+-- the text of an outcome: its head, what is wrong with it, a script, and what that is answered
+abbrev pub outcome_text : ℕ → ℕ → List ℕ → List ℕ → List ℕ → List ℕ
+outcome_text number orders wrong script answers = heading_text number orders ++ (wrong ++ (script ++ (codes "answers\n" ++ (answers ++ codes "\n"))))
+
+-- an outcome with this number and these orders, of a script that ends: its text, and whether something is wrong with it
+pub record IsBlock (number orders : ℕ) (script : List ℕ) (flawed : Bool) (text : List ℕ) : Type 0 where
+  pub wrong : List ℕ
+  pub wrongs : IsWrong flawed wrong
+  pub answers : List ℕ
+  pub finishes : Finishes true script answers
+  pub is : text ≡ outcome_text number orders wrong script answers
+
+-- the outcome with this number: a script that goes on behind the one that was given, and ends; what is written is that
+-- script, and what it is answered
+pub record IsOutcome (script : List ℕ) (number : ℕ) (flawed : Bool) (text : List ℕ) : Type 0 where
+  pub orders : ℕ
+  pub shape : Shape
+  pub longer : List ℕ
+  pub goes_on : GoesOn shape script longer
+  pub block : IsBlock number orders longer flawed text
+
+-- ---- all that is written
+
+-- the lines at the head: how many states there are, and how many orders
+abbrev pub figures_text : ℕ → ℕ → List ℕ
+figures_text states orders = codes "states " ++ (decimal states ++ (codes "\norders " ++ (decimal orders ++ codes "\n")))
+
+-- what is said of all orders: that one comes to a state again, or nothing
+abbrev pub endless_text : Bool → List ℕ
+endless_text true = codes "wrong: an order comes to a state again\n\n"
+endless_text false = codes "\n"
+
+-- the figures, and so many outcomes behind them; whether something is wrong
+pub data IsWritten (script : List ℕ) : ℕ → Bool → List ℕ → Type 0 where
+  figures : (states orders : ℕ) (endless : Bool) → IsWritten script 0 endless (figures_text states orders ++ endless_text endless)
+  one_outcome_more : (count : ℕ) (wrong flawed : Bool) (out text : List ℕ) → IsWritten script count wrong out → IsOutcome script (suc count) flawed text
+      → IsWritten script (suc count) (wrong || flawed) (out ++ text)
+
+-- some outcomes are written, and whether something is wrong with them
+abbrev pub WritesAll : List ℕ → Bool → List ℕ → Type 0
+WritesAll script wrong out = (count : ℕ) × IsWritten script count wrong out
+
+-- how an exploration ends whose outcomes are written: by whether there are more states, and whether something is wrong
+abbrev pub end_of : Bool → Bool → ExploreEnd
+end_of true wrong = ends.TooManyStates
+end_of false true = ends.Wrong
+end_of false false = ends.Ended
+
+-- how an exploration ends whose script does not end
+abbrev pub end_short : Short → ExploreEnd
+end_short (shorts.Fault line kind) = ends.Fault line kind
+end_short shorts.Ended = ends.NoMemory
+end_short shorts.NoMemory = ends.NoMemory
+
+-- what is written for a script, by how its exploration ends
+abbrev pub Explores : List ℕ → List ℕ → ExploreEnd → Type 0
+Explores script out ends.Ended = WritesAll script false out
+Explores script out ends.Wrong = WritesAll script true out
+Explores script out ends.TooManyStates = (wrong : Bool) × WritesAll script wrong out
+Explores script out (ends.Fault line kind) = (out ≡ []) × BreaksBefore true script (2 ^ 64 - 1) line kind
+Explores script out ends.TooLong = (out ≡ []) × (INPUT_MOST < length script)
+Explores script out ends.NoMemory = (out ≡ []) ⊎ ((wrong : Bool) × WritesAll script wrong out)
+Explores script out ends.WriteFailed = Unit {0}
+
+-- the text of how an exploration ended
+abbrev pub end_text : ExploreEnd → List ℕ
+end_text ends.Ended = codes "ended"
+end_text ends.Wrong = codes "something is wrong: see the lines that begin with wrong"
+end_text ends.TooManyStates = codes "more states than may be gone through: what was found until then is written"
+end_text (ends.Fault line kind) = codes "line " ++ (decimal line ++ (codes ": " ++ name_of_fault kind))
+end_text ends.TooLong = codes "script too long: more than 1048576 bytes"
+end_text ends.WriteFailed = codes "an outcome could not be written"
+end_text ends.NoMemory = codes "out of memory"

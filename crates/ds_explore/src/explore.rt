@@ -1,0 +1,324 @@
+//! All orders of the steps of calls, and what they come to.
+
+ghost use Rattle.std.specs.Prelude.{◌≡◌, ◌≢◌, ◌++◌, ◌∷◌, ◌||◌, ◌<◌, ◌^◌, ◌-◌, ◌⊎◌, Bool, true, ℕ, suc, List, [], IfOk, IfErr, length, string_bytes};
+ghost use Rattle.std.specs.Io.KnownBytes.{Appends};
+ghost use Rattle.ds_streams.specs.Streams.{writer_of, write_failed};
+ghost use Rattle.ds_explore.specs.Explored.{wrong_text, IsWrong, IsBlock, IsOutcome, IsWritten, WritesAll, Explores, heading_text, figures_text, endless_text, end_of, end_short};
+
+use crate::answers::{answers_to, continued};
+use crate::flaw::Flaw;
+use crate::graph::{Way, path};
+use crate::options::{Options, Watcher};
+use crate::orders::{Orders, count_orders, total};
+use crate::script::lines_of;
+use crate::search::{Outcome, Search, Start, go_through};
+use ds_stops::reach::Short;
+use ds_streams::ending::ScriptFault;
+use ds_streams::line::INPUT_LIMIT;
+use ds_streams::streams::Writing;
+use std::alloc::{AllocError, Global};
+use std::fmt;
+use std::io::Write;
+
+/// How an exploration ended.
+#[derive(Clone, Copy, Debug, PartialEq, Eq)]
+pub enum ExploreEnd {
+    /// All orders were gone through, and nothing is wrong with what they come to.
+    Ended,
+    /// All orders were gone through, and something is wrong: the lines that begin with `wrong` say what.
+    Wrong,
+    /// There are more states than may be gone through. The outcomes that were found until then are written, with as many
+    /// orders as were found.
+    TooManyStates,
+    /// This line of the script, counted from 1, has a fault. Nothing is written.
+    Fault { line: usize, kind: ScriptFault },
+    /// The script is longer than 1,048,576 bytes. Nothing is written.
+    TooLong,
+    /// The writer failed.
+    WriteFailed,
+    /// An allocation failed, or a script that was found would be too long.
+    NoMemory,
+}
+
+impl fmt::Display for ExploreEnd {
+    ghost use Rattle.std.specs.Prelude.{Some};
+    ghost use Rattle.ds_explore.specs.Explored.{end_text};
+
+    ghost output = { λ end. Some (end_text end) };
+
+    fn fmt<W: fmt::Write>(&self, f: &mut fmt::Formatter<W>) -> fmt::Result {
+        match self {
+            ExploreEnd::Ended => f.write_str("ended"),
+            ExploreEnd::Wrong => f.write_str(
+                "something is wrong: see the lines that begin with wrong",
+            ),
+            ExploreEnd::TooManyStates => f.write_str(
+                "more states than may be gone through: what was found until then is written",
+            ),
+            ExploreEnd::Fault { line, kind } => write!(f, "line {line}: {kind}"),
+            ExploreEnd::TooLong => f.write_str("script too long: more than 1048576 bytes"),
+            ExploreEnd::WriteFailed => f.write_str("an outcome could not be written"),
+            ExploreEnd::NoMemory => f.write_str("out of memory"),
+        }
+    }
+}
+
+// All that was found, before it is written.
+#[derive(Drop)]
+struct Found {
+    search: Search,
+    orders: Vec<Orders>,
+    ways: Vec<Way>,
+}
+
+// The text of an outcome, and whether something is wrong with it.
+#[derive(Drop)]
+struct Block {
+    text: Vec<u8>,
+    flawed: bool,
+}
+
+impl Found {
+    // The orders of the outcome with this number, from 0.
+    fn orders_of(&self, number: usize) -> Orders {
+        match self.orders.get(number) {
+            Some(orders) => *orders,
+            None => Orders::NONE,
+        }
+    }
+}
+
+// Goes through all orders from this start on, and counts them.
+fn find<T: Watcher>(
+    alloc: Global,
+    start: &Start<'_>,
+    watcher: &mut T,
+) -> Result<Found, AllocError> {
+    let search = go_through(alloc, start, watcher)?;
+    let (orders, ways) = count_orders(
+        alloc,
+        search.states(),
+        search.outcomes.len(),
+        &search.nodes,
+    )?;
+    Ok(Found {
+        search,
+        orders,
+        ways,
+    })
+}
+
+// The line for what is wrong.
+fn wrong_line(alloc: Global, flaw: Flaw) -> Result<Vec<u8>, AllocError>
+    ensures { IfOk result (λ line. line.items ≡ wrong_text flaw) }
+{
+    Ok(format!(in alloc; "wrong: {flaw}\n")?.into_bytes())
+}
+
+// The lines for what is wrong.
+fn wrong_lines(alloc: Global, flaws: &[Flaw]) -> Result<Block, AllocError>
+    ensures { IfOk result (λ block. IsWrong block.flawed block.text.items) }
+{
+    let mut text = Vec::new(alloc);
+    let mut flawed = false;
+    for flaw in flaws {
+        let line = wrong_line(alloc, *flaw)?;
+        text.extend_from_slice(&line)?;
+        flawed = true;
+    }
+    Ok(Block { text, flawed })
+}
+
+// The line at the head of an outcome.
+fn heading(alloc: Global, number: usize, orders: u128) -> Result<Vec<u8>, AllocError>
+    ensures { IfOk result (λ text. text.items ≡ heading_text number orders) }
+{
+    Ok(format!(in alloc; "outcome {number}: orders {orders}\n")?.into_bytes())
+}
+
+// The flaws of an outcome, and that its script is answered otherwise, where it is.
+fn all_flaws(outcome: &Outcome, answers: &[u8]) -> Result<Vec<Flaw>, AllocError> {
+    let mut flaws = outcome.flaws.clone()?;
+    if !outcome.is_in(answers) {
+        flaws.push(Flaw::AnsweredOtherwise)?;
+    }
+    Ok(flaws)
+}
+
+// The text of an outcome with this number, of this script.
+fn script_block(
+    alloc: Global,
+    number: usize,
+    orders: u128,
+    outcome: &Outcome,
+    script: &[u8],
+) -> Result<Block, AllocError>
+    ensures { IfOk result (λ block. IsBlock number orders script.now block.flawed block.text.items) }
+{
+    let answers = answers_to(alloc, script)?;
+    let flaws = all_flaws(outcome, &answers)?;
+    let wrong = wrong_lines(alloc, &flaws)?;
+    let mut text = heading(alloc, number, orders)?;
+    text.extend_from_slice(&wrong.text)?;
+    text.extend_from_slice(script)?;
+    text.extend_from_slice(b"answers\n")?;
+    text.extend_from_slice(&answers)?;
+    text.push(b'\n')?;
+    Ok(Block {
+        text,
+        flawed: wrong.flawed,
+    })
+}
+
+// The outcome with this number, from 0.
+fn outcome_block(
+    alloc: Global,
+    script: &[u8],
+    start: &Start<'_>,
+    found: &Found,
+    outcome: &Outcome,
+    at: usize,
+) -> Result<Block, AllocError>
+    requires { at < 2 ^ 64 - 1 }
+    ensures { IfOk result (λ block. IsOutcome script.now (suc at) block.flawed block.text.items) }
+{
+    let orders = found.orders_of(at);
+    let path = path(alloc, &found.ways, orders.state)?;
+    let lines = lines_of(alloc, start, &path, outcome.crashed)?;
+    let longer = continued(alloc, script, start.shape(), &lines)?;
+    script_block(alloc, at + 1, orders.count, outcome, &longer)
+}
+
+// The lines at the head.
+fn figures(alloc: Global, states: usize, orders: u128, endless: bool) -> Result<Vec<u8>, AllocError>
+    ensures { IfOk result (λ text. text.items ≡ figures_text states orders ++ endless_text endless) }
+{
+    let mut text = format!(in alloc; "states {states}\norders {orders}\n")?.into_bytes();
+    text.extend_from_slice(endless_line(endless).as_bytes())?;
+    Ok(text)
+}
+
+// What is said of all orders.
+fn endless_line(endless: bool) -> &'static str
+    ensures { result.now ≡ endless_text endless }
+{
+    if endless {
+        "wrong: an order comes to a state again\n\n"
+    } else {
+        "\n"
+    }
+}
+
+// How an exploration ends whose outcomes are written.
+fn ending(is_cut: bool, wrong: bool) -> ExploreEnd
+    ensures { result ≡ end_of is_cut wrong }
+{
+    if is_cut {
+        ExploreEnd::TooManyStates
+    } else if wrong {
+        ExploreEnd::Wrong
+    } else {
+        ExploreEnd::Ended
+    }
+}
+
+// Writes the outcomes behind what is written, where something is wrong or not.
+fn write_found<W: Write>(
+    alloc: Global,
+    script: &[u8],
+    start: &Start<'_>,
+    found: &Found,
+    writer: &mut Writing<W>,
+) -> ExploreEnd
+    ensures no_failure { result ≢ ExploreEnd.WriteFailed → write_failed writer.new ≡ write_failed writer.old }
+    ensures write_failed { result ≡ ExploreEnd.WriteFailed → write_failed writer.new ≡ true }
+    ensures writes { result ≢ ExploreEnd.WriteFailed → (out : List ℕ) × Appends (W.contents (writer_of writer.old)) (W.contents (writer_of writer.new)) out
+        × Explores script.now out result }
+{
+    let mut wrong = found.search.is_endless;
+    let Ok(head) = figures(alloc, found.search.states(), total(&found.orders), wrong) else {
+        return ExploreEnd::NoMemory;
+    };
+    match writer.write_all(&head) {
+        Ok(()) => {}
+        Err(_) => return ExploreEnd::WriteFailed,
+    }
+    for i in 0..found.search.outcomes.len() {
+        let outcome = &found.search.outcomes[i];
+        match outcome_block(alloc, script, start, found, outcome, i) {
+            Ok(made) => {
+                match writer.write_all(&made.text) {
+                    Ok(()) => {}
+                    Err(_) => return ExploreEnd::WriteFailed,
+                }
+                wrong |= made.flawed;
+            }
+            Err(_) => return ExploreEnd::NoMemory,
+        }
+    }
+    ending(found.search.is_cut, wrong)
+}
+
+// How an exploration ends whose script does not end.
+fn short_of(short: Short) -> ExploreEnd
+    ensures { result ≡ end_short short }
+{
+    match short {
+        Short::Fault { line, kind } => ExploreEnd::Fault { line, kind },
+        Short::Ended | Short::NoMemory => ExploreEnd::NoMemory,
+    }
+}
+
+// Goes through all orders, and writes what they come to.
+fn explore_all<W: Write, T: Watcher>(
+    alloc: Global,
+    script: &[u8],
+    options: Options,
+    writer: &mut Writing<W>,
+    watcher: &mut T,
+) -> ExploreEnd
+    ensures no_failure { result ≢ ExploreEnd.WriteFailed → write_failed writer.new ≡ write_failed writer.old }
+    ensures write_failed { result ≡ ExploreEnd.WriteFailed → write_failed writer.new ≡ true }
+    ensures writes { result ≢ ExploreEnd.WriteFailed → (out : List ℕ) × Appends (W.contents (writer_of writer.old)) (W.contents (writer_of writer.new)) out
+        × Explores script.now out result }
+{
+    if script.len() > INPUT_LIMIT {
+        return ExploreEnd::TooLong;
+    }
+    let start = match Start::new(alloc, script, options) {
+        Ok(start) => start,
+        Err(short) => return short_of(short),
+    };
+    let Ok(found) = find(alloc, &start, watcher) else {
+        return ExploreEnd::NoMemory;
+    };
+    write_found(alloc, script, &start, &found, writer)
+}
+
+/// Runs a script, and from where it ends on carries out the steps of the calls under way in all orders, with what the
+/// options ask for between them. An order ends where no call is under way, or with a crash. Behind each end every
+/// process recovers, in their order, process 0 settles, and reports.
+///
+/// It writes how many states and orders there are, and then each outcome once: how many orders lead to it, what is
+/// wrong with it where something is, and a script of a shortest of these orders, with what `run_script` writes for it.
+/// States that were met before are not gone through again: a state is its words, the situations and buffers of its
+/// processes, and what their calls were answered. Numbers of orders end at 2^128 - 1. The watcher is told how many
+/// states there are, at each event that is tried.
+pub fn explore<W: Write, T: Watcher>(
+    alloc: Global,
+    script: &[u8],
+    options: Options,
+    writer: &mut Writing<W>,
+    watcher: &mut T,
+) -> ExploreEnd
+    ensures no_failure { result ≢ ExploreEnd.WriteFailed → write_failed writer.new ≡ write_failed writer.old }
+    ensures write_failed { result ≡ ExploreEnd.WriteFailed → write_failed writer.new ≡ true }
+    ensures writes { result ≢ ExploreEnd.WriteFailed → (out : List ℕ) × Appends (W.contents (writer_of writer.old)) (W.contents (writer_of writer.new)) out
+        × Explores script.now out result }
+{
+    let end = explore_all(alloc, script, options, writer, watcher);
+    match writer.flush() {
+        Ok(()) => end,
+        Err(_) => ExploreEnd::WriteFailed,
+    }
+}

@@ -1,0 +1,64 @@
+//! What is wrong with an outcome.
+
+use std::fmt;
+
+/// What is wrong with an outcome: what no sheet tells that does what `HOW-IT-WORKS` says.
+#[derive(Clone, Copy, Debug, PartialEq, Eq)]
+pub enum Flaw {
+    /// The process's edit was answered Done, and its recovery tells that it is not done; or the other way round.
+    ToldOtherwise(usize),
+    /// What the recovery of the process told is not what its next one tells.
+    ToldTwice(usize),
+    /// The process's edit is overtaken by an edit that is not done.
+    OvertakenByNone(usize),
+    /// The cell with this number holds a text of no edit that is done and could be its last one.
+    TextOfNone(usize),
+    /// The value of the cell with this number is not that of the texts.
+    ValueOfNone(usize),
+    /// The settle does not end clean.
+    NotClean,
+    /// The report is not settled.
+    NotSettled,
+    /// A recovery is refused.
+    Refused(usize),
+    /// The script is answered otherwise than the order was.
+    AnsweredOtherwise,
+}
+
+impl fmt::Display for Flaw {
+    ghost use Rattle.std.specs.Prelude.{Some};
+    ghost use Rattle.ds_explore.specs.Explored.{flaw_text};
+
+    ghost output = { λ flaw. Some (flaw_text flaw) };
+
+    fn fmt<W: fmt::Write>(&self, f: &mut fmt::Formatter<W>) -> fmt::Result {
+        match self {
+            Flaw::ToldOtherwise(process) => write!(
+                f,
+                "the edit of {process} is told otherwise than it was answered"
+            ),
+            Flaw::ToldTwice(process) => write!(
+                f,
+                "the recovery of {process} tells otherwise than the one before"
+            ),
+            Flaw::OvertakenByNone(process) => write!(
+                f,
+                "the edit of {process} is overtaken by an edit that is not done"
+            ),
+            Flaw::TextOfNone(cell) => write!(
+                f,
+                "cell {cell} has a text of no edit that is done and could be its last one"
+            ),
+            Flaw::ValueOfNone(cell) => write!(
+                f,
+                "cell {cell} has a value that is not that of the texts"
+            ),
+            Flaw::NotClean => f.write_str("the settle does not end clean"),
+            Flaw::NotSettled => f.write_str("the report is not settled"),
+            Flaw::Refused(process) => write!(f, "the recovery of {process} is refused"),
+            Flaw::AnsweredOtherwise => f.write_str(
+                "the script is answered otherwise than the order was",
+            ),
+        }
+    }
+}

@@ -1,0 +1,17 @@
+//! Scripts whose calls under way are carried out in all orders of their steps.
+#![tactic(auto)]
+
+mod answers;
+mod describe;
+mod ends;
+pub mod explore;
+pub mod flaw;
+mod graph;
+mod judge;
+pub mod lines;
+pub mod options;
+mod orders;
+mod position;
+mod script;
+mod search;
+mod touched;

@@ -1,0 +1,20 @@
+//! What may come between the steps of calls.
+
+/// What may come between the steps of calls, and how much is gone through.
+#[derive(Clone, Copy, Debug, PartialEq, Eq)]
+pub struct Options {
+    /// A crash at each state, one in an order, which ends it.
+    pub crashes: bool,
+    /// A stop of each process that is in a call, at each state.
+    pub stops: bool,
+    /// An eviction of each word whose sides differ, at each state.
+    pub evictions: bool,
+    /// How many states are gone through at most.
+    pub most: usize,
+}
+
+/// Is told how many states there are so far, again and again.
+pub trait Watcher {
+    /// So many states were found so far.
+    fn found(&mut self, states: usize);
+}

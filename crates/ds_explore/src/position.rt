@@ -1,0 +1,281 @@
+//! A world with calls under way, and what they were answered.
+
+ghost use Rattle.std.specs.Prelude.{◌-◌, ◌^◌, true, IfErr};
+ghost use Rattle.ds_stops.specs.Reaching.{FallsShort};
+
+use ds_calls::finish::step_once;
+use ds_core::event::Event;
+use ds_core::reply::Reply;
+use ds_core::take::take;
+use ds_edit::answer::Answer;
+use ds_formula::cells::Shape;
+use ds_layout::place::Place;
+use ds_play::carry::new_world;
+use ds_play::texts::reply_bytes;
+use ds_state::situation::Situation;
+use ds_state::world::World;
+use ds_stops::reach::{Short, reach};
+use ds_streams::line::INPUT_LIMIT;
+use ds_words::access::{Access, BufferEntry};
+use ds_work::offer::offer_own;
+use std::alloc::{AllocError, Global};
+
+/// What may happen next, beside the end.
+#[derive(Clone, Copy, Debug, PartialEq, Eq)]
+pub(crate) enum Move {
+    /// The process makes a step.
+    Step(usize),
+    /// The process stops.
+    Stop(usize),
+    /// The word is evicted.
+    Evict(Place),
+}
+
+/// A process, as an order has left it.
+#[derive(Drop)]
+pub(crate) struct Seat {
+    /// What its buffer holds, oldest first.
+    pub(crate) buffer: Vec<BufferEntry<Place>>,
+    /// What its call was answered, if it was.
+    pub(crate) answer: Option<Answer>,
+    /// The text of that, or of its stop.
+    pub(crate) text: Vec<u8>,
+}
+
+/// A world with calls under way, and what they were answered.
+#[derive(Drop)]
+pub(crate) struct Position {
+    /// The world.
+    pub(crate) world: World,
+    /// The processes.
+    pub(crate) seats: Vec<Seat>,
+}
+
+/// The world that a script leads to. An error is why it does not end.
+pub(crate) fn start(alloc: Global, script: &[u8]) -> Result<World, Short>
+    ensures { IfErr result (FallsShort true script.now (2 ^ 64 - 1)) }
+{
+    if script.len() > INPUT_LIMIT {
+        return Err(Short::NoMemory);
+    }
+    let shape = Shape {
+        columns: 2,
+        rows: 2,
+    };
+    let Ok(mut world) = new_world(alloc, shape, 2) else {
+        return Err(Short::NoMemory);
+    };
+    match reach(alloc, script, true, u64::MAX, &mut world) {
+        Err(Short::Ended) => Ok(world),
+        Err(short) => Err(short),
+        Ok(()) => Err(Short::NoMemory),
+    }
+}
+
+/// Whether a process is in a call.
+pub(crate) fn is_in_call(world: &World, process: usize) -> bool {
+    match world.situations.get(process) {
+        None | Some(Situation::Idle(_)) | Some(Situation::Stopped) => false,
+        Some(_) => true,
+    }
+}
+
+// What the next step of a process does to the words.
+fn wanted(world: &World, process: usize) -> Access<Place> {
+    match world.situations.get(process) {
+        Some(Situation::Editing(call)) => ds_edit::machine::want(call),
+        Some(Situation::Working(call)) => {
+            ds_work::machine::want(call, world.words.layout().shape)
+        }
+        Some(Situation::Showing(call)) => ds_show::machine::want(call),
+        Some(Situation::Recovering(call)) => ds_recover::machine::want(call),
+        None | Some(Situation::Idle(_)) | Some(Situation::Stopped) => Access::Nothing,
+    }
+}
+
+// What stands in the cached side of a word.
+fn cached(world: &World, place: Place) -> u64 {
+    if world.words.layout().contains(place) {
+        world.words.load(place)
+    } else {
+        0
+    }
+}
+
+/// One step of a process, as the command `step` makes it: what it does to the words, and its reply.
+pub(crate) fn step(alloc: Global, world: &mut World, process: usize) -> (Access<Place>, Reply) {
+    let _offered = offer_own(world, process);
+    let access = wanted(world, process);
+    let reply = step_once(alloc, world, process);
+    (access, reply)
+}
+
+// How many entries of a buffer are there at the start: those that the call writes back beyond those that it flushes.
+fn entries_at(alloc: Global, script: &[u8], process: usize) -> Result<usize, Short>
+    ensures { IfErr result (FallsShort true script.now (2 ^ 64 - 1)) }
+{
+    let mut world = start(alloc, script)?;
+    let mut flushed = 0usize;
+    let mut written = 0usize;
+    for _ in 0..u64::MAX {
+        let (access, reply) = step(alloc, &mut world, process);
+        match access {
+            Access::Flush(_) => flushed = flushed.saturating_add(1),
+            Access::Back => written = written.saturating_add(1),
+            _ => {}
+        }
+        if reply != Reply::Stepped {
+            break;
+        }
+    }
+    Ok(written.saturating_sub(flushed))
+}
+
+// A buffer of so many entries that are not known, but are the same in each order.
+fn unknown(alloc: Global, count: usize) -> Result<Vec<BufferEntry<Place>>, AllocError> {
+    let mut buffer = Vec::new(alloc);
+    for number in 0..count {
+        buffer.push(BufferEntry {
+            place: Place::Version,
+            class: Place::Version.class(),
+            value: number as u64,
+        })?;
+    }
+    Ok(buffer)
+}
+
+/// How many entries the buffer of each process has where the script ends.
+pub(crate) fn buffered(alloc: Global, script: &[u8], processes: usize) -> Result<Vec<usize>, Short>
+    ensures { IfErr result (FallsShort true script.now (2 ^ 64 - 1)) }
+{
+    let mut counts = Vec::new(alloc);
+    for process in 0..processes {
+        let count = entries_at(alloc, script, process)?;
+        if counts.push(count).is_err() {
+            return Err(Short::NoMemory);
+        }
+    }
+    Ok(counts)
+}
+
+impl Seat {
+    // A process with so many entries in its buffer.
+    fn new(alloc: Global, entries: usize) -> Result<Seat, AllocError> {
+        Ok(Seat {
+            buffer: unknown(alloc, entries)?,
+            answer: None,
+            text: Vec::new(alloc),
+        })
+    }
+
+    // What an access does to the buffer.
+    fn note(&mut self, access: Access<Place>, value: u64) -> Result<(), AllocError> {
+        match access {
+            Access::Flush(place) => {
+                let class = place.class();
+                self.buffer.push(BufferEntry {
+                    place,
+                    class,
+                    value,
+                })?;
+            }
+            Access::Back => {
+                if !self.buffer.is_empty() {
+                    let _oldest = self.buffer.remove(0);
+                }
+            }
+            _ => {}
+        }
+        Ok(())
+    }
+
+    fn answers(&mut self, answer: Answer, text: Vec<u8>) {
+        self.answer = Some(answer);
+        self.text = text;
+    }
+
+    fn stops(&mut self, text: Vec<u8>) {
+        self.buffer.clear();
+        self.text = text;
+    }
+}
+
+impl Position {
+    /// A world that a script leads to, with so many entries in each buffer.
+    pub(crate) fn new(
+        alloc: Global,
+        world: World,
+        buffered: &[usize],
+    ) -> Result<Position, AllocError> {
+        let mut seats = Vec::new(alloc);
+        for entries in buffered {
+            seats.push(Seat::new(alloc, *entries)?)?;
+        }
+        Ok(Position { world, seats })
+    }
+
+    // A step of a process, and what it was answered.
+    fn step(&mut self, alloc: Global, process: usize) -> Result<(), AllocError> {
+        let (access, reply) = step(alloc, &mut self.world, process);
+        let value = match access {
+            Access::Flush(place) => cached(&self.world, place),
+            _ => 0,
+        };
+        if let Some(seat) = self.seats.get_mut(process) {
+            seat.note(access, value)?;
+        }
+        self.answer(alloc, process, reply)
+    }
+
+    // Keeps what a process's call was answered, if it was.
+    fn answer(&mut self, alloc: Global, process: usize, reply: Reply) -> Result<(), AllocError> {
+        if let Reply::Answered(answer) = reply {
+            let text = reply_bytes(alloc, &self.world, process, reply)?;
+            if let Some(seat) = self.seats.get_mut(process) {
+                seat.answers(answer, text);
+            }
+        }
+        Ok(())
+    }
+
+    // A stop of a process.
+    fn stop(&mut self, alloc: Global, process: usize) -> Result<(), AllocError> {
+        let reply = take(alloc, &mut self.world, &Event::Stop(process));
+        let text = reply_bytes(alloc, &self.world, process, reply)?;
+        if let Some(seat) = self.seats.get_mut(process) {
+            seat.stops(text);
+        }
+        Ok(())
+    }
+
+    /// What may happen happens.
+    pub(crate) fn apply(&mut self, alloc: Global, next: Move) -> Result<(), AllocError> {
+        match next {
+            Move::Step(process) => self.step(alloc, process),
+            Move::Stop(process) => self.stop(alloc, process),
+            Move::Evict(place) => {
+                let _evicted = take(alloc, &mut self.world, &Event::Evict(place));
+                Ok(())
+            }
+        }
+    }
+
+    /// What the call of each process was answered, or that it was stopped.
+    pub(crate) fn answers(&self, alloc: Global) -> Result<Vec<Vec<u8>>, AllocError> {
+        let mut answers = Vec::new(alloc);
+        for seat in &self.seats {
+            answers.push(seat.text.clone()?)?;
+        }
+        Ok(answers)
+    }
+
+    /// Whether a call is under way.
+    pub(crate) fn is_under_way(&self) -> bool {
+        for process in 0..self.seats.len() {
+            if is_in_call(&self.world, process) {
+                return true;
+            }
+        }
+        false
+    }
+}

@@ -1,0 +1,495 @@
+//! Goes through all orders.
+
+ghost use Rattle.std.specs.Prelude.{◌≡◌, ◌-◌, ◌^◌, true, IfErr};
+ghost use Rattle.ds_stops.specs.Reaching.{FallsShort};
+
+use crate::describe::Numbers;
+use crate::ends::end;
+use crate::flaw::Flaw;
+use crate::graph::{Edge, Node};
+use crate::judge::Judge;
+use crate::options::{Options, Watcher};
+use crate::position::{Move, Position, buffered, is_in_call, start};
+use crate::touched::Touched;
+use ds_core::event::Event;
+use ds_core::take::take;
+use ds_formula::cells::Shape;
+use ds_layout::layout::Layout;
+use ds_stops::reach::Short;
+use std::alloc::{AllocError, Global};
+use std::collections::HashMap;
+
+/// An outcome of orders.
+#[derive(Drop)]
+pub(crate) struct Outcome {
+    // What each call was answered.
+    answers: Vec<Vec<u8>>,
+    // What is told behind the order.
+    tail: Vec<u8>,
+    /// What is wrong with it.
+    pub(crate) flaws: Vec<Flaw>,
+    /// Whether the order ends with a crash.
+    pub(crate) crashed: bool,
+}
+
+// Whether the text has this part.
+fn contains(text: &[u8], part: &[u8]) -> bool {
+    if part.is_empty() {
+        return true;
+    }
+    text.windows(part.len()).any(|window| window == part)
+}
+
+impl Outcome {
+    /// Whether a script that has these answers has this outcome: its calls are answered so, and behind the order this is
+    /// told, and nothing else.
+    pub(crate) fn is_in(&self, answers: &[u8]) -> bool {
+        for answer in &self.answers {
+            if !contains(answers, answer) {
+                return false;
+            }
+        }
+        answers.ends_with(&self.tail)
+    }
+
+    // What distinguishes it from all others.
+    fn key(&self, alloc: Global) -> Result<Vec<u8>, AllocError> {
+        let mut key = Vec::new(alloc);
+        for answer in &self.answers {
+            key.extend_from_slice(answer)?;
+        }
+        if self.crashed {
+            key.extend_from_slice(b"crashed\n")?;
+        }
+        key.extend_from_slice(&self.tail)?;
+        for flaw in &self.flaws {
+            key.extend_from_slice(format!(in alloc; "{flaw}\n")?.as_bytes())?;
+        }
+        Ok(key)
+    }
+}
+
+/// Where orders begin.
+#[derive(Drop)]
+pub(crate) struct Start<'a> {
+    script: &'a [u8],
+    options: Options,
+    buffered: Vec<usize>,
+    touched: Touched,
+    judge: Judge,
+    shape: Shape,
+    /// What may happen, by its number.
+    pub(crate) moves: Vec<Move>,
+}
+
+// A state that is being gone through.
+#[derive(Drop)]
+struct Frame {
+    state: u32,
+    // What has not yet happened in it, last first.
+    ahead: Vec<u32>,
+    edges: Vec<Edge>,
+    end: Option<usize>,
+    crash: Option<usize>,
+    // What a crash leaves, where it has not come yet.
+    crashes: Option<Vec<u8>>,
+}
+
+/// The orders as far as they were gone through.
+#[derive(Drop)]
+pub(crate) struct Search {
+    numbers: Numbers,
+    seen: HashMap<Vec<u8>, u32>,
+    left: Vec<bool>,
+    crashes: HashMap<Vec<u8>, usize>,
+    found: HashMap<Vec<u8>, usize>,
+    frames: Vec<Frame>,
+    path: Vec<u32>,
+    /// The outcomes.
+    pub(crate) outcomes: Vec<Outcome>,
+    /// The states, each behind those that it leads to.
+    pub(crate) nodes: Vec<Node>,
+    /// Whether there are more states than there may be.
+    pub(crate) is_cut: bool,
+    /// Whether an order comes to a state again.
+    pub(crate) is_endless: bool,
+}
+
+// What is done next.
+enum Next {
+    // This happens in the last state.
+    Happens(u32),
+    // A crash comes, which leaves this.
+    Crashes(Vec<u8>),
+    // All that may happen in the last state has happened.
+    Leaves,
+    // No state is left.
+    Ends,
+}
+
+// How a crash or the end of memory is named here.
+fn memory<T: Drop>(made: Result<T, AllocError>) -> Result<T, Short>
+    ensures { IfErr result (λ short. short ≡ Short.NoMemory) }
+{
+    match made {
+        Ok(value) => Ok(value),
+        Err(_) => Err(Short::NoMemory),
+    }
+}
+
+// What may happen, by its number: the steps of each process, their stops, and evictions.
+fn moves(alloc: Global, processes: usize, touched: &Touched) -> Result<Vec<Move>, AllocError> {
+    let mut moves = Vec::new(alloc);
+    for process in 0..processes {
+        moves.push(Move::Step(process))?;
+    }
+    for process in 0..processes {
+        moves.push(Move::Stop(process))?;
+    }
+    for place in &touched.places {
+        moves.push(Move::Evict(*place))?;
+    }
+    Ok(moves)
+}
+
+impl<'a> Start<'a> {
+    /// The orders of the calls that are under way where the script ends. An error is why it does not end.
+    pub(crate) fn new(alloc: Global, script: &'a [u8], options: Options) -> Result<Start<'a>, Short>
+        ensures { IfErr result (FallsShort true script.now (2 ^ 64 - 1)) }
+    {
+        let world = start(alloc, script)?;
+        let Layout { shape, processes } = world.words.layout();
+        let buffered = buffered(alloc, script, processes)?;
+        let touched = memory(Touched::of(alloc, &world))?;
+        let moves = memory(moves(alloc, processes, &touched))?;
+        let judge = memory(Judge::new(alloc, world))?;
+        Ok(Start {
+            script,
+            options,
+            buffered,
+            touched,
+            judge,
+            shape,
+            moves,
+        })
+    }
+
+    /// The shape of the sheet.
+    pub(crate) fn shape(&self) -> Shape {
+        self.shape
+    }
+
+    // The first state.
+    fn position(&self, alloc: Global) -> Result<Position, AllocError> {
+        let Ok(world) = start(alloc, self.script) else {
+            return Err(AllocError);
+        };
+        Position::new(alloc, world, &self.buffered)
+    }
+
+    /// The state behind these events.
+    pub(crate) fn replay(&self, alloc: Global, path: &[u32]) -> Result<Position, AllocError> {
+        let mut position = self.position(alloc)?;
+        for by in path {
+            self.happen(alloc, &mut position, *by)?;
+        }
+        Ok(position)
+    }
+
+    // What has this number happens.
+    fn happen(&self, alloc: Global, position: &mut Position, by: u32) -> Result<(), AllocError> {
+        match self.moves.get(by as usize) {
+            Some(next) => position.apply(alloc, *next),
+            None => Ok(()),
+        }
+    }
+
+    // Whether this may happen.
+    fn may_happen(&self, position: &Position, next: Move) -> bool {
+        match next {
+            Move::Step(process) => is_in_call(&position.world, process),
+            Move::Stop(process) => self.options.stops && is_in_call(&position.world, process),
+            Move::Evict(place) => {
+                if !self.options.evictions || !position.world.words.layout().contains(place) {
+                    return false;
+                }
+                let word = position.world.words.word(place);
+                word.cached != word.persisted
+            }
+        }
+    }
+
+    // What may happen in a state, last first.
+    fn ahead(&self, alloc: Global, position: &Position) -> Result<Vec<u32>, AllocError> {
+        let mut ahead = Vec::new(alloc);
+        if !position.is_under_way() {
+            return Ok(ahead);
+        }
+        let mut by = 0u32;
+        for next in &self.moves {
+            if self.may_happen(position, *next) {
+                ahead.push(by)?;
+            }
+            by = by.saturating_add(1);
+        }
+        ahead.reverse();
+        Ok(ahead)
+    }
+
+    // What an order comes to that ends here.
+    fn outcome(
+        &self,
+        alloc: Global,
+        position: &mut Position,
+        crashed: bool,
+    ) -> Result<Outcome, AllocError> {
+        let ending = end(alloc, &mut position.world, crashed)?;
+        let flaws = self.judge.flaws(alloc, position, &ending)?;
+        Ok(Outcome {
+            answers: position.answers(alloc)?,
+            tail: ending.text,
+            flaws,
+            crashed,
+        })
+    }
+}
+
+impl Search {
+    // No state was found yet.
+    fn new(alloc: Global) -> Search {
+        Search {
+            numbers: Numbers::new(alloc),
+            seen: HashMap::new(alloc),
+            left: Vec::new(alloc),
+            crashes: HashMap::new(alloc),
+            found: HashMap::new(alloc),
+            frames: Vec::new(alloc),
+            path: Vec::new(alloc),
+            outcomes: Vec::new(alloc),
+            nodes: Vec::new(alloc),
+            is_cut: false,
+            is_endless: false,
+        }
+    }
+
+    // The number of an outcome.
+    fn number(&mut self, alloc: Global, outcome: Outcome) -> Result<usize, AllocError> {
+        let key = outcome.key(alloc)?;
+        if let Some(number) = self.found.get(key.as_slice()) {
+            return Ok(*number);
+        }
+        let number = self.outcomes.len();
+        self.outcomes.push(outcome)?;
+        self.found.insert(key, number)?;
+        Ok(number)
+    }
+
+    // The event with this number has led from the last state to that one.
+    fn lead(&mut self, by: u32, to: u32) -> Result<(), AllocError> {
+        if let Some(frame) = self.frames.last_mut() {
+            frame.edges.push(Edge { by, to })?;
+        }
+        Ok(())
+    }
+
+    // A state that was found before.
+    fn meet(&mut self, by: u32, to: u32) -> Result<(), AllocError> {
+        if self.left.get(to as usize) == Some(&true) {
+            self.lead(by, to)
+        } else {
+            self.is_endless = true;
+            Ok(())
+        }
+    }
+
+    // What a crash leaves of a state: the outcome where it came before, else what is to be looked at.
+    fn crash_of(
+        &mut self,
+        alloc: Global,
+        start: &Start<'_>,
+        position: &Position,
+    ) -> Result<(Option<usize>, Option<Vec<u8>>), AllocError> {
+        if !start.options.crashes {
+            return Ok((None, None));
+        }
+        let key = self.numbers.crashed(alloc, position, &start.touched)?;
+        match self.crashes.get(key.as_slice()) {
+            Some(outcome) => Ok((Some(*outcome), None)),
+            None => Ok((None, Some(key))),
+        }
+    }
+
+    // A state that was not found before is gone through from now on. It is given back where it goes on.
+    fn open(
+        &mut self,
+        alloc: Global,
+        start: &Start<'_>,
+        state: u32,
+        mut position: Position,
+    ) -> Result<Option<Position>, AllocError> {
+        let (crash, crashes) = self.crash_of(alloc, start, &position)?;
+        let ahead = start.ahead(alloc, &position)?;
+        let mut frame = Frame {
+            state,
+            ahead,
+            edges: Vec::new(alloc),
+            end: None,
+            crash,
+            crashes,
+        };
+        if position.is_under_way() {
+            self.frames.push(frame)?;
+            return Ok(Some(position));
+        }
+        let outcome = start.outcome(alloc, &mut position, false)?;
+        frame.end = Some(self.number(alloc, outcome)?);
+        self.frames.push(frame)?;
+        Ok(None)
+    }
+
+    // The state that an event has led to. It is given back where orders go on from it.
+    fn visit(
+        &mut self,
+        alloc: Global,
+        start: &Start<'_>,
+        by: u32,
+        position: Position,
+    ) -> Result<Option<Position>, AllocError> {
+        let key = self.numbers.state(alloc, &position, &start.touched)?;
+        if let Some(state) = self.seen.get(key.as_slice()) {
+            let state = *state;
+            self.meet(by, state)?;
+            return Ok(None);
+        }
+        let count = self.left.len();
+        let Ok(state) = u32::try_from(count) else {
+            self.is_cut = true;
+            return Ok(None);
+        };
+        if count >= start.options.most {
+            self.is_cut = true;
+            return Ok(None);
+        }
+        self.lead(by, state)?;
+        self.seen.insert(key, state)?;
+        self.left.push(false)?;
+        self.path.push(by)?;
+        self.open(alloc, start, state, position)
+    }
+
+    // What is done next.
+    fn next(&mut self) -> Next {
+        let is_cut = self.is_cut;
+        let Some(frame) = self.frames.last_mut() else {
+            return Next::Ends;
+        };
+        if is_cut {
+            return Next::Leaves;
+        }
+        match frame.ahead.pop() {
+            Some(by) => Next::Happens(by),
+            None => match frame.crashes.take() {
+                Some(key) => Next::Crashes(key),
+                None => Next::Leaves,
+            },
+        }
+    }
+
+    // All that may happen in the last state has happened.
+    fn leave(&mut self) -> Result<(), AllocError> {
+        let _by = self.path.pop();
+        let Some(frame) = self.frames.pop() else {
+            return Ok(());
+        };
+        if let Some(left) = self.left.get_mut(frame.state as usize) {
+            *left = true;
+        }
+        self.nodes.push(Node {
+            state: frame.state,
+            edges: frame.edges,
+            end: frame.end,
+            crash: frame.crash,
+        })?;
+        Ok(())
+    }
+
+    // A crash comes in the last state, and leaves this.
+    fn crash(&mut self, alloc: Global, start: &Start<'_>, key: Vec<u8>) -> Result<(), AllocError> {
+        let number = match self.crashes.get(key.as_slice()) {
+            Some(number) => *number,
+            None => {
+                let number = self.crash_anew(alloc, start)?;
+                self.crashes.insert(key, number)?;
+                number
+            }
+        };
+        if let Some(frame) = self.frames.last_mut() {
+            frame.crash = Some(number);
+        }
+        Ok(())
+    }
+
+    // What an order comes to that ends with a crash in the last state.
+    fn crash_anew(&mut self, alloc: Global, start: &Start<'_>) -> Result<usize, AllocError> {
+        let mut position = start.replay(alloc, &self.path)?;
+        let _crashed = take(alloc, &mut position.world, &Event::Crash);
+        let outcome = start.outcome(alloc, &mut position, true)?;
+        self.number(alloc, outcome)
+    }
+
+    // What has this number happens in the last state, which is at hand or is gone to anew.
+    fn go(
+        &mut self,
+        alloc: Global,
+        start: &Start<'_>,
+        by: u32,
+        at_hand: Option<Position>,
+    ) -> Result<Option<Position>, AllocError> {
+        let mut position = match at_hand {
+            Some(position) => position,
+            None => start.replay(alloc, &self.path)?,
+        };
+        start.happen(alloc, &mut position, by)?;
+        self.visit(alloc, start, by, position)
+    }
+
+    // The first state.
+    fn begin(&mut self, alloc: Global, start: &Start<'_>) -> Result<Option<Position>, AllocError> {
+        let position = start.position(alloc)?;
+        let key = self.numbers.state(alloc, &position, &start.touched)?;
+        self.seen.insert(key, 0)?;
+        self.left.push(false)?;
+        self.open(alloc, start, 0, position)
+    }
+
+    /// How many states were found.
+    pub(crate) fn states(&self) -> usize {
+        self.left.len()
+    }
+}
+
+/// Goes through all orders from this start on.
+pub(crate) fn go_through<W: Watcher>(
+    alloc: Global,
+    start: &Start<'_>,
+    watcher: &mut W,
+) -> Result<Search, AllocError> {
+    let mut search = Search::new(alloc);
+    let mut at_hand = search.begin(alloc, start)?;
+    for _ in 0..u64::MAX {
+        match search.next() {
+            Next::Happens(by) => {
+                let position = at_hand.take();
+                at_hand = search.go(alloc, start, by, position)?;
+                watcher.found(search.states());
+            }
+            Next::Crashes(key) => search.crash(alloc, start, key)?,
+            Next::Leaves => {
+                at_hand = None;
+                search.leave()?;
+            }
+            Next::Ends => return Ok(search),
+        }
+    }
+    Ok(search)
+}
