@@ -2,5 +2,6 @@
 #![tactic(auto)]
 
 pub mod escape;
+pub mod laws;
 pub mod page;
 pub mod tag;
