@@ -1,0 +1,9 @@
+//! A recording as a picture: time runs down, a lane for each process, and a column for each word that changes.
+#![tactic(auto)]
+
+pub mod pen;
+pub mod processes;
+pub mod script;
+pub mod style;
+pub mod svg;
+pub mod words;

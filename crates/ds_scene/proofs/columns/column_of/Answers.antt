@@ -1,0 +1,15 @@
+use Rattle.std.proofs.Common.{List, sym, subst}
+use Rattle.std.specs.Prelude.{All}
+use Rattle.ds_trace.specs.declared.row.Row.{Row}
+use Rattle.ds_scene.specs.declared.columns.Side.TheVariants.{Cached, Persisted}
+use Rattle.ds_scene.specs.Columns.{IsTrueSpan}
+use Rattle.ds_scene.proofs.columns.column_of.Goals as goal
+
+pub returns : goal.returns
+returns c = record {
+  number = c.args.number;
+  there = c.requires;
+  place = sym c.place_of.ensures;
+  cached = subst (λ (rows : List Row). All (IsTrueSpan rows c.args.number Cached) c.in_ok-spans.field-0.items) c.deref.ensures.value c.in_ok-spans.ensures;
+  persisted = subst (λ (rows : List Row). All (IsTrueSpan rows c.args.number Persisted) c.in_ok-spans-2.field-0.items) c.deref-2.ensures.value c.in_ok-spans-2.ensures;
+}

@@ -1,0 +1,3 @@
+pub mod Markup
+pub mod Pages
+pub mod Texts

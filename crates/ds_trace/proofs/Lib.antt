@@ -1,0 +1,4 @@
+pub mod Sides
+pub mod Trails
+pub mod Turning
+pub mod Lines

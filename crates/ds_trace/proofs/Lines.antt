@@ -1,0 +1,124 @@
+-- A script, line by line.
+use Rattle.std.proofs.Common.{ℕ, suc, ◌+◌, ◌≡◌, ◌∙◌, inl, inr, Bool, List, [], ◌++◌, Ok, Err, refl, sym, ap, subst}
+use Rattle.std.specs.Prelude.{Option, Some, None, Result}
+use Rattle.ds_layout.specs.declared.place.Place.{Place}
+use Rattle.ds_state.specs.Value.{WorldValue}
+use Rattle.ds_streams.specs.declared.ending.ScriptFault.{ScriptFault}
+use Rattle.ds_streams.specs.declared.ending.ScriptFault.TheVariants.{LineTooLong}
+use Rattle.ds_streams.specs.ScriptLines.{AtFront, NoLine, ALine, LongLine, next_of}
+use Rattle.ds_play.specs.declared.order.Begun.{Begun}
+use Rattle.ds_play.specs.declared.order.Begun.TheVariants as begun
+use Rattle.ds_play.specs.Orders.{Order, Make, Does, order_of}
+use Rattle.ds_play.specs.Running.{after}
+use Rattle.ds_play.specs.Script.{Progress, IsMade, begins_at, goes_on, Carried, begins, skips, makes, obeys, FaultAt}
+use Rattle.ds_trace.specs.declared.row.Row.{Row}
+use Rattle.ds_trace.specs.declared.record.Stop.{Stop}
+use Rattle.ds_trace.specs.declared.record.Stop.TheVariants as stops
+use Rattle.ds_trace.specs.declared.turn.NoTrace.TheVariants.{TooManyEvents, NoMemory}
+use Rattle.ds_trace.specs.declared.record.Untraced.TheVariants as untraced
+use Rattle.ds_trace.specs.Trails.{AreRows, ObeysBy}
+use Rattle.ds_trace.specs.Traces.{IsRecord, IsUntraced, PassesLine, StopsLine, why_not}
+use Rattle.ds_trace.proofs.Trails.{rows_on}
+
+-- the lines led here, and these are the rows of their run
+pub record Led (places : List Place) (whole : Bool) (script : List ℕ) (lines : ℕ) (first : Begun) (w : WorldValue) (rows : List Row) (rest : List ℕ) : Type 0 where
+  pub progress : Progress
+  pub begun_is : progress.begun ≡ first
+  pub world_is : progress.world ≡ w
+  pub out : List ℕ
+  pub carried : Carried whole script lines progress out rest
+  pub are : AreRows places progress.start progress.events progress.replies rows progress.world
+
+pub begins_led : (places : List Place) (whole : Bool) (script : List ℕ) (w : WorldValue) (rows : List Row) → IsMade 2 2 2 w → rows ≡ [] → Led places whole script 0 begun.Nothing w rows script
+begins_led places whole script w rows made none = record {
+  progress = begins_at begun.Nothing w;
+  begun_is = refl;
+  world_is = refl;
+  out = [];
+  carried = begins w made;
+  are = subst (λ (l : List Row). AreRows places w [] [] l w) (sym none) refl;
+}
+
+-- ---- one line more
+
+carries_led : (places : List Place) (whole : Bool) (script : List ℕ) (lines : ℕ) (p : Progress) (out rest line behind : List ℕ) (order : Order) (now : Begun) (new : WorldValue) (rows rows' : List Row)
+    → Carried whole script lines p out rest → next_of whole rest ≡ ALine line behind → order_of p.begun p.world line ≡ Ok (Some order) → now ≡ after order
+    → AreRows places p.start p.events p.replies rows p.world → ObeysBy places p.world order new rows rows' → Led places whole script (suc lines) now new rows' behind
+carries_led places whole script lines p out rest line behind (Make columns rows processes) now new r s carried next asks begun_is are h = record {
+  progress = begins_at begun.Sheet new;
+  begun_is = sym begun_is;
+  world_is = refl;
+  out = out;
+  carried = makes lines p out rest line behind columns rows processes new carried next asks h.0;
+  are = subst (λ (l : List Row). AreRows places new [] [] l new) (sym h.1) refl;
+}
+carries_led places whole script lines p out rest line behind (Does deed) now new r s carried next asks begun_is are h = record {
+  progress = goes_on p h.events h.replies new;
+  begun_is = sym begun_is;
+  world_is = refl;
+  out = out ++ h.text;
+  carried = obeys lines p out rest line behind deed h.events h.replies h.text new carried next asks h.plays;
+  are = subst (λ (l : List Row). AreRows places p.start (p.events ++ h.events) (p.replies ++ h.replies) l new) (sym h.behind)
+      (rows_on places p.events p.replies r h.events h.replies h.rows p.start p.world new are h.are);
+}
+
+module _ (places : List Place) (whole : Bool) (script : List ℕ) (lines : ℕ) (first : Begun) (w : WorldValue) (rows : List Row) (rest : List ℕ) (led : Led places whole script lines first w rows rest) where
+  -- what a line asks for at the point that the lines led to
+  asked : (line : List ℕ) (r : Result (Option Order) ScriptFault) → order_of first w line ≡ r → order_of led.progress.begun led.progress.world line ≡ r
+  asked line r is = ap (λ (b : Begun). order_of b led.progress.world line) led.begun_is ∙ ap (λ (v : WorldValue). order_of first v line) led.world_is ∙ is
+
+  pub line_more : (line behind : List ℕ) → next_of whole rest ≡ ALine line behind → (now : Begun) (new : WorldValue) (rows' : List Row) → PassesLine places first w line now new rows rows' → Led places whole script (suc lines) now new rows' behind
+  line_more line behind next now new rows' (inl s) = record {
+    progress = led.progress;
+    begun_is = led.begun_is ∙ sym s.still;
+    world_is = led.world_is ∙ sym s.same;
+    out = led.out;
+    carried = skips lines led.progress led.out rest line behind led.carried next (asked line (Ok None) s.asks);
+    are = subst (λ (l : List Row). AreRows places led.progress.start led.progress.events led.progress.replies l led.progress.world) (sym s.no_row) led.are;
+  }
+  line_more line behind next now new rows' (inr e) =
+      carries_led places whole script lines led.progress led.out rest line behind e.order now new rows rows' led.carried next (asked line (Ok (Some e.order)) e.asks) e.begun_is led.are
+      (subst (λ (v : WorldValue). ObeysBy places v e.order new rows rows') (sym led.world_is) e.obeys)
+
+  -- a line that stops the script
+  pub line_stops : (line behind : List ℕ) → next_of whole rest ≡ ALine line behind → (stop : Stop) → StopsLine first w line stop → IsUntraced whole script (why_not (lines + 1) stop)
+  line_stops line behind next (stops.Fault kind) h = (
+    led.out,
+    record {
+      lines = lines;
+      progress = led.progress;
+      rest = rest;
+      carried = led.carried;
+      number = refl;
+      fault = subst (λ (f : AtFront). FaultAt led.progress f kind) (sym next) (asked line (Err kind) h);
+    },
+  )
+  line_stops line behind next (stops.NoTrace TooManyEvents) h = tt
+  line_stops line behind next (stops.NoTrace NoMemory) h = tt
+
+  -- a line that is too long
+  pub breaks_long : next_of whole rest ≡ LongLine → IsUntraced whole script (untraced.Fault (lines + 1) LineTooLong)
+  breaks_long long = (
+    led.out,
+    record {
+      lines = lines;
+      progress = led.progress;
+      rest = rest;
+      carried = led.carried;
+      number = refl;
+      fault = subst (λ (f : AtFront). FaultAt led.progress f LineTooLong) (sym long) refl;
+    },
+  )
+
+  -- no line is left
+  pub ends_led : next_of whole rest ≡ NoLine → IsRecord whole script places w rows
+  ends_led none = record {
+    lines = lines;
+    progress = led.progress;
+    out = led.out;
+    rest = rest;
+    carried = led.carried;
+    none = none;
+    world_is = led.world_is;
+    are = led.are;
+  }

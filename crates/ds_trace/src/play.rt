@@ -1,0 +1,343 @@
+//! Carries commands out, and keeps their events.
+
+ghost use Rattle.std.specs.Prelude.{◌≡◌, ◌<◌, ◌≤◌, List, [], IfOk, IfSome, OnOk, length};
+ghost use Rattle.ds_formula.specs.Limits.{PROCESSES_MOST};
+ghost use Rattle.ds_layout.specs.Places.{cells_of};
+ghost use Rattle.ds_core.specs.declared.event.Event.TheVariants.{Step};
+ghost use Rattle.ds_core.specs.declared.reply.Reply.TheVariants.{Answered};
+ghost use Rattle.ds_play.specs.Orders.{CanDo, beginning, command_view};
+ghost use Rattle.ds_play.specs.Doing.{Doing, Calls, Once, driven, ended, offered, stepped, to_point, settle};
+ghost use Rattle.ds_play.specs.Plays.{WantsStep};
+ghost use Rattle.ds_play.specs.Script.{IsMade};
+ghost use Rattle.ds_play.specs.declared.drive.Until.TheVariants.{InRound};
+ghost use Rattle.ds_state.specs.Value.{world_of};
+ghost use Rattle.ds_stops.specs.ScriptTurns.{IsWithin, Remains, doing_of};
+ghost use Rattle.ds_trace.specs.Trails.{ObeysBy, TakesTurn, Trail};
+ghost use Rattle.ds_trace.specs.declared.turn.TheConstants.{EVENT_LIMIT};
+
+use crate::row::{Happening, Row};
+use crate::turn::{NoTrace, begin, crash, evict, note, step, stop};
+use ds_calls::settle;
+use ds_core::reply::Reply;
+use ds_edit::answer::Answer;
+use ds_formula::cells::Shape;
+use ds_layout::place::Place;
+use ds_play::carry::new_world;
+use ds_play::drive::Until;
+use ds_play::order::{Call, Command};
+use ds_play::point::PointName;
+use ds_state::world::World;
+use ds_stops::turn::{Left, after_begin, left_of, to_point};
+use ds_work::offer::offer_own;
+use std::alloc::Global;
+
+// What is left once the process's work was given its entry.
+fn after_offer(world: &World, process: usize, until: Until) -> Option<Left>
+    requires { IsWithin world.now (Left.Drives process until) }
+    ensures remains { Remains result (offered world.now process until) }
+    ensures within { IfSome result (IsWithin world.now) }
+{
+    match until {
+        Until::ToPoint(name) => to_point(world, process, name),
+        Until::OneStep | Until::ToAnswer | Until::InRound { rounds: _, cell: _ } => {
+            Some(Left::Drives(process, until))
+        }
+    }
+}
+
+// What is left once the process has made a step.
+fn after_step(world: &World, process: usize, until: Until) -> Option<Left>
+    requires { IsWithin world.now (Left.Drives process until) }
+    ensures remains { Remains result (stepped world.now process until) }
+    ensures within { IfSome result (IsWithin world.now) }
+{
+    match until {
+        Until::OneStep => None,
+        Until::ToPoint(name) => to_point(world, process, name),
+        Until::ToAnswer | Until::InRound { rounds: _, cell: _ } => {
+            Some(Left::Drives(process, until))
+        }
+    }
+}
+
+// What is left of a settle once its work on the cell was answered.
+fn after_work(
+    world: &World,
+    process: usize,
+    rounds: usize,
+    cell: usize,
+    answer: Answer,
+) -> Option<Left>
+    requires { cell < cells_of world.now.sheet.layout }
+    ensures remains { Remains result (ended world.now process (InRound rounds cell) (Answered answer)) }
+    ensures within { IfSome result (IsWithin world.now) }
+{
+    let next = settle::worked(world, rounds, cell, Ok(answer));
+    left_of(process, next)
+}
+
+// What is left once the process's call was answered.
+fn after_answer(world: &World, process: usize, until: Until, answer: Answer) -> Option<Left>
+    requires { IsWithin world.now (Left.Drives process until) }
+    ensures remains { Remains result (ended world.now process until (Answered answer)) }
+    ensures within { IfSome result (IsWithin world.now) }
+{
+    match until {
+        Until::OneStep | Until::ToPoint(_) | Until::ToAnswer => None,
+        Until::InRound { rounds, cell } => after_work(world, process, rounds, cell, answer),
+    }
+}
+
+// What is left once a step of the process had this reply.
+fn behind_step(world: &World, process: usize, until: Until, reply: Reply) -> Option<Left>
+    requires { IsWithin world.now (Left.Drives process until) }
+    ensures remains { Remains result (driven world.now process until (Step process) reply) }
+    ensures within { IfSome result (IsWithin world.now) }
+{
+    match reply {
+        Reply::Stepped => after_step(world, process, until),
+        Reply::Answered(answer) => after_answer(world, process, until, answer),
+        _ => None,
+    }
+}
+
+// Work of a settle begins, or is refused.
+fn begin_work(
+    alloc: Global,
+    world: &mut World,
+    places: &[Place],
+    process: usize,
+    rounds: usize,
+    cell: usize,
+    rows: &mut Vec<Row>,
+) -> Result<Option<Left>, NoTrace>
+    requires { cell < cells_of world.old.sheet.layout }
+    ensures turn { IfOk result (λ left. TakesTurn places.now (Left.Works process rounds cell) world.old left world.new rows.old.items rows.new.items) }
+    ensures few { OnOk result (length rows.new.items ≤ EVENT_LIMIT) }
+{
+    let call = Call::Work(world.words.layout().shape.cell(cell));
+    let reply = begin(alloc, world, places, process, call, rows)?;
+    Ok(after_begin(process, Until::InRound { rounds, cell }, reply))
+}
+
+// The process makes a step, if it can.
+fn step_on(
+    alloc: Global,
+    world: &mut World,
+    places: &[Place],
+    process: usize,
+    until: Until,
+    rows: &mut Vec<Row>,
+) -> Result<Option<Left>, NoTrace>
+    requires wants { WantsStep world.old process }
+    requires within { IsWithin world.old (Left.Drives process until) }
+    ensures turn { IfOk result (λ left. TakesTurn places.now (Left.Drives process until) world.old left world.new rows.old.items rows.new.items) }
+    ensures few { OnOk result (length rows.new.items ≤ EVENT_LIMIT) }
+{
+    let reply = step(alloc, world, places, process, rows)?;
+    Ok(behind_step(world, process, until, reply))
+}
+
+// The process's work is given the entry that it waits for, or else the process makes a step.
+fn go(
+    alloc: Global,
+    world: &mut World,
+    places: &[Place],
+    process: usize,
+    until: Until,
+    rows: &mut Vec<Row>,
+) -> Result<Option<Left>, NoTrace>
+    requires { IsWithin world.old (Left.Drives process until) }
+    ensures turn { IfOk result (λ left. TakesTurn places.now (Left.Drives process until) world.old left world.new rows.old.items rows.new.items) }
+    ensures few { OnOk result (length rows.new.items ≤ EVENT_LIMIT) }
+{
+    world.is_always_good();
+    if offer_own(world, process) {
+        world.is_always_good();
+        let what = Happening::TakesEntry(process);
+        note(alloc, world, places, what, Reply::Stepped, &[], rows)?;
+        Ok(after_offer(world, process, until))
+    } else {
+        step_on(alloc, world, places, process, until, rows)
+    }
+}
+
+// The next event of a command.
+fn take_turn(
+    alloc: Global,
+    world: &mut World,
+    places: &[Place],
+    left: Left,
+    rows: &mut Vec<Row>,
+) -> Result<Option<Left>, NoTrace>
+    requires { IsWithin world.old left }
+    ensures turn { IfOk result (λ next. TakesTurn places.now left world.old next world.new rows.old.items rows.new.items) }
+    ensures few { OnOk result (length rows.new.items ≤ EVENT_LIMIT) }
+{
+    match left {
+        Left::Drives(process, until) => go(alloc, world, places, process, until, rows),
+        Left::Works {
+            process,
+            rounds,
+            cell,
+        } => begin_work(alloc, world, places, process, rounds, cell, rows),
+    }
+}
+
+// A command to its end, of which this is left.
+fn play(
+    alloc: Global,
+    world: &mut World,
+    places: &[Place],
+    first: Left,
+    rows: &mut Vec<Row>,
+) -> Result<(), NoTrace>
+    requires { IsWithin world.old first }
+    ensures { OnOk result (Trail places.now (doing_of first) world.old world.new rows.old.items rows.new.items) }
+{
+    let mut left = first;
+    'turns: loop {
+        match take_turn(alloc, world, places, left, rows)? {
+            Some(next) => left = next,
+            None => return Ok(()),
+        }
+    }
+}
+
+// What is left of a command, to its end.
+fn play_on(
+    alloc: Global,
+    world: &mut World,
+    places: &[Place],
+    left: Option<Left>,
+    rows: &mut Vec<Row>,
+) -> Result<(), NoTrace>
+    requires { IfSome left (IsWithin world.old) }
+    ensures { (doing : Doing) → Remains left doing → OnOk result (Trail places.now doing world.old world.new rows.old.items rows.new.items) }
+{
+    match left {
+        Some(left) => play(alloc, world, places, left, rows),
+        None => Ok(()),
+    }
+}
+
+// A whole call.
+fn whole(
+    alloc: Global,
+    world: &mut World,
+    places: &[Place],
+    process: usize,
+    call: Call<'_>,
+    rows: &mut Vec<Row>,
+) -> Result<(), NoTrace>
+    ensures { OnOk result (Trail places.now (Calls process (beginning process call.entry)) world.old world.new rows.old.items rows.new.items) }
+{
+    let reply = begin(alloc, world, places, process, call, rows)?;
+    let left = after_begin(process, Until::ToAnswer, reply);
+    play_on(alloc, world, places, left, rows)
+}
+
+// `settle P`.
+fn settle(
+    alloc: Global,
+    world: &mut World,
+    places: &[Place],
+    process: usize,
+    rows: &mut Vec<Row>,
+) -> Result<(), NoTrace>
+    ensures { OnOk result (Trail places.now (settle world.old process) world.old world.new rows.old.items rows.new.items) }
+{
+    let left = left_of(process, settle::first_turn(world));
+    play_on(alloc, world, places, left, rows)
+}
+
+// `run P to POINT`.
+fn run_to(
+    alloc: Global,
+    world: &mut World,
+    places: &[Place],
+    process: usize,
+    name: PointName,
+    rows: &mut Vec<Row>,
+) -> Result<(), NoTrace>
+    ensures { OnOk result (Trail places.now (to_point process name ((world_of world.old).situation process)) world.old world.new rows.old.items rows.new.items) }
+{
+    let left = to_point(world, process, name);
+    play_on(alloc, world, places, left, rows)
+}
+
+// A call begins, or is refused.
+fn begin_only(
+    alloc: Global,
+    world: &mut World,
+    places: &[Place],
+    process: usize,
+    call: Call<'_>,
+    rows: &mut Vec<Row>,
+) -> Result<(), NoTrace>
+    ensures { OnOk result (Trail places.now (Once process (beginning process call.entry)) world.old world.new rows.old.items rows.new.items) }
+{
+    let _reply = begin(alloc, world, places, process, call, rows)?;
+    Ok(())
+}
+
+// A new sheet, without rows.
+fn make(
+    alloc: Global,
+    world: &mut World,
+    shape: Shape,
+    processes: usize,
+    rows: &mut Vec<Row>,
+) -> Result<(), NoTrace>
+    requires some { 1 ≤ processes }
+    requires limited { processes ≤ PROCESSES_MOST }
+    ensures made { OnOk result (IsMade shape.columns shape.rows processes world.new) }
+    ensures no_row { OnOk result (rows.new.items ≡ []) }
+{
+    *world = new_world(alloc, shape, processes)?;
+    rows.clear();
+    Ok(())
+}
+
+/// Carries a command out, and puts its events behind the rows; a new sheet has no rows. An error is a row too many, or a
+/// want of memory.
+pub fn carry_out(
+    alloc: Global,
+    world: &mut World,
+    places: &[Place],
+    command: Command<'_>,
+    rows: &mut Vec<Row>,
+) -> Result<(), NoTrace>
+    requires { CanDo world.old.sheet.layout command }
+    ensures { OnOk result (ObeysBy places.now world.old (command_view command.entry) world.new rows.old.items rows.new.items) }
+{
+    match command {
+        Command::Sheet(shape, processes) => make(alloc, world, shape, processes, rows),
+        Command::Whole(process, call) => whole(alloc, world, places, process, call, rows),
+        Command::Begin(process, call) => begin_only(alloc, world, places, process, call, rows),
+        Command::Settle(process) => settle(alloc, world, places, process, rows),
+        Command::Step(process) => {
+            play(
+                alloc,
+                world,
+                places,
+                Left::Drives(process, Until::OneStep),
+                rows,
+            )
+        }
+        Command::RunTo(process, name) => run_to(alloc, world, places, process, name, rows),
+        Command::Run(process) => {
+            play(
+                alloc,
+                world,
+                places,
+                Left::Drives(process, Until::ToAnswer),
+                rows,
+            )
+        }
+        Command::Stop(process) => stop(alloc, world, places, process, rows),
+        Command::Crash => crash(alloc, world, places, rows),
+        Command::Evict(place) => evict(alloc, world, places, place, rows),
+        Command::Peek(_) | Command::Word(_) => Ok(()),
+    }
+}
