@@ -7,9 +7,10 @@ use Rattle.clap.specs.declared.builder.command.Command.TheViews.{out-Command as 
 use Rattle.clap.specs.declared.builder.action.ArgAction.TheVariants.{SetTrue}
 use Rattle.clap.specs.declared.builder.value_parser.ValueParser.TheVariants.{Signed}
 use Rattle.ds_app.specs.declared.command_line.Action.{Action}
-use Rattle.ds_app.specs.declared.command_line.Action.TheVariants.{Run, Stops, Report, Serve, Keep, Check, Export, Import, Compact}
+use Rattle.ds_app.specs.declared.command_line.Action.TheVariants.{Run, Stops, Report, Explore, Trace, Serve, Keep, Check, Export, Import, Compact}
 use Rattle.ds_app.specs.declared.command_line.OptionsFault.{OptionsFault}
 use Rattle.ds_app.specs.declared.command_line.OptionsFault.TheVariants.{CommandLine, NoCommand, NoFile, OutOfLimits}
+use Rattle.ds_app.specs.Explorings.{IsExploring}
 use Rattle.ds_app.specs.Servings.{IsOutOfLimits, IsServing}
 
 -- `clap`'s command is this one, with no global argument
@@ -37,6 +38,19 @@ number_option name default = record (new_rule name) {
 -- `dsheet run [--stops]`
 abbrev pub run_command : App
 run_command = with_rule (new_app (codes "run")) stops
+
+-- a flag of this name
+abbrev pub flag : Text → Rule
+flag name = record (new_rule name) { long = Some name; action = Some SetTrue }
+
+-- `dsheet explore [--crashes] [--stops] [--evictions] [--most N]`
+abbrev pub explore_command : App
+explore_command = with_rule (with_rule (with_rule (with_rule (new_app (codes "explore")) (flag (codes "crashes"))) (flag (codes "stops")))
+    (flag (codes "evictions"))) (number_option (codes "most") (codes "1000"))
+
+-- `dsheet trace`
+abbrev pub trace_command : App
+trace_command = new_app (codes "trace")
 
 -- `dsheet report`
 abbrev pub report_command : App
@@ -88,7 +102,8 @@ dsheet_alone = record (new_app (codes "dsheet")) {
 
 -- the program with its subcommands
 abbrev pub dsheet : App
-dsheet = with_stores (with_subcommand (with_subcommand (with_subcommand dsheet_alone run_command.top) report_command.top) serve_command.top)
+dsheet = with_stores (with_subcommand (with_subcommand (with_subcommand (with_subcommand (with_subcommand dsheet_alone run_command.top) report_command.top)
+    serve_command.top) explore_command.top) trace_command.top)
 
 -- the argument or option of this name has this value
 abbrev pub Names : List Row → Text → Text → Type 0
@@ -99,6 +114,8 @@ abbrev pub Asks : Text → List Row → Action → Type 0
 Asks name rows Run = (name ≡ codes "run") × (one_of (codes "stops") rows ≡ Some (codes "true") → ⊥)
 Asks name rows Stops = (name ≡ codes "run") × (one_of (codes "stops") rows ≡ Some (codes "true"))
 Asks name rows Report = name ≡ codes "report"
+Asks name rows Trace = name ≡ codes "trace"
+Asks name rows (Explore exploring) = (name ≡ codes "explore") × IsExploring rows exploring
 Asks name rows (Serve serving) = (name ≡ codes "serve") × IsServing rows serving × (first_of (codes "store") rows ≡ None)
 Asks name rows (Keep serving path) = (name ≡ codes "serve") × IsServing rows serving × Names rows (codes "store") path.now
 Asks name rows (Check path) = (name ≡ codes "check") × Names rows (codes "file") path.now
@@ -111,13 +128,14 @@ abbrev pub IsAskedBy : List Text → Action → Type 0
 IsAskedBy words action = (name : Text) × (rows : List Row) × (subcommand_of dsheet words ≡ Some (name, rows)) × Asks name rows action
 
 -- a subcommand of this name with these matches asks for nothing, for this fault: it is none of these, an argument is
--- missing, or an option of `serve` is out of its limits
+-- missing, or an option of `serve` or `explore` is out of its limits
 abbrev pub AsksNothing : Text → List Row → OptionsFault → Type 0
 AsksNothing name rows (CommandLine error) = ⊥
-AsksNothing name rows NoCommand = (name ≢ codes "run") × (name ≢ codes "report") × (name ≢ codes "serve") × (name ≢ codes "check")
+AsksNothing name rows NoCommand = (name ≢ codes "run") × (name ≢ codes "report") × (name ≢ codes "serve") × (name ≢ codes "explore") × (name ≢ codes "trace")
+    × (name ≢ codes "check")
     × (name ≢ codes "export") × (name ≢ codes "import") × (name ≢ codes "compact")
 AsksNothing name rows NoFile = (first_of (codes "file") rows ≡ None) ⊎ (first_of (codes "new") rows ≡ None)
-AsksNothing name rows (OutOfLimits limit) = (name ≡ codes "serve") × IsOutOfLimits rows limit
+AsksNothing name rows (OutOfLimits limit) = ((name ≡ codes "serve") ⊎ (name ≡ codes "explore")) × IsOutOfLimits rows limit
 
 -- the same of a subcommand that none but those on a store can be
 abbrev pub AsksOfStore : Text → List Row → OptionsFault → Type 0

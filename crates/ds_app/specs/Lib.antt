@@ -1,3 +1,4 @@
 pub mod Statuses
 pub mod Servings
 pub mod CommandLines
+pub mod Explorings

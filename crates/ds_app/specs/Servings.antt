@@ -76,3 +76,4 @@ IsOutOfLimits matches limits.Workers = HasNoWorkers matches
 IsOutOfLimits matches limits.Sessions = HasNoNumber matches (codes "sessions")
 IsOutOfLimits matches limits.AtOnce = HasNoRoom matches
 IsOutOfLimits matches limits.Idle = HasNoNumber matches (codes "idle")
+IsOutOfLimits matches limits.Most = HasNoNumber matches (codes "most")

@@ -4,8 +4,9 @@ ghost use Rattle.std.specs.Prelude.{◌≡◌, ◌↔◌, IfErr, IfOk, IsTrue, N
 ghost use Rattle.std.specs.String.{string_bytes};
 ghost use Rattle.clap.specs.Words.{App, app_of, fault_of, first_of, found_of, one_of, rows_of, rule_of};
 ghost use Rattle.ds_app.specs.declared.command_line.OptionsFault.TheVariants.{CommandLine, NoFile};
-ghost use Rattle.ds_app.specs.CommandLines.{Asks, AsksNothing, AsksOfStore, IsAskedBy, IsCommand, IsRefusedFor, IsWanting, Names, compact_command as compact_app, dsheet, file as file_rule, file_command as file_app, listen as listen_rule, number_option as number_rule, report_command as report_app, run_command as run_app, serve_command as serve_app, sheet_command as sheet_app, store as store_rule, with_stores};
+ghost use Rattle.ds_app.specs.CommandLines.{Asks, AsksNothing, AsksOfStore, IsAskedBy, IsCommand, IsRefusedFor, IsWanting, Names, compact_command as compact_app, dsheet, explore_command as explore_app, file as file_rule, flag as flag_rule, file_command as file_app, listen as listen_rule, number_option as number_rule, report_command as report_app, run_command as run_app, serve_command as serve_app, sheet_command as sheet_app, store as store_rule, trace_command as trace_app, with_stores};
 
+use crate::exploring::{Exploring, is_set, read_exploring};
 use crate::serving::{OutOfLimits, Serving, read_serving};
 use clap::{Arg, ArgAction, ArgMatches, Command, Error, value_parser};
 use std::alloc::{AllocError, Global};
@@ -19,6 +20,10 @@ pub enum Action<'a> {
     Stops,
     /// `dsheet report`: a grid on standard input.
     Report,
+    /// `dsheet explore`: all orders of the steps of a script's calls.
+    Explore(Exploring),
+    /// `dsheet trace`: a picture of the run of a script.
+    Trace,
     /// `dsheet serve`: sessions over connections.
     Serve(Serving),
     /// `dsheet serve --store FILE`: the same, over the sheet of a store.
@@ -119,11 +124,40 @@ Example:
 Exit status: 0 ended; 1 a fault in the grid; 2 wrong words on the command line;
 3 a failed read or write, or a grid over 1048576 bytes; 4 no memory.";
 
+const EXPLORE_HELP: &str = "\
+The script begins calls and does not finish them, as \"begin 0 set A1 1\" and \"begin 1 work A1\". All orders of their
+steps are carried out; behind each end every process recovers, and the sheet is settled and reported by process 0.
+What is written is how many states and orders there are, and each different outcome once: how many orders lead to it,
+what is wrong with it, if anything is, and a shortest script, with what \"dsheet run\" answers it. A state that was seen
+before is not gone through again.
+
+Example:
+  printf 'begin 0 set A1 1\\nbegin 1 set A1 2\\n' | dsheet explore --crashes
+
+Exit status: 0 all orders were gone through, and nothing is wrong; 1 something is wrong with an outcome, or a fault in
+a line, which is named; 2 wrong words on the command line; 3 a failed read or write, a script over 1048576 bytes, or
+more states than --most says, of which those that were found are written; 4 no memory.";
+
+const TRACE_HELP: &str = "\
+Time runs down. Each process has a lane with its calls and steps, each word that changes a column with both its sides:
+filled bars are what processes see, hatched ones what a crash leaves. Flushes, write-backs and evictions are arrows, a
+crash is a line across, and what it takes back is struck out. Titles, on hover, say what a word means.
+
+Example:
+  dsheet trace < examples/taken_back > run.svg
+
+Exit status: 0 drawn; 1 a fault in a line, which is named; 2 wrong words on the command line; 3 a failed read or write,
+a script or a picture over 1048576 bytes, or more than 1000 events; 4 no memory. Nothing is written unless it is drawn.";
+
 const SERVE_HELP: &str = "\
 Serves connections, each a session in its thread, until a line \"stop\" comes on standard input, or until as many
 sessions have joined a process as --sessions says; the sessions that are there then answer what they have read, or
 end with their clients. The last processes are the workers': they go round the cells and work on those that are
 marked; no session can join them. Once it listens it says so on standard error, with its port.
+
+With --store the sheet is that of a file, which is made where there is none: no answer leaves before the edits that
+were made before it are kept there. Kill the server, start it with the same words, and ask: each edit that was
+answered done is there, and a join tells of the last one. Its shape and its processes have to be those of the file.
 
 The protocol: a line of JSON in, a line of JSON out, before the next line is read. Cells are texts, as \"A1\".
   {\"op\":\"join\",\"process\":0}                   takes a process, and tells of its last edit, as last does
@@ -145,11 +179,11 @@ last line: 16 busy (as many sessions as --at-once), 17 too-long, 18 idle (nothin
 19 where the client speaks HTTP or TLS.
 
 Example:
-  dsheet serve --listen 127.0.0.1:8080 &
+  dsheet serve --listen 127.0.0.1:8080 --store sheet.db &
   printf '{\"op\":\"join\",\"process\":0}\\n{\"op\":\"report\"}\\n' | nc -N 127.0.0.1 8080
 
-Exit status: 0 ended; 2 wrong words on the command line; 3 the address can not be listened on, or no connection
-taken from it; 4 no memory.
+Exit status: 0 ended; 1 a store that is another sheet's, or unsound; 2 wrong words on the command line; 3 the address
+can not be listened on, or no connection taken from it, or the store not be opened or written; 4 no memory.
 Each session that does not end with its client is one line on standard error, and so is what all came to.";
 
 const CHECK_ABOUT: &str = "Reads a store, and says what it has, or which line is unsound";
@@ -215,6 +249,53 @@ fn run_command<'a>(alloc: Global) -> Result<Command<'a>, AllocError>
         .about("Runs a script from standard input and writes its answers to standard output")
         .after_help(RUN_HELP);
     command.arg(stops)?.bin_name("dsheet run")
+}
+
+// A flag.
+fn flag<'a>(alloc: Global, name: &'a str, help: &'a str) -> Arg<'a>
+    ensures rule { rule_of result ≡ flag_rule name.now }
+    ensures local { result.global ≡ false }
+{
+    Arg::new(alloc, name)
+        .long(name)
+        .action(ArgAction::SetTrue)
+        .help(help)
+}
+
+fn explore_command<'a>(alloc: Global) -> Result<Command<'a>, AllocError>
+    ensures { IfOk result (IsCommand explore_app) }
+{
+    let crashes = flag(
+        alloc,
+        "crashes",
+        "A crash at each state, which ends the order",
+    );
+    let stops = flag(
+        alloc,
+        STOPS,
+        "A stop of each process that is in a call, at each state",
+    );
+    let evictions = flag(
+        alloc,
+        "evictions",
+        "An eviction of each word whose sides differ",
+    );
+    let most_help = "Thousands of states that are gone through at most";
+    let most = number_option(alloc, "most", "1000", most_help);
+    let command = Command::new(alloc, "explore")
+        .about("Goes through all orders of the steps of a script's calls")
+        .after_help(EXPLORE_HELP);
+    let two = command.arg(crashes)?.arg(stops)?;
+    let four = two.arg(evictions)?.arg(most)?;
+    Ok(four)
+}
+
+fn trace_command<'a>(alloc: Global) -> Command<'a>
+    ensures { IsCommand trace_app result }
+{
+    Command::new(alloc, "trace")
+        .about("Draws the run of a script from standard input, as one SVG on standard output")
+        .after_help(TRACE_HELP)
 }
 
 fn report_command<'a>(alloc: Global) -> Result<Command<'a>, AllocError>
@@ -302,7 +383,7 @@ fn compact_command<'a>(alloc: Global) -> Result<Command<'a>, AllocError>
 
 // A command with those on stores below it.
 fn with_stores<'a>(alloc: Global, command: Command<'a>) -> Result<Command<'a>, AllocError>
-    ensures { (app : App) → IsCommand app command → IfOk result (IsCommand (with_stores app)) }
+    ensures { (app : App) → IsCommand app command.entry → IfOk result (IsCommand (with_stores app)) }
 {
     let check = file_command(alloc, "check", CHECK_ABOUT, CHECK_HELP)?;
     let export = file_command(alloc, "export", EXPORT_ABOUT, EXPORT_HELP)?;
@@ -358,7 +439,10 @@ fn program<'a>(alloc: Global) -> Result<Command<'a>, AllocError>
     let serve = serve_command(alloc)?;
     let two = command.subcommand(run)?.subcommand(report)?;
     let three = two.subcommand(serve)?;
-    with_stores(alloc, three)?.bin_name("dsheet")
+    let explore = explore_command(alloc)?;
+    let four = three.subcommand(explore)?;
+    let five = four.subcommand(trace_command(alloc))?;
+    with_stores(alloc, five)?.bin_name("dsheet")
 }
 
 impl From<Error> for OptionsFault {
@@ -375,13 +459,6 @@ impl From<AllocError> for OptionsFault {
     fn from(error: AllocError) -> OptionsFault {
         OptionsFault::CommandLine(Error::from(error))
     }
-}
-
-// Whether the sheet is to be crashed behind each step.
-fn is_stops(found: &ArgMatches<'_>) -> bool
-    ensures { IsTrue result ↔ (one_of (codes "stops") (rows_of (found_of found.now)) ≡ Some (codes "true")) }
-{
-    found.get_one::<bool>(STOPS) == Some(true)
 }
 
 // The value of an argument.
@@ -410,6 +487,17 @@ fn served<'a>(found: &ArgMatches<'a>) -> Result<Action<'a>, OptionsFault>
     }
 }
 
+// What the options of `dsheet explore` ask for.
+fn explored<'a>(found: &ArgMatches<'a>) -> Result<Action<'a>, OptionsFault>
+    ensures action { IfOk result (Asks (codes "explore") (rows_of (found_of found.now))) }
+    ensures fault { IfErr result (AsksNothing (codes "explore") (rows_of (found_of found.now))) }
+{
+    match read_exploring(found) {
+        Ok(exploring) => Ok(Action::Explore(exploring)),
+        Err(limit) => Err(OptionsFault::OutOfLimits(limit)),
+    }
+}
+
 // What a subcommand on a store asks for.
 fn asked_of_store<'a>(name: &str, found: &ArgMatches<'a>) -> Result<Action<'a>, OptionsFault>
     ensures action { IfOk result (Asks name.now (rows_of (found_of found.now))) }
@@ -430,10 +518,12 @@ fn asked<'a>(name: &str, found: &ArgMatches<'a>) -> Result<Action<'a>, OptionsFa
     ensures fault { IfErr result (AsksNothing name.now (rows_of (found_of found.now))) }
 {
     match name {
-        "run" if is_stops(found) => Ok(Action::Stops),
+        "run" if is_set(found, STOPS) => Ok(Action::Stops),
         "run" => Ok(Action::Run),
         "report" => Ok(Action::Report),
+        "trace" => Ok(Action::Trace),
         "serve" => served(found),
+        "explore" => explored(found),
         _ => asked_of_store(name, found),
     }
 }

@@ -4,18 +4,23 @@
 mod command_line;
 mod control;
 mod descriptors;
+mod explore;
+mod exploring;
 mod progress;
 mod serve;
 mod serving;
 mod status;
 mod stores;
+mod trace;
 
 use crate::command_line::{Action, OptionsFault, options};
 use crate::descriptors::stand_ins;
+use crate::explore::explore;
 use crate::progress::Progress;
 use crate::serve::{serve, serve_store};
 use crate::status::{NO_MEMORY, STREAM_FAILED, WRONG_WORDS, grid_status, script_status};
 use crate::stores::{check, compact, export, import};
+use crate::trace::trace;
 use clap::Error;
 use clap::error::ErrorKind;
 use ds_grid::ending::GridEnd;
@@ -148,6 +153,8 @@ fn dispatch<
         Ok(Action::Run) => run(rt),
         Ok(Action::Stops) => stops(rt, is_terminal),
         Ok(Action::Report) => report(rt),
+        Ok(Action::Explore(exploring)) => explore(rt, exploring, is_terminal),
+        Ok(Action::Trace) => trace(rt),
         Ok(Action::Serve(serving)) => serve(rt, serving),
         Ok(Action::Keep(serving, path)) => serve_store(rt, serving, path),
         Ok(Action::Check(path)) => check(rt, path),

@@ -149,7 +149,7 @@ fn serve_kept<
 ) -> (Result<Taken, ServeError>, Result<Store<Disk>, StoreFault>) {
     let Opened { mut store, sheet } = opened;
     let door = Door::with_store(Some(Keeping::new(rt.alloc())));
-    let (served, kept) = thread::join(
+    let ended = thread::join(
         rt,
         || -> Result<Taken, ServeError> {
             let served = serve_world(rt, listener, sheet, &door, service);
@@ -158,6 +158,7 @@ fn serve_kept<
         },
         || { door.keep(rt, rt.alloc(), &mut store) },
     );
+    let (served, kept) = ended;
     match kept {
         Ok(()) => (served, Ok(store)),
         Err(fault) => (served, Err(fault)),

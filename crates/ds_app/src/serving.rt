@@ -51,13 +51,16 @@ pub enum OutOfLimits {
     /// No session may be there at once.
     #[error("--at-once: from 1 to 65535")]
     AtOnce,
+    /// The number of states that are gone through at most is none.
+    #[error("--most: from 0 to 65535 thousand states")]
+    Most,
     /// The time for which a client may be silent is none.
     #[error("--idle: from 0 to 65535 seconds")]
     Idle,
 }
 
-// The number of an option; none where it has none.
-fn number(matches: &ArgMatches<'_>, name: &str) -> Option<usize>
+/// The number of an option; none where it has none.
+pub(crate) fn number(matches: &ArgMatches<'_>, name: &str) -> Option<usize>
     ensures some { IfSome result (IsNumberOf (rows_of (found_of matches.now)) name.now) }
     ensures none { result ≡ None → HasNoNumber (rows_of (found_of matches.now)) name.now }
 {

@@ -1,9 +1,11 @@
 //! Exit statuses.
 
 ghost use Rattle.std.specs.Prelude.{◌≡◌};
-ghost use Rattle.ds_app.specs.Statuses.{status_of, grid_status_of, store_status_of};
+ghost use Rattle.ds_app.specs.Statuses.{explore_status_of, grid_status_of, picture_status_of, status_of, store_status_of};
 
+use ds_explore::explore::ExploreEnd;
 use ds_grid::ending::GridEnd;
+use ds_picture::script::PictureEnd;
 use ds_store::fault::StoreFault;
 use ds_streams::ending::ScriptEnd;
 
@@ -58,5 +60,34 @@ pub fn store_status(fault: &StoreFault) -> u8
         | StoreFault::Line { .. }
         | StoreFault::Edit(_)
         | StoreFault::OtherSheet { .. } => BAD_STORE,
+    }
+}
+
+/// The status that tells how an exploration ended: 0 ended, 1 something is wrong with an outcome or a fault in a line, 3 a
+/// failed write, a script over its limit, or more states than may be gone through, 4 want of memory.
+pub fn explore_status(end: &ExploreEnd) -> u8
+    ensures { result ≡ explore_status_of end.now }
+{
+    match end {
+        ExploreEnd::Ended => 0,
+        ExploreEnd::Wrong | ExploreEnd::Fault { line: _, kind: _ } => 1,
+        ExploreEnd::TooManyStates | ExploreEnd::TooLong | ExploreEnd::WriteFailed => 3,
+        ExploreEnd::NoMemory => 4,
+    }
+}
+
+/// The status that tells how the drawing of a script ended: 0 drawn, 1 a fault in a line, 3 a failed write, or a script,
+/// a run or a picture over its limit, 4 want of memory.
+pub fn picture_status(end: &PictureEnd) -> u8
+    ensures { result ≡ picture_status_of end.now }
+{
+    match end {
+        PictureEnd::Drawn => 0,
+        PictureEnd::Fault { line: _, kind: _ } => 1,
+        PictureEnd::ScriptTooLong
+        | PictureEnd::TooManyEvents
+        | PictureEnd::TooLong
+        | PictureEnd::WriteFailed => 3,
+        PictureEnd::NoMemory => 4,
     }
 }

@@ -11,7 +11,9 @@ returns c =
     let one = grown_below _ _ _ _ _ c.in_ok-subcommand.ensures alone c.in_ok-run.ensures in
     let two = grown_below _ _ _ _ _ c.in_ok-two.ensures one c.in_ok-report.ensures in
     let three = grown_below _ _ _ _ _ c.in_ok-three.ensures two c.in_ok-serve.ensures in
-    let all = c.in_ok-with_stores.ensures _ three in
+    let four = grown_below _ _ _ _ _ c.in_ok-four.ensures three c.in_ok-explore.ensures in
+    let five = grown_below _ _ _ _ _ c.in_ok-five.ensures four c.trace_command.ensures in
+    let all = c.in_ok-with_stores.ensures _ five in
     IfOk-weaker c.bin_name.result _ _ (λ r h. record {
       is = ap app_of_fields h.0 ∙ all.is;
       local = ap has_globals h.0 ∙ all.local;

@@ -1,0 +1,65 @@
+//! `dsheet explore`.
+
+use crate::exploring::Exploring;
+use crate::status::{NO_MEMORY, STREAM_FAILED, explore_status};
+use ds_explore::explore::{ExploreEnd, explore as explore_orders};
+use ds_explore::options::{Options, Watcher};
+use ds_streams::input::{InputEnd, read_input};
+use ds_streams::line::INPUT_LIMIT;
+use ds_streams::streams::{Reading, Writing};
+use std::io::{self, BufWriter};
+
+// How many states there are between two lines of how many were found.
+const EACH: usize = 10_000;
+
+// Says on standard error how many states were found, where that is asked for.
+#[derive(Drop)]
+struct Counter<'a, R: Eprint> {
+    rt: &'a R,
+    shows: bool,
+}
+
+impl<R: Eprint> Watcher for Counter<'_, R> {
+    fn found(&mut self, states: usize) {
+        if self.shows && states.is_multiple_of(EACH) {
+            let _told = eprintln!(self.rt; "dsheet: {states} states");
+        }
+    }
+}
+
+/// `dsheet explore`: a script from standard input, what all orders of its calls' steps come to to standard output, and
+/// why it ended, where it is not well, to standard error; gives the status.
+pub fn explore<R: AllocGlobal + Input + Print + Eprint>(
+    rt: &R,
+    exploring: Exploring,
+    shows: bool,
+) -> u8 {
+    let Ok(buffered) = BufWriter::new(rt.alloc(), io::writer(rt)) else {
+        let _told = eprintln!(rt; "dsheet: no memory");
+        return NO_MEMORY;
+    };
+    let mut reader = Reading::new(rt.reader());
+    let Ok(input) = read_input(rt.alloc(), &mut reader, INPUT_LIMIT) else {
+        let _told = eprintln!(rt; "dsheet: no memory");
+        return NO_MEMORY;
+    };
+    if let InputEnd::Failed = input.end {
+        let _told = eprintln!(rt; "dsheet: a read failed");
+        return STREAM_FAILED;
+    }
+    let options = Options {
+        crashes: exploring.crashes,
+        stops: exploring.stops,
+        evictions: exploring.evictions,
+        most: exploring.thousands.saturating_mul(1000),
+    };
+    let mut writer = Writing::new(buffered);
+    let mut counter = Counter { rt, shows };
+    let end = explore_orders(rt.alloc(), &input.bytes, options, &mut writer, &mut counter);
+    let _told = match end {
+        ExploreEnd::Ended => Ok(()),
+        ExploreEnd::Fault { line: _, kind: _ } => eprintln!(rt; "{end}"),
+        _ => eprintln!(rt; "dsheet: {end}"),
+    };
+    explore_status(&end)
+}
