@@ -4,7 +4,7 @@ ghost use Rattle.std.specs.Prelude.{◌≡◌, ◌↔◌, IfErr, IfOk, IsTrue, N
 ghost use Rattle.std.specs.String.{string_bytes};
 ghost use Rattle.clap.specs.Words.{App, app_of, fault_of, first_of, found_of, one_of, rows_of, rule_of};
 ghost use Rattle.ds_app.specs.declared.command_line.OptionsFault.TheVariants.{CommandLine, NoFile};
-ghost use Rattle.ds_app.specs.CommandLines.{Asks, AsksNothing, AsksOfStore, IsAskedBy, IsCommand, IsRefusedFor, IsWanting, Names, compact_command as compact_app, dsheet, explore_command as explore_app, file as file_rule, flag as flag_rule, file_command as file_app, listen as listen_rule, number_option as number_rule, report_command as report_app, run_command as run_app, serve_command as serve_app, sheet_command as sheet_app, store as store_rule, trace_command as trace_app, with_stores};
+ghost use Rattle.ds_app.specs.CommandLines.{Asks, AsksNothing, AsksOfStore, IsAskedBy, IsCommand, IsRefusedFor, IsWanting, Names, compact_command as compact_app, dsheet, dsheet_alone, explore_command as explore_app, file as file_rule, flag as flag_rule, file_command as file_app, listen as listen_rule, number_option as number_rule, report_command as report_app, run_command as run_app, serve_command as serve_app, sheet_command as sheet_app, store as store_rule, trace_command as trace_app, with_stores};
 
 use crate::exploring::{Exploring, is_set, read_exploring};
 use crate::serving::{OutOfLimits, Serving, read_serving};
@@ -426,15 +426,22 @@ fn serve_command<'a>(alloc: Global) -> Result<Command<'a>, AllocError>
     three.bin_name("dsheet serve")
 }
 
-fn program<'a>(alloc: Global) -> Result<Command<'a>, AllocError>
-    ensures { IfOk result (IsCommand dsheet) }
+// The program without its subcommands.
+fn program_alone<'a>(alloc: Global) -> Command<'a>
+    ensures { IsCommand dsheet_alone result }
 {
-    let command = Command::new(alloc, "dsheet")
+    Command::new(alloc, "dsheet")
         .version(VERSION)
         .about("The calculator of a shared spreadsheet that survives crashes")
         .after_help(HELP)
         .subcommand_required(true)
-        .arg_required_else_help(true);
+        .arg_required_else_help(true)
+}
+
+fn program<'a>(alloc: Global) -> Result<Command<'a>, AllocError>
+    ensures { IfOk result (IsCommand dsheet) }
+{
+    let command = program_alone(alloc);
     let (run, report) = (run_command(alloc)?, report_command(alloc)?);
     let serve = serve_command(alloc)?;
     let two = command.subcommand(run)?.subcommand(report)?;

@@ -1,2 +1,2 @@
-mod Crossing
+pub mod Crossing
 mod Telling

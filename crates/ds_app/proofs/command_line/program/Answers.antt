@@ -1,13 +1,12 @@
-use Rattle.std.proofs.Common.{◌∙◌, ap, rules}
+use Rattle.std.proofs.Common.{◌∙◌, ap}
 use Rattle.std.proofs.lemmas.Result.{IfOk-weaker}
 use Rattle.clap.specs.Simple.{app_of_fields}
-use Rattle.ds_app.specs.CommandLines.{IsCommand, dsheet_alone}
 use Rattle.ds_app.proofs.Grown.{grown_below, has_globals}
 use Rattle.ds_app.proofs.command_line.program.Goals as goal
 
 pub returns : goal.returns
 returns c =
-    let alone : IsCommand dsheet_alone c.arg_required_else_help-command.result = search rules in
+    let alone = c.program_alone-command.ensures in
     let one = grown_below _ _ _ _ _ c.in_ok-subcommand.ensures alone c.in_ok-run.ensures in
     let two = grown_below _ _ _ _ _ c.in_ok-two.ensures one c.in_ok-report.ensures in
     let three = grown_below _ _ _ _ _ c.in_ok-three.ensures two c.in_ok-serve.ensures in
