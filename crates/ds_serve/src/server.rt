@@ -1,6 +1,7 @@
 //! Serves connections, each in its thread.
 
-ghost use Rattle.std.specs.Prelude.{◌≡◌, IfErr, IfOk};
+ghost use Rattle.std.specs.Prelude.{◌≡◌, ◌≤◌, IfErr, IfOk};
+ghost use Rattle.ds_formula.specs.Limits.{PROCESSES_MOST};
 ghost use Rattle.ds_serve.specs.Accepting.{IsLasting, IsServed};
 
 use crate::accepting::{Step, next_session, prepare, room};
@@ -13,6 +14,7 @@ use crate::worker::work_on;
 use crossbeam_queue::ArrayQueue;
 use ds_crew::locked::LockedSheet;
 use ds_crew::pass::Pass;
+use ds_formula::cells::Shape;
 use ds_state::world::World;
 use log::{Log, error, info, warn};
 use std::alloc::{AllocError, Global};
@@ -294,23 +296,28 @@ fn serve_world<
     Ok(taken)
 }
 
-/// Serves this sheet, as `serve_sheet` says, and closes it: the log says what the sessions came to, and where a process
-/// was lost or keeps other values than the sheet. An error is that of the listener, which has failed for good, or want of
-/// memory before the first connection is taken; no connection that breaks off, and no want of descriptors, ends the
-/// server.
+/// Serves a new sheet of this shape with 1 to 8 processes, as `serve_sheet` says, and closes it: the log says what the
+/// sessions came to, and where a process was lost or keeps other values than the sheet. An error is that of the listener,
+/// which has failed for good, or want of memory before the first connection is taken; no connection that breaks off, and
+/// no want of descriptors, ends the server.
 pub fn serve<R: Threads + Wait + Clock + Log + Sync>(
     rt: &R,
     alloc: Global,
     listener: &TcpListener,
-    world: World,
+    shape: Shape,
+    processes: usize,
     door: &Door,
     service: Service,
 ) -> Result<Taken, ServeError>
+    requires some { 1 ≤ processes }
+    requires most { processes ≤ PROCESSES_MOST }
     ensures served { IfOk result (IsServed service.sessions) }
     ensures lasting { IfErr result IsLasting }
 {
-    world.is_always_good();
-    let parts = world.words.layout().processes as u64;
+    let Ok(world) = World::new(alloc, shape, processes) else {
+        return Err(ServeError::NoMemory);
+    };
+    let parts = processes as u64;
     let (dones, settleds) = (Blank::new(parts), Blank::new(parts));
     serve_world::<Brand, Brand, _>(rt, alloc, listener, world, dones, settleds, door, service)
 }
