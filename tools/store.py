@@ -1,20 +1,169 @@
 #!/usr/bin/env python3
-"""Tries the commands on stores: what is imported is exported, checked, run and compacted; files that are no store, lack a
-line, have one that can not be followed, or are cut at many places, are refused by name.
+"""Tries the store of a server: kills it (-9) at drawn moments while four clients edit, starts it again, and holds what
+each client is told against what it was told before: each edit that was answered done is there, each last edit is told
+as it ended, no number comes twice, none is left out. Then what a store may meet beside that: no room on the disk, a file
+that may not be written, is another database, is cut at many places, or is open in another server.
 
-    tools/store.py PROGRAM [CUTS [SEED]]      100 cuts, where no number is given
+    tools/store.py PROGRAM [KILLS [CUTS]]      200 kills and 100 cuts, where no numbers are given
 """
+import json
 import os
 import random
+import resource
 import shutil
+import signal
+import socket
 import sqlite3
 import subprocess
 import sys
 import tempfile
+import threading
+import time
+
+COLUMNS, ROWS, PROCESSES = 4, 8, 4
+SHAPE = ["--columns", str(COLUMNS), "--rows", str(ROWS), "--processes", str(PROCESSES)]
 
 
 class Failed(Exception):
     """Something is not as it has to be."""
+
+
+def start(program, store, limit=None):
+    """Starts a server with this store; returns it and its port."""
+    words = [program, "serve", "--listen", "127.0.0.1:0", *SHAPE, "--store", store]
+    bound = None
+    if limit is not None:
+        def bound():
+            signal.signal(signal.SIGXFSZ, signal.SIG_IGN)
+            resource.setrlimit(resource.RLIMIT_FSIZE, (limit, limit))
+    server = subprocess.Popen(words, stdin=subprocess.PIPE, stderr=subprocess.PIPE, text=True, preexec_fn=bound)
+    said = server.stderr.readline()
+    if not said.startswith("dsheet: listening on "):
+        rest = server.stderr.read()
+        server.wait()
+        raise Failed(f"the server does not listen: {said}{rest} (status {server.returncode})")
+    return server, int(said.rsplit(":", 1)[1])
+
+
+class Client:
+    """One process of the sheet, and what it was told over all lives of the server."""
+
+    def __init__(self, process):
+        self.process = process
+        self.told = []
+        self.asked = None
+        self.full = False
+        self.wrong = None
+
+    def call(self, stream, **call):
+        stream.write(json.dumps(call) + "\n")
+        stream.flush()
+        line = stream.readline()
+        if not line.endswith("\n"):
+            raise ConnectionError
+        return json.loads(line)
+
+    def check_last(self, last):
+        """Holds what a recovery tells against what was told before."""
+        if last is None:
+            if self.told:
+                raise Failed(f"process {self.process}: {len(self.told)} edits were done, and none is told")
+            return
+        if last["outcome"] != "done":
+            raise Failed(f"process {self.process}: {last}")
+        number = last["number"]
+        if number == len(self.told) and self.asked is not None:
+            # The edit that was not answered was kept.
+            self.told.append(self.asked)
+        if number != len(self.told) - 1 or last["cell"] != self.told[number][0]:
+            raise Failed(f"process {self.process}: {last}, behind {len(self.told)} edits")
+
+    def life(self, port, draw):
+        """Joins, and edits until the server dies."""
+        try:
+            with socket.create_connection(("127.0.0.1", port), timeout=20) as link:
+                stream = link.makefile("rw")
+                joined = self.call(stream, op="join", process=self.process)
+                self.check_last(joined["last"])
+                self.asked = None
+                while True:
+                    cell = f"{chr(65 + self.process)}{draw.randint(1, ROWS)}"
+                    text = str(draw.randint(0, 10**9))
+                    self.asked = (cell, text)
+                    answer = self.call(stream, op="set", cell=cell, text=text)
+                    if answer.get("error") == "records-full":
+                        self.asked = None
+                        self.full = True
+                        return
+                    if answer.get("ok") != "done" or answer["number"] != len(self.told):
+                        raise Failed(f"process {self.process}: {answer}, behind {len(self.told)} edits")
+                    self.told.append(self.asked)
+                    self.asked = None
+        except (OSError, ConnectionError, json.JSONDecodeError):
+            pass
+        except Failed as wrong:
+            self.wrong = wrong
+
+    def texts(self):
+        return {cell: text for cell, text in self.told}
+
+
+def check_values(port, clients):
+    """All processes join, and a report shows the last text of each cell."""
+    for client in clients:
+        with socket.create_connection(("127.0.0.1", port), timeout=20) as link:
+            stream = link.makefile("rw")
+            client.check_last(client.call(stream, op="join", process=client.process)["last"])
+            client.asked = None
+            if client.process + 1 < len(clients):
+                continue
+            report = client.call(stream, op="report")
+            for column, of in enumerate(clients):
+                texts = of.texts()
+                for row in range(ROWS):
+                    wanted = texts.get(f"{chr(65 + column)}{row + 1}", "")
+                    if report["rows"][row][column] != wanted:
+                        raise Failed(f"{chr(65 + column)}{row + 1} shows {report['rows'][row][column]}, and not {wanted}")
+
+
+def stop(server):
+    server.stdin.write("stop\n")
+    server.stdin.flush()
+    server.communicate(timeout=30)
+    if server.returncode != 0:
+        raise Failed(f"a server that was told to stop ended with status {server.returncode}")
+
+
+def one_store(program, folder, kills, draw):
+    """Kills servers over one store until its processes have spent their edits; returns how many kills there were, how
+    many edits were told, and the store."""
+    store = os.path.join(folder, f"store{draw.randint(0, 10**9)}.db")
+    clients = [Client(process) for process in range(PROCESSES)]
+    done = 0
+    while done < kills and not all(client.full for client in clients):
+        server, port = start(program, store)
+        threads = [threading.Thread(target=client.life, args=(port, draw)) for client in clients]
+        for thread in threads:
+            thread.start()
+        time.sleep(draw.uniform(0.002, 0.12))
+        server.send_signal(signal.SIGTERM if draw.random() < 0.1 else signal.SIGKILL)
+        server.wait()
+        server.stderr.close()
+        server.stdin.close()
+        for thread in threads:
+            thread.join()
+        for client in clients:
+            if client.wrong:
+                raise client.wrong
+        done += 1
+    server, port = start(program, store)
+    check_values(port, clients)
+    stop(server)
+    told = sum(len(client.told) for client in clients)
+    said = run(program, "check", store)
+    if said.returncode != 0 or f"{told} edits count" not in said.stdout:
+        raise Failed(f"check says: {said.stdout}{said.stderr}, of {told} edits")
+    return done, told, store
 
 
 def run(program, *words, **more):
@@ -84,10 +233,34 @@ def check_files(program, folder, store):
     link.commit()
     link.close()
     expect("a line that can not be followed", run(program, "check", gap), 1, "line 5: its text is refused")
+    words = ["serve", "--listen", "127.0.0.1:0", "--columns", "5", "--rows", "8", "--processes", "4", "--store", store]
+    expect("another shape", run(program, *words), 1, "its sheet has 4 columns, 8 rows and 4 processes")
+    server, _port = start(program, store)
+    expect("open in another server", run(program, "check", store), 3, "another program has it open")
+    stop(server)
     if os.getuid() != 0:
         os.chmod(store, 0o444)
         expect("read-only", run(program, "check", store), 3, "unable to open")
         os.chmod(store, 0o644)
+
+
+def check_full(program, folder):
+    """A disk with no more room: what was told stands, and the server ends with a fault."""
+    store = os.path.join(folder, "full.db")
+    server, port = start(program, store, limit=60000)
+    client = Client(0)
+    client.life(port, random.Random(1))
+    server.stdin.close()
+    said = server.stderr.read()
+    server.wait(timeout=30)
+    if client.wrong or client.full or server.returncode not in (3, 4):
+        raise Failed(f"no room: status {server.returncode}, {len(client.told)} edits, {client.wrong}: {said}")
+    again, port = start(program, store)
+    with socket.create_connection(("127.0.0.1", port), timeout=20) as link:
+        stream = link.makefile("rw")
+        client.check_last(client.call(stream, op="join", process=0)["last"])
+    stop(again)
+    print(f"store: no room behind {len(client.told)} edits ... ok")
 
 
 def check_cuts(program, folder, store, cuts, draw):
@@ -110,27 +283,22 @@ def check_cuts(program, folder, store, cuts, draw):
     print(f"store: {cuts} cut files, {refused} refused ... ok")
 
 
-def lines_of(draw):
-    """A journal of 400 edits by four processes."""
-    lines = ["sheet 4 8 4"]
-    for number in range(400):
-        cell = f"{draw.choice('ABCD')}{draw.randint(1, 8)}"
-        text = draw.choice([str(draw.randint(0, 10**9)), "=[.A1]+1", "=SUM([.A1:.D8])", "=1+2*(3-[.B2])", ""])
-        lines.append(f"set {number % 4} {cell} {text}")
-    return "\n".join(lines) + "\n"
-
-
-def main(program, cuts="100", seed=None):
+def main(program, kills="200", cuts="100", seed=None):
     program = os.path.realpath(program)
     seed = int(seed) if seed else random.randrange(10**6)
     draw = random.Random(seed)
+    left, told, stores, begun = int(kills), 0, 0, time.monotonic()
     with tempfile.TemporaryDirectory() as folder:
         try:
-            store = os.path.join(folder, "sheet.db")
-            expect("import of 400 edits", run(program, "import", store, input=lines_of(draw)), 0, "")
-            expect("check", run(program, "check", store), 0, "400 edits count, none is in doubt")
+            store = None
+            while left > 0:
+                done, edits, store = one_store(program, folder, left, draw)
+                left, told, stores = left - done, told + edits, stores + 1
+            seconds = time.monotonic() - begun
+            print(f"store: {kills} kills over {stores} stores, {told} edits told, 0 lost, in {seconds:.0f} s ... ok")
             check_commands(program, folder, store)
             check_files(program, folder, store)
+            check_full(program, folder)
             check_cuts(program, folder, store, int(cuts), draw)
         except Failed as wrong:
             print(f"store: seed {seed}: {wrong}", file=sys.stderr)

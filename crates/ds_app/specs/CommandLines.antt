@@ -7,7 +7,7 @@ use Rattle.clap.specs.declared.builder.command.Command.TheViews.{out-Command as 
 use Rattle.clap.specs.declared.builder.action.ArgAction.TheVariants.{SetTrue}
 use Rattle.clap.specs.declared.builder.value_parser.ValueParser.TheVariants.{Signed}
 use Rattle.ds_app.specs.declared.command_line.Action.{Action}
-use Rattle.ds_app.specs.declared.command_line.Action.TheVariants.{Run, Stops, Report, Explore, Trace, Serve, Check, Export, Import, Compact}
+use Rattle.ds_app.specs.declared.command_line.Action.TheVariants.{Run, Stops, Report, Explore, Trace, Serve, Keep, Check, Export, Import, Compact}
 use Rattle.ds_app.specs.declared.command_line.OptionsFault.{OptionsFault}
 use Rattle.ds_app.specs.declared.command_line.OptionsFault.TheVariants.{CommandLine, NoCommand, NoFile, OutOfLimits}
 use Rattle.ds_app.specs.Explorings.{IsExploring}
@@ -64,10 +64,14 @@ sheet_command = with_rule
     (number_option (codes "processes") (codes "2"))) (number_option (codes "workers") (codes "0")))
     (number_option (codes "sessions") (codes "0"))
 
--- the same with [--at-once N] [--idle SECONDS]
+-- the option `--store` with one value
+abbrev pub store : Rule
+store = record (new_rule (codes "store")) { long = Some (codes "store"); value_names = 1 }
+
+-- the same with [--at-once N] [--idle SECONDS] [--store FILE]
 abbrev pub serve_command : App
-serve_command = with_rule (with_rule sheet_command (number_option (codes "at-once") (codes "64")))
-    (number_option (codes "idle") (codes "300"))
+serve_command = with_rule (with_rule (with_rule sheet_command (number_option (codes "at-once") (codes "64")))
+    (number_option (codes "idle") (codes "300"))) store
 
 -- an argument of this name, which has to be there
 abbrev pub file : Text → Rule
@@ -112,7 +116,8 @@ Asks name rows Stops = (name ≡ codes "run") × (one_of (codes "stops") rows �
 Asks name rows Report = name ≡ codes "report"
 Asks name rows Trace = name ≡ codes "trace"
 Asks name rows (Explore exploring) = (name ≡ codes "explore") × IsExploring rows exploring
-Asks name rows (Serve serving) = (name ≡ codes "serve") × IsServing rows serving
+Asks name rows (Serve serving) = (name ≡ codes "serve") × IsServing rows serving × (first_of (codes "store") rows ≡ None)
+Asks name rows (Keep serving path) = (name ≡ codes "serve") × IsServing rows serving × Names rows (codes "store") path.now
 Asks name rows (Check path) = (name ≡ codes "check") × Names rows (codes "file") path.now
 Asks name rows (Export path) = (name ≡ codes "export") × Names rows (codes "file") path.now
 Asks name rows (Import path) = (name ≡ codes "import") × Names rows (codes "file") path.now

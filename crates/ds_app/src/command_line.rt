@@ -4,7 +4,7 @@ ghost use Rattle.std.specs.Prelude.{◌≡◌, ◌↔◌, IfErr, IfOk, IsTrue, N
 ghost use Rattle.std.specs.String.{string_bytes};
 ghost use Rattle.clap.specs.Words.{App, app_of, fault_of, first_of, found_of, one_of, rows_of, rule_of};
 ghost use Rattle.ds_app.specs.declared.command_line.OptionsFault.TheVariants.{CommandLine, NoFile};
-ghost use Rattle.ds_app.specs.CommandLines.{Asks, AsksNothing, AsksOfStore, IsAskedBy, IsCommand, IsRefusedFor, IsWanting, Names, compact_command as compact_app, dsheet, dsheet_alone, explore_command as explore_app, file as file_rule, flag as flag_rule, file_command as file_app, listen as listen_rule, number_option as number_rule, report_command as report_app, run_command as run_app, serve_command as serve_app, sheet_command as sheet_app, trace_command as trace_app, with_stores};
+ghost use Rattle.ds_app.specs.CommandLines.{Asks, AsksNothing, AsksOfStore, IsAskedBy, IsCommand, IsRefusedFor, IsWanting, Names, compact_command as compact_app, dsheet, dsheet_alone, explore_command as explore_app, file as file_rule, flag as flag_rule, file_command as file_app, listen as listen_rule, number_option as number_rule, report_command as report_app, run_command as run_app, serve_command as serve_app, sheet_command as sheet_app, store as store_rule, trace_command as trace_app, with_stores};
 
 use crate::exploring::{Exploring, is_set, read_exploring};
 use crate::serving::{OutOfLimits, Serving, read_serving};
@@ -26,6 +26,8 @@ pub enum Action<'a> {
     Trace,
     /// `dsheet serve`: sessions over connections.
     Serve(Serving),
+    /// `dsheet serve --store FILE`: the same, over the sheet of a store.
+    Keep(Serving, &'a str),
     /// `dsheet check FILE`: what a store has.
     Check(&'a str),
     /// `dsheet export FILE`: the lines of a store.
@@ -153,6 +155,10 @@ sessions have joined a process as --sessions says; the sessions that are there t
 end with their clients. The last processes are the workers': they go round the cells and work on those that are
 marked; no session can join them. Once it listens it says so on standard error, with its port.
 
+With --store the sheet is that of a file, which is made where there is none: no answer leaves before the edits that
+were made before it are kept there. Kill the server, start it with the same words, and ask: each edit that was
+answered done is there, and a join tells of the last one. Its shape and its processes have to be those of the file.
+
 The protocol: a line of JSON in, a line of JSON out, before the next line is read. Cells are texts, as \"A1\".
   {\"op\":\"join\",\"process\":0}                   takes a process, and tells of its last edit, as last does
   {\"op\":\"set\",\"cell\":\"A1\",\"text\":\"=1+2\"}      an edit
@@ -173,11 +179,11 @@ last line: 16 busy (as many sessions as --at-once), 17 too-long, 18 idle (nothin
 19 where the client speaks HTTP or TLS.
 
 Example:
-  dsheet serve --listen 127.0.0.1:8080 &
+  dsheet serve --listen 127.0.0.1:8080 --store sheet.db &
   printf '{\"op\":\"join\",\"process\":0}\\n{\"op\":\"report\"}\\n' | nc -N 127.0.0.1 8080
 
-Exit status: 0 ended; 2 wrong words on the command line; 3 the address can not be listened on, or no connection
-taken from it; 4 no memory.
+Exit status: 0 ended; 1 a store that is another sheet's, or unsound; 2 wrong words on the command line; 3 the address
+can not be listened on, or no connection taken from it, or the store not be opened or written; 4 no memory.
 Each session that does not end with its client is one line on standard error, and so is what all came to.";
 
 const CHECK_ABOUT: &str = "Reads a store, and says what it has, or which line is unsound";
@@ -326,6 +332,19 @@ fn listen_option<'a>(alloc: Global) -> Arg<'a>
         .help("The address and the port, as 127.0.0.1:8080")
 }
 
+// The option of `serve` that has the store.
+fn store_option<'a>(alloc: Global) -> Arg<'a>
+    ensures rule { rule_of result ≡ store_rule }
+    ensures local { result.global ≡ false }
+{
+    Arg::new(alloc, "store")
+        .long("store")
+        .value_name("FILE")
+        .help(
+            "Keeps the edits in this file, which is made where there is none, and begins with those it has",
+        )
+}
+
 // An argument that has to be there.
 fn file_argument<'a>(alloc: Global, name: &'a str, value_name: &'a str, help: &'a str) -> Arg<'a>
     ensures rule { rule_of result ≡ file_rule name.now }
@@ -403,7 +422,8 @@ fn serve_command<'a>(alloc: Global) -> Result<Command<'a>, AllocError>
     let idle = number_option(alloc, "idle", "300", idle_help);
     let one = command.arg(at_once)?;
     let two = one.arg(idle)?;
-    two.bin_name("dsheet serve")
+    let three = two.arg(store_option(alloc))?;
+    three.bin_name("dsheet serve")
 }
 
 // The program without its subcommands.
@@ -464,9 +484,13 @@ fn served<'a>(found: &ArgMatches<'a>) -> Result<Action<'a>, OptionsFault>
     ensures action { IfOk result (Asks (codes "serve") (rows_of (found_of found.now))) }
     ensures fault { IfErr result (AsksNothing (codes "serve") (rows_of (found_of found.now))) }
 {
-    match read_serving(found) {
-        Ok(serving) => Ok(Action::Serve(serving)),
-        Err(limit) => Err(OptionsFault::OutOfLimits(limit)),
+    let serving = match read_serving(found) {
+        Ok(serving) => serving,
+        Err(limit) => return Err(OptionsFault::OutOfLimits(limit)),
+    };
+    match value_of(found, "store") {
+        Ok(path) => Ok(Action::Keep(serving, path)),
+        Err(_) => Ok(Action::Serve(serving)),
     }
 }
 

@@ -17,7 +17,7 @@ use crate::command_line::{Action, OptionsFault, options};
 use crate::descriptors::stand_ins;
 use crate::explore::explore;
 use crate::progress::Progress;
-use crate::serve::serve;
+use crate::serve::{serve, serve_store};
 use crate::status::{NO_MEMORY, STREAM_FAILED, WRONG_WORDS, grid_status, script_status};
 use crate::stores::{check, compact, export, import};
 use crate::trace::trace;
@@ -156,6 +156,7 @@ fn dispatch<
         Ok(Action::Explore(exploring)) => explore(rt, exploring, is_terminal),
         Ok(Action::Trace) => trace(rt),
         Ok(Action::Serve(serving)) => serve(rt, serving),
+        Ok(Action::Keep(serving, path)) => serve_store(rt, serving, path),
         Ok(Action::Check(path)) => check(rt, path),
         Ok(Action::Export(path)) => export(rt, path),
         Ok(Action::Import(path)) => import(rt, path),

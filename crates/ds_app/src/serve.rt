@@ -1,15 +1,19 @@
 //! `dsheet serve`.
 
-ghost use Rattle.std.specs.Prelude.{◌≤◌};
-ghost use Rattle.ds_formula.specs.Limits.{PROCESSES_MOST};
 ghost use Rattle.ds_app.specs.Servings.{IsWithinLimits};
 
 use crate::control::{Control, listen};
 use crate::serving::Serving;
 use crate::status::{NO_MEMORY, STREAM_FAILED};
+use crate::stores::{Disk, close, tell_fault};
 use ds_serve::counts::Taken;
 use ds_serve::door::Door;
-use ds_serve::server::{ServeError, Service};
+use ds_serve::keeping::Keeping;
+use ds_serve::server::{self, ServeError, Service};
+use ds_serve::stored;
+use ds_state::world::World;
+use ds_store::open::Databases;
+use ds_store::store::{Opened, Store, open_or_make};
 use log::Log;
 use std::net::{Net, SocketAddr, TcpListener, TcpStream};
 use std::sync::Wait;
@@ -23,9 +27,93 @@ fn say_where(rt: &impl Eprint, listener: &TcpListener, asked: SocketAddr) {
     let _told = eprintln!(rt; "dsheet: listening on {at}");
 }
 
-/// Serves until it is told to stop, by a line `stop` on standard input, or as many sessions have joined a process as are
-/// asked for, and all sessions have ended; and gives the status: 0, or what an error says, which is told on standard
-/// error. Once it listens it says so there.
+// What a server that ended so tells on standard error, and its status. The name is that of its store, if it has one.
+fn ended(
+    rt: &impl Eprint,
+    listen: SocketAddr,
+    store: &str,
+    served: &Result<Taken, ServeError>,
+) -> u8 {
+    match served {
+        Ok(_) => 0,
+        Err(ServeError::NoMemory) => {
+            let _told = eprintln!(rt; "dsheet: no memory");
+            NO_MEMORY
+        }
+        Err(ServeError::Listener(error)) => {
+            let _told = eprintln!(rt; "dsheet: {listen}: {error}");
+            STREAM_FAILED
+        }
+        Err(ServeError::Store(fault)) => tell_fault(rt, store, fault),
+    }
+}
+
+// Where the server listens. An error is the status, when standard error has been told.
+fn bound<R: Eprint + Net<Stream = TcpStream, Listener = TcpListener>>(
+    rt: &R,
+    listen: SocketAddr,
+) -> Result<TcpListener, u8> {
+    match TcpListener::bind(rt, listen) {
+        Ok(listener) => {
+            say_where(rt, &listener, listen);
+            Ok(listener)
+        }
+        Err(error) => {
+            let _told = eprintln!(rt; "dsheet: {listen}: {error}");
+            Err(STREAM_FAILED)
+        }
+    }
+}
+
+// What the server is to be beside its sheet.
+fn service_of(serving: Serving) -> Service {
+    Service {
+        workers: serving.workers,
+        sessions: serving.sessions as u64,
+        at_once: serving.at_once as u64,
+        idle: serving.idle as u64,
+    }
+}
+
+// What a line `stop` on standard input does while a server runs: its door is told.
+fn control<R: AllocGlobal + Input + Net + Wait>(rt: &R, door: &Door) {
+    if let Some(control) = Control::new(rt) {
+        listen(rt, control, door);
+    }
+}
+
+// Serves a sheet, while standard input is read in a thread of its own.
+fn serve_world<
+    R: AllocGlobal
+        + Input
+        + Threads
+        + Wait
+        + Clock
+        + Log
+        + Net<Stream = TcpStream, Listener = TcpListener>
+        + Sync,
+>(
+    rt: &R,
+    listener: &TcpListener,
+    world: World,
+    service: Service,
+) -> Result<Taken, ServeError> {
+    let door = Door::new();
+    let ((), served) = thread::join(
+        rt,
+        || control(rt, &door),
+        || {
+            let served = server::serve(rt, rt.alloc(), listener, world, &door, service);
+            door.end();
+            served
+        },
+    );
+    served
+}
+
+/// Serves a new sheet until it is told to stop, by a line `stop` on standard input, or as many sessions have joined a
+/// process as are asked for, and all sessions have ended; and gives the status: 0, or what an error says, which is told
+/// on standard error. Once it listens it says so there.
 pub fn serve<
     R: AllocGlobal
         + Eprint
@@ -39,55 +127,92 @@ pub fn serve<
 >(rt: &R, serving: Serving) -> u8
     requires { IsWithinLimits serving }
 {
-    let listener = match TcpListener::bind(rt, serving.listen) {
+    let listener = match bound(rt, serving.listen) {
         Ok(listener) => listener,
-        Err(error) => {
-            let _told = eprintln!(rt; "dsheet: {}: {error}", serving.listen);
-            return STREAM_FAILED;
-        }
+        Err(status) => return status,
     };
-    say_where(rt, &listener, serving.listen);
-    let service = Service {
-        workers: serving.workers,
-        sessions: serving.sessions as u64,
-        at_once: serving.at_once as u64,
-        idle: serving.idle as u64,
+    let Ok(world) = World::new(rt.alloc(), serving.shape, serving.processes) else {
+        return ended(rt, serving.listen, "", &Err(ServeError::NoMemory));
     };
-    let control = Control::new(rt);
-    let door = Door::new();
-    let (shape, processes) = (serving.shape, serving.processes);
-    let (served, ()) = thread::join(
+    let served = serve_world(rt, &listener, world, service_of(serving));
+    ended(rt, serving.listen, "", &served)
+}
+
+// Serves the sheet of a store, which keeps the edits that are made, while standard input is read in a thread of its own.
+fn serve_kept<
+    R: AllocGlobal
+        + Input
+        + Threads
+        + Wait
+        + Clock
+        + Log
+        + Net<Stream = TcpStream, Listener = TcpListener>
+        + Sync,
+>(
+    rt: &R,
+    listener: &TcpListener,
+    world: World,
+    service: Service,
+    store: &mut Store<Disk>,
+) -> Result<Taken, ServeError> {
+    let door = Door::with_store(Some(Keeping::new(rt.alloc())));
+    let ((), served) = thread::join(
         rt,
-        || -> Result<Taken, ServeError>
-            requires { (1 ≤ processes) × (processes ≤ PROCESSES_MOST) }
-        {
-            let served = ds_serve::server::serve(
-                rt,
-                rt.alloc(),
-                &listener,
-                shape,
-                processes,
-                &door,
-                service,
-            );
+        || control(rt, &door),
+        || {
+            let served = stored::serve(rt, rt.alloc(), listener, world, &door, service, store);
             door.end();
             served
         },
-        || {
-            if let Some(control) = control {
-                listen(rt, control, &door);
-            }
-        },
     );
-    match served {
-        Ok(_) => 0,
-        Err(ServeError::NoMemory) => {
-            let _told = eprintln!(rt; "dsheet: no memory");
-            NO_MEMORY
-        }
-        Err(ServeError::Listener(error)) => {
-            let _told = eprintln!(rt; "dsheet: {}: {error}", serving.listen);
-            STREAM_FAILED
-        }
+    served
+}
+
+// Opens the store at this path, or makes it. An error is the status, when standard error has been told.
+fn opened<R: AllocGlobal + Eprint + Databases>(
+    rt: &R,
+    serving: Serving,
+    path: &str,
+) -> Result<Opened<Disk>, u8>
+    requires { IsWithinLimits serving }
+{
+    let opened = match rt.open_database(path) {
+        Ok(conn) => open_or_make(rt.alloc(), conn, serving.shape, serving.processes),
+        Err(fault) => Err(fault),
+    };
+    match opened {
+        Ok(opened) => Ok(opened),
+        Err(fault) => Err(tell_fault(rt, path, &fault)),
+    }
+}
+
+/// The same with the store at this path, which is made where there is none: each answer waits until the edits before it
+/// are committed. Where they can not be, the server stops, and its status says why.
+pub fn serve_store<
+    R: AllocGlobal
+        + Eprint
+        + Input
+        + Threads
+        + Wait
+        + Clock
+        + Log
+        + Net<Stream = TcpStream, Listener = TcpListener>
+        + Databases
+        + Sync,
+>(rt: &R, serving: Serving, path: &str) -> u8
+    requires { IsWithinLimits serving }
+{
+    let Opened { mut store, sheet } = match opened(rt, serving, path) {
+        Ok(opened) => opened,
+        Err(status) => return status,
+    };
+    let listener = match bound(rt, serving.listen) {
+        Ok(listener) => listener,
+        Err(status) => return status,
+    };
+    let served = serve_kept(rt, &listener, sheet, service_of(serving), &mut store);
+    match ended(rt, serving.listen, path, &served) {
+        0 => close(rt, path, store),
+        status => status,
     }
 }

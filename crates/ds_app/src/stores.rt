@@ -14,11 +14,11 @@ use std::fs::{self, File, Files};
 use std::io::{self, BufWriter, Write};
 use std::str;
 
-// What a database lies in: a file, of which a crash leaves the last commit.
-type Disk = FileStore<FileFrom<Wary>>;
+/// What a database lies in: a file, of which a crash leaves the last commit.
+pub type Disk = FileStore<FileFrom<Wary>>;
 
-// Tells on standard error what is wrong with the store at this path, and gives its status.
-fn tell_fault(rt: &impl Eprint, path: &str, fault: &StoreFault) -> u8 {
+/// Tells on standard error what is wrong with the store at this path, and gives its status.
+pub fn tell_fault(rt: &impl Eprint, path: &str, fault: &StoreFault) -> u8 {
     let _told = eprintln!(rt; "dsheet: {path}: {fault}");
     store_status(fault)
 }
@@ -64,8 +64,8 @@ fn open_new<R: AllocGlobal + Eprint + Databases>(
     }
 }
 
-// Closes a store, whose file has all of it then, and gives the status.
-fn close<R: Eprint>(rt: &R, path: &str, store: Store<Disk>) -> u8 {
+/// Closes a store, whose file has all of it then, and gives the status.
+pub fn close<R: Eprint>(rt: &R, path: &str, store: Store<Disk>) -> u8 {
     match store.into_database().close() {
         Ok(()) => 0,
         Err(error) => tell_fault(rt, path, &StoreFault::from(error)),

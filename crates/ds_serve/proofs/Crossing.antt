@@ -14,12 +14,35 @@ use Rattle.crossbeam_queue.specs.contracts.array_queue.plain.ArrayQueue as Array
 use Rattle.ds_crew.specs.contracts.pass.Pass as Pass
 use Rattle.ds_crew.proofs.Crossing.{pass_send}
 use Rattle.ds_serve.specs.contracts.door.Door as Door
+use Rattle.ds_serve.specs.contracts.keeping.Keeping as Keeping
+use Rattle.ds_serve.specs.contracts.keeping.Told as Told
+use Rattle.ds_store.specs.contracts.edit.ToldEdit as ToldEdit
+use Rattle.ds_formula.specs.contracts.cells.Cell as Cell
+use Rattle.std.specs.contracts.sync.Condvar as Condvar
 
 pub told_sync : IsSync (Mutex.the_row bool)
 told_sync = search (sendable, crosses) depth 40
 
+Cell-send : IsSend Cell.the_row
+Cell-send = search (sendable, crosses) depth 20
+
+edit_send : IsSend ToldEdit.the_row
+edit_send = search (sendable, crosses, Cell-send) depth 40
+
+told_send : IsSend Told.the_row
+told_send = search (sendable, crosses, edit_send) depth 40
+
+told_lock : IsSync (Mutex.the_row Told.the_row)
+told_lock = search (sendable, crosses, told_send) depth 40
+
+signal_sync : IsSync Condvar.the_row
+signal_sync = search (sendable, crosses) depth 40
+
+keeping_sync : IsSync Keeping.the_row
+keeping_sync = search (sendable, crosses, told_sync, told_lock, signal_sync) depth 40
+
 pub door_sync : IsSync Door.the_row
-door_sync = search (sendable, crosses) depth 40
+door_sync = search (sendable, crosses, keeping_sync) depth 60 fits 100000
 
 pub stream_send : IsSend TcpStream.the_row
 stream_send = search (sendable, crosses) depth 40

@@ -1,5 +1,5 @@
 -- What a server makes of the connections that it is given, and when it ends.
-use Rattle.std.specs.Prelude.{◌≡◌, ◌<◌, ◌≤◌, ◌+◌, ℕ, Bool, true, false, Ok, Err}
+use Rattle.std.specs.Prelude.{⊥, ◌≡◌, ◌<◌, ◌≤◌, ◌+◌, ℕ, Bool, true, false, Ok, Err}
 use Rattle.std.specs.IoError.{error_kind}
 use Rattle.std.specs.declared.io.ErrorKind.{ErrorKind}
 use Rattle.std.specs.declared.io.ErrorKind.TheVariants.{WouldBlock, ConnectionAborted, ConnectionReset, TimedOut, NetworkDown, NetworkUnreachable, HostUnreachable, OutOfMemory, Uncategorized}
@@ -11,7 +11,7 @@ use Rattle.ds_serve.specs.declared.counts.Taken.{Taken}
 use Rattle.ds_serve.specs.declared.accepting.Waited.{Waited}
 use Rattle.ds_serve.specs.declared.accepting.Waited.TheVariants as waited
 use Rattle.ds_serve.specs.declared.server.ServeError.{ServeError}
-use Rattle.ds_serve.specs.declared.server.ServeError.TheVariants.{Listener, NoMemory}
+use Rattle.ds_serve.specs.declared.server.ServeError.TheVariants.{Listener, NoMemory, Store}
 
 -- a failure of this kind passes: no connection came in time, it is of one connection alone or of the way to its client,
 -- or descriptors or memory are wanting
@@ -45,11 +45,18 @@ pub record IsServed (most : ℕ) (taken : Taken) : Type 0 where
   pub ended : HasEnded most taken.ending
   pub all : taken.connections ≡ taken.sessions + taken.refused
 
--- a server ends ill only at a failure of its listener that does not pass, or for want of memory before its first
--- connection
+-- a server with no store ends ill only at a failure of its listener that does not pass, or for want of memory before its
+-- first connection
 abbrev pub IsLasting : ServeError → Type 0
 IsLasting (Listener error) = passes (error_kind error) ≡ false
 IsLasting NoMemory = Unit {0}
+IsLasting (Store fault) = ⊥
+
+-- a server with a store ends ill so, or at a fault of its store
+abbrev pub IsStoredLasting : ServeError → Type 0
+IsStoredLasting (Listener error) = IsLasting (Listener error)
+IsStoredLasting NoMemory = IsLasting NoMemory
+IsStoredLasting (Store fault) = Unit {0}
 
 -- the next step of a server that is to serve so many sessions: a session; or its end, for a reason that ends it
 abbrev pub IsStep : ℕ → Step → Type 0

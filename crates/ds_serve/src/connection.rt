@@ -3,6 +3,7 @@
 use crate::desk::Desk;
 use crate::door::Door;
 use crate::farewell::{Farewell, is_foreign, part};
+use crate::held::Held;
 use crate::visit::Visit;
 use crate::wire::{Wire, prepare};
 use crossbeam_queue::ArrayQueue;
@@ -58,6 +59,7 @@ fn parting_of(end: SessionEnd, visit: &Visit<'_>) -> Parting {
         SessionEnd::TooLong => Parting::Told(Farewell::TooLong),
         SessionEnd::ReadFailed => Parting::Broken("read failed").unless_idle(visit),
         SessionEnd::WriteFailed if visit.was_idle() => Parting::Broken("idle, and reads nothing"),
+        SessionEnd::WriteFailed if visit.is_lost() => Parting::Broken("the store has failed"),
         SessionEnd::WriteFailed => Parting::Broken("write failed"),
         SessionEnd::NoMemory => Parting::Broken("no memory"),
     }
@@ -96,7 +98,8 @@ fn one<L: Ledger, M: Ledger, R: Wait + Clock>(
         return Parting::Broken("no memory");
     };
     let mut reader = Reading::new(buffered);
-    let mut writer = Writing::new(Wire::new(stream, visit, ticks));
+    let wire = Wire::new(stream, visit, ticks);
+    let mut writer = Writing::new(Held::new(rt, wire, visit));
     let mut desk = Desk::new(rt, sheet, queues, visit);
     parting_of(session(alloc, &mut reader, &mut writer, &mut desk), visit)
 }

@@ -7,6 +7,7 @@ ghost use Rattle.ds_server.specs.BoardCalls.{Last, Set, Report};
 ghost use Rattle.ds_server.specs.Replies.{last_view, set_view, report_view};
 ghost use Rattle.ds_serve.specs.Desks.{Deals, IsToldBy};
 
+use crate::keeping::Keeping;
 use crate::settle::settle;
 use crate::visit::Visit;
 use crossbeam_queue::ArrayQueue;
@@ -90,6 +91,34 @@ fn edited<L: Ledger, M: Ledger, R: Wait>(
         return Err(CallRefusal::NoMemory);
     };
     ended(sheet.edit(rt, alloc, pass, cell, text))
+}
+
+// The same in the sheet of a store: edits go one behind another, and the keeper of the store is told of each that is
+// done before the next one begins.
+fn edited_in_turn<L: Ledger, M: Ledger, R: Wait>(
+    rt: &R,
+    alloc: Global,
+    sheet: &LockedSheet<L, M>,
+    keeping: &Keeping,
+    pass: &mut Pass<L, M>,
+    cell: Cell,
+    text: &[u8],
+) -> Result<EditEnd, CallRefusal>
+    ensures { Deals (Some pass.old) (Set pass.old.process cell text.now) (set_view result) (Some pass.new) }
+{
+    let Ok(text) = Vec::from_slice(alloc, text) else {
+        return Err(CallRefusal::NoMemory);
+    };
+    let _turn = keeping.take_turn(rt);
+    match sheet.edit(rt, alloc, pass, cell, text) {
+        Edited::Done(receipt) => {
+            pass.has_used();
+            let number = receipt.number;
+            keeping.tell(rt, receipt);
+            Ok(EditEnd::Done(number))
+        }
+        other => ended(other),
+    }
 }
 
 // Puts the values into room that is there.
@@ -180,7 +209,12 @@ impl<'a, L: Ledger, M: Ledger, R: Wait> Board for Desk<'a, L, M, R> {
         let Some(pass) = &mut self.pass else {
             unreachable!()
         };
-        let end = edited(self.rt, alloc, self.sheet, pass, cell, text);
+        let end = match self.visit.keeping() {
+            Some(keeping) => {
+                edited_in_turn(self.rt, alloc, self.sheet, keeping, pass, cell, text)
+            }
+            None => edited(self.rt, alloc, self.sheet, pass, cell, text),
+        };
         self.visit.counts_set(&end);
         end
     }

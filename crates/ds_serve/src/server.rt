@@ -1,7 +1,6 @@
 //! Serves connections, each in its thread.
 
-ghost use Rattle.std.specs.Prelude.{◌≡◌, ◌≤◌, IfErr, IfOk};
-ghost use Rattle.ds_formula.specs.Limits.{PROCESSES_MOST};
+ghost use Rattle.std.specs.Prelude.{◌≡◌, IfErr, IfOk};
 ghost use Rattle.ds_serve.specs.Accepting.{IsLasting, IsServed};
 
 use crate::accepting::{Step, next_session, prepare, room};
@@ -14,8 +13,8 @@ use crate::worker::work_on;
 use crossbeam_queue::ArrayQueue;
 use ds_crew::locked::LockedSheet;
 use ds_crew::pass::Pass;
-use ds_formula::cells::Shape;
 use ds_state::world::World;
+use ds_store::fault::StoreFault;
 use log::{Log, error, info, warn};
 use std::alloc::{AllocError, Global};
 use std::io::{self, ErrorKind};
@@ -47,8 +46,11 @@ pub enum ServeError {
     /// Its listener has failed for good: 101 times one behind another, with a rest of a tenth of a second behind each,
     /// and never for one connection alone, nor for want of descriptors or memory.
     Listener(io::Error),
-    /// Memory was wanting before the first connection.
+    /// Memory was wanting before the first connection, or the system has no thread for a server with a store.
     NoMemory,
+    /// The store could not keep an edit, and the server was stopped: no answer has left behind it. Only of a server with a
+    /// store.
+    Store(StoreFault),
 }
 
 impl From<AllocError> for ServeError {
@@ -237,7 +239,7 @@ pub fn serve_sheet<
 
 // Closes the sheet with the passes of all its processes, and says in the log where one is lost, or keeps other values
 // than the sheet.
-fn close<L: Ledger, M: Ledger, R: Wait + Log>(
+pub(crate) fn close<L: Ledger, M: Ledger, R: Wait + Log>(
     rt: &R,
     alloc: Global,
     sheet: LockedSheet<L, M>,
@@ -257,7 +259,7 @@ fn close<L: Ledger, M: Ledger, R: Wait + Log>(
 }
 
 // The last line of the log.
-fn sum_up<R: Log>(rt: &R, taken: &Taken, door: &Door) {
+pub(crate) fn sum_up<R: Log>(rt: &R, taken: &Taken, door: &Door) {
     let totals = door.totals();
     info!(rt; "served {} connections, {} of them refused as busy; {} sessions joined; edits: {} done, {} overtaken; {} calls refused; {} reports",
         taken.connections(), taken.refused(), totals.joined, totals.done, totals.overtaken, totals.refused, totals.reports);
@@ -296,28 +298,23 @@ fn serve_world<
     Ok(taken)
 }
 
-/// Serves a new sheet of this shape with 1 to 8 processes, as `serve_sheet` says, and closes it: the log says what the
-/// sessions came to, and where a process was lost or keeps other values than the sheet. An error is that of the listener,
-/// which has failed for good, or want of memory before the first connection is taken; no connection that breaks off, and
-/// no want of descriptors, ends the server.
+/// Serves this sheet, as `serve_sheet` says, and closes it: the log says what the sessions came to, and where a process
+/// was lost or keeps other values than the sheet. An error is that of the listener, which has failed for good, or want of
+/// memory before the first connection is taken; no connection that breaks off, and no want of descriptors, ends the
+/// server.
 pub fn serve<R: Threads + Wait + Clock + Log + Sync>(
     rt: &R,
     alloc: Global,
     listener: &TcpListener,
-    shape: Shape,
-    processes: usize,
+    world: World,
     door: &Door,
     service: Service,
 ) -> Result<Taken, ServeError>
-    requires some { 1 ≤ processes }
-    requires most { processes ≤ PROCESSES_MOST }
     ensures served { IfOk result (IsServed service.sessions) }
     ensures lasting { IfErr result IsLasting }
 {
-    let Ok(world) = World::new(alloc, shape, processes) else {
-        return Err(ServeError::NoMemory);
-    };
-    let parts = processes as u64;
+    world.is_always_good();
+    let parts = world.words.layout().processes as u64;
     let (dones, settleds) = (Blank::new(parts), Blank::new(parts));
     serve_world::<Brand, Brand, _>(rt, alloc, listener, world, dones, settleds, door, service)
 }

@@ -1,17 +1,19 @@
 //! What one session notes of itself beside its calls.
 
 use crate::door::Door;
+use crate::keeping::Keeping;
 use ds_server::board::{CallRefusal, EditEnd, ReportEnd};
 use std::sync::atomic::{AtomicBool, AtomicU64, Ordering};
 
-/// A session, as the log tells it: which process it has joined, and whether its client was silent for too long. It
-/// counts in the totals of its server.
+/// A session, as the log tells it: which process it has joined, whether its client was silent for too long, and whether
+/// an answer was not given since the store has failed. It counts in the totals of its server.
 #[derive(Drop)]
 pub struct Visit<'a> {
     door: &'a Door,
     // The process that was joined, and 1; 0 before.
     seat: AtomicU64,
     idle: AtomicBool,
+    lost: AtomicBool,
 }
 
 impl<'a> Visit<'a> {
@@ -21,6 +23,7 @@ impl<'a> Visit<'a> {
             door,
             seat: AtomicU64::new(0),
             idle: AtomicBool::new(false),
+            lost: AtomicBool::new(false),
         }
     }
 
@@ -43,6 +46,11 @@ impl<'a> Visit<'a> {
         self.door.is_told()
     }
 
+    // What is shared with the keeper of the server's store, if it has one.
+    pub(crate) fn keeping(&self) -> Option<&Keeping> {
+        self.door.keeping()
+    }
+
     // Its client has neither said nor taken anything for too long.
     pub(crate) fn waits_no_longer(&self) {
         self.idle.store(true, Ordering::SeqCst);
@@ -50,6 +58,15 @@ impl<'a> Visit<'a> {
 
     pub(crate) fn was_idle(&self) -> bool {
         self.idle.load(Ordering::SeqCst)
+    }
+
+    // What it was to say can not be said: the store has failed.
+    pub(crate) fn loses(&self) {
+        self.lost.store(true, Ordering::SeqCst);
+    }
+
+    pub(crate) fn is_lost(&self) -> bool {
+        self.lost.load(Ordering::SeqCst)
     }
 
     pub(crate) fn joins(&self, process: usize) {

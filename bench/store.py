@@ -1,0 +1,68 @@
+#!/usr/bin/env python3
+"""Prints how many edits a second a server makes with and without a store, by the number of clients, and how long a store
+with all its edits takes to open.
+
+store.py PROGRAM CLIENTS RUNS     the program, the built clients.cpp, and how many runs of each, which take turns
+"""
+import os
+import socket
+import statistics
+import subprocess
+import sys
+import tempfile
+import time
+
+EDITS = 256
+CLIENTS = (1, 2, 4, 8)
+SHAPE = ["--columns", "16", "--rows", "64", "--processes", "8"]
+
+
+def serve(program, sessions, store):
+    """Starts a server that ends behind so many sessions; returns it and its port."""
+    words = [program, "serve", "--listen", "127.0.0.1:0", *SHAPE, "--sessions", str(sessions)]
+    words += ["--store", store] if store else []
+    server = subprocess.Popen(words, stdin=subprocess.DEVNULL, stderr=subprocess.PIPE, text=True)
+    return server, int(server.stderr.readline().rsplit(":", 1)[1])
+
+
+def edits_a_second(program, clients_program, clients, store):
+    server, port = serve(program, clients, store)
+    try:
+        asked = [clients_program, str(port), str(clients), str(EDITS)]
+        return 1e6 / float(subprocess.run(asked, stdout=subprocess.PIPE, check=True, timeout=120).stdout)
+    finally:
+        server.communicate(timeout=60)
+
+
+def seconds_to_open(program, store):
+    """From the start of a server to its first word, with a store of all edits of eight processes."""
+    start = time.perf_counter()
+    server, port = serve(program, 1, store)
+    seconds = time.perf_counter() - start
+    with socket.create_connection(("127.0.0.1", port)) as link:
+        link.sendall(b'{"op":"join","process":0}\n')
+        link.recv(1000)
+    server.communicate(timeout=60)
+    return seconds
+
+
+def main():
+    program, clients_program, runs = sys.argv[1], sys.argv[2], int(sys.argv[3])
+    rates = {(clients, kept): [] for clients in CLIENTS for kept in (False, True)}
+    opened = []
+    with tempfile.TemporaryDirectory() as folder:
+        for run in range(runs):
+            for clients, kept in rates:
+                store = os.path.join(folder, f"{run}-{clients}.db") if kept else None
+                rates[clients, kept].append(edits_a_second(program, clients_program, clients, store))
+            opened.append(seconds_to_open(program, os.path.join(folder, f"{run}-8.db")))
+    one = statistics.median(rates[1, True])
+    print("| Clients | edits a second, no store | with a store | to one client with a store |")
+    print("|---|---|---|---|")
+    for clients in CLIENTS:
+        alone, kept = (statistics.median(rates[clients, it]) for it in (False, True))
+        print(f"| {clients} | {alone:,.0f} | {kept:,.0f} | {kept / one:.1f} |")
+    print(f"\nA store of {8 * EDITS:,} edits is open {statistics.median(opened) * 1000:.0f} ms behind the start of its server.")
+
+
+main()

@@ -1,0 +1,61 @@
+//! The keeper of a store: it keeps the edits that the sessions of a server have made.
+
+use crate::door::Door;
+use crate::keeping::Keeping;
+use ds_store::fault::StoreFault;
+use ds_store::store::Store;
+use sqlite::Alter;
+use std::alloc::Global;
+use std::sync::Wait;
+
+impl Keeping {
+    // Keeps the edits that it is told, as many at once as have come, until no more are told and all are kept.
+    fn keep<S: Alter + Drop, R: Wait>(
+        &self,
+        rt: &R,
+        alloc: Global,
+        store: &mut Store<S>,
+    ) -> Result<(), StoreFault> {
+        for _ in rt.forever() {
+            let edits = self.take(rt, alloc);
+            if edits.is_empty() {
+                break;
+            }
+            store.keep_all(alloc, &edits)?;
+            self.count(rt, edits.len());
+        }
+        if self.has_failed(rt) {
+            return Err(StoreFault::NoMemory);
+        }
+        Ok(())
+    }
+}
+
+impl Door {
+    /// Keeps the edits that the sessions of the server make in its store, as many at once as have come, until the server
+    /// has ended and all are kept. Where some can not be kept, nothing is kept any more: whoever waits for it is told so,
+    /// and the server is told to stop.
+    pub fn keep<S: Alter + Drop, R: Wait>(
+        &self,
+        rt: &R,
+        alloc: Global,
+        store: &mut Store<S>,
+    ) -> Result<(), StoreFault> {
+        let Some(keeping) = self.keeping() else {
+            return Ok(());
+        };
+        let kept = keeping.keep(rt, alloc, store);
+        if kept.is_err() {
+            keeping.fail(rt);
+            self.tell();
+        }
+        kept
+    }
+
+    /// The server has ended: no more edits are made that are to be kept.
+    pub fn end_keeping<R: Wait>(&self, rt: &R) {
+        if let Some(keeping) = self.keeping() {
+            keeping.end(rt);
+        }
+    }
+}

@@ -1,0 +1,144 @@
+//! What the sessions of a server tell the keeper of its store, and wait for.
+
+ghost use Rattle.ds_core.specs.declared.event.Event.TheVariants.{BeginEdit};
+ghost use Rattle.ds_core.specs.declared.reply.Reply.TheVariants.{Answered};
+ghost use Rattle.ds_crew.specs.Kept.{HasUsed};
+ghost use Rattle.ds_edit.specs.declared.answer.Answer.TheVariants.{Done};
+
+use ds_crew::ended::Receipt;
+use ds_store::edit::ToldEdit;
+use std::alloc::Global;
+use std::mem;
+use std::sync::{Condvar, Mutex, MutexGuard, Wait};
+
+/// How far a keeper has come.
+#[derive(Clone, Copy, Debug, PartialEq, Eq)]
+enum Phase {
+    // It keeps what it is told.
+    Keeps,
+    // It is told no more, and ends when all that it was told is kept.
+    Ends,
+    // It could not keep something, and keeps nothing more.
+    Failed,
+}
+
+// What was told, and what of it is kept.
+#[derive(Drop)]
+struct Told {
+    // The edits that the keeper has not taken yet, in the order in which they were made.
+    edits: Vec<ToldEdit>,
+    // How many edits were told, and how many of them are kept.
+    told: u64,
+    kept: u64,
+    phase: Phase,
+}
+
+/// What the sessions of a server share with the keeper of its store. Edits go one behind another, so that the store has
+/// them in the order in which they were made; and what a session is to say waits until all edits that were told before
+/// are kept, those of other sessions, too. Many wait for one commit.
+#[derive(Drop)]
+pub struct Keeping {
+    turn: Mutex<bool>,
+    told: Mutex<Told>,
+    news: Condvar,
+    done: Condvar,
+}
+
+// The edit of a receipt.
+fn told_edit(receipt: Receipt) -> ToldEdit {
+    let Receipt {
+        process,
+        number,
+        cell,
+        text,
+    } = receipt;
+    ToldEdit {
+        process,
+        number,
+        cell,
+        text,
+    }
+}
+
+impl Keeping {
+    /// Of a server that has not begun.
+    pub fn new(alloc: Global) -> Keeping {
+        let told = Told {
+            edits: Vec::new(alloc),
+            told: 0,
+            kept: 0,
+            phase: Phase::Keeps,
+        };
+        Keeping {
+            turn: Mutex::new(false),
+            told: Mutex::new(told),
+            news: Condvar::new(),
+            done: Condvar::new(),
+        }
+    }
+
+    /// Waits for the turn to edit, which is the caller's until what is given back is dropped.
+    pub(crate) fn take_turn<R: Wait>(&self, rt: &R) -> MutexGuard<'_, bool> {
+        self.turn.lock(rt)
+    }
+
+    /// Tells the keeper of an edit that was answered Done, by its receipt: it has happened. For want of memory nothing is
+    /// kept any more.
+    pub(crate) fn tell<R: Wait>(&self, rt: &R, receipt: Receipt)
+        requires { HasUsed receipt.process (BeginEdit (record { process = receipt.process; cell = receipt.cell; text = receipt.text })) (Answered (Done receipt.number)) }
+    {
+        let mut told = self.told.lock(rt);
+        if told.edits.push(told_edit(receipt)).is_err() {
+            told.phase = Phase::Failed;
+        }
+        told.told = told.told.saturating_add(1);
+        self.news.notify_one();
+    }
+
+    /// Waits until all edits that were told so far are kept. False where that failed.
+    pub(crate) fn wait_for_all<R: Wait>(&self, rt: &R) -> bool {
+        let told = self.told.lock(rt);
+        let wanted = told.told;
+        let told = self.done.wait_while(rt, told, |told| {
+            told.kept < wanted && told.phase != Phase::Failed
+        });
+        told.kept >= wanted
+    }
+
+    /// No more edits are told.
+    pub(crate) fn end<R: Wait>(&self, rt: &R) {
+        let mut told = self.told.lock(rt);
+        if told.phase == Phase::Keeps {
+            told.phase = Phase::Ends;
+        }
+        self.news.notify_one();
+    }
+
+    // Waits for edits, and takes them: none where no more are told.
+    pub(crate) fn take<R: Wait>(&self, rt: &R, alloc: Global) -> Vec<ToldEdit> {
+        let told = self.told.lock(rt);
+        let mut told = self.news.wait_while(rt, told, |told| {
+            told.edits.is_empty() && told.phase == Phase::Keeps
+        });
+        mem::replace(&mut told.edits, Vec::new(alloc))
+    }
+
+    // So many more edits are kept.
+    pub(crate) fn count<R: Wait>(&self, rt: &R, count: usize) {
+        let mut told = self.told.lock(rt);
+        told.kept = told.kept.saturating_add(count as u64);
+        self.done.notify_all();
+    }
+
+    // Whether something could not be kept.
+    pub(crate) fn has_failed<R: Wait>(&self, rt: &R) -> bool {
+        self.told.lock(rt).phase == Phase::Failed
+    }
+
+    // Nothing is kept any more.
+    pub(crate) fn fail<R: Wait>(&self, rt: &R) {
+        let mut told = self.told.lock(rt);
+        told.phase = Phase::Failed;
+        self.done.notify_all();
+    }
+}

@@ -1,0 +1,174 @@
+//! A server with a store: sessions in threads beside the keeper, which keeps what they have done.
+
+ghost use Rattle.std.specs.Prelude.{◌≡◌, IfErr, IfOk, OnSome};
+ghost use Rattle.ds_serve.specs.Accepting.{IsLasting, IsServed, IsStoredLasting};
+
+use crate::counts::Taken;
+use crate::door::Door;
+use crate::queues::queues as own_queues;
+use crate::server::{ServeError, Service, close, serve_sheet, sum_up};
+use crossbeam_queue::ArrayQueue;
+use ds_crew::locked::LockedSheet;
+use ds_crew::pass::Pass;
+use ds_state::world::World;
+use ds_store::store::Store;
+use log::Log;
+use sqlite::Alter;
+use std::alloc::Global;
+use std::marker::Brand;
+use std::net::TcpListener;
+use std::sync::Wait;
+use std::sync::ledger::{Blank, Ledger};
+use std::thread;
+use std::thread::{Promise, PromisedHandle, Scope, Threads};
+use std::time::Clock;
+
+/// The promise of a thread that serves so many sessions: it ends as a server does.
+#[derive(Clone, Copy)]
+pub struct Serves {
+    /// How many sessions are to join. 0: as many as come.
+    pub sessions: u64,
+}
+
+impl Promise<Result<Taken, ServeError>> for Serves {
+    ghost use Rattle.std.specs.Prelude.{◌×◌, IfErr, IfOk};
+    ghost use Rattle.ds_serve.specs.Accepting.{IsLasting, IsServed};
+
+    ghost kept_by = { λ serves ended. IfOk ended (IsServed serves.sessions) × IfErr ended IsLasting };
+}
+
+// Serves a sheet in a thread of its own, and tells the keeper when no more edits come. None where the system has no
+// thread for it.
+fn start<
+    's,
+    E,
+    L: Ledger + Send + Sync,
+    M: Ledger + Send + Sync,
+    R: Threads + Wait + Clock + Log + Sync,
+>(
+    scope: &'s Scope<'s, E>,
+    rt: &'s R,
+    alloc: Global,
+    listener: &'s TcpListener,
+    sheet: &'s LockedSheet<L, M>,
+    queues: &'s [ArrayQueue<Pass<L, M>>],
+    door: &'s Door,
+    service: Service,
+) -> Option<PromisedHandle<Result<Taken, ServeError>, Serves>>
+    ensures { OnSome result (λ handle. handle.promise.sessions ≡ service.sessions) }
+{
+    let promise = Serves {
+        sessions: service.sessions,
+    };
+    scope
+        .spawn_with(
+            promise,
+            move || -> Result<Taken, ServeError>
+                ensures served { IfOk result (IsServed service.entry.sessions) }
+                ensures lasting { IfErr result IsLasting }
+            {
+                let served = serve_sheet(rt, alloc, listener, sheet, queues, door, service);
+                door.end_keeping(rt);
+                served
+            },
+        )
+        .ok()
+}
+
+// Serves a sheet, while this thread keeps what its sessions have done.
+fn serve_beside<
+    S: Alter + Drop,
+    L: Ledger + Send + Sync,
+    M: Ledger + Send + Sync,
+    R: Threads + Wait + Clock + Log + Sync,
+>(
+    rt: &R,
+    alloc: Global,
+    listener: &TcpListener,
+    sheet: &LockedSheet<L, M>,
+    queues: &[ArrayQueue<Pass<L, M>>],
+    door: &Door,
+    service: Service,
+    store: &mut Store<S>,
+) -> Result<Taken, ServeError>
+    ensures served { IfOk result (IsServed service.sessions) }
+    ensures lasting { IfErr result IsStoredLasting }
+{
+    thread::scope(
+        thread::scope_env(),
+        rt,
+        |scope| -> Result<Taken, ServeError>
+            ensures served { IfOk result (IsServed service.entry.sessions) }
+            ensures lasting { IfErr result IsStoredLasting }
+        {
+            let Some(server) = start(scope, rt, alloc, listener, sheet, queues, door, service)
+            else {
+                return Err(ServeError::NoMemory);
+            };
+            let kept = door.keep(rt, alloc, store);
+            let taken = server.join(rt)?;
+            sum_up(rt, &taken, door);
+            kept.map_err(ServeError::Store)?;
+            Ok(taken)
+        },
+    )
+}
+
+// So of a world, with these blanks.
+fn serve_world<
+    S: Alter + Drop,
+    L: Ledger + Send + Sync,
+    M: Ledger + Send + Sync,
+    R: Threads + Wait + Clock + Log + Sync,
+>(
+    rt: &R,
+    alloc: Global,
+    listener: &TcpListener,
+    world: World,
+    dones: Blank,
+    settleds: Blank,
+    door: &Door,
+    service: Service,
+    store: &mut Store<S>,
+) -> Result<Taken, ServeError>
+    requires names { (dones.name ≡ L.name) × (settleds.name ≡ M.name) }
+    requires parts { (dones.parts ≡ L.parts) × (settleds.parts ≡ M.parts) }
+    requires processes { (L.parts ≡ world.sheet.layout.processes) × (M.parts ≡ world.sheet.layout.processes) }
+    ensures served { IfOk result (IsServed service.sessions) }
+    ensures lasting { IfErr result IsStoredLasting }
+{
+    let processes = world.words.layout().processes;
+    let Ok((sheet, passes)) = LockedSheet::<L, M>::make(alloc, world, dones, settleds) else {
+        return Err(ServeError::NoMemory);
+    };
+    let Ok(queues) = own_queues(rt, alloc, passes) else {
+        return Err(ServeError::NoMemory);
+    };
+    let queues = queues.as_slice();
+    let taken = serve_beside(rt, alloc, listener, &sheet, queues, door, service, store)?;
+    close(rt, alloc, sheet, queues, processes);
+    Ok(taken)
+}
+
+/// Serves this sheet as `server::serve` does, while the calling thread keeps in the store each edit that its sessions have
+/// done: no answer leaves before the edits that were made before it are committed. Its door is one with a store. An error
+/// is that of `server::serve`; or the store has failed, and the server was stopped.
+pub fn serve<S: Alter + Drop, R: Threads + Wait + Clock + Log + Sync>(
+    rt: &R,
+    alloc: Global,
+    listener: &TcpListener,
+    world: World,
+    door: &Door,
+    service: Service,
+    store: &mut Store<S>,
+) -> Result<Taken, ServeError>
+    ensures served { IfOk result (IsServed service.sessions) }
+    ensures lasting { IfErr result IsStoredLasting }
+{
+    world.is_always_good();
+    let parts = world.words.layout().processes as u64;
+    let (dones, settleds) = (Blank::new(parts), Blank::new(parts));
+    serve_world::<S, Brand, Brand, _>(
+        rt, alloc, listener, world, dones, settleds, door, service, store,
+    )
+}
