@@ -21,10 +21,11 @@ use ds_server::board::{Board, CallRefusal, EditEnd, ReportEnd};
 use std::alloc::Global;
 use std::sync::Wait;
 use std::sync::ledger::Ledger;
+use std::time::Clock;
 
 /// What one session sees of a locked sheet: the passes that nobody has, and the one that it has taken.
 #[derive(Drop)]
-pub struct Desk<'a, L: Ledger, M: Ledger, R: Wait> {
+pub struct Desk<'a, L: Ledger, M: Ledger, R: Wait + Clock> {
     rt: &'a R,
     sheet: &'a LockedSheet<L, M>,
     queues: &'a [ArrayQueue<Pass<L, M>>],
@@ -32,7 +33,7 @@ pub struct Desk<'a, L: Ledger, M: Ledger, R: Wait> {
     pass: Option<Pass<L, M>>,
 }
 
-impl<'a, L: Ledger, M: Ledger, R: Wait> Desk<'a, L, M, R> {
+impl<'a, L: Ledger, M: Ledger, R: Wait + Clock> Desk<'a, L, M, R> {
     /// Before a process is joined. Each process has a queue, which holds its pass while nobody has it. The visit notes
     /// which process is joined, and counts what the calls come to.
     pub fn new(
@@ -133,7 +134,7 @@ fn fill(room: &mut Vec<Value>, values: &[Value])
 }
 
 // A settle and a report, whose values are copied into room that is taken before.
-fn reported<L: Ledger, M: Ledger, R: Wait>(
+fn reported<L: Ledger, M: Ledger, R: Wait + Clock>(
     rt: &R,
     alloc: Global,
     sheet: &LockedSheet<L, M>,
@@ -157,7 +158,7 @@ fn reported<L: Ledger, M: Ledger, R: Wait>(
 }
 
 /// A session over a locked sheet has the pass of the process that it has joined.
-impl<'a, L: Ledger, M: Ledger, R: Wait> Board for Desk<'a, L, M, R> {
+impl<'a, L: Ledger, M: Ledger, R: Wait + Clock> Board for Desk<'a, L, M, R> {
     ghost use Rattle.ds_serve.specs.Desks.{IsPassOf, Deals};
     ghost use Rattle.std.specs.Prelude.{length};
 
