@@ -1,6 +1,7 @@
 //! `dsheet explore`.
 
 use crate::exploring::Exploring;
+use crate::faults::show_line;
 use crate::status::{NO_MEMORY, STREAM_FAILED, explore_status};
 use ds_explore::explore::{ExploreEnd, explore as explore_orders};
 use ds_explore::options::{Options, Watcher};
@@ -56,10 +57,15 @@ pub fn explore<R: AllocGlobal + Input + Print + Eprint>(
     let mut writer = Writing::new(buffered);
     let mut counter = Counter { rt, shows };
     let end = explore_orders(rt.alloc(), &input.bytes, options, &mut writer, &mut counter);
-    let _told = match end {
-        ExploreEnd::Ended => Ok(()),
-        ExploreEnd::Fault { line: _, kind: _ } => eprintln!(rt; "{end}"),
-        _ => eprintln!(rt; "dsheet: {end}"),
-    };
+    match &end {
+        ExploreEnd::Ended => {}
+        ExploreEnd::Fault { line, kind } => {
+            let _told = eprintln!(rt; "{end}");
+            show_line(rt, &input.bytes, *line, *kind);
+        }
+        _ => {
+            let _told = eprintln!(rt; "dsheet: {end}");
+        }
+    }
     explore_status(&end)
 }

@@ -3,10 +3,13 @@
 
 mod command_line;
 mod control;
+mod copying;
 mod descriptors;
 mod explore;
 mod exploring;
+mod faults;
 mod progress;
+mod report;
 mod serve;
 mod serving;
 mod status;
@@ -14,17 +17,18 @@ mod stores;
 mod trace;
 
 use crate::command_line::{Action, OptionsFault, options};
+use crate::copying::Copying;
 use crate::descriptors::stand_ins;
 use crate::explore::explore;
+use crate::faults::show_line;
 use crate::progress::Progress;
+use crate::report::report;
 use crate::serve::{serve, serve_store};
-use crate::status::{NO_MEMORY, STREAM_FAILED, WRONG_WORDS, grid_status, script_status};
+use crate::status::{NO_MEMORY, STREAM_FAILED, WRONG_WORDS, script_status};
 use crate::stores::{check, compact, export, import};
 use crate::trace::trace;
 use clap::Error;
 use clap::error::ErrorKind;
-use ds_grid::ending::GridEnd;
-use ds_grid::report::report_grid;
 use ds_play::script::run_script;
 use ds_stops::stops::stop_at_each;
 use ds_store::open::Databases;
@@ -42,13 +46,18 @@ use std::sync::Wait;
 use std::thread::Threads;
 use std::time::Clock;
 
-// Tells on standard error how a script ended, where that is not as it should.
-fn tell(rt: &impl Eprint, end: &ScriptEnd) {
-    let _told = match end {
-        ScriptEnd::Ended => Ok(()),
-        ScriptEnd::Fault { line: _, kind: _ } => eprintln!(rt; "{end}"),
-        _ => eprintln!(rt; "dsheet: {end}"),
-    };
+// Tells on standard error how a script ended, where that is not as it should; of a fault with its line.
+fn tell(rt: &impl Eprint, end: &ScriptEnd, script: &[u8]) {
+    match end {
+        ScriptEnd::Ended => {}
+        ScriptEnd::Fault { line, kind } => {
+            let _told = eprintln!(rt; "{end}");
+            show_line(rt, script, *line, *kind);
+        }
+        _ => {
+            let _told = eprintln!(rt; "dsheet: {end}");
+        }
+    }
 }
 
 // Tells on standard error that memory was wanting, and gives its status.
@@ -62,10 +71,13 @@ fn run<R: AllocGlobal + Input + Print + Eprint>(rt: &R) -> u8 {
     let Ok(buffered) = BufWriter::new(rt.alloc(), io::writer(rt)) else {
         return no_memory(rt);
     };
-    let mut reader = Reading::new(rt.reader());
-    let mut writer = Writing::new(buffered);
-    let end = run_script(rt.alloc(), &mut reader, &mut writer);
-    tell(rt, &end);
+    let mut script = Vec::new(rt.alloc());
+    let end = {
+        let mut reader = Reading::new(Copying::new(rt.reader(), &mut script));
+        let mut writer = Writing::new(buffered);
+        run_script(rt.alloc(), &mut reader, &mut writer)
+    };
+    tell(rt, &end, &script);
     script_status(&end)
 }
 
@@ -86,24 +98,8 @@ fn stops<R: AllocGlobal + Input + Print + Eprint>(rt: &R, shows: bool) -> u8 {
             stop_at_each(rt.alloc(), &input.bytes, &mut writer)
         }
     };
-    tell(rt, &end);
+    tell(rt, &end, &input.bytes);
     script_status(&end)
-}
-
-// `dsheet report`: a grid from standard input, its values to standard output, the fault to standard error.
-fn report<R: AllocGlobal + Input + Print + Eprint>(rt: &R) -> u8 {
-    let Ok(buffered) = BufWriter::new(rt.alloc(), io::writer(rt)) else {
-        return no_memory(rt);
-    };
-    let mut reader = Reading::new(rt.reader());
-    let mut writer = Writing::new(buffered);
-    let end = report_grid(rt.alloc(), &mut reader, &mut writer);
-    let _told = match end {
-        GridEnd::Ended => Ok(()),
-        GridEnd::Grid(_) | GridEnd::CellFault { cell: _, fault: _ } => eprintln!(rt; "{end}"),
-        _ => eprintln!(rt; "dsheet: {end}"),
-    };
-    grid_status(&end)
 }
 
 // Prints help to standard output, and what is wrong with the words to standard error.

@@ -1,5 +1,6 @@
 //! `dsheet trace`.
 
+use crate::faults::show_line;
 use crate::status::{NO_MEMORY, STREAM_FAILED, picture_status};
 use ds_picture::script::{PictureEnd, draw_script};
 use ds_streams::input::{InputEnd, read_input};
@@ -25,10 +26,15 @@ pub fn trace<R: AllocGlobal + Input + Print + Eprint>(rt: &R) -> u8 {
     }
     let mut writer = Writing::new(buffered);
     let end = draw_script(rt.alloc(), &input.bytes, &mut writer);
-    let _told = match end {
-        PictureEnd::Drawn => Ok(()),
-        PictureEnd::Fault { line: _, kind: _ } => eprintln!(rt; "{end}"),
-        _ => eprintln!(rt; "dsheet: {end}"),
-    };
+    match &end {
+        PictureEnd::Drawn => {}
+        PictureEnd::Fault { line, kind } => {
+            let _told = eprintln!(rt; "{end}");
+            show_line(rt, &input.bytes, *line, *kind);
+        }
+        _ => {
+            let _told = eprintln!(rt; "dsheet: {end}");
+        }
+    }
     picture_status(&end)
 }

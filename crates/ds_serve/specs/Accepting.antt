@@ -1,5 +1,5 @@
 -- What a server makes of the connections that it is given, and when it ends.
-use Rattle.std.specs.Prelude.{⊥, ◌≡◌, ◌<◌, ◌≤◌, ◌+◌, ℕ, Bool, true, false, Ok, Err}
+use Rattle.std.specs.Prelude.{◌≡◌, ◌<◌, ◌≤◌, ◌+◌, ℕ, Bool, true, false, Ok, Err}
 use Rattle.std.specs.IoError.{error_kind}
 use Rattle.std.specs.declared.io.ErrorKind.{ErrorKind}
 use Rattle.std.specs.declared.io.ErrorKind.TheVariants.{WouldBlock, ConnectionAborted, ConnectionReset, TimedOut, NetworkDown, NetworkUnreachable, HostUnreachable, OutOfMemory, Uncategorized}

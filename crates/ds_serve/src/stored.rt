@@ -31,7 +31,7 @@ pub struct Serves {
 }
 
 impl Promise<Result<Taken, ServeError>> for Serves {
-    ghost use Rattle.std.specs.Prelude.{◌×◌, IfErr, IfOk};
+    ghost use Rattle.std.specs.Prelude.{IfErr, IfOk};
     ghost use Rattle.ds_serve.specs.Accepting.{IsLasting, IsServed};
 
     ghost kept_by = { λ serves ended. IfOk ended (IsServed serves.sessions) × IfErr ended IsLasting };

@@ -1,0 +1,3 @@
+pub mod Asks
+pub mod Requests
+pub mod AnswerLines

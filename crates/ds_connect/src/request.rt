@@ -1,0 +1,40 @@
+//! Requests of a client.
+
+ghost use Rattle.std.specs.Prelude.{◌≡◌, IfOk, string_bytes};
+ghost use Rattle.serde_json.specs.View.{view};
+ghost use Rattle.serde_json.specs.Written.{compact_text};
+ghost use Rattle.ds_connect.specs.Asks.{wish_view};
+ghost use Rattle.ds_connect.specs.Requests.{wish_data, wish_text};
+
+use crate::ask::Ask;
+use serde_json::{Value as Json, json};
+use std::alloc::{AllocError, Global};
+
+fn request_value(alloc: Global, ask: Ask<'_>) -> Result<Json, AllocError>
+    ensures { IfOk result (λ v. view v ≡ wish_data (wish_view ask.entry)) }
+{
+    match ask {
+        Ask::Join(process) => json!(in alloc; {"op": "join", "process": (process as u64)}),
+        Ask::Set { cell, text } => json!(in alloc; {"cell": cell, "op": "set", "text": text}),
+        Ask::Report => json!(in alloc; {"op": "report"}),
+        Ask::Last => json!(in alloc; {"op": "last"}),
+    }
+}
+
+// The text of a request, without its line feed.
+#[tactic(auto, using(crate::proofs::Floats::wish_no_float))]
+fn request_text(alloc: Global, ask: Ask<'_>) -> Result<String, AllocError>
+    ensures { IfOk result (λ t. string_bytes t ≡ compact_text (wish_data (wish_view ask.entry))) }
+{
+    let value = request_value(alloc, ask)?;
+    value.to_string(alloc)
+}
+
+/// The line that asks a server for this. An error is a want of memory.
+pub fn request_line(alloc: Global, ask: Ask<'_>) -> Result<Vec<u8>, AllocError>
+    ensures { IfOk result (λ v. v.items ≡ wish_text (wish_view ask.entry)) }
+{
+    let mut line = request_text(alloc, ask)?.into_bytes();
+    line.push(b'\n')?;
+    Ok(line)
+}
