@@ -1,2 +1,2 @@
 pub mod Floats
-pub mod Reads
+pub mod Understood

@@ -1,7 +1,12 @@
 -- The line that a client sends for what is asked.
-use Rattle.std.specs.Prelude.{ℕ, List, [], ◌∷◌, ◌++◌, codes}
+use Rattle.std.specs.Prelude.{ℕ, List, [], ◌∷◌, ◌++◌, Option, Some, codes}
 use Rattle.serde_json.specs.Data.{Data, object, no_members, member}
 use Rattle.serde_json.specs.Written.{compact_text}
+use Rattle.ds_formula.specs.declared.cells.Shape.{Shape}
+use Rattle.ds_formula.specs.Names.{cell_named}
+use Rattle.ds_streams.specs.Fields.{◌>>=◌}
+use Rattle.ds_server.specs.BoardCalls.{Call}
+use Rattle.ds_server.specs.BoardCalls as calls
 use Rattle.ds_server.specs.SessionTexts.{number_data, text_data}
 use Rattle.ds_connect.specs.Asks.{Wish, Join, Set, Report, Last}
 
@@ -15,3 +20,7 @@ wish_data Last = object (member (codes "op") (text_data (codes "last")) no_membe
 -- its line
 abbrev pub wish_text : Wish → List ℕ
 wish_text wish = compact_text (wish_data wish) ++ 10 ∷ []
+
+-- the edit by the process of the cell of this name, where the sheet has one
+abbrev pub edit_named : Shape → ℕ → List ℕ → List ℕ → Option Call
+edit_named shape process cell text = cell_named shape cell >>= λ at. Some (calls.Set process at text)

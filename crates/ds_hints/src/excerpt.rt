@@ -1,6 +1,6 @@
 //! A line as it is shown beside what is wrong with it.
 
-use crate::hint::{Hint, hint, line_at, layout_of};
+use crate::hint::{Hint, hint_at, layout_of, line_at};
 use ds_streams::ending::ScriptFault;
 use std::fmt;
 
@@ -19,9 +19,9 @@ pub struct Excerpt<'a> {
 
 /// The excerpt of a script that ended in its line of this number, from 1, with this fault; none where there is nothing to
 /// say beside the fault.
-pub fn excerpt(script: &[u8], number: usize, fault: ScriptFault) -> Option<Excerpt<'_>> {
+pub fn excerpt_of(script: &[u8], number: usize, fault: ScriptFault) -> Option<Excerpt<'_>> {
     let line = line_at(script, number)?;
-    let hint = hint(&layout_of(script), line, fault)?;
+    let hint = hint_at(&layout_of(script), line, fault)?;
     Some(Excerpt { line, hint })
 }
 

@@ -82,7 +82,7 @@ fn bad_word(layout: &Layout, line: &[u8]) -> (usize, Wanted)
 }
 
 /// What is wrong with a line that ended a script with this fault, on a sheet of this layout.
-pub fn hint(layout: &Layout, line: &[u8], fault: ScriptFault) -> Option<Hint>
+pub fn hint_at(layout: &Layout, line: &[u8], fault: ScriptFault) -> Option<Hint>
     ensures { IfSome result (λ hint. hint.offset ≤ length line.now) }
 {
     let (offset, wanted) = match fault {

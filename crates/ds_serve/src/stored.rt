@@ -1,6 +1,6 @@
 //! A server with a store: sessions in threads beside the keeper, which keeps what they have done.
 
-ghost use Rattle.std.specs.Prelude.{◌≡◌, IfErr, IfOk, OnSome};
+ghost use Rattle.std.specs.Prelude.{◌≡◌, IfErr, IfOk, IfSome};
 ghost use Rattle.ds_serve.specs.Accepting.{IsLasting, IsServed, IsStoredLasting};
 
 use crate::counts::Taken;
@@ -55,7 +55,7 @@ fn start<
     door: &'s Door,
     service: Service,
 ) -> Option<PromisedHandle<Result<Taken, ServeError>, Serves>>
-    ensures { OnSome result (λ handle. handle.promise.sessions ≡ service.sessions) }
+    ensures { IfSome result (λ handle. handle.promise.sessions ≡ service.sessions) }
 {
     let promise = Serves {
         sessions: service.sessions,
@@ -64,7 +64,7 @@ fn start<
         .spawn_with(
             promise,
             move || -> Result<Taken, ServeError>
-                ensures served { IfOk result (IsServed service.entry.sessions) }
+                ensures served { IfOk result (IsServed service.sessions) }
                 ensures lasting { IfErr result IsLasting }
             {
                 let served = serve_sheet(rt, alloc, listener, sheet, queues, door, service);
@@ -98,7 +98,7 @@ fn serve_beside<
         thread::scope_env(),
         rt,
         |scope| -> Result<Taken, ServeError>
-            ensures served { IfOk result (IsServed service.entry.sessions) }
+            ensures served { IfOk result (IsServed service.sessions) }
             ensures lasting { IfErr result IsStoredLasting }
         {
             let Some(server) = start(scope, rt, alloc, listener, sheet, queues, door, service)

@@ -3,22 +3,20 @@ use Rattle.std.proofs.Common.{◌≡◌, ◌∙◌, ℕ, Bool, true, false, refl
 use Rattle.std.specs.Fmt.{decimal}
 use Rattle.ds_formula.specs.declared.cells.Shape.{Shape}
 use Rattle.ds_formula.specs.declared.fault.TextFault.{TextFault}
-use Rattle.ds_formula.specs.Names.{cell_named, cell_text, name_of_kind}
+use Rattle.ds_formula.specs.Names.{cell_text, name_of_kind}
 use Rattle.ds_formula.specs.Cells.{cell_at}
 use Rattle.ds_layout.specs.declared.place.Place.{Place}
 use Rattle.ds_layout.specs.declared.place.Place.TheVariants as place
 use Rattle.ds_edit.specs.declared.answer.Told.{Told}
 use Rattle.ds_play.specs.ScriptTexts.{counts_text}
-use Rattle.ds_server.specs.BoardCalls.{Set as SetCall}
 use Rattle.ds_server.specs.LineRequests.{call_of, join_by, or_bad_field}
 use Rattle.ds_server.specs.declared.board.CallRefusal.TheVariants as refusal
 use Rattle.ds_server.specs.declared.request.LineFault.TheVariants as fault
 use Rattle.ds_server.specs.Replies.{Said, Joined, Done, Overtaken, Settled, Unsettled, Tells, Left, Refused, Faulted}
 use Rattle.ds_server.specs.SessionTexts.{said_data, outcome_text}
-use Rattle.ds_streams.specs.Fields.{◌>>=◌}
 use Rattle.ds_connect.specs.AnswerLines.{HasNoValues, said_lines, shown}
 use Rattle.ds_connect.specs.Asks.{Join, Set}
-use Rattle.ds_connect.specs.Requests.{wish_data}
+use Rattle.ds_connect.specs.Requests.{edit_named, wish_data}
 
 -- a join is read as one
 pub joins : (shape : Shape) (processes process : ℕ) → call_of shape processes None (wish_data (Join process)) ≡ or_bad_field (join_by processes process)
@@ -26,7 +24,7 @@ joins shape processes process = refl
 
 -- an edit is read as one of the cell of that name
 pub sets : (shape : Shape) (processes process : ℕ) (cell text : List ℕ)
-    → call_of shape processes (Some process) (wish_data (Set cell text)) ≡ or_bad_field (cell_named shape cell >>= λ at. Some (SetCall process at text))
+    → call_of shape processes (Some process) (wish_data (Set cell text)) ≡ or_bad_field (edit_named shape process cell text)
 sets shape processes process cell text = refl
 
 outcome_is : (counts : Bool) → outcome_text counts ≡ counts_text counts
