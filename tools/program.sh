@@ -94,5 +94,30 @@ status=0
 "$program" run </ >/dev/null 2>&- || status=$?
 expect "standard error is closed: a read that fails" "$status" 3 ""
 
+# Below a fault stand the line, and a caret below the word that is wrong.
+shows() {
+    local script=$1 wanted=$2 words=${3:-run}
+    # shellcheck disable=SC2086
+    printf "$script" | "$program" $words >/dev/null 2>"$said" || true
+    if [ "$(cat "$said")" != "$(printf "$wanted")" ]; then
+        echo "a fault: it said: $(cat "$said")" >&2
+        exit 1
+    fi
+    echo "program: what is shown of '$script' ... ok"
+}
+
+shows 'set 0 A1 1\nset 9 A1 5\n' 'line 2: bad field\n    set 9 A1 5\n        ^ expected: a process, from 0 to 1\n'
+shows 'sheet 3 3 3\nrun 2 too swung\n' 'line 2: bad field\n    run 2 too swung\n          ^ expected: `to`, and a point\n'
+shows 'evict head\n' 'line 1: bad field\n    evict head\n              ^ expected: a cell of 2 columns and 2 rows, as A1\n'
+shows 'recover 0 now\n' 'line 1: bad field\n    recover 0 now\n              ^ expected: nothing more\n'
+shows 'walk\n' 'line 1: unknown command\n    walk\n    ^ expected: a command, as set, work, report or crash\n'
+shows 'begin 0 set A1 1\nrun 0 to held\n' 'line 2: bad field\n    run 0 to held\n             ^ expected: a point of the call that the process is in\n'
+shows 'set 0 A9 1\n' 'line 1: bad field\n    set 0 A9 1\n          ^ expected: a cell of 2 columns and 2 rows, as A1\n' 'run --stops'
+shows '1,2\n3\n' 'bad csv: record 2 has 1 fields, the first one 2\n' report
+"$program" run --stops --from 19 --to 20 <examples/stops >"$said"
+"$program" run --stops <examples/stops | sed -n '/^stop 19$/,/^stop 21$/p' | grep -v '^stop 21$' | cmp - "$said"
+echo "program: run --stops --from 19 --to 20 ... ok"
+
 tools/serving.sh "$program"
+tools/connect.sh "$program"
 tools/load.sh "$program"

@@ -11,7 +11,9 @@ use Rattle.clap.specs.declared.parser.matches.SubCommand.{SubCommand}
 use Rattle.clap.specs.declared.parser.matches.ArgMatches.TheViews.{out-SubCommand}
 use Rattle.std.specs.Net.Grammar.{IsSocketText}
 use Rattle.std.specs.declared.net.socket_addr.SocketAddr.{SocketAddr}
-use Rattle.ds_app.specs.Servings.{HasNoAddress, HasNoNumber, IsNumberOf}
+use Rattle.log.specs.Level.{IsParsed, parse_filter}
+use Rattle.log.specs.declared.level.LevelFilter.{LevelFilter}
+use Rattle.ds_app.specs.Servings.{HasNoAddress, HasNoLevel, HasNoNumber, IsNumberOf}
 use Rattle.clap.specs.Words.{Row, Text, found_of, first_of, first_value, one_of, one_text, rows_of, ReadsOne}
 use Rattle.clap.specs.declared.parser.matches.Found.{Found}
 use Rattle.clap.proofs.WalkLemmas.{first_value-rows, one_text-rows}
@@ -113,3 +115,27 @@ entered_is (Some b) name rows is have =
     let same_name : (out-SubCommand (box_value b)).name.now ≡ name = cc in
     let same_rows : rows_of (found_of (out-SubCommand (box_value b)).matches) ≡ rows = cc in
     ap₂ (λ (x : Text) (y : List Row). Some (x, y)) same_name same_rows
+
+-- a level that was read of a text is the one that it names
+pub level_of : {E : Type 0} (t : Text) (r : Result LevelFilter E) (x : LevelFilter) → IsParsed (parse_filter t) r → r ≡ Ok x → parse_filter t ≡ Some x
+level_of t r x parsed is = go (parse_filter t) (subst (IsParsed (parse_filter t)) is parsed) where
+  go : (o : Option LevelFilter) → IsParsed o (Ok x) → o ≡ Some x
+  go None h = cc
+  go (Some y) h = cc
+
+-- an option that has no text names no level
+pub no_level_text : (f : Found) (name : Text) (r : Option (Bor Text)) → option_map (λ s. s.now) r ≡ first_value f name → r ≡ None → HasNoLevel (rows_of f) name
+no_level_text f name r gives is level has =
+    let none : first_value f name ≡ None = sym gives ∙ ap (option_map (λ (s : Bor Text). s.now)) is in
+    let bad : Some has.text ≡ None = sym has.has ∙ sym (first_value-rows f name) ∙ none in cc
+
+-- an option of whose text no level was read names none
+pub no_level_of : {E : Type 0} (f : Found) (name : Text) (r : Option (Bor Text)) (x : Bor Text) (read : Result LevelFilter E) (e : E)
+    → option_map (λ s. s.now) r ≡ first_value f name → r ≡ Some x → IsParsed (parse_filter x.now) read → read ≡ Err e → HasNoLevel (rows_of f) name
+no_level_of f name r x read e gives is parsed failed level has =
+    let same : Some x.now ≡ Some has.text = sym (text_of f name r x gives is) ∙ has.has in
+    let text : x.now ≡ has.text = cc in
+    go (parse_filter x.now) (subst (IsParsed (parse_filter x.now)) failed parsed) (ap parse_filter text ∙ has.names) where
+      go : (o : Option LevelFilter) → IsParsed o (Err e) → o ≡ Some level → ⊥
+      go None h bad = cc
+      go (Some y) h bad = cc

@@ -7,9 +7,10 @@ use Rattle.clap.specs.declared.builder.command.Command.TheViews.{out-Command as 
 use Rattle.clap.specs.declared.builder.action.ArgAction.TheVariants.{SetTrue}
 use Rattle.clap.specs.declared.builder.value_parser.ValueParser.TheVariants.{Signed}
 use Rattle.ds_app.specs.declared.command_line.Action.{Action}
-use Rattle.ds_app.specs.declared.command_line.Action.TheVariants.{Run, Stops, Report, Explore, Trace, Serve, Keep, Check, Export, Import, Compact}
+use Rattle.ds_app.specs.declared.command_line.Action.TheVariants.{Run, Stops, Report, Explore, Trace, Serve, Keep, Connect, Check, Export, Import, Compact}
 use Rattle.ds_app.specs.declared.command_line.OptionsFault.{OptionsFault}
 use Rattle.ds_app.specs.declared.command_line.OptionsFault.TheVariants.{CommandLine, NoCommand, NoFile, OutOfLimits}
+use Rattle.ds_app.specs.Connectings.{IsConnecting, IsStopping}
 use Rattle.ds_app.specs.Explorings.{IsExploring}
 use Rattle.ds_app.specs.Servings.{IsOutOfLimits, IsServing}
 
@@ -35,9 +36,9 @@ number_option name default = record (new_rule name) {
   defaults = default ∷ [];
 }
 
--- `dsheet run [--stops]`
+-- `dsheet run [--stops] [--from K] [--to K]`
 abbrev pub run_command : App
-run_command = with_rule (new_app (codes "run")) stops
+run_command = with_rule (with_rule (with_rule (new_app (codes "run")) stops) (number_option (codes "from") (codes "1"))) (number_option (codes "to") (codes "0"))
 
 -- a flag of this name
 abbrev pub flag : Text → Rule
@@ -68,14 +69,22 @@ sheet_command = with_rule
 abbrev pub store : Rule
 store = record (new_rule (codes "store")) { long = Some (codes "store"); value_names = 1 }
 
--- the same with [--at-once N] [--idle SECONDS] [--store FILE]
+-- the option `--log` with one value
+abbrev pub log_option : Rule
+log_option = record (new_rule (codes "log")) { long = Some (codes "log"); value_names = 1; defaults = codes "info" ∷ [] }
+
+-- the same with [--at-once N] [--idle SECONDS] [--store FILE] [--log LEVEL]
 abbrev pub serve_command : App
-serve_command = with_rule (with_rule (with_rule sheet_command (number_option (codes "at-once") (codes "64")))
-    (number_option (codes "idle") (codes "300"))) store
+serve_command = with_rule (with_rule (with_rule (with_rule sheet_command (number_option (codes "at-once") (codes "64")))
+    (number_option (codes "idle") (codes "300"))) store) log_option
 
 -- an argument of this name, which has to be there
 abbrev pub file : Text → Rule
 file name = record (new_rule name) { value_names = 1; required = true }
+
+-- `dsheet connect SERVER [--process N]`
+abbrev pub connect_command : App
+connect_command = with_rule (with_rule (new_app (codes "connect")) (file (codes "server"))) (number_option (codes "process") (codes "0"))
 
 -- `dsheet COMMAND FILE`
 abbrev pub file_command : Text → App
@@ -102,8 +111,8 @@ dsheet_alone = record (new_app (codes "dsheet")) {
 
 -- the program with its subcommands
 abbrev pub dsheet : App
-dsheet = with_stores (with_subcommand (with_subcommand (with_subcommand (with_subcommand (with_subcommand dsheet_alone run_command.top) report_command.top)
-    serve_command.top) explore_command.top) trace_command.top)
+dsheet = with_stores (with_subcommand (with_subcommand (with_subcommand (with_subcommand (with_subcommand (with_subcommand dsheet_alone run_command.top) report_command.top)
+    serve_command.top) explore_command.top) trace_command.top) connect_command.top)
 
 -- the argument or option of this name has this value
 abbrev pub Names : List Row → Text → Text → Type 0
@@ -112,12 +121,13 @@ Names rows name value = first_of name rows ≡ Some value
 -- a subcommand of this name with these matches asks for this
 abbrev pub Asks : Text → List Row → Action → Type 0
 Asks name rows Run = (name ≡ codes "run") × (one_of (codes "stops") rows ≡ Some (codes "true") → ⊥)
-Asks name rows Stops = (name ≡ codes "run") × (one_of (codes "stops") rows ≡ Some (codes "true"))
+Asks name rows (Stops stopping) = (name ≡ codes "run") × (one_of (codes "stops") rows ≡ Some (codes "true")) × IsStopping rows stopping
 Asks name rows Report = name ≡ codes "report"
 Asks name rows Trace = name ≡ codes "trace"
 Asks name rows (Explore exploring) = (name ≡ codes "explore") × IsExploring rows exploring
 Asks name rows (Serve serving) = (name ≡ codes "serve") × IsServing rows serving × (first_of (codes "store") rows ≡ None)
 Asks name rows (Keep serving path) = (name ≡ codes "serve") × IsServing rows serving × Names rows (codes "store") path.now
+Asks name rows (Connect connecting) = (name ≡ codes "connect") × IsConnecting rows connecting
 Asks name rows (Check path) = (name ≡ codes "check") × Names rows (codes "file") path.now
 Asks name rows (Export path) = (name ≡ codes "export") × Names rows (codes "file") path.now
 Asks name rows (Import path) = (name ≡ codes "import") × Names rows (codes "file") path.now
@@ -127,15 +137,19 @@ Asks name rows (Compact path new) = (name ≡ codes "compact") × Names rows (co
 abbrev pub IsAskedBy : List Text → Action → Type 0
 IsAskedBy words action = (name : Text) × (rows : List Row) × (subcommand_of dsheet words ≡ Some (name, rows)) × Asks name rows action
 
+-- the subcommand of this name has options with limits
+abbrev pub HasLimits : Text → Type 0
+HasLimits name = ((name ≡ codes "serve") ⊎ (name ≡ codes "explore")) ⊎ ((name ≡ codes "connect") ⊎ (name ≡ codes "run"))
+
 -- a subcommand of this name with these matches asks for nothing, for this fault: it is none of these, an argument is
--- missing, or an option of `serve` or `explore` is out of its limits
+-- missing, or an option is out of its limits
 abbrev pub AsksNothing : Text → List Row → OptionsFault → Type 0
 AsksNothing name rows (CommandLine error) = ⊥
 AsksNothing name rows NoCommand = (name ≢ codes "run") × (name ≢ codes "report") × (name ≢ codes "serve") × (name ≢ codes "explore") × (name ≢ codes "trace")
-    × (name ≢ codes "check")
+    × (name ≢ codes "connect") × (name ≢ codes "check")
     × (name ≢ codes "export") × (name ≢ codes "import") × (name ≢ codes "compact")
 AsksNothing name rows NoFile = (first_of (codes "file") rows ≡ None) ⊎ (first_of (codes "new") rows ≡ None)
-AsksNothing name rows (OutOfLimits limit) = ((name ≡ codes "serve") ⊎ (name ≡ codes "explore")) × IsOutOfLimits rows limit
+AsksNothing name rows (OutOfLimits limit) = HasLimits name × IsOutOfLimits rows limit
 
 -- the same of a subcommand that none but those on a store can be
 abbrev pub AsksOfStore : Text → List Row → OptionsFault → Type 0

@@ -3,6 +3,8 @@ use Rattle.std.specs.Prelude.{◌≡◌, ◌<◌, ◌≤◌, ℕ, List, Some, co
 use Rattle.std.specs.Str.Parse.{IsNumeral, digits_value, without_leading_plus}
 use Rattle.std.specs.Net.Grammar.{IsSocketText}
 use Rattle.std.specs.declared.net.socket_addr.SocketAddr.{SocketAddr}
+use Rattle.log.specs.Level.{parse_filter}
+use Rattle.log.specs.declared.level.LevelFilter.{LevelFilter}
 use Rattle.clap.specs.Words.{Row, Text, first_of, one_of}
 use Rattle.ds_formula.specs.Limits.{PROCESSES_MOST}
 use Rattle.ds_formula.specs.Shapes.{MayHave}
@@ -23,6 +25,12 @@ pub record IsAddressOf (rows : List Row) (name : Text) (address : SocketAddr) : 
   pub has : first_of name rows ≡ Some text
   pub spells : IsSocketText text address
 
+-- the option of this name names a level of the log, and it is this one
+pub record IsLevelOf (rows : List Row) (name : Text) (level : LevelFilter) : Type 0 where
+  pub text : Text
+  pub has : first_of name rows ≡ Some text
+  pub names : parse_filter text ≡ Some level
+
 -- the server has from 1 to 8 processes, fewer workers than processes, and room for one session at least
 pub record IsWithinLimits (s : Serving) : Type 0 where
   pub some : 1 ≤ s.processes
@@ -41,6 +49,7 @@ pub record IsServing (matches : List Row) (s : Serving) : Type 0 where
   pub sessions : IsNumberOf matches (codes "sessions") s.sessions
   pub at_once : IsNumberOf matches (codes "at-once") s.at_once
   pub idle : IsNumberOf matches (codes "idle") s.idle
+  pub log : IsLevelOf matches (codes "log") s.log
   pub within : IsWithinLimits s
 
 -- the option of this name has no number of 16 bits as its value
@@ -50,6 +59,14 @@ HasNoNumber rows name = (n : ℕ) → n < 65536 → IsNumberOf rows name n → �
 -- the option of this name has no address with a port as its value
 abbrev pub HasNoAddress : List Row → Text → Type 0
 HasNoAddress rows name = (a : SocketAddr) → IsAddressOf rows name a → ⊥
+
+-- the option of this name names no level of the log
+abbrev pub HasNoLevel : List Row → Text → Type 0
+HasNoLevel rows name = (level : LevelFilter) → IsLevelOf rows name level → ⊥
+
+-- the argument of this name is no number of a process that a sheet can have
+abbrev pub HasNoProcess : List Row → Text → Type 0
+HasNoProcess rows name = (process : ℕ) → IsNumberOf rows name process → process < PROCESSES_MOST → ⊥
 
 -- the options name no shape of a sheet
 abbrev pub HasNoShape : List Row → Type 0
@@ -76,4 +93,9 @@ IsOutOfLimits matches limits.Workers = HasNoWorkers matches
 IsOutOfLimits matches limits.Sessions = HasNoNumber matches (codes "sessions")
 IsOutOfLimits matches limits.AtOnce = HasNoRoom matches
 IsOutOfLimits matches limits.Idle = HasNoNumber matches (codes "idle")
+IsOutOfLimits matches limits.Log = HasNoLevel matches (codes "log")
+IsOutOfLimits matches limits.Server = HasNoAddress matches (codes "server")
+IsOutOfLimits matches limits.Process = HasNoProcess matches (codes "process")
+IsOutOfLimits matches limits.From = HasNoNumber matches (codes "from")
+IsOutOfLimits matches limits.To = HasNoNumber matches (codes "to")
 IsOutOfLimits matches limits.Most = HasNoNumber matches (codes "most")

@@ -4,8 +4,9 @@ ghost use Rattle.std.specs.Prelude.{◌≡◌, ◌↔◌, IfErr, IfOk, IsTrue, N
 ghost use Rattle.std.specs.String.{string_bytes};
 ghost use Rattle.clap.specs.Words.{App, app_of, fault_of, first_of, found_of, one_of, rows_of, rule_of};
 ghost use Rattle.ds_app.specs.declared.command_line.OptionsFault.TheVariants.{CommandLine, NoFile};
-ghost use Rattle.ds_app.specs.CommandLines.{Asks, AsksNothing, AsksOfStore, IsAskedBy, IsCommand, IsRefusedFor, IsWanting, Names, compact_command as compact_app, dsheet, dsheet_alone, explore_command as explore_app, file as file_rule, flag as flag_rule, file_command as file_app, listen as listen_rule, number_option as number_rule, report_command as report_app, run_command as run_app, serve_command as serve_app, sheet_command as sheet_app, store as store_rule, trace_command as trace_app, with_stores};
+ghost use Rattle.ds_app.specs.CommandLines.{Asks, AsksNothing, AsksOfStore, IsAskedBy, IsCommand, IsRefusedFor, IsWanting, Names, compact_command as compact_app, connect_command as connect_app, dsheet, dsheet_alone, explore_command as explore_app, file as file_rule, flag as flag_rule, file_command as file_app, listen as listen_rule, log_option as log_rule, number_option as number_rule, report_command as report_app, run_command as run_app, serve_command as serve_app, sheet_command as sheet_app, store as store_rule, trace_command as trace_app, with_stores};
 
+use crate::connecting::{Connecting, Stopping, read_connecting, read_stopping};
 use crate::exploring::{Exploring, is_set, read_exploring};
 use crate::serving::{OutOfLimits, Serving, read_serving};
 use clap::{Arg, ArgAction, ArgMatches, Command, Error, value_parser};
@@ -17,7 +18,7 @@ pub enum Action<'a> {
     /// `dsheet run`: a script on standard input.
     Run,
     /// `dsheet run --stops`: the same, crashed behind each of its steps.
-    Stops,
+    Stops(Stopping),
     /// `dsheet report`: a grid on standard input.
     Report,
     /// `dsheet explore`: all orders of the steps of a script's calls.
@@ -28,6 +29,8 @@ pub enum Action<'a> {
     Serve(Serving),
     /// `dsheet serve --store FILE`: the same, over the sheet of a store.
     Keep(Serving, &'a str),
+    /// `dsheet connect SERVER`: a session of lines.
+    Connect(Connecting),
     /// `dsheet check FILE`: what a store has.
     Check(&'a str),
     /// `dsheet export FILE`: the lines of a store.
@@ -186,6 +189,18 @@ Exit status: 0 ended; 1 a store that is another sheet's, or unsound; 2 wrong wor
 can not be listened on, or no connection taken from it, or the store not be opened or written; 4 no memory.
 Each session that does not end with its client is one line on standard error, and so is what all came to.";
 
+const CONNECT_HELP: &str = "\
+Joins the process, and tells what became of its last edit, as recover does in a script. Then each line of standard
+input is one call: set CELL TEXT, report, or last. Empty lines and lines that begin with # are skipped. Where the
+connection breaks, the process is joined anew, and what is told then says whether the edit under way counts; an edit is
+never sent twice.
+
+Example:
+  printf 'set A1 =1+2\\nreport\\n' | dsheet connect 127.0.0.1:8080 --process 1
+
+Exit status: 0 ended; 1 a line that is no call, or a join that is refused; 2 wrong words on the command line;
+3 no connection, or a failed read or write; 4 no memory.";
+
 const CHECK_ABOUT: &str = "Reads a store, and says what it has, or which line is unsound";
 
 const CHECK_HELP: &str = "\
@@ -241,14 +256,17 @@ Examples:
 fn run_command<'a>(alloc: Global) -> Result<Command<'a>, AllocError>
     ensures { IfOk result (IsCommand run_app) }
 {
-    let stops = Arg::new(alloc, STOPS)
-        .long(STOPS)
-        .action(ArgAction::SetTrue)
-        .help("Crashes the sheet behind each step, and writes what is told then");
+    let stops_help = "Crashes the sheet behind each step, and writes what is told then";
+    let stops = flag(alloc, STOPS, stops_help);
+    let from_help = "With --stops: the first step behind which it is crashed";
+    let from = number_option(alloc, "from", "1", from_help);
+    let to = number_option(alloc, "to", "0", "With --stops: the last one; 0: to the end");
     let command = Command::new(alloc, "run")
         .about("Runs a script from standard input and writes its answers to standard output")
         .after_help(RUN_HELP);
-    command.arg(stops)?.bin_name("dsheet run")
+    let one = command.arg(stops)?;
+    let three = one.arg(from)?.arg(to)?;
+    three.bin_name("dsheet run")
 }
 
 // A flag.
@@ -345,6 +363,18 @@ fn store_option<'a>(alloc: Global) -> Arg<'a>
         )
 }
 
+// The option of `serve` that has the level of the log.
+fn log_option<'a>(alloc: Global) -> Arg<'a>
+    ensures rule { rule_of result ≡ log_rule }
+    ensures local { result.global ≡ false }
+{
+    Arg::new(alloc, "log")
+        .long("log")
+        .value_name("LEVEL")
+        .default_value("info")
+        .help("How much the log has: off, error, warn or info")
+}
+
 // An argument that has to be there.
 fn file_argument<'a>(alloc: Global, name: &'a str, value_name: &'a str, help: &'a str) -> Arg<'a>
     ensures rule { rule_of result ≡ file_rule name.now }
@@ -423,7 +453,21 @@ fn serve_command<'a>(alloc: Global) -> Result<Command<'a>, AllocError>
     let one = command.arg(at_once)?;
     let two = one.arg(idle)?;
     let three = two.arg(store_option(alloc))?;
-    three.bin_name("dsheet serve")
+    let four = three.arg(log_option(alloc))?;
+    four.bin_name("dsheet serve")
+}
+
+fn connect_command<'a>(alloc: Global) -> Result<Command<'a>, AllocError>
+    ensures { IfOk result (IsCommand connect_app) }
+{
+    let server_help = "The address and the port of the server, as 127.0.0.1:8080";
+    let server = file_argument(alloc, "server", "SERVER", server_help);
+    let process = number_option(alloc, "process", "0", "The process that is joined, 0 to 7");
+    let command = Command::new(alloc, "connect")
+        .about("Speaks to a server: lines as set A1 =1+2, report and last in, answers as of run out")
+        .after_help(CONNECT_HELP);
+    let two = command.arg(server)?.arg(process)?;
+    Ok(two)
 }
 
 // The program without its subcommands.
@@ -449,7 +493,8 @@ fn program<'a>(alloc: Global) -> Result<Command<'a>, AllocError>
     let explore = explore_command(alloc)?;
     let four = three.subcommand(explore)?;
     let five = four.subcommand(trace_command(alloc))?;
-    with_stores(alloc, five)?.bin_name("dsheet")
+    let six = five.subcommand(connect_command(alloc)?)?;
+    with_stores(alloc, six)?.bin_name("dsheet")
 }
 
 impl From<Error> for OptionsFault {
@@ -494,6 +539,31 @@ fn served<'a>(found: &ArgMatches<'a>) -> Result<Action<'a>, OptionsFault>
     }
 }
 
+// What the options of `dsheet run` ask for.
+fn ran<'a>(found: &ArgMatches<'a>) -> Result<Action<'a>, OptionsFault>
+    ensures action { IfOk result (Asks (codes "run") (rows_of (found_of found.now))) }
+    ensures fault { IfErr result (AsksNothing (codes "run") (rows_of (found_of found.now))) }
+{
+    if !is_set(found, STOPS) {
+        return Ok(Action::Run);
+    }
+    match read_stopping(found) {
+        Ok(stopping) => Ok(Action::Stops(stopping)),
+        Err(limit) => Err(OptionsFault::OutOfLimits(limit)),
+    }
+}
+
+// What the arguments of `dsheet connect` ask for.
+fn connected<'a>(found: &ArgMatches<'a>) -> Result<Action<'a>, OptionsFault>
+    ensures action { IfOk result (Asks (codes "connect") (rows_of (found_of found.now))) }
+    ensures fault { IfErr result (AsksNothing (codes "connect") (rows_of (found_of found.now))) }
+{
+    match read_connecting(found) {
+        Ok(connecting) => Ok(Action::Connect(connecting)),
+        Err(limit) => Err(OptionsFault::OutOfLimits(limit)),
+    }
+}
+
 // What the options of `dsheet explore` ask for.
 fn explored<'a>(found: &ArgMatches<'a>) -> Result<Action<'a>, OptionsFault>
     ensures action { IfOk result (Asks (codes "explore") (rows_of (found_of found.now))) }
@@ -525,8 +595,8 @@ fn asked<'a>(name: &str, found: &ArgMatches<'a>) -> Result<Action<'a>, OptionsFa
     ensures fault { IfErr result (AsksNothing name.now (rows_of (found_of found.now))) }
 {
     match name {
-        "run" if is_set(found, STOPS) => Ok(Action::Stops),
-        "run" => Ok(Action::Run),
+        "run" => ran(found),
+        "connect" => connected(found),
         "report" => Ok(Action::Report),
         "trace" => Ok(Action::Trace),
         "serve" => served(found),

@@ -2,6 +2,8 @@
 #![tactic(auto)]
 
 mod command_line;
+mod connect;
+mod connecting;
 mod control;
 mod copying;
 mod descriptors;
@@ -17,6 +19,7 @@ mod stores;
 mod trace;
 
 use crate::command_line::{Action, OptionsFault, options};
+use crate::connect::connect;
 use crate::copying::Copying;
 use crate::descriptors::stand_ins;
 use crate::explore::explore;
@@ -117,7 +120,13 @@ fn explain(rt: &(impl Print + Eprint), error: &Error) -> u8 {
     }
 }
 
-// Standard error is a terminal, or not.
+// Which standard streams are terminals.
+#[derive(Clone, Copy, Debug)]
+struct Terminals {
+    input: bool,
+    error: bool,
+}
+
 fn dispatch<
     R: AllocGlobal
         + Env
@@ -132,7 +141,7 @@ fn dispatch<
         + Net<Stream = TcpStream, Listener = TcpListener>
         + Databases
         + Sync,
->(rt: &R, is_terminal: bool) -> u8 {
+>(rt: &R, terminals: Terminals) -> u8 {
     let _kept = stand_ins(rt);
     let arguments = match std::env::args(rt) {
         Ok(arguments) => arguments,
@@ -147,12 +156,13 @@ fn dispatch<
     };
     match options(rt.alloc(), words.as_slice()) {
         Ok(Action::Run) => run(rt),
-        Ok(Action::Stops) => stops(rt, is_terminal),
+        Ok(Action::Stops(_)) => stops(rt, terminals.error),
         Ok(Action::Report) => report(rt),
-        Ok(Action::Explore(exploring)) => explore(rt, exploring, is_terminal),
+        Ok(Action::Explore(exploring)) => explore(rt, exploring, terminals.error),
         Ok(Action::Trace) => trace(rt),
         Ok(Action::Serve(serving)) => serve(rt, serving),
         Ok(Action::Keep(serving, path)) => serve_store(rt, serving, path),
+        Ok(Action::Connect(connecting)) => connect(rt, connecting, terminals.input),
         Ok(Action::Check(path)) => check(rt, path),
         Ok(Action::Export(path)) => export(rt, path),
         Ok(Action::Import(path)) => import(rt, path),
@@ -174,5 +184,9 @@ fn dispatch<
 }
 
 fn main(rt: HostRuntime) -> ExitCode {
-    ExitCode::from(dispatch(&rt, rt.stderr().is_terminal()))
+    let terminals = Terminals {
+        input: rt.stdin().is_terminal(),
+        error: rt.stderr().is_terminal(),
+    };
+    ExitCode::from(dispatch(&rt, terminals))
 }

@@ -14,7 +14,7 @@ use ds_serve::stored;
 use ds_state::world::World;
 use ds_store::open::Databases;
 use ds_store::store::{Opened, Store, open_or_make};
-use log::Log;
+use log::{Log, Logged};
 use std::net::{Net, SocketAddr, TcpListener, TcpStream};
 use std::sync::Wait;
 use std::thread;
@@ -134,7 +134,8 @@ pub fn serve<
     let Ok(world) = World::new(rt.alloc(), serving.shape, serving.processes) else {
         return ended(rt, serving.listen, "", &Err(ServeError::NoMemory));
     };
-    let served = serve_world(rt, &listener, world, service_of(serving));
+    let logged = Logged::new(rt, serving.log, rt);
+    let served = serve_world(&logged, &listener, world, service_of(serving));
     ended(rt, serving.listen, "", &served)
 }
 
@@ -210,7 +211,8 @@ pub fn serve_store<
         Ok(listener) => listener,
         Err(status) => return status,
     };
-    let served = serve_kept(rt, &listener, sheet, service_of(serving), &mut store);
+    let logged = Logged::new(rt, serving.log, rt);
+    let served = serve_kept(&logged, &listener, sheet, service_of(serving), &mut store);
     match ended(rt, serving.listen, path, &served) {
         0 => close(rt, path, store),
         status => status,

@@ -3,11 +3,12 @@
 ghost use Rattle.std.specs.Prelude.{◌≡◌, IfErr, IfOk, IfSome, None, codes};
 ghost use Rattle.clap.specs.Matches.{found_of};
 ghost use Rattle.clap.specs.Walk.{rows_of};
-ghost use Rattle.ds_app.specs.Servings.{HasNoAddress, HasNoNumber, HasNoShape, IsAddressOf, IsNumberOf, IsOutOfLimits, IsServing};
+ghost use Rattle.ds_app.specs.Servings.{HasNoAddress, HasNoLevel, HasNoNumber, HasNoShape, IsAddressOf, IsLevelOf, IsNumberOf, IsOutOfLimits, IsServing};
 
 use clap::ArgMatches;
 use ds_formula::cells::Shape;
 use ds_layout::layout::PROCESS_LIMIT;
+use log::LevelFilter;
 use std::net::SocketAddr;
 use thiserror::Error;
 
@@ -28,6 +29,8 @@ pub struct Serving {
     pub at_once: usize,
     /// For how many seconds a client may say nothing, or take nothing, at most 65,535. 0: for ever.
     pub idle: usize,
+    /// Up to which level its log goes.
+    pub log: LevelFilter,
 }
 
 /// Which value of an option is out of its limits.
@@ -57,6 +60,21 @@ pub enum OutOfLimits {
     /// The time for which a client may be silent is none.
     #[error("--idle: from 0 to 65535 seconds")]
     Idle,
+    /// The level of the log is none.
+    #[error("--log: off, error, warn, info, debug or trace")]
+    Log,
+    /// The address of a server is none with a port.
+    #[error("the server: no address with a port, as 127.0.0.1:8080")]
+    Server,
+    /// A sheet has no such process.
+    #[error("--process: from 0 to 7")]
+    Process,
+    /// The first step behind which a script is crashed is none.
+    #[error("--from: from 0 to 65535")]
+    From,
+    /// The last step behind which a script is crashed is none.
+    #[error("--to: from 0 to 65535; 0: to the end")]
+    To,
 }
 
 /// The number of an option; none where it has none.
@@ -70,16 +88,30 @@ pub(crate) fn number(matches: &ArgMatches<'_>, name: &str) -> Option<usize>
     }
 }
 
-// The address of the option `--listen`; none where it has none.
-fn address(matches: &ArgMatches<'_>) -> Option<SocketAddr>
-    ensures some { IfSome result (IsAddressOf (rows_of (found_of matches.now)) (codes "listen")) }
-    ensures none { result ≡ None → HasNoAddress (rows_of (found_of matches.now)) (codes "listen") }
+/// The address of an option or an argument; none where it has none.
+pub(crate) fn address(matches: &ArgMatches<'_>, name: &str) -> Option<SocketAddr>
+    ensures some { IfSome result (IsAddressOf (rows_of (found_of matches.now)) name.now) }
+    ensures none { result ≡ None → HasNoAddress (rows_of (found_of matches.now)) name.now }
 {
-    let Some(text) = matches.get_str("listen") else {
+    let Some(text) = matches.get_str(name) else {
         return None;
     };
     match text.parse::<SocketAddr>() {
         Ok(address) => Some(address),
+        Err(_) => None,
+    }
+}
+
+// The level of the option `--log`; none where it has none.
+fn level(matches: &ArgMatches<'_>) -> Option<LevelFilter>
+    ensures some { IfSome result (IsLevelOf (rows_of (found_of matches.now)) (codes "log")) }
+    ensures none { result ≡ None → HasNoLevel (rows_of (found_of matches.now)) (codes "log") }
+{
+    let Some(text) = matches.get_str("log") else {
+        return None;
+    };
+    match text.parse::<LevelFilter>() {
+        Ok(level) => Some(level),
         Err(_) => None,
     }
 }
@@ -100,7 +132,7 @@ pub fn read_serving(matches: &ArgMatches<'_>) -> Result<Serving, OutOfLimits>
     ensures serving { IfOk result (IsServing (rows_of (found_of matches.now))) }
     ensures limit { IfErr result (IsOutOfLimits (rows_of (found_of matches.now))) }
 {
-    let Some(listen) = address(matches) else {
+    let Some(listen) = address(matches, "listen") else {
         return Err(OutOfLimits::Listen);
     };
     let Some(shape) = read_shape(matches) else {
@@ -124,6 +156,9 @@ pub fn read_serving(matches: &ArgMatches<'_>) -> Result<Serving, OutOfLimits>
     let Some(idle) = number(matches, "idle") else {
         return Err(OutOfLimits::Idle);
     };
+    let Some(log) = level(matches) else {
+        return Err(OutOfLimits::Log);
+    };
     Ok(Serving {
         listen,
         shape,
@@ -132,5 +167,6 @@ pub fn read_serving(matches: &ArgMatches<'_>) -> Result<Serving, OutOfLimits>
         sessions,
         at_once,
         idle,
+        log,
     })
 }

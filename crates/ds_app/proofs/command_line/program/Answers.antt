@@ -12,7 +12,8 @@ returns c =
     let three = grown_below _ _ _ _ _ c.in_ok-three.ensures two c.in_ok-serve.ensures in
     let four = grown_below _ _ _ _ _ c.in_ok-four.ensures three c.in_ok-explore.ensures in
     let five = grown_below _ _ _ _ _ c.in_ok-five.ensures four c.trace_command.ensures in
-    let all = c.in_ok-with_stores.ensures _ five in
+    let six = grown_below _ _ _ _ _ c.in_ok-six.ensures five c.in_ok-connect_command.ensures in
+    let all = c.in_ok-with_stores.ensures _ six in
     IfOk-weaker c.bin_name.result _ _ (λ r h. record {
       is = ap app_of_fields h.0 ∙ all.is;
       local = ap has_globals h.0 ∙ all.local;

@@ -1,0 +1,216 @@
+//! `dsheet connect`.
+
+use crate::connecting::Connecting;
+use crate::status::{BAD_STORE, NO_MEMORY, STREAM_FAILED};
+use ds_connect::answer::answer_lines;
+use ds_connect::ask::{Ask, read_ask};
+use ds_connect::request::request_line;
+use ds_streams::fields::is_skipped;
+use serde_json::Value as Json;
+use std::alloc::Global;
+use std::io::{self, ErrorKind, Read, Write};
+use std::net::{Net, TcpStream};
+use std::thread;
+use std::time::{Clock, Duration};
+
+// How often a process is tried to be joined anew, and the rest between two tries, in milliseconds.
+const TRIES: u32 = 100;
+
+const REST: u64 = 100;
+
+// How many reads an answer may take, and how much is read at once.
+const READS: usize = 1024;
+
+const CHUNK: usize = 1024;
+
+// A line of the script language has a fault, or a join was refused.
+const REFUSED: u8 = BAD_STORE;
+
+// A connection by which a process is joined, and what the server has said to the join.
+struct Joined {
+    stream: TcpStream,
+    said: Json,
+}
+
+// The first line of what the server says.
+fn read_answer(alloc: Global, stream: &mut TcpStream) -> io::Result<Vec<u8>> {
+    let mut chunk = [0u8; CHUNK];
+    let mut said = Vec::new(alloc);
+    for _ in 0..READS {
+        let count = stream.read(&mut chunk)?;
+        let Some(part) = chunk.get(..count) else {
+            break;
+        };
+        if part.is_empty() {
+            break;
+        }
+        if let Some(end) = part.iter().position(|byte| *byte == b'\n') {
+            said.extend_from_slice(part.get(..end).unwrap_or(part))?;
+            return Ok(said);
+        }
+        said.extend_from_slice(part)?;
+    }
+    Err(io::Error::from(ErrorKind::UnexpectedEof))
+}
+
+// Asks the server, and reads what it says.
+fn exchange(alloc: Global, stream: &mut TcpStream, ask: Ask<'_>) -> io::Result<Json> {
+    let request = request_line(alloc, ask)?;
+    stream.write_all(&request)?;
+    let said = read_answer(alloc, stream)?;
+    match Json::from_slice(alloc, &said) {
+        Ok(said) => Ok(said),
+        Err(error) if error.is_memory() => Err(io::Error::from(ErrorKind::OutOfMemory)),
+        Err(_) => Err(io::Error::from(ErrorKind::InvalidData)),
+    }
+}
+
+// Connects, and joins the process.
+fn join<R: AllocGlobal + Net<Stream = TcpStream>>(
+    rt: &R,
+    connecting: Connecting,
+) -> io::Result<Joined> {
+    let mut stream = TcpStream::connect(rt, connecting.server)?;
+    let said = exchange(rt.alloc(), &mut stream, Ask::Join(connecting.process))?;
+    Ok(Joined { stream, said })
+}
+
+// Whether the server says that a call is refused.
+fn is_refusal(said: &Json) -> bool {
+    said.get("ok").is_none()
+}
+
+// The same again and again behind a broken connection, until the process is free.
+fn join_anew<R: AllocGlobal + Clock + Net<Stream = TcpStream>>(
+    rt: &R,
+    connecting: Connecting,
+) -> io::Result<Joined> {
+    for _ in 0..TRIES {
+        thread::sleep(rt, Duration::from_millis(REST));
+        match join(rt, connecting) {
+            Ok(joined) if is_refusal(&joined.said) => {}
+            Ok(joined) => return Ok(joined),
+            Err(error) if error.kind() == ErrorKind::OutOfMemory => return Err(error),
+            Err(_) => {}
+        }
+    }
+    Err(io::Error::from(ErrorKind::ConnectionRefused))
+}
+
+// Shows what the server says. An error is the status.
+fn show<R: AllocGlobal + Print + Eprint>(rt: &R, process: usize, said: &Json) -> Result<(), u8> {
+    let Ok(lines) = answer_lines(rt.alloc(), process, said) else {
+        let _told = eprintln!(rt; "dsheet: no memory");
+        return Err(NO_MEMORY);
+    };
+    let Some(lines) = lines else {
+        let _told = eprintln!(rt; "dsheet: the server says what no client knows");
+        return Err(STREAM_FAILED);
+    };
+    if print!(rt; "{lines}").is_err() {
+        return Err(STREAM_FAILED);
+    }
+    Ok(())
+}
+
+// What is wrong with the connection, and the status.
+fn tell_error(rt: &impl Eprint, connecting: Connecting, error: &io::Error) -> u8 {
+    let _told = eprintln!(rt; "dsheet: {}: {error}", connecting.server);
+    if error.kind() == ErrorKind::OutOfMemory {
+        NO_MEMORY
+    } else {
+        STREAM_FAILED
+    }
+}
+
+// One call, on this connection, or on a new one where it is broken: what the new join tells is shown then, and an edit is
+// not sent again. An error is the status.
+fn call<R: AllocGlobal + Print + Eprint + Clock + Net<Stream = TcpStream>>(
+    rt: &R,
+    connecting: Connecting,
+    stream: &mut TcpStream,
+    ask: Ask<'_>,
+) -> Result<(), u8> {
+    if let Ok(said) = exchange(rt.alloc(), stream, ask) {
+        return show(rt, connecting.process, &said);
+    }
+    let _told = eprintln!(rt; "dsheet: the connection is broken; joining anew");
+    let joined = match join_anew(rt, connecting) {
+        Ok(joined) => joined,
+        Err(error) => return Err(tell_error(rt, connecting, &error)),
+    };
+    *stream = joined.stream;
+    show(rt, connecting.process, &joined.said)?;
+    if let Ask::Report = ask {
+        return match exchange(rt.alloc(), stream, ask) {
+            Ok(said) => show(rt, connecting.process, &said),
+            Err(error) => Err(tell_error(rt, connecting, &error)),
+        };
+    }
+    Ok(())
+}
+
+// A line without its end.
+fn without_end(line: &str) -> &str {
+    let line = line.strip_suffix('\n').unwrap_or(line);
+    line.strip_suffix('\r').unwrap_or(line)
+}
+
+// The calls of the lines of standard input, up to its end. An error is the status.
+fn talk<R: AllocGlobal + Input + Print + Eprint + Clock + Net<Stream = TcpStream>>(
+    rt: &R,
+    connecting: Connecting,
+    stream: &mut TcpStream,
+    prompts: bool,
+) -> Result<(), u8> {
+    let mut text = String::new(rt.alloc());
+    for number in 1..u64::MAX {
+        if prompts {
+            let _prompted = eprint!(rt; "{}> ", connecting.process);
+        }
+        text.clear();
+        match rt.read_line(&mut text) {
+            Ok(0) => return Ok(()),
+            Ok(_) => {}
+            Err(_) => return Err(STREAM_FAILED),
+        }
+        let line = without_end(&text).as_bytes();
+        if is_skipped(line) {
+            continue;
+        }
+        match read_ask(line) {
+            Ok(ask) => call(rt, connecting, stream, ask)?,
+            Err(fault) => {
+                let _told = eprintln!(rt; "line {number}: {fault}");
+                if !prompts {
+                    return Err(REFUSED);
+                }
+            }
+        }
+    }
+    Ok(())
+}
+
+/// `dsheet connect`: joins a process of a server, and makes a call for each line of standard input; what the server says
+/// goes to standard output as the lines of a script's answers. A prompt is shown on standard error where that is asked
+/// for; then a line with a fault ends nothing. Gives the status.
+pub fn connect<R: AllocGlobal + Input + Print + Eprint + Clock + Net<Stream = TcpStream>>(
+    rt: &R,
+    connecting: Connecting,
+    prompts: bool,
+) -> u8 {
+    let Joined { mut stream, said } = match join(rt, connecting) {
+        Ok(joined) => joined,
+        Err(error) => return tell_error(rt, connecting, &error),
+    };
+    if let Err(status) = show(rt, connecting.process, &said) {
+        return status;
+    }
+    if is_refusal(&said) {
+        return REFUSED;
+    }
+    match talk(rt, connecting, &mut stream, prompts) {
+        Ok(()) => 0,
+        Err(status) => status,
+    }
+}
