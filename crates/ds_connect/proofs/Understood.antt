@@ -53,8 +53,8 @@ shows p shape Left h = absurd h
 shows p shape (Refused refusal.ProcessTaken) h = refl
 shows p shape (Refused (refusal.Text at)) h =
     ap (λ (tail : List ℕ). Some (decimal p ++ (codes " refused 1 " ++ tail))) (fault_is (name_of_kind at.kind) (decimal at.offset)) where
-  fault_is : (name offset : List ℕ) → name ++ (codes " " ++ (offset ++ codes "\n")) ≡ (name ++ (codes " " ++ offset)) ++ codes "\n"
-  fault_is name offset = sym (append_assoc name (codes " " ++ offset) (codes "\n"))
+      fault_is : (name offset : List ℕ) → name ++ (codes " " ++ (offset ++ codes "\n")) ≡ (name ++ (codes " " ++ offset)) ++ codes "\n"
+      fault_is name offset = sym (append_assoc name (codes " " ++ offset) (codes "\n"))
 shows p shape (Refused refusal.Stopped) h = refl
 shows p shape (Refused refusal.RecordsFull) h = refl
 shows p shape (Refused refusal.NoMemory) h = refl

@@ -127,7 +127,12 @@ fn text_fault(alloc: Global, process: usize, value: &Json) -> Result<Option<Stri
 }
 
 // An error by its name.
-fn error(alloc: Global, process: usize, value: &Json, name: &str) -> Result<Option<String>, AllocError>
+fn error(
+    alloc: Global,
+    process: usize,
+    value: &Json,
+    name: &str,
+) -> Result<Option<String>, AllocError>
     ensures { IfOk result (λ lines. option_map string_bytes lines ≡ error_shown process (view value.now) name.now) }
 {
     let refusal = match name {
@@ -142,7 +147,12 @@ fn error(alloc: Global, process: usize, value: &Json, name: &str) -> Result<Opti
 }
 
 // An answer by its name.
-fn named(alloc: Global, process: usize, value: &Json, name: &str) -> Result<Option<String>, AllocError>
+fn named(
+    alloc: Global,
+    process: usize,
+    value: &Json,
+    name: &str,
+) -> Result<Option<String>, AllocError>
     ensures { IfOk result (λ lines. (name.now ≡ codes "settled" → ⊥) → option_map string_bytes lines ≡ ok_shown process (view value.now) name.now) }
 {
     match name {

@@ -5,8 +5,7 @@ ghost use Rattle.ds_connect.specs.Asks.{set_of, wish_of, wish_view};
 ghost use Rattle.ds_connect.specs.declared.ask.AskFault.TheVariants.{NoLine};
 
 use ds_streams::line::word;
-use std::fmt;
-use std::str;
+use std::{fmt, str};
 
 /// What a client asks a server for.
 #[derive(Clone, Copy, Debug)]

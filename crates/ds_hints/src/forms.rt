@@ -6,20 +6,49 @@ use ds_streams::line::word;
 /// A form that ends with no word, or with a text.
 pub(crate) type Form = &'static [Wanted];
 
-const SHEET: Form = &[Wanted::Columns, Wanted::Rows, Wanted::Processes, Wanted::Nothing];
+const SHEET: Form = &[
+    Wanted::Columns,
+    Wanted::Rows,
+    Wanted::Processes,
+    Wanted::Nothing,
+];
+
 const SET: Form = &[Wanted::Process, Wanted::Cell, Wanted::Text];
+
 const WORK: Form = &[Wanted::Process, Wanted::Cell, Wanted::Nothing];
+
 const PROCESS: Form = &[Wanted::Process, Wanted::Nothing];
+
 const RUN_TO: Form = &[Wanted::Process, Wanted::To, Wanted::Point, Wanted::Nothing];
+
 const BEGIN: Form = &[Wanted::Process, Wanted::Call, Wanted::Nothing];
+
 const BEGIN_SET: Form = &[Wanted::Process, Wanted::Call, Wanted::Cell, Wanted::Text];
+
 const BEGIN_WORK: Form = &[Wanted::Process, Wanted::Call, Wanted::Cell, Wanted::Nothing];
+
 const CRASH: Form = &[Wanted::Nothing];
+
 const PEEK: Form = &[Wanted::Cell, Wanted::Nothing];
+
 const OF_CELL: Form = &[Wanted::Place, Wanted::Cell, Wanted::Nothing];
-const OF_ROW: Form = &[Wanted::Place, Wanted::Cell, Wanted::RowPart, Wanted::Nothing];
+
+const OF_ROW: Form = &[
+    Wanted::Place,
+    Wanted::Cell,
+    Wanted::RowPart,
+    Wanted::Nothing,
+];
+
 const OF_PROCESS: Form = &[Wanted::Place, Wanted::Process, Wanted::Nothing];
-const OF_HEADER: Form = &[Wanted::Place, Wanted::Process, Wanted::Number, Wanted::Nothing];
+
+const OF_HEADER: Form = &[
+    Wanted::Place,
+    Wanted::Process,
+    Wanted::Number,
+    Wanted::Nothing,
+];
+
 const OF_TEXT: Form = &[
     Wanted::Place,
     Wanted::Process,
@@ -27,7 +56,13 @@ const OF_TEXT: Form = &[
     Wanted::TextPart,
     Wanted::Nothing,
 ];
-const OF_DONE: Form = &[Wanted::Place, Wanted::Process, Wanted::DonePart, Wanted::Nothing];
+
+const OF_DONE: Form = &[
+    Wanted::Place,
+    Wanted::Process,
+    Wanted::DonePart,
+    Wanted::Nothing,
+];
 
 /// The first words of commands, each with its form. `begin`, `run`, `evict` and `word` have several.
 const COMMANDS: [(&str, Form); 11] = [

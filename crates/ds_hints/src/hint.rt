@@ -27,19 +27,36 @@ impl fmt::Display for Hint {
     fn fmt<W: fmt::Write>(&self, f: &mut fmt::Formatter<W>) -> fmt::Result {
         match self.wanted {
             Wanted::Command => f.write_str("a command, as set, work, report or crash"),
-            Wanted::Columns => write!(f, "columns, from 1 to {COLUMN_LIMIT}, for at most 1024 cells"),
+            Wanted::Columns => write!(
+                f,
+                "columns, from 1 to {COLUMN_LIMIT}, for at most 1024 cells"
+            ),
             Wanted::Rows => write!(f, "rows, from 1 to {ROW_LIMIT}, for at most 1024 cells"),
             Wanted::Processes => write!(f, "processes, from 1 to {PROCESS_LIMIT}"),
-            Wanted::Process => write!(f, "a process, from 0 to {}", self.layout.processes.saturating_sub(1)),
-            Wanted::Cell => write!(f, "a cell of {} columns and {} rows, as A1", self.layout.shape.columns, self.layout.shape.rows),
+            Wanted::Process => write!(
+                f,
+                "a process, from 0 to {}",
+                self.layout.processes.saturating_sub(1)
+            ),
+            Wanted::Cell => write!(
+                f,
+                "a cell of {} columns and {} rows, as A1",
+                self.layout.shape.columns, self.layout.shape.rows
+            ),
             Wanted::Number => write!(f, "the number of an edit, from 0 to {}", RECORDS - 1),
-            Wanted::RowPart => write!(f, "a part, from 0 to {}", self.layout.row_parts().saturating_sub(1)),
+            Wanted::RowPart => write!(
+                f,
+                "a part, from 0 to {}",
+                self.layout.row_parts().saturating_sub(1)
+            ),
             Wanted::TextPart => write!(f, "a part, from 0 to {}", TEXT_PARTS - 1),
             Wanted::DonePart => write!(f, "a part, from 0 to {}", DONE_PARTS - 1),
             Wanted::To => f.write_str("`to`, and a point"),
             Wanted::Point => f.write_str("a point of the call that the process is in"),
             Wanted::Call => f.write_str("set, work, show or recover"),
-            Wanted::Place => f.write_str("head, mark, value, kind, index, announce, header, text or done"),
+            Wanted::Place => f.write_str(
+                "head, mark, value, kind, index, announce, header, text or done",
+            ),
             Wanted::Text => f.write_str("a text"),
             Wanted::Nothing => f.write_str("nothing more"),
         }

@@ -7,8 +7,20 @@ use ds_streams::fields::{named, numbered};
 
 // The names of the points that a call may have behind it.
 const POINTS: [&str; 14] = [
-    "written", "announced", "indexed", "helped", "swung", "kept", "marked", "answered", "held", "stored",
-    "valued", "spread", "cleared", "freed",
+    "written",
+    "announced",
+    "indexed",
+    "helped",
+    "swung",
+    "kept",
+    "marked",
+    "answered",
+    "held",
+    "stored",
+    "valued",
+    "spread",
+    "cleared",
+    "freed",
 ];
 
 // The kinds of words of a sheet.

@@ -6,6 +6,7 @@ use denote.RattleType.{RattleType}
 use Rattle.std.specs.declared.sync.ledger.Ledger.{Ghosts}
 use Rattle.std.specs.contracts.alloc.Global as Global
 use Rattle.std.specs.contracts.impls.GlobalAllocator.TheImpl.{ghosts}
+use Rattle.std.specs.contracts.net.tcp.TcpListener as TcpListener
 use Rattle.std.specs.contracts.net.tcp.TcpStream as TcpStream
 use Rattle.std.specs.contracts.sync.Mutex as Mutex
 use Rattle.atomic_table.proofs.shared.Shared.TheSendSync.{the_sync as shared_sync}
@@ -16,6 +17,7 @@ use Rattle.ds_crew.proofs.Crossing.{pass_send}
 use Rattle.ds_serve.specs.contracts.door.Door as Door
 use Rattle.ds_serve.specs.contracts.keeping.Keeping as Keeping
 use Rattle.ds_serve.specs.contracts.keeping.Told as Told
+use Rattle.ds_serve.specs.contracts.server.Service as Service
 use Rattle.ds_store.specs.contracts.edit.ToldEdit as ToldEdit
 use Rattle.ds_formula.specs.contracts.cells.Cell as Cell
 use Rattle.std.specs.contracts.sync.Condvar as Condvar
@@ -46,6 +48,12 @@ door_sync = search (sendable, crosses, keeping_sync) depth 60 fits 100000
 
 pub stream_send : IsSend TcpStream.the_row
 stream_send = search (sendable, crosses) depth 40
+
+pub listener_sync : IsSync TcpListener.the_row
+listener_sync = search (sendable, crosses) depth 40
+
+pub service_send : IsSend Service.the_row
+service_send = search (sendable, crosses) depth 40
 
 module _ (L M : RattleType) (l : Ghosts L.Denot) (m : Ghosts M.Denot) where
   pub queue_sync : IsSync (ArrayQueue.the_row (Pass.the_row L M l m) Global.the_row ghosts)

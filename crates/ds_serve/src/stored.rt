@@ -37,6 +37,24 @@ impl Promise<Result<Taken, ServeError>> for Serves {
     ghost kept_by = { λ serves ended. IfOk ended (IsServed serves.sessions) × IfErr ended IsLasting };
 }
 
+// Serves a sheet, and tells the keeper then that no more edits come.
+fn served<L: Ledger + Send + Sync, M: Ledger + Send + Sync, R: Threads + Wait + Clock + Log + Sync>(
+    rt: &R,
+    alloc: Global,
+    listener: &TcpListener,
+    sheet: &LockedSheet<L, M>,
+    queues: &[ArrayQueue<Pass<L, M>>],
+    door: &Door,
+    service: Service,
+) -> Result<Taken, ServeError>
+    ensures served { IfOk result (IsServed service.sessions) }
+    ensures lasting { IfErr result IsLasting }
+{
+    let served = serve_sheet(rt, alloc, listener, sheet, queues, door, service);
+    door.end_keeping(rt);
+    served
+}
+
 // Serves a sheet in a thread of its own, and tells the keeper when no more edits come. None where the system has no
 // thread for it.
 fn start<
@@ -61,17 +79,9 @@ fn start<
         sessions: service.sessions,
     };
     scope
-        .spawn_with(
-            promise,
-            move || -> Result<Taken, ServeError>
-                ensures served { IfOk result (IsServed service.sessions) }
-                ensures lasting { IfErr result IsLasting }
-            {
-                let served = serve_sheet(rt, alloc, listener, sheet, queues, door, service);
-                door.end_keeping(rt);
-                served
-            },
-        )
+        .spawn_with(promise, move || {
+            served(rt, alloc, listener, sheet, queues, door, service)
+        })
         .ok()
 }
 
