@@ -20,7 +20,7 @@ passed() {
 
 # Starts a server at this port, with its store, and waits until it listens.
 start() {
-    "$program" serve --listen "127.0.0.1:$1" --store "$room/sheet.db" </dev/null >/dev/null 2>"$room/log" &
+    "$program" serve --listen "127.0.0.1:$1" --store "$room/sheet.db" </dev/null >/dev/null 2>"$room/log" 8>&- &
     server=$!
     for _ in $(seq 400); do
         port=$(sed -n 's/^dsheet: listening on 127\.0\.0\.1://p' "$room/log")

@@ -260,7 +260,12 @@ fn run_command<'a>(alloc: Global) -> Result<Command<'a>, AllocError>
     let stops = flag(alloc, STOPS, stops_help);
     let from_help = "With --stops: the first step behind which it is crashed";
     let from = number_option(alloc, "from", "1", from_help);
-    let to = number_option(alloc, "to", "0", "With --stops: the last one; 0: to the end");
+    let to = number_option(
+        alloc,
+        "to",
+        "0",
+        "With --stops: the last one; 0: to the end",
+    );
     let command = Command::new(alloc, "run")
         .about("Runs a script from standard input and writes its answers to standard output")
         .after_help(RUN_HELP);
@@ -464,7 +469,9 @@ fn connect_command<'a>(alloc: Global) -> Result<Command<'a>, AllocError>
     let server = file_argument(alloc, "server", "SERVER", server_help);
     let process = number_option(alloc, "process", "0", "The process that is joined, 0 to 7");
     let command = Command::new(alloc, "connect")
-        .about("Speaks to a server: lines as set A1 =1+2, report and last in, answers as of run out")
+        .about(
+            "Speaks to a server: lines as set A1 =1+2, report and last in, answers as of run out",
+        )
         .after_help(CONNECT_HELP);
     let two = command.arg(server)?.arg(process)?;
     Ok(two)

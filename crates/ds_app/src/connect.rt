@@ -27,6 +27,7 @@ const CHUNK: usize = 1024;
 const REFUSED: u8 = BAD_STORE;
 
 // A connection by which a process is joined, and what the server has said to the join.
+#[derive(Drop)]
 struct Joined {
     stream: TcpStream,
     said: Json,

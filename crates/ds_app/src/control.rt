@@ -1,6 +1,7 @@
 //! Standard input of a server: what tells it to stop.
 
 use ds_serve::door::Door;
+use ds_serve::keeper::Attendant;
 use mio::unix::SourceFd;
 use mio::{Events, Interest, Poll, Token};
 use std::io::BufRead;
@@ -91,13 +92,12 @@ impl Control {
         })
     }
 
-    // Whether there is something to read, when it was waited for at most a tick; none where the wait fails.
-    fn is_ready(&mut self) -> Option<bool> {
+    // Whether there is something to read, when it was waited for so long at most; none where the wait fails.
+    fn is_ready(&mut self, most: Duration) -> Option<bool> {
         if !self.waits {
             return Some(true);
         }
-        let tick = Some(Duration::from_millis(TICK));
-        self.poll.poll(&mut self.events, tick).ok()?;
+        self.poll.poll(&mut self.events, Some(most)).ok()?;
         if self.events.iter().next().is_none() {
             return Some(false);
         }
@@ -117,7 +117,7 @@ pub fn listen<R: Input + Wait>(rt: &R, mut control: Control, door: &Door) {
         if door.has_ended() {
             return;
         }
-        match control.is_ready() {
+        match control.is_ready(Duration::from_millis(TICK)) {
             Some(true) => {
                 if !hears(&mut reader, &mut heard, door) {
                     return;
@@ -125,6 +125,43 @@ pub fn listen<R: Input + Wait>(rt: &R, mut control: Control, door: &Door) {
             }
             Some(false) => {}
             None => return,
+        }
+    }
+}
+
+/// Standard input, which the thread of a keeper reads beside, without a wait.
+#[derive(Drop)]
+pub struct Listening<'a, B> {
+    control: Option<Control>,
+    reader: B,
+    heard: Heard,
+    door: &'a Door,
+}
+
+impl<'a, B> Listening<'a, B> {
+    /// Before the first line. Without a control nothing is heard.
+    pub fn new(control: Option<Control>, reader: B, door: &'a Door) -> Listening<'a, B> {
+        Listening {
+            control,
+            reader,
+            heard: Heard::Part(0),
+            door,
+        }
+    }
+}
+
+impl<B: BufRead> Attendant for Listening<'_, B> {
+    fn attend(&mut self) {
+        let Some(control) = &mut self.control else {
+            return;
+        };
+        let hears_on = match control.is_ready(Duration::ZERO) {
+            Some(true) => hears(&mut self.reader, &mut self.heard, self.door),
+            Some(false) => true,
+            None => false,
+        };
+        if !hears_on {
+            self.control = None;
         }
     }
 }

@@ -10,6 +10,7 @@ use std::alloc::Global;
 use std::io::{self, BufWriter};
 
 // A record that has another number of fields than the first one.
+#[derive(Clone, Copy)]
 struct OddRecord {
     // Which it is, from 1.
     number: usize,
@@ -34,11 +35,13 @@ fn tell<R: AllocGlobal + Eprint>(rt: &R, end: &GridEnd, grid: &[u8]) {
     let _told = match end {
         GridEnd::Ended => Ok(()),
         GridEnd::Grid(GridFault::BadCsv) => match odd_record(rt.alloc(), grid) {
-            Some(OddRecord {
-                number,
-                fields,
-                first,
-            }) => {
+            Some(
+                OddRecord {
+                    number,
+                    fields,
+                    first,
+                },
+            ) => {
                 eprintln!(rt; "{end}: record {number} has {fields} fields, the first one {first}")
             }
             None => eprintln!(rt; "{end}"),

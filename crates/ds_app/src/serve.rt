@@ -1,11 +1,14 @@
 //! `dsheet serve`.
 
+ghost use Rattle.std.specs.Prelude.{◌≤◌};
+ghost use Rattle.ds_formula.specs.Limits.{PROCESSES_MOST};
 ghost use Rattle.ds_app.specs.Servings.{IsWithinLimits};
 
-use crate::control::{Control, listen};
+use crate::control::{Control, Listening, listen};
 use crate::serving::Serving;
 use crate::status::{NO_MEMORY, STREAM_FAILED};
 use crate::stores::{Disk, close, tell_fault};
+use ds_formula::cells::Shape;
 use ds_serve::counts::Taken;
 use ds_serve::door::Door;
 use ds_serve::keeping::Keeping;
@@ -14,7 +17,7 @@ use ds_serve::stored;
 use ds_state::world::World;
 use ds_store::open::Databases;
 use ds_store::store::{Opened, Store, open_or_make};
-use log::{Log, Logged};
+use log::{LevelFilter, Log, Logged};
 use std::net::{Net, SocketAddr, TcpListener, TcpStream};
 use std::sync::Wait;
 use std::thread;
@@ -75,40 +78,24 @@ fn service_of(serving: Serving) -> Service {
     }
 }
 
-// What a line `stop` on standard input does while a server runs: its door is told.
-fn control<R: AllocGlobal + Input + Net + Wait>(rt: &R, door: &Door) {
-    if let Some(control) = Control::new(rt) {
-        listen(rt, control, door);
-    }
-}
-
-// Serves a sheet, while standard input is read in a thread of its own.
-fn serve_world<
-    R: AllocGlobal
-        + Input
-        + Threads
-        + Wait
-        + Clock
-        + Log
-        + Net<Stream = TcpStream, Listener = TcpListener>
-        + Sync,
->(
+// Serves a new sheet, with a log up to this level.
+fn serve_new<R: AllocGlobal + Threads + Wait + Clock + Log + Sync>(
     rt: &R,
     listener: &TcpListener,
-    world: World,
+    shape: Shape,
+    processes: usize,
+    door: &Door,
     service: Service,
-) -> Result<Taken, ServeError> {
-    let door = Door::new();
-    let ((), served) = thread::join(
-        rt,
-        || control(rt, &door),
-        || {
-            let served = server::serve(rt, rt.alloc(), listener, world, &door, service);
-            door.end();
-            served
-        },
-    );
-    served
+    level: LevelFilter,
+) -> Result<Taken, ServeError>
+    requires some { 1 ≤ processes }
+    requires most { processes ≤ PROCESSES_MOST }
+{
+    let Ok(world) = World::new(rt.alloc(), shape, processes) else {
+        return Err(ServeError::NoMemory);
+    };
+    let logged = Logged::new(rt, level, rt);
+    server::serve(&logged, rt.alloc(), listener, world, door, service)
 }
 
 /// Serves a new sheet until it is told to stop, by a line `stop` on standard input, or as many sessions have joined a
@@ -131,15 +118,29 @@ pub fn serve<
         Ok(listener) => listener,
         Err(status) => return status,
     };
-    let Ok(world) = World::new(rt.alloc(), serving.shape, serving.processes) else {
-        return ended(rt, serving.listen, "", &Err(ServeError::NoMemory));
-    };
-    let logged = Logged::new(rt, serving.log, rt);
-    let served = serve_world(&logged, &listener, world, service_of(serving));
+    let control = Control::new(rt);
+    let door = Door::new();
+    let (shape, processes, level) = (serving.shape, serving.processes, serving.log);
+    let service = service_of(serving);
+    let (served, ()) = thread::join(
+        rt,
+        || -> Result<Taken, ServeError>
+            requires { (1 ≤ processes) × (processes ≤ PROCESSES_MOST) }
+        {
+            let served = serve_new(rt, &listener, shape, processes, &door, service, level);
+            door.end();
+            served
+        },
+        || {
+            if let Some(control) = control {
+                listen(rt, control, &door);
+            }
+        },
+    );
     ended(rt, serving.listen, "", &served)
 }
 
-// Serves the sheet of a store, which keeps the edits that are made, while standard input is read in a thread of its own.
+// Serves the sheet of a store, which keeps the edits that are made; standard input is read between two commits.
 fn serve_kept<
     R: AllocGlobal
         + Input
@@ -153,20 +154,22 @@ fn serve_kept<
     rt: &R,
     listener: &TcpListener,
     world: World,
-    service: Service,
+    serving: Serving,
     store: &mut Store<Disk>,
 ) -> Result<Taken, ServeError> {
     let door = Door::with_store(Some(Keeping::new(rt.alloc())));
-    let ((), served) = thread::join(
-        rt,
-        || control(rt, &door),
-        || {
-            let served = stored::serve(rt, rt.alloc(), listener, world, &door, service, store);
-            door.end();
-            served
-        },
-    );
-    served
+    let mut listening = Listening::new(Control::new(rt), rt.reader(), &door);
+    let logged = Logged::new(rt, serving.log, rt);
+    stored::serve(
+        &logged,
+        rt.alloc(),
+        listener,
+        world,
+        &door,
+        service_of(serving),
+        store,
+        &mut listening,
+    )
 }
 
 // Opens the store at this path, or makes it. An error is the status, when standard error has been told.
@@ -211,8 +214,7 @@ pub fn serve_store<
         Ok(listener) => listener,
         Err(status) => return status,
     };
-    let logged = Logged::new(rt, serving.log, rt);
-    let served = serve_kept(&logged, &listener, sheet, service_of(serving), &mut store);
+    let served = serve_kept(rt, &listener, sheet, serving, &mut store);
     match ended(rt, serving.listen, path, &served) {
         0 => close(rt, path, store),
         status => status,

@@ -10,6 +10,7 @@ use ds_store::edit::ToldEdit;
 use std::alloc::Global;
 use std::mem;
 use std::sync::{Condvar, Mutex, MutexGuard, Wait};
+use std::time::{Clock, Duration};
 
 /// How far a keeper has come.
 #[derive(Clone, Copy, Debug, PartialEq, Eq)]
@@ -20,6 +21,20 @@ enum Phase {
     Ends,
     // It could not keep something, and keeps nothing more.
     Failed,
+}
+
+// For how long the keeper waits for edits before it does something else, in milliseconds.
+const TICK: u64 = 250;
+
+/// What a keeper has been told.
+#[derive(Drop)]
+pub(crate) enum News {
+    /// Edits that are to be kept, one at least.
+    Edits(Vec<ToldEdit>),
+    /// Nothing for a tick.
+    Nothing,
+    /// Nothing any more: no more edits are made, or one could not be told.
+    Over,
 }
 
 // What was told, and what of it is kept.
@@ -114,13 +129,20 @@ impl Keeping {
         self.news.notify_one();
     }
 
-    // Waits for edits, and takes them: none where no more are told.
-    pub(crate) fn take<R: Wait>(&self, rt: &R, alloc: Global) -> Vec<ToldEdit> {
+    // Waits for edits, for a tick at most, and takes those that have come.
+    pub(crate) fn take<R: Wait + Clock>(&self, rt: &R, alloc: Global) -> News {
         let told = self.told.lock(rt);
-        let mut told = self.news.wait_while(rt, told, |told| {
+        let tick = Duration::from_millis(TICK);
+        let (mut told, _) = self.news.wait_timeout_while(rt, told, tick, |told| {
             told.edits.is_empty() && told.phase == Phase::Keeps
         });
-        mem::replace(&mut told.edits, Vec::new(alloc))
+        if !told.edits.is_empty() {
+            return News::Edits(mem::replace(&mut told.edits, Vec::new(alloc)));
+        }
+        match told.phase {
+            Phase::Keeps => News::Nothing,
+            Phase::Ends | Phase::Failed => News::Over,
+        }
     }
 
     // So many more edits are kept.

@@ -8,7 +8,7 @@ pub mod desk;
 pub mod door;
 mod farewell;
 mod held;
-mod keeper;
+pub mod keeper;
 pub mod keeping;
 pub mod queues;
 pub mod server;

@@ -5,6 +5,7 @@ ghost use Rattle.ds_serve.specs.Accepting.{IsLasting, IsServed, IsStoredLasting}
 
 use crate::counts::Taken;
 use crate::door::Door;
+use crate::keeper::Attendant;
 use crate::queues::queues as own_queues;
 use crate::server::{ServeError, Service, close, serve_sheet, sum_up};
 use crossbeam_queue::ArrayQueue;
@@ -88,6 +89,7 @@ fn start<
 // Serves a sheet, while this thread keeps what its sessions have done.
 fn serve_beside<
     S: Alter + Drop,
+    T: Attendant,
     L: Ledger + Send + Sync,
     M: Ledger + Send + Sync,
     R: Threads + Wait + Clock + Log + Sync,
@@ -100,6 +102,7 @@ fn serve_beside<
     door: &Door,
     service: Service,
     store: &mut Store<S>,
+    attendant: &mut T,
 ) -> Result<Taken, ServeError>
     ensures served { IfOk result (IsServed service.sessions) }
     ensures lasting { IfErr result IsStoredLasting }
@@ -115,7 +118,7 @@ fn serve_beside<
             else {
                 return Err(ServeError::NoMemory);
             };
-            let kept = door.keep(rt, alloc, store);
+            let kept = door.keep(rt, alloc, store, attendant);
             let taken = server.join(rt)?;
             sum_up(rt, &taken, door);
             kept.map_err(ServeError::Store)?;
@@ -127,6 +130,7 @@ fn serve_beside<
 // So of a world, with these blanks.
 fn serve_world<
     S: Alter + Drop,
+    T: Attendant,
     L: Ledger + Send + Sync,
     M: Ledger + Send + Sync,
     R: Threads + Wait + Clock + Log + Sync,
@@ -140,6 +144,7 @@ fn serve_world<
     door: &Door,
     service: Service,
     store: &mut Store<S>,
+    attendant: &mut T,
 ) -> Result<Taken, ServeError>
     requires names { (dones.name ≡ L.name) × (settleds.name ≡ M.name) }
     requires parts { (dones.parts ≡ L.parts) × (settleds.parts ≡ M.parts) }
@@ -155,15 +160,18 @@ fn serve_world<
         return Err(ServeError::NoMemory);
     };
     let queues = queues.as_slice();
-    let taken = serve_beside(rt, alloc, listener, &sheet, queues, door, service, store)?;
+    let taken = serve_beside(
+        rt, alloc, listener, &sheet, queues, door, service, store, attendant,
+    )?;
     close(rt, alloc, sheet, queues, processes);
     Ok(taken)
 }
 
 /// Serves this sheet as `server::serve` does, while the calling thread keeps in the store each edit that its sessions have
-/// done: no answer leaves before the edits that were made before it are committed. Its door is one with a store. An error
+/// done: no answer leaves before the edits that were made before it are committed. The attendant has its turn between two
+/// commits. Its door is one with a store. An error
 /// is that of `server::serve`; or the store has failed, and the server was stopped.
-pub fn serve<S: Alter + Drop, R: Threads + Wait + Clock + Log + Sync>(
+pub fn serve<S: Alter + Drop, T: Attendant, R: Threads + Wait + Clock + Log + Sync>(
     rt: &R,
     alloc: Global,
     listener: &TcpListener,
@@ -171,6 +179,7 @@ pub fn serve<S: Alter + Drop, R: Threads + Wait + Clock + Log + Sync>(
     door: &Door,
     service: Service,
     store: &mut Store<S>,
+    attendant: &mut T,
 ) -> Result<Taken, ServeError>
     ensures served { IfOk result (IsServed service.sessions) }
     ensures lasting { IfErr result IsStoredLasting }
@@ -178,7 +187,7 @@ pub fn serve<S: Alter + Drop, R: Threads + Wait + Clock + Log + Sync>(
     world.is_always_good();
     let parts = world.words.layout().processes as u64;
     let (dones, settleds) = (Blank::new(parts), Blank::new(parts));
-    serve_world::<S, Brand, Brand, _>(
-        rt, alloc, listener, world, dones, settleds, door, service, store,
+    serve_world::<S, T, Brand, Brand, _>(
+        rt, alloc, listener, world, dones, settleds, door, service, store, attendant,
     )
 }
