@@ -104,6 +104,19 @@ impl Inputs {
         })
     }
 
+    /// Equal inputs, in memory of their own, with room for at least as many. It fails only where that is refused.
+    pub fn copy_with_room(&self, alloc: Global) -> Result<Inputs, AllocError>
+        ensures items { IfOk result (λ inputs. inputs.items ≡ self.now.items) }
+        ensures room { IfOk result (λ inputs. self.now.room ≤ inputs.room) }
+    {
+        let mut items = Vec::with_capacity(alloc, self.items.capacity())?;
+        items.extend_from_slice(&self.items)?;
+        Ok(Inputs {
+            items,
+            columns: self.columns,
+        })
+    }
+
     /// How many inputs there are.
     pub fn len(&self) -> usize
         ensures { result ≡ length self.now.items }

@@ -48,6 +48,17 @@ impl SheetWords {
         })
     }
 
+    /// Equal words and buffers, in memory of their own. An error is a want of memory.
+    pub fn copy(&self, alloc: Global) -> Result<SheetWords, AllocError>
+        ensures { IfOk result (λ s. s ≡ self.now) }
+    {
+        Ok(SheetWords {
+            layout: self.layout,
+            starts: self.starts,
+            words: self.words.copy(alloc)?,
+        })
+    }
+
     /// What fixes the words.
     #[inline(always)]
     pub fn layout(&self) -> Layout

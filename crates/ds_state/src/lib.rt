@@ -1,6 +1,7 @@
 //! What the processes of a sheet are doing, and what is true of a sheet while they do it.
 #![tactic(auto)]
 
+pub mod copies;
 pub mod edit;
 pub mod laws;
 pub mod ledger;

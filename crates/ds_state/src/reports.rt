@@ -3,6 +3,7 @@
 ghost use Rattle.std.specs.Prelude.{◌≡◌, ◌<◌, ◌≤◌, IfOk, All, [], length, replicate, slice_index_or, vec_capacity};
 ghost use Rattle.ds_state.specs.KnownShow.{values_of, noted};
 
+use crate::copies::with_room;
 use crate::shown;
 use ds_eval::value::Value;
 use ds_layout::stored::Stored;
@@ -57,6 +58,18 @@ impl Reports {
         let mut values = Vec::with_capacity(alloc, processes)?;
         for _ in 0..processes {
             values.push(Vec::with_capacity(alloc, cells)?)?;
+        }
+        Ok(Reports { cells, values })
+    }
+
+    /// Equal reports, in memory of their own, with the same room. An error is a want of memory.
+    pub fn copy(&self, alloc: Global) -> Result<Reports, AllocError>
+        ensures { IfOk result (λ r. r ≡ self.now) }
+    {
+        let cells = self.cells;
+        let mut values = Vec::with_capacity(alloc, self.values.len())?;
+        for report in &self.values {
+            values.push(with_room(alloc, report, cells)?)?;
         }
         Ok(Reports { cells, values })
     }

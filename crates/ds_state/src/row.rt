@@ -47,6 +47,15 @@ impl Row {
         self.words.clear();
     }
 
+    /// An equal row.
+    pub fn copy(&self) -> Row
+        ensures { result ≡ self.now }
+    {
+        let mut words = ArrayVec::new();
+        let _fits = words.try_extend_from_slice(self.words.as_slice());
+        Row { words }
+    }
+
     /// Its words.
     #[inline(always)]
     pub fn as_slice(&self) -> &[u64]

@@ -60,6 +60,7 @@ record EndsWith (start : WorldValue) (before : List Deed) (last : Deed) (all : L
   answer : List ℕ
   plays : Plays (plan world last) world own told (Says answer) new
   events_are : all ≡ events ++ own
+  replies_are : all_replies ≡ replies ++ told
   answers_are : all_answers ≡ answers ++ answer
 
 ends_with : (start : WorldValue) (deeds before : List Deed) (last : Deed) (es : List Event) (rs : List Reply) (answers : List ℕ) (new : WorldValue) → deeds ≡ before ++ last ∷ [] → InTurn start deeds es rs answers new → EndsWith start before last es rs answers new
@@ -77,6 +78,7 @@ ends_with start deeds before last es rs answers new is (one_deed_more ds es1 rs1
       answer = answer;
       plays = subst (λ (d : Deed). Plays (plan v d) v own told (Says answer) new) s.last plays;
       events_are = refl;
+      replies_are = refl;
       answers_are = refl;
     }
 
@@ -141,17 +143,31 @@ module _ (whole : Bool) (script : List ℕ) (k : ℕ) (text : List ℕ) (b : IsB
       let same = ap cells_of all_back.layout in
       omega (arith, few, x, y, z, u, same)
 
-  clean_line : TellsClean b.answers
+  clean_line : TellsClean b.crashed b.events b.replies b.answers b.new
   clean_line = record {
+    recover_events = settled.events;
+    recover_replies = settled.replies;
     told = settled.answers;
+    recovered = settled.world;
+    recovers = settled.turn;
+    settle_events = settled.own;
+    settle_replies = settled.told;
     line = settled.answer;
-    report = reported.answer;
-    is = reported.answers_are ∙ ap (λ (xs : List ℕ). xs ++ reported.answer) settled.answers_are;
+    settled = reported.world;
+    settles = settled.plays;
     clean = lone_says_clean 0 settled.world settled.answer reported.world all_back.good (rw all_back.layout there)
         (record { each = λ q lt. all_back.idle q (rw (sym (ap (λ (y : Layout). y.processes) all_back.layout)) lt) })
         (young_marks b.stands.progress.start _ _ settled.world (cells_of settled.world.sheet.layout + 2) (block_new whole script k text b) (block_good whole script k text b) run fewer)
         (record { events = settled.own; replies = settled.told; plays = settled.plays });
+    report_events = reported.own;
+    report_replies = reported.told;
+    report = reported.answer;
+    reports = reported.plays;
+    events_are = reported.events_are ∙ ap (λ (es : List Event). es ++ reported.own) settled.events_are;
+    replies_are = reported.replies_are ∙ ap (λ (rs : List Reply). rs ++ reported.told) settled.replies_are;
+    answers_are = reported.answers_are ∙ ap (λ (xs : List ℕ). xs ++ reported.answer) settled.answers_are;
   }
 
-pub blocks_clean : (whole : Bool) (script : List ℕ) (k : ℕ) (text : List ℕ) (b : IsBlock whole script k text) → HasProcess b.crashed 0 → length (block_events b) + 2 * (cells_of b.crashed.sheet.layout + 2) ≤ SEEN_MOST → TellsClean b.answers
+pub blocks_clean : (whole : Bool) (script : List ℕ) (k : ℕ) (text : List ℕ) (b : IsBlock whole script k text) → HasProcess b.crashed 0 → length (block_events b) + 2 * (cells_of b.crashed.sheet.layout + 2) ≤ SEEN_MOST
+    → TellsClean b.crashed b.events b.replies b.answers b.new
 blocks_clean whole script k text b there few = clean_line whole script k text b there few

@@ -18,28 +18,40 @@ use Rattle.ds_streams.specs.declared.ending.ScriptEnd.{ScriptEnd}
 use Rattle.ds_streams.specs.declared.ending.ScriptEnd.TheVariants as ends
 use Rattle.ds_stops.specs.declared.reach.Short.{Short}
 use Rattle.ds_stops.specs.declared.reach.Short.TheVariants as shorts
-use Rattle.ds_stops.specs.StopBlocks.{InTurn, no_deed, one_deed_more, IsBlock, Blocks, one_block_more, StopsWith, StopsWithin, block_events, block_replies}
-use Rattle.ds_stops.specs.Reaching.{FallsShort, end_of}
+use Rattle.std.proofs.lemmas.List.{append-nil}
+use Rattle.ds_play.specs.Script.{StandsAt}
+use Rattle.ds_stops.specs.declared.range.StopRange.{StopRange}
+use Rattle.ds_stops.specs.StopBlocks.{InTurn, no_deed, one_deed_more, IsIn, IsBlock, Blocks, one_block_more, one_left_out, StopsWith, StopsInRange, block_events, block_replies}
+use Rattle.ds_stops.specs.Reaching.{FallsShort, IsTold, end_of}
+use Rattle.ds_stops.proofs.Telling.{is_block}
 
 -- ---- ends
 
-pub blocks_more : (whole : Bool) (script out text : List ℕ) (k : ℕ) → Blocks whole script k out → IsBlock whole script (k + 1) text → Blocks whole script (k + 1) (out ++ text)
-blocks_more whole script out text k blocks block =
+pub blocks_more : (range : StopRange) (whole : Bool) (script out text : List ℕ) (k : ℕ) (w : WorldValue) → Blocks range whole script k out → StandsAt whole script (k + 1) w → IsTold range (k + 1) w text → Blocks range whole script (k + 1) (out ++ text)
+blocks_more range whole script out text k w blocks stands (inl told) =
     let e : k + 1 ≡ suc k = omega arith in
-    subst (λ (n : ℕ). Blocks whole script n (out ++ text)) (sym e) (one_block_more k out text blocks (subst (λ (n : ℕ). IsBlock whole script n text) e block))
-
-ends_by : (whole : Bool) (script out : List ℕ) (k : ℕ) (short : Short) → Blocks whole script k out → FallsShort whole script (suc k) short → StopsWith whole script out (end_of whole short)
-ends_by true script out k shorts.Ended blocks h = (refl, record { stops = k; blocks = blocks; ends = h })
-ends_by false script out k shorts.Ended blocks h = (refl, record { stops = k; blocks = blocks; ends = h })
-ends_by true script out k (shorts.Fault line kind) blocks h = record { stops = k; blocks = blocks; breaks = h }
-ends_by false script out k (shorts.Fault line kind) blocks h = record { stops = k; blocks = blocks; breaks = h }
-ends_by true script out k shorts.NoMemory blocks h = (k, blocks)
-ends_by false script out k shorts.NoMemory blocks h = (k, blocks)
-
-pub ends_with : (whole : Bool) (script out : List ℕ) (k : ℕ) (short : Short) (end : ScriptEnd) → Blocks whole script k out → FallsShort whole script (k + 1) short → end ≡ end_of whole short → StopsWith whole script out end
-ends_with whole script out k short end blocks h is =
+    subst (λ (n : ℕ). Blocks range whole script n (out ++ text)) (sym e)
+    (one_block_more k out text blocks (subst (λ (n : ℕ). IsIn range n) e told.0)
+    (subst (λ (n : ℕ). IsBlock whole script n text) e (is_block whole script (k + 1) w told.1 text stands told.2)))
+blocks_more range whole script out text k w blocks stands (inr other) =
     let e : k + 1 ≡ suc k = omega arith in
-    subst (λ (x : ScriptEnd). StopsWith whole script out x) (sym is) (ends_by whole script out k short blocks (subst (λ (n : ℕ). FallsShort whole script n short) e h))
+    subst (λ (n : ℕ). Blocks range whole script n (out ++ text)) (sym e)
+    (subst (λ (t : List ℕ). Blocks range whole script (suc k) (out ++ t)) (sym other.1)
+    (subst (λ (t : List ℕ). Blocks range whole script (suc k) t) (sym (append-nil out))
+    (one_left_out k out blocks (λ is. other.0 (subst (λ (n : ℕ). IsIn range n) (sym e) is)))))
+
+ends_by : (range : StopRange) (whole : Bool) (script out : List ℕ) (k : ℕ) (short : Short) → Blocks range whole script k out → FallsShort whole script (suc k) short → StopsWith range whole script out (end_of whole short)
+ends_by range true script out k shorts.Ended blocks h = (refl, record { stops = k; blocks = blocks; ends = h })
+ends_by range false script out k shorts.Ended blocks h = (refl, record { stops = k; blocks = blocks; ends = h })
+ends_by range true script out k (shorts.Fault line kind) blocks h = record { stops = k; blocks = blocks; breaks = h }
+ends_by range false script out k (shorts.Fault line kind) blocks h = record { stops = k; blocks = blocks; breaks = h }
+ends_by range true script out k shorts.NoMemory blocks h = (k, blocks)
+ends_by range false script out k shorts.NoMemory blocks h = (k, blocks)
+
+pub ends_with : (range : StopRange) (whole : Bool) (script out : List ℕ) (k : ℕ) (short : Short) (end : ScriptEnd) → Blocks range whole script k out → FallsShort whole script (k + 1) short → end ≡ end_of whole short → StopsWith range whole script out end
+ends_with range whole script out k short end blocks h is =
+    let e : k + 1 ≡ suc k = omega arith in
+    subst (λ (x : ScriptEnd). StopsWith range whole script out x) (sym is) (ends_by range whole script out k short blocks (subst (λ (n : ℕ). FallsShort whole script n short) e h))
 
 -- how a script ends is never by a write that failed, but where one did
 pub writes : (whole : Bool) (short : Short) → end_of whole short ≢ ends.WriteFailed
@@ -51,12 +63,12 @@ writes true shorts.NoMemory = λ e. cc
 writes false shorts.NoMemory = λ e. cc
 
 -- no script ends as one that could not be read
-not_read_with : (whole : Bool) (script out : List ℕ) (end : ScriptEnd) → StopsWith whole script out end → end ≢ ends.ReadFailed
-not_read_with whole script out end h = λ e. let bad : StopsWith whole script out ends.ReadFailed = subst (λ (x : ScriptEnd). StopsWith whole script out x) e h in bad
+not_read_with : (range : StopRange) (whole : Bool) (script out : List ℕ) (end : ScriptEnd) → StopsWith range whole script out end → end ≢ ends.ReadFailed
+not_read_with range whole script out end h = λ e. let bad : StopsWith range whole script out ends.ReadFailed = subst (λ (x : ScriptEnd). StopsWith range whole script out x) e h in bad
 
-pub not_read : (limit : ℕ) (script out : List ℕ) (end : ScriptEnd) → StopsWithin limit script out end → end ≢ ends.ReadFailed
-not_read limit script out end (inl h) = not_read_with true script out end h.stops
-not_read limit script out end (inr h) = not_read_with false (take limit script) out end h.stops
+pub not_read : (range : StopRange) (limit : ℕ) (script out : List ℕ) (end : ScriptEnd) → StopsInRange range limit script out end → end ≢ ends.ReadFailed
+not_read range limit script out end (inl h) = not_read_with range true script out end h.stops
+not_read range limit script out end (inr h) = not_read_with range false (take limit script) out end h.stops
 
 -- ---- runs
 

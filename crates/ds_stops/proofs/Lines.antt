@@ -1,5 +1,5 @@
 -- A script, line by line, up to a step.
-use Rattle.std.proofs.Common.{ℕ, suc, ◌+◌, ◌≡◌, ◌<◌, ◌∙◌, inl, inr, Bool, List, [], ◌∷◌, ◌++◌, Ok, Err, refl, sym, ap, subst, arith}
+use Rattle.std.proofs.Common.{ℕ, suc, ◌+◌, ◌≡◌, ◌<◌, ◌∙◌, inl, inr, Bool, List, [], ◌∷◌, ◌++◌, Ok, Err, refl, sym, ap, subst, arith, add-one}
 use Rattle.std.specs.Prelude.{Option, Some, None, Result}
 use Rattle.ds_state.specs.Value.{WorldValue}
 use Rattle.ds_core.specs.declared.event.Event.TheVariants.{Step}
@@ -9,24 +9,21 @@ use Rattle.ds_streams.specs.ScriptLines.{AtFront, NoLine, ALine, LongLine, next_
 use Rattle.ds_play.specs.declared.order.Begun.{Begun}
 use Rattle.ds_play.specs.declared.order.Begun.TheVariants as begun
 use Rattle.ds_play.specs.Orders.{Order, Make, Does, order_of}
+use Rattle.ds_play.specs.Doing.{Doing, plan}
+use Rattle.ds_play.specs.Plays.{Plays}
 use Rattle.ds_play.specs.Running.{after}
 use Rattle.ds_play.specs.Script.{Progress, IsMade, begins_at, goes_on, Carried, begins, skips, makes, obeys, FaultAt, StandsAt, steps_taken}
 use Rattle.ds_play.proofs.Scripts.{carried_runs}
+use Rattle.ds_stops.specs.declared.reach.Place.{Place}
 use Rattle.ds_stops.specs.declared.reach.Point.{Point}
 use Rattle.ds_stops.specs.declared.reach.Stop.{Stop}
 use Rattle.ds_stops.specs.declared.reach.Stop.TheVariants as stops
 use Rattle.ds_stops.specs.StopBlocks.{EndsBefore, BreaksBefore}
-use Rattle.ds_stops.specs.Reaching.{EndsOrder, HaltsOrder, PassesLine, StopsLine, Reaches, stop_of}
+use Rattle.ds_stops.specs.declared.turn.Left.{Left}
+use Rattle.ds_stops.specs.ScriptTurns.{doing_of}
+use Rattle.ds_stops.specs.Reaching.{Ends, Halts, EndsOrder, HaltsOrder, PassesLine, StopsLine, Led, IsInside, IsAtLeft, IsAt, FallsShort, short_at}
 use Rattle.ds_stops.proofs.Playing.{count_on}
-
--- the lines led here, in a run that has taken so many steps
-pub record Led (whole : Bool) (script : List ℕ) (lines : ℕ) (point : Point) (w : WorldValue) (rest : List ℕ) : Type 0 where
-  pub progress : Progress
-  pub begun_is : progress.begun ≡ point.begun
-  pub world_is : progress.world ≡ w
-  pub count : steps_taken progress.events progress.replies ≡ point.taken
-  pub out : List ℕ
-  pub carried : Carried whole script lines progress out rest
+use Rattle.ds_stops.proofs.Carrying.{way_ends, way_halts}
 
 pub begins_led : (whole : Bool) (script : List ℕ) (w : WorldValue) → IsMade 2 2 2 w → Led whole script 0 (record { begun = begun.Nothing; taken = 0 }) w script
 begins_led whole script w made = record { progress = begins_at begun.Nothing w; begun_is = refl; world_is = refl; count = refl; out = []; carried = begins w made }
@@ -72,9 +69,10 @@ module _ (whole : Bool) (script : List ℕ) (lines : ℕ) (point : Point) (w : W
       ends_led whole script lines led.progress led.out rest line behind e.order point.taken now new led.carried next (asked (Ok (Some e.order)) e.asks) e.begun_is led.count
       (subst (λ (v : WorldValue). EndsOrder v e.order point.taken now.taken new) (sym led.world_is) e.ends)
 
-  stands : (order : Order) (last : ℕ) (new : WorldValue) → order_of led.progress.begun led.progress.world line ≡ Ok (Some order) → HaltsOrder led.progress.world order point.taken last new → StandsAt whole script last new
-  stands (Make columns rows processes) last new asks h = absurd h
-  stands (Does deed) last new asks h = record {
+  -- a run that stands at a step of the line
+  stands : (order : Order) (last : ℕ) (left : Option Left) (new : WorldValue) → order_of led.progress.begun led.progress.world line ≡ Ok (Some order) → HaltsOrder led.progress.world order point.taken last left new → StandsAt whole script last new
+  stands (Make columns rows processes) last left new asks h = absurd h
+  stands (Does deed) last left new asks h = record {
     lines = lines;
     progress = led.progress;
     out = led.out;
@@ -97,10 +95,46 @@ module _ (whole : Bool) (script : List ℕ) (lines : ℕ) (point : Point) (w : W
         let before = led.count in omega (arith, both, before, own);
   }
 
+  -- where it stands: in the line's command, or behind it
+  at : (order : Order) (last : ℕ) (begun : Begun) (left : Option Left) (new : WorldValue) → order_of point.begun w line ≡ Ok (Some order) → begun ≡ after order → HaltsOrder w order point.taken last left new
+      → IsAtLeft whole script (lines + 1) (record { begun = begun; taken = last }) behind left new
+  at (Make columns rows processes) last begun left new asks is h = absurd h
+  at (Does deed) last begun None new asks is h =
+      let over : Ends (plan w deed) w point.taken last new = record {
+        events = h.events ++ Step h.p ∷ [];
+        replies = h.replies ++ h.reply ∷ [];
+        text = h.remains.0;
+        plays = subst (λ (d : Doing). Plays (plan w deed) w (h.events ++ Step h.p ∷ []) (h.replies ++ h.reply ∷ []) d new) h.remains.1 h.plays;
+        count = h.count;
+      } in
+      let more = ends_led whole script lines led.progress led.out rest line behind (Does deed) point.taken (record { begun = begun; taken = last }) new led.carried next (asked (Ok (Some (Does deed))) asks) is led.count
+      (subst (λ (v : WorldValue). EndsOrder v (Does deed) point.taken last new) (sym led.world_is) over) in
+      rw add-one more
+  at (Does deed) last begun (Some l) new asks is h = record {
+    before = lines;
+    from = point;
+    world = w;
+    all = rest;
+    led = led;
+    line = line;
+    next = next;
+    lines_are = refl;
+    deed = deed;
+    asks = asks;
+    begun_is = is;
+    way = record { events = h.events ++ Step h.p ∷ []; replies = h.replies ++ h.reply ∷ []; last = h.last; plays = h.plays; is = h.remains; count = h.count };
+  }
+
+  pub halted : (order : Order) (last : ℕ) (begun : Begun) (left : Option Left) (new : WorldValue) → order_of point.begun w line ≡ Ok (Some order) → begun ≡ after order → HaltsOrder w order point.taken last left new
+      → StandsAt whole script last new × IsAtLeft whole script (lines + 1) (record { begun = begun; taken = last }) behind left new
+  halted order last begun left new asks is h = (
+    stands order last left new (asked (Ok (Some order)) asks) (subst (λ (v : WorldValue). HaltsOrder v order point.taken last left new) (sym led.world_is) h),
+    at order last begun left new asks is h,
+  )
+
   -- a line that stops the run
-  pub line_stops : (last : ℕ) (new : WorldValue) (stop : Stop) → point.taken < last → StopsLine w point line last new stop → Reaches whole script last new (stop_of (lines + 1) stop)
-  line_stops last new stops.Reached below h = stands h.order last new (asked (Ok (Some h.order)) h.asks) (subst (λ (v : WorldValue). HaltsOrder v h.order point.taken last new) (sym led.world_is) h.halts)
-  line_stops last new (stops.Fault kind) below h = record {
+  pub line_stops : (last : ℕ) (stop : Stop) → point.taken < last → StopsLine w point line stop → FallsShort whole script last (short_at (lines + 1) stop)
+  line_stops last (stops.Fault kind) below h = record {
     out = led.out;
     breaks = record {
       lines = lines;
@@ -112,7 +146,29 @@ module _ (whole : Bool) (script : List ℕ) (lines : ℕ) (point : Point) (w : W
     };
     fewer = let count = led.count in omega (arith, count, below);
   }
-  line_stops last new stops.NoMemory below h = tt
+  line_stops last stops.NoMemory below h = tt
+
+-- ---- in a command
+
+pub inside : (whole : Bool) (script : List ℕ) (place : Place) (l : Left) (w : WorldValue) → place.left ≡ Some l → IsAt whole script place w → IsInside whole script place.lines place.point place.rest.now l w
+inside whole script place l w is h = subst (λ (o : Option Left). IsAtLeft whole script place.lines place.point place.rest.now o w) is h
+
+module _ (whole : Bool) (script : List ℕ) (lines : ℕ) (point : Point) (rest : List ℕ) (l : Left) (w : WorldValue) (i : IsInside whole script lines point rest l w) where
+  -- the command goes on to its end
+  pub inside_ends : (now : ℕ) (new : WorldValue) → Ends (doing_of l) w point.taken now new → Led whole script lines (record { begun = point.begun; taken = now }) new rest
+  inside_ends now new h =
+      let over = way_ends (plan i.world i.deed) i.world w new l i.from.taken point.taken now i.way h in
+      let ends : PassesLine i.world i.from i.line (record { begun = point.begun; taken = now }) new = inr (record { order = Does i.deed; asks = i.asks; begun_is = i.begun_is; ends = over }) in
+      let more = line_more whole script i.before i.from i.world i.all i.line rest i.led i.next (record { begun = point.begun; taken = now }) new ends in
+      let number : suc i.before ≡ lines = sym (add-one i.before) ∙ sym i.lines_are in
+      subst (λ (n : ℕ). Led whole script n (record { begun = point.begun; taken = now }) new rest) number more
+
+  -- and to its next step
+  pub inside_halts : (last : ℕ) (left : Option Left) (new : WorldValue) → Halts (doing_of l) w point.taken last left new
+      → StandsAt whole script last new × IsAtLeft whole script lines (record { begun = point.begun; taken = last }) rest left new
+  inside_halts last left new h =
+      subst (λ (n : ℕ). StandsAt whole script last new × IsAtLeft whole script n (record { begun = point.begun; taken = last }) rest left new) (sym i.lines_are)
+      (halted whole script i.before i.from i.world i.all i.line rest i.led i.next (Does i.deed) last point.begun left new i.asks i.begun_is (way_halts (plan i.world i.deed) i.world w new l i.from.taken point.taken last left i.way h))
 
 -- ---- its end
 

@@ -13,7 +13,7 @@ use Rattle.ds_play.proofs.Played.{plays_on, play_runs}
 use Rattle.ds_stops.specs.declared.turn.Left.{Left}
 use Rattle.ds_stops.specs.declared.turn.Turn.{Turn}
 use Rattle.ds_stops.specs.ScriptTurns.{Remains, IsStep, TakesTurn, doing_of, steps_of, events_from, events_to_step}
-use Rattle.ds_stops.specs.Reaching.{Ends, Halts}
+use Rattle.ds_stops.specs.Reaching.{OnTheWay, Ends, Halts}
 
 -- ---- counting
 
@@ -34,15 +34,6 @@ one_more events replies event reply a b old mid h =
     count_on events replies (event ∷ []) (reply ∷ []) old mid (play_runs events replies a b old mid h) ∙ (let e : steps_taken events replies + (step_taken event reply + 0) ≡ steps_taken events replies + step_taken event reply = omega arith in e)
 
 -- ---- on the way
-
--- the command is on its way: it has been played up to here, and this is left of it
-pub record OnTheWay (doing : Doing) (old : WorldValue) (before now : ℕ) (l : Left) (new : WorldValue) : Type 0 where
-  pub events : List Event
-  pub replies : List Reply
-  pub last : Doing
-  pub plays : Plays doing old events replies last new
-  pub is : last ≡ doing_of l
-  pub count : before + steps_taken events replies ≡ now
 
 pub sets_out : (l : Left) (w : WorldValue) (before : ℕ) → OnTheWay (doing_of l) w before before l w
 sets_out l w before = record { events = []; replies = []; last = doing_of l; plays = (refl, refl); is = refl; count = add-zero before }
@@ -88,7 +79,7 @@ module _ (doing : Doing) (old mid new : WorldValue) (before taken now : ℕ) (l 
     count = counted;
   }
 
-  pub stands : (last : ℕ) → taken < last → now ≡ last → Halts doing old before last new
+  pub stands : (last : ℕ) → taken < last → now ≡ last → Halts doing old before last turn.left new
   stands last below is =
       let step = was_step turn.stepped turns.event turns.reply taken last turns.is below (sym is_now ∙ is) in
       record {
@@ -100,6 +91,8 @@ module _ (doing : Doing) (old mid new : WorldValue) (before taken now : ℕ) (l 
         plays = subst (λ (e : Event). Plays doing old (way.events ++ e ∷ []) (way.replies ++ turns.reply ∷ []) (told (doing_of l) turns.event turns.reply new) new) step.1 further;
         taken = step.2;
         count = subst (λ (e : Event). before + steps_taken (way.events ++ e ∷ []) (way.replies ++ turns.reply ∷ []) ≡ last) step.1 (counted ∙ is);
+        remains = turns.remains;
+        within = turns.within;
       }
 
 -- ---- how many turns are left

@@ -1,20 +1,28 @@
 -- How far a run of a script comes that goes up to a step.
-use Rattle.std.specs.Prelude.{ℕ, ◌+◌, ◌≡◌, ◌⊎◌, Bool, true, false, List, [], ◌∷◌, ◌++◌, Option, Some, None, Result, Ok, Err}
+use Rattle.std.specs.Prelude.{ℕ, ◌+◌, ◌≡◌, ◌<◌, ◌⊎◌, Bool, true, false, List, [], ◌∷◌, ◌++◌, Option, Some, None, IfSome, Result, Ok, Err}
 use Rattle.ds_state.specs.Value.{WorldValue}
 use Rattle.ds_core.specs.Takes.{Fits}
 use Rattle.ds_core.specs.declared.event.Event.{Event}
 use Rattle.ds_core.specs.declared.event.Event.TheVariants.{Step, Crash}
 use Rattle.ds_core.specs.declared.reply.Reply.{Reply}
 use Rattle.ds_core.specs.declared.reply.Reply.TheVariants.{Crashed}
+use Rattle.ds_streams.specs.ScriptLines.{ALine, next_of}
 use Rattle.ds_streams.specs.declared.ending.ScriptEnd.{ScriptEnd}
 use Rattle.ds_streams.specs.declared.ending.ScriptEnd.TheVariants as ends
 use Rattle.ds_play.specs.Orders.{Deed, Order, Make, Does, order_of}
 use Rattle.ds_play.specs.Doing.{Doing, Says, plan}
 use Rattle.ds_play.specs.Plays.{Plays}
 use Rattle.ds_play.specs.Running.{after}
-use Rattle.ds_play.specs.Script.{IsMade, StandsAt, step_taken, steps_taken}
-use Rattle.ds_stops.specs.StopBlocks.{InTurn, deeds_behind, stop_text, EndsBefore, BreaksBefore}
-use Rattle.ds_stops.specs.ScriptTurns.{Remains}
+use Rattle.ds_play.specs.declared.order.Begun.{Begun}
+use Rattle.ds_play.specs.Script.{Progress, IsMade, Carried, StandsAt, step_taken, steps_taken}
+use Rattle.ds_stops.specs.StopBlocks.{InTurn, deeds_behind, stop_text, IsIn, EndsBefore, BreaksBefore}
+use Rattle.ds_stops.specs.declared.range.StopRange.{StopRange}
+use Rattle.ds_stops.specs.ScriptTurns.{Remains, IsWithin, doing_of}
+use Rattle.ds_stops.specs.declared.play.Played.{Played}
+use Rattle.ds_stops.specs.declared.play.Played.TheVariants as played
+use Rattle.ds_stops.specs.declared.reach.Advance.{Advance}
+use Rattle.ds_stops.specs.declared.reach.Advance.TheVariants as advance
+use Rattle.ds_stops.specs.declared.reach.Place.{Place}
 use Rattle.ds_stops.specs.declared.reach.Point.{Point}
 use Rattle.ds_stops.specs.declared.reach.Stop.{Stop}
 use Rattle.ds_stops.specs.declared.reach.Stop.TheVariants as stops
@@ -41,8 +49,19 @@ pub record Ends (doing : Doing) (old : WorldValue) (before now : ℕ) (new : Wor
   pub plays : Plays doing old events replies (Says text) new
   pub count : before + steps_taken events replies ≡ now
 
--- the command is played up to a step, with which a run that had taken so many steps before has taken so many
-pub record Halts (doing : Doing) (old : WorldValue) (before now : ℕ) (new : WorldValue) : Type 0 where
+-- the command is on its way, in a run that had taken so many steps before it and has taken so many: it has been played
+-- up to here, and this is left of it
+pub record OnTheWay (doing : Doing) (old : WorldValue) (before now : ℕ) (l : Left) (new : WorldValue) : Type 0 where
+  pub events : List Event
+  pub replies : List Reply
+  pub last : Doing
+  pub plays : Plays doing old events replies last new
+  pub is : last ≡ doing_of l
+  pub count : before + steps_taken events replies ≡ now
+
+-- the command is played up to a step, with which a run that had taken so many steps before has taken so many, and this
+-- is left of it there
+pub record Halts (doing : Doing) (old : WorldValue) (before now : ℕ) (left : Option Left) (new : WorldValue) : Type 0 where
   pub events : List Event
   pub replies : List Reply
   pub p : ℕ
@@ -51,6 +70,13 @@ pub record Halts (doing : Doing) (old : WorldValue) (before now : ℕ) (new : Wo
   pub plays : Plays doing old (events ++ Step p ∷ []) (replies ++ reply ∷ []) last new
   pub taken : step_taken (Step p) reply ≡ 1
   pub count : before + steps_taken (events ++ Step p ∷ []) (replies ++ reply ∷ []) ≡ now
+  pub remains : Remains left last
+  pub within : IfSome left (IsWithin new)
+
+-- how far the command is played, in a run that had taken so many steps before it and goes up to the last one
+abbrev pub IsPlayed : Doing → WorldValue → ℕ → ℕ → Played → WorldValue → Type 0
+IsPlayed doing old before last (played.Ended now) new = Ends doing old before now new × (now < last)
+IsPlayed doing old before last (played.Halted left) new = Halts doing old before last left new
 
 -- ---- an order: a new sheet begins a new run
 
@@ -69,10 +95,16 @@ abbrev pub EndsOrder : WorldValue → Order → ℕ → ℕ → WorldValue → T
 EndsOrder old (Make columns rows processes) before now new = (now ≡ 0) × IsMade columns rows processes new
 EndsOrder old (Does deed) before now new = Ends (plan old deed) old before now new
 
--- the order is carried out up to a step, with which a run that had taken so many steps before has taken so many
-abbrev pub HaltsOrder : WorldValue → Order → ℕ → ℕ → WorldValue → Type 0
-HaltsOrder old (Make columns rows processes) before now new = ⊥
-HaltsOrder old (Does deed) before now new = Halts (plan old deed) old before now new
+-- the order is carried out up to a step, with which a run that had taken so many steps before has taken so many, and
+-- this is left of it there
+abbrev pub HaltsOrder : WorldValue → Order → ℕ → ℕ → Option Left → WorldValue → Type 0
+HaltsOrder old (Make columns rows processes) before now left new = ⊥
+HaltsOrder old (Does deed) before now left new = Halts (plan old deed) old before now left new
+
+-- how far the order is carried out, in a run that had taken so many steps before it and goes up to the last one
+abbrev pub IsCarried : WorldValue → Order → ℕ → ℕ → Played → WorldValue → Type 0
+IsCarried old order before last (played.Ended now) new = EndsOrder old order before now new × (now < last)
+IsCarried old order before last (played.Halted left) new = HaltsOrder old order before last left new
 
 -- ---- a line
 
@@ -93,19 +125,58 @@ pub record EndsLine (old : WorldValue) (point : Point) (line : List ℕ) (now : 
 abbrev pub PassesLine : WorldValue → Point → List ℕ → Point → WorldValue → Type 0
 PassesLine old point line now new = SkipsLine old point line now new ⊎ EndsLine old point line now new
 
--- the line is carried out up to a step, with which the run has taken so many
-pub record HaltsLine (old : WorldValue) (point : Point) (line : List ℕ) (last : ℕ) (new : WorldValue) : Type 0 where
+-- the line is carried out up to a step, with which the run has taken so many; what has begun then, and what is left of
+-- the line's command
+pub record HaltsLine (old : WorldValue) (point : Point) (line : List ℕ) (last : ℕ) (now : Begun) (left : Option Left) (new : WorldValue) : Type 0 where
   pub order : Order
   pub asks : order_of point.begun old line ≡ Ok (Some order)
-  pub halts : HaltsOrder old order point.taken last new
+  pub begun_is : now ≡ after order
+  pub halts : HaltsOrder old order point.taken last left new
 
--- why no further line is carried out: the run stands at its last step; the line has a fault; or for want of memory
-abbrev pub StopsLine : WorldValue → Point → List ℕ → ℕ → WorldValue → Stop → Type 0
-StopsLine old point line last new stops.Reached = HaltsLine old point line last new
-StopsLine old point line last new (stops.Fault kind) = order_of point.begun old line ≡ Err kind
-StopsLine old point line last new stops.NoMemory = Unit {0}
+-- how far the line is carried out, in a run that goes up to the last step
+abbrev pub Advances : WorldValue → Point → List ℕ → ℕ → Advance → WorldValue → Type 0
+Advances old point line last (advance.Passed now) new = PassesLine old point line now new × (now.taken < last)
+Advances old point line last (advance.Halted now left) new = HaltsLine old point line last now left new
+
+-- why the line is not carried out: it has a fault, or for want of memory
+abbrev pub StopsLine : WorldValue → Point → List ℕ → Stop → Type 0
+StopsLine old point line (stops.Fault kind) = order_of point.begun old line ≡ Err kind
+StopsLine old point line stops.NoMemory = Unit {0}
 
 -- ---- a script
+
+-- so many lines led here, in a run that has taken so many steps
+pub record Led (whole : Bool) (script : List ℕ) (lines : ℕ) (point : Point) (w : WorldValue) (rest : List ℕ) : Type 0 where
+  pub progress : Progress
+  pub begun_is : progress.begun ≡ point.begun
+  pub world_is : progress.world ≡ w
+  pub count : steps_taken progress.events progress.replies ≡ point.taken
+  pub out : List ℕ
+  pub carried : Carried whole script lines progress out rest
+
+-- the last of these lines has a command that is on its way, with this left of it
+pub record IsInside (whole : Bool) (script : List ℕ) (lines : ℕ) (point : Point) (rest : List ℕ) (l : Left) (w : WorldValue) : Type 0 where
+  pub before : ℕ
+  pub from : Point
+  pub world : WorldValue
+  pub all : List ℕ
+  pub led : Led whole script before from world all
+  pub line : List ℕ
+  pub next : next_of whole all ≡ ALine line rest
+  pub lines_are : lines ≡ before + 1
+  pub deed : Deed
+  pub asks : order_of from.begun world line ≡ Ok (Some (Does deed))
+  pub begun_is : point.begun ≡ after (Does deed)
+  pub way : OnTheWay (plan world deed) world from.taken point.taken l w
+
+-- a run of the script stands here: between two lines, or in a command
+abbrev pub IsAtLeft : Bool → List ℕ → ℕ → Point → List ℕ → Option Left → WorldValue → Type 0
+IsAtLeft whole script lines point rest None w = Led whole script lines point w rest
+IsAtLeft whole script lines point rest (Some l) w = IsInside whole script lines point rest l w
+
+-- a run of the script stands at this place
+abbrev pub IsAt : Bool → List ℕ → Place → WorldValue → Type 0
+IsAt whole script place w = IsAtLeft whole script place.lines place.point place.rest.now place.left w
 
 -- why a run of the script does not come to a step: it ends before, it meets a fault before, or for want of memory
 abbrev pub FallsShort : Bool → List ℕ → ℕ → Short → Type 0
@@ -118,11 +189,10 @@ abbrev pub Reaches : Bool → List ℕ → ℕ → WorldValue → Result (Unit {
 Reaches whole script last w (Ok reached) = StandsAt whole script last w
 Reaches whole script last w (Err short) = FallsShort whole script last short
 
--- where a run ends that is stopped at a line: at its step, or short of it
-abbrev pub stop_of : ℕ → Stop → Result (Unit {0}) Short
-stop_of line stops.Reached = Ok tt
-stop_of line (stops.Fault kind) = Err (shorts.Fault line kind)
-stop_of line stops.NoMemory = Err shorts.NoMemory
+-- why a run does not come to its step that is stopped at a line
+abbrev pub short_at : ℕ → Stop → Short
+short_at line (stops.Fault kind) = shorts.Fault line kind
+short_at line stops.NoMemory = shorts.NoMemory
 
 -- how a script ends that does not come to the next step
 abbrev pub end_of : Bool → Short → ScriptEnd
@@ -142,6 +212,10 @@ pub record TellsBlock (k : ℕ) (old : WorldValue) (text : List ℕ) (new : Worl
   pub answers : List ℕ
   pub behind : InTurn crashed (deeds_behind crashed.sheet.layout.processes) events replies answers new
   pub is : text ≡ stop_text k ++ answers
+
+-- what is told in this world of the stop behind so many steps: its block, or nothing where it is not in the range
+abbrev pub IsTold : StopRange → ℕ → WorldValue → List ℕ → Type 0
+IsTold range k w text = (IsIn range k × (new : WorldValue) × TellsBlock k w text new) ⊎ ((IsIn range k → ⊥) × (text ≡ []))
 
 -- the deeds were carried out from the start on, and their texts stand behind the text that was there
 pub record Tells (start : WorldValue) (deeds : List Deed) (before text : List ℕ) (new : WorldValue) : Type 0 where

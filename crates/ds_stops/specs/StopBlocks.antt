@@ -1,5 +1,5 @@
 -- A crash behind each step of a script, and what is told behind the crash.
-use Rattle.std.specs.Prelude.{ℕ, zero, suc, ◌≡◌, ◌≤◌, ◌<◌, ◌⊎◌, Bool, true, false, List, [], ◌∷◌, ◌++◌, length, take, codes}
+use Rattle.std.specs.Prelude.{ℕ, zero, suc, ◌≡◌, ◌≤◌, ◌<◌, ◌⊎◌, Bool, true, false, List, [], ◌∷◌, ◌++◌, length, take, codes, Option, Some, None}
 use Rattle.std.specs.Fmt.{decimal}
 use Rattle.ds_state.specs.Value.{WorldValue}
 use Rattle.ds_core.specs.Takes.{Fits}
@@ -13,6 +13,7 @@ use Rattle.ds_streams.specs.declared.ending.ScriptEnd.TheVariants as ends
 use Rattle.ds_play.specs.Orders.{Deed, Whole, Settle}
 use Rattle.ds_play.specs.Doing.{Says, plan}
 use Rattle.ds_play.specs.Plays.{Plays}
+use Rattle.ds_stops.specs.declared.range.StopRange.{StopRange}
 use Rattle.ds_play.specs.Script.{Finishes, Breaks, StandsAt, steps_taken}
 
 -- ---- deeds, one after another
@@ -63,10 +64,26 @@ block_events b = (b.stands.progress.events ++ (b.stands.events ++ events.Step b.
 abbrev pub block_replies : {whole : Bool} {script : List ℕ} {k : ℕ} {text : List ℕ} → IsBlock whole script k text → List Reply
 block_replies b = (b.stands.progress.replies ++ (b.stands.replies ++ b.stands.reply ∷ [])) ++ Crashed ∷ b.replies
 
--- the blocks of the first stops, this many, in their order
-pub data Blocks (whole : Bool) (script : List ℕ) : ℕ → List ℕ → Type 0 where
-  no_block : Blocks whole script 0 []
-  one_block_more : (k : ℕ) (out text : List ℕ) → Blocks whole script k out → IsBlock whole script (suc k) text → Blocks whole script (suc k) (out ++ text)
+-- ---- which stops are told of
+
+-- the stop is no later than the last one, if there is a last one
+abbrev pub IsNoLater : Option ℕ → ℕ → Type 0
+IsNoLater None k = Unit {0}
+IsNoLater (Some last) k = k ≤ last
+
+-- the stop is one of the range
+abbrev pub IsIn : StopRange → ℕ → Type 0
+IsIn range k = (range.first ≤ k) × IsNoLater range.last k
+
+-- every stop
+abbrev pub all_stops : StopRange
+all_stops = record { first = 1; last = None }
+
+-- the blocks of those of the first stops, this many, that are in the range, in their order
+pub data Blocks (range : StopRange) (whole : Bool) (script : List ℕ) : ℕ → List ℕ → Type 0 where
+  no_block : Blocks range whole script 0 []
+  one_block_more : (k : ℕ) (out text : List ℕ) → Blocks range whole script k out → IsIn range (suc k) → IsBlock whole script (suc k) text → Blocks range whole script (suc k) (out ++ text)
+  one_left_out : (k : ℕ) (out : List ℕ) → Blocks range whole script k out → (IsIn range (suc k) → ⊥) → Blocks range whole script (suc k) out
 
 -- ---- how it ends
 
@@ -83,36 +100,40 @@ pub record BreaksBefore (whole : Bool) (script : List ℕ) (k line : ℕ) (kind 
   pub fewer : steps_taken breaks.progress.events breaks.progress.replies < k
 
 -- the blocks of some stops are written, from the first one on; a run of the script ends before the next one
-pub record WritesAll (whole : Bool) (script out : List ℕ) : Type 0 where
+pub record WritesAll (range : StopRange) (whole : Bool) (script out : List ℕ) : Type 0 where
   pub stops : ℕ
-  pub blocks : Blocks whole script stops out
+  pub blocks : Blocks range whole script stops out
   pub ends : EndsBefore whole script (suc stops)
 
 -- the blocks of some stops are written, from the first one on; a run of the script meets this fault before the next one
-pub record WritesUpTo (whole : Bool) (script out : List ℕ) (line : ℕ) (kind : ScriptFault) : Type 0 where
+pub record WritesUpTo (range : StopRange) (whole : Bool) (script out : List ℕ) (line : ℕ) (kind : ScriptFault) : Type 0 where
   pub stops : ℕ
-  pub blocks : Blocks whole script stops out
+  pub blocks : Blocks range whole script stops out
   pub breaks : BreaksBefore whole script (suc stops) line kind
 
 -- what is written for a script, by how it ends; where it is not whole, what there is of it ends as one that is too long
-abbrev pub StopsWith : Bool → List ℕ → List ℕ → ScriptEnd → Type 0
-StopsWith whole script out ends.Ended = (whole ≡ true) × WritesAll whole script out
-StopsWith whole script out ends.TooLong = (whole ≡ false) × WritesAll whole script out
-StopsWith whole script out (ends.Fault line kind) = WritesUpTo whole script out line kind
-StopsWith whole script out ends.NoMemory = (stops : ℕ) × Blocks whole script stops out
-StopsWith whole script out ends.ReadFailed = ⊥
-StopsWith whole script out ends.WriteFailed = Unit {0}
+abbrev pub StopsWith : StopRange → Bool → List ℕ → List ℕ → ScriptEnd → Type 0
+StopsWith range whole script out ends.Ended = (whole ≡ true) × WritesAll range whole script out
+StopsWith range whole script out ends.TooLong = (whole ≡ false) × WritesAll range whole script out
+StopsWith range whole script out (ends.Fault line kind) = WritesUpTo range whole script out line kind
+StopsWith range whole script out ends.NoMemory = (stops : ℕ) × Blocks range whole script stops out
+StopsWith range whole script out ends.ReadFailed = ⊥
+StopsWith range whole script out ends.WriteFailed = Unit {0}
 
 -- the script is within the limit, and whole
-pub record StopsWhole (limit : ℕ) (script out : List ℕ) (end : ScriptEnd) : Type 0 where
+pub record StopsWhole (range : StopRange) (limit : ℕ) (script out : List ℕ) (end : ScriptEnd) : Type 0 where
   pub within : length script ≤ limit
-  pub stops : StopsWith true script out end
+  pub stops : StopsWith range true script out end
 
 -- the script is longer than the limit: no more of it than that is there
-pub record StopsCut (limit : ℕ) (script out : List ℕ) (end : ScriptEnd) : Type 0 where
+pub record StopsCut (range : StopRange) (limit : ℕ) (script out : List ℕ) (end : ScriptEnd) : Type 0 where
   pub longer : limit < length script
-  pub stops : StopsWith false (take limit script) out end
+  pub stops : StopsWith range false (take limit script) out end
+
+-- what is written for the stops of a range, of a script under a limit of its bytes
+abbrev pub StopsInRange : StopRange → ℕ → List ℕ → List ℕ → ScriptEnd → Type 0
+StopsInRange range limit script out end = StopsWhole range limit script out end ⊎ StopsCut range limit script out end
 
 -- what is written for a script under a limit of its bytes
 abbrev pub StopsWithin : ℕ → List ℕ → List ℕ → ScriptEnd → Type 0
-StopsWithin limit script out end = StopsWhole limit script out end ⊎ StopsCut limit script out end
+StopsWithin limit script out end = StopsInRange all_stops limit script out end

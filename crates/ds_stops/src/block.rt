@@ -1,6 +1,7 @@
 //! What is told behind a crash.
 
 ghost use Rattle.std.specs.Prelude.{◌≡◌, ◌++◌, ℕ, List, IfOk, OnOk};
+ghost use Rattle.ds_state.specs.Value.{WorldValue};
 ghost use Rattle.ds_core.specs.declared.event.Event.TheVariants.{Crash};
 ghost use Rattle.ds_core.specs.declared.reply.Reply.TheVariants.{Crashed};
 ghost use Rattle.ds_core.specs.Takes.{Fits};
@@ -65,13 +66,21 @@ fn stop_line(alloc: Global, stop: u64) -> Result<Vec<u8>, AllocError>
     Ok(format!(in alloc; "stop {stop}\n")?.into_bytes())
 }
 
-/// The block of a stop in this world: `stop K`, then, behind a crash, a recovery of each process, in their order, what
-/// a settle of process 0 leaves, and its report. An error is a want of memory.
-pub fn block(alloc: Global, world: &mut World, stop: u64) -> Result<Vec<u8>, AllocError>
+// The block of a stop in this world, which it crashes.
+fn block(alloc: Global, world: &mut World, stop: u64) -> Result<Vec<u8>, AllocError>
     ensures { IfOk result (λ text. TellsBlock stop world.old text.items world.new) }
 {
     let mut text = stop_line(alloc, stop)?;
     crash(alloc, world);
     tell_behind(alloc, world, &mut text)?;
     Ok(text)
+}
+
+/// The block of a stop in a world, which stays as it is: `stop K`, then, behind a crash of a copy, a recovery of each
+/// process, in their order, what a settle of process 0 leaves, and its report. An error is a want of memory.
+pub fn block_of(alloc: Global, world: &World, stop: u64) -> Result<Vec<u8>, AllocError>
+    ensures { IfOk result (λ text. (new : WorldValue) × TellsBlock stop world.now text.items new) }
+{
+    let mut copy = world.copy(alloc)?;
+    block(alloc, &mut copy, stop)
 }

@@ -3,6 +3,7 @@
 
 pub mod block;
 pub mod play;
+pub mod range;
 pub mod reach;
 pub mod stops;
 pub mod turn;

@@ -1,10 +1,10 @@
 //! Plays commands up to a step.
 
-ghost use Rattle.std.specs.Prelude.{◌≡◌, ◌<◌, ◌+◌, ◌-◌, ◌^◌, IfSome, IfNone, IfOk};
+ghost use Rattle.std.specs.Prelude.{◌≡◌, ◌<◌, ◌+◌, ◌-◌, ◌^◌, IfSome, IfOk};
 ghost use Rattle.ds_play.specs.Orders.{CanDo, beginning, command_view};
 ghost use Rattle.ds_play.specs.Doing.{Calls, settle};
 ghost use Rattle.ds_stops.specs.ScriptTurns.{IsWithin, Remains, doing_of, steps_of};
-ghost use Rattle.ds_stops.specs.Reaching.{Opens, OpensOrder, Ends, Halts, EndsOrder, HaltsOrder, taken_before};
+ghost use Rattle.ds_stops.specs.Reaching.{Opens, OpensOrder, IsPlayed, IsCarried, taken_before};
 
 use crate::turn::{Left, after_begin, left_of, take_turn, to_point};
 use ds_calls::settle::first_turn;
@@ -13,6 +13,15 @@ use ds_play::drive::Until;
 use ds_play::order::{Call, Command};
 use ds_state::world::World;
 use std::alloc::{AllocError, Global};
+
+/// How far a command was played, in a run that goes up to a step.
+#[derive(Clone, Copy, Debug)]
+pub enum Played {
+    /// To its end: how many steps the run has taken then, fewer than up to that step.
+    Ended(u64),
+    /// Up to that step: what is left of the command behind it; none where the step has ended the command.
+    Halted(Option<Left>),
+}
 
 // A call begins, or is refused.
 fn call(alloc: Global, world: &mut World, process: usize, call: Call<'_>) -> Option<Left>
@@ -58,14 +67,11 @@ fn count(taken: u64, stepped: bool) -> u64
     if stepped { taken + 1 } else { taken }
 }
 
-// Plays a command on, in a run that has taken so many steps before it and goes up to the last one: how many it has
-// taken once the command has ended; none where it stands at the last one.
-fn play(alloc: Global, world: &mut World, first: Left, before: u64, last: u64) -> Option<u64>
+/// Plays a command on, in a run that has taken so many steps before it and goes up to the last one.
+pub fn play(alloc: Global, world: &mut World, first: Left, before: u64, last: u64) -> Played
     requires within { IsWithin world.old first }
     requires below { before < last }
-    ensures ends { IfSome result (λ now. Ends (doing_of first) world.old before now world.new) }
-    ensures below { IfSome result (λ now. now < last) }
-    ensures halts { IfNone result (Halts (doing_of first) world.old before last world.new) }
+    ensures { IsPlayed (doing_of first) world.old before last result world.new }
 {
     let mut taken = before;
     let mut left = first;
@@ -73,11 +79,11 @@ fn play(alloc: Global, world: &mut World, first: Left, before: u64, last: u64) -
         let turn = take_turn(alloc, world, left);
         taken = count(taken, turn.stepped);
         if taken == last {
-            return None;
+            return Played::Halted(turn.left);
         }
         match turn.left {
             Some(next) => left = next,
-            None => return Some(taken),
+            None => return Played::Ended(taken),
         }
     }
 }
@@ -92,8 +98,7 @@ fn before(command: Command<'_>, taken: u64) -> u64
     }
 }
 
-/// Carries a command out in a run that has taken so many steps and goes up to the last one: how many it has taken once
-/// the command has ended; none where it stands at the last one, in the command or at its end. An error is a want of
+/// Carries a command out in a run that has taken so many steps and goes up to the last one. An error is a want of
 /// memory.
 pub fn carry_up_to(
     alloc: Global,
@@ -101,16 +106,14 @@ pub fn carry_up_to(
     command: Command<'_>,
     taken: u64,
     last: u64,
-) -> Result<Option<u64>, AllocError>
+) -> Result<Played, AllocError>
     requires can { CanDo world.old.sheet.layout command }
     requires below { taken < last }
-    ensures ends { IfOk result (λ r. IfSome r (λ now. EndsOrder world.old (command_view command.entry) taken now world.new)) }
-    ensures below { IfOk result (λ r. IfSome r (λ now. now < last)) }
-    ensures halts { IfOk result (λ r. IfNone r (HaltsOrder world.old (command_view command.entry) taken last world.new)) }
+    ensures { IfOk result (λ played. IsCarried world.old (command_view command.entry) taken last played world.new) }
 {
     let taken = before(command, taken);
     match open(alloc, world, command)? {
         Some(left) => Ok(play(alloc, world, left, taken, last)),
-        None => Ok(Some(taken)),
+        None => Ok(Played::Ended(taken)),
     }
 }

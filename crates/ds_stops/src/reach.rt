@@ -1,11 +1,14 @@
-//! Runs a script up to a step.
+//! Runs a script from step to step.
 
-ghost use Rattle.std.specs.Prelude.{◌≡◌, ◌<◌, ◌≤◌, ◌^◌, IfOk, IfErr, length};
-ghost use Rattle.ds_play.specs.Script.{IsMade};
-ghost use Rattle.ds_stops.specs.Reaching.{PassesLine, StopsLine, Reaches, stop_of};
+ghost use Rattle.std.specs.Prelude.{◌≡◌, ◌<◌, ◌≤◌, ◌+◌, ◌^◌, Bool, List, ℕ, None, IfOk, IfErr, IfSome, length};
+ghost use Rattle.ds_state.specs.Value.{WorldValue};
+ghost use Rattle.ds_play.specs.Script.{IsMade, StandsAt};
+ghost use Rattle.ds_stops.specs.ScriptTurns.{IsWithin};
+ghost use Rattle.ds_stops.specs.Reaching.{Advances, StopsLine, IsAt, FallsShort, Reaches, short_at};
 ghost use Rattle.ds_stops.specs.declared.reach.Stop.TheVariants as stops;
 
-use crate::play::carry_up_to;
+use crate::play::{Played, carry_up_to, play};
+use crate::turn::Left;
 use ds_play::order::{Begun, read_order};
 use ds_play::script::begun_by;
 use ds_state::world::World;
@@ -22,11 +25,31 @@ pub struct Point {
     pub taken: u64,
 }
 
-// Why no further line is carried out.
+/// Where a run of a script stands, between two events.
+#[derive(Clone, Copy, Debug)]
+pub struct Place<'a> {
+    /// How many lines have begun.
+    pub lines: usize,
+    /// What has begun, and how many steps the run has taken.
+    pub point: Point,
+    /// What is left of the command of the last of these lines; none where it has ended.
+    pub left: Option<Left>,
+    /// The script behind these lines.
+    pub rest: &'a [u8],
+}
+
+// How far a line was carried out, in a run that goes up to a step.
+#[derive(Clone, Copy, Debug)]
+enum Advance {
+    // To its end: the point behind it.
+    Passed(Point),
+    // Up to that step: what has begun, and what is left of the line's command.
+    Halted(Begun, Option<Left>),
+}
+
+// Why a line is not carried out.
 #[derive(Clone, Copy, Debug, PartialEq, Eq, Drop)]
 enum Stop {
-    // The run has taken its last step.
-    Reached,
     Fault(ScriptFault),
     NoMemory,
 }
@@ -58,37 +81,159 @@ pub enum Short {
     NoMemory,
 }
 
-// Carries a line out, in a run that goes up to the last step. It answers the point behind it.
+// Carries a line out, in a run that goes up to the last step.
 fn obey(
     alloc: Global,
     line: &[u8],
     point: Point,
     last: u64,
     world: &mut World,
-) -> Result<Point, Stop>
+) -> Result<Advance, Stop>
     requires { point.taken < last }
-    ensures passes { IfOk result (λ now. PassesLine world.old point line.now now world.new) }
-    ensures below { IfOk result (λ now. now.taken < last) }
-    ensures stops { IfErr result (λ stop. StopsLine world.old point line.now last world.new stop) }
+    ensures advances { IfOk result (λ now. Advances world.old point line.now last now world.new) }
+    ensures stops { IfErr result (λ stop. StopsLine world.old point line.now stop) }
 {
     let Some(command) = read_order(line, point.begun, world)? else {
-        return Ok(point);
+        return Ok(Advance::Passed(point));
     };
     let begun = begun_by(command);
     match carry_up_to(alloc, world, command, point.taken, last)? {
-        Some(taken) => Ok(Point { begun, taken }),
-        None => Err(Stop::Reached),
+        Played::Ended(taken) => Ok(Advance::Passed(Point { begun, taken })),
+        Played::Halted(left) => Ok(Advance::Halted(begun, left)),
     }
 }
 
-// Where a run ends that is stopped at this line, counted from 1.
-fn stop_at(line: usize, stop: Stop) -> Result<(), Short>
-    ensures { result ≡ stop_of line stop }
+// Why a run ends that is stopped at this line, counted from 1.
+fn stop_at(line: usize, stop: Stop) -> Short
+    ensures { result ≡ short_at line stop }
 {
     match stop {
-        Stop::Reached => Ok(()),
-        Stop::Fault(kind) => Err(Short::Fault { line, kind }),
-        Stop::NoMemory => Err(Short::NoMemory),
+        Stop::Fault(kind) => Short::Fault { line, kind },
+        Stop::NoMemory => Short::NoMemory,
+    }
+}
+
+// Carries a run of a script on, from between two lines up to the last step.
+fn through_lines<'a>(
+    alloc: Global,
+    whole: bool,
+    from: Place<'a>,
+    last: u64,
+    world: &mut World,
+) -> Result<Place<'a>, Short>
+    requires between { from.left ≡ None }
+    requires below { from.point.taken < last }
+    requires short { from.lines + length from.rest.now < 2 ^ 62 }
+    ensures stands { IfOk result (λ now. (script : List ℕ) → IsAt whole script from.entry world.old
+        → StandsAt whole script last world.new × IsAt whole script now world.new) }
+    ensures taken { IfOk result (λ now. now.point.taken ≡ last) }
+    ensures within { IfOk result (λ now. IfSome now.left (IsWithin world.new)) }
+    ensures short { IfOk result (λ now. now.lines + length now.rest.now ≤ from.entry.lines + length from.entry.rest.now) }
+    ensures falls { IfErr result (λ short. (script : List ℕ) → IsAt whole script from.entry world.old → FallsShort whole script last short) }
+{
+    let mut lines = from.lines;
+    let mut point = from.point;
+    let mut rest = from.rest;
+    'lines: loop {
+        match next_line(rest, whole) {
+            NextLine::Nothing => return Err(Short::Ended),
+            NextLine::TooLong => {
+                return Err(Short::Fault {
+                    line: lines + 1,
+                    kind: ScriptFault::LineTooLong,
+                });
+            }
+            NextLine::Line(line, behind) => {
+                lines += 1;
+                rest = behind;
+                match obey(alloc, line, point, last, world) {
+                    Ok(Advance::Passed(now)) => point = now,
+                    Ok(Advance::Halted(begun, left)) => {
+                        let point = Point { begun, taken: last };
+                        return Ok(Place {
+                            lines,
+                            point,
+                            left,
+                            rest,
+                        });
+                    }
+                    Err(stop) => return Err(stop_at(lines, stop)),
+                }
+            }
+        }
+    }
+}
+
+impl<'a> Place<'a> {
+    /// Before the first line of a script.
+    pub fn first(script: &'a [u8]) -> Place<'a>
+        ensures at { (whole : Bool) (w : WorldValue) → IsMade 2 2 2 w → IsAt whole script.now result w }
+        ensures taken { result.point.taken ≡ 0 }
+        ensures within { (w : WorldValue) → IfSome result.left (IsWithin w) }
+        ensures short { result.lines + length result.rest.now ≤ length script.now }
+    {
+        Place {
+            lines: 0,
+            point: Point {
+                begun: Begun::Nothing,
+                taken: 0,
+            },
+            left: None,
+            rest: script,
+        }
+    }
+}
+
+/// Carries a run of a script on from its place up to a step, without any output: it stands behind that step then, in
+/// the middle of a command or at its end. An error is why it does not come so far. Where the script is not `whole`, a
+/// last piece without a line feed is no line.
+pub fn go_on<'a>(
+    alloc: Global,
+    whole: bool,
+    place: Place<'a>,
+    last: u64,
+    world: &mut World,
+) -> Result<Place<'a>, Short>
+    requires below { place.point.taken < last }
+    requires within { IfSome place.left (IsWithin world.old) }
+    requires short { place.lines + length place.rest.now < 2 ^ 62 }
+    ensures stands { IfOk result (λ now. (script : List ℕ) → IsAt whole script place.entry world.old
+        → StandsAt whole script last world.new × IsAt whole script now world.new) }
+    ensures taken { IfOk result (λ now. now.point.taken ≡ last) }
+    ensures within { IfOk result (λ now. IfSome now.left (IsWithin world.new)) }
+    ensures short { IfOk result (λ now. now.lines + length now.rest.now ≤ place.entry.lines + length place.entry.rest.now) }
+    ensures falls { IfErr result (λ short. (script : List ℕ) → IsAt whole script place.entry world.old → FallsShort whole script last short) }
+{
+    let Some(left) = place.left else {
+        return through_lines(alloc, whole, place, last, world);
+    };
+    let Place {
+        lines,
+        point,
+        rest,
+        ..
+    } = place;
+    let begun = point.begun;
+    match play(alloc, world, left, point.taken, last) {
+        Played::Halted(left) => {
+            let point = Point { begun, taken: last };
+            Ok(Place {
+                lines,
+                point,
+                left,
+                rest,
+            })
+        }
+        Played::Ended(taken) => {
+            let point = Point { begun, taken };
+            let between = Place {
+                lines,
+                point,
+                left: None,
+                rest,
+            };
+            through_lines(alloc, whole, between, last, world)
+        }
     }
 }
 
@@ -107,29 +252,8 @@ pub fn reach(
     requires short { length script.now < 2 ^ 62 }
     ensures { Reaches whole script.now last world.new result }
 {
-    let mut point = Point {
-        begun: Begun::Nothing,
-        taken: 0,
-    };
-    let mut lines = 0usize;
-    let mut rest = script;
-    'lines: loop {
-        match next_line(rest, whole) {
-            NextLine::Nothing => return Err(Short::Ended),
-            NextLine::TooLong => {
-                return Err(Short::Fault {
-                    line: lines + 1,
-                    kind: ScriptFault::LineTooLong,
-                });
-            }
-            NextLine::Line(line, behind) => {
-                match obey(alloc, line, point, last, world) {
-                    Ok(now) => point = now,
-                    Err(stop) => return stop_at(lines + 1, stop),
-                }
-                lines += 1;
-                rest = behind;
-            }
-        }
+    match go_on(alloc, whole, Place::first(script), last, world) {
+        Ok(_) => Ok(()),
+        Err(short) => Err(short),
     }
 }

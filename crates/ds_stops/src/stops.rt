@@ -1,6 +1,6 @@
 //! A crash behind each step of a script.
 
-ghost use Rattle.std.specs.Prelude.{◌≡◌, ◌≢◌, ◌<◌, ◌≤◌, ◌+◌, ◌*◌, ◌^◌, Bool, true, List, ℕ, IfOk, IfErr, length};
+ghost use Rattle.std.specs.Prelude.{◌≡◌, ◌≢◌, ◌<◌, ◌≤◌, ◌+◌, ◌*◌, ◌^◌, Bool, true, List, ℕ, IfOk, length};
 ghost use Rattle.std.specs.Io.KnownBytes.{Appends};
 ghost use Rattle.ds_state.specs.Value.{world_of, IsGood};
 ghost use Rattle.ds_state.specs.Fresh.{IsNew};
@@ -10,15 +10,16 @@ ghost use Rattle.ds_play.specs.Script.{IsMade};
 ghost use Rattle.ds_formula.specs.Limits.{INPUT_MOST};
 ghost use Rattle.ds_streams.specs.Streams.{writer_of, write_failed};
 ghost use Rattle.ds_streams.specs.declared.ending.ScriptEnd.TheVariants as ends;
-ghost use Rattle.ds_stops.specs.Reaching.{FallsShort, end_of};
+ghost use Rattle.ds_stops.specs.Reaching.{IsTold, end_of};
 ghost use Rattle.ds_layout.specs.Places.{cells_of};
 ghost use Rattle.ds_state.specs.Works.{SEEN_MOST};
 ghost use Rattle.ds_calls.specs.Whole.{HasProcess};
 ghost use Rattle.ds_stops.specs.CleanBlocks.{TellsClean};
-ghost use Rattle.ds_stops.specs.StopBlocks.{IsBlock, StopsWith, StopsWithin, block_events, block_replies};
+ghost use Rattle.ds_stops.specs.StopBlocks.{IsBlock, StopsWith, StopsInRange, StopsWithin, block_events, block_replies};
 
-use crate::block::block;
-use crate::reach::{Short, reach};
+use crate::block::block_of;
+use crate::range::StopRange;
+use crate::reach::{Place, Short, go_on};
 use ds_formula::cells::Shape;
 use ds_play::carry::new_world;
 use ds_state::world::World;
@@ -39,20 +40,15 @@ fn fresh(alloc: Global) -> Result<World, AllocError>
     new_world(alloc, shape, 2)
 }
 
-// The block of the stop behind so many steps, or why the script does not come so far.
-fn block_at(alloc: Global, script: &[u8], whole: bool, steps: u64) -> Result<Vec<u8>, Short>
-    requires some { 1 ≤ steps }
-    requires short { length script.now < 2 ^ 62 }
-    ensures block { IfOk result (λ text. IsBlock whole script.now steps text.items) }
-    ensures short { IfErr result (λ short. FallsShort whole script.now steps short) }
+// The block of the stop behind so many steps in this world, and nothing where it is not one of the range. An error is a
+// want of memory.
+fn told(alloc: Global, world: &World, range: StopRange, stop: u64) -> Result<Vec<u8>, AllocError>
+    ensures { IfOk result (λ text. IsTold range stop world.now text.items) }
 {
-    let Ok(mut world) = fresh(alloc) else {
-        return Err(Short::NoMemory);
-    };
-    reach(alloc, script, whole, steps, &mut world)?;
-    match block(alloc, &mut world, steps) {
-        Ok(text) => Ok(text),
-        Err(_) => Err(Short::NoMemory),
+    if range.contains(stop) {
+        block_of(alloc, world, stop)
+    } else {
+        Ok(Vec::new(alloc))
     }
 }
 
@@ -68,26 +64,35 @@ fn ending(short: Short, whole: bool) -> ScriptEnd
     }
 }
 
-// Writes the block of each step that the script comes to. No script comes to 2^64 - 1 steps.
+// Writes the block of each step of the range that the script comes to. No script comes to 2^64 - 1 steps.
 fn write_blocks<W: Write>(
     alloc: Global,
     script: &[u8],
     whole: bool,
+    range: StopRange,
     writer: &mut Writing<W>,
 ) -> ScriptEnd
     requires { length script.now < 2 ^ 62 }
     ensures no_failure { result ≢ ScriptEnd.WriteFailed → write_failed writer.new ≡ write_failed writer.old }
     ensures write_failed { result ≡ ScriptEnd.WriteFailed → write_failed writer.new ≡ true }
     ensures writes { result ≢ ScriptEnd.WriteFailed → (out : List ℕ) × Appends (W.contents (writer_of writer.old)) (W.contents (writer_of writer.new)) out
-        × StopsWith whole script.now out result }
+        × StopsWith range whole script.now out result }
 {
+    let Ok(mut world) = fresh(alloc) else {
+        return ScriptEnd::NoMemory;
+    };
+    let mut place = Place::first(script);
     for stops in 0..u64::MAX {
-        match block_at(alloc, script, whole, stops + 1) {
+        match go_on(alloc, whole, place, stops + 1, &mut world) {
+            Ok(now) => place = now,
+            Err(short) => return ending(short, whole),
+        }
+        match told(alloc, &world, range, stops + 1) {
             Ok(text) => match writer.write_all(&text) {
                 Ok(()) => {}
                 Err(_) => return ScriptEnd::WriteFailed,
             },
-            Err(short) => return ending(short, whole),
+            Err(_) => return ScriptEnd::NoMemory,
         }
     }
     ScriptEnd::NoMemory
@@ -98,18 +103,19 @@ fn write_front<W: Write>(
     alloc: Global,
     limit: usize,
     script: &[u8],
+    range: StopRange,
     writer: &mut Writing<W>,
 ) -> ScriptEnd
     requires { limit < 2 ^ 62 }
     ensures no_failure { result ≢ ScriptEnd.WriteFailed → write_failed writer.new ≡ write_failed writer.old }
     ensures write_failed { result ≡ ScriptEnd.WriteFailed → write_failed writer.new ≡ true }
     ensures writes { result ≢ ScriptEnd.WriteFailed → (out : List ℕ) × Appends (W.contents (writer_of writer.old)) (W.contents (writer_of writer.new)) out
-        × StopsWithin limit script.now out result }
+        × StopsInRange range limit script.now out result }
 {
     if script.len() <= limit {
-        write_blocks(alloc, script, true, writer)
+        write_blocks(alloc, script, true, range, writer)
     } else {
-        write_blocks(alloc, &script[..limit], false, writer)
+        write_blocks(alloc, &script[..limit], false, range, writer)
     }
 }
 
@@ -118,29 +124,46 @@ fn stop_within<W: Write>(
     alloc: Global,
     limit: usize,
     script: &[u8],
+    range: StopRange,
     writer: &mut Writing<W>,
 ) -> ScriptEnd
     requires { limit < 2 ^ 62 }
     ensures no_failure { result ≢ ScriptEnd.WriteFailed → write_failed writer.new ≡ write_failed writer.old }
     ensures write_failed { result ≡ ScriptEnd.WriteFailed → write_failed writer.new ≡ true }
     ensures writes { result ≢ ScriptEnd.WriteFailed → (out : List ℕ) × Appends (W.contents (writer_of writer.old)) (W.contents (writer_of writer.new)) out
-        × StopsWithin limit script.now out result }
+        × StopsInRange range limit script.now out result }
 {
-    let end = write_front(alloc, limit, script, writer);
+    let end = write_front(alloc, limit, script, range, writer);
     match writer.flush() {
         Ok(()) => end,
         Err(_) => ScriptEnd::WriteFailed,
     }
 }
 
-/// Runs a script once for each of its steps, without output, up to that step; there it crashes the sheet, and writes
-/// what is told behind the crash: `stop K`, a line for the recovery of each process, what a settle of process 0 leaves,
-/// and its report.
+/// Runs a script once, without output. Behind each of its steps that is in the range it crashes a copy of the sheet, and
+/// writes what is told behind the crash: `stop K`, a line for the recovery of each process, what a settle of process 0
+/// leaves, and its report. The script is run to its end also where the range ends before.
 ///
-/// `Ended` where the script does not come to a next step; `Fault` where it meets a fault before that; `TooLong` for a
-/// script of more than 1,048,576 bytes, whose commands that are whole within them are stopped at; `NoMemory` where an
-/// allocation failed outside a command that has a refusal for it. The blocks of all steps before are written, each by
-/// one write. After `WriteFailed` nothing is said of how much went out. It never answers `ReadFailed`.
+/// `Ended` where the script ends; `Fault` where it meets a fault before that; `TooLong` for a script of more than
+/// 1,048,576 bytes, whose commands that are whole within them are stopped at; `NoMemory` where an allocation failed
+/// outside a command that has a refusal for it. The blocks of all steps of the range before are written, each by one
+/// write. After `WriteFailed` nothing is said of how much went out. It never answers `ReadFailed`.
+pub fn stop_in_range<W: Write>(
+    alloc: Global,
+    script: &[u8],
+    range: StopRange,
+    writer: &mut Writing<W>,
+) -> ScriptEnd
+    ensures no_failure { result ≢ ScriptEnd.WriteFailed → write_failed writer.new ≡ write_failed writer.old }
+    ensures write_failed { result ≡ ScriptEnd.WriteFailed → write_failed writer.new ≡ true }
+    ensures not_read { result ≢ ScriptEnd.ReadFailed }
+    ensures writes { result ≢ ScriptEnd.WriteFailed → (out : List ℕ) × Appends (W.contents (writer_of writer.old)) (W.contents (writer_of writer.new)) out
+        × StopsInRange range INPUT_MOST script.now out result }
+{
+    stop_within(alloc, INPUT_LIMIT, script, range, writer)
+}
+
+/// So at each step of the script.
 pub fn stop_at_each<W: Write>(alloc: Global, script: &[u8], writer: &mut Writing<W>) -> ScriptEnd
     ensures no_failure { result ≢ ScriptEnd.WriteFailed → write_failed writer.new ≡ write_failed writer.old }
     ensures write_failed { result ≡ ScriptEnd.WriteFailed → write_failed writer.new ≡ true }
@@ -148,7 +171,7 @@ pub fn stop_at_each<W: Write>(alloc: Global, script: &[u8], writer: &mut Writing
     ensures writes { result ≢ ScriptEnd.WriteFailed → (out : List ℕ) × Appends (W.contents (writer_of writer.old)) (W.contents (writer_of writer.new)) out
         × StopsWithin INPUT_MOST script.now out result }
 {
-    stop_within(alloc, INPUT_LIMIT, script, writer)
+    stop_in_range(alloc, script, StopRange::ALL, writer)
 }
 
 /// The events of a block, those of the script up to its step, the crash and what is done behind it, are one run of
@@ -164,10 +187,11 @@ pub fn blocks_are_runs()
         → HasHeadline b.stands.progress.start (block_events b) (block_replies b) b.new run }
 {}
 
-/// Behind the crash of a block every process recovers, so that the settle is alone: its line is `clean`,
-/// or names a want of memory. So it is in each block of fewer than 2^58 events, less some for the settle.
+/// What is told behind the crash of a block is a recovery of each process, in their order, then a settle of process 0,
+/// which is alone, and its report: the line of that settle is `clean`, or names a want of memory. So it is in each block
+/// of fewer than 2^58 events, less some for the settle.
 pub fn blocks_are_clean()
     ensures { (whole : Bool) (script : List ℕ) (k : ℕ) (text : List ℕ) → (b : IsBlock whole script k text)
         → HasProcess b.crashed 0 → length (block_events b) + 2 * (cells_of b.crashed.sheet.layout + 2) ≤ SEEN_MOST
-        → TellsClean b.answers }
+        → TellsClean b.crashed b.events b.replies b.answers b.new }
 {}

@@ -41,3 +41,28 @@ fn new_sheet(rt: HostRuntime) -> Result<(), Fail> {
     }
     Ok(())
 }
+
+// A copy in the middle of a report: each of the two goes on by itself.
+#[test]
+fn copies(rt: HostRuntime) -> Result<(), Fail> {
+    if let Some(shape) = Shape::new(2, 2) {
+        let mut world = World::new(rt.alloc(), shape, 2)?;
+        if world.words.layout().processes == 2 {
+            assert_eq!(rt; begin(rt.alloc(), &mut world, 1), Ok(()));
+        }
+        assert_eq!(rt; steps(&mut world, 1, 7), Some(Effect::GoesOn));
+        let mut copy = world.copy(rt.alloc())?;
+        assert_eq!(rt;
+            steps(&mut world, 1, 14),
+            Some(Effect::Answers(ShowEnd::Settled))
+        );
+        assert_eq!(rt; world.settled, 1);
+        assert_eq!(rt; copy.settled, 0);
+        assert_eq!(rt;
+            steps(&mut copy, 1, 14),
+            Some(Effect::Answers(ShowEnd::Settled))
+        );
+        assert_eq!(rt; copy.settled, 1);
+    }
+    Ok(())
+}

@@ -82,6 +82,31 @@ fn take_first(buffer: &mut ArrayVec<BufferEntry<usize>, BUFFER_ENTRIES>) -> Buff
     entry
 }
 
+// An equal buffer.
+fn copied(
+    buffer: &ArrayVec<BufferEntry<usize>, BUFFER_ENTRIES>,
+) -> ArrayVec<BufferEntry<usize>, BUFFER_ENTRIES>
+    ensures { result.items ≡ buffer.now.items }
+{
+    let mut copy = ArrayVec::new();
+    let _fits = copy.try_extend_from_slice(buffer.as_slice());
+    copy
+}
+
+// Equal buffers, in memory of their own.
+fn all_copied(
+    alloc: Global,
+    buffers: &Vec<ArrayVec<BufferEntry<usize>, BUFFER_ENTRIES>>,
+) -> Result<Vec<ArrayVec<BufferEntry<usize>, BUFFER_ENTRIES>>, AllocError>
+    ensures { IfOk result (λ v. map (λ b. b.items) v.items ≡ map (λ b. b.items) buffers.now.items) }
+{
+    let mut copies = Vec::with_capacity(alloc, buffers.len())?;
+    for buffer in buffers {
+        copies.push(copied(buffer))?;
+    }
+    Ok(copies)
+}
+
 impl Words {
     /// A word for each class, zero on both sides, and an empty buffer for each process. An error is
     /// a want of memory.
@@ -101,6 +126,18 @@ impl Words {
             classes,
             words,
             buffers,
+        })
+    }
+
+    /// Equal words, both sides of each, and equal buffers, in memory of their own. An error is a want
+    /// of memory.
+    pub fn copy(&self, alloc: Global) -> Result<Words, AllocError>
+        ensures { IfOk result (λ w. w ≡ self.now) }
+    {
+        Ok(Words {
+            classes: Vec::from_slice(alloc, &self.classes)?,
+            words: Vec::from_slice(alloc, &self.words)?,
+            buffers: all_copied(alloc, &self.buffers)?,
         })
     }
 

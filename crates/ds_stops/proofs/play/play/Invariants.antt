@@ -1,6 +1,6 @@
 use Rattle.std.proofs.Common.{◌+◌, ◌*◌, ◌-◌, ◌<◌}
 use Rattle.ds_stops.specs.ScriptTurns.{IsWithin, doing_of, events_to_step}
-use Rattle.ds_stops.proofs.Playing.{OnTheWay}
+use Rattle.ds_stops.specs.Reaching.{OnTheWay}
 use Rattle.ds_stops.proofs.play.play.Given as goal
 
 abbrev pub invariant-turns : goal.invariant-turns
