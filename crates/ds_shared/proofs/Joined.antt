@@ -1,15 +1,15 @@
 -- The passes of a sheet are joined in one seat.
-use Rattle.std.proofs.Common.{ℕ, ◌≡◌, ◌⊎◌, ◌+◌, ◌<◌, map, length-append, List, [], ◌∷◌, ◌++◌, length, refl, sym, ap, subst, ◌∙◌, inl, inr, ⊎_elim, arith, Contains}
+use Rattle.std.proofs.Common.{ℕ, ◌≡◌, ◌⊎◌, ◌+◌, map, length-append, List, [], ◌∷◌, ◌++◌, length, refl, sym, ap, subst, ◌∙◌, inl, inr, ⊎_elim, arith, Contains}
 use Rattle.std.specs.Prelude.{Bool}
 use Rattle.std.specs.List.{range_with_len}
-use Rattle.std.proofs.lemmas.List.{map_push}
+use Rattle.std.proofs.lemmas.List.{map_push, reverse-append, append-nil, append_assoc}
 use Rattle.std.proofs.lemmas.List.Elements.{Contains-push_cases, Contains-append_left, Contains-append_right}
 use Rattle.ds_drives.specs.declared.board.Seated.{Seated}
 use Rattle.ds_drives.specs.declared.board.View.{View}
 use Rattle.ds_drives.specs.Views.{In, lone, sole, united, newcomer, first_now, deeds_at}
 use Rattle.ds_drives.proofs.Dealt.{in_left, in_right, in_append}
 use Rattle.ds_shared.specs.declared.pass.Pass.{Pass}
-use Rattle.ds_shared.specs.Answers.{IsFresh}
+use Rattle.ds_shared.specs.Answers.{IsFresh, seated_by}
 use Rattle.ds_shared.proofs.Ordered.{one_more}
 
 -- the pass waits to be joined, or its process is one of the view
@@ -46,6 +46,29 @@ none_left ps p v e known = ⊎_elim (λ (t : Contains ps p). absurd (let h = t.1
 -- what is remembered stays so
 pub past_kept : (v w : View) (e : Seated) → In v.past e → In (united v w).past e
 past_kept v w e here = in_left v.past w.past e here
+
+-- ---- in their order
+
+-- a pass remembers nothing of its own
+pub same_past : (x : Pass) (v : View) → (united v x.place.me.0).past ≡ v.past
+same_past x v = ap (λ m. v.past ++ m.0.past) x.known.alone ∙ append-nil v.past
+
+-- the last pass comes first
+pub seated_push : (ps qs : List Pass) (x : Pass) → ps ≡ qs ++ x ∷ [] → seated_by ps ≡ sole x.place ∷ seated_by qs
+seated_push ps qs x e = ap seated_by e ∙ ap (map (λ (p : Pass). sole p.place)) (reverse-append qs (x ∷ []))
+
+-- the process of the last pass is joined, before those that wait
+pub one_seated : (ps qs all : List Pass) (x : Pass) (v w : View) → ps ≡ qs ++ x ∷ [] → w ≡ united v x.place.me.0 → v.entries ++ seated_by ps ≡ seated_by all
+    → w.entries ++ seated_by qs ≡ seated_by all
+one_seated ps qs all x v w e is so_far =
+    ap (λ (z : View). z.entries ++ seated_by qs) is ∙ (ap (λ m. (v.entries ++ m.0.entries) ++ seated_by qs) x.known.alone
+      ∙ (append_assoc v.entries (sole x.place ∷ []) (seated_by qs) ∙ (ap (λ (es : List Seated). v.entries ++ es) (sym (seated_push ps qs x e)) ∙ so_far)))
+
+-- none waits any more: the past, and behind it the processes of all passes
+pub all_seated : (qs all : List Pass) (v : View) (past : List Seated) → length qs ≡ 0 → v.past ≡ past → v.entries ++ seated_by qs ≡ seated_by all
+    → v.past ++ v.entries ≡ past ++ seated_by all
+all_seated [] all v past none before seats = λ i. before i ++ (sym (append-nil v.entries) ∙ seats) i
+all_seated (q ∷ qs) all v past none before seats = absurd (omega arith)
 
 -- ---- dealt
 

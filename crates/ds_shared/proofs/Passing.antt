@@ -7,7 +7,6 @@ use Rattle.ds_words.specs.declared.access.BufferEntry.{BufferEntry}
 use Rattle.ds_layout.specs.declared.layout.Layout.{Layout}
 use Rattle.ds_state.specs.Edits.{PlainEditCall}
 use Rattle.ds_state.specs.Works.{PlainWorkCall, PlainRecoverCall, PlainShowCall}
-use Rattle.ds_state.specs.declared.situation.Situation.{Situation}
 use Rattle.ds_state.specs.declared.situation.Situation.TheVariants.{Idle}
 use Rattle.ds_state.specs.declared.stage.Outcome.{Outcome}
 use Rattle.ds_state.specs.declared.stage.Stage.{Stage}
@@ -26,15 +25,14 @@ use Rattle.ds_drives.specs.declared.board.Seated.{Seated}
 use Rattle.ds_drives.specs.declared.board.Told.{Told}
 use Rattle.ds_drives.specs.declared.board.Told.TheVariants.{Edited, Worked, Recovered, Shown}
 use Rattle.ds_drives.specs.declared.board.View.{View}
-use Rattle.ds_drives.specs.Fuses.{Asked}
-use Rattle.ds_drives.specs.Views.{In, lone, seated, first_in, sole, deeds_at, told_also, steps_later}
+use Rattle.ds_drives.specs.Views.{In, lone, seated, first_in, sole, deeds_at, told_also}
 use Rattle.ds_drives.specs.Rules.{Rules}
 use Rattle.ds_drives.specs.Machines.{IsSettled, IsBroken, unbegun, within}
 use Rattle.ds_drives.specs.EditRules as edits
 use Rattle.ds_drives.specs.WorkRules as works
 use Rattle.ds_drives.specs.RecoverRules as recoveries
 use Rattle.ds_drives.specs.ShowRules as shows
-use Rattle.ds_shared.specs.Known.{IsKnown, outcomes}
+use Rattle.ds_shared.specs.Known.{IsKnown}
 
 -- the seat has one process, which is this
 abbrev pub HasOne : ℕ → Me ℕ View → Type 0

@@ -1,5 +1,5 @@
 -- What a call on the shared sheet answers.
-use Rattle.std.specs.Prelude.{ℕ, ◌≡◌, ◌<◌, ◌+◌, Bool, true, false, List, [], ◌∷◌, Option, Some, None, Vec}
+use Rattle.std.specs.Prelude.{ℕ, ◌≡◌, ◌<◌, ◌+◌, Bool, true, false, List, [], ◌∷◌, map, reverse, Option, Some, None, Vec}
 use Rattle.std.specs.Global.{Global}
 use Rattle.ds_eval.specs.declared.value.Value.{Value}
 use Rattle.ds_show.specs.ShowSteps.{answered}
@@ -21,7 +21,8 @@ use Rattle.ds_edit.specs.EditEndings.{answer_of}
 use Rattle.ds_drives.specs.declared.board.Told.{Told}
 use Rattle.ds_drives.specs.declared.board.Told.TheVariants.{Edited, Worked, Recovered, Shown}
 use Rattle.ds_drives.specs.Fuses.{Asked}
-use Rattle.ds_drives.specs.Views.{deeds_at}
+use Rattle.ds_drives.specs.declared.board.Seated.{Seated}
+use Rattle.ds_drives.specs.Views.{deeds_at, sole}
 use Rattle.ds_drives.specs.Rules.{Rules}
 use Rattle.ds_drives.specs.Rule.{CallHolds}
 use Rattle.ds_drives.specs.Machines.{IsBroken}
@@ -48,6 +49,10 @@ pub record IsFresh (stopped : Bool) (p : Pass) : Type 0 where
   pub number : p.number ≡ 0
   pub told : outcomes p.place ≡ []
   pub steps : steps_of p.place ≡ 0
+
+-- the processes of passes, each with what it does and what it was told, the last pass first
+abbrev pub seated_by : List Pass → List Seated
+seated_by passes = map (λ p. sole p.place) (reverse passes)
 
 -- the call was answered, and this is so of the answer
 abbrev pub IfAnswered : Ended → (Answer → Type 0) → Type 0

@@ -1,6 +1,5 @@
 -- What a pass's fields say of its view.
 use Rattle.std.specs.Prelude.{ℕ, ◌≡◌, Bool, false, List, []}
-use Rattle.atomic_table.specs.Table.{Me}
 use Rattle.atomic_table.specs.declared.shared.Seat.{Seat}
 use Rattle.ds_state.specs.declared.situation.Situation.TheVariants.{Idle}
 use Rattle.ds_drives.specs.declared.board.Seated.{Seated}

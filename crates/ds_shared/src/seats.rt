@@ -1,6 +1,6 @@
 //! A sheet is made with a pass for each process, and closed with passes.
 
-ghost use Rattle.std.specs.Prelude.{◌≡◌, ◌+◌, ◌*◌, ◌<◌, ◌≤◌, ℕ, [], length, map, vec_capacity, Bool, true, false, IfOk, All, Contains};
+ghost use Rattle.std.specs.Prelude.{◌≡◌, ◌+◌, ◌*◌, ◌<◌, ◌≤◌, ◌++◌, ℕ, [], length, map, vec_capacity, Bool, true, false, IfOk, All, Contains};
 ghost use Rattle.std.specs.List.{range_with_len};
 ghost use Rattle.std.specs.Mem.Slots.{slots_items};
 ghost use Rattle.ds_drives.specs.declared.board.Seated.{Seated};
@@ -8,7 +8,7 @@ ghost use Rattle.ds_drives.specs.Views.{In, sole, first_now, first_view};
 ghost use Rattle.ds_drives.specs.Rule.{Closes};
 ghost use Rattle.ds_shared.specs.declared.pass.Pass.{Pass};
 ghost use Rattle.ds_shared.specs.Known.{IsMemory, outcomes, past_in, steps_of};
-ghost use Rattle.ds_shared.specs.Answers.{IsFresh, IsOf, IsPastOf};
+ghost use Rattle.ds_shared.specs.Answers.{IsFresh, IsOf, IsPastOf, seated_by};
 
 use crate::pass::{Pass, Past};
 use crate::sheet::{ClosedSheet, SharedSheet};
@@ -63,11 +63,12 @@ impl SharedSheet {
     /// Ends the sheet, with passes between calls or broken off in one. Its words are those of a sound
     /// world in which each of these passes' processes does what its pass says; from there stops alone
     /// lead to one at rest. All that these passes were told, and what was told before the sheet was
-    /// opened, is true of it, and is remembered.
+    /// opened, is true of it; just that is remembered, with which processes they were of.
     pub fn close(self, past: Past, mut passes: Vec<Pass, Global>) -> ClosedSheet
         requires past { IsPastOf self past }
         requires fit { All (λ p. IsOf self p) passes.items }
         ensures layout { result.layout ≡ self.board.layout }
+        ensures got { past_in result.before ≡ past_in past.place ++ seated_by passes.items }
         ensures handed { (p : Pass) → Contains passes.items p → In (past_in result.before) (sole p.place) }
         ensures before { (e : Seated) → In (past_in past.place) e → In (past_in result.before) e }
         ensures stand { Closes self.board.layout (slots_items result.table.words) (λ e. (p : Pass) × Contains passes.items p × (e ≡ sole p.place)) (past_in result.before) }

@@ -21,6 +21,15 @@ pub struct SharedSheet {
     pub(crate) board: Board,
 }
 
+impl SharedSheet {
+    /// What fixes its words: the shape of the sheet, and how many processes it has.
+    pub fn layout(&self) -> Layout
+        ensures { result ≡ self.now.board.layout }
+    {
+        self.board.layout
+    }
+}
+
 /// The words, once no seat is left. It remembers what was told. Call `free` at the end.
 pub struct ClosedSheet {
     pub(crate) table: Closed<u8, Global>,
@@ -71,6 +80,14 @@ impl ClosedSheet {
         ensures { result ≡ slice_index (slots_items self.now.table.words) (2 * number_of self.now.layout place) }
     {
         self.table.word(self.layout.number(place) * 2)
+    }
+
+    /// The persisted side of the word at a place.
+    pub fn persisted(&self, place: Place) -> u64
+        requires { IsPlace self.now.layout place }
+        ensures { result ≡ slice_index (slots_items self.now.table.words) (2 * number_of self.now.layout place + 1) }
+    {
+        self.table.word(self.layout.number(place) * 2 + 1)
     }
 
     /// Gives the memory back.

@@ -1,4 +1,4 @@
-use Rattle.std.proofs.Common.{rules, ◌≡◌, ◌∙◌, sym, refl, ap, subst, ◌+◌, ◌<◌, ℕ, [], ◌∷◌, arith, List}
+use Rattle.std.proofs.Common.{rules, ◌≡◌, ◌∙◌, refl, ap, subst, ◌+◌, ◌<◌, ℕ, List}
 use Rattle.std.proofs.lemmas.List.Elements.{All-push, All-same}
 use Rattle.ds_drives.specs.Views.{HasRest, first_now}
 use Rattle.ds_drives.specs.declared.board.Seated.{Seated}

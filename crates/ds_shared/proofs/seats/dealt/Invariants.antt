@@ -1,4 +1,4 @@
-use Rattle.std.proofs.Common.{◌≡◌, ◌<◌, ◌≤◌, [], map, length, All}
+use Rattle.std.proofs.Common.{◌≡◌, ◌<◌, [], map, length, All}
 use Rattle.std.specs.List.{range_with_len}
 use Rattle.std.specs.Vec.{vec_capacity}
 use Rattle.ds_drives.specs.Views.{HasRest, first_now}

@@ -1,11 +1,12 @@
-use Rattle.std.proofs.Common.{rules, ◌≡◌, ◌∙◌, ap, subst, sym, ◌<◌, ◌++◌, ℕ, arith, Contains, Some, List, [], ◌∷◌, inl, inr}
-use Rattle.std.proofs.lemmas.List.Elements.{All-pop, Contains-append_left, Contains-append_right}
+use Rattle.std.proofs.Common.{rules, ◌≡◌, ◌∙◌, ap, subst, sym, Some, List}
+use Rattle.std.proofs.lemmas.List.Elements.{All-pop}
 use Rattle.ds_drives.specs.declared.board.Seated.{Seated}
 use Rattle.ds_drives.specs.declared.board.View.{View}
 use Rattle.ds_drives.specs.Views.{In, sole}
 use Rattle.ds_drives.proofs.Dealt.{in_left, in_right}
 use Rattle.ds_shared.specs.declared.pass.Pass.{Pass}
-use Rattle.ds_shared.proofs.Joined.{IsTaken, AreOf, popped, still_of, none_left, past_kept, still_there, last_there}
+use Rattle.ds_shared.proofs.Joined.{AreOf, popped, still_of, none_left, past_kept, still_there, last_there, same_past, one_seated, all_seated}
+use Rattle.ds_shared.specs.Known.{past_in}
 use Rattle.ds_shared.proofs.sheet.SharedSheet.close.Goals as goal
 
 pub loop-pass-preserved : goal.loop-pass-preserved
@@ -21,7 +22,12 @@ loop-pass-preserved c =
       (λ p there. i.4 p (still_there _ _ _ p c.in-Some.ensures.items there)),
       subst (λ (v : View). AreOf c.args.passes.items v) (sym view) (still_of c.args.passes.items c.in-Some.pass c.loop-pass.seat.me.0 here i.5),
       (λ e inside. subst (λ (v : View). In v.past e) (sym view) (past_kept c.loop-pass.seat.me.0 c.in-Some.pass.place.me.0 e (i.6 e inside))),
+      ap (λ (v : View). v.past) view ∙ same_past c.in-Some.pass c.loop-pass.seat.me.0 ∙ i.7,
+      one_seated _ _ c.args.passes.items c.in-Some.pass c.loop-pass.seat.me.0 _ c.in-Some.ensures.items view i.8,
     )
+
+pub returns-clause-got : goal.returns-clause-got
+returns-clause-got c = c.close-table.ensures.past ∙ all_seated c.loop-pass.passes.items c.args.passes.items c.loop-pass.seat.me.0 (past_in c.args.past.place) (search rules) c.loop-pass.invariant.7 c.loop-pass.invariant.8
 
 pub returns-clause-handed : goal.returns-clause-handed
 returns-clause-handed c = λ p there.

@@ -1,5 +1,4 @@
-use Rattle.std.proofs.Common.{rules, refl, ap}
-use Rattle.ds_drives.specs.EditRules.{edit_rules}
+use Rattle.std.proofs.Common.{refl, ap}
 use Rattle.ds_shared.proofs.Passing.{broken_done, broken_view}
 use Rattle.ds_shared.proofs.sheet.SharedSheet.edit.Goals as goal
 

@@ -1,4 +1,4 @@
-use Rattle.std.proofs.Common.{rules, refl, ap}
+use Rattle.std.proofs.Common.{refl, ap}
 use Rattle.ds_shared.proofs.Passing.{broken_done, broken_view}
 use Rattle.ds_shared.proofs.sheet.SharedSheet.show.Goals as goal
 
