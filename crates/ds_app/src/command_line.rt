@@ -97,8 +97,8 @@ Limits: 26 columns, 64 rows, 1024 cells; 8 processes, 256 edits of each;
 120 bytes a text, 512 a line, 1048576 a script.
 Empty lines and lines that begin with # are skipped. The answers come when the input has ended.
 
-With --stops the script is run once for each of its steps, up to that step, and its own answers
-are not written. There the sheet crashes, and what is told behind that is: stop K, then the lines
+With --stops its own answers are not written. Behind each of its steps, or of those from --from
+to --to, a copy of the sheet crashes, and what is told then is written: stop K, then the lines
 of recover for each process, of settle 0 and of report 0.
 
 Examples:

@@ -20,6 +20,7 @@ mod trace;
 
 use crate::command_line::{Action, OptionsFault, options};
 use crate::connect::connect;
+use crate::connecting::Stopping;
 use crate::copying::Copying;
 use crate::descriptors::stand_ins;
 use crate::explore::explore;
@@ -33,7 +34,8 @@ use crate::trace::trace;
 use clap::Error;
 use clap::error::ErrorKind;
 use ds_play::script::run_script;
-use ds_stops::stops::stop_at_each;
+use ds_stops::range::StopRange;
+use ds_stops::stops::stop_in_range;
 use ds_store::open::Databases;
 use ds_streams::ending::ScriptEnd;
 use ds_streams::input::{InputEnd, read_input};
@@ -84,9 +86,21 @@ fn run<R: AllocGlobal + Input + Print + Eprint>(rt: &R) -> u8 {
     script_status(&end)
 }
 
+// The stops that are asked for.
+fn range_of(stopping: Stopping) -> StopRange {
+    StopRange {
+        first: stopping.from as u64,
+        last: if stopping.to == 0 {
+            None
+        } else {
+            Some(stopping.to as u64)
+        },
+    }
+}
+
 // `dsheet run --stops`: a script from standard input, what is told behind each of its steps to standard output, the
 // fault to standard error; there it shows how far it is, where that is asked for.
-fn stops<R: AllocGlobal + Input + Print + Eprint>(rt: &R, shows: bool) -> u8 {
+fn stops<R: AllocGlobal + Input + Print + Eprint>(rt: &R, stopping: Stopping, shows: bool) -> u8 {
     let Ok(buffered) = BufWriter::new(rt.alloc(), io::writer(rt)) else {
         return no_memory(rt);
     };
@@ -98,7 +112,7 @@ fn stops<R: AllocGlobal + Input + Print + Eprint>(rt: &R, shows: bool) -> u8 {
     let end = match input.end {
         InputEnd::Failed => ScriptEnd::ReadFailed,
         InputEnd::Ended | InputEnd::TooLong => {
-            stop_at_each(rt.alloc(), &input.bytes, &mut writer)
+            stop_in_range(rt.alloc(), &input.bytes, range_of(stopping), &mut writer)
         }
     };
     tell(rt, &end, &input.bytes);
@@ -156,7 +170,7 @@ fn dispatch<
     };
     match options(rt.alloc(), words.as_slice()) {
         Ok(Action::Run) => run(rt),
-        Ok(Action::Stops(_)) => stops(rt, terminals.error),
+        Ok(Action::Stops(stopping)) => stops(rt, stopping, terminals.error),
         Ok(Action::Report) => report(rt),
         Ok(Action::Explore(exploring)) => explore(rt, exploring, terminals.error),
         Ok(Action::Trace) => trace(rt),
