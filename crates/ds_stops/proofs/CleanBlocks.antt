@@ -1,26 +1,24 @@
 -- In each block every process recovers before the settle, which is alone then, and ends clean.
-use Rattle.std.proofs.Common.{ℕ, ◌≡◌, ◌≢◌, ◌<◌, ◌≤◌, ◌+◌, ◌*◌, List, [], ◌∷◌, ◌++◌, refl, ap, sym, ◌∙◌, subst, arith, append_assoc, inl, inr, zero, suc, length, Bool}
+use Rattle.std.proofs.Common.{ℕ, ◌≡◌, ◌<◌, ◌≤◌, ◌+◌, ◌*◌, List, [], ◌∷◌, ◌++◌, refl, ap, sym, ◌∙◌, subst, arith, append_assoc, inl, inr, zero, suc, length, Bool}
 use Rattle.std.proofs.lemmas.Bool.{cases_lt}
 use Rattle.std.proofs.lemmas.List.{length-append}
 use Rattle.ds_layout.specs.declared.layout.Layout.{Layout}
 use Rattle.ds_layout.specs.Places.{cells_of}
 use Rattle.ds_state.specs.Works.{SEEN_MOST}
 use Rattle.ds_state.specs.Value.{WorldValue, world_of, IsGood}
-use Rattle.ds_state.specs.declared.situation.Situation.{Situation}
 use Rattle.ds_state.specs.declared.situation.Situation.TheVariants.{Idle, Stopped}
 use Rattle.ds_core.specs.Takes.{WorldRun}
 use Rattle.ds_core.specs.declared.event.Event.{Event}
 use Rattle.ds_core.specs.declared.event.Event.TheVariants as events
 use Rattle.ds_core.specs.declared.reply.Reply.{Reply}
 use Rattle.ds_core.specs.declared.reply.Reply.TheVariants.{Crashed}
-use Rattle.ds_calls.specs.Lone.{AreIdle}
 use Rattle.ds_calls.specs.Whole.{HasProcess}
 use Rattle.ds_calls.proofs.Ages.{young_marks}
 use Rattle.ds_calls.proofs.Runs.{run_both}
 use Rattle.ds_play.specs.Orders.{Deed, Whole, Settle}
 use Rattle.ds_play.specs.Doing.{Says, plan}
 use Rattle.ds_play.specs.Plays.{Plays}
-use Rattle.ds_play.proofs.RecoverPlayed.{IsRecovered, recovered}
+use Rattle.ds_play.proofs.RecoverPlayed.{recovered}
 use Rattle.ds_play.proofs.Settled.{lone_says_clean}
 use Rattle.ds_stops.specs.StopBlocks.{InTurn, no_deed, one_deed_more, recoveries, deeds_behind, IsBlock, block_events}
 use Rattle.ds_stops.specs.CleanBlocks.{TellsClean}

@@ -1,4 +1,4 @@
-use Rattle.std.proofs.Common.{ℕ, List, subst}
+use Rattle.std.proofs.Common.{subst}
 use Rattle.ds_state.specs.Value.{WorldValue}
 use Rattle.ds_stops.specs.Reaching.{TellsBlock}
 use Rattle.ds_stops.proofs.Telling.{if_ok}

@@ -1,4 +1,4 @@
-use Rattle.std.proofs.Common.{◌≡◌, ℕ, List, sym, subst, arith, add-one}
+use Rattle.std.proofs.Common.{◌≡◌, ℕ, sym, subst, arith, add-one}
 use Rattle.std.specs.Prelude.{Option}
 use Rattle.ds_streams.specs.ScriptLines.{ALine, next_of}
 use Rattle.ds_streams.proofs.LinesLemmas.{next_shorter}
