@@ -1,0 +1,202 @@
+//! What a process was told of its edits.
+
+use crate::draw::Call;
+use ds_edit::answer::{Answer, Told};
+use ds_layout::place::RECORDS;
+use ds_shared::ended::Ended;
+use ds_state::refusal::Refusal;
+use std::alloc::Global;
+
+/// What became of an edit, as far as its process was told.
+#[derive(Clone, Copy, Debug, PartialEq, Eq)]
+pub enum Fate {
+    /// It is in doubt.
+    Open,
+    /// It counts.
+    Counts,
+    /// It never does.
+    Never,
+}
+
+/// An edit.
+#[derive(Clone, Copy, Debug, PartialEq, Eq)]
+pub struct Edit {
+    /// Its number among those of its process.
+    pub number: usize,
+    /// The number of its cell.
+    pub cell: usize,
+    /// The text that it gives the cell.
+    pub text: &'static str,
+    /// What became of it.
+    pub fate: Fate,
+}
+
+/// The first call of a process whose end was none that fits what it was told before.
+#[derive(Clone, Copy, Debug, PartialEq, Eq)]
+pub struct Surprise {
+    /// The call.
+    pub call: Call,
+    /// The number that its next edit was to have.
+    pub next: usize,
+    /// How it ended.
+    pub ended: Ended,
+}
+
+/// What a process was told: its edits, in the order of their numbers. At most the last one is in doubt.
+#[derive(Drop)]
+pub struct Account {
+    /// Its edits.
+    pub edits: Vec<Edit>,
+    /// Whether it is stopped.
+    pub is_stopped: bool,
+    /// What did not fit.
+    pub surprise: Option<Surprise>,
+}
+
+impl Account {
+    /// That of a process that runs, and has made no edit.
+    pub fn new(alloc: Global) -> Account {
+        Account {
+            edits: Vec::new(alloc),
+            is_stopped: false,
+            surprise: None,
+        }
+    }
+
+    /// The number of its next edit, where none is in doubt.
+    pub fn next(&self) -> usize {
+        match self.edits.last() {
+            Some(edit) => edit.number.wrapping_add(1),
+            None => 0,
+        }
+    }
+
+    /// The cell's last edit that counts.
+    pub fn last_of(&self, cell: usize) -> Option<Edit> {
+        let mut last = None;
+        for edit in &self.edits {
+            if edit.cell == cell && edit.fate == Fate::Counts {
+                last = Some(*edit);
+            }
+        }
+        last
+    }
+
+    /// How many edits of the cell count.
+    pub fn count_of(&self, cell: usize) -> u64 {
+        let mut count = 0u64;
+        for edit in &self.edits {
+            if edit.cell == cell && edit.fate == Fate::Counts {
+                count = count.wrapping_add(1);
+            }
+        }
+        count
+    }
+
+    /// A call has ended so.
+    pub fn note(&mut self, call: Call, ended: Ended) {
+        let next = self.next();
+        if !self.fits(call, ended) && self.surprise.is_none() {
+            self.surprise = Some(Surprise { call, next, ended });
+        }
+        match ended {
+            Ended::Stopped => self.is_stopped = true,
+            Ended::Answered(_) => self.is_stopped = false,
+            Ended::Refused(_) => {}
+        }
+    }
+
+    // Takes the end of the call in, and says whether it fits.
+    fn fits(&mut self, call: Call, ended: Ended) -> bool {
+        match call {
+            Call::Recover => self.recovered(ended),
+            _ if self.is_stopped => ended == Ended::Refused(Refusal::Stopped),
+            Call::Edit { cell, text } => self.edited(cell, text, ended),
+            Call::Work(_) => is_of_work(ended),
+            Call::Show => is_of_report(ended),
+        }
+    }
+
+    fn edited(&mut self, cell: usize, text: &'static str, ended: Ended) -> bool {
+        let next = self.next();
+        let (number, fate) = match ended {
+            Ended::Answered(Answer::Done(number)) => (number, Fate::Counts),
+            Ended::Answered(Answer::Overtaken(number, _)) => (number, Fate::Never),
+            Ended::Stopped => (next, Fate::Open),
+            Ended::Refused(Refusal::Text(_)) => return text == crate::grid::FAULTY,
+            Ended::Refused(Refusal::RecordsFull) => return next == RECORDS,
+            _ => return false,
+        };
+        let edit = Edit {
+            number,
+            cell,
+            text,
+            fate,
+        };
+        number == next && next < RECORDS && self.edits.push(edit).is_ok()
+    }
+
+    fn recovered(&mut self, ended: Ended) -> bool {
+        match ended {
+            Ended::Answered(Answer::Nothing) => {
+                self.forget();
+                self.edits.is_empty()
+            }
+            Ended::Answered(Answer::Last(told)) => self.resolve(told),
+            Ended::Stopped => true,
+            _ => false,
+        }
+    }
+
+    // The edit in doubt was never announced.
+    fn forget(&mut self) {
+        match self.edits.last().copied() {
+            Some(edit) if edit.fate == Fate::Open => {
+                let _edit = self.edits.pop();
+            }
+            _ => {}
+        }
+    }
+
+    // The last edit that was announced ended so.
+    fn resolve(&mut self, told: Told) -> bool {
+        let fate = if told.counts {
+            Fate::Counts
+        } else {
+            Fate::Never
+        };
+        match self.edits.last().copied() {
+            Some(edit) if edit.number != told.number => self.forget(),
+            _ => {}
+        }
+        match self.edits.last_mut() {
+            Some(edit) if edit.fate == Fate::Open => edit.fate = fate,
+            _ => {}
+        }
+        match self.edits.last() {
+            Some(edit) => {
+                edit.number == told.number && edit.cell == told.cell && edit.fate == fate
+            }
+            None => false,
+        }
+    }
+}
+
+// Whether a work of a process that runs ends so.
+fn is_of_work(ended: Ended) -> bool {
+    match ended {
+        Ended::Answered(Answer::NotDirty | Answer::Missed | Answer::Again) => true,
+        Ended::Answered(Answer::Published(_)) => true,
+        Ended::Stopped => true,
+        _ => false,
+    }
+}
+
+// Whether a report of a process that runs ends so.
+fn is_of_report(ended: Ended) -> bool {
+    match ended {
+        Ended::Answered(Answer::Settled | Answer::Unsettled(_, _)) => true,
+        Ended::Stopped => true,
+        _ => false,
+    }
+}
