@@ -1,0 +1,6 @@
+pub mod Closing
+pub mod Crossing
+pub mod Going
+pub mod Looking
+pub mod Losing
+pub mod Moving

@@ -1,0 +1,83 @@
+-- What a call of a seat does, in the words of the shared sheet.
+use Rattle.std.specs.Prelude.{ℕ, ◌≡◌, ◌+◌, ◌≤◌, false, List, Option, Some, None, Vec}
+use Rattle.std.specs.Global.{Global}
+use Rattle.ds_formula.specs.declared.cells.Cell.{Cell}
+use Rattle.ds_formula.specs.Cells.{index_of}
+use Rattle.ds_eval.specs.declared.value.Value.{Value}
+use Rattle.ds_layout.specs.Places.{cells_of}
+use Rattle.ds_state.specs.Edits.{PlainEditCall}
+use Rattle.ds_state.specs.Works.{PlainRecoverCall, PlainShowCall, PlainWorkCall}
+use Rattle.ds_state.specs.World.{PlainEdit, edit_of}
+use Rattle.ds_state.specs.declared.stage.Outcome.{Outcome}
+use Rattle.ds_state.specs.declared.work.WorkEnd.{WorkEnd}
+use Rattle.ds_edit.specs.Begun as edits
+use Rattle.ds_work.specs.WorkTakes as works
+use Rattle.ds_show.specs.ShowSteps as shows
+use Rattle.ds_recover.specs.RecoverySteps as recoveries
+use Rattle.ds_recover.specs.declared.machine.RecoveryEnd.{RecoveryEnd}
+use Rattle.ds_drives.specs.declared.board.Told.{Told}
+use Rattle.ds_drives.specs.declared.board.Told.TheVariants.{Edited, Worked, Recovered, Shown}
+use Rattle.ds_drives.specs.Views.{In}
+use Rattle.ds_drives.specs.EditRules.{IsFirst, edit_rules}
+use Rattle.ds_drives.specs.WorkRules.{work_rules}
+use Rattle.ds_drives.specs.RecoverRules.{recover_rules}
+use Rattle.ds_drives.specs.ShowRules.{show_rules}
+use Rattle.ds_shared.specs.Known.{outcomes, steps_of}
+use Rattle.ds_shared.specs.Answers.{IfAnswered, IfRefused, IfStopped, BreaksOff, IsWorkOf, ShowsValues, Tells, doing, number_behind}
+use Rattle.ds_shared.specs.declared.ended.Ended.{Ended}
+use Rattle.ds_shared.specs.declared.pass.Pass.{Pass}
+use Rattle.ds_shared.specs.declared.sheet.SharedSheet.{SharedSheet}
+
+-- the call took no more steps than its fuse has, and where it was stopped just so many; the pass is that of its process,
+-- and knows all that it was told
+pub record Goes (fuse : ℕ) (old new : Pass) (how : Ended) : Type 0 where
+  pub taken : ℕ
+  pub steps : steps_of new.place ≡ steps_of old.place + taken
+  pub few : taken ≤ fuse
+  pub all : IfStopped how (taken ≡ fuse)
+  pub process : new.process ≡ old.process
+  pub kept : (t : Told) → In (outcomes old.place) t → In (outcomes new.place) t
+
+-- the next edit of the pass: of this cell, to this text
+abbrev pub edit_asked : SharedSheet → Pass → Cell → List ℕ → PlainEdit
+edit_asked s p cell text = record { process = p.process; number = p.number; cell = index_of s.board.layout.shape cell; text = text }
+
+-- the pass edits the cell: answered, stopped by its fuse, or refused and as it was
+pub record Edits (s : SharedSheet) (cell : Cell) (text : List ℕ) (fuse : ℕ) (old new : Pass) (how : Ended) : Type 0 where
+  pub goes : Goes fuse old new how
+  pub answered : IfAnswered how (λ a. (e : PlainEditCall) × (end : Outcome) × (edit_of e ≡ edit_asked s old cell text) × Tells s.board.layout old new (Edited e end) a)
+  pub runs : IfAnswered how (λ a. (new.stopped ≡ false) × (new.number ≡ old.number + 1))
+  pub stopped : IfStopped how ((e : PlainEditCall) × IsFirst s.board.layout e × (edit_of e ≡ edit_asked s old cell text) × BreaksOff edit_rules s.board.layout e old new)
+  pub refused : IfRefused how (λ r. edits.RefusesIn s.board.layout.shape text (doing old.stopped old.number) r)
+  pub unchanged : IfRefused how (λ r. new ≡ old)
+
+-- the pass works on the cell: answered, stopped by its fuse, or refused and as it was
+pub record Works (s : SharedSheet) (cell : Cell) (fuse : ℕ) (old new : Pass) (how : Ended) : Type 0 where
+  pub goes : Goes fuse old new how
+  pub answered : IfAnswered how (λ a. (e : PlainWorkCall) × (end : WorkEnd) × IsWorkOf e old (index_of s.board.layout.shape cell) × Tells s.board.layout old new (Worked e end) a)
+  pub runs : IfAnswered how (λ a. (new.stopped ≡ false) × (new.number ≡ old.number))
+  pub stopped : IfStopped how ((e : PlainWorkCall) × works.IsAskedFor s.board.layout old.process old.number (index_of s.board.layout.shape cell) e × BreaksOff work_rules s.board.layout e old new)
+  pub refused : IfRefused how (λ r. works.RefusesIn (doing old.stopped old.number) r)
+  pub unchanged : IfRefused how (λ r. new ≡ old)
+
+-- the process of the pass recovers: answered, or stopped by its fuse
+pub record Recovers (s : SharedSheet) (fuse : ℕ) (old new : Pass) (how : Ended) : Type 0 where
+  pub goes : Goes fuse old new how
+  pub answered : IfAnswered how (λ a. (e : PlainRecoverCall) × (end : RecoveryEnd) × (e.process ≡ old.process) × Tells s.board.layout old new (Recovered e end) a)
+  pub runs : IfAnswered how (λ a. (new.stopped ≡ false) × (new.number ≡ number_behind a))
+  pub stopped : IfStopped how ((e : PlainRecoverCall) × (e ≡ recoveries.fresh old.process (cells_of s.board.layout) s.board.layout.processes) × BreaksOff recover_rules s.board.layout e old new)
+  pub refused : IfRefused how (λ r. ⊥)
+
+-- the pass reports, with the values where it is settled: answered, stopped by its fuse, or refused and as it was
+pub record Reports (s : SharedSheet) (fuse : ℕ) (old new : Pass) (how : Ended) (values : Option (Vec Value Global)) : Type 0 where
+  pub goes : Goes fuse old new how
+  pub answered : IfAnswered how (λ a. (e : PlainShowCall) × (e.process ≡ old.process) × Tells s.board.layout old new (Shown e) a × ShowsValues e values)
+  pub runs : IfAnswered how (λ a. (new.stopped ≡ false) × (new.number ≡ old.number))
+  pub stopped : IfStopped how ((values ≡ None) × ((e : PlainShowCall) × (e ≡ shows.fresh old.process old.number (cells_of s.board.layout) s.board.layout.processes) × BreaksOff show_rules s.board.layout e old new))
+  pub refused : IfRefused how (λ r. works.RefusesIn (doing old.stopped old.number) r)
+  pub unchanged : IfRefused how (λ r. (new ≡ old) × (values ≡ None))
+
+-- the values that a seat keeps: those of the report that has just settled, or else those that it kept
+abbrev pub last_of : Vec Value Global → Option (Vec Value Global) → Vec Value Global
+last_of kept (Some values) = values
+last_of kept None = kept

@@ -1,0 +1,5 @@
+pub mod Turns
+pub mod Homes
+pub mod Calls
+pub mod Sheets
+pub mod Resting

@@ -1,0 +1,30 @@
+//! Why a call was not carried out.
+
+use std::fmt;
+
+/// Why a call was not carried out. What it was made on is as it was.
+#[derive(Clone, Copy, Debug, PartialEq, Eq)]
+pub enum Fault {
+    /// The sheet has no such process.
+    NoProcess,
+    /// The sheet has no such cell.
+    NoCell,
+    /// The seat of the process has been taken, and has not come back; for a close, that of any process.
+    SeatTaken,
+    /// The choice has fewer items than the sheet has words.
+    ShortChoice,
+    /// An allocation failed.
+    NoMemory,
+}
+
+impl fmt::Display for Fault {
+    fn fmt<W: fmt::Write>(&self, f: &mut fmt::Formatter<W>) -> fmt::Result {
+        f.pad(match self {
+            Fault::NoProcess => "no such process",
+            Fault::NoCell => "no such cell",
+            Fault::SeatTaken => "a seat is taken",
+            Fault::ShortChoice => "too short a choice",
+            Fault::NoMemory => "no memory",
+        })
+    }
+}

@@ -1,0 +1,131 @@
+//! A seat: a sheet, and the right to act for one of its processes.
+
+ghost use Rattle.std.specs.Prelude.{◌≡◌, ◌<◌};
+ghost use Rattle.std.specs.Arc.{arc_value};
+ghost use Rattle.rtrb.specs.Ring.{sent, known_free};
+ghost use Rattle.ds_shared.specs.Answers.{IsOf};
+ghost use Rattle.ds_seats.specs.Turns.{IsSameAll};
+ghost use Rattle.ds_eval.specs.Code.{plain_code};
+ghost use Rattle.std.specs.Coded.{codes};
+
+use crate::fault::Fault;
+use crate::ring::Back;
+use crate::steps::Steps;
+use ds_eval::value::Value;
+use ds_formula::cells::Cell;
+use ds_layout::layout::Layout;
+use ds_shared::ended::Ended;
+use ds_shared::pass::Pass;
+use ds_shared::sheet::SharedSheet;
+use std::alloc::Global;
+use std::sync::Arc;
+
+/// A sheet that threads share, with the right to act for one of its processes. It may go from thread to thread.
+#[derive(Drop)]
+pub struct Seat {
+    pub(crate) sheet: Arc<SharedSheet, Global>,
+    pub(crate) layout: Layout,
+    pub(crate) pass: Pass,
+    pub(crate) back: Back,
+    pub(crate) last: Vec<Value>,
+    pub ghost fits: { layout ≡ (arc_value sheet).board.layout },
+    pub ghost of: { IsOf (arc_value sheet) pass } by { Prim.hlevel (codes, plain_code) },
+    pub ghost same: { IsSameAll (sent back) pass } by { Prim.hlevel (codes, plain_code) },
+    pub ghost room: { 0 < known_free back },
+}
+
+impl Seat {
+    ghost use Rattle.std.specs.Prelude.{IfOk, IfErr, Option, Vec};
+    ghost use Rattle.std.specs.Global.{Global};
+    ghost use Rattle.ds_eval.specs.declared.value.Value.{Value};
+    ghost use Rattle.ds_formula.specs.Cells.{IsInside};
+    ghost use Rattle.ds_seats.specs.declared.fault.Fault.TheVariants.{NoCell};
+    ghost use Rattle.ds_seats.specs.Calls.{Edits, Works, Recovers, Reports, last_of};
+    ghost use Rattle.ds_seats.specs.Sheets.{IsSeatOf, LacksCell};
+
+    /// The layout of its sheet.
+    pub fn layout(&self) -> Layout
+        ensures { result ≡ (arc_value self.now.sheet).board.layout }
+    {
+        self.layout
+    }
+
+    /// Sets the text of a cell. Refused where its process is stopped or the text is none, where no record is left, or
+    /// where memory is wanting: nothing changes then. Where the fuse of so many steps stops it, its process is stopped.
+    /// An error is that the sheet has no such cell.
+    pub fn edit(
+        &mut self,
+        alloc: Global,
+        cell: Cell,
+        text: &[u8],
+        steps: u64,
+    ) -> Result<Ended, Fault>
+        ensures made { IfOk result (λ how. IsInside (arc_value self.old.sheet).board.layout.shape cell × Edits (arc_value self.old.sheet) cell text.now steps self.old.pass self.new.pass how) }
+        ensures err { IfErr result (λ why. LacksCell (arc_value self.old.sheet) cell why × (self.new ≡ self.old)) }
+        ensures seat { IsSeatOf (arc_value self.old.sheet) self.new × (self.new.last ≡ self.old.last) }
+    {
+        if !self.layout.shape.contains(cell) {
+            return Err(Fault::NoCell);
+        }
+        let mut fuse = Steps::of(steps);
+        Ok(
+            self.sheet
+                .edit(alloc, &mut self.pass, cell, text, &mut fuse),
+        )
+    }
+
+    /// Works on a cell: where its mark is dirty, it is claimed, evaluated and published. An error is that the sheet has
+    /// no such cell.
+    pub fn work(&mut self, alloc: Global, cell: Cell, steps: u64) -> Result<Ended, Fault>
+        ensures made { IfOk result (λ how. IsInside (arc_value self.old.sheet).board.layout.shape cell × Works (arc_value self.old.sheet) cell steps self.old.pass self.new.pass how) }
+        ensures err { IfErr result (λ why. LacksCell (arc_value self.old.sheet) cell why × (self.new ≡ self.old)) }
+        ensures seat { IsSeatOf (arc_value self.old.sheet) self.new × (self.new.last ≡ self.old.last) }
+    {
+        if !self.layout.shape.contains(cell) {
+            return Err(Fault::NoCell);
+        }
+        let mut fuse = Steps::of(steps);
+        Ok(self.sheet.work(alloc, &mut self.pass, cell, &mut fuse))
+    }
+
+    /// Recovers its process, also one that is stopped: the answer tells what became of its last edit that was announced.
+    pub fn recover(&mut self, alloc: Global, steps: u64) -> Ended
+        ensures made { Recovers (arc_value self.old.sheet) steps self.old.pass self.new.pass result }
+        ensures seat { IsSeatOf (arc_value self.old.sheet) self.new × (self.new.last ≡ self.old.last) }
+    {
+        let mut fuse = Steps::of(steps);
+        self.sheet.recover(alloc, &mut self.pass, &mut fuse)
+    }
+
+    /// A report of the whole sheet. Where it is settled, the seat keeps its values, in place of those of its last one.
+    pub fn report(&mut self, alloc: Global, steps: u64) -> Ended
+        ensures made { (values : Option (Vec Value Global)) × Reports (arc_value self.old.sheet) steps self.old.pass self.new.pass result values × (self.new.last ≡ last_of self.old.last values) }
+        ensures seat { IsSeatOf (arc_value self.old.sheet) self.new }
+    {
+        let mut fuse = Steps::of(steps);
+        let (ended, values) = self.sheet.show(alloc, &mut self.pass, &mut fuse);
+        if let Some(values) = values {
+            self.last = values;
+        }
+        ended
+    }
+
+    /// The values of its last report that was settled, row by row from the left. None where it has had none.
+    pub fn values(&self) -> &[Value]
+        ensures { result.now ≡ self.now.last.items }
+    {
+        self.last.as_slice()
+    }
+
+    /// The seat goes back to its sheet: its pass can be taken again, and closed with.
+    pub fn give_back(self) {
+        let Seat {
+            sheet: _,
+            layout: _,
+            pass,
+            mut back,
+            last: _,
+        } = self;
+        back.push_reserved(pass);
+    }
+}
