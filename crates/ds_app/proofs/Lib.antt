@@ -1,3 +1,4 @@
 mod Matched
 mod Grown
 mod Refused
+mod Crossing

@@ -1,0 +1,15 @@
+-- That what a server is asked for may be read by the thread that serves.
+use Rattle.std.proofs.Crossing.{crosses}
+use denote.Param.Send.{IsSync, sendable}
+use Rattle.ds_formula.specs.contracts.cells.Shape as Shape
+use Rattle.ds_serve.specs.contracts.server.Service as Service
+use Rattle.log.specs.contracts.level.LevelFilter as LevelFilter
+
+pub shape_sync : IsSync Shape.the_row
+shape_sync = search (sendable, crosses) depth 40
+
+pub service_sync : IsSync Service.the_row
+service_sync = search (sendable, crosses) depth 40
+
+pub level_sync : IsSync LevelFilter.the_row
+level_sync = search (sendable, crosses) depth 40
