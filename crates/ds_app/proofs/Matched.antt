@@ -118,9 +118,9 @@ entered_is (Some b) name rows is have =
 
 -- a level that was read of a text is the one that it names
 pub level_of : {E : Type 0} (t : Text) (r : Result LevelFilter E) (x : LevelFilter) → IsParsed (parse_filter t) r → r ≡ Ok x → parse_filter t ≡ Some x
-level_of t r x parsed is = go (parse_filter t) (subst (IsParsed (parse_filter t)) is parsed) where
-  go : (o : Option LevelFilter) → IsParsed o (Ok x) → o ≡ Some x
-  go None h = cc
+level_of {E = E} t r x parsed is = go (parse_filter t) (subst (IsParsed {E = E} (parse_filter t)) is parsed) where
+  go : (o : Option LevelFilter) → IsParsed {E = E} o (Ok x) → o ≡ Some x
+  go None h = let bad : false ≡ true = h in cc
   go (Some y) h = cc
 
 -- an option that has no text names no level

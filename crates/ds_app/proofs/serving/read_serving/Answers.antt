@@ -9,3 +9,6 @@ returns-in_default-number-2-2-clause-limit c = λ processes workers has most wan
 
 pub returns-in_default-number-4-2-clause-limit : goal.returns-in_default-number-4-2-clause-limit
 returns-in_default-number-4-2-clause-limit c = λ at_once has some below. c.number-4.ensures.none c.in_default-number-4.is at_once below has
+
+pub returns-in_default-level-clause-limit : goal.returns-in_default-level-clause-limit
+returns-in_default-level-clause-limit c = c.level.ensures.none c.in_default-level.is
