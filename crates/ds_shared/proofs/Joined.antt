@@ -62,7 +62,7 @@ pub one_seated : (ps qs all : List Pass) (x : Pass) (v w : View) → ps ≡ qs +
     → w.entries ++ seated_by qs ≡ seated_by all
 one_seated ps qs all x v w e is so_far =
     ap (λ (z : View). z.entries ++ seated_by qs) is ∙ (ap (λ m. (v.entries ++ m.0.entries) ++ seated_by qs) x.known.alone
-      ∙ (append_assoc v.entries (sole x.place ∷ []) (seated_by qs) ∙ (ap (λ (es : List Seated). v.entries ++ es) (sym (seated_push ps qs x e)) ∙ so_far)))
+    ∙ (append_assoc v.entries (sole x.place ∷ []) (seated_by qs) ∙ (ap (λ (es : List Seated). v.entries ++ es) (sym (seated_push ps qs x e)) ∙ so_far)))
 
 -- none waits any more: the past, and behind it the processes of all passes
 pub all_seated : (qs all : List Pass) (v : View) (past : List Seated) → length qs ≡ 0 → v.past ≡ past → v.entries ++ seated_by qs ≡ seated_by all
