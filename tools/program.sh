@@ -51,6 +51,8 @@ on examples/grid_refused report
 expect "a fault in a grid" "$status" 1 "cell [A-Z][0-9]*: [A-Za-z]* [0-9]*"
 on /dev/null run --nothing
 expect "an unknown option" "$status" 2 "error: unexpected argument '--nothing' found"
+on /dev/null serve --listen 127.0.0.1:0 --columns=+2
+expect "a number with a sign" "$status" 2 "dsheet: --columns, --rows: from 1 to 26 .*"
 on /dev/null walk
 expect "an unknown command" "$status" 2 "error: .*walk.*"
 on /dev/null run $'\xff'
@@ -113,6 +115,7 @@ shows 'recover 0 now\n' 'line 1: bad field\n    recover 0 now\n              ^ e
 shows 'walk\n' 'line 1: unknown command\n    walk\n    ^ expected: a command, as set, work, report or crash\n'
 shows 'begin 0 set A1 1\nrun 0 to held\n' 'line 2: bad field\n    run 0 to held\n             ^ expected: a point of the call that the process is in\n'
 shows 'set 0 A9 1\n' 'line 1: bad field\n    set 0 A9 1\n          ^ expected: a cell of 2 columns and 2 rows, as A1\n' 'run --stops'
+shows 'sheet 26 64 2\n' 'line 1: bad field\n    sheet 26 64 2\n             ^ expected: rows, from 1 to 64, for at most 1024 cells\n'
 shows '1,2\n3\n' 'bad csv: record 2 has 1 fields, the first one 2\n' report
 "$program" run --stops --from 19 --to 20 <examples/stops >"$said"
 "$program" run --stops <examples/stops | sed -n '/^stop 19$/,/^stop 21$/p' | grep -v '^stop 21$' | cmp - "$said"

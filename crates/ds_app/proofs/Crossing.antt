@@ -2,11 +2,15 @@
 use Rattle.std.proofs.Crossing.{crosses}
 use denote.Param.Send.{IsSync, sendable}
 use Rattle.ds_formula.specs.contracts.cells.Shape as Shape
+use Rattle.ds_layout.specs.contracts.layout.Layout as Layout
 use Rattle.ds_serve.specs.contracts.server.Service as Service
 use Rattle.log.specs.contracts.level.LevelFilter as LevelFilter
 
-pub shape_sync : IsSync Shape.the_row
+shape_sync : IsSync Shape.the_row
 shape_sync = search (sendable, crosses) depth 40
+
+pub layout_sync : IsSync Layout.the_row
+layout_sync = search (sendable, crosses, shape_sync) depth 40
 
 pub service_sync : IsSync Service.the_row
 service_sync = search (sendable, crosses) depth 40

@@ -1,8 +1,8 @@
 -- What the getters of `clap` read, by the rows of the matches.
-use Rattle.std.proofs.Common.{◌≡◌, ◌∙◌, sym, subst, refl, ap, ap₂, codes, Bool, true, false, Option, Some, None, Result, Ok, Err, List, ℕ, option_map, ◌↔◌, ◌<◌, IsTrue}
+use Rattle.std.proofs.Common.{◌≡◌, ◌∙◌, sym, subst, refl, ap, ap₂, codes, Bool, true, false, Option, Some, None, Result, Ok, Err, List, ℕ, option_map, ◌↔◌, ◌<◌, IfSome, IsTrue}
 use Rattle.std.specs.Option.{option_eq}
 use mathlib.Core.Bool.{beq}
-use Rattle.std.specs.Str.Parse.{IsNumeral, ParsesUnsigned, ParsesBool, digits_value, without_leading_plus}
+use Rattle.std.specs.Str.Parse.{ParsesBool, digits_value}
 use Rattle.std.specs.Borrow.{Bor}
 use Rattle.std.specs.Prelude.{Box}
 use Rattle.std.specs.Box.{box_value}
@@ -13,7 +13,7 @@ use Rattle.std.specs.Net.Grammar.{IsSocketText}
 use Rattle.std.specs.declared.net.socket_addr.SocketAddr.{SocketAddr}
 use Rattle.log.specs.Level.{IsParsed, parse_filter}
 use Rattle.log.specs.declared.level.LevelFilter.{LevelFilter}
-use Rattle.ds_app.specs.Servings.{HasNoAddress, HasNoLevel, HasNoNumber, IsNumberOf}
+use Rattle.ds_app.specs.Servings.{HasNoAddress, HasNoLevel, HasNoNumber, IsNumberOf, IsWritten}
 use Rattle.clap.specs.Words.{Row, Text, found_of, first_of, first_value, one_of, one_text, rows_of, ReadsOne}
 use Rattle.clap.specs.declared.parser.matches.Found.{Found}
 use Rattle.clap.proofs.WalkLemmas.{first_value-rows, one_text-rows}
@@ -36,30 +36,28 @@ read_of {T = T} gives f name r x none value is = go (one_text f name) refl where
   go None e = let bad : Some x ≡ None = sym is ∙ none e in cc
   go (Some t) e = (t, sym (one_text-rows f name) ∙ e, subst (ReadsOne gives t) is (value t e))
 
--- a number of 16 bits that was read of an option
-pub number_of : {E : Type 0} (gives : List ℕ → Result ℕ E → Type 0) → ((t : List ℕ) (r : Result ℕ E) → gives t r → ParsesUnsigned {E = E} 16 10 t r)
-    → (f : Found) (name : Text) (r : Option ℕ) (x : ℕ) → (one_text f name ≡ None → r ≡ None)
-    → ((t : List ℕ) → one_text f name ≡ Some t → ReadsOne gives t r) → r ≡ Some x → IsNumberOf (rows_of f) name x
-number_of {E = E} gives parses f name r x none value is =
-    let read = read_of gives f name r x none value is in
-    let number : ParsesUnsigned {E = E} 16 10 read.0 (Ok x) = parses read.0 (Ok x) read.2 in
-    record { text = read.0; has = read.1; numeral = number.0.0; value = number.1 }
+-- a number that was read of an option's text is its number
+pub number_of : (f : Found) (name t : Text) (o : Option ℕ) → first_of name (rows_of f) ≡ Some t → IfSome o (IsWritten t) → IfSome o (IsNumberOf (rows_of f) name)
+number_of f name t None has h = h
+number_of f name t (Some n) has h = record { text = t; has = has; written = h }
 
--- an option of which no number of 16 bits was read has none
-pub no_number_of : {E : Type 0} (gives : List ℕ → Result ℕ E → Type 0) → ((t : List ℕ) (r : Result ℕ E) → gives t r → ParsesUnsigned {E = E} 16 10 t r)
-    → (f : Found) (name : Text) (r : Option ℕ)
-    → ((t : List ℕ) → one_text f name ≡ Some t → ReadsOne gives t r) → r ≡ None → HasNoNumber (rows_of f) name
-no_number_of {E = E} gives parses f name r value is n below has =
-    let read : ReadsOne gives has.text None = subst (ReadsOne gives has.text) is (value has.text (one_text-rows f name ∙ has.has)) in
-    let refused : IsNumeral 10 (without_leading_plus has.text) × (digits_value 10 (without_leading_plus has.text) < 65536) → ⊥ = parses has.text (Err read.0) read.1 in
-    refused (has.numeral, subst (λ k. k < 65536) has.value below)
+-- an option whose text is no number of 16 bits has none
+pub no_number_of : (f : Found) (name t : Text) → first_of name (rows_of f) ≡ Some t → ((n : ℕ) → n < 65536 → IsWritten t n → ⊥) → HasNoNumber (rows_of f) name
+no_number_of f name t has none n below is =
+    let same : Some is.text ≡ Some t = sym is.has ∙ has in
+    let text : is.text ≡ t = cc in
+    none n below (subst (λ u. IsWritten u n) text is.written)
+
+-- an option that has no text has no number
+pub no_number_in : (f : Found) (name : Text) → first_of name (rows_of f) ≡ None → HasNoNumber (rows_of f) name
+no_number_in f name none n below is = let bad : Some is.text ≡ None = sym is.has ∙ none in cc
 
 -- an option has one number
 pub one_number : (rows : List Row) (name : Text) (m n : ℕ) → IsNumberOf rows name m → IsNumberOf rows name n → m ≡ n
 one_number rows name m n a b =
     let same : Some a.text ≡ Some b.text = sym a.has ∙ b.has in
     let text : a.text ≡ b.text = cc in
-    a.value ∙ ap (λ t. digits_value 10 (without_leading_plus t)) text ∙ sym b.value
+    a.written.value ∙ ap (digits_value 10) text ∙ sym b.written.value
 
 -- an option that has no text has no address
 pub no_text_of : (f : Found) (name : Text) (r : Option (Bor Text)) → option_map (λ s. s.now) r ≡ first_value f name → r ≡ None → HasNoAddress (rows_of f) name

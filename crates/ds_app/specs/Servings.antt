@@ -1,23 +1,27 @@
 -- What a server is asked for, by the options of `dsheet serve`.
 use Rattle.std.specs.Prelude.{◌≡◌, ◌<◌, ◌≤◌, ℕ, List, Some, codes}
-use Rattle.std.specs.Str.Parse.{IsNumeral, digits_value, without_leading_plus}
+use Rattle.std.specs.Str.Parse.{IsNumeral, digits_value}
 use Rattle.std.specs.Net.Grammar.{IsSocketText}
 use Rattle.std.specs.declared.net.socket_addr.SocketAddr.{SocketAddr}
 use Rattle.log.specs.Level.{parse_filter}
 use Rattle.log.specs.declared.level.LevelFilter.{LevelFilter}
-use Rattle.clap.specs.Words.{Row, Text, first_of, one_of}
+use Rattle.clap.specs.Words.{Row, Text, first_of}
 use Rattle.ds_formula.specs.Limits.{PROCESSES_MOST}
 use Rattle.ds_formula.specs.Shapes.{MayHave}
 use Rattle.ds_app.specs.declared.serving.OutOfLimits.{OutOfLimits}
 use Rattle.ds_app.specs.declared.serving.OutOfLimits.TheVariants as limits
 use Rattle.ds_app.specs.declared.serving.Serving.{Serving}
 
+-- the text is a decimal number, digits alone, and it is this one
+pub record IsWritten (text : List ℕ) (number : ℕ) : Type 0 where
+  pub numeral : IsNumeral 10 text
+  pub value : number ≡ digits_value 10 text
+
 -- the option of this name has a decimal number as its value, and it is this one
 pub record IsNumberOf (rows : List Row) (name : Text) (number : ℕ) : Type 0 where
   pub text : Text
-  pub has : one_of name rows ≡ Some text
-  pub numeral : IsNumeral 10 (without_leading_plus text)
-  pub value : number ≡ digits_value 10 (without_leading_plus text)
+  pub has : first_of name rows ≡ Some text
+  pub written : IsWritten text number
 
 -- the option of this name has an address with a port as its value, and it is this one
 pub record IsAddressOf (rows : List Row) (name : Text) (address : SocketAddr) : Type 0 where

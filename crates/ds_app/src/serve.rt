@@ -1,14 +1,12 @@
 //! `dsheet serve`.
 
-ghost use Rattle.std.specs.Prelude.{◌≤◌};
-ghost use Rattle.ds_formula.specs.Limits.{PROCESSES_MOST};
 ghost use Rattle.ds_app.specs.Servings.{IsWithinLimits};
 
 use crate::control::{Control, Listening, listen};
 use crate::serving::Serving;
 use crate::status::{NO_MEMORY, STREAM_FAILED};
 use crate::stores::{Disk, close, tell_fault};
-use ds_formula::cells::Shape;
+use ds_layout::layout::Layout;
 use ds_serve::counts::Taken;
 use ds_serve::door::Door;
 use ds_serve::keeping::Keeping;
@@ -78,29 +76,22 @@ fn service_of(serving: Serving) -> Service {
     }
 }
 
-// Serves a new sheet, with a log up to this level.
+// Serves a new sheet that its threads share, with a log up to this level.
 fn serve_new<R: AllocGlobal + Threads + Wait + Clock + Log + Sync>(
     rt: &R,
     listener: &TcpListener,
-    shape: Shape,
-    processes: usize,
+    layout: Layout,
     door: &Door,
     service: Service,
     level: LevelFilter,
-) -> Result<Taken, ServeError>
-    requires some { 1 ≤ processes }
-    requires most { processes ≤ PROCESSES_MOST }
-{
-    let Ok(world) = World::new(rt.alloc(), shape, processes) else {
-        return Err(ServeError::NoMemory);
-    };
+) -> Result<Taken, ServeError> {
     let logged = Logged::new(rt, level, rt);
-    server::serve(&logged, rt.alloc(), listener, world, door, service)
+    server::serve(&logged, rt.alloc(), listener, layout, door, service)
 }
 
-/// Serves a new sheet until it is told to stop, by a line `stop` on standard input, or as many sessions have joined a
-/// process as are asked for, and all sessions have ended; and gives the status: 0, or what an error says, which is told
-/// on standard error. Once it listens it says so there.
+/// Serves a new sheet, which the threads of its sessions share with no lock, until it is told to stop, by a line `stop` on
+/// standard input, or as many sessions have joined a process as are asked for, and all sessions have ended; and gives the
+/// status: 0, or what an error says, which is told on standard error. Once it listens it says so there.
 pub fn serve<
     R: AllocGlobal
         + Eprint
@@ -120,14 +111,15 @@ pub fn serve<
     };
     let control = Control::new(rt);
     let door = Door::new();
-    let (shape, processes, level) = (serving.shape, serving.processes, serving.log);
-    let service = service_of(serving);
+    let layout = Layout {
+        shape: serving.shape,
+        processes: serving.processes,
+    };
+    let (service, level) = (service_of(serving), serving.log);
     let (served, ()) = thread::join(
         rt,
-        || -> Result<Taken, ServeError>
-            requires { (1 ≤ processes) × (processes ≤ PROCESSES_MOST) }
-        {
-            let served = serve_new(rt, &listener, shape, processes, &door, service, level);
+        || {
+            let served = serve_new(rt, &listener, layout, &door, service, level);
             door.end();
             served
         },
@@ -190,8 +182,8 @@ fn opened<R: AllocGlobal + Eprint + Databases>(
     }
 }
 
-/// The same with the store at this path, which is made where there is none: each answer waits until the edits before it
-/// are committed. Where they can not be, the server stops, and its status says why.
+/// Serves so the sheet of the store at this path, behind a lock; the store is made where there is none. Each answer waits
+/// until the edits before it are committed. Where they can not be, the server stops, and its status says why.
 pub fn serve_store<
     R: AllocGlobal
         + Eprint

@@ -1,9 +1,9 @@
 //! What `dsheet serve` is to serve.
 
-ghost use Rattle.std.specs.Prelude.{◌≡◌, IfErr, IfOk, IfSome, None, codes};
+ghost use Rattle.std.specs.Prelude.{◌≡◌, ◌<◌, ℕ, IfErr, IfOk, IfSome, None, codes};
 ghost use Rattle.clap.specs.Matches.{found_of};
 ghost use Rattle.clap.specs.Walk.{rows_of};
-ghost use Rattle.ds_app.specs.Servings.{HasNoAddress, HasNoLevel, HasNoNumber, HasNoShape, IsAddressOf, IsLevelOf, IsNumberOf, IsOutOfLimits, IsServing};
+ghost use Rattle.ds_app.specs.Servings.{HasNoAddress, HasNoLevel, HasNoNumber, HasNoShape, IsAddressOf, IsLevelOf, IsNumberOf, IsOutOfLimits, IsServing, IsWritten};
 
 use clap::ArgMatches;
 use ds_formula::cells::Shape;
@@ -77,13 +77,27 @@ pub enum OutOfLimits {
     To,
 }
 
+// The number of 16 bits that these digits are; none where they are none, as where a sign stands before them.
+fn digits(text: &str) -> Option<usize>
+    ensures some { IfSome result (IsWritten text.now) }
+    ensures none { result ≡ None → (n : ℕ) → n < 65536 → IsWritten text.now n → ⊥ }
+{
+    if text.as_bytes().first() == Some(&b'+') {
+        return None;
+    }
+    match text.parse::<u16>() {
+        Ok(number) => Some(number as usize),
+        Err(_) => None,
+    }
+}
+
 /// The number of an option; none where it has none.
 pub(crate) fn number(matches: &ArgMatches<'_>, name: &str) -> Option<usize>
     ensures some { IfSome result (IsNumberOf (rows_of (found_of matches.now)) name.now) }
     ensures none { result ≡ None → HasNoNumber (rows_of (found_of matches.now)) name.now }
 {
-    match matches.get_one::<u16>(name) {
-        Some(number) => Some(number as usize),
+    match matches.get_str(name) {
+        Some(text) => digits(text),
         None => None,
     }
 }

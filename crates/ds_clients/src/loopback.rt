@@ -2,33 +2,40 @@
 
 ghost use Rattle.std.specs.Prelude.{◌≡◌, IfOk};
 
-use crate::serving::{Clients, Served, serve};
+use crate::serving::{Clients, End, Served, serve_locked, serve_shared};
 use ds_formula::cells::Shape;
+use ds_layout::layout::Layout;
 use ds_state::world::World;
 use std::alloc::{AllocError, Global};
 use std::marker::Brand;
 use std::sync::ledger::Blank;
 use std::test::Fail;
 
+const SHAPE: Shape = Shape {
+    columns: 2,
+    rows: 2,
+};
+
+const LAYOUT: Layout = Layout {
+    shape: SHAPE,
+    processes: 2,
+};
+
 fn world(alloc: Global) -> Result<World, AllocError>
     ensures { IfOk result (λ w. w.sheet.layout.processes ≡ 2) }
 {
-    let shape = Shape {
-        columns: 2,
-        rows: 2,
-    };
-    World::new(alloc, shape, 2)
+    World::new(alloc, SHAPE, 2)
 }
 
-// The answers are these; each pass is back, none keeps other values than the sheet, and so many edits were done.
+// The answers are these, and the sheet is closed with what acts for each process. Of one behind a lock: no pass keeps
+// other values than it, and so many edits were done.
 fn is_right(served: &Served, answers: &str, done: u64) -> bool {
-    match &served.closed {
-        Some(closed) => {
-            let is_same = served.answers.as_slice() == answers.as_bytes();
-            is_same && closed.world.done == done && closed.stray.is_none()
-        }
-        None => false,
-    }
+    let is_closed = match &served.end {
+        End::Locked(closed) => closed.world.done == done && closed.stray.is_none(),
+        End::Shared(_) => true,
+        End::Lost => false,
+    };
+    is_closed && served.answers.as_slice() == answers.as_bytes()
 }
 
 // What clients say, one after another, with so many workers; what they are answered; and how many edits are done.
@@ -116,7 +123,7 @@ fn serve_loopback(rt: HostRuntime) -> Result<(), Fail> {
     let alloc = rt.alloc();
     for row in ROWS {
         let world = world(alloc)?;
-        let served = serve::<Brand, Brand, _>(
+        let served = serve_locked::<Brand, Brand, _>(
             &rt,
             alloc,
             world,
@@ -125,6 +132,18 @@ fn serve_loopback(rt: HostRuntime) -> Result<(), Fail> {
             row.workers,
             row.clients,
         )?;
+        let got = str::from_utf8(served.answers.as_slice()).unwrap_or("?");
+        assert!(rt; is_right(&served, row.answers, row.done), "{got}");
+    }
+    Ok(())
+}
+
+// All that sessions over the lock say, they say over the sheet that threads share.
+#[test]
+fn serve_shared_loopback(rt: HostRuntime) -> Result<(), Fail> {
+    let alloc = rt.alloc();
+    for row in ROWS {
+        let served = serve_shared(&rt, alloc, LAYOUT, row.workers, row.clients)?;
         let got = str::from_utf8(served.answers.as_slice()).unwrap_or("?");
         assert!(rt; is_right(&served, row.answers, row.done), "{got}");
     }
@@ -142,7 +161,7 @@ const MANY: [&[u8]; 200] = [ONE; 200];
 fn two_hundred_clients(rt: HostRuntime) -> Result<(), Fail> {
     let alloc = rt.alloc();
     let world = world(alloc)?;
-    let served = serve::<Brand, Brand, _>(
+    let served = serve_locked::<Brand, Brand, _>(
         &rt,
         alloc,
         world,
@@ -151,10 +170,25 @@ fn two_hundred_clients(rt: HostRuntime) -> Result<(), Fail> {
         1,
         Clients::Each(&MANY),
     )?;
-    let is_done = match &served.closed {
-        Some(closed) => closed.world.done == 200 && closed.stray.is_none(),
-        None => false,
+    let is_done = match &served.end {
+        End::Locked(closed) => closed.world.done == 200 && closed.stray.is_none(),
+        _ => false,
     };
     assert!(rt; is_done);
     Ok(())
 }
+
+// The same clients of a sheet that threads share: the last one's edit is the 200th, and the sheet closes.
+#[test]
+fn two_hundred_clients_share(rt: HostRuntime) -> Result<(), Fail> {
+    let alloc = rt.alloc();
+    let served = serve_shared(&rt, alloc, LAYOUT, 1, Clients::Each(&MANY))?;
+    let is_closed = match &served.end {
+        End::Shared(_) => true,
+        _ => false,
+    };
+    assert!(rt; is_closed && served.answers.as_slice().ends_with(LAST_OF_MANY));
+    Ok(())
+}
+
+const LAST_OF_MANY: &[u8] = b"{\"number\":199,\"ok\":\"done\"}\n";

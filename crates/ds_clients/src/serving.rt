@@ -2,12 +2,16 @@
 
 ghost use Rattle.std.specs.Prelude.{◌≡◌};
 
-use crossbeam_queue::ArrayQueue;
 use ds_crew::locked::{Closed, LockedSheet};
-use ds_crew::pass::Pass;
+use ds_layout::layout::Layout;
+use ds_seats::resting::RestingSheet;
+use ds_seats::sheet::OpenSheet;
 use ds_serve::door::Door;
+use ds_serve::floor::Floor;
+use ds_serve::locked_floor::LockedFloor;
 use ds_serve::queues::{gathered, queues};
-use ds_serve::server::{Service, serve_sheet};
+use ds_serve::server::{Service, serve_floor};
+use ds_serve::shared_floor::{SharedFloor, all_seats};
 use ds_state::world::World;
 use log::Log;
 use std::alloc::Global;
@@ -50,13 +54,24 @@ pub enum Clients {
     },
 }
 
+/// What became of a sheet behind its server.
+#[derive(Drop)]
+pub enum End {
+    /// A pass or a seat was lost.
+    Lost,
+    /// The sheet behind the lock, and whether a pass keeps other values than it.
+    Locked(Closed),
+    /// The sheet that the threads shared.
+    Shared(RestingSheet),
+}
+
 /// What a server and its clients came to.
 #[derive(Drop)]
 pub struct Served {
     /// What the clients were answered, one behind the other.
     pub answers: Vec<u8>,
-    /// The sheet, and whether a pass keeps other values than it; none where a pass was lost.
-    pub closed: Option<Closed>,
+    /// The sheet.
+    pub end: End,
 }
 
 // What one client is answered, which says all of its lines and then reads.
@@ -186,14 +201,12 @@ fn talk_all<R: Net<Stream = TcpStream>>(
 
 // The server runs in a thread, the clients in another.
 fn run<
-    L: Ledger + Send + Sync,
-    M: Ledger + Send + Sync,
+    F: Floor + Sync,
     R: Threads + Wait + Clock + Log + Net<Stream = TcpStream, Listener = TcpListener> + Sync,
 >(
     rt: &R,
     alloc: Global,
-    sheet: &LockedSheet<L, M>,
-    queues: &[ArrayQueue<Pass<L, M>>],
+    floor: &F,
     workers: usize,
     clients: Clients,
 ) -> Result<Vec<u8>, Fail> {
@@ -213,7 +226,7 @@ fn run<
             door.tell();
             answers
         },
-        || serve_sheet(rt, alloc, &listener, sheet, queues, &door, service),
+        || serve_floor(rt, alloc, &listener, floor, &door, service),
     );
     if served.is_err() {
         return Err(Fail::from("the server ended ill"));
@@ -221,8 +234,8 @@ fn run<
     Ok(answers?)
 }
 
-/// Serves the clients, with so many workers on the last processes, and closes the sheet.
-pub fn serve<
+/// Serves the clients a sheet behind a lock, with so many workers on the last processes, and closes it.
+pub fn serve_locked<
     L: Ledger + Send + Sync,
     M: Ledger + Send + Sync,
     R: Threads + Wait + Clock + Log + Net<Stream = TcpStream, Listener = TcpListener> + Sync,
@@ -244,12 +257,40 @@ pub fn serve<
         return Err(Fail::from("no memory"));
     };
     let queues = queues(rt, alloc, passes)?;
-    let answers = run(rt, alloc, &sheet, queues.as_slice(), workers, clients)?;
+    let floor = LockedFloor::new(&sheet, queues.as_slice(), workers);
+    let answers = run(rt, alloc, &floor, workers, clients)?;
     let back = gathered(rt, alloc, queues.as_slice())?;
-    let closed = if back.len() == processes && processes > 0 {
-        Some(sheet.close(back))
+    let end = if back.len() == processes && processes > 0 {
+        End::Locked(sheet.close(back))
     } else {
-        None
+        End::Lost
     };
-    Ok(Served { answers, closed })
+    Ok(Served { answers, end })
+}
+
+/// The same of a new sheet that the threads share, with no lock.
+pub fn serve_shared<
+    R: Threads + Wait + Clock + Log + Net<Stream = TcpStream, Listener = TcpListener> + Sync,
+>(
+    rt: &R,
+    alloc: Global,
+    layout: Layout,
+    workers: usize,
+    clients: Clients,
+) -> Result<Served, Fail> {
+    let mut sheet = OpenSheet::make(alloc, layout)?;
+    let Some(seats) = all_seats(alloc, &mut sheet) else {
+        return Err(Fail::from("no memory"));
+    };
+    let queues = queues(rt, alloc, seats)?;
+    let floor = SharedFloor::new(layout.shape, queues.as_slice(), workers);
+    let answers = run(rt, alloc, &floor, workers, clients)?;
+    for seat in gathered(rt, alloc, queues.as_slice())? {
+        seat.give_back();
+    }
+    let end = match sheet.close(alloc) {
+        Ok(closed) => End::Shared(closed),
+        Err(_) => End::Lost,
+    };
+    Ok(Served { answers, end })
 }

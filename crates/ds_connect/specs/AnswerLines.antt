@@ -34,6 +34,7 @@ refusal_lines p refusal.NoMemory = refused_text p state.NoMemory
 abbrev pub named_lines : ℕ → List ℕ → List ℕ
 named_lines p name = decimal p ++ (codes " refused " ++ (name ++ codes "\n"))
 
+-- what a client shows of a line that asks for no call: why
 abbrev pub fault_lines : ℕ → LineFault → List ℕ
 fault_lines p fault.NoMemory = refused_text p state.NoMemory
 fault_lines p other = named_lines p (name_of_fault other)
@@ -77,14 +78,16 @@ told_shown p told =
     number_at (codes "number") told >>= λ n. text_at (codes "cell") told >>= λ cell. text_at (codes "outcome") told >>= λ outcome.
     Some (decimal p ++ (codes " last " ++ (decimal n ++ (codes " " ++ (cell ++ (codes " " ++ (outcome ++ codes "\n")))))))
 
+-- what the field `last` of an answer tells
 abbrev pub last_shown : ℕ → Data → Option (List ℕ)
 last_shown p value = get (codes "last") value >>= told_shown p
 
--- the word that was not at rest
+-- the line of a place whose word was not at rest: unsettled, the place, the word
 abbrev pub place_shown : List ℕ → ℕ → List ℕ
 place_shown [] word = codes "unsettled " ++ (decimal word ++ codes "\n")
 place_shown (b ∷ place) word = codes "unsettled " ++ ((b ∷ place) ++ (codes " " ++ (decimal word ++ codes "\n")))
 
+-- the same, of the place and the word of an answer
 abbrev pub unsettled_shown : Data → Option (List ℕ)
 unsettled_shown value = text_at (codes "place") value >>= λ place. number_at (codes "word") value >>= λ word. Some (place_shown place word)
 

@@ -12,6 +12,7 @@ pub data Wish : Type 0 where
   Report : Wish
   Last : Wish
 
+-- what is asked for, without its borrows
 abbrev pub wish_view : Ask → Wish
 wish_view (asks.Join process) = Join process
 wish_view (asks.Set cell text) = Set cell.now text.now
@@ -32,6 +33,7 @@ abbrev pub alone : Wish → Option (List ℕ) → Option Wish
 alone wish None = Some wish
 alone wish (Some words) = None
 
+-- the edit that these words ask for: a cell, and a text
 abbrev pub set_of : Option (List ℕ) → Option Wish
 set_of None = None
 set_of (Some words) = set_by (word_of words)

@@ -64,7 +64,7 @@ const OF_DONE: Form = &[
     Wanted::Nothing,
 ];
 
-/// The first words of commands, each with its form. `begin`, `run`, `evict` and `word` have several.
+// The first words of commands, each with its form. `begin`, `run`, `evict` and `word` have several.
 const COMMANDS: [(&str, Form); 11] = [
     ("sheet", SHEET),
     ("set", SET),

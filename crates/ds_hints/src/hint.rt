@@ -70,8 +70,8 @@ fn offset_of(line: &[u8], left: &[u8]) -> usize
     line.len().saturating_sub(left.len())
 }
 
-// The first word of a line that is not what its command wants. Where each is, the last one is it: its command is one to
-// which the sheet says no.
+// The first word of a line that is not what its command wants. Where each is, the sheet says no to the last one: or, where
+// the line makes a sheet, it would have too many cells, which its rows are told of.
 fn bad_word(layout: &Layout, line: &[u8]) -> (usize, Wanted)
     ensures { result.0 ≤ length line.now }
 {
@@ -79,7 +79,7 @@ fn bad_word(layout: &Layout, line: &[u8]) -> (usize, Wanted)
     let Some(form) = form_of(name, left) else {
         return (0, Wanted::Command);
     };
-    let (mut last, mut wanted) = (0, Wanted::Command);
+    let (mut last, mut rows, mut wanted) = (0, 0, Wanted::Command);
     for next in form {
         if *next == Wanted::Text || (*next == Wanted::Nothing && left.is_none()) {
             break;
@@ -89,13 +89,19 @@ fn bad_word(layout: &Layout, line: &[u8]) -> (usize, Wanted)
             return (line.len(), wanted);
         };
         last = offset_of(line, words);
+        if wanted == Wanted::Rows {
+            rows = last;
+        }
         let (first, behind) = word(words);
         if !next.fits(layout, first) {
-            break;
+            return (last, wanted);
         }
         left = behind;
     }
-    (last, wanted)
+    match wanted {
+        Wanted::Processes => (rows, Wanted::Rows),
+        _ => (last, wanted),
+    }
 }
 
 /// What is wrong with a line that ended a script with this fault, on a sheet of this layout.

@@ -35,7 +35,7 @@ pub struct Seat {
 }
 
 impl Seat {
-    ghost use Rattle.std.specs.Prelude.{IfOk, IfErr, Option, Vec};
+    ghost use Rattle.std.specs.Prelude.{[], IfOk, IfErr, Option, Vec};
     ghost use Rattle.std.specs.Global.{Global};
     ghost use Rattle.ds_eval.specs.declared.value.Value.{Value};
     ghost use Rattle.ds_formula.specs.Cells.{IsInside};
@@ -48,6 +48,13 @@ impl Seat {
         ensures { result ≡ (arc_value self.now.sheet).board.layout }
     {
         self.layout
+    }
+
+    /// The process that it acts for.
+    pub fn process(&self) -> usize
+        ensures { result ≡ self.now.pass.process }
+    {
+        self.pass.process()
     }
 
     /// Sets the text of a cell. Refused where its process is stopped or the text is none, where no record is left, or
@@ -115,6 +122,14 @@ impl Seat {
         ensures { result.now ≡ self.now.last.items }
     {
         self.last.as_slice()
+    }
+
+    /// The same, which it keeps no longer.
+    pub fn take_values(&mut self, alloc: Global) -> Vec<Value>
+        ensures values { result.items ≡ self.old.last.items }
+        ensures seat { IsSeatOf (arc_value self.old.sheet) self.new × (self.new.pass ≡ self.old.pass) × (self.new.last.items ≡ []) }
+    {
+        std::mem::replace(&mut self.last, Vec::new(alloc))
     }
 
     /// The seat goes back to its sheet: its pass can be taken again, and closed with.

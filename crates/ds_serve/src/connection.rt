@@ -1,15 +1,12 @@
 //! One connection: its session, its end and what the log says of it.
 
-use crate::desk::Desk;
 use crate::door::Door;
 use crate::farewell::{Farewell, is_foreign, part};
+use crate::floor::Floor;
 use crate::held::Held;
 use crate::visit::Visit;
 use crate::wire::{Wire, prepare};
-use crossbeam_queue::ArrayQueue;
-use ds_crew::locked::LockedSheet;
-use ds_crew::pass::Pass;
-use ds_server::session::{SessionEnd, session};
+use ds_server::session::SessionEnd;
 use ds_streams::streams::{Reading, Writing};
 use httpdate::HttpDate;
 use log::{Log, warn};
@@ -17,7 +14,6 @@ use std::alloc::Global;
 use std::io::{self, BufReader};
 use std::net::{SocketAddr, TcpStream};
 use std::sync::Wait;
-use std::sync::ledger::Ledger;
 use std::thread;
 use std::time::{Clock, Duration, SystemTime};
 
@@ -74,11 +70,10 @@ fn says_foreign(first: &[u8], count: usize) -> bool {
 }
 
 // One session over a connection, unless it speaks something else.
-fn one<L: Ledger, M: Ledger, R: Wait + Clock>(
+fn one<F: Floor, R: Wait + Clock>(
     rt: &R,
     alloc: Global,
-    sheet: &LockedSheet<L, M>,
-    queues: &[ArrayQueue<Pass<L, M>>],
+    floor: &F,
     stream: &TcpStream,
     visit: &Visit<'_>,
     ticks: u64,
@@ -100,8 +95,7 @@ fn one<L: Ledger, M: Ledger, R: Wait + Clock>(
     let mut reader = Reading::new(buffered);
     let wire = Wire::new(stream, visit, ticks);
     let mut writer = Writing::new(Held::new(rt, wire, visit));
-    let mut desk = Desk::new(rt, sheet, queues, visit);
-    parting_of(session(alloc, &mut reader, &mut writer, &mut desk), visit)
+    parting_of(floor.sit(rt, alloc, &mut reader, &mut writer, visit), visit)
 }
 
 // The time, where the clock can be read.
@@ -149,11 +143,10 @@ fn log_line<R: Clock + Log>(
 
 // Serves one connection. When it is closed and counts no longer among those at once, one that its client has not ended
 // is a line in the log.
-pub(crate) fn served<L: Ledger, M: Ledger, R: Wait + Clock + Log>(
+pub(crate) fn served<F: Floor, R: Wait + Clock + Log>(
     rt: &R,
     alloc: Global,
-    sheet: &LockedSheet<L, M>,
-    queues: &[ArrayQueue<Pass<L, M>>],
+    floor: &F,
     door: &Door,
     stream: TcpStream,
 ) {
@@ -161,7 +154,7 @@ pub(crate) fn served<L: Ledger, M: Ledger, R: Wait + Clock + Log>(
     let peer = stream.peer_addr();
     let visit = Visit::new(door);
     let ticks = door.patience();
-    let parting = one(rt, alloc, sheet, queues, &stream, &visit, ticks);
+    let parting = one(rt, alloc, floor, &stream, &visit, ticks);
     if let Parting::Told(farewell) = parting {
         part(&stream, farewell);
     }

@@ -25,27 +25,30 @@ use std::time::Clock;
 
 /// What one session sees of a locked sheet: the passes that nobody has, and the one that it has taken.
 #[derive(Drop)]
-pub struct Desk<'a, L: Ledger, M: Ledger, R: Wait + Clock> {
+pub struct LockedDesk<'a, L: Ledger, M: Ledger, R: Wait + Clock> {
     rt: &'a R,
     sheet: &'a LockedSheet<L, M>,
     queues: &'a [ArrayQueue<Pass<L, M>>],
+    open: usize,
     visit: &'a Visit<'a>,
     pass: Option<Pass<L, M>>,
 }
 
-impl<'a, L: Ledger, M: Ledger, R: Wait + Clock> Desk<'a, L, M, R> {
-    /// Before a process is joined. Each process has a queue, which holds its pass while nobody has it. The visit notes
-    /// which process is joined, and counts what the calls come to.
+impl<'a, L: Ledger, M: Ledger, R: Wait + Clock> LockedDesk<'a, L, M, R> {
+    /// Before a process is joined. Each process has a queue, which holds its pass while nobody has it; the first ones, so
+    /// many, may be joined. The visit notes which process is joined, and counts what the calls come to.
     pub fn new(
         rt: &'a R,
         sheet: &'a LockedSheet<L, M>,
         queues: &'a [ArrayQueue<Pass<L, M>>],
+        open: usize,
         visit: &'a Visit<'a>,
-    ) -> Desk<'a, L, M, R> {
-        Desk {
+    ) -> LockedDesk<'a, L, M, R> {
+        LockedDesk {
             rt,
             sheet,
             queues,
+            open,
             visit,
             pass: None,
         }
@@ -158,7 +161,7 @@ fn reported<L: Ledger, M: Ledger, R: Wait + Clock>(
 }
 
 /// A session over a locked sheet has the pass of the process that it has joined.
-impl<'a, L: Ledger, M: Ledger, R: Wait + Clock> Board for Desk<'a, L, M, R> {
+impl<'a, L: Ledger, M: Ledger, R: Wait + Clock> Board for LockedDesk<'a, L, M, R> {
     ghost use Rattle.ds_serve.specs.Desks.{IsPassOf, Deals};
     ghost use Rattle.std.specs.Prelude.{length};
 
@@ -178,7 +181,7 @@ impl<'a, L: Ledger, M: Ledger, R: Wait + Clock> Board for Desk<'a, L, M, R> {
     }
 
     fn join(&mut self, alloc: Global, process: usize) -> Result<Option<Told>, CallRefusal> {
-        if self.pass.is_some() {
+        if self.pass.is_some() || process >= self.open {
             return Err(CallRefusal::ProcessTaken);
         }
         match self.queues[process].pop(self.rt) {
@@ -208,7 +211,7 @@ impl<'a, L: Ledger, M: Ledger, R: Wait + Clock> Board for Desk<'a, L, M, R> {
         text: &[u8],
     ) -> Result<EditEnd, CallRefusal> {
         let Some(pass) = &mut self.pass else {
-            unreachable!()
+            return Err(CallRefusal::ProcessTaken);
         };
         let end = match self.visit.keeping() {
             Some(keeping) => {
@@ -222,7 +225,7 @@ impl<'a, L: Ledger, M: Ledger, R: Wait + Clock> Board for Desk<'a, L, M, R> {
 
     fn report(&mut self, alloc: Global, _process: usize) -> Result<ReportEnd, CallRefusal> {
         let Some(pass) = &mut self.pass else {
-            unreachable!()
+            return Err(CallRefusal::ProcessTaken);
         };
         let end = reported(self.rt, alloc, self.sheet, pass);
         self.visit.counts_report(&end);
@@ -231,7 +234,7 @@ impl<'a, L: Ledger, M: Ledger, R: Wait + Clock> Board for Desk<'a, L, M, R> {
 
     fn last(&mut self, alloc: Global, _process: usize) -> Result<Option<Told>, CallRefusal> {
         let Some(pass) = &mut self.pass else {
-            unreachable!()
+            return Err(CallRefusal::ProcessTaken);
         };
         told(self.sheet.recover(self.rt, alloc, pass))
     }

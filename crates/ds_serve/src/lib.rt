@@ -1,4 +1,4 @@
-//! Sessions over a locked sheet, and a server of them.
+//! Sessions over a sheet that threads share, or that lies behind a lock, and a server of them.
 #![tactic(auto)]
 
 mod accepting;
@@ -7,12 +7,17 @@ pub mod counts;
 pub mod desk;
 pub mod door;
 mod farewell;
+pub mod floor;
 mod held;
 pub mod keeper;
 pub mod keeping;
+pub mod locked_floor;
 pub mod queues;
 pub mod server;
 mod settle;
+pub mod shared_desk;
+pub mod shared_floor;
+mod shared_settle;
 pub mod stored;
 pub mod visit;
 mod wire;

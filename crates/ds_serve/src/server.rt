@@ -7,20 +7,19 @@ use crate::accepting::{Step, next_session, prepare, room};
 use crate::connection::served;
 use crate::counts::{Counts, Taken};
 use crate::door::Door;
-use crate::queues::{gathered, put_back, queues as own_queues};
+use crate::floor::Floor;
+use crate::queues::queues as own_queues;
+use crate::shared_floor::{SharedFloor, all_seats};
 use crate::wire::ticks_of;
-use crate::worker::work_on;
 use crossbeam_queue::ArrayQueue;
-use ds_crew::locked::LockedSheet;
-use ds_crew::pass::Pass;
-use ds_state::world::World;
+use ds_layout::layout::Layout;
+use ds_seats::seat::Seat;
+use ds_seats::sheet::OpenSheet;
 use ds_store::fault::StoreFault;
 use log::{Log, error, info, warn};
 use std::alloc::{AllocError, Global};
 use std::io::{self, ErrorKind};
-use std::marker::Brand;
 use std::net::{TcpListener, TcpStream};
-use std::sync::ledger::{Blank, Ledger};
 use std::sync::{Mutex, Wait};
 use std::thread;
 use std::thread::{Scope, Threads};
@@ -62,23 +61,16 @@ impl From<AllocError> for ServeError {
 }
 
 // Starts a session in a thread of its own. One that no thread can be started for ends at once, with a line in the log.
-fn start<
-    's,
-    E,
-    L: Ledger + Send + Sync,
-    M: Ledger + Send + Sync,
-    R: Threads + Wait + Clock + Log + Sync,
->(
+fn start<'s, E, F: Floor + Sync, R: Threads + Wait + Clock + Log + Sync>(
     scope: &'s Scope<'s, E>,
     rt: &'s R,
     alloc: Global,
-    sheet: &'s LockedSheet<L, M>,
-    queues: &'s [ArrayQueue<Pass<L, M>>],
+    floor: &'s F,
     door: &'s Door,
     stream: TcpStream,
 ) {
     if scope
-        .spawn(move || served(rt, alloc, sheet, queues, door, stream))
+        .spawn(move || served(rt, alloc, floor, door, stream))
         .is_err()
     {
         door.leave();
@@ -87,19 +79,12 @@ fn start<
 }
 
 // Takes connections, each of which is a session or is refused, until no more are taken.
-fn take_all<
-    's,
-    E,
-    L: Ledger + Send + Sync,
-    M: Ledger + Send + Sync,
-    R: Threads + Wait + Clock + Log + Sync,
->(
+fn take_all<'s, E, F: Floor + Sync, R: Threads + Wait + Clock + Log + Sync>(
     scope: &'s Scope<'s, E>,
     rt: &'s R,
     alloc: Global,
     listener: &TcpListener,
-    sheet: &'s LockedSheet<L, M>,
-    queues: &'s [ArrayQueue<Pass<L, M>>],
+    floor: &'s F,
     door: &'s Door,
     service: Service,
 ) -> Result<Taken, ServeError>
@@ -119,18 +104,17 @@ fn take_all<
             Step::Session(stream) => stream,
             Step::Ended(result) => return result,
         };
-        start(scope, rt, alloc, sheet, queues, door, stream);
+        start(scope, rt, alloc, floor, door, stream);
     }
     Err(ServeError::Listener(io::Error::from(ErrorKind::QuotaExceeded)))
 }
 
 // The same, and returns when all sessions have ended, too.
-fn accept<L: Ledger + Send + Sync, M: Ledger + Send + Sync, R: Threads + Wait + Clock + Log + Sync>(
+fn accept<F: Floor + Sync, R: Threads + Wait + Clock + Log + Sync>(
     rt: &R,
     alloc: Global,
     listener: &TcpListener,
-    sheet: &LockedSheet<L, M>,
-    queues: &[ArrayQueue<Pass<L, M>>],
+    floor: &F,
     door: &Door,
     service: Service,
 ) -> Result<Taken, ServeError>
@@ -143,22 +127,17 @@ fn accept<L: Ledger + Send + Sync, M: Ledger + Send + Sync, R: Threads + Wait + 
         |scope| -> Result<Taken, ServeError>
             ensures served { IfOk result (IsServed service.sessions) }
             ensures lasting { IfErr result IsLasting }
-        { take_all(scope, rt, alloc, listener, sheet, queues, door, service) },
+        { take_all(scope, rt, alloc, listener, floor, door, service) },
     )
 }
 
-// The same, while a worker goes round with each pass of these queues.
-fn serve_beside<
-    L: Ledger + Send + Sync,
-    M: Ledger + Send + Sync,
-    R: Threads + Wait + Clock + Log + Sync,
->(
+// The same, while a worker acts for each process from this one on.
+fn serve_beside<F: Floor + Sync, R: Threads + Wait + Clock + Log + Sync>(
     rt: &R,
     alloc: Global,
     listener: &TcpListener,
-    sheet: &LockedSheet<L, M>,
-    queues: &[ArrayQueue<Pass<L, M>>],
-    taken: &[ArrayQueue<Pass<L, M>>],
+    floor: &F,
+    first: usize,
     door: &Door,
     service: Service,
 ) -> Result<Taken, ServeError>
@@ -174,10 +153,10 @@ fn serve_beside<
             ensures served { IfOk result (IsServed service.sessions) }
             ensures lasting { IfErr result IsLasting }
         {
-            for place in 0..taken.len() {
-                let _ = scope.spawn(move || work_on(rt, alloc, sheet, taken, place, told));
+            for process in first..floor.processes() {
+                let _ = scope.spawn(move || floor.work(rt, alloc, process, told));
             }
-            let result = accept(rt, alloc, listener, sheet, queues, door, service);
+            let result = accept(rt, alloc, listener, floor, door, service);
             *told.lock(rt) = true;
             result
         },
@@ -195,25 +174,18 @@ fn fitted<R: Log>(rt: &R, alloc: Global, listener: &TcpListener, service: Servic
     Service { at_once, ..service }
 }
 
-/// Serves connections, each in its thread, while a worker goes round for each of the last
-/// processes, so many; returns when the service is over and all sessions have ended. The workers' passes are taken before
-/// the first connection, and put back behind the last.
+/// Serves connections, each in its thread, while a worker acts for each of the last processes, so many; returns when the
+/// service is over and all sessions have ended.
 ///
 /// It ends well only when the door tells it to stop, or when as many sessions have joined a process as it was to serve.
 /// Each connection that it took is then a session, or was refused since there were as many sessions as there may be at
 /// once. A connection that breaks off before it is taken, and want of descriptors, end nothing. An error is that of the
-/// listener, which has failed for good; the connections that were taken before it are served to their ends. Or it is want
-/// of memory before the first connection, with which the workers' passes are lost.
-pub fn serve_sheet<
-    L: Ledger + Send + Sync,
-    M: Ledger + Send + Sync,
-    R: Threads + Wait + Clock + Log + Sync,
->(
+/// listener, which has failed for good; the connections that were taken before it are served to their ends.
+pub fn serve_floor<F: Floor + Sync, R: Threads + Wait + Clock + Log + Sync>(
     rt: &R,
     alloc: Global,
     listener: &TcpListener,
-    sheet: &LockedSheet<L, M>,
-    queues: &[ArrayQueue<Pass<L, M>>],
+    floor: &F,
     door: &Door,
     service: Service,
 ) -> Result<Taken, ServeError>
@@ -224,38 +196,8 @@ pub fn serve_sheet<
         warn!(rt; "no time-out of accepts: what tells the server to stop is seen at the next connection");
     }
     let service = fitted(rt, alloc, listener, service);
-    let first = queues.len().saturating_sub(service.workers);
-    let passes = gathered(rt, alloc, &queues[first..])?;
-    let taken = own_queues(rt, alloc, passes)?;
-    let taken = taken.as_slice();
-    let result = serve_beside(rt, alloc, listener, sheet, queues, taken, door, service);
-    for queue in taken {
-        if let Some(pass) = queue.pop(rt) {
-            put_back(rt, queues, pass);
-        }
-    }
-    result
-}
-
-// Closes the sheet with the passes of all its processes, and says in the log where one is lost, or keeps other values
-// than the sheet.
-pub(crate) fn close<L: Ledger, M: Ledger, R: Wait + Log>(
-    rt: &R,
-    alloc: Global,
-    sheet: LockedSheet<L, M>,
-    queues: &[ArrayQueue<Pass<L, M>>],
-    processes: usize,
-)
-    requires { (L.parts ≡ processes) × (M.parts ≡ processes) }
-{
-    match gathered(rt, alloc, queues) {
-        Ok(passes) if passes.len() == processes && processes > 0 => {
-            if sheet.close(passes).stray.is_some() {
-                error!(rt; "a process keeps other values than the sheet");
-            }
-        }
-        _ => error!(rt; "a process was lost"),
-    }
+    let first = floor.processes().saturating_sub(service.workers);
+    serve_beside(rt, alloc, listener, floor, first, door, service)
 }
 
 // The last line of the log.
@@ -265,56 +207,43 @@ pub(crate) fn sum_up<R: Log>(rt: &R, taken: &Taken, door: &Door) {
         taken.connections(), taken.refused(), totals.joined, totals.done, totals.overtaken, totals.refused, totals.reports);
 }
 
-// So of a world, with these blanks.
-fn serve_world<
-    L: Ledger + Send + Sync,
-    M: Ledger + Send + Sync,
-    R: Threads + Wait + Clock + Log + Sync,
->(
-    rt: &R,
-    alloc: Global,
-    listener: &TcpListener,
-    world: World,
-    dones: Blank,
-    settleds: Blank,
-    door: &Door,
-    service: Service,
-) -> Result<Taken, ServeError>
-    requires names { (dones.name ≡ L.name) × (settleds.name ≡ M.name) }
-    requires parts { (dones.parts ≡ L.parts) × (settleds.parts ≡ M.parts) }
-    requires processes { (L.parts ≡ world.sheet.layout.processes) × (M.parts ≡ world.sheet.layout.processes) }
-    ensures served { IfOk result (IsServed service.sessions) }
-    ensures lasting { IfErr result IsLasting }
-{
-    let processes = world.words.layout().processes;
-    let Ok((sheet, passes)) = LockedSheet::<L, M>::make(alloc, world, dones, settleds) else {
-        return Err(ServeError::NoMemory);
-    };
-    let queues = own_queues(rt, alloc, passes)?;
-    let queues = queues.as_slice();
-    let taken = serve_sheet(rt, alloc, listener, &sheet, queues, door, service)?;
-    close(rt, alloc, sheet, queues, processes);
-    sum_up(rt, &taken, door);
-    Ok(taken)
+// Closes the sheet with the seats of all its processes, and says in the log where one is lost.
+fn close<R: Wait + Log>(rt: &R, alloc: Global, sheet: OpenSheet, queues: &[ArrayQueue<Seat>]) {
+    for queue in queues {
+        if let Some(seat) = queue.pop(rt) {
+            seat.give_back();
+        }
+    }
+    match sheet.close(alloc) {
+        Ok(_closed) => {}
+        Err(_) => error!(rt; "a process was lost"),
+    }
 }
 
-/// Serves this sheet, as `serve_sheet` says, and closes it: the log says what the sessions came to, and where a process
-/// was lost or keeps other values than the sheet. An error is that of the listener, which has failed for good, or want of
-/// memory before the first connection is taken; no connection that breaks off, and no want of descriptors, ends the
-/// server.
+/// Serves a new sheet of this layout, which its threads share with no lock, as `serve_floor` says, and closes it: the log
+/// says what the sessions came to, and where a process was lost. An error is that of the listener, which has failed for
+/// good, or want of memory before the first connection is taken; no connection that breaks off, and no want of
+/// descriptors, ends the server.
 pub fn serve<R: Threads + Wait + Clock + Log + Sync>(
     rt: &R,
     alloc: Global,
     listener: &TcpListener,
-    world: World,
+    layout: Layout,
     door: &Door,
     service: Service,
 ) -> Result<Taken, ServeError>
     ensures served { IfOk result (IsServed service.sessions) }
     ensures lasting { IfErr result IsLasting }
 {
-    world.is_always_good();
-    let parts = world.words.layout().processes as u64;
-    let (dones, settleds) = (Blank::new(parts), Blank::new(parts));
-    serve_world::<Brand, Brand, _>(rt, alloc, listener, world, dones, settleds, door, service)
+    let mut sheet = OpenSheet::make(alloc, layout)?;
+    let Some(seats) = all_seats(alloc, &mut sheet) else {
+        return Err(ServeError::NoMemory);
+    };
+    let queues = own_queues(rt, alloc, seats)?;
+    let queues = queues.as_slice();
+    let floor = SharedFloor::new(layout.shape, queues, service.workers);
+    let taken = serve_floor(rt, alloc, listener, &floor, door, service)?;
+    close(rt, alloc, sheet, queues);
+    sum_up(rt, &taken, door);
+    Ok(taken)
 }

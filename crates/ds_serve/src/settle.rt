@@ -15,13 +15,13 @@ use std::time::{Clock, Duration};
 
 // How many rounds more there may be, beyond what a settle that is alone needs, where others hold the marks, and how long
 // it rests behind a round that found only such marks, in milliseconds.
-const PATIENCE: usize = 250;
+pub(crate) const PATIENCE: usize = 250;
 
-const REST: u64 = 1;
+pub(crate) const REST: u64 = 1;
 
 // What a round over the cells has found.
 #[derive(Clone, Copy, Debug, PartialEq, Eq)]
-enum Round {
+pub(crate) enum Round {
     // No marked cell.
     Clean,
     // Marked cells, each of which another process holds.

@@ -6,14 +6,16 @@ ghost use Rattle.ds_serve.specs.Accepting.{IsLasting, IsServed, IsStoredLasting}
 use crate::counts::Taken;
 use crate::door::Door;
 use crate::keeper::Attendant;
-use crate::queues::queues as own_queues;
-use crate::server::{ServeError, Service, close, serve_sheet, sum_up};
+use crate::floor::Floor;
+use crate::locked_floor::LockedFloor;
+use crate::queues::{gathered, queues as own_queues};
+use crate::server::{ServeError, Service, serve_floor, sum_up};
 use crossbeam_queue::ArrayQueue;
 use ds_crew::locked::LockedSheet;
 use ds_crew::pass::Pass;
 use ds_state::world::World;
 use ds_store::store::Store;
-use log::Log;
+use log::{Log, error};
 use sqlite::Alter;
 use std::alloc::Global;
 use std::marker::Brand;
@@ -39,38 +41,30 @@ impl Promise<Result<Taken, ServeError>> for Serves {
 }
 
 // Serves a sheet, and tells the keeper then that no more edits come.
-fn served<L: Ledger + Send + Sync, M: Ledger + Send + Sync, R: Threads + Wait + Clock + Log + Sync>(
+fn served<F: Floor + Sync, R: Threads + Wait + Clock + Log + Sync>(
     rt: &R,
     alloc: Global,
     listener: &TcpListener,
-    sheet: &LockedSheet<L, M>,
-    queues: &[ArrayQueue<Pass<L, M>>],
+    floor: &F,
     door: &Door,
     service: Service,
 ) -> Result<Taken, ServeError>
     ensures served { IfOk result (IsServed service.sessions) }
     ensures lasting { IfErr result IsLasting }
 {
-    let served = serve_sheet(rt, alloc, listener, sheet, queues, door, service);
+    let served = serve_floor(rt, alloc, listener, floor, door, service);
     door.end_keeping(rt);
     served
 }
 
 // Serves a sheet in a thread of its own, and tells the keeper when no more edits come. None where the system has no
 // thread for it.
-fn start<
-    's,
-    E,
-    L: Ledger + Send + Sync,
-    M: Ledger + Send + Sync,
-    R: Threads + Wait + Clock + Log + Sync,
->(
+fn start<'s, E, F: Floor + Sync, R: Threads + Wait + Clock + Log + Sync>(
     scope: &'s Scope<'s, E>,
     rt: &'s R,
     alloc: Global,
     listener: &'s TcpListener,
-    sheet: &'s LockedSheet<L, M>,
-    queues: &'s [ArrayQueue<Pass<L, M>>],
+    floor: &'s F,
     door: &'s Door,
     service: Service,
 ) -> Option<PromisedHandle<Result<Taken, ServeError>, Serves>>
@@ -81,7 +75,7 @@ fn start<
     };
     scope
         .spawn_with(promise, move || {
-            served(rt, alloc, listener, sheet, queues, door, service)
+            served(rt, alloc, listener, floor, door, service)
         })
         .ok()
 }
@@ -90,15 +84,13 @@ fn start<
 fn serve_beside<
     S: Alter + Drop,
     T: Attendant,
-    L: Ledger + Send + Sync,
-    M: Ledger + Send + Sync,
+    F: Floor + Sync,
     R: Threads + Wait + Clock + Log + Sync,
 >(
     rt: &R,
     alloc: Global,
     listener: &TcpListener,
-    sheet: &LockedSheet<L, M>,
-    queues: &[ArrayQueue<Pass<L, M>>],
+    floor: &F,
     door: &Door,
     service: Service,
     store: &mut Store<S>,
@@ -114,8 +106,7 @@ fn serve_beside<
             ensures served { IfOk result (IsServed service.sessions) }
             ensures lasting { IfErr result IsStoredLasting }
         {
-            let Some(server) = start(scope, rt, alloc, listener, sheet, queues, door, service)
-            else {
+            let Some(server) = start(scope, rt, alloc, listener, floor, door, service) else {
                 return Err(ServeError::NoMemory);
             };
             let kept = door.keep(rt, alloc, store, attendant);
@@ -125,6 +116,27 @@ fn serve_beside<
             Ok(taken)
         },
     )
+}
+
+// Closes the sheet with the passes of all its processes, and says in the log where one is lost, or keeps other values
+// than the sheet.
+fn close<L: Ledger, M: Ledger, R: Wait + Log>(
+    rt: &R,
+    alloc: Global,
+    sheet: LockedSheet<L, M>,
+    queues: &[ArrayQueue<Pass<L, M>>],
+    processes: usize,
+)
+    requires { (L.parts ≡ processes) × (M.parts ≡ processes) }
+{
+    match gathered(rt, alloc, queues) {
+        Ok(passes) if passes.len() == processes && processes > 0 => {
+            if sheet.close(passes).stray.is_some() {
+                error!(rt; "a process keeps other values than the sheet");
+            }
+        }
+        _ => error!(rt; "a process was lost"),
+    }
 }
 
 // So of a world, with these blanks.
@@ -160,17 +172,19 @@ fn serve_world<
         return Err(ServeError::NoMemory);
     };
     let queues = queues.as_slice();
+    let floor = LockedFloor::new(&sheet, queues, service.workers);
     let taken = serve_beside(
-        rt, alloc, listener, &sheet, queues, door, service, store, attendant,
+        rt, alloc, listener, &floor, door, service, store, attendant,
     )?;
     close(rt, alloc, sheet, queues, processes);
     Ok(taken)
 }
 
-/// Serves this sheet as `server::serve` does, while the calling thread keeps in the store each edit that its sessions have
-/// done: no answer leaves before the edits that were made before it are committed. The attendant has its turn between two
-/// commits. Its door is one with a store. An error
-/// is that of `server::serve`; or the store has failed, and the server was stopped.
+/// Serves this sheet behind a lock, as `server::serve_floor` says, while the calling thread keeps in the store each edit
+/// that its sessions have done: no answer leaves before the edits that were made before it are committed. The attendant has
+/// its turn between two commits, four times a second at least. The door has to be one with a store (`Door::with_store`):
+/// with another one nothing is kept. An error is that of `server::serve_floor`, or want of memory; or the store has failed,
+/// and the server was stopped: what was committed stands, and no answer has left behind it.
 pub fn serve<S: Alter + Drop, T: Attendant, R: Threads + Wait + Clock + Log + Sync>(
     rt: &R,
     alloc: Global,

@@ -25,3 +25,14 @@ pub struct Pass {
     pub ghost few: { number ≤ RECORDS },
     pub ghost known: { IsKnown place process number stopped } by { Prim.hlevel (codes, plain_code) },
 }
+
+impl Pass {
+    ghost use Rattle.std.specs.Prelude.{◌≡◌};
+
+    /// The process that it acts for.
+    pub fn process(&self) -> usize
+        ensures { result ≡ self.now.process }
+    {
+        self.process
+    }
+}

@@ -1,7 +1,7 @@
 use Rattle.ds_clients.proofs.loopback.serve_loopback.Given as goal
 
-abbrev pub ghosts-serve-L-Ledger : goal.ghosts-serve-L-Ledger
-ghosts-serve-L-Ledger g a = record { name = a.dones.name; parts = a.dones.parts }
+abbrev pub ghosts-serve_locked-L-Ledger : goal.ghosts-serve_locked-L-Ledger
+ghosts-serve_locked-L-Ledger g a = record { name = a.dones.name; parts = a.dones.parts }
 
-abbrev pub ghosts-serve-M-Ledger : goal.ghosts-serve-M-Ledger
-ghosts-serve-M-Ledger g a = record { name = a.settleds.name; parts = a.settleds.parts }
+abbrev pub ghosts-serve_locked-M-Ledger : goal.ghosts-serve_locked-M-Ledger
+ghosts-serve_locked-M-Ledger g a = record { name = a.settleds.name; parts = a.settleds.parts }

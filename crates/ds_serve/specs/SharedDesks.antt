@@ -1,0 +1,113 @@
+-- What a call of a session over a shared sheet does to the seat that the session has.
+use Rattle.std.specs.Prelude.{◌≡◌, ◌⊎◌, ℕ, List, Option, Some, None, Vec}
+use Rattle.std.specs.Global.{Global}
+use Rattle.std.specs.Arc.{arc_value}
+use Rattle.ds_formula.specs.declared.cells.Cell.{Cell}
+use Rattle.ds_formula.specs.Cells.{IsInside}
+use Rattle.ds_eval.specs.declared.value.Value.{Value}
+use Rattle.ds_edit.specs.declared.answer.Answer.TheVariants as answers
+use Rattle.ds_edit.specs.declared.answer.Told.{Told}
+use Rattle.ds_shared.specs.declared.ended.Ended.{Ended}
+use Rattle.ds_shared.specs.declared.ended.Ended.TheVariants.{Answered, Refused, Stopped}
+use Rattle.ds_shared.specs.declared.sheet.SharedSheet.{SharedSheet}
+use Rattle.ds_seats.specs.Calls.{Edits, Works, Recovers, Reports, last_of}
+use Rattle.ds_seats.specs.Sheets.{IsSeatOf}
+use Rattle.ds_seats.specs.declared.seat.Seat.{Seat}
+use Rattle.ds_server.specs.declared.board.CallRefusal.{CallRefusal}
+use Rattle.ds_server.specs.declared.board.CallRefusal.TheVariants as refusals
+use Rattle.ds_server.specs.WorldBoards.{refused_by}
+use Rattle.ds_server.specs.BoardCalls.{Call, Join, Set, Report, Last, Leave}
+use Rattle.ds_server.specs.Replies as said
+
+-- how many steps a call of a session may take: as many as are counted
+abbrev pub STEPS_MOST : ℕ
+STEPS_MOST = 18446744073709551615
+
+-- the session has the seat of this process
+abbrev pub IsSeatAt : Option Seat → ℕ → Type 0
+IsSeatAt None process = ⊥
+IsSeatAt (Some seat) process = seat.pass.process ≡ process
+
+-- the sheet of a seat
+abbrev pub sheet_of : Seat → SharedSheet
+sheet_of seat = arc_value seat.sheet
+
+-- what is said where a call was stopped, or answered as none of its kind is
+abbrev pub broken : said.Said
+broken = said.Refused refusals.Stopped
+
+-- what is said to an edit that ended so
+abbrev pub set_said : Ended → said.Said
+set_said (Answered (answers.Done number)) = said.Done number
+set_said (Answered (answers.Overtaken number by)) = said.Overtaken number by
+set_said (Answered other) = broken
+set_said (Refused why) = said.Refused (refused_by why)
+set_said Stopped = broken
+
+-- what is said to a recovery that ended so
+abbrev pub last_said : Ended → said.Said
+last_said (Answered (answers.Last told)) = said.Tells (Some told)
+last_said (Answered answers.Nothing) = said.Tells None
+last_said (Answered other) = broken
+last_said (Refused why) = said.Refused (refused_by why)
+last_said Stopped = broken
+
+-- what is said to a report that ended so, where these are the values that the seat kept then
+abbrev pub report_said : Ended → List Value → said.Said
+report_said (Answered answers.Settled) values = said.Settled values
+report_said (Answered (answers.Unsettled place word)) values = said.Unsettled place word
+report_said (Answered other) values = broken
+report_said (Refused why) values = said.Refused (refused_by why)
+report_said Stopped values = broken
+
+-- the seat has come from the first one by works alone, each on a cell of the sheet; it keeps the values that it kept
+pub data HasWorked (s : SharedSheet) (first : Seat) : Seat → Type 0 where
+  Rests : HasWorked s first first
+  Then : (seat new : Seat) (cell : Cell) (how : Ended) → HasWorked s first seat → Works s cell STEPS_MOST seat.pass new.pass how → IsSeatOf s new → new.last ≡ seat.last → HasWorked s first new
+
+-- the session has taken a seat of this process, and all that it has used it for is a recovery that tells this
+pub record HasJoined (process : ℕ) (last : Option Told) (new : Option Seat) : Type 0 where
+  pub seat : Seat
+  pub after : Seat
+  pub how : Ended
+  pub process_is : seat.pass.process ≡ process
+  pub recovers : Recovers (sheet_of seat) STEPS_MOST seat.pass after.pass how
+  pub tells : last_said how ≡ said.Tells last
+  pub new_is : new ≡ Some after
+
+-- the seat was used for one call more, an edit of this cell to this text, and this is said of it; or its sheet has no such
+-- cell, and it is as it was
+pub record HasSet (seat : Seat) (cell : Cell) (text : List ℕ) (what : said.Said) (new : Option Seat) : Type 0 where
+  pub after : Seat
+  pub new_is : new ≡ Some after
+  pub edits : ((how : Ended) × Edits (sheet_of seat) cell text STEPS_MOST seat.pass after.pass how × (what ≡ set_said how)) ⊎ ((after ≡ seat) × (IsInside (sheet_of seat).board.layout.shape cell → ⊥))
+
+-- the seat was used for works, and then for a report of which this is said, with its values where it is settled; or the
+-- works did not let it come so far
+pub record HasReported (seat : Seat) (what : said.Said) (new : Option Seat) : Type 0 where
+  pub worked : Seat
+  pub after : Seat
+  pub new_is : new ≡ Some after
+  pub works : HasWorked (sheet_of seat) seat worked
+  pub reports : ((how : Ended) × (values : Option (Vec Value Global)) × Reports (sheet_of seat) STEPS_MOST worked.pass after.pass how values × (what ≡ report_said how (last_of worked.last values).items)) ⊎ ((after ≡ worked) × ((why : CallRefusal) × (what ≡ said.Refused why)))
+
+-- the seat was used for one call more, a recovery, and this is said of it
+pub record HasRecovered (seat : Seat) (what : said.Said) (new : Option Seat) : Type 0 where
+  pub after : Seat
+  pub how : Ended
+  pub new_is : new ≡ Some after
+  pub recovers : Recovers (sheet_of seat) STEPS_MOST seat.pass after.pass how
+  pub says : what ≡ last_said how
+
+-- what a call that was answered so does to the seat that the session has, if any. A join that is not refused takes one
+-- where there was none, and tells what the process's recovery tells. A set is an edit of the call's cell to the call's
+-- text; a report comes behind works alone; last is a recovery. What each answer means is said by the shared sheet's own
+-- calls. A process that is given back takes its seat with it. Nothing else changes it
+abbrev pub SharedDeals : Option Seat → Call → said.Said → Option Seat → Type 0
+SharedDeals old (Join p) (said.Joined q last) new = (old ≡ None) × (q ≡ p) × HasJoined p last new
+SharedDeals old (Join p) (said.Refused why) new = new ≡ old
+SharedDeals (Some seat) (Set p cell text) what new = HasSet seat cell text what new
+SharedDeals (Some seat) (Report p) what new = HasReported seat what new
+SharedDeals (Some seat) (Last p) what new = HasRecovered seat what new
+SharedDeals old (Leave p) said.Left new = new ≡ None
+SharedDeals old call what new = ⊥

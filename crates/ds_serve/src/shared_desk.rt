@@ -1,0 +1,204 @@
+//! A board that is a sheet which threads share, with no lock.
+
+ghost use Rattle.std.specs.Prelude.{◌≡◌, Some};
+ghost use Rattle.ds_seats.specs.Sheets.{IsSeatOf};
+ghost use Rattle.ds_server.specs.Replies.{last_view, set_view, report_view};
+ghost use Rattle.ds_serve.specs.SharedDesks.{HasSet, HasReported, HasRecovered, set_said, last_said, report_said, sheet_of};
+
+use crate::shared_settle::{STEPS_MOST, shared_settle};
+use crate::visit::Visit;
+use crossbeam_queue::ArrayQueue;
+use ds_edit::answer::{Answer, Told};
+use ds_formula::cells::{Cell, Shape};
+use ds_seats::seat::Seat;
+use ds_server::board::{Board, CallRefusal, EditEnd, ReportEnd};
+use ds_shared::ended::Ended;
+use std::alloc::Global;
+use std::sync::Wait;
+use std::time::Clock;
+
+/// What one session sees of a sheet that threads share: the seats that nobody has, and the one that it has taken.
+#[derive(Drop)]
+pub struct SharedDesk<'a, R: Wait + Clock> {
+    rt: &'a R,
+    shape: Shape,
+    queues: &'a [ArrayQueue<Seat>],
+    open: usize,
+    visit: &'a Visit<'a>,
+    seat: Option<Seat>,
+}
+
+impl<'a, R: Wait + Clock> SharedDesk<'a, R> {
+    /// Before a process is joined. Each process has a queue, which holds its seat while nobody has it; the first ones, so
+    /// many, may be joined. The visit notes which process is joined, and counts what the calls come to.
+    pub fn new(
+        rt: &'a R,
+        shape: Shape,
+        queues: &'a [ArrayQueue<Seat>],
+        open: usize,
+        visit: &'a Visit<'a>,
+    ) -> SharedDesk<'a, R> {
+        SharedDesk {
+            rt,
+            shape,
+            queues,
+            open,
+            visit,
+            seat: None,
+        }
+    }
+}
+
+// What a recovery tells. It is stopped only behind more steps than it can take.
+fn told(ended: Ended) -> Result<Option<Told>, CallRefusal>
+    ensures { last_view result ≡ last_said ended }
+{
+    match ended {
+        Ended::Answered(Answer::Last(told)) => Ok(Some(told)),
+        Ended::Answered(Answer::Nothing) => Ok(None),
+        Ended::Refused(why) => Err(CallRefusal::from(why)),
+        Ended::Answered(_) | Ended::Stopped => Err(CallRefusal::Stopped),
+    }
+}
+
+// How an edit ended, or why it has not begun.
+fn ended(ended: Ended) -> Result<EditEnd, CallRefusal>
+    ensures { set_view result ≡ set_said ended }
+{
+    match ended {
+        Ended::Answered(Answer::Done(number)) => Ok(EditEnd::Done(number)),
+        Ended::Answered(Answer::Overtaken(number, by)) => Ok(EditEnd::Overtaken(number, by)),
+        Ended::Refused(why) => Err(CallRefusal::from(why)),
+        Ended::Answered(_) | Ended::Stopped => Err(CallRefusal::Stopped),
+    }
+}
+
+// A whole edit. A cell that the seat's sheet has not is another sheet's, as its process is.
+fn edited(
+    alloc: Global,
+    seat: &mut Seat,
+    cell: Cell,
+    text: &[u8],
+) -> Result<EditEnd, CallRefusal>
+    ensures { HasSet seat.old cell text.now (set_view result) (Some seat.new) }
+{
+    match seat.edit(alloc, cell, text, STEPS_MOST) {
+        Ok(how) => ended(how),
+        Err(_) => Err(CallRefusal::ProcessTaken),
+    }
+}
+
+// How a report ended; where it is settled, the seat gives away the values that it has kept of it.
+fn shown(alloc: Global, ended: Ended, seat: &mut Seat) -> Result<ReportEnd, CallRefusal>
+    ensures said { report_view result ≡ report_said ended seat.old.last.items }
+    ensures seat { IsSeatOf (sheet_of seat.old) seat.new × (seat.new.pass ≡ seat.old.pass) }
+{
+    match ended {
+        Ended::Answered(Answer::Settled) => Ok(ReportEnd::Settled(seat.take_values(alloc))),
+        Ended::Answered(Answer::Unsettled(place, word)) => Ok(ReportEnd::Unsettled(place, word)),
+        Ended::Refused(why) => Err(CallRefusal::from(why)),
+        Ended::Answered(_) | Ended::Stopped => Err(CallRefusal::Stopped),
+    }
+}
+
+// A settle and a report.
+fn reported<R: Wait + Clock>(
+    rt: &R,
+    alloc: Global,
+    seat: &mut Seat,
+) -> Result<ReportEnd, CallRefusal>
+    ensures { HasReported seat.old (report_view result) (Some seat.new) }
+{
+    shared_settle(rt, alloc, seat)?;
+    let how = seat.report(alloc, STEPS_MOST);
+    shown(alloc, how, seat)
+}
+
+// A whole recovery, and what it tells.
+fn recovered(alloc: Global, seat: &mut Seat) -> Result<Option<Told>, CallRefusal>
+    ensures { HasRecovered seat.old (last_view result) (Some seat.new) }
+{
+    told(seat.recover(alloc, STEPS_MOST))
+}
+
+/// A session over a shared sheet has the seat of the process that it has joined.
+impl<'a, R: Wait + Clock> Board for SharedDesk<'a, R> {
+    ghost use Rattle.ds_serve.specs.SharedDesks.{IsSeatAt, SharedDeals};
+    ghost use Rattle.std.specs.Prelude.{length};
+
+    ghost rules = { record {
+      shape = λ d. d.shape;
+      processes = λ d. length d.queues.now;
+      sits = λ d p. IsSeatAt d.seat p;
+      does = λ old call said new. SharedDeals old.seat call said new.seat;
+    } };
+
+    fn shape(&self) -> Shape {
+        self.shape
+    }
+
+    fn processes(&self) -> usize {
+        self.queues.len()
+    }
+
+    fn join(&mut self, alloc: Global, process: usize) -> Result<Option<Told>, CallRefusal> {
+        if self.seat.is_some() || process >= self.open {
+            return Err(CallRefusal::ProcessTaken);
+        }
+        match self.queues[process].pop(self.rt) {
+            Some(mut seat) if seat.process() == process => {
+                match recovered(alloc, &mut seat) {
+                    Ok(last) => {
+                        self.seat = Some(seat);
+                        self.visit.joins(process);
+                        Ok(last)
+                    }
+                    Err(why) => {
+                        let _ = self.queues[process].push(self.rt, seat);
+                        Err(why)
+                    }
+                }
+            }
+            _ => Err(CallRefusal::ProcessTaken),
+        }
+    }
+
+    fn set(
+        &mut self,
+        alloc: Global,
+        _process: usize,
+        cell: Cell,
+        text: &[u8],
+    ) -> Result<EditEnd, CallRefusal> {
+        let Some(seat) = &mut self.seat else {
+            return Err(CallRefusal::ProcessTaken);
+        };
+        let end = edited(alloc, seat, cell, text);
+        self.visit.counts_set(&end);
+        end
+    }
+
+    fn report(&mut self, alloc: Global, _process: usize) -> Result<ReportEnd, CallRefusal> {
+        let Some(seat) = &mut self.seat else {
+            return Err(CallRefusal::ProcessTaken);
+        };
+        let end = reported(self.rt, alloc, seat);
+        self.visit.counts_report(&end);
+        end
+    }
+
+    fn last(&mut self, alloc: Global, _process: usize) -> Result<Option<Told>, CallRefusal> {
+        let Some(seat) = &mut self.seat else {
+            return Err(CallRefusal::ProcessTaken);
+        };
+        recovered(alloc, seat)
+    }
+
+    fn leave(&mut self, process: usize) {
+        if let Some(seat) = self.seat.take() {
+            if process < self.queues.len() {
+                let _ = self.queues[process].push(self.rt, seat);
+            }
+        }
+    }
+}
