@@ -1,4 +1,4 @@
--- That a queue of passes, a locked word and a door may be shared by threads, and that a connection may move to one.
+-- That queues of passes and of seats, a locked word and a door may be shared by threads, and that a connection may move to one.
 use Rattle.std.proofs.Crossing.{crosses}
 use denote.Param.Send.{IsSend, IsSync, sendable}
 use denote.Builtin.{bool}
@@ -14,6 +14,8 @@ use Rattle.atomic_table.proofs.send_lease.SendLease.TheSendSync.{the_sync as lea
 use Rattle.crossbeam_queue.specs.contracts.array_queue.plain.ArrayQueue as ArrayQueue
 use Rattle.ds_crew.specs.contracts.pass.Pass as Pass
 use Rattle.ds_crew.proofs.Crossing.{pass_send}
+use Rattle.ds_seats.proofs.Crossing.{seat_send}
+use Rattle.ds_seats.specs.contracts.seat.Seat as Seat
 use Rattle.ds_serve.specs.contracts.door.Door as Door
 use Rattle.ds_serve.specs.contracts.keeping.Keeping as Keeping
 use Rattle.ds_serve.specs.contracts.keeping.Told as Told
@@ -54,6 +56,9 @@ listener_sync = search (sendable, crosses) depth 40
 
 pub service_send : IsSend Service.the_row
 service_send = search (sendable, crosses) depth 40
+
+pub seats_sync : IsSync (ArrayQueue.the_row Seat.the_row Global.the_row ghosts)
+seats_sync = search (sendable, crosses, shared_sync, lease_sync, seat_send) depth 60 fits 100000
 
 module _ (L M : RattleType) (l : Ghosts L.Denot) (m : Ghosts M.Denot) where
   pub queue_sync : IsSync (ArrayQueue.the_row (Pass.the_row L M l m) Global.the_row ghosts)

@@ -1,7 +1,6 @@
 use denote.Param.Send.{sendable}
-use Rattle.ds_crew.proofs.Crossing.{sheet_sync}
-use Rattle.ds_serve.proofs.Crossing.{queue_sync, told_sync}
+use Rattle.ds_serve.proofs.Crossing.{told_sync}
 use Rattle.ds_serve.proofs.server.fn.serve_beside.scope.Goals as goal
 
 pub spawn-requires-send-F : goal.spawn-requires-send-F
-spawn-requires-send-F g c κs within = search (sendable, sheet_sync, queue_sync, told_sync) depth 40
+spawn-requires-send-F g c κs within = search (sendable, told_sync) depth 40
