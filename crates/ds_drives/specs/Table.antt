@@ -8,6 +8,8 @@ use Rattle.ds_words.specs.declared.access.Access.{Access}
 use Rattle.ds_words.specs.declared.access.Access.TheVariants.{Nothing, Load, Store, Or, SwapIf, Flush, Back}
 use Rattle.ds_words.specs.declared.words.TheConstants.{BUFFER_ENTRIES}
 use Rattle.ds_words.specs.Memory.{Memory, newer}
+use Rattle.ds_layout.specs.declared.place.Place.{Place}
+use Rattle.ds_layout.specs.Places.{class_of}
 
 -- the table's words as a memory, with these buffers
 abbrev pub two_sided : List ℕ → (ℕ → List (BufferEntry ℕ)) → Memory ℕ
@@ -67,6 +69,11 @@ told (Store n value) oldest found = value
 told Back None found = found
 told Back (Some x) found = told_back x.class found x.value
 told _ oldest found = found
+
+-- the class of the word that an access flushes
+abbrev pub class_flushed : Access Place → Class
+class_flushed (Flush place) = class_of place
+class_flushed _ = Owned
 
 -- the buffer after it
 abbrev pub buffer_after : (ℕ → Class) → Access ℕ → List (BufferEntry ℕ) → ℕ → List (BufferEntry ℕ)
