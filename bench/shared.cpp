@@ -5,7 +5,8 @@
 // nothing is stopped, and nothing recovers.
 //
 // shared KIND THREADS SHEETS: the threads make 256 calls each on each of the sheets, one sheet after the other. It prints
-// how many calls there were, and how many nanoseconds the slowest thread took; of `report` that of the edits beside, too.
+// how many calls there were, how many nanoseconds passed from the first one's begin to the last one's end, and how many ended
+// as they do where nobody is in the way; of `report` so for the edits beside, too.
 #include <algorithm>
 #include <atomic>
 #include <chrono>
@@ -23,6 +24,9 @@ namespace {
 
 constexpr size_t CELLS = 8, PROCESSES = 8, RECORDS = 256, PARTS = 15, DONE_PARTS = RECORDS / 64;
 
+// Both sides of a word lie beside each other, and 64 bytes behind those of the word before it: no two words share a line of a cache.
+constexpr size_t SPREAD = 8;
+
 enum class Class : uint8_t { Stamped, Bit, Owned };
 
 struct Entry {
@@ -35,7 +39,7 @@ enum class End { Done, Overtaken, NotDirty, Missed, Published, Again, Settled, U
 
 class Sheet {
   public:
-    Sheet() : words(new std::atomic<uint64_t>[2 * WORDS]()) {}
+    Sheet() : words(new std::atomic<uint64_t>[SPREAD * WORDS]()) {}
 
     class Process {
       public:
@@ -188,14 +192,14 @@ class Sheet {
                             WORDS = DONE + PROCESSES * DONE_PARTS;
     std::unique_ptr<std::atomic<uint64_t>[]> words;
 
-    uint64_t load(size_t place) { return words[2 * place].load(); }
-    void store(size_t place, uint64_t value) { words[2 * place].store(value); }
-    void add(size_t place, uint64_t bits) { words[2 * place].fetch_or(bits); }
-    bool swap(size_t place, uint64_t expected, uint64_t value) { return words[2 * place].compare_exchange_strong(expected, value); }
+    uint64_t load(size_t place) { return words[SPREAD * place].load(); }
+    void store(size_t place, uint64_t value) { words[SPREAD * place].store(value); }
+    void add(size_t place, uint64_t bits) { words[SPREAD * place].fetch_or(bits); }
+    bool swap(size_t place, uint64_t expected, uint64_t value) { return words[SPREAD * place].compare_exchange_strong(expected, value); }
 
     // a write-back never makes a word older
     void persist(const Entry &entry) {
-        std::atomic<uint64_t> &side = words[2 * entry.place + 1];
+        std::atomic<uint64_t> &side = words[SPREAD * entry.place + 1];
         if (entry.kind == Class::Owned) {
             side.store(entry.value);
         } else if (entry.kind == Class::Bit) {
@@ -210,8 +214,13 @@ class Sheet {
 enum class Kind { Own, One, Work, Report };
 
 struct Tally {
-    uint64_t calls = 0, nanoseconds = 0, good = 0;
+    uint64_t calls = 0, good = 0, begun = UINT64_MAX, ended = 0;
 };
+
+uint64_t now() {
+    auto time = std::chrono::steady_clock::now().time_since_epoch();
+    return uint64_t(std::chrono::duration_cast<std::chrono::nanoseconds>(time).count());
+}
 
 // 256 calls of a process on each sheet: of `work` each is an edit of its own cell and a work on it, and of `report`, too, where
 // the first process reports
@@ -221,7 +230,7 @@ Tally run(Kind kind, std::vector<std::unique_ptr<Sheet>> &sheets, size_t process
     std::vector<uint64_t> values, marks;
     come++;
     while (come < threads) {}
-    auto start = std::chrono::steady_clock::now();
+    tally.begun = now();
     for (auto &sheet : sheets) {
         Sheet::Process mine(*sheet, process);
         for (size_t call = 0; call < RECORDS; call++) {
@@ -234,8 +243,7 @@ Tally run(Kind kind, std::vector<std::unique_ptr<Sheet>> &sheets, size_t process
             tally.calls++;
         }
     }
-    auto end = std::chrono::steady_clock::now();
-    tally.nanoseconds = uint64_t(std::chrono::duration_cast<std::chrono::nanoseconds>(end - start).count());
+    tally.ended = now();
     return tally;
 }
 
@@ -243,9 +251,9 @@ void print(const char *name, const std::vector<Tally> &tallies, size_t from, siz
     Tally all;
     for (size_t i = from; i < to; i++) {
         all.calls += tallies[i].calls, all.good += tallies[i].good;
-        all.nanoseconds = std::max(all.nanoseconds, tallies[i].nanoseconds);
+        all.begun = std::min(all.begun, tallies[i].begun), all.ended = std::max(all.ended, tallies[i].ended);
     }
-    if (to > from) std::printf("%s %llu %llu %llu\n", name, (unsigned long long)all.calls, (unsigned long long)all.nanoseconds, (unsigned long long)all.good);
+    if (to > from) std::printf("%s %llu %llu %llu\n", name, (unsigned long long)all.calls, (unsigned long long)(all.ended - all.begun), (unsigned long long)all.good);
 }
 
 } // namespace

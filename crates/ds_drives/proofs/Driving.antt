@@ -32,7 +32,7 @@ below layout Back h = tt
 pub some_words : (layout : Layout) → 0 < words_of layout
 some_words layout = (let n = number_of_below layout place.Version tt in omega arith)
 
-pub within : (layout : Layout) (count : ℕ) (a : Access ℕ) (x : List (BufferEntry ℕ)) → 0 < words_of layout → IsBelow (words_of layout) a → Serves layout a x → count ≡ 2 * words_of layout → word_of a (oldest_of x) < count
+pub within : (layout : Layout) (count : ℕ) (a : Access ℕ) (x : List (BufferEntry ℕ)) → 0 < words_of layout → IsBelow (words_of layout) a → Serves layout a x → count ≡ 8 * words_of layout → word_of a (oldest_of x) < count
 within layout count Nothing x some h s is = omega arith
 within layout count (Load n) x some h s is = omega arith
 within layout count (Store n v) x some h s is = omega arith

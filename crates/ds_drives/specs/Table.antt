@@ -1,4 +1,5 @@
--- The words of a sheet on a table: word n is the table's words 2n, its cached side, and 2n + 1, its persisted side.
+-- The words of a sheet on a table: word n is the table's words 8n, its cached side, and 8n + 1, its persisted side.
+-- What lies between serves nothing: so two words of the sheet are 64 bytes apart, and no two share a line of a cache.
 use Rattle.std.specs.Prelude.{ℕ, ◌+◌, ◌*◌, ◌<◌, ◌==◌, bit_or, List, [], ◌∷◌, ◌++◌, length, slice_index, Option, Some, None}
 use prog.Atomic.{either}
 use Rattle.ds_words.specs.declared.access.Class.{Class}
@@ -14,8 +15,8 @@ use Rattle.ds_layout.specs.Places.{class_of}
 -- the table's words as a memory, with these buffers
 abbrev pub two_sided : List ℕ → (ℕ → List (BufferEntry ℕ)) → Memory ℕ
 two_sided words buffer = record {
-  cached = λ n. slice_index words (2 * n);
-  persisted = λ n. slice_index words (2 * n + 1);
+  cached = λ n. slice_index words (8 * n);
+  persisted = λ n. slice_index words (8 * n + 1);
   buffer = buffer;
 }
 
@@ -32,13 +33,13 @@ rest_of (x ∷ rest) = rest
 -- the table's word that an access takes, with this oldest entry
 abbrev pub word_of : Access ℕ → Option (BufferEntry ℕ) → ℕ
 word_of Nothing oldest = 0
-word_of (Load n) oldest = 2 * n
-word_of (Store n value) oldest = 2 * n
-word_of (Or n bits) oldest = 2 * n
-word_of (SwapIf n expected value) oldest = 2 * n
-word_of (Flush n) oldest = 2 * n
+word_of (Load n) oldest = 8 * n
+word_of (Store n value) oldest = 8 * n
+word_of (Or n bits) oldest = 8 * n
+word_of (SwapIf n expected value) oldest = 8 * n
+word_of (Flush n) oldest = 8 * n
 word_of Back None = 0
-word_of Back (Some x) = 2 * x.place + 1
+word_of Back (Some x) = 8 * x.place + 1
 
 -- what it makes of that word
 abbrev pub change : Access ℕ → Option (BufferEntry ℕ) → ℕ → ℕ

@@ -27,7 +27,7 @@ pub(crate) fn drive<M: Machine, F: Fuse>(
     call: &mut M,
     fuse: &mut F,
 ) -> bool
-    requires table { (seat.old.table_id ≡ shared.now.table_id) × (shared.now.table_id.words ≡ 2 * words_of layout.now) × (shared.now.key.layout ≡ layout.now) }
+    requires table { (seat.old.table_id ≡ shared.now.table_id) × (shared.now.table_id.words ≡ 8 * words_of layout.now) × (shared.now.key.layout ≡ layout.now) }
     requires fits { M.rules.fits layout.now call.old }
     requires goes { M.rules.goes call.old }
     requires serves { IsServed M.rules layout.now call.old [] }

@@ -88,22 +88,22 @@ pub(crate) fn access<J: Landing, M>(
     let (_layout, _call, _buffer) = (layout, call, buffer);
     match want {
         Access::Nothing => shared.load::<Lands<J>>(seat, 0),
-        Access::Load(word) => shared.load::<Lands<J>>(seat, 2 * word),
+        Access::Load(word) => shared.load::<Lands<J>>(seat, 8 * word),
         Access::Store(word, value) => {
-            shared.store::<Lands<J>>(seat, 2 * word, value);
+            shared.store::<Lands<J>>(seat, 8 * word, value);
             value
         }
-        Access::Or(word, bits) => shared.fetch_or::<Lands<J>>(seat, 2 * word, bits),
+        Access::Or(word, bits) => shared.fetch_or::<Lands<J>>(seat, 8 * word, bits),
         Access::SwapIf {
             place: word,
             expected,
             value,
-        } => { shared.compare_exchange::<Lands<J>>(seat, 2 * word, expected, value) }
-        Access::Flush(word) => shared.load::<Lands<J>>(seat, 2 * word),
+        } => { shared.compare_exchange::<Lands<J>>(seat, 8 * word, expected, value) }
+        Access::Flush(word) => shared.load::<Lands<J>>(seat, 8 * word),
         Access::Back => match oldest {
             None => shared.load::<Lands<J>>(seat, 0),
             Some(entry) => {
-                let word = 2 * entry.place + 1;
+                let word = 8 * entry.place + 1;
                 match entry.class {
                     Class::Stamped => shared.fetch_max::<Lands<J>>(seat, word, entry.value),
                     Class::Bit => shared.fetch_or::<Lands<J>>(seat, word, entry.value),

@@ -5,7 +5,7 @@ ghost use Rattle.ds_pace.specs.declared.pace.TheConstants.{PROCESSES};
 
 use crate::gate::Gate;
 use crate::pace::{CALLS, PROCESSES, Pace, TEXTS, Task};
-use crate::tally::Tally;
+use crate::tally::{Tally, since};
 use ds_crew::ended::{Edited, Shown, Worked};
 use ds_crew::locked::LockedSheet;
 use ds_crew::pass::Pass;
@@ -13,6 +13,7 @@ use ds_formula::cells::{Cell, Shape};
 use ds_state::work::WorkEnd;
 use ds_state::world::World;
 use std::alloc::{AllocError, Global};
+use std::io;
 use std::marker::Brand;
 use std::sync::Wait;
 use std::sync::ledger::{Blank, Ledger};
@@ -76,16 +77,17 @@ fn run<L: Ledger, M: Ledger, R: Wait + Clock>(
     sheet: &LockedSheet<L, M>,
     gate: &Gate,
     pace: Pace,
+    start: &io::Result<Instant>,
     runner: &mut Runner<L, M>,
 ) {
     let task = pace.task(runner.process);
     gate.pass(pace.threads as u64);
-    let start = Instant::now(rt);
+    runner.tally.begun = since(rt, start);
     for number in 0..CALLS {
         let is_good = call(rt, alloc, sheet, &mut runner.pass, task, number);
         runner.tally.count(is_good);
     }
-    runner.tally.stop(rt, &start);
+    runner.tally.ended = since(rt, start);
 }
 
 // A new world of as many cells as processes.
@@ -95,59 +97,60 @@ fn new_world(alloc: Global) -> Option<World>
     World::new(alloc, Shape::new(PROCESSES, 1)?, PROCESSES).ok()
 }
 
-// The passes of so many processes, each with what its thread has counted before.
+// The passes of so many processes.
 fn runners<L: Ledger, M: Ledger>(
     alloc: Global,
     mut passes: Vec<Pass<L, M>>,
-    tallies: &[Tally],
+    threads: usize,
 ) -> Result<Vec<Runner<L, M>>, AllocError> {
     let mut runners = Vec::new(alloc);
-    for (process, tally) in tallies.iter().enumerate() {
+    for process in 0..threads {
         if let Some(pass) = passes.pop() {
+            let tally = Tally::new();
             runners.push(Runner {
                 process,
                 pass,
-                tally: *tally,
+                tally,
             })?;
         }
     }
     Ok(runners)
 }
 
-// The calls of all threads on a sheet: what they have counted then.
+// The calls of all threads on a sheet.
 fn run_all<L: Ledger + Send + Sync, M: Ledger + Send + Sync, R: Threads + Wait + Clock + Sync>(
     rt: &R,
     alloc: Global,
     sheet: &LockedSheet<L, M>,
     mut runners: Vec<Runner<L, M>>,
     pace: Pace,
-) -> Result<Vec<Tally>, AllocError>
+) -> Result<(Tally, Tally), AllocError>
     requires { 0 < pace.threads }
 {
     let gate = Gate::new();
+    let start = Instant::now(rt);
     for_each_mut(
         rt,
         runners.as_mut_slice(),
         pace.threads,
-        &|_place, runner| run(rt, alloc, sheet, &gate, pace, runner),
+        &|_place, runner| run(rt, alloc, sheet, &gate, pace, &start, runner),
     );
     let mut tallies = Vec::new(alloc);
     for runner in &runners {
         tallies.push(runner.tally)?;
     }
-    Ok(tallies)
+    Ok(pace.split(&tallies))
 }
 
-// The calls of all threads on a new sheet: what they have counted then, or before, where memory is wanting.
+// The calls of all threads on a new sheet, or none where memory is wanting.
 fn once<L: Ledger + Send + Sync, M: Ledger + Send + Sync, R: Threads + Wait + Clock + Sync>(
     rt: &R,
     alloc: Global,
     world: World,
     dones: Blank,
     settleds: Blank,
-    tallies: Vec<Tally>,
     pace: Pace,
-) -> Result<Vec<Tally>, AllocError>
+) -> Result<(Tally, Tally), AllocError>
     requires names { (dones.name ≡ L.name) × (settleds.name ≡ M.name) }
     requires parts { (dones.parts ≡ L.parts) × (settleds.parts ≡ M.parts) }
     requires processes { (L.parts ≡ world.sheet.layout.processes) × (M.parts ≡ world.sheet.layout.processes) }
@@ -155,27 +158,29 @@ fn once<L: Ledger + Send + Sync, M: Ledger + Send + Sync, R: Threads + Wait + Cl
 {
     match LockedSheet::<L, M>::make(alloc, world, dones, settleds) {
         Ok((sheet, passes)) => {
-            let runners = runners(alloc, passes, &tallies)?;
+            let runners = runners(alloc, passes, pace.threads)?;
             run_all(rt, alloc, &sheet, runners, pace)
         }
-        Err(_unmade) => Ok(tallies),
+        Err(_unmade) => Ok((Tally::new(), Tally::new())),
     }
 }
 
-/// What each thread counts.
+/// What the threads that report have counted, and the others.
 pub fn measure<R: Threads + Wait + Clock + Sync>(
     rt: &R,
     alloc: Global,
     pace: Pace,
-) -> Result<Vec<Tally>, AllocError>
+) -> Result<(Tally, Tally), AllocError>
     requires { 0 < pace.threads }
 {
-    let mut tallies = vec![in alloc; Tally::new(); pace.threads]?;
+    let (mut reports, mut edits) = (Tally::new(), Tally::new());
     for _ in 0..pace.sheets {
         if let Some(world) = new_world(alloc) {
             let (dones, settleds) = (Blank::new(PROCESSES as u64), Blank::new(PROCESSES as u64));
-            tallies = once::<Brand, Brand, R>(rt, alloc, world, dones, settleds, tallies, pace)?;
+            let more = once::<Brand, Brand, R>(rt, alloc, world, dones, settleds, pace)?;
+            reports = reports.and(more.0);
+            edits = edits.and(more.1);
         }
     }
-    Ok(tallies)
+    Ok((reports, edits))
 }

@@ -23,12 +23,12 @@ fn asked<R: Env + Alloc<A = Global>>(rt: &R) -> io::Result<Option<Pace>> {
     Ok(pace_of(&words))
 }
 
-// What each thread counts.
+// What the threads that report have counted, and the others.
 fn measure<R: Threads + Wait + Clock + Sync>(
     rt: &R,
     alloc: Global,
     pace: Pace,
-) -> Result<Vec<Tally>, AllocError> {
+) -> Result<(Tally, Tally), AllocError> {
     match pace.beneath {
         Beneath::Shared => shared::measure(rt, alloc, pace),
         Beneath::Locked => locked::measure(rt, alloc, pace),
@@ -40,14 +40,18 @@ fn main(rt: HostRuntime) -> io::Result<ExitCode> {
         println!(rt; "usage: ds_pace shared|locked own|one|work|report THREADS SHEETS")?;
         return Ok(ExitCode::SUCCESS);
     };
-    let tallies = measure(&rt, rt.alloc(), pace)?;
-    let reports = pace.reporters().min(tallies.len());
-    let (reports, edits) = tallies.split_at(reports);
-    if !reports.is_empty() {
-        println!(rt; "reports {}", Tally::of(reports))?;
-    }
-    if !edits.is_empty() {
-        println!(rt; "edits {}", Tally::of(edits))?;
-    }
+    let (reports, edits) = measure(&rt, rt.alloc(), pace)?;
+    println!(rt;
+        "reports {} {} {}",
+        reports.calls,
+        reports.nanoseconds(),
+        reports.good
+    )?;
+    println!(rt;
+        "edits {} {} {}",
+        edits.calls,
+        edits.nanoseconds(),
+        edits.good
+    )?;
     Ok(ExitCode::SUCCESS)
 }

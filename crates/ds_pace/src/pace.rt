@@ -2,8 +2,10 @@
 
 ghost use Rattle.std.specs.Prelude.{◌<◌};
 
+use crate::tally::Tally;
+
 /// What the calls stand on.
-#[derive(Clone, Copy, Debug, PartialEq, Eq)]
+#[derive(Clone, Copy)]
 pub enum Beneath {
     /// A shared sheet.
     Shared,
@@ -12,7 +14,7 @@ pub enum Beneath {
 }
 
 /// Which calls are made.
-#[derive(Clone, Copy, Debug, PartialEq, Eq)]
+#[derive(Clone, Copy)]
 pub enum Kind {
     /// Each process edits a cell of its own.
     Own,
@@ -25,7 +27,7 @@ pub enum Kind {
 }
 
 /// What is measured: so many threads, at least one, make 256 calls each on each of so many sheets.
-#[derive(Clone, Copy, Debug, PartialEq, Eq)]
+#[derive(Clone, Copy)]
 pub struct Pace {
     /// What the calls stand on.
     pub beneath: Beneath,
@@ -39,7 +41,7 @@ pub struct Pace {
 }
 
 /// What a call of a process is.
-#[derive(Clone, Copy, Debug, PartialEq, Eq)]
+#[derive(Clone, Copy)]
 pub enum Task {
     /// An edit of the cell in this column.
     Edit(usize),
@@ -59,12 +61,14 @@ pub const CALLS: usize = 256;
 pub const TEXTS: [&str; 2] = ["1234", "5678"];
 
 impl Pace {
-    /// How many of the threads report: the first one, or none.
-    pub fn reporters(self) -> usize {
-        match self.kind {
-            Kind::Report => 1,
+    /// What the threads that report have counted, the first one or none, and the others.
+    pub fn split(self, tallies: &[Tally]) -> (Tally, Tally) {
+        let reporters = match self.kind {
+            Kind::Report => tallies.len().min(1),
             _ => 0,
-        }
+        };
+        let (reports, edits) = tallies.split_at(reporters);
+        (Tally::of(reports), Tally::of(edits))
     }
 
     /// What the process with this number does.

@@ -6,7 +6,7 @@ ghost use Rattle.ds_shared.specs.Answers.{IsOf};
 
 use crate::gate::Gate;
 use crate::pace::{CALLS, PROCESSES, Pace, TEXTS, Task};
-use crate::tally::Tally;
+use crate::tally::{Tally, since};
 use ds_drives::fuse::Whole;
 use ds_edit::answer::Answer;
 use ds_formula::cells::{Cell, Shape};
@@ -15,6 +15,7 @@ use ds_shared::ended::Ended;
 use ds_shared::pass::Pass;
 use ds_shared::sheet::SharedSheet;
 use std::alloc::{AllocError, Global};
+use std::io;
 use std::sync::Arc;
 use std::thread::{Threads, map_vec};
 use std::time::{Clock, Instant};
@@ -78,20 +79,32 @@ impl Seat {
             Task::Report => self.report(alloc),
         }
     }
+
+    // All calls of a task.
+    fn play(&mut self, alloc: Global, task: Task, tally: &mut Tally) {
+        for number in 0..CALLS {
+            tally.count(self.call(alloc, task, number));
+        }
+    }
 }
 
 // The calls of a thread, when all have come.
-fn run<R: Clock>(rt: &R, alloc: Global, mut runner: Runner, pace: Pace, gate: &Gate) -> Tally {
+fn run<R: Clock>(
+    rt: &R,
+    alloc: Global,
+    mut runner: Runner,
+    pace: Pace,
+    gate: &Gate,
+    start: &io::Result<Instant>,
+) -> Tally {
     let task = pace.task(runner.process);
     let mut tally = Tally::new();
     gate.pass(pace.threads as u64);
-    let start = Instant::now(rt);
+    tally.begun = since(rt, start);
     for seat in &mut runner.seats {
-        for number in 0..CALLS {
-            tally.count(seat.call(alloc, task, number));
-        }
+        seat.play(alloc, task, &mut tally);
     }
-    tally.stop(rt, &start);
+    tally.ended = since(rt, start);
     tally
 }
 
@@ -104,6 +117,21 @@ fn opened(alloc: Global) -> Option<(SharedSheet, Vec<Pass, Global>)>
     Some((sheet, passes))
 }
 
+// The last pass, beside its sheet.
+fn last(
+    sheet: &Arc<SharedSheet, Global>,
+    passes: &mut Vec<Pass, Global>,
+) -> Result<Option<Seat>, AllocError>
+    requires { All (λ p. IsOf (arc_value sheet.now) p) passes.old.items }
+    ensures { All (λ p. IsOf (arc_value sheet.now) p) passes.new.items }
+{
+    let Some(pass) = passes.pop() else {
+        return Ok(None);
+    };
+    let sheet = Arc::try_clone(sheet)?;
+    Ok(Some(Seat { sheet, pass }))
+}
+
 // A new sheet, one pass of which goes to each thread.
 fn deal(alloc: Global, runners: &mut Vec<Runner>) -> Result<(), AllocError> {
     let Some((sheet, mut passes)) = opened(alloc) else {
@@ -111,9 +139,8 @@ fn deal(alloc: Global, runners: &mut Vec<Runner>) -> Result<(), AllocError> {
     };
     let sheet = Arc::new(alloc, sheet)?;
     for runner in runners {
-        if let Some(pass) = passes.pop() {
-            let sheet = Arc::try_clone(&sheet)?;
-            runner.seats.push(Seat { sheet, pass })?;
+        if let Some(seat) = last(&sheet, &mut passes)? {
+            runner.seats.push(seat)?;
         }
     }
     Ok(())
@@ -131,16 +158,22 @@ fn runners(alloc: Global, threads: usize) -> Result<Vec<Runner>, AllocError> {
     Ok(runners)
 }
 
-/// What each thread counts.
+/// What the threads that report have counted, and the others.
 pub fn measure<R: Threads + Clock + Sync>(
     rt: &R,
     alloc: Global,
     pace: Pace,
-) -> Result<Vec<Tally>, AllocError> {
+) -> Result<(Tally, Tally), AllocError> {
     let mut runners = runners(alloc, pace.threads)?;
     for _ in 0..pace.sheets {
         deal(alloc, &mut runners)?;
     }
     let gate = Gate::new();
-    map_vec(rt, runners, &|runner| run(rt, alloc, runner, pace, &gate))
+    let start = Instant::now(rt);
+    let tallies = map_vec(
+        rt,
+        runners,
+        &|runner| run(rt, alloc, runner, pace, &gate, &start),
+    )?;
+    Ok(pace.split(&tallies))
 }

@@ -1,17 +1,31 @@
-//! How many calls there were, and how long they took.
+//! How many calls there were, and when.
 
+use std::io;
 use std::time::{Clock, Instant};
-use std::{fmt, io};
 
-/// How many calls there were, how many ended well, and how long the slowest thread took.
-#[derive(Clone, Copy, Debug, PartialEq, Eq)]
+/// Calls of a thread, or of threads that ran beside each other: how many there were, how many ended well, and from when to
+/// when they ran, in nanoseconds since the program began.
+#[derive(Clone, Copy)]
 pub struct Tally {
     /// How many calls there were.
     pub calls: u64,
     /// How many of them ended as they do where nobody is in the way.
     pub good: u64,
-    /// How many nanoseconds they took.
-    pub nanoseconds: u64,
+    /// When the first one began.
+    pub begun: u64,
+    /// When the last one ended.
+    pub ended: u64,
+}
+
+/// The nanoseconds since then, or 0 where the clock has failed.
+pub fn since<R: Clock>(rt: &R, start: &io::Result<Instant>) -> u64 {
+    match start {
+        Ok(start) => match start.elapsed(rt) {
+            Ok(time) => u64::try_from(time.as_nanos()).unwrap_or(u64::MAX),
+            Err(_) => 0,
+        },
+        Err(_) => 0,
+    }
 }
 
 impl Tally {
@@ -20,43 +34,41 @@ impl Tally {
         Tally {
             calls: 0,
             good: 0,
-            nanoseconds: 0,
+            begun: u64::MAX,
+            ended: 0,
         }
     }
 
     /// A call has ended.
     pub fn count(&mut self, is_good: bool) {
         self.calls = self.calls.wrapping_add(1);
-        if is_good {
-            self.good = self.good.wrapping_add(1);
-        }
+        self.good = self.good.wrapping_add(is_good as u64);
     }
 
-    /// Adds the time since the instant, in nanoseconds.
-    pub fn stop<R: Clock>(&mut self, rt: &R, start: &io::Result<Instant>) {
-        if let Ok(start) = start {
-            if let Ok(time) = start.elapsed(rt) {
-                let more = u64::try_from(time.as_nanos()).unwrap_or(u64::MAX);
-                self.nanoseconds = self.nanoseconds.wrapping_add(more);
-            }
-        }
-    }
-
-    /// The calls of threads that ran beside each other: all of them, in the time of the slowest thread.
+    /// The calls of all these threads, which ran beside each other.
     pub fn of(tallies: &[Tally]) -> Tally {
         let mut all = Tally::new();
         for tally in tallies {
             all.calls = all.calls.wrapping_add(tally.calls);
             all.good = all.good.wrapping_add(tally.good);
-            all.nanoseconds = all.nanoseconds.max(tally.nanoseconds);
+            all.begun = all.begun.min(tally.begun);
+            all.ended = all.ended.max(tally.ended);
         }
         all
     }
-}
 
-impl fmt::Display for Tally {
-    fn fmt<W: fmt::Write>(&self, f: &mut fmt::Formatter<W>) -> fmt::Result {
-        let (calls, nanoseconds, good) = (self.calls, self.nanoseconds, self.good);
-        write!(f, "{calls} {nanoseconds} {good}")
+    /// These calls, and others that ran at another time.
+    pub fn and(self, other: Tally) -> Tally {
+        Tally {
+            calls: self.calls.wrapping_add(other.calls),
+            good: self.good.wrapping_add(other.good),
+            begun: 0,
+            ended: self.nanoseconds().wrapping_add(other.nanoseconds()),
+        }
+    }
+
+    /// How many nanoseconds they took.
+    pub fn nanoseconds(self) -> u64 {
+        self.ended.saturating_sub(self.begun)
     }
 }
