@@ -111,7 +111,7 @@ module _ (layout : Layout) where
   kept_back words access x = buffer_after (class_in layout) (access_at layout access) x (read words access x)
 
   -- the table has what the access takes
-  there : (words : List ℕ) (b : Behind) (p : ℕ) (access : Access Place) → length words ≡ 2 * words_of layout → CanPerform layout (memory_at layout (two_sided words b.buffer)) p access
+  there : (words : List ℕ) (b : Behind) (p : ℕ) (access : Access Place) → length words ≡ 8 * words_of layout → CanPerform layout (memory_at layout (two_sided words b.buffer)) p access
       → (x : List (BufferEntry ℕ)) → b.buffer p ≡ x → IsThere words (access_at layout access) x
   there words b p Nothing long can x same = tt
   there words b p (Load r) long can x same = (let l = number_of_below layout r can.0 in omega arith)
@@ -128,7 +128,7 @@ module _ (layout : Layout) where
       let k = word_there y (subst (λ (z : BufferEntry Place). IsPlace layout z.place) one can.1.1.there) in
       omega arith
 
-  pub performed : (words : List ℕ) (b : Behind) (p : ℕ) (access : Access Place) (x : List (BufferEntry ℕ)) → length words ≡ 2 * words_of layout → CanPerform layout (memory_at layout (two_sided words b.buffer)) p access → b.buffer p ≡ x
+  pub performed : (words : List ℕ) (b : Behind) (p : ℕ) (access : Access Place) (x : List (BufferEntry ℕ)) → length words ≡ 8 * words_of layout → CanPerform layout (memory_at layout (two_sided words b.buffer)) p access → b.buffer p ≡ x
       → PerformsAt access p (memory_at layout (two_sided words b.buffer)) (memory_at layout (two_sided (written words access x) (put b.buffer p (kept_back words access x)))) (answered words access x)
   performed words b p access x long can same =
       performs_at layout (two_sided words b.buffer) (two_sided (written words access x) (put b.buffer p (kept_back words access x)))

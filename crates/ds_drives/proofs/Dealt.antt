@@ -184,7 +184,7 @@ zeros (suc n) (suc i) = zeros n i
 
 -- a table opens with a sound world in which each process of the sheet does the same, and has flushed nothing, and what
 -- was told before is true of it
-pub opens : {S : Type 0} (layout : Layout) (words : List ℕ) (b : Behind) (stopped : Bool) (past : List Seated) → IsSound (world_on layout words b) → HaveMiddles (world_on layout words b) → length words ≡ 2 * words_of layout
+pub opens : {S : Type 0} (layout : Layout) (words : List ℕ) (b : Behind) (stopped : Bool) (past : List Seated) → IsSound (world_on layout words b) → HaveMiddles (world_on layout words b) → length words ≡ 8 * words_of layout
     → ((p : ℕ) → p < layout.processes → b.situation p ≡ first_now stopped) → ((p : ℕ) → p < layout.processes → b.buffer p ≡ []) → AreTrue layout words b past
     → Ruled {S = S} layout (opening words [] (first_view stopped layout.processes past))
 opens layout words b stopped past sound middles long now buffer true_then = record {
@@ -221,12 +221,12 @@ opens layout words b stopped past sound middles long now buffer true_then = reco
 blank : Behind
 blank = record { situation = λ p. Idle 0; buffer = λ p. []; counted = []; open_edits = λ p. None }
 
-pub opens_new : {S : Type 0} (layout : Layout) (count : ℕ) → count ≡ 2 * words_of layout → Ruled {S = S} layout (opening (replicate count 0) [] (first_view false layout.processes []))
+pub opens_new : {S : Type 0} (layout : Layout) (count : ℕ) → count ≡ 8 * words_of layout → Ruled {S = S} layout (opening (replicate count 0) [] (first_view false layout.processes []))
 unfolding blank
 opens_new layout count is =
     let fresh : IsFresh (two_sided (replicate count 0) blank.buffer) = record {
-      cached = λ n. zeros count (2 * n);
-      persisted = λ n. zeros count (2 * n + 1);
+      cached = λ n. zeros count (8 * n);
+      persisted = λ n. zeros count (8 * n + 1);
       buffer = λ q. refl;
     } in
     let w : PlainWorld = world_on layout (replicate count 0) blank in

@@ -1,5 +1,5 @@
 -- The words of an access lie on the table.
-use Rattle.std.proofs.Common.{ℕ, ◌≡◌, ◌+◌, ◌*◌, ◌<◌, List, [], ◌∷◌, arith, refl, sym, ap, subst, ◌∙◌}
+use Rattle.std.proofs.Common.{ℕ, ◌≡◌, ◌+◌, ◌*◌, ◌<◌, List, [], ◌∷◌, ◌++◌, arith, refl, sym, ap, subst, ◌∙◌}
 use Rattle.atomic_table.specs.Table.{Me}
 use Rattle.ds_words.specs.declared.access.BufferEntry.{BufferEntry}
 use Rattle.ds_words.specs.declared.access.Access.{Access}
@@ -7,17 +7,17 @@ use Rattle.ds_words.specs.declared.access.Access.TheVariants.{Nothing, Load, Sto
 use Rattle.ds_layout.specs.declared.layout.Layout.{Layout}
 use Rattle.ds_layout.specs.declared.place.Place.{Place}
 use Rattle.ds_layout.specs.declared.place.Place.TheVariants as place
-use Rattle.ds_layout.specs.Places.{words_of}
+use Rattle.ds_layout.specs.Places.{words_of, number_of, class_of}
 use Rattle.ds_layout.specs.SheetMemory.{access_at, NamesPlace}
-use Rattle.ds_layout.proofs.Places.{number_of_below}
-use Rattle.ds_drives.specs.Table.{word_of, oldest_of, HasRoom, IsBelow}
+use Rattle.ds_layout.proofs.Places.{number_of_below, place_of-number_of}
+use Rattle.ds_drives.specs.Table.{word_of, oldest_of, buffer_after, class_flushed, HasRoom, IsBelow}
 use Rattle.ds_state.specs.declared.situation.Situation.{Situation}
 use Rattle.ds_drives.specs.declared.board.Deeds.{Deeds}
 use Rattle.ds_drives.specs.declared.board.Seated.{Seated}
 use Rattle.ds_drives.specs.declared.board.View.{View}
 use Rattle.ds_drives.specs.Fuses.{Asked}
 use Rattle.ds_drives.specs.Views.{lone, steps_later, deeds_at}
-use Rattle.ds_drives.specs.Rule.{Serves, Ready, Poised}
+use Rattle.ds_drives.specs.Rule.{Serves, Ready, Poised, class_in}
 
 -- the words of an access lie on the table, and a flush finds room
 pub below : (layout : Layout) (a : Access Place) → NamesPlace layout a → IsBelow (words_of layout) (access_at layout a)
@@ -32,7 +32,7 @@ below layout Back h = tt
 pub some_words : (layout : Layout) → 0 < words_of layout
 some_words layout = (let n = number_of_below layout place.Version tt in omega arith)
 
-pub within : (layout : Layout) (count : ℕ) (a : Access ℕ) (x : List (BufferEntry ℕ)) → 0 < words_of layout → IsBelow (words_of layout) a → Serves layout a x → count ≡ 2 * words_of layout → word_of a (oldest_of x) < count
+pub within : (layout : Layout) (count : ℕ) (a : Access ℕ) (x : List (BufferEntry ℕ)) → 0 < words_of layout → IsBelow (words_of layout) a → Serves layout a x → count ≡ 8 * words_of layout → word_of a (oldest_of x) < count
 within layout count Nothing x some h s is = omega arith
 within layout count (Load n) x some h s is = omega arith
 within layout count (Store n v) x some h s is = omega arith
@@ -85,3 +85,15 @@ asked_also said f g h a b c d one two first y n k = let p : y + a + c ≡ y + (a
 
 pub asked_stop : {F : Type 0} (said : F → F → ℕ → ℕ → Type 0) (f g h : F) (n : ℕ) → Asked said f g n 0 → Asked said g h 0 1 → Asked said f h n 1
 asked_stop said f g h n one two first y m k = let p : y + n + 0 ≡ y + n = omega arith in let q : m + 0 + 1 ≡ m + 1 = omega arith in subst (λ (z : ℕ × ℕ). said first h z.0 z.1) (λ i. (p i, q i)) (two first (y + n) (m + 0) (one first y m k))
+
+-- the class of the place that an access flushes is that of its word
+pub flushed_in : (layout : Layout) (a : Access Place) (buffer : List (BufferEntry ℕ)) (found : ℕ) → NamesPlace layout a
+    → buffer_after (λ n. class_flushed a) (access_at layout a) buffer found ≡ buffer_after (class_in layout) (access_at layout a) buffer found
+flushed_in layout Nothing buffer found h = refl
+flushed_in layout (Load p) buffer found h = refl
+flushed_in layout (Store p value) buffer found h = refl
+flushed_in layout (Or p bits) buffer found h = refl
+flushed_in layout (SwapIf p expected value) buffer found h = refl
+flushed_in layout (Flush p) buffer found h =
+    ap (λ (r : Place). buffer ++ (let e : BufferEntry ℕ = record { place = number_of layout p; class = class_of r; value = found } in e) ∷ []) (sym (place_of-number_of layout p h))
+flushed_in layout Back buffer found h = refl

@@ -61,7 +61,7 @@ true_told w e since Done h = h
 true_told w e since (Overtaken noted seen) h = h.0
 
 module _ (layout : Layout) where
-  module _ (words : List ℕ) (b : Behind) (e : PlainEditCall) (x : List (BufferEntry ℕ)) (long : length words ≡ 2 * words_of layout)
+  module _ (words : List ℕ) (b : Behind) (e : PlainEditCall) (x : List (BufferEntry ℕ)) (long : length words ≡ 8 * words_of layout)
       (sound : IsSound (world_on layout words b)) (low : e.process < layout.processes) (at : b.situation e.process ≡ Editing e) (same : b.buffer e.process ≡ x) where
     abbrev word : ℕ
     word = answered layout words (edit_steps.access_at e e.stage) x

@@ -68,7 +68,7 @@ turns_to layout s h b id i n e e' at after own told_now calls_now = let mine : F
 
 module _ {C : Type 0} (r : Rules C) (layout : Layout)
     (same : (c : C) (n : ℕ) → r.process (r.next c n) ≡ r.process c)
-    (step : (words : List ℕ) (b : Behind) (c : C) (x : List (BufferEntry ℕ)) → length words ≡ 2 * words_of layout → IsSound (world_on layout words b) → r.process c < layout.processes
+    (step : (words : List ℕ) (b : Behind) (c : C) (x : List (BufferEntry ℕ)) → length words ≡ 8 * words_of layout → IsSound (world_on layout words b) → r.process c < layout.processes
     → b.situation (r.process c) ≡ r.doing c → b.buffer (r.process c) ≡ x → r.fits layout c → r.goes c
     → (b' : Behind) × After layout words (written layout words (r.access layout c) x) b b' (r.process c) (r.doing (r.next c (answered layout words (r.access layout c) x))) (kept_back layout words (r.access layout c) x))
     (turn : (words : List ℕ) (b : Behind) (c d : C) (x : List (BufferEntry ℕ)) → IsSound (world_on layout words b) → r.process c < layout.processes → b.situation (r.process c) ≡ r.doing c → b.buffer (r.process c) ≡ x → r.turns layout c d

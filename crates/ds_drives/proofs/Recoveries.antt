@@ -162,7 +162,7 @@ recalls e (Some k) w held fits told = λ d ended here. let t = told (Edited d en
     at_most n false spent there t = let is = t.is in omega (arith, spent, there, is)
 
 module _ (layout : Layout) where
-  module _ (words : List ℕ) (b : Behind) (e : PlainRecoverCall) (x : List (BufferEntry ℕ)) (long : length words ≡ 2 * words_of layout)
+  module _ (words : List ℕ) (b : Behind) (e : PlainRecoverCall) (x : List (BufferEntry ℕ)) (long : length words ≡ 8 * words_of layout)
       (sound : IsSound (world_on layout words b)) (low : e.process < layout.processes) (at : b.situation e.process ≡ Recovering e) (same : b.buffer e.process ≡ x) where
     abbrev word : ℕ
     word = answered layout words (recovery.access_at e e.stage) x

@@ -73,7 +73,7 @@ next_same e (AgainAnnounce i) word = same_if e (word == noted e.announcements i)
 next_same e (Answer end) word = same _ _ refl refl refl refl
 
 module _ (layout : Layout) where
-  module _ (words : List ℕ) (b : Behind) (e : PlainShowCall) (x : List (BufferEntry ℕ)) (long : length words ≡ 2 * words_of layout)
+  module _ (words : List ℕ) (b : Behind) (e : PlainShowCall) (x : List (BufferEntry ℕ)) (long : length words ≡ 8 * words_of layout)
       (sound : IsSound (world_on layout words b)) (low : e.process < layout.processes) (is : b.situation e.process ≡ Showing e) (same : b.buffer e.process ≡ x) where
     abbrev word : ℕ
     word = answered layout words (report.access_at e.stage) x

@@ -24,13 +24,13 @@ put_same f p x e q = dite (ℕ_discrete q p) (λ h. put_here f p x q h ∙ (sym 
 -- the table has the word that the access takes, and a write-back has an entry
 abbrev pub IsThere : List ℕ → Access ℕ → List (BufferEntry ℕ) → Type 0
 IsThere words Nothing b = Unit {0}
-IsThere words (Load n) b = 2 * n + 1 < length words
-IsThere words (Store n v) b = 2 * n + 1 < length words
-IsThere words (Or n k) b = 2 * n + 1 < length words
-IsThere words (SwapIf n o v) b = 2 * n + 1 < length words
-IsThere words (Flush n) b = 2 * n + 1 < length words
+IsThere words (Load n) b = 8 * n + 1 < length words
+IsThere words (Store n v) b = 8 * n + 1 < length words
+IsThere words (Or n k) b = 8 * n + 1 < length words
+IsThere words (SwapIf n o v) b = 8 * n + 1 < length words
+IsThere words (Flush n) b = 8 * n + 1 < length words
 IsThere words Back [] = ⊥
-IsThere words Back (x ∷ b) = 2 * x.place + 1 < length words
+IsThere words Back (x ∷ b) = 8 * x.place + 1 < length words
 
 -- what the step tells gives the same answer and the same buffer
 pub answer_told : (a : Access ℕ) (b : List (BufferEntry ℕ)) (n : ℕ) → answer a (told a (oldest_of b) n) ≡ answer a n
@@ -67,41 +67,41 @@ module _ (classes : ℕ → Class) (p : ℕ) (words : List ℕ) (buffers : ℕ �
   -- the words stay, and the buffer too
   same_words : (i : ℕ) (b : List (BufferEntry ℕ)) → buffers p ≡ b → SameMemory (two_sided words buffers) (two_sided (set words i (get_or words i 0)) (put buffers p b))
   same_words i b same = record {
-    cached = λ r. ap (λ (ws : List ℕ). get_or ws (2 * r) 0) (set-get_or words i 0);
-    persisted = λ r. ap (λ (ws : List ℕ). get_or ws (2 * r + 1) 0) (set-get_or words i 0);
+    cached = λ r. ap (λ (ws : List ℕ). get_or ws (8 * r) 0) (set-get_or words i 0);
+    persisted = λ r. ap (λ (ws : List ℕ). get_or ws (8 * r + 1) 0) (set-get_or words i 0);
     buffer = put_same buffers p b same;
   }
 
   -- a cached side becomes the value
-  stores : (n v : ℕ) (b : List (BufferEntry ℕ)) → 2 * n + 1 < length words → buffers p ≡ b → StoresAt n v (two_sided words buffers) (two_sided (set words (2 * n) v) (put buffers p b))
+  stores : (n v : ℕ) (b : List (BufferEntry ℕ)) → 8 * n + 1 < length words → buffers p ≡ b → StoresAt n v (two_sided words buffers) (two_sided (set words (8 * n) v) (put buffers p b))
   stores n v b there same = record {
-    there = get_or-set_same words (2 * n) v 0 (omega arith);
-    elsewhere = λ r ne. get_or-set_other words (2 * n) (2 * r) v 0 (λ e. ne (omega arith));
-    persisted = λ r. get_or-set_other words (2 * n) (2 * r + 1) v 0 (λ e. omega arith);
+    there = get_or-set_same words (8 * n) v 0 (omega arith);
+    elsewhere = λ r ne. get_or-set_other words (8 * n) (8 * r) v 0 (λ e. ne (omega arith));
+    persisted = λ r. get_or-set_other words (8 * n) (8 * r + 1) v 0 (λ e. omega arith);
     buffer = put_same buffers p b same;
   }
 
-  swaps : (n o v : ℕ) (b : List (BufferEntry ℕ)) → 2 * n + 1 < length words → buffers p ≡ b
-      → SwapsAt n o v (get_or words (2 * n) 0) (two_sided words buffers) (two_sided (set words (2 * n) (either (eqb (get_or words (2 * n) 0) o) v (get_or words (2 * n) 0))) (put buffers p b))
+  swaps : (n o v : ℕ) (b : List (BufferEntry ℕ)) → 8 * n + 1 < length words → buffers p ≡ b
+      → SwapsAt n o v (get_or words (8 * n) 0) (two_sided words buffers) (two_sided (set words (8 * n) (either (eqb (get_or words (8 * n) 0) o) v (get_or words (8 * n) 0))) (put buffers p b))
   swaps n o v b there same = (
     refl,
-    dite (ℕ_discrete (get_or words (2 * n) 0) o)
-        (λ e. inl (e, subst (λ (t : Bool). StoresAt n v (two_sided words buffers) (two_sided (set words (2 * n) (either t v (get_or words (2 * n) 0))) (put buffers p b))) (sym (eq-eqb (get_or words (2 * n) 0) o e)) (stores n v b there same)))
-        (λ ne. inr (ne, subst (λ (t : Bool). SameMemory (two_sided words buffers) (two_sided (set words (2 * n) (either t v (get_or words (2 * n) 0))) (put buffers p b))) (sym (ne_eqb (get_or words (2 * n) 0) o ne)) (same_words (2 * n) b same))),
+    dite (ℕ_discrete (get_or words (8 * n) 0) o)
+        (λ e. inl (e, subst (λ (t : Bool). StoresAt n v (two_sided words buffers) (two_sided (set words (8 * n) (either t v (get_or words (8 * n) 0))) (put buffers p b))) (sym (eq-eqb (get_or words (8 * n) 0) o e)) (stores n v b there same)))
+        (λ ne. inr (ne, subst (λ (t : Bool). SameMemory (two_sided words buffers) (two_sided (set words (8 * n) (either t v (get_or words (8 * n) 0))) (put buffers p b))) (sym (ne_eqb (get_or words (8 * n) 0) o ne)) (same_words (8 * n) b same))),
   )
 
   pub performs : (a : Access ℕ) (b : List (BufferEntry ℕ)) → buffers p ≡ b → IsThere words a b → Performs classes a p (two_sided words buffers) (new_memory a b) (answer a (now a b))
   performs Nothing b same there = (refl, same_words 0 b same)
-  performs (Load n) b same there = (refl, same_words (2 * n) b same)
+  performs (Load n) b same there = (refl, same_words (8 * n) b same)
   performs (Store n v) b same there = (refl, stores n v b there same)
-  performs (Or n k) b same there = (refl, stores n (bit_or (get_or words (2 * n) 0) k) b there same)
+  performs (Or n k) b same there = (refl, stores n (bit_or (get_or words (8 * n) 0) k) b there same)
   performs (SwapIf n o v) b same there = swaps n o v b there same
   performs (Flush n) b same there = (
     refl,
     record {
-      cached = λ r. ap (λ (ws : List ℕ). get_or ws (2 * r) 0) (set-get_or words (2 * n) 0);
-      persisted = λ r. ap (λ (ws : List ℕ). get_or ws (2 * r + 1) 0) (set-get_or words (2 * n) 0);
-      mine = put_here buffers p _ p refl ∙ ap (λ (l : List (BufferEntry ℕ)). l ++ (let x : BufferEntry ℕ = record { place = n; class = classes n; value = get_or words (2 * n) 0 } in x) ∷ []) (sym same);
+      cached = λ r. ap (λ (ws : List ℕ). get_or ws (8 * r) 0) (set-get_or words (8 * n) 0);
+      persisted = λ r. ap (λ (ws : List ℕ). get_or ws (8 * r + 1) 0) (set-get_or words (8 * n) 0);
+      mine = put_here buffers p _ p refl ∙ ap (λ (l : List (BufferEntry ℕ)). l ++ (let x : BufferEntry ℕ = record { place = n; class = classes n; value = get_or words (8 * n) 0 } in x) ∷ []) (sym same);
       others = λ q ne. put_else buffers p _ q ne;
     },
   )
@@ -113,9 +113,9 @@ module _ (classes : ℕ → Class) (p : ℕ) (words : List ℕ) (buffers : ℕ �
       b,
       record {
         oldest = same;
-        cached = λ r. get_or-set_other words (2 * x.place + 1) (2 * r) _ 0 (λ e. omega arith);
-        there = get_or-set_same words (2 * x.place + 1) _ 0 there;
-        elsewhere = λ r ne. get_or-set_other words (2 * x.place + 1) (2 * r + 1) _ 0 (λ e. ne (omega arith));
+        cached = λ r. get_or-set_other words (8 * x.place + 1) (8 * r) _ 0 (λ e. omega arith);
+        there = get_or-set_same words (8 * x.place + 1) _ 0 there;
+        elsewhere = λ r ne. get_or-set_other words (8 * x.place + 1) (8 * r + 1) _ 0 (λ e. ne (omega arith));
         mine = put_here buffers p b p refl;
         others = λ q ne. put_else buffers p b q ne;
       },

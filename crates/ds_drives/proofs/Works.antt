@@ -82,7 +82,7 @@ reading_process shape e f (inl h) = ap (λ (z : PlainWorkCall). z.process) h.aft
 reading_process shape e f (inr h) = ap (λ (z : PlainWorkCall). z.process) h
 
 module _ (layout : Layout) where
-  module _ (words : List ℕ) (b : Behind) (e : PlainWorkCall) (x : List (BufferEntry ℕ)) (long : length words ≡ 2 * words_of layout)
+  module _ (words : List ℕ) (b : Behind) (e : PlainWorkCall) (x : List (BufferEntry ℕ)) (long : length words ≡ 8 * words_of layout)
       (sound : IsSound (world_on layout words b)) (low : e.process < layout.processes) (is : b.situation e.process ≡ Working e) (same : b.buffer e.process ≡ x) where
     abbrev word : ℕ
     word = answered layout words (work.access_at layout.shape e e.stage) x

@@ -156,7 +156,7 @@ pub record Ruled {S : Type 0} (layout : Layout) (s : State S View) : Type 0 wher
   pub behind : Behind
   pub owner : ℕ → ℕ
   pub sound : IsSound (world_on layout s.words behind)
-  pub long : length s.words ≡ 2 * words_of layout
+  pub long : length s.words ≡ 8 * words_of layout
   pub middles : HaveMiddles (world_on layout s.words behind)
   pub knows : (j : ℕ) (v : View) → get_elem? s.views j ≡ some v → (e : Seated) → In v.entries e → Fits layout s.words behind owner j e
   pub past : (j : ℕ) (v : View) → get_elem? s.views j ≡ some v → AreTrue layout s.words behind v.past
@@ -226,7 +226,7 @@ pub record Closes (layout : Layout) (words : List ℕ) (Handed : Seated → Type
 -- what a crash leaves of the word with this number: both its sides are the cached one where it was chosen, else the
 -- persisted one
 abbrev pub HasSideLeft : Bool → List ℕ → List ℕ → ℕ → Type 0
-HasSideLeft chosen words words' n = let side : ℕ = if chosen then slice_index words (2 * n) else slice_index words (2 * n + 1) in (slice_index words' (2 * n) ≡ side) × (slice_index words' (2 * n + 1) ≡ side)
+HasSideLeft chosen words words' n = let side : ℕ = if chosen then slice_index words (8 * n) else slice_index words (8 * n + 1) in (slice_index words' (8 * n) ≡ side) × (slice_index words' (8 * n + 1) ≡ side)
 
 -- behind these words, too, stands a sound world at rest, and what was told stays true
 pub record Survives (layout : Layout) (words words' : List ℕ) (b : Behind) : Type 0 where

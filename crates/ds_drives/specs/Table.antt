@@ -1,4 +1,5 @@
--- The words of a sheet on a table: word n is the table's words 2n, its cached side, and 2n + 1, its persisted side.
+-- The words of a sheet on a table: word n is the table's words 8n, its cached side, and 8n + 1, its persisted side.
+-- What lies between serves nothing: so two words of the sheet are 64 bytes apart, and no two share a line of a cache.
 use Rattle.std.specs.Prelude.{ℕ, ◌+◌, ◌*◌, ◌<◌, ◌==◌, bit_or, List, [], ◌∷◌, ◌++◌, length, slice_index, Option, Some, None}
 use prog.Atomic.{either}
 use Rattle.ds_words.specs.declared.access.Class.{Class}
@@ -8,12 +9,14 @@ use Rattle.ds_words.specs.declared.access.Access.{Access}
 use Rattle.ds_words.specs.declared.access.Access.TheVariants.{Nothing, Load, Store, Or, SwapIf, Flush, Back}
 use Rattle.ds_words.specs.declared.words.TheConstants.{BUFFER_ENTRIES}
 use Rattle.ds_words.specs.Memory.{Memory, newer}
+use Rattle.ds_layout.specs.declared.place.Place.{Place}
+use Rattle.ds_layout.specs.Places.{class_of}
 
 -- the table's words as a memory, with these buffers
 abbrev pub two_sided : List ℕ → (ℕ → List (BufferEntry ℕ)) → Memory ℕ
 two_sided words buffer = record {
-  cached = λ n. slice_index words (2 * n);
-  persisted = λ n. slice_index words (2 * n + 1);
+  cached = λ n. slice_index words (8 * n);
+  persisted = λ n. slice_index words (8 * n + 1);
   buffer = buffer;
 }
 
@@ -30,13 +33,13 @@ rest_of (x ∷ rest) = rest
 -- the table's word that an access takes, with this oldest entry
 abbrev pub word_of : Access ℕ → Option (BufferEntry ℕ) → ℕ
 word_of Nothing oldest = 0
-word_of (Load n) oldest = 2 * n
-word_of (Store n value) oldest = 2 * n
-word_of (Or n bits) oldest = 2 * n
-word_of (SwapIf n expected value) oldest = 2 * n
-word_of (Flush n) oldest = 2 * n
+word_of (Load n) oldest = 8 * n
+word_of (Store n value) oldest = 8 * n
+word_of (Or n bits) oldest = 8 * n
+word_of (SwapIf n expected value) oldest = 8 * n
+word_of (Flush n) oldest = 8 * n
 word_of Back None = 0
-word_of Back (Some x) = 2 * x.place + 1
+word_of Back (Some x) = 8 * x.place + 1
 
 -- what it makes of that word
 abbrev pub change : Access ℕ → Option (BufferEntry ℕ) → ℕ → ℕ
@@ -67,6 +70,11 @@ told (Store n value) oldest found = value
 told Back None found = found
 told Back (Some x) found = told_back x.class found x.value
 told _ oldest found = found
+
+-- the class of the word that an access flushes
+abbrev pub class_flushed : Access Place → Class
+class_flushed (Flush place) = class_of place
+class_flushed _ = Owned
 
 -- the buffer after it
 abbrev pub buffer_after : (ℕ → Class) → Access ℕ → List (BufferEntry ℕ) → ℕ → List (BufferEntry ℕ)

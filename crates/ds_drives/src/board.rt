@@ -150,7 +150,7 @@ pub struct Board {
     pub(crate) table: Table<u8, View, Key, Law, Global>,
     /// Its sheet.
     pub layout: Layout,
-    pub ghost sized: { (table.shared.table_id.words ≡ 2 * words_of layout) × (table.shared.key.layout ≡ layout) × (table.shared.table_id.slots ≡ 0) },
+    pub ghost sized: { (table.shared.table_id.words ≡ 8 * words_of layout) × (table.shared.key.layout ≡ layout) × (table.shared.table_id.slots ≡ 0) },
 }
 
 impl Board {
@@ -159,7 +159,7 @@ impl Board {
         ensures layout { IfOk result (λ r. r.0.layout ≡ layout) }
         ensures place { IfOk result (λ r. (r.1.table_id ≡ r.0.table.shared.table_id) × (r.1.me ≡ (first_view false layout.processes [], []))) }
     {
-        let count = layout.words() * 2;
+        let count = layout.words() * 8;
         let words: Vec<u64, Global> = vec![in alloc; 0; count]?;
         let key = Key {
             layout,
@@ -178,7 +178,7 @@ impl Board {
         words: &[u64],
         before: Place,
     ) -> Result<(Board, Place), Place>
-        requires long { length words.now ≡ 2 * words_of layout }
+        requires long { length words.now ≡ 8 * words_of layout }
         requires rests { (b : Behind) × AtRest layout words.now b × AreTrue layout words.now b before.me.0.past }
         ensures layout { IfOk result (λ r. r.0.layout ≡ layout) }
         ensures place { IfOk result (λ r. (r.1.table_id ≡ r.0.table.shared.table_id) × (r.1.me ≡ (first_view true layout.processes before.me.0.past, []))) }
@@ -227,7 +227,7 @@ impl Board {
     /// Ends the board, with a seat: its words, and a seat that remembers what this one knows.
     pub fn close(self, mut place: Place) -> (Closed<u8, Global>, Place)
         requires { (place.table_id ≡ self.table.shared.table_id) × (place.me.1 ≡ []) }
-        ensures counts { (slots_len result.0.words ≡ 2 * words_of self.layout) × (slots_len result.0.slots ≡ 0) × IsFull result.0.words }
+        ensures counts { (slots_len result.0.words ≡ 8 * words_of self.layout) × (slots_len result.0.slots ≡ 0) × IsFull result.0.words }
         ensures past { result.1.me.0.past ≡ place.me.0.past ++ place.me.0.entries }
         ensures stand { Closes self.layout (slots_items result.0.words) (In place.me.0.entries) (place.me.0.past ++ place.me.0.entries) }
     {

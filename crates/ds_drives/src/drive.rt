@@ -11,7 +11,7 @@ ghost use Rattle.ds_drives.specs.Machines.{IsServed, IsSettled, IsBroken};
 use crate::board::{Key, Law, Place, View};
 use crate::fuse::Fuse;
 use crate::machine::Machine;
-use crate::steps::{Buffer, access, answer, keep, numbered, oldest};
+use crate::steps::{Buffer, access, answer, flushed, keep, numbered, oldest};
 use arrayvec::ArrayVec;
 use atomic_table::Shared;
 use ds_layout::layout::Layout;
@@ -27,7 +27,7 @@ pub(crate) fn drive<M: Machine, F: Fuse>(
     call: &mut M,
     fuse: &mut F,
 ) -> bool
-    requires table { (seat.old.table_id ≡ shared.now.table_id) × (shared.now.table_id.words ≡ 2 * words_of layout.now) × (shared.now.key.layout ≡ layout.now) }
+    requires table { (seat.old.table_id ≡ shared.now.table_id) × (shared.now.table_id.words ≡ 8 * words_of layout.now) × (shared.now.key.layout ≡ layout.now) }
     requires fits { M.rules.fits layout.now call.old }
     requires goes { M.rules.goes call.old }
     requires serves { IsServed M.rules layout.now call.old [] }
@@ -47,7 +47,9 @@ pub(crate) fn drive<M: Machine, F: Fuse>(
         if !fuse.go() {
             return false;
         }
-        let wanted = numbered(layout, call.want(layout));
+        let asked = call.want(layout);
+        let class = flushed(asked);
+        let wanted = numbered(layout, asked);
         let found = access::<Brand, M>(
             shared,
             seat,
@@ -57,7 +59,7 @@ pub(crate) fn drive<M: Machine, F: Fuse>(
             wanted,
             oldest(&buffer),
         );
-        keep(&mut buffer, layout, wanted, found);
+        keep(&mut buffer, class, wanted, found);
         call.got(alloc, layout, answer(wanted, found));
     }
     true

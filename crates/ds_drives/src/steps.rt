@@ -3,10 +3,9 @@
 ghost use Rattle.std.specs.Prelude.{◌≡◌, ◌+◌, ◌*◌, ◌<◌, ◌^◌, ℕ, length};
 ghost use Rattle.atomic_table.specs.Table.{Allows};
 ghost use Rattle.ds_words.specs.declared.words.TheConstants.{BUFFER_ENTRIES};
-ghost use Rattle.ds_layout.specs.Places.{words_of};
 ghost use Rattle.ds_layout.specs.SheetMemory.{access_at, NamesPlace};
-ghost use Rattle.ds_drives.specs.Rule.{Ruled, class_in};
-ghost use Rattle.ds_drives.specs.Table.{oldest_of, rest_of, word_of, change, told, answer, buffer_after, HasRoom, IsBelow};
+ghost use Rattle.ds_drives.specs.Rule.{Ruled};
+ghost use Rattle.ds_drives.specs.Table.{oldest_of, rest_of, word_of, change, told, answer, buffer_after, class_flushed, HasRoom};
 
 use crate::board::{Key, Landing, Lands, Law, Place, View};
 use arrayvec::ArrayVec;
@@ -20,6 +19,7 @@ use ds_words::words::BUFFER_ENTRIES;
 pub(crate) type Buffer = ArrayVec<BufferEntry<usize>, BUFFER_ENTRIES>;
 
 /// The oldest entry.
+#[inline(always)]
 pub(crate) fn oldest(buffer: &Buffer) -> Option<BufferEntry<usize>>
     ensures { result ≡ oldest_of buffer.now.items }
 {
@@ -30,7 +30,19 @@ pub(crate) fn oldest(buffer: &Buffer) -> Option<BufferEntry<usize>>
     }
 }
 
+/// The class of the word that an access flushes; of one that flushes none, that of a word with one owner.
+#[inline(always)]
+pub(crate) fn flushed(access: Access<place::Place>) -> Class
+    ensures { result ≡ class_flushed access }
+{
+    match access {
+        Access::Flush(place) => place.class(),
+        _ => Class::Owned,
+    }
+}
+
 /// The access by the number of its word.
+#[inline(always)]
 pub(crate) fn numbered(layout: &Layout, access: Access<place::Place>) -> Access<usize>
     requires { NamesPlace layout.now access }
     ensures { result ≡ access_at layout.now access }
@@ -56,6 +68,7 @@ pub(crate) fn numbered(layout: &Layout, access: Access<place::Place>) -> Access<
 
 /// Makes the access on the table, and answers what its step tells. The call, the layout and the
 /// buffer tell the proof whose step it is.
+#[inline(always)]
 pub(crate) fn access<J: Landing, M>(
     shared: &Shared<u8, View, Key, Law>,
     seat: &mut Place,
@@ -75,22 +88,22 @@ pub(crate) fn access<J: Landing, M>(
     let (_layout, _call, _buffer) = (layout, call, buffer);
     match want {
         Access::Nothing => shared.load::<Lands<J>>(seat, 0),
-        Access::Load(word) => shared.load::<Lands<J>>(seat, 2 * word),
+        Access::Load(word) => shared.load::<Lands<J>>(seat, 8 * word),
         Access::Store(word, value) => {
-            shared.store::<Lands<J>>(seat, 2 * word, value);
+            shared.store::<Lands<J>>(seat, 8 * word, value);
             value
         }
-        Access::Or(word, bits) => shared.fetch_or::<Lands<J>>(seat, 2 * word, bits),
+        Access::Or(word, bits) => shared.fetch_or::<Lands<J>>(seat, 8 * word, bits),
         Access::SwapIf {
             place: word,
             expected,
             value,
-        } => { shared.compare_exchange::<Lands<J>>(seat, 2 * word, expected, value) }
-        Access::Flush(word) => shared.load::<Lands<J>>(seat, 2 * word),
+        } => { shared.compare_exchange::<Lands<J>>(seat, 8 * word, expected, value) }
+        Access::Flush(word) => shared.load::<Lands<J>>(seat, 8 * word),
         Access::Back => match oldest {
             None => shared.load::<Lands<J>>(seat, 0),
             Some(entry) => {
-                let word = 2 * entry.place + 1;
+                let word = 8 * entry.place + 1;
                 match entry.class {
                     Class::Stamped => shared.fetch_max::<Lands<J>>(seat, word, entry.value),
                     Class::Bit => shared.fetch_or::<Lands<J>>(seat, word, entry.value),
@@ -105,6 +118,7 @@ pub(crate) fn access<J: Landing, M>(
 }
 
 /// What the access answers, where its step told this number.
+#[inline(always)]
 pub(crate) fn answer(want: Access<usize>, found: u64) -> u64
     ensures { result ≡ answer want found }
 {
@@ -115,16 +129,16 @@ pub(crate) fn answer(want: Access<usize>, found: u64) -> u64
     }
 }
 
-/// The buffer after an access whose step told this number.
-pub(crate) fn keep(buffer: &mut Buffer, layout: &Layout, want: Access<usize>, found: u64)
+/// The buffer after an access whose step told this number, where a word that it flushes is of this class.
+#[inline(always)]
+pub(crate) fn keep(buffer: &mut Buffer, class: Class, want: Access<usize>, found: u64)
     requires room { HasRoom want buffer.old.items }
-    requires word { IsBelow (words_of layout.now) want }
-    ensures { buffer.new.items ≡ buffer_after (class_in layout.now) want buffer.old.items found }
+    ensures { buffer.new.items ≡ buffer_after (λ n. class) want buffer.old.items found }
 {
     match want {
         Access::Flush(word) => buffer.push(BufferEntry {
             place: word,
-            class: layout.place(word).class(),
+            class,
             value: found,
         }),
         Access::Back => {

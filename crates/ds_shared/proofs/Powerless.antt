@@ -39,37 +39,37 @@ told_evicted place old new sound v q (Shown e) h = tt
 -- the words after so many of them were evicted, those that are chosen
 abbrev backed : (ℕ → Bool) → List ℕ → ℕ → List ℕ
 backed c ws zero = ws
-backed c ws (suc k) = if c k then set (backed c ws k) (2 * k + 1) (get_or (backed c ws k) (2 * k) 0) else backed c ws k
+backed c ws (suc k) = if c k then set (backed c ws k) (8 * k + 1) (get_or (backed c ws k) (8 * k) 0) else backed c ws k
 
 -- the side of a word that a crash leaves
 abbrev pub left_side : (ℕ → Bool) → List ℕ → ℕ → ℕ
-left_side c ws n = if c n then get_or ws (2 * n) 0 else get_or ws (2 * n + 1) 0
+left_side c ws n = if c n then get_or ws (8 * n) 0 else get_or ws (8 * n + 1) 0
 
-module _ (layout : Layout) (c : ℕ → Bool) (ws : List ℕ) (long : length ws ≡ 2 * words_of layout) where
+module _ (layout : Layout) (c : ℕ → Bool) (ws : List ℕ) (long : length ws ≡ 8 * words_of layout) where
   record Backed (k : ℕ) (w : List ℕ) : Type 0 where
     size : length w ≡ length ws
-    cached : (n : ℕ) → get_or w (2 * n) 0 ≡ get_or ws (2 * n) 0
-    done : (n : ℕ) → n < k → get_or w (2 * n + 1) 0 ≡ left_side c ws n
-    rest : (n : ℕ) → k ≤ n → get_or w (2 * n + 1) 0 ≡ get_or ws (2 * n + 1) 0
+    cached : (n : ℕ) → get_or w (8 * n) 0 ≡ get_or ws (8 * n) 0
+    done : (n : ℕ) → n < k → get_or w (8 * n + 1) 0 ≡ left_side c ws n
+    rest : (n : ℕ) → k ≤ n → get_or w (8 * n + 1) 0 ≡ get_or ws (8 * n + 1) 0
 
   backed_is : (k : ℕ) → k ≤ words_of layout → Backed k (backed c ws k)
   backed_is zero few = record { size = refl; cached = λ n. refl; done = λ n low. absurd (omega arith); rest = λ n low. refl }
   backed_is (suc k) few = by (backed_is k (omega arith)) (c k) refl
     where
-      by : Backed k (backed c ws k) → (b : Bool) → c k ≡ b → Backed (suc k) (if b then set (backed c ws k) (2 * k + 1) (get_or (backed c ws k) (2 * k) 0) else backed c ws k)
-      by r true is = let w : List ℕ = backed c ws k in let v : ℕ = get_or w (2 * k) 0 in let size = r.size in record {
-        size = length-set w (2 * k + 1) v ∙ r.size;
-        cached = λ n. get_or-set_other w (2 * k + 1) (2 * n) v 0 (λ e. omega arith) ∙ r.cached n;
+      by : Backed k (backed c ws k) → (b : Bool) → c k ≡ b → Backed (suc k) (if b then set (backed c ws k) (8 * k + 1) (get_or (backed c ws k) (8 * k) 0) else backed c ws k)
+      by r true is = let w : List ℕ = backed c ws k in let v : ℕ = get_or w (8 * k) 0 in let size = r.size in record {
+        size = length-set w (8 * k + 1) v ∙ r.size;
+        cached = λ n. get_or-set_other w (8 * k + 1) (8 * n) v 0 (λ e. omega arith) ∙ r.cached n;
         done = λ n low. dite (ℕ_discrete n k)
-            (λ e. ap (λ (m : ℕ). get_or (set w (2 * k + 1) v) (2 * m + 1) 0) e ∙ (get_or-set_same w (2 * k + 1) v 0 (omega arith) ∙ (r.cached k ∙ sym (ap (λ (m : ℕ). left_side c ws m) e ∙ ap (λ (b : Bool). if b then get_or ws (2 * k) 0 else get_or ws (2 * k + 1) 0) is))))
-            (λ ne. get_or-set_other w (2 * k + 1) (2 * n + 1) v 0 (λ e. ne (omega arith)) ∙ r.done n (omega arith));
-        rest = λ n low. get_or-set_other w (2 * k + 1) (2 * n + 1) v 0 (λ e. omega arith) ∙ r.rest n (omega arith);
+            (λ e. ap (λ (m : ℕ). get_or (set w (8 * k + 1) v) (8 * m + 1) 0) e ∙ (get_or-set_same w (8 * k + 1) v 0 (omega arith) ∙ (r.cached k ∙ sym (ap (λ (m : ℕ). left_side c ws m) e ∙ ap (λ (b : Bool). if b then get_or ws (8 * k) 0 else get_or ws (8 * k + 1) 0) is))))
+            (λ ne. get_or-set_other w (8 * k + 1) (8 * n + 1) v 0 (λ e. ne (omega arith)) ∙ r.done n (omega arith));
+        rest = λ n low. get_or-set_other w (8 * k + 1) (8 * n + 1) v 0 (λ e. omega arith) ∙ r.rest n (omega arith);
       }
       by r false is = record {
         size = r.size;
         cached = r.cached;
         done = λ n low. dite (ℕ_discrete n k)
-            (λ e. ap (λ (m : ℕ). get_or (backed c ws k) (2 * m + 1) 0) e ∙ (r.rest k (le_refl k) ∙ sym (ap (λ (m : ℕ). left_side c ws m) e ∙ ap (λ (b : Bool). if b then get_or ws (2 * k) 0 else get_or ws (2 * k + 1) 0) is)))
+            (λ e. ap (λ (m : ℕ). get_or (backed c ws k) (8 * m + 1) 0) e ∙ (r.rest k (le_refl k) ∙ sym (ap (λ (m : ℕ). left_side c ws m) e ∙ ap (λ (b : Bool). if b then get_or ws (8 * k) 0 else get_or ws (8 * k + 1) 0) is)))
             (λ ne. r.done n (omega arith));
         rest = λ n low. r.rest n (omega arith);
       }
@@ -83,16 +83,16 @@ module _ (layout : Layout) (c : ℕ → Bool) (ws : List ℕ) (long : length ws 
     evicted zero few = record { sound = rests.sound; told = λ q t h. h }
     evicted (suc k) few = by (evicted k (omega arith)) (backed_is k (omega arith)) (c k)
       where
-        by : Evicted (backed c ws k) → Backed k (backed c ws k) → (t : Bool) → Evicted (if t then set (backed c ws k) (2 * k + 1) (get_or (backed c ws k) (2 * k) 0) else backed c ws k)
+        by : Evicted (backed c ws k) → Backed k (backed c ws k) → (t : Bool) → Evicted (if t then set (backed c ws k) (8 * k + 1) (get_or (backed c ws k) (8 * k) 0) else backed c ws k)
         by r f true =
             let w : List ℕ = backed c ws k in
-            let v : ℕ = get_or w (2 * k) 0 in
-            let w' : List ℕ = set w (2 * k + 1) v in
+            let v : ℕ = get_or w (8 * k) 0 in
+            let w' : List ℕ = set w (8 * k + 1) v in
             let size = f.size in
             let at : EvictsAt k (two_sided w b.buffer) (two_sided w' b.buffer) = record {
-              cached = λ n. get_or-set_other w (2 * k + 1) (2 * n) v 0 (λ e. omega arith);
-              there = get_or-set_same w (2 * k + 1) v 0 (omega arith);
-              elsewhere = λ n ne. get_or-set_other w (2 * k + 1) (2 * n + 1) v 0 (λ e. ne (omega arith));
+              cached = λ n. get_or-set_other w (8 * k + 1) (8 * n) v 0 (λ e. omega arith);
+              there = get_or-set_same w (8 * k + 1) v 0 (omega arith);
+              elsewhere = λ n ne. get_or-set_other w (8 * k + 1) (8 * n + 1) v 0 (λ e. ne (omega arith));
               buffer = λ q. refl;
             } in
             let place : Place = place_of layout k in
@@ -111,7 +111,7 @@ module _ (layout : Layout) (c : ℕ → Bool) (ws : List ℕ) (long : length ws 
         by r f false = r
 
     -- the words after the crash
-    module _ (ws' : List ℕ) (size : length ws' ≡ length ws) (cached : (n : ℕ) → n < words_of layout → get_or ws' (2 * n) 0 ≡ left_side c ws n) (persisted : (n : ℕ) → n < words_of layout → get_or ws' (2 * n + 1) 0 ≡ left_side c ws n) where
+    module _ (ws' : List ℕ) (size : length ws' ≡ length ws) (cached : (n : ℕ) → n < words_of layout → get_or ws' (8 * n) 0 ≡ left_side c ws n) (persisted : (n : ℕ) → n < words_of layout → get_or ws' (8 * n + 1) 0 ≡ left_side c ws n) where
       count : ℕ
       count = words_of layout
 
@@ -127,9 +127,9 @@ module _ (layout : Layout) (c : ℕ → Bool) (ws : List ℕ) (long : length ws 
       beyond (x ∷ w) zero l = absurd (omega arith)
       beyond (x ∷ w) (suc i) l = beyond w i (omega arith)
 
-      both : (side : ℕ → ℕ) → ((n : ℕ) → n < words_of layout → side n ≡ left_side c ws n) → ((n : ℕ) → words_of layout ≤ n → side n ≡ 0) → (n : ℕ) → side n ≡ get_or mid (2 * n + 1) 0
+      both : (side : ℕ → ℕ) → ((n : ℕ) → n < words_of layout → side n ≡ left_side c ws n) → ((n : ℕ) → words_of layout ≤ n → side n ≡ 0) → (n : ℕ) → side n ≡ get_or mid (8 * n + 1) 0
       both side low high n = let s = facts.size in elim (leb_tells (words_of layout) n) [
-        | inl g ↦ (let k = g.1 in high n k ∙ sym (beyond mid (2 * n + 1) (omega (arith, s, k, long))))
+        | inl g ↦ (let k = g.1 in high n k ∙ sym (beyond mid (8 * n + 1) (omega (arith, s, k, long))))
         | inr l ↦ low n l.1 ∙ sym (facts.done n l.1)
       ]
 
@@ -141,8 +141,8 @@ module _ (layout : Layout) (c : ℕ → Bool) (ws : List ℕ) (long : length ws 
       crash = record {
         layout = refl;
         memory = record {
-          cached = side_same layout (λ n. get_or ws' (2 * n) 0) (λ n. get_or mid (2 * n + 1) 0) (both (λ n. get_or ws' (2 * n) 0) cached (λ n g. beyond ws' (2 * n) (omega arith)));
-          persisted = side_same layout (λ n. get_or ws' (2 * n + 1) 0) (λ n. get_or mid (2 * n + 1) 0) (both (λ n. get_or ws' (2 * n + 1) 0) persisted (λ n g. beyond ws' (2 * n + 1) (omega arith)));
+          cached = side_same layout (λ n. get_or ws' (8 * n) 0) (λ n. get_or mid (8 * n + 1) 0) (both (λ n. get_or ws' (8 * n) 0) cached (λ n g. beyond ws' (8 * n) (omega arith)));
+          persisted = side_same layout (λ n. get_or ws' (8 * n + 1) 0) (λ n. get_or mid (8 * n + 1) 0) (both (λ n. get_or ws' (8 * n + 1) 0) persisted (λ n g. beyond ws' (8 * n + 1) (omega arith)));
           buffer = λ q. refl;
         };
         situation = λ q low. refl;

@@ -18,7 +18,7 @@ impl ClosedSheet {
     fn copied(&self, alloc: Global) -> Result<Vec<u64>, AllocError>
         ensures { IfOk result (λ v. v.items ≡ slots_items self.now.table.words) }
     {
-        let count = self.layout.words() * 2;
+        let count = self.layout.words() * 8;
         let mut words = Vec::with_capacity(alloc, count)?;
         for number in 0..count {
             words.push(self.side(number))?;

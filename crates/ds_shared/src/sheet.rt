@@ -36,7 +36,7 @@ pub struct ClosedSheet {
     pub(crate) layout: Layout,
     pub(crate) before: board::Place,
     pub ghost full: { IsFull table.words × (slots_len table.slots ≡ 0) },
-    pub ghost sized: { slots_len table.words ≡ 2 * words_of layout },
+    pub ghost sized: { slots_len table.words ≡ 8 * words_of layout },
 }
 
 impl SheetReader for ClosedSheet {
@@ -53,7 +53,7 @@ impl SheetReader for ClosedSheet {
     }
 
     fn load(&self, place: Place) -> u64 {
-        self.table.word(self.layout.number(place) * 2)
+        self.table.word(self.layout.number(place) * 8)
     }
 }
 
@@ -77,17 +77,17 @@ impl ClosedSheet {
     /// The cached side of the word at a place.
     pub fn cached(&self, place: Place) -> u64
         requires { IsPlace self.now.layout place }
-        ensures { result ≡ slice_index (slots_items self.now.table.words) (2 * number_of self.now.layout place) }
+        ensures { result ≡ slice_index (slots_items self.now.table.words) (8 * number_of self.now.layout place) }
     {
-        self.table.word(self.layout.number(place) * 2)
+        self.table.word(self.layout.number(place) * 8)
     }
 
     /// The persisted side of the word at a place.
     pub fn persisted(&self, place: Place) -> u64
         requires { IsPlace self.now.layout place }
-        ensures { result ≡ slice_index (slots_items self.now.table.words) (2 * number_of self.now.layout place + 1) }
+        ensures { result ≡ slice_index (slots_items self.now.table.words) (8 * number_of self.now.layout place + 1) }
     {
-        self.table.word(self.layout.number(place) * 2 + 1)
+        self.table.word(self.layout.number(place) * 8 + 1)
     }
 
     /// Gives the memory back.
@@ -136,7 +136,7 @@ impl ClosedSheet {
 
     // One side of a word.
     pub(crate) fn side(&self, number: usize) -> u64
-        requires { number < 2 * words_of self.now.layout }
+        requires { number < 8 * words_of self.now.layout }
         ensures { result ≡ slice_index (slots_items self.now.table.words) number }
     {
         self.table.word(number)
@@ -154,13 +154,13 @@ impl ClosedSheet {
     {
         for number in 0..self.layout.words() {
             let side = if choice[number] {
-                number * 2
+                number * 8
             } else {
-                number * 2 + 1
+                number * 8 + 1
             };
             let value = self.side(side);
-            self.set_word(number * 2, value);
-            self.set_word(number * 2 + 1, value);
+            self.set_word(number * 8, value);
+            self.set_word(number * 8 + 1, value);
         }
     }
 }

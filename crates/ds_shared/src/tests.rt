@@ -226,9 +226,9 @@ fn a_write_is_read_back(rt: HostRuntime) -> Result<(), Fail> {
     Ok(())
 }
 
-// A record that was never announced is written again.
+// A record that was never announced is written again: a work reads the text that stands there now, and no tree of the one before.
 #[test]
-fn a_record_is_taken_back(rt: HostRuntime) -> Result<(), Fail> {
+fn stale_tree(rt: HostRuntime) -> Result<(), Fail> {
     let Some((sheet, _past, mut first, mut second, a, b)) = opened(rt.alloc()) else {
         return Ok(());
     };

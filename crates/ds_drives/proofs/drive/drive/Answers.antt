@@ -6,12 +6,12 @@ use Rattle.ds_layout.specs.SheetMemory.{NamesPlace, access_at}
 use Rattle.ds_layout.specs.declared.place.Place.{Place}
 use Rattle.ds_drives.specs.declared.board.Deeds.{Deeds}
 use Rattle.ds_drives.specs.declared.board.View.{View}
-use Rattle.ds_drives.specs.Table.{answer, buffer_after}
+use Rattle.ds_drives.specs.Table.{answer, buffer_after, class_flushed, HasRoom}
 use Rattle.ds_drives.specs.Views.{lone, deeds_at, steps_later}
 use Rattle.ds_drives.specs.Rules.{Came, still, steps, turns}
 use Rattle.ds_drives.specs.Rule.{CallsHold, Poised, class_in}
 use Rattle.ds_drives.specs.Machines.{asked, stepped, left, IsServed}
-use Rattle.ds_drives.proofs.Driving.{some_words, below, within, room, held_still, one_more, asked_none, asked_also, asked_stop}
+use Rattle.ds_drives.proofs.Driving.{flushed_in, some_words, below, within, room, held_still, one_more, asked_none, asked_also, asked_stop}
 use Rattle.ds_drives.proofs.drive.drive.Goals as goal
 
 pub loop-alloc-init : goal.loop-alloc-init
@@ -36,11 +36,11 @@ returns-then-not-go-clause-me g c = (
 )
 
 pub numbered-wanted-requires : goal.numbered-wanted-requires
-numbered-wanted-requires g c = subst (λ (a : Access Place). NamesPlace c.args.layout.now a) (sym c.want.ensures) c.loop-alloc.invariant.serves.0
+numbered-wanted-requires g c = subst (λ (a : Access Place). NamesPlace c.args.layout.now a) (sym c.want-asked.ensures) c.loop-alloc.invariant.serves.0
 
 pub access-found-requires-clause-within : goal.access-found-requires-clause-within
 access-found-requires-clause-within g c =
-    let is : c.numbered-wanted.result ≡ asked g.M.Machine.rules c.args.layout.now c.loop-alloc.call = c.numbered-wanted.ensures ∙ ap (access_at c.args.layout.now) c.want.ensures in
+    let is : c.numbered-wanted.result ≡ asked g.M.Machine.rules c.args.layout.now c.loop-alloc.call = c.numbered-wanted.ensures ∙ ap (access_at c.args.layout.now) c.want-asked.ensures in
     let count = c.words-count.ensures in
     let words = c.requires.table.1 in (
       rw (is, c.oldest.ensures) (within c.args.layout.now _ (asked g.M.Machine.rules c.args.layout.now c.loop-alloc.call) c.loop-alloc.buffer.items (some_words c.args.layout.now)
@@ -50,7 +50,7 @@ access-found-requires-clause-within g c =
 
 pub access-found-requires-clause-step : goal.access-found-requires-clause-step
 access-found-requires-clause-step g c =
-    let is : c.numbered-wanted.result ≡ asked g.M.Machine.rules c.args.layout.now c.loop-alloc.call = c.numbered-wanted.ensures ∙ ap (access_at c.args.layout.now) c.want.ensures in
+    let is : c.numbered-wanted.result ≡ asked g.M.Machine.rules c.args.layout.now c.loop-alloc.call = c.numbered-wanted.ensures ∙ ap (access_at c.args.layout.now) c.want-asked.ensures in
     let me : Me ℕ View = c.loop-alloc.seat.me in
     let held : Deeds = steps_later (deeds_at c.args.seat.now.me) c.loop-alloc.invariant.taken in
     let p = c.law.ensures.poised c.args.call.now c.args.seat.now.me held me c.loop-alloc.call c.loop-alloc.buffer.items c.loop-alloc-test.ensures c.loop-alloc.invariant.drives in
@@ -60,19 +60,15 @@ access-found-requires-clause-step g c =
     record { seat = p.seat; at = p.at; held_is = p.held_is ∙ sym by.0; own = p.own; ready = p.ready } in
     rw (is, c.oldest.ensures, c.requires.table.2) (c.law.ensures.steps _ _ (deeds_at c.loop-alloc.seat.me) me c.args.call.now c.loop-alloc.call c.loop-alloc.buffer.items c.loop-alloc.invariant.fits c.loop-alloc-test.ensures c.requires.begun c.loop-alloc.invariant.stays came q)
 
-pub keep-requires-clause-room : goal.keep-requires-clause-room
-keep-requires-clause-room g c =
-    let is : c.numbered-wanted.result ≡ asked g.M.Machine.rules c.args.layout.now c.loop-alloc.call = c.numbered-wanted.ensures ∙ ap (access_at c.args.layout.now) c.want.ensures in
-    rw is (room c.args.layout.now (asked g.M.Machine.rules c.args.layout.now c.loop-alloc.call) c.loop-alloc.buffer.items c.loop-alloc.invariant.serves.1)
-
-pub keep-requires-clause-word : goal.keep-requires-clause-word
-keep-requires-clause-word g c =
-    let is : c.numbered-wanted.result ≡ asked g.M.Machine.rules c.args.layout.now c.loop-alloc.call = c.numbered-wanted.ensures ∙ ap (access_at c.args.layout.now) c.want.ensures in
-    rw is (below c.args.layout.now _ c.loop-alloc.invariant.serves.0)
+pub keep-requires : goal.keep-requires
+keep-requires g c =
+    let is : c.numbered-wanted.result ≡ asked g.M.Machine.rules c.args.layout.now c.loop-alloc.call = c.numbered-wanted.ensures ∙ ap (access_at c.args.layout.now) c.want-asked.ensures in
+    let there : HasRoom c.numbered-wanted.result c.loop-alloc.buffer.items = rw is (room c.args.layout.now (asked g.M.Machine.rules c.args.layout.now c.loop-alloc.call) c.loop-alloc.buffer.items c.loop-alloc.invariant.serves.1) in
+    record { room = there }
 
 pub loop-alloc-preserved : goal.loop-alloc-preserved
 loop-alloc-preserved g c =
-    let is : c.numbered-wanted.result ≡ asked g.M.Machine.rules c.args.layout.now c.loop-alloc.call = c.numbered-wanted.ensures ∙ ap (access_at c.args.layout.now) c.want.ensures in
+    let is : c.numbered-wanted.result ≡ asked g.M.Machine.rules c.args.layout.now c.loop-alloc.call = c.numbered-wanted.ensures ∙ ap (access_at c.args.layout.now) c.want-asked.ensures in
     let me : Me ℕ View = c.loop-alloc.seat.me in
     let taken : ℕ = c.loop-alloc.invariant.taken in
     let held : Deeds = steps_later (deeds_at c.args.seat.now.me) taken in
@@ -85,7 +81,8 @@ loop-alloc-preserved g c =
     let word : c.answer.result ≡ answer (asked g.M.Machine.rules c.args.layout.now c.loop-alloc.call) found = c.answer.ensures ∙ ap (λ (a : Access ℕ). answer a found) is in
     let turned = subst (λ (n : ℕ). g.M.Machine.rules.turns c.args.layout.now (g.M.Machine.rules.next c.loop-alloc.call n) c.got.new.self) word c.got.ensures.turns in
     let back : c.keep.new.buffer.items ≡ left g.M.Machine.rules c.args.layout.now c.loop-alloc.call c.loop-alloc.buffer.items found =
-    c.keep.ensures ∙ ap (λ (a : Access ℕ). buffer_after (class_in c.args.layout.now) a c.loop-alloc.buffer.items found) is in
+    c.keep.ensures ∙ (λ i. buffer_after (λ n. (c.flushed-class.ensures ∙ ap class_flushed c.want-asked.ensures) i) (is i) c.loop-alloc.buffer.items found)
+      ∙ flushed_in c.args.layout.now (g.M.Machine.rules.access c.args.layout.now c.loop-alloc.call) c.loop-alloc.buffer.items found c.loop-alloc.invariant.serves.0 in
     let landed = c.access-found.ensures.landed ∙ (λ i. (lone (g.M.Machine.rules.land (stepped g.M.Machine.rules c.args.layout.now c.loop-alloc.call found) (sym back i) (more i)), by.1 i)) in
     let calls : CallsHold c.args.layout.now (g.M.Machine.rules.process (stepped g.M.Machine.rules c.args.layout.now c.loop-alloc.call found)) (g.M.Machine.rules.land (stepped g.M.Machine.rules c.args.layout.now c.loop-alloc.call found) c.keep.new.buffer.items further).deeds.told =
     subst (λ (z : List (BufferEntry ℕ) × Deeds). CallsHold c.args.layout.now (g.M.Machine.rules.process (stepped g.M.Machine.rules c.args.layout.now c.loop-alloc.call found)) (g.M.Machine.rules.land (stepped g.M.Machine.rules c.args.layout.now c.loop-alloc.call found) z.0 z.1).deeds.told) (λ i. (sym back i, more i)) c.access-found.ensures.said.1 in

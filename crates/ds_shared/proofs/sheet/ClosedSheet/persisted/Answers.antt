@@ -5,5 +5,5 @@ use Rattle.ds_shared.proofs.sheet.ClosedSheet.persisted.Goals as goal
 
 pub returns : goal.returns
 returns c =
-    let twice : c.number.result * 2 + 1 ≡ 2 * c.number.result + 1 = omega arith in
-    elem_index (slots_items c.args.self.now.table.words) (c.number.result * 2 + 1) c.word.result c.word.ensures ∙ ap (λ (n : ℕ). get_or (slots_items c.args.self.now.table.words) n 0) (twice ∙ ap (λ (n : ℕ). 2 * n + 1) c.number.ensures.value)
+    let twice : c.number.result * 8 + 1 ≡ 8 * c.number.result + 1 = omega arith in
+    elem_index (slots_items c.args.self.now.table.words) (c.number.result * 8 + 1) c.word.result c.word.ensures ∙ ap (λ (n : ℕ). get_or (slots_items c.args.self.now.table.words) n 0) (twice ∙ ap (λ (n : ℕ). 8 * n + 1) c.number.ensures.value)

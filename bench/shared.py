@@ -1,0 +1,58 @@
+#!/usr/bin/env python3
+"""Runs the programs that bench/shared.sh names in turn, and prints what their calls took: python3 bench/shared.py DS_PACE PLAIN RUNS
+
+Each thread makes 256 calls on each of some sheets. A rate is that of all calls of a kind by the time of the slowest thread,
+and of the runs the greatest.
+"""
+import os
+import subprocess
+import sys
+
+KINDS = (
+    ("own", "edits of own cells"),
+    ("one", "edits of one cell"),
+    ("work", "edits and works of own cells"),
+    ("report", "reports beside these"),
+)
+THREADS = (1, 2, 4, 8)
+SHEETS = {"plain": 48, "shared": 48, "locked": 6}
+
+
+def tallies(words):
+    """What a run printed: of each kind of calls how many there were, in how many nanoseconds, and how many ended well."""
+    lines = subprocess.run(words, check=True, capture_output=True, text=True).stdout.splitlines()
+    return {line.split()[0]: tuple(map(int, line.split()[1:])) for line in lines}
+
+
+def measured(programs, kind, threads, runs):
+    """The greatest rate of each program, in calls a second."""
+    best = dict.fromkeys(programs, 0.0)
+    calls = "reports" if kind == "report" else "edits"
+    for _ in range(runs):
+        for name, words in programs.items():
+            found = tallies([*words, kind, str(threads), str(SHEETS[name])])
+            count, nanoseconds, _ = found[calls]
+            best[name] = max(best[name], count / nanoseconds * 1e9)
+    return best
+
+
+def main():
+    pace, plain, runs = sys.argv[1], sys.argv[2], int(sys.argv[3])
+    programs = {"plain": [plain], "shared": [pace, "shared"], "locked": [pace, "locked"]}
+    print(f"{runs} runs each, load {os.getloadavg()[0]:.1f} at the beginning, {os.cpu_count()} processors")
+    print()
+    print("| Calls | Threads | shared, thousand a second | plain C++ | locked | shared to plain | shared to locked | shared to one thread |")
+    print("|---|---|---|---|---|---|---|---|")
+    for kind, name in KINDS:
+        alone = None
+        for threads in THREADS:
+            best = measured(programs, kind, threads, runs)
+            shared = best["shared"]
+            alone = alone or shared
+            numbers = [f"{best[program] / 1000:.0f}" for program in ("shared", "plain", "locked")]
+            ratios = [f"{shared / best['plain']:.2f}", f"{shared / best['locked']:.1f}", f"{shared / alone:.2f}"]
+            print("| " + " | ".join([name, str(threads), *numbers, *ratios]) + " |", flush=True)
+
+
+if __name__ == "__main__":
+    main()

@@ -1,0 +1,12 @@
+#!/bin/sh
+# Calls of threads on a shared sheet, beside the same steps on plain C++ atomics (shared.cpp) and a sheet behind a lock:
+# edits of cells of their own and of one cell, edits with works, and reports beside these, by 1, 2, 4 and 8 threads; by the
+# least of so many interleaved runs as the first argument says (7).
+# Run it after a build: (cd crates/ds_pace && rt run); bench/shared.sh
+set -eu
+here=$(CDPATH= cd -- "$(dirname -- "$0")" && pwd)
+program=$here/../crates/ds_pace/out/ds_pace
+work=$(mktemp -d)
+trap 'rm -rf "$work"' EXIT
+${CXX:-c++} -O2 -static-libstdc++ -static-libgcc -std=c++17 -pthread -o "$work/shared" "$here/shared.cpp"
+PYTHONDONTWRITEBYTECODE=1 python3 "$here/shared.py" "$program" "$work/shared" "${1:-7}"
