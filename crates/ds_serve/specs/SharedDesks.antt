@@ -62,8 +62,8 @@ report_said Stopped values = broken
 
 -- the seat has come from the first one by works alone, each on a cell of the sheet; it keeps the values that it kept
 pub data HasWorked (s : SharedSheet) (first : Seat) : Seat → Type 0 where
-  Rests : HasWorked s first first
-  Then : (seat new : Seat) (cell : Cell) (how : Ended) → HasWorked s first seat → Works s cell STEPS_MOST seat.pass new.pass how → IsSeatOf s new → new.last ≡ seat.last → HasWorked s first new
+  rests : HasWorked s first first
+  goes_on : (seat new : Seat) (cell : Cell) (how : Ended) → HasWorked s first seat → Works s cell STEPS_MOST seat.pass new.pass how → IsSeatOf s new → new.last ≡ seat.last → HasWorked s first new
 
 -- the session has taken a seat of this process, and all that it has used it for is a recovery that tells this
 pub record HasJoined (process : ℕ) (last : Option Told) (new : Option Seat) : Type 0 where

@@ -1,0 +1,68 @@
+-- What the calls of a session over a shared sheet do to its seat.
+use Rattle.std.proofs.Common.{◌≡◌, ◌∙◌, ◌⊎◌, inl, inr, refl, sym, ap, subst, List, ℕ, Option, Some, Result, Ok, Err, IfOk, IfErr}
+use Rattle.std.specs.Prelude.{Vec}
+use Rattle.std.specs.Result.{IsErrAnd}
+use Rattle.std.specs.Global.{Global}
+use Rattle.std.specs.Arc.{arc_value}
+use Rattle.ds_formula.specs.declared.cells.Cell.{Cell}
+use Rattle.ds_formula.specs.Cells.{IsInside}
+use Rattle.ds_eval.specs.declared.value.Value.{Value}
+use Rattle.ds_shared.specs.declared.ended.Ended.{Ended}
+use Rattle.ds_shared.specs.declared.sheet.SharedSheet.{SharedSheet}
+use Rattle.ds_seats.specs.Calls.{Reports, Works, last_of}
+use Rattle.ds_seats.specs.Sheets.{IsSeatOf, LacksCell}
+use Rattle.ds_seats.specs.declared.fault.Fault.{Fault}
+use Rattle.ds_seats.specs.declared.fault.Fault.TheVariants.{NoProcess, NoCell, SeatTaken, ShortChoice, NoMemory}
+use Rattle.ds_seats.specs.declared.seat.Seat.{Seat}
+use Rattle.ds_server.specs.declared.board.CallRefusal.{CallRefusal}
+use Rattle.ds_server.specs.declared.board.ReportEnd.{ReportEnd}
+use Rattle.ds_server.specs.Replies.{Said, Refused, report_view}
+use Rattle.ds_serve.specs.SharedDesks.{HasReported, HasWorked, STEPS_MOST, goes_on, report_said, rests, sheet_of}
+
+-- one work more, or none
+pub one_more : (s : SharedSheet) (first seat new : Seat) (cell : Cell) (r : Result Ended Fault) → HasWorked s first seat → IsSeatOf s seat
+    → IfOk r (λ how. IsInside (sheet_of seat).board.layout.shape cell × Works (sheet_of seat) cell STEPS_MOST seat.pass new.pass how)
+    → IfErr r (λ why. LacksCell (sheet_of seat) cell why × (new ≡ seat)) → IsSeatOf (sheet_of seat) new × (new.last ≡ seat.last) → HasWorked s first new
+one_more s first seat new cell (Ok how) before of made err same =
+    goes_on seat new cell how before (subst (λ t. Works t cell STEPS_MOST seat.pass new.pass how) of made.1) (same.0 ∙ of) same.1
+one_more s first seat new cell (Err why) before of made err same = subst (HasWorked s first) (sym err.1) before
+
+-- works behind works
+both : (s : SharedSheet) (first mid new : Seat) → HasWorked s first mid → HasWorked s mid new → HasWorked s first new
+both s first mid new before rests = before
+both s first mid new before (goes_on seat n cell how behind works of kept) = goes_on seat new cell how (both s first mid seat before behind) works of kept
+
+-- the same, of works on the seat's own sheet
+pub behind : (s : SharedSheet) (first mid new : Seat) → HasWorked s first mid → IsSeatOf s mid → HasWorked (sheet_of mid) mid new → HasWorked s first new
+behind s first mid new before of works = both s first mid new before (subst (λ t. HasWorked t mid new) of works)
+
+-- works leave the sheet of a seat
+pub same_sheet : (s : SharedSheet) (first new : Seat) → IsSeatOf s first → HasWorked s first new → IsSeatOf s new
+same_sheet s first new of rests = of
+same_sheet s first new of (goes_on seat n cell how before works is kept) = is
+
+-- works leave its process
+same_process : (s : SharedSheet) (first new : Seat) → HasWorked s first new → new.pass.process ≡ first.pass.process
+same_process s first new rests = refl
+same_process s first new (goes_on seat n cell how before works is kept) = works.goes.process ∙ same_process s first seat before
+
+-- a fault of a call is that the sheet has no such cell
+pub lacks : (s : SharedSheet) (cell : Cell) (why : Fault) → LacksCell s cell why → IsInside s.board.layout.shape cell → ⊥
+lacks s cell NoCell h = h
+lacks s cell NoProcess h = absurd h
+lacks s cell SeatTaken h = absurd h
+lacks s cell ShortChoice h = absurd h
+lacks s cell NoMemory h = absurd h
+
+-- an error is said
+pub refused_is : (r : Result ReportEnd CallRefusal) (P : CallRefusal → Type 0) → IsErrAnd r P → (why : CallRefusal) × (report_view r ≡ Refused why)
+refused_is (Ok end) P h = absurd h
+refused_is (Err why) P h = (why, refl)
+
+-- a report leaves the process of a seat
+pub reported_process : (seat new : Seat) (what : Said) → HasReported seat what (Some new) → new.pass.process ≡ seat.pass.process
+reported_process seat new what h = let is : Some new ≡ Some h.after = h.new_is in let same : new ≡ h.after = cc in ap (λ (s : Seat). s.pass.process) same ∙ (go h.reports ∙ same_process (sheet_of seat) seat h.worked h.works) where
+  go : ((how : Ended) × (values : Option (Vec Value Global)) × Reports (sheet_of seat) STEPS_MOST h.worked.pass h.after.pass how values × (what ≡ report_said how (last_of h.worked.last values).items)) ⊎ ((h.after ≡ h.worked) × ((why : CallRefusal) × (what ≡ Refused why)))
+      → h.after.pass.process ≡ h.worked.pass.process
+  go (inl k) = k.2.goes.process
+  go (inr k) = ap (λ (s : Seat). s.pass.process) k.0

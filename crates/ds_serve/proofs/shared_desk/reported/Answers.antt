@@ -1,0 +1,35 @@
+use Rattle.std.proofs.Common.{◌≡◌, ◌∙◌, ap, inl, inr, refl, subst, sym}
+use Rattle.ds_seats.specs.Calls.{Reports}
+use Rattle.ds_serve.specs.SharedDesks.{STEPS_MOST, report_said, sheet_of}
+use Rattle.ds_serve.proofs.Sharing.{refused_is, same_sheet}
+use Rattle.ds_serve.proofs.shared_desk.reported.Goals as goal
+
+pub returns-in_err-shared_settle : goal.returns-in_err-shared_settle
+returns-in_err-shared_settle g c = record {
+  worked = c.shared_settle.new.seat;
+  after = c.shared_settle.new.seat;
+  new_is = refl;
+  works = c.shared_settle.ensures;
+  reports = inr (refl, refused_is c.from_residual.result _ c.from_residual.ensures.1);
+}
+
+pub returns : goal.returns
+returns g c =
+    let seat = c.args.seat.now in
+    let worked = c.shared_settle.new.seat in
+    let made = c.report-how.ensures.made in
+    let of : sheet_of worked ≡ sheet_of seat = same_sheet (sheet_of seat) seat worked refl c.shared_settle.ensures in
+    let pass : c.report-how.new.self.pass ≡ c.shown.new.seat.pass = sym c.shown.ensures.seat.1 in
+    record {
+      worked = worked;
+      after = c.shown.new.seat;
+      new_is = refl;
+      works = c.shared_settle.ensures;
+      reports = inl (
+        c.report-how.result,
+        made.0,
+        subst (λ p. Reports (sheet_of seat) STEPS_MOST worked.pass p c.report-how.result made.0) pass
+        (subst (λ s. Reports s STEPS_MOST worked.pass c.report-how.new.self.pass c.report-how.result made.0) of made.1),
+        c.shown.ensures.said ∙ ap (λ v. report_said c.report-how.result v.items) made.2,
+      );
+    }
