@@ -89,11 +89,7 @@ impl Found {
 }
 
 // Goes through all orders from this start on, and counts them.
-fn find<T: Watcher>(
-    alloc: Global,
-    start: &Start<'_>,
-    watcher: &mut T,
-) -> Result<Found, AllocError> {
+fn find<T: Watcher>(alloc: Global, start: &Start, watcher: &mut T) -> Result<Found, AllocError> {
     let search = go_through(alloc, start, watcher)?;
     let (orders, ways) = count_orders(
         alloc,
@@ -174,7 +170,7 @@ fn script_block(
 fn outcome_block(
     alloc: Global,
     script: &[u8],
-    start: &Start<'_>,
+    start: &Start,
     found: &Found,
     outcome: &Outcome,
     at: usize,
@@ -226,7 +222,7 @@ fn ending(is_cut: bool, wrong: bool) -> ExploreEnd
 fn write_found<W: Write>(
     alloc: Global,
     script: &[u8],
-    start: &Start<'_>,
+    start: &Start,
     found: &Found,
     writer: &mut Writing<W>,
 ) -> ExploreEnd

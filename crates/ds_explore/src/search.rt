@@ -3,18 +3,18 @@
 ghost use Rattle.std.specs.Prelude.{◌≡◌, ◌-◌, ◌^◌, true, IfErr};
 ghost use Rattle.ds_stops.specs.Reaching.{FallsShort};
 
-use crate::describe::Numbers;
 use crate::ends::end;
 use crate::flaw::Flaw;
 use crate::graph::{Edge, Node};
 use crate::judge::Judge;
 use crate::options::{Options, Watcher};
-use crate::position::{Move, Position, buffered, is_in_call, start};
-use crate::touched::Touched;
 use ds_core::event::Event;
 use ds_core::take::take;
 use ds_formula::cells::Shape;
-use ds_layout::layout::Layout;
+use ds_positions::describe::Numbers;
+use ds_positions::position::{Move, Position, is_in_call, start};
+use ds_positions::touched::Touched;
+use ds_state::world::World;
 use ds_stops::reach::Short;
 use std::alloc::{AllocError, Global};
 use std::collections::HashMap;
@@ -71,13 +71,11 @@ impl Outcome {
 
 /// Where orders begin.
 #[derive(Drop)]
-pub(crate) struct Start<'a> {
-    script: &'a [u8],
+pub(crate) struct Start {
     options: Options,
-    buffered: Vec<usize>,
+    first: Position,
     touched: Touched,
     judge: Judge,
-    shape: Shape,
     /// What may happen, by its number.
     pub(crate) moves: Vec<Move>,
 }
@@ -93,6 +91,21 @@ struct Frame {
     crash: Option<usize>,
     // What a crash leaves, where it has not come yet.
     crashes: Option<Vec<u8>>,
+    // The state itself, as long as something has not happened in it.
+    position: Option<Position>,
+}
+
+impl Frame {
+    // The state, for what happens next in it: a copy as long as more has not happened.
+    fn position(&mut self, alloc: Global) -> Result<Option<Position>, AllocError> {
+        if self.ahead.is_empty() && self.crashes.is_none() {
+            return Ok(self.position.take());
+        }
+        match &self.position {
+            Some(position) => Ok(Some(position.copy(alloc)?)),
+            None => Ok(None),
+        }
+    }
 }
 
 /// The orders as far as they were gone through.
@@ -104,7 +117,6 @@ pub(crate) struct Search {
     crashes: HashMap<Vec<u8>, usize>,
     found: HashMap<Vec<u8>, usize>,
     frames: Vec<Frame>,
-    path: Vec<u32>,
     /// The outcomes.
     pub(crate) outcomes: Vec<Outcome>,
     /// The states, each behind those that it leads to.
@@ -152,48 +164,38 @@ fn moves(alloc: Global, processes: usize, touched: &Touched) -> Result<Vec<Move>
     Ok(moves)
 }
 
-impl<'a> Start<'a> {
-    /// The orders of the calls that are under way where the script ends. An error is why it does not end.
-    pub(crate) fn new(alloc: Global, script: &'a [u8], options: Options) -> Result<Start<'a>, Short>
-        ensures { IfErr result (FallsShort true script.now (2 ^ 64 - 1)) }
-    {
-        let world = start(alloc, script)?;
-        let Layout { shape, processes } = world.words.layout();
-        let buffered = buffered(alloc, script, processes)?;
-        let touched = memory(Touched::of(alloc, &world))?;
-        let moves = memory(moves(alloc, processes, &touched))?;
-        let judge = memory(Judge::new(alloc, world))?;
+impl Start {
+    // The orders of the calls that are under way in this world. An error is a want of memory.
+    fn of(alloc: Global, world: World, options: Options) -> Result<Start, AllocError> {
+        let touched = Touched::of(alloc, &world)?;
+        let moves = moves(alloc, world.words.layout().processes, &touched)?;
+        let judge = Judge::new(alloc, world.copy(alloc)?)?;
+        let first = Position::new(alloc, world)?;
         Ok(Start {
-            script,
             options,
-            buffered,
+            first,
             touched,
             judge,
-            shape,
             moves,
         })
     }
 
+    /// The orders of the calls that are under way where the script ends. An error is why it does not end.
+    pub(crate) fn new(alloc: Global, script: &[u8], options: Options) -> Result<Start, Short>
+        ensures { IfErr result (FallsShort true script.now (2 ^ 64 - 1)) }
+    {
+        let world = start(alloc, script)?;
+        memory(Start::of(alloc, world, options))
+    }
+
     /// The shape of the sheet.
     pub(crate) fn shape(&self) -> Shape {
-        self.shape
+        self.first.world.words.layout().shape
     }
 
-    // The first state.
-    fn position(&self, alloc: Global) -> Result<Position, AllocError> {
-        let Ok(world) = start(alloc, self.script) else {
-            return Err(AllocError);
-        };
-        Position::new(alloc, world, &self.buffered)
-    }
-
-    /// The state behind these events.
-    pub(crate) fn replay(&self, alloc: Global, path: &[u32]) -> Result<Position, AllocError> {
-        let mut position = self.position(alloc)?;
-        for by in path {
-            self.happen(alloc, &mut position, *by)?;
-        }
-        Ok(position)
+    /// The first state.
+    pub(crate) fn position(&self, alloc: Global) -> Result<Position, AllocError> {
+        self.first.copy(alloc)
     }
 
     // What has this number happens.
@@ -264,7 +266,6 @@ impl Search {
             crashes: HashMap::new(alloc),
             found: HashMap::new(alloc),
             frames: Vec::new(alloc),
-            path: Vec::new(alloc),
             outcomes: Vec::new(alloc),
             nodes: Vec::new(alloc),
             is_cut: false,
@@ -306,7 +307,7 @@ impl Search {
     fn crash_of(
         &mut self,
         alloc: Global,
-        start: &Start<'_>,
+        start: &Start,
         position: &Position,
     ) -> Result<(Option<usize>, Option<Vec<u8>>), AllocError> {
         if !start.options.crashes {
@@ -319,61 +320,60 @@ impl Search {
         }
     }
 
-    // A state that was not found before is gone through from now on. It is given back where it goes on.
+    // A state that was not found before is gone through from now on.
     fn open(
         &mut self,
         alloc: Global,
-        start: &Start<'_>,
+        start: &Start,
         state: u32,
-        mut position: Position,
-    ) -> Result<Option<Position>, AllocError> {
+        position: Position,
+    ) -> Result<(), AllocError> {
         let (crash, crashes) = self.crash_of(alloc, start, &position)?;
         let ahead = start.ahead(alloc, &position)?;
-        let mut frame = Frame {
+        let end = if position.is_under_way() {
+            None
+        } else {
+            let mut last = position.copy(alloc)?;
+            let outcome = start.outcome(alloc, &mut last, false)?;
+            Some(self.number(alloc, outcome)?)
+        };
+        self.frames.push(Frame {
             state,
             ahead,
             edges: Vec::new(alloc),
-            end: None,
+            end,
             crash,
             crashes,
-        };
-        if position.is_under_way() {
-            self.frames.push(frame)?;
-            return Ok(Some(position));
-        }
-        let outcome = start.outcome(alloc, &mut position, false)?;
-        frame.end = Some(self.number(alloc, outcome)?);
-        self.frames.push(frame)?;
-        Ok(None)
+            position: Some(position),
+        })?;
+        Ok(())
     }
 
-    // The state that an event has led to. It is given back where orders go on from it.
+    // The state that an event has led to.
     fn visit(
         &mut self,
         alloc: Global,
-        start: &Start<'_>,
+        start: &Start,
         by: u32,
         position: Position,
-    ) -> Result<Option<Position>, AllocError> {
+    ) -> Result<(), AllocError> {
         let key = self.numbers.state(alloc, &position, &start.touched)?;
         if let Some(state) = self.seen.get(key.as_slice()) {
             let state = *state;
-            self.meet(by, state)?;
-            return Ok(None);
+            return self.meet(by, state);
         }
         let count = self.left.len();
         let Ok(state) = u32::try_from(count) else {
             self.is_cut = true;
-            return Ok(None);
+            return Ok(());
         };
         if count >= start.options.most {
             self.is_cut = true;
-            return Ok(None);
+            return Ok(());
         }
         self.lead(by, state)?;
         self.seen.insert(key, state)?;
         self.left.push(false)?;
-        self.path.push(by)?;
         self.open(alloc, start, state, position)
     }
 
@@ -397,7 +397,6 @@ impl Search {
 
     // All that may happen in the last state has happened.
     fn leave(&mut self) -> Result<(), AllocError> {
-        let _by = self.path.pop();
         let Some(frame) = self.frames.pop() else {
             return Ok(());
         };
@@ -414,7 +413,7 @@ impl Search {
     }
 
     // A crash comes in the last state, and leaves this.
-    fn crash(&mut self, alloc: Global, start: &Start<'_>, key: Vec<u8>) -> Result<(), AllocError> {
+    fn crash(&mut self, alloc: Global, start: &Start, key: Vec<u8>) -> Result<(), AllocError> {
         let number = match self.crashes.get(key.as_slice()) {
             Some(number) => *number,
             None => {
@@ -430,31 +429,33 @@ impl Search {
     }
 
     // What an order comes to that ends with a crash in the last state.
-    fn crash_anew(&mut self, alloc: Global, start: &Start<'_>) -> Result<usize, AllocError> {
-        let mut position = start.replay(alloc, &self.path)?;
+    fn crash_anew(&mut self, alloc: Global, start: &Start) -> Result<usize, AllocError> {
+        let mut position = self.position(alloc)?;
         let _crashed = take(alloc, &mut position.world, &Event::Crash);
         let outcome = start.outcome(alloc, &mut position, true)?;
         self.number(alloc, outcome)
     }
 
-    // What has this number happens in the last state, which is at hand or is gone to anew.
-    fn go(
-        &mut self,
-        alloc: Global,
-        start: &Start<'_>,
-        by: u32,
-        at_hand: Option<Position>,
-    ) -> Result<Option<Position>, AllocError> {
-        let mut position = match at_hand {
-            Some(position) => position,
-            None => start.replay(alloc, &self.path)?,
+    // The last state, for what happens next in it. It is there until all has happened.
+    fn position(&mut self, alloc: Global) -> Result<Position, AllocError> {
+        let Some(frame) = self.frames.last_mut() else {
+            return Err(AllocError);
         };
+        match frame.position(alloc)? {
+            Some(position) => Ok(position),
+            None => Err(AllocError),
+        }
+    }
+
+    // What has this number happens in the last state.
+    fn go(&mut self, alloc: Global, start: &Start, by: u32) -> Result<(), AllocError> {
+        let mut position = self.position(alloc)?;
         start.happen(alloc, &mut position, by)?;
         self.visit(alloc, start, by, position)
     }
 
     // The first state.
-    fn begin(&mut self, alloc: Global, start: &Start<'_>) -> Result<Option<Position>, AllocError> {
+    fn begin(&mut self, alloc: Global, start: &Start) -> Result<(), AllocError> {
         let position = start.position(alloc)?;
         let key = self.numbers.state(alloc, &position, &start.touched)?;
         self.seen.insert(key, 0)?;
@@ -471,23 +472,19 @@ impl Search {
 /// Goes through all orders from this start on.
 pub(crate) fn go_through<W: Watcher>(
     alloc: Global,
-    start: &Start<'_>,
+    start: &Start,
     watcher: &mut W,
 ) -> Result<Search, AllocError> {
     let mut search = Search::new(alloc);
-    let mut at_hand = search.begin(alloc, start)?;
+    search.begin(alloc, start)?;
     for _ in 0..u64::MAX {
         match search.next() {
             Next::Happens(by) => {
-                let position = at_hand.take();
-                at_hand = search.go(alloc, start, by, position)?;
+                search.go(alloc, start, by)?;
                 watcher.found(search.states());
             }
             Next::Crashes(key) => search.crash(alloc, start, key)?,
-            Next::Leaves => {
-                at_hand = None;
-                search.leave()?;
-            }
+            Next::Leaves => search.leave()?,
             Next::Ends => return Ok(search),
         }
     }
