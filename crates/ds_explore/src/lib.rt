@@ -10,5 +10,6 @@ mod judge;
 pub mod lines;
 pub mod options;
 mod orders;
+mod outcomes;
 mod script;
 mod search;

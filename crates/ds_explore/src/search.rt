@@ -4,10 +4,10 @@ ghost use Rattle.std.specs.Prelude.{◌≡◌, ◌-◌, ◌^◌, true, IfErr};
 ghost use Rattle.ds_stops.specs.Reaching.{FallsShort};
 
 use crate::ends::end;
-use crate::flaw::Flaw;
 use crate::graph::{Edge, Node};
 use crate::judge::Judge;
 use crate::options::{Options, Watcher};
+use crate::outcomes::{Outcome, Outcomes};
 use ds_core::event::Event;
 use ds_core::take::take;
 use ds_formula::cells::Shape;
@@ -18,56 +18,6 @@ use ds_state::world::World;
 use ds_stops::reach::Short;
 use std::alloc::{AllocError, Global};
 use std::collections::HashMap;
-
-/// An outcome of orders.
-#[derive(Drop)]
-pub(crate) struct Outcome {
-    // What each call was answered.
-    answers: Vec<Vec<u8>>,
-    // What is told behind the order.
-    tail: Vec<u8>,
-    /// What is wrong with it.
-    pub(crate) flaws: Vec<Flaw>,
-    /// Whether the order ends with a crash.
-    pub(crate) crashed: bool,
-}
-
-// Whether the text has this part.
-fn contains(text: &[u8], part: &[u8]) -> bool {
-    if part.is_empty() {
-        return true;
-    }
-    text.windows(part.len()).any(|window| window == part)
-}
-
-impl Outcome {
-    /// Whether a script that has these answers has this outcome: its calls are answered so, and behind the order this is
-    /// told, and nothing else.
-    pub(crate) fn is_in(&self, answers: &[u8]) -> bool {
-        for answer in &self.answers {
-            if !contains(answers, answer) {
-                return false;
-            }
-        }
-        answers.ends_with(&self.tail)
-    }
-
-    // What distinguishes it from all others.
-    fn key(&self, alloc: Global) -> Result<Vec<u8>, AllocError> {
-        let mut key = Vec::new(alloc);
-        for answer in &self.answers {
-            key.extend_from_slice(answer)?;
-        }
-        if self.crashed {
-            key.extend_from_slice(b"crashed\n")?;
-        }
-        key.extend_from_slice(&self.tail)?;
-        for flaw in &self.flaws {
-            key.extend_from_slice(format!(in alloc; "{flaw}\n")?.as_bytes())?;
-        }
-        Ok(key)
-    }
-}
 
 /// Where orders begin.
 #[derive(Drop)]
@@ -115,10 +65,9 @@ pub(crate) struct Search {
     seen: HashMap<Vec<u8>, u32>,
     left: Vec<bool>,
     crashes: HashMap<Vec<u8>, usize>,
-    found: HashMap<Vec<u8>, usize>,
     frames: Vec<Frame>,
     /// The outcomes.
-    pub(crate) outcomes: Vec<Outcome>,
+    pub(crate) outcomes: Outcomes,
     /// The states, each behind those that it leads to.
     pub(crate) nodes: Vec<Node>,
     /// Whether there are more states than there may be.
@@ -238,6 +187,39 @@ impl Start {
         Ok(ahead)
     }
 
+    // The call of a process is carried out to its end; what happens is added to the path.
+    fn finish(
+        &self,
+        alloc: Global,
+        position: &mut Position,
+        process: usize,
+        path: &mut Vec<u32>,
+    ) -> Result<(), AllocError> {
+        let Ok(by) = u32::try_from(process) else {
+            return Err(AllocError);
+        };
+        for _ in 0..u64::MAX {
+            if !is_in_call(&position.world, process) {
+                break;
+            }
+            self.happen(alloc, position, by)?;
+            path.push(by)?;
+        }
+        Ok(())
+    }
+
+    /// The calls are carried out one after another, in the order of their processes: what that comes to, and what
+    /// happens on the way.
+    pub(crate) fn straight(&self, alloc: Global) -> Result<(Outcome, Vec<u32>), AllocError> {
+        let mut position = self.position(alloc)?;
+        let mut path = Vec::new(alloc);
+        for process in 0..position.seats.len() {
+            self.finish(alloc, &mut position, process, &mut path)?;
+        }
+        let outcome = self.outcome(alloc, &mut position, false)?;
+        Ok((outcome, path))
+    }
+
     // What an order comes to that ends here.
     fn outcome(
         &self,
@@ -257,32 +239,19 @@ impl Start {
 }
 
 impl Search {
-    // No state was found yet.
-    fn new(alloc: Global) -> Search {
+    // No state was found yet, and this outcome.
+    fn new(alloc: Global, outcomes: Outcomes) -> Search {
         Search {
             numbers: Numbers::new(alloc),
             seen: HashMap::new(alloc),
             left: Vec::new(alloc),
             crashes: HashMap::new(alloc),
-            found: HashMap::new(alloc),
             frames: Vec::new(alloc),
-            outcomes: Vec::new(alloc),
+            outcomes,
             nodes: Vec::new(alloc),
             is_cut: false,
             is_endless: false,
         }
-    }
-
-    // The number of an outcome.
-    fn number(&mut self, alloc: Global, outcome: Outcome) -> Result<usize, AllocError> {
-        let key = outcome.key(alloc)?;
-        if let Some(number) = self.found.get(key.as_slice()) {
-            return Ok(*number);
-        }
-        let number = self.outcomes.len();
-        self.outcomes.push(outcome)?;
-        self.found.insert(key, number)?;
-        Ok(number)
     }
 
     // The event with this number has led from the last state to that one.
@@ -335,7 +304,7 @@ impl Search {
         } else {
             let mut last = position.copy(alloc)?;
             let outcome = start.outcome(alloc, &mut last, false)?;
-            Some(self.number(alloc, outcome)?)
+            Some(self.outcomes.number(alloc, outcome)?)
         };
         self.frames.push(Frame {
             state,
@@ -433,7 +402,7 @@ impl Search {
         let mut position = self.position(alloc)?;
         let _crashed = take(alloc, &mut position.world, &Event::Crash);
         let outcome = start.outcome(alloc, &mut position, true)?;
-        self.number(alloc, outcome)
+        self.outcomes.number(alloc, outcome)
     }
 
     // The last state, for what happens next in it. It is there until all has happened.
@@ -469,13 +438,14 @@ impl Search {
     }
 }
 
-/// Goes through all orders from this start on.
+/// Goes through all orders from this start on; the first of the outcomes is at hand.
 pub(crate) fn go_through<W: Watcher>(
     alloc: Global,
     start: &Start,
+    first: Outcome,
     watcher: &mut W,
 ) -> Result<Search, AllocError> {
-    let mut search = Search::new(alloc);
+    let mut search = Search::new(alloc, Outcomes::new(alloc, first)?);
     search.begin(alloc, start)?;
     for _ in 0..u64::MAX {
         match search.next() {
