@@ -29,7 +29,7 @@ pub enum ExploreEnd {
     /// All orders were gone through, and something is wrong: the lines that begin with `wrong` say what.
     Wrong,
     /// There are more states than may be gone through. The outcomes that were found until then are written, with as many
-    /// orders as were found.
+    /// orders as were found: the first one also where that is none.
     TooManyStates,
     /// This line of the script, counted from 1, has a fault. Nothing is written.
     Fault { line: usize, kind: ScriptFault },
@@ -37,7 +37,7 @@ pub enum ExploreEnd {
     TooLong,
     /// The writer failed.
     WriteFailed,
-    /// An allocation failed, or a script that was found would be too long.
+    /// An allocation failed, or a script that was found would be too long. Nothing is written.
     NoMemory,
 }
 
@@ -351,6 +351,7 @@ fn explore_all<W: Write, T: Watcher>(
 ///
 /// It writes how many states and orders there are, and then each outcome once: how many orders lead to it, what is
 /// wrong with it where something is, and a script of a shortest of these orders, with what `run_script` writes for it.
+/// The first outcome is that of the calls one after another, in the order of their processes.
 /// States that were met before are not gone through again: a state is its words, the situations and buffers of its
 /// processes, and what their calls were answered. Numbers of orders end at 2^128 - 1. The watcher is told how many
 /// states there are, at each event that is tried.
