@@ -16,7 +16,7 @@ use Rattle.ds_formula.specs.declared.cells.Shape.{Shape}
 use Rattle.ds_explore.specs.declared.lines.FoundLine.{FoundLine}
 use Rattle.ds_explore.specs.declared.flaw.Flaw.{Flaw}
 use Rattle.ds_explore.specs.Lines.{IsLines, no_line, one_line_more, line_text, GoesOn}
-use Rattle.ds_explore.specs.Explored.{IsWrong, right, one_flaw_more, wrong_text, IsBlock, IsOutcome, AreOutcomes, one_outcome_more, orders_joined, WritesAll, Explores, end_of, end_short}
+use Rattle.ds_explore.specs.Explored.{IsWrong, right, one_flaw_more, wrong_text, IsBlock, IsOutcome, AreOutcomes, one_outcome_more, orders_joined, figures_text, endless_text, WritesAll, Explores, end_of, end_short}
 
 -- a reader over a script that has ended gave all of it
 gave_all : (limit : ℕ) (script : List ℕ) (after : Option (List ℕ)) (ended failed : Bool) (bytes : List ℕ) (end : InputEnd)
@@ -81,9 +81,25 @@ outcome_of shape script longer given at orders flawed text goes is block = recor
 }
 
 -- one outcome more behind the others
-pub outcomes_more : (script : List ℕ) (count number orders more : ℕ) (wrong flawed : Bool) (out text new : List ℕ) → AreOutcomes script (suc count) orders wrong out → IsOutcome script (suc number) more flawed text
-    → number ≡ count + 1 → new ≡ out ++ text → AreOutcomes script (suc (count + 1)) (orders_joined orders more) (wrong || flawed) new
-outcomes_more script count number orders more wrong flawed out text new before outcome is e =
-    let numbered : IsOutcome script (suc (suc count)) more flawed text = subst (λ (n : ℕ). IsOutcome script (suc n) more flawed text) (is ∙ add-one count) outcome in
-    subst (λ (t : List ℕ). AreOutcomes script (suc (count + 1)) (orders_joined orders more) (wrong || flawed) t) (sym e)
-    (subst (λ (n : ℕ). AreOutcomes script (suc n) (orders_joined orders more) (wrong || flawed) (out ++ text)) (sym (add-one count)) (one_outcome_more (suc count) orders more wrong flawed out text before numbered))
+pub outcomes_more : (script : List ℕ) (count orders more sum : ℕ) (wrong flawed : Bool) (out text new : List ℕ) → AreOutcomes script (suc count) orders wrong out → IsOutcome script (suc (count + 1)) more flawed text
+    → sum ≡ orders_joined orders more → new ≡ out ++ text → AreOutcomes script (suc (count + 1)) sum (wrong || flawed) new
+outcomes_more script count orders more sum wrong flawed out text new before outcome is e =
+    let numbered = subst (λ (n : ℕ). IsOutcome script (suc n) more flawed text) (add-one count) outcome in
+    subst (λ (t : List ℕ). AreOutcomes script (suc (count + 1)) sum (wrong || flawed) t) (sym e)
+    (subst (λ (n : ℕ). AreOutcomes script (suc (count + 1)) n (wrong || flawed) (out ++ text)) (sym is)
+    (subst (λ (n : ℕ). AreOutcomes script (suc n) (orders_joined orders more) (wrong || flawed) (out ++ text)) (sym (add-one count)) (one_outcome_more (suc count) orders more wrong flawed out text before numbered)))
+
+-- all that is written, by its head and its outcomes
+pub written_of : (script head text out : List ℕ) (states orders more : ℕ) (endless flawed : Bool) → head ≡ figures_text states orders ++ endless_text endless → AreOutcomes script (suc more) orders flawed text
+    → out ≡ head ++ text → WritesAll script (endless || flawed) out
+written_of script head text out states orders more endless flawed is outcomes e = record {
+  states = states;
+  orders = orders;
+  endless = endless;
+  flawed = flawed;
+  more = more;
+  text = text;
+  outcomes = outcomes;
+  is_wrong = refl;
+  is = e ∙ ap (λ (h : List ℕ). h ++ text) is;
+}

@@ -283,7 +283,7 @@ fn whole(alloc: Global, script: &[u8], start: &Start, found: &Found) -> Result<B
     text.extend_from_slice(&outcomes.text)?;
     Ok(Block {
         text,
-        flawed: endless || outcomes.flawed,
+        flawed: endless | outcomes.flawed,
     })
 }
 

@@ -1,6 +1,7 @@
-use Rattle.std.proofs.Common.{suc, ◌+◌}
 use Rattle.ds_explore.proofs.Telling.{outcome_of}
 use Rattle.ds_explore.proofs.explore.outcome_block.Goals as goal
 
 pub returns : goal.returns
-returns c = ?
+returns c =
+    outcome_of c.shape.result c.args.script.now c.in_ok-longer.longer.items c.deref-3.result.now c.args.at c.orders_of-orders.result.count c.in_ok-block.block.flawed c.in_ok-block.block.text.items
+    c.in_ok-longer.ensures c.deref-3.ensures.value c.in_ok-block.ensures
