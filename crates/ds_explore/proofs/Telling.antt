@@ -16,7 +16,7 @@ use Rattle.ds_formula.specs.declared.cells.Shape.{Shape}
 use Rattle.ds_explore.specs.declared.lines.FoundLine.{FoundLine}
 use Rattle.ds_explore.specs.declared.flaw.Flaw.{Flaw}
 use Rattle.ds_explore.specs.Lines.{IsLines, no_line, one_line_more, line_text, GoesOn}
-use Rattle.ds_explore.specs.Explored.{IsWrong, right, one_flaw_more, wrong_text, IsBlock, IsOutcome, IsWritten, figures, one_outcome_more, figures_text, endless_text, WritesAll, Explores, end_of, end_short}
+use Rattle.ds_explore.specs.Explored.{IsWrong, right, one_flaw_more, wrong_text, IsBlock, IsOutcome, AreOutcomes, one_outcome_more, orders_joined, figures_text, endless_text, WritesAll, Explores, end_of, end_short}
 
 -- a reader over a script that has ended gave all of it
 gave_all : (limit : ℕ) (script : List ℕ) (after : Option (List ℕ)) (ended failed : Bool) (bytes : List ℕ) (end : InputEnd)
@@ -45,8 +45,8 @@ explores_all script out false false h = h
 -- nothing is written of a script that does not end
 pub explores_none : (script : List ℕ) (short : Short) → FallsShort true script (2 ^ 64 - 1) short → Explores script [] (end_short short)
 explores_none script (shorts.Fault line kind) h = (refl, h)
-explores_none script shorts.Ended h = inl refl
-explores_none script shorts.NoMemory h = inl refl
+explores_none script shorts.Ended h = refl
+explores_none script shorts.NoMemory h = refl
 
 -- ---- texts, line by line
 
@@ -72,21 +72,34 @@ wrong_more flawed text line new flaw wrongs is e =
 
 -- the outcome with this number, by the text of its script
 pub outcome_of : (shape : Shape) (script longer given : List ℕ) (at orders : ℕ) (flawed : Bool) (text : List ℕ) → GoesOn shape script longer → given ≡ longer → IsBlock (at + 1) orders given flawed text
-    → IsOutcome script (suc at) flawed text
+    → IsOutcome script (suc at) orders flawed text
 outcome_of shape script longer given at orders flawed text goes is block = record {
-  orders = orders;
   shape = shape;
   longer = longer;
   goes_on = goes;
   block = subst (λ (n : ℕ). IsBlock n orders longer flawed text) (add-one at) (subst (λ (s : List ℕ). IsBlock (at + 1) orders s flawed text) is block);
 }
 
--- the figures are written
-pub written_head : (script head : List ℕ) (states orders : ℕ) (endless : Bool) → head ≡ figures_text states orders ++ endless_text endless → IsWritten script 0 endless head
-written_head script head states orders endless is = subst (λ (t : List ℕ). IsWritten script 0 endless t) (sym is) (figures states orders endless)
+-- one outcome more behind the others
+pub outcomes_more : (script : List ℕ) (count orders more sum : ℕ) (wrong flawed : Bool) (out text new : List ℕ) → AreOutcomes script (suc count) orders wrong out → IsOutcome script (suc (count + 1)) more flawed text
+    → sum ≡ orders_joined orders more → new ≡ out ++ text → AreOutcomes script (suc (count + 1)) sum (wrong || flawed) new
+outcomes_more script count orders more sum wrong flawed out text new before outcome is e =
+    let numbered = subst (λ (n : ℕ). IsOutcome script (suc n) more flawed text) (add-one count) outcome in
+    subst (λ (t : List ℕ). AreOutcomes script (suc (count + 1)) sum (wrong || flawed) t) (sym e)
+    (subst (λ (n : ℕ). AreOutcomes script (suc (count + 1)) n (wrong || flawed) (out ++ text)) (sym is)
+    (subst (λ (n : ℕ). AreOutcomes script (suc n) (orders_joined orders more) (wrong || flawed) (out ++ text)) (sym (add-one count)) (one_outcome_more (suc count) orders more wrong flawed out text before numbered)))
 
--- one outcome more is written
-pub written_more : (script : List ℕ) (count : ℕ) (wrong flawed : Bool) (out text : List ℕ) → IsWritten script count wrong out → IsOutcome script (suc count) flawed text
-    → IsWritten script (count + 1) (wrong || flawed) (out ++ text)
-written_more script count wrong flawed out text written outcome =
-    subst (λ (n : ℕ). IsWritten script n (wrong || flawed) (out ++ text)) (sym (add-one count)) (one_outcome_more count wrong flawed out text written outcome)
+-- all that is written, by its head and its outcomes
+pub written_of : (script head text out : List ℕ) (states orders more : ℕ) (endless flawed : Bool) → head ≡ figures_text states orders ++ endless_text endless → AreOutcomes script (suc more) orders flawed text
+    → out ≡ head ++ text → WritesAll script (endless || flawed) out
+written_of script head text out states orders more endless flawed is outcomes e = record {
+  states = states;
+  orders = orders;
+  endless = endless;
+  flawed = flawed;
+  more = more;
+  text = text;
+  outcomes = outcomes;
+  is_wrong = refl;
+  is = e ∙ ap (λ (h : List ℕ). h ++ text) is;
+}

@@ -1,5 +1,5 @@
 -- What an exploration writes.
-use Rattle.std.specs.Prelude.{ℕ, suc, ◌≡◌, ◌<◌, ◌-◌, ◌^◌, ◌⊎◌, ◌||◌, Bool, true, false, List, [], ◌++◌, length, codes}
+use Rattle.std.specs.Prelude.{ℕ, suc, ◌+◌, ◌≡◌, ◌<◌, ◌-◌, ◌^◌, ◌||◌, min, Bool, true, false, List, [], ◌++◌, length, codes}
 use Rattle.std.specs.Fmt.{decimal}
 use Rattle.ds_formula.specs.Limits.{INPUT_MOST}
 use Rattle.ds_formula.specs.declared.cells.Shape.{Shape}
@@ -53,14 +53,24 @@ pub record IsBlock (number orders : ℕ) (script : List ℕ) (flawed : Bool) (te
   pub finishes : Finishes true script answers
   pub is : text ≡ outcome_text number orders wrong script answers
 
--- the outcome with this number: a script that goes on behind the one that was given, and ends; what is written is that
--- script, and what it is answered
-pub record IsOutcome (script : List ℕ) (number : ℕ) (flawed : Bool) (text : List ℕ) : Type 0 where
-  pub orders : ℕ
+-- the outcome with this number, to which so many orders lead: a script that goes on behind the one that was given, and
+-- ends; what is written is that script, and what it is answered
+pub record IsOutcome (script : List ℕ) (number orders : ℕ) (flawed : Bool) (text : List ℕ) : Type 0 where
   pub shape : Shape
   pub longer : List ℕ
   pub goes_on : GoesOn shape script longer
   pub block : IsBlock number orders longer flawed text
+
+-- the orders of all, one outcome more; they are not counted beyond 2^128 - 1
+abbrev pub orders_joined : ℕ → ℕ → ℕ
+orders_joined orders more = min (orders + more) (2 ^ 128 - 1)
+
+-- so many outcomes, one behind the other, from number 1; how many orders lead to them, and whether something is wrong
+-- with one
+pub data AreOutcomes (script : List ℕ) : ℕ → ℕ → Bool → List ℕ → Type 0 where
+  one_outcome : (orders : ℕ) (flawed : Bool) (text : List ℕ) → IsOutcome script 1 orders flawed text → AreOutcomes script 1 orders flawed text
+  one_outcome_more : (count orders more : ℕ) (wrong flawed : Bool) (out text : List ℕ) → AreOutcomes script count orders wrong out → IsOutcome script (suc count) more flawed text
+      → AreOutcomes script (suc count) (orders_joined orders more) (wrong || flawed) (out ++ text)
 
 -- ---- all that is written
 
@@ -73,15 +83,18 @@ abbrev pub endless_text : Bool → List ℕ
 endless_text true = codes "wrong: an order comes to a state again\n\n"
 endless_text false = codes "\n"
 
--- the figures, and so many outcomes behind them; whether something is wrong
-pub data IsWritten (script : List ℕ) : ℕ → Bool → List ℕ → Type 0 where
-  figures : (states orders : ℕ) (endless : Bool) → IsWritten script 0 endless (figures_text states orders ++ endless_text endless)
-  one_outcome_more : (count : ℕ) (wrong flawed : Bool) (out text : List ℕ) → IsWritten script count wrong out → IsOutcome script (suc count) flawed text
-      → IsWritten script (suc count) (wrong || flawed) (out ++ text)
-
--- some outcomes are written, and whether something is wrong with them
-abbrev pub WritesAll : List ℕ → Bool → List ℕ → Type 0
-WritesAll script wrong out = (count : ℕ) × IsWritten script count wrong out
+-- the figures, and at least one outcome behind them; whether something is wrong. So many orders are there as lead to
+-- the outcomes
+pub record WritesAll (script : List ℕ) (wrong : Bool) (out : List ℕ) : Type 0 where
+  pub states : ℕ
+  pub orders : ℕ
+  pub endless : Bool
+  pub flawed : Bool
+  pub more : ℕ
+  pub text : List ℕ
+  pub outcomes : AreOutcomes script (suc more) orders flawed text
+  pub is_wrong : wrong ≡ (endless || flawed)
+  pub is : out ≡ (figures_text states orders ++ endless_text endless) ++ text
 
 -- how an exploration ends whose outcomes are written: by whether there are more states, and whether something is wrong
 abbrev pub end_of : Bool → Bool → ExploreEnd
@@ -102,7 +115,7 @@ Explores script out ends.Wrong = WritesAll script true out
 Explores script out ends.TooManyStates = (wrong : Bool) × WritesAll script wrong out
 Explores script out (ends.Fault line kind) = (out ≡ []) × BreaksBefore true script (2 ^ 64 - 1) line kind
 Explores script out ends.TooLong = (out ≡ []) × (INPUT_MOST < length script)
-Explores script out ends.NoMemory = (out ≡ []) ⊎ ((wrong : Bool) × WritesAll script wrong out)
+Explores script out ends.NoMemory = out ≡ []
 Explores script out ends.WriteFailed = Unit {0}
 
 -- the text of how an exploration ended

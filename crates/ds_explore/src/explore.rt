@@ -3,15 +3,16 @@
 ghost use Rattle.std.specs.Prelude.{◌≡◌, ◌≢◌, ◌++◌, ◌∷◌, ◌||◌, ◌<◌, ◌^◌, ◌-◌, ◌⊎◌, Bool, true, ℕ, suc, List, [], IfOk, IfErr, length, string_bytes};
 ghost use Rattle.std.specs.Io.KnownBytes.{Appends};
 ghost use Rattle.ds_streams.specs.Streams.{writer_of, write_failed};
-ghost use Rattle.ds_explore.specs.Explored.{wrong_text, IsWrong, IsBlock, IsOutcome, IsWritten, WritesAll, Explores, heading_text, figures_text, endless_text, end_of, end_short};
+ghost use Rattle.ds_explore.specs.Explored.{wrong_text, IsWrong, IsBlock, IsOutcome, AreOutcomes, WritesAll, Explores, heading_text, figures_text, endless_text, end_of, end_short};
 
 use crate::answers::{answers_to, continued};
 use crate::flaw::Flaw;
 use crate::graph::{Way, path};
 use crate::options::{Options, Watcher};
-use crate::orders::{Orders, count_orders, total};
+use crate::orders::{Orders, count_orders};
+use crate::outcomes::Outcome;
 use crate::script::lines_of;
-use crate::search::{Outcome, Search, Start, go_through};
+use crate::search::{Search, Start, go_through};
 use ds_stops::reach::Short;
 use ds_streams::ending::ScriptFault;
 use ds_streams::line::INPUT_LIMIT;
@@ -28,7 +29,7 @@ pub enum ExploreEnd {
     /// All orders were gone through, and something is wrong: the lines that begin with `wrong` say what.
     Wrong,
     /// There are more states than may be gone through. The outcomes that were found until then are written, with as many
-    /// orders as were found.
+    /// orders as were found: the first one also where that is none.
     TooManyStates,
     /// This line of the script, counted from 1, has a fault. Nothing is written.
     Fault { line: usize, kind: ScriptFault },
@@ -36,7 +37,7 @@ pub enum ExploreEnd {
     TooLong,
     /// The writer failed.
     WriteFailed,
-    /// An allocation failed, or a script that was found would be too long.
+    /// An allocation failed, or a script that was found would be too long. Nothing is written.
     NoMemory,
 }
 
@@ -67,6 +68,8 @@ impl fmt::Display for ExploreEnd {
 #[derive(Drop)]
 struct Found {
     search: Search,
+    // What happens where the calls are carried out one after another, which leads to the first outcome.
+    straight: Vec<u32>,
     orders: Vec<Orders>,
     ways: Vec<Way>,
 }
@@ -78,6 +81,14 @@ struct Block {
     flawed: bool,
 }
 
+// The text of outcomes, how many orders lead to them, at most 2^128 - 1, and whether something is wrong with one.
+#[derive(Drop)]
+struct Written {
+    text: Vec<u8>,
+    orders: u128,
+    flawed: bool,
+}
+
 impl Found {
     // The orders of the outcome with this number, from 0.
     fn orders_of(&self, number: usize) -> Orders {
@@ -86,15 +97,22 @@ impl Found {
             None => Orders::NONE,
         }
     }
+
+    // What happens in a shortest order that leads to the outcome with this number, from 0. To the first one an order is
+    // known from the start on.
+    fn path(&self, alloc: Global, number: usize) -> Result<Vec<u32>, AllocError> {
+        let orders = self.orders_of(number);
+        if number == 0 && self.straight.len() as u64 <= orders.length {
+            return self.straight.clone();
+        }
+        path(alloc, &self.ways, orders.state)
+    }
 }
 
 // Goes through all orders from this start on, and counts them.
-fn find<T: Watcher>(
-    alloc: Global,
-    start: &Start<'_>,
-    watcher: &mut T,
-) -> Result<Found, AllocError> {
-    let search = go_through(alloc, start, watcher)?;
+fn find<T: Watcher>(alloc: Global, start: &Start, watcher: &mut T) -> Result<Found, AllocError> {
+    let (first, straight) = start.straight(alloc)?;
+    let search = go_through(alloc, start, first, watcher)?;
     let (orders, ways) = count_orders(
         alloc,
         search.states(),
@@ -103,6 +121,7 @@ fn find<T: Watcher>(
     )?;
     Ok(Found {
         search,
+        straight,
         orders,
         ways,
     })
@@ -130,7 +149,7 @@ fn wrong_lines(alloc: Global, flaws: &[Flaw]) -> Result<Block, AllocError>
 }
 
 // The line at the head of an outcome.
-fn heading(alloc: Global, number: usize, orders: u128) -> Result<Vec<u8>, AllocError>
+fn heading(alloc: Global, number: u128, orders: u128) -> Result<Vec<u8>, AllocError>
     ensures { IfOk result (λ text. text.items ≡ heading_text number orders) }
 {
     Ok(format!(in alloc; "outcome {number}: orders {orders}\n")?.into_bytes())
@@ -148,7 +167,7 @@ fn all_flaws(outcome: &Outcome, answers: &[u8]) -> Result<Vec<Flaw>, AllocError>
 // The text of an outcome with this number, of this script.
 fn script_block(
     alloc: Global,
-    number: usize,
+    number: u128,
     orders: u128,
     outcome: &Outcome,
     script: &[u8],
@@ -174,19 +193,51 @@ fn script_block(
 fn outcome_block(
     alloc: Global,
     script: &[u8],
-    start: &Start<'_>,
+    start: &Start,
     found: &Found,
     outcome: &Outcome,
     at: usize,
-) -> Result<Block, AllocError>
-    requires { at < 2 ^ 64 - 1 }
-    ensures { IfOk result (λ block. IsOutcome script.now (suc at) block.flawed block.text.items) }
+) -> Result<Written, AllocError>
+    ensures { IfOk result (λ made. IsOutcome script.now (suc at) made.orders made.flawed made.text.items) }
 {
-    let orders = found.orders_of(at);
-    let path = path(alloc, &found.ways, orders.state)?;
+    let orders = found.orders_of(at).count;
+    let path = found.path(alloc, at)?;
     let lines = lines_of(alloc, start, &path, outcome.crashed)?;
     let longer = continued(alloc, script, start.shape(), &lines)?;
-    script_block(alloc, at + 1, orders.count, outcome, &longer)
+    let number = at as u128 + 1;
+    let block = script_block(alloc, number, orders, outcome, &longer)?;
+    Ok(Written {
+        text: block.text,
+        orders,
+        flawed: block.flawed,
+    })
+}
+
+// All outcomes.
+fn all_outcomes(
+    alloc: Global,
+    script: &[u8],
+    start: &Start,
+    found: &Found,
+) -> Result<Written, AllocError>
+    ensures { IfOk result (λ made. (more : ℕ) × AreOutcomes script.now (suc more) made.orders made.flawed made.text.items) }
+{
+    let outcomes = &found.search.outcomes;
+    let first = outcome_block(alloc, script, start, found, &outcomes.first, 0)?;
+    let mut text = first.text;
+    let mut orders = first.orders;
+    let mut flawed = first.flawed;
+    for i in 0..outcomes.rest.len() {
+        let made = outcome_block(alloc, script, start, found, &outcomes.rest[i], i + 1)?;
+        text.extend_from_slice(&made.text)?;
+        orders = orders.saturating_add(made.orders);
+        flawed |= made.flawed;
+    }
+    Ok(Written {
+        text,
+        orders,
+        flawed,
+    })
 }
 
 // The lines at the head.
@@ -222,11 +273,25 @@ fn ending(is_cut: bool, wrong: bool) -> ExploreEnd
     }
 }
 
-// Writes the outcomes behind what is written, where something is wrong or not.
+// All that is written, and whether something is wrong.
+fn whole(alloc: Global, script: &[u8], start: &Start, found: &Found) -> Result<Block, AllocError>
+    ensures { IfOk result (λ all. WritesAll script.now all.flawed all.text.items) }
+{
+    let outcomes = all_outcomes(alloc, script, start, found)?;
+    let endless = found.search.is_endless;
+    let mut text = figures(alloc, found.search.states(), outcomes.orders, endless)?;
+    text.extend_from_slice(&outcomes.text)?;
+    Ok(Block {
+        text,
+        flawed: endless | outcomes.flawed,
+    })
+}
+
+// Writes what was found.
 fn write_found<W: Write>(
     alloc: Global,
     script: &[u8],
-    start: &Start<'_>,
+    start: &Start,
     found: &Found,
     writer: &mut Writing<W>,
 ) -> ExploreEnd
@@ -235,28 +300,13 @@ fn write_found<W: Write>(
     ensures writes { result ≢ ExploreEnd.WriteFailed → (out : List ℕ) × Appends (W.contents (writer_of writer.old)) (W.contents (writer_of writer.new)) out
         × Explores script.now out result }
 {
-    let mut wrong = found.search.is_endless;
-    let Ok(head) = figures(alloc, found.search.states(), total(&found.orders), wrong) else {
+    let Ok(all) = whole(alloc, script, start, found) else {
         return ExploreEnd::NoMemory;
     };
-    match writer.write_all(&head) {
-        Ok(()) => {}
-        Err(_) => return ExploreEnd::WriteFailed,
+    match writer.write_all(&all.text) {
+        Ok(()) => ending(found.search.is_cut, all.flawed),
+        Err(_) => ExploreEnd::WriteFailed,
     }
-    for i in 0..found.search.outcomes.len() {
-        let outcome = &found.search.outcomes[i];
-        match outcome_block(alloc, script, start, found, outcome, i) {
-            Ok(made) => {
-                match writer.write_all(&made.text) {
-                    Ok(()) => {}
-                    Err(_) => return ExploreEnd::WriteFailed,
-                }
-                wrong |= made.flawed;
-            }
-            Err(_) => return ExploreEnd::NoMemory,
-        }
-    }
-    ending(found.search.is_cut, wrong)
 }
 
 // How an exploration ends whose script does not end.
@@ -301,6 +351,7 @@ fn explore_all<W: Write, T: Watcher>(
 ///
 /// It writes how many states and orders there are, and then each outcome once: how many orders lead to it, what is
 /// wrong with it where something is, and a script of a shortest of these orders, with what `run_script` writes for it.
+/// The first outcome is that of the calls one after another, in the order of their processes.
 /// States that were met before are not gone through again: a state is its words, the situations and buffers of its
 /// processes, and what their calls were answered. Numbers of orders end at 2^128 - 1. The watcher is told how many
 /// states there are, at each event that is tried.

@@ -2,7 +2,6 @@
 
 use crate::ends::{Ending, values};
 use crate::flaw::Flaw;
-use crate::position::Position;
 use ds_calls::settle::SettleEnd;
 use ds_core::event::Event;
 use ds_core::take::take;
@@ -12,6 +11,7 @@ use ds_eval::sheet::Sheet;
 use ds_eval::value::Value;
 use ds_formula::content::Content;
 use ds_formula::reading::read_content;
+use ds_positions::position::Position;
 use ds_state::refusal::Refusal;
 use ds_state::shown;
 use ds_state::situation::Situation;

@@ -2,7 +2,6 @@
 #![tactic(auto)]
 
 mod answers;
-mod describe;
 mod ends;
 pub mod explore;
 pub mod flaw;
@@ -11,7 +10,6 @@ mod judge;
 pub mod lines;
 pub mod options;
 mod orders;
-mod position;
+mod outcomes;
 mod script;
 mod search;
-mod touched;

@@ -58,12 +58,3 @@ pub(crate) fn count_orders(
     }
     Ok((orders, ways))
 }
-
-/// How many orders there are in all, at most 2^128 - 1.
-pub(crate) fn total(orders: &[Orders]) -> u128 {
-    let mut total = 0u128;
-    for each in orders {
-        total = total.saturating_add(each.count);
-    }
-    total
-}

@@ -1,10 +1,10 @@
 //! The script of an order.
 
 use crate::lines::FoundLine;
-use crate::position::{Move, Position};
 use crate::search::Start;
 use ds_play::drive::has_come;
 use ds_play::point::PointName;
+use ds_positions::position::{Move, Position};
 use ds_state::world::World;
 use std::alloc::{AllocError, Global};
 
@@ -165,11 +165,11 @@ impl Lines {
 /// The lines of an order of these events, with a crash behind it or not, and of what is done then.
 pub(crate) fn lines_of(
     alloc: Global,
-    start: &Start<'_>,
+    start: &Start,
     path: &[u32],
     crashed: bool,
 ) -> Result<Vec<FoundLine>, AllocError> {
-    let mut position = start.replay(alloc, &[])?;
+    let mut position = start.position(alloc)?;
     let mut lines = Lines {
         lines: Vec::new(alloc),
         steps: None,

@@ -3,81 +3,29 @@
 ghost use Rattle.std.specs.Prelude.{◌≡◌, ◌-◌, ◌^◌, true, IfErr};
 ghost use Rattle.ds_stops.specs.Reaching.{FallsShort};
 
-use crate::describe::Numbers;
 use crate::ends::end;
-use crate::flaw::Flaw;
 use crate::graph::{Edge, Node};
 use crate::judge::Judge;
 use crate::options::{Options, Watcher};
-use crate::position::{Move, Position, buffered, is_in_call, start};
-use crate::touched::Touched;
+use crate::outcomes::{Outcome, Outcomes};
 use ds_core::event::Event;
 use ds_core::take::take;
 use ds_formula::cells::Shape;
-use ds_layout::layout::Layout;
+use ds_positions::describe::Numbers;
+use ds_positions::position::{Move, Position, is_in_call, start};
+use ds_positions::touched::Touched;
+use ds_state::world::World;
 use ds_stops::reach::Short;
 use std::alloc::{AllocError, Global};
 use std::collections::HashMap;
 
-/// An outcome of orders.
-#[derive(Drop)]
-pub(crate) struct Outcome {
-    // What each call was answered.
-    answers: Vec<Vec<u8>>,
-    // What is told behind the order.
-    tail: Vec<u8>,
-    /// What is wrong with it.
-    pub(crate) flaws: Vec<Flaw>,
-    /// Whether the order ends with a crash.
-    pub(crate) crashed: bool,
-}
-
-// Whether the text has this part.
-fn contains(text: &[u8], part: &[u8]) -> bool {
-    if part.is_empty() {
-        return true;
-    }
-    text.windows(part.len()).any(|window| window == part)
-}
-
-impl Outcome {
-    /// Whether a script that has these answers has this outcome: its calls are answered so, and behind the order this is
-    /// told, and nothing else.
-    pub(crate) fn is_in(&self, answers: &[u8]) -> bool {
-        for answer in &self.answers {
-            if !contains(answers, answer) {
-                return false;
-            }
-        }
-        answers.ends_with(&self.tail)
-    }
-
-    // What distinguishes it from all others.
-    fn key(&self, alloc: Global) -> Result<Vec<u8>, AllocError> {
-        let mut key = Vec::new(alloc);
-        for answer in &self.answers {
-            key.extend_from_slice(answer)?;
-        }
-        if self.crashed {
-            key.extend_from_slice(b"crashed\n")?;
-        }
-        key.extend_from_slice(&self.tail)?;
-        for flaw in &self.flaws {
-            key.extend_from_slice(format!(in alloc; "{flaw}\n")?.as_bytes())?;
-        }
-        Ok(key)
-    }
-}
-
 /// Where orders begin.
 #[derive(Drop)]
-pub(crate) struct Start<'a> {
-    script: &'a [u8],
+pub(crate) struct Start {
     options: Options,
-    buffered: Vec<usize>,
+    first: Position,
     touched: Touched,
     judge: Judge,
-    shape: Shape,
     /// What may happen, by its number.
     pub(crate) moves: Vec<Move>,
 }
@@ -93,6 +41,21 @@ struct Frame {
     crash: Option<usize>,
     // What a crash leaves, where it has not come yet.
     crashes: Option<Vec<u8>>,
+    // The state itself, as long as something has not happened in it.
+    position: Option<Position>,
+}
+
+impl Frame {
+    // The state, for what happens next in it: a copy as long as more has not happened.
+    fn position(&mut self, alloc: Global) -> Result<Option<Position>, AllocError> {
+        if self.ahead.is_empty() && self.crashes.is_none() {
+            return Ok(self.position.take());
+        }
+        match &self.position {
+            Some(position) => Ok(Some(position.copy(alloc)?)),
+            None => Ok(None),
+        }
+    }
 }
 
 /// The orders as far as they were gone through.
@@ -102,11 +65,9 @@ pub(crate) struct Search {
     seen: HashMap<Vec<u8>, u32>,
     left: Vec<bool>,
     crashes: HashMap<Vec<u8>, usize>,
-    found: HashMap<Vec<u8>, usize>,
     frames: Vec<Frame>,
-    path: Vec<u32>,
     /// The outcomes.
-    pub(crate) outcomes: Vec<Outcome>,
+    pub(crate) outcomes: Outcomes,
     /// The states, each behind those that it leads to.
     pub(crate) nodes: Vec<Node>,
     /// Whether there are more states than there may be.
@@ -152,48 +113,38 @@ fn moves(alloc: Global, processes: usize, touched: &Touched) -> Result<Vec<Move>
     Ok(moves)
 }
 
-impl<'a> Start<'a> {
-    /// The orders of the calls that are under way where the script ends. An error is why it does not end.
-    pub(crate) fn new(alloc: Global, script: &'a [u8], options: Options) -> Result<Start<'a>, Short>
-        ensures { IfErr result (FallsShort true script.now (2 ^ 64 - 1)) }
-    {
-        let world = start(alloc, script)?;
-        let Layout { shape, processes } = world.words.layout();
-        let buffered = buffered(alloc, script, processes)?;
-        let touched = memory(Touched::of(alloc, &world))?;
-        let moves = memory(moves(alloc, processes, &touched))?;
-        let judge = memory(Judge::new(alloc, world))?;
+impl Start {
+    // The orders of the calls that are under way in this world. An error is a want of memory.
+    fn of(alloc: Global, world: World, options: Options) -> Result<Start, AllocError> {
+        let touched = Touched::of(alloc, &world)?;
+        let moves = moves(alloc, world.words.layout().processes, &touched)?;
+        let judge = Judge::new(alloc, world.copy(alloc)?)?;
+        let first = Position::new(alloc, world)?;
         Ok(Start {
-            script,
             options,
-            buffered,
+            first,
             touched,
             judge,
-            shape,
             moves,
         })
     }
 
+    /// The orders of the calls that are under way where the script ends. An error is why it does not end.
+    pub(crate) fn new(alloc: Global, script: &[u8], options: Options) -> Result<Start, Short>
+        ensures { IfErr result (FallsShort true script.now (2 ^ 64 - 1)) }
+    {
+        let world = start(alloc, script)?;
+        memory(Start::of(alloc, world, options))
+    }
+
     /// The shape of the sheet.
     pub(crate) fn shape(&self) -> Shape {
-        self.shape
+        self.first.world.words.layout().shape
     }
 
-    // The first state.
-    fn position(&self, alloc: Global) -> Result<Position, AllocError> {
-        let Ok(world) = start(alloc, self.script) else {
-            return Err(AllocError);
-        };
-        Position::new(alloc, world, &self.buffered)
-    }
-
-    /// The state behind these events.
-    pub(crate) fn replay(&self, alloc: Global, path: &[u32]) -> Result<Position, AllocError> {
-        let mut position = self.position(alloc)?;
-        for by in path {
-            self.happen(alloc, &mut position, *by)?;
-        }
-        Ok(position)
+    /// The first state.
+    pub(crate) fn position(&self, alloc: Global) -> Result<Position, AllocError> {
+        self.first.copy(alloc)
     }
 
     // What has this number happens.
@@ -236,6 +187,39 @@ impl<'a> Start<'a> {
         Ok(ahead)
     }
 
+    // The call of a process is carried out to its end; what happens is added to the path.
+    fn finish(
+        &self,
+        alloc: Global,
+        position: &mut Position,
+        process: usize,
+        path: &mut Vec<u32>,
+    ) -> Result<(), AllocError> {
+        let Ok(by) = u32::try_from(process) else {
+            return Err(AllocError);
+        };
+        for _ in 0..u64::MAX {
+            if !is_in_call(&position.world, process) {
+                break;
+            }
+            self.happen(alloc, position, by)?;
+            path.push(by)?;
+        }
+        Ok(())
+    }
+
+    /// The calls are carried out one after another, in the order of their processes: what that comes to, and what
+    /// happens on the way.
+    pub(crate) fn straight(&self, alloc: Global) -> Result<(Outcome, Vec<u32>), AllocError> {
+        let mut position = self.position(alloc)?;
+        let mut path = Vec::new(alloc);
+        for process in 0..position.seats.len() {
+            self.finish(alloc, &mut position, process, &mut path)?;
+        }
+        let outcome = self.outcome(alloc, &mut position, false)?;
+        Ok((outcome, path))
+    }
+
     // What an order comes to that ends here.
     fn outcome(
         &self,
@@ -255,33 +239,19 @@ impl<'a> Start<'a> {
 }
 
 impl Search {
-    // No state was found yet.
-    fn new(alloc: Global) -> Search {
+    // No state was found yet, and this outcome.
+    fn new(alloc: Global, outcomes: Outcomes) -> Search {
         Search {
             numbers: Numbers::new(alloc),
             seen: HashMap::new(alloc),
             left: Vec::new(alloc),
             crashes: HashMap::new(alloc),
-            found: HashMap::new(alloc),
             frames: Vec::new(alloc),
-            path: Vec::new(alloc),
-            outcomes: Vec::new(alloc),
+            outcomes,
             nodes: Vec::new(alloc),
             is_cut: false,
             is_endless: false,
         }
-    }
-
-    // The number of an outcome.
-    fn number(&mut self, alloc: Global, outcome: Outcome) -> Result<usize, AllocError> {
-        let key = outcome.key(alloc)?;
-        if let Some(number) = self.found.get(key.as_slice()) {
-            return Ok(*number);
-        }
-        let number = self.outcomes.len();
-        self.outcomes.push(outcome)?;
-        self.found.insert(key, number)?;
-        Ok(number)
     }
 
     // The event with this number has led from the last state to that one.
@@ -306,7 +276,7 @@ impl Search {
     fn crash_of(
         &mut self,
         alloc: Global,
-        start: &Start<'_>,
+        start: &Start,
         position: &Position,
     ) -> Result<(Option<usize>, Option<Vec<u8>>), AllocError> {
         if !start.options.crashes {
@@ -319,61 +289,60 @@ impl Search {
         }
     }
 
-    // A state that was not found before is gone through from now on. It is given back where it goes on.
+    // A state that was not found before is gone through from now on.
     fn open(
         &mut self,
         alloc: Global,
-        start: &Start<'_>,
+        start: &Start,
         state: u32,
-        mut position: Position,
-    ) -> Result<Option<Position>, AllocError> {
+        position: Position,
+    ) -> Result<(), AllocError> {
         let (crash, crashes) = self.crash_of(alloc, start, &position)?;
         let ahead = start.ahead(alloc, &position)?;
-        let mut frame = Frame {
+        let end = if position.is_under_way() {
+            None
+        } else {
+            let mut last = position.copy(alloc)?;
+            let outcome = start.outcome(alloc, &mut last, false)?;
+            Some(self.outcomes.number(alloc, outcome)?)
+        };
+        self.frames.push(Frame {
             state,
             ahead,
             edges: Vec::new(alloc),
-            end: None,
+            end,
             crash,
             crashes,
-        };
-        if position.is_under_way() {
-            self.frames.push(frame)?;
-            return Ok(Some(position));
-        }
-        let outcome = start.outcome(alloc, &mut position, false)?;
-        frame.end = Some(self.number(alloc, outcome)?);
-        self.frames.push(frame)?;
-        Ok(None)
+            position: Some(position),
+        })?;
+        Ok(())
     }
 
-    // The state that an event has led to. It is given back where orders go on from it.
+    // The state that an event has led to.
     fn visit(
         &mut self,
         alloc: Global,
-        start: &Start<'_>,
+        start: &Start,
         by: u32,
         position: Position,
-    ) -> Result<Option<Position>, AllocError> {
+    ) -> Result<(), AllocError> {
         let key = self.numbers.state(alloc, &position, &start.touched)?;
         if let Some(state) = self.seen.get(key.as_slice()) {
             let state = *state;
-            self.meet(by, state)?;
-            return Ok(None);
+            return self.meet(by, state);
         }
         let count = self.left.len();
         let Ok(state) = u32::try_from(count) else {
             self.is_cut = true;
-            return Ok(None);
+            return Ok(());
         };
         if count >= start.options.most {
             self.is_cut = true;
-            return Ok(None);
+            return Ok(());
         }
         self.lead(by, state)?;
         self.seen.insert(key, state)?;
         self.left.push(false)?;
-        self.path.push(by)?;
         self.open(alloc, start, state, position)
     }
 
@@ -397,7 +366,6 @@ impl Search {
 
     // All that may happen in the last state has happened.
     fn leave(&mut self) -> Result<(), AllocError> {
-        let _by = self.path.pop();
         let Some(frame) = self.frames.pop() else {
             return Ok(());
         };
@@ -414,7 +382,7 @@ impl Search {
     }
 
     // A crash comes in the last state, and leaves this.
-    fn crash(&mut self, alloc: Global, start: &Start<'_>, key: Vec<u8>) -> Result<(), AllocError> {
+    fn crash(&mut self, alloc: Global, start: &Start, key: Vec<u8>) -> Result<(), AllocError> {
         let number = match self.crashes.get(key.as_slice()) {
             Some(number) => *number,
             None => {
@@ -430,31 +398,33 @@ impl Search {
     }
 
     // What an order comes to that ends with a crash in the last state.
-    fn crash_anew(&mut self, alloc: Global, start: &Start<'_>) -> Result<usize, AllocError> {
-        let mut position = start.replay(alloc, &self.path)?;
+    fn crash_anew(&mut self, alloc: Global, start: &Start) -> Result<usize, AllocError> {
+        let mut position = self.position(alloc)?;
         let _crashed = take(alloc, &mut position.world, &Event::Crash);
         let outcome = start.outcome(alloc, &mut position, true)?;
-        self.number(alloc, outcome)
+        self.outcomes.number(alloc, outcome)
     }
 
-    // What has this number happens in the last state, which is at hand or is gone to anew.
-    fn go(
-        &mut self,
-        alloc: Global,
-        start: &Start<'_>,
-        by: u32,
-        at_hand: Option<Position>,
-    ) -> Result<Option<Position>, AllocError> {
-        let mut position = match at_hand {
-            Some(position) => position,
-            None => start.replay(alloc, &self.path)?,
+    // The last state, for what happens next in it. It is there until all has happened.
+    fn position(&mut self, alloc: Global) -> Result<Position, AllocError> {
+        let Some(frame) = self.frames.last_mut() else {
+            return Err(AllocError);
         };
+        match frame.position(alloc)? {
+            Some(position) => Ok(position),
+            None => Err(AllocError),
+        }
+    }
+
+    // What has this number happens in the last state.
+    fn go(&mut self, alloc: Global, start: &Start, by: u32) -> Result<(), AllocError> {
+        let mut position = self.position(alloc)?;
         start.happen(alloc, &mut position, by)?;
         self.visit(alloc, start, by, position)
     }
 
     // The first state.
-    fn begin(&mut self, alloc: Global, start: &Start<'_>) -> Result<Option<Position>, AllocError> {
+    fn begin(&mut self, alloc: Global, start: &Start) -> Result<(), AllocError> {
         let position = start.position(alloc)?;
         let key = self.numbers.state(alloc, &position, &start.touched)?;
         self.seen.insert(key, 0)?;
@@ -468,26 +438,23 @@ impl Search {
     }
 }
 
-/// Goes through all orders from this start on.
+/// Goes through all orders from this start on; the first of the outcomes is at hand.
 pub(crate) fn go_through<W: Watcher>(
     alloc: Global,
-    start: &Start<'_>,
+    start: &Start,
+    first: Outcome,
     watcher: &mut W,
 ) -> Result<Search, AllocError> {
-    let mut search = Search::new(alloc);
-    let mut at_hand = search.begin(alloc, start)?;
+    let mut search = Search::new(alloc, Outcomes::new(alloc, first)?);
+    search.begin(alloc, start)?;
     for _ in 0..u64::MAX {
         match search.next() {
             Next::Happens(by) => {
-                let position = at_hand.take();
-                at_hand = search.go(alloc, start, by, position)?;
+                search.go(alloc, start, by)?;
                 watcher.found(search.states());
             }
             Next::Crashes(key) => search.crash(alloc, start, key)?,
-            Next::Leaves => {
-                at_hand = None;
-                search.leave()?;
-            }
+            Next::Leaves => search.leave()?,
             Next::Ends => return Ok(search),
         }
     }

@@ -22,7 +22,7 @@ use std::alloc::{AllocError, Global};
 
 /// What may happen next, beside the end.
 #[derive(Clone, Copy, Debug, PartialEq, Eq)]
-pub(crate) enum Move {
+pub enum Move {
     /// The process makes a step.
     Step(usize),
     /// The process stops.
@@ -33,26 +33,26 @@ pub(crate) enum Move {
 
 /// A process, as an order has left it.
 #[derive(Drop)]
-pub(crate) struct Seat {
+pub struct Seat {
     /// What its buffer holds, oldest first.
-    pub(crate) buffer: Vec<BufferEntry<Place>>,
+    pub buffer: Vec<BufferEntry<Place>>,
     /// What its call was answered, if it was.
-    pub(crate) answer: Option<Answer>,
+    pub answer: Option<Answer>,
     /// The text of that, or of its stop.
-    pub(crate) text: Vec<u8>,
+    pub text: Vec<u8>,
 }
 
 /// A world with calls under way, and what they were answered.
 #[derive(Drop)]
-pub(crate) struct Position {
+pub struct Position {
     /// The world.
-    pub(crate) world: World,
+    pub world: World,
     /// The processes.
-    pub(crate) seats: Vec<Seat>,
+    pub seats: Vec<Seat>,
 }
 
 /// The world that a script leads to. An error is why it does not end.
-pub(crate) fn start(alloc: Global, script: &[u8]) -> Result<World, Short>
+pub fn start(alloc: Global, script: &[u8]) -> Result<World, Short>
     ensures { IfErr result (FallsShort true script.now (2 ^ 64 - 1)) }
 {
     if script.len() > INPUT_LIMIT {
@@ -73,7 +73,7 @@ pub(crate) fn start(alloc: Global, script: &[u8]) -> Result<World, Short>
 }
 
 /// Whether a process is in a call.
-pub(crate) fn is_in_call(world: &World, process: usize) -> bool {
+pub fn is_in_call(world: &World, process: usize) -> bool {
     match world.situations.get(process) {
         None | Some(Situation::Idle(_)) | Some(Situation::Stopped) => false,
         Some(_) => true,
@@ -103,18 +103,16 @@ fn cached(world: &World, place: Place) -> u64 {
 }
 
 /// One step of a process, as the command `step` makes it: what it does to the words, and its reply.
-pub(crate) fn step(alloc: Global, world: &mut World, process: usize) -> (Access<Place>, Reply) {
+pub fn step(alloc: Global, world: &mut World, process: usize) -> (Access<Place>, Reply) {
     let _offered = offer_own(world, process);
     let access = wanted(world, process);
     let reply = step_once(alloc, world, process);
     (access, reply)
 }
 
-// How many entries of a buffer are there at the start: those that the call writes back beyond those that it flushes.
-fn entries_at(alloc: Global, script: &[u8], process: usize) -> Result<usize, Short>
-    ensures { IfErr result (FallsShort true script.now (2 ^ 64 - 1)) }
-{
-    let mut world = start(alloc, script)?;
+// How many entries of a buffer are there in a world: those that the call writes back beyond those that it flushes.
+fn entries_at(alloc: Global, world: &World, process: usize) -> Result<usize, AllocError> {
+    let mut world = world.copy(alloc)?;
     let mut flushed = 0usize;
     let mut written = 0usize;
     for _ in 0..u64::MAX {
@@ -142,20 +140,6 @@ fn unknown(alloc: Global, count: usize) -> Result<Vec<BufferEntry<Place>>, Alloc
         })?;
     }
     Ok(buffer)
-}
-
-/// How many entries the buffer of each process has where the script ends.
-pub(crate) fn buffered(alloc: Global, script: &[u8], processes: usize) -> Result<Vec<usize>, Short>
-    ensures { IfErr result (FallsShort true script.now (2 ^ 64 - 1)) }
-{
-    let mut counts = Vec::new(alloc);
-    for process in 0..processes {
-        let count = entries_at(alloc, script, process)?;
-        if counts.push(count).is_err() {
-            return Err(Short::NoMemory);
-        }
-    }
-    Ok(counts)
 }
 
 impl Seat {
@@ -189,6 +173,15 @@ impl Seat {
         Ok(())
     }
 
+    // An equal seat, in memory of its own.
+    fn copy(&self, alloc: Global) -> Result<Seat, AllocError> {
+        Ok(Seat {
+            buffer: Vec::from_slice(alloc, &self.buffer)?,
+            answer: self.answer,
+            text: Vec::from_slice(alloc, &self.text)?,
+        })
+    }
+
     fn answers(&mut self, answer: Answer, text: Vec<u8>) {
         self.answer = Some(answer);
         self.text = text;
@@ -201,17 +194,26 @@ impl Seat {
 }
 
 impl Position {
-    /// A world that a script leads to, with so many entries in each buffer.
-    pub(crate) fn new(
-        alloc: Global,
-        world: World,
-        buffered: &[usize],
-    ) -> Result<Position, AllocError> {
+    /// A world that a script leads to, before its calls go on.
+    pub fn new(alloc: Global, world: World) -> Result<Position, AllocError> {
         let mut seats = Vec::new(alloc);
-        for entries in buffered {
-            seats.push(Seat::new(alloc, *entries)?)?;
+        for process in 0..world.words.layout().processes {
+            let entries = entries_at(alloc, &world, process)?;
+            seats.push(Seat::new(alloc, entries)?)?;
         }
         Ok(Position { world, seats })
+    }
+
+    /// An equal position, in memory of its own.
+    pub fn copy(&self, alloc: Global) -> Result<Position, AllocError> {
+        let mut seats = Vec::new(alloc);
+        for seat in &self.seats {
+            seats.push(seat.copy(alloc)?)?;
+        }
+        Ok(Position {
+            world: self.world.copy(alloc)?,
+            seats,
+        })
     }
 
     // A step of a process, and what it was answered.
@@ -249,7 +251,7 @@ impl Position {
     }
 
     /// What may happen happens.
-    pub(crate) fn apply(&mut self, alloc: Global, next: Move) -> Result<(), AllocError> {
+    pub fn apply(&mut self, alloc: Global, next: Move) -> Result<(), AllocError> {
         match next {
             Move::Step(process) => self.step(alloc, process),
             Move::Stop(process) => self.stop(alloc, process),
@@ -261,7 +263,7 @@ impl Position {
     }
 
     /// What the call of each process was answered, or that it was stopped.
-    pub(crate) fn answers(&self, alloc: Global) -> Result<Vec<Vec<u8>>, AllocError> {
+    pub fn answers(&self, alloc: Global) -> Result<Vec<Vec<u8>>, AllocError> {
         let mut answers = Vec::new(alloc);
         for seat in &self.seats {
             answers.push(seat.text.clone()?)?;
@@ -270,7 +272,7 @@ impl Position {
     }
 
     /// Whether a call is under way.
-    pub(crate) fn is_under_way(&self) -> bool {
+    pub fn is_under_way(&self) -> bool {
         for process in 0..self.seats.len() {
             if is_in_call(&self.world, process) {
                 return true;

@@ -22,7 +22,7 @@ enum Sides {
 /// Numbers for descriptions of parts of states: two parts have one number just where their descriptions are the same,
 /// byte for byte.
 #[derive(Drop)]
-pub(crate) struct Numbers {
+pub struct Numbers {
     numbers: HashMap<Vec<u8>, u32>,
 }
 
@@ -88,7 +88,7 @@ fn process(alloc: Global, world: &World, at: usize, seat: &Seat) -> Result<Vec<u
 
 impl Numbers {
     /// No part has a number yet.
-    pub(crate) fn new(alloc: Global) -> Numbers {
+    pub fn new(alloc: Global) -> Numbers {
         Numbers {
             numbers: HashMap::new(alloc),
         }
@@ -129,7 +129,7 @@ impl Numbers {
     }
 
     /// What distinguishes a state from all others: its words, situations and buffers, and what was answered.
-    pub(crate) fn state(
+    pub fn state(
         &mut self,
         alloc: Global,
         position: &Position,
@@ -145,7 +145,7 @@ impl Numbers {
     }
 
     /// What distinguishes what a crash leaves of a state: its persisted words, and what was answered before.
-    pub(crate) fn crashed(
+    pub fn crashed(
         &mut self,
         alloc: Global,
         position: &Position,

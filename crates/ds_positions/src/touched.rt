@@ -9,11 +9,11 @@ use std::alloc::{AllocError, Global};
 /// The words of a sheet that are touched, or may be by the calls under way: those of each cell, and then of each
 /// process.
 #[derive(Drop)]
-pub(crate) struct Touched {
+pub struct Touched {
     /// The words of each cell, then of each process with its records.
-    pub(crate) groups: Vec<Vec<Place>>,
+    pub groups: Vec<Vec<Place>>,
     /// All of them.
-    pub(crate) places: Vec<Place>,
+    pub places: Vec<Place>,
 }
 
 // The words of a cell.
@@ -92,7 +92,7 @@ fn of_process(alloc: Global, world: &World, process: usize) -> Result<Vec<Place>
 
 impl Touched {
     /// The words of this world.
-    pub(crate) fn of(alloc: Global, world: &World) -> Result<Touched, AllocError> {
+    pub fn of(alloc: Global, world: &World) -> Result<Touched, AllocError> {
         let layout = world.words.layout();
         let mut groups = Vec::new(alloc);
         for cell in 0..layout.cells() {

@@ -1,0 +1,6 @@
+use Rattle.std.proofs.Common.{suc}
+use Rattle.ds_explore.specs.Explored.{AreOutcomes}
+use Rattle.ds_explore.proofs.explore.all_outcomes.Given as goal
+
+abbrev pub invariant-loop-i : goal.invariant-loop-i
+invariant-loop-i l = AreOutcomes l.script (suc l.i) l.orders l.flawed l.text.items
