@@ -9,3 +9,5 @@ mod ring;
 pub mod seat;
 pub mod sheet;
 pub mod steps;
+#[cfg(test)]
+mod tests;
