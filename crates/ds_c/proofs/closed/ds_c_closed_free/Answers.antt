@@ -1,15 +1,14 @@
-use Rattle.std.proofs.Common.{rules, ◌≡◌, ℕ, ◌+◌, ◌-◌, ◌*◌, ◌<◌, ◌≤◌, length, ◌/◌, ◌%◌, Bool, true, false, nat_eq, nat_lt, List, [], ◌∷◌, ◌++◌, slice_index_or, slice_set, bit_and, bit_or, Fits, w8, w32, w64, Bor, MutBor}
-use Rattle.ds_c.specs.Calls.{Does, Hands, Tells}
-use Rattle.ds_c.specs.Closed.{ClosedSize, ClosedValue, ClosedMark, ClosedText, CrashesClosed, TellsCrash, LacksClosedCell, LacksClosedText, NeverClosed}
-use Rattle.ds_c.specs.Events.{cell_of}
-use Rattle.ds_c.specs.Shared.{OnHolder, OnClosed, IsClosed, FreesHeld, Moves}
-use Rattle.ds_c.specs.Sheets.{Opens, OpensNot}
+use Rattle.std.proofs.Common.{refl, sym, subst, ◌∙◌}
+use Rattle.ds_c.specs.Shared.{IsClosed, freed, other}
+use Rattle.ds_c.proofs.HeldSteps.{no_closed}
 use Rattle.ds_c.proofs.closed.ds_c_closed_free.Goals as goal
 
--- src/closed.rt:143:9
 pub returns-in-Closed : goal.returns-in-Closed
-returns-in-Closed c = ?
+returns-in-Closed c =
+    let is = sym c.deref.ensures ∙ c.in-Closed.is in
+    freed c.in-Some.held.value c.in-Some.ensures.some.0 (subst IsClosed (sym is) tt) c.in-Some.ensures.some.1 refl
 
--- src/closed.rt:135:1
 pub returns : goal.returns
-returns c = ?
+returns c =
+    let not = no_closed c.in-Some.held.value (λ x e. c.in_default-deref.not-Closed x (c.deref.ensures ∙ e)) in
+    other c.in-Some.held.value c.in-Some.ensures.some.0 not c.of.ensures c.number-2.ensures

@@ -1,12 +1,14 @@
-use Rattle.std.proofs.Common.{rules, ◌≡◌, ℕ, ◌+◌, ◌-◌, ◌*◌, ◌<◌, ◌≤◌, length, ◌/◌, ◌%◌, Bool, true, false, nat_eq, nat_lt, List, [], ◌∷◌, ◌++◌, slice_index_or, slice_set, bit_and, bit_or, Fits, w8, w32, w64, Bor, MutBor}
-use Rattle.ds_c.specs.Shared.{FreesHeld, IsSheet, Moves}
-use Rattle.ds_c.specs.Sheets.{MakesSheet, TakesSeat, Closes, ClosesNot}
+use Rattle.std.proofs.Common.{refl, sym, subst, ◌∙◌}
+use Rattle.ds_c.specs.Shared.{IsSheet, freed, other}
+use Rattle.ds_c.proofs.HeldSteps.{no_sheet}
 use Rattle.ds_c.proofs.sheets.ds_c_sheet_free.Goals as goal
 
--- src/sheets.rt:94:9
 pub returns-in-Sheet : goal.returns-in-Sheet
-returns-in-Sheet c = ?
+returns-in-Sheet c =
+    let is = sym c.deref.ensures ∙ c.in-Sheet.is in
+    freed c.in-Some.held.value c.in-Some.ensures.some.0 (subst IsSheet (sym is) tt) c.in-Some.ensures.some.1 refl
 
--- src/sheets.rt:86:1
 pub returns : goal.returns
-returns c = ?
+returns c =
+    let not = no_sheet c.in-Some.held.value (λ x e. c.in_default-deref.not-Sheet x (c.deref.ensures ∙ e)) in
+    other c.in-Some.held.value c.in-Some.ensures.some.0 not c.of.ensures c.number-2.ensures

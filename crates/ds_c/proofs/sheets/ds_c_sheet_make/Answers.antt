@@ -1,12 +1,9 @@
-use Rattle.std.proofs.Common.{rules, ◌≡◌, ℕ, ◌+◌, ◌-◌, ◌*◌, ◌<◌, ◌≤◌, length, ◌/◌, ◌%◌, Bool, true, false, nat_eq, nat_lt, List, [], ◌∷◌, ◌++◌, slice_index_or, slice_set, bit_and, bit_or, Fits, w8, w32, w64, Bor, MutBor}
-use Rattle.ds_c.specs.Shared.{FreesHeld, IsSheet, Moves}
-use Rattle.ds_c.specs.Sheets.{MakesSheet, TakesSeat, Closes, ClosesNot}
+use Rattle.std.proofs.Common.{refl}
+use Rattle.ds_c.specs.Sheets.{made, fails}
 use Rattle.ds_c.proofs.sheets.ds_c_sheet_make.Goals as goal
 
--- src/sheets.rt:13:1
 pub returns-in-Ok : goal.returns-in-Ok
-returns-in-Ok c = ?
+returns-in-Ok c = made c.in-Ok.held.value (c.if-not-is_empty.ensures.empty refl) c.in-Ok.ensures.ok c.of.ensures refl
 
--- src/sheets.rt:13:1
 pub returns-in-Err : goal.returns-in-Err
-returns-in-Err c = ?
+returns-in-Err c = fails c.in-Err.failure (c.if-not-is_empty.ensures.empty refl) c.in-Err.ensures.err refl c.number-in-Err.ensures

@@ -1,12 +1,13 @@
-use Rattle.std.proofs.Common.{rules, ◌≡◌, ℕ, ◌+◌, ◌-◌, ◌*◌, ◌<◌, ◌≤◌, length, ◌/◌, ◌%◌, Bool, true, false, nat_eq, nat_lt, List, [], ◌∷◌, ◌++◌, slice_index_or, slice_set, bit_and, bit_or, Fits, w8, w32, w64, Bor, MutBor}
-use Rattle.ds_c.specs.Shared.{FreesHeld, IsSheet, Moves}
-use Rattle.ds_c.specs.Sheets.{MakesSheet, TakesSeat, Closes, ClosesNot}
+use Rattle.std.proofs.Common.{refl, subst}
+use Rattle.ds_c.specs.Sheets.{IsTaken, IsNotTaken, taken, fails}
 use Rattle.ds_c.proofs.sheets.ds_c_sheet_take.Goals as goal
 
--- src/sheets.rt:36:1
 pub returns-in-Ok : goal.returns-in-Ok
-returns-in-Ok c = ?
+returns-in-Ok c =
+    let is = subst (λ h. IsTaken c.args.process h c.take-told.new.held c.in-Ok.taken.value) c.deref_mut.ensures.value c.in-Ok.ensures.ok in
+    taken c.in-Some.held.value c.take-told.new.held c.in-Ok.taken.value c.in-Some.ensures.some.0 c.of.ensures (c.if-not-is_empty.ensures.empty refl) c.of-in-Ok.ensures is refl
 
--- src/sheets.rt:36:1
 pub returns-in-Err : goal.returns-in-Err
-returns-in-Err c = ?
+returns-in-Err c =
+    let why = subst (λ h. IsNotTaken c.args.process h c.in-Err.failure c.take-told.new.held) c.deref_mut.ensures.value c.in-Err.ensures.err in
+    fails c.in-Some.held.value c.take-told.new.held c.in-Err.failure c.in-Some.ensures.some.0 c.of.ensures (c.if-not-is_empty.ensures.empty refl) refl why c.number-in-Err.ensures
