@@ -383,7 +383,7 @@ static void shared_want_of_memory(void) {
     WANT(answer.number == 1 && answer.cell == 0);
     WANT(dsheet_seat_recover(&second, DSHEET_NO_FUSE, &answer) == DSHEET_OK && answer.kind == DSHEET_LAST);
     WANT(answer.number == 0 && answer.cell == 5 && answer.holds == 1);
-    WANT(dsheet_seat_edit(&first, 0, 0, "1", 1, DSHEET_NO_FUSE, &answer) == DSHEET_OK);
+    WANT(dsheet_seat_edit(&first, 0, 0, "=1+2", 4, DSHEET_NO_FUSE, &answer) == DSHEET_OK);
     WANT(answer.kind == DSHEET_REFUSED && answer.cause == DSHEET_CAUSE_NO_MEMORY);
     allocations = -1;
     WANT(dsheet_seat_edit(&first, 0, 0, "1", 1, DSHEET_NO_FUSE, &answer) == DSHEET_OK && answer.kind == DSHEET_DONE);

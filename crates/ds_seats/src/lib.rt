@@ -9,5 +9,3 @@ mod ring;
 pub mod seat;
 pub mod sheet;
 pub mod steps;
-#[cfg(test)]
-mod tests;

@@ -22,6 +22,6 @@ returns-after-eq c =
     let words = c.words-count.ensures.value ∙ ap words_of c.layout.ensures in
     let number = c.number-in-Err.ensures ∙ ap failure_number c.of.ensures in
     elim c.if-eq.branch [
-      then-eq w ↦ too_short c.in-Closed.is c.in-Err.ensures.err.1 c.in-Err.fault c.in-Err.ensures.err.0 (sym c.eq.ensures ∙ w.if-eq.true) (w.words-is ∙ words) number
+      | then-eq w ↦ too_short c.in-Closed.is c.in-Err.ensures.err.1 c.in-Err.fault c.in-Err.ensures.err.0 (sym c.eq.ensures ∙ w.if-eq.true) (w.words-is ∙ words) number
       | else-eq w ↦ no_memory c.in-Closed.is c.in-Err.ensures.err.1 c.in-Err.fault c.in-Err.ensures.err.0 (sym c.eq.ensures ∙ w.if-eq.false) w.words-is number
     ]
