@@ -1,8 +1,10 @@
 #!/usr/bin/env bash
 # The library for other languages: builds the archive, which proves its crate, unless it is there and newer than all
-# sources; then the C program, with warnings as errors, and the shared object; runs both examples, which have to say
-# the same and what examples/c/crash.stdout has, and the doctest of the Python module; then tools/embedding.c, which makes
-# every call, right and wrong. Where valgrind is there, the C programs may lose no memory. Needs cc, make and python3.
+# sources; then the C programs, with warnings as errors, and the shared object; runs the crash in C and in Python, which
+# have to say the same and what examples/c/crash.stdout has, the one with threads so often, which has to say what
+# examples/c/threads.stdout has, and the doctest of the Python module; then tools/embedding.c, which makes every call,
+# right and wrong. Where valgrind is there, the C programs may lose no memory. Needs cc, make and python3.
+#   THREADS_RUNS   how often examples/c/threads is run; 20 where it is not set
 set -euo pipefail
 cd "$(dirname "$0")/.."
 out=crates/ds_c/out
@@ -33,6 +35,11 @@ make -s -C examples/c clean all
 same "examples/c/crash" examples/c/crash.stdout "$work/c"
 python3 examples/python/dsheet.py >"$work/python"
 same "examples/python/dsheet.py" "$work/c" "$work/python"
+for _ in $(seq "${THREADS_RUNS:-20}"); do
+    "$out/threads" >"$work/threads"
+    cmp -s examples/c/threads.stdout "$work/threads" || same "examples/c/threads" examples/c/threads.stdout "$work/threads"
+done
+echo "embedding: examples/c/threads, ${THREADS_RUNS:-20} times ... ok"
 python3 -m doctest examples/python/dsheet.py
 echo "embedding: the doctest of examples/python/dsheet.py ... ok"
 echo 'int main(void) { return 0; }' | cc -std=c99 -Wall -Wextra -Werror -pedantic -fsyntax-only -x c - \
@@ -46,6 +53,7 @@ cc -std=c99 -Wall -Wextra -Werror -pedantic -O1 -Icrates/ds_c/include -Wl,--wrap
 echo "embedding: each function, with each argument that can be wrong ... ok"
 if command -v valgrind >/dev/null; then
     valgrind -q --error-exitcode=1 --leak-check=full "$out/crash" >/dev/null
+    valgrind -q --error-exitcode=1 --leak-check=full "$out/threads" >/dev/null
     valgrind -q --error-exitcode=1 --leak-check=full "$work/calls"
     echo "embedding: no memory is lost ... ok"
 fi

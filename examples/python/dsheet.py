@@ -43,13 +43,42 @@ dsheet.Refused: NO_PROCESS
 ...     answer = world.edit(0, "A1", "=1+")
 ...     answer.name, answer.why, answer.number
 ('REFUSED', 'UNFINISHED', 3)
+
+A sheet that threads share: each has a seat of its own, and ctypes lets them run at once.
+
+>>> sheet = Sheet(columns=2, rows=1, processes=2)
+>>> seats = [sheet.take(process) for process in range(2)]
+>>> def edit(seat, cell):
+...     for number in range(50):
+...         seat.edit(cell, str(number))
+>>> threads = [threading.Thread(target=edit, args=job) for job in zip(seats, ["A1", "B1"])]
+>>> for thread in threads: thread.start()
+>>> for thread in threads: thread.join()
+>>> seats[0].edit("A1", "7", steps=12).name
+'STOPPED'
+>>> sheet.close()
+Traceback (most recent call last):
+    ...
+dsheet.Refused: SEAT_TAKEN
+>>> for seat in seats: seat.free()
+>>> closed = sheet.close()
+>>> closed.text("A1"), closed.text("B1")
+('49', '49')
+>>> closed.crash(lambda word: False)
+>>> with closed.reopen() as sheet:
+...     with sheet.take(0) as seat:
+...         told = seat.recover()
+...         told.name, told.number, bool(told.holds)
+('LAST', 50, False)
 """
 
 import ctypes
 import os
 import pathlib
+import threading
 
-STATUSES = ("OK EMPTY FULL BAD_SHAPE NO_PROCESS NO_CELL NO_WORD NO_TASK TOO_SMALL NO_MEMORY NULL").split()
+STATUSES = ("OK EMPTY FULL BAD_SHAPE NO_PROCESS NO_CELL NO_WORD NO_TASK TOO_SMALL NO_MEMORY NULL "
+            "WRONG_HANDLE SEAT_TAKEN").split()
 KINDS = ("_ BEGUN ENTERED REFUSED STEPPED WRONG_TASK EVICTED STOPPED CRASHED NOT_ENABLED DONE OVERTAKEN NOT_DIRTY MISSED "
          "WORN PUBLISHED AGAIN WORK_NO_MEMORY LAST NOTHING SETTLED UNSETTLED_MARK UNSETTLED_ANNOUNCEMENT UNSETTLED_WORD "
          "LEFT").split()
@@ -136,12 +165,29 @@ _signatures = {
     "text": [_number, _number, ctypes.c_char_p, _number, ctypes.POINTER(_number)],
     "values": [_number, ctypes.POINTER(_Value), _number, ctypes.POINTER(_number)],
 }
+_steps = ctypes.c_uint64
+_shared = {
+    "sheet_make": [_number, _number, _number], "sheet_take": [_number, ctypes.POINTER(_World)],
+    "sheet_close": [ctypes.POINTER(_World)], "sheet_free": [],
+    "seat_edit": [_number, _number, ctypes.c_char_p, _number, _steps, ctypes.POINTER(Answer)],
+    "seat_work": [_number, _number, _steps, ctypes.POINTER(Answer)],
+    "seat_recover": [_steps, ctypes.POINTER(Answer)], "seat_report": [_steps, ctypes.POINTER(Answer)],
+    "seat_values": [ctypes.POINTER(_Value), _number, ctypes.POINTER(_number)], "seat_free": [],
+    "closed_size": [ctypes.POINTER(Size)], "closed_value": [_number, _number, ctypes.POINTER(_Value)],
+    "closed_mark": [_number, _number, ctypes.POINTER(Mark)],
+    "closed_text": [_number, _number, ctypes.c_char_p, _number, ctypes.POINTER(_number)],
+    "closed_crash": [ctypes.c_char_p, _number, ctypes.POINTER(_number)],
+    "closed_reopen": [ctypes.POINTER(_World)], "closed_free": [],
+}
+_signatures = {"world_" + _name: _arguments for _name, _arguments in _signatures.items()} | _shared
 _functions = {}
 for _name, _arguments in _signatures.items():
-    _function = getattr(_library, "dsheet_world_" + _name)
+    _function = getattr(_library, "dsheet_" + _name)
     _function.restype = ctypes.c_uint32
     _function.argtypes = [ctypes.POINTER(_World)] + _arguments
     _functions[_name] = _function
+
+NO_FUSE = 2 ** 64 - 1
 
 
 def _cell(name):
@@ -149,12 +195,13 @@ def _cell(name):
     return ord(name[0]) - ord("A"), int(name[1:]) - 1
 
 
-class World:
-    """A sheet and its processes. One thread at a time may use it. Each method is a function of the header."""
+class _Handle:
+    """A handle of the library. One thread at a time may use it. Each method is a function of the header."""
 
-    def __init__(self, columns, rows, processes):
-        self._world = _World()
-        self._call("make", columns, rows, processes)
+    _prefix = ""
+
+    def __init__(self):
+        self._handle = _World()
 
     def __enter__(self):
         return self
@@ -163,7 +210,7 @@ class World:
         self.free()
 
     def _call(self, name, *arguments):
-        status = _functions[name](ctypes.byref(self._world), *arguments)
+        status = _functions[self._prefix + name](ctypes.byref(self._handle), *arguments)
         if status:
             raise Refused(STATUSES[status])
 
@@ -173,6 +220,16 @@ class World:
 
     def free(self):
         self._call("free")
+
+
+class World(_Handle):
+    """A sheet and its processes."""
+
+    _prefix = "world_"
+
+    def __init__(self, columns, rows, processes):
+        super().__init__()
+        self._call("make", columns, rows, processes)
 
     def begin_edit(self, process, cell, text):
         data = text.encode()
@@ -244,6 +301,88 @@ class World:
         buffer, count = (_Value * (size.columns * size.rows))(), _number()
         self._call("values", process, buffer, len(buffer), ctypes.byref(count))
         return [value.read() for value in buffer[:count.value]]
+
+
+class Sheet(_Handle):
+    """A sheet that threads share, in the hands of its owner. Behind a close it holds nothing."""
+
+    _prefix = "sheet_"
+
+    def __init__(self, columns=None, rows=None, processes=None):
+        super().__init__()
+        if columns is not None:
+            self._call("make", columns, rows, processes)
+
+    def take(self, process):
+        """The seat of a process, for one thread at a time."""
+        seat = Seat()
+        self._call("take", process, ctypes.byref(seat._handle))
+        return seat
+
+    def close(self):
+        closed = ClosedSheet()
+        self._call("close", ctypes.byref(closed._handle))
+        return closed
+
+
+class Seat(_Handle):
+    """A seat of a sheet. Each call makes at most so many steps, and is answered STOPPED before the next one."""
+
+    _prefix = "seat_"
+
+    def edit(self, cell, text, steps=NO_FUSE):
+        data = text.encode()
+        return self._ask(Answer(), "edit", *_cell(cell), data, len(data), steps)
+
+    def work(self, cell, steps=NO_FUSE):
+        return self._ask(Answer(), "work", *_cell(cell), steps)
+
+    def recover(self, steps=NO_FUSE):
+        return self._ask(Answer(), "recover", steps)
+
+    def report(self, steps=NO_FUSE):
+        return self._ask(Answer(), "report", steps)
+
+    def values(self):
+        """Those of the seat's last settled report, row by row from the left."""
+        buffer, count = (_Value * 1024)(), _number()
+        self._call("values", buffer, len(buffer), ctypes.byref(count))
+        return [value.read() for value in buffer[:count.value]]
+
+
+class ClosedSheet(_Handle):
+    """The words of a sheet that is closed. Behind a reopening it holds nothing."""
+
+    _prefix = "closed_"
+
+    def size(self):
+        return self._ask(Size(), "size")
+
+    def value(self, cell):
+        """None for a blank, a number, or the text of an error."""
+        return self._ask(_Value(), "value", *_cell(cell)).read()
+
+    def mark(self, cell):
+        return self._ask(Mark(), "mark", *_cell(cell))
+
+    def text(self, cell):
+        buffer, length = ctypes.create_string_buffer(120), _number()
+        self._call("text", *_cell(cell), buffer, 120, ctypes.byref(length))
+        return buffer.raw[:length.value].decode("latin-1")
+
+    def crash(self, choice):
+        """A crash, before which the words were evicted for whose numbers the choice says True."""
+        words = _number()
+        try:
+            self._call("crash", b"", 0, ctypes.byref(words))
+        except Refused:
+            data = bytes(choice(word) for word in range(words.value))
+            self._call("crash", data, len(data), ctypes.byref(words))
+
+    def reopen(self):
+        sheet = Sheet()
+        self._call("reopen", ctypes.byref(sheet._handle))
+        return sheet
 
 
 def main():

@@ -5,8 +5,12 @@
  * a whole edit, work, report or recovery with no other event between. Each function below carries out one event, one
  * call or one reading.
  *
- * Every function returns a status. After every status but DSHEET_OK nothing has changed: neither the world nor what
- * the pointers of the call point to, but for DSHEET_TOO_SMALL, which tells the size that is wanted.
+ * A sheet is one that threads share with no lock. Its owner takes a seat of it for each process; a thread that has a
+ * seat edits, works, recovers and reports beside the others, each call under a fuse of so many steps. Once all seats
+ * are freed the owner closes it, lets it crash, reads it, and opens it again.
+ *
+ * Every function returns a status. After every status but DSHEET_OK nothing has changed: neither the world or the sheet
+ * nor what the pointers of the call point to, but for DSHEET_TOO_SMALL, which tells the size that is wanted.
  *
  * What each function does is proved (the clause of its export in crates/ds_c), if its caller does what is said above
  * it, and the following, which nothing can check:
@@ -16,6 +20,7 @@
  *   - A handle is zero, or as the library left it. It may be moved, by a copy whose original is not used again. Of two
  *     copies only one may be used.
  *   - One call at a time uses a handle. Another thread may use it later, if a lock, a join or the like stands between.
+ *     Calls on different seats of one sheet may run at once, and beside those on the sheet's own handle.
  *   - malloc, realloc and free are those of one allocator, which aligns a block to each power of two up to 16 that
  *     divides its size. No call comes from a signal handler, nor from the child of a fork of a process with threads.
  *
@@ -43,7 +48,9 @@ enum dsheet_status {
     DSHEET_NO_TASK = 7,    /* The process is in no work that waits for an entry. */
     DSHEET_TOO_SMALL = 8,  /* The buffer is too small. How many items it needs is told. */
     DSHEET_NO_MEMORY = 9,  /* An allocation failed. */
-    DSHEET_NULL = 10       /* A pointer is null that may not be. */
+    DSHEET_NULL = 10,      /* A pointer is null that may not be. */
+    DSHEET_WRONG_HANDLE = 11, /* The handle holds something else: a seat where a sheet is wanted, or the like. */
+    DSHEET_SEAT_TAKEN = 12    /* The seat has been taken, and was not freed; for a close, that of any process. */
 };
 
 /* A handle: memory of yours in which the library keeps a world. Begin with DSHEET_WORLD_INIT, and leave its fields
@@ -55,6 +62,28 @@ struct dsheet_world {
 
 #define DSHEET_WORLD_INIT {0, 0}
 
+/* Handles of a sheet that threads share, in the hands of its owner; of a seat of it, for one process; and of a sheet that
+ * is closed. Begin with DSHEET_SHEET_INIT, DSHEET_SEAT_INIT, DSHEET_CLOSED_INIT, and leave their fields alone. */
+struct dsheet_sheet {
+    uint64_t held;
+    void *at;
+};
+struct dsheet_seat {
+    uint64_t held;
+    void *at;
+};
+struct dsheet_closed {
+    uint64_t held;
+    void *at;
+};
+
+#define DSHEET_SHEET_INIT {0, 0}
+#define DSHEET_SEAT_INIT {0, 0}
+#define DSHEET_CLOSED_INIT {0, 0}
+
+/* A fuse that no call burns down: none makes so many steps. */
+#define DSHEET_NO_FUSE UINT64_MAX
+
 /* Which reply, answer or end a dsheet_answer is, and which of its fields are used. The others are 0. */
 enum dsheet_kind {
     DSHEET_BEGUN = 1,       /* The edit has begun. number: its number. */
@@ -63,7 +92,7 @@ enum dsheet_kind {
     DSHEET_STEPPED = 4,     /* The process has made a step, or its work has taken the entry that was offered. */
     DSHEET_WRONG_TASK = 5,  /* The work waits for another task. No call of this library comes to it. */
     DSHEET_EVICTED = 6,     /* The word is evicted. No call of this library tells of it by a row. */
-    DSHEET_STOPPED = 7,     /* The process is stopped. */
+    DSHEET_STOPPED = 7,     /* The process is stopped: of a seat, since the fuse of the call has burnt down. */
     DSHEET_CRASHED = 8,     /* The crash has come. No call of this library tells of it by a row. */
     DSHEET_NOT_ENABLED = 9, /* The event can not happen now, and nothing has changed. */
     /* answers of an edit */
@@ -219,6 +248,25 @@ uint32_t ds_c_world_text(struct dsheet_world *, size_t column, size_t row, uint8
                          size_t *length);
 uint32_t ds_c_world_values(struct dsheet_world *, size_t process, struct dsheet_value *buffer, size_t room,
                            size_t *count);
+uint32_t ds_c_sheet_make(struct dsheet_sheet *, size_t columns, size_t rows, size_t processes);
+uint32_t ds_c_sheet_take(struct dsheet_sheet *, size_t process, struct dsheet_seat *);
+uint32_t ds_c_sheet_close(struct dsheet_sheet *, struct dsheet_closed *);
+uint32_t ds_c_sheet_free(struct dsheet_sheet *);
+uint32_t ds_c_seat_edit(struct dsheet_seat *, size_t column, size_t row, const uint8_t *text, size_t length,
+                        uint64_t steps, struct dsheet_answer *);
+uint32_t ds_c_seat_work(struct dsheet_seat *, size_t column, size_t row, uint64_t steps, struct dsheet_answer *);
+uint32_t ds_c_seat_recover(struct dsheet_seat *, uint64_t steps, struct dsheet_answer *);
+uint32_t ds_c_seat_report(struct dsheet_seat *, uint64_t steps, struct dsheet_answer *);
+uint32_t ds_c_seat_values(struct dsheet_seat *, struct dsheet_value *buffer, size_t room, size_t *count);
+uint32_t ds_c_seat_free(struct dsheet_seat *);
+uint32_t ds_c_closed_size(struct dsheet_closed *, struct dsheet_size *);
+uint32_t ds_c_closed_value(struct dsheet_closed *, size_t column, size_t row, struct dsheet_value *);
+uint32_t ds_c_closed_mark(struct dsheet_closed *, size_t column, size_t row, struct dsheet_mark *);
+uint32_t ds_c_closed_text(struct dsheet_closed *, size_t column, size_t row, uint8_t *buffer, size_t room,
+                          size_t *length);
+uint32_t ds_c_closed_crash(struct dsheet_closed *, const uint8_t *choice, size_t length, size_t *words);
+uint32_t ds_c_closed_reopen(struct dsheet_closed *, struct dsheet_sheet *);
+uint32_t ds_c_closed_free(struct dsheet_closed *);
 
 /* The functions. They are inline; a shared object has them as symbols too, if it is built with
  * -DDSHEET_FUNCTION= (docs/EMBEDDING.md). */
@@ -420,6 +468,159 @@ DSHEET_FUNCTION uint32_t dsheet_world_values(struct dsheet_world *world, size_t 
     if (!world || !count || (!buffer && room))
         return DSHEET_NULL;
     return ds_c_world_values(world, process, buffer ? buffer : &none, room, count);
+}
+
+/* ---- A sheet that threads share ----
+ * Of its owner. Each: DSHEET_NULL. */
+
+/* Makes a sheet in a handle that holds nothing: empty, of so many columns (1 to 26) and rows (1 to 64), at most 1,024
+ * cells, with so many processes (1 to 8). DSHEET_FULL, DSHEET_BAD_SHAPE, DSHEET_NO_MEMORY. */
+DSHEET_FUNCTION uint32_t dsheet_sheet_make(struct dsheet_sheet *sheet, size_t columns, size_t rows, size_t processes) {
+    if (!sheet)
+        return DSHEET_NULL;
+    return ds_c_sheet_make(sheet, columns, rows, processes);
+}
+
+/* Takes the seat of a process, in a handle that holds nothing. Any thread may use it; it works on this sheet alone, also
+ * where its owner has freed it meanwhile. DSHEET_FULL (the seat), DSHEET_EMPTY (the sheet), DSHEET_WRONG_HANDLE,
+ * DSHEET_NO_PROCESS, DSHEET_SEAT_TAKEN, DSHEET_NO_MEMORY. */
+DSHEET_FUNCTION uint32_t dsheet_sheet_take(struct dsheet_sheet *sheet, size_t process, struct dsheet_seat *seat) {
+    if (!sheet || !seat)
+        return DSHEET_NULL;
+    return ds_c_sheet_take(sheet, process, seat);
+}
+
+/* Closes a sheet whose seats are all freed. A handle that holds nothing gets its words, and the sheet's holds nothing
+ * then. What a call that was stopped has written and not flushed is lost by a crash, and by nothing else. DSHEET_FULL
+ * (the closed one), DSHEET_EMPTY (the sheet), DSHEET_WRONG_HANDLE, DSHEET_SEAT_TAKEN, DSHEET_NO_MEMORY. */
+DSHEET_FUNCTION uint32_t dsheet_sheet_close(struct dsheet_sheet *sheet, struct dsheet_closed *closed) {
+    if (!sheet || !closed)
+        return DSHEET_NULL;
+    return ds_c_sheet_close(sheet, closed);
+}
+
+/* Lets a sheet go. Its memory is given back once its seats are freed, too. The handle holds nothing then. DSHEET_EMPTY,
+ * DSHEET_WRONG_HANDLE. */
+DSHEET_FUNCTION uint32_t dsheet_sheet_free(struct dsheet_sheet *sheet) {
+    if (!sheet)
+        return DSHEET_NULL;
+    return ds_c_sheet_free(sheet);
+}
+
+/* ---- A seat ----
+ * Each call but the last two may make so many steps on words, and is stopped before the next one: it is answered
+ * DSHEET_STOPPED then, and its process has to recover. Each: DSHEET_EMPTY, DSHEET_WRONG_HANDLE, DSHEET_NULL. */
+
+/* A whole edit, as dsheet_world_edit: DSHEET_DONE, DSHEET_OVERTAKEN, DSHEET_REFUSED or DSHEET_STOPPED. DSHEET_NO_CELL
+ * too. */
+DSHEET_FUNCTION uint32_t dsheet_seat_edit(struct dsheet_seat *seat, size_t column, size_t row, const char *text,
+                                          size_t length, uint64_t steps, struct dsheet_answer *answer) {
+    if (!seat || !answer || (!text && length))
+        return DSHEET_NULL;
+    return ds_c_seat_edit(seat, column, row, (const uint8_t *)(text ? text : ""), length, steps, answer);
+}
+
+/* Whole work on a cell: one of the answers of work, DSHEET_REFUSED or DSHEET_STOPPED. DSHEET_NO_CELL too. */
+DSHEET_FUNCTION uint32_t dsheet_seat_work(struct dsheet_seat *seat, size_t column, size_t row, uint64_t steps,
+                                          struct dsheet_answer *answer) {
+    if (!seat || !answer)
+        return DSHEET_NULL;
+    return ds_c_seat_work(seat, column, row, steps, answer);
+}
+
+/* A whole recovery of the seat's process, stopped or not: DSHEET_LAST, DSHEET_NOTHING or DSHEET_STOPPED. */
+DSHEET_FUNCTION uint32_t dsheet_seat_recover(struct dsheet_seat *seat, uint64_t steps, struct dsheet_answer *answer) {
+    if (!seat || !answer)
+        return DSHEET_NULL;
+    return ds_c_seat_recover(seat, steps, answer);
+}
+
+/* A whole report: DSHEET_SETTLED, and dsheet_seat_values has its values; what was not at rest; DSHEET_REFUSED or
+ * DSHEET_STOPPED. */
+DSHEET_FUNCTION uint32_t dsheet_seat_report(struct dsheet_seat *seat, uint64_t steps, struct dsheet_answer *answer) {
+    if (!seat || !answer)
+        return DSHEET_NULL;
+    return ds_c_seat_report(seat, steps, answer);
+}
+
+/* The values of the seat's last report that was answered DSHEET_SETTLED, row by row from the left, and how many there
+ * are: one for each cell, or 0 where it has had none. count is told also where the buffer is too small.
+ * DSHEET_TOO_SMALL too. */
+DSHEET_FUNCTION uint32_t dsheet_seat_values(struct dsheet_seat *seat, struct dsheet_value *buffer, size_t room,
+                                            size_t *count) {
+    struct dsheet_value none = {0, 0};
+    if (!seat || !count || (!buffer && room))
+        return DSHEET_NULL;
+    return ds_c_seat_values(seat, buffer ? buffer : &none, room, count);
+}
+
+/* The seat goes back to its sheet: it can be taken again, and the sheet be closed. The handle holds nothing then. */
+DSHEET_FUNCTION uint32_t dsheet_seat_free(struct dsheet_seat *seat) {
+    if (!seat)
+        return DSHEET_NULL;
+    return ds_c_seat_free(seat);
+}
+
+/* ---- A closed sheet ----
+ * Each: DSHEET_EMPTY, DSHEET_WRONG_HANDLE, DSHEET_NULL. */
+
+/* How large it is. */
+DSHEET_FUNCTION uint32_t dsheet_closed_size(struct dsheet_closed *closed, struct dsheet_size *size) {
+    if (!closed || !size)
+        return DSHEET_NULL;
+    return ds_c_closed_size(closed, size);
+}
+
+/* The value of a cell, as its words show it. It need not be up to date. DSHEET_NO_CELL too. */
+DSHEET_FUNCTION uint32_t dsheet_closed_value(struct dsheet_closed *closed, size_t column, size_t row,
+                                             struct dsheet_value *value) {
+    if (!closed || !value)
+        return DSHEET_NULL;
+    return ds_c_closed_value(closed, column, row, value);
+}
+
+/* The mark of a cell. DSHEET_NO_CELL too. */
+DSHEET_FUNCTION uint32_t dsheet_closed_mark(struct dsheet_closed *closed, size_t column, size_t row,
+                                            struct dsheet_mark *mark) {
+    if (!closed || !mark)
+        return DSHEET_NULL;
+    return ds_c_closed_mark(closed, column, row, mark);
+}
+
+/* The text of a cell: that of the last of its edits that count, as dsheet_world_text. DSHEET_NO_CELL, DSHEET_TOO_SMALL,
+ * DSHEET_NO_MEMORY too. */
+DSHEET_FUNCTION uint32_t dsheet_closed_text(struct dsheet_closed *closed, size_t column, size_t row, char *buffer,
+                                            size_t room, size_t *length) {
+    uint8_t none = 0;
+    if (!closed || !length || (!buffer && room))
+        return DSHEET_NULL;
+    return ds_c_closed_text(closed, column, row, buffer ? (uint8_t *)buffer : &none, room, length);
+}
+
+/* A crash. Of each word what processes saw is left if its item of the choice is not 0, as if it had been evicted before;
+ * else what was persisted. Items past the last word are not read. words: how many words there are, also where the choice
+ * has fewer items. DSHEET_TOO_SMALL, DSHEET_NO_MEMORY too. */
+DSHEET_FUNCTION uint32_t dsheet_closed_crash(struct dsheet_closed *closed, const uint8_t *choice, size_t length,
+                                             size_t *words) {
+    uint8_t none = 0;
+    if (!closed || !words || (!choice && length))
+        return DSHEET_NULL;
+    return ds_c_closed_crash(closed, choice ? choice : &none, length, words);
+}
+
+/* Opens it again, in a handle that holds nothing: every process is stopped, and has to recover. The closed one's handle
+ * holds nothing then. DSHEET_FULL (the sheet), DSHEET_EMPTY (the closed one), DSHEET_NO_MEMORY too. */
+DSHEET_FUNCTION uint32_t dsheet_closed_reopen(struct dsheet_closed *closed, struct dsheet_sheet *sheet) {
+    if (!closed || !sheet)
+        return DSHEET_NULL;
+    return ds_c_closed_reopen(closed, sheet);
+}
+
+/* Gives its memory back. The handle holds nothing then. */
+DSHEET_FUNCTION uint32_t dsheet_closed_free(struct dsheet_closed *closed) {
+    if (!closed)
+        return DSHEET_NULL;
+    return ds_c_closed_free(closed);
 }
 
 #ifdef __cplusplus

@@ -10,6 +10,8 @@ use Rattle.ds_formula.specs.declared.fault.FaultKind.{FaultKind}
 use Rattle.ds_formula.specs.declared.fault.FaultKind.TheVariants as fault
 use Rattle.ds_layout.specs.declared.place.Place.{Place}
 use Rattle.ds_layout.specs.declared.place.Place.TheVariants as place
+use Rattle.ds_shared.specs.declared.ended.Ended.{Ended}
+use Rattle.ds_shared.specs.declared.ended.Ended.TheVariants as ended
 use Rattle.ds_state.specs.declared.refusal.Refusal.{Refusal}
 use Rattle.ds_state.specs.declared.refusal.Refusal.TheVariants as refusal
 use Rattle.ds_c.specs.declared.answer.AnswerRow.{AnswerRow}
@@ -88,3 +90,9 @@ abbrev pub settle_row : SettleEnd → AnswerRow
 settle_row (ends.Left cells) = record (plain_row kind.Left) { number = cells }
 settle_row (ends.Refused why) = refusal_row why
 settle_row ends.NoMemory = plain_row kind.NoMemory
+
+-- the row of how a call on a sheet that threads share ended
+abbrev pub ended_row : Ended → AnswerRow
+ended_row (ended.Answered a) = answer_row a
+ended_row (ended.Refused why) = refusal_row why
+ended_row ended.Stopped = plain_row kind.Stopped

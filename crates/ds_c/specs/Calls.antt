@@ -7,9 +7,9 @@ use Rattle.ds_c.specs.declared.failure.Failure.TheVariants.{Empty, TooSmall}
 use Rattle.ds_c.specs.Failures.{failure_number}
 use Rattle.ds_c.specs.Handles.{Holds, IsEmpty}
 
--- a call leads from the one world to the other so, and tells this; or it fails for a cause that holds, and the world
+-- a call leads from the one value to the other so, and tells this; or it fails for a cause that holds, and the value
 -- stays
-abbrev pub Does : {R : Type 0} → (WorldValue → R → WorldValue → Type 0) → (WorldValue → Failure → Type 0) → WorldValue → Result R Failure → WorldValue → Type 0
+abbrev pub Does : {V R : Type 0} → (V → R → V → Type 0) → (V → Failure → Type 0) → V → Result R Failure → V → Type 0
 Does P Fails old (Ok told) new = P old told new
 Does P Fails old (Err why) new = Fails old why × (new ≡ old)
 

@@ -1,11 +1,16 @@
 pub mod AnswerKinds
 pub mod Answers
 pub mod Calls
+pub mod Closed
 pub mod Events
 pub mod Failures
 pub mod Flags
 pub mod Handles
+pub mod Holders
 pub mod Making
 pub mod Owned
+pub mod OwnedHeld
 pub mod Reading
 pub mod Rows
+pub mod Shared
+pub mod Sheets

@@ -1,7 +1,7 @@
 //! What C is told of a call: replies and values as rows of numbers.
 
 ghost use Rattle.std.specs.Prelude.{◌≡◌};
-ghost use Rattle.ds_c.specs.Answers.{answer_row, reply_row, refusal_row, result_row, settle_row, plain_row, fault_number};
+ghost use Rattle.ds_c.specs.Answers.{answer_row, reply_row, refusal_row, result_row, settle_row, ended_row, plain_row, fault_number};
 
 use crate::answer_kind::AnswerKind;
 use ds_calls::settle::SettleEnd;
@@ -9,6 +9,7 @@ use ds_core::reply::Reply;
 use ds_edit::answer::Answer;
 use ds_formula::fault::FaultKind;
 use ds_layout::place::Place;
+use ds_shared::ended::Ended;
 use ds_state::refusal::Refusal;
 
 /// What was replied to an event, or answered by a call. `kind` says which; fields that it does not use are 0.
@@ -171,6 +172,17 @@ impl AnswerRow {
         match ended {
             Ok(answer) => AnswerRow::of_answer(answer),
             Err(refusal) => AnswerRow::of_refusal(refusal),
+        }
+    }
+
+    /// The row of how a call on a sheet that threads share ended.
+    pub fn of_ended(ended: Ended) -> AnswerRow
+        ensures { result ≡ ended_row ended }
+    {
+        match ended {
+            Ended::Answered(answer) => AnswerRow::of_answer(answer),
+            Ended::Refused(refusal) => AnswerRow::of_refusal(refusal),
+            Ended::Stopped => AnswerRow::plain(AnswerKind::Stopped),
         }
     }
 

@@ -1,7 +1,9 @@
 //! Why a call of the library was not carried out.
 
 ghost use Rattle.std.specs.Prelude.{◌≡◌};
-ghost use Rattle.ds_c.specs.Failures.{failure_number};
+ghost use Rattle.ds_c.specs.Failures.{failure_number, failure_of};
+
+use ds_seats::fault::Fault;
 
 /// Why a call of the library was not carried out. The world, and the handle, are as they were. C has it as a number;
 /// `include/dsheet.h` has one more, for pointers that are null, which do not get here.
@@ -25,9 +27,26 @@ pub enum Failure {
     TooSmall,
     /// An allocation failed.
     NoMemory,
+    /// The holder holds something else: a seat where a sheet is wanted, or the like.
+    WrongHolder,
+    /// The seat of the process has been taken, and has not come back; for a close, that of any process.
+    SeatTaken,
 }
 
 impl Failure {
+    /// The failure of a call on a sheet that threads share.
+    pub fn of(fault: Fault) -> Failure
+        ensures { result ≡ failure_of fault }
+    {
+        match fault {
+            Fault::NoProcess => Failure::NoProcess,
+            Fault::NoCell => Failure::NoCell,
+            Fault::SeatTaken => Failure::SeatTaken,
+            Fault::ShortChoice => Failure::TooSmall,
+            Fault::NoMemory => Failure::NoMemory,
+        }
+    }
+
     /// Its number, as C has it; 0 is that of a call that was carried out.
     pub fn number(self) -> u32
         ensures { result ≡ failure_number self }
@@ -42,6 +61,8 @@ impl Failure {
             Failure::NoTask => 7,
             Failure::TooSmall => 8,
             Failure::NoMemory => 9,
+            Failure::WrongHolder => 11,
+            Failure::SeatTaken => 12,
         }
     }
 }

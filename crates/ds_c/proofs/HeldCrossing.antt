@@ -1,0 +1,8 @@
+-- That what a holder holds may cross threads: variant by variant, since no search finds it.
+use denote.Param.Send.{IsSend}
+use denote.Param.SendFields.{variants_send}
+use Rattle.ds_seats.proofs.Crossing.{sheet_send, seat_send, closed_send}
+use Rattle.ds_c.specs.contracts.held.Held as Held
+
+pub held_send : IsSend Held.the_row
+held_send = variants_send Held.enum ((sheet_send, tt), ((seat_send, tt), ((closed_send, tt), (tt, tt))))

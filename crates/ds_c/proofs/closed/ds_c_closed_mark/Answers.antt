@@ -1,0 +1,5 @@
+use Rattle.ds_c.proofs.HeldCarried.{looked}
+use Rattle.ds_c.proofs.closed.ds_c_closed_mark.Goals as goal
+
+pub returns : goal.returns
+returns c = looked _ c.in-Some.ensures.some.0 c.deref.ensures c.mark-told.ensures c.of.ensures c.tell.ensures

@@ -1,0 +1,5 @@
+use Rattle.ds_c.proofs.HeldCarried.{looked}
+use Rattle.ds_c.proofs.seats.ds_c_seat_values.Goals as goal
+
+pub returns : goal.returns
+returns c = looked _ c.in-Some.ensures.some.0 c.deref.ensures c.hand_values-told.ensures.1 c.of.ensures c.hand_values-told.ensures.2

@@ -1,0 +1,5 @@
+use Rattle.ds_c.proofs.HeldCarried.{carried}
+use Rattle.ds_c.proofs.seats.ds_c_seat_work.Goals as goal
+
+pub returns : goal.returns
+returns c = carried _ c.in-Some.ensures.some.0 c.deref_mut.ensures.value c.work-told.ensures c.of.ensures c.tell.ensures

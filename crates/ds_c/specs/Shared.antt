@@ -1,0 +1,133 @@
+-- What calls do with what holders hold.
+use Rattle.std.specs.Prelude.{ℕ, ◌≡◌, List, [], map, Option, Result, Ok, Err, Vec, false, true}
+use Rattle.std.specs.Arc.{arc_value}
+use Rattle.std.specs.Global.{Global}
+use Rattle.std.specs.Mem.Slots.{slots_items}
+use Rattle.ds_eval.specs.declared.value.Value.{Value}
+use Rattle.ds_formula.specs.declared.cells.Cell.{Cell}
+use Rattle.ds_formula.specs.Cells.{IsInside, index_of}
+use Rattle.ds_layout.specs.SheetMemory.{memory_at}
+use Rattle.ds_state.specs.Shown.{mark_at, value_at}
+use Rattle.ds_drives.specs.Table.{two_sided}
+use Rattle.ds_shared.specs.declared.ended.Ended.{Ended}
+use Rattle.ds_shared.specs.declared.pass.Pass.{Pass}
+use Rattle.ds_shared.specs.declared.sheet.ClosedSheet.{ClosedSheet}
+use Rattle.ds_shared.specs.declared.sheet.SharedSheet.{SharedSheet}
+use Rattle.ds_seats.specs.Calls.{Edits, Works, Recovers, Reports, last_of}
+use Rattle.ds_seats.specs.Resting as resting
+use Rattle.ds_seats.specs.Sheets.{IsSeatOf}
+use Rattle.ds_seats.specs.declared.resting.RestingSheet.{RestingSheet}
+use Rattle.ds_seats.specs.declared.seat.Seat.{Seat}
+use Rattle.ds_c.specs.declared.answer.AnswerRow.{AnswerRow}
+use Rattle.ds_c.specs.declared.failure.Failure.{Failure}
+use Rattle.ds_c.specs.declared.failure.Failure.TheVariants.{Empty, Full, NoCell, NoMemory, TooSmall, WrongHolder}
+use Rattle.ds_c.specs.declared.held.Held.{Held}
+use Rattle.ds_c.specs.declared.held.Held.TheVariants as held
+use Rattle.ds_c.specs.declared.holder.Holder.{Holder}
+use Rattle.ds_c.specs.declared.rows.MarkRow.{MarkRow}
+use Rattle.ds_c.specs.declared.rows.ValueRow.{ValueRow}
+use Rattle.ds_c.specs.Answers.{ended_row}
+use Rattle.ds_c.specs.Calls.{Does}
+use Rattle.ds_c.specs.Failures.{failure_number}
+use Rattle.ds_c.specs.Holders.{HasHeld, HasNone, HasSome}
+use Rattle.ds_c.specs.Rows.{mark_row, value_row}
+
+-- ---- holders
+
+-- the call was made on what the holder held, and it holds what that led to
+pub record OnThing {R : Type 0} (Call : Held → Result R Failure → Held → Type 0) (Tells : Result R Failure → ℕ → Type 0) (old new : Holder) (number : ℕ) : Type 0 where
+  pub thing : Held
+  pub next : Held
+  pub told : Result R Failure
+  pub held : HasHeld old thing
+  pub holds : HasHeld new next
+  pub does : Call thing told next
+  pub tells : Tells told number
+
+-- the call was made on what the holder held; or it holds nothing and stays, which is the failure that is told
+pub data OnHolder {R : Type 0} (Call : Held → Result R Failure → Held → Type 0) (Tells : Result R Failure → ℕ → Type 0) (old new : Holder) (number : ℕ) : Type 0 where
+  called : OnThing Call Tells old new number → OnHolder Call Tells old new number
+  empty : HasNone old → new ≡ old → Tells (Err Empty) number → OnHolder Call Tells old new number
+
+-- a sheet in the hands of its owner
+abbrev pub IsSheet : Held → Type 0
+IsSheet (held.Sheet s) = Unit {0}
+IsSheet h = ⊥
+
+-- a seat
+abbrev pub IsSeat : Held → Type 0
+IsSeat (held.Seat s) = Unit {0}
+IsSeat h = ⊥
+
+-- a closed sheet
+abbrev pub IsClosed : Held → Type 0
+IsClosed (held.Closed c) = Unit {0}
+IsClosed h = ⊥
+
+-- the call was made on the seat that is held; or something else is, which stays and is refused
+pub data OnSeat {R : Type 0} (Call : Seat → Result R Failure → Seat → Type 0) (old : Held) (told : Result R Failure) (new : Held) : Type 0 where
+  seat : (s s' : Seat) → old ≡ held.Seat s → new ≡ held.Seat s' → Call s told s' → OnSeat Call old told new
+  other : (IsSeat old → ⊥) → new ≡ old → told ≡ Err WrongHolder → OnSeat Call old told new
+
+-- the call was made on the closed sheet that is held; or something else is, which stays and is refused
+pub data OnClosed {R : Type 0} (Call : RestingSheet → Result R Failure → RestingSheet → Type 0) (old : Held) (told : Result R Failure) (new : Held) : Type 0 where
+  closed : (c c' : RestingSheet) → old ≡ held.Closed c → new ≡ held.Closed c' → Call c told c' → OnClosed Call old told new
+  other : (IsClosed old → ⊥) → new ≡ old → told ≡ Err WrongHolder → OnClosed Call old told new
+
+-- what was of this kind is freed, and the holder holds nothing; or something else is held, or nothing, and stays
+pub data FreesHeld (IsKind : Held → Type 0) (old new : Holder) (number : ℕ) : Type 0 where
+  freed : (h : Held) → HasHeld old h → IsKind h → HasNone new → number ≡ 0 → FreesHeld IsKind old new number
+  other : (h : Held) → HasHeld old h → (IsKind h → ⊥) → HasHeld new h → number ≡ failure_number WrongHolder → FreesHeld IsKind old new number
+  empty : HasNone old → new ≡ old → number ≡ failure_number Empty → FreesHeld IsKind old new number
+
+-- what a holder held becomes what another one holds that held nothing, by this; or that fails for a cause that holds, and
+-- what it held may have become something else by that; or nothing is to be moved, or nowhere to
+pub data Moves (Did : Held → Held → Type 0) (Fails : Held → Failure → Held → Type 0) (old new before after : Holder) (number : ℕ) : Type 0 where
+  moved : (h k : Held) → HasHeld old h → HasNone new → HasNone before → HasHeld after k → Did h k → number ≡ 0 → Moves Did Fails old new before after number
+  fails : (h k : Held) (why : Failure) → HasHeld old h → HasHeld new k → HasNone before → after ≡ before → Fails h why k → number ≡ failure_number why → Moves Did Fails old new before after number
+  empty : HasNone old → new ≡ old → HasNone before → after ≡ before → number ≡ failure_number Empty → Moves Did Fails old new before after number
+  full : HasSome before → new ≡ old → after ≡ before → number ≡ failure_number Full → Moves Did Fails old new before after number
+
+-- ---- seats
+
+-- the seat did this, and the row says how it ended; its values stay
+pub record SeatDoes (Did : SharedSheet → Pass → Pass → Ended → Type 0) (old : Seat) (row : AnswerRow) (new : Seat) : Type 0 where
+  pub how : Ended
+  pub did : Did (arc_value old.sheet) old.pass new.pass how
+  pub row_is : row ≡ ended_row how
+  pub seat : IsSeatOf (arc_value old.sheet) new
+  pub last : new.last ≡ old.last
+
+-- the seat edits the cell to the text, under a fuse of so many steps
+abbrev pub SeatEdits : Cell → List ℕ → ℕ → Seat → AnswerRow → Seat → Type 0
+SeatEdits cell text fuse = SeatDoes (λ s p q how. IsInside s.board.layout.shape cell × Edits s cell text fuse p q how)
+
+-- the seat works on the cell
+abbrev pub SeatWorks : Cell → ℕ → Seat → AnswerRow → Seat → Type 0
+SeatWorks cell fuse = SeatDoes (λ s p q how. IsInside s.board.layout.shape cell × Works s cell fuse p q how)
+
+-- the seat's process recovers
+abbrev pub SeatRecovers : ℕ → Seat → AnswerRow → Seat → Type 0
+SeatRecovers fuse = SeatDoes (λ s p q how. Recovers s fuse p q how)
+
+-- the seat reports, and the row says how it ended; a settled report's values are its last ones
+pub record SeatReports (fuse : ℕ) (old : Seat) (row : AnswerRow) (new : Seat) : Type 0 where
+  pub how : Ended
+  pub values : Option (Vec Value Global)
+  pub did : Reports (arc_value old.sheet) fuse old.pass new.pass how values
+  pub row_is : row ≡ ended_row how
+  pub seat : IsSeatOf (arc_value old.sheet) new
+  pub last : new.last ≡ last_of old.last values
+
+-- the sheet of the seat has no such cell
+abbrev pub LacksCellAt : Cell → Seat → Failure → Type 0
+LacksCellAt cell s NoCell = IsInside (arc_value s.sheet).board.layout.shape cell → ⊥
+LacksCellAt cell s why = ⊥
+
+-- nothing can be wrong with what is asked of a seat
+abbrev pub NeverAt : Seat → Failure → Type 0
+NeverAt s why = ⊥
+
+-- the rows say the values of the seat's last report that was settled, and it stays
+abbrev pub SeatShows : Seat → List ValueRow → Seat → Type 0
+SeatShows old rows new = (rows ≡ map value_row old.last.items) × (new ≡ old)
