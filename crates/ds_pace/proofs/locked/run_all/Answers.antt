@@ -1,13 +1,12 @@
 -- That a pass with its tally may cross threads, and that threads may share the closure that they run.
 use Rattle.std.proofs.Crossing.{crosses}
-use denote.Param.Send.{IsSend, IsSync, param_sync, sendable}
+use denote.Param.Send.{IsSend, IsSync, sendable}
 use denote.RattleType.{RattleType}
 use Rattle.std.specs.contracts.alloc.Global as Global
 use Rattle.std.specs.declared.sync.ledger.Ledger.{Ghosts}
 use Rattle.ds_crew.proofs.Crossing.{sheet_sync, pass_send}
 use Rattle.ds_pace.specs.contracts.locked.Runner as Runner
 use Rattle.ds_pace.specs.contracts.round.Round as Round
-use Rattle.ds_pace.proofs.locked.run_all.Lts as lts
 use Rattle.ds_pace.proofs.locked.run_all.Goals as goal
 
 global_sync : IsSync Global.the_row
@@ -24,7 +23,4 @@ pub for_each_mut-requires-send-T : goal.for_each_mut-requires-send-T
 for_each_mut-requires-send-T g c = search (sendable, crosses, runner_send) depth 40
 
 pub for_each_mut-requires-sync-F : goal.for_each_mut-requires-sync-F
-for_each_mut-requires-sync-F g c κs within =
-    let row = lts.arg-3-1 g.row.L g.row.M g.row.R g.L.laws g.M.laws g.R.laws g.L.Ledger g.L.Ledger-dict g.M.Ledger g.M.Ledger-dict g.R.Threads g.R.Threads-dict g.R.Wait g.R.Wait-dict g.R.Clock g.R.Clock-dict κs in
-    let inside : IsSync row = search (sendable, sheet_sync, round_sync, global_sync) depth 60 in
-    param_sync _ row inside
+for_each_mut-requires-sync-F g c κs within = search (sendable, sheet_sync, round_sync, global_sync) depth 60
