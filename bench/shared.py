@@ -1,7 +1,7 @@
 #!/usr/bin/env python3
 """Runs the programs that bench/shared.sh names in turn, and prints what their calls took: python3 bench/shared.py DS_PACE PLAIN RUNS
 
-Each thread makes 256 calls on each of some sheets. A rate is that of all calls of a kind by the time of the slowest thread,
+Each thread makes 256 calls on each of some sheets. A rate is that of all calls of a kind by the time from the first one to the last,
 and of the runs the greatest.
 """
 import os
@@ -15,7 +15,7 @@ KINDS = (
     ("report", "reports beside these"),
 )
 THREADS = (1, 2, 4, 8)
-SHEETS = {"plain": 48, "shared": 48, "locked": 6}
+SHEETS = {"plain": 8, "shared": 8, "locked": 4}
 
 
 def tallies(words):

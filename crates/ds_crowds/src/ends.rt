@@ -143,8 +143,13 @@ fn check_values(alloc: Global, all: &[Shown], reported: &[Value]) -> Result<(), 
     }
 }
 
-// Each process was told what fits.
-fn check_hands(crowd: &Crowd) -> Result<(), Wrong> {
+/// Whether a closed sheet is what its processes were told, and its values are those from scratch of its texts.
+pub fn check(
+    alloc: Global,
+    all: &[Shown],
+    crowd: &Crowd,
+    reported: Option<Vec<Value>>,
+) -> Result<(), Wrong> {
     for process in 0..PROCESSES {
         let hand = crowd.hand(process);
         if let Some(surprise) = hand.account.surprise {
@@ -154,17 +159,6 @@ fn check_hands(crowd: &Crowd) -> Result<(), Wrong> {
             return Err(Wrong::Stray(values));
         }
     }
-    Ok(())
-}
-
-/// Whether a closed sheet is what its processes were told, and its values are those from scratch of its texts.
-pub fn check(
-    alloc: Global,
-    all: &[Shown],
-    crowd: &Crowd,
-    reported: Option<Vec<Value>>,
-) -> Result<(), Wrong> {
-    check_hands(crowd)?;
     let reported = reported.ok_or(Wrong::Unsettled)?;
     for (cell, shown) in all.iter().enumerate() {
         check_cell(shown, crowd, cell)?;

@@ -9,7 +9,7 @@ pub struct Gate {
 }
 
 // How often a thread looks before it goes on alone.
-const LOOKS: u64 = 10_000_000;
+const LOOKS: u64 = 1_000_000_000;
 
 impl Gate {
     /// Nobody has come.

@@ -3,9 +3,9 @@
 ghost use Rattle.std.specs.Prelude.{◌≡◌, ◌<◌, IfSome};
 ghost use Rattle.ds_pace.specs.declared.pace.TheConstants.{PROCESSES};
 
-use crate::gate::Gate;
 use crate::pace::{CALLS, PROCESSES, Pace, TEXTS, Task};
-use crate::tally::{Tally, since};
+use crate::round::Round;
+use crate::tally::Tally;
 use ds_crew::ended::{Edited, Shown, Worked};
 use ds_crew::locked::LockedSheet;
 use ds_crew::pass::Pass;
@@ -13,12 +13,11 @@ use ds_formula::cells::{Cell, Shape};
 use ds_state::work::WorkEnd;
 use ds_state::world::World;
 use std::alloc::{AllocError, Global};
-use std::io;
 use std::marker::Brand;
 use std::sync::Wait;
 use std::sync::ledger::{Blank, Ledger};
 use std::thread::{Threads, for_each_mut};
-use std::time::{Clock, Instant};
+use std::time::Clock;
 
 /// A thread: its process, its pass, and what it counts.
 #[derive(Drop)]
@@ -75,19 +74,16 @@ fn run<L: Ledger, M: Ledger, R: Wait + Clock>(
     rt: &R,
     alloc: Global,
     sheet: &LockedSheet<L, M>,
-    gate: &Gate,
-    pace: Pace,
-    start: &io::Result<Instant>,
+    round: &Round,
     runner: &mut Runner<L, M>,
 ) {
-    let task = pace.task(runner.process);
-    gate.pass(pace.threads as u64);
-    runner.tally.begun = since(rt, start);
+    let task = round.pace.task(runner.process);
+    runner.tally.begun = round.begin(rt);
     for number in 0..CALLS {
         let is_good = call(rt, alloc, sheet, &mut runner.pass, task, number);
         runner.tally.count(is_good);
     }
-    runner.tally.ended = since(rt, start);
+    runner.tally.ended = round.now(rt);
 }
 
 // A new world of as many cells as processes.
@@ -127,13 +123,12 @@ fn run_all<L: Ledger + Send + Sync, M: Ledger + Send + Sync, R: Threads + Wait +
 ) -> Result<(Tally, Tally), AllocError>
     requires { 0 < pace.threads }
 {
-    let gate = Gate::new();
-    let start = Instant::now(rt);
+    let round = Round::new(rt, pace);
     for_each_mut(
         rt,
         runners.as_mut_slice(),
         pace.threads,
-        &|_place, runner| run(rt, alloc, sheet, &gate, pace, &start, runner),
+        &|_place, runner| run(rt, alloc, sheet, &round, runner),
     );
     let mut tallies = Vec::new(alloc);
     for runner in &runners {

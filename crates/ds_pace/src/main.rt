@@ -4,6 +4,7 @@
 mod gate;
 mod locked;
 mod pace;
+mod round;
 mod shared;
 mod tally;
 

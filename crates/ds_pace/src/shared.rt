@@ -4,9 +4,9 @@ ghost use Rattle.std.specs.Prelude.{◌≡◌, All, IfSome};
 ghost use Rattle.std.specs.Arc.{arc_value};
 ghost use Rattle.ds_shared.specs.Answers.{IsOf};
 
-use crate::gate::Gate;
 use crate::pace::{CALLS, PROCESSES, Pace, TEXTS, Task};
-use crate::tally::{Tally, since};
+use crate::round::Round;
+use crate::tally::Tally;
 use ds_drives::fuse::Whole;
 use ds_edit::answer::Answer;
 use ds_formula::cells::{Cell, Shape};
@@ -15,10 +15,9 @@ use ds_shared::ended::Ended;
 use ds_shared::pass::Pass;
 use ds_shared::sheet::SharedSheet;
 use std::alloc::{AllocError, Global};
-use std::io;
 use std::sync::Arc;
 use std::thread::{Threads, map_vec};
-use std::time::{Clock, Instant};
+use std::time::Clock;
 
 /// A pass of a sheet, beside the sheet.
 #[derive(Drop)]
@@ -89,22 +88,14 @@ impl Seat {
 }
 
 // The calls of a thread, when all have come.
-fn run<R: Clock>(
-    rt: &R,
-    alloc: Global,
-    mut runner: Runner,
-    pace: Pace,
-    gate: &Gate,
-    start: &io::Result<Instant>,
-) -> Tally {
-    let task = pace.task(runner.process);
+fn run<R: Clock>(rt: &R, alloc: Global, mut runner: Runner, round: &Round) -> Tally {
+    let task = round.pace.task(runner.process);
     let mut tally = Tally::new();
-    gate.pass(pace.threads as u64);
-    tally.begun = since(rt, start);
+    tally.begun = round.begin(rt);
     for seat in &mut runner.seats {
         seat.play(alloc, task, &mut tally);
     }
-    tally.ended = since(rt, start);
+    tally.ended = round.now(rt);
     tally
 }
 
@@ -168,12 +159,7 @@ pub fn measure<R: Threads + Clock + Sync>(
     for _ in 0..pace.sheets {
         deal(alloc, &mut runners)?;
     }
-    let gate = Gate::new();
-    let start = Instant::now(rt);
-    let tallies = map_vec(
-        rt,
-        runners,
-        &|runner| run(rt, alloc, runner, pace, &gate, &start),
-    )?;
+    let round = Round::new(rt, pace);
+    let tallies = map_vec(rt, runners, &|runner| run(rt, alloc, runner, &round))?;
     Ok(pace.split(&tallies))
 }

@@ -1,8 +1,5 @@
 //! How many calls there were, and when.
 
-use std::io;
-use std::time::{Clock, Instant};
-
 /// Calls of a thread, or of threads that ran beside each other: how many there were, how many ended well, and from when to
 /// when they ran, in nanoseconds since the program began.
 #[derive(Clone, Copy)]
@@ -15,17 +12,6 @@ pub struct Tally {
     pub begun: u64,
     /// When the last one ended.
     pub ended: u64,
-}
-
-/// The nanoseconds since then, or 0 where the clock has failed.
-pub fn since<R: Clock>(rt: &R, start: &io::Result<Instant>) -> u64 {
-    match start {
-        Ok(start) => match start.elapsed(rt) {
-            Ok(time) => u64::try_from(time.as_nanos()).unwrap_or(u64::MAX),
-            Err(_) => 0,
-        },
-        Err(_) => 0,
-    }
 }
 
 impl Tally {
