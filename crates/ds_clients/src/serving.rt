@@ -203,13 +203,7 @@ fn talk_all<R: Net<Stream = TcpStream>>(
 fn run<
     F: Floor + Sync,
     R: Threads + Wait + Clock + Log + Net<Stream = TcpStream, Listener = TcpListener> + Sync,
->(
-    rt: &R,
-    alloc: Global,
-    floor: &F,
-    workers: usize,
-    clients: Clients,
-) -> Result<Vec<u8>, Fail> {
+>(rt: &R, alloc: Global, floor: &F, workers: usize, clients: Clients) -> Result<Vec<u8>, Fail> {
     let listener = TcpListener::bind(rt, "127.0.0.1:0")?;
     let at = listener.local_addr()?;
     let door = Door::new();
@@ -271,13 +265,7 @@ pub fn serve_locked<
 /// The same of a new sheet that the threads share, with no lock.
 pub fn serve_shared<
     R: Threads + Wait + Clock + Log + Net<Stream = TcpStream, Listener = TcpListener> + Sync,
->(
-    rt: &R,
-    alloc: Global,
-    layout: Layout,
-    workers: usize,
-    clients: Clients,
-) -> Result<Served, Fail> {
+>(rt: &R, alloc: Global, layout: Layout, workers: usize, clients: Clients) -> Result<Served, Fail> {
     let mut sheet = OpenSheet::make(alloc, layout)?;
     let Some(seats) = all_seats(alloc, &mut sheet) else {
         return Err(Fail::from("no memory"));

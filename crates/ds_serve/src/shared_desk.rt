@@ -74,12 +74,7 @@ fn ended(ended: Ended) -> Result<EditEnd, CallRefusal>
 }
 
 // A whole edit. A cell that the seat's sheet has not is another sheet's, as its process is.
-fn edited(
-    alloc: Global,
-    seat: &mut Seat,
-    cell: Cell,
-    text: &[u8],
-) -> Result<EditEnd, CallRefusal>
+fn edited(alloc: Global, seat: &mut Seat, cell: Cell, text: &[u8]) -> Result<EditEnd, CallRefusal>
     ensures { HasSet seat.old cell text.now (set_view result) (Some seat.new) }
 {
     match seat.edit(alloc, cell, text, STEPS_MOST) {

@@ -5,8 +5,8 @@ ghost use Rattle.ds_serve.specs.Accepting.{IsLasting, IsServed, IsStoredLasting}
 
 use crate::counts::Taken;
 use crate::door::Door;
-use crate::keeper::Attendant;
 use crate::floor::Floor;
+use crate::keeper::Attendant;
 use crate::locked_floor::LockedFloor;
 use crate::queues::{gathered, queues as own_queues};
 use crate::server::{ServeError, Service, serve_floor, sum_up};
@@ -173,9 +173,7 @@ fn serve_world<
     };
     let queues = queues.as_slice();
     let floor = LockedFloor::new(&sheet, queues, service.workers);
-    let taken = serve_beside(
-        rt, alloc, listener, &floor, door, service, store, attendant,
-    )?;
+    let taken = serve_beside(rt, alloc, listener, &floor, door, service, store, attendant)?;
     close(rt, alloc, sheet, queues, processes);
     Ok(taken)
 }

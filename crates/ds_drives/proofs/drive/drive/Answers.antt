@@ -82,7 +82,7 @@ loop-alloc-preserved g c =
     let turned = subst (λ (n : ℕ). g.M.Machine.rules.turns c.args.layout.now (g.M.Machine.rules.next c.loop-alloc.call n) c.got.new.self) word c.got.ensures.turns in
     let back : c.keep.new.buffer.items ≡ left g.M.Machine.rules c.args.layout.now c.loop-alloc.call c.loop-alloc.buffer.items found =
     c.keep.ensures ∙ (λ i. buffer_after (λ n. (c.flushed-class.ensures ∙ ap class_flushed c.want-asked.ensures) i) (is i) c.loop-alloc.buffer.items found)
-      ∙ flushed_in c.args.layout.now (g.M.Machine.rules.access c.args.layout.now c.loop-alloc.call) c.loop-alloc.buffer.items found c.loop-alloc.invariant.serves.0 in
+    ∙ flushed_in c.args.layout.now (g.M.Machine.rules.access c.args.layout.now c.loop-alloc.call) c.loop-alloc.buffer.items found c.loop-alloc.invariant.serves.0 in
     let landed = c.access-found.ensures.landed ∙ (λ i. (lone (g.M.Machine.rules.land (stepped g.M.Machine.rules c.args.layout.now c.loop-alloc.call found) (sym back i) (more i)), by.1 i)) in
     let calls : CallsHold c.args.layout.now (g.M.Machine.rules.process (stepped g.M.Machine.rules c.args.layout.now c.loop-alloc.call found)) (g.M.Machine.rules.land (stepped g.M.Machine.rules c.args.layout.now c.loop-alloc.call found) c.keep.new.buffer.items further).deeds.told =
     subst (λ (z : List (BufferEntry ℕ) × Deeds). CallsHold c.args.layout.now (g.M.Machine.rules.process (stepped g.M.Machine.rules c.args.layout.now c.loop-alloc.call found)) (g.M.Machine.rules.land (stepped g.M.Machine.rules c.args.layout.now c.loop-alloc.call found) z.0 z.1).deeds.told) (λ i. (sym back i, more i)) c.access-found.ensures.said.1 in

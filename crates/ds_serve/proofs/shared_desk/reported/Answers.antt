@@ -29,7 +29,7 @@ returns g c =
         c.report-how.result,
         made.0,
         subst (λ p. Reports (sheet_of seat) STEPS_MOST worked.pass p c.report-how.result made.0) pass
-        (subst (λ s. Reports s STEPS_MOST worked.pass c.report-how.new.self.pass c.report-how.result made.0) of made.1),
+            (subst (λ s. Reports s STEPS_MOST worked.pass c.report-how.new.self.pass c.report-how.result made.0) of made.1),
         c.shown.ensures.said ∙ ap (λ v. report_said c.report-how.result v.items) made.2,
       );
     }
