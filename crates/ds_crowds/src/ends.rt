@@ -143,13 +143,8 @@ fn check_values(alloc: Global, all: &[Shown], reported: &[Value]) -> Result<(), 
     }
 }
 
-/// Whether a closed sheet is what its processes were told, and its values are those from scratch of its texts.
-pub fn check(
-    alloc: Global,
-    all: &[Shown],
-    crowd: &Crowd,
-    reported: Option<Vec<Value>>,
-) -> Result<(), Wrong> {
+// Each process was told what fits.
+fn check_hands(crowd: &Crowd) -> Result<(), Wrong> {
     for process in 0..PROCESSES {
         let hand = crowd.hand(process);
         if let Some(surprise) = hand.account.surprise {
@@ -159,6 +154,17 @@ pub fn check(
             return Err(Wrong::Stray(values));
         }
     }
+    Ok(())
+}
+
+/// Whether a closed sheet is what its processes were told, and its values are those from scratch of its texts.
+pub fn check(
+    alloc: Global,
+    all: &[Shown],
+    crowd: &Crowd,
+    reported: Option<Vec<Value>>,
+) -> Result<(), Wrong> {
+    check_hands(crowd)?;
     let reported = reported.ok_or(Wrong::Unsettled)?;
     for (cell, shown) in all.iter().enumerate() {
         check_cell(shown, crowd, cell)?;

@@ -76,6 +76,26 @@ pub fn four(values: &[Value]) -> Option<Values> {
     ])
 }
 
+// Adds the values of all sheets with these texts in A1, B1 and A2.
+fn with_first_three(
+    alloc: Global,
+    all: &mut Vec<Values>,
+    number: &'static str,
+    sum: &'static str,
+    total: &'static str,
+) -> Option<()> {
+    for product in PRODUCTS {
+        let texts = [
+            number.as_bytes(),
+            sum.as_bytes(),
+            total.as_bytes(),
+            product.as_bytes(),
+        ];
+        all.push(values_of(alloc, texts)?).ok()?;
+    }
+    Some(())
+}
+
 // Adds the values of all sheets with this text in A1 and this one in B1.
 fn with_first_row(
     alloc: Global,
@@ -84,15 +104,15 @@ fn with_first_row(
     sum: &'static str,
 ) -> Option<()> {
     for total in TOTALS {
-        for product in PRODUCTS {
-            let texts = [
-                number.as_bytes(),
-                sum.as_bytes(),
-                total.as_bytes(),
-                product.as_bytes(),
-            ];
-            all.push(values_of(alloc, texts)?).ok()?;
-        }
+        with_first_three(alloc, all, number, sum, total)?;
+    }
+    Some(())
+}
+
+// Adds the values of all sheets with this text in A1.
+fn with_first(alloc: Global, all: &mut Vec<Values>, number: &'static str) -> Option<()> {
+    for sum in SUMS {
+        with_first_row(alloc, all, number, sum)?;
     }
     Some(())
 }
@@ -101,9 +121,7 @@ fn with_first_row(
 pub fn all_values(alloc: Global) -> Option<Vec<Values>> {
     let mut all = Vec::new(alloc);
     for number in NUMBERS {
-        for sum in SUMS {
-            with_first_row(alloc, &mut all, number, sum)?;
-        }
+        with_first(alloc, &mut all, number)?;
     }
     Some(all)
 }

@@ -166,15 +166,23 @@ pub fn recover(alloc: Global, sheet: &SharedSheet, member: &mut Member)
     member.make(alloc, sheet, Call::Recover, Limit::none(), &[]);
 }
 
+// Works on all cells once.
+fn work_all(alloc: Global, sheet: &SharedSheet, member: &mut Member)
+    requires { IsOf sheet.now member.old.pass }
+    ensures { IsOf sheet.now member.new.pass }
+{
+    for cell in 0..crate::grid::CELLS {
+        member.make(alloc, sheet, Call::Work(cell), Limit::none(), &[]);
+    }
+}
+
 /// Works on all cells until a report is settled, and answers its values. `None` where rounds are not enough.
 pub fn settle(alloc: Global, sheet: &SharedSheet, member: &mut Member) -> Option<Vec<Value>>
     requires { IsOf sheet.now member.old.pass }
     ensures { IsOf sheet.now member.new.pass }
 {
     for _round in 0..crate::grid::CELLS + 2 {
-        for cell in 0..crate::grid::CELLS {
-            member.make(alloc, sheet, Call::Work(cell), Limit::none(), &[]);
-        }
+        work_all(alloc, sheet, member);
     }
     match sheet.show(alloc, &mut member.pass, &mut Whole) {
         (Ended::Answered(Answer::Settled), values) => values,

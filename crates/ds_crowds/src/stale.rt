@@ -147,7 +147,7 @@ fn shown(is_edited: bool) -> Value {
 }
 
 #[test]
-fn stale_tree(rt: HostRuntime) -> Result<(), Fail> {
+fn an_edit_meets_each_step_of_a_work(rt: HostRuntime) -> Result<(), Fail> {
     for before in 0..STEPS + 2 {
         assert_eq!(rt; met(rt.alloc(), before), Some(wanted(before)));
     }
