@@ -18,3 +18,4 @@ pub mod Ors
 pub mod Turning
 pub mod WorkShows
 pub mod WorkAlone
+pub mod Keeping
