@@ -30,11 +30,13 @@ use Rattle.ds_state.proofs.Accesses.{Turn, store_moves}
 use Rattle.ds_edit.specs.EditSteps.{next_at, index_from}
 use Rattle.ds_edit.specs.EditTakes.{StepsAt}
 use Rattle.ds_edit.proofs.Stays.{branches}
-use Rattle.ds_edit.proofs.Turns.{on, Known_on, Holds_on, IsPlainStep, turn, goes, stays_open, fits_next}
+use Rattle.ds_edit.proofs.Turns.{is_within, noted_of, on, Known_on, Holds_on, IsPlainStep, turn, goes, stays_open, fits_next}
+use Rattle.ds_layout.specs.declared.place.Edition.{Edition}
+use Rattle.ds_state.specs.Editions.{seen_edition}
 
-record_announce : (p n k : ℕ) → record_place p n k ≢ Announce p
-record_announce p n zero = λ same. cc
-record_announce p n (suc k) = λ same. cc
+record_announce : (edition : Edition) (p n k : ℕ) → record_place edition p n k ≢ Announce p
+record_announce edition p n zero = λ same. cc
+record_announce edition p n (suc k) = λ same. cc
 
 -- a pending announcement tells no Done, and an ended one tells it of its own edit alone
 pub pending_tells : (w : PlainWorld) (p m n : ℕ) → announcement m phase.Pending ≡ announcement n phase.Done → IsKept w p n
@@ -71,8 +73,11 @@ module _ (e : PlainEditCall) (s : Stage) (word : ℕ) (old new : PlainWorld) (so
   went : new.situation e.process ≡ Editing (on e (next_at e s word))
   went = goes e s word old new t plain
 
+  seen : seen_edition old.memory ≡ e.edition
+  seen = (noted_of e s old sound at fits).cached
+
   tk : Turn e.process old new
-  tk = turn e s word old new t plain.counts
+  tk = turn e s word old new t at (is_within e s old fits) plain.counts
 
   module _ (place : Place) (moves : Moves e.process place old new) where
     keeps_at : (cell : ℕ) → KeepsOwing old new cell
@@ -88,8 +93,8 @@ module _ (e : PlainEditCall) (s : Stage) (word : ℕ) (old new : PlainWorld) (so
   unheld same r by = fits.holds_none r (subst (λ (x : ℕ). IsHeldBy e.process x) (same r) by)
 
   -- an announcement is stored, where both sides agreed
-  pub announces : (k : Known) (value : ℕ) (a : Announced) → Knowing old (edit_of e) e.refs fits.since k → k.before ≡ k.now
-      → (Knowing new (edit_of e) e.refs fits.since (record k { now = a }) → Known_on new e fits.since (next_at e s word))
+  pub announces : (k : Known) (value : ℕ) (a : Announced) → Knowing old e.edition (edit_of e) e.refs fits.since k → k.before ≡ k.now
+      → (Knowing new e.edition (edit_of e) e.refs fits.since (record k { now = a }) → Known_on new e fits.since (next_at e s word))
       → value ≡ word_of new (edit_of e) a
       → (StandsAs new (edit_of e) k.standing → (n : ℕ) → value ≡ announcement n phase.Done → IsKept new e.process n)
       → old.memory.cached (Announce e.process) ≤ value → StoresAt (Announce e.process) value old.memory new.memory
@@ -97,14 +102,14 @@ module _ (e : PlainEditCall) (s : Stage) (word : ℕ) (old new : PlainWorld) (so
   announces k value a knows both advance is tells more m held =
       let place : Place = Announce e.process in
       let E : PlainEdit = edit_of e in
-      let tn : Turn e.process old new = turn e s word old new t plain.counts in
-      let moves : Moves e.process place old new = store_moves e.process old new tn place value (more, le_refl _, inl refl) m in
+      let tn : Turn e.process old new = turn e s word old new t at (is_within e s old fits) plain.counts in
+      let moves : Moves e.process place old new = store_moves e.process old new tn place value (λ x. cc) (more, le_refl _, inl refl) m in
       let g : Grows e.process place old new = grows_own e.process place old new moves tn.counted in
       let stands : StandsAs new E k.standing = standing_stable place old new E g k.standing knows.standing in
       let before : old.memory.persisted place ≡ word_of old E k.before = elim knows.announced.persisted [ inl b ↦ b | inr n ↦ n ∙ ap (λ (x : Announced). word_of old E x) (sym both) ] in
-      let after : Knowing new E e.refs fits.since (record k { now = a }) = record {
+      let after : Knowing new e.edition E e.refs fits.since (record k { now = a }) = record {
         standing = stands;
-        recorded = recorded_stable place old new E g (record_announce e.process e.number) k.stored k.back knows.recorded;
+        recorded = recorded_stable place old new E g e.edition seen (record_announce e.edition e.process e.number) k.stored k.back knows.recorded;
         announced = record {
           cached = m.there ∙ is;
           persisted = inl (m.persisted place ∙ before ∙ sym (word_stable place old new E g k.before));
@@ -113,7 +118,7 @@ module _ (e : PlainEditCall) (s : Stage) (word : ℕ) (old new : PlainWorld) (so
         ored = ored_stable place old new E g e.refs k.ored knows.ored;
         head = head_stable place old new E g fits.since k.head knows.head;
       } in
-      let bears = word_bears e.process place old new moves tn.counted place (old.memory.cached place) (old.memory.persisted place) (λ cell same. cc) (λ cell is a. elim is [ inl x ↦ cc | inr x ↦ cc ]) (sound.words place) in
+      let bears = word_bears e.process place old new moves tn.counted place (old.memory.cached place) (old.memory.persisted place) (λ cell same. cc) (λ cell is a. elim is [ inl x ↦ cc | inr x ↦ cc ]) (λ edition q n part is. cc) (sound.words place) in
       let mine : Mine e.process place old new moves = my place moves (λ c. m.elsewhere (Head c) (λ x. cc)) (λ c x. cc) in
       let f : Framed old new = framed place moves mine (stored_marks e.process place old new moves (λ c x. cc) m.persisted m.buffer) in
       let told : WordFits new place (new.memory.cached place) (new.memory.persisted place) = record {
@@ -126,12 +131,12 @@ module _ (e : PlainEditCall) (s : Stage) (word : ℕ) (old new : PlainWorld) (so
       (λ l. fits_next e s word old new t fits plain small (unheld (λ r. m.elsewhere (Mark r) (λ x. cc))) (advance after) (held (m.buffer e.process)))
 
 -- the references that are left, or the head
-pub index_next : (w : PlainWorld) (e : PlainEditCall) (since i : ℕ) → i ≤ length e.refs → Knowing w (edit_of e) e.refs since (indexing (text_parts e.text) i None) → Known_on w e since (index_from e i)
+pub index_next : (w : PlainWorld) (e : PlainEditCall) (since i : ℕ) → i ≤ length e.refs → Knowing w e.edition (edit_of e) e.refs since (indexing (text_parts e.text) i None) → Known_on w e since (index_from e i)
 index_next w e since i most h = branches (λ x. Known_on w e since x) (nat_lt i (length e.refs)) (OrIndex i) LoadHead
     (λ b. h)
     (λ b. let l = ltb-false i (length e.refs) b in
     let all : i ≡ length e.refs = omega arith in
-    subst (λ (x : ℕ). Knowing w (edit_of e) e.refs since (indexing (text_parts e.text) x None)) all h)
+    subst (λ (x : ℕ). Knowing w e.edition (edit_of e) e.refs since (indexing (text_parts e.text) x None)) all h)
 
 pub index_holds : (w : PlainWorld) (e : PlainEditCall) (i : ℕ) → w.memory.buffer e.process ≡ [] → Holds_on w e (index_from e i)
 index_holds w e i h = branches (λ x. Holds_on w e x) (nat_lt i (length e.refs)) (OrIndex i) LoadHead (λ b. h) (λ b. h)

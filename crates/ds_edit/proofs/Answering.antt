@@ -24,7 +24,10 @@ use Rattle.ds_state.proofs.EditFrame.{Framed, silent_framed, silent_keeps}
 use Rattle.ds_state.proofs.Frames.{Moves, KeepsOwing}
 use Rattle.ds_state.proofs.Accesses.{Turn, same_moves, quiet_sound}
 use Rattle.ds_edit.specs.EditTakes.{StepsAt, Begins}
-use Rattle.ds_edit.proofs.Turns.{on, turn}
+use Rattle.ds_edit.proofs.Turns.{is_within, noted_of, on, turn}
+use Rattle.ds_layout.specs.declared.place.Edition.{Edition}
+use Rattle.ds_state.proofs.Frames.{notes, noted_in}
+use Rattle.ds_edit.specs.EditTakes.{rest_before}
 
 -- how the edit ended stands in the list
 ended_as : (w : PlainWorld) (e : PlainEdit) (how : Outcome) → StandsAs w e (standing_after how) → phase_among w.counted e.process e.number ≡ phase_of how
@@ -46,7 +49,7 @@ pub step_answer : (e : PlainEditCall) (word : ℕ) (old new : PlainWorld) → Is
 step_answer e word old new sound how at fits t =
     let E : PlainEdit = edit_of e in
     let m : SameMemory old.memory new.memory = t.memory.1 in
-    let tn : Turn e.process old new = turn e (Answer how) word old new t refl in
+    let tn : Turn e.process old new = turn e (Answer how) word old new t at (is_within e (Answer how) old fits) refl in
     let moves : Moves e.process place.Version old new = same_moves e.process old new tn m in
     let stands : StandsAs old E (standing_after how) = fits.knows.standing in
     let next : last_announcement old.counted e.process (e.number + 1) ≡ word_of old E (ended how) = last_after old.counted e.process e.number (phase_of how) (ended_as old E how stands) in
@@ -71,17 +74,17 @@ step_answer e word old new sound how at fits t =
 pub begin_sound : (e : PlainEditCall) (old new : PlainWorld) → IsSound old → IsEdit e → IsSheetOf old.layout e → HasRefs old.layout.shape e.text e.refs → Begins e old new → Keeps e.process old new
 begin_sound e old new sound is sheet refs b =
     let E : PlainEdit = edit_of e in
-    let tn : Turn e.process old new = record { layout = b.layout; counted = b.counted; situations = b.others; pendings = b.others_open_edits } in
+    let tn : Turn e.process old new = record { layout = b.layout; counted = b.counted; situations = b.others; pendings = b.others_open_edits; goes = notes e.edition (rw sheet.processes is.process) (ap noted_in b.idle) (ap noted_in b.situation) } in
     let moves : Moves e.process place.Version old new = same_moves e.process old new tn b.memory in
     let low : e.process < old.layout.processes = rw sheet.processes is.process in
-    let idle : IdleFits old e.process e.number = subst (λ (x : Situation). CallFits old e.process x) b.idle (sound.calls e.process low) in
+    let idle : IdleFits old e.process (rest_before e) = subst (λ (x : Situation). CallFits old e.process x) b.idle (sound.calls e.process low) in
     let owes : (r c x : ℕ) → Owes old.memory e.process (old.situation e.process) r c x → ⊥ = λ r c x o. subst (λ (s : Situation). Owes old.memory e.process s r c x) b.idle o in
     let excuses : (c x : ℕ) → Excuses old e.process (old.situation e.process) c x → ⊥ = λ c x o. subst (λ (s : Situation). Excuses old e.process s c x) b.idle o in
     let parts : (r : ℕ) → Parts (old.situation e.process) r → ⊥ = λ r o. subst (λ (s : Situation). Parts s r) b.idle o in
     let splits : (c head : ℕ) → Splits old e.process (old.situation e.process) c head → ⊥ = λ c head o. subst (λ (s : Situation). Splits old e.process s c head) b.idle o in
     let f : Framed old new = silent_framed e.process old new moves tn.counted sound (buffered old sound) owes excuses parts splits b.memory.buffer in
     let keeps : (cell : ℕ) → KeepsOwing old new cell = silent_keeps e.process old new moves tn.counted sound (buffered old sound) owes excuses parts splits b.memory.buffer in
-    let knows : Knowing new E e.refs (length old.counted) (writing 0 0) = record {
+    let knows : Knowing new e.edition E e.refs (length old.counted) (writing 0 0) = record {
       standing = rw b.counted idle.below;
       recorded = record { cached = λ k l. absurd (omega arith); persisted = λ k l. absurd (omega arith); fewer = omega arith };
       announced = record {
@@ -101,6 +104,6 @@ begin_sound e old new sound is sheet refs b =
       open_edits = b.open_edits;
       issued = (let same = ap length b.counted in omega arith);
       holds_none = λ r by. idle.holds_none r (subst (λ (x : ℕ). IsHeldBy e.process x) (b.memory.cached (place.Mark r)) by);
-      knows = subst (λ (x : Stage). Knowing new E e.refs (length old.counted) (known_at (text_parts e.text) (length e.refs) x)) (sym b.first) knows;
-      buffer = subst (λ (x : Stage). Holds new E (held_at (text_parts e.text) e.refs x)) (sym b.first) (b.memory.buffer e.process ∙ idle.buffer);
+      knows = subst (λ (x : Stage). Knowing new e.edition E e.refs (length old.counted) (known_at (text_parts e.text) (length e.refs) x)) (sym b.first) knows;
+      buffer = subst (λ (x : Stage). Holds new e.edition E (held_at (text_parts e.text) e.refs x)) (sym b.first) (b.memory.buffer e.process ∙ idle.buffer);
     }))

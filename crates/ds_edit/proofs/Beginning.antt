@@ -27,16 +27,19 @@ use Rattle.ds_state.proofs.Dones.{still_answered}
 use Rattle.ds_state.proofs.Underway.{no_more}
 use Rattle.std.proofs.lemmas.Bool.{cases_eq}
 use Rattle.ds_state.specs.CallsFit.{CallFits, IdleFits, IsSheetOf, HasRefs}
-use Rattle.ds_state.specs.Value.{WorldValue, world_of, IsGood, IsReserved}
+use Rattle.ds_state.specs.Value.{first_rest, WorldValue, world_of, IsGood, IsReserved}
 use Rattle.ds_state.specs.declared.refusal.Refusal.{Refusal}
 use Rattle.ds_state.specs.declared.refusal.Refusal.TheVariants as refusal
 use Rattle.ds_state.specs.declared.stage.Stage.TheVariants.{StoreHeader}
 use Rattle.ds_state.specs.declared.situation.Situation.{Situation}
-use Rattle.ds_state.specs.declared.situation.Situation.TheVariants.{Idle, Stopped, Editing, Working, Recovering, Showing}
+use Rattle.ds_state.specs.declared.situation.Situation.TheVariants.{Idle, Stopped, Editing, Working, Recovering, Showing, Migrating}
 use Rattle.ds_edit.specs.EditTakes.{Begins}
 use Rattle.ds_state.specs.Refusals.{next_edit}
 use Rattle.ds_edit.specs.Begun.{RefusesIdle, RefersTo, IsAskedFor, IsIdle, Refuses}
 use Rattle.ds_edit.proofs.Answering.{begin_sound}
+use Rattle.ds_edit.specs.EditTakes.{rest_before}
+use Rattle.ds_state.specs.Editions.{most_in}
+use Rattle.ds_state.specs.declared.situation.Rest.{Rest}
 
 -- the world in which the edit is issued
 abbrev pub issued : WorldValue → PlainEditCall → WorldValue
@@ -45,7 +48,7 @@ issued v e = record v {
   open_edits = set v.open_edits e.process (Some (record { edit = edit_of e; since = length v.counted }));
 }
 
-module _ (v : WorldValue) (e : PlainEditCall) (room : ℕ) (kept : IsReserved v room) (is : IsEdit e) (sheet : IsSheetOf v.sheet.layout e) (idle : IsIdle (world_of v) e.process e.number) (first : e.stage ≡ StoreHeader) where
+module _ (v : WorldValue) (e : PlainEditCall) (room : ℕ) (kept : IsReserved v room) (is : IsEdit e) (sheet : IsSheetOf v.sheet.layout e) (idle : IsIdle (world_of v) e.process (rest_before e)) (first : e.stage ≡ StoreHeader) where
   has_situation : e.process < length v.situations
   has_situation = let s = kept.good.situations in let p = sheet.processes in let l = is.process in omega arith
 
@@ -58,8 +61,8 @@ module _ (v : WorldValue) (e : PlainEditCall) (room : ℕ) (kept : IsReserved v 
     memory = record { cached = λ r. refl; persisted = λ r. refl; buffer = λ q. refl };
     idle = idle;
     first = first;
-    situation = get_or-set_same v.situations e.process (Editing e) (Idle 0) has_situation;
-    others = λ q ne. get_or-set_other v.situations e.process q (Editing e) (Idle 0) ne;
+    situation = get_or-set_same v.situations e.process (Editing e) (Idle first_rest) has_situation;
+    others = λ q ne. get_or-set_other v.situations e.process q (Editing e) (Idle first_rest) ne;
     counted = refl;
     open_edits = get_or-set_same v.open_edits e.process (Some (record { edit = edit_of e; since = length v.counted })) None has_pending;
     others_open_edits = λ q ne. get_or-set_other v.open_edits e.process q (Some (record { edit = edit_of e; since = length v.counted })) None ne;
@@ -68,7 +71,7 @@ module _ (v : WorldValue) (e : PlainEditCall) (room : ℕ) (kept : IsReserved v 
   low : e.process < v.sheet.layout.processes
   low = rw sheet.processes is.process
 
-  was_idle : IdleFits (world_of v) e.process e.number
+  was_idle : IdleFits (world_of v) e.process (rest_before e)
   was_idle = subst (λ (x : Situation). CallFits (world_of v) e.process x) idle (kept.good.sound.calls e.process low)
 
   -- the edit does not count, so it is none that was answered
@@ -137,7 +140,7 @@ refers_below shape text refs to = subst (λ (xs : List ℕ). All (λ r. r < coun
 
 -- the situation that was read is the process's
 pub situation_at : (v : WorldValue) (process : ℕ) (read : Situation) → IsGood v → process < v.sheet.layout.processes → read ≡ get_or v.situations process read → (world_of v).situation process ≡ read
-situation_at v process read good low is = get_or_default v.situations process (Idle 0) read (let s = good.situations in omega arith) ∙ sym is
+situation_at v process read good low is = get_or_default v.situations process (Idle first_rest) read (let s = good.situations in omega arith) ∙ sym is
 
 -- why a process in another situation may not begin an edit
 pub refuses_of : (w : PlainWorld) (process : ℕ) (text : List ℕ) (s : Situation) (r : Refusal) → w.situation process ≡ s → Err r ≡ next_edit s → Refuses w process text r
@@ -147,6 +150,7 @@ refuses_of w process text (Editing e) r at is = rw at (let same : r ≡ refusal.
 refuses_of w process text (Working e) r at is = rw at (let same : r ≡ refusal.Busy = cc in same)
 refuses_of w process text (Recovering e) r at is = rw at (let same : r ≡ refusal.Busy = cc in same)
 refuses_of w process text (Showing e) r at is = rw at (let same : r ≡ refusal.Busy = cc in same)
+refuses_of w process text (Migrating e) r at is = rw at (let same : r ≡ refusal.Busy = cc in same)
 
 -- the refusal that the answer to a text without a content is
 pub text_refused : (shape : Shape) (number : ℕ) (text : List ℕ) (fault : TextFault) → Answers shape text (Err fault) → RefusesIdle shape number text (refusal_of fault)
@@ -163,10 +167,11 @@ handed_on (Ok x) given P is h = tt
 handed_on (Err x) given P is h = subst P (sym is) h
 
 -- the edit of these parts
-abbrev pub prepared : Layout → ℕ → ℕ → ℕ → List ℕ → List ℕ → ℕ → PlainEditCall
-prepared layout process number cell text refs cells = record {
+abbrev pub prepared : Layout → ℕ → Rest → ℕ → List ℕ → List ℕ → ℕ → PlainEditCall
+prepared layout process next cell text refs cells = record {
   process = process;
-  number = number;
+  number = next.number;
+  edition = next.edition;
   cell = cell;
   text = text;
   refs = refs;
@@ -175,9 +180,9 @@ prepared layout process number cell text refs cells = record {
   stage = StoreHeader;
 }
 
-pub prepared_asked : (layout : Layout) (process number cell place cells : ℕ) (text own refs : List ℕ) → own ≡ text → IsText own → RefersTo layout.shape text refs → process < layout.processes → number ≤ RECORDS → number ≢ RECORDS
-    → place ≡ cell → place < cells_of layout → cells ≡ cells_of layout → IsAskedFor layout process cell text number (prepared layout process number place own refs cells)
-prepared_asked layout process number cell place cells text own refs same texts to low few room at below is = record {
+pub prepared_asked : (layout : Layout) (process cell place cells : ℕ) (next : Rest) (text own refs : List ℕ) → own ≡ text → IsText own → length text ≤ most_in next.edition → RefersTo layout.shape text refs → process < layout.processes → next.number ≤ RECORDS → next.number ≢ RECORDS
+    → place ≡ cell → place < cells_of layout → cells ≡ cells_of layout → IsAskedFor layout process cell text next.number (prepared layout process next place own refs cells)
+prepared_asked layout process cell place cells next text own refs same texts short to low few room at below is = record {
   asked = rw (same, at) refl;
   is = record {
     process = low;
@@ -186,6 +191,7 @@ prepared_asked layout process number cell place cells text own refs same texts t
     cell = omega arith;
     cells = (let most = layout.shape.within.cells_to_1024 in omega arith);
     text = texts;
+    fits = rw same short;
     refs = rw is (refers_below layout.shape text refs to);
     stage = tt;
   };

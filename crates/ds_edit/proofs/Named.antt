@@ -20,9 +20,9 @@ reference_named layout e i s is l =
 
 named : (layout : Layout) (e : PlainEditCall) → IsSheetOf layout e → IsEdit e → (stage : Stage) → IsStage e stage → NamesPlace layout (access_at e stage)
 named layout e s is StoreHeader h = (rw s.processes is.process, is.number)
-named layout e s is (StoreText part) h = let t = is.text.short in (rw s.processes is.process, is.number, omega arith)
+named layout e s is (StoreText part) h = let t = is.fits in (rw s.processes is.process, is.number, omega arith)
 named layout e s is FlushHeader h = (rw s.processes is.process, is.number)
-named layout e s is (FlushText part) h = let t = is.text.short in (rw s.processes is.process, is.number, omega arith)
+named layout e s is (FlushText part) h = let t = is.fits in (rw s.processes is.process, is.number, omega arith)
 named layout e s is (BackRecord left) h = tt
 named layout e s is StorePending h = rw s.processes is.process
 named layout e s is FlushPending h = rw s.processes is.process

@@ -28,20 +28,21 @@ use Rattle.ds_state.proofs.Frames.{word_bears, kept_stable}
 use Rattle.ds_state.proofs.Sides.{done_or_fits}
 use Rattle.ds_edit.specs.EditSteps.{next_at, help_from}
 use Rattle.ds_edit.specs.EditTakes.{StepsAt}
-use Rattle.ds_edit.proofs.Turns.{on, Known_on, Holds_on, IsPlainStep, turn}
+use Rattle.ds_edit.proofs.Turns.{is_within, noted_of, on, Known_on, Holds_on, IsPlainStep, turn}
 use Rattle.ds_edit.proofs.Sorts.{loads, flushes, backs, ors}
+use Rattle.ds_layout.specs.declared.place.Edition.{Edition}
 
-record_no_done : (p n q part k : ℕ) → record_place p n k ≢ place.Done q part
-record_no_done p n q part zero = λ same. cc
-record_no_done p n q part (suc k) = λ same. cc
+record_no_done : (edition : Edition) (p n q part k : ℕ) → record_place edition p n k ≢ place.Done q part
+record_no_done edition p n q part zero = λ same. cc
+record_no_done edition p n q part (suc k) = λ same. cc
 
 no_head : (xs : List PlainEdit) → xs ≡ [] → head_after_all xs ≡ 0
 unfolding head_after_all
 no_head xs none = ap head_after_all none
 
 -- what else is known stays, where more is known of the head
-pub knows_head : (w : PlainWorld) (e : PlainEditCall) (since : ℕ) (k h : _) → Knowing w (edit_of e) e.refs since (placing (text_parts e.text) (length e.refs) outside k) → Knows w (edit_of e) since h
-    → Knowing w (edit_of e) e.refs since (placing (text_parts e.text) (length e.refs) outside h)
+pub knows_head : (w : PlainWorld) (e : PlainEditCall) (since : ℕ) (k h : _) → Knowing w e.edition (edit_of e) e.refs since (placing (text_parts e.text) (length e.refs) outside k) → Knows w (edit_of e) since h
+    → Knowing w e.edition (edit_of e) e.refs since (placing (text_parts e.text) (length e.refs) outside h)
 knows_head w e since k h known now = record {
   standing = known.standing;
   recorded = known.recorded;
@@ -96,7 +97,7 @@ module _ (e : PlainEditCall) (word : ℕ) (old new : PlainWorld) (sound : IsSoun
       let m : SameMemory old.memory new.memory = t.memory.1 in
       let seen : word ≡ head_after_all es = t.memory.0 ∙ cached_is in
       let plain : IsPlainStep e LoadHead word = record { goes_on = refl; counts = refl; pends = λ i. refl } in
-      let counted : new.counted ≡ old.counted = (turn e LoadHead word old new t refl).counted in
+      let counted : new.counted ≡ old.counted = (turn e LoadHead word old new t at (is_within e LoadHead old fits) refl).counted in
       let empty : new.memory.buffer e.process ≡ [] = m.buffer e.process ∙ fits.buffer in
       let processes : old.layout.processes ≡ e.processes = fits.sheet.processes in
       let when : IsWhen new fits.since (length new.counted) = record { late = (let i = fits.issued in let l = ap length counted in omega arith); there = omega arith } in
@@ -141,7 +142,7 @@ module _ (e : PlainEditCall) (word : ℕ) (old new : PlainWorld) (sound : IsSoun
   step_flush_noted head at fits t =
       let m : FlushesAt e.process (place.Head e.cell) (class_of (place.Head e.cell)) old.memory new.memory = t.memory.1 in
       let noted : IsNoted old E fits.since head = fits.knows.head in
-      let counted : new.counted ≡ old.counted = (turn e (FlushNoted head) word old new t refl).counted in
+      let counted : new.counted ≡ old.counted = (turn e (FlushNoted head) word old new t at (is_within e (FlushNoted head) old fits) refl).counted in
       let from : IsHeadFrom old e.cell (head_word head) (old.memory.cached (place.Head e.cell)) = head_now old sound E (head_word head) noted.by (noted_by old E fits.since head noted) in
       flushes e (FlushNoted head) word old new sound at fits t (record { goes_on = refl; counts = refl; pends = λ i. refl }) (rw t.memory.0 (omega arith)) (λ h o. absurd o) (λ x k o. absurd o) (place.Head e.cell) m fits.buffer
       (λ known. known)
@@ -180,10 +181,10 @@ module _ (e : PlainEditCall) (word : ℕ) (old new : PlainWorld) (sound : IsSoun
       } in
       let there : Place = done_place head.process head.number in
       ors e (OrDone head) word old new sound at fits t (record { goes_on = refl; counts = refl; pends = λ i. refl }) (rw t.memory.0 (omega arith)) (λ h o. absurd o) (λ x k o. absurd o) there (bit_of head.number)
-      (record_no_done e.process e.number head.process (head.number / 64)) (λ same. cc)
+      (record_no_done e.edition e.process e.number head.process (head.number / 64)) (λ same. cc) (λ same. cc)
       (IsSubset-or_left (old.memory.cached there) (bit_of head.number), IsSubset-same (old.memory.persisted there))
-      (λ moves. done_or_fits new head.process head.number (old.memory.cached there) (old.memory.persisted there) (kept_stable e.process there old new moves (turn e _ word old new t refl).counted head.process head.number kept)
-      (word_bears e.process there old new moves (turn e _ word old new t refl).counted there (old.memory.cached there) (old.memory.persisted there) (λ cell is. cc) (λ cell is a. elim is [ inl x ↦ cc | inr x ↦ cc ]) (sound.words there)))
+      (λ moves. done_or_fits new head.process head.number (old.memory.cached there) (old.memory.persisted there) (kept_stable e.process there old new moves (turn e _ word old new t at (is_within e _ old fits) refl).counted head.process head.number kept)
+      (word_bears e.process there old new moves (turn e _ word old new t at (is_within e _ old fits) refl).counted there (old.memory.cached there) (old.memory.persisted there) (λ cell is. cc) (λ cell is a. elim is [ inl x ↦ cc | inr x ↦ cc ]) (λ edition q n part is. cc) (sound.words there)))
       (λ c is. cc) (λ c is k. cc) (λ c is k. cc)
       t.memory.1
       (λ known now. knows_head new e fits.since (head_back head) (bit_set head) known (known.head.0, known.head.1, rw now (HasBit-or_bit (old.memory.cached there) head.number)))
@@ -228,7 +229,7 @@ module _ (e : PlainEditCall) (word : ℕ) (old new : PlainWorld) (sound : IsSoun
       let f : word == noted ≡ false = elim (eqb_tells word noted) [ inl same ↦ absurd (ne same.1) | inr differs ↦ differs.0 ] in
       let plain : IsPlainStep e (Swap noted) word = record { goes_on = refl; counts = rw f refl; pends = λ i. refl } in
       let next : next_at e (Swap noted) word ≡ StoreOutcome (outcome.Overtaken noted word) = rw f refl in
-      let counted : new.counted ≡ old.counted = (turn e (Swap noted) word old new t plain.counts).counted in
+      let counted : new.counted ≡ old.counted = (turn e (Swap noted) word old new t at (is_within e (Swap noted) old fits) plain.counts).counted in
       loads e (Swap noted) word old new sound at fits t plain (rw (seen ∙ cached_is) head_small) (λ head o. absurd o) (λ x k o. absurd o) m
       (λ known. subst (λ (x : Stage). Known_on new e fits.since x) (sym next) (
       let h : IsHelped new E fits.since noted = known.head in

@@ -4,7 +4,7 @@ use Rattle.std.specs.Prelude.{slice_index_or}
 use Rattle.std.specs.List.{range_with_len}
 use Rattle.std.proofs.lemmas.List.FromFn.{length-map-range_with_len}
 use Rattle.ds_words.specs.declared.words.TheConstants.{BUFFER_ENTRIES}
-use Rattle.ds_layout.specs.declared.place.TheConstants.{RECORDS, TEXT_PARTS}
+use Rattle.ds_layout.specs.declared.place.TheConstants.{RECORDS}
 use Rattle.ds_layout.specs.declared.place.Place.{Place}
 use Rattle.ds_layout.specs.declared.place.Place.TheVariants as place
 use Rattle.ds_layout.specs.declared.layout.Layout.{Layout}
@@ -23,10 +23,12 @@ use Rattle.ds_state.specs.declared.situation.Situation.TheVariants.{Editing}
 use Rattle.ds_edit.specs.EditSteps.{access_at}
 use Rattle.ds_edit.proofs.Named as named
 use Rattle.ds_edit.proofs.Turns.{on}
+use Rattle.ds_layout.specs.declared.place.Edition.{Edition}
+use Rattle.ds_layout.specs.Places.{parts_in}
 
-record_is_place : (layout : Layout) (p n k : ℕ) → p < layout.processes → n < RECORDS → k ≤ TEXT_PARTS → IsPlace layout (record_place p n k)
-record_is_place layout p n zero a b c = (a, b)
-record_is_place layout p n (suc k) a b c = (a, b, omega arith)
+record_is_place : (layout : Layout) (edition : Edition) (p n k : ℕ) → p < layout.processes → n < RECORDS → k ≤ parts_in edition → IsPlace layout (record_place edition p n k)
+record_is_place layout edition p n zero a b c = (a, b)
+record_is_place layout edition p n (suc k) a b c = (a, b, omega arith)
 
 module _ (e : PlainEditCall) (w : PlainWorld) (low : e.process < w.layout.processes) where
   room : w.memory.buffer e.process ≡ [] → (e.process < w.layout.processes) × (length (w.memory.buffer e.process) < BUFFER_ENTRIES)
@@ -40,19 +42,19 @@ module _ (e : PlainEditCall) (w : PlainWorld) (low : e.process < w.layout.proces
   buffered (StoreText part) f = tt
   buffered FlushHeader f = room f.buffer
   buffered (FlushText part) f =
-      let l : length (w.memory.buffer e.process) ≡ suc part = ap length f.buffer ∙ length-map-range_with_len (record_entry (edit_of e)) 0 (suc part) in
+      let l : length (w.memory.buffer e.process) ≡ suc part = ap length f.buffer ∙ length-map-range_with_len (record_entry e.edition (edit_of e)) 0 (suc part) in
       let p : part < text_parts e.text = f.is.stage in
       let t = f.is.text.short in
       (low, omega arith)
   buffered (BackRecord left) f =
       let k : ℕ = text_parts e.text - left in
-      let t = f.is.text.short in (
+      let t = f.is.fits in (
         low,
         record {
-          entry = record_entry (edit_of e) k;
-          rest = map (record_entry (edit_of e)) (range_with_len (k + 1) left);
+          entry = record_entry e.edition (edit_of e) k;
+          rest = map (record_entry e.edition (edit_of e)) (range_with_len (k + 1) left);
           oldest = f.buffer;
-          there = record_is_place w.layout e.process e.number k low f.is.number (omega arith);
+          there = record_is_place w.layout e.edition e.process e.number k low f.is.number (omega arith);
         },
       )
   buffered StorePending f = tt

@@ -33,15 +33,20 @@ use Rattle.ds_state.proofs.Sides.{EntryFits, IsBetween, newer_between}
 use Rattle.ds_state.proofs.Accesses.{Turn, same_moves, store_moves, flush_moves, quiet_sound, Backs, written_backs, back_moves, back_grows, back_sound}
 use Rattle.ds_edit.specs.EditSteps.{next_at}
 use Rattle.ds_edit.specs.EditTakes.{StepsAt}
-use Rattle.ds_edit.proofs.Turns.{on, Known_on, Holds_on, IsPlainStep, turn, goes, stays_open, fits_next, back_first}
+use Rattle.ds_edit.proofs.Turns.{is_within, noted_of, on, Known_on, Holds_on, IsPlainStep, turn, goes, stays_open, fits_next, back_first}
+use Rattle.ds_layout.specs.declared.place.Edition.{Edition}
+use Rattle.ds_state.specs.Editions.{seen_edition}
 
 module _ (e : PlainEditCall) (s : Stage) (word : ℕ) (old new : PlainWorld) (sound : IsSound old)
     (at : old.situation e.process ≡ Editing (on e s)) (fits : EditFits old e.process (on e s))
     (t : StepsAt e s word old new) (plain : IsPlainStep e s word) (small : word < 2 ^ 64)
     (splits : (head : ℕ) → SplitsAt s head → SplitsAt (next_at e s word) head)
     (passes : (x : ℕ) → Matters new e.cell x → EditOwes old.memory e.process e.cell s x → EditOwes new.memory e.process e.cell (next_at e s word) x) where
+  seen : seen_edition old.memory ≡ e.edition
+  seen = (noted_of e s old sound at fits).cached
+
   tn : Turn e.process old new
-  tn = turn e s word old new t plain.counts
+  tn = turn e s word old new t at (is_within e s old fits) plain.counts
 
   real : e.process < old.layout.processes
   real = rw fits.sheet.processes fits.is.process
@@ -62,8 +67,8 @@ module _ (e : PlainEditCall) (s : Stage) (word : ℕ) (old new : PlainWorld) (so
     framed m marks = edit_framed e.process e s (next_at e s word) place old new moves tn.counted at (goes e s word old new t plain) sound (buffered old sound) m marks
 
   -- what is known stays, where no word of the edit's own changes
-  stays : (but : Place) → ((k : ℕ) → record_place e.process e.number k ≢ but) → Announce e.process ≢ but → Grows e.process but old new → Known_on new e fits.since s
-  stays but apart apart' g = knowing_stable but old new (edit_of e) g apart apart' e.refs fits.since (known_at (text_parts e.text) (length e.refs) s) fits.knows
+  stays : (but : Place) → ((k : ℕ) → record_place e.edition e.process e.number k ≢ but) → Announce e.process ≢ but → Grows e.process but old new → Known_on new e fits.since s
+  stays but apart apart' g = knowing_stable but old new (edit_of e) g e.edition seen apart apart' e.refs fits.since (known_at (text_parts e.text) (length e.refs) s) fits.knows
 
   -- nothing is changed
   pub loads : SameMemory old.memory new.memory
@@ -74,7 +79,7 @@ module _ (e : PlainEditCall) (s : Stage) (word : ℕ) (old new : PlainWorld) (so
       let my : Mine e.process Version old new moves = mine Version moves (λ c. m.cached (Head c)) (λ c is. cc) in
       let f : Framed old new = framed Version moves my (no_new_marks e.process Version old new moves (λ c is. cc) (λ c x q h. subst (λ (xs : List (BufferEntry Place)). Contains xs (entry (Mark c) x)) (m.buffer q) h)) in
       quiet_sound e.process old new tn sound moves f.bears f.stand f.apart (keeps Version moves)
-      (λ l. fits_next e s word old new t fits plain small (free Version (λ r same. cc) g) (advance (stays Version (record_no_version e.process e.number) (λ same. cc) g)) held)
+      (λ l. fits_next e s word old new t fits plain small (free Version (λ r same. cc) g) (advance (stays Version (record_no_version e.edition e.process e.number) (λ same. cc) g)) held)
 
   -- a word is flushed
   pub flushes : (place : Place) → FlushesAt e.process place (class_of place) old.memory new.memory → old.memory.buffer e.process ≡ []
@@ -86,7 +91,7 @@ module _ (e : PlainEditCall) (s : Stage) (word : ℕ) (old new : PlainWorld) (so
       let my : Mine e.process Version old new moves = mine Version moves (λ c. m.cached (Head c)) (λ c is. cc) in
       let f : Framed old new = framed Version moves my (flush_any e.process old new moves sound (buffered old sound) my (text_same old new moves.layout tn.counted) place m) in
       quiet_sound e.process old new tn sound moves f.bears f.stand f.apart (keeps Version moves)
-      (λ l. fits_next e s word old new t fits plain small (free Version (λ r same. cc) g) (advance (stays Version (record_no_version e.process e.number) (λ same. cc) g))
+      (λ l. fits_next e s word old new t fits plain small (free Version (λ r same. cc) g) (advance (stays Version (record_no_version e.edition e.process e.number) (λ same. cc) g))
       (held (m.mine ∙ ap (λ xs. xs ++ entry place (old.memory.cached place) ∷ []) none)))
 
   -- the entry of the buffer is written back
@@ -108,7 +113,7 @@ module _ (e : PlainEditCall) (s : Stage) (word : ℕ) (old new : PlainWorld) (so
       (subst (λ (y : Place). new.memory.persisted y ≡ now) is m.there) (head_between c is between)) in
       let f : Framed old new = framed place moves my (back_any e.process place value old new moves sound (buffered old sound) my (text_same old new moves.layout tn.counted) real m) in
       back_sound e.process old new tn sound place now b between f.bears f.stand f.apart (keeps place moves)
-      (λ l. fits_next e s word old new t fits plain small (free Version (λ r same. cc) g) (advance (stays Version (record_no_version e.process e.number) (λ same. cc) g) m.there) (held m.mine))
+      (λ l. fits_next e s word old new t fits plain small (free Version (λ r same. cc) g) (advance (stays Version (record_no_version e.edition e.process e.number) (λ same. cc) g) m.there) (held m.mine))
     where
       head_between : {now : ℕ} (c : ℕ) → place ≡ Head c → IsBetween old.layout place (old.memory.cached place) (old.memory.persisted place) now → (now ≡ old.memory.persisted (Head c)) ⊎ (now ≡ old.memory.cached (Head c))
       head_between {now} c is between = subst (λ (y : Place). IsBetween old.layout y (old.memory.cached y) (old.memory.persisted y) now) is between
@@ -117,7 +122,7 @@ module _ (e : PlainEditCall) (s : Stage) (word : ℕ) (old new : PlainWorld) (so
       keeps_free c v c' v' none same = record { cached = λ h. absurd (none h); persisted = λ h k. absurd (none h); came = λ h. subst (λ (x : ℕ). IsHeldBy e.process x) same h }
 
   -- bits are added to a word that is nobody's own
-  pub ors : (place : Place) (bits : ℕ) → ((k : ℕ) → record_place e.process e.number k ≢ place) → Announce e.process ≢ place
+  pub ors : (place : Place) (bits : ℕ) → ((k : ℕ) → record_place e.edition e.process e.number k ≢ place) → Announce e.process ≢ place → Version ≢ place
       → MovesWord old.memory e.process place (old.memory.cached place) (old.memory.persisted place) (bit_or (old.memory.cached place) bits) (old.memory.persisted place)
       → (Moves e.process place old new → WordFits new place (bit_or (old.memory.cached place) bits) (old.memory.persisted place))
       → ((c : ℕ) → place ≡ Head c → ⊥) → ((c : ℕ) → place ≡ Mark c → IsClean (bit_or (old.memory.cached place) bits) → ⊥)
@@ -125,8 +130,8 @@ module _ (e : PlainEditCall) (s : Stage) (word : ℕ) (old new : PlainWorld) (so
       → OrsAt place bits old.memory new.memory
       → (Known_on new e fits.since s → new.memory.cached place ≡ bit_or (old.memory.cached place) bits → Known_on new e fits.since (next_at e s word))
       → (new.memory.buffer e.process ≡ old.memory.buffer e.process → Holds_on new e (next_at e s word)) → Keeps e.process old new
-  ors place bits apart apart' moved word_fits no_head unclean unheld m advance held =
-      let moves : Moves e.process place old new = store_moves e.process old new tn place (bit_or (old.memory.cached place) bits) moved m in
+  ors place bits apart apart' apart'' moved word_fits no_head unclean unheld m advance held =
+      let moves : Moves e.process place old new = store_moves e.process old new tn place (bit_or (old.memory.cached place) bits) apart'' moved m in
       let g : Grows e.process place old new = grows_own e.process place old new moves tn.counted in
       let my : Mine e.process place old new moves = mine place moves (λ c. m.elsewhere (Head c) (λ is. no_head c (sym is))) (λ c is. absurd (no_head c is)) in
       let f : Framed old new = framed place moves my (stored_marks e.process place old new moves

@@ -24,17 +24,18 @@ use Rattle.ds_state.specs.declared.situation.Situation.TheVariants.{Editing}
 use Rattle.ds_state.proofs.Frames.{word_bears}
 use Rattle.ds_state.proofs.Sides.{row_or_fits}
 use Rattle.ds_edit.specs.EditTakes.{StepsAt, Steps}
-use Rattle.ds_edit.proofs.Turns.{turn, on, back_first}
+use Rattle.ds_edit.proofs.Turns.{is_within, noted_of, turn, on, back_first}
 use Rattle.ds_edit.proofs.Sorts.{flushes, backs, ors}
 use Rattle.ds_edit.proofs.Recording as recording
 use Rattle.ds_edit.proofs.Announcing.{last_less, ended_more, announces, on_both, pending_tells, ended_tells, index_next, index_holds}
 use Rattle.ds_edit.proofs.Placing.{step_load_head, step_flush_noted, step_back_noted, step_or_done, step_flush_done, step_back_done, step_swap_lost}
 use Rattle.ds_edit.proofs.Taking.{step_swap_won, step_flush_own, step_back_own, step_or_mark, step_flush_mark, step_back_mark}
 use Rattle.ds_edit.proofs.Answering.{step_answer}
+use Rattle.ds_layout.specs.declared.place.Edition.{Edition}
 
-record_no_row : (p n row part k : ℕ) → record_place p n k ≢ place.Index row part
-record_no_row p n row part zero = λ same. cc
-record_no_row p n row part (suc k) = λ same. cc
+record_no_row : (edition : Edition) (p n row part k : ℕ) → record_place edition p n k ≢ place.Index row part
+record_no_row edition p n row part zero = λ same. cc
+record_no_row edition p n row part (suc k) = λ same. cc
 
 module _ (e : PlainEditCall) (word : ℕ) (old new : PlainWorld) (sound : IsSound old) where
   abbrev E : PlainEdit
@@ -71,7 +72,7 @@ module _ (e : PlainEditCall) (word : ℕ) (old new : PlainWorld) (sound : IsSoun
       let k : ℕ = text_parts e.text - left in
       recording.backs e (BackRecord left) word old new sound at fits t (record { goes_on = refl; counts = refl; pends = λ i. refl }) t.memory.0 (λ h o. o) (λ x o. o)
       left k fits.is.stage refl refl fits.knows fits.buffer
-      (back_first (record_entry E k) (map (record_entry E) (range_with_len (k + 1) left)) fits.buffer t.memory.1)
+      (back_first (record_entry e.edition E k) (map (record_entry e.edition E) (range_with_len (k + 1) left)) fits.buffer t.memory.1)
 
   -- the announcement
   store_pending : AtStage StorePending
@@ -105,10 +106,10 @@ module _ (e : PlainEditCall) (word : ℕ) (old new : PlainWorld) (sound : IsSoun
   or_index i at fits t =
       let there : Place = index_place (slice_index_or e.refs i 0) e.cell in
       ors e (OrIndex i) word old new sound at fits t (record { goes_on = refl; counts = refl; pends = λ i. refl }) (rw t.memory.0 (omega arith)) (λ h o. absurd o) (λ x k o. absurd o)
-      there (bit_of e.cell) (record_no_row e.process e.number (slice_index_or e.refs i 0) (e.cell / 64)) (λ same. cc)
+      there (bit_of e.cell) (record_no_row e.edition e.process e.number (slice_index_or e.refs i 0) (e.cell / 64)) (λ same. cc) (λ same. cc)
       (IsSubset-or_left (old.memory.cached there) (bit_of e.cell), IsSubset-same (old.memory.persisted there))
       (λ moves. row_or_fits new (slice_index_or e.refs i 0) (e.cell / 64) (old.memory.cached there) (old.memory.persisted there) (bit_of e.cell)
-      (word_bears e.process there old new moves (turn e _ word old new t refl).counted there (old.memory.cached there) (old.memory.persisted there) (λ cell is. cc) (λ cell is a. elim is [ inl x ↦ cc | inr x ↦ cc ]) (sound.words there)))
+      (word_bears e.process there old new moves (turn e _ word old new t at (is_within e _ old fits) refl).counted there (old.memory.cached there) (old.memory.persisted there) (λ cell is. cc) (λ cell is a. elim is [ inl x ↦ cc | inr x ↦ cc ]) (λ edition q n part is. cc) (sound.words there)))
       (λ c is. cc) (λ c is k. cc) (λ c is k. cc)
       t.memory.1
       (λ known now. record {

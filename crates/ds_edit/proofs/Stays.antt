@@ -57,6 +57,7 @@ got_stays e word w is = record {
   cell = is.cell;
   cells = is.cells;
   text = is.text;
+  fits = is.fits;
   refs = is.refs;
   stage = stays e e.stage word w is.stage;
 }
@@ -95,7 +96,7 @@ falls e (BackOutcome how) word s = omega arith
 falls e (Answer how) word s = tt
 
 -- and is small at first
-pub few : (e : PlainEditCall) → length e.text ≤ 120 → (stage : Stage) → IsStage e stage → rank e stage ≤ 67 + 3 * length e.refs
+pub few : (e : PlainEditCall) → length e.text ≤ 240 → (stage : Stage) → IsStage e stage → rank e stage ≤ 112 + 3 * length e.refs
 few e t StoreHeader s = omega arith
 few e t (StoreText part) s = omega arith
 few e t FlushHeader s = omega arith
@@ -158,7 +159,7 @@ some e (Answer how) s = omega arith
 pub each_falls : (e : PlainEditCall) (word : ℕ) → IsEdit e → Falls e e.stage (next_at e e.stage word)
 each_falls e word is = falls e e.stage word is.stage
 
-pub each_few : (e : PlainEditCall) → IsEdit e → rank e e.stage ≤ 67 + 3 * length e.refs
+pub each_few : (e : PlainEditCall) → IsEdit e → rank e e.stage ≤ 112 + 3 * length e.refs
 each_few e is = few e is.text.short e.stage is.stage
 
 pub each_some : (e : PlainEditCall) → IsEdit e → 0 < rank e e.stage

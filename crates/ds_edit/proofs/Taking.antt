@@ -42,17 +42,26 @@ use Rattle.ds_state.proofs.Counting.{Counts, MayCount, counts_sound}
 use Rattle.ds_edit.specs.EditSteps.{head_after}
 use Rattle.ds_edit.specs.EditTakes.{StepsAt}
 use Rattle.ds_layout.specs.declared.head.TheConstants.{LAST_STAMP}
-use Rattle.ds_edit.proofs.Turns.{on, Known_on, IsPlainStep, turn, goes, fits_next, back_first}
+use Rattle.ds_edit.proofs.Turns.{is_within, noted_of, on, Known_on, IsPlainStep, turn, goes, fits_next, back_first}
 use Rattle.ds_edit.proofs.Sorts.{flushes, backs, ors}
 use Rattle.ds_edit.proofs.Placing.{head_now}
+use Rattle.ds_layout.specs.declared.place.Edition.{Edition}
+use Rattle.ds_state.specs.Editions.{Agrees, Shows, most_in}
+use Rattle.ds_layout.specs.declared.place.Edition.TheVariants.{First}
+use Rattle.ds_state.proofs.Frames.{notes, noted_in}
+use Rattle.ds_words.specs.Memory.{Memory}
 
-record_no_head : (p n cell k : ℕ) → record_place p n k ≢ place.Head cell
-record_no_head p n cell zero = λ same. cc
-record_no_head p n cell (suc k) = λ same. cc
+-- a text that fits its layout fits the first one, where a side says that
+short_in : (m : Memory Place) (edition : Edition) (text : List ℕ) → Agrees m edition → length text ≤ most_in edition → Shows m First → length text ≤ most_in First
+short_in m edition text a h now = let its : edition ≡ First = elim now [ inl seen ↦ sym a.cached ∙ seen | inr kept ↦ sym a.persisted ∙ kept ] in subst (λ (d : Edition). length text ≤ most_in d) its h
 
-record_no_mark : (p n cell k : ℕ) → record_place p n k ≢ place.Mark cell
-record_no_mark p n cell zero = λ same. cc
-record_no_mark p n cell (suc k) = λ same. cc
+record_no_head : (edition : Edition) (p n cell k : ℕ) → record_place edition p n k ≢ place.Head cell
+record_no_head edition p n cell zero = λ same. cc
+record_no_head edition p n cell (suc k) = λ same. cc
+
+record_no_mark : (edition : Edition) (p n cell k : ℕ) → record_place edition p n k ≢ place.Mark cell
+record_no_mark edition p n cell zero = λ same. cc
+record_no_mark edition p n cell (suc k) = λ same. cc
 
 module _ (e : PlainEditCall) (word : ℕ) (old new : PlainWorld) (sound : IsSound old) where
   abbrev E : PlainEdit
@@ -98,13 +107,16 @@ module _ (e : PlainEditCall) (word : ℕ) (old new : PlainWorld) (sound : IsSoun
 
     may_count : old.situation e.process ≡ Editing (on e (Swap noted)) → MayCount old E
     may_count at =
+        let both : Agrees old.memory e.edition = noted_of e (Swap noted) old sound at fits in
         let h = sound.words (place.Head e.cell) in
         let most = persisted_most old es (old.memory.cached (place.Head e.cell)) (old.memory.persisted (place.Head e.cell)) small_es h.last h.sides in
         let back = helped.back in
         let c = cached_is in
         let next = next_head noted is in
         record {
-          of_sheet = record { process = rw fits.sheet.processes fits.is.process; number = fits.is.number; cell = rw fits.sheet.cells fits.is.cell; text = fits.is.text };
+          of_sheet = record { process = rw fits.sheet.processes fits.is.process; number = fits.is.number; cell = rw fits.sheet.cells fits.is.cell; text = fits.is.text; short = short_in old.memory e.edition e.text both fits.is.fits };
+          edition = e.edition;
+          agrees = both;
           below = fits.knows.standing;
           written = λ k l. (fits.knows.recorded.cached k (omega arith), fits.knows.recorded.persisted k (omega arith));
           indexed = found;
@@ -147,6 +159,7 @@ module _ (e : PlainEditCall) (word : ℕ) (old new : PlainWorld) (sound : IsSoun
           pendings = t.others_open_edits;
           open_edits = pends;
           same = refl;
+          goes = notes e.edition (is_within e (Swap noted) old fits) (ap noted_in at) (ap noted_in there);
           owes = subst (λ (s : Situation). Splits new e.process s e.cell (head_after_all (of_cell e.cell new.counted))) (sym there) (refl, own_is);
         } in
         let below : AreBelow new e.process (e.number + 1) = subst (λ (xs : List PlainEdit). All (λ f. f.process ≡ e.process → f.number < e.number + 1) xs) (sym counted)
@@ -159,8 +172,8 @@ module _ (e : PlainEditCall) (word : ℕ) (old new : PlainWorld) (sound : IsSoun
             head = subst (λ (xs : List PlainEdit). IsHeadBy xs own E) (sym mine) (subst (λ (x : ℕ). IsHeadBy (es ++ E ∷ []) x E) (sym (next_head noted is)) (by_last es E));
           };
           recorded = record {
-            cached = λ k l. m.elsewhere (record_place e.process e.number k) (record_no_head e.process e.number e.cell k) ∙ fits.knows.recorded.cached k l;
-            persisted = λ k l. m.persisted (record_place e.process e.number k) ∙ fits.knows.recorded.persisted k l;
+            cached = λ k l. m.elsewhere (record_place e.edition e.process e.number k) (record_no_head e.edition e.process e.number e.cell k) ∙ fits.knows.recorded.cached k l;
+            persisted = λ k l. m.persisted (record_place e.edition e.process e.number k) ∙ fits.knows.recorded.persisted k l;
             fewer = fits.knows.recorded.fewer;
           };
           announced = record {
@@ -183,6 +196,7 @@ module _ (e : PlainEditCall) (word : ℕ) (old new : PlainWorld) (sound : IsSoun
             cell = fits.is.cell;
             cells = fits.is.cells;
             text = fits.is.text;
+            fits = fits.is.fits;
             refs = fits.is.refs;
             stage = tt;
           };
@@ -199,7 +213,7 @@ module _ (e : PlainEditCall) (word : ℕ) (old new : PlainWorld) (sound : IsSoun
   pub step_flush_own : (own : ℕ) → old.situation e.process ≡ Editing (on e (FlushOwn own)) → (fits : EditFits old e.process (on e (FlushOwn own))) → StepsAt e (FlushOwn own) word old new → Keeps e.process old new
   step_flush_own own at fits t =
       let m : FlushesAt e.process (place.Head e.cell) (class_of (place.Head e.cell)) old.memory new.memory = t.memory.1 in
-      let counted : new.counted ≡ old.counted = (turn e (FlushOwn own) word old new t refl).counted in
+      let counted : new.counted ≡ old.counted = (turn e (FlushOwn own) word old new t at (is_within e (FlushOwn own) old fits) refl).counted in
       let stands : IsIn old E own = fits.knows.standing in
       let from : IsHeadFrom old e.cell own (old.memory.cached (place.Head e.cell)) = head_now old sound E own E stands.head in
       flushes e (FlushOwn own) word old new sound at fits t (record { goes_on = refl; counts = refl; pends = λ i. refl }) (rw t.memory.0 (omega arith)) (λ head o. o) (λ x k o. tt) (place.Head e.cell) m fits.buffer
@@ -217,16 +231,16 @@ module _ (e : PlainEditCall) (word : ℕ) (old new : PlainWorld) (sound : IsSoun
   pub step_or_mark : (own : ℕ) → old.situation e.process ≡ Editing (on e (OrMark own)) → (fits : EditFits old e.process (on e (OrMark own))) → StepsAt e (OrMark own) word old new → Keeps e.process old new
   step_or_mark own at fits t =
       let there : Place = place.Mark e.cell in
-      let tn : Turn e.process old new = turn e (OrMark own) word old new t refl in
+      let tn : Turn e.process old new = turn e (OrMark own) word old new t at (is_within e (OrMark own) old fits) refl in
       let c : ℕ = old.memory.cached there in
       let v : ℕ = old.memory.persisted there in
       let is : bit_or c DIRTY ≡ c / 2 * 2 + 1 = or_dirty c in
       let odd : bit_or c DIRTY % 2 ≡ 1 = omega arith in
-      let moves : Moves e.process there old new = store_moves e.process old new tn there (bit_or c DIRTY) (or_moves e.process c v) t.memory.1 in
+      let moves : Moves e.process there old new = store_moves e.process old new tn there (bit_or c DIRTY) (λ same. cc) (or_moves e.process c v) t.memory.1 in
       ors e (OrMark own) word old new sound at fits t (record { goes_on = refl; counts = refl; pends = λ i. refl }) (rw t.memory.0 (omega arith)) (λ head o. absurd o)
       (λ x k o. or_mark_passes e.process e own (bit_or c DIRTY) old new sound (buffered old sound) odd t.memory.1 moves x k o) there DIRTY
-      (record_no_mark e.process e.number e.cell) (λ same. cc) (or_moves e.process c v)
-      (λ moves'. or_mark_fits new e.cell c v (word_bears e.process there old new moves tn.counted there c v (λ cell is. cc) (λ cell is a. elim is [ inl x ↦ cc | inr x ↦ cc ]) (sound.words there)))
+      (record_no_mark e.edition e.process e.number e.cell) (λ same. cc) (λ same. cc) (or_moves e.process c v)
+      (λ moves'. or_mark_fits new e.cell c v (word_bears e.process there old new moves tn.counted there c v (λ cell is. cc) (λ cell is a. elim is [ inl x ↦ cc | inr x ↦ cc ]) (λ edition q n part is. cc) (sound.words there)))
       (λ d is'. cc) (λ d is' clean. (let o = odd in omega arith))
       (λ d is' by. fits.holds_none e.cell (let k = is in omega arith))
       t.memory.1
@@ -268,13 +282,13 @@ module _ (e : PlainEditCall) (word : ℕ) (old new : PlainWorld) (sound : IsSoun
       let v : ℕ = old.memory.persisted there in
       let one : HasOne old e.process there (IsHeadFrom old e.cell own) = fits.buffer in
       let plain : IsPlainStep e (BackOwn own) word = record { goes_on = refl; counts = refl; pends = λ i. refl } in
-      let tn : Turn e.process old new = turn e (BackOwn own) word old new t refl in
+      let tn : Turn e.process old new = turn e (BackOwn own) word old new t at (is_within e (BackOwn own) old fits) refl in
       let m : WritesBack e.process (entry there one.value) [] old.memory new.memory = back_first (entry there one.value) [] one.alone t.memory.1 in
       let b : Backs e.process old new tn there (max v one.value) = written_backs e.process old new tn there one.value [] m in
       let between : IsBetween old.layout there c v (max v one.value) = newer_between old (small_counted old sound.of_sheet) there c v one.value (sound.words there) (one.is.by, one.is.head) in
       let moves : Moves e.process there old new = back_moves e.process old new tn sound there (max v one.value) b between in
       let g = back_grows e.process old new tn sound there (max v one.value) b between (λ o. absurd o) (λ cell is. cc) in
-      let known : Known_on new e fits.since (BackOwn own) = knowing_stable place.Version old new E g (record_no_version e.process e.number) (λ same. cc) e.refs fits.since (placing (text_parts e.text) (length e.refs) (inside own) nothing) fits.knows in
+      let known : Known_on new e fits.since (BackOwn own) = knowing_stable place.Version old new E g e.edition (noted_of e (BackOwn own) old sound at fits).cached (record_no_version e.edition e.process e.number) (λ same. cc) e.refs fits.since (placing (text_parts e.text) (length e.refs) (inside own) nothing) fits.knows in
       let enough = one.is.enough in
       let now : new.memory.persisted there ≡ max v one.value = m.there in
       let knows : Known_on new e fits.since (OrMark own) = record {

@@ -21,6 +21,7 @@ use Rattle.ds_state.proofs.Few.{of_cell_few}
 use Rattle.ds_state.proofs.Found.{contains_at, contains_more, from_cell}
 use Rattle.ds_state.proofs.Noted.{when_rest, of_sheet_middle}
 use Rattle.ds_edit.specs.EditAnswers.{Overtakes, IsTrueOf, IsTrueAnswer}
+use Rattle.ds_layout.specs.declared.place.Edition.{Edition}
 
 -- an element of two lists joined is one of the first, or one of the second
 in_either : (xs ys before : List PlainEdit) (e : PlainEdit) (after : List PlainEdit) → xs ++ ys ≡ before ++ e ∷ after
@@ -87,11 +88,11 @@ module _ (w : PlainWorld) (sound : IsSound w) (e : PlainEdit) (since : ℕ) wher
         number = refl;
       }
 
-  true_of : (how : Outcome) (refs : List ℕ) (parts count : ℕ) → Knowing w e refs since (known_at parts count (Answer how)) → IsTrueOf w e since how
-  true_of outcome.Done refs parts count h =
+  true_of : (edition : Edition) (how : Outcome) (refs : List ℕ) (parts count : ℕ) → Knowing w edition e refs since (known_at parts count (Answer how)) → IsTrueOf w e since how
+  true_of edition outcome.Done refs parts count h =
       let at = h.standing.safe.head in
       from_cell e.cell w.counted e (subst (λ (xs : List PlainEdit). Contains xs e) (sym at.parts) (contains_at at.before e at.after))
-  true_of (outcome.Overtaken noted seen) refs parts count h = (
+  true_of edition (outcome.Overtaken noted seen) refs parts count h = (
     (λ there. let l = All-contains (λ (f : PlainEdit). f.process ≡ e.process → f.number < e.number) w.counted e h.standing there refl in omega arith),
     overtakes noted seen h.head,
   )
@@ -102,6 +103,6 @@ answer_true e how w sound low first at =
     record {
       since = fits.since;
       issued = fits.open_edits;
-      holds = true_of w sound (edit_of e) fits.since how e.refs (text_parts e.text) (length e.refs)
-          (subst (λ (x : Stage). Knowing w (edit_of e) e.refs fits.since (known_at (text_parts e.text) (length e.refs) x)) first fits.knows);
+      holds = true_of w sound (edit_of e) fits.since e.edition how e.refs (text_parts e.text) (length e.refs)
+          (subst (λ (x : Stage). Knowing w e.edition (edit_of e) e.refs fits.since (known_at (text_parts e.text) (length e.refs) x)) first fits.knows);
     }

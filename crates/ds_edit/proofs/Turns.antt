@@ -1,5 +1,5 @@
 -- What each step of an edit has in common.
-use Rattle.std.proofs.Common.{ℕ, ◌≡◌, ◌<◌, ◌^◌, List, [], ◌∷◌, ◌++◌, refl, ap, sym, ◌∙◌, subst, arith, length}
+use Rattle.std.proofs.Common.{ℕ, ◌≡◌, ◌<◌, ◌^◌, List, [], ◌∷◌, ◌++◌, refl, ap, sym, ◌∙◌, subst, arith, length, Some}
 use Rattle.std.specs.Prelude.{Option}
 use Rattle.std.proofs.lemmas.List.{append-nil}
 use Rattle.ds_words.specs.declared.access.BufferEntry.{BufferEntry}
@@ -14,6 +14,11 @@ use Rattle.ds_state.specs.declared.stage.Stage.{Stage}
 use Rattle.ds_state.specs.declared.situation.Situation.{Situation}
 use Rattle.ds_state.specs.declared.situation.Situation.TheVariants.{Editing}
 use Rattle.ds_state.proofs.Accesses.{Turn}
+use Rattle.ds_state.proofs.Frames.{Goes, notes, noted_in}
+use Rattle.ds_state.specs.Editions.{Agrees}
+use Rattle.ds_state.specs.LayoutsFit.{LayoutFits}
+use Rattle.ds_state.specs.Sound.{IsSound}
+use Rattle.ds_state.specs.declared.stage.Stage.TheVariants.{Answer}
 use Rattle.ds_edit.specs.EditSteps.{next_at}
 use Rattle.ds_edit.specs.EditTakes.{StepsAt, counted_at, open_edit_at, after}
 use Rattle.ds_edit.proofs.Stays.{stays}
@@ -24,10 +29,10 @@ on e s = record e { stage = s }
 
 -- what is known of it at a stage, and what its buffer holds
 abbrev pub Known_on : PlainWorld → PlainEditCall → ℕ → Stage → Type 0
-Known_on w e since s = Knowing w (edit_of e) e.refs since (known_at (text_parts e.text) (length e.refs) s)
+Known_on w e since s = Knowing w e.edition (edit_of e) e.refs since (known_at (text_parts e.text) (length e.refs) s)
 
 abbrev pub Holds_on : PlainWorld → PlainEditCall → Stage → Type 0
-Holds_on w e s = Holds w (edit_of e) (held_at (text_parts e.text) e.refs s)
+Holds_on w e s = Holds w e.edition (edit_of e) (held_at (text_parts e.text) e.refs s)
 
 -- a step before the answer, by which nothing comes to count
 pub record IsPlainStep (e : PlainEditCall) (s : Stage) (word : ℕ) : Type 0 where
@@ -35,13 +40,32 @@ pub record IsPlainStep (e : PlainEditCall) (s : Stage) (word : ℕ) : Type 0 whe
   pub counts : counted_at (edit_of e) s word ≡ []
   pub pends : (issue : Option PlainIssue) → open_edit_at issue s ≡ issue
 
+noted_after : (e : PlainEditCall) (s : Stage) (word : ℕ) → noted_in (after e s word) ≡ Some e.edition
+noted_after e (Answer how) word = refl
+noted_after e _ word = refl
+
+-- its process is one of the sheet, and both sides say the layout that it noted
+pub is_within : (e : PlainEditCall) (s : Stage) (w : PlainWorld) → EditFits w e.process (on e s) → e.process < w.layout.processes
+is_within e s w fits = rw fits.sheet.processes fits.is.process
+
+pub noted_of : (e : PlainEditCall) (s : Stage) (w : PlainWorld) → IsSound w → w.situation e.process ≡ Editing (on e s) → EditFits w e.process (on e s) → Agrees w.memory e.edition
+noted_of e s w sound at fits = subst (λ (x : Situation). LayoutFits w e.process x) at (sound.layouts e.process (is_within e s w fits))
+
 module _ (e : PlainEditCall) (s : Stage) (word : ℕ) (old new : PlainWorld) (t : StepsAt e s word old new) where
-  pub turn : counted_at (edit_of e) s word ≡ [] → Turn e.process old new
-  turn none = record {
+  same_counted : counted_at (edit_of e) s word ≡ [] → new.counted ≡ old.counted
+  same_counted none = t.counted ∙ ap (λ es. old.counted ++ es) none ∙ append-nil old.counted
+
+  -- it keeps the layout that it noted
+  pub goes_on : old.situation e.process ≡ Editing (on e s) → e.process < old.layout.processes → Goes e.process old new
+  goes_on at real = notes e.edition real (ap noted_in at) (ap noted_in t.situation ∙ noted_after e s word)
+
+  pub turn : old.situation e.process ≡ Editing (on e s) → e.process < old.layout.processes → counted_at (edit_of e) s word ≡ [] → Turn e.process old new
+  turn at real none = record {
     layout = t.layout;
-    counted = t.counted ∙ ap (λ es. old.counted ++ es) none ∙ append-nil old.counted;
+    counted = same_counted none;
     situations = t.others;
     pendings = t.others_open_edits;
+    goes = goes_on at real;
   }
 
   pub goes : IsPlainStep e s word → new.situation e.process ≡ Editing (on e (next_at e s word))
@@ -63,6 +87,7 @@ module _ (e : PlainEditCall) (s : Stage) (word : ℕ) (old new : PlainWorld) (t 
       cell = fits.is.cell;
       cells = fits.is.cells;
       text = fits.is.text;
+      fits = fits.is.fits;
       refs = fits.is.refs;
       stage = stays e s word small fits.is.stage;
     };
@@ -70,7 +95,7 @@ module _ (e : PlainEditCall) (s : Stage) (word : ℕ) (old new : PlainWorld) (t 
     refs = rw t.layout fits.refs;
     since = fits.since;
     open_edits = t.open_edits ∙ plain.pends (old.open_edits e.process) ∙ fits.open_edits;
-    issued = (let l = ap length (turn plain.counts).counted in let i = fits.issued in omega arith);
+    issued = (let l = ap length (same_counted plain.counts) in let i = fits.issued in omega arith);
     holds_none = free;
     knows = knows;
     buffer = holds;

@@ -1,5 +1,5 @@
 -- How an edit begins, or is refused.
-use Rattle.std.specs.Prelude.{ℕ, ◌≡◌, ◌≢◌, ◌⊎◌, List, map}
+use Rattle.std.specs.Prelude.{ℕ, ◌≡◌, ◌≢◌, ◌<◌, ◌≤◌, ◌⊎◌, length, List, map}
 use Rattle.ds_formula.specs.declared.cells.Shape.{Shape}
 use Rattle.ds_formula.specs.declared.cells.Cell.{Cell}
 use Rattle.ds_formula.specs.Cells.{index_of}
@@ -14,8 +14,13 @@ use Rattle.ds_state.specs.CallsFit.{IsSheetOf, HasRefs}
 use Rattle.ds_state.specs.declared.refusal.Refusal.{Refusal}
 use Rattle.ds_state.specs.declared.refusal.Refusal.TheVariants as refusal
 use Rattle.ds_state.specs.declared.situation.Situation.{Situation}
-use Rattle.ds_state.specs.declared.situation.Situation.TheVariants.{Idle, Stopped, Editing, Working, Recovering, Showing}
+use Rattle.ds_state.specs.declared.situation.Situation.TheVariants.{Idle, Stopped, Editing, Working, Recovering, Showing, Migrating}
 use Rattle.ds_edit.specs.EditTakes.{Begins}
+use Rattle.ds_layout.specs.declared.place.Edition.{Edition}
+use Rattle.ds_formula.specs.declared.fault.TextFault.{TextFault}
+use Rattle.ds_formula.specs.declared.fault.FaultKind.TheVariants.{TooLong}
+use Rattle.ds_state.specs.Editions.{most_in}
+use Rattle.ds_state.specs.declared.situation.Rest.{Rest}
 
 -- these are the numbers of the cells written in the content, in reading order
 pub record AreNumbers (shape : Shape) (content : PlainContent) (refs : List ℕ) : Type 0 where
@@ -43,27 +48,33 @@ pub record IsBegun (old : PlainWorld) (process cell : ℕ) (text : List ℕ) (nu
   pub asked : IsAskedFor old.layout process cell text number edit
   pub begins : Begins edit old new
 
--- the process is idle, with this as the number of its next edit
-abbrev pub IsIdle : PlainWorld → ℕ → ℕ → Type 0
-IsIdle w process number = w.situation process ≡ Idle number
+-- the process is idle, and knows this
+abbrev pub IsIdle : PlainWorld → ℕ → Rest → Type 0
+IsIdle w process next = w.situation process ≡ Idle next
 
--- why an idle process may not begin its edit of this number, to the text: memory is wanting where the text is read, or,
+-- the first fault of a text in a sheet of this layout: a text that is too long for it is not read
+pub data FaultsIn (shape : Shape) (edition : Edition) (text : List ℕ) (fault : TextFault) : Type 0 where
+  too_long : most_in edition < length text → fault ≡ record { kind = TooLong; offset = most_in edition } → FaultsIn shape edition text fault
+  within : length text ≤ most_in edition → Faults shape text fault → FaultsIn shape edition text fault
+
+-- why an idle process that knows this may not begin its edit, to the text: memory is wanting where the text is read, or,
 -- with records left, for its references
-abbrev pub RefusesIdle : Shape → ℕ → List ℕ → Refusal → Type 0
-RefusesIdle shape number text refusal.Busy = ⊥
-RefusesIdle shape number text refusal.Stopped = ⊥
-RefusesIdle shape number text (refusal.Text fault) = Faults shape text fault
-RefusesIdle shape number text refusal.RecordsFull = (number ≡ RECORDS) × ((content : PlainContent) × Reads shape text content)
-RefusesIdle shape number text refusal.NoMemory = TakesMemory text ⊎ ((number ≢ RECORDS) × ((content : PlainContent) × Reads shape text content))
+abbrev pub RefusesIdle : Shape → Rest → List ℕ → Refusal → Type 0
+RefusesIdle shape next text refusal.Busy = ⊥
+RefusesIdle shape next text refusal.Stopped = ⊥
+RefusesIdle shape next text (refusal.Text fault) = FaultsIn shape next.edition text fault
+RefusesIdle shape next text refusal.RecordsFull = (next.number ≡ RECORDS) × ((content : PlainContent) × Reads shape text content)
+RefusesIdle shape next text refusal.NoMemory = TakesMemory text ⊎ ((next.number ≢ RECORDS) × ((content : PlainContent) × Reads shape text content))
 
 -- why a process may not begin an edit to the text: by its situation
 abbrev pub RefusesIn : Shape → List ℕ → Situation → Refusal → Type 0
-RefusesIn shape text (Idle number) r = RefusesIdle shape number text r
+RefusesIn shape text (Idle next) r = RefusesIdle shape next text r
 RefusesIn shape text Stopped r = r ≡ refusal.Stopped
 RefusesIn shape text (Editing e) r = r ≡ refusal.Busy
 RefusesIn shape text (Working e) r = r ≡ refusal.Busy
 RefusesIn shape text (Recovering e) r = r ≡ refusal.Busy
 RefusesIn shape text (Showing e) r = r ≡ refusal.Busy
+RefusesIn shape text (Migrating e) r = r ≡ refusal.Busy
 
 -- why a process of this world may not begin an edit to the text
 abbrev pub Refuses : PlainWorld → ℕ → List ℕ → Refusal → Type 0

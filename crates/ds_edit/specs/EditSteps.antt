@@ -26,7 +26,7 @@ header_place e = place.Header e.process e.number
 
 -- the place of a part of the text in the edit's record
 abbrev pub text_place : PlainEditCall → ℕ → Place
-text_place e part = place.Text e.process e.number part
+text_place e part = place.Text e.edition e.process e.number part
 
 -- the place of the word of a reference's index row that has the bit of the edit's cell
 abbrev pub reference_place : PlainEditCall → ℕ → Place

@@ -12,10 +12,19 @@ use Rattle.ds_state.specs.declared.stage.Outcome.{Outcome}
 use Rattle.ds_edit.specs.EditSteps.{access_at, got_at, next_at, wins}
 use Rattle.ds_edit.specs.declared.machine.Effect.{Effect}
 use Rattle.ds_edit.specs.declared.machine.Effect.TheVariants.{GoesOn, Counts, Answers}
+use Rattle.ds_state.specs.declared.situation.Rest.{Rest}
+
+-- what the process knows before its edit: the edit's number, and the layout
+abbrev pub rest_before : PlainEditCall → Rest
+rest_before e = record { number = e.number; edition = e.edition }
+
+-- what it knows behind it: the next number
+abbrev pub rest_behind : PlainEditCall → Rest
+rest_behind e = record { number = e.number + 1; edition = e.edition }
 
 -- what the process does after the step: its answer ends the edit
 abbrev pub after : PlainEditCall → Stage → ℕ → Situation
-after e (Answer how) word = Idle (e.number + 1)
+after e (Answer how) word = Idle (rest_behind e)
 after e stage word = Editing (record e { stage = next_at e stage word })
 
 -- what counts by the step: the edit, where its swap finds the head that it noted
@@ -38,7 +47,7 @@ effect_at stage word = GoesOn
 abbrev pub after_by : PlainEditCall → ℕ → Effect → Situation
 after_by e word GoesOn = Editing (got_at e word)
 after_by e word Counts = Editing (got_at e word)
-after_by e word (Answers how) = Idle (e.number + 1)
+after_by e word (Answers how) = Idle (rest_behind e)
 
 -- what counts by a step of this effect
 abbrev pub counted_by : PlainEdit → Effect → List PlainEdit
@@ -76,7 +85,7 @@ Steps e word old new = StepsAt e e.stage word old new
 pub record Begins (e : PlainEditCall) (old new : PlainWorld) : Type 0 where
   pub layout : new.layout ≡ old.layout
   pub memory : SameMemory old.memory new.memory
-  pub idle : old.situation e.process ≡ Idle e.number
+  pub idle : old.situation e.process ≡ Idle (rest_before e)
   pub first : e.stage ≡ StoreHeader
   pub situation : new.situation e.process ≡ Editing e
   pub others : (q : ℕ) → q ≢ e.process → new.situation q ≡ old.situation q

@@ -1,6 +1,6 @@
 //! The beginning of an edit.
 
-ghost use Rattle.std.specs.Prelude.{◌≡◌, ◌≢◌, ◌<◌, ◌≤◌, IfOk, IfErr, OnOk, OnErr, vec_len, slice_set, List};
+ghost use Rattle.std.specs.Prelude.{◌≡◌, ◌≢◌, ◌<◌, ◌≤◌, IfOk, IfErr, OnOk, OnErr, vec_len, slice_set, List, length};
 ghost use Rattle.ds_formula.specs.Cells.{IsInside, index_of};
 ghost use Rattle.ds_formula.specs.declared.cells.Cell.{Cell};
 ghost use Rattle.ds_formula.specs.Plain.{plain};
@@ -11,18 +11,20 @@ ghost use Rattle.ds_state.specs.Value.{world_of};
 ghost use Rattle.ds_state.specs.CallsFit.{IsSheetOf, HasRefs};
 ghost use Rattle.ds_state.specs.Edits.{IsEdit};
 ghost use Rattle.ds_state.specs.declared.stage.Stage.TheVariants.{StoreHeader};
-ghost use Rattle.ds_edit.specs.EditTakes.{Begins};
+ghost use Rattle.ds_edit.specs.EditTakes.{Begins, rest_before};
+ghost use Rattle.ds_state.specs.Editions.{most_in};
 ghost use Rattle.ds_edit.specs.Begun.{AreNumbers, RefersTo, IsAskedFor, IsBegun, IsIdle, RefusesIdle, Refuses};
 
 use ds_formula::cells::{Cell, Shape};
 use ds_formula::content::Content;
+use ds_formula::fault::{FaultKind, TextFault};
 use ds_formula::reading::read_content;
 use ds_layout::layout::Layout;
 use ds_layout::place::RECORDS;
 use ds_state::edit::EditCall;
 use ds_state::ledger::{Edit, Issue};
 use ds_state::refusal::Refusal;
-use ds_state::situation::{Situation, next_edit, put};
+use ds_state::situation::{Rest, Situation, next_edit, put};
 use ds_state::stage::Stage;
 use ds_state::text::Text;
 use ds_state::world::World;
@@ -42,51 +44,61 @@ fn numbers(alloc: Global, shape: &Shape, content: &Content) -> Result<Vec<usize>
     Ok(numbers)
 }
 
-// The content of the text of an idle process's edit of this number, and the cells written in it.
+// The content of the text of an idle process's next edit, and the cells written in it.
 #[inline(always)]
 fn references(
     alloc: Global,
     shape: &Shape,
-    number: usize,
+    next: Rest,
     text: &[u8],
 ) -> Result<(Content, Vec<usize>), Refusal>
+    ensures fits { IfOk result (λ r. length text.now ≤ most_in next.edition) }
     ensures reads { IfOk result (λ r. Reads shape.now text.now (plain r.0)) }
     ensures text { IfOk result (λ r. RefersTo shape.now text.now r.1.items) }
-    ensures number { OnOk result (number ≢ RECORDS) }
-    ensures refused { IfErr result (λ refusal. RefusesIdle shape.now number text.now refusal) }
+    ensures number { OnOk result (next.number ≢ RECORDS) }
+    ensures refused { IfErr result (λ refusal. RefusesIdle shape.now next text.now refusal) }
 {
+    let most = 8 * next.edition.parts();
+    if text.len() > most {
+        return Err(Refusal::Text(TextFault {
+            kind: FaultKind::TooLong,
+            offset: most,
+        }));
+    }
     let content = read_content(alloc, shape, text)?;
-    if number == RECORDS {
+    if next.number == RECORDS {
         return Err(Refusal::RecordsFull);
     }
     let refs = numbers(alloc, shape, &content)?;
     Ok((content, refs))
 }
 
-/// The process's edit of this number, of the cell to the text, before its first step, and the
+/// The process's next edit, of the cell to the text, before its first step, and the
 /// content of the text.
 pub fn prepared(
     alloc: Global,
     layout: &Layout,
     process: usize,
-    number: usize,
+    next: Rest,
     cell: Cell,
     text: &[u8],
 ) -> Result<(EditCall, Content), Refusal>
     requires process { process < layout.now.processes }
-    requires number { number ≤ RECORDS }
+    requires number { next.number ≤ RECORDS }
     requires cell { IsInside layout.now.shape cell }
-    ensures asked { IfOk result (λ r. IsAskedFor layout.now process (index_of layout.now.shape cell) text.now number r.0) }
+    ensures asked { IfOk result (λ r. IsAskedFor layout.now process (index_of layout.now.shape cell) text.now next.number r.0) }
+    ensures edition { IfOk result (λ r. r.0.edition ≡ next.edition) }
     ensures first { IfOk result (λ r. r.0.stage ≡ StoreHeader) }
     ensures reads { IfOk result (λ r. Reads layout.now.shape text.now (plain r.1)) }
-    ensures refused { IfErr result (λ refusal. RefusesIdle layout.now.shape number text.now refusal) }
+    ensures refused { IfErr result (λ refusal. RefusesIdle layout.now.shape next text.now refusal) }
 {
-    let (content, refs) = references(alloc, &layout.shape, number, text)?;
+    let (content, refs) = references(alloc, &layout.shape, next, text)?;
     let text = Text::new(text).unwrap();
     text.is_always_a_text();
     let call = EditCall {
         process,
-        number,
+        number: next.number,
+        edition: next.edition,
         cell: layout.shape.index(cell),
         text,
         refs,
@@ -100,7 +112,7 @@ pub fn prepared(
 // Begins an edit of the sheet.
 #[inline(always)]
 fn issue(world: &mut World, call: EditCall)
-    requires idle { IsIdle (world_of world.old) call.process call.number }
+    requires idle { IsIdle (world_of world.old) call.process (rest_before call) }
     requires sheet { IsSheetOf world.old.sheet.layout call }
     requires refs { HasRefs world.old.sheet.layout.shape call.text call.refs }
     requires first { call.stage ≡ StoreHeader }
@@ -142,9 +154,9 @@ pub fn begin(
     ensures settled { world.new.settled ≡ world.old.settled }
     ensures reports { world.new.reports ≡ world.old.reports }
 {
-    let number = next_edit(&world.situations[process])?;
+    let next = next_edit(&world.situations[process])?;
     let layout = world.words.layout();
-    let (call, _content) = prepared(alloc, &layout, process, number, cell, text)?;
+    let (call, _content) = prepared(alloc, &layout, process, next, cell, text)?;
     issue(world, call);
-    Ok(number)
+    Ok(next.number)
 }

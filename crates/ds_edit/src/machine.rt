@@ -54,6 +54,7 @@ fn text(call: &EditCall, part: usize) -> Place
     ensures { result ≡ text_place call.now part }
 {
     Place::Text {
+        edition: call.edition,
         process: call.process,
         number: call.number,
         part,
@@ -293,12 +294,12 @@ pub fn got(call: &mut EditCall, word: u64)
 }
 
 /// Each step of an edit leaves fewer steps, until the answer's, which is the last; and an edit with r
-/// references has at most 3r + 67 of them.
+/// references has at most 3r + 112 of them.
 #[tactic(auto, using(crate::proofs::Stays::each_falls, crate::proofs::Stays::each_few))]
 pub fn steps_are_few()
     ensures falls { (e : PlainEditCall) (word : ℕ) → IsEdit e
         → Falls e e.stage (next_at e e.stage word) }
-    ensures few { (e : PlainEditCall) → IsEdit e → rank e e.stage ≤ 67 + 3 * length e.refs }
+    ensures few { (e : PlainEditCall) → IsEdit e → rank e e.stage ≤ 112 + 3 * length e.refs }
 {}
 
 /// Each access of an edit names a place of its sheet.

@@ -23,7 +23,7 @@ EDITS_MOST = 256
 
 -- how many bytes a text may have
 abbrev pub TEXT_MOST : ℕ
-TEXT_MOST = 120
+TEXT_MOST = 240
 
 -- how many nodes a formula may have
 abbrev pub NODES_MOST : ℕ

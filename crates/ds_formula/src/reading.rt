@@ -24,7 +24,7 @@ use crate::tokens::{Stop, begins, number, unexpected};
 use std::alloc::Global;
 
 /// How many bytes a text may have.
-pub const TEXT_LIMIT: usize = 120;
+pub const TEXT_LIMIT: usize = 240;
 
 /// How many nodes the tree of a formula may have.
 pub const NODE_LIMIT: usize = 64;

@@ -1,14 +1,18 @@
 -- A place and its number: each gives the other back.
-use Rattle.std.proofs.Common.{ℕ, ◌≡◌, ◌+◌, ◌-◌, ◌*◌, ◌/◌, ◌%◌, ◌<◌, ◌≤◌, ap, sym, ◌∙◌, subst, arith, inl, inr, nat_lt, Bool}
+use Rattle.std.proofs.Common.{ℕ, ◌≡◌, ◌+◌, ◌-◌, ◌*◌, ◌/◌, ◌%◌, ◌<◌, ◌≤◌, ap, sym, ◌∙◌, subst, arith, inl, inr, nat_lt, Bool, List, [], ◌∷◌, ◌++◌, length, get_or}
+use Rattle.std.proofs.lemmas.List.{length-append, get_or_append_left, get_or_push}
+use Rattle.ds_words.specs.declared.access.Class.{Class}
+use Rattle.ds_words.specs.declared.access.Class.TheVariants.{Stamped}
 use Rattle.std.specs.Prelude.{if◌then◌else◌}
 use Rattle.std.proofs.lemmas.Bool.{cases_lt, lt-ltb, le-ltb}
 use Rattle.std.proofs.lemmas.Nat.{mul-add-lt, div-mul-add, mod-mul-add, div-add-mod', div_below, mod_below, mul-le}
-use Rattle.ds_layout.specs.declared.place.TheConstants.{RECORDS, TEXT_PARTS, DONE_PARTS}
+use Rattle.ds_layout.specs.declared.place.TheConstants.{RECORDS, FIRST_PARTS, SECOND_PARTS, DONE_PARTS}
+use Rattle.ds_layout.specs.declared.place.Edition.TheVariants.{First, Second}
 use Rattle.ds_layout.specs.declared.place.Place.{Place}
 use Rattle.ds_layout.specs.declared.place.Place.TheVariants.{Version, Head, Mark, Value, Kind, Index, Announce, Header, Text, Done}
 use Rattle.ds_layout.specs.declared.layout.Starts.{Starts}
 use Rattle.ds_layout.specs.declared.layout.Layout.{Layout}
-use Rattle.ds_layout.specs.Places.{IsPlaceOf, IsPlace, IsAscending, starts_for, starts_of, words_of, number_by, number_of, place_by, place_of, cells_of, parts_of}
+use Rattle.ds_layout.specs.Places.{IsPlaceOf, IsPlace, IsAscending, starts_for, starts_of, words_of, number_by, number_of, place_by, place_of, cells_of, parts_of, first_text, second_text, class_of}
 
 -- the two branches of a test
 upto : (n b : ℕ) (x y : Place) → n < b → (if nat_lt n b then x else y) ≡ x
@@ -42,11 +46,14 @@ at_announcements s parts n up h k = past n s.heads _ _ (omega arith) ∙ past n 
 at_headers : (s : Starts) (parts n : ℕ) → IsAscending s → s.headers ≤ n → n < s.texts → place_by s parts n ≡ Header ((n - s.headers) / RECORDS) ((n - s.headers) % RECORDS)
 at_headers s parts n up h k = past n s.heads _ _ (omega arith) ∙ past n s.marks _ _ (omega arith) ∙ past n s.values _ _ (omega arith) ∙ past n s.kinds _ _ (omega arith) ∙ past n s.index _ _ (omega arith) ∙ past n s.announcements _ _ (omega arith) ∙ past n s.headers _ _ (omega arith) ∙ upto n s.texts _ _ k
 
-at_texts : (s : Starts) (parts n : ℕ) → IsAscending s → s.texts ≤ n → n < s.done → place_by s parts n ≡ Text ((n - s.texts) / TEXT_PARTS / RECORDS) ((n - s.texts) / TEXT_PARTS % RECORDS) ((n - s.texts) % TEXT_PARTS)
+at_texts : (s : Starts) (parts n : ℕ) → IsAscending s → s.texts ≤ n → n < s.done → place_by s parts n ≡ first_text (n - s.texts)
 at_texts s parts n up h k = past n s.heads _ _ (omega arith) ∙ past n s.marks _ _ (omega arith) ∙ past n s.values _ _ (omega arith) ∙ past n s.kinds _ _ (omega arith) ∙ past n s.index _ _ (omega arith) ∙ past n s.announcements _ _ (omega arith) ∙ past n s.headers _ _ (omega arith) ∙ past n s.texts _ _ (omega arith) ∙ upto n s.done _ _ k
 
-at_done : (s : Starts) (parts n : ℕ) → IsAscending s → s.done ≤ n → place_by s parts n ≡ Done ((n - s.done) / DONE_PARTS) ((n - s.done) % DONE_PARTS)
-at_done s parts n up h = past n s.heads _ _ (omega arith) ∙ past n s.marks _ _ (omega arith) ∙ past n s.values _ _ (omega arith) ∙ past n s.kinds _ _ (omega arith) ∙ past n s.index _ _ (omega arith) ∙ past n s.announcements _ _ (omega arith) ∙ past n s.headers _ _ (omega arith) ∙ past n s.texts _ _ (omega arith) ∙ past n s.done _ _ (omega arith)
+at_done : (s : Starts) (parts n : ℕ) → IsAscending s → s.done ≤ n → n < s.second_texts → place_by s parts n ≡ Done ((n - s.done) / DONE_PARTS) ((n - s.done) % DONE_PARTS)
+at_done s parts n up h k = past n s.heads _ _ (omega arith) ∙ past n s.marks _ _ (omega arith) ∙ past n s.values _ _ (omega arith) ∙ past n s.kinds _ _ (omega arith) ∙ past n s.index _ _ (omega arith) ∙ past n s.announcements _ _ (omega arith) ∙ past n s.headers _ _ (omega arith) ∙ past n s.texts _ _ (omega arith) ∙ past n s.done _ _ (omega arith) ∙ upto n s.second_texts _ _ k
+
+at_second : (s : Starts) (parts n : ℕ) → IsAscending s → s.second_texts ≤ n → place_by s parts n ≡ second_text (n - s.second_texts)
+at_second s parts n up h = past n s.heads _ _ (omega arith) ∙ past n s.marks _ _ (omega arith) ∙ past n s.values _ _ (omega arith) ∙ past n s.kinds _ _ (omega arith) ∙ past n s.index _ _ (omega arith) ∙ past n s.announcements _ _ (omega arith) ∙ past n s.headers _ _ (omega arith) ∙ past n s.texts _ _ (omega arith) ∙ past n s.done _ _ (omega arith) ∙ past n s.second_texts _ _ (omega arith)
 
 -- the starts of a sheet
 pub IsAscending-starts_for : (cells parts processes : ℕ) → IsAscending (starts_for cells parts processes)
@@ -60,10 +67,28 @@ IsAscending-starts_for cells parts processes = record {
   headers = omega arith;
   texts = omega arith;
   done = omega arith;
+  second_texts = omega arith;
 }
 
 less : (a b : ℕ) → a + b - a ≡ b
 less a b = omega arith
+
+-- the place of a part of a text, by where it stands among all of them
+pub first_text_at : (process number part : ℕ) → number < RECORDS → part < FIRST_PARTS → first_text ((process * RECORDS + number) * FIRST_PARTS + part) ≡ Text First process number part
+first_text_at process number part few small =
+    let record_of : ℕ = process * RECORDS + number in
+    ap (λ (x : ℕ). Text First (x / RECORDS) (x % RECORDS) ((record_of * FIRST_PARTS + part) % FIRST_PARTS)) (div-mul-add record_of FIRST_PARTS part small)
+    ∙ ap (λ (x : ℕ). Text First (record_of / RECORDS) (record_of % RECORDS) x) (mod-mul-add record_of FIRST_PARTS part small)
+    ∙ ap (λ (x : ℕ). Text First x (record_of % RECORDS) part) (div-mul-add process RECORDS number few)
+    ∙ ap (λ (x : ℕ). Text First process x part) (mod-mul-add process RECORDS number few)
+
+pub second_text_at : (process number part : ℕ) → number < RECORDS → part < SECOND_PARTS → second_text ((process * RECORDS + number) * SECOND_PARTS + part) ≡ Text Second process number part
+second_text_at process number part few small =
+    let record_of : ℕ = process * RECORDS + number in
+    ap (λ (x : ℕ). Text Second (x / RECORDS) (x % RECORDS) ((record_of * SECOND_PARTS + part) % SECOND_PARTS)) (div-mul-add record_of SECOND_PARTS part small)
+    ∙ ap (λ (x : ℕ). Text Second (record_of / RECORDS) (record_of % RECORDS) x) (mod-mul-add record_of SECOND_PARTS part small)
+    ∙ ap (λ (x : ℕ). Text Second x (record_of % RECORDS) part) (div-mul-add process RECORDS number few)
+    ∙ ap (λ (x : ℕ). Text Second process x part) (mod-mul-add process RECORDS number few)
 
 -- the place of the number of a place
 pub place_by-number_by : (cells parts processes : ℕ) (place : Place) → IsPlaceOf cells parts processes place
@@ -97,18 +122,19 @@ place_by-number_by cells parts processes (Header process number) h =
     ∙ ap (λ (x : ℕ). Header (x / RECORDS) (x % RECORDS)) (less s.headers (process * RECORDS + number))
     ∙ ap (λ (x : ℕ). Header x ((process * RECORDS + number) % RECORDS)) (div-mul-add process RECORDS number h.1)
     ∙ ap (λ (x : ℕ). Header process x) (mod-mul-add process RECORDS number h.1)
-place_by-number_by cells parts processes (Text process number part) h =
+place_by-number_by cells parts processes (Text First process number part) h =
     let s : Starts = starts_for cells parts processes in
-    let record_of : ℕ = process * RECORDS + number in
-    at_texts s parts (s.texts + (record_of * TEXT_PARTS + part)) (IsAscending-starts_for cells parts processes) (omega arith) (omega arith)
-    ∙ ap (λ (x : ℕ). Text (x / TEXT_PARTS / RECORDS) (x / TEXT_PARTS % RECORDS) (x % TEXT_PARTS)) (less s.texts (record_of * TEXT_PARTS + part))
-    ∙ ap (λ (x : ℕ). Text (x / RECORDS) (x % RECORDS) ((record_of * TEXT_PARTS + part) % TEXT_PARTS)) (div-mul-add record_of TEXT_PARTS part h.2)
-    ∙ ap (λ (x : ℕ). Text (record_of / RECORDS) (record_of % RECORDS) x) (mod-mul-add record_of TEXT_PARTS part h.2)
-    ∙ ap (λ (x : ℕ). Text x (record_of % RECORDS) part) (div-mul-add process RECORDS number h.1)
-    ∙ ap (λ (x : ℕ). Text process x part) (mod-mul-add process RECORDS number h.1)
+    let at : ℕ = (process * RECORDS + number) * FIRST_PARTS + part in
+    at_texts s parts (s.texts + at) (IsAscending-starts_for cells parts processes) (omega arith) (omega arith)
+    ∙ ap (λ (x : ℕ). first_text x) (less s.texts at) ∙ first_text_at process number part h.1 h.2
+place_by-number_by cells parts processes (Text Second process number part) h =
+    let s : Starts = starts_for cells parts processes in
+    let at : ℕ = (process * RECORDS + number) * SECOND_PARTS + part in
+    at_second s parts (s.second_texts + at) (IsAscending-starts_for cells parts processes) (omega arith)
+    ∙ ap (λ (x : ℕ). second_text x) (less s.second_texts at) ∙ second_text_at process number part h.1 h.2
 place_by-number_by cells parts processes (Done process part) h =
     let s : Starts = starts_for cells parts processes in
-    at_done s parts (s.done + (process * DONE_PARTS + part)) (IsAscending-starts_for cells parts processes) (omega arith)
+    at_done s parts (s.done + (process * DONE_PARTS + part)) (IsAscending-starts_for cells parts processes) (omega arith) (omega arith)
     ∙ ap (λ (x : ℕ). Done (x / DONE_PARTS) (x % DONE_PARTS)) (less s.done (process * DONE_PARTS + part))
     ∙ ap (λ (x : ℕ). Done x ((process * DONE_PARTS + part) % DONE_PARTS)) (div-mul-add process DONE_PARTS part h.1)
     ∙ ap (λ (x : ℕ). Done process x) (mod-mul-add process DONE_PARTS part h.1)
@@ -124,7 +150,8 @@ number_by_below cells parts processes (Kind cell) h = omega arith
 number_by_below cells parts processes (Index row part) h = omega (arith, mul-add-lt row parts part cells h.0 h.1)
 number_by_below cells parts processes (Announce process) h = omega arith
 number_by_below cells parts processes (Header process number) h = omega arith
-number_by_below cells parts processes (Text process number part) h = omega arith
+number_by_below cells parts processes (Text First process number part) h = omega arith
+number_by_below cells parts processes (Text Second process number part) h = omega arith
 number_by_below cells parts processes (Done process part) h = omega arith
 
 -- the number of the place of a number
@@ -150,7 +177,10 @@ number_by-place_by cells parts processes n =
                     | inl lt ↦ subst (λ (x : Place). number_by s parts x ≡ n) (sym (at_headers s parts n up (omega arith) lt)) (omega arith)
                     | inr ge ↦ elim (cases_lt n s.done) [
                       | inl lt ↦ subst (λ (x : Place). number_by s parts x ≡ n) (sym (at_texts s parts n up (omega arith) lt)) (omega arith)
-                      | inr ge ↦ subst (λ (x : Place). number_by s parts x ≡ n) (sym (at_done s parts n up (omega arith))) (omega arith)
+                      | inr ge ↦ elim (cases_lt n s.second_texts) [
+                        | inl lt ↦ subst (λ (x : Place). number_by s parts x ≡ n) (sym (at_done s parts n up (omega arith) lt)) (omega arith)
+                        | inr ge ↦ subst (λ (x : Place). number_by s parts x ≡ n) (sym (at_second s parts n up (omega arith))) (omega arith)
+                      ]
                     ]
                   ]
                 ]
@@ -184,7 +214,10 @@ IsPlaceOf-place_by cells parts processes n some below =
                     | inl lt ↦ subst (λ (x : Place). IsPlaceOf cells parts processes x) (sym (at_headers s parts n up (omega arith) lt)) ((omega arith, omega arith))
                     | inr ge ↦ elim (cases_lt n s.done) [
                       | inl lt ↦ subst (λ (x : Place). IsPlaceOf cells parts processes x) (sym (at_texts s parts n up (omega arith) lt)) ((omega arith, omega arith, omega arith))
-                      | inr ge ↦ subst (λ (x : Place). IsPlaceOf cells parts processes x) (sym (at_done s parts n up (omega arith))) ((omega arith, omega arith))
+                      | inr ge ↦ elim (cases_lt n s.second_texts) [
+                        | inl lt ↦ subst (λ (x : Place). IsPlaceOf cells parts processes x) (sym (at_done s parts n up (omega arith) lt)) ((omega arith, omega arith))
+                        | inr ge ↦ subst (λ (x : Place). IsPlaceOf cells parts processes x) (sym (at_second s parts n up (omega arith))) ((omega arith, omega arith, omega arith))
+                      ]
                     ]
                   ]
                 ]
@@ -221,3 +254,21 @@ IsPlace-place_of layout n h = IsPlaceOf-place_by (cells_of layout) (parts_of lay
 -- two places of the sheet with one number are one place
 pub number_of_alone : (layout : Layout) (r place : Place) → IsPlace layout r → IsPlace layout place → number_of layout r ≡ number_of layout place → r ≡ place
 number_of_alone layout r place h k e = sym (place_of-number_of layout r h) ∙ ap (place_of layout) e ∙ place_of-number_of layout place k
+
+-- one more class behind those of the words before
+pub record AreClasses (layout : Layout) (classes : List Class) (n : ℕ) : Type 0 where
+  pub count : length classes ≡ n
+  pub each : (k : ℕ) → k < n → get_or classes k Stamped ≡ class_of (place_of layout k)
+
+pub one_more_class : (layout : Layout) (classes longer : List Class) (n : ℕ) (c : Class) (r : Place) → AreClasses layout classes n → longer ≡ classes ++ c ∷ [] → c ≡ class_of r → r ≡ place_of layout n
+    → AreClasses layout longer (n + 1)
+one_more_class layout classes longer n c r h more is at = record {
+  count = ap (λ (xs : List Class). length xs) more ∙ length-push classes c n h.count;
+  each = λ k l. ap (λ (xs : List Class). get_or xs k Stamped) more ∙ elim (cases_lt k n) [
+    | inl lt ↦ get_or_append_left classes (c ∷ []) Stamped k (subst (λ (m : ℕ). k < m) (sym h.count) lt) ∙ h.each k lt
+    | inr ge ↦ get_or_push classes c Stamped k (let same = h.count in omega arith) ∙ is ∙ ap class_of at ∙ ap (λ (m : ℕ). class_of (place_of layout m)) (omega arith)
+  ];
+}
+  where
+    length-push : (xs : List Class) (x : Class) (m : ℕ) → length xs ≡ m → length (xs ++ x ∷ []) ≡ m + 1
+    length-push xs x m same = length-append xs (x ∷ []) ∙ ap (λ (y : ℕ). y + 1) same

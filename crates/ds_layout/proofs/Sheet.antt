@@ -11,11 +11,11 @@ use Rattle.ds_words.specs.Memory.{Memory, newer, IsFresh, SameMemory, StoresAt, 
 use Rattle.ds_words.specs.Words.{WordsValue, memory_of, class_at, buffer_of, SameShape, fresh_words, zero_word}
 use Rattle.ds_words.specs.Words as words
 use Rattle.ds_words.specs.declared.words.TheConstants.{BUFFER_ENTRIES}
-use Rattle.ds_layout.specs.declared.place.TheConstants.{RECORDS, TEXT_PARTS, DONE_PARTS}
+use Rattle.ds_layout.specs.declared.place.TheConstants.{RECORDS, DONE_PARTS}
 use Rattle.ds_layout.specs.declared.place.Place.{Place}
 use Rattle.ds_layout.specs.declared.place.Place.TheVariants.{Version, Head, Mark, Value, Kind, Index, Announce, Header, Text, Done}
 use Rattle.ds_layout.specs.declared.layout.Layout.{Layout}
-use Rattle.ds_layout.specs.Places.{cells_of, parts_of, class_of, IsPlaceOf, IsPlace, number_of, place_of, words_of}
+use Rattle.ds_layout.specs.Places.{cells_of, parts_of, parts_in, class_of, IsPlaceOf, IsPlace, number_of, place_of, words_of}
 use Rattle.ds_layout.specs.SheetMemory.{is_place_of, is_place, side_at, entry_at, memory_at, access_at, HasEntry, CanPerform, HasClasses, IsLaidOut, SheetValue, memory, PerformsAt}
 use Rattle.ds_layout.proofs.Places.{place_of-number_of, number_of-place_of, number_of_alone, number_of_below}
 
@@ -39,8 +39,8 @@ is_place_of-true cells parts processes (Kind cell) h = lt-ltb cell cells h
 is_place_of-true cells parts processes (Index row part) h = and-true (nat_lt row cells) (nat_lt part parts) (lt-ltb row cells h.0) (lt-ltb part parts h.1)
 is_place_of-true cells parts processes (Announce process) h = lt-ltb process processes h
 is_place_of-true cells parts processes (Header process number) h = and-true (nat_lt process processes) (nat_lt number RECORDS) (lt-ltb process processes h.0) (lt-ltb number RECORDS h.1)
-is_place_of-true cells parts processes (Text process number part) h =
-    and-true (nat_lt process processes) (nat_lt number RECORDS && nat_lt part TEXT_PARTS) (lt-ltb process processes h.0) (and-true (nat_lt number RECORDS) (nat_lt part TEXT_PARTS) (lt-ltb number RECORDS h.1) (lt-ltb part TEXT_PARTS h.2))
+is_place_of-true cells parts processes (Text edition process number part) h =
+    and-true (nat_lt process processes) (nat_lt number RECORDS && nat_lt part (parts_in edition)) (lt-ltb process processes h.0) (and-true (nat_lt number RECORDS) (nat_lt part (parts_in edition)) (lt-ltb number RECORDS h.1) (lt-ltb part (parts_in edition) h.2))
 is_place_of-true cells parts processes (Done process part) h = and-true (nat_lt process processes) (nat_lt part DONE_PARTS) (lt-ltb process processes h.0) (lt-ltb part DONE_PARTS h.1)
 
 pub IsPlaceOf-is_place_of : (cells parts processes : ℕ) (place : Place) → is_place_of cells parts processes place ≡ true → IsPlaceOf cells parts processes place
@@ -54,9 +54,9 @@ IsPlaceOf-is_place_of cells parts processes (Index row part) e =
 IsPlaceOf-is_place_of cells parts processes (Announce process) e = ltb-true process processes e
 IsPlaceOf-is_place_of cells parts processes (Header process number) e =
     (ltb-true process processes (and-left (nat_lt process processes) (nat_lt number RECORDS) e), ltb-true number RECORDS (and-right (nat_lt process processes) (nat_lt number RECORDS) e))
-IsPlaceOf-is_place_of cells parts processes (Text process number part) e =
-    let r : (nat_lt number RECORDS && nat_lt part TEXT_PARTS) ≡ true = and-right (nat_lt process processes) (nat_lt number RECORDS && nat_lt part TEXT_PARTS) e in
-    (ltb-true process processes (and-left (nat_lt process processes) (nat_lt number RECORDS && nat_lt part TEXT_PARTS) e), ltb-true number RECORDS (and-left (nat_lt number RECORDS) (nat_lt part TEXT_PARTS) r), ltb-true part TEXT_PARTS (and-right (nat_lt number RECORDS) (nat_lt part TEXT_PARTS) r))
+IsPlaceOf-is_place_of cells parts processes (Text edition process number part) e =
+    let r : (nat_lt number RECORDS && nat_lt part (parts_in edition)) ≡ true = and-right (nat_lt process processes) (nat_lt number RECORDS && nat_lt part (parts_in edition)) e in
+    (ltb-true process processes (and-left (nat_lt process processes) (nat_lt number RECORDS && nat_lt part (parts_in edition)) e), ltb-true number RECORDS (and-left (nat_lt number RECORDS) (nat_lt part (parts_in edition)) r), ltb-true part (parts_in edition) (and-right (nat_lt number RECORDS) (nat_lt part (parts_in edition)) r))
 IsPlaceOf-is_place_of cells parts processes (Done process part) e =
     (ltb-true process processes (and-left (nat_lt process processes) (nat_lt part DONE_PARTS) e), ltb-true part DONE_PARTS (and-right (nat_lt process processes) (nat_lt part DONE_PARTS) e))
 

@@ -8,11 +8,11 @@ use Rattle.ds_words.specs.declared.access.Access.TheVariants.{Nothing, Load, Sto
 use Rattle.ds_words.specs.declared.words.TheConstants.{BUFFER_ENTRIES}
 use Rattle.ds_words.specs.Memory.{Memory, Performs}
 use Rattle.ds_words.specs.Words.{WordsValue, memory_of}
-use Rattle.ds_layout.specs.declared.place.TheConstants.{RECORDS, TEXT_PARTS, DONE_PARTS}
+use Rattle.ds_layout.specs.declared.place.TheConstants.{RECORDS, DONE_PARTS}
 use Rattle.ds_layout.specs.declared.place.Place.{Place}
 use Rattle.ds_layout.specs.declared.place.Place.TheVariants.{Version, Head, Mark, Value, Kind, Index, Announce, Header, Text, Done}
 use Rattle.ds_layout.specs.declared.layout.Layout.{Layout}
-use Rattle.ds_layout.specs.Places.{cells_of, parts_of, words_of, class_of, IsPlace, number_of, place_of}
+use Rattle.ds_layout.specs.Places.{cells_of, parts_of, parts_in, words_of, class_of, IsPlace, number_of, place_of}
 
 -- whether the place is one of a sheet with so many cells, parts of a row, and processes
 abbrev pub is_place_of : ℕ → ℕ → ℕ → Place → Bool
@@ -24,7 +24,7 @@ is_place_of cells parts processes (Kind cell) = nat_lt cell cells
 is_place_of cells parts processes (Index row part) = nat_lt row cells && nat_lt part parts
 is_place_of cells parts processes (Announce process) = nat_lt process processes
 is_place_of cells parts processes (Header process number) = nat_lt process processes && nat_lt number RECORDS
-is_place_of cells parts processes (Text process number part) = nat_lt process processes && (nat_lt number RECORDS && nat_lt part TEXT_PARTS)
+is_place_of cells parts processes (Text edition process number part) = nat_lt process processes && (nat_lt number RECORDS && nat_lt part (parts_in edition))
 is_place_of cells parts processes (Done process part) = nat_lt process processes && nat_lt part DONE_PARTS
 
 -- whether the place is one of the sheet

@@ -10,7 +10,7 @@ use ds_formula::reading::TEXT_LIMIT;
 pub struct Header {
     /// The cell's number, row by row from the left, from 0.
     pub cell: usize,
-    /// How many bytes the text has, at most 120.
+    /// How many bytes the text has, at most 240.
     pub length: usize,
 }
 

@@ -4,14 +4,15 @@ ghost use Rattle.std.specs.Prelude.{◌≡◌, ◌*◌, ◌/◌, ◌%◌, ◌<�
 ghost use Rattle.ds_formula.specs.Limits.{CELLS_MOST, EDITS_MOST, PROCESSES_MOST, TEXT_MOST};
 ghost use Rattle.ds_layout.specs.Bits.{parts_for};
 ghost use Rattle.ds_layout.specs.declared.place.TheConstants as places;
-ghost use Rattle.ds_layout.specs.declared.place.TheConstants.{RECORDS, TEXT_PARTS, DONE_PARTS};
+ghost use Rattle.ds_layout.specs.declared.place.TheConstants.{RECORDS, FIRST_PARTS, SECOND_PARTS, DONE_PARTS};
+ghost use Rattle.ds_layout.specs.declared.place.Edition.TheVariants as edition;
 ghost use Rattle.ds_layout.specs.declared.place.Place.TheVariants as place;
 ghost use Rattle.ds_layout.specs.declared.layout.TheConstants as constants;
 ghost use Rattle.ds_layout.specs.declared.head.TheConstants as heads;
 ghost use Rattle.ds_layout.specs.declared.mark.TheConstants as marks;
 
 use crate::bits;
-use crate::place::{DONE_PARTS, Place, RECORDS, TEXT_PARTS};
+use crate::place::{DONE_PARTS, Edition, FIRST_PARTS, Place, RECORDS, SECOND_PARTS};
 use ds_formula::cells::Shape;
 use ds_words::access::{Access, Class};
 use std::alloc::{AllocError, Global};
@@ -43,6 +44,7 @@ pub(crate) struct Starts {
     headers: usize,
     texts: usize,
     done: usize,
+    second_texts: usize,
     words: usize,
 }
 
@@ -67,15 +69,29 @@ fn header_place(at: usize) -> Place
     }
 }
 
-// The part of a text that stands there among those of all texts.
-fn text_place(at: usize) -> Place
-    ensures { result ≡ place.Text (at / TEXT_PARTS / RECORDS) (at / TEXT_PARTS % RECORDS) (at % TEXT_PARTS) }
+/// The part of a text of the first layout that stands there among those of all its texts.
+pub fn first_text(at: usize) -> Place
+    ensures { result ≡ place.Text edition.First (at / FIRST_PARTS / RECORDS) (at / FIRST_PARTS % RECORDS) (at % FIRST_PARTS) }
 {
-    let record = at / TEXT_PARTS;
+    let record = at / FIRST_PARTS;
     Place::Text {
+        edition: Edition::First,
         process: record / RECORDS,
         number: record % RECORDS,
-        part: at % TEXT_PARTS,
+        part: at % FIRST_PARTS,
+    }
+}
+
+// The part of a text of the second layout that stands there among those of all its texts.
+fn second_text(at: usize) -> Place
+    ensures { result ≡ place.Text edition.Second (at / SECOND_PARTS / RECORDS) (at / SECOND_PARTS % RECORDS) (at % SECOND_PARTS) }
+{
+    let record = at / SECOND_PARTS;
+    Place::Text {
+        edition: Edition::Second,
+        process: record / RECORDS,
+        number: record % RECORDS,
+        part: at % SECOND_PARTS,
     }
 }
 
@@ -142,7 +158,8 @@ impl Layout {
         let announcements = index + cells * row_parts;
         let headers = announcements + self.processes;
         let texts = headers + self.processes * RECORDS;
-        let done = texts + self.processes * RECORDS * TEXT_PARTS;
+        let done = texts + self.processes * RECORDS * FIRST_PARTS;
+        let second_texts = done + self.processes * DONE_PARTS;
         Starts {
             row_parts,
             heads,
@@ -154,11 +171,12 @@ impl Layout {
             headers,
             texts,
             done,
-            words: done + self.processes * DONE_PARTS,
+            second_texts,
+            words: second_texts + self.processes * RECORDS * SECOND_PARTS,
         }
     }
 
-    /// How many words the sheet has, at most 53,289.
+    /// How many words the sheet has, at most 114,729.
     pub fn words(&self) -> usize
         ensures value { result ≡ words_of self.now }
         ensures at_most { result ≤ WORDS_MOST }
@@ -184,10 +202,17 @@ impl Layout {
             Place::Announce(process) => starts.announcements + process,
             Place::Header { process, number } => starts.headers + (process * RECORDS + number),
             Place::Text {
+                edition: Edition::First,
                 process,
                 number,
                 part,
-            } => { starts.texts + ((process * RECORDS + number) * TEXT_PARTS + part) }
+            } => { starts.texts + ((process * RECORDS + number) * FIRST_PARTS + part) }
+            Place::Text {
+                edition: Edition::Second,
+                process,
+                number,
+                part,
+            } => { starts.second_texts + ((process * RECORDS + number) * SECOND_PARTS + part) }
             Place::Done { process, part } => starts.done + (process * DONE_PARTS + part),
         }
     }
@@ -223,9 +248,12 @@ impl Layout {
             return header_place(number - starts.headers);
         }
         if number < starts.done {
-            return text_place(number - starts.texts);
+            return first_text(number - starts.texts);
         }
-        done_place(number - starts.done)
+        if number < starts.second_texts {
+            return done_place(number - starts.done);
+        }
+        second_text(number - starts.second_texts)
     }
 
     /// Whether the place is one of the sheet.
@@ -244,10 +272,11 @@ impl Layout {
             Place::Announce(process) => process < processes,
             Place::Header { process, number } => process < processes && number < RECORDS,
             Place::Text {
+                edition,
                 process,
                 number,
                 part,
-            } => { process < processes && number < RECORDS && part < TEXT_PARTS }
+            } => { process < processes && number < RECORDS && part < edition.parts() }
             Place::Done { process, part } => process < processes && part < DONE_PARTS,
         }
     }
@@ -320,7 +349,7 @@ impl Layout {
 /// that fits its 48 bits, and the bit that says dirty the lowest of a mark.
 pub fn constants_are_limits()
     ensures edits { places.RECORDS ≡ EDITS_MOST }
-    ensures text { 8 * places.TEXT_PARTS ≡ TEXT_MOST }
+    ensures text { 8 * places.SECOND_PARTS ≡ TEXT_MOST }
     ensures processes { constants.PROCESS_LIMIT ≡ PROCESSES_MOST }
     ensures row { places.ROW_PARTS ≡ parts_for CELLS_MOST }
     ensures done { places.DONE_PARTS ≡ parts_for EDITS_MOST }

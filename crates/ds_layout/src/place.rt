@@ -1,23 +1,35 @@
 //! The words of a sheet, by what they are for.
 
 ghost use Rattle.std.specs.Prelude.{◌≡◌};
-ghost use Rattle.ds_layout.specs.Places.{class_of};
+ghost use Rattle.ds_layout.specs.Places.{class_of, parts_in, edition_of, edition_word};
 
 use ds_formula::cells::CELL_LIMIT;
-use ds_formula::reading::TEXT_LIMIT;
 use ds_words::access::Class;
 
 /// How many edits each process can number, and so how many records it has.
 pub const RECORDS: usize = 256;
 
-/// How many words the text of a record has, eight bytes each.
-pub const TEXT_PARTS: usize = TEXT_LIMIT / 8;
+/// How many words the text of a record has in the first layout, eight bytes each.
+pub const FIRST_PARTS: usize = 15;
+
+/// How many words the text of a record has in the second layout, eight bytes each.
+pub const SECOND_PARTS: usize = 30;
 
 /// How many words a row of the index has at most, 64 bits each: one bit for each cell.
 pub const ROW_PARTS: usize = CELL_LIMIT / 64;
 
 /// How many words the done bits of a process have, 64 bits each: one bit for each record.
 pub const DONE_PARTS: usize = RECORDS / 64;
+
+/// Which of its two layouts a sheet has.
+#[derive(Clone, Copy, Debug, Default, PartialEq, Eq)]
+pub enum Edition {
+    /// Texts of 15 words, before the done bits.
+    #[default]
+    First,
+    /// Texts of 30 words, behind all other words.
+    Second,
+}
 
 /// A word of a sheet. Cells are by their number, processes and edits too.
 #[derive(Clone, Copy, Debug, Default, PartialEq, Eq)]
@@ -51,6 +63,8 @@ pub enum Place {
     },
     /// Eight bytes of a text.
     Text {
+        /// The layout whose text it is.
+        edition: Edition,
         /// The process of the edit.
         process: usize,
         /// Which of its edits, from 0.
@@ -65,6 +79,39 @@ pub enum Place {
         /// Which part of its done bits, from 0.
         part: usize,
     },
+}
+
+impl Edition {
+    /// How many words the text of a record has in the layout.
+    #[inline(always)]
+    pub fn parts(self) -> usize
+        ensures { result ≡ parts_in self }
+    {
+        match self {
+            Edition::First => FIRST_PARTS,
+            Edition::Second => SECOND_PARTS,
+        }
+    }
+
+    /// The layout that the version's word says: the first one where it is 0, else the second one.
+    #[inline(always)]
+    pub fn read(word: u64) -> Edition
+        ensures { result ≡ edition_of word }
+    {
+        if word == 0 { Edition::First } else { Edition::Second }
+    }
+
+    /// The version's word of the layout.
+    #[inline(always)]
+    pub fn word(self) -> u64
+        ensures value { result ≡ edition_word self }
+        ensures reads_back { edition_of result ≡ self }
+    {
+        match self {
+            Edition::First => 0,
+            Edition::Second => 1,
+        }
+    }
 }
 
 impl Place {
@@ -86,6 +133,7 @@ impl Place {
                 number: _,
             }
             | Place::Text {
+                edition: _,
                 process: _,
                 number: _,
                 part: _,

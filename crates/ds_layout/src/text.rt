@@ -3,7 +3,7 @@
 ghost use Rattle.std.specs.Prelude.{◌≡◌, ◌<◌, slice_index};
 ghost use Rattle.ds_layout.specs.TextWords.{parts_for, length_in, part_of, part_word, bytes_of};
 
-use crate::place::TEXT_PARTS;
+use crate::place::SECOND_PARTS;
 
 /// How many words a text of so many bytes takes.
 pub fn text_parts(bytes: usize) -> usize
@@ -30,7 +30,7 @@ fn byte_or_zero(text: &[u8], at: usize) -> u8
 /// The word of a part of a text: bytes `8 * part` to `8 * part + 7`, the first in the lowest eight
 /// bits, and 0 past the end of the text (our own rule).
 pub fn part_word(text: &[u8], part: usize) -> u64
-    requires { part < TEXT_PARTS }
+    requires { part < SECOND_PARTS }
     ensures value { result ≡ part_word text.now part }
     ensures reads_back { bytes_of result ≡ part_of text.now part }
 {

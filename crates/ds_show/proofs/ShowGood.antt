@@ -22,6 +22,7 @@ use Rattle.ds_show.specs.declared.machine.Effect.TheVariants.{GoesOn, Answers}
 use Rattle.ds_show.specs.ShowSteps.{Steps, access_at, after, answered, effect_at}
 use Rattle.ds_show.specs.ShowTakes.{settled_by, reports_by, StepsBy}
 use Rattle.ds_show.proofs.ShowLaws.{steps as steps_keep, accesses}
+use Rattle.ds_state.specs.Value.{first_rest}
 
 -- the process's report
 pub record IsShowing (v : WorldValue) (p : ℕ) (e : PlainShowCall) : Type 0 where
@@ -29,7 +30,7 @@ pub record IsShowing (v : WorldValue) (p : ℕ) (e : PlainShowCall) : Type 0 whe
   pub is : (world_of v).situation p ≡ Showing e
 
 pub showing_from : (v : WorldValue) (p : ℕ) (e : PlainShowCall) (read : Situation) → p < length v.situations → read ≡ get_or v.situations p read → read ≡ Showing e → IsShowing v p e
-showing_from v p e read lt is here = record { there = lt; is = get_or_default v.situations p (Idle 0) read lt ∙ sym is ∙ here }
+showing_from v p e read lt is here = record { there = lt; is = get_or_default v.situations p (Idle first_rest) read lt ∙ sym is ∙ here }
 
 -- a report that is settled is under way no more
 settles_one : (e : PlainShowCall) (s : ShowStage) (word : ℕ) → settled_by (effect_at s) + reports_in (after e s word) ≤ 1
@@ -79,10 +80,10 @@ module _ (v : WorldValue) (g : IsGood v) (p : ℕ) (e : PlainShowCall) (at : IsS
 
   -- it can be counted
   one_less : (s : Situation) → reports_under_way (set v.situations p s) + 1 ≡ reports_under_way v.situations + reports_in s
-  one_less s = let h = after_set v.situations p s (Idle 0) at.there in let was = ap reports_in at.is in omega arith
+  one_less s = let h = after_set v.situations p s (Idle first_rest) at.there in let was = ap reports_in at.is in omega arith
 
   pub can_count : v.settled < SETTLED_MOST
-  can_count = let h = one_less (Idle 0) in let c = g.counts in omega arith
+  can_count = let h = one_less (Idle first_rest) in let c = g.counts in omega arith
 
   module _ (word : ℕ) (sheet : SheetValue) (layout : sheet.layout ≡ v.sheet.layout) (performs : PerformsAt (access_at e.stage) p (memory v.sheet) (memory sheet) word) where
     -- the world after the step
@@ -99,8 +100,8 @@ module _ (v : WorldValue) (g : IsGood v) (p : ℕ) (e : PlainShowCall) (at : IsS
     steps = record {
       layout = layout;
       memory = subst (λ (q : ℕ). PerformsAt (access_at e.stage) q (memory v.sheet) (memory sheet) word) (sym mine) performs;
-      situation = ap (λ q. get_or (set v.situations p (after e e.stage word)) q (Idle 0)) mine ∙ get_or-set_same v.situations p (after e e.stage word) (Idle 0) at.there;
-      others = λ q ne. get_or-set_other v.situations p q (after e e.stage word) (Idle 0) (λ same. ne (same ∙ sym mine));
+      situation = ap (λ q. get_or (set v.situations p (after e e.stage word)) q (Idle first_rest)) mine ∙ get_or-set_same v.situations p (after e e.stage word) (Idle first_rest) at.there;
+      others = λ q ne. get_or-set_other v.situations p q (after e e.stage word) (Idle first_rest) (λ same. ne (same ∙ sym mine));
       counted = refl;
       open_edits = λ q. refl;
     }

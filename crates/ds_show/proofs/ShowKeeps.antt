@@ -18,7 +18,7 @@ use Rattle.ds_state.specs.Owing.{Owes, Parts, Splits, Excuses}
 use Rattle.ds_state.specs.KnownWork.{IsAtRest}
 use Rattle.ds_state.specs.KnownShow.{noted, reads_clean, reads_pending, Moment, moment_of, ShowFitsAt, ShowFits}
 use Rattle.ds_state.specs.ShowStages.{IsStage}
-use Rattle.ds_show.specs.ShowSteps.{access_at, next_at, after, StepsAt, Begins, fresh, rank, Falls, at}
+use Rattle.ds_show.specs.ShowSteps.{rest_of, access_at, next_at, after, StepsAt, Begins, fresh, rank, Falls, at}
 use Rattle.ds_state.specs.CallsFit.{CallFits, IdleFits}
 use Rattle.ds_state.specs.Rely.{Grows, Keeps}
 use Rattle.ds_state.specs.Sound.{IsSound}
@@ -32,6 +32,14 @@ use Rattle.ds_state.proofs.Accesses.{Turn, same_moves, quiet_sound}
 use Rattle.ds_state.proofs.EditFrame.{Framed, silent_framed, silent_keeps}
 use Rattle.ds_state.proofs.StableShow.{show_goes, rest_same}
 use Rattle.ds_show.proofs.ShowSteps.{Sees, moment_after, on, advance, branches}
+use Rattle.ds_state.specs.declared.situation.Rest.{Rest}
+use Rattle.ds_state.proofs.Frames.{Goes, notes, nobody, noted_in}
+use Rattle.std.proofs.Common.{inl, inr, Some}
+use Rattle.std.specs.Prelude.{Bool, if◌then◌else◌}
+use Rattle.std.proofs.lemmas.Bool.{cases_lt}
+use Rattle.ds_show.specs.ShowSteps.{off_announce, off_mark, announce_from, mark_from, again_mark_from, again_announce_from, with_announcement, with_mark, with_kind}
+use Rattle.ds_state.specs.declared.work.ShowEnd.TheVariants.{Settled}
+use Rattle.ds_layout.specs.declared.place.Edition.{Edition}
 
 -- no access of a report changes a word
 pub touches_nothing : (s : ShowStage) (p word : ℕ) (old new : PlainWorld) → PerformsAt (access_at s) p old.memory new.memory word → SameMemory old.memory new.memory
@@ -68,7 +76,24 @@ module _ (p : ℕ) (old new : PlainWorld) (sound : IsSound old) (turn : Turn p o
       let f : Framed old new = silent_framed p old new moves turn.counted sound (buffered old sound) owes excuses parts splits m.buffer in
       quiet_sound p old new turn sound moves f.bears f.stand f.apart (silent_keeps p old new moves turn.counted sound (buffered old sound) owes excuses parts splits m.buffer) call
 
-after_fits : (w : PlainWorld) (e : PlainShowCall) (s : ShowStage) (word : ℕ) (m : Moment) → ShowFitsAt w e.process (next_at (on e s) s word) m → IdleFits w e.process e.next → CallFits w e.process (after e s word)
+either : (b : Bool) (x y : PlainShowCall) (d : Edition) → x.edition ≡ d → y.edition ≡ d → (if b then x else y).edition ≡ d
+either true x y d h k = h
+either false x y d h k = k
+
+next_edition : (e : PlainShowCall) (s : ShowStage) (word : ℕ) → (next_at e s word).edition ≡ e.edition
+next_edition e (LoadAnnounce i) word = either (reads_pending word) (off_announce e i word) (announce_from (with_announcement e word) (i + 1)) e.edition refl (either (nat_lt (i + 1) e.processes) (on (with_announcement e word) (LoadAnnounce (i + 1))) (on (with_announcement e word) (LoadMark 0)) e.edition refl refl)
+next_edition e (LoadMark i) word = either (reads_clean e.processes word) (mark_from (with_mark e word) (i + 1)) (off_mark e i word) e.edition (either (nat_lt (i + 1) e.cells) (on (with_mark e word) (LoadMark (i + 1))) (on (with_mark e word) (LoadValue 0)) e.edition refl refl) refl
+next_edition e (LoadValue i) word = refl
+next_edition e (LoadKind i) word = either (nat_lt (i + 1) e.cells) (on (with_kind e word) (LoadValue (i + 1))) (on (with_kind e word) (AgainMark 0)) e.edition refl refl
+next_edition e (AgainMark i) word = either (word == noted e.marks i) (again_mark_from e (i + 1)) (off_mark e i word) e.edition (either (nat_lt (i + 1) e.cells) (on e (AgainMark (i + 1))) (on e (AgainAnnounce 0)) e.edition refl refl) refl
+next_edition e (AgainAnnounce i) word = either (word == noted e.announcements i) (again_announce_from e (i + 1)) (off_announce e i word) e.edition (either (nat_lt (i + 1) e.processes) (on e (AgainAnnounce (i + 1))) (on e (Answer Settled)) e.edition refl refl) refl
+next_edition e (Answer end) word = refl
+
+noted_after : (e : PlainShowCall) (s : ShowStage) (word : ℕ) → noted_in (after e s word) ≡ Some e.edition
+noted_after e (Answer end) word = refl
+noted_after e s word = ap (λ (d : Edition). Some d) (next_edition e s word)
+
+after_fits : (w : PlainWorld) (e : PlainShowCall) (s : ShowStage) (word : ℕ) (m : Moment) → ShowFitsAt w e.process (next_at (on e s) s word) m → IdleFits w e.process (rest_of e) → CallFits w e.process (after e s word)
 after_fits w e (LoadAnnounce i) word m h k = (m, h)
 after_fits w e (LoadMark i) word m h k = (m, h)
 after_fits w e (LoadValue i) word m h k = (m, h)
@@ -82,8 +107,14 @@ module _ (e : PlainShowCall) (s : ShowStage) (word : ℕ) (old new : PlainWorld)
   same : SameMemory old.memory new.memory
   same = touches_nothing s e.process word old new t.memory
 
+  turn_goes : Goes e.process old new
+  turn_goes = elim (cases_lt e.process old.layout.processes) [
+    | inl real ↦ notes e.edition real (ap noted_in was) (ap noted_in t.situation ∙ noted_after e s word)
+    | inr past ↦ nobody past (λ r. (same.cached r, inl (same.persisted r)))
+  ]
+
   turn : Turn e.process old new
-  turn = record { layout = t.layout; counted = t.counted; situations = t.others; pendings = λ q ne. t.open_edits q }
+  turn = record { layout = t.layout; counted = t.counted; situations = t.others; pendings = λ q ne. t.open_edits q; goes = turn_goes }
 
   owes : (r c x : ℕ) → Owes old.memory e.process (old.situation e.process) r c x → ⊥
   owes r c x o = subst (λ (y : Situation). Owes old.memory e.process y r c x) was o
@@ -105,7 +136,7 @@ module _ (e : PlainShowCall) (s : ShowStage) (word : ℕ) (old new : PlainWorld)
   known_next m fits = show_goes old new e.process (next_at (on e s) s word) (moment_after old m s) grows (t.open_edits e.process) (same.buffer e.process)
       (advance old e.process sound e m s word (sees_word s e.process word old new t.memory) fits)
 
-  idle_next : (m : Moment) → ShowFitsAt old e.process (on e s) m → IdleFits new e.process e.next
+  idle_next : (m : Moment) → ShowFitsAt old e.process (on e s) m → IdleFits new e.process (rest_of e)
   idle_next m fits =
       let rest : IsAtRest new e.process e.next = rest_same e.process old new grows e.next (t.open_edits e.process) fits.rest in
       record {
@@ -128,19 +159,19 @@ some_cells shape =
     let l = index_below shape c (record { column = shape.within.some_columns; row = shape.within.some_rows }) in
     omega arith
 
-module _ (p next : ℕ) (old new : PlainWorld) (sound : IsSound old) (real : p < old.layout.processes) (b : Begins p next old new) where
+module _ (p : ℕ) (next : Rest) (old new : PlainWorld) (sound : IsSound old) (real : p < old.layout.processes) (b : Begins p next old new) where
   idle : IdleFits old p next
   idle = subst (λ (s : Situation). CallFits old p s) b.idle (sound.calls p real)
 
   begin_turn : Turn p old new
-  begin_turn = record { layout = b.layout; counted = b.counted; situations = b.others; pendings = λ q ne. b.open_edits q }
+  begin_turn = record { layout = b.layout; counted = b.counted; situations = b.others; pendings = λ q ne. b.open_edits q; goes = notes next.edition real (ap noted_in b.idle) (ap noted_in b.situation) }
 
   begin_grows : Grows p Version old new
   begin_grows = grows_own p Version old new (same_moves p old new begin_turn b.memory) b.counted
 
   pub begin_known : ShowFitsAt new p (fresh p next (cells_of old.layout) old.layout.processes) (moment_of new)
   begin_known =
-      let rest : IsAtRest new p next = rest_same p old new begin_grows next (b.open_edits p) (record { number = idle.number; open_edits = idle.open_edits; below = idle.below; cached = idle.cached; persisted = idle.persisted }) in
+      let rest : IsAtRest new p next.number = rest_same p old new begin_grows next.number (b.open_edits p) (record { number = idle.number; open_edits = idle.open_edits; below = idle.below; cached = idle.cached; persisted = idle.persisted }) in
       record {
         mine = refl;
         is = record {

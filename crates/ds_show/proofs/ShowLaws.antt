@@ -15,6 +15,7 @@ use Rattle.ds_state.specs.declared.situation.Situation.{Situation}
 use Rattle.ds_state.specs.declared.situation.Situation.TheVariants.{Showing}
 use Rattle.ds_show.proofs.ShowKeeps as keeps
 use Rattle.ds_show.proofs.ShowKeeps.{step_keeps, begin_keeps, falls, few, possible}
+use Rattle.ds_state.specs.declared.situation.Rest.{Rest}
 
 fits_of : (e : PlainShowCall) (w : PlainWorld) → IsSound w → e.process < w.layout.processes → w.situation e.process ≡ Showing e → ShowFits w e.process e
 fits_of e w sound real is = subst (λ (s : Situation). CallFits w e.process s) is (sound.calls e.process real)
@@ -34,5 +35,5 @@ each_falls e word is = falls e e.stage word is.stage
 pub each_few : (e : PlainShowCall) → rank e ≤ 2 * e.processes + 4 * e.cells + 1
 each_few e = few e e.stage
 
-pub begins : (p next : ℕ) (old new : PlainWorld) → IsSound old → p < old.layout.processes → Begins p next old new → Keeps p old new
+pub begins : (p : ℕ) (next : Rest) (old new : PlainWorld) → IsSound old → p < old.layout.processes → Begins p next old new → Keeps p old new
 begins p next old new sound real b = begin_keeps p next old new sound real b

@@ -7,12 +7,13 @@ use Rattle.ds_state.specs.declared.reports.TheConstants.{SETTLED_MOST}
 use Rattle.ds_state.specs.declared.refusal.Refusal.{Refusal}
 use Rattle.ds_state.specs.declared.refusal.Refusal.TheVariants as refusal
 use Rattle.ds_state.specs.declared.situation.Situation.{Situation}
-use Rattle.ds_state.specs.declared.situation.Situation.TheVariants.{Idle, Stopped, Editing, Working, Recovering, Showing}
+use Rattle.ds_state.specs.declared.situation.Situation.TheVariants.{Idle, Stopped, Editing, Working, Recovering, Showing, Migrating}
 use Rattle.ds_show.specs.ShowSteps.{Begins}
+use Rattle.ds_state.specs.declared.situation.Rest.{Rest}
 
 -- an idle process's report begins
 pub record IsBegun (old : PlainWorld) (p : ℕ) (new : PlainWorld) : Type 0 where
-  pub next : ℕ
+  pub next : Rest
   pub begins : Begins p next old new
 
 -- why an idle process may not begin a report: so many are settled and under way that no more can be counted; else
@@ -32,6 +33,7 @@ RefusesIn v (Editing e) r = r ≡ refusal.Busy
 RefusesIn v (Working e) r = r ≡ refusal.Busy
 RefusesIn v (Recovering e) r = r ≡ refusal.Busy
 RefusesIn v (Showing e) r = r ≡ refusal.Busy
+RefusesIn v (Migrating e) r = r ≡ refusal.Busy
 
 -- why this process may not begin a report
 abbrev pub Refuses : WorldValue → ℕ → Refusal → Type 0

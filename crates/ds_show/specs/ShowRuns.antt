@@ -13,6 +13,7 @@ use Rattle.ds_state.specs.Sound.{IsSound}
 use Rattle.ds_state.specs.declared.work.ShowEnd.{ShowEnd}
 use Rattle.ds_state.specs.declared.work.ShowEnd.TheVariants.{Settled, AtMark, AtAnnounce}
 use Rattle.ds_state.specs.declared.situation.Situation.TheVariants.{Showing}
+use Rattle.ds_state.specs.declared.situation.Rest.{Rest}
 
 -- a step of the process's own report
 pub record OwnStep (p : ℕ) (old new : PlainWorld) : Type 0 where
@@ -29,7 +30,7 @@ Passes p old new = OwnStep p old new ⊎ Rely p old new
 -- the process's report begins in a sound world, and its begin leaves this one
 pub record HasBegun (p : ℕ) (now : PlainWorld) : Type 0 where
   pub before : PlainWorld
-  pub next : ℕ
+  pub next : Rest
   pub sound : IsSound before
   pub real : p < before.layout.processes
   pub begins : Begins p next before now

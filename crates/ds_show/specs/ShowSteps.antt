@@ -18,6 +18,7 @@ use Rattle.ds_show.specs.declared.machine.Effect.TheVariants.{GoesOn, Answers}
 use Rattle.ds_state.specs.declared.work.ShowEnd.TheVariants.{Settled, AtMark, AtAnnounce}
 use Rattle.ds_state.specs.declared.work.ShowStage.{ShowStage}
 use Rattle.ds_state.specs.declared.work.ShowStage.TheVariants.{LoadAnnounce, LoadMark, LoadValue, LoadKind, AgainMark, AgainAnnounce, Answer}
+use Rattle.ds_state.specs.declared.situation.Rest.{Rest}
 
 -- the access of a stage of a report
 abbrev pub access_at : ShowStage → Access Place
@@ -116,9 +117,13 @@ abbrev pub effect_at : ShowStage → Effect
 effect_at (Answer end) = Answers end
 effect_at _ = GoesOn
 
+-- what the process knows beside its report
+abbrev pub rest_of : PlainShowCall → Rest
+rest_of e = record { number = e.next; edition = e.edition }
+
 -- the situation of the process after a stage of its report: the answer ends the call
 abbrev pub after : PlainShowCall → ShowStage → ℕ → Situation
-after e (Answer end) word = Idle e.next
+after e (Answer end) word = Idle (rest_of e)
 after e stage word = Showing (next_at e stage word)
 
 -- the values of a settled report
@@ -139,10 +144,11 @@ abbrev pub Steps : PlainShowCall → ℕ → PlainWorld → PlainWorld → Type 
 Steps e word old new = StepsAt e e.stage word old new
 
 -- a report of the sheet, before its first step
-abbrev pub fresh : ℕ → ℕ → ℕ → ℕ → PlainShowCall
+abbrev pub fresh : ℕ → Rest → ℕ → ℕ → PlainShowCall
 fresh process next cells processes = record {
   process = process;
-  next = next;
+  edition = next.edition;
+  next = next.number;
   cells = cells;
   processes = processes;
   announcements = [];
@@ -153,7 +159,7 @@ fresh process next cells processes = record {
 }
 
 -- a report begins, and no word changes
-pub record Begins (p next : ℕ) (old new : PlainWorld) : Type 0 where
+pub record Begins (p : ℕ) (next : Rest) (old new : PlainWorld) : Type 0 where
   pub layout : new.layout ≡ old.layout
   pub memory : SameMemory old.memory new.memory
   pub idle : old.situation p ≡ Idle next

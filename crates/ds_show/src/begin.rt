@@ -6,13 +6,13 @@ ghost use Rattle.ds_state.specs.Value.{world_of, HasCountsLeft};
 ghost use Rattle.ds_state.specs.Underway.{reports_in, reports_under_way};
 ghost use Rattle.ds_state.specs.declared.reports.TheConstants.{SETTLED_MOST};
 ghost use Rattle.ds_state.specs.declared.situation.Situation.TheVariants.{Idle};
-ghost use Rattle.ds_show.specs.ShowSteps.{Begins, fresh};
+ghost use Rattle.ds_show.specs.ShowSteps.{rest_of, Begins, fresh};
 ghost use Rattle.ds_show.specs.ShowBegun.{IsBegun, Refuses};
 
 use ds_layout::layout::Layout;
 use ds_state::refusal::Refusal;
 use ds_state::reports::SETTLED_MOST;
-use ds_state::situation::{Situation, next_edit, put};
+use ds_state::situation::{Rest, Situation, next_edit, put};
 use ds_state::work::{ShowCall, ShowStage};
 use ds_state::world::World;
 use std::alloc::{AllocError, Global};
@@ -24,7 +24,7 @@ fn reports_in(situation: &Situation) -> usize
     match situation {
         Situation::Showing(_) => 1,
         Situation::Idle(_) | Situation::Stopped | Situation::Editing(_) => 0,
-        Situation::Working(_) | Situation::Recovering(_) => 0,
+        Situation::Working(_) | Situation::Recovering(_) | Situation::Migrating(_) => 0,
     }
 }
 
@@ -52,7 +52,7 @@ pub fn fresh(
     alloc: Global,
     layout: &Layout,
     process: usize,
-    next: usize,
+    next: Rest,
 ) -> Result<ShowCall, AllocError>
     ensures { IfOk result (λ call. call ≡ fresh process next (cells_of layout.now) layout.now.processes) }
 {
@@ -63,7 +63,8 @@ pub fn fresh(
     let kinds = Vec::with_capacity(alloc, cells)?;
     Ok(ShowCall {
         process,
-        next,
+        edition: next.edition,
+        next: next.number,
         cells,
         processes: layout.processes,
         announcements,
@@ -77,10 +78,10 @@ pub fn fresh(
 // Begins a report of the sheet.
 fn enter(world: &mut World, call: ShowCall)
     requires process { call.process < world.old.sheet.layout.processes }
-    requires idle { (world_of world.old).situation call.process ≡ Idle call.next }
-    requires first { call ≡ fresh call.process call.next (cells_of world.old.sheet.layout) world.old.sheet.layout.processes }
+    requires idle { (world_of world.old).situation call.process ≡ Idle (rest_of call) }
+    requires first { call ≡ fresh call.process (rest_of call) (cells_of world.old.sheet.layout) world.old.sheet.layout.processes }
     requires counts { world.old.settled + reports_under_way world.old.situations < SETTLED_MOST }
-    ensures begins { Begins call.process call.next (world_of world.old) (world_of world.new) }
+    ensures begins { Begins call.process (rest_of call) (world_of world.old) (world_of world.new) }
     ensures sheet { world.new.sheet ≡ world.old.sheet }
     ensures done { world.new.done ≡ world.old.done }
     ensures settled { world.new.settled ≡ world.old.settled }

@@ -1,6 +1,7 @@
 //! What is true of each report, as functions that do nothing.
 
 ghost use Rattle.std.specs.Prelude.{ℕ, ◌≡◌, ◌<◌, ◌≤◌, ◌+◌, ◌*◌, List, Contains};
+ghost use Rattle.ds_state.specs.declared.situation.Rest.{Rest};
 ghost use Rattle.ds_layout.specs.declared.layout.Layout.{Layout};
 ghost use Rattle.ds_layout.specs.Places.{cells_of};
 ghost use Rattle.ds_layout.specs.SheetMemory.{CanPerform, NamesPlace};
@@ -33,7 +34,7 @@ pub fn steps_keep_soundness()
 
 /// The beginning of a report does the same.
 pub fn begins_keep_soundness()
-    ensures { (p next : ℕ) (old new : PlainWorld) → IsSound old → p < old.layout.processes
+    ensures { (p : ℕ) (next : Rest) (old new : PlainWorld) → IsSound old → p < old.layout.processes
         → Begins p next old new → Keeps p old new }
 {}
 

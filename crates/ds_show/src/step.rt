@@ -9,7 +9,7 @@ ghost use Rattle.ds_show.specs.ShowTakes.{StepTakes, settled_by, reports_by};
 
 use crate::machine::{Effect, effect_of, got, want};
 use ds_state::reports::Reports;
-use ds_state::situation::Situation;
+use ds_state::situation::{Rest, Situation};
 use ds_state::work::{ShowCall, ShowEnd, ShowStage};
 use ds_state::world::World;
 
@@ -21,7 +21,7 @@ fn call_of(situation: &Situation) -> Option<&ShowCall>
     match situation {
         Situation::Showing(call) => Some(call),
         Situation::Idle(_) | Situation::Stopped | Situation::Editing(_) => None,
-        Situation::Working(_) | Situation::Recovering(_) => None,
+        Situation::Working(_) | Situation::Recovering(_) | Situation::Migrating(_) => None,
     }
 }
 
@@ -54,7 +54,10 @@ fn go_on(situation: &mut Situation, word: u64)
     if let Situation::Showing(call) = situation {
         match call.stage {
             ShowStage::Answer(_) => {
-                let next = call.next;
+                let next = Rest {
+                    number: call.next,
+                    edition: call.edition,
+                };
                 *situation = Situation::Idle(next);
             }
             _ => got(call, word),

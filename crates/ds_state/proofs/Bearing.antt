@@ -28,7 +28,7 @@ use Rattle.ds_state.specs.declared.work.WorkStage.TheVariants as works
 use Rattle.ds_state.specs.declared.work.RecoverStage.{RecoverStage}
 use Rattle.ds_state.specs.declared.work.RecoverStage.TheVariants as recoveries
 use Rattle.ds_state.specs.declared.situation.Situation.{Situation}
-use Rattle.ds_state.specs.declared.situation.Situation.TheVariants.{Idle, Stopped, Editing, Working, Recovering, Showing}
+use Rattle.ds_state.specs.declared.situation.Situation.TheVariants.{Idle, Stopped, Editing, Working, Recovering, Showing, Migrating}
 use Rattle.ds_state.proofs.Heads.{cell_of-middle}
 use Rattle.ds_state.proofs.Noted.{of_sheet_middle}
 use Rattle.ds_state.proofs.Found.{refs_indexed}
@@ -53,6 +53,9 @@ work_parts m p row works.BackKind c x h = tt
 work_parts m p row _ c x h = absurd h
 
 recovery_parts : (m : Memory Place) (p : ℕ) (row : List ℕ) (s : RecoverStage) (r c x : ℕ) → RecoveryParts s r → RecoveryOwes m p row s r c x
+recovery_parts m p row recoveries.LoadVersion r c x h = tt
+recovery_parts m p row recoveries.FlushVersion r c x h = tt
+recovery_parts m p row recoveries.BackVersion r c x h = tt
 recovery_parts m p row (recoveries.LoadMark cell) r c x h = tt
 recovery_parts m p row (recoveries.FlushValue cell) r c x h = tt
 recovery_parts m p row (recoveries.FlushKind cell) r c x h = tt
@@ -72,6 +75,7 @@ parts_owe m p (Editing e) r c x h = absurd h
 parts_owe m p (Working e) r c x h = (h.0, work_parts m p e.row e.stage c x h.1)
 parts_owe m p (Recovering e) r c x h = recovery_parts m p e.row e.stage r c x h
 parts_owe m p (Showing e) r c x h = absurd h
+parts_owe m p (Migrating e) r c x h = tt
 
 pub apart_owes : (w : PlainWorld) (r c x : ℕ) → IsApart w r → CellOwes w r c x
 apart_owes w r c x a = record { holder = a.holder; held = a.held; still = parts_owe w.memory a.holder (w.situation a.holder) r c x a.still }
@@ -99,6 +103,7 @@ splits_excuse w p (Editing e) c head x h = (h.0, splits_at w.memory p c e.stage 
 splits_excuse w p (Working e) c head x h = absurd h
 splits_excuse w p (Recovering e) c head x h = (h.0, recovery_splits w.memory p c e.stage x h.1)
 splits_excuse w p (Showing e) c head x h = absurd h
+splits_excuse w p (Migrating e) c head x h = h
 
 pub on_its_way_excuses : (w : PlainWorld) (cell persisted x : ℕ) → IsSound w → IsOnItsWay w (of_cell cell w.counted) persisted → IsExcused w cell x
 on_its_way_excuses w cell persisted x sound b =
@@ -129,6 +134,9 @@ module _ (old new : PlainWorld) (h : ℕ) (marks : (c : ℕ) → old.memory.cach
   work_lasts row _ c x k = absurd k
 
   recovery_lasts : (row : List ℕ) (s : RecoverStage) (r c x : ℕ) → RecoveryOwes old.memory h row s r c x → RecoveryOwes new.memory h row s r c x
+  recovery_lasts row recoveries.LoadVersion r c x k = tt
+  recovery_lasts row recoveries.FlushVersion r c x k = tt
+  recovery_lasts row recoveries.BackVersion r c x k = tt
   recovery_lasts row (recoveries.LoadMark cell) r c x k = tt
   recovery_lasts row (recoveries.FlushValue cell) r c x k = tt
   recovery_lasts row (recoveries.FlushKind cell) r c x k = tt
@@ -148,6 +156,7 @@ module _ (old new : PlainWorld) (h : ℕ) (marks : (c : ℕ) → old.memory.cach
   owes_lasts (Working e) r c x k = (k.0, work_lasts e.row e.stage c x k.1)
   owes_lasts (Recovering e) r c x k = recovery_lasts e.row e.stage r c x k
   owes_lasts (Showing e) r c x k = absurd k
+  owes_lasts (Migrating e) r c x k = tt
 
   edit_lasts : (s : Stage) (c x : ℕ) → EditOwes old.memory h c s x → EditOwes new.memory h c s x
   edit_lasts (edits.FlushOwn own) c x k = tt
@@ -173,6 +182,7 @@ module _ (old new : PlainWorld) (h : ℕ) (marks : (c : ℕ) → old.memory.cach
   excuses_lasts pends (Working e) c x k = absurd k
   excuses_lasts pends (Recovering e) c x k = (pends c k.0, excuse_lasts e.stage c x k.1)
   excuses_lasts pends (Showing e) c x k = absurd k
+  excuses_lasts pends (Migrating e) c x k = pends c k
 
   pub splits_last : ((c : ℕ) → IsPending old h c → IsPending new h c) → (s : Situation) (c head : ℕ) → Splits old h s c head → Splits new h s c head
   splits_last pends (Idle next) c head k = absurd k
@@ -181,6 +191,7 @@ module _ (old new : PlainWorld) (h : ℕ) (marks : (c : ℕ) → old.memory.cach
   splits_last pends (Working e) c head k = absurd k
   splits_last pends (Recovering e) c head k = (pends c k.0, k.1)
   splits_last pends (Showing e) c head k = absurd k
+  splits_last pends (Migrating e) c head k = pends c k
 
 -- what others owe, while p steps
 module _ (p : ℕ) (place : Place) (old new : PlainWorld) (m : Moves p place old new) where

@@ -21,11 +21,13 @@ use Rattle.ds_state.specs.Rely.{IsOwnedBy, Grows, Rely, Keeps}
 use Rattle.ds_words.specs.declared.access.BufferEntry.{BufferEntry}
 use Rattle.ds_state.specs.Owing.{entry}
 use Rattle.ds_state.specs.declared.situation.Situation.{Situation}
-use Rattle.ds_state.proofs.Frames.{Moves, each_moved, stays_hold}
+use Rattle.ds_state.proofs.Frames.{Moves, Goes, CatchesUp, shown_back, first_shown, layouts_move, each_moved, stays_hold}
 use Rattle.ds_state.proofs.Bearing.{Buffered, Mine, bears, all_stand, no_new_marks, parts_owe, splits_excuse, splits_last, marks_grow, pends_last, apart_lasts}
 use Rattle.ds_state.proofs.Heads.{by_append, of_cell-append, of_cell-own, of_cell-other, cell_of-middle, parts_cases}
 use Rattle.ds_state.proofs.Lasting.{safe_stable}
 use Rattle.ds_state.proofs.Stable.{call_stable}
+use Rattle.ds_layout.specs.declared.place.Edition.{Edition}
+use Rattle.ds_state.specs.Editions.{Shows, Agrees}
 
 -- the edit's head takes its cell's place, and the edit counts
 pub record Counts (e : PlainEdit) (issue : PlainIssue) (old new : PlainWorld) : Type 0 where
@@ -36,13 +38,16 @@ pub record Counts (e : PlainEdit) (issue : PlainIssue) (old new : PlainWorld) : 
   pub pendings : (q : ℕ) → q ≢ e.process → new.open_edits q ≡ old.open_edits q
   pub open_edits : new.open_edits e.process ≡ Some issue
   pub same : issue.edit ≡ e
+  pub goes : Goes e.process old new
   pub owes : Splits new e.process (new.situation e.process) e.cell (head_after_all (of_cell e.cell new.counted))
 
 -- what has to stand before
 pub record MayCount (w : PlainWorld) (e : PlainEdit) : Type 0 where
   pub of_sheet : IsOfSheet w e
   pub below : AreBelow w e.process e.number
-  pub written : (k : ℕ) → k < record_size e → (w.memory.cached (record_place e.process e.number k) ≡ record_word e k) × (w.memory.persisted (record_place e.process e.number k) ≡ record_word e k)
+  pub edition : Edition
+  pub agrees : Agrees w.memory edition
+  pub written : (k : ℕ) → k < record_size e → (w.memory.cached (record_place edition e.process e.number k) ≡ record_word e k) × (w.memory.persisted (record_place edition e.process e.number k) ≡ record_word e k)
   pub indexed : (row : ℕ) → RefersTo w.layout.shape e.text row → HasBit (w.memory.cached (index_place row e.cell)) e.cell × HasBit (w.memory.persisted (index_place row e.cell)) e.cell
   pub back : w.memory.persisted (Head e.cell) ≡ head_after_all (of_cell e.cell w.counted)
   pub grows : w.memory.cached (Head e.cell) ≤ head_after_all (of_cell e.cell (w.counted ++ e ∷ []))
@@ -83,6 +88,9 @@ module _ (e : PlainEdit) (issue : PlainIssue) (old new : PlainWorld) (c : Counts
       let all = ap (λ es. head_after_all (of_cell e.cell es)) c.counted in
       omega arith
 
+  version_same : CatchesUp (old.memory.cached Version) (old.memory.persisted Version) (new.memory.cached Version) (new.memory.persisted Version)
+  version_same = (c.memory.elsewhere Version (λ is. cc), inl (c.memory.persisted Version))
+
   pub moves : Moves e.process (Head e.cell) old new
   moves = record {
     layout = c.layout;
@@ -92,6 +100,8 @@ module _ (e : PlainEdit) (issue : PlainIssue) (old new : PlainWorld) (c : Counts
     buffers = λ q ne. c.memory.buffer q;
     situations = c.situations;
     pendings = c.pendings;
+    goes = c.goes;
+    version = inl version_same;
   }
 
   excused_now : (x : ℕ) → IsExcused new e.cell x
@@ -193,7 +203,7 @@ module _ (e : PlainEdit) (issue : PlainIssue) (old new : PlainWorld) (c : Counts
   ]
 
   word_counts : (r : Place) → r ≢ Head e.cell → WordFits old r (old.memory.cached r) (old.memory.persisted r) → WordFits new r (old.memory.cached r) (old.memory.persisted r)
-  word_counts Version ne h = tt
+  word_counts Version ne h = h
   word_counts (Head cell) ne h =
       let apart : e.cell ≢ cell = (λ eq. ne (ap (λ x. Head x) (sym eq))) in
       let same = other_cell cell apart in
@@ -238,11 +248,15 @@ module _ (e : PlainEdit) (issue : PlainIssue) (old new : PlainWorld) (c : Counts
       (λ i j k. subst (λ (x : ℕ). (old.memory.cached (Header x n) ≡ record_word e zero) × (old.memory.persisted (Header x n) ≡ record_word e zero)) i
       (subst (λ (x : ℕ). (old.memory.cached (Header e.process x) ≡ record_word e zero) × (old.memory.persisted (Header e.process x) ≡ record_word e zero)) j (may.written zero k)))
       h
-  word_counts (Text q n part) ne h = counted_cases
-      (λ f. f.process ≡ q → f.number ≡ n → suc part < record_size f → (old.memory.cached (Text q n part) ≡ record_word f (suc part)) × (old.memory.persisted (Text q n part) ≡ record_word f (suc part)))
-      (λ i j k. subst (λ (x : ℕ). (old.memory.cached (Text x n part) ≡ record_word e (suc part)) × (old.memory.persisted (Text x n part) ≡ record_word e (suc part))) i
-      (subst (λ (x : ℕ). (old.memory.cached (Text e.process x part) ≡ record_word e (suc part)) × (old.memory.persisted (Text e.process x part) ≡ record_word e (suc part))) j (may.written (suc part) k)))
-      h
+  word_counts (Text edition q n part) ne h = λ now.
+      let was : Shows old.memory edition = shown_back old new version_same edition now in
+      let its : may.edition ≡ edition = elim was [ inl seen ↦ sym may.agrees.cached ∙ seen | inr kept ↦ sym may.agrees.persisted ∙ kept ] in
+      counted_cases
+      (λ f. f.process ≡ q → f.number ≡ n → suc part < record_size f → (old.memory.cached (Text edition q n part) ≡ record_word f (suc part)) × (old.memory.persisted (Text edition q n part) ≡ record_word f (suc part)))
+      (λ i j k. subst (λ (d : Edition). (old.memory.cached (Text d q n part) ≡ record_word e (suc part)) × (old.memory.persisted (Text d q n part) ≡ record_word e (suc part))) its
+      (subst (λ (x : ℕ). (old.memory.cached (Text may.edition x n part) ≡ record_word e (suc part)) × (old.memory.persisted (Text may.edition x n part) ≡ record_word e (suc part))) i
+      (subst (λ (x : ℕ). (old.memory.cached (Text may.edition e.process x part) ≡ record_word e (suc part)) × (old.memory.persisted (Text may.edition e.process x part) ≡ record_word e (suc part))) j (may.written (suc part) k))))
+      (h was)
   word_counts (Done q part) ne h = record {
     sides = h.sides;
     superseded = λ n its o. elim (superseded_cases o.edit.cell o.before o.edit o.next o.after o.parts) [
@@ -291,12 +305,13 @@ module _ (e : PlainEdit) (issue : PlainIssue) (old new : PlainWorld) (c : Counts
       ];
       calls = λ q l. elim (cases_eq q e.process) [
         | inl eq ↦ subst (λ (x : ℕ). CallFits new x (new.situation x)) (sym eq) fits
-        | inr ne ↦ rw (c.situations q ne) (call_stable old new q (old.situation q) (rely_other s q ne) (s.calls q (rw (sym c.layout) l)))
+        | inr ne ↦ rw (c.situations q ne) (call_stable old new q (old.situation q) (rely_other s q ne) (s.layouts q (rw (sym c.layout) l)) (s.calls q (rw (sym c.layout) l)))
       ];
       of_sheet = subst (λ (es : List PlainEdit). All (λ f. IsOfSheet new f) es) (sym c.counted) (All-push (λ (f : PlainEdit). IsOfSheet new f) old.counted e (λ k d l. sheet (get_or old.counted k d) (s.of_sheet k d l)) (sheet e may.of_sheet));
+      layouts = λ q l. layouts_move e.process (Head e.cell) old new moves s q (rw (sym c.layout) l);
       increasing = rw c.counted (increasing_push old.counted e s.increasing may.below);
     };
   }
     where
       sheet : (f : PlainEdit) → IsOfSheet old f → IsOfSheet new f
-      sheet f h = record { process = rw c.layout h.process; number = h.number; cell = rw c.layout h.cell; text = h.text }
+      sheet f h = record { process = rw c.layout h.process; number = h.number; cell = rw c.layout h.cell; text = h.text; short = λ now. h.short (first_shown e.process (Head e.cell) old new moves now) }

@@ -13,7 +13,7 @@ use Rattle.ds_layout.specs.declared.announcement.Phase.TheVariants as phase
 use Rattle.ds_layout.specs.Places.{cells_of}
 use Rattle.ds_words.specs.Memory.{Memory}
 use Rattle.ds_state.specs.Edits.{PlainEditCall, text_parts}
-use Rattle.ds_state.specs.World.{PlainEdit, edit_of, PlainIssue, PlainWorld, of_cell, phase_among, is_edit_of, last_announcement, announcement, record_size, record_place}
+use Rattle.ds_state.specs.World.{PlainEdit, edit_of, PlainIssue, PlainWorld, of_cell, phase_among, is_edit_of, last_announcement, announcement, record_size, record_place, record_word}
 use Rattle.ds_state.specs.Known.{IsIn, Standing, outside, inside, safe, Announced, last, pending, ended, Known, known_at, AreBelow, IsSafe, StandsAs, IsRecorded, word_of}
 use Rattle.ds_state.specs.KnownWork.{IsAtRest}
 use Rattle.ds_state.specs.CallsFit.{CallFits, EditFits, MaySay, rank, IsWritten, IsInDoubt, DoubtFits}
@@ -23,7 +23,7 @@ use Rattle.ds_state.specs.declared.stage.Outcome.TheVariants as outcome
 use Rattle.ds_state.specs.declared.stage.Stage.{Stage}
 use Rattle.ds_state.specs.declared.stage.Stage.TheVariants as edits
 use Rattle.ds_state.specs.declared.situation.Situation.{Situation}
-use Rattle.ds_state.specs.declared.situation.Situation.TheVariants.{Idle, Stopped, Editing, Working, Recovering, Showing}
+use Rattle.ds_state.specs.declared.situation.Situation.TheVariants.{Idle, Stopped, Editing, Working, Recovering, Showing, Migrating}
 use Rattle.ds_state.proofs.Outcomes.{among}
 use Rattle.std.proofs.lemmas.Bool.{cases_eq}
 use Rattle.ds_state.specs.World.{IsHeadBy, head_after_all}
@@ -32,6 +32,9 @@ use Rattle.ds_state.proofs.Found.{gave_counts}
 use Rattle.ds_state.proofs.Losing.{leaves, last_greater, increasing_cell}
 use Rattle.ds_state.proofs.Crashing.{crash_stands}
 use Rattle.ds_state.proofs.Crashed.{was_counted, survivors_all, safe_left, crash_words, crash_of_sheet, crash_increasing}
+use Rattle.ds_layout.specs.declared.place.Edition.{Edition}
+use Rattle.ds_layout.specs.declared.place.Edition.TheVariants.{First}
+use Rattle.ds_state.specs.LayoutsFit.{LayoutFits}
 
 -- fewer edits tell no more
 filter_not : (keep : PlainEdit → Bool) (es : List PlainEdit) (p n : ℕ) → phase_among es p n ≡ phase.NotDone → phase_among (filter keep es) p n ≡ phase.NotDone
@@ -83,10 +86,22 @@ recorded_at parts refs (edits.BackRecord part) = inl refl
 recorded_at parts refs edits.StorePending = inl refl
 recorded_at parts refs _ = inr (omega arith, omega arith)
 
-pub written_all : (w : PlainWorld) (e : PlainEdit) (a : Announced) → IsRecorded w e (record_size e) (record_size e) → IsWritten w e a
-written_all w e last h = tt
-written_all w e pending h = h
-written_all w e (ended how) h = h
+-- of a whole record the header
+pub header_of_record : (w : PlainWorld) (edition : Edition) (e : PlainEdit) (size : ℕ) → 0 < size → IsRecorded w edition e size size → IsRecorded w First e 1 1
+header_of_record w edition e size some h = record { cached = at; persisted = at'; fewer = omega arith }
+  where
+    at : (k : ℕ) → k < 1 → w.memory.cached (record_place First e.process e.number k) ≡ record_word e k
+    at zero l = h.cached 0 some
+    at (suc k) l = absurd (omega arith)
+
+    at' : (k : ℕ) → k < 1 → w.memory.persisted (record_place First e.process e.number k) ≡ record_word e k
+    at' zero l = h.persisted 0 some
+    at' (suc k) l = absurd (omega arith)
+
+pub written_all : (w : PlainWorld) (edition : Edition) (e : PlainEdit) (a : Announced) → IsRecorded w edition e (record_size e) (record_size e) → IsWritten w e a
+written_all w edition e last h = tt
+written_all w edition e pending h = header_of_record w edition e (record_size e) (omega arith) h
+written_all w edition e (ended how) h = header_of_record w edition e (record_size e) (omega arith) h
 
 -- the side that is behind says no more
 pub written_before : (w : PlainWorld) (e : PlainEdit) (b a : Announced) → rank b ≤ rank a → IsWritten w e a → IsWritten w e b
@@ -223,8 +238,8 @@ module _ (old new : PlainWorld) (sound : IsSound old) (crash : CrashesTo old new
 
   written_left : (e : PlainEdit) (a : Announced) → IsWritten old e a → IsWritten new e a
   written_left e last h = tt
-  written_left e pending h = record { cached = λ k l. crash.memory.cached (record_place e.process e.number k) ∙ h.persisted k l; persisted = λ k l. crash.memory.persisted (record_place e.process e.number k) ∙ h.persisted k l; fewer = h.fewer }
-  written_left e (ended how) h = record { cached = λ k l. crash.memory.cached (record_place e.process e.number k) ∙ h.persisted k l; persisted = λ k l. crash.memory.persisted (record_place e.process e.number k) ∙ h.persisted k l; fewer = h.fewer }
+  written_left e pending h = record { cached = λ k l. crash.memory.cached (record_place First e.process e.number k) ∙ h.persisted k l; persisted = λ k l. crash.memory.persisted (record_place First e.process e.number k) ∙ h.persisted k l; fewer = h.fewer }
+  written_left e (ended how) h = record { cached = λ k l. crash.memory.cached (record_place First e.process e.number k) ∙ h.persisted k l; persisted = λ k l. crash.memory.persisted (record_place First e.process e.number k) ∙ h.persisted k l; fewer = h.fewer }
 
   in_doubt : (p : ℕ) (issue : PlainIssue) (s : Standing) (a : Announced) → issue.edit.process ≡ p → issue.edit.number < RECORDS → issue.edit.cell < cells_of old.layout → length issue.edit.text ≤ TEXT_MOST
       → StandsAs old issue.edit s → MaySay s a → old.memory.persisted (Announce p) ≡ word_of old issue.edit a → IsWritten old issue.edit a → IsInDoubt new p issue
@@ -260,13 +275,13 @@ module _ (old new : PlainWorld) (sound : IsSound old) (crash : CrashesTo old new
     says : Said known
     says = edit_says (text_parts e.text) (length e.refs) e.stage
 
-    whole : (known.stored ≡ text_parts e.text + 1) × (known.back ≡ text_parts e.text + 1) → IsRecorded old E (record_size E) (record_size E)
-    whole is = subst (λ (x : ℕ). IsRecorded old E x (record_size E)) is.0 (subst (λ (x : ℕ). IsRecorded old E known.stored x) is.1 h.knows.recorded)
+    whole : (known.stored ≡ text_parts e.text + 1) × (known.back ≡ text_parts e.text + 1) → IsRecorded old e.edition E (record_size E) (record_size E)
+    whole is = subst (λ (x : ℕ). IsRecorded old e.edition E x (record_size E)) is.0 (subst (λ (x : ℕ). IsRecorded old e.edition E known.stored x) is.1 h.knows.recorded)
 
     written : IsWritten old E known.now
     written = elim (recorded_at (text_parts e.text) (length e.refs) e.stage) [
       | inl none ↦ subst (λ (a : Announced). IsWritten old E a) (sym none) tt
-      | inr is ↦ written_all old E known.now (whole is)
+      | inr is ↦ written_all old e.edition E known.now (whole is)
     ]
 
     make : (a : Announced) → MaySay known.standing a → old.memory.persisted (Announce E.process) ≡ word_of old E a → IsWritten old E a → IsInDoubt new p (record { edit = E; since = h.since })
@@ -284,12 +299,13 @@ module _ (old new : PlainWorld) (sound : IsSound old) (crash : CrashesTo old new
       (in_doubt p issue k.standing k.before k.mine k.number k.cell k.text k.stands k.said_before k.persisted (written_before old issue.edit k.before k.now k.order k.written))
 
   stopped_left : (p : ℕ) (s : Situation) → CallFits old p s → DoubtFits new p (new.open_edits p)
-  stopped_left p (Idle next) h = through p next h.open_edits (record { number = h.number; open_edits = h.open_edits; below = h.below; cached = h.cached; persisted = h.persisted })
+  stopped_left p (Idle next) h = through p next.number h.open_edits (record { number = h.number; open_edits = h.open_edits; below = h.below; cached = h.cached; persisted = h.persisted })
   stopped_left p Stopped h = doubt_left p (old.open_edits p) refl h.doubt
   stopped_left p (Editing e) h = editing_left p e h
   stopped_left p (Working e) h = through p e.next (ap old.open_edits (sym h.mine) ∙ h.rest.open_edits) (subst (λ (q : ℕ). IsAtRest old q e.next) h.mine h.rest)
   stopped_left p (Recovering e) h = doubt_left p (old.open_edits p) refl h.doubt
   stopped_left p (Showing e) h = through p e.next (ap old.open_edits (sym h.1.mine) ∙ h.1.rest.open_edits) (subst (λ (q : ℕ). IsAtRest old q e.next) h.1.mine h.1.rest)
+  stopped_left p (Migrating e) h = doubt_left p (old.open_edits p) refl h.doubt
 
   pub crash_sound : IsSound new
   crash_sound = record {
@@ -300,5 +316,6 @@ module _ (old new : PlainWorld) (sound : IsSound old) (crash : CrashesTo old new
     });
     stand = crash_stands old new sound crash (leaves old new sound crash);
     of_sheet = crash_of_sheet old new sound crash;
+    layouts = λ p l. subst (λ (s : Situation). LayoutFits new p s) (sym (crash.situation p (rw (sym crash.layout) l))) tt;
     increasing = crash_increasing old new sound crash;
   }

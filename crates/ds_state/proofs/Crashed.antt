@@ -14,6 +14,10 @@ use Rattle.ds_state.specs.Sound.{IsSound, Increasing, IsOfSheet}
 use Rattle.ds_state.proofs.Heads.{Small, small_counted, small_of_cell, head_grows, by_cases}
 use Rattle.ds_state.proofs.Crashing.{Leaves}
 use Rattle.ds_state.proofs.Losing.{leaves, increasing_filter}
+use Rattle.ds_layout.specs.declared.place.Edition.{Edition}
+use Rattle.ds_layout.specs.declared.place.Edition.TheVariants.{First}
+use Rattle.ds_layout.specs.Places.{edition_of}
+use Rattle.ds_state.specs.Editions.{Shows}
 
 subset_of : (m : Memory Place) (es : List PlainEdit) (e : PlainEdit) → Contains (survivors m es) e → Contains es e
 unfolding survivors
@@ -70,9 +74,16 @@ module _ (old new : PlainWorld) (sound : IsSound old) (crash : CrashesTo old new
     }
   ]
 
+  -- what a side says after the crash, the persisted side said
+  crash_shown : (edition : Edition) → Shows new.memory edition → Shows old.memory edition
+  crash_shown edition now = elim now [
+    | inl seen ↦ inr (ap edition_of (sym (crash.memory.cached Version)) ∙ seen)
+    | inr kept ↦ inr (ap edition_of (sym (crash.memory.persisted Version)) ∙ kept)
+  ]
+
   -- both sides of a word are the persisted one
   word_left : (r : Place) → WordFits new r (old.memory.persisted r) (old.memory.persisted r)
-  word_left Version = tt
+  word_left Version = let h = sound.words Version in let b = h.behind in let k = h.most in record { behind = le_refl _; most = omega arith }
   word_left (Head c) = record { last = l.heads c; sides = inl refl }
   word_left (Mark c) = let h = (sound.words (Mark c)).persisted_holder in let b = (sound.words (Mark c)).behind in let f = (sound.words (Mark c)).few in record { behind = omega arith; few = omega arith; holder = λ q by. rw crash.layout (h q by); persisted_holder = λ q by. rw crash.layout (h q by) }
   word_left (Value c) = inl refl
@@ -87,7 +98,7 @@ module _ (old new : PlainWorld) (sound : IsSound old) (crash : CrashesTo old new
     on_persisted = λ n small is. kept_left q n ((sound.words (Announce q)).on_persisted n small is);
   }
   word_left (Header q n) = λ e there i j k. let both = (sound.words (Header q n)) e (was_counted e there) i j k in (both.1, both.1)
-  word_left (Text q n part) = λ e there i j k. let both = (sound.words (Text q n part)) e (was_counted e there) i j k in (both.1, both.1)
+  word_left (Text edition q n part) = λ now e there i j k. let both = (sound.words (Text edition q n part)) (crash_shown edition now) e (was_counted e there) i j k in (both.1, both.1)
   word_left (Done q part) = record {
     sides = IsSubset-same _;
     superseded = λ n its o. (sound.words (Done q part)).superseded n its (was_superseded q n o);
@@ -100,7 +111,7 @@ module _ (old new : PlainWorld) (sound : IsSound old) (crash : CrashesTo old new
 
   pub crash_of_sheet : All (λ e. IsOfSheet new e) new.counted
   crash_of_sheet = subst (λ (es : List PlainEdit). All (λ e. IsOfSheet new e) es) (sym crash.counted)
-      (survivors_all (λ e. IsOfSheet new e) old.memory old.counted (λ k d lt. let h = sound.of_sheet k d lt in record { process = rw crash.layout h.process; number = h.number; cell = rw crash.layout h.cell; text = h.text }))
+      (survivors_all (λ e. IsOfSheet new e) old.memory old.counted (λ k d lt. let h = sound.of_sheet k d lt in record { process = rw crash.layout h.process; number = h.number; cell = rw crash.layout h.cell; text = h.text; short = λ now. h.short (crash_shown First now) }))
 
   pub crash_increasing : Increasing new.counted
   crash_increasing = subst (λ (es : List PlainEdit). Increasing es) (sym crash.counted) (survivors_increase old.memory old.counted sound.increasing)

@@ -15,6 +15,9 @@ use Rattle.ds_state.specs.Shown.{last_text, named_at, text_at, HasRecord}
 use Rattle.ds_state.proofs.Heads.{head_push}
 use Rattle.ds_state.proofs.ReadBack.{record_read}
 use Rattle.ds_state.proofs.Few.{of_cell_few}
+use Rattle.ds_layout.specs.declared.place.Edition.{Edition}
+use Rattle.ds_layout.specs.declared.place.Edition.TheVariants.{First, Second}
+use Rattle.ds_state.specs.Editions.{seen_edition, most_in}
 
 last_push : (before : List PlainEdit) (e : PlainEdit) → last_text (before ++ e ∷ []) ≡ e.text
 last_push [] e = refl
@@ -31,16 +34,21 @@ last_cases (x ∷ es) = elim (last_cases es) [
 -- what is known of each edit that counts
 record Stands (w : PlainWorld) (e : PlainEdit) : Type 0 where
   of_sheet : IsOfSheet w e
-  words : (k : ℕ) → k < record_size e → w.memory.cached (record_place e.process e.number k) ≡ record_word e k
+  fits : length e.text ≤ most_in (seen_edition w.memory)
+  words : (k : ℕ) → k < record_size e → w.memory.cached (record_place (seen_edition w.memory) e.process e.number k) ≡ record_word e k
 
-words_stand : (w : PlainWorld) (e : PlainEdit) → IsSound w → Contains w.counted e → (k : ℕ) → k < record_size e → w.memory.cached (record_place e.process e.number k) ≡ record_word e k
+words_stand : (w : PlainWorld) (e : PlainEdit) → IsSound w → Contains w.counted e → (k : ℕ) → k < record_size e → w.memory.cached (record_place (seen_edition w.memory) e.process e.number k) ≡ record_word e k
 words_stand w e s there zero lt = (s.words (place.Header e.process e.number) e there refl refl lt).0
-words_stand w e s there (suc part) lt = (s.words (place.Text e.process e.number part) e there refl refl lt).0
+words_stand w e s there (suc part) lt = (s.words (place.Text (seen_edition w.memory) e.process e.number part) (inl refl) e there refl refl lt).0
+
+fits_seen : (w : PlainWorld) (e : PlainEdit) → IsOfSheet w e → (edition : Edition) → seen_edition w.memory ≡ edition → length e.text ≤ most_in edition
+fits_seen w e h First is = h.short (inl is)
+fits_seen w e h Second is = h.text.short
 
 all_stand : (w : PlainWorld) → IsSound w → All (λ e. Stands w e) w.counted
 all_stand w s = λ k d lt.
     let e : PlainEdit = get_or w.counted k d in
-    record { of_sheet = s.of_sheet k d lt; words = words_stand w e s (k, lt, get_or_default w.counted k e d lt) }
+    record { of_sheet = s.of_sheet k d lt; fits = fits_seen w e (s.of_sheet k d lt) (seen_edition w.memory) refl; words = words_stand w e s (k, lt, get_or_default w.counted k e d lt) }
 
 last_stands : (w : PlainWorld) (cell : ℕ) (before : List PlainEdit) (e : PlainEdit) → IsSound w → of_cell cell w.counted ≡ before ++ e ∷ [] → Stands w e
 unfolding of_cell
@@ -48,10 +56,10 @@ last_stands w cell before e s parts =
     let all : All (λ f. Stands w f) (before ++ e ∷ []) = subst (λ (es : List PlainEdit). All (λ f. Stands w f) es) parts (All-filter (λ f. f.cell == cell) (λ f. Stands w f) w.counted (all_stand w s)) in
     subst (λ (f : PlainEdit). Stands w f) (get_or-append_seam before e [] e) (all (length before) e (omega (arith, length-append before (e ∷ []))))
 
-record_stands : (w : PlainWorld) (e : PlainEdit) → Stands w e → HasRecord w.memory e.process e.number e.cell e.text
+record_stands : (w : PlainWorld) (e : PlainEdit) → Stands w e → HasRecord w.memory (seen_edition w.memory) e.process e.number e.cell e.text
 record_stands w e h = record {
   header = h.words 0 (omega arith);
-  parts = record { is = h.of_sheet.text; each = λ part lt. h.words (suc part) (omega arith) };
+  parts = record { is = h.of_sheet.text; fits = h.fits; each = λ part lt. h.words (suc part) (omega arith) };
 }
 
 no_head : (processes : ℕ) → head_of processes (head_after_all []) ≡ None
@@ -87,7 +95,7 @@ text_without_head w cell s none = elim (last_cases (of_cell cell w.counted)) [
 pub record HasText (w : PlainWorld) (process number : ℕ) (text : List ℕ) : Type 0 where
   pub cell : ℕ
   pub within : cell < cells_of w.layout
-  pub stands : HasRecord w.memory process number cell text
+  pub stands : HasRecord w.memory (seen_edition w.memory) process number cell text
 
 -- with one, the record that it names has the text of its last edit
 pub text_at_head : (w : PlainWorld) (cell : ℕ) (head : declared.Head) → IsSound w → head_of w.layout.processes (w.memory.cached (place.Head cell)) ≡ Some head
@@ -111,7 +119,7 @@ text_at_head w cell head s some = elim (last_cases (of_cell cell w.counted)) [
 -- what processes see of a cell's text is that of its last edit
 by_head : (w : PlainWorld) (cell : ℕ) → IsSound w → (found : Option declared.Head) → head_of w.layout.processes (w.memory.cached (place.Head cell)) ≡ found → named_at w.layout w.memory found ≡ last_text (of_cell cell w.counted)
 by_head w cell s None is = sym (text_without_head w cell s is)
-by_head w cell s (Some head) is = let h = text_at_head w cell head s is in record_read w.layout w.memory head.process head.number h.cell (last_text (of_cell cell w.counted)) h.within h.stands
+by_head w cell s (Some head) is = let h = text_at_head w cell head s is in record_read w.layout w.memory (seen_edition w.memory) head.process head.number h.cell (last_text (of_cell cell w.counted)) h.within h.stands
 
 pub text_right : (w : PlainWorld) (cell : ℕ) → IsSound w → text_at w.layout w.memory cell ≡ last_text (of_cell cell w.counted)
 text_right w cell s = by_head w cell s (head_of w.layout.processes (w.memory.cached (place.Head cell))) refl

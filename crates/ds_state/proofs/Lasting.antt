@@ -12,6 +12,8 @@ use Rattle.ds_state.specs.World.{PlainEdit, PlainWorld, record_place, done_place
 use Rattle.ds_state.specs.Known.{AreBelow, IsSafe, IsDone}
 use Rattle.ds_state.specs.Rely.{IsOwnedBy, Grows}
 use Rattle.ds_state.proofs.Heads.{of_cell-append, by_append}
+use Rattle.ds_layout.specs.declared.place.Edition.{Edition}
+use Rattle.ds_state.specs.Editions.{seen_edition}
 
 pub at_most : {a b c : ℕ} → a ≤ b → b ≤ c → a ≤ c
 at_most h k = omega arith
@@ -32,9 +34,9 @@ last_append xs ys p zero h = refl
 last_append xs ys p (suc n) h = ap (λ f. announcement n f) (phase_append xs ys p n h)
 
 -- a record's word is its process's own
-pub record_owned : (m : Memory Place) (p n k : ℕ) → IsOwnedBy m p (record_place p n k)
-record_owned m p n zero = refl
-record_owned m p n (suc k) = refl
+pub record_owned : (m : Memory Place) (edition : Edition) → seen_edition m ≡ edition → (p n k : ℕ) → IsOwnedBy m p (record_place edition p n k)
+record_owned m edition seen p n zero = refl
+record_owned m edition seen p n (suc k) = (refl, seen)
 
 module _ (q : ℕ) (but : Place) (old new : PlainWorld) (g : Grows q but old new) where
   pub below_stable : (n : ℕ) → AreBelow old q n → AreBelow new q n

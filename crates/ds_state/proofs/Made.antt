@@ -9,7 +9,7 @@ use Rattle.ds_layout.specs.Places.{cells_of}
 use Rattle.ds_state.specs.Reports.{no_reports}
 use Rattle.ds_state.specs.World.{PlainIssue}
 use Rattle.ds_state.specs.Fresh.{IsNew}
-use Rattle.ds_state.specs.Value.{WorldValue, world_of, IsReserved}
+use Rattle.ds_state.specs.Value.{WorldValue, first_rest, world_of, IsReserved}
 use Rattle.ds_state.specs.declared.situation.Situation.{Situation}
 use Rattle.ds_state.specs.declared.situation.Situation.TheVariants.{Idle}
 use Rattle.ds_state.proofs.New.{new_sound}
@@ -25,12 +25,12 @@ all_same (suc n) (suc q) x = all_same n q x
 
 -- of these parts
 abbrev pub made : SheetValue → ℕ → WorldValue
-made sheet processes = record { sheet = sheet; situations = replicate processes (Idle 0); counted = []; open_edits = replicate processes None; done = 0; settled = 0; reports = no_reports processes (cells_of sheet.layout) }
+made sheet processes = record { sheet = sheet; situations = replicate processes (Idle first_rest); counted = []; open_edits = replicate processes None; done = 0; settled = 0; reports = no_reports processes (cells_of sheet.layout) }
 
 pub made_new : (sheet : SheetValue) (processes : ℕ) → IsFresh (memory sheet) → IsNew (world_of (made sheet processes))
 made_new sheet processes fresh = record {
   memory = fresh;
-  situation = λ p. all_same processes p (Idle 0);
+  situation = λ p. all_same processes p (Idle first_rest);
   counted = refl;
   open_edits = λ p. all_same {X = Option PlainIssue} processes p None;
 }
@@ -39,11 +39,11 @@ pub made_kept : (sheet : SheetValue) (processes room : ℕ) → IsFresh (memory 
 made_kept sheet processes room fresh same enough = record {
   good = record {
     sound = new_sound (world_of (made sheet processes)) (made_new sheet processes fresh);
-    situations = length-replicate processes (Idle 0) ∙ sym same;
+    situations = length-replicate processes (Idle first_rest) ∙ sym same;
     open_edits = length-replicate {A = Option PlainIssue} processes None ∙ sym same;
     answered = record { closed = []; as_many = refl; once = tt; count = λ e inside. inside; answered = λ e issue inside at is. absurd (let l = inside.1 in omega arith) };
     reports = record { cells = refl; processes = length-replicate {A = List Value} processes [] ∙ sym same };
-    counts = (let none = none_idle processes 0 in omega arith);
+    counts = (let none = none_idle processes first_rest in omega arith);
   };
   reserved = subst (λ (n : ℕ). n * RECORDS ≤ room) (sym same) enough;
 }

@@ -25,6 +25,8 @@ use Rattle.ds_state.specs.CallsFit.{CallFits}
 use Rattle.ds_state.specs.Fresh.{IsNew}
 use Rattle.ds_state.specs.Sound.{IsSound, IsOfSheet, Increasing}
 use Rattle.ds_state.specs.declared.situation.Situation.{Situation}
+use Rattle.ds_layout.specs.Places.{edition_of}
+use Rattle.ds_state.specs.LayoutsFit.{LayoutFits}
 
 no_head : (cell : ℕ) (edits : List PlainEdit) → edits ≡ [] → head_after_all (of_cell cell edits) ≡ 0
 unfolding head_after_all of_cell
@@ -50,7 +52,7 @@ nothing_counts : (w : PlainWorld) (e : PlainEdit) → w.counted ≡ [] → Conta
 nothing_counts w e z h = All-contains (λ f. ⊥) w.counted e (none_in (λ f. ⊥) w.counted z) h
 
 new_word : (w : PlainWorld) → w.counted ≡ [] → (r : Place) (c p : ℕ) → c ≡ 0 → p ≡ 0 → WordFits w r c p
-new_word w z Version c p a b = tt
+new_word w z Version c p a b = record { behind = omega arith; most = omega arith }
 new_word w z (Head cell) c p a b = record { last = a ∙ sym (no_head cell w.counted z); sides = inl (b ∙ sym a) }
 new_word w z (Mark cell) c p a b = record { behind = omega arith; few = omega arith; holder = λ q by. absurd (omega arith); persisted_holder = λ q by. absurd (omega arith) }
 new_word w z (Value cell) c p a b = inl (b ∙ sym a)
@@ -58,7 +60,7 @@ new_word w z (Kind cell) c p a b = inl (b ∙ sym a)
 new_word w z (Index row part) c p a b = record { sides = no_bits p c b; counted = λ e h k r. absurd (nothing_counts w e z h) }
 new_word w z (Announce q) c p a b = record { sides = omega arith; on_cached = λ n small is. absurd (omega arith); on_persisted = λ n small is. absurd (omega arith) }
 new_word w z (Header q n) c p a b = λ e h i j k. absurd (nothing_counts w e z h)
-new_word w z (Text q n part) c p a b = λ e h i j k. absurd (nothing_counts w e z h)
+new_word w z (Text edition q n part) c p a b = λ now e h i j k. absurd (nothing_counts w e z h)
 new_word w z (Done q part) c p a b = record {
   sides = no_bits p c b;
   superseded = λ n e o. absurd (none_superseded w q n z o);
@@ -101,5 +103,6 @@ new_sound w is =
         persisted = fresh.persisted (Announce p);
       });
       of_sheet = none_in (λ e. IsOfSheet w e) w.counted is.counted;
+      layouts = λ p l. subst (λ (s : Situation). LayoutFits w p s) (sym (is.situation p)) (record { cached = ap edition_of (fresh.cached Version); persisted = ap edition_of (fresh.persisted Version) });
       increasing = subst Increasing (sym is.counted) tt;
     }

@@ -15,7 +15,7 @@ use Rattle.ds_state.specs.Shown.{IsQuiet, values_shown}
 use Rattle.ds_state.specs.CallsFit.{CallFits, DoubtFits}
 use Rattle.ds_state.specs.KnownShow.{pends, is_clean, IsPendingWord, moment_of, AreScratch, IsRight, IsStill}
 use Rattle.ds_state.specs.declared.situation.Situation.{Situation}
-use Rattle.ds_state.specs.declared.situation.Situation.TheVariants.{Idle, Stopped, Editing, Working, Recovering, Showing}
+use Rattle.ds_state.specs.declared.situation.Situation.TheVariants.{Idle, Stopped, Editing, Working, Recovering, Showing, Migrating}
 use Rattle.ds_state.specs.Sound.{IsSound}
 use Rattle.ds_state.proofs.CleanRead.{clean_read}
 use Rattle.ds_state.proofs.StillRight.{still_right}
@@ -39,12 +39,13 @@ not_pending es p (suc n) l is = elim (ended es p n) [
     reads f over same = ap (λ (x : Phase). pends (announcement_of (announcement n x))) same ∙ ap pends (announcement_of-announcement_word (record { number = n; phase = f }) (omega arith)) ∙ over
 
 says : (w : PlainWorld) (p : ℕ) (s : Situation) → w.open_edits p ≡ None → CallFits w p s → (next : ℕ) × (next ≤ RECORDS) × (w.memory.cached (Announce p) ≡ last_announcement w.counted p next)
-says w p (Idle next) none h = (next, h.number, h.cached)
+says w p (Idle next) none h = (next.number, h.number, h.cached)
 says w p Stopped none h = let t = subst (λ (o : Option PlainIssue). DoubtFits w p o) none h.doubt in (t.next, t.rest.number, t.rest.cached)
 says w p (Editing e) none h = absurd (let e : None ≡ Some (record { edit = edit_of e; since = h.since }) = sym none ∙ h.open_edits in cc)
 says w p (Working e) none h = (e.next, h.rest.number, subst (λ (q : ℕ). w.memory.cached (Announce q) ≡ last_announcement w.counted q e.next) h.mine h.rest.cached)
 says w p (Recovering e) none h = let t = subst (λ (o : Option PlainIssue). DoubtFits w p o) none h.doubt in (t.next, t.rest.number, t.rest.cached)
 says w p (Showing e) none h = (e.next, h.1.rest.number, subst (λ (q : ℕ). w.memory.cached (Announce q) ≡ last_announcement w.counted q e.next) h.1.mine h.1.rest.cached)
+says w p (Migrating e) none h = let t = subst (λ (o : Option PlainIssue). DoubtFits w p o) none h.doubt in (t.next, t.rest.number, t.rest.cached)
 
 pub quiet_still : (w : PlainWorld) → IsSound w → IsQuiet w → IsStill w.layout (moment_of w)
 quiet_still w sound quiet = record {

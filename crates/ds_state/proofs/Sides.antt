@@ -17,7 +17,7 @@ use Rattle.ds_state.proofs.Frames.{MovesWord}
 
 -- what the persisted side v may become beside the cached side c
 abbrev pub IsBetween : Layout → Place → ℕ → ℕ → ℕ → Type 0
-IsBetween layout Version c v v' = Unit {0}
+IsBetween layout Version c v v' = (v' ≡ v) ⊎ (v' ≡ c)
 IsBetween layout (Head cell) c v v' = (v' ≡ v) ⊎ (v' ≡ c)
 IsBetween layout (Mark cell) c v v' = (v ≤ v') × (v' ≤ c) × IsMark layout cell v'
 IsBetween layout (Value cell) c v v' = (v' ≡ v) ⊎ (v' ≡ c)
@@ -25,12 +25,12 @@ IsBetween layout (Kind cell) c v v' = (v' ≡ v) ⊎ (v' ≡ c)
 IsBetween layout (Index row part) c v v' = IsSubset v v' × IsSubset v' c
 IsBetween layout (Announce q) c v v' = (v' ≡ v) ⊎ (v' ≡ c)
 IsBetween layout (Header q n) c v v' = (v' ≡ v) ⊎ (v' ≡ c)
-IsBetween layout (Text q n part) c v v' = (v' ≡ v) ⊎ (v' ≡ c)
+IsBetween layout (Text edition q n part) c v v' = (v' ≡ v) ⊎ (v' ≡ c)
 IsBetween layout (Done q part) c v v' = IsSubset v v' × IsSubset v' c
 
 -- the value of a buffer's entry that may be written back
 abbrev pub EntryFits : PlainWorld → Place → ℕ → ℕ → Type 0
-EntryFits w Version c value = Unit {0}
+EntryFits w Version c value = value ≡ c
 EntryFits w (Head cell) c value = (e : PlainEdit) × IsHeadBy (of_cell cell w.counted) value e
 EntryFits w (Mark cell) c value = (value ≤ c) × IsMark w.layout cell value
 EntryFits w (Value cell) c value = value ≡ c
@@ -38,7 +38,7 @@ EntryFits w (Kind cell) c value = value ≡ c
 EntryFits w (Index row part) c value = IsSubset value c
 EntryFits w (Announce q) c value = value ≡ c
 EntryFits w (Header q n) c value = value ≡ c
-EntryFits w (Text q n part) c value = value ≡ c
+EntryFits w (Text edition q n part) c value = value ≡ c
 EntryFits w (Done q part) c value = IsSubset value c
 
 max_cases : (a b : ℕ) → (max a b ≡ a) ⊎ (max a b ≡ b)
@@ -50,7 +50,7 @@ newer_mark w cell v value h k = elim (max_cases v value) [ inl e ↦ subst (λ (
 module _ (w : PlainWorld) (small : Small w.counted) where
   -- a write-back
   pub newer_between : (r : Place) (c v value : ℕ) → WordFits w r c v → EntryFits w r c value → IsBetween w.layout r c v (newer (class_of r) v value)
-  newer_between Version c v value h e = tt
+  newer_between Version c v value h e = inr (let b = h.behind in grind arith)
   newer_between (Head cell) c v value h e = written_back w (of_cell cell w.counted) c v value e.0 (small_of_cell cell w.counted small) h.last h.sides e.1
   newer_between (Mark cell) c v value h e = let b = h.behind in let l = e.0 in (omega arith, omega arith, newer_mark w cell v value h.persisted_holder e.1)
   newer_between (Value cell) c v value h e = inr e
@@ -58,12 +58,12 @@ module _ (w : PlainWorld) (small : Small w.counted) where
   newer_between (Index row part) c v value h e = (IsSubset-or_left v value, IsSubset-or_both v value c h.sides e)
   newer_between (Announce q) c v value h e = inr e
   newer_between (Header q n) c v value h e = inr e
-  newer_between (Text q n part) c v value h e = inr e
+  newer_between (Text edition q n part) c v value h e = inr e
   newer_between (Done q part) c v value h e = (IsSubset-or_left v value, IsSubset-or_both v value c h.sides e)
 
   -- an eviction
   pub cached_between : (r : Place) (c v : ℕ) → WordFits w r c v → IsBetween w.layout r c v c
-  cached_between Version c v h = tt
+  cached_between Version c v h = inr refl
   cached_between (Head cell) c v h = inr refl
   cached_between (Mark cell) c v h = (h.behind, omega arith, h.holder)
   cached_between (Value cell) c v h = inr refl
@@ -71,7 +71,7 @@ module _ (w : PlainWorld) (small : Small w.counted) where
   cached_between (Index row part) c v h = (h.sides, IsSubset-same c)
   cached_between (Announce q) c v h = inr refl
   cached_between (Header q n) c v h = inr refl
-  cached_between (Text q n part) c v h = inr refl
+  cached_between (Text edition q n part) c v h = inr refl
   cached_between (Done q part) c v h = (h.sides, IsSubset-same c)
 
   pub between_moves : (m : Memory Place) (p : ℕ) (r : Place) (c v v' : ℕ) → WordFits w r c v → IsBetween w.layout r c v v' → MovesWord m p r c v c v'
@@ -88,11 +88,11 @@ module _ (w : PlainWorld) (small : Small w.counted) where
   between_moves m p (Index row part) c v v' h b = (IsSubset-same c, b.0)
   between_moves m p (Announce q) c v v' h b = (omega arith, (let l = h.sides in elim b [ inl same ↦ omega arith | inr now ↦ omega arith ]), inr (refl, b))
   between_moves m p (Header q n) c v v' h b = inr (refl, b)
-  between_moves m p (Text q n part) c v v' h b = inr (refl, b)
+  between_moves m p (Text edition q n part) c v v' h b = inr (inl (refl, b))
   between_moves m p (Done q part) c v v' h b = (IsSubset-same c, b.0)
 
 pub between_fits : (w : PlainWorld) (r : Place) (c v v' : ℕ) → WordFits w r c v → IsBetween w.layout r c v v' → WordFits w r c v'
-between_fits w Version c v v' h b = tt
+between_fits w Version c v v' h b = record { behind = (let k = h.behind in elim b [ inl same ↦ omega arith | inr now ↦ omega arith ]); most = h.most }
 between_fits w (Head cell) c v v' h b = elim b [
   | inl same ↦ rw same h
   | inr now ↦ record { last = h.last; sides = inl now }
@@ -110,7 +110,7 @@ between_fits w (Announce q) c v v' h b = record {
   on_persisted = λ n small is. elim b [ inl same ↦ h.on_persisted n small (sym same ∙ is) | inr now ↦ h.on_cached n small (sym now ∙ is) ];
 }
 between_fits w (Header q n) c v v' h b = λ e there i j k. let both = h e there i j k in (both.0, elim b [ inl same ↦ same ∙ both.1 | inr now ↦ now ∙ both.0 ])
-between_fits w (Text q n part) c v v' h b = λ e there i j k. let both = h e there i j k in (both.0, elim b [ inl same ↦ same ∙ both.1 | inr now ↦ now ∙ both.0 ])
+between_fits w (Text edition q n part) c v v' h b = λ shown e there i j k. let both = h shown e there i j k in (both.0, elim b [ inl same ↦ same ∙ both.1 | inr now ↦ now ∙ both.0 ])
 between_fits w (Done q part) c v v' h b = record {
   sides = b.1;
   superseded = λ n its o. HasBit-subset v v' n b.0 (h.superseded n its o);

@@ -43,8 +43,8 @@ module _ (w : PlainWorld) (e : PlainEditCall) (sound : IsSound w) (low : e.proce
   fits : EditFits w e.process e
   fits = subst (λ (x : Situation). CallFits w e.process x) at (sound.calls e.process low)
 
-  knows : (s : Stage) → e.stage ≡ s → Knowing w (edit_of e) e.refs fits.since (known_at (text_parts e.text) (length e.refs) s)
-  knows s is = subst (λ (x : Stage). Knowing w (edit_of e) e.refs fits.since (known_at (text_parts e.text) (length e.refs) x)) is fits.knows
+  knows : (s : Stage) → e.stage ≡ s → Knowing w e.edition (edit_of e) e.refs fits.since (known_at (text_parts e.text) (length e.refs) s)
+  knows s is = subst (λ (x : Stage). Knowing w e.edition (edit_of e) e.refs fits.since (known_at (text_parts e.text) (length e.refs) x)) is fits.knows
 
   -- an edit that may count next has announced that it is pending, on both sides
   pub swap_unspent : (head n : ℕ) → e.stage ≡ Swap head → IsSpent w e.process n → n < e.number

@@ -2,22 +2,30 @@
 use Rattle.std.proofs.Common.{ℕ, ◌≡◌, ◌≢◌, ◌+◌, List, [], ◌∷◌, refl, ap, sym, ◌∙◌, subst, arith, length, inl, inr, Some, None, zero, suc}
 use Rattle.std.specs.Prelude.{Option}
 use Rattle.ds_layout.specs.declared.place.Place.{Place}
-use Rattle.ds_layout.specs.declared.place.Place.TheVariants.{Version, Announce}
+use Rattle.ds_layout.specs.declared.place.Place.TheVariants.{Version, Announce, Header}
 use Rattle.ds_layout.proofs.OrBits.{HasBit-subset, IsSubset-both}
 use Rattle.ds_state.specs.Edits.{PlainEditCall, text_parts}
-use Rattle.ds_state.specs.World.{PlainEdit, PlainIssue, edit_of, PlainWorld, record_size, record_place, done_place, head_after_all}
+use Rattle.ds_state.specs.World.{PlainEdit, PlainIssue, edit_of, PlainWorld, record_word, record_place, done_place, head_after_all}
 use Rattle.ds_state.specs.Known.{Standing, outside, inside, safe, Announced, last, pending, ended, Noted, nothing, head_noted, head_back, bit_set, bit_back, came_late, Known, known_at, StandsAs, IsRecorded, word_of, IsAnnounced, row_of, IsIndexedTo, IsOred, IsWhen, IsNoted, Knows, Knowing}
 use Rattle.ds_state.specs.Owing.{entry}
-use Rattle.ds_state.specs.CallsFit.{Held, empty, record_words, announcing_word, row_bits, done_bits, head_from, mark, held_at, Holds, CallFits, IsSheetOf, HasRefs, DoubtFits, IsWritten}
+use Rattle.ds_state.specs.CallsFit.{Held, empty, record_words, announcing_word, row_bits, done_bits, head_from, mark, held_at, Holds, CallFits, IsSheetOf, HasRefs, DoubtFits, IsWritten, MigrationHolds}
 use Rattle.ds_state.specs.KnownWork.{IsAtRest}
 use Rattle.ds_state.specs.Rely.{Grows, Rely}
 use Rattle.ds_state.specs.declared.situation.Situation.{Situation}
-use Rattle.ds_state.specs.declared.situation.Situation.TheVariants.{Idle, Stopped, Editing, Working, Recovering, Showing}
+use Rattle.ds_state.specs.declared.situation.Situation.TheVariants.{Idle, Stopped, Editing, Working, Recovering, Showing, Migrating}
 use Rattle.ds_state.proofs.Lasting.{at_most, record_owned, below_stable, by_stable, last_stable, when_stable, longer, safe_stable, done_stable}
 use Rattle.ds_state.specs.KnownRecovery.{freed_at, resolved_at, recovery_held}
 use Rattle.ds_state.proofs.StableRecovery.{freed_stable, resolved_stable, held_stable, own_words}
 use Rattle.ds_state.proofs.StableWork.{work_stable}
 use Rattle.ds_state.proofs.StableShow.{show_stable}
+use Rattle.ds_layout.specs.declared.place.Edition.{Edition}
+use Rattle.ds_layout.specs.declared.place.Edition.TheVariants.{First}
+use Rattle.ds_state.specs.Editions.{seen_edition}
+use Rattle.ds_state.specs.LayoutsFit.{LayoutFits}
+use Rattle.ds_state.specs.Works.{PlainMigrateCall}
+use Rattle.ds_state.specs.declared.work.MigrateStage.{MigrateStage}
+use Rattle.ds_state.specs.declared.work.MigrateStage.TheVariants.{LoadVersion, LoadOld, StoreNew, FlushNew, BackNew, Swap, FlushVersion, BackVersion, Answer}
+use Rattle.std.specs.Prelude.{◌<◌}
 
 module _ (but : Place) (old new : PlainWorld) (e : PlainEdit) (g : Grows e.process but old new) where
   pub standing_stable : (s : Standing) → StandsAs old e s → StandsAs new e s
@@ -31,10 +39,10 @@ module _ (but : Place) (old new : PlainWorld) (e : PlainEdit) (g : Grows e.proce
     safe = safe_stable e.process but old new g e h.safe;
   }
 
-  pub recorded_stable : ((k : ℕ) → record_place e.process e.number k ≢ but) → (stored back : ℕ) → IsRecorded old e stored back → IsRecorded new e stored back
-  recorded_stable apart stored back h = record {
-    cached = λ k l. g.owned_cached (record_place e.process e.number k) (record_owned old.memory e.process e.number k) (apart k) ∙ h.cached k l;
-    persisted = λ k l. elim (g.owned_persisted (record_place e.process e.number k) (record_owned old.memory e.process e.number k) (apart k)) [
+  pub recorded_stable : (edition : Edition) → seen_edition old.memory ≡ edition → ((k : ℕ) → record_place edition e.process e.number k ≢ but) → (stored back : ℕ) → IsRecorded old edition e stored back → IsRecorded new edition e stored back
+  recorded_stable edition seen apart stored back h = record {
+    cached = λ k l. g.owned_cached (record_place edition e.process e.number k) (record_owned old.memory edition seen e.process e.number k) (apart k) ∙ h.cached k l;
+    persisted = λ k l. elim (g.owned_persisted (record_place edition e.process e.number k) (record_owned old.memory edition seen e.process e.number k) (apart k)) [
       | inl same ↦ same ∙ h.persisted k l
       | inr now ↦ (let f = h.fewer in now ∙ h.cached k (omega arith))
     ];
@@ -105,24 +113,24 @@ module _ (but : Place) (old new : PlainWorld) (e : PlainEdit) (g : Grows e.proce
     head = by_stable e.process but old new g e.cell seen h.by h.head;
   }
 
-  pub knowing_stable : ((k : ℕ) → record_place e.process e.number k ≢ but) → Announce e.process ≢ but → (refs : List ℕ) (since : ℕ) (k : Known) → Knowing old e refs since k → Knowing new e refs since k
-  knowing_stable apart apart' refs since k h = record {
+  pub knowing_stable : (edition : Edition) → seen_edition old.memory ≡ edition → ((k : ℕ) → record_place edition e.process e.number k ≢ but) → Announce e.process ≢ but → (refs : List ℕ) (since : ℕ) (k : Known) → Knowing old edition e refs since k → Knowing new edition e refs since k
+  knowing_stable edition seen apart apart' refs since k h = record {
     standing = standing_stable k.standing h.standing;
-    recorded = recorded_stable apart k.stored k.back h.recorded;
+    recorded = recorded_stable edition seen apart k.stored k.back h.recorded;
     announced = announced_stable apart' k.before k.now h.announced;
     indexed = indexed_stable refs k.indexed h.indexed;
     ored = ored_stable refs k.ored h.ored;
     head = head_stable since k.head h.head;
   }
 
-  pub holds_stable : new.memory.buffer e.process ≡ old.memory.buffer e.process → (held : Held) → Holds old e held → Holds new e held
-  holds_stable same empty h = same ∙ h
-  holds_stable same (record_words first count) h = same ∙ h
-  holds_stable same (announcing_word a) h = same ∙ h ∙ ap (λ (v : ℕ). entry (Announce e.process) v ∷ []) (sym (word_stable a))
-  holds_stable same (row_bits row) h = record { value = h.value; alone = same ∙ h.alone; is = record { has = h.is.has; subset = IsSubset-both _ _ _ h.is.subset (g.index_cached _ _) } }
-  holds_stable same (done_bits p n) h = record { value = h.value; alone = same ∙ h.alone; is = record { has = h.is.has; subset = IsSubset-both _ _ _ h.is.subset (g.done_cached _ _) } }
-  holds_stable same (head_from least) h = record { value = h.value; alone = same ∙ h.alone; is = record { enough = h.is.enough; by = h.is.by; head = by_stable e.process but old new g e.cell h.value h.is.by h.is.head } }
-  holds_stable same mark h = record { value = h.value; alone = same ∙ h.alone; is = (at_most h.is.0 (g.marks_cached e.cell), λ q by. rw g.layout (h.is.1 q by)) }
+  pub holds_stable : new.memory.buffer e.process ≡ old.memory.buffer e.process → (edition : Edition) (held : Held) → Holds old edition e held → Holds new edition e held
+  holds_stable same edition empty h = same ∙ h
+  holds_stable same edition (record_words first count) h = same ∙ h
+  holds_stable same edition (announcing_word a) h = same ∙ h ∙ ap (λ (v : ℕ). entry (Announce e.process) v ∷ []) (sym (word_stable a))
+  holds_stable same edition (row_bits row) h = record { value = h.value; alone = same ∙ h.alone; is = record { has = h.is.has; subset = IsSubset-both _ _ _ h.is.subset (g.index_cached _ _) } }
+  holds_stable same edition (done_bits p n) h = record { value = h.value; alone = same ∙ h.alone; is = record { has = h.is.has; subset = IsSubset-both _ _ _ h.is.subset (g.done_cached _ _) } }
+  holds_stable same edition (head_from least) h = record { value = h.value; alone = same ∙ h.alone; is = record { enough = h.is.enough; by = h.is.by; head = by_stable e.process but old new g e.cell h.value h.is.by h.is.head } }
+  holds_stable same edition mark h = record { value = h.value; alone = same ∙ h.alone; is = (at_most h.is.0 (g.marks_cached e.cell), λ q by. rw g.layout (h.is.1 q by)) }
 
 Grows_at : (p q : ℕ) (but : Place) (old new : PlainWorld) → p ≡ q → Grows p but old new → Grows q but old new
 Grows_at p q but old new same g = subst (λ (x : ℕ). Grows x but old new) same g
@@ -134,17 +142,36 @@ pub refs_stable : (old new : PlainWorld) (e : PlainEditCall) → new.layout ≡ 
 refs_stable old new e same h = rw same h
 
 -- no word of a process is the version's
-pub record_no_version : (p n k : ℕ) → record_place p n k ≢ Version
-record_no_version p n zero = λ same. cc
-record_no_version p n (suc k) = λ same. cc
+pub record_no_version : (edition : Edition) (p n k : ℕ) → record_place edition p n k ≢ Version
+record_no_version edition p n zero = λ same. cc
+record_no_version edition p n (suc k) = λ same. cc
 
-pub written_stable : (but : Place) (old new : PlainWorld) (e : PlainEdit) → Grows e.process but old new → ((k : ℕ) → record_place e.process e.number k ≢ but) → (a : Announced) → IsWritten old e a → IsWritten new e a
+-- the header of a record
+header_stable : (but : Place) (old new : PlainWorld) (e : PlainEdit) → Grows e.process but old new → Header e.process e.number ≢ but → IsRecorded old First e 1 1 → IsRecorded new First e 1 1
+header_stable but old new e g apart h = record {
+  cached = λ k l. at k l (cached_same k l);
+  persisted = λ k l. at' k l;
+  fewer = h.fewer;
+}
+  where
+    cached_same : (k : ℕ) → k < 1 → new.memory.cached (Header e.process e.number) ≡ old.memory.cached (Header e.process e.number)
+    cached_same k l = g.owned_cached (Header e.process e.number) refl apart
+
+    at : (k : ℕ) → k < 1 → new.memory.cached (Header e.process e.number) ≡ old.memory.cached (Header e.process e.number) → new.memory.cached (record_place First e.process e.number k) ≡ record_word e k
+    at zero l same = same ∙ h.cached 0 l
+    at (suc k) l same = absurd (omega arith)
+
+    at' : (k : ℕ) → k < 1 → new.memory.persisted (record_place First e.process e.number k) ≡ record_word e k
+    at' zero l = elim (g.owned_persisted (Header e.process e.number) refl apart) [ inl same ↦ same ∙ h.persisted 0 l | inr now ↦ now ∙ h.cached 0 l ]
+    at' (suc k) l = absurd (omega arith)
+
+pub written_stable : (but : Place) (old new : PlainWorld) (e : PlainEdit) → Grows e.process but old new → Header e.process e.number ≢ but → (a : Announced) → IsWritten old e a → IsWritten new e a
 written_stable but old new e g apart last h = tt
-written_stable but old new e g apart pending h = recorded_stable but old new e g apart (record_size e) (record_size e) h
-written_stable but old new e g apart (ended how) h = recorded_stable but old new e g apart (record_size e) (record_size e) h
+written_stable but old new e g apart pending h = header_stable but old new e g apart h
+written_stable but old new e g apart (ended how) h = header_stable but old new e g apart h
 
 -- how a process's last edit ended, or is in doubt, stays where its announcement and its records do
-pub doubt_grows : (but : Place) (old new : PlainWorld) (q : ℕ) → Grows q but old new → new.open_edits q ≡ old.open_edits q → Announce q ≢ but → ((n k : ℕ) → record_place q n k ≢ but)
+pub doubt_grows : (but : Place) (old new : PlainWorld) (q : ℕ) → Grows q but old new → new.open_edits q ≡ old.open_edits q → Announce q ≢ but → ((n : ℕ) → Header q n ≢ but)
     → (o : Option PlainIssue) → DoubtFits old q o → DoubtFits new q o
 doubt_grows but old new q g pends announce record' None h = record { next = h.next; rest = rest_at h.next h.rest }
   where
@@ -162,7 +189,7 @@ doubt_grows but old new q g pends announce record' None h = record { next = h.ne
 doubt_grows but old new q g' pends announce record' (Some issue) h =
     let e : PlainEdit = issue.edit in
     let g : Grows e.process but old new = Grows_at q e.process but old new (sym h.mine) g' in
-    let apart : (k : ℕ) → record_place e.process e.number k ≢ but = subst (λ (x : ℕ). (k : ℕ) → record_place x e.number k ≢ but) (sym h.mine) (record' e.number) in
+    let apart : Header e.process e.number ≢ but = subst (λ (x : ℕ). Header x e.number ≢ but) (sym h.mine) (record' e.number) in
     let cached' : new.memory.cached (Announce q) ≡ word_of new e h.now = g'.owned_cached (Announce q) refl announce ∙ h.cached ∙ sym (word_stable but old new e g h.now) in
     elim (g'.owned_persisted (Announce q) refl announce) [
       | inl same ↦ record {
@@ -200,26 +227,37 @@ doubt_grows but old new q g' pends announce record' (Some issue) h =
     ]
 
 doubt_stable : (old new : PlainWorld) (q : ℕ) → Rely q old new → (o : Option PlainIssue) → DoubtFits old q o → DoubtFits new q o
-doubt_stable old new q r o h = doubt_grows Version old new q (r.grows Version) r.open_edits (λ same. cc) (λ n k. record_no_version q n k) o h
+doubt_stable old new q r o h = doubt_grows Version old new q (r.grows Version) r.open_edits (λ same. cc) (λ n same. cc) o h
+
+migration_stable : (old new : PlainWorld) (q : ℕ) (e : PlainMigrateCall) (s : MigrateStage) → new.memory.buffer q ≡ old.memory.buffer q → MigrationHolds old q e s → MigrationHolds new q e s
+migration_stable old new q e (BackNew at) same h = same ∙ h
+migration_stable old new q e (BackVersion how) same h = same ∙ h
+migration_stable old new q e LoadVersion same h = same ∙ h
+migration_stable old new q e (LoadOld at) same h = same ∙ h
+migration_stable old new q e (StoreNew at) same h = same ∙ h
+migration_stable old new q e (FlushNew at) same h = same ∙ h
+migration_stable old new q e Swap same h = same ∙ h
+migration_stable old new q e (FlushVersion how) same h = same ∙ h
+migration_stable old new q e (Answer how) same h = same ∙ h
 
 -- what a call knows stays while another process steps
-pub call_stable : (old new : PlainWorld) (q : ℕ) (s : Situation) → Rely q old new → CallFits old q s → CallFits new q s
-call_stable old new q (Idle next) r h =
+pub call_stable : (old new : PlainWorld) (q : ℕ) (s : Situation) → Rely q old new → LayoutFits old q s → CallFits old q s → CallFits new q s
+call_stable old new q (Idle next) r l h =
     let g = r.grows Version in
     record {
       number = h.number;
       holds_none = λ x by. h.holds_none x ((g.holds x (λ same. cc)).came by);
       open_edits = r.open_edits ∙ h.open_edits;
       buffer = r.buffer ∙ h.buffer;
-      below = below_stable q Version old new g next h.below;
-      cached = g.owned_cached (Announce q) refl (λ same. cc) ∙ h.cached ∙ sym (last_stable q Version old new g next);
+      below = below_stable q Version old new g next.number h.below;
+      cached = g.owned_cached (Announce q) refl (λ same. cc) ∙ h.cached ∙ sym (last_stable q Version old new g next.number);
       persisted = elim (g.owned_persisted (Announce q) refl (λ same. cc)) [
-        | inl same ↦ same ∙ h.persisted ∙ sym (last_stable q Version old new g next)
-        | inr caught ↦ caught ∙ h.cached ∙ sym (last_stable q Version old new g next)
+        | inl same ↦ same ∙ h.persisted ∙ sym (last_stable q Version old new g next.number)
+        | inr caught ↦ caught ∙ h.cached ∙ sym (last_stable q Version old new g next.number)
       ];
     }
-call_stable old new q Stopped r h = record { buffer = r.buffer ∙ h.buffer; doubt = subst (λ (o : Option PlainIssue). DoubtFits new q o) (sym r.open_edits) (doubt_stable old new q r (old.open_edits q) h.doubt) }
-call_stable old new q (Editing e) r h =
+call_stable old new q Stopped r l h = record { buffer = r.buffer ∙ h.buffer; doubt = subst (λ (o : Option PlainIssue). DoubtFits new q o) (sym r.open_edits) (doubt_stable old new q r (old.open_edits q) h.doubt) }
+call_stable old new q (Editing e) r fit h =
     let g : Grows e.process Version old new = Grows_at q e.process Version old new (sym h.mine) (r.grows Version) in
     let l = longer e.process Version old new g in
     let i = h.issued in
@@ -232,11 +270,11 @@ call_stable old new q (Editing e) r h =
       open_edits = r.open_edits ∙ h.open_edits;
       issued = omega arith;
       holds_none = λ x by. h.holds_none x ((g.holds x (λ same. cc)).came by);
-      knows = knowing_stable Version old new (edit_of e) g (record_no_version e.process e.number) (λ same. cc) e.refs h.since (known_at (text_parts e.text) (length e.refs) e.stage) h.knows;
-      buffer = holds_stable Version old new (edit_of e) g (ap new.memory.buffer h.mine ∙ r.buffer ∙ ap old.memory.buffer (sym h.mine)) (held_at (text_parts e.text) e.refs e.stage) h.buffer;
+      knows = knowing_stable Version old new (edit_of e) g e.edition fit.cached (record_no_version e.edition e.process e.number) (λ same. cc) e.refs h.since (known_at (text_parts e.text) (length e.refs) e.stage) h.knows;
+      buffer = holds_stable Version old new (edit_of e) g (ap new.memory.buffer h.mine ∙ r.buffer ∙ ap old.memory.buffer (sym h.mine)) e.edition (held_at (text_parts e.text) e.refs e.stage) h.buffer;
     }
-call_stable old new q (Working e) r h = work_stable old new q e r h
-call_stable old new q (Recovering e) r h =
+call_stable old new q (Working e) r l h = work_stable old new q e r h
+call_stable old new q (Recovering e) r l h =
     let g : Grows e.process Version old new = Grows_at q e.process Version old new (sym h.mine) (r.grows Version) in
     let pends : new.open_edits e.process ≡ old.open_edits e.process = ap new.open_edits h.mine ∙ r.open_edits ∙ ap old.open_edits (sym h.mine) in
     record {
@@ -250,4 +288,11 @@ call_stable old new q (Recovering e) r h =
           (own_words old e.process e.mark e.cell e.stage h.freed) h.buffer;
       is = h.is;
     }
-call_stable old new q (Showing e) r h = show_stable old new q e r h
+call_stable old new q (Showing e) r l h = show_stable old new q e r h
+call_stable old new q (Migrating e) r l h = record {
+  mine = h.mine;
+  is = h.is;
+  processes = ap (λ (lay : _). lay.processes) (r.grows Version).layout ∙ h.processes;
+  doubt = subst (λ (o : Option PlainIssue). DoubtFits new q o) (sym r.open_edits) (doubt_stable old new q r (old.open_edits q) h.doubt);
+  buffer = migration_stable old new q e e.stage r.buffer h.buffer;
+}

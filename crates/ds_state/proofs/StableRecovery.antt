@@ -7,7 +7,7 @@ use Rattle.ds_state.specs.World.{PlainEdit, PlainIssue, PlainWorld, of_cell}
 use Rattle.ds_state.specs.Known.{AreBelow, IsIn}
 use Rattle.ds_state.specs.Owing.{entry}
 use Rattle.ds_layout.specs.Mark.{IsHeldBy, marked}
-use Rattle.ds_state.specs.KnownRecovery.{Freed, before, holding, value_back, both_back, outrun, all_free, HoldsFrom, Holding, FreedFits, Resolved, unknown, noted, doubted, is_head, not_head, settled, said, over, SettledAs, IsPassed, IsOpen, IsOpenAnd, ResolvedFits, RecoveryHeld, empty, the_value, both_words, the_kind, a_mark, a_head, the_outcome, value_now, kind_now, RecoveryHolds, freed_at, recovery_held}
+use Rattle.ds_state.specs.KnownRecovery.{Freed, before, holding, value_back, both_back, outrun, all_free, HoldsFrom, Holding, FreedFits, Resolved, unknown, noted, doubted, is_head, not_head, settled, said, over, SettledAs, IsPassed, IsOpen, IsOpenAnd, ResolvedFits, RecoveryHeld, empty, the_value, both_words, the_kind, a_mark, a_head, the_outcome, the_version, value_now, kind_now, RecoveryHolds, freed_at, recovery_held}
 use Rattle.ds_state.specs.declared.work.Spread.TheVariants.{LoadRow, OrTold, FlushTold, BackTold}
 use Rattle.ds_state.specs.declared.work.RecoverStage.{RecoverStage}
 use Rattle.ds_state.specs.declared.work.RecoverStage.TheVariants as stages
@@ -118,6 +118,7 @@ module _ (old new : PlainWorld) (p : ℕ) (g : Grows p Version old new) where
       head = by_stable p Version old new g c h.own h.issue.edit h.head;
       enough = h.enough;
     }
+    held_stable same word c the_version own h = record { value = h.value; alone = same ∙ h.alone }
     held_stable same word c the_outcome own h = same ∙ h
 
 -- the cell whose words are in the buffer is held

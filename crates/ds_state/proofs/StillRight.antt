@@ -32,7 +32,7 @@ use Rattle.ds_state.specs.Shown.{last_text}
 use Rattle.ds_formula.proofs.Whole.{blank_read}
 use Rattle.ds_state.specs.Sound.{IsSound}
 use Rattle.ds_state.specs.declared.situation.Situation.{Situation}
-use Rattle.ds_state.specs.declared.situation.Situation.TheVariants.{Idle, Stopped, Editing, Working, Recovering, Showing}
+use Rattle.ds_state.specs.declared.situation.Situation.TheVariants.{Idle, Stopped, Editing, Working, Recovering, Showing, Migrating}
 use Rattle.ds_state.proofs.Frames.{clean_free}
 use Rattle.ds_state.proofs.Heads.{Small, small_counted, small_of_cell, head_low, head_push, head_grows}
 use Rattle.ds_state.proofs.Crashing.{pends_while}
@@ -47,6 +47,7 @@ issue_number w p (Editing e) i is h = let same : record { edit = edit_of e; sinc
 issue_number w p (Working e) i is h = absurd (let e : None ≡ Some i = sym h.rest.open_edits ∙ ap w.open_edits h.mine ∙ is in cc)
 issue_number w p (Recovering e) i is h = (subst (λ (o : Option PlainIssue). DoubtFits w p o) is h.doubt).number
 issue_number w p (Showing e) i is h = absurd (let e : None ≡ Some i = sym h.1.rest.open_edits ∙ ap w.open_edits h.1.mine ∙ is in cc)
+issue_number w p (Migrating e) i is h = (subst (λ (o : Option PlainIssue). DoubtFits w p o) is h.doubt).number
 
 -- an announcement of a record's number, as it reads
 pub pending_reads : (n : ℕ) → n < RECORDS → IsPendingWord (announcement n phase.Pending)

@@ -15,14 +15,16 @@ use Rattle.ds_state.specs.Crashes.{StopsIn}
 use Rattle.ds_state.specs.Rely.{Grows, Keeps}
 use Rattle.ds_state.specs.Sound.{IsSound}
 use Rattle.ds_state.specs.declared.situation.Situation.{Situation}
-use Rattle.ds_state.specs.declared.situation.Situation.TheVariants.{Idle, Stopped, Editing, Working, Recovering, Showing}
+use Rattle.ds_state.specs.declared.situation.Situation.TheVariants.{Idle, Stopped, Editing, Working, Recovering, Showing, Migrating}
 use Rattle.ds_state.proofs.Lasting.{below_stable, last_stable}
 use Rattle.ds_state.proofs.Stable.{standing_stable, word_stable, recorded_stable, record_no_version, written_stable}
-use Rattle.ds_state.proofs.Frames.{Moves, KeepsOwing, KeepsApart, grows_own, moves_sound}
+use Rattle.ds_state.proofs.Frames.{Moves, stops, version_word, KeepsOwing, KeepsApart, grows_own, moves_sound}
 use Rattle.ds_state.proofs.Bearing.{Mine, MyMarks, bears, all_stand, no_new_marks, text_same, splits_excuse, splits_last, pends_last, marks_grow, apart_lasts}
 use Rattle.ds_state.proofs.Buffers.{buffered}
 use Rattle.ds_state.proofs.Crashing.{pends_while}
 use Rattle.ds_state.proofs.CrashSound.{Said, edit_says, recorded_at, written_all}
+use Rattle.ds_state.specs.Editions.{Agrees}
+use Rattle.ds_state.specs.LayoutsFit.{LayoutFits}
 
 module _ (p : ℕ) (old new : PlainWorld) (sound : IsSound old) (real : p < old.layout.processes) (stop : StopsIn p old new) where
   moves : Moves p Version old new
@@ -34,6 +36,8 @@ module _ (p : ℕ) (old new : PlainWorld) (sound : IsSound old) (real : p < old.
     buffers = stop.memory.others;
     situations = stop.others;
     pendings = λ q ne. stop.open_edits q;
+    goes = stops real stop.runs stop.situation;
+    version = inl (stop.memory.cached Version, inl (stop.memory.persisted Version));
   }
 
   fits : CallFits old p (old.situation p)
@@ -105,7 +109,7 @@ module _ (p : ℕ) (old new : PlainWorld) (sound : IsSound old) (real : p < old.
   through : (next : ℕ) → IsAtRest old p next → DoubtFits new p (new.open_edits p)
   through next h = subst (λ (o : Option PlainIssue). DoubtFits new p o) (sym (stop.open_edits p ∙ h.open_edits)) (record { next = next; rest = rest next h })
 
-  module _ (e : PlainEditCall) (h : EditFits old p e) where
+  module _ (e : PlainEditCall) (h : EditFits old p e) (noted : Agrees old.memory e.edition) where
     abbrev E : PlainEdit
     E = edit_of e
 
@@ -121,8 +125,8 @@ module _ (p : ℕ) (old new : PlainWorld) (sound : IsSound old) (real : p < old.
     written : IsWritten new E known.now
     written = elim (recorded_at (text_parts e.text) (length e.refs) e.stage) [
       | inl none ↦ subst (λ (a : Announced). IsWritten new E a) (sym none) tt
-      | inr is ↦ written_all new E known.now (recorded_stable Version old new E g (record_no_version E.process E.number) (record_size E) (record_size E)
-          (subst (λ (x : ℕ). IsRecorded old E x (record_size E)) is.0 (subst (λ (x : ℕ). IsRecorded old E known.stored x) is.1 h.knows.recorded)))
+      | inr is ↦ written_all new e.edition E known.now (recorded_stable Version old new E g e.edition noted.cached (record_no_version e.edition E.process E.number) (record_size E) (record_size E)
+          (subst (λ (x : ℕ). IsRecorded old e.edition E x (record_size E)) is.0 (subst (λ (x : ℕ). IsRecorded old e.edition E known.stored x) is.1 h.knows.recorded)))
     ]
 
     doubt : (b : Announced) → MaySay known.standing b → rank b ≤ rank known.now → old.memory.persisted (Announce E.process) ≡ word_of old E b → IsInDoubt new p (record { edit = E; since = h.since })
@@ -168,18 +172,19 @@ module _ (p : ℕ) (old new : PlainWorld) (sound : IsSound old) (real : p < old.
         said = k.said;
         said_before = k.said_before;
         order = k.order;
-        written = written_stable Version old new f g (record_no_version f.process f.number) k.now k.written;
+        written = written_stable Version old new f g (λ same. cc) k.now k.written;
       })
 
-  left : (s : Situation) → old.situation p ≡ s → CallFits old p s → DoubtFits new p (new.open_edits p)
-  left (Idle next) at h = through next (record { number = h.number; open_edits = h.open_edits; below = h.below; cached = h.cached; persisted = h.persisted })
-  left Stopped at h = absurd (stop.runs at)
-  left (Editing e) at h = editing e h
-  left (Working e) at h = through e.next (subst (λ (q : ℕ). IsAtRest old q e.next) h.mine h.rest)
-  left (Recovering e) at h = recovering (old.open_edits p) refl h.doubt
-  left (Showing e) at h = through e.next (subst (λ (q : ℕ). IsAtRest old q e.next) h.1.mine h.1.rest)
+  left : (s : Situation) → old.situation p ≡ s → LayoutFits old p s → CallFits old p s → DoubtFits new p (new.open_edits p)
+  left (Idle next) at lay h = through next.number (record { number = h.number; open_edits = h.open_edits; below = h.below; cached = h.cached; persisted = h.persisted })
+  left Stopped at lay h = absurd (stop.runs at)
+  left (Editing e) at lay h = editing e h lay
+  left (Working e) at lay h = through e.next (subst (λ (q : ℕ). IsAtRest old q e.next) h.mine h.rest)
+  left (Recovering e) at lay h = recovering (old.open_edits p) refl h.doubt
+  left (Migrating e) at lay h = recovering (old.open_edits p) refl h.doubt
+  left (Showing e) at lay h = through e.next (subst (λ (q : ℕ). IsAtRest old q e.next) h.1.mine h.1.rest)
 
   pub stop_keeps : Keeps p old new
   stop_keeps = moves_sound p Version old new moves stop.counted sound (bears p Version old new moves sound mine)
-      (all_stand p Version old new moves sound (buffered old sound) mine (text_same old new stop.layout stop.counted) marks) apart (λ cell ne. keeps cell) tt
-      (λ l. subst (λ (s : Situation). CallFits new p s) (sym stop.situation) (record { buffer = stop.memory.mine; doubt = left (old.situation p) refl fits }))
+      (all_stand p Version old new moves sound (buffered old sound) mine (text_same old new stop.layout stop.counted) marks) apart (λ cell ne. keeps cell) (version_word p old new moves sound)
+      (λ l. subst (λ (s : Situation). CallFits new p s) (sym stop.situation) (record { buffer = stop.memory.mine; doubt = left (old.situation p) refl (sound.layouts p real) fits }))

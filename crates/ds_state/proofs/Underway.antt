@@ -3,7 +3,8 @@ use Rattle.std.proofs.Common.{ℕ, ◌≡◌, ◌<◌, ◌≤◌, ◌+◌, List,
 use Rattle.std.proofs.lemmas.List.{take_more}
 use Rattle.ds_state.specs.Underway.{reports_in, reports_under_way}
 use Rattle.ds_state.specs.declared.situation.Situation.{Situation}
-use Rattle.ds_state.specs.declared.situation.Situation.TheVariants.{Idle, Stopped, Editing, Working, Recovering, Showing}
+use Rattle.ds_state.specs.declared.situation.Situation.TheVariants.{Idle, Stopped, Editing, Working, Recovering, Showing, Migrating}
+use Rattle.ds_state.specs.declared.situation.Rest.{Rest}
 
 -- the one that goes on is counted by its new situation, in place of its old one
 pub after_set : (ss : List Situation) (p : ℕ) (s d : Situation) → p < length ss → reports_under_way (set ss p s) + reports_in (get_or ss p d) ≡ reports_under_way ss + reports_in s
@@ -22,13 +23,14 @@ at_most_one (Editing e) = omega arith
 at_most_one (Working e) = omega arith
 at_most_one (Recovering e) = omega arith
 at_most_one (Showing e) = omega arith
+at_most_one (Migrating e) = omega arith
 
 pub at_most_all : (ss : List Situation) → reports_under_way ss ≤ length ss
 at_most_all [] = omega arith
 at_most_all (s ∷ ss) = let a = at_most_one s in let b = at_most_all ss in omega arith
 
 -- none where all are idle
-pub none_idle : (n next : ℕ) → reports_under_way (replicate n (Idle next)) ≡ 0
+pub none_idle : (n : ℕ) (next : Rest) → reports_under_way (replicate n (Idle next)) ≡ 0
 none_idle zero next = refl
 none_idle (suc n) next = let h = none_idle n next in omega arith
 

@@ -23,13 +23,18 @@ use Rattle.ds_state.specs.Owing.{entry, IsMark, HoldsNone}
 use Rattle.ds_state.specs.declared.stage.Outcome.TheVariants.{Done, Overtaken}
 use Rattle.ds_state.specs.KnownWork.{IsAtRest, WorkFits}
 use Rattle.ds_state.specs.KnownShow.{ShowFits}
-use Rattle.ds_state.specs.Works.{PlainRecoverCall}
+use Rattle.ds_state.specs.Works.{PlainRecoverCall, PlainMigrateCall, IsMigration, new_text}
+use Rattle.ds_state.specs.declared.work.MigrateStage.{MigrateStage}
+use Rattle.ds_state.specs.declared.work.MigrateStage.TheVariants.{BackNew, BackVersion}
 use Rattle.ds_state.specs.RecoverStages.{IsRecovery}
 use Rattle.ds_state.specs.KnownRecovery.{FreedFits, freed_at, ResolvedFits, resolved_at, RecoveryHolds, recovery_held}
 use Rattle.ds_state.specs.declared.stage.Stage.{Stage}
 use Rattle.ds_state.specs.declared.stage.Stage.TheVariants.{FlushText, BackRecord, BackPending, BackIndex, BackNoted, BackDone, BackOwn, BackMark, BackOutcome}
 use Rattle.ds_state.specs.declared.situation.Situation.{Situation}
-use Rattle.ds_state.specs.declared.situation.Situation.TheVariants.{Idle, Stopped, Editing, Working, Recovering, Showing}
+use Rattle.ds_state.specs.declared.situation.Situation.TheVariants.{Idle, Stopped, Editing, Working, Recovering, Showing, Migrating}
+use Rattle.ds_layout.specs.declared.place.Edition.{Edition}
+use Rattle.ds_layout.specs.declared.place.Edition.TheVariants.{First}
+use Rattle.ds_state.specs.declared.situation.Rest.{Rest}
 
 -- what an edit's buffer holds: nothing; so many words of its record from this one on; its announcement; bits of the
 -- row of a reference, its cell's among them; done bits, this edit's among them; a head of its cell, this one or a
@@ -57,8 +62,8 @@ held_at parts refs (BackOutcome how) = announcing_word (ended how)
 held_at parts refs _ = empty
 
 -- the buffer's entry of one word of the edit's record, by the number of that word
-abbrev pub record_entry : PlainEdit → ℕ → BufferEntry Place
-record_entry e k = entry (record_place e.process e.number k) (record_word e k)
+abbrev pub record_entry : Edition → PlainEdit → ℕ → BufferEntry Place
+record_entry edition e k = entry (record_place edition e.process e.number k) (record_word e k)
 
 -- the process's buffer holds one entry alone: of the word at this place, with a value of which `Is` holds
 pub record HasOne (w : PlainWorld) (p : ℕ) (r : Place) (Is : ℕ → Type 0) : Type 0 where
@@ -78,14 +83,14 @@ pub record IsHeadFrom (w : PlainWorld) (cell least value : ℕ) : Type 0 where
   pub head : IsHeadBy (of_cell cell w.counted) value by
 
 -- the buffer of the edit's process holds just what `Held` says
-abbrev pub Holds : PlainWorld → PlainEdit → Held → Type 0
-Holds w e empty = w.memory.buffer e.process ≡ []
-Holds w e (record_words first count) = w.memory.buffer e.process ≡ map (record_entry e) (range_with_len first count)
-Holds w e (announcing_word a) = w.memory.buffer e.process ≡ entry (place.Announce e.process) (word_of w e a) ∷ []
-Holds w e (row_bits row) = HasOne w e.process (index_place row e.cell) (IsBits w (index_place row e.cell) e.cell)
-Holds w e (done_bits process number) = HasOne w e.process (done_place process number) (IsBits w (done_place process number) number)
-Holds w e (head_from least) = HasOne w e.process (place.Head e.cell) (IsHeadFrom w e.cell least)
-Holds w e mark = HasOne w e.process (place.Mark e.cell) (λ value. (value ≤ w.memory.cached (place.Mark e.cell)) × IsMark w.layout e.cell value)
+abbrev pub Holds : PlainWorld → Edition → PlainEdit → Held → Type 0
+Holds w edition e empty = w.memory.buffer e.process ≡ []
+Holds w edition e (record_words first count) = w.memory.buffer e.process ≡ map (record_entry edition e) (range_with_len first count)
+Holds w edition e (announcing_word a) = w.memory.buffer e.process ≡ entry (place.Announce e.process) (word_of w e a) ∷ []
+Holds w edition e (row_bits row) = HasOne w e.process (index_place row e.cell) (IsBits w (index_place row e.cell) e.cell)
+Holds w edition e (done_bits process number) = HasOne w e.process (done_place process number) (IsBits w (done_place process number) number)
+Holds w edition e (head_from least) = HasOne w e.process (place.Head e.cell) (IsHeadFrom w e.cell least)
+Holds w edition e mark = HasOne w e.process (place.Mark e.cell) (λ value. (value ≤ w.memory.cached (place.Mark e.cell)) × IsMark w.layout e.cell value)
 
 -- the sheet has as many cells and processes as the edit says
 pub record IsSheetOf (layout : Layout) (e : PlainEditCall) : Type 0 where
@@ -108,18 +113,18 @@ pub record EditFits (w : PlainWorld) (p : ℕ) (e : PlainEditCall) : Type 0 wher
   pub open_edits : w.open_edits p ≡ Some (record { edit = edit_of e; since = since })
   pub issued : since ≤ length w.counted
   pub holds_none : HoldsNone w e.process
-  pub knows : Knowing w (edit_of e) e.refs since (known_at (text_parts e.text) (length e.refs) e.stage)
-  pub buffer : Holds w (edit_of e) (held_at (text_parts e.text) e.refs e.stage)
+  pub knows : Knowing w e.edition (edit_of e) e.refs since (known_at (text_parts e.text) (length e.refs) e.stage)
+  pub buffer : Holds w e.edition (edit_of e) (held_at (text_parts e.text) e.refs e.stage)
 
 -- an idle process has no edit that is not answered, nothing in its buffer, and announces how its last edit ended
-pub record IdleFits (w : PlainWorld) (p next : ℕ) : Type 0 where
-  pub number : next ≤ RECORDS
+pub record IdleFits (w : PlainWorld) (p : ℕ) (next : Rest) : Type 0 where
+  pub number : next.number ≤ RECORDS
   pub holds_none : HoldsNone w p
   pub open_edits : w.open_edits p ≡ None
   pub buffer : w.memory.buffer p ≡ []
-  pub below : AreBelow w p next
-  pub cached : w.memory.cached (place.Announce p) ≡ last_announcement w.counted p next
-  pub persisted : w.memory.persisted (place.Announce p) ≡ last_announcement w.counted p next
+  pub below : AreBelow w p next.number
+  pub cached : w.memory.cached (place.Announce p) ≡ last_announcement w.counted p next.number
+  pub persisted : w.memory.persisted (place.Announce p) ≡ last_announcement w.counted p next.number
 
 -- what an edit in doubt may announce, on either side: how the one before it ended, where it does not count; that it
 -- is pending; how it ended, where that is settled
@@ -138,12 +143,12 @@ rank last = 0
 rank pending = 1
 rank (ended how) = 2
 
--- where an edit has announced itself, its whole record stands on both sides
+-- where an edit has announced itself, the header of its record stands on both sides
 abbrev pub IsWritten : PlainWorld → PlainEdit → Announced → Type 0
 IsWritten w e last = Unit {0}
-IsWritten w e _ = IsRecorded w e (record_size e) (record_size e)
+IsWritten w e _ = IsRecorded w First e 1 1
 
--- an edit in doubt: how it stands in the list, what each side of its announcement says, and its record
+-- an edit in doubt: how it stands in the list, what each side of its announcement says, and its header
 pub record IsInDoubt (w : PlainWorld) (p : ℕ) (issue : PlainIssue) : Type 0 where
   pub mine : issue.edit.process ≡ p
   pub number : issue.edit.number < RECORDS
@@ -186,6 +191,20 @@ pub record RecoveryFits (w : PlainWorld) (p : ℕ) (e : PlainRecoverCall) : Type
   pub resolved : ResolvedFits w e.process e.announcement e.cell (resolved_at e.stage)
   pub buffer : RecoveryHolds w e.process e.announcement e.cell (recovery_held e.cell e.stage)
 
+-- what a migration's buffer holds at a stage: the word that it copies, or the version's
+abbrev pub MigrationHolds : PlainWorld → ℕ → PlainMigrateCall → MigrateStage → Type 0
+MigrationHolds w p e (BackNew at) = w.memory.buffer p ≡ entry (new_text at) e.word ∷ []
+MigrationHolds w p e (BackVersion how) = w.memory.buffer p ≡ entry place.Version 1 ∷ []
+MigrationHolds w p e _ = w.memory.buffer p ≡ []
+
+-- a migration: its process's edit is in doubt throughout
+pub record MigrationFits (w : PlainWorld) (p : ℕ) (e : PlainMigrateCall) : Type 0 where
+  pub mine : e.process ≡ p
+  pub is : IsMigration e
+  pub processes : w.layout.processes ≡ e.processes
+  pub doubt : DoubtFits w p (w.open_edits p)
+  pub buffer : MigrationHolds w p e e.stage
+
 -- the situation of the process fits the world
 abbrev pub CallFits : PlainWorld → ℕ → Situation → Type 0
 CallFits w p (Idle next) = IdleFits w p next
@@ -194,3 +213,4 @@ CallFits w p (Editing e) = EditFits w p e
 CallFits w p (Working e) = WorkFits w p e
 CallFits w p (Recovering e) = RecoveryFits w p e
 CallFits w p (Showing e) = ShowFits w p e
+CallFits w p (Migrating e) = MigrationFits w p e

@@ -7,12 +7,15 @@ use Rattle.ds_layout.specs.TextWords.{parts_for}
 use Rattle.ds_state.specs.Text.{IsText}
 use Rattle.ds_state.specs.declared.stage.Stage.{Stage}
 use Rattle.ds_state.specs.declared.stage.Stage.TheVariants.{StoreText, FlushText, BackRecord, OrIndex, FlushIndex, BackIndex, FlushNoted, BackNoted, OrDone, FlushDone, BackDone}
+use Rattle.ds_layout.specs.declared.place.Edition.{Edition}
+use Rattle.ds_state.specs.Editions.{most_in}
 
--- an edit under way: its process, number, cell and text; the cells that the text refers to; how many cells and
+-- an edit under way: its process and number; the layout that it writes; its cell and text; the cells that the text refers to; how many cells and
 -- processes the sheet has; its stage
 pub record PlainEditCall : Type 0 where
   pub process : ℕ
   pub number : ℕ
+  pub edition : Edition
   pub cell : ℕ
   pub text : List ℕ
   pub refs : List ℕ
@@ -51,5 +54,6 @@ pub record IsEdit (e : PlainEditCall) : Type 0 where
   pub cell : e.cell < e.cells
   pub cells : e.cells ≤ CELLS_MOST
   pub text : IsText e.text
+  pub fits : length e.text ≤ most_in e.edition
   pub refs : All (λ r. r < e.cells) e.refs
   pub stage : IsStage e e.stage

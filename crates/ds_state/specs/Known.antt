@@ -12,6 +12,7 @@ use Rattle.ds_state.specs.declared.stage.Outcome.{Outcome}
 use Rattle.ds_state.specs.declared.stage.Outcome.TheVariants.{Done, Overtaken}
 use Rattle.ds_state.specs.declared.stage.Stage.{Stage}
 use Rattle.ds_state.specs.declared.stage.Stage.TheVariants.{StoreHeader, StoreText, FlushHeader, FlushText, BackRecord, StorePending, FlushPending, BackPending, OrIndex, FlushIndex, BackIndex, LoadHead, FlushNoted, BackNoted, OrDone, FlushDone, BackDone, Swap, FlushOwn, BackOwn, OrMark, FlushMark, BackMark, StoreOutcome, FlushOutcome, BackOutcome, Answer}
+use Rattle.ds_layout.specs.declared.place.Edition.{Edition}
 
 -- whether the edit counts: it does not; it does, and this is its head; it does, and no crash takes it
 pub data Standing : Type 0 where
@@ -134,10 +135,10 @@ StandsAs w e outside = AreBelow w e.process e.number
 StandsAs w e (inside own) = IsIn w e own
 StandsAs w e safe = IsSafelyIn w e
 
--- of the edit's record the first so many words are stored, and the first so many are persisted
-pub record IsRecorded (w : PlainWorld) (e : PlainEdit) (stored back : ℕ) : Type 0 where
-  pub cached : (k : ℕ) → k < stored → w.memory.cached (record_place e.process e.number k) ≡ record_word e k
-  pub persisted : (k : ℕ) → k < back → w.memory.persisted (record_place e.process e.number k) ≡ record_word e k
+-- of the edit's record, in this layout, the first so many words are stored, and the first so many are persisted
+pub record IsRecorded (w : PlainWorld) (edition : Edition) (e : PlainEdit) (stored back : ℕ) : Type 0 where
+  pub cached : (k : ℕ) → k < stored → w.memory.cached (record_place edition e.process e.number k) ≡ record_word e k
+  pub persisted : (k : ℕ) → k < back → w.memory.persisted (record_place edition e.process e.number k) ≡ record_word e k
   pub fewer : back ≤ stored
 
 -- how an ended edit is announced
@@ -221,10 +222,10 @@ Knows w e since (bit_set head) = IsNoted w e since head × IsBack w e head × Ha
 Knows w e since (bit_back head) = IsHelped w e since head
 Knows w e since (came_late noted seen) = IsLate w e since noted seen
 
--- all that an edit knows holds, as `Known` says
-pub record Knowing (w : PlainWorld) (e : PlainEdit) (refs : List ℕ) (since : ℕ) (k : Known) : Type 0 where
+-- all that an edit that writes this layout knows holds, as `Known` says
+pub record Knowing (w : PlainWorld) (edition : Edition) (e : PlainEdit) (refs : List ℕ) (since : ℕ) (k : Known) : Type 0 where
   pub standing : StandsAs w e k.standing
-  pub recorded : IsRecorded w e k.stored k.back
+  pub recorded : IsRecorded w edition e k.stored k.back
   pub announced : IsAnnounced w e k.before k.now
   pub indexed : IsIndexedTo w e refs k.indexed
   pub ored : IsOred w e refs k.ored

@@ -16,7 +16,7 @@ use Rattle.ds_layout.specs.Announcement.{number_after}
 use Rattle.ds_layout.specs.Mark.{IsHeldBy, tenure, marked}
 use Rattle.ds_state.specs.KnownWork.{HasMark}
 use Rattle.ds_state.specs.declared.work.RecoverStage.{RecoverStage}
-use Rattle.ds_state.specs.declared.work.RecoverStage.TheVariants.{LoadMark, FlushValue, FlushKind, BackValue, BackKind, Telling, Give, GiveDirty, FlushGiven, BackGiven, LoadHeader, LoadHead, FlushHead, BackHead, LoadDone, OrMark, FlushMark, BackMark, StoreOutcome, FlushOutcome, BackOutcome, Answer}
+use Rattle.ds_state.specs.declared.work.RecoverStage.TheVariants.{LoadVersion, FlushVersion, BackVersion, LoadMark, FlushValue, FlushKind, BackValue, BackKind, Telling, Give, GiveDirty, FlushGiven, BackGiven, LoadHeader, LoadHead, FlushHead, BackHead, LoadDone, OrMark, FlushMark, BackMark, StoreOutcome, FlushOutcome, BackOutcome, Answer}
 
 -- how far a recovery has given its cells back: so many are looked at; this one is held; its value is persisted; its
 -- kind, too; also it was marked since it was looked at; all are free
@@ -30,6 +30,9 @@ pub data Freed : Type 0 where
 
 -- how far a recovery at this stage has given its cells back
 abbrev pub freed_at : RecoverStage → Freed
+freed_at LoadVersion = before 0
+freed_at FlushVersion = before 0
+freed_at BackVersion = before 0
 freed_at (LoadMark cell) = before cell
 freed_at (FlushValue cell) = holding cell
 freed_at (FlushKind cell) = holding cell
@@ -154,7 +157,7 @@ ResolvedFits w p word cell (over (Some how)) = (w.memory.cached (place.Announce 
 ResolvedFits w p word cell (over None) = (w.memory.cached (place.Announce p) ≡ word) × (w.memory.persisted (place.Announce p) ≡ word) × (word ≡ 0)
 
 -- what a recovery's buffer holds: nothing; value, kind or both of the cell that it frees; a mark; a head; its
--- announcement
+-- announcement; the version's word
 pub data RecoveryHeld : Type 0 where
   empty : RecoveryHeld
   the_value : ℕ → RecoveryHeld
@@ -163,6 +166,7 @@ pub data RecoveryHeld : Type 0 where
   a_mark : ℕ → RecoveryHeld
   a_head : RecoveryHeld
   the_outcome : RecoveryHeld
+  the_version : RecoveryHeld
 
 -- what a recovery's buffer holds while it tells: at a write-back, the mark of the cell that is told
 abbrev pub spread_held : Spread → RecoveryHeld
@@ -171,6 +175,7 @@ spread_held _ = empty
 
 -- what a recovery's buffer holds at a stage, where its edit in doubt is of cell c
 abbrev pub recovery_held : ℕ → RecoverStage → RecoveryHeld
+recovery_held c BackVersion = the_version
 recovery_held c (FlushKind cell) = the_value cell
 recovery_held c (BackValue cell) = both_words cell
 recovery_held c (BackKind cell) = the_kind cell
@@ -201,6 +206,11 @@ pub record HasHead (w : PlainWorld) (p cell : ℕ) : Type 0 where
   pub head : IsHeadBy (of_cell cell w.counted) own issue.edit
   pub enough : own ≤ value
 
+-- the process's buffer holds the version's word alone
+pub record HasVersion (w : PlainWorld) (p : ℕ) : Type 0 where
+  pub value : ℕ
+  pub alone : w.memory.buffer p ≡ entry place.Version value ∷ []
+
 -- the buffer of the recovery's process holds just what `RecoveryHeld` says
 abbrev pub RecoveryHolds : PlainWorld → ℕ → ℕ → ℕ → RecoveryHeld → Type 0
 RecoveryHolds w p word c empty = w.memory.buffer p ≡ []
@@ -209,4 +219,5 @@ RecoveryHolds w p word c (both_words cell) = w.memory.buffer p ≡ value_now w c
 RecoveryHolds w p word c (the_kind cell) = w.memory.buffer p ≡ kind_now w cell ∷ []
 RecoveryHolds w p word c (a_mark cell) = HasMark w p cell
 RecoveryHolds w p word c a_head = HasHead w p c
+RecoveryHolds w p word c the_version = HasVersion w p
 RecoveryHolds w p word c the_outcome = w.memory.buffer p ≡ entry (place.Announce p) word ∷ []

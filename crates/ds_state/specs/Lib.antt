@@ -1,4 +1,5 @@
 pub mod Stages
+pub mod Editions
 pub mod Edits
 pub mod EntryWords
 pub mod Works
@@ -14,6 +15,8 @@ pub mod KnownShow
 pub mod KnownRecovery
 pub mod CallsFit
 pub mod WordsFit
+pub mod LayoutsFit
+pub mod MigrationSteps
 pub mod Sound
 pub mod Calm
 pub mod Rely

@@ -20,7 +20,7 @@ use Rattle.ds_state.specs.declared.work.WorkStage.TheVariants as works
 use Rattle.ds_state.specs.declared.work.RecoverStage.{RecoverStage}
 use Rattle.ds_state.specs.declared.work.RecoverStage.TheVariants as recoveries
 use Rattle.ds_state.specs.declared.situation.Situation.{Situation}
-use Rattle.ds_state.specs.declared.situation.Situation.TheVariants.{Idle, Stopped, Editing, Working, Recovering, Showing}
+use Rattle.ds_state.specs.declared.situation.Situation.TheVariants.{Idle, Stopped, Editing, Working, Recovering, Showing, Migrating}
 
 -- a buffer's entry of the word at a place, with its class
 abbrev pub entry : Place → ℕ → BufferEntry Place
@@ -60,6 +60,9 @@ WorkOwes m p row _ c x = ⊥
 
 -- a recovery at this stage owes c a mark above x, by the cell r that it holds
 abbrev pub RecoveryOwes : Memory Place → ℕ → List ℕ → RecoverStage → ℕ → ℕ → ℕ → Type 0
+RecoveryOwes m p row recoveries.LoadVersion r c x = Unit {0}
+RecoveryOwes m p row recoveries.FlushVersion r c x = Unit {0}
+RecoveryOwes m p row recoveries.BackVersion r c x = Unit {0}
 RecoveryOwes m p row (recoveries.LoadMark cell) r c x = Unit {0}
 RecoveryOwes m p row (recoveries.FlushValue cell) r c x = Unit {0}
 RecoveryOwes m p row (recoveries.FlushKind cell) r c x = Unit {0}
@@ -80,6 +83,7 @@ Owes m p (Editing e) r c x = ⊥
 Owes m p (Working e) r c x = (e.cell ≡ r) × WorkOwes m p e.row e.stage c x
 Owes m p (Recovering e) r c x = RecoveryOwes m p e.row e.stage r c x
 Owes m p (Showing e) r c x = ⊥
+Owes m p (Migrating e) r c x = Unit {0}
 
 -- a work at this stage may have the two sides of its cell's value, or kind, differ
 abbrev pub WorkParts : WorkStage → Type 0
@@ -92,6 +96,9 @@ WorkParts _ = ⊥
 
 -- a recovery at this stage may have the two sides of the value, or the kind, of the cell r that it holds differ
 abbrev pub RecoveryParts : RecoverStage → ℕ → Type 0
+RecoveryParts recoveries.LoadVersion r = Unit {0}
+RecoveryParts recoveries.FlushVersion r = Unit {0}
+RecoveryParts recoveries.BackVersion r = Unit {0}
 RecoveryParts (recoveries.LoadMark cell) r = Unit {0}
 RecoveryParts (recoveries.FlushValue cell) r = Unit {0}
 RecoveryParts (recoveries.FlushKind cell) r = Unit {0}
@@ -112,6 +119,7 @@ Parts (Editing e) r = ⊥
 Parts (Working e) r = (e.cell ≡ r) × WorkParts e.stage
 Parts (Recovering e) r = RecoveryParts e.stage r
 Parts (Showing e) r = ⊥
+Parts (Migrating e) r = Unit {0}
 
 -- some process holds r on both sides and owes c a mark above x
 pub record CellOwes (w : PlainWorld) (r c x : ℕ) : Type 0 where
@@ -150,6 +158,9 @@ RecoveryExcuses m p c (recoveries.StoreOutcome how) x = ⊥
 RecoveryExcuses m p c (recoveries.FlushOutcome how) x = ⊥
 RecoveryExcuses m p c (recoveries.BackOutcome how) x = ⊥
 RecoveryExcuses m p c (recoveries.Answer how) x = ⊥
+RecoveryExcuses m p c recoveries.LoadVersion x = Unit {0}
+RecoveryExcuses m p c recoveries.FlushVersion x = Unit {0}
+RecoveryExcuses m p c recoveries.BackVersion x = Unit {0}
 RecoveryExcuses m p c (recoveries.LoadMark cell) x = Unit {0}
 RecoveryExcuses m p c (recoveries.FlushValue cell) x = Unit {0}
 RecoveryExcuses m p c (recoveries.FlushKind cell) x = Unit {0}
@@ -176,6 +187,7 @@ Excuses w p (Editing e) c x = (e.cell ≡ c) × EditOwes w.memory p c e.stage x
 Excuses w p (Working e) c x = ⊥
 Excuses w p (Recovering e) c x = IsPending w p c × RecoveryExcuses w.memory p c e.stage x
 Excuses w p (Showing e) c x = ⊥
+Excuses w p (Migrating e) c x = IsPending w p c
 
 -- some process of the sheet owes the cell c its edit's mark, above x
 pub record IsExcused (w : PlainWorld) (c x : ℕ) : Type 0 where
@@ -199,6 +211,9 @@ RecoverySplits (recoveries.StoreOutcome how) = ⊥
 RecoverySplits (recoveries.FlushOutcome how) = ⊥
 RecoverySplits (recoveries.BackOutcome how) = ⊥
 RecoverySplits (recoveries.Answer how) = ⊥
+RecoverySplits recoveries.LoadVersion = Unit {0}
+RecoverySplits recoveries.FlushVersion = Unit {0}
+RecoverySplits recoveries.BackVersion = Unit {0}
 RecoverySplits (recoveries.LoadMark cell) = Unit {0}
 RecoverySplits (recoveries.FlushValue cell) = Unit {0}
 RecoverySplits (recoveries.FlushKind cell) = Unit {0}
@@ -223,6 +238,7 @@ Splits w p (Editing e) c head = (e.cell ≡ c) × SplitsAt e.stage head
 Splits w p (Working e) c head = ⊥
 Splits w p (Recovering e) c head = IsPending w p c × RecoverySplits e.stage
 Splits w p (Showing e) c head = ⊥
+Splits w p (Migrating e) c head = IsPending w p c
 
 -- r and c are cells of the sheet, and the index row of r has the bit of c on the cached side
 abbrev pub IsIndexed : PlainWorld → ℕ → ℕ → Type 0

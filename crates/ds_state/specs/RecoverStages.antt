@@ -10,7 +10,7 @@ use Rattle.ds_state.specs.Works.{PlainRecoverCall, HELD_MOST}
 use Rattle.ds_state.specs.declared.work.Spread.{Spread}
 use Rattle.ds_state.specs.declared.work.Spread.TheVariants.{LoadRow, OrTold, FlushTold, BackTold}
 use Rattle.ds_state.specs.declared.work.RecoverStage.{RecoverStage}
-use Rattle.ds_state.specs.declared.work.RecoverStage.TheVariants.{LoadMark, FlushValue, FlushKind, BackValue, BackKind, Telling, Give, GiveDirty, FlushGiven, BackGiven, LoadAnnounce, LoadHeader, LoadHead, FlushHead, BackHead, LoadDone, OrMark, FlushMark, BackMark, StoreOutcome, FlushOutcome, BackOutcome, Answer}
+use Rattle.ds_state.specs.declared.work.RecoverStage.TheVariants.{LoadVersion, FlushVersion, BackVersion, LoadMark, FlushValue, FlushKind, BackValue, BackKind, Telling, Give, GiveDirty, FlushGiven, BackGiven, LoadAnnounce, LoadHeader, LoadHead, FlushHead, BackHead, LoadDone, OrMark, FlushMark, BackMark, StoreOutcome, FlushOutcome, BackOutcome, Answer}
 
 -- a cell of the sheet that a recovery gives back, by a mark whose generation has a next one
 abbrev pub IsFreeing : ℕ → ℕ → ℕ → Type 0
@@ -36,6 +36,9 @@ IsResolving e = IsAnnounced e.announcement × (e.cell < e.cells)
 
 -- what a recovery has at a stage is of its sheet: its cell, its mark, its row and its announcement
 abbrev pub IsStage : PlainRecoverCall → RecoverStage → Type 0
+IsStage e LoadVersion = Unit {0}
+IsStage e FlushVersion = Unit {0}
+IsStage e BackVersion = Unit {0}
 IsStage e (LoadMark cell) = cell < e.cells
 IsStage e (FlushValue cell) = IsFreeing e.cells e.mark cell × (length e.row ≡ 0)
 IsStage e (FlushKind cell) = IsFreeing e.cells e.mark cell × (length e.row ≡ 0)

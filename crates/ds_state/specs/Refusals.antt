@@ -6,8 +6,9 @@ use Rattle.ds_formula.specs.declared.fault.FaultKind.TheVariants as kinds
 use Rattle.ds_state.specs.declared.refusal.Refusal.{Refusal}
 use Rattle.ds_state.specs.declared.refusal.Refusal.TheVariants.{Text, NoMemory}
 use Rattle.ds_state.specs.declared.refusal.Refusal.TheVariants as refusal
+use Rattle.ds_state.specs.declared.situation.Rest.{Rest}
 use Rattle.ds_state.specs.declared.situation.Situation.{Situation}
-use Rattle.ds_state.specs.declared.situation.Situation.TheVariants.{Idle, Stopped, Editing, Working, Recovering, Showing}
+use Rattle.ds_state.specs.declared.situation.Situation.TheVariants.{Idle, Stopped, Editing, Working, Recovering, Showing, Migrating}
 
 -- the refusal that a text's fault of this kind is: want of memory is a refusal of its own
 abbrev pub refusal_by : FaultKind → TextFault → Refusal
@@ -18,12 +19,13 @@ refusal_by kind fault = Text fault
 abbrev pub refusal_of : TextFault → Refusal
 refusal_of fault = refusal_by fault.kind fault
 
--- the number of the next edit of a process in this situation, if it may begin an edit, work or a report; else why it
+-- the number of the next edit, and the layout, of a process in this situation, if it may begin an edit, work or a report; else why it
 -- may not
-abbrev pub next_edit : Situation → Result ℕ Refusal
-next_edit (Idle number) = Ok number
+abbrev pub next_edit : Situation → Result Rest Refusal
+next_edit (Idle next) = Ok next
 next_edit Stopped = Err refusal.Stopped
 next_edit (Editing e) = Err refusal.Busy
 next_edit (Working e) = Err refusal.Busy
 next_edit (Recovering e) = Err refusal.Busy
 next_edit (Showing e) = Err refusal.Busy
+next_edit (Migrating e) = Err refusal.Busy

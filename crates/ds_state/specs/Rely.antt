@@ -9,12 +9,14 @@ use Rattle.ds_state.specs.Owing.{IsIndexed, CellOwes, IsExcused}
 use Rattle.ds_layout.specs.Mark.{tenure, IsClean, IsHeldBy}
 use Rattle.ds_state.specs.Standing.{Matters}
 use Rattle.ds_state.specs.Sound.{IsSound}
+use Rattle.ds_state.specs.Editions.{seen_edition}
 
--- whose word it is, where it is one process's alone: a cell's value and kind are its holder's
+-- whose word it is, where it is one process's alone: a cell's value and kind are its holder's; only the texts of the
+-- layout that processes see are theirs
 abbrev pub IsOwnedBy : Memory Place → ℕ → Place → Type 0
 IsOwnedBy m q (Announce p) = p ≡ q
 IsOwnedBy m q (Header p number) = p ≡ q
-IsOwnedBy m q (Text p number part) = p ≡ q
+IsOwnedBy m q (Text edition p number part) = (p ≡ q) × (seen_edition m ≡ edition)
 IsOwnedBy m q (Value cell) = IsHeldBy q (m.cached (Mark cell))
 IsOwnedBy m q (Kind cell) = IsHeldBy q (m.cached (Mark cell))
 IsOwnedBy m q _ = ⊥

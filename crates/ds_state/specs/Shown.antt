@@ -1,5 +1,5 @@
 -- What a world shows.
-use Rattle.std.specs.Prelude.{ℕ, ◌≡◌, ◌<◌, ◌++◌, List, [], ◌∷◌, length, map, take, Option, Some, None, zero, suc}
+use Rattle.std.specs.Prelude.{ℕ, ◌≡◌, ◌<◌, ◌≤◌, nat_le, if◌then◌else◌, ◌++◌, List, [], ◌∷◌, length, map, take, Option, Some, None, zero, suc}
 use Rattle.std.specs.List.{range_with_len}
 use Rattle.ds_formula.specs.Cells.{index_of}
 use Rattle.ds_formula.specs.declared.cells.Cell.{Cell}
@@ -25,7 +25,9 @@ use Rattle.ds_state.specs.Text.{IsText}
 use Rattle.ds_state.specs.World.{PlainEdit, PlainWorld}
 use Rattle.ds_state.specs.declared.stage.Point.{Point}
 use Rattle.ds_state.specs.declared.situation.Situation.{Situation}
-use Rattle.ds_state.specs.declared.situation.Situation.TheVariants.{Idle, Stopped, Editing, Working, Recovering, Showing}
+use Rattle.ds_state.specs.declared.situation.Situation.TheVariants.{Idle, Stopped, Editing, Working, Recovering, Showing, Migrating}
+use Rattle.ds_layout.specs.declared.place.Edition.{Edition}
+use Rattle.ds_state.specs.Editions.{seen_edition, most_in}
 
 -- the mark of the cell with this number, as processes see it
 abbrev pub mark_at : Layout → Memory Place → ℕ → Mark
@@ -44,6 +46,7 @@ MayHold cell (Editing e) = ⊥
 MayHold cell (Working e) = e.cell ≡ cell
 MayHold cell (Recovering e) = Unit {0}
 MayHold cell (Showing e) = ⊥
+MayHold cell (Migrating e) = Unit {0}
 
 -- the value of the cell with this number, as processes see it
 abbrev pub value_at : Layout → Memory Place → ℕ → Value
@@ -65,6 +68,7 @@ point_of (Editing e) = point_at e.stage
 point_of (Working e) = None
 point_of (Recovering e) = None
 point_of (Showing e) = None
+point_of (Migrating e) = None
 
 -- no cell's mark is dirty or held
 abbrev pub AllClean : Layout → Memory Place → Type 0
@@ -81,25 +85,32 @@ last_text [] = []
 last_text (e ∷ []) = e.text
 last_text (e ∷ f ∷ es) = last_text (f ∷ es)
 
--- the first so many parts of a record's text of so many bytes, as processes see them
-abbrev pub parts_at : Memory Place → ℕ → ℕ → ℕ → ℕ → List ℕ
-parts_at memory process number count zero = []
-parts_at memory process number count (suc part) =
-    parts_at memory process number count part ++ take (length_in count part) (bytes_of (memory.cached (place.Text process number part)))
+-- the first so many parts of a record's text of so many bytes, in a layout, as processes see them
+abbrev pub parts_at : Memory Place → Edition → ℕ → ℕ → ℕ → ℕ → List ℕ
+parts_at memory edition process number count zero = []
+parts_at memory edition process number count (suc part) =
+    parts_at memory edition process number count part ++ take (length_in count part) (bytes_of (memory.cached (place.Text edition process number part)))
 
--- the text that a record's header gives it; a word that is no header of the sheet gives none
-abbrev pub headed_at : Memory Place → ℕ → ℕ → Option Header → List ℕ
-headed_at memory process number None = []
-headed_at memory process number (Some header) = parts_at memory process number header.length (parts_for header.length)
+-- a header that says no more than the layout has; any other one is none
+abbrev pub header_in : Edition → Option Header → Option Header
+header_in edition None = None
+header_in edition (Some header) = if nat_le header.length (most_in edition) then Some header else None
+
+-- the text that a record's header gives it in a layout; a word that is no header of the sheet, or says more than the
+-- layout has, gives none
+abbrev pub headed_at : Memory Place → Edition → ℕ → ℕ → Option Header → List ℕ
+headed_at memory edition process number None = []
+headed_at memory edition process number (Some header) =
+    if nat_le header.length (most_in edition) then parts_at memory edition process number header.length (parts_for header.length) else []
 
 -- the text of the record with this process and number, as processes see it
-abbrev pub record_at : Layout → Memory Place → ℕ → ℕ → List ℕ
-record_at layout memory process number = headed_at memory process number (header_of (cells_of layout) (memory.cached (place.Header process number)))
+abbrev pub record_at : Layout → Memory Place → Edition → ℕ → ℕ → List ℕ
+record_at layout memory edition process number = headed_at memory edition process number (header_of (cells_of layout) (memory.cached (place.Header process number)))
 
--- the text of the record that a head names; a word that is no head of the sheet names none
+-- the text of the record that a head names, in the layout that processes see; a word that is no head of the sheet names none
 abbrev pub named_at : Layout → Memory Place → Option Head → List ℕ
 named_at layout memory None = []
-named_at layout memory (Some head) = record_at layout memory head.process head.number
+named_at layout memory (Some head) = record_at layout memory (seen_edition memory) head.process head.number
 
 -- the text of the cell with this number, as processes see it
 abbrev pub text_at : Layout → Memory Place → ℕ → List ℕ
@@ -110,11 +121,12 @@ abbrev pub text_in : PlainWorld → Cell → List ℕ
 text_in w cell = text_at w.layout w.memory (index_of w.layout.shape cell)
 
 -- the parts of the text stand in the words of a record
-pub record HasParts (memory : Memory Place) (process number : ℕ) (text : List ℕ) : Type 0 where
+pub record HasParts (memory : Memory Place) (edition : Edition) (process number : ℕ) (text : List ℕ) : Type 0 where
   pub is : IsText text
-  pub each : (part : ℕ) → part < text_parts text → memory.cached (place.Text process number part) ≡ part_word text part
+  pub fits : length text ≤ most_in edition
+  pub each : (part : ℕ) → part < text_parts text → memory.cached (place.Text edition process number part) ≡ part_word text part
 
 -- the record of this process and number is that of an edit of the cell with the text
-pub record HasRecord (memory : Memory Place) (process number cell : ℕ) (text : List ℕ) : Type 0 where
+pub record HasRecord (memory : Memory Place) (edition : Edition) (process number cell : ℕ) (text : List ℕ) : Type 0 where
   pub header : memory.cached (place.Header process number) ≡ header_word (record { cell = cell; length = length text })
-  pub parts : HasParts memory process number text
+  pub parts : HasParts memory edition process number text

@@ -12,6 +12,8 @@ use Rattle.ds_state.specs.Underway.{reports_under_way}
 use Rattle.ds_state.specs.declared.reports.TheConstants.{SETTLED_MOST}
 use Rattle.ds_state.specs.declared.situation.Situation.{Situation}
 use Rattle.ds_state.specs.declared.situation.Situation.TheVariants.{Idle}
+use Rattle.ds_layout.specs.declared.place.Edition.TheVariants.{First}
+use Rattle.ds_state.specs.declared.situation.Rest.{Rest}
 
 -- a sheet and its words, what each process does, the edits that count, the edit of each process that is not answered,
 -- how many edits were answered Done and how many reports Settled, and each process's last settled report
@@ -24,12 +26,16 @@ pub record WorldValue : Type 0 where
   pub settled : ℕ
   pub reports : PlainReports
 
+-- before its first edit, in the first layout
+abbrev pub first_rest : Rest
+first_rest = record { number = 0; edition = First }
+
 -- the plain world that a value stands for: what it has of no process is what a new world has
 abbrev pub world_of : WorldValue → PlainWorld
 world_of v = record {
   layout = v.sheet.layout;
   memory = memory v.sheet;
-  situation = λ p. slice_index_or v.situations p (Idle 0);
+  situation = λ p. slice_index_or v.situations p (Idle first_rest);
   counted = v.counted;
   open_edits = λ p. slice_index_or v.open_edits p None;
 }

@@ -16,6 +16,7 @@ use Rattle.ds_state.specs.World.{PlainEdit, PlainIssue, PlainWorld, record_word,
 use Rattle.ds_state.specs.Known.{IsSafe}
 use Rattle.ds_state.specs.Works.{MARK_MOST}
 use Rattle.ds_state.specs.Owing.{IsMark, IsApart, Splits}
+use Rattle.ds_state.specs.Editions.{Shows}
 
 -- the persisted head is the one before the cached one, whose edit is open and may have the sides differ
 pub record IsOnItsWay (w : PlainWorld) (es : List PlainEdit) (persisted : ℕ) : Type 0 where
@@ -88,9 +89,14 @@ pub record MarkFits (w : PlainWorld) (cell cached persisted : ℕ) : Type 0 wher
   pub holder : IsMark w.layout cell cached
   pub persisted_holder : IsMark w.layout cell persisted
 
+-- the version's word is 0 or 1, and no newer on its persisted side
+pub record VersionFits (cached persisted : ℕ) : Type 0 where
+  pub behind : persisted ≤ cached
+  pub most : cached ≤ 1
+
 -- the two sides of the word at a place fit the edits that count
 abbrev pub WordFits : PlainWorld → Place → ℕ → ℕ → Type 0
-WordFits w Version cached persisted = Unit {0}
+WordFits w Version cached persisted = VersionFits cached persisted
 WordFits w (Head cell) cached persisted = HeadFits w cell cached persisted
 WordFits w (Mark cell) cached persisted = MarkFits w cell cached persisted
 WordFits w (Value cell) cached persisted = (persisted ≡ cached) ⊎ IsApart w cell
@@ -98,5 +104,5 @@ WordFits w (Kind cell) cached persisted = (persisted ≡ cached) ⊎ IsApart w c
 WordFits w (Index row part) cached persisted = IndexFits w row part cached persisted
 WordFits w (Announce process) cached persisted = AnnounceFits w process cached persisted
 WordFits w (Header process number) cached persisted = RecordFits w process number zero cached persisted
-WordFits w (Text process number part) cached persisted = RecordFits w process number (suc part) cached persisted
+WordFits w (Text edition process number part) cached persisted = Shows w.memory edition → RecordFits w process number (suc part) cached persisted
 WordFits w (Done process part) cached persisted = DoneFits w process part cached persisted

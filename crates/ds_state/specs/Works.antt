@@ -1,5 +1,5 @@
 -- Work, a recovery and a report under way, without where they lie in memory.
-use Rattle.std.specs.Prelude.{ℕ, ◌+◌, ◌^◌, ◌≡◌, ◌<◌, ◌≤◌, List, length, slice_index_or, true, false}
+use Rattle.std.specs.Prelude.{ℕ, ◌+◌, ◌*◌, ◌/◌, ◌%◌, ◌^◌, ◌≡◌, ◌<◌, ◌≤◌, List, length, slice_index_or, true, false}
 use Rattle.ds_layout.specs.Bits.{HasBit, part_with, parts_for}
 use Rattle.ds_state.specs.EntryWords.{value_for, word_for}
 use Rattle.ds_formula.specs.Refs.{IsPossible}
@@ -15,12 +15,21 @@ use Rattle.ds_eval.specs.declared.inputs.Input.{Input}
 use Rattle.ds_state.specs.declared.work.WorkStage.{WorkStage}
 use Rattle.ds_state.specs.declared.work.RecoverStage.{RecoverStage}
 use Rattle.ds_state.specs.declared.work.ShowStage.{ShowStage}
+use Rattle.ds_layout.specs.declared.place.Edition.{Edition}
+use Rattle.ds_layout.specs.declared.place.Edition.TheVariants.{First, Second}
+use Rattle.ds_layout.specs.declared.place.Place.{Place}
+use Rattle.ds_layout.specs.declared.place.Place.TheVariants as place
+use Rattle.ds_layout.specs.declared.place.TheConstants.{RECORDS, FIRST_PARTS}
+use Rattle.ds_state.specs.declared.work.MigrateStage.{MigrateStage}
+use Rattle.ds_state.specs.declared.work.MigrateStage.TheVariants.{LoadOld, StoreNew, FlushNew, BackNew}
+use Rattle.ds_state.specs.Editions.{most_in}
 
--- a work under way: its process, the number of the process's next edit, the cell; the mark that it saw, then its
+-- a work under way: its process, the layout that it reads, the number of the process's next edit, the cell; the mark that it saw, then its
 -- claim; the head, the length and the text that it noted, its content, the references with what they show; its own
 -- words; what the inputs give; the index row of the cell
 pub record PlainWorkCall : Type 0 where
   pub process : ℕ
+  pub edition : Edition
   pub next : ℕ
   pub cell : ℕ
   pub cells : ℕ
@@ -99,6 +108,7 @@ pub record IsWork (e : PlainWorkCall) : Type 0 where
   pub cells : e.cells ≤ CELLS_MOST
   pub young : generation_of e.mark ≤ SEEN_MOST + 1
   pub short : e.length ≤ TEXT_MOST
+  pub fits : e.length ≤ most_in e.edition
   pub text : length e.text ≤ e.length
   pub possible : (j : ℕ) → j < length e.inputs → IsPossible (cell_in e.inputs j)
   pub height : e.entry.height ≤ CELLS_MOST
@@ -111,10 +121,11 @@ pub record IsWorkIn (e : PlainWorkCall) (places : ℕ) : Type 0 where
   pub is : IsWork e
   pub room : e.cells ≤ places
 
--- a recovery under way: its process; the mark that it saw, the index row of the cell that it gives back; the
+-- a recovery under way: its process; the layout that it noted; the mark that it saw, the index row of the cell that it gives back; the
 -- announcement that it saw, and the cell of that edit
 pub record PlainRecoverCall : Type 0 where
   pub process : ℕ
+  pub edition : Edition
   pub cells : ℕ
   pub processes : ℕ
   pub mark : ℕ
@@ -126,6 +137,7 @@ pub record PlainRecoverCall : Type 0 where
 -- a report under way: its process, the number of the process's next edit; what it noted so far
 pub record PlainShowCall : Type 0 where
   pub process : ℕ
+  pub edition : Edition
   pub next : ℕ
   pub cells : ℕ
   pub processes : ℕ
@@ -134,3 +146,36 @@ pub record PlainShowCall : Type 0 where
   pub values : List ℕ
   pub kinds : List ℕ
   pub stage : ShowStage
+
+-- a migration under way: its process, how many there are, and the word that it loaded
+pub record PlainMigrateCall : Type 0 where
+  pub process : ℕ
+  pub processes : ℕ
+  pub word : ℕ
+  pub stage : MigrateStage
+
+-- how many words the texts of the first layout have, of so many processes
+abbrev pub old_words : ℕ → ℕ
+old_words processes = processes * RECORDS * FIRST_PARTS
+
+-- the place of the word that a migration copies from, by where it stands among those of all texts
+abbrev pub old_text : ℕ → Place
+old_text at = place.Text First (at / FIRST_PARTS / RECORDS) (at / FIRST_PARTS % RECORDS) (at % FIRST_PARTS)
+
+-- the place that it copies this word to
+abbrev pub new_text : ℕ → Place
+new_text at = place.Text Second (at / FIRST_PARTS / RECORDS) (at / FIRST_PARTS % RECORDS) (at % FIRST_PARTS)
+
+-- the word that is copied at a stage is one of the texts
+abbrev pub IsCopied : ℕ → MigrateStage → Type 0
+IsCopied words (LoadOld at) = at < words
+IsCopied words (StoreNew at) = at < words
+IsCopied words (FlushNew at) = at < words
+IsCopied words (BackNew at) = at < words
+IsCopied words _ = Unit {0}
+
+-- a migration's process is one of the sheet, and what it copies is a word of the sheet's texts
+pub record IsMigration (e : PlainMigrateCall) : Type 0 where
+  pub process : e.process < e.processes
+  pub processes : e.processes ≤ PROCESSES_MOST
+  pub stage : IsCopied (old_words e.processes) e.stage

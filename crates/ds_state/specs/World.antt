@@ -13,6 +13,7 @@ use Rattle.ds_layout.specs.TextWords.{part_word}
 use Rattle.ds_layout.specs.Bits.{part_with}
 use Rattle.ds_state.specs.Edits.{PlainEditCall, text_parts}
 use Rattle.ds_state.specs.declared.situation.Situation.{Situation}
+use Rattle.ds_layout.specs.declared.place.Edition.{Edition}
 
 -- what an edit is to whoever asked for it
 pub record PlainEdit : Type 0 where
@@ -39,10 +40,10 @@ pub record PlainWorld : Type 0 where
   pub counted : List PlainEdit
   pub open_edits : ℕ → Option PlainIssue
 
--- the place of a word of an edit's record: the header, then the parts of its text
-abbrev pub record_place : ℕ → ℕ → ℕ → Place
-record_place process number zero = place.Header process number
-record_place process number (suc part) = place.Text process number part
+-- the place of a word of an edit's record in a layout: the header, then the parts of its text
+abbrev pub record_place : Edition → ℕ → ℕ → ℕ → Place
+record_place edition process number zero = place.Header process number
+record_place edition process number (suc part) = place.Text edition process number part
 
 -- the word of an edit's record with this number: the header, then the parts of its text
 abbrev pub record_word : PlainEdit → ℕ → ℕ

@@ -4,6 +4,7 @@ ghost use Rattle.std.specs.Prelude.{◌≡◌, ◌+◌, ◌/◌, length};
 
 use crate::stage::Stage;
 use crate::text::Text;
+use ds_layout::place::Edition;
 use std::marker::Model;
 
 /// An edit of a cell, with all that its steps need.
@@ -13,6 +14,8 @@ pub struct EditCall {
     pub process: usize,
     /// Which edit of the process it is, from 0.
     pub number: usize,
+    /// The layout that it writes.
+    pub edition: Edition,
     /// The cell, by its number.
     pub cell: usize,
     /// What the cell is to hold.
@@ -35,6 +38,7 @@ impl Model for EditCall {
     ghost view = { λ a. record {
       process = a.process;
       number = a.number;
+      edition = a.edition;
       cell = a.cell;
       text = a.text;
       refs = a.refs.items;
@@ -46,6 +50,7 @@ impl Model for EditCall {
     ghost invariant = { λ a. IsEdit (record {
       process = a.process;
       number = a.number;
+      edition = a.edition;
       cell = a.cell;
       text = a.text;
       refs = a.refs.items;

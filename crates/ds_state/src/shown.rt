@@ -2,19 +2,19 @@
 
 ghost use Rattle.std.specs.Prelude.{◌≡◌, ◌<◌, ◌≤◌, ◌↔◌, ℕ, List, length, IsTrue, IfOk, ◌+◌, ◌/◌};
 ghost use Rattle.ds_layout.specs.declared.place.TheConstants.{RECORDS};
-ghost use Rattle.ds_formula.specs.Limits.{TEXT_MOST};
 ghost use Rattle.ds_layout.specs.Places.{cells_of};
 ghost use Rattle.ds_layout.specs.SheetMemory.{memory};
 ghost use Rattle.ds_layout.specs.TextWords.{parts_for};
+ghost use Rattle.ds_state.specs.Editions.{most_in};
 ghost use Rattle.ds_state.specs.EntryWords.{shown_of};
-ghost use Rattle.ds_state.specs.Shown.{mark_at, value_at, AllClean, parts_at, record_at, text_at};
+ghost use Rattle.ds_state.specs.Shown.{mark_at, value_at, AllClean, parts_at, record_at, text_at, header_in};
 
 use ds_eval::value::Value;
 use ds_layout::head::Head;
 use ds_layout::header::Header;
 use ds_layout::layout::Layout;
 use ds_layout::mark::{Mark, State};
-use ds_layout::place::Place;
+use ds_layout::place::{Edition, Place};
 use ds_layout::sheet_words::SheetWords;
 use ds_layout::stored::{Kind, Stored};
 use ds_layout::text::{part_bytes, part_length, text_parts};
@@ -101,22 +101,34 @@ pub fn value<W: SheetReader>(words: &W, cell: usize) -> Value
     shown(Stored::read(value, kind, words.layout().cells()))
 }
 
+/// The header, where it says no more than the layout has.
+pub fn header_in(edition: Edition, header: Option<Header>) -> Option<Header>
+    ensures { result ≡ header_in edition header }
+{
+    match header {
+        Some(header) if header.length <= 8 * edition.parts() => Some(header),
+        _ => None,
+    }
+}
+
 // The parts of a record's text, of so many bytes.
 fn parts<W: SheetReader>(
     words: &W,
     alloc: Global,
+    edition: Edition,
     process: usize,
     number: usize,
     count: usize,
 ) -> Result<Vec<u8>, AllocError>
     requires process { process < (W.sheet words.now).processes }
     requires number { number < RECORDS }
-    requires count { count ≤ TEXT_MOST }
-    ensures { IfOk result (λ v. v.items ≡ parts_at (W.seen words.now) process number count (parts_for count)) }
+    requires count { count ≤ most_in edition }
+    ensures { IfOk result (λ v. v.items ≡ parts_at (W.seen words.now) edition process number count (parts_for count)) }
 {
     let mut bytes = Vec::with_capacity(alloc, count)?;
     for part in 0..text_parts(count) {
         let word = words.load(Place::Text {
+            edition,
             process,
             number,
             part,
@@ -127,22 +139,29 @@ fn parts<W: SheetReader>(
     Ok(bytes)
 }
 
-/// The text of the record that this process has at this number: as many bytes as its header says.
-/// Where the header is none of the sheet's, no part is read and the text is empty. An error is a
+/// The text of the record that this process has at this number, in a layout: as many bytes as its
+/// header says. Where the header is none of the sheet's, or says more than the layout has, no part is read and the text is empty. An error is a
 /// want of memory.
 pub fn record_text<W: SheetReader>(
     words: &W,
     alloc: Global,
+    edition: Edition,
     process: usize,
     number: usize,
 ) -> Result<Vec<u8>, AllocError>
     requires process { process < (W.sheet words.now).processes }
     requires number { number < RECORDS }
-    ensures { IfOk result (λ v. v.items ≡ record_at (W.sheet words.now) (W.seen words.now) process number) }
+    ensures { IfOk result (λ v. v.items ≡ record_at (W.sheet words.now) (W.seen words.now) edition process number) }
 {
     let word = words.load(Place::Header { process, number });
     match Header::read(word, words.layout().cells()) {
-        Some(header) => parts(words, alloc, process, number, header.length),
+        Some(header) => {
+            if header.length <= 8 * edition.parts() {
+                parts(words, alloc, edition, process, number, header.length)
+            } else {
+                Ok(Vec::new(alloc))
+            }
+        }
         None => Ok(Vec::new(alloc)),
     }
 }
@@ -155,7 +174,10 @@ pub fn text<W: SheetReader>(words: &W, alloc: Global, cell: usize) -> Result<Vec
 {
     let word = words.load(Place::Head(cell));
     match Head::read(word, words.layout().processes) {
-        Some(head) => record_text(words, alloc, head.process, head.number),
+        Some(head) => {
+            let edition = Edition::read(words.load(Place::Version));
+            record_text(words, alloc, edition, head.process, head.number)
+        }
         None => Ok(Vec::new(alloc)),
     }
 }

@@ -5,13 +5,23 @@ ghost use Rattle.ds_state.specs.Refusals.{next_edit};
 
 use crate::edit::EditCall;
 use crate::refusal::Refusal;
-use crate::work::{RecoverCall, ShowCall, WorkCall};
+use crate::work::{MigrateCall, RecoverCall, ShowCall, WorkCall};
+use ds_layout::place::Edition;
+
+/// What a process in no call knows.
+#[derive(Clone, Copy, Debug, PartialEq, Eq)]
+pub struct Rest {
+    /// The number of its next edit.
+    pub number: usize,
+    /// The layout of the sheet's texts.
+    pub edition: Edition,
+}
 
 /// What a process is doing.
 #[derive(Debug, Drop)]
 pub enum Situation {
-    /// In no call, with the number of its next edit.
-    Idle(usize),
+    /// In no call, with the number of its next edit and the layout that it noted.
+    Idle(Rest),
     /// It has stopped, and takes no steps.
     Stopped,
     /// It edits a cell.
@@ -22,6 +32,8 @@ pub enum Situation {
     Recovering(RecoverCall),
     /// It reports.
     Showing(ShowCall),
+    /// It migrates the sheet to the second layout.
+    Migrating(MigrateCall),
 }
 
 /// Puts a process into a situation, and leaves the others in theirs. It answers the one that the process was in.
@@ -45,16 +57,18 @@ pub fn put(situations: &mut Vec<Situation>, process: usize, situation: Situation
     situations[process] = situation;
 }
 
-/// The number of the next edit of a process in this situation, from 0 to 256, if it may begin an edit, work or a report.
+/// The number of the next edit of a process in this situation, from 0 to 256, and the layout that it noted, if it may begin an edit, work or a report.
 /// Else the refusal: `Busy` where it is in a call, `Stopped` where it is stopped.
 #[inline(always)]
-pub fn next_edit(situation: &Situation) -> Result<usize, Refusal>
+pub fn next_edit(situation: &Situation) -> Result<Rest, Refusal>
     ensures { result ≡ next_edit situation.now }
 {
     match situation {
-        Situation::Idle(number) => Ok(*number),
+        Situation::Idle(next) => Ok(*next),
         Situation::Stopped => Err(Refusal::Stopped),
         Situation::Editing(_) | Situation::Working(_) => Err(Refusal::Busy),
-        Situation::Recovering(_) | Situation::Showing(_) => Err(Refusal::Busy),
+        Situation::Recovering(_) | Situation::Showing(_) | Situation::Migrating(_) => {
+            Err(Refusal::Busy)
+        }
     }
 }

@@ -6,6 +6,7 @@ use crate::row::Row;
 use crate::text::Text;
 use ds_eval::inputs::{Entry, Inputs};
 use ds_formula::content::Content;
+use ds_layout::place::Edition;
 use std::marker::Model;
 
 /// Telling the cells that refer to one: first its index row is loaded part by part, then each cell
@@ -108,6 +109,8 @@ pub enum WorkStage {
 pub struct WorkCall {
     /// The process that runs it.
     pub process: usize,
+    /// The layout of the sheet's texts, as it was noted.
+    pub edition: Edition,
     /// The number of its next edit.
     pub next: usize,
     /// The cell.
@@ -153,6 +156,7 @@ impl Model for WorkCall {
 
     ghost view = { λ a. record {
       process = a.process;
+      edition = a.edition;
       next = a.next;
       cell = a.cell;
       cells = a.cells;
@@ -172,6 +176,7 @@ impl Model for WorkCall {
 
     ghost invariant = { λ a. IsWorkIn (record {
       process = a.process;
+      edition = a.edition;
       next = a.next;
       cell = a.cell;
       cells = a.cells;
@@ -193,6 +198,12 @@ impl Model for WorkCall {
 /// What a recovery does next.
 #[derive(Clone, Copy, Debug, PartialEq, Eq)]
 pub enum RecoverStage {
+    /// Load the version's word.
+    LoadVersion,
+    /// Flush it.
+    FlushVersion,
+    /// Write that back.
+    BackVersion,
     /// Load a cell's mark.
     LoadMark(usize),
     /// Flush the value of a held cell.
@@ -246,6 +257,8 @@ pub enum RecoverStage {
 pub struct RecoverCall {
     /// The process that runs it.
     pub process: usize,
+    /// The layout of the sheet's texts, as it was noted.
+    pub edition: Edition,
     /// How many cells the sheet has.
     pub cells: usize,
     /// How many processes the sheet has.
@@ -270,6 +283,7 @@ impl Model for RecoverCall {
 
     ghost view = { λ a. record {
       process = a.process;
+      edition = a.edition;
       cells = a.cells;
       processes = a.processes;
       mark = a.mark;
@@ -281,6 +295,7 @@ impl Model for RecoverCall {
 
     ghost invariant = { λ a. IsRecovery (record {
       process = a.process;
+      edition = a.edition;
       cells = a.cells;
       processes = a.processes;
       mark = a.mark;
@@ -336,6 +351,8 @@ pub enum ShowStage {
 pub struct ShowCall {
     /// The process that runs it.
     pub process: usize,
+    /// The layout of the sheet's texts, as it was noted.
+    pub edition: Edition,
     /// The number of its next edit.
     pub next: usize,
     /// How many cells the sheet has.
@@ -363,6 +380,7 @@ impl Model for ShowCall {
 
     ghost view = { λ a. record {
       process = a.process;
+      edition = a.edition;
       next = a.next;
       cells = a.cells;
       processes = a.processes;
@@ -375,6 +393,7 @@ impl Model for ShowCall {
 
     ghost invariant = { λ a. IsReady (record {
       process = a.process;
+      edition = a.edition;
       next = a.next;
       cells = a.cells;
       processes = a.processes;
@@ -384,4 +403,69 @@ impl Model for ShowCall {
       kinds = a.kinds.items;
       stage = a.stage;
     }) (vec_capacity a.announcements) (vec_capacity a.marks) (vec_capacity a.values) (vec_capacity a.kinds) };
+}
+
+/// How a migration ended.
+#[derive(Clone, Copy, Debug, PartialEq, Eq)]
+pub enum MigrateEnd {
+    /// The sheet has come to the second layout.
+    Migrated,
+    /// It had it already.
+    Already,
+}
+
+/// What a migration does next. Words are counted over all texts of the first layout.
+#[derive(Clone, Copy, Debug, PartialEq, Eq)]
+pub enum MigrateStage {
+    /// Load the version's word.
+    LoadVersion,
+    /// Load a word of the first layout's texts.
+    LoadOld(usize),
+    /// Store it where the second layout has it.
+    StoreNew(usize),
+    /// Flush that.
+    FlushNew(usize),
+    /// Write that back.
+    BackNew(usize),
+    /// Make the second layout the sheet's.
+    Swap,
+    /// Flush the version's word.
+    FlushVersion(MigrateEnd),
+    /// Write that back.
+    BackVersion(MigrateEnd),
+    /// Answer.
+    Answer(MigrateEnd),
+}
+
+/// A migration under way.
+#[derive(Debug, Drop)]
+pub struct MigrateCall {
+    /// The process that runs it.
+    pub process: usize,
+    /// How many processes the sheet has.
+    pub processes: usize,
+    /// The word that it loaded.
+    pub word: u64,
+    /// What it does next.
+    pub stage: MigrateStage,
+}
+
+impl Model for MigrateCall {
+    ghost use Rattle.ds_state.specs.Works.{PlainMigrateCall, IsMigration};
+
+    ghost Value = { PlainMigrateCall };
+
+    ghost view = { λ a. record {
+      process = a.process;
+      processes = a.processes;
+      word = a.word;
+      stage = a.stage;
+    } };
+
+    ghost invariant = { λ a. IsMigration (record {
+      process = a.process;
+      processes = a.processes;
+      word = a.word;
+      stage = a.stage;
+    }) };
 }

@@ -2,18 +2,19 @@
 
 ghost use Rattle.std.specs.Prelude.{◌≡◌, ◌<◌, ◌≤◌, ◌↔◌, IsTrue, IfOk, All, None, replicate};
 ghost use Rattle.ds_formula.specs.Cells.{IsInside, count_of};
+ghost use Rattle.ds_state.specs.Value.{first_rest};
 
 use crate::ledger::{Edit, Issue};
 use crate::reports::Reports;
 use crate::shown;
-use crate::situation::Situation;
+use crate::situation::{Rest, Situation};
 use crate::stage::Point;
 use ds_eval::inputs::Inputs;
 use ds_eval::value::Value;
 use ds_formula::cells::{Cell, Shape};
 use ds_layout::layout::{Layout, PROCESS_LIMIT};
 use ds_layout::mark::Mark;
-use ds_layout::place::RECORDS;
+use ds_layout::place::{Edition, RECORDS};
 use ds_layout::sheet_words::SheetWords;
 use std::alloc::{AllocError, Global};
 use std::marker::Model;
@@ -73,11 +74,14 @@ impl Model for World {
 // As many idle processes, each before its edit 0.
 #[tactic(auto, using(crate::proofs::Made::one_more))]
 fn idle(alloc: Global, processes: usize) -> Result<Vec<Situation>, AllocError>
-    ensures { IfOk result (λ v. v.items ≡ replicate processes (Situation.Idle 0)) }
+    ensures { IfOk result (λ v. v.items ≡ replicate processes (Situation.Idle first_rest)) }
 {
     let mut situations = Vec::with_capacity(alloc, processes)?;
     for _ in 0..processes {
-        situations.push(Situation::Idle(0))?;
+        situations.push(Situation::Idle(Rest {
+            number: 0,
+            edition: Edition::First,
+        }))?;
     }
     Ok(situations)
 }
@@ -173,6 +177,7 @@ impl World {
             Situation::Editing(call) => call.stage.point(),
             Situation::Idle(_) | Situation::Stopped => None,
             Situation::Working(_) | Situation::Recovering(_) | Situation::Showing(_) => None,
+            Situation::Migrating(_) => None,
         }
     }
 }

@@ -11,7 +11,7 @@ use std::alloc::{AllocError, Global};
 use std::marker::Model;
 
 /// How many entries a buffer has room for.
-pub const BUFFER_ENTRIES: usize = 16;
+pub const BUFFER_ENTRIES: usize = 32;
 
 /// The two sides of a word.
 #[derive(Clone, Copy, Debug, PartialEq, Eq)]

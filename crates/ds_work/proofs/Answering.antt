@@ -27,6 +27,7 @@ use Rattle.ds_state.specs.declared.work.Spread.TheVariants.{LoadRow, OrTold, Flu
 use Rattle.ds_work.specs.WorkSteps.{at, next_at, claims_from, head_from, header_from, told, tell_from, StepsAt}
 use Rattle.ds_work.specs.WorkAnswers.{IsDecided, mark_now, IsTrueAnswer}
 use Rattle.ds_work.proofs.EachWork.{fits_at}
+use Rattle.ds_state.specs.Shown.{header_in}
 
 -- a test of which the outcome is known
 when : (b : Bool) (x y : PlainWorkCall) (end : WorkEnd) → b ≡ true → IsDecided (if b then x else y).stage end → IsDecided x.stage end
@@ -76,7 +77,7 @@ module _ (e : PlainWorkCall) (word : ℕ) (old new : PlainWorld) (sound : IsSoun
   decided FlushClaim fits t d = absurd d
   decided BackClaim fits t d = absurd d
   decided LoadHead fits t d = absurd (no_head (head_of e.processes word) d)
-  decided LoadHeader fits t d = absurd (no_header (header_of e.cells word) d)
+  decided LoadHeader fits t d = absurd (no_header (header_in e.edition (header_of e.cells word)) d)
   decided (LoadText part) fits t d = absurd (either (nat_lt (part + 1) ((e.length + 7) / 8)) (record e { text = take e.length (e.text ++ bytes_of word); stage = LoadText (part + 1) }) (record e { text = take e.length (e.text ++ bytes_of word); stage = Read }) end (λ x. x) (λ x. x) d)
   decided Read fits t d = absurd d
   decided (LoadValue i) fits t d = absurd d

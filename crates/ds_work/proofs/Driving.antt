@@ -18,7 +18,7 @@ use Rattle.ds_state.proofs.Underway.{no_more}
 use Rattle.ds_state.specs.declared.refusal.Refusal.{Refusal}
 use Rattle.ds_state.specs.declared.refusal.Refusal.TheVariants as refusal
 use Rattle.ds_state.specs.declared.situation.Situation.{Situation}
-use Rattle.ds_state.specs.declared.situation.Situation.TheVariants.{Idle, Stopped, Editing, Working, Recovering, Showing}
+use Rattle.ds_state.specs.declared.situation.Situation.TheVariants.{Idle, Stopped, Editing, Working, Recovering, Showing, Migrating}
 use Rattle.ds_state.specs.declared.work.WorkStage.TheVariants.{LoadMark, Read, Wait, Answer}
 use Rattle.ds_eval.specs.declared.inputs.Entry as entries
 use Rattle.ds_eval.specs.Inputs.{entry_in}
@@ -35,6 +35,8 @@ use Rattle.ds_state.specs.Refusals.{next_edit}
 use Rattle.ds_work.specs.WorkTakes.{CanNotAdvance, IsAskedFor, IsOffered, Refuses, StepsBy, TakesTurn, answers, lacked, reads, steps}
 use Rattle.ds_work.proofs.EachWork.{begins_keep, offer_keep, work_steps_keep, reads_keep, lacks_keep}
 use Rattle.ds_work.proofs.WorkNamed.{can_perform}
+use Rattle.ds_state.specs.Value.{first_rest}
+use Rattle.ds_state.specs.declared.situation.Rest.{Rest}
 
 -- a process that works reports nothing
 after_quiet : (e : PlainWorkCall) (s : WorkStage) (word : ℕ) → reports_in (after e s word) ≡ 0
@@ -50,10 +52,10 @@ module _ (v : WorldValue) (p : ℕ) (sheet : SheetValue) (s : Situation) (layout
   there g = let k = g.situations in omega (arith, k, low)
 
   pub situation_is : IsGood v → (world_of (put v p sheet s)).situation p ≡ s
-  situation_is g = get_or-set_same v.situations p s (Idle 0) (there g)
+  situation_is g = get_or-set_same v.situations p s (Idle first_rest) (there g)
 
   pub others_are : (q : ℕ) → q ≢ p → (world_of (put v p sheet s)).situation q ≡ (world_of v).situation q
-  others_are q ne = get_or-set_other v.situations p q s (Idle 0) ne
+  others_are q ne = get_or-set_other v.situations p q s (Idle first_rest) ne
 
   -- it stays a world where its step is a sound one
   pub put_kept : reports_in s ≡ 0 → (room : ℕ) → IsReserved v room → Keeps p (world_of v) (world_of (put v p sheet s)) → IsReserved (put v p sheet s) room
@@ -74,7 +76,7 @@ module _ (v : WorldValue) (p : ℕ) (sheet : SheetValue) (s : Situation) (layout
 
 -- ---- beginnings
 
-module _ (v : WorldValue) (e : PlainWorkCall) (next : ℕ) (room : ℕ) (kept : IsReserved v room) (index : ℕ) (asked : IsAskedFor v.sheet.layout e.process next index e)
+module _ (v : WorldValue) (e : PlainWorkCall) (next : Rest) (room : ℕ) (kept : IsReserved v room) (index : ℕ) (asked : IsAskedFor v.sheet.layout e.process next index e)
     (low : e.process < v.sheet.layout.processes) (idle : (world_of v).situation e.process ≡ Idle next) where
   pub begun : BeginsWork next e (world_of v) (world_of (put v e.process v.sheet (Working e)))
   begun = record {
@@ -101,7 +103,7 @@ module _ (v : WorldValue) (e : PlainWorkCall) (next : ℕ) (room : ℕ) (kept : 
 
 -- the situation that was read is the process's
 pub situation_at : (v : WorldValue) (p : ℕ) (read : Situation) → IsGood v → p < v.sheet.layout.processes → read ≡ get_or v.situations p read → (world_of v).situation p ≡ read
-situation_at v p read good low is = get_or_default v.situations p (Idle 0) read (let s = good.situations in omega (arith, s, low)) ∙ sym is
+situation_at v p read good low is = get_or_default v.situations p (Idle first_rest) read (let s = good.situations in omega (arith, s, low)) ∙ sym is
 
 -- why a process in this situation may not begin work
 pub refuses_of : (w : PlainWorld) (p : ℕ) (s : Situation) (r : Refusal) → w.situation p ≡ s → Err r ≡ next_edit s → Refuses w p r
@@ -111,6 +113,7 @@ refuses_of w p (Editing e) r at is = rw at (let same : r ≡ refusal.Busy = cc i
 refuses_of w p (Working e) r at is = rw at (let same : r ≡ refusal.Busy = cc in same)
 refuses_of w p (Recovering e) r at is = rw at (let same : r ≡ refusal.Busy = cc in same)
 refuses_of w p (Showing e) r at is = rw at (let same : r ≡ refusal.Busy = cc in same)
+refuses_of w p (Migrating e) r at is = rw at (let same : r ≡ refusal.Busy = cc in same)
 
 -- ---- works under way
 

@@ -25,6 +25,9 @@ use Rattle.ds_work.proofs.WorkTells.{load_row, or_told, flush_told, back_told}
 use Rattle.ds_work.proofs.WorkEnds.{clear, clear_dirty, give, give_dirty, flush_cleared, back_cleared, answer}
 use Rattle.ds_work.proofs.WholeSteps.{begin_work_keeps}
 use Rattle.ds_work.proofs.WorkRead.{read_keeps, lacks_keeps, offers_keep}
+use Rattle.ds_state.specs.declared.situation.Rest.{Rest}
+use Rattle.ds_state.proofs.Frames.{Goes, notes, noted_in}
+use Rattle.std.proofs.Common.{ap, sym, ◌∙◌, Some}
 
 pub fits_at : (e : PlainWorkCall) (s : WorkStage) (w : PlainWorld) → IsSound w → e.process < w.layout.processes → w.situation e.process ≡ Working (at e s) → WorkFits w e.process (at e s)
 fits_at e s w sound real was = subst (λ (x : Situation). CallFits w e.process x) was (sound.calls e.process real)
@@ -80,7 +83,10 @@ pub offer_keep : (e : PlainWorkCall) (entry : entries.Entry) (old new : PlainWor
     → old.situation e.process ≡ Working (at e Wait) → OffersAt e entry old new → Keeps e.process old new
 offer_keep e entry old new sound real was t = offers_keep e old new sound real entry (fits_at e Wait old sound real was) was t
 
-pub begins_keep : (next : ℕ) (e : PlainWorkCall) (old new : PlainWorld) → IsSound old → e.process < old.layout.processes → BeginsWork next e old new → Keeps e.process old new
+begin_goes : (next : Rest) (e : PlainWorkCall) (old new : PlainWorld) → e.process < old.layout.processes → BeginsWork next e old new → Goes e.process old new
+begin_goes next e old new real b = notes e.edition real (ap noted_in b.was ∙ ap (λ (x : Rest). Some x.edition) (sym b.next_is)) (ap noted_in b.turn.situation)
+
+pub begins_keep : (next : Rest) (e : PlainWorkCall) (old new : PlainWorld) → IsSound old → e.process < old.layout.processes → BeginsWork next e old new → Keeps e.process old new
 begins_keep next e old new sound real b = begin_work_keeps e.process next e old new sound real
-    (record { layout = b.turn.layout; counted = b.turn.counted; situations = b.turn.others; pendings = λ q ne. b.turn.open_edits q })
+    (record { layout = b.turn.layout; counted = b.turn.counted; situations = b.turn.others; pendings = λ q ne. b.turn.open_edits q; goes = begin_goes next e old new real b })
     b.turn.memory (b.turn.open_edits e.process) b.was b.turn.situation refl b.next_is b.cells b.processes b.cell

@@ -134,6 +134,7 @@ read_is e content inputs h each = go (nat_lt 0 (length inputs)) refl
       cells = h.cells;
       young = h.young;
       short = h.short;
+      fits = h.fits;
       text = h.text;
       possible = each;
       height = h.height;

@@ -19,3 +19,4 @@ pub mod Turning
 pub mod WorkShows
 pub mod WorkAlone
 pub mod WorkLeaves
+pub mod Keeping

@@ -30,11 +30,15 @@ use Rattle.ds_work.specs.WorkSteps.{at, next_at, claims_from, head_from, header_
 use Rattle.ds_work.specs.declared.machine.Noting.{Noting}
 use Rattle.ds_work.specs.declared.machine.Noting.TheVariants as notes
 use Rattle.ds_work.specs.Noted.{mark_at, head_at, length_at, length_in, text_after, text_at, inputs_after, inputs_at, value_after, value_at, kind_after, kind_at, row_after, row_at, stage_at, seen_mark, notes_at}
+use Rattle.ds_state.specs.Editions.{most_in}
+use Rattle.ds_state.specs.Shown.{header_in}
+use Rattle.ds_state.proofs.ReadBack.{header_in_fits, most_small}
 
 -- the work with these changes
 abbrev pub noted : PlainWorkCall → WorkStage → ℕ → PlainWorkCall
 noted e s word = record {
   process = e.process;
+  edition = e.edition;
   next = e.next;
   cell = e.cell;
   cells = e.cells;
@@ -94,7 +98,7 @@ module _ (e : PlainWorkCall) (word : ℕ) where
   next_noted FlushClaim = refl
   next_noted BackClaim = refl
   next_noted LoadHead = by_head (head_of e.processes word)
-  next_noted LoadHeader = by_header (header_of e.cells word)
+  next_noted LoadHeader = by_header (header_in e.edition (header_of e.cells word))
   next_noted (LoadText part) = chosen (nat_lt (part + 1) ((e.length + 7) / 8)) (record e { text = take e.length (e.text ++ bytes_of word) }) (LoadText (part + 1)) Read
   next_noted Read = refl
   next_noted (LoadValue i) = refl
@@ -130,6 +134,7 @@ staged e s s' h claim stage told = record {
   cells = h.cells;
   young = h.young;
   short = h.short;
+  fits = h.fits;
   text = h.text;
   possible = h.possible;
   height = h.height;
@@ -155,6 +160,7 @@ marked_as e s mark s' h young claim stage told = record {
   cells = h.cells;
   young = young;
   short = h.short;
+  fits = h.fits;
   text = h.text;
   possible = h.possible;
   height = h.height;
@@ -174,7 +180,7 @@ marked_as e s mark s' h young claim stage told = record {
     fits _ k = tt
 
 module _ (e : PlainWorkCall) (word : ℕ) where
-  texted : (s : WorkStage) (head count : ℕ) (text : List ℕ) (s' : WorkStage) → IsWork (at e s) → count ≤ TEXT_MOST → length text ≤ count
+  texted : (s : WorkStage) (head count : ℕ) (text : List ℕ) (s' : WorkStage) → IsWork (at e s) → count ≤ most_in e.edition → length text ≤ count
       → ClaimFits e s' → StageFits (record e { head = head; length = count; text = text }) s' → TellsFits e s' → IsWork (record e { head = head; length = count; text = text; stage = s' })
   texted s head count text s' h short within claim stage told = record {
     process = h.process;
@@ -182,7 +188,8 @@ module _ (e : PlainWorkCall) (word : ℕ) where
     cell = h.cell;
     cells = h.cells;
     young = h.young;
-    short = short;
+    short = (let m = most_small e.edition in omega arith);
+    fits = short;
     text = within;
     possible = h.possible;
     height = h.height;
@@ -191,7 +198,7 @@ module _ (e : PlainWorkCall) (word : ℕ) where
     told = told;
   }
 
-  parted : (s : WorkStage) (head count part : ℕ) (text : List ℕ) → IsWork (at e s) → count ≤ TEXT_MOST → length text ≤ count → IsWork (text_from (record e { head = head; length = count; text = text }) part)
+  parted : (s : WorkStage) (head count part : ℕ) (text : List ℕ) → IsWork (at e s) → count ≤ most_in e.edition → length text ≤ count → IsWork (text_from (record e { head = head; length = count; text = text }) part)
   parted s head count part text h short within = branches (nat_lt part ((count + 7) / 8)) (record e { head = head; length = count; text = text; stage = LoadText part }) (record e { head = head; length = count; text = text; stage = Read })
       (λ b. texted s head count text (LoadText part) h short within tt (let l = ltb-true part ((count + 7) / 8) b in omega arith) tt)
       (λ b. texted s head count text Read h short within tt tt tt)
@@ -206,9 +213,9 @@ module _ (e : PlainWorkCall) (word : ℕ) where
   by_top None h = texted LoadHead word 0 [] Read h (omega arith) (omega arith) tt tt tt
   by_top (Some head) h = texted LoadHead word 0 [] LoadHeader h (omega arith) (omega arith) tt tt tt
 
-  by_record : (o : Option Header) → header_of e.cells word ≡ o → IsWork (at e LoadHeader) → IsWork (header_from e o)
+  by_record : (o : Option Header) → header_in e.edition (header_of e.cells word) ≡ o → IsWork (at e LoadHeader) → IsWork (header_from e o)
   by_record None is h = texted LoadHeader e.head 0 [] Read h (omega arith) (omega arith) tt tt tt
-  by_record (Some header) is h = parted LoadHeader e.head header.length 0 [] h (IsHeader-header_of e.cells word header is).0.length (omega arith)
+  by_record (Some header) is h = parted LoadHeader e.head header.length 0 [] h (header_in_fits e.edition (header_of e.cells word) header is) (omega arith)
 
   with_row : (s : WorkStage) (row : List ℕ) (s' : WorkStage) → IsWork (at e s) → ClaimFits e s' → StageFits (record e { row = row }) s' → TellsFits (record e { row = row }) s' → IsWork (record e { row = row; stage = s' })
   with_row s row s' h claim stage told = record {
@@ -218,6 +225,7 @@ module _ (e : PlainWorkCall) (word : ℕ) where
     cells = h.cells;
     young = h.young;
     short = h.short;
+    fits = h.fits;
     text = h.text;
     possible = h.possible;
     height = h.height;
@@ -241,6 +249,7 @@ module _ (e : PlainWorkCall) (word : ℕ) where
     cells = h.cells;
     young = h.young;
     short = h.short;
+    fits = h.fits;
     text = h.text;
     possible = λ j l. subst (λ (c : Cell). IsPossible c) (sym (cell_with e.inputs i x j h.stage)) (h.possible j (let same = length-set e.inputs i (record { cell = cell_in e.inputs i; entry = x }) in omega (arith, same, l)));
     height = h.height;
@@ -257,6 +266,7 @@ module _ (e : PlainWorkCall) (word : ℕ) where
     cells = h.cells;
     young = h.young;
     short = h.short;
+    fits = h.fits;
     text = h.text;
     possible = h.possible;
     height = h.height;
@@ -283,8 +293,8 @@ module _ (e : PlainWorkCall) (word : ℕ) where
   next_is FlushClaim h = staged e FlushClaim BackClaim h tt tt tt
   next_is BackClaim h = staged e BackClaim LoadHead h tt tt tt
   next_is LoadHead h = by_top (head_of e.processes word) h
-  next_is LoadHeader h = by_record (header_of e.cells word) refl h
-  next_is (LoadText part) h = parted (LoadText part) e.head e.length (part + 1) (take e.length (e.text ++ bytes_of word)) h h.short (let k = length-take e.length (e.text ++ bytes_of word) in omega (arith, k))
+  next_is LoadHeader h = by_record (header_in e.edition (header_of e.cells word)) refl h
+  next_is (LoadText part) h = parted (LoadText part) e.head e.length (part + 1) (take e.length (e.text ++ bytes_of word)) h h.fits (let k = length-take e.length (e.text ++ bytes_of word) in omega (arith, k))
   next_is Read h = h
   next_is (LoadValue i) h = staged e (LoadValue i) (LoadKind i word) h tt h.stage tt
   next_is (LoadKind i value) h = branches (nat_lt (i + 1) (length (with_entry e.inputs i (shown_entry e.cells value word))))

@@ -24,6 +24,8 @@ use Rattle.ds_state.specs.declared.work.WorkStage.TheVariants.{LoadMark, Claim, 
 use Rattle.ds_state.specs.declared.work.Spread.TheVariants.{LoadRow, OrTold, FlushTold, BackTold}
 use Rattle.ds_work.specs.WorkSteps.{at, next_at, claims_from, head_from, header_from, text_from, told, tell_from, read_from, offered}
 use Rattle.ds_work.specs.WorkRank.{left, steps_left, Falls}
+use Rattle.ds_state.specs.Shown.{header_in}
+use Rattle.ds_state.proofs.ReadBack.{header_in_fits, most_small}
 
 -- what holds of both branches holds of a test
 below : (r n : ℕ) (b : Bool) (x y : PlainWorkCall) → (b ≡ true → steps_left r x < n) → (b ≡ false → steps_left r y < n) → steps_left r (if b then x else y) < n
@@ -43,9 +45,9 @@ module _ (r : ℕ) (e : PlainWorkCall) (word : ℕ) where
   text_falls : (f : PlainWorkCall) (part n : ℕ) → left r f Read < n → ((f.length + 7) / 8 - part + left r f Read < n) → steps_left r (text_from f part) < n
   text_falls f part n none some = below r n (nat_lt part ((f.length + 7) / 8)) (at f (LoadText part)) (at f Read) (λ b. omega (arith, some)) (λ b. none)
 
-  by_header : (o : Option Header) → header_of e.cells word ≡ o → steps_left r (header_from e o) < left r e LoadHeader
+  by_header : (o : Option Header) → header_in e.edition (header_of e.cells word) ≡ o → steps_left r (header_from e o) < left r e LoadHeader
   by_header None is = omega arith
-  by_header (Some header) is = text_falls (record e { length = header.length; text = [] }) 0 (left r e LoadHeader) (omega arith) (let short = (IsHeader-header_of e.cells word header is).0.length in omega (arith, short))
+  by_header (Some header) is = text_falls (record e { length = header.length; text = [] }) 0 (left r e LoadHeader) (omega arith) (let small = most_small e.edition in let short = header_in_fits e.edition (header_of e.cells word) header is in omega (arith, short, small))
 
   told_falls : (row : List ℕ) (n from k : ℕ) (o : Option ℕ) → ToldFits row n from o → 5 + 3 * (e.cells - from) < k → (f : PlainWorkCall) → f.cells ≡ e.cells → steps_left r (told f o) < k
   told_falls row n from k None first lt f same = omega (arith, lt)
@@ -60,7 +62,7 @@ module _ (r : ℕ) (e : PlainWorkCall) (word : ℕ) where
   falls FlushClaim h = omega arith
   falls BackClaim h = omega arith
   falls LoadHead h = by_head (head_of e.processes word)
-  falls LoadHeader h = by_header (header_of e.cells word) refl
+  falls LoadHeader h = by_header (header_in e.edition (header_of e.cells word)) refl
   falls (LoadText part) h = text_falls (record e { text = take e.length (e.text ++ bytes_of word) }) (part + 1) (left r e (LoadText part)) (let l = h.stage in omega (arith, l)) (let l = h.stage in omega (arith, l))
   falls Read h = tt
   falls (LoadValue i) h = omega arith
@@ -112,5 +114,5 @@ offer_falls r e entry = go ((e.value == value_for entry) && (e.kind == word_for 
     go true = omega arith
     go false = omega arith
 
-pub few : (r : ℕ) (e : PlainWorkCall) → e.cells ≤ 1024 → left r e LoadMark ≤ 2 * r + 3 * e.cells + 52
+pub few : (r : ℕ) (e : PlainWorkCall) → e.cells ≤ 1024 → left r e LoadMark ≤ 2 * r + 3 * e.cells + 67
 few r e most = omega (arith, most)

@@ -34,6 +34,8 @@ use Rattle.ds_state.proofs.Bearing.{bears, all_stand, splits_last, pends_last, m
 use Rattle.ds_state.proofs.Accesses.{Turn, store_moves, same_moves, quiet_sound}
 use Rattle.ds_state.proofs.Buffers.{buffered}
 use Rattle.ds_work.proofs.WorkSteps.{on, clear_mine, clear_stands, store_value_mine}
+use Rattle.ds_state.specs.declared.situation.Rest.{Rest}
+use Rattle.ds_work.specs.WorkSteps.{rest_of}
 
 -- who works owes no head
 module _ (p : ℕ) (e : PlainWorkCall) (place : Place) (old new : PlainWorld) (moves : Moves p place old new) (was : old.situation p ≡ Working e) where
@@ -77,7 +79,7 @@ module _ (p : ℕ) (e : PlainWorkCall) (changed : Bool) (old new : PlainWorld) (
       other q h = let by = fits.knows.hold.claim.by in let mine = fits.mine in let k = at in omega arith
 
   moves : Moves p (Mark e.cell) old new
-  moves = store_moves p old new turn (Mark e.cell) (freed_after e.mark) moved store
+  moves = store_moves p old new turn (Mark e.cell) (freed_after e.mark) (λ x. cc) moved store
 
   b : Bears old new
   b = bears p (Mark e.cell) old new moves sound (clear_mine p e changed old new sound (buffered old sound) fits was at store moves turn.counted)
@@ -137,9 +139,9 @@ module _ (p : ℕ) (e : PlainWorkCall) (changed : Bool) (old new : PlainWorld) (
       (λ l. subst (λ (s : Situation). CallFits new p s) (sym is) call)
 
 -- work begins
-pub begin_work_keeps : (p next : ℕ) (e : PlainWorkCall) (old new : PlainWorld) → IsSound old → p < old.layout.processes → Turn p old new → SameMemory old.memory new.memory → new.open_edits p ≡ old.open_edits p
+pub begin_work_keeps : (p : ℕ) (next : Rest) (e : PlainWorkCall) (old new : PlainWorld) → IsSound old → p < old.layout.processes → Turn p old new → SameMemory old.memory new.memory → new.open_edits p ≡ old.open_edits p
     → old.situation p ≡ Idle next → new.situation p ≡ Working (on e works.LoadMark)
-    → e.process ≡ p → e.next ≡ next → cells_of old.layout ≡ e.cells → old.layout.processes ≡ e.processes → e.cell < e.cells → Keeps p old new
+    → e.process ≡ p → rest_of e ≡ next → cells_of old.layout ≡ e.cells → old.layout.processes ≡ e.processes → e.cell < e.cells → Keeps p old new
 begin_work_keeps p next e old new sound real turn m pending was is mine number cells processes cell =
     let moves : Moves p Version old new = same_moves p old new turn m in
     let idle : IdleFits old p next = subst (λ (s : Situation). CallFits old p s) was (sound.calls p real) in
@@ -149,12 +151,12 @@ begin_work_keeps p next e old new sound real turn m pending was is mine number c
     let splits : (c head : ℕ) → Splits old p (old.situation p) c head → ⊥ = λ c head o. subst (λ (s : Situation). Splits old p s c head) was o in
     let f : Framed old new = silent_framed p old new moves turn.counted sound (buffered old sound) owes excuses parts splits m.buffer in
     let g : Grows p Version old new = grows_own p Version old new moves turn.counted in
-    let rest : IsAtRest new p next = record {
+    let rest : IsAtRest new p next.number = record {
       number = idle.number;
       open_edits = pending ∙ idle.open_edits;
-      below = below_stable p Version old new g next idle.below;
-      cached = m.cached (Announce p) ∙ idle.cached ∙ sym (last_stable p Version old new g next);
-      persisted = m.persisted (Announce p) ∙ idle.persisted ∙ sym (last_stable p Version old new g next);
+      below = below_stable p Version old new g next.number idle.below;
+      cached = m.cached (Announce p) ∙ idle.cached ∙ sym (last_stable p Version old new g next.number);
+      persisted = m.persisted (Announce p) ∙ idle.persisted ∙ sym (last_stable p Version old new g next.number);
     } in
     quiet_sound p old new turn sound moves f.bears f.stand f.apart (silent_keeps p old new moves turn.counted sound (buffered old sound) owes excuses parts splits m.buffer)
     (λ l. subst (λ (s : Situation). CallFits new p s) (sym is) (record {
@@ -162,7 +164,7 @@ begin_work_keeps p next e old new sound real turn m pending was is mine number c
       cells = rw turn.layout cells;
       processes = rw turn.layout processes;
       cell = cell;
-      rest = subst (λ (q : ℕ). IsAtRest new q e.next) (sym mine) (subst (λ (n : ℕ). IsAtRest new p n) (sym number) rest);
+      rest = subst (λ (q : ℕ). IsAtRest new q e.next) (sym mine) (subst (λ (n : ℕ). IsAtRest new p n) (sym (ap (λ (x : Rest). x.number) number)) rest);
       knows = record {
         hold = λ r by. idle.holds_none r (subst (λ (x : ℕ). IsHeldBy p x) (m.cached (Mark r)) (subst (λ (q : ℕ). IsHeldBy q (new.memory.cached (Mark r))) mine by));
         loaded = tt;
@@ -195,7 +197,7 @@ module _ (p : ℕ) (e : PlainWorkCall) (old new : PlainWorld) (sound : IsSound o
   held_p = subst (λ (q : ℕ). IsHeld old.memory q e.cell) fits.mine (held_both old (on e works.StoreValue) fits.knows.hold)
 
   store_moved : Moves p (Value e.cell) old new
-  store_moved = store_moves p old new turn (Value e.cell) (value_for e.entry) (inl held_p.by) store
+  store_moved = store_moves p old new turn (Value e.cell) (value_for e.entry) (λ x. cc) (inl held_p.by) store
 
   store_bears : Bears old new
   store_bears = bears p (Value e.cell) old new store_moved sound (store_value_mine p e (value_for e.entry) old new was is held_p store store_moved)

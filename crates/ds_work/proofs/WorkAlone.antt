@@ -46,6 +46,7 @@ use Rattle.ds_work.specs.WorkAnswers.{mark_now}
 use Rattle.ds_work.specs.WorkAlone.{RefersToItself, IsToldTo, IsTold, IsRow, IsWholeRow, IsAloneAt, IsAlone, EndsAlone, GoesAlone}
 use Rattle.ds_work.specs.WorkShows.{CellWords, shown_in, EndsShowing, ShowsAt}
 use Rattle.ds_work.proofs.WorkShows.{IsUnmarkedAt, input_shows, offer_shows, shown_kept, shows}
+use Rattle.ds_state.specs.Shown.{header_in}
 
 -- ---- rows
 
@@ -171,7 +172,7 @@ module _ (row : ℕ → ℕ) (shape : Shape) (e : PlainWorkCall) (word : ℕ) (o
   alone works.FlushClaim even inside tells fits index m h = same_mark works.FlushClaim m (λ c. c) ∙ h
   alone works.BackClaim even inside tells fits index m h = same_mark works.BackClaim m (λ c. c) ∙ h
   alone works.LoadHead even inside tells fits index m h = head_alone row new e word (head_of e.processes word) (same_mark works.LoadHead m (λ c. c) ∙ h)
-  alone works.LoadHeader even inside tells fits index m h = header_alone row new e (header_of e.cells word) (same_mark works.LoadHeader m (λ c. c) ∙ h)
+  alone works.LoadHeader even inside tells fits index m h = header_alone row new e (header_in e.edition (header_of e.cells word)) (same_mark works.LoadHeader m (λ c. c) ∙ h)
   alone (works.LoadText part) even inside tells fits index m h = text_alone row new (record e { text = take e.length (e.text ++ bytes_of word) }) (part + 1) (same_mark (works.LoadText part) m (λ c. c) ∙ h)
   alone works.Read even inside tells fits index m h = same_mark works.Read m (λ c. c) ∙ h
   alone (works.LoadValue i) even inside tells fits index m h = same_mark (works.LoadValue i) m (λ c. c) ∙ h

@@ -27,6 +27,7 @@ use Rattle.ds_state.proofs.Frames.{MovesMark, clean_free}
 use Rattle.ds_state.proofs.Accesses.{Turn}
 use Rattle.ds_work.proofs.WorkSteps.{on, mark_marks, claim_mine}
 use Rattle.ds_work.proofs.WorkFrame as frame
+use Rattle.ds_work.proofs.Keeping.{work_goes}
 
 pub back_first : {p : ℕ} {old new : Memory Place} (x : BufferEntry Place) (xs : List (BufferEntry Place)) → old.buffer p ≡ x ∷ xs → BacksFirst p old new → WritesBack p x xs old new
 back_first {p} {old} {new} x xs holds (entry, rest, m) =
@@ -46,8 +47,8 @@ marked_free w cell word mark marked q by =
     cc
 
 module _ (e : PlainWorkCall) (word : ℕ) (old new : PlainWorld) (sound : IsSound old) (real : e.process < old.layout.processes) where
-  turn_of : (s : WorkStage) → StepsAt e s word old new → Turn e.process old new
-  turn_of s t = record { layout = t.layout; counted = t.counted; situations = t.others; pendings = λ q ne. t.open_edits q }
+  turn_of : (s : WorkStage) → old.situation e.process ≡ Working (on e s) → StepsAt e s word old new → Turn e.process old new
+  turn_of s was t = record { layout = t.layout; counted = t.counted; situations = t.others; pendings = λ q ne. t.open_edits q; goes = work_goes e s word old new real was t }
 
   -- ---- the mark, and the claim
 
@@ -58,7 +59,7 @@ module _ (e : PlainWorkCall) (word : ℕ) (old new : PlainWorld) (sound : IsSoun
       seen = t.memory.0
 
       ends : (end : WorkEnd) → claims_from e word (state_of (mark_of e.processes word)) ≡ on e (works.Answer end) → Keeps e.process old new
-      ends end is = frame.loads e works.LoadMark (on e (works.Answer end)) old new sound real was (t.situation ∙ ap (λ (x : PlainWorkCall). Working x) is) (turn_of _ t) (t.open_edits e.process) fits tt t.memory.1
+      ends end is = frame.loads e works.LoadMark (on e (works.Answer end)) old new sound real was (t.situation ∙ ap (λ (x : PlainWorkCall). Working x) is) (turn_of _ was t) (t.open_edits e.process) fits tt t.memory.1
           (λ c x bit matters o. absurd o) (λ o. absurd o) (λ k. record { hold = k.hold; loaded = tt; own = tt; evaluated = tt }) (λ h. h)
 
       marked : state_of (mark_of e.processes word) ≡ Marked → (b : Bool) → nat_lt (2 ^ 58) (word / 32) ≡ b → Keeps e.process old new
@@ -66,7 +67,7 @@ module _ (e : PlainWorkCall) (word : ℕ) (old new : PlainWorld) (sound : IsSoun
       marked st false worn =
           frame.loads e works.LoadMark (record e { mark = word; stage = works.Claim }) old new sound real was
           (t.situation ∙ ap (λ (y : State). Working (claims_from e word y)) st ∙ ap (λ (b : Bool). Working (if b then on e (works.Answer Worn) else record e { mark = word; stage = works.Claim })) worn)
-          (turn_of _ t) (t.open_edits e.process) fits tt t.memory.1
+          (turn_of _ was t) (t.open_edits e.process) fits tt t.memory.1
           (λ c x bit matters o. absurd o) (λ o. absurd o)
           (λ k. record {
             hold = (k.hold, (let same = t.memory.1.cached (Mark e.cell) in let at = seen in omega arith), marked_free old e.cell word (rw seen (sound.words (Mark e.cell)).holder) (rw fits.processes st), (let is : nat_lt (2 ^ 58) (word / 32) ≡ false = worn in grind (arith, nat_tests)));
@@ -89,7 +90,7 @@ module _ (e : PlainWorkCall) (word : ℕ) (old new : PlainWorld) (sound : IsSoun
       loses : word ≢ e.mark → SameMemory old.memory new.memory → Keeps e.process old new
       loses ne m = frame.loads e works.Claim (on e (works.Answer Missed)) old new sound real was
           (t.situation ∙ ap (λ (b : Bool). Working (if b then record e { mark = held_after e.process e.mark; stage = works.FlushClaim } else on e (works.Answer Missed))) (ne_eqb word e.mark ne))
-          (turn_of _ t) (t.open_edits e.process) fits tt m
+          (turn_of _ was t) (t.open_edits e.process) fits tt m
           (λ c x bit matters o. absurd o) (λ o. absurd o) (λ k. record { hold = k.hold.0; loaded = tt; own = tt; evaluated = tt }) (λ h. h)
 
       wins : word ≡ e.mark → StoresAt (Mark e.cell) (held_after e.process e.mark) old.memory new.memory → Keeps e.process old new
@@ -109,7 +110,7 @@ module _ (e : PlainWorkCall) (word : ℕ) (old new : PlainWorld) (sound : IsSoun
           } in
           frame.stores e works.Claim (record e { mark = n; stage = works.FlushClaim }) old new sound real was
           (t.situation ∙ ap (λ (b : Bool). Working (if b then record e { mark = n; stage = works.FlushClaim } else on e (works.Answer Missed))) (eq_true e.mark is))
-          (turn_of _ t) (t.open_edits e.process) fits tt (Mark e.cell) n (λ x. cc) moved m
+          (turn_of _ was t) (t.open_edits e.process) fits tt (Mark e.cell) n (λ x. cc) (λ x. cc) moved m
           (λ moves. claim_mine e.process e e n old new was by m moves)
           (λ moves mine. mark_marks e.process e.cell n old new m moves (λ clean. clean_free n e.process clean by)
           (λ r c x bit matters held o. mine.owes r c x bit matters held o) (λ l c x matters o. mine.excuses l c x matters o))
@@ -141,7 +142,7 @@ module _ (e : PlainWorkCall) (word : ℕ) (old new : PlainWorld) (sound : IsSoun
   alone r none m = m.mine ∙ ap (λ (xs : List (BufferEntry Place)). xs ++ entry r (old.memory.cached r) ∷ []) none
 
   pub flush_claim : WorkFits old e.process (on e works.FlushClaim) → old.situation e.process ≡ Working (on e works.FlushClaim) → StepsAt e works.FlushClaim word old new → Keeps e.process old new
-  flush_claim fits was t = frame.flushes e works.FlushClaim (on e works.BackClaim) old new sound real was t.situation (turn_of _ t) (t.open_edits e.process) fits tt (Mark e.cell) t.memory.1
+  flush_claim fits was t = frame.flushes e works.FlushClaim (on e works.BackClaim) old new sound real was t.situation (turn_of _ was t) (t.open_edits e.process) fits tt (Mark e.cell) t.memory.1
       (λ c x bit matters o. absurd o) (λ o. absurd o) (λ k. record { hold = k.hold; loaded = tt; own = tt; evaluated = tt })
       (λ g. record {
         value = old.memory.cached (Mark e.cell);
@@ -171,9 +172,9 @@ module _ (e : PlainWorkCall) (word : ℕ) (old new : PlainWorld) (sound : IsSoun
       let by = fits.knows.hold.by in
       let mark_turn : tenure (new.memory.persisted (Mark e.cell)) ≡ tenure e.mark = omega (arith, there, least.1, most, claims, cached) in
       let of : IsMark old.layout e.cell b.value = (λ q h. let k = old_fits.holder q (omega (arith, h, claims, cached)) in let top = k.2 in (k.0, k.1, omega (arith, top, claims, cached))) in
-      frame.backs e works.BackClaim (on e works.LoadHead) old new sound real was t.situation (turn_of _ t) (t.open_edits e.process) fits tt (Mark e.cell) b.value [] m (had, of)
+      frame.backs e works.BackClaim (on e works.LoadHead) old new sound real was t.situation (turn_of _ was t) (t.open_edits e.process) fits tt (Mark e.cell) b.value [] m (had, of)
       (λ o. absurd o)
-      (λ moves. frame.quiet_mine e works.BackClaim (on e works.LoadHead) old new sound real was t.situation (turn_of _ t) (t.open_edits e.process) fits tt (Mark e.cell) moves
+      (λ moves. frame.quiet_mine e works.BackClaim (on e works.LoadHead) old new sound real was t.situation (turn_of _ was t) (t.open_edits e.process) fits tt (Mark e.cell) moves
       (λ c at. elim at [ inl x ↦ cc | inr x ↦ cc ]) (λ c at. cc) (λ h. held mark_turn) (λ c x bit matters o. absurd o))
       (λ cell at. let same : cell ≡ e.cell = cc in rw same (omega (arith, there, least.0), omega (arith, there, most)))
       (λ h. held mark_turn) (λ o. absurd o)

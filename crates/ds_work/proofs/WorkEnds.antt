@@ -33,6 +33,7 @@ use Rattle.ds_work.proofs.WorkSteps.{on, mark_mine, mark_marks}
 use Rattle.ds_work.proofs.WholeSteps.{clear_keeps}
 use Rattle.ds_work.proofs.WorkClaims.{back_first}
 use Rattle.ds_work.proofs.WorkFrame as frame
+use Rattle.ds_work.proofs.Keeping.{work_goes}
 
 -- a held cell is let go, dirty
 module _ (e : PlainWorkCall) (s : WorkStage) (end : WorkEnd) (old new : PlainWorld) (sound : IsSound old) (real : e.process < old.layout.processes)
@@ -66,7 +67,7 @@ module _ (e : PlainWorkCall) (s : WorkStage) (end : WorkEnd) (old new : PlainWor
   pub release : Keeps e.process old new
   release =
       let old_fits : MarkFits old e.cell (old.memory.cached (Mark e.cell)) (old.memory.persisted (Mark e.cell)) = sound.words (Mark e.cell) in
-      frame.stores e s (on e (works.FlushCleared end)) old new sound real was is tn pending fits tt (Mark e.cell) (freed_after e.mark + 1) (λ x. cc) moved store
+      frame.stores e s (on e (works.FlushCleared end)) old new sound real was is tn pending fits tt (Mark e.cell) (freed_after e.mark + 1) (λ x. cc) (λ x. cc) moved store
       owes_none
       (λ moves mine. mark_marks e.process e.cell (freed_after e.mark + 1) old new store moves (λ clean. omega arith) (λ r c x bit matters h o. mine.owes r c x bit matters h o) (λ l c x matters o. mine.excuses l c x matters o))
       (λ o. absurd (parts o)) (λ o. absurd (parts o))
@@ -90,8 +91,8 @@ module _ (e : PlainWorkCall) (s : WorkStage) (end : WorkEnd) (old new : PlainWor
       ]
 
 module _ (e : PlainWorkCall) (word : ℕ) (old new : PlainWorld) (sound : IsSound old) (real : e.process < old.layout.processes) where
-  turn_of : (s : WorkStage) → StepsAt e s word old new → Turn e.process old new
-  turn_of s t = record { layout = t.layout; counted = t.counted; situations = t.others; pendings = λ q ne. t.open_edits q }
+  turn_of : (s : WorkStage) → old.situation e.process ≡ Working (on e s) → StepsAt e s word old new → Turn e.process old new
+  turn_of s was t = record { layout = t.layout; counted = t.counted; situations = t.others; pendings = λ q ne. t.open_edits q; goes = work_goes e s word old new real was t }
 
   eq_true : (n : ℕ) → word ≡ n → (word == n) ≡ true
   eq_true n is = grind (arith, nat_tests)
@@ -114,19 +115,19 @@ module _ (e : PlainWorkCall) (word : ℕ) (old new : PlainWorld) (sound : IsSoun
 
   pub clear : (changed : Bool) → WorkFits old e.process (on e (works.Clear changed)) → old.situation e.process ≡ Working (on e (works.Clear changed)) → StepsAt e (works.Clear changed) word old new → Keeps e.process old new
   clear changed fits was t = elim t.memory.1 [
-    | inl won ↦ clear_keeps e.process e changed old new sound (turn_of _ t) fits was
+    | inl won ↦ clear_keeps e.process e changed old new sound (turn_of _ was t) fits was
         (t.situation ∙ ap (λ (b : Bool). Working (if b then on e (works.FlushCleared (Published changed)) else on e works.ClearDirty)) (eq_true e.mark won.0))
         (t.open_edits e.process) (sym t.memory.0 ∙ won.0) won.1
     | inr lost ↦ frame.loads e (works.Clear changed) (on e works.ClearDirty) old new sound real was
         (t.situation ∙ ap (λ (b : Bool). Working (if b then on e (works.FlushCleared (Published changed)) else on e works.ClearDirty)) (ne_eqb word e.mark lost.0))
-        (turn_of _ t) (t.open_edits e.process) fits tt lost.1
+        (turn_of _ was t) (t.open_edits e.process) fits tt lost.1
         (λ c x bit matters o. absurd o) (λ o. absurd o)
         (λ k. record { hold = (k.hold, outran k.hold (λ at. lost.0 (t.memory.0 ∙ sym (lost.1.cached (Mark e.cell)) ∙ at))); loaded = tt; own = tt; evaluated = tt }) (λ h. h)
   ]
 
   pub clear_dirty : WorkFits old e.process (on e works.ClearDirty) → old.situation e.process ≡ Working (on e works.ClearDirty) → StepsAt e works.ClearDirty word old new → Keeps e.process old new
   clear_dirty fits was t = elim t.memory.1 [
-    | inl won ↦ release e works.ClearDirty Again old new sound real was t.situation (turn_of _ t) (t.open_edits e.process) fits fits.knows.hold.0 fits.buffer (λ c x o. o) (λ o. o) won.1
+    | inl won ↦ release e works.ClearDirty Again old new sound real was t.situation (turn_of _ was t) (t.open_edits e.process) fits fits.knows.hold.0 fits.buffer (λ c x o. o) (λ o. o) won.1
     | inr lost ↦ absurd (lost.0 (t.memory.0 ∙ fits.knows.hold.1))
   ]
 
@@ -134,17 +135,17 @@ module _ (e : PlainWorkCall) (word : ℕ) (old new : PlainWorld) (sound : IsSoun
   give fits was t = elim t.memory.1 [
     | inl won ↦ release e works.Give NoMemory old new sound real was
         (t.situation ∙ ap (λ (b : Bool). Working (if b then on e (works.FlushCleared NoMemory) else on e works.GiveDirty)) (eq_true e.mark won.0))
-        (turn_of _ t) (t.open_edits e.process) fits fits.knows.hold fits.buffer (λ c x o. o) (λ o. o) won.1
+        (turn_of _ was t) (t.open_edits e.process) fits fits.knows.hold fits.buffer (λ c x o. o) (λ o. o) won.1
     | inr lost ↦ frame.loads e works.Give (on e works.GiveDirty) old new sound real was
         (t.situation ∙ ap (λ (b : Bool). Working (if b then on e (works.FlushCleared NoMemory) else on e works.GiveDirty)) (ne_eqb word e.mark lost.0))
-        (turn_of _ t) (t.open_edits e.process) fits tt lost.1
+        (turn_of _ was t) (t.open_edits e.process) fits tt lost.1
         (λ c x bit matters o. absurd o) (λ o. absurd o)
         (λ k. record { hold = (k.hold, outran k.hold (λ at. lost.0 (t.memory.0 ∙ sym (lost.1.cached (Mark e.cell)) ∙ at))); loaded = tt; own = tt; evaluated = tt }) (λ h. h)
   ]
 
   pub give_dirty : WorkFits old e.process (on e works.GiveDirty) → old.situation e.process ≡ Working (on e works.GiveDirty) → StepsAt e works.GiveDirty word old new → Keeps e.process old new
   give_dirty fits was t = elim t.memory.1 [
-    | inl won ↦ release e works.GiveDirty NoMemory old new sound real was t.situation (turn_of _ t) (t.open_edits e.process) fits fits.knows.hold.0 fits.buffer (λ c x o. o) (λ o. o) won.1
+    | inl won ↦ release e works.GiveDirty NoMemory old new sound real was t.situation (turn_of _ was t) (t.open_edits e.process) fits fits.knows.hold.0 fits.buffer (λ c x o. o) (λ o. o) won.1
     | inr lost ↦ absurd (lost.0 (t.memory.0 ∙ fits.knows.hold.1))
   ]
 
@@ -153,7 +154,7 @@ module _ (e : PlainWorkCall) (word : ℕ) (old new : PlainWorld) (sound : IsSoun
   pub flush_cleared : (end : WorkEnd) → WorkFits old e.process (on e (works.FlushCleared end)) → old.situation e.process ≡ Working (on e (works.FlushCleared end)) → StepsAt e (works.FlushCleared end) word old new → Keeps e.process old new
   flush_cleared end fits was t =
       let m : FlushesAt e.process (Mark e.cell) (class_of (Mark e.cell)) old.memory new.memory = t.memory.1 in
-      frame.flushes e (works.FlushCleared end) (on e (works.BackCleared end)) old new sound real was t.situation (turn_of _ t) (t.open_edits e.process) fits tt (Mark e.cell) m
+      frame.flushes e (works.FlushCleared end) (on e (works.BackCleared end)) old new sound real was t.situation (turn_of _ was t) (t.open_edits e.process) fits tt (Mark e.cell) m
       (λ c x bit matters o. absurd o) (λ o. absurd o) (λ k. record { hold = k.hold; loaded = tt; own = tt; evaluated = tt })
       (λ g. record {
         value = old.memory.cached (Mark e.cell);
@@ -175,9 +176,9 @@ module _ (e : PlainWorkCall) (word : ℕ) (old new : PlainWorld) (sound : IsSoun
       let there : new.memory.persisted (Mark e.cell) ≡ max (old.memory.persisted (Mark e.cell)) b.value = m.there in
       let least = max_both (old.memory.persisted (Mark e.cell)) b.value in
       let most = max_most (old.memory.persisted (Mark e.cell)) b.value (old.memory.cached (Mark e.cell)) (sound.words (Mark e.cell)).behind b.had in
-      frame.backs e (works.BackCleared end) (on e (works.Answer end)) old new sound real was t.situation (turn_of _ t) (t.open_edits e.process) fits tt (Mark e.cell) b.value [] m (b.had, b.is)
+      frame.backs e (works.BackCleared end) (on e (works.Answer end)) old new sound real was t.situation (turn_of _ was t) (t.open_edits e.process) fits tt (Mark e.cell) b.value [] m (b.had, b.is)
       (λ o. absurd o)
-      (λ moves. frame.quiet_mine e (works.BackCleared end) (on e (works.Answer end)) old new sound real was t.situation (turn_of _ t) (t.open_edits e.process) fits tt (Mark e.cell) moves
+      (λ moves. frame.quiet_mine e (works.BackCleared end) (on e (works.Answer end)) old new sound real was t.situation (turn_of _ was t) (t.open_edits e.process) fits tt (Mark e.cell) moves
       (λ c at. elim at [ inl x ↦ cc | inr x ↦ cc ]) (λ c at. cc) (λ h. absurd (fits.knows.hold e.cell h.by)) (λ c x bit matters o. absurd o))
       (λ cell at. let same : cell ≡ e.cell = cc in rw same (omega (arith, there, least.0), omega (arith, there, most)))
       (λ h. absurd (fits.knows.hold e.cell h.by)) (λ o. absurd o)
@@ -187,7 +188,7 @@ module _ (e : PlainWorkCall) (word : ℕ) (old new : PlainWorld) (sound : IsSoun
   answer end fits was t =
       let p : ℕ = e.process in
       let m : SameMemory old.memory new.memory = t.memory.1 in
-      let tn : Turn e.process old new = turn_of _ t in
+      let tn : Turn e.process old new = turn_of _ was t in
       let moves : Moves e.process Version old new = same_moves e.process old new tn m in
       let owes : (r c x : ℕ) → Owes old.memory e.process (old.situation e.process) r c x → ⊥ = (λ r c x o. (subst (λ (s : Situation). Owes old.memory e.process s r c x) was o).1) in
       let excuses : (c x : ℕ) → Excuses old e.process (old.situation e.process) c x → ⊥ = (λ c x o. subst (λ (s : Situation). Excuses old e.process s c x) was o) in

@@ -188,7 +188,7 @@ module _ (e : PlainWorkCall) (s : WorkStage) (f : PlainWorkCall) (old new : Plai
       (λ l. fits_new Version (λ x. cc) g fr.bears (advance (stays Version (λ r x. cc) (λ x. cc) (λ x. cc) g fr.bears)) held)
 
   -- a word is stored
-  pub stores : (place : Place) (v : ℕ) → Announce e.process ≢ place
+  pub stores : (place : Place) (v : ℕ) → Announce e.process ≢ place → Version ≢ place
       → MovesWord old.memory e.process place (old.memory.cached place) (old.memory.persisted place) v (old.memory.persisted place)
       → (m : StoresAt place v old.memory new.memory)
       → ((moves : Moves e.process place old new) → Mine e.process place old new moves) → ((moves : Moves e.process place old new) → Mine e.process place old new moves → MyMarks e.process place old new moves)
@@ -196,8 +196,8 @@ module _ (e : PlainWorkCall) (s : WorkStage) (f : PlainWorkCall) (old new : Plai
       → ((moves : Moves e.process place old new) → WordFits new place v (old.memory.persisted place))
       → ((moves : Moves e.process place old new) → Grows e.process place old new → Bears old new → WorkKnows new (kin e f) (work_known (length f.inputs) f.stage))
       → HoldsNow → Keeps e.process old new
-  stores place v apart moved m my marks hold parts here knows held =
-      let moves : Moves e.process place old new = store_moves e.process old new tn place v moved m in
+  stores place v apart apart' moved m my marks hold parts here knows held =
+      let moves : Moves e.process place old new = store_moves e.process old new tn place v apart' moved m in
       let g : Grows e.process place old new = grows_own e.process place old new moves tn.counted in
       let mine : Mine e.process place old new moves = my moves in
       let fr : Framed old new = framed place moves mine (marks moves mine) (work_apart place moves hold parts) in

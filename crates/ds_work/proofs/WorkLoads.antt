@@ -38,6 +38,12 @@ use Rattle.ds_state.proofs.Found.{gave_counts}
 use Rattle.ds_state.proofs.ReadBack.{next_part}
 use Rattle.ds_work.proofs.WorkSteps.{on}
 use Rattle.ds_work.proofs.WorkFrame as frame
+use Rattle.ds_work.proofs.Keeping.{work_goes}
+use Rattle.ds_state.specs.Shown.{header_in}
+use Rattle.ds_state.specs.Editions.{most_in}
+use Rattle.ds_state.proofs.ReadBack.{header_in_some}
+use Rattle.ds_work.proofs.Keeping.{noted_of, fits_noted}
+use Rattle.std.specs.Prelude.{◌≤◌}
 
 nothing_head : head_after_all [] ≡ 0
 unfolding head_after_all
@@ -66,8 +72,8 @@ joined text part word h is within =
     ∙ next_part text (take (8 * part) text) part (min n 8) word h is within refl refl
 
 module _ (e : PlainWorkCall) (word : ℕ) (old new : PlainWorld) (sound : IsSound old) (real : e.process < old.layout.processes) where
-  turn_of : (s : WorkStage) → StepsAt e s word old new → Turn e.process old new
-  turn_of s t = record { layout = t.layout; counted = t.counted; situations = t.others; pendings = λ q ne. t.open_edits q }
+  turn_of : (s : WorkStage) → old.situation e.process ≡ Working (on e s) → StepsAt e s word old new → Turn e.process old new
+  turn_of s was t = record { layout = t.layout; counted = t.counted; situations = t.others; pendings = λ q ne. t.open_edits q; goes = work_goes e s word old new real was t }
 
   -- ---- the head
 
@@ -77,7 +83,7 @@ module _ (e : PlainWorkCall) (word : ℕ) (old new : PlainWorld) (sound : IsSoun
         let zero' : word ≡ 0 = seen ∙ ap head_after_all empty ∙ nothing_head in
         let none : head_of e.processes word ≡ None = ap (λ (n : ℕ). head_of e.processes n) zero' in
         frame.loads e works.LoadHead (record e { head = word; length = 0; text = []; stage = works.Read }) old new sound real was
-        (t.situation ∙ ap (λ (o : Option heads.Head). Working (head_from e word o)) none) (turn_of _ t) (t.open_edits e.process) fits tt t.memory.1
+        (t.situation ∙ ap (λ (o : Option heads.Head). Working (head_from e word o)) none) (turn_of _ was t) (t.open_edits e.process) fits tt t.memory.1
         (λ c x bit matters o. absurd o) (λ o. absurd o)
         (λ k. record { hold = k.hold; loaded = (λ at. inl here, inl (zero', refl)); own = tt; evaluated = tt }) (λ h. h))
     | inr b ↦ (
@@ -86,7 +92,7 @@ module _ (e : PlainWorkCall) (word : ℕ) (old new : PlainWorld) (sound : IsSoun
         let by : IsHeadBy (of_cell e.cell old.counted) word b.1 =
         subst (λ (n : ℕ). IsHeadBy (of_cell e.cell old.counted) n b.1) (sym seen) (subst (λ (es : List PlainEdit). IsHeadBy es (head_after_all es) b.1) (sym b.2) (by_last b.0 b.1)) in
         frame.loads e works.LoadHead (record e { head = word; length = 0; text = []; stage = works.LoadHeader }) old new sound real was
-        (t.situation ∙ ap (λ (o : Option heads.Head). Working (head_from e word o)) some) (turn_of _ t) (t.open_edits e.process) fits tt t.memory.1
+        (t.situation ∙ ap (λ (o : Option heads.Head). Working (head_from e word o)) some) (turn_of _ was t) (t.open_edits e.process) fits tt t.memory.1
         (λ c x bit matters o. absurd o) (λ o. absurd o)
         (λ k. record { hold = k.hold; loaded = (λ at. inl here, (b.1, rw t.counted by)); own = tt; evaluated = tt }) (λ h. h))
   ]
@@ -123,7 +129,9 @@ module _ (e : PlainWorkCall) (word : ℕ) (old new : PlainWorld) (sound : IsSoun
         let some : header_of e.cells word ≡ Some h =
         ap (λ (q : ℕ). header_of q word) (sym fits.cells) ∙ ap (λ (q : ℕ). header_of (cells_of old.layout) q) seen
         ∙ header_of-header_word (cells_of old.layout) h (record { cell = omega arith; length = omega arith }) (record { cell = cell; length = short }) in
-        by_length by gave (t.situation ∙ ap (λ (o : Option headers.Header). Working (header_from e o)) some) (nat_lt 0 ((length by.text + 7) / 8)) refl
+        let room : length by.text ≤ most_in e.edition = fits_noted old e.edition by sheet (noted_of e works.LoadHeader old sound real was) in
+        let found : header_in e.edition (header_of e.cells word) ≡ Some h = ap (λ (o : Option headers.Header). header_in e.edition o) some ∙ header_in_some e.edition h room in
+        by_length by gave (t.situation ∙ ap (λ (o : Option headers.Header). Working (header_from e o)) found) (nat_lt 0 ((length by.text + 7) / 8)) refl
       where
         by_length : (by : PlainEdit) → IsHeadBy (of_cell e.cell old.counted) e.head by → new.situation e.process ≡ Working (text_from (record e { length = length by.text; text = [] }) 0)
             → (b : Bool) → nat_lt 0 ((length by.text + 7) / 8) ≡ b → Keeps e.process old new
@@ -131,7 +139,7 @@ module _ (e : PlainWorkCall) (word : ℕ) (old new : PlainWorld) (sound : IsSoun
             let more = ltb-true 0 ((length by.text + 7) / 8) some in
             frame.loads e works.LoadHeader (record e { length = length by.text; text = []; stage = works.LoadText 0 }) old new sound real was
             (is ∙ ap (λ (b : Bool). Working (if b then record e { length = length by.text; text = []; stage = works.LoadText 0 } else record e { length = length by.text; text = []; stage = works.Read })) some)
-            (turn_of _ t) (t.open_edits e.process) fits (omega arith) t.memory.1
+            (turn_of _ was t) (t.open_edits e.process) fits (omega arith) t.memory.1
             (λ c x bit matters o. absurd o) (λ o. absurd o)
             (λ k. record { hold = k.hold; loaded = (k.loaded.0, record { by = by; gave = rw t.counted gave; size = refl; start = refl }); own = tt; evaluated = tt }) (λ h. h)
         by_length by gave is false none =
@@ -139,7 +147,7 @@ module _ (e : PlainWorkCall) (word : ℕ) (old new : PlainWorld) (sound : IsSoun
             let empty : length by.text ≡ 0 = omega arith in
             frame.loads e works.LoadHeader (record e { length = length by.text; text = []; stage = works.Read }) old new sound real was
             (is ∙ ap (λ (b : Bool). Working (if b then record e { length = length by.text; text = []; stage = works.LoadText 0 } else record e { length = length by.text; text = []; stage = works.Read })) none)
-            (turn_of _ t) (t.open_edits e.process) fits tt t.memory.1
+            (turn_of _ was t) (t.open_edits e.process) fits tt t.memory.1
             (λ c x bit matters o. absurd o) (λ o. absurd o)
             (λ k. record { hold = k.hold; loaded = (k.loaded.0, inr (record { by = by; gave = rw t.counted gave; text = sym (nothing by.text empty) })); own = tt; evaluated = tt }) (λ h. h)
           where
@@ -163,8 +171,8 @@ module _ (e : PlainWorkCall) (word : ℕ) (old new : PlainWorld) (sound : IsSoun
         let process : e.head / 256 % 256 ≡ by.process = omega arith in
         let number : e.head % 256 ≡ by.number = omega arith in
         let seen : word ≡ part_word by.text part =
-        t.memory.0 ∙ ap (λ (q : ℕ). old.memory.cached (Text q (e.head % 256) part)) process ∙ ap (λ (q : ℕ). old.memory.cached (Text by.process q part)) number
-        ∙ ((sound.words (Text by.process by.number part)) by there refl refl (omega arith)).0 in
+        t.memory.0 ∙ ap (λ (q : ℕ). old.memory.cached (Text e.edition q (e.head % 256) part)) process ∙ ap (λ (q : ℕ). old.memory.cached (Text e.edition by.process q part)) number
+        ∙ ((sound.words (Text e.edition by.process by.number part)) (inl (noted_of e (works.LoadText part) old sound real was).cached) by there refl refl (omega arith)).0 in
         let text : take e.length (e.text ++ bytes_of word) ≡ take (8 * (part + 1)) by.text =
         ap (λ (k : ℕ). take k (e.text ++ bytes_of word)) size ∙ ap (λ (xs : List ℕ). take (length by.text) (xs ++ bytes_of word)) r.start ∙ joined by.text part word (texts by there) seen (omega arith) in
         by_length by gave size text (nat_lt (part + 1) ((e.length + 7) / 8)) refl
@@ -175,21 +183,21 @@ module _ (e : PlainWorkCall) (word : ℕ) (old new : PlainWorld) (sound : IsSoun
             let more = ltb-true (part + 1) ((e.length + 7) / 8) some in
             frame.loads e (works.LoadText part) (record e { text = take e.length (e.text ++ bytes_of word); stage = works.LoadText (part + 1) }) old new sound real was
             (t.situation ∙ ap (λ (b : Bool). Working (if b then record e { text = take e.length (e.text ++ bytes_of word); stage = works.LoadText (part + 1) } else record e { text = take e.length (e.text ++ bytes_of word); stage = works.Read })) some)
-            (turn_of _ t) (t.open_edits e.process) fits (omega arith) t.memory.1
+            (turn_of _ was t) (t.open_edits e.process) fits (omega arith) t.memory.1
             (λ c x bit matters o. absurd o) (λ o. absurd o)
             (λ k. record { hold = k.hold; loaded = (k.loaded.0, record { by = by; gave = rw t.counted gave; size = size; start = text }); own = tt; evaluated = tt }) (λ h. h)
         by_length by gave size text false none =
             let few = ltb-false (part + 1) ((e.length + 7) / 8) none in
             frame.loads e (works.LoadText part) (record e { text = take e.length (e.text ++ bytes_of word); stage = works.Read }) old new sound real was
             (t.situation ∙ ap (λ (b : Bool). Working (if b then record e { text = take e.length (e.text ++ bytes_of word); stage = works.LoadText (part + 1) } else record e { text = take e.length (e.text ++ bytes_of word); stage = works.Read })) none)
-            (turn_of _ t) (t.open_edits e.process) fits tt t.memory.1
+            (turn_of _ was t) (t.open_edits e.process) fits tt t.memory.1
             (λ c x bit matters o. absurd o) (λ o. absurd o)
             (λ k. record { hold = k.hold; loaded = (k.loaded.0, inr (record { by = by; gave = rw t.counted gave; text = text ∙ take_all (8 * (part + 1)) by.text (omega arith) })); own = tt; evaluated = tt }) (λ h. h)
 
   -- ---- what the references show
 
   pub load_value : (i : ℕ) → WorkFits old e.process (on e (works.LoadValue i)) → old.situation e.process ≡ Working (on e (works.LoadValue i)) → StepsAt e (works.LoadValue i) word old new → Keeps e.process old new
-  load_value i fits was t = frame.loads e (works.LoadValue i) (on e (works.LoadKind i word)) old new sound real was t.situation (turn_of _ t) (t.open_edits e.process) fits fits.at t.memory.1
+  load_value i fits was t = frame.loads e (works.LoadValue i) (on e (works.LoadKind i word)) old new sound real was t.situation (turn_of _ was t) (t.open_edits e.process) fits fits.at t.memory.1
       (λ c x bit matters o. absurd o) (λ o. absurd o)
       (λ k. record {
         hold = k.hold;
@@ -259,7 +267,7 @@ module _ (e : PlainWorkCall) (word : ℕ) (old new : PlainWorld) (sound : IsSoun
     go : (b : Bool) → nat_lt (i + 1) (length more) ≡ b → Keeps e.process old new
     go true some = frame.loads e (works.LoadKind i value) (record e { inputs = more; stage = works.LoadValue (i + 1) }) old new sound real was
         (t.situation ∙ ap (λ (b : Bool). Working (if b then record e { inputs = more; stage = works.LoadValue (i + 1) } else record e { inputs = more; stage = works.LoadOwnValue })) some)
-        (turn_of _ t) (t.open_edits e.process) fits (ltb-true (i + 1) (length more) some) t.memory.1
+        (turn_of _ was t) (t.open_edits e.process) fits (ltb-true (i + 1) (length more) some) t.memory.1
         (λ c x bit matters o. absurd o) (λ o. absurd o)
         (λ k. record { hold = k.hold; loaded = gathers k.loaded.0 k.loaded.1; own = tt; evaluated = tt }) (λ h. h)
     go false none =
@@ -267,7 +275,7 @@ module _ (e : PlainWorkCall) (word : ℕ) (old new : PlainWorld) (sound : IsSoun
         let all : i + 1 ≡ length more = (let l = fits.at in let s = size in omega arith) in
         frame.loads e (works.LoadKind i value) (record e { inputs = more; stage = works.LoadOwnValue }) old new sound real was
         (t.situation ∙ ap (λ (b : Bool). Working (if b then record e { inputs = more; stage = works.LoadValue (i + 1) } else record e { inputs = more; stage = works.LoadOwnValue })) none)
-        (turn_of _ t) (t.open_edits e.process) fits tt t.memory.1
+        (turn_of _ was t) (t.open_edits e.process) fits tt t.memory.1
         (λ c x bit matters o. absurd o) (λ o. absurd o)
         (λ k. record { hold = k.hold; loaded = subst (λ (n : ℕ). Gathers new e.cell e.mark e.head e.content more n) all (gathers k.loaded.0 k.loaded.1); own = tt; evaluated = tt }) (λ h. h)
 

@@ -30,6 +30,7 @@ use Rattle.ds_work.proofs.WorkSteps.{on, held_both, store_kind_mine}
 use Rattle.ds_work.proofs.WholeSteps.{store_keeps}
 use Rattle.ds_work.proofs.WorkClaims.{back_first}
 use Rattle.ds_work.proofs.WorkFrame as frame
+use Rattle.ds_work.proofs.Keeping.{work_goes}
 
 own_value : (a c : ℕ) → (Value a ≡ Value c) ⊎ (Value a ≡ Kind c) → a ≡ c
 own_value a c (inl e) = cc
@@ -40,33 +41,33 @@ own_kind a c (inl e) = cc
 own_kind a c (inr e) = cc
 
 module _ (e : PlainWorkCall) (word : ℕ) (old new : PlainWorld) (sound : IsSound old) (real : e.process < old.layout.processes) where
-  turn_of : (s : WorkStage) → StepsAt e s word old new → Turn e.process old new
-  turn_of s t = record { layout = t.layout; counted = t.counted; situations = t.others; pendings = λ q ne. t.open_edits q }
+  turn_of : (s : WorkStage) → old.situation e.process ≡ Working (on e s) → StepsAt e s word old new → Turn e.process old new
+  turn_of s was t = record { layout = t.layout; counted = t.counted; situations = t.others; pendings = λ q ne. t.open_edits q; goes = work_goes e s word old new real was t }
 
   -- ---- the cell's own words
 
   pub load_own_value : WorkFits old e.process (on e works.LoadOwnValue) → old.situation e.process ≡ Working (on e works.LoadOwnValue) → StepsAt e works.LoadOwnValue word old new → Keeps e.process old new
-  load_own_value fits was t = frame.loads e works.LoadOwnValue (record e { value = word; stage = works.LoadOwnKind }) old new sound real was t.situation (turn_of _ t) (t.open_edits e.process) fits tt t.memory.1
+  load_own_value fits was t = frame.loads e works.LoadOwnValue (record e { value = word; stage = works.LoadOwnKind }) old new sound real was t.situation (turn_of _ was t) (t.open_edits e.process) fits tt t.memory.1
       (λ c x bit matters o. absurd o) (λ o. absurd o)
       (λ k. record { hold = k.hold; loaded = k.loaded; own = t.memory.1.cached (Value e.cell) ∙ sym t.memory.0; evaluated = tt }) (λ h. h)
 
   pub load_own_kind : WorkFits old e.process (on e works.LoadOwnKind) → old.situation e.process ≡ Working (on e works.LoadOwnKind) → StepsAt e works.LoadOwnKind word old new → Keeps e.process old new
-  load_own_kind fits was t = frame.loads e works.LoadOwnKind (record e { kind = word; stage = works.Wait }) old new sound real was t.situation (turn_of _ t) (t.open_edits e.process) fits tt t.memory.1
+  load_own_kind fits was t = frame.loads e works.LoadOwnKind (record e { kind = word; stage = works.Wait }) old new sound real was t.situation (turn_of _ was t) (t.open_edits e.process) fits tt t.memory.1
       (λ c x bit matters o. absurd o) (λ o. absurd o)
       (λ k. record { hold = k.hold; loaded = k.loaded; own = (k.own, t.memory.1.cached (Kind e.cell) ∙ sym t.memory.0); evaluated = tt }) (λ h. h)
 
   -- ---- the stores
 
   pub store_value : WorkFits old e.process (on e works.StoreValue) → old.situation e.process ≡ Working (on e works.StoreValue) → StepsAt e works.StoreValue word old new → Keeps e.process old new
-  store_value fits was t = store_keeps e.process e old new sound (turn_of _ t) fits was t.situation (t.open_edits e.process) t.memory.1
+  store_value fits was t = store_keeps e.process e old new sound (turn_of _ was t) fits was t.situation (t.open_edits e.process) t.memory.1
 
   pub store_kind : WorkFits old e.process (on e works.StoreKind) → old.situation e.process ≡ Working (on e works.StoreKind) → StepsAt e works.StoreKind word old new → Keeps e.process old new
   store_kind fits was t =
       let m : StoresAt (Kind e.cell) (word_for e.entry) old.memory new.memory = t.memory.1 in
       let held : IsHeld old.memory e.process e.cell = held_both old (on e works.StoreKind) fits.knows.hold in
       let still : IsHeld old.memory e.process e.cell → IsHeld new.memory e.process e.cell =
-      frame.same_hold e works.StoreKind (on e works.FlushValue) old new sound real was t.situation (turn_of _ t) (t.open_edits e.process) fits tt (m.elsewhere (Mark e.cell) (λ x. cc)) (m.persisted (Mark e.cell)) in
-      frame.stores e works.StoreKind (on e works.FlushValue) old new sound real was t.situation (turn_of _ t) (t.open_edits e.process) fits tt (Kind e.cell) (word_for e.entry) (λ x. cc)
+      frame.same_hold e works.StoreKind (on e works.FlushValue) old new sound real was t.situation (turn_of _ was t) (t.open_edits e.process) fits tt (m.elsewhere (Mark e.cell) (λ x. cc)) (m.persisted (Mark e.cell)) in
+      frame.stores e works.StoreKind (on e works.FlushValue) old new sound real was t.situation (turn_of _ was t) (t.open_edits e.process) fits tt (Kind e.cell) (word_for e.entry) (λ x. cc) (λ x. cc)
       (inl held.by) m
       (λ moves. store_kind_mine e.process e (word_for e.entry) old new was t.situation held m moves)
       (λ moves mine. stored_marks e.process (Kind e.cell) old new moves (λ c x. cc) m.persisted m.buffer)
@@ -85,7 +86,7 @@ module _ (e : PlainWorkCall) (word : ℕ) (old new : PlainWorld) (sound : IsSoun
   pub flush_value : WorkFits old e.process (on e works.FlushValue) → old.situation e.process ≡ Working (on e works.FlushValue) → StepsAt e works.FlushValue word old new → Keeps e.process old new
   flush_value fits was t =
       let m : FlushesAt e.process (Value e.cell) (class_of (Value e.cell)) old.memory new.memory = t.memory.1 in
-      frame.flushes e works.FlushValue (on e works.FlushKind) old new sound real was t.situation (turn_of _ t) (t.open_edits e.process) fits tt (Value e.cell) m
+      frame.flushes e works.FlushValue (on e works.FlushKind) old new sound real was t.situation (turn_of _ was t) (t.open_edits e.process) fits tt (Value e.cell) m
       (λ c x bit matters o. tt) (λ o. inl tt) (λ k. record { hold = k.hold; loaded = k.loaded; own = k.own; evaluated = k.evaluated })
       (λ g. m.mine ∙ ap (λ (xs : List (BufferEntry Place)). xs ++ entry (Value e.cell) (old.memory.cached (Value e.cell)) ∷ []) fits.buffer
       ∙ ap (λ (v : ℕ). entry (Value e.cell) v ∷ []) fits.knows.own.0)
@@ -93,7 +94,7 @@ module _ (e : PlainWorkCall) (word : ℕ) (old new : PlainWorld) (sound : IsSoun
   pub flush_kind : WorkFits old e.process (on e works.FlushKind) → old.situation e.process ≡ Working (on e works.FlushKind) → StepsAt e works.FlushKind word old new → Keeps e.process old new
   flush_kind fits was t =
       let m : FlushesAt e.process (Kind e.cell) (class_of (Kind e.cell)) old.memory new.memory = t.memory.1 in
-      frame.flushes e works.FlushKind (on e works.BackValue) old new sound real was t.situation (turn_of _ t) (t.open_edits e.process) fits tt (Kind e.cell) m
+      frame.flushes e works.FlushKind (on e works.BackValue) old new sound real was t.situation (turn_of _ was t) (t.open_edits e.process) fits tt (Kind e.cell) m
       (λ c x bit matters o. tt) (λ o. inl tt) (λ k. record { hold = k.hold; loaded = k.loaded; own = k.own; evaluated = k.evaluated })
       (λ g. m.mine ∙ ap (λ (xs : List (BufferEntry Place)). xs ++ entry (Kind e.cell) (old.memory.cached (Kind e.cell)) ∷ []) fits.buffer
       ∙ ap (λ (v : ℕ). value_entry e ∷ entry (Kind e.cell) v ∷ []) fits.knows.own.1)
@@ -103,10 +104,10 @@ module _ (e : PlainWorkCall) (word : ℕ) (old new : PlainWorld) (sound : IsSoun
       let m : WritesBack e.process (value_entry e) (kind_entry e ∷ []) old.memory new.memory = back_first (value_entry e) (kind_entry e ∷ []) fits.buffer t.memory.1 in
       let held : IsHeld old.memory e.process e.cell = held_both old (on e works.BackValue) fits.knows.hold in
       let still : IsHeld old.memory e.process e.cell → IsHeld new.memory e.process e.cell =
-      frame.same_hold e works.BackValue (on e works.BackKind) old new sound real was t.situation (turn_of _ t) (t.open_edits e.process) fits tt (m.cached (Mark e.cell)) (m.elsewhere (Mark e.cell) (λ x. cc)) in
-      frame.backs e works.BackValue (on e works.BackKind) old new sound real was t.situation (turn_of _ t) (t.open_edits e.process) fits tt (Value e.cell) (value_for e.entry) (kind_entry e ∷ []) m
+      frame.same_hold e works.BackValue (on e works.BackKind) old new sound real was t.situation (turn_of _ was t) (t.open_edits e.process) fits tt (m.cached (Mark e.cell)) (m.elsewhere (Mark e.cell) (λ x. cc)) in
+      frame.backs e works.BackValue (on e works.BackKind) old new sound real was t.situation (turn_of _ was t) (t.open_edits e.process) fits tt (Value e.cell) (value_for e.entry) (kind_entry e ∷ []) m
       (sym fits.knows.own.0) (λ o. sym fits.knows.own.0)
-      (λ moves. frame.own_mine e works.BackValue (on e works.BackKind) old new sound real was t.situation (turn_of _ t) (t.open_edits e.process) fits tt (Value e.cell) moves
+      (λ moves. frame.own_mine e works.BackValue (on e works.BackKind) old new sound real was t.situation (turn_of _ was t) (t.open_edits e.process) fits tt (Value e.cell) moves
       (λ c at. own_value e.cell c at) (λ c at. cc) held (still held) (λ c x. tt))
       (λ cell at. cc) still (λ o. inl tt)
       (λ k. record { hold = k.hold; loaded = k.loaded; own = (k.own, m.there); evaluated = k.evaluated })
@@ -120,11 +121,11 @@ module _ (e : PlainWorkCall) (word : ℕ) (old new : PlainWorld) (sound : IsSoun
       let m : WritesBack e.process (kind_entry e) [] old.memory new.memory = back_first (kind_entry e) [] fits.buffer t.memory.1 in
       let held : IsHeld old.memory e.process e.cell = held_both old (on e works.BackKind) fits.knows.hold in
       let still : IsHeld old.memory e.process e.cell → IsHeld new.memory e.process e.cell =
-      frame.same_hold e works.BackKind f old new sound real was t.situation (turn_of _ t) (t.open_edits e.process) fits row (m.cached (Mark e.cell)) (m.elsewhere (Mark e.cell) (λ x. cc)) in
+      frame.same_hold e works.BackKind f old new sound real was t.situation (turn_of _ was t) (t.open_edits e.process) fits row (m.cached (Mark e.cell)) (m.elsewhere (Mark e.cell) (λ x. cc)) in
       let value : new.memory.persisted (Value e.cell) ≡ value_for e.entry = m.elsewhere (Value e.cell) (λ x. cc) ∙ fits.knows.own.1 in
-      frame.backs e works.BackKind f old new sound real was t.situation (turn_of _ t) (t.open_edits e.process) fits row (Kind e.cell) (word_for e.entry) [] m
+      frame.backs e works.BackKind f old new sound real was t.situation (turn_of _ was t) (t.open_edits e.process) fits row (Kind e.cell) (word_for e.entry) [] m
       (sym fits.knows.own.0.1) (λ o. sym fits.knows.own.0.1)
-      (λ moves. frame.own_mine e works.BackKind f old new sound real was t.situation (turn_of _ t) (t.open_edits e.process) fits row (Kind e.cell) moves
+      (λ moves. frame.own_mine e works.BackKind f old new sound real was t.situation (turn_of _ was t) (t.open_edits e.process) fits row (Kind e.cell) moves
       (λ c at. own_kind e.cell c at) (λ c at. cc) held (still held) (λ c x. inl (omega arith)))
       (λ cell at. cc) still
       (λ o. inr (value ∙ sym (m.cached (Value e.cell) ∙ fits.knows.own.0.0), m.there ∙ sym (m.cached (Kind e.cell) ∙ fits.knows.own.0.1)))

@@ -14,7 +14,7 @@ use Rattle.ds_state.specs.World.{PlainWorld, index_place}
 use Rattle.ds_state.specs.Owing.{IsIndexed}
 use Rattle.ds_state.specs.Standing.{HasContent}
 use Rattle.ds_state.specs.KnownWork.{WorkFits, ReadsWhole, Gathers, row_of}
-use Rattle.ds_work.specs.WorkSteps.{Turns, ReadsAt, LacksAt, OffersAt}
+use Rattle.ds_work.specs.WorkSteps.{Turns, ReadsAt, LacksAt, OffersAt, read_from}
 use Rattle.ds_state.specs.Rely.{Keeps}
 use Rattle.ds_state.specs.Sound.{IsSound}
 use Rattle.ds_state.specs.declared.work.WorkStage.TheVariants as works
@@ -24,17 +24,26 @@ use Rattle.ds_state.proofs.Found.{refs_indexed}
 use Rattle.ds_work.proofs.WorkSteps.{on}
 use Rattle.ds_work.proofs.WorkOwn.{offer_keeps}
 use Rattle.ds_work.proofs.WorkFrame as frame
+use Rattle.ds_work.proofs.Keeping.{turn_goes}
+use Rattle.ds_state.specs.declared.work.WorkStage.{WorkStage}
+
+read_edition : (e : PlainWorkCall) (content : PlainContent) (inputs : List Input) → (read_from e content inputs).edition ≡ e.edition
+read_edition e content inputs = by (nat_lt 0 (length inputs))
+  where
+    by : (b : Bool) → (if b then record e { content = content; inputs = inputs; stage = works.LoadValue 0 } else record e { content = content; inputs = inputs; stage = works.LoadOwnValue }).edition ≡ e.edition
+    by true = refl
+    by false = refl
 
 module _ (e : PlainWorkCall) (old new : PlainWorld) (sound : IsSound old) (real : e.process < old.layout.processes) where
-  turns : (f : PlainWorkCall) → Turns e f old new → Turn e.process old new
-  turns f t = record { layout = t.layout; counted = t.counted; situations = t.others; pendings = λ q ne. t.open_edits q }
+  turns : (f : PlainWorkCall) (s : WorkStage) → old.situation e.process ≡ Working (on e s) → f.edition ≡ e.edition → Turns e f old new → Turn e.process old new
+  turns f s was same t = record { layout = t.layout; counted = t.counted; situations = t.others; pendings = λ q ne. t.open_edits q; goes = turn_goes e f s old new real was same t }
 
   pub lacks_keeps : WorkFits old e.process (on e works.Read) → old.situation e.process ≡ Working (on e works.Read) → LacksAt e old new → Keeps e.process old new
-  lacks_keeps fits was t = frame.loads e works.Read (on e works.Give) old new sound real was t.situation (turns _ t) (t.open_edits e.process) fits tt t.memory
+  lacks_keeps fits was t = frame.loads e works.Read (on e works.Give) old new sound real was t.situation (turns _ _ was refl t) (t.open_edits e.process) fits tt t.memory
       (λ c x bit matters o. absurd o) (λ o. absurd o) (λ k. record { hold = k.hold; loaded = tt; own = tt; evaluated = tt }) (λ h. h)
 
   pub offers_keep : (entry : entries.Entry) → WorkFits old e.process (on e works.Wait) → old.situation e.process ≡ Working (on e works.Wait) → OffersAt e entry old new → Keeps e.process old new
-  offers_keep entry fits was t = offer_keeps e entry old new sound real was t.turn.situation (turns _ t.turn) (t.turn.open_edits e.process) fits t.turn.memory t.is
+  offers_keep entry fits was t = offer_keeps e entry old new sound real was t.turn.situation (turns _ _ was refl t.turn) (t.turn.open_edits e.process) fits t.turn.memory t.is
 
   module _ (content : PlainContent) (inputs : List Input) (fits : WorkFits old e.process (on e works.Read)) (was : old.situation e.process ≡ Working (on e works.Read)) (t : ReadsAt e content inputs old new) where
     abbrev shape_is : new.layout ≡ old.layout
@@ -64,7 +73,7 @@ module _ (e : PlainWorkCall) (old new : PlainWorld) (sound : IsSound old) (real 
         go : (b : Bool) → nat_lt 0 (length inputs) ≡ b → Keeps e.process old new
         go true some = frame.loads e works.Read (record e { content = content; inputs = inputs; stage = works.LoadValue 0 }) old new sound real was
             (t.turn.situation ∙ ap (λ (b : Bool). Working (if b then record e { content = content; inputs = inputs; stage = works.LoadValue 0 } else record e { content = content; inputs = inputs; stage = works.LoadOwnValue })) some)
-            (turns _ t.turn) (t.turn.open_edits e.process) fits (ltb-true 0 (length inputs) some) t.turn.memory
+            (turns _ _ was (read_edition e content inputs) t.turn) (t.turn.open_edits e.process) fits (ltb-true 0 (length inputs) some) t.turn.memory
             (λ c x bit matters o. absurd o) (λ o. absurd o)
             (λ k. record {
               hold = k.hold;
@@ -81,7 +90,7 @@ module _ (e : PlainWorkCall) (old new : PlainWorld) (sound : IsSound old) (real 
             }) (λ h. h)
         go false none = frame.loads e works.Read (record e { content = content; inputs = inputs; stage = works.LoadOwnValue }) old new sound real was
             (t.turn.situation ∙ ap (λ (b : Bool). Working (if b then record e { content = content; inputs = inputs; stage = works.LoadValue 0 } else record e { content = content; inputs = inputs; stage = works.LoadOwnValue })) none)
-            (turns _ t.turn) (t.turn.open_edits e.process) fits tt t.turn.memory
+            (turns _ _ was (read_edition e content inputs) t.turn) (t.turn.open_edits e.process) fits tt t.turn.memory
             (λ c x bit matters o. absurd o) (λ o. absurd o)
             (λ k. record {
               hold = k.hold;

@@ -30,6 +30,7 @@ use Rattle.ds_state.specs.declared.work.WorkStage.TheVariants as works
 use Rattle.ds_work.specs.WorkSteps.{access_at, claims_from, head_from, header_from, text_from, input_from, told, tell_from, row_from, spread_next, next_at, read_from, lacks, offered, text_parts, parts_of}
 use Rattle.ds_work.specs.WorkAnswers.{mark_now}
 use Rattle.ds_work.specs.WorkShows.{CellWords, shown_in, noted_by, words_for, HasNoted, ShowsAt}
+use Rattle.ds_state.specs.Shown.{header_in}
 
 -- ---- words of a cell
 
@@ -157,7 +158,7 @@ module _ (before : CellWords) (shape : Shape) (e : PlainWorkCall) (word : ℕ) (
   goes works.FlushClaim none mark tells m h = h
   goes works.BackClaim none mark tells m h = h
   goes works.LoadHead none mark tells m h = head_shows before _ e word (head_of e.processes word) h
-  goes works.LoadHeader none mark tells m h = header_shows before _ e (header_of e.cells word) h
+  goes works.LoadHeader none mark tells m h = header_shows before _ e (header_in e.edition (header_of e.cells word)) h
   goes (works.LoadText part) none mark tells m h = text_shows before _ (record e { text = take e.length (e.text ++ bytes_of word) }) (part + 1) h
   goes works.Read none mark tells m h = h
   goes (works.LoadValue i) none mark tells m h = h

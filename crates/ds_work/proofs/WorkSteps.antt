@@ -28,7 +28,7 @@ use Rattle.ds_state.specs.declared.work.WorkStage.TheVariants as works
 use Rattle.ds_state.specs.declared.work.RecoverStage.{RecoverStage}
 use Rattle.ds_state.specs.declared.work.RecoverStage.TheVariants as recoveries
 use Rattle.ds_state.specs.declared.situation.Situation.{Situation}
-use Rattle.ds_state.specs.declared.situation.Situation.TheVariants.{Idle, Stopped, Editing, Working, Recovering, Showing}
+use Rattle.ds_state.specs.declared.situation.Situation.TheVariants.{Idle, Stopped, Editing, Working, Recovering, Showing, Migrating}
 use Rattle.ds_state.proofs.Frames.{Moves, clean_free}
 use Rattle.ds_state.proofs.Telling.{matters_most, odd_above}
 use Rattle.ds_state.proofs.Bearing.{Buffered, Mine, MyMarks, text_same, stored_marks, all_stand, cell_owes_lasts, excused_lasts}
@@ -59,6 +59,9 @@ module _ (w : PlainWorld) (h : ℕ) (c x y : ℕ) (is : x ≡ w.memory.cached (M
   work_later row _ k = absurd k
 
   recovery_later : (row : List ℕ) (s : RecoverStage) (r : ℕ) → RecoveryOwes w.memory h row s r c x → RecoveryOwes w.memory h row s r c y
+  recovery_later row recoveries.LoadVersion r k = tt
+  recovery_later row recoveries.FlushVersion r k = tt
+  recovery_later row recoveries.BackVersion r k = tt
   recovery_later row (recoveries.LoadMark cell) r k = tt
   recovery_later row (recoveries.FlushValue cell) r k = tt
   recovery_later row (recoveries.FlushKind cell) r k = tt
@@ -73,6 +76,7 @@ module _ (w : PlainWorld) (h : ℕ) (c x y : ℕ) (is : x ≡ w.memory.cached (M
 
   pub owes_later : (s : Situation) (r : ℕ) → Owes w.memory h s r c x → Owes w.memory h s r c y
   owes_later (Idle next) r k = absurd k
+  owes_later (Migrating e) r k = tt
   owes_later Stopped r k = tt
   owes_later (Editing e) r k = absurd k
   owes_later (Working e) r k = (k.0, work_later e.row e.stage k.1)
@@ -98,6 +102,7 @@ module _ (w : PlainWorld) (h : ℕ) (c x y : ℕ) (is : x ≡ w.memory.cached (M
 
   pub excuses_later : (s : Situation) → Excuses w h s c x → Excuses w h s c y
   excuses_later (Idle next) k = absurd k
+  excuses_later (Migrating e) k = k
   excuses_later Stopped k = k
   excuses_later (Editing e) k = (k.0, edit_later e.stage k.1)
   excuses_later (Working e) k = absurd k

@@ -30,10 +30,11 @@ use Rattle.ds_state.proofs.Telling.{ToldFits, first_told, or_hold, row_passes, f
 use Rattle.ds_work.proofs.WorkSteps.{on, mark_marks, told_mine}
 use Rattle.ds_work.proofs.WorkClaims.{back_first}
 use Rattle.ds_work.proofs.WorkFrame as frame
+use Rattle.ds_work.proofs.Keeping.{work_goes}
 
 module _ (e : PlainWorkCall) (word : ℕ) (old new : PlainWorld) (sound : IsSound old) (real : e.process < old.layout.processes) where
-  turn_of : (s : WorkStage) → StepsAt e s word old new → Turn e.process old new
-  turn_of s t = record { layout = t.layout; counted = t.counted; situations = t.others; pendings = λ q ne. t.open_edits q }
+  turn_of : (s : WorkStage) → old.situation e.process ≡ Working (on e s) → StepsAt e s word old new → Turn e.process old new
+  turn_of s was t = record { layout = t.layout; counted = t.counted; situations = t.others; pendings = λ q ne. t.open_edits q; goes = work_goes e s word old new real was t }
 
   indexed_below : cells_of old.layout ≡ e.cells → (c : ℕ) → IsIndexed old e.cell c → c < e.cells
   indexed_below same c bit = let l = bit.1 in omega arith
@@ -49,12 +50,12 @@ module _ (e : PlainWorkCall) (word : ℕ) (old new : PlainWorld) (sound : IsSoun
       loaded c x bit o = row_passes e.process e.row e.cell part word old new fits.at.0 t.memory.0 c x bit o
 
       tells : (o : Option ℕ) → ToldFits (e.row ++ word ∷ []) (e.cells - 0) 0 o → (e.cells + 63) / 64 ≤ part + 1 → new.situation e.process ≡ Working (told (record e { row = e.row ++ word ∷ [] }) o) → Keeps e.process old new
-      tells (Some k) least all is = frame.loads e (works.Telling (LoadRow part)) (record e { row = e.row ++ word ∷ []; stage = works.Telling (OrTold k) }) old new sound real was is (turn_of _ t) (t.open_edits e.process) fits (let l = least.1 in omega arith) t.memory.1
+      tells (Some k) least all is = frame.loads e (works.Telling (LoadRow part)) (record e { row = e.row ++ word ∷ []; stage = works.Telling (OrTold k) }) old new sound real was is (turn_of _ was t) (t.open_edits e.process) fits (let l = least.1 in omega arith) t.memory.1
           (λ c x bit matters o. elim (loaded c x bit o) [
             | inl later ↦ absurd (let l = indexed_below fits.cells c bit in omega arith)
             | inr there ↦ (there, least.2 c (omega arith) there)
           ]) (λ o. absurd o) (λ k. record { hold = k.hold; loaded = k.loaded; own = k.own; evaluated = k.evaluated }) (λ h. h)
-      tells None none all is = frame.loads e (works.Telling (LoadRow part)) (record e { row = e.row ++ word ∷ []; stage = works.Clear true }) old new sound real was is (turn_of _ t) (t.open_edits e.process) fits tt t.memory.1
+      tells None none all is = frame.loads e (works.Telling (LoadRow part)) (record e { row = e.row ++ word ∷ []; stage = works.Clear true }) old new sound real was is (turn_of _ was t) (t.open_edits e.process) fits tt t.memory.1
           (λ c x bit matters o. elim (loaded c x bit o) [
             | inl later ↦ absurd (let l = indexed_below fits.cells c bit in omega arith)
             | inr there ↦ none c (omega arith) (let l = indexed_below fits.cells c bit in omega arith) there
@@ -63,7 +64,7 @@ module _ (e : PlainWorkCall) (word : ℕ) (old new : PlainWorld) (sound : IsSoun
       go : (b : Bool) → nat_lt (part + 1) ((e.cells + 63) / 64) ≡ b → Keeps e.process old new
       go true some = frame.loads e (works.Telling (LoadRow part)) (record e { row = e.row ++ word ∷ []; stage = works.Telling (LoadRow (part + 1)) }) old new sound real was
           (t.situation ∙ ap (λ (b : Bool). Working (if b then record e { row = e.row ++ word ∷ []; stage = works.Telling (LoadRow (part + 1)) } else tell_from (record e { row = e.row ++ word ∷ [] }) 0)) some)
-          (turn_of _ t) (t.open_edits e.process) fits (let l = fits.at.0 in let p = pushed e.row word in omega arith, ltb-true (part + 1) ((e.cells + 63) / 64) some) t.memory.1
+          (turn_of _ was t) (t.open_edits e.process) fits (let l = fits.at.0 in let p = pushed e.row word in omega arith, ltb-true (part + 1) ((e.cells + 63) / 64) some) t.memory.1
           (λ c x bit matters o. loaded c x bit o) (λ o. absurd o) (λ k. record { hold = k.hold; loaded = k.loaded; own = k.own; evaluated = k.evaluated }) (λ h. h)
       go false none = tells (told_from (e.row ++ word ∷ []) (e.cells - 0) 0) (first_told (e.row ++ word ∷ []) (e.cells - 0) 0) (ltb-false (part + 1) ((e.cells + 63) / 64) none)
           (t.situation ∙ ap (λ (b : Bool). Working (if b then record e { row = e.row ++ word ∷ []; stage = works.Telling (LoadRow (part + 1)) } else tell_from (record e { row = e.row ++ word ∷ [] }) 0)) none)
@@ -76,7 +77,7 @@ module _ (e : PlainWorkCall) (word : ℕ) (old new : PlainWorld) (sound : IsSoun
       let odd : n % 2 ≡ 1 = omega arith in
       let same : n / 2 ≡ old.memory.cached (Mark d) / 2 = omega arith in
       let s : WorkStage = works.Telling (OrTold d) in
-      frame.stores e s (on e (works.Telling (FlushTold d))) old new sound real was t.situation (turn_of _ t) (t.open_edits e.process) fits fits.at (Mark d) n (λ x. cc)
+      frame.stores e s (on e (works.Telling (FlushTold d))) old new sound real was t.situation (turn_of _ was t) (t.open_edits e.process) fits fits.at (Mark d) n (λ x. cc) (λ x. cc)
       (or_moves e.process (old.memory.cached (Mark d)) (old.memory.persisted (Mark d))) m
       (λ moves. told_mine e.process e d n old new sound (buffered old sound) was t.situation odd same m moves)
       (λ moves mine. mark_marks e.process d n old new m moves (λ clean. omega arith) (λ r c x bit matters held o. mine.owes r c x bit matters held o) (λ l c x matters o. mine.excuses l c x matters o))
@@ -103,7 +104,7 @@ module _ (e : PlainWorkCall) (word : ℕ) (old new : PlainWorld) (sound : IsSoun
   flush_told d fits was t =
       let m : FlushesAt e.process (Mark d) (class_of (Mark d)) old.memory new.memory = t.memory.1 in
       let alone : new.memory.buffer e.process ≡ entry (Mark d) (old.memory.cached (Mark d)) ∷ [] = m.mine ∙ ap (λ (xs : List (BufferEntry Place)). xs ++ entry (Mark d) (old.memory.cached (Mark d)) ∷ []) fits.buffer in
-      frame.flushes e (works.Telling (FlushTold d)) (on e (works.Telling (BackTold d))) old new sound real was t.situation (turn_of _ t) (t.open_edits e.process) fits fits.at (Mark d) m
+      frame.flushes e (works.Telling (FlushTold d)) (on e (works.Telling (BackTold d))) old new sound real was t.situation (turn_of _ was t) (t.open_edits e.process) fits fits.at (Mark d) m
       (λ c x bit matters o. flush_passes e.process e.row d old new alone c x o) (λ o. absurd o)
       (λ k. record { hold = k.hold; loaded = k.loaded; own = k.own; evaluated = k.evaluated })
       (λ g. record { value = old.memory.cached (Mark d); alone = alone; had = g.marks_cached d; is = λ q by. rw t.layout ((sound.words (Mark d)).holder q by) })
@@ -149,16 +150,16 @@ module _ (e : PlainWorkCall) (word : ℕ) (old new : PlainWorld) (sound : IsSoun
       below k least l = omega arith
 
       tells : (o : Option ℕ) → ToldFits e.row (e.cells - (d + 1)) (d + 1) o → new.situation e.process ≡ Working (told e o) → Keeps e.process old new
-      tells (Some k) first is = frame.backs e (works.Telling (BackTold d)) (on e (works.Telling (OrTold k))) old new sound real was is (turn_of _ t) (t.open_edits e.process) fits (below k first.0 first.1) (Mark d) fits.buffer.value [] m
+      tells (Some k) first is = frame.backs e (works.Telling (BackTold d)) (on e (works.Telling (OrTold k))) old new sound real was is (turn_of _ was t) (t.open_edits e.process) fits (below k first.0 first.1) (Mark d) fits.buffer.value [] m
           (fits.buffer.had, fits.buffer.is) (λ o. absurd o)
-          (λ moves. frame.quiet_mine e (works.Telling (BackTold d)) (on e (works.Telling (OrTold k))) old new sound real was is (turn_of _ t) (t.open_edits e.process) fits (below k first.0 first.1) (Mark d) moves
+          (λ moves. frame.quiet_mine e (works.Telling (BackTold d)) (on e (works.Telling (OrTold k))) old new sound real was is (turn_of _ was t) (t.open_edits e.process) fits (below k first.0 first.1) (Mark d) moves
           (λ c at. elim at [ inl x ↦ cc | inr x ↦ cc ]) (λ c at. cc) still
           (λ c x bit matters o. back_passes e.process e.row d k fits.buffer.value old new fits.buffer.alone least.1 behind (λ c lt has. first.2 c (omega arith) has) c x matters o))
           (λ cell at. let same : cell ≡ d = cc in rw same (least.0, most))
           still (λ o. absurd o) (λ k. record { hold = k.hold; loaded = k.loaded; own = k.own; evaluated = k.evaluated }) m.mine
-      tells None none is = frame.backs e (works.Telling (BackTold d)) (on e (works.Clear true)) old new sound real was is (turn_of _ t) (t.open_edits e.process) fits tt (Mark d) fits.buffer.value [] m
+      tells None none is = frame.backs e (works.Telling (BackTold d)) (on e (works.Clear true)) old new sound real was is (turn_of _ was t) (t.open_edits e.process) fits tt (Mark d) fits.buffer.value [] m
           (fits.buffer.had, fits.buffer.is) (λ o. absurd o)
-          (λ moves. frame.quiet_mine e (works.Telling (BackTold d)) (on e (works.Clear true)) old new sound real was is (turn_of _ t) (t.open_edits e.process) fits tt (Mark d) moves
+          (λ moves. frame.quiet_mine e (works.Telling (BackTold d)) (on e (works.Clear true)) old new sound real was is (turn_of _ was t) (t.open_edits e.process) fits tt (Mark d) moves
           (λ c at. elim at [ inl x ↦ cc | inr x ↦ cc ]) (λ c at. cc) still
           (λ c x bit matters o. (
           let inside = indexed_below fits.cells c bit in

@@ -19,6 +19,7 @@ use Rattle.ds_work.specs.declared.machine.Noting.{Noting}
 use Rattle.ds_work.specs.declared.machine.Noting.TheVariants as noted
 use Rattle.ds_work.specs.declared.machine.Doing.{Doing}
 use Rattle.ds_work.specs.declared.machine.Doing.TheVariants as turns
+use Rattle.ds_state.specs.Shown.{header_in}
 
 -- what work notes of the word that the access of a stage finds, beside the stage that comes next
 abbrev pub notes_at : WorkStage → Noting
@@ -60,7 +61,7 @@ length_in (Some header) = header.length
 -- the length of the text that work has noted after a stage whose access found this word
 abbrev pub length_at : PlainWorkCall → WorkStage → ℕ → ℕ
 length_at e LoadHead word = 0
-length_at e LoadHeader word = length_in (header_of e.cells word)
+length_at e LoadHeader word = length_in (header_in e.edition (header_of e.cells word))
 length_at e _ word = e.length
 
 -- the text after a stage: empty after head and header, longer by the bytes of each part that is loaded

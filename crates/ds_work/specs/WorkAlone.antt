@@ -18,6 +18,7 @@ use Rattle.ds_work.specs.declared.drive.Taken.{Taken}
 use Rattle.ds_work.specs.declared.drive.Taken.TheVariants.{NotEnabled, Stepped, Answered}
 use Rattle.ds_work.specs.WorkAnswers.{mark_now, state_now}
 use Rattle.ds_work.specs.WorkShows.{CellWords, shown_in, EndsShowing, ShowsAt}
+use Rattle.ds_work.specs.WorkSteps.{rest_of}
 
 -- the work's cell is marked, and its mark has generations left
 pub record IsMarkedAt (w : PlainWorld) (e : PlainWorkCall) : Type 0 where
@@ -105,4 +106,4 @@ pub record IsAlone (row : ℕ → ℕ) (before : CellWords) (w : PlainWorld) (e 
 abbrev pub GoesAlone : (ℕ → ℕ) → CellWords → PlainWorkCall → PlainWorld → Taken → Type 0
 GoesAlone row before e w NotEnabled = Unit {0}
 GoesAlone row before e w Stepped = (f : PlainWorkCall) × (f.cell ≡ e.cell) × (f.process ≡ e.process) × (w.situation e.process ≡ Working f) × IsAlone row before w f
-GoesAlone row before e w (Answered end) = (w.situation e.process ≡ Idle e.next) × EndsAlone row w e end × EndsShowing before (shown_in w e.cell) end
+GoesAlone row before e w (Answered end) = (w.situation e.process ≡ Idle (rest_of e)) × EndsAlone row w e end × EndsShowing before (shown_in w e.cell) end

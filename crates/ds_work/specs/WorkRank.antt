@@ -16,12 +16,12 @@ telling e = 3 * e.cells + parts_for e.cells
 -- how many steps of work are left at most from a stage on, the answer's among them: before the content is read, for a
 -- content with so many references; an offer counts as one
 abbrev pub left : ℕ → PlainWorkCall → WorkStage → ℕ
-left r e LoadMark = 36 + telling e + 2 * r
-left r e Claim = 35 + telling e + 2 * r
-left r e FlushClaim = 34 + telling e + 2 * r
-left r e BackClaim = 33 + telling e + 2 * r
-left r e LoadHead = 32 + telling e + 2 * r
-left r e LoadHeader = 31 + telling e + 2 * r
+left r e LoadMark = 51 + telling e + 2 * r
+left r e Claim = 50 + telling e + 2 * r
+left r e FlushClaim = 49 + telling e + 2 * r
+left r e BackClaim = 48 + telling e + 2 * r
+left r e LoadHead = 47 + telling e + 2 * r
+left r e LoadHeader = 46 + telling e + 2 * r
 left r e (LoadText part) = 15 + telling e + 2 * r + (text_words.parts_for e.length - part)
 left r e Read = 15 + telling e + 2 * r
 left r e (LoadValue i) = 14 + telling e + 2 * (length e.inputs - i)

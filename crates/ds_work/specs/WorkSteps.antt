@@ -40,6 +40,9 @@ use Rattle.ds_state.specs.declared.work.Spread.TheVariants.{LoadRow, OrTold, Flu
 use Rattle.ds_state.specs.declared.work.WorkEnd.TheVariants.{NotDirty, Missed, Worn, Published, Again, NoMemory}
 use Rattle.ds_state.specs.declared.work.WorkStage.{WorkStage}
 use Rattle.ds_state.specs.declared.work.WorkStage.TheVariants.{LoadMark, Claim, FlushClaim, BackClaim, LoadHead, LoadHeader, LoadText, Read, LoadValue, LoadKind, LoadOwnValue, LoadOwnKind, Wait, StoreValue, StoreKind, FlushValue, FlushKind, BackValue, BackKind, Telling, Clear, ClearDirty, Give, GiveDirty, FlushCleared, BackCleared, Answer}
+use Rattle.ds_layout.specs.declared.place.Edition.{Edition}
+use Rattle.ds_state.specs.declared.situation.Rest.{Rest}
+use Rattle.ds_state.specs.Shown.{header_in}
 
 -- how many parts an index row of the work's sheet has
 abbrev pub parts_of : PlainWorkCall → ℕ
@@ -57,9 +60,9 @@ input_place shape e i = index_of shape (cell_in e.inputs i)
 abbrev pub record_header : ℕ → Place
 record_header word = let head : Head = head_parts.parts_of word in place.Header head.process head.number
 
--- the place of a part of the text of the record that a head's word names
-abbrev pub record_text : ℕ → ℕ → Place
-record_text word part = let head : Head = head_parts.parts_of word in place.Text head.process head.number part
+-- the place of a part of the text, in a layout, of the record that a head's word names
+abbrev pub record_text : Edition → ℕ → ℕ → Place
+record_text edition word part = let head : Head = head_parts.parts_of word in place.Text edition head.process head.number part
 
 -- the access of a stage of telling
 abbrev pub spread_access : PlainWorkCall → Spread → Access Place
@@ -76,7 +79,7 @@ access_at shape e FlushClaim = acts.Flush (place.Mark e.cell)
 access_at shape e BackClaim = acts.Back
 access_at shape e LoadHead = acts.Load (place.Head e.cell)
 access_at shape e LoadHeader = acts.Load (record_header e.head)
-access_at shape e (LoadText part) = acts.Load (record_text e.head part)
+access_at shape e (LoadText part) = acts.Load (record_text e.edition e.head part)
 access_at shape e Read = acts.Nothing
 access_at shape e (LoadValue i) = acts.Load (place.Value (input_place shape e i))
 access_at shape e (LoadKind i value) = acts.Load (place.Kind (input_place shape e i))
@@ -154,7 +157,7 @@ next_at e Claim word = if word == e.mark then record e { mark = held_after e.pro
 next_at e FlushClaim word = at e BackClaim
 next_at e BackClaim word = at e LoadHead
 next_at e LoadHead word = head_from e word (head_of e.processes word)
-next_at e LoadHeader word = header_from e (header_of e.cells word)
+next_at e LoadHeader word = header_from e (header_in e.edition (header_of e.cells word))
 next_at e (LoadText part) word = text_from (record e { text = take e.length (e.text ++ bytes_of word) }) (part + 1)
 next_at e Read word = at e Read
 next_at e (LoadValue i) word = at e (LoadKind i word)
@@ -192,9 +195,13 @@ offered e entry = record e {
   stage = if (e.value == value_for entry) && (e.kind == word_for entry) then Clear false else StoreValue;
 }
 
+-- what the process knows beside its work
+abbrev pub rest_of : PlainWorkCall → Rest
+rest_of e = record { number = e.next; edition = e.edition }
+
 -- the situation of the process after a stage of its work: the answer ends the call
 abbrev pub after : PlainWorkCall → WorkStage → ℕ → Situation
-after e (Answer end) word = Idle e.next
+after e (Answer end) word = Idle (rest_of e)
 after e stage word = Working (next_at e stage word)
 
 -- a stage that ends by its access alone: reading the content also takes memory, and waiting ends by an offer
@@ -223,10 +230,10 @@ pub record Turns (e f : PlainWorkCall) (old new : PlainWorld) : Type 0 where
   pub open_edits : (q : ℕ) → new.open_edits q ≡ old.open_edits q
 
 -- work begins on a cell; its process was idle
-pub record BeginsWork (next : ℕ) (e : PlainWorkCall) (old new : PlainWorld) : Type 0 where
+pub record BeginsWork (next : Rest) (e : PlainWorkCall) (old new : PlainWorld) : Type 0 where
   pub turn : Turns e (at e LoadMark) old new
   pub was : old.situation e.process ≡ Idle next
-  pub next_is : e.next ≡ next
+  pub next_is : rest_of e ≡ next
   pub cells : cells_of old.layout ≡ e.cells
   pub processes : old.layout.processes ≡ e.processes
   pub cell : e.cell < e.cells

@@ -14,19 +14,20 @@ use Rattle.ds_state.specs.World.{PlainWorld}
 use Rattle.ds_state.specs.declared.refusal.Refusal.{Refusal}
 use Rattle.ds_state.specs.declared.refusal.Refusal.TheVariants as refusal
 use Rattle.ds_state.specs.declared.situation.Situation.{Situation}
-use Rattle.ds_state.specs.declared.situation.Situation.TheVariants.{Idle, Stopped, Editing, Working, Recovering, Showing}
+use Rattle.ds_state.specs.declared.situation.Situation.TheVariants.{Idle, Stopped, Editing, Working, Recovering, Showing, Migrating}
 use Rattle.ds_state.specs.declared.work.WorkEnd.{WorkEnd}
 use Rattle.ds_state.specs.declared.work.WorkStage.TheVariants.{LoadMark, Read, Wait, Answer}
-use Rattle.ds_work.specs.WorkSteps.{BeginsWork, StepsAt, ReadsAt, LacksAt, OffersAt}
+use Rattle.ds_work.specs.WorkSteps.{rest_of, BeginsWork, StepsAt, ReadsAt, LacksAt, OffersAt}
 use Rattle.ds_work.specs.declared.drive.Taken.{Taken}
 use Rattle.ds_work.specs.declared.drive.Taken.TheVariants.{NotEnabled, Stepped, Answered}
+use Rattle.ds_state.specs.declared.situation.Rest.{Rest}
 
 -- ---- beginnings
 
 -- work of the process on the cell, before its first step
-pub record IsAskedFor (layout : Layout) (process number index : ℕ) (e : PlainWorkCall) : Type 0 where
+pub record IsAskedFor (layout : Layout) (process : ℕ) (next : Rest) (index : ℕ) (e : PlainWorkCall) : Type 0 where
   pub process_is : e.process ≡ process
-  pub next_is : e.next ≡ number
+  pub next_is : rest_of e ≡ next
   pub cell_is : e.cell ≡ index
   pub cells : cells_of layout ≡ e.cells
   pub processes : layout.processes ≡ e.processes
@@ -35,7 +36,7 @@ pub record IsAskedFor (layout : Layout) (process number index : ℕ) (e : PlainW
 
 -- work of an idle process on the cell has begun
 pub record IsBegun (old : PlainWorld) (process cell : ℕ) (new : PlainWorld) : Type 0 where
-  pub next : ℕ
+  pub next : Rest
   pub work : PlainWorkCall
   pub process_is : work.process ≡ process
   pub cell_is : work.cell ≡ cell
@@ -43,12 +44,13 @@ pub record IsBegun (old : PlainWorld) (process cell : ℕ) (new : PlainWorld) : 
 
 -- why a process may not begin work: by its situation
 abbrev pub RefusesIn : Situation → Refusal → Type 0
-RefusesIn (Idle number) r = r ≡ refusal.NoMemory
+RefusesIn (Idle next) r = r ≡ refusal.NoMemory
 RefusesIn Stopped r = r ≡ refusal.Stopped
 RefusesIn (Editing e) r = r ≡ refusal.Busy
 RefusesIn (Working e) r = r ≡ refusal.Busy
 RefusesIn (Recovering e) r = r ≡ refusal.Busy
 RefusesIn (Showing e) r = r ≡ refusal.Busy
+RefusesIn (Migrating e) r = r ≡ refusal.Busy
 
 -- why this process may not begin work
 abbrev pub Refuses : PlainWorld → ℕ → Refusal → Type 0

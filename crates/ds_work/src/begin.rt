@@ -15,7 +15,7 @@ use ds_formula::content::Content;
 use ds_layout::layout::Layout;
 use ds_state::refusal::Refusal;
 use ds_state::row::Row;
-use ds_state::situation::{Situation, next_edit, put};
+use ds_state::situation::{Rest, Situation, next_edit, put};
 use ds_state::text::Text;
 use ds_state::work::{WorkCall, WorkStage};
 use ds_state::world::World;
@@ -37,7 +37,7 @@ fn inputs_for(alloc: Global, spare: &mut Option<Inputs>, count: usize) -> Result
 
 // Work of the process on the cell, with room for all that it will gather.
 #[inline(always)]
-fn prepared(layout: &Layout, process: usize, next: usize, cell: Cell, inputs: Inputs) -> WorkCall
+fn prepared(layout: &Layout, process: usize, next: Rest, cell: Cell, inputs: Inputs) -> WorkCall
     requires process { process < layout.now.processes }
     requires cell { IsInside layout.now.shape cell }
     requires none { inputs.items ≡ [] }
@@ -50,7 +50,8 @@ fn prepared(layout: &Layout, process: usize, next: usize, cell: Cell, inputs: In
     };
     WorkCall {
         process,
-        next,
+        edition: next.edition,
+        next: next.number,
         cell: layout.shape.index(cell),
         cells: layout.cells(),
         processes: layout.processes,
@@ -87,7 +88,7 @@ pub fn fresh(
 
 // The process is in that work from now on.
 #[inline(always)]
-fn start(world: &mut World, call: WorkCall, cell: Cell, next: usize)
+fn start(world: &mut World, call: WorkCall, cell: Cell, next: Rest)
     requires asked { IsAskedFor world.old.sheet.layout call.process next (index_of world.old.sheet.layout.shape cell) call }
     requires process { call.process < world.old.sheet.layout.processes }
     requires idle { (world_of world.old).situation call.process ≡ Idle next }

@@ -7,6 +7,7 @@ ghost use Rattle.ds_state.specs.Value.{world_of};
 ghost use Rattle.ds_state.specs.declared.situation.Situation.TheVariants.{Idle, Working};
 ghost use Rattle.ds_work.specs.Noted.{turn_at};
 ghost use Rattle.ds_work.specs.Reading.{IsReading};
+ghost use Rattle.ds_work.specs.WorkSteps.{rest_of};
 ghost use Rattle.ds_work.specs.WorkTakes.{CanNotAdvance, IsIn, StepsBy, StepTakes};
 ghost use Rattle.ds_work.specs.declared.machine.Doing.TheVariants.{Steps, Reads, Answers};
 ghost use Rattle.ds_work.specs.declared.drive.Taken.TheVariants.{NotEnabled, Stepped, Answered};
@@ -16,7 +17,7 @@ use crate::machine::{Doing, got, turn, want};
 use crate::reading::reading;
 use ds_eval::inputs::Inputs;
 use ds_formula::cells::Shape;
-use ds_state::situation::{Situation, exchange};
+use ds_state::situation::{Rest, Situation, exchange};
 use ds_state::work::{WorkCall, WorkEnd};
 use ds_state::world::World;
 use std::alloc::Global;
@@ -41,7 +42,7 @@ fn work_of(situation: &Situation) -> Option<&WorkCall>
     match situation {
         Situation::Working(call) => Some(call),
         Situation::Idle(_) | Situation::Stopped | Situation::Editing(_) => None,
-        Situation::Recovering(_) | Situation::Showing(_) => None,
+        Situation::Recovering(_) | Situation::Showing(_) | Situation::Migrating(_) => None,
     }
 }
 
@@ -97,8 +98,8 @@ fn room_of(situation: Situation) -> Option<Inputs> {
 
 // The answer: the process is idle after it, and the room of its inputs is left for the next work.
 #[inline(always)]
-fn close(world: &mut World, process: usize, next: usize, end: WorkEnd)
-    requires { (e : PlainWorkCall) × IsIn (world_of world.old) process e × (turn_at e.stage ≡ Answers end) × (e.next ≡ next) }
+fn close(world: &mut World, process: usize, next: Rest, end: WorkEnd)
+    requires { (e : PlainWorkCall) × IsIn (world_of world.old) process e × (turn_at e.stage ≡ Answers end) × (rest_of e ≡ next) }
     ensures takes { StepsBy (world_of world.old) process (Answered end) (world_of world.new) }
     ensures done { world.new.done ≡ world.old.done }
     ensures settled { world.new.settled ≡ world.old.settled }
@@ -125,7 +126,11 @@ pub fn step(alloc: Global, world: &mut World, process: usize) -> Taken
         return Taken::NotEnabled;
     };
     works_are_of_a_sheet(call);
-    let (doing, next) = (turn(call), call.next);
+    let doing = turn(call);
+    let next = Rest {
+        number: call.next,
+        edition: call.edition,
+    };
     match doing {
         Doing::Waits => Taken::NotEnabled,
         Doing::Reads => {

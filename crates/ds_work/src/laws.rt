@@ -9,6 +9,7 @@ ghost use Rattle.ds_eval.specs.declared.inputs.Entry as entries;
 ghost use Rattle.ds_eval.specs.declared.inputs.Input.{Input};
 ghost use Rattle.ds_layout.specs.SheetMemory.{CanPerform};
 ghost use Rattle.ds_state.specs.World.{PlainWorld};
+ghost use Rattle.ds_state.specs.declared.situation.Rest.{Rest};
 ghost use Rattle.ds_state.specs.Works.{PlainWorkCall, IsWork, IsSame, Differs};
 ghost use Rattle.ds_state.specs.Sound.{IsSound};
 ghost use Rattle.ds_state.specs.Rely.{Keeps};
@@ -52,7 +53,7 @@ pub fn offers_keep_soundness()
 
 /// So does the beginning of work, by an idle process.
 pub fn begins_of_work_keep_soundness()
-    ensures { (next : ℕ) (e : PlainWorkCall) (old new : PlainWorld) → IsSound old → e.process < old.layout.processes → BeginsWork next e old new → Keeps e.process old new }
+    ensures { (next : Rest) (e : PlainWorkCall) (old new : PlainWorld) → IsSound old → e.process < old.layout.processes → BeginsWork next e old new → Keeps e.process old new }
 {}
 
 /// Each access of work can be performed.
@@ -63,7 +64,7 @@ pub fn work_accesses_are_possible()
 
 /// Each step of work leaves fewer steps, until the answer's, which is the last; so do reading the
 /// content, giving up for want of memory, and an offer. A work on a sheet of N cells whose content
-/// has r references has at most 2r + 3N + 52 of them, the offer and the answer among them.
+/// has r references has at most 2r + 3N + 67 of them, the offer and the answer among them.
 #[tactic(auto, using(crate::proofs::Ranks::each_falls, crate::proofs::Ranks::reading_falls, crate::proofs::Ranks::lacking_falls, crate::proofs::Ranks::offer_falls, crate::proofs::Ranks::few))]
 pub fn work_steps_are_few()
     ensures falls { (r word : ℕ) (e : PlainWorkCall) → IsWork e → Falls r e (next_at e e.stage word) e.stage }
@@ -71,7 +72,7 @@ pub fn work_steps_are_few()
         → steps_left (length inputs) (read_from e content inputs) < left (length inputs) e works.Read }
     ensures lacking { (r : ℕ) (e : PlainWorkCall) → left r e works.Give < left r e works.Read }
     ensures offer { (r : ℕ) (e : PlainWorkCall) (entry : entries.Entry) → steps_left r (offered e entry) < left r e works.Wait }
-    ensures few { (r : ℕ) (e : PlainWorkCall) → e.cells ≤ CELLS_MOST → left r e works.LoadMark ≤ 2 * r + 3 * e.cells + 52 }
+    ensures few { (r : ℕ) (e : PlainWorkCall) → e.cells ≤ CELLS_MOST → left r e works.LoadMark ≤ 2 * r + 3 * e.cells + 67 }
 {}
 
 /// A content has no more references on a sheet than that has cells.

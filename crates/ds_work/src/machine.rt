@@ -4,6 +4,7 @@ ghost use Rattle.std.specs.Prelude.{◌≡◌, ℕ, false, ◌+◌, ◌-◌, ◌
 ghost use Rattle.ds_layout.specs.Bits.{parts_for};
 ghost use Rattle.ds_layout.specs.Head.{head_of};
 ghost use Rattle.ds_layout.specs.Header.{header_of};
+ghost use Rattle.ds_state.specs.Shown.{header_in};
 ghost use Rattle.ds_layout.specs.Mark.{mark_of, state_of, holder_code, dirty_bit, mark_word, generation_of, freed_after, held_after, dirtied};
 ghost use Rattle.ds_state.specs.Standing.{stored_for, shown_entry};
 ghost use Rattle.ds_state.specs.Telling.{told_from};
@@ -28,6 +29,7 @@ use ds_layout::place::Place;
 use ds_layout::stored::{Kind, Stored};
 use ds_layout::text::{part_bytes, text_parts};
 use ds_state::row::Row;
+use ds_state::shown::header_in;
 use ds_state::text::Text;
 use ds_state::work::{Spread, WorkCall, WorkEnd, WorkStage};
 use ds_words::access::Access;
@@ -119,10 +121,11 @@ fn input(call: &WorkCall, shape: Shape, i: usize) -> usize
 
 // A part of the text of the record that the noted head names.
 fn record_text(call: &WorkCall, part: usize) -> Place
-    ensures { result ≡ record_text call.now.head part }
+    ensures { result ≡ record_text call.now.edition call.now.head part }
 {
     let head = Head::parts(call.head);
     Place::Text {
+        edition: call.edition,
         process: head.process,
         number: head.number,
         part,
@@ -269,9 +272,9 @@ fn text_from(length: usize, part: usize) -> WorkStage
 }
 
 fn header_from(call: &WorkCall, word: u64) -> WorkStage
-    ensures { result ≡ (header_from call.now (header_of call.now.cells word)).stage }
+    ensures { result ≡ (header_from call.now (header_in call.now.edition (header_of call.now.cells word))).stage }
 {
-    match Header::read(word, call.cells) {
+    match header_in(call.edition, Header::read(word, call.cells)) {
         Some(header) => text_from(header.length, 0),
         None => WorkStage::Read,
     }
@@ -452,7 +455,7 @@ fn noted_length(call: &WorkCall, word: u64) -> usize
 {
     match call.stage {
         WorkStage::LoadHead => 0,
-        WorkStage::LoadHeader => match Header::read(word, call.cells) {
+        WorkStage::LoadHeader => match header_in(call.edition, Header::read(word, call.cells)) {
             Some(header) => header.length,
             None => 0,
         },

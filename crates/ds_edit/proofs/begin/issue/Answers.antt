@@ -3,6 +3,7 @@ use Rattle.ds_state.specs.Edits.{PlainEditCall, IsEdit}
 use Rattle.ds_state.specs.CallsFit.{IsSheetOf, HasRefs}
 use Rattle.ds_state.specs.Value.{WorldValue, world_of}
 use Rattle.ds_edit.specs.Begun.{IsIdle}
+use Rattle.ds_edit.specs.EditTakes.{rest_before}
 use Rattle.ds_edit.proofs.Beginning.{issued_kept}
 use Rattle.ds_edit.proofs.begin.issue.Goals as goal
 
@@ -14,6 +15,6 @@ invariant_of-world c =
     let long : vec_len c.world.inside.counted ≡ length v.counted = omega (arith, c.world.inside.counted.ok.0) in
     let sheet : IsSheetOf v.sheet.layout e = subst (λ (x : WorldValue). IsSheetOf x.sheet.layout e) (sym c.world.view_is) c.requires.sheet in
     let refs : HasRefs v.sheet.layout.shape e.text e.refs = subst (λ (x : WorldValue). HasRefs x.sheet.layout.shape e.text e.refs) (sym c.world.view_is) c.requires.refs in
-    let idle : IsIdle (world_of v) e.process e.number = subst (λ (x : WorldValue). IsIdle (world_of x) e.process e.number) (sym c.world.view_is) c.requires.idle in
+    let idle : IsIdle (world_of v) e.process (rest_before e) = subst (λ (x : WorldValue). IsIdle (world_of x) e.process (rest_before e)) (sym c.world.view_is) c.requires.idle in
     rw (c.put.ensures.items, c.of-edit.ensures.value, c.len-since.ensures, process, long)
     (issued_kept v e _ c.world.invariant (subst (λ (x : PlainEditCall). IsEdit x) c.call.view_is c.call.invariant) sheet idle c.requires.first refs)

@@ -5,7 +5,7 @@ use Rattle.ds_state.specs.Underway.{reports_under_way}
 use Rattle.ds_state.specs.Value.{WorldValue, world_of}
 use Rattle.ds_state.specs.declared.reports.TheConstants.{SETTLED_MOST}
 use Rattle.ds_state.specs.declared.situation.Situation.TheVariants.{Idle}
-use Rattle.ds_show.specs.ShowSteps.{fresh}
+use Rattle.ds_show.specs.ShowSteps.{fresh, rest_of}
 use Rattle.ds_show.proofs.ShowBegins.{entered_kept}
 use Rattle.ds_show.proofs.begin.enter.Goals as goal
 
@@ -15,7 +15,7 @@ invariant_of-world c =
     let e : PlainShowCall = c.args.call in
     let process : c.call.inside.process ≡ e.process = ap (λ (x : PlainShowCall). x.process) c.call.view_is in
     let low : e.process < v.sheet.layout.processes = subst (λ (x : WorldValue). e.process < x.sheet.layout.processes) (sym c.world.view_is) c.requires.process in
-    let idle : (world_of v).situation e.process ≡ Idle e.next = subst (λ (x : WorldValue). (world_of x).situation e.process ≡ Idle e.next) (sym c.world.view_is) c.requires.idle in
-    let first : e ≡ fresh e.process e.next (cells_of v.sheet.layout) v.sheet.layout.processes = subst (λ (x : WorldValue). e ≡ fresh e.process e.next (cells_of x.sheet.layout) x.sheet.layout.processes) (sym c.world.view_is) c.requires.first in
+    let idle : (world_of v).situation e.process ≡ Idle (rest_of e) = subst (λ (x : WorldValue). (world_of x).situation e.process ≡ Idle (rest_of e)) (sym c.world.view_is) c.requires.idle in
+    let first : e ≡ fresh e.process (rest_of e) (cells_of v.sheet.layout) v.sheet.layout.processes = subst (λ (x : WorldValue). e ≡ fresh e.process (rest_of e) (cells_of x.sheet.layout) x.sheet.layout.processes) (sym c.world.view_is) c.requires.first in
     let counts : v.settled + reports_under_way v.situations < SETTLED_MOST = subst (λ (x : WorldValue). x.settled + reports_under_way x.situations < SETTLED_MOST) (sym c.world.view_is) c.requires.counts in
     rw (c.put.ensures.items, process) (entered_kept v e _ c.world.invariant low idle first counts)

@@ -10,6 +10,7 @@ use Rattle.ds_show.specs.ShowSteps.{access_at, after, effect_at}
 use Rattle.ds_show.specs.ShowTakes.{settled_by, StepsBy}
 use Rattle.ds_show.proofs.ShowGood.{IsShowing, showing_from, perform_at, can_count, next_is, next_kept, next_takes}
 use Rattle.ds_show.proofs.step.step.Goals as goal
+use Rattle.ds_state.specs.Value.{first_rest}
 
 pub perform-word-requires : goal.perform-word-requires
 perform-word-requires c =
@@ -33,7 +34,7 @@ invariant_of-world c =
     let word : ℕ = c.perform-word.result in
     let at : IsShowing v p e = showing_from v p e c.index.result.now (omega arith) c.index.ensures c.in-Some.ensures.some in
     let performs : PerformsAt (access_at e.stage) p (memory v.sheet) (memory c.perform-word.new.self) word = rw (sym c.want-access.ensures) c.perform-word.ensures.performs in
-    let situation : c.go_on.new.situation ≡ after e e.stage word = c.go_on.ensures e (c.index_mut.ensures.value ∙ get_or_default v.situations p c.index_mut.result.now (Idle 0) at.there ∙ at.is) in
+    let situation : c.go_on.new.situation ≡ after e e.stage word = c.go_on.ensures e (c.index_mut.ensures.value ∙ get_or_default v.situations p c.index_mut.result.now (Idle first_rest) at.there ∙ at.is) in
     let settled : c.settled_after-world-inside.result ≡ v.settled + settled_by (effect_at e.stage) = c.settled_after-world-inside.ensures ∙ ap (λ (w : Effect). v.settled + settled_by w) c.effect_of-what.ensures in
     subst (λ (w : WorldValue). IsReserved w (vec_capacity c.world.inside.counted)) (sym (next_is v c.world.invariant.good p e at word c.perform-word.new.self c.perform-word.ensures.layout performs c.go_on.new.situation c.settled_after-world-inside.result c.keep.new.reports situation settled c.keep.ensures))
     (next_kept v c.world.invariant.good p e at word c.perform-word.new.self c.perform-word.ensures.layout performs _ c.world.invariant)
@@ -46,7 +47,7 @@ returns c =
     let word : ℕ = c.perform-word.result in
     let at : IsShowing v p e = showing_from v p e c.index.result.now (omega arith) c.index.ensures c.in-Some.ensures.some in
     let performs : PerformsAt (access_at e.stage) p (memory v.sheet) (memory c.perform-word.new.self) word = rw (sym c.want-access.ensures) c.perform-word.ensures.performs in
-    let situation : c.go_on.new.situation ≡ after e e.stage word = c.go_on.ensures e (c.index_mut.ensures.value ∙ get_or_default v.situations p c.index_mut.result.now (Idle 0) at.there ∙ at.is) in
+    let situation : c.go_on.new.situation ≡ after e e.stage word = c.go_on.ensures e (c.index_mut.ensures.value ∙ get_or_default v.situations p c.index_mut.result.now (Idle first_rest) at.there ∙ at.is) in
     let settled : c.settled_after-world-inside.result ≡ v.settled + settled_by (effect_at e.stage) = c.settled_after-world-inside.ensures ∙ ap (λ (w : Effect). v.settled + settled_by w) c.effect_of-what.ensures in
     rw (← c.world.view_is)
     (subst (λ (w : WorldValue). StepsBy v p c.effect_of-what.result w) (sym (next_is v c.world.invariant.good p e at word c.perform-word.new.self c.perform-word.ensures.layout performs c.go_on.new.situation c.settled_after-world-inside.result c.keep.new.reports situation settled c.keep.ensures))

@@ -6,6 +6,7 @@ use Rattle.ds_state.specs.declared.situation.Situation.TheVariants.{Idle, Workin
 use Rattle.ds_work.specs.WorkTakes.{CanNotAdvance}
 use Rattle.ds_work.proofs.Driving.{ends_now, waits_on}
 use Rattle.ds_work.proofs.drive.advances.Goals as goal
+use Rattle.ds_state.specs.Value.{first_rest}
 
 pub returns-in-Waits-clause-none : goal.returns-in-Waits-clause-none
 returns-in-Waits-clause-none c = λ no.
@@ -13,7 +14,7 @@ returns-in-Waits-clause-none c = λ no.
     let p : ℕ = c.args.process in
     let e : PlainWorkCall = c.in-Some.call.now in
     let there : p < length v.situations = omega arith in
-    let works : (world_of v).situation p ≡ Working e = get_or_default v.situations p (Idle 0) c.index.result.now there ∙ sym c.index.ensures ∙ c.in-Some.ensures.some in
+    let works : (world_of v).situation p ≡ Working e = get_or_default v.situations p (Idle first_rest) c.index.result.now there ∙ sym c.index.ensures ∙ c.in-Some.ensures.some in
     subst (λ (w : WorldValue). CanNotAdvance (world_of w) p) c.world.view_is (elim c.in-Waits.is [
       | inl waits ↦ waits_on v p e works (sym c.turn.ensures ∙ waits)
       | inr ends ↦ ends_now v p e works ends.0 (sym c.turn.ensures ∙ ends.1)

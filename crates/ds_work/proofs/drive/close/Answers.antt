@@ -9,6 +9,7 @@ use Rattle.ds_work.specs.WorkSteps.{access_at, after, IsPlainStep, StepsAt}
 use Rattle.ds_work.specs.WorkTakes.{IsIn, answers}
 use Rattle.ds_work.proofs.Driving.{put, mine, steps_at, step_kept, answers_at}
 use Rattle.ds_work.proofs.drive.close.Goals as goal
+use Rattle.ds_state.specs.declared.situation.Rest.{Rest}
 
 pub invariant_of-world : goal.invariant_of-world
 invariant_of-world c =
@@ -21,7 +22,7 @@ invariant_of-world c =
     let at_answer : e.stage ≡ Answer c.args.end = answers_at e.stage c.args.end c.requires.2 in
     let performs : PerformsAt (access_at v.sheet.layout.shape e e.stage) p (memory v.sheet) (memory v.sheet) 0 =
     subst (λ (s : WorkStage). PerformsAt (access_at v.sheet.layout.shape e s) p (memory v.sheet) (memory v.sheet) 0) (sym at_answer) (refl, record { cached = λ r. refl; persisted = λ r. refl; buffer = λ q. refl }) in
-    let situation : Idle c.args.next ≡ after e e.stage 0 = ap (λ (n : ℕ). Idle n) (sym c.requires.3) ∙ ap (λ (s : WorkStage). after e s 0) (sym at_answer) in
+    let situation : Idle c.args.next ≡ after e e.stage 0 = ap (λ (n : Rest). Idle n) (sym c.requires.3) ∙ ap (λ (s : WorkStage). after e s 0) (sym at_answer) in
     let plain : IsPlainStep e.stage = subst (λ (s : WorkStage). IsPlainStep s) (sym at_answer) tt in
     rw c.exchange-ended.ensures.items (step_kept v c.world.invariant.good p e low is_in.works 0 v.sheet refl performs (Idle c.args.next) situation plain _ c.world.invariant)
 
@@ -36,7 +37,7 @@ returns-clause-takes c =
     let at_answer : e.stage ≡ Answer c.args.end = answers_at e.stage c.args.end c.requires.2 in
     let performs : PerformsAt (access_at v.sheet.layout.shape e e.stage) p (memory v.sheet) (memory v.sheet) 0 =
     subst (λ (s : WorkStage). PerformsAt (access_at v.sheet.layout.shape e s) p (memory v.sheet) (memory v.sheet) 0) (sym at_answer) (refl, record { cached = λ r. refl; persisted = λ r. refl; buffer = λ q. refl }) in
-    let situation : Idle c.args.next ≡ after e e.stage 0 = ap (λ (n : ℕ). Idle n) (sym c.requires.3) ∙ ap (λ (s : WorkStage). after e s 0) (sym at_answer) in
+    let situation : Idle c.args.next ≡ after e e.stage 0 = ap (λ (n : Rest). Idle n) (sym c.requires.3) ∙ ap (λ (s : WorkStage). after e s 0) (sym at_answer) in
     let plain : IsPlainStep e.stage = subst (λ (s : WorkStage). IsPlainStep s) (sym at_answer) tt in
     rw (← c.world.view_is, c.exchange-ended.ensures.items) (record {
       inside = low;

@@ -11,6 +11,7 @@ use Rattle.ds_work.specs.WorkSteps.{access_at, next_at, after}
 use Rattle.ds_work.specs.WorkTakes.{IsIn, steps}
 use Rattle.ds_work.proofs.Driving.{mine, perform_at, steps_at, step_kept, steps_plain, steps_not_answer, steps_after}
 use Rattle.ds_work.proofs.drive.step_on.Goals as goal
+use Rattle.ds_state.specs.Value.{first_rest}
 
 pub perform-word-requires : goal.perform-word-requires
 perform-word-requires c =
@@ -21,7 +22,7 @@ perform-word-requires c =
     let low : p < v.sheet.layout.processes = is_in.inside in
     let there : p < length v.situations = (let n = c.world.invariant.good.situations in omega (arith, n, low)) in
     let turn = c.requires.2 in
-    let works : Working c.in-Working.call ≡ Working e = sym c.in-Working.is ∙ c.index_mut.ensures.value ∙ get_or_default v.situations p c.index_mut.result.now (Idle 0) there ∙ is_in.works in
+    let works : Working c.in-Working.call ≡ Working e = sym c.in-Working.is ∙ c.index_mut.ensures.value ∙ get_or_default v.situations p c.index_mut.result.now (Idle first_rest) there ∙ is_in.works in
     let same : c.in-Working.call ≡ e = cc in
     let access : c.want-access.result ≡ access_at v.sheet.layout.shape e e.stage = c.want-access.ensures ∙ ap (λ (l : Layout). access_at l.shape c.in-Working.call c.in-Working.call.stage) c.layout.ensures ∙ ap (λ (x : PlainWorkCall). access_at v.sheet.layout.shape x x.stage) same in
     subst (λ (a : Access Place). CanPerform v.sheet.layout (memory v.sheet) p a) (sym access) (perform_at v c.world.invariant.good p e low is_in.works)
@@ -35,7 +36,7 @@ invariant_of-world c =
     let low : p < v.sheet.layout.processes = is_in.inside in
     let there : p < length v.situations = (let n = c.world.invariant.good.situations in omega (arith, n, low)) in
     let turn = c.requires.2 in
-    let works : Working c.in-Working.call ≡ Working e = sym c.in-Working.is ∙ c.index_mut.ensures.value ∙ get_or_default v.situations p c.index_mut.result.now (Idle 0) there ∙ is_in.works in
+    let works : Working c.in-Working.call ≡ Working e = sym c.in-Working.is ∙ c.index_mut.ensures.value ∙ get_or_default v.situations p c.index_mut.result.now (Idle first_rest) there ∙ is_in.works in
     let same : c.in-Working.call ≡ e = cc in
     let access : c.want-access.result ≡ access_at v.sheet.layout.shape e e.stage = c.want-access.ensures ∙ ap (λ (l : Layout). access_at l.shape c.in-Working.call c.in-Working.call.stage) c.layout.ensures ∙ ap (λ (x : PlainWorkCall). access_at v.sheet.layout.shape x x.stage) same in
     let word : ℕ = c.perform-word.result in
@@ -52,7 +53,7 @@ returns-clause-takes c =
     let low : p < v.sheet.layout.processes = is_in.inside in
     let there : p < length v.situations = (let n = c.world.invariant.good.situations in omega (arith, n, low)) in
     let turn = c.requires.2 in
-    let works : Working c.in-Working.call ≡ Working e = sym c.in-Working.is ∙ c.index_mut.ensures.value ∙ get_or_default v.situations p c.index_mut.result.now (Idle 0) there ∙ is_in.works in
+    let works : Working c.in-Working.call ≡ Working e = sym c.in-Working.is ∙ c.index_mut.ensures.value ∙ get_or_default v.situations p c.index_mut.result.now (Idle first_rest) there ∙ is_in.works in
     let same : c.in-Working.call ≡ e = cc in
     let access : c.want-access.result ≡ access_at v.sheet.layout.shape e e.stage = c.want-access.ensures ∙ ap (λ (l : Layout). access_at l.shape c.in-Working.call c.in-Working.call.stage) c.layout.ensures ∙ ap (λ (x : PlainWorkCall). access_at v.sheet.layout.shape x x.stage) same in
     let word : ℕ = c.perform-word.result in

@@ -7,7 +7,7 @@ use Rattle.ds_work.proofs.machine.take_row.Goals as goal
 
 -- the work whose row is not yet noted
 abbrev work_of : goal.After-call-1 → PlainWorkCall
-work_of c = record { process = c.call.inside.process; next = c.call.inside.next; cell = c.call.inside.cell; cells = c.call.inside.cells; processes = c.call.inside.processes; mark = c.call.inside.mark; head = c.call.inside.head; length = c.call.inside.length; text = c.call.inside.text; content = plain c.call.inside.content; inputs = c.call.inside.inputs.items; value = c.call.inside.value; kind = c.call.inside.kind; entry = c.call.inside.entry; row = c.call.inside.row; stage = c.call.inside.stage }
+work_of c = record { process = c.call.inside.process; edition = c.call.inside.edition; next = c.call.inside.next; cell = c.call.inside.cell; cells = c.call.inside.cells; processes = c.call.inside.processes; mark = c.call.inside.mark; head = c.call.inside.head; length = c.call.inside.length; text = c.call.inside.text; content = plain c.call.inside.content; inputs = c.call.inside.inputs.items; value = c.call.inside.value; kind = c.call.inside.kind; entry = c.call.inside.entry; row = c.call.inside.row; stage = c.call.inside.stage }
 
 made_so : (c : goal.After-call-1) → record (work_of c) { row = c.note_row.new.row; stage = c.row_next-call-inside.result } ≡ next_at c.args.call.now c.args.call.now.stage c.args.word
 made_so c = takes_row c.args.call.now (work_of c) c.args.word c.note_row.new.row c.row_next-call-inside.result

@@ -10,6 +10,7 @@ use Rattle.ds_work.specs.WorkSteps.{offered}
 use Rattle.ds_work.specs.WorkTakes.{WaitsFor}
 use Rattle.ds_work.proofs.Driving.{is_offered, offered_kept}
 use Rattle.ds_work.proofs.offer.accepts.Goals as goal
+use Rattle.ds_state.specs.Value.{first_rest}
 
 pub invariant_of-world : goal.invariant_of-world
 invariant_of-world c =
@@ -23,7 +24,7 @@ invariant_of-world c =
     let there : p < length v.situations = (let n = c.world.invariant.good.situations in omega (arith, n, low)) in
     let process : c.behind-evaluated.inside.process ≡ p = ap (λ (x : PlainTask). x.process) (c.behind-evaluated.view_is ∙ c.task-2.ensures) in
     let is : c.entry-entry.result ≡ local v.sheet.layout.shape e.content (entry_in e.inputs) = c.entry-entry.ensures.local ∙ ap (λ (x : PlainTask). local_of x) for.is in
-    let situation : c.accept.new.situation ≡ Working (offered e c.entry-entry.result) = c.accept.ensures e (c.index_mut.ensures.value ∙ ap (λ (q : ℕ). get_or v.situations q c.index_mut.result.now) process ∙ get_or_default v.situations p c.index_mut.result.now (Idle 0) there ∙ works) in
+    let situation : c.accept.new.situation ≡ Working (offered e c.entry-entry.result) = c.accept.ensures e (c.index_mut.ensures.value ∙ ap (λ (q : ℕ). get_or v.situations q c.index_mut.result.now) process ∙ get_or_default v.situations p c.index_mut.result.now (Idle first_rest) there ∙ works) in
     rw (process, situation) (offered_kept v c.world.invariant.good p e low works c.entry-entry.result for.waits.waits is _ c.world.invariant)
 
 pub returns-clause-offered : goal.returns-clause-offered
@@ -38,5 +39,5 @@ returns-clause-offered c =
     let there : p < length v.situations = (let n = c.world.invariant.good.situations in omega (arith, n, low)) in
     let process : c.behind-evaluated.inside.process ≡ p = ap (λ (x : PlainTask). x.process) (c.behind-evaluated.view_is ∙ c.task-2.ensures) in
     let is : c.entry-entry.result ≡ local v.sheet.layout.shape e.content (entry_in e.inputs) = c.entry-entry.ensures.local ∙ ap (λ (x : PlainTask). local_of x) for.is in
-    let situation : c.accept.new.situation ≡ Working (offered e c.entry-entry.result) = c.accept.ensures e (c.index_mut.ensures.value ∙ ap (λ (q : ℕ). get_or v.situations q c.index_mut.result.now) process ∙ get_or_default v.situations p c.index_mut.result.now (Idle 0) there ∙ works) in
+    let situation : c.accept.new.situation ≡ Working (offered e c.entry-entry.result) = c.accept.ensures e (c.index_mut.ensures.value ∙ ap (λ (q : ℕ). get_or v.situations q c.index_mut.result.now) process ∙ get_or_default v.situations p c.index_mut.result.now (Idle first_rest) there ∙ works) in
     λ yes. rw (← c.world.view_is, process, situation, ← c.entry-entry.ensures.value) (is_offered v c.world.invariant.good p e low works c.entry-entry.result for.waits.waits is)

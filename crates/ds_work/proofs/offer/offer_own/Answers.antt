@@ -9,6 +9,7 @@ use Rattle.ds_state.specs.declared.situation.Situation.TheVariants.{Idle, Workin
 use Rattle.ds_work.specs.WorkSteps.{offered}
 use Rattle.ds_work.proofs.Driving.{situation_at, is_offered, offered_kept}
 use Rattle.ds_work.proofs.offer.offer_own.Goals as goal
+use Rattle.ds_state.specs.Value.{first_rest}
 
 pub invariant_of-world : goal.invariant_of-world
 invariant_of-world c =
@@ -20,7 +21,7 @@ invariant_of-world c =
     let works : (world_of v).situation p ≡ Working e = situation_at v p c.index.result.now c.world.invariant.good low c.index.ensures ∙ waits.1 in
     let there : p < length v.situations = (let n = c.world.invariant.good.situations in omega (arith, n, low)) in
     let is : c.in-Some.entry ≡ local v.sheet.layout.shape e.content (entry_in e.inputs) = c.in-Some.ensures.value e waits.1 ∙ ap (λ (l : Layout). local l.shape e.content (entry_in e.inputs)) c.layout.ensures in
-    let situation : c.accept.new.situation ≡ Working (offered e c.in-Some.entry) = c.accept.ensures e (c.index_mut.ensures.value ∙ get_or_default v.situations p c.index_mut.result.now (Idle 0) there ∙ works) in
+    let situation : c.accept.new.situation ≡ Working (offered e c.in-Some.entry) = c.accept.ensures e (c.index_mut.ensures.value ∙ get_or_default v.situations p c.index_mut.result.now (Idle first_rest) there ∙ works) in
     rw situation (offered_kept v c.world.invariant.good p e low works c.in-Some.entry waits.2 is _ c.world.invariant)
 
 pub returns-clause-offered : goal.returns-clause-offered
@@ -33,5 +34,5 @@ returns-clause-offered c = λ yes.
     let works : (world_of v).situation p ≡ Working e = situation_at v p c.index.result.now c.world.invariant.good low c.index.ensures ∙ waits.1 in
     let there : p < length v.situations = (let n = c.world.invariant.good.situations in omega (arith, n, low)) in
     let is : c.in-Some.entry ≡ local v.sheet.layout.shape e.content (entry_in e.inputs) = c.in-Some.ensures.value e waits.1 ∙ ap (λ (l : Layout). local l.shape e.content (entry_in e.inputs)) c.layout.ensures in
-    let situation : c.accept.new.situation ≡ Working (offered e c.in-Some.entry) = c.accept.ensures e (c.index_mut.ensures.value ∙ get_or_default v.situations p c.index_mut.result.now (Idle 0) there ∙ works) in
+    let situation : c.accept.new.situation ≡ Working (offered e c.in-Some.entry) = c.accept.ensures e (c.index_mut.ensures.value ∙ get_or_default v.situations p c.index_mut.result.now (Idle first_rest) there ∙ works) in
     (c.in-Some.entry, rw (← c.world.view_is, situation) (is_offered v c.world.invariant.good p e low works c.in-Some.entry waits.2 is))

@@ -12,7 +12,7 @@ use Rattle.ds_work.proofs.reading.take_content.Goals as goal
 
 pub invariant_of-call : goal.invariant_of-call
 invariant_of-call c =
-    let v : PlainWorkCall = record { process = c.call.inside.process; next = c.call.inside.next; cell = c.call.inside.cell; cells = c.call.inside.cells; processes = c.call.inside.processes; mark = c.call.inside.mark; head = c.call.inside.head; length = c.call.inside.length; text = c.call.inside.text; content = plain c.call.inside.content; inputs = c.call.inside.inputs.items; value = c.call.inside.value; kind = c.call.inside.kind; entry = c.call.inside.entry; row = c.call.inside.row; stage = c.call.inside.stage } in
+    let v : PlainWorkCall = record { process = c.call.inside.process; edition = c.call.inside.edition; next = c.call.inside.next; cell = c.call.inside.cell; cells = c.call.inside.cells; processes = c.call.inside.processes; mark = c.call.inside.mark; head = c.call.inside.head; length = c.call.inside.length; text = c.call.inside.text; content = plain c.call.inside.content; inputs = c.call.inside.inputs.items; value = c.call.inside.value; kind = c.call.inside.kind; entry = c.call.inside.entry; row = c.call.inside.row; stage = c.call.inside.stage } in
     let made = taken v (plain c.args.content) c.fill.new.inputs.items c.input_from-call-inside.result (c.input_from-call-inside.ensures (record v { content = plain c.args.content; inputs = c.fill.new.inputs.items }) (ap (λ (xs : List Input). length xs) c.fill.ensures.items ∙ length-map c.args.cells.now unseen)) in
     let each : (j : ℕ) → j < length c.fill.new.inputs.items → IsPossible (cell_in c.fill.new.inputs.items j) = subst (λ (xs : List Input). (j : ℕ) → j < length xs → IsPossible (cell_in xs j)) (sym c.fill.ensures.items) (each_possible c.args.shape c.args.cells.now c.requires.inside) in
     let is : IsWork (read_from v (plain c.args.content) c.fill.new.inputs.items) = read_is v (plain c.args.content) c.fill.new.inputs.items c.call.invariant.is each in
