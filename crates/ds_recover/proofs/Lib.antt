@@ -1,3 +1,4 @@
+pub mod RecoveryKeeping
 pub mod RecoveryFrame
 pub mod RecoveryGive
 pub mod RecoveryDoubt
@@ -10,6 +11,7 @@ pub mod RecoveryFree
 pub mod RecoveryReads
 pub mod RecoveryTell
 pub mod RecoveryHead
+pub mod RecoveryWakes
 pub mod RecoveryWhole
 pub mod RecoveryRank
 pub mod RecoveryRepeats

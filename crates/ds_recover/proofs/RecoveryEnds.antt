@@ -24,14 +24,16 @@ use Rattle.ds_state.specs.CallsFit.{CallFits, MaySay, IsThrough, DoubtFits, Idle
 use Rattle.ds_state.specs.KnownRecovery.{Tells, ResolvedFits, over}
 use Rattle.ds_state.specs.Rely.{Grows, Keeps}
 use Rattle.ds_state.specs.Sound.{IsSound}
-use Rattle.ds_recover.specs.RecoverySteps.{StepsAt, BeginsRecovery, at, next_number}
-use Rattle.ds_state.specs.declared.work.RecoverStage.TheVariants.{LoadMark, Answer}
+use Rattle.ds_recover.specs.RecoverySteps.{StepsAt, BeginsRecovery, at, next_number, rest_after}
+use Rattle.ds_state.specs.declared.work.RecoverStage.TheVariants.{LoadVersion, Answer}
 use Rattle.ds_state.specs.declared.situation.Situation.{Situation}
 use Rattle.ds_state.specs.declared.situation.Situation.TheVariants.{Idle, Stopped, Recovering}
 use Rattle.ds_state.proofs.Outcomes.{not_among, among}
 use Rattle.ds_state.proofs.Lasting.{below_stable, last_stable}
 use Rattle.ds_state.proofs.Stable.{doubt_grows, record_no_version}
-use Rattle.ds_state.proofs.Frames.{Moves, grows_own}
+use Rattle.ds_state.proofs.Frames.{Moves, turns, grows_own}
+use Rattle.ds_state.specs.LayoutsFit.{LayoutFits, NoneMoves}
+use Rattle.ds_state.specs.declared.situation.Rest.{Rest}
 use Rattle.ds_state.proofs.Bearing.{Mine, bears, all_stand, text_same, no_new_marks, apart_lasts, splits_last, pends_last, marks_grow}
 use Rattle.ds_state.proofs.Buffers.{buffered}
 use Rattle.ds_state.proofs.EditFrame.{Framed, silent_framed, silent_keeps}
@@ -145,7 +147,7 @@ over_persisted w p word cell None k = k.1 ∙ sym k.0
 over_persisted w p word cell (Some how) k = k.1 ∙ sym k.0
 
 -- the answer
-module _ (e : PlainRecoverCall) (how : Option Bool) (word : ℕ) (old new : PlainWorld) (sound : IsSound old)
+module _ (e : PlainRecoverCall) (how : Option Bool) (word : ℕ) (old new : PlainWorld) (sound : IsSound old) (real : e.process < old.layout.processes)
     (was : old.situation e.process ≡ Recovering (at e (Answer how))) (fits : RecoveryFits old e.process (at e (Answer how))) (t : StepsAt e (Answer how) word old new) where
   abbrev p : ℕ
   p = e.process
@@ -154,7 +156,7 @@ module _ (e : PlainRecoverCall) (how : Option Bool) (word : ℕ) (old new : Plai
   m = t.memory.1
 
   tn : Turn p old new
-  tn = turn_of e (Answer how) word old new t
+  tn = turn_of e (Answer how) word old new real was tt t
 
   moves : Moves p Version old new
   moves = same_moves p old new tn m
@@ -180,7 +182,7 @@ module _ (e : PlainRecoverCall) (how : Option Bool) (word : ℕ) (old new : Plai
   g : Grows p Version old new
   g = grows_own p Version old new moves tn.counted
 
-  idle : IdleFits new p (next_number e.announcement how)
+  idle : IdleFits new p (rest_after e how)
   idle =
       let n : ℕ = next_number e.announcement how in
       record {
@@ -205,12 +207,18 @@ some_cells shape =
 
 -- the begin
 module _ (e : PlainRecoverCall) (old new : PlainWorld) (sound : IsSound old) (real : e.process < old.layout.processes) (cells : cells_of old.layout ≡ e.cells) (processes : old.layout.processes ≡ e.processes)
-    (b : BeginsRecovery e old new) where
+    (alone : NoneMoves old e.process) (b : BeginsRecovery e old new) where
   abbrev q : ℕ
   q = e.process
 
   tb : Turn q old new
-  tb = record { layout = b.layout; counted = b.counted; situations = b.others; pendings = λ x ne. b.open_edits x }
+  tb = record {
+    layout = b.layout;
+    counted = b.counted;
+    situations = b.others;
+    pendings = λ x ne. b.open_edits x;
+    goes = turns alone (λ l. subst (λ (s : Situation). LayoutFits new q s) (sym b.situation) tt);
+  }
 
   mb : Moves q Version old new
   mb = same_moves q old new tb b.memory
@@ -218,7 +226,7 @@ module _ (e : PlainRecoverCall) (old new : PlainWorld) (sound : IsSound old) (re
   gb : Grows q Version old new
   gb = grows_own q Version old new mb tb.counted
 
-  begun : old.memory.buffer q ≡ [] → DoubtFits old q (old.open_edits q) → RecoveryFits new q (at e (LoadMark 0))
+  begun : old.memory.buffer q ≡ [] → DoubtFits old q (old.open_edits q) → RecoveryFits new q (at e LoadVersion)
   begun empty doubt = record {
     mine = refl;
     cells = rw tb.layout cells;
@@ -227,7 +235,7 @@ module _ (e : PlainRecoverCall) (old new : PlainWorld) (sound : IsSound old) (re
     freed = λ r l by. omega arith;
     resolved = tt;
     buffer = b.memory.buffer q ∙ empty;
-    is = record { process = rw (sym processes) real; processes = rw (sym processes) old.layout.limited; some = (let k = some_cells old.layout.shape in omega arith); cells = (let k = old.layout.shape.within.cells_to_1024 in omega arith); stage = (let k = some_cells old.layout.shape in omega arith) };
+    is = record { process = rw (sym processes) real; processes = rw (sym processes) old.layout.limited; some = (let k = some_cells old.layout.shape in omega arith); cells = (let k = old.layout.shape.within.cells_to_1024 in omega arith); stage = tt };
   }
 
   no_value : (r : ℕ) → (Version ≡ Value r) ⊎ (Version ≡ Kind r) → ⊥
@@ -266,7 +274,7 @@ module _ (e : PlainRecoverCall) (old new : PlainWorld) (sound : IsSound old) (re
       ))
       (λ l. subst (λ (s : Situation). CallFits new q s) (sym b.situation) (begun stopped.buffer stopped.doubt))
 
-  from_idle : (next : ℕ) → old.situation q ≡ Idle next → Keeps q old new
+  from_idle : (next : Rest) → old.situation q ≡ Idle next → Keeps q old new
   from_idle next was =
       let idle : IdleFits old q next = subst (λ (s : Situation). CallFits old q s) was (sound.calls q real) in
       let owes : (r c x : ℕ) → Owes old.memory q (old.situation q) r c x → ⊥ = λ r c x o. subst (λ (s : Situation). Owes old.memory q s r c x) was o in
@@ -274,10 +282,10 @@ module _ (e : PlainRecoverCall) (old new : PlainWorld) (sound : IsSound old) (re
       let parts : (r : ℕ) → Parts (old.situation q) r → ⊥ = λ r o. subst (λ (s : Situation). Parts s r) was o in
       let splits : (c head : ℕ) → Splits old q (old.situation q) c head → ⊥ = λ c head o. subst (λ (s : Situation). Splits old q s c head) was o in
       let f : Framed old new = silent_framed q old new mb tb.counted sound (buffered old sound) owes excuses parts splits b.memory.buffer in
-      let through : IsThrough old q = record { next = next; rest = record { number = idle.number; open_edits = idle.open_edits; below = idle.below; cached = idle.cached; persisted = idle.persisted } } in
+      let through : IsThrough old q = record { next = next.number; rest = record { number = idle.number; open_edits = idle.open_edits; below = idle.below; cached = idle.cached; persisted = idle.persisted } } in
       quiet_sound q old new tb sound mb f.bears f.stand f.apart (silent_keeps q old new mb tb.counted sound (buffered old sound) owes excuses parts splits b.memory.buffer)
       (λ l. subst (λ (s : Situation). CallFits new q s) (sym b.situation) (begun idle.buffer (subst (λ (o : Option PlainIssue). DoubtFits old q o) (sym idle.open_edits) through)))
 
-  pub begin_keeps : (old.situation q ≡ Stopped) ⊎ ((next : ℕ) × (old.situation q ≡ Idle next)) → Keeps q old new
+  pub begin_keeps : (old.situation q ≡ Stopped) ⊎ ((next : Rest) × (old.situation q ≡ Idle next)) → Keeps q old new
   begin_keeps (inl was) = from_stopped was
   begin_keeps (inr was) = from_idle was.0 was.1

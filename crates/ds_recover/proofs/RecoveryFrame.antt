@@ -21,6 +21,7 @@ use Rattle.ds_recover.specs.RecoverySteps.{StepsAt}
 use Rattle.ds_state.specs.declared.work.RecoverStage.{RecoverStage}
 use Rattle.ds_state.specs.declared.situation.Situation.{Situation}
 use Rattle.ds_state.specs.declared.situation.Situation.TheVariants.{Recovering}
+use Rattle.ds_recover.proofs.RecoveryKeeping.{IsAwake, recovery_goes}
 use Rattle.ds_state.proofs.Stable.{doubt_grows, record_no_version}
 use Rattle.ds_state.proofs.StableRecovery.{freed_stable, resolved_stable}
 use Rattle.ds_state.proofs.Frames.{Moves, KeepsOwing, KeepsApart, grows_own}
@@ -43,8 +44,9 @@ pub record Passes (p : ℕ) (row : List ℕ) (s : RecoverStage) (row' : List ℕ
   pub parts : (r : ℕ) → IsHeld old.memory p r → RecoveryParts s r → (IsHeld new.memory p r × RecoveryParts s' r) ⊎ AgreesOn new r
   pub splits : (f : PlainEdit) (before : List PlainEdit) → of_cell f.cell old.counted ≡ before ++ f ∷ [] → (issue : PlainIssue) → old.open_edits p ≡ Some issue → issue.edit ≡ f → IsPending old p f.cell → RecoverySplits s → IsPending new p f.cell × RecoverySplits s'
 
-pub turn_of : (e : PlainRecoverCall) (s : RecoverStage) (word : ℕ) (old new : PlainWorld) → StepsAt e s word old new → Turn e.process old new
-turn_of e s word old new t = record { layout = t.layout; counted = t.counted; situations = t.others; pendings = t.others_open_edits }
+-- a step behind the first three
+pub turn_of : (e : PlainRecoverCall) (s : RecoverStage) (word : ℕ) (old new : PlainWorld) → e.process < old.layout.processes → old.situation e.process ≡ Recovering (record e { stage = s }) → IsAwake s → StepsAt e s word old new → Turn e.process old new
+turn_of e s word old new real was awake t = record { layout = t.layout; counted = t.counted; situations = t.others; pendings = t.others_open_edits; goes = recovery_goes e s word old new real was awake t }
 
 -- where the marks and the announcement of the process stay
 pub held_on : (p : ℕ) (old new : PlainWorld) → Moves p Version old new → (r : ℕ) → IsHeld old.memory p r → IsHeld new.memory p r

@@ -82,14 +82,14 @@ module _ (e : PlainRecoverCall) (word : ℕ) (old new : PlainWorld) (sound : IsS
   step_give c was fits t = elim t.memory.1 [
     | inl won ↦ elim (eqb_tells word e.mark) [
       | inr apart ↦ absurd (apart.1 won.0)
-      | inl same ↦ give_keeps e c (Give c) old new sound (λ r d x o. o) (λ r o. o) was fits fits.freed.0 fits.buffer fits.is.stage (turn_of e (Give c) word old new t)
+      | inl same ↦ give_keeps e c (Give c) old new sound (λ r d x o. o) (λ r o. o) was fits fits.freed.0 fits.buffer fits.is.stage (turn_of e (Give c) word old new real was tt t)
           (t.situation ∙ ap (λ (b : Bool). Recovering (if b then at e (FlushGiven c) else at e (GiveDirty c))) same.0) t.open_edits won.1
     ]
     | inr lost ↦ elim (eqb_tells word e.mark) [
       | inl same ↦ absurd (lost.0 same.1)
       | inr apart ↦ (
           let m : SameMemory old.memory new.memory = lost.1 in
-          let tn : Turn p old new = turn_of e (Give c) word old new t in
+          let tn : Turn p old new = turn_of e (Give c) word old new real was tt t in
           let moves : Moves p Version old new = same_moves p old new tn m in
           loads e e.mark e.row e.announcement e.cell (Give c) (GiveDirty c) old new sound was fits real tn
           (t.situation ∙ ap (λ (b : Bool). Recovering (if b then at e (FlushGiven c) else at e (GiveDirty c))) apart.0) t.open_edits
@@ -112,14 +112,14 @@ module _ (e : PlainRecoverCall) (word : ℕ) (old new : PlainWorld) (sound : IsS
 
   pub step_give_dirty : (c : ℕ) → old.situation e.process ≡ Recovering (at e (GiveDirty c)) → RecoveryFits old e.process (at e (GiveDirty c)) → StepsAt e (GiveDirty c) word old new → Keeps e.process old new
   step_give_dirty c was fits t = elim t.memory.1 [
-    | inl won ↦ give_keeps e c (GiveDirty c) old new sound (λ r d x o. o) (λ r o. o) was fits fits.freed.0 fits.buffer fits.is.stage (turn_of e (GiveDirty c) word old new t) t.situation t.open_edits won.1
+    | inl won ↦ give_keeps e c (GiveDirty c) old new sound (λ r d x o. o) (λ r o. o) was fits fits.freed.0 fits.buffer fits.is.stage (turn_of e (GiveDirty c) word old new real was tt t) t.situation t.open_edits won.1
     | inr lost ↦ absurd (lost.0 (t.memory.0 ∙ fits.freed.3))
   ]
 
   pub step_flush_given : (c : ℕ) → old.situation e.process ≡ Recovering (at e (FlushGiven c)) → RecoveryFits old e.process (at e (FlushGiven c)) → StepsAt e (FlushGiven c) word old new → Keeps e.process old new
   step_flush_given c was fits t =
       let m : FlushesAt p (Mark c) (class_of (Mark c)) old.memory new.memory = t.memory.1 in
-      let tn : Turn p old new = turn_of e (FlushGiven c) word old new t in
+      let tn : Turn p old new = turn_of e (FlushGiven c) word old new real was tt t in
       let moves : Moves p Version old new = flush_moves p old new tn (Mark c) (class_of (Mark c)) m in
       flushes e e.mark e.row e.announcement e.cell (FlushGiven c) (BackGiven c) old new sound was fits real tn t.situation t.open_edits
       (simple_passes p e.row (FlushGiven c) e.row (BackGiven c) old new (held_on p old new moves) (pends_on p old new moves t.open_edits)
@@ -134,7 +134,7 @@ module _ (e : PlainRecoverCall) (word : ℕ) (old new : PlainWorld) (sound : IsS
   pub step_flush_value : (c : ℕ) → old.situation e.process ≡ Recovering (at e (FlushValue c)) → RecoveryFits old e.process (at e (FlushValue c)) → StepsAt e (FlushValue c) word old new → Keeps e.process old new
   step_flush_value c was fits t =
       let m : FlushesAt p (Value c) (class_of (Value c)) old.memory new.memory = t.memory.1 in
-      let tn : Turn p old new = turn_of e (FlushValue c) word old new t in
+      let tn : Turn p old new = turn_of e (FlushValue c) word old new real was tt t in
       let moves : Moves p Version old new = flush_moves p old new tn (Value c) (class_of (Value c)) m in
       flushes e e.mark e.row e.announcement e.cell (FlushValue c) (FlushKind c) old new sound was fits real tn t.situation t.open_edits
       (simple_passes p e.row (FlushValue c) e.row (FlushKind c) old new (held_on p old new moves) (pends_on p old new moves t.open_edits)
@@ -145,7 +145,7 @@ module _ (e : PlainRecoverCall) (word : ℕ) (old new : PlainWorld) (sound : IsS
   pub step_flush_kind : (c : ℕ) → old.situation e.process ≡ Recovering (at e (FlushKind c)) → RecoveryFits old e.process (at e (FlushKind c)) → StepsAt e (FlushKind c) word old new → Keeps e.process old new
   step_flush_kind c was fits t =
       let m : FlushesAt p (Kind c) (class_of (Kind c)) old.memory new.memory = t.memory.1 in
-      let tn : Turn p old new = turn_of e (FlushKind c) word old new t in
+      let tn : Turn p old new = turn_of e (FlushKind c) word old new real was tt t in
       let moves : Moves p Version old new = flush_moves p old new tn (Kind c) (class_of (Kind c)) m in
       flushes e e.mark e.row e.announcement e.cell (FlushKind c) (BackValue c) old new sound was fits real tn t.situation t.open_edits
       (simple_passes p e.row (FlushKind c) e.row (BackValue c) old new (held_on p old new moves) (pends_on p old new moves t.open_edits)
@@ -159,7 +159,7 @@ module _ (e : PlainRecoverCall) (word : ℕ) (old new : PlainWorld) (sound : IsS
       → (b : Bool) → nat_lt (c + 1) e.cells ≡ b → new.situation e.process ≡ Recovering (at e (if b then LoadMark (c + 1) else LoadAnnounce)) → Keeps e.process old new
   step_let_be c was fits t other true more is =
       let m : SameMemory old.memory new.memory = t.memory.1 in
-      let tn : Turn p old new = turn_of e (LoadMark c) word old new t in
+      let tn : Turn p old new = turn_of e (LoadMark c) word old new real was tt t in
       let moves : Moves p Version old new = same_moves p old new tn m in
       loads e e.mark e.row e.announcement e.cell (LoadMark c) (LoadMark (c + 1)) old new sound was fits real tn is t.open_edits
       (simple_passes p e.row (LoadMark c) e.row (LoadMark (c + 1)) old new (held_on p old new moves) (pends_on p old new moves t.open_edits)
@@ -170,7 +170,7 @@ module _ (e : PlainRecoverCall) (word : ℕ) (old new : PlainWorld) (sound : IsS
       ]) (λ h. h) (m.buffer p ∙ fits.buffer) (ltb-true (c + 1) e.cells more)
   step_let_be c was fits t other false none is =
       let m : SameMemory old.memory new.memory = t.memory.1 in
-      let tn : Turn p old new = turn_of e (LoadMark c) word old new t in
+      let tn : Turn p old new = turn_of e (LoadMark c) word old new real was tt t in
       let moves : Moves p Version old new = same_moves p old new tn m in
       let from : HoldsFrom old p (c + 1) = λ r l by. elim (cases_eq r c) [
         | inl eq ↦ other (ap (λ (x : ℕ). x / 2 % 16) (t.memory.0 ∙ ap (λ (y : ℕ). old.memory.cached (Mark y)) (sym eq)) ∙ by)
@@ -188,7 +188,7 @@ module _ (e : PlainRecoverCall) (word : ℕ) (old new : PlainWorld) (sound : IsS
         (t.situation ∙ ap (λ (b : Bool). Recovering (if b then record e { mark = word; row = []; stage = FlushValue c } else at e (if nat_lt (c + 1) e.cells then LoadMark (c + 1) else LoadAnnounce))) apart.0)
     | inl mine ↦ (
         let m : SameMemory old.memory new.memory = t.memory.1 in
-        let tn : Turn p old new = turn_of e (LoadMark c) word old new t in
+        let tn : Turn p old new = turn_of e (LoadMark c) word old new real was tt t in
         let moves : Moves p Version old new = same_moves p old new tn m in
         let now : new.memory.cached (Mark c) ≡ word = m.cached (Mark c) ∙ sym t.memory.0 in
         loads e word [] e.announcement e.cell (LoadMark c) (FlushValue c) old new sound was fits real tn
@@ -212,7 +212,7 @@ module _ (e : PlainRecoverCall) (word : ℕ) (old new : PlainWorld) (sound : IsS
   step_back_to c was fits t true more is =
       let one : HasMark old p c = fits.buffer in
       let m : WritesBack p (entry (Mark c) one.value) [] old.memory new.memory = first_back (entry (Mark c) one.value) [] one.alone t.memory.1 in
-      let tn : Turn p old new = turn_of e (BackGiven c) word old new t in
+      let tn : Turn p old new = turn_of e (BackGiven c) word old new real was tt t in
       let g : Grows p Version old new = grown_back p (Mark c) one.value [] old new sound tn m (one.had, one.is) (λ o. absurd o) in
       backs e e.mark e.row e.announcement e.cell (BackGiven c) (LoadMark (c + 1)) old new sound was fits real tn is t.open_edits
       (simple_passes p e.row (BackGiven c) e.row (LoadMark (c + 1)) old new (held_from p old new g) (pends_from p old new g t.open_edits)
@@ -223,7 +223,7 @@ module _ (e : PlainRecoverCall) (word : ℕ) (old new : PlainWorld) (sound : IsS
   step_back_to c was fits t false none is =
       let one : HasMark old p c = fits.buffer in
       let m : WritesBack p (entry (Mark c) one.value) [] old.memory new.memory = first_back (entry (Mark c) one.value) [] one.alone t.memory.1 in
-      let tn : Turn p old new = turn_of e (BackGiven c) word old new t in
+      let tn : Turn p old new = turn_of e (BackGiven c) word old new real was tt t in
       let g : Grows p Version old new = grown_back p (Mark c) one.value [] old new sound tn m (one.had, one.is) (λ o. absurd o) in
       let free : HoldsNone old p = none_left old (c + 1) sound fits.cells (ltb-false (c + 1) e.cells none) fits.freed in
       backs e e.mark e.row e.announcement e.cell (BackGiven c) LoadAnnounce old new sound was fits real tn is t.open_edits

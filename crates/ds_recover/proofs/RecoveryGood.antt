@@ -9,7 +9,7 @@ use Rattle.ds_layout.specs.SheetMemory.{SheetValue, memory, CanPerform, Performs
 use Rattle.ds_state.specs.Works.{PlainRecoverCall}
 use Rattle.ds_state.specs.World.{PlainEdit, PlainIssue}
 use Rattle.ds_state.specs.Underway.{reports_in}
-use Rattle.ds_state.specs.Value.{WorldValue, world_of, IsGood, IsReserved}
+use Rattle.ds_state.specs.Value.{WorldValue, first_rest, world_of, IsGood, IsReserved}
 use Rattle.ds_state.specs.CallsFit.{CallFits, RecoveryFits}
 use Rattle.ds_state.specs.declared.work.RecoverStage.{RecoverStage}
 use Rattle.ds_state.specs.declared.work.RecoverStage.TheVariants.{Answer}
@@ -29,7 +29,7 @@ pub record IsRecovering (v : WorldValue) (p : ℕ) (e : PlainRecoverCall) : Type
   pub is : (world_of v).situation p ≡ Recovering e
 
 pub recovering_from : (v : WorldValue) (p : ℕ) (e : PlainRecoverCall) (read : Situation) → p < length v.situations → read ≡ get_or v.situations p read → read ≡ Recovering e → IsRecovering v p e
-recovering_from v p e read lt is here = record { there = lt; is = get_or_default v.situations p (Idle 0) read lt ∙ sym is ∙ here }
+recovering_from v p e read lt is here = record { there = lt; is = get_or_default v.situations p (Idle first_rest) read lt ∙ sym is ∙ here }
 
 no_report : (e : PlainRecoverCall) (s : RecoverStage) (word : ℕ) → reports_in (after e s word) ≡ 0
 no_report e (Answer how) word = refl
@@ -82,8 +82,8 @@ module _ (v : WorldValue) (g : IsGood v) (p : ℕ) (e : PlainRecoverCall) (at : 
     steps = record {
       layout = layout;
       memory = subst (λ (q : ℕ). PerformsAt (access_at e e.stage) q (memory v.sheet) (memory sheet) word) (sym mine) performs;
-      situation = ap (λ q. get_or (set v.situations p (after e e.stage word)) q (Idle 0)) mine ∙ get_or-set_same v.situations p (after e e.stage word) (Idle 0) at.there;
-      others = λ q ne. get_or-set_other v.situations p q (after e e.stage word) (Idle 0) (λ same. ne (same ∙ sym mine));
+      situation = ap (λ q. get_or (set v.situations p (after e e.stage word)) q (Idle first_rest)) mine ∙ get_or-set_same v.situations p (after e e.stage word) (Idle first_rest) at.there;
+      others = λ q ne. get_or-set_other v.situations p q (after e e.stage word) (Idle first_rest) (λ same. ne (same ∙ sym mine));
       counted = refl;
       open_edits = ap (λ q. get_or (set v.open_edits p (open_edit_at (get_or v.open_edits p None) e.stage)) q None) mine ∙ get_or-set_same v.open_edits p (open_edit_at (get_or v.open_edits p None) e.stage) None open_edit_there
           ∙ ap (λ q. open_edit_at (get_or v.open_edits q None) e.stage) (sym mine);

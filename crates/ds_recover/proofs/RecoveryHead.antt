@@ -71,7 +71,7 @@ module _ (e : PlainRecoverCall) (word : ℕ) (old new : PlainWorld) (sound : IsS
   pub step_flush_head : old.situation e.process ≡ Recovering (at e FlushHead) → RecoveryFits old e.process (at e FlushHead) → StepsAt e FlushHead word old new → Keeps e.process old new
   step_flush_head was fits t =
       let m : FlushesAt p (Head e.cell) (class_of (Head e.cell)) old.memory new.memory = t.memory.1 in
-      let tn : Turn p old new = turn_of e FlushHead word old new t in
+      let tn : Turn p old new = turn_of e FlushHead word old new real was tt t in
       let moves : Moves p Version old new = flush_moves p old new tn (Head e.cell) (class_of (Head e.cell)) m in
       let h : IsOpenAnd old p e.announcement e.cell (λ f. (own : ℕ) × IsIn old f own) = fits.resolved in
       let own : ℕ = h.and.0 in
@@ -110,7 +110,7 @@ module _ (e : PlainRecoverCall) (word : ℕ) (old new : PlainWorld) (sound : IsS
     m = first_back (entry there one.value) [] one.alone t.memory.1
 
     tn : Turn p old new
-    tn = turn_of e BackHead word old new t
+    tn = turn_of e BackHead word old new real was tt t
 
     moves : Moves p there old new
     moves = moved_back p there one.value [] old new sound tn m (one.by, one.gave) (λ o. absurd o)

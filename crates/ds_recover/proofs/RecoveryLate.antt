@@ -44,7 +44,7 @@ module _ (e : PlainRecoverCall) (word : ℕ) (old new : PlainWorld) (sound : IsS
   pub step_or_mark : (how : Bool) → old.situation e.process ≡ Recovering (at e (OrMark how)) → RecoveryFits old e.process (at e (OrMark how)) → StepsAt e (OrMark how) word old new → Keeps e.process old new
   step_or_mark how was fits t =
       let m : OrsAt (Mark e.cell) DIRTY old.memory new.memory = t.memory.1 in
-      let tn : Turn p old new = turn_of e (OrMark how) word old new t in
+      let tn : Turn p old new = turn_of e (OrMark how) word old new real was tt t in
       let g : Grows p Version old new = grown_or p e.cell old new tn m in
       let moves : Moves p (Mark e.cell) old new = moved_or p e.cell old new tn m in
       let is = or_dirty (old.memory.cached (Mark e.cell)) in
@@ -62,7 +62,7 @@ module _ (e : PlainRecoverCall) (word : ℕ) (old new : PlainWorld) (sound : IsS
   pub step_flush_mark : (how : Bool) → old.situation e.process ≡ Recovering (at e (FlushMark how)) → RecoveryFits old e.process (at e (FlushMark how)) → StepsAt e (FlushMark how) word old new → Keeps e.process old new
   step_flush_mark how was fits t =
       let m : FlushesAt p (Mark e.cell) (class_of (Mark e.cell)) old.memory new.memory = t.memory.1 in
-      let tn : Turn p old new = turn_of e (FlushMark how) word old new t in
+      let tn : Turn p old new = turn_of e (FlushMark how) word old new real was tt t in
       let g : Grows p Version old new = grows_own p Version old new (flush_moves p old new tn (Mark e.cell) (class_of (Mark e.cell)) m) tn.counted in
       let alone : new.memory.buffer p ≡ entry (Mark e.cell) (old.memory.cached (Mark e.cell)) ∷ [] = m.mine ∙ ap (λ xs. xs ++ entry (Mark e.cell) (old.memory.cached (Mark e.cell)) ∷ []) fits.buffer in
       flushes e e.mark e.row e.announcement e.cell (FlushMark how) (BackMark how) old new sound was fits real tn t.situation t.open_edits
@@ -79,7 +79,7 @@ module _ (e : PlainRecoverCall) (word : ℕ) (old new : PlainWorld) (sound : IsS
   step_back_mark how was fits t =
       let one : HasMark old p e.cell = fits.buffer in
       let m : WritesBack p (entry (Mark e.cell) one.value) [] old.memory new.memory = first_back (entry (Mark e.cell) one.value) [] one.alone t.memory.1 in
-      let tn : Turn p old new = turn_of e (BackMark how) word old new t in
+      let tn : Turn p old new = turn_of e (BackMark how) word old new real was tt t in
       let g : Grows p Version old new = grown_back p (Mark e.cell) one.value [] old new sound tn m (one.had, one.is) (λ o. absurd o) in
       backs e e.mark e.row e.announcement e.cell (BackMark how) (StoreOutcome how) old new sound was fits real tn t.situation t.open_edits
       (simple_passes p e.row (BackMark how) e.row (StoreOutcome how) old new (held_from p old new g) (pends_from p old new g t.open_edits)
@@ -111,7 +111,7 @@ module _ (e : PlainRecoverCall) (word : ℕ) (old new : PlainWorld) (sound : IsS
   pub step_flush_outcome : (how : Bool) → old.situation e.process ≡ Recovering (at e (FlushOutcome how)) → RecoveryFits old e.process (at e (FlushOutcome how)) → StepsAt e (FlushOutcome how) word old new → Keeps e.process old new
   step_flush_outcome how was fits t =
       let m : FlushesAt p (Announce p) (class_of (Announce p)) old.memory new.memory = t.memory.1 in
-      let tn : Turn p old new = turn_of e (FlushOutcome how) word old new t in
+      let tn : Turn p old new = turn_of e (FlushOutcome how) word old new real was tt t in
       let g : Grows p Version old new = grows_own p Version old new (flush_moves p old new tn (Announce p) (class_of (Announce p)) m) tn.counted in
       flushes e e.mark e.row e.announcement e.cell (FlushOutcome how) (BackOutcome how) old new sound was fits real tn t.situation t.open_edits
       (simple_passes p e.row (FlushOutcome how) e.row (BackOutcome how) old new (held_from p old new g) (pends_from p old new g t.open_edits)
@@ -122,7 +122,7 @@ module _ (e : PlainRecoverCall) (word : ℕ) (old new : PlainWorld) (sound : IsS
   pub step_back_outcome : (how : Bool) → old.situation e.process ≡ Recovering (at e (BackOutcome how)) → RecoveryFits old e.process (at e (BackOutcome how)) → StepsAt e (BackOutcome how) word old new → Keeps e.process old new
   step_back_outcome how was fits t =
       let m : WritesBack p (entry (Announce p) e.announcement) [] old.memory new.memory = first_back (entry (Announce p) e.announcement) [] fits.buffer t.memory.1 in
-      let tn : Turn p old new = turn_of e (BackOutcome how) word old new t in
+      let tn : Turn p old new = turn_of e (BackOutcome how) word old new real was tt t in
       let g : Grows p Version old new = grown_back p (Announce p) e.announcement [] old new sound tn m (sym fits.resolved.0) (λ o. sym fits.resolved.0) in
       backs e e.mark e.row e.announcement e.cell (BackOutcome how) (Answer (Some how)) old new sound was fits real tn t.situation t.open_edits
       (simple_passes p e.row (BackOutcome how) e.row (Answer (Some how)) old new (held_from p old new g) (pends_from p old new g t.open_edits)

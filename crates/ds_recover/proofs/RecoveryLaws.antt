@@ -12,7 +12,7 @@ use Rattle.ds_state.specs.declared.situation.Situation.{Situation}
 use Rattle.ds_state.specs.declared.situation.Situation.TheVariants.{Idle, Recovering}
 use Rattle.ds_state.specs.declared.work.RecoverStage.{RecoverStage}
 use Rattle.ds_state.specs.declared.work.RecoverStage.TheVariants.{Answer}
-use Rattle.ds_recover.specs.RecoverySteps.{Steps, access_at, after, next_number, end_of, ResolvesAs, RepeatsAs}
+use Rattle.ds_recover.specs.RecoverySteps.{Steps, access_at, after, rest_after, end_of, ResolvesAs, RepeatsAs}
 use Rattle.ds_recover.proofs.RecoveryRepeats.{repeats}
 use Rattle.ds_recover.specs.RecoverBegun.{IsBegun}
 use Rattle.ds_recover.proofs.RecoveryBegins.{begun_keeps}
@@ -40,12 +40,12 @@ pub repeated : (e : PlainRecoverCall) (how : Option Bool) (w : PlainWorld) → I
 repeated e how w sound real is last = repeats e how w (subst (λ (s : RecoverStage). RecoveryFits w e.process (record e { stage = s })) last (fits_of e w sound real is))
 
 -- after its answer the process is idle, and holds no cell
-idle_after : (e : PlainRecoverCall) (s : RecoverStage) (how : Option Bool) (word : ℕ) → s ≡ Answer how → after e s word ≡ Idle (next_number e.announcement how)
+idle_after : (e : PlainRecoverCall) (s : RecoverStage) (how : Option Bool) (word : ℕ) → s ≡ Answer how → after e s word ≡ Idle (rest_after e how)
 idle_after e s how word is = ap (λ (x : RecoverStage). after e x word) is
 
 pub lets_go : (e : PlainRecoverCall) (how : Option Bool) (word : ℕ) (old new : PlainWorld) → IsSound old → e.process < old.layout.processes → old.situation e.process ≡ Recovering e → e.stage ≡ Answer how
     → Steps e word old new → HoldsNone new e.process
 lets_go e how word old new sound real is last t =
     let now : IsSound new = (steps e word old new sound real is t).sound in
-    let idle : IdleFits new e.process (next_number e.announcement how) = subst (λ (s : Situation). CallFits new e.process s) (t.situation ∙ idle_after e e.stage how word last) (now.calls e.process (rw t.layout real)) in
+    let idle : IdleFits new e.process (rest_after e how) = subst (λ (s : Situation). CallFits new e.process s) (t.situation ∙ idle_after e e.stage how word last) (now.calls e.process (rw t.layout real)) in
     idle.holds_none

@@ -6,7 +6,7 @@ use Rattle.ds_state.specs.World.{PlainWorld}
 use Rattle.ds_state.specs.Leaves.{Leaves}
 use Rattle.ds_state.specs.Sound.{IsSound}
 use Rattle.ds_state.specs.declared.work.RecoverStage.{RecoverStage}
-use Rattle.ds_state.specs.declared.work.RecoverStage.TheVariants.{LoadMark, Answer}
+use Rattle.ds_state.specs.declared.work.RecoverStage.TheVariants.{LoadVersion, Answer}
 use Rattle.ds_state.specs.declared.situation.Situation.TheVariants.{Recovering, Showing}
 use Rattle.ds_state.proofs.Leaves.{leaves_same, middles_left}
 use Rattle.ds_recover.specs.RecoverySteps.{Steps, after, at, fresh}
@@ -26,4 +26,4 @@ recovery_leaves e word old new sound real was t =
 pub begin_leaves : (p : ℕ) (old new : PlainWorld) → IsSound old → p < old.layout.processes → IsBegun old p new → Leaves p old new
 begin_leaves p old new sound real b =
     let k = laws.begins p old new sound real b in
-    leaves_same p old new k b.begins.counted (middles_left p old new k (λ f is. let both : Recovering (at (fresh p (cells_of old.layout) old.layout.processes) (LoadMark 0)) ≡ Showing f = sym b.begins.situation ∙ is in cc))
+    leaves_same p old new k b.begins.counted (middles_left p old new k (λ f is. let both : Recovering (at (fresh p (cells_of old.layout) old.layout.processes) LoadVersion) ≡ Showing f = sym b.begins.situation ∙ is in cc))

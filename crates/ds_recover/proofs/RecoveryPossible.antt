@@ -15,11 +15,14 @@ use Rattle.ds_state.specs.KnownRecovery.{RecoveryHolds, recovery_held, value_now
 use Rattle.ds_state.specs.CallsFit.{RecoveryFits}
 use Rattle.ds_state.specs.declared.work.Spread.TheVariants.{LoadRow, OrTold, FlushTold, BackTold}
 use Rattle.ds_state.specs.declared.work.RecoverStage.{RecoverStage}
-use Rattle.ds_state.specs.declared.work.RecoverStage.TheVariants.{LoadMark, FlushValue, FlushKind, BackValue, BackKind, Telling, Give, GiveDirty, FlushGiven, BackGiven, LoadAnnounce, LoadHeader, LoadHead, FlushHead, BackHead, LoadDone, OrMark, FlushMark, BackMark, StoreOutcome, FlushOutcome, BackOutcome, Answer}
+use Rattle.ds_state.specs.declared.work.RecoverStage.TheVariants.{LoadVersion, FlushVersion, BackVersion, LoadMark, FlushValue, FlushKind, BackValue, BackKind, Telling, Give, GiveDirty, FlushGiven, BackGiven, LoadAnnounce, LoadHeader, LoadHead, FlushHead, BackHead, LoadDone, OrMark, FlushMark, BackMark, StoreOutcome, FlushOutcome, BackOutcome, Answer}
 use Rattle.ds_recover.specs.RecoverySteps.{access_at}
 
 -- each access names a place of the sheet
 named : (layout : Layout) (e : PlainRecoverCall) → cells_of layout ≡ e.cells → layout.processes ≡ e.processes → e.process < e.processes → (s : RecoverStage) → IsStage e s → NamesPlace layout (access_at e s)
+named layout e cells processes low LoadVersion h = tt
+named layout e cells processes low FlushVersion h = tt
+named layout e cells processes low BackVersion h = tt
 named layout e cells processes low (LoadMark c) h = rw cells h
 named layout e cells processes low (FlushValue c) h = rw cells h.0.0
 named layout e cells processes low (FlushKind c) h = rw cells h.0.0
@@ -61,6 +64,9 @@ module _ (e : PlainRecoverCall) (w : PlainWorld) (low : e.process < w.layout.pro
   none is = room [] is (omega arith)
 
   buffered : (s : RecoverStage) → IsStage e s → RecoveryHolds w e.process e.announcement e.cell (recovery_held e.cell s) → HasBuffer w.layout w.memory e.process (access_at e s)
+  buffered LoadVersion h b = tt
+  buffered FlushVersion h b = none b
+  buffered BackVersion h b = first place.Version b.value [] b.alone tt
   buffered (LoadMark c) h b = tt
   buffered (FlushValue c) h b = none b
   buffered (FlushKind c) h b = room (value_now w c ∷ []) b (omega arith)

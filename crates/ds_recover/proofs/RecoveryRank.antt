@@ -17,7 +17,7 @@ use Rattle.ds_state.proofs.Telling.{ToldFits, first_told}
 use Rattle.ds_recover.specs.RecoverySteps.{rank, cells_rank, looks_from, told, tell_from, resolves_from, announced_from, is_shown, number_of, reads_held, next_at, Falls}
 use Rattle.ds_state.specs.declared.work.Spread.TheVariants.{LoadRow, OrTold, FlushTold, BackTold}
 use Rattle.ds_state.specs.declared.work.RecoverStage.{RecoverStage}
-use Rattle.ds_state.specs.declared.work.RecoverStage.TheVariants.{LoadMark, FlushValue, FlushKind, BackValue, BackKind, Telling, Give, GiveDirty, FlushGiven, BackGiven, LoadAnnounce, LoadHeader, LoadHead, FlushHead, BackHead, LoadDone, OrMark, FlushMark, BackMark, StoreOutcome, FlushOutcome, BackOutcome, Answer}
+use Rattle.ds_state.specs.declared.work.RecoverStage.TheVariants.{LoadVersion, FlushVersion, BackVersion, LoadMark, FlushValue, FlushKind, BackValue, BackKind, Telling, Give, GiveDirty, FlushGiven, BackGiven, LoadAnnounce, LoadHeader, LoadHead, FlushHead, BackHead, LoadDone, OrMark, FlushMark, BackMark, StoreOutcome, FlushOutcome, BackOutcome, Answer}
 
 times_a : (n k : ℕ) → (n + 1) * k ≡ n * k + k
 times_a n k = grind arith
@@ -76,6 +76,9 @@ announced_lower e word None = omega arith
 announced_lower e word (Some a) = omega arith
 
 falls : (e : PlainRecoverCall) (s : RecoverStage) (word : ℕ) → e.cells ≤ 1024 → IsStage e s → Falls e s (next_at e s word)
+falls e LoadVersion word most h = omega arith
+falls e FlushVersion word most h = omega arith
+falls e BackVersion word most h = omega arith
 falls e (LoadMark c) word most h =
     let k = one_fewer e.cells c h in
     either e.cells (cells_rank e.cells c) (reads_held e.process word) _ _ (omega arith) (looks_lower e.cells (c + 1) (cells_rank e.cells c) (omega arith) (omega arith))
@@ -112,11 +115,14 @@ pub each_falls : (e : PlainRecoverCall) (word : ℕ) → IsRecovery e → Falls 
 each_falls e word is = falls e e.stage word is.cells is.stage
 
 -- within a cell, no more than for the cell
-within : (cells c n : ℕ) → c < cells → n ≤ 3 * cells + 30 → cells_rank cells (c + 1) + n ≤ cells * (3 * cells + 30) + 20
+within : (cells c n : ℕ) → c < cells → n ≤ 3 * cells + 30 → cells_rank cells (c + 1) + n ≤ cells * (3 * cells + 30) + 23
 within cells c n l k = let a = one_fewer cells c l in let b = few_cells cells c in omega arith
 
-few : (e : PlainRecoverCall) (s : RecoverStage) → e.cells ≤ 1024 → IsStage e s → rank e.cells s ≤ e.cells * (3 * e.cells + 30) + 20
-few e (LoadMark c) most h = few_cells e.cells c
+few : (e : PlainRecoverCall) (s : RecoverStage) → e.cells ≤ 1024 → IsStage e s → rank e.cells s ≤ e.cells * (3 * e.cells + 30) + 23
+few e LoadVersion most h = let k = few_cells e.cells 0 in omega arith
+few e FlushVersion most h = let k = few_cells e.cells 0 in omega arith
+few e BackVersion most h = let k = few_cells e.cells 0 in omega arith
+few e (LoadMark c) most h = let k = few_cells e.cells c in omega arith
 few e (FlushValue c) most h = let k = within e.cells c (3 * e.cells + 29) h.0.0 (omega arith) in omega arith
 few e (FlushKind c) most h = let k = within e.cells c (3 * e.cells + 28) h.0.0 (omega arith) in omega arith
 few e (BackValue c) most h = let k = within e.cells c (3 * e.cells + 27) h.0.0 (omega arith) in omega arith
@@ -143,5 +149,5 @@ few e (FlushOutcome how) most h = omega arith
 few e (BackOutcome how) most h = omega arith
 few e (Answer how) most h = omega arith
 
-pub each_few : (e : PlainRecoverCall) → IsRecovery e → rank e.cells e.stage ≤ e.cells * (3 * e.cells + 30) + 20
+pub each_few : (e : PlainRecoverCall) → IsRecovery e → rank e.cells e.stage ≤ e.cells * (3 * e.cells + 30) + 23
 each_few e is = few e e.stage is.cells is.stage

@@ -18,7 +18,7 @@ use Rattle.ds_state.specs.CallsFit.{RecoveryFits}
 use Rattle.ds_state.specs.Telling.{told_from}
 use Rattle.ds_state.specs.declared.work.Spread.TheVariants.{LoadRow, OrTold, FlushTold, BackTold}
 use Rattle.ds_state.specs.declared.work.RecoverStage.{RecoverStage}
-use Rattle.ds_state.specs.declared.work.RecoverStage.TheVariants.{LoadMark, FlushValue, FlushKind, BackValue, BackKind, Telling, Give, GiveDirty, FlushGiven, BackGiven, LoadAnnounce, LoadHeader, LoadHead, FlushHead, BackHead, LoadDone, OrMark, FlushMark, BackMark, StoreOutcome, FlushOutcome, BackOutcome, Answer}
+use Rattle.ds_state.specs.declared.work.RecoverStage.TheVariants.{LoadVersion, FlushVersion, BackVersion, LoadMark, FlushValue, FlushKind, BackValue, BackKind, Telling, Give, GiveDirty, FlushGiven, BackGiven, LoadAnnounce, LoadHeader, LoadHead, FlushHead, BackHead, LoadDone, OrMark, FlushMark, BackMark, StoreOutcome, FlushOutcome, BackOutcome, Answer}
 use Rattle.ds_recover.specs.RecoverySteps.{at, number_of, end_of, RepeatsAs, TellsFound, reads_held, announced_from, resolves_from, phase_from, is_shown, told, tell_from, next_at}
 use Rattle.ds_recover.proofs.RecoveryDoubt.{phases}
 use Rattle.ds_recover.proofs.RecoveryEnds.{Rests, rests}
@@ -87,6 +87,9 @@ resolves_none None cell k X is = absurd (cc)
 resolves_none (Some a) cell k X is = phases_none a.phase cell k X is
 
 found : (e : PlainRecoverCall) (s : RecoverStage) (word : ℕ) → TellsFound e → TellsFound (next_at e s word)
+found e LoadVersion word h = λ cell k is. absurd (cc)
+found e FlushVersion word h = λ cell k is. absurd (cc)
+found e BackVersion word h = λ cell k is. absurd (cc)
 found e (LoadMark c) word h = either (reads_held e.process word) _ _ (λ cell k is. absurd (cc)) (λ cell k is. looks_none (nat_lt (c + 1) e.cells) (c + 1) cell k _ is)
 found e (FlushValue c) word h = λ cell k is. absurd (cc)
 found e (FlushKind c) word h = λ cell k is. absurd (cc)

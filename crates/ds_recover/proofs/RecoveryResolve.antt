@@ -65,7 +65,7 @@ module _ (e : PlainRecoverCall) (word : ℕ) (old new : PlainWorld) (sound : IsS
     m = t.memory.1
 
     tn : Turn p old new
-    tn = turn_of e LoadAnnounce word old new t
+    tn = turn_of e LoadAnnounce word old new real was tt t
 
     moves : Moves p Version old new
     moves = same_moves p old new tn m
@@ -105,7 +105,7 @@ module _ (e : PlainRecoverCall) (word : ℕ) (old new : PlainWorld) (sound : IsS
     m' = t.memory.1
 
     tn' : Turn p old new
-    tn' = turn_of e LoadHeader word old new t
+    tn' = turn_of e LoadHeader word old new real was tt t
 
     moves' : Moves p Version old new
     moves' = same_moves p old new tn' m'
@@ -211,7 +211,7 @@ module _ (e : PlainRecoverCall) (word : ℕ) (old new : PlainWorld) (sound : IsS
     mh = t.memory.1
 
     th : Turn p old new
-    th = turn_of e LoadHead word old new t
+    th = turn_of e LoadHead word old new real was tt t
 
     movesh : Moves p Version old new
     movesh = same_moves p old new th mh
@@ -277,7 +277,7 @@ module _ (e : PlainRecoverCall) (word : ℕ) (old new : PlainWorld) (sound : IsS
     md = t.memory.1
 
     td : Turn p old new
-    td = turn_of e LoadDone word old new t
+    td = turn_of e LoadDone word old new real was tt t
 
     movesd : Moves p Version old new
     movesd = same_moves p old new td md

@@ -90,7 +90,7 @@ module _ (e : PlainRecoverCall) (how : Bool) (word : ℕ) (old new : PlainWorld)
   store = t.memory.1
 
   tn : Turn p old new
-  tn = turn_of e (StoreOutcome how) word old new t
+  tn = turn_of e (StoreOutcome how) word old new real was tt t
 
   abbrev h : IsOpenAnd old p e.announcement e.cell (λ f. SettledAs old f how)
   h = fits.resolved

@@ -59,7 +59,7 @@ module _ (e : PlainRecoverCall) (word : ℕ) (old new : PlainWorld) (sound : IsS
   step_back_value c was fits t =
       let v : ℕ = old.memory.cached (Value c) in
       let m : WritesBack p (value_now old c) (kind_now old c ∷ []) old.memory new.memory = first_back (value_now old c) (kind_now old c ∷ []) fits.buffer t.memory.1 in
-      let tn : Turn p old new = turn_of e (BackValue c) word old new t in
+      let tn : Turn p old new = turn_of e (BackValue c) word old new real was tt t in
       let g : Grows p Version old new = grown_back p (Value c) v (kind_now old c ∷ []) old new sound tn m refl (λ o. refl) in
       let passes : Passes p e.row (BackValue c) e.row (BackKind c) old new = simple_passes p e.row (BackValue c) e.row (BackKind c) old new (held_from p old new g) (pends_from p old new g t.open_edits)
       (λ r d x bit matters held o. tt) (λ d x matters k o. tt) (λ r held o. tt) (λ f before last_of issue issued same k o. tt) in
@@ -82,7 +82,7 @@ module _ (e : PlainRecoverCall) (word : ℕ) (old new : PlainWorld) (sound : IsS
   step_back_kind c was fits t =
       let v : ℕ = old.memory.cached (Kind c) in
       let m : WritesBack p (kind_now old c) [] old.memory new.memory = first_back (kind_now old c) [] fits.buffer t.memory.1 in
-      let tn : Turn p old new = turn_of e (BackKind c) word old new t in
+      let tn : Turn p old new = turn_of e (BackKind c) word old new real was tt t in
       let g : Grows p Version old new = grown_back p (Kind c) v [] old new sound tn m refl (λ o. refl) in
       let agree : KindAgrees new c = m.there ∙ sym (m.cached (Kind c)) in
       let agree' : ValueAgrees new c = m.elsewhere (Value c) (λ x. cc) ∙ fits.freed.1 ∙ sym (m.cached (Value c)) in
@@ -116,7 +116,7 @@ module _ (e : PlainRecoverCall) (word : ℕ) (old new : PlainWorld) (sound : IsS
   pub step_or_told : (c d : ℕ) → old.situation e.process ≡ Recovering (at e (Telling c (OrTold d))) → RecoveryFits old e.process (at e (Telling c (OrTold d))) → StepsAt e (Telling c (OrTold d)) word old new → Keeps e.process old new
   step_or_told c d was fits t =
       let m : OrsAt (Mark d) DIRTY old.memory new.memory = t.memory.1 in
-      let tn : Turn p old new = turn_of e (Telling c (OrTold d)) word old new t in
+      let tn : Turn p old new = turn_of e (Telling c (OrTold d)) word old new real was tt t in
       let g : Grows p Version old new = grown_or p d old new tn m in
       let moves : Moves p (Mark d) old new = moved_or p d old new tn m in
       let is = or_dirty (old.memory.cached (Mark d)) in
@@ -141,7 +141,7 @@ module _ (e : PlainRecoverCall) (word : ℕ) (old new : PlainWorld) (sound : IsS
   pub step_flush_told : (c d : ℕ) → old.situation e.process ≡ Recovering (at e (Telling c (FlushTold d))) → RecoveryFits old e.process (at e (Telling c (FlushTold d))) → StepsAt e (Telling c (FlushTold d)) word old new → Keeps e.process old new
   step_flush_told c d was fits t =
       let m : FlushesAt p (Mark d) (class_of (Mark d)) old.memory new.memory = t.memory.1 in
-      let tn : Turn p old new = turn_of e (Telling c (FlushTold d)) word old new t in
+      let tn : Turn p old new = turn_of e (Telling c (FlushTold d)) word old new real was tt t in
       let moves : Moves p Version old new = flush_moves p old new tn (Mark d) (class_of (Mark d)) m in
       let alone : new.memory.buffer p ≡ entry (Mark d) (old.memory.cached (Mark d)) ∷ [] = m.mine ∙ ap (λ xs. xs ++ entry (Mark d) (old.memory.cached (Mark d)) ∷ []) fits.buffer in
       flushes e e.mark e.row e.announcement e.cell (Telling c (FlushTold d)) (Telling c (BackTold d)) old new sound was fits real tn t.situation t.open_edits
@@ -162,7 +162,7 @@ module _ (e : PlainRecoverCall) (word : ℕ) (old new : PlainWorld) (sound : IsS
       m = first_back (entry (Mark d) one.value) [] one.alone t.memory.1
 
       tn : Turn p old new
-      tn = turn_of e (Telling c (BackTold d)) word old new t
+      tn = turn_of e (Telling c (BackTold d)) word old new real was tt t
 
       g : Grows p Version old new
       g = grown_back p (Mark d) one.value [] old new sound tn m (one.had, one.is) (λ o. absurd o)
@@ -209,7 +209,7 @@ module _ (e : PlainRecoverCall) (word : ℕ) (old new : PlainWorld) (sound : IsS
       m = t.memory.1
 
       tn : Turn p old new
-      tn = turn_of e (Telling c (LoadRow part)) word old new t
+      tn = turn_of e (Telling c (LoadRow part)) word old new real was tt t
 
       moves : Moves p Version old new
       moves = same_moves p old new tn m

@@ -15,7 +15,7 @@ use Rattle.ds_state.specs.Sound.{IsSound}
 use Rattle.ds_recover.specs.RecoverySteps.{StepsAt, at, number_of, end_of, ResolvesAs}
 use Rattle.ds_state.specs.declared.work.Spread.TheVariants.{LoadRow, OrTold, FlushTold, BackTold}
 use Rattle.ds_state.specs.declared.work.RecoverStage.{RecoverStage}
-use Rattle.ds_state.specs.declared.work.RecoverStage.TheVariants.{LoadMark, FlushValue, FlushKind, BackValue, BackKind, Telling, Give, GiveDirty, FlushGiven, BackGiven, LoadAnnounce, LoadHeader, LoadHead, FlushHead, BackHead, LoadDone, OrMark, FlushMark, BackMark, StoreOutcome, FlushOutcome, BackOutcome, Answer}
+use Rattle.ds_state.specs.declared.work.RecoverStage.TheVariants.{LoadVersion, FlushVersion, BackVersion, LoadMark, FlushValue, FlushKind, BackValue, BackKind, Telling, Give, GiveDirty, FlushGiven, BackGiven, LoadAnnounce, LoadHeader, LoadHead, FlushHead, BackHead, LoadDone, OrMark, FlushMark, BackMark, StoreOutcome, FlushOutcome, BackOutcome, Answer}
 use Rattle.ds_state.specs.declared.situation.Situation.{Situation}
 use Rattle.ds_state.specs.declared.situation.Situation.TheVariants.{Recovering}
 use Rattle.ds_recover.proofs.RecoveryResolve.{step_load_announce, step_load_header, step_load_head, step_load_done}
@@ -32,6 +32,9 @@ module _ (e : PlainRecoverCall) (word : ℕ) (old new : PlainWorld) (sound : IsS
   p = e.process
 
   steps : (s : RecoverStage) → old.situation p ≡ Recovering (at e s) → RecoveryFits old p (at e s) → StepsAt e s word old new → Keeps p old new
+  steps LoadVersion was fits t = step_load_version e word old new sound real was t
+  steps FlushVersion was fits t = step_flush_version e word old new sound real was t
+  steps BackVersion was fits t = step_back_version e word old new sound real was fits t
   steps (LoadMark c) was fits t = step_load_mark e word old new sound real c was fits t
   steps (FlushValue c) was fits t = step_flush_value e word old new sound real c was fits t
   steps (FlushKind c) was fits t = step_flush_kind e word old new sound real c was fits t
@@ -57,7 +60,7 @@ module _ (e : PlainRecoverCall) (word : ℕ) (old new : PlainWorld) (sound : IsS
   steps (StoreOutcome how) was fits t = step_store_outcome e how word old new sound real was fits t
   steps (FlushOutcome how) was fits t = step_flush_outcome e word old new sound real how was fits t
   steps (BackOutcome how) was fits t = step_back_outcome e word old new sound real how was fits t
-  steps (Answer how) was fits t = step_answer e how word old new sound was fits t
+  steps (Answer how) was fits t = step_answer e how word old new sound real was fits t
 
   pub recovery_keeps_soundness : (s : RecoverStage) → old.situation p ≡ Recovering (at e s) → StepsAt e s word old new → Keeps p old new
   recovery_keeps_soundness s was t = steps s was (subst (λ (x : Situation). CallFits old p x) was (sound.calls p real)) t

@@ -1,3 +1,5 @@
 pub mod RecoverySteps
 pub mod RecoverBegun
 pub mod RecoverTakes
+pub mod MigrationSteps
+pub mod MigrationTakes

@@ -28,12 +28,14 @@ use Rattle.ds_recover.specs.declared.machine.Effect.{Effect}
 use Rattle.ds_recover.specs.declared.machine.Effect.TheVariants.{GoesOn, Answers}
 use Rattle.ds_recover.specs.declared.machine.RecoveryEnd.{RecoveryEnd}
 use Rattle.ds_recover.specs.declared.machine.RecoveryEnd.TheVariants.{Nothing, Last}
+use Rattle.ds_state.specs.declared.situation.Rest.{Rest}
 use Rattle.ds_state.specs.declared.situation.Situation.{Situation}
+use Rattle.ds_layout.specs.declared.place.Edition.TheVariants.{First}
 use Rattle.ds_state.specs.declared.situation.Situation.TheVariants.{Idle, Recovering}
 use Rattle.ds_state.specs.declared.work.Spread.{Spread}
 use Rattle.ds_state.specs.declared.work.Spread.TheVariants.{LoadRow, OrTold, FlushTold, BackTold}
 use Rattle.ds_state.specs.declared.work.RecoverStage.{RecoverStage}
-use Rattle.ds_state.specs.declared.work.RecoverStage.TheVariants.{LoadMark, FlushValue, FlushKind, BackValue, BackKind, Telling, Give, GiveDirty, FlushGiven, BackGiven, LoadAnnounce, LoadHeader, LoadHead, FlushHead, BackHead, LoadDone, OrMark, FlushMark, BackMark, StoreOutcome, FlushOutcome, BackOutcome, Answer}
+use Rattle.ds_state.specs.declared.work.RecoverStage.TheVariants.{LoadVersion, FlushVersion, BackVersion, LoadMark, FlushValue, FlushKind, BackValue, BackKind, Telling, Give, GiveDirty, FlushGiven, BackGiven, LoadAnnounce, LoadHeader, LoadHead, FlushHead, BackHead, LoadDone, OrMark, FlushMark, BackMark, StoreOutcome, FlushOutcome, BackOutcome, Answer}
 
 -- how many parts an index row of the recovery's sheet has
 abbrev pub parts_of : PlainRecoverCall → ℕ
@@ -52,6 +54,9 @@ spread_access cell (BackTold d) = acts.Back
 
 -- the access of a stage of a recovery
 abbrev pub access_at : PlainRecoverCall → RecoverStage → Access Place
+access_at e LoadVersion = acts.Load place.Version
+access_at e FlushVersion = acts.Flush place.Version
+access_at e BackVersion = acts.Back
 access_at e (LoadMark cell) = acts.Load (place.Mark cell)
 access_at e (FlushValue cell) = acts.Flush (place.Value cell)
 access_at e (FlushKind cell) = acts.Flush (place.Kind cell)
@@ -144,6 +149,9 @@ is_shown p n (Some h) = if h.process == p then h.number == n else false
 
 -- the recovery after a stage whose access answered the word
 abbrev pub next_at : PlainRecoverCall → RecoverStage → ℕ → PlainRecoverCall
+next_at e LoadVersion word = record e { edition = edition_of word; stage = FlushVersion }
+next_at e FlushVersion word = at e BackVersion
+next_at e BackVersion word = at e (LoadMark 0)
 next_at e (LoadMark cell) word = holds_from e cell word
 next_at e (FlushValue cell) word = at e (FlushKind cell)
 next_at e (FlushKind cell) word = at e (BackValue cell)
@@ -177,9 +185,13 @@ abbrev pub next_number : ℕ → Option Bool → ℕ
 next_number word None = 0
 next_number word (Some how) = number_after word
 
+-- what the process knows after its recovery: the number of its next edit, and the layout that it noted
+abbrev pub rest_after : PlainRecoverCall → Option Bool → Rest
+rest_after e how = record { number = next_number e.announcement how; edition = e.edition }
+
 -- the situation of the process after a stage of its recovery: the answer ends the call
 abbrev pub after : PlainRecoverCall → RecoverStage → ℕ → Situation
-after e (Answer how) word = Idle (next_number e.announcement how)
+after e (Answer how) word = Idle (rest_after e how)
 after e stage word = Recovering (next_at e stage word)
 
 -- the process's issue after a stage of its recovery: the answer resolves the edit in doubt
@@ -205,20 +217,21 @@ Steps e word old new = StepsAt e e.stage word old new
 abbrev pub fresh : ℕ → ℕ → ℕ → PlainRecoverCall
 fresh process cells processes = record {
   process = process;
+  edition = First;
   cells = cells;
   processes = processes;
   mark = 0;
   row = [];
   announcement = 0;
   cell = 0;
-  stage = LoadMark 0;
+  stage = LoadVersion;
 }
 
 -- a recovery begins, of a process that is stopped or idle
 pub record BeginsRecovery (e : PlainRecoverCall) (old new : PlainWorld) : Type 0 where
   pub layout : new.layout ≡ old.layout
   pub memory : SameMemory old.memory new.memory
-  pub situation : new.situation e.process ≡ Recovering (at e (LoadMark 0))
+  pub situation : new.situation e.process ≡ Recovering (at e LoadVersion)
   pub others : (q : ℕ) → q ≢ e.process → new.situation q ≡ old.situation q
   pub counted : new.counted ≡ old.counted
   pub open_edits : (q : ℕ) → new.open_edits q ≡ old.open_edits q
@@ -246,6 +259,9 @@ cells_rank cells cell = (cells - cell) * (3 * cells + 30) + 20
 
 -- how many steps of a recovery are left at most from a stage on, the answer's among them
 abbrev pub rank : ℕ → RecoverStage → ℕ
+rank cells LoadVersion = cells_rank cells 0 + 3
+rank cells FlushVersion = cells_rank cells 0 + 2
+rank cells BackVersion = cells_rank cells 0 + 1
 rank cells (LoadMark cell) = cells_rank cells cell
 rank cells (FlushValue cell) = cells_rank cells (cell + 1) + 3 * cells + 29
 rank cells (FlushKind cell) = cells_rank cells (cell + 1) + 3 * cells + 28

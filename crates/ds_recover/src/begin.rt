@@ -1,12 +1,14 @@
 //! The beginning of a recovery.
 
-ghost use Rattle.std.specs.Prelude.{◌≡◌, ◌<◌, ◌↔◌, IsTrue, IfOk, IfErr, OnErr};
+ghost use Rattle.std.specs.Prelude.{◌≡◌, ◌<◌, ◌↔◌, ℕ, IsTrue, IfOk, IfErr, IfSome, IfNone, OnErr};
 ghost use Rattle.ds_layout.specs.Places.{cells_of};
+ghost use Rattle.ds_state.specs.LayoutsFit.{IsMigrating, IsMoving, NoneMoves};
 ghost use Rattle.ds_state.specs.Value.{world_of};
 ghost use Rattle.ds_recover.specs.RecoverySteps.{BeginsRecovery, fresh};
 ghost use Rattle.ds_recover.specs.RecoverBegun.{MayRecover, IsBegun, Refuses};
 
 use ds_layout::layout::Layout;
+use ds_layout::place::Edition;
 use ds_state::refusal::Refusal;
 use ds_state::row::Row;
 use ds_state::situation::{Situation, put};
@@ -14,14 +16,39 @@ use ds_state::work::{RecoverCall, RecoverStage};
 use ds_state::world::World;
 
 // Whether the process is in no call.
-fn may_recover(situation: &Situation) -> bool
+pub(crate) fn may_recover(situation: &Situation) -> bool
     ensures { IsTrue result ↔ MayRecover situation.now }
 {
     match situation {
         Situation::Idle(_) | Situation::Stopped => true,
         Situation::Working(_) | Situation::Recovering(_) | Situation::Showing(_) => false,
-        Situation::Editing(_) => false,
+        Situation::Editing(_) | Situation::Migrating(_) => false,
     }
+}
+
+fn is_moving(situation: &Situation) -> bool
+    ensures { IsTrue result ↔ IsMoving situation.now }
+{
+    match situation {
+        Situation::Migrating(_) => true,
+        Situation::Idle(_) | Situation::Stopped | Situation::Editing(_) => false,
+        Situation::Working(_) | Situation::Recovering(_) | Situation::Showing(_) => false,
+    }
+}
+
+// A process that migrates the sheet.
+fn migrating(world: &World) -> Option<usize>
+    ensures some { IfSome result (λ q. IsMigrating (world_of world.now) q) }
+    ensures none { IfNone result ((q : ℕ) → q < world.now.sheet.layout.processes → IsMoving ((world_of world.now).situation q) → ⊥) }
+{
+    let mut process = 0;
+    while process < world.situations.len() {
+        if is_moving(&world.situations[process]) {
+            return Some(process);
+        }
+        process += 1;
+    }
+    None
 }
 
 /// The process's recovery of the sheet, before its first step.
@@ -31,13 +58,14 @@ pub fn fresh(layout: &Layout, process: usize) -> RecoverCall
 {
     RecoverCall {
         process,
+        edition: Edition::First,
         cells: layout.cells(),
         processes: layout.processes,
         mark: 0,
         row: Row::new(),
         announcement: 0,
         cell: 0,
-        stage: RecoverStage::LoadMark(0),
+        stage: RecoverStage::LoadVersion,
     }
 }
 
@@ -45,6 +73,7 @@ pub fn fresh(layout: &Layout, process: usize) -> RecoverCall
 fn enter(world: &mut World, call: RecoverCall)
     requires process { call.process < world.old.sheet.layout.processes }
     requires free { MayRecover ((world_of world.old).situation call.process) }
+    requires alone { NoneMoves (world_of world.old) call.process }
     requires first { call ≡ fresh call.process (cells_of world.old.sheet.layout) world.old.sheet.layout.processes }
     ensures begins { BeginsRecovery call (world_of world.old) (world_of world.new) }
     ensures sheet { world.new.sheet ≡ world.old.sheet }
@@ -59,9 +88,10 @@ fn enter(world: &mut World, call: RecoverCall)
     );
 }
 
-/// Begins a recovery by a process that is stopped or idle. It takes no memory.
+/// Begins a recovery by a process that is stopped or idle, while no other one migrates. It takes no memory.
 ///
-/// The one refusal is `Busy`, where the process is in a call; it leaves the world as it was.
+/// The refusals are `Busy`, where the process is in a call, and `Migrating`, which names the process that migrates.
+/// They leave the world as it was.
 pub fn begin(world: &mut World, process: usize) -> Result<(), Refusal>
     requires { process < world.old.sheet.layout.processes }
     ensures begun { IfOk result (λ _. IsBegun (world_of world.old) process (world_of world.new)) }
@@ -74,6 +104,9 @@ pub fn begin(world: &mut World, process: usize) -> Result<(), Refusal>
 {
     if !may_recover(&world.situations[process]) {
         return Err(Refusal::Busy);
+    }
+    if let Some(other) = migrating(world) {
+        return Err(Refusal::Migrating(other));
     }
     let layout = world.words.layout();
     let call = fresh(&layout, process);

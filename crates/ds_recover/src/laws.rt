@@ -9,12 +9,19 @@ ghost use Rattle.ds_state.specs.Owing.{HoldsNone};
 ghost use Rattle.ds_state.specs.Sound.{IsSound};
 ghost use Rattle.ds_state.specs.Rely.{Keeps};
 ghost use Rattle.ds_state.specs.Leaves.{Leaves};
-ghost use Rattle.ds_state.specs.Works.{PlainRecoverCall};
+ghost use Rattle.ds_layout.specs.declared.place.Edition.TheVariants.{Second};
+ghost use Rattle.ds_state.specs.Editions.{Agrees};
+ghost use Rattle.ds_state.specs.declared.work.MigrateEnd.{MigrateEnd};
+ghost use Rattle.ds_state.specs.declared.work.MigrateStage.{MigrateStage};
+ghost use Rattle.ds_state.specs.declared.work.MigrateStage.TheVariants as migrate_stages;
+ghost use Rattle.ds_state.specs.Works.{PlainRecoverCall, PlainMigrateCall, IsCopied, old_words};
 ghost use Rattle.ds_state.specs.RecoverStages.{IsRecovery};
 ghost use Rattle.ds_state.specs.declared.work.RecoverStage.TheVariants.{Answer};
-ghost use Rattle.ds_state.specs.declared.situation.Situation.TheVariants.{Recovering};
+ghost use Rattle.ds_state.specs.declared.situation.Situation.TheVariants.{Recovering, Migrating};
 ghost use Rattle.ds_recover.specs.RecoverySteps.{Steps, access_at, next_at, rank, Falls, end_of, ResolvesAs, RepeatsAs, TellsFound};
 ghost use Rattle.ds_recover.specs.RecoverBegun.{IsBegun};
+ghost use Rattle.ds_recover.specs.MigrationSteps.{BeginsMigration};
+ghost use Rattle.ds_recover.specs.MigrationSteps as migrations;
 
 /// Each step of a recovery, whatever the word that its access answers, leaves a sound sheet sound,
 /// and leaves each other process what it may count on.
@@ -29,6 +36,43 @@ pub fn steps_keep_soundness()
 pub fn begins_keep_soundness()
     ensures { (p : ℕ) (old new : PlainWorld) → IsSound old → p < old.layout.processes
         → IsBegun old p new → Keeps p old new }
+{}
+
+/// A migration that begins, and each of its steps, leaves a sound sheet sound, and leaves each other
+/// process what it may count on.
+pub fn migrations_keep_soundness()
+    ensures begins { (p : ℕ) (old new : PlainWorld) → IsSound old → p < old.layout.processes
+        → BeginsMigration p old new → Keeps p old new }
+    ensures steps { (e : PlainMigrateCall) (stage : MigrateStage) (word : ℕ) (old new : PlainWorld) → IsSound old
+        → e.process < old.layout.processes → old.situation e.process ≡ Migrating (migrations.at e stage)
+        → migrations.StepsAt e stage word old new → Keeps e.process old new }
+{}
+
+/// A migration has at most 15,360 steps for each process, and five more.
+pub fn migrations_are_short()
+    ensures falls { (e : PlainMigrateCall) (stage : MigrateStage) (word : ℕ) → IsCopied (old_words e.processes) stage
+        → ((how : MigrateEnd) → stage ≡ migrate_stages.Answer how → ⊥)
+        → migrations.rank (old_words e.processes) (migrations.next_at e stage word).stage
+            < migrations.rank (old_words e.processes) stage }
+    ensures few { (p processes : ℕ) → migrations.rank (old_words processes) (migrations.fresh p processes).stage
+        ≡ 15360 * processes + 5 }
+{}
+
+/// Where a migration answers, both sides of the version's word say the second layout.
+pub fn migrations_end_in_the_second_layout()
+    ensures { (e : PlainMigrateCall) (how : MigrateEnd) (w : PlainWorld) → IsSound w
+        → e.process < w.layout.processes → w.situation e.process ≡ Migrating e → e.stage ≡ migrate_stages.Answer how
+        → Agrees w.memory Second }
+{}
+
+/// Each step of a migration, and its beginning, leave the others what is theirs: no edit comes to
+/// count, and each report under way still has a middle.
+pub fn migrations_leave_others()
+    ensures steps { (e : PlainMigrateCall) (stage : MigrateStage) (word : ℕ) (old new : PlainWorld) → IsSound old
+        → e.process < old.layout.processes → old.situation e.process ≡ Migrating (migrations.at e stage)
+        → migrations.StepsAt e stage word old new → Leaves e.process old new }
+    ensures begins { (p : ℕ) (old new : PlainWorld) → IsSound old → p < old.layout.processes
+        → BeginsMigration p old new → Leaves p old new }
 {}
 
 /// Each access of a recovery names a place of its sheet.
@@ -48,13 +92,13 @@ pub fn accesses_are_possible()
 {}
 
 /// Each step of a recovery leaves fewer steps, until the answer's, which is the last; and a recovery
-/// of a sheet of N cells has at most N * (3N + 30) + 20.
+/// of a sheet of N cells has at most N * (3N + 30) + 23.
 #[tactic(auto, using(crate::proofs::RecoveryRank::each_falls, crate::proofs::RecoveryRank::each_few))]
 pub fn steps_are_few()
     ensures falls { (e : PlainRecoverCall) (word : ℕ) → IsRecovery e
         → Falls e e.stage (next_at e e.stage word) }
     ensures few { (e : PlainRecoverCall) → IsRecovery e
-        → rank e.cells e.stage ≤ e.cells * (3 * e.cells + 30) + 20 }
+        → rank e.cells e.stage ≤ e.cells * (3 * e.cells + 30) + 23 }
 {}
 
 /// Where an edit of the process is open, the answer resolves it: Last with its number has its cell and

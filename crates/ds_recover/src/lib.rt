@@ -4,4 +4,7 @@
 pub mod begin;
 pub mod laws;
 pub mod machine;
+pub mod migrate;
+pub mod migrate_begin;
+pub mod migrate_step;
 pub mod step;

@@ -11,7 +11,7 @@ ghost use Rattle.ds_state.specs.Telling.{told_from};
 ghost use Rattle.ds_state.specs.RecoverStages.{IsStage, IsAnnounced, IsResolving};
 ghost use Rattle.ds_state.specs.KnownRecovery.{phase_for};
 ghost use Rattle.ds_state.specs.declared.work.Spread.TheVariants.{LoadRow, BackTold};
-ghost use Rattle.ds_state.specs.declared.work.RecoverStage.TheVariants.{LoadMark, Telling, Give, BackGiven, LoadAnnounce, LoadHeader, LoadHead, LoadDone, StoreOutcome};
+ghost use Rattle.ds_state.specs.declared.work.RecoverStage.TheVariants.{LoadVersion, BackVersion, LoadMark, Telling, Give, BackGiven, LoadAnnounce, LoadHeader, LoadHead, LoadDone, StoreOutcome};
 ghost use Rattle.ds_recover.specs.RecoverySteps.{access_at, spread_access, next_at, got_at, effect_at, number_of, reads_held, looks_from, told, tell_from, row_from, is_shown, phase_from, at};
 
 use ds_layout::announcement::{Announcement, Phase};
@@ -19,7 +19,7 @@ use ds_layout::bits;
 use ds_layout::head::Head;
 use ds_layout::header::Header;
 use ds_layout::mark::{DIRTY, Mark, State};
-use ds_layout::place::Place;
+use ds_layout::place::{Edition, Place};
 use ds_state::work::{RecoverCall, RecoverStage, Spread};
 use ds_words::access::Access;
 
@@ -118,6 +118,9 @@ pub fn want(call: &RecoverCall) -> Access<Place>
 {
     let announce = Place::Announce(call.process);
     match call.stage {
+        RecoverStage::LoadVersion => Access::Load(Place::Version),
+        RecoverStage::FlushVersion => Access::Flush(Place::Version),
+        RecoverStage::BackVersion => Access::Back,
         RecoverStage::LoadMark(cell) => Access::Load(Place::Mark(cell)),
         RecoverStage::FlushValue(cell) => Access::Flush(Place::Value(cell)),
         RecoverStage::FlushKind(cell) => Access::Flush(Place::Kind(cell)),
@@ -245,6 +248,24 @@ fn go_to(call: &mut RecoverCall, stage: RecoverStage)
     call.stage = stage;
 }
 
+// The layout that the version's word says is noted.
+fn see_version(call: &mut RecoverCall, word: u64)
+    requires { call.old.stage ≡ LoadVersion }
+    ensures { call.new ≡ next_at call.old LoadVersion word }
+{
+    call.edition = Edition::read(word);
+    call.stage = RecoverStage::FlushVersion;
+}
+
+// The version's word is persisted: the first cell is looked at. A sheet has one.
+fn look_first(call: &mut RecoverCall)
+    requires { call.old.stage ≡ BackVersion }
+    ensures { call.new ≡ at call.old (LoadMark 0) }
+{
+    let _cells = call.cells;
+    call.stage = RecoverStage::LoadMark(0);
+}
+
 // A cell is let be, or given back.
 fn look(call: &mut RecoverCall, cell: usize, word: u64)
     requires { call.old.stage ≡ LoadMark cell }
@@ -370,6 +391,9 @@ pub fn got(call: &mut RecoverCall, word: u64)
     ensures { call.new ≡ got_at call.old word }
 {
     match call.stage {
+        RecoverStage::LoadVersion => see_version(call, word),
+        RecoverStage::FlushVersion => go_to(call, RecoverStage::BackVersion),
+        RecoverStage::BackVersion => look_first(call),
         RecoverStage::LoadMark(cell) => look(call, cell, word),
         RecoverStage::FlushValue(cell) => go_to(call, RecoverStage::FlushKind(cell)),
         RecoverStage::FlushKind(cell) => go_to(call, RecoverStage::BackValue(cell)),

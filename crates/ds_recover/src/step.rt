@@ -9,7 +9,7 @@ ghost use Rattle.ds_recover.specs.RecoverTakes.{StepTakes, open_edit_by};
 
 use crate::machine::{Effect, effect_of, got, number, want};
 use ds_state::ledger::Issue;
-use ds_state::situation::Situation;
+use ds_state::situation::{Rest, Situation};
 use ds_state::work::{RecoverCall, RecoverStage};
 use ds_state::world::World;
 
@@ -21,7 +21,7 @@ fn call_of(situation: &Situation) -> Option<&RecoverCall>
     match situation {
         Situation::Recovering(call) => Some(call),
         Situation::Idle(_) | Situation::Stopped | Situation::Editing(_) => None,
-        Situation::Working(_) | Situation::Showing(_) => None,
+        Situation::Working(_) | Situation::Showing(_) | Situation::Migrating(_) => None,
     }
 }
 
@@ -44,8 +44,11 @@ fn go_on(situation: &mut Situation, word: u64)
     if let Situation::Recovering(call) = situation {
         match call.stage {
             RecoverStage::Answer(how) => {
-                let next = next_number(call, how);
-                *situation = Situation::Idle(next);
+                let rest = Rest {
+                    number: next_number(call, how),
+                    edition: call.edition,
+                };
+                *situation = Situation::Idle(rest);
             }
             _ => got(call, word),
         }

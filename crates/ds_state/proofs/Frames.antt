@@ -26,7 +26,7 @@ use Rattle.ds_layout.specs.declared.place.Edition.TheVariants.{First, Second}
 use Rattle.ds_layout.specs.Places.{edition_of}
 use Rattle.ds_state.specs.Editions.{seen_edition, Shows, Agrees}
 use Rattle.ds_state.specs.Owing.{entry}
-use Rattle.ds_state.specs.LayoutsFit.{WakesAt, Copies, Copying, MovesAt, OthersStopped, MovesFit, LayoutFits}
+use Rattle.ds_state.specs.LayoutsFit.{WakesAt, Copies, Copying, MovesAt, OthersStopped, MovesFit, LayoutFits, IsMoving, NoneMoves}
 use Rattle.ds_state.specs.Works.{PlainMigrateCall, old_words, old_text, new_text}
 use Rattle.ds_state.specs.declared.work.RecoverStage.{RecoverStage}
 use Rattle.ds_state.specs.declared.work.RecoverStage.TheVariants.{LoadVersion, FlushVersion, BackVersion}
@@ -91,19 +91,6 @@ noted_in (Working e) = Some e.edition
 noted_in (Recovering e) = noted_stage e.edition e.stage
 noted_in (Showing e) = Some e.edition
 noted_in (Migrating e) = None
-
-abbrev pub IsMoving : Situation → Type 0
-IsMoving (Idle next) = ⊥
-IsMoving Stopped = ⊥
-IsMoving (Editing e) = ⊥
-IsMoving (Working e) = ⊥
-IsMoving (Recovering e) = ⊥
-IsMoving (Showing e) = ⊥
-IsMoving (Migrating e) = Unit {0}
-
--- no other process migrates
-abbrev pub NoneMoves : PlainWorld → ℕ → Type 0
-NoneMoves w p = (q : ℕ) → q < w.layout.processes → q ≢ p → IsMoving (w.situation q) → ⊥
 
 -- how the process's part in layouts goes on: it has noted this layout, before and after; it stops; it makes a step of
 -- its own in which no other migrates; it is none of the sheet, and words at most catch up

@@ -41,5 +41,3 @@ pub mod StillRight
 pub mod QuietShown
 pub mod MarkLaws
 pub mod ReportRooms
-pub mod Migrating
-pub mod Waking

@@ -143,7 +143,7 @@ middles_none : (firsts mids : ℕ → PlainWorld) (w : PlainWorld) → ((p : ℕ
 middles_none firsts mids w none p low e is = absurd (none p low e is)
 
 pub middles_new : (firsts mids : ℕ → PlainWorld) (w : PlainWorld) → IsNew w → Middles firsts mids w
-middles_new firsts mids w new = middles_none firsts mids w (λ p low e is. let both : Idle 0 ≡ Showing e = sym (new.situation p) ∙ is in cc)
+middles_new firsts mids w new = middles_none firsts mids w (λ p low e is. let both : Idle (record { number = 0; edition = new.edition }) ≡ Showing e = sym (new.situation p low) ∙ is in cc)
 
 pub middles_at_rest : (firsts mids : ℕ → PlainWorld) (w : PlainWorld) → ((p : ℕ) → p < w.layout.processes → w.situation p ≡ Stopped) → Middles firsts mids w
 middles_at_rest firsts mids w rest = middles_none firsts mids w (λ p low e is. let both : Stopped ≡ Showing e = sym (rest p low) ∙ is in cc)

@@ -20,12 +20,14 @@ use Rattle.ds_layout.specs.declared.place.Place.{Place}
 use Rattle.ds_layout.specs.declared.place.Place.TheVariants.{Version, Head, Mark, Value, Kind, Index, Announce, Header, Text, Done}
 use Rattle.ds_layout.specs.Bits.{HasBit, IsSubset}
 use Rattle.ds_state.specs.World.{PlainEdit, PlainWorld, of_cell, head_after_all}
-use Rattle.ds_state.specs.WordsFit.{WordFits, IsSuperseded}
+use Rattle.ds_state.specs.WordsFit.{VersionFits, WordFits, IsSuperseded}
 use Rattle.ds_state.specs.CallsFit.{CallFits}
 use Rattle.ds_state.specs.Fresh.{IsNew}
 use Rattle.ds_state.specs.Sound.{IsSound, IsOfSheet, Increasing}
 use Rattle.ds_state.specs.declared.situation.Situation.{Situation}
-use Rattle.ds_layout.specs.Places.{edition_of}
+use Rattle.ds_layout.specs.declared.place.Edition.{Edition}
+use Rattle.ds_layout.specs.declared.place.Edition.TheVariants.{First, Second}
+use Rattle.ds_layout.specs.Places.{edition_of, edition_word}
 use Rattle.ds_state.specs.LayoutsFit.{LayoutFits}
 
 no_head : (cell : ℕ) (edits : List PlainEdit) → edits ≡ [] → head_after_all (of_cell cell edits) ≡ 0
@@ -67,6 +69,19 @@ new_word w z (Done q part) c p a b = record {
   told = λ n small e has. absurd (no_bit c n a has);
 }
 
+-- the version's word may say either layout
+version_word : (edition : Edition) (c p : ℕ) → c ≡ edition_word edition → p ≡ edition_word edition → VersionFits c p
+version_word First c p a b = record { behind = omega arith; most = omega arith }
+version_word Second c p a b = record { behind = omega arith; most = omega arith }
+
+pub reads_back : (edition : Edition) (word : ℕ) → word ≡ edition_word edition → edition_of word ≡ edition
+reads_back First word is = ap edition_of is
+reads_back Second word is = ap edition_of is
+
+new_words : (w : PlainWorld) (is : IsNew w) (r : Place) → WordFits w r (w.memory.cached r) (w.memory.persisted r)
+new_words w is Version = version_word is.edition (w.memory.cached Version) (w.memory.persisted Version) is.memory.seen is.memory.kept
+new_words w is r = new_word w is.counted r (w.memory.cached r) (w.memory.persisted r) (is.memory.cached r (λ x. cc)) (is.memory.persisted r (λ x. cc))
+
 -- an empty content has the entry of two zero words
 empty_entry : (shape : Shape) (u : Cell → entries.Entry) → local shape Empty u ≡ record { value = values.Blank; height = 0 }
 empty_entry shape u =
@@ -83,8 +98,8 @@ new_stands w is =
     let value : value_for (local w.layout.shape Empty u) ≡ 0 = ap (λ (e : entries.Entry). value_for e) (empty_entry w.layout.shape u) in
     let kind : word_for (local w.layout.shape Empty u) ≡ 0 = ap (λ (e : entries.Entry). word_for e) (empty_entry w.layout.shape u) in
     record {
-      on_cached = λ c clean. inr (record { content = Empty; has = inl (fresh.cached (Head c), refl); inputs = u; on_value = fresh.cached (Value c) ∙ sym value; on_kind = fresh.cached (Kind c) ∙ sym kind; near = λ d refers inside. absurd refers });
-      on_persisted = λ c x clean d. inr (record { content = Empty; has = inl (fresh.persisted (Head c), refl); inputs = u; on_value = fresh.persisted (Value c) ∙ sym value; on_kind = fresh.persisted (Kind c) ∙ sym kind; near = λ d refers inside. absurd refers });
+      on_cached = λ c clean. inr (record { content = Empty; has = inl (fresh.cached (Head c) (λ x. cc), refl); inputs = u; on_value = fresh.cached (Value c) (λ x. cc) ∙ sym value; on_kind = fresh.cached (Kind c) (λ x. cc) ∙ sym kind; near = λ d refers inside. absurd refers });
+      on_persisted = λ c x clean d. inr (record { content = Empty; has = inl (fresh.persisted (Head c) (λ x. cc), refl); inputs = u; on_value = fresh.persisted (Value c) (λ x. cc) ∙ sym value; on_kind = fresh.persisted (Kind c) (λ x. cc) ∙ sym kind; near = λ d refers inside. absurd refers });
     }
 
 pub new_sound : (w : PlainWorld) → IsNew w → IsSound w
@@ -92,17 +107,17 @@ new_sound w is =
     let fresh = is.memory in
     record {
       stand = new_stands w is;
-      words = λ r. new_word w is.counted r (w.memory.cached r) (w.memory.persisted r) (fresh.cached r) (fresh.persisted r);
-      calls = λ p l. subst (λ (s : Situation). CallFits w p s) (sym (is.situation p)) (record {
+      words = new_words w is;
+      calls = λ p l. subst (λ (s : Situation). CallFits w p s) (sym (is.situation p l)) (record {
         number = omega arith;
-        holds_none = λ r by. absurd (let z = fresh.cached (Mark r) in omega arith);
+        holds_none = λ r by. absurd (let z = fresh.cached (Mark r) (λ x. cc) in omega arith);
         open_edits = is.open_edits p;
         buffer = fresh.buffer p;
         below = none_in (λ f. f.process ≡ p → f.number < 0) w.counted is.counted;
-        cached = fresh.cached (Announce p);
-        persisted = fresh.persisted (Announce p);
+        cached = fresh.cached (Announce p) (λ x. cc);
+        persisted = fresh.persisted (Announce p) (λ x. cc);
       });
       of_sheet = none_in (λ e. IsOfSheet w e) w.counted is.counted;
-      layouts = λ p l. subst (λ (s : Situation). LayoutFits w p s) (sym (is.situation p)) (record { cached = ap edition_of (fresh.cached Version); persisted = ap edition_of (fresh.persisted Version) });
+      layouts = λ p l. subst (λ (s : Situation). LayoutFits w p s) (sym (is.situation p l)) (record { cached = reads_back is.edition _ fresh.seen; persisted = reads_back is.edition _ fresh.kept });
       increasing = subst Increasing (sym is.counted) tt;
     }

@@ -67,3 +67,22 @@ LayoutFits w p (Working e) = Agrees w.memory e.edition
 LayoutFits w p (Recovering e) = WakesAt w p e e.stage
 LayoutFits w p (Showing e) = Agrees w.memory e.edition
 LayoutFits w p (Migrating e) = MovesFit w p e
+
+-- a process that migrates the sheet
+abbrev pub IsMoving : Situation → Type 0
+IsMoving (Idle next) = ⊥
+IsMoving Stopped = ⊥
+IsMoving (Editing e) = ⊥
+IsMoving (Working e) = ⊥
+IsMoving (Recovering e) = ⊥
+IsMoving (Showing e) = ⊥
+IsMoving (Migrating e) = Unit {0}
+
+-- no other process migrates
+abbrev pub NoneMoves : PlainWorld → ℕ → Type 0
+NoneMoves w p = (q : ℕ) → q < w.layout.processes → q ≢ p → IsMoving (w.situation q) → ⊥
+
+-- this process of the sheet migrates
+pub record IsMigrating (w : PlainWorld) (q : ℕ) : Type 0 where
+  pub there : q < w.layout.processes
+  pub is : IsMoving (w.situation q)

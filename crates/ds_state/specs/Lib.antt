@@ -16,7 +16,6 @@ pub mod KnownRecovery
 pub mod CallsFit
 pub mod WordsFit
 pub mod LayoutsFit
-pub mod MigrationSteps
 pub mod Sound
 pub mod Calm
 pub mod Rely

@@ -12,6 +12,7 @@ use Rattle.ds_state.specs.Underway.{reports_under_way}
 use Rattle.ds_state.specs.declared.reports.TheConstants.{SETTLED_MOST}
 use Rattle.ds_state.specs.declared.situation.Situation.{Situation}
 use Rattle.ds_state.specs.declared.situation.Situation.TheVariants.{Idle}
+use Rattle.ds_layout.specs.declared.place.Edition.{Edition}
 use Rattle.ds_layout.specs.declared.place.Edition.TheVariants.{First}
 use Rattle.ds_state.specs.declared.situation.Rest.{Rest}
 
@@ -26,9 +27,13 @@ pub record WorldValue : Type 0 where
   pub settled : ℕ
   pub reports : PlainReports
 
+-- before its first edit, in a layout
+abbrev pub rest_in : Edition → Rest
+rest_in edition = record { number = 0; edition = edition }
+
 -- before its first edit, in the first layout
 abbrev pub first_rest : Rest
-first_rest = record { number = 0; edition = First }
+first_rest = rest_in First
 
 -- the plain world that a value stands for: what it has of no process is what a new world has
 abbrev pub world_of : WorldValue → PlainWorld

@@ -4,7 +4,7 @@ ghost use Rattle.std.specs.Prelude.{◌≡◌, ◌≤◌, IfOk, vec_capacity};
 
 use crate::edit::EditCall;
 use crate::situation::Situation;
-use crate::work::{RecoverCall, ShowCall, WorkCall};
+use crate::work::{MigrateCall, RecoverCall, ShowCall, WorkCall};
 use crate::world::World;
 use std::alloc::{AllocError, Global};
 
@@ -29,6 +29,7 @@ impl EditCall {
     {
         Ok(EditCall {
             process: self.process,
+            edition: self.edition,
             number: self.number,
             cell: self.cell,
             text: self.text,
@@ -49,6 +50,7 @@ impl WorkCall {
         let inputs = self.inputs.copy_with_room(alloc)?;
         Ok(WorkCall {
             process: self.process,
+            edition: self.edition,
             next: self.next,
             cell: self.cell,
             cells: self.cells,
@@ -75,12 +77,27 @@ impl RecoverCall {
     {
         RecoverCall {
             process: self.process,
+            edition: self.edition,
             cells: self.cells,
             processes: self.processes,
             mark: self.mark,
             row: self.row.copy(),
             announcement: self.announcement,
             cell: self.cell,
+            stage: self.stage,
+        }
+    }
+}
+
+impl MigrateCall {
+    /// An equal call.
+    pub fn copy(&self) -> MigrateCall
+        ensures { result ≡ self.now }
+    {
+        MigrateCall {
+            process: self.process,
+            processes: self.processes,
+            word: self.word,
             stage: self.stage,
         }
     }
@@ -97,6 +114,7 @@ impl ShowCall {
         let kinds = with_room(alloc, &self.kinds, self.cells)?;
         Ok(ShowCall {
             process: self.process,
+            edition: self.edition,
             next: self.next,
             cells: self.cells,
             processes: self.processes,
@@ -115,12 +133,13 @@ impl Situation {
         ensures { IfOk result (λ situation. situation ≡ self.now) }
     {
         match self {
-            Situation::Idle(number) => Ok(Situation::Idle(*number)),
+            Situation::Idle(rest) => Ok(Situation::Idle(*rest)),
             Situation::Stopped => Ok(Situation::Stopped),
             Situation::Editing(call) => Ok(Situation::Editing(call.copy(alloc)?)),
             Situation::Working(call) => Ok(Situation::Working(call.copy(alloc)?)),
             Situation::Recovering(call) => Ok(Situation::Recovering(call.copy())),
             Situation::Showing(call) => Ok(Situation::Showing(call.copy(alloc)?)),
+            Situation::Migrating(call) => Ok(Situation::Migrating(call.copy())),
         }
     }
 }

@@ -22,13 +22,7 @@ ghost use Rattle.ds_state.specs.Spent.{IsSpent};
 ghost use Rattle.ds_state.specs.Edits.{PlainEditCall};
 ghost use Rattle.ds_state.specs.declared.stage.Outcome.{Outcome};
 ghost use Rattle.ds_state.specs.declared.stage.Stage.TheVariants.{Swap, Answer};
-ghost use Rattle.ds_state.specs.declared.situation.Situation.TheVariants.{Stopped, Editing, Showing, Migrating};
-ghost use Rattle.ds_state.specs.declared.work.MigrateEnd.{MigrateEnd};
-ghost use Rattle.ds_state.specs.declared.work.MigrateStage.{MigrateStage};
-ghost use Rattle.ds_state.specs.declared.work.MigrateStage.TheVariants as migrate_stages;
-ghost use Rattle.ds_state.specs.Works.{PlainMigrateCall, IsCopied, old_words};
-ghost use Rattle.ds_state.specs.MigrationSteps.{BeginsMigration};
-ghost use Rattle.ds_state.specs.MigrationSteps as migrations;
+ghost use Rattle.ds_state.specs.declared.situation.Situation.TheVariants.{Stopped, Editing, Showing};
 ghost use Rattle.ds_state.specs.Crashes.{CrashesTo, StopsIn};
 ghost use Rattle.ds_state.specs.CallsFit.{CallFits};
 ghost use Rattle.ds_state.specs.LayoutsFit.{LayoutFits};
@@ -93,26 +87,6 @@ pub fn crashes_keep_soundness()
 /// A stop leaves a sound sheet sound, and leaves each other process what it may count on.
 pub fn stops_keep_soundness()
     ensures { (p : ℕ) (old new : PlainWorld) → IsSound old → p < old.layout.processes → StopsIn p old new → Keeps p old new }
-{}
-
-/// A migration that begins, and each of its steps, leaves a sound sheet sound, and leaves each other
-/// process what it may count on.
-pub fn migrations_keep_soundness()
-    ensures begins { (p : ℕ) (old new : PlainWorld) → IsSound old → p < old.layout.processes
-        → BeginsMigration p old new → Keeps p old new }
-    ensures steps { (e : PlainMigrateCall) (stage : MigrateStage) (word : ℕ) (old new : PlainWorld) → IsSound old
-        → e.process < old.layout.processes → old.situation e.process ≡ Migrating (migrations.at e stage)
-        → migrations.StepsAt e stage word old new → Keeps e.process old new }
-{}
-
-/// A migration has at most 15,360 steps for each process, and five more.
-pub fn migrations_are_short()
-    ensures falls { (e : PlainMigrateCall) (stage : MigrateStage) (word : ℕ) → IsCopied (old_words e.processes) stage
-        → ((how : MigrateEnd) → stage ≡ migrate_stages.Answer how → ⊥)
-        → migrations.rank (old_words e.processes) (migrations.next_at e stage word).stage
-            < migrations.rank (old_words e.processes) stage }
-    ensures few { (p processes : ℕ) → migrations.rank (old_words processes) (migrations.fresh p processes).stage
-        ≡ 15360 * processes + 5 }
 {}
 
 /// Whatever happens, a number that is spent stays so: a step, a beginning and a stop of a process,

@@ -5,6 +5,7 @@ pub mod copies;
 pub mod edit;
 pub mod laws;
 pub mod ledger;
+pub mod making;
 pub mod refusal;
 pub mod reports;
 pub mod row;

@@ -22,6 +22,10 @@ pub enum Refusal {
     RecordsFull,
     /// An allocation failed. The code that scripts print is 5.
     NoMemory,
+    /// This process migrates the sheet, so that no other one may recover. The code that scripts print is 6.
+    Migrating(usize),
+    /// This process is not stopped, so that no other one may migrate the sheet. The code that scripts print is 7.
+    NotStopped(usize),
 }
 
 impl From<TextFault> for Refusal {

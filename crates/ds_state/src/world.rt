@@ -1,20 +1,17 @@
 //! A sheet and its processes.
 
-ghost use Rattle.std.specs.Prelude.{◌≡◌, ◌<◌, ◌≤◌, ◌↔◌, IsTrue, IfOk, All, None, replicate};
-ghost use Rattle.ds_formula.specs.Cells.{IsInside, count_of};
-ghost use Rattle.ds_state.specs.Value.{first_rest};
+ghost use Rattle.std.specs.Prelude.{◌≡◌, ◌<◌, ◌↔◌, IsTrue, IfOk, All, None};
+ghost use Rattle.ds_formula.specs.Cells.{IsInside};
 
 use crate::ledger::{Edit, Issue};
 use crate::reports::Reports;
 use crate::shown;
-use crate::situation::{Rest, Situation};
+use crate::situation::Situation;
 use crate::stage::Point;
 use ds_eval::inputs::Inputs;
 use ds_eval::value::Value;
-use ds_formula::cells::{Cell, Shape};
-use ds_layout::layout::{Layout, PROCESS_LIMIT};
+use ds_formula::cells::Cell;
 use ds_layout::mark::Mark;
-use ds_layout::place::{Edition, RECORDS};
 use ds_layout::sheet_words::SheetWords;
 use std::alloc::{AllocError, Global};
 use std::marker::Model;
@@ -71,21 +68,6 @@ impl Model for World {
     }) (vec_capacity w.counted) };
 }
 
-// As many idle processes, each before its edit 0.
-#[tactic(auto, using(crate::proofs::Made::one_more))]
-fn idle(alloc: Global, processes: usize) -> Result<Vec<Situation>, AllocError>
-    ensures { IfOk result (λ v. v.items ≡ replicate processes (Situation.Idle first_rest)) }
-{
-    let mut situations = Vec::with_capacity(alloc, processes)?;
-    for _ in 0..processes {
-        situations.push(Situation::Idle(Rest {
-            number: 0,
-            edition: Edition::First,
-        }))?;
-    }
-    Ok(situations)
-}
-
 fn all_answered(open_edits: &[Option<Issue>]) -> bool
     ensures { IsTrue result ↔ All (λ issue. issue ≡ None) open_edits.now }
 {
@@ -94,38 +76,7 @@ fn all_answered(open_edits: &[Option<Issue>]) -> bool
 
 impl World {
     ghost use Rattle.ds_state.specs.Value.{world_of, IsGood};
-    ghost use Rattle.ds_state.specs.Fresh.{IsNew};
-    ghost use Rattle.ds_state.specs.Reports.{no_reports};
     ghost use Rattle.ds_state.specs.Shown.{mark_in, value_in, point_of, text_in, IsQuiet};
-
-    /// A new sheet of this shape, for 1 to 8 processes. An error is a want of memory.
-    pub fn new(alloc: Global, shape: Shape, processes: usize) -> Result<World, AllocError>
-        requires some { 1 ≤ processes }
-        requires limited { processes ≤ PROCESS_LIMIT }
-        ensures new { IfOk result (λ w. IsNew (world_of w)) }
-        ensures shape { IfOk result (λ w. w.sheet.layout.shape ≡ shape) }
-        ensures processes { IfOk result (λ w. w.sheet.layout.processes ≡ processes) }
-        ensures done { IfOk result (λ w. w.done ≡ 0) }
-        ensures settled { IfOk result (λ w. w.settled ≡ 0) }
-        ensures reports { IfOk result (λ w. w.reports ≡ no_reports processes (count_of shape)) }
-    {
-        let layout = Layout { shape, processes };
-        let words = SheetWords::new(alloc, layout)?;
-        let situations = idle(alloc, processes)?;
-        let counted = Vec::with_capacity(alloc, processes * RECORDS)?;
-        let open_edits = vec![in alloc; None; processes]?;
-        let reports = Reports::new(alloc, processes, shape.count())?;
-        Ok(World {
-            words,
-            situations,
-            counted,
-            open_edits,
-            done: 0,
-            settled: 0,
-            reports,
-            spare: None,
-        })
-    }
 
     /// It is sound, as it is at each moment.
     pub fn is_always_good(&self)

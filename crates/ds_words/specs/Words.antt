@@ -11,7 +11,7 @@ use Rattle.ds_words.specs.Memory.{Memory}
 
 -- how many entries a buffer may have
 abbrev pub BUFFER_MOST : ℕ
-BUFFER_MOST = 16
+BUFFER_MOST = 32
 
 -- the class and both sides of each word, and the buffer of each process
 pub record WordsValue : Type 0 where

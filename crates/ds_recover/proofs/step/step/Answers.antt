@@ -28,7 +28,7 @@ invariant_of-world c =
     let at : IsRecovering v p e = recovering_from v p e c.index.result.now (omega arith) c.index.ensures c.in-Some.ensures.some in
     let performs : PerformsAt (access_at e e.stage) p (memory v.sheet) (memory c.perform-word.new.self) word = rw (sym c.want-access.ensures) c.perform-word.ensures.performs in
     let there : p < _ = open_edit_there v c.world.invariant.good p e at in
-    let situation : c.go_on.new.situation ≡ after e e.stage word = c.go_on.ensures e (c.index_mut.ensures.value ∙ get_or_default v.situations p c.index_mut.result.now (Idle 0) at.there ∙ at.is) in
+    let situation : c.go_on.new.situation ≡ after e e.stage word = c.go_on.ensures e (c.index_mut.ensures.value ∙ get_or_default v.situations p c.index_mut.result.now (Idle first_rest) at.there ∙ at.is) in
     let pending : c.close.new.open_edit ≡ open_edit_at (get_or v.open_edits p None) e.stage = c.close.ensures ∙ ap (λ (w : Effect). open_edit_by c.index_mut-2.result.now w) c.effect_of-what.ensures ∙ resolved_by e e.stage c.index_mut-2.result.now
     ∙ ap (λ (i : Option PlainIssue). open_edit_at i e.stage) (c.index_mut-2.ensures.value ∙ get_or_default v.open_edits p c.index_mut-2.result.now None there) in
     subst (λ (w : WorldValue). IsReserved w (vec_capacity c.world.inside.counted)) (sym (next_is v c.world.invariant.good p e at word c.perform-word.new.self c.perform-word.ensures.layout performs c.go_on.new.situation c.close.new.open_edit situation pending))
@@ -43,7 +43,7 @@ returns c =
     let at : IsRecovering v p e = recovering_from v p e c.index.result.now (omega arith) c.index.ensures c.in-Some.ensures.some in
     let performs : PerformsAt (access_at e e.stage) p (memory v.sheet) (memory c.perform-word.new.self) word = rw (sym c.want-access.ensures) c.perform-word.ensures.performs in
     let there : p < _ = open_edit_there v c.world.invariant.good p e at in
-    let situation : c.go_on.new.situation ≡ after e e.stage word = c.go_on.ensures e (c.index_mut.ensures.value ∙ get_or_default v.situations p c.index_mut.result.now (Idle 0) at.there ∙ at.is) in
+    let situation : c.go_on.new.situation ≡ after e e.stage word = c.go_on.ensures e (c.index_mut.ensures.value ∙ get_or_default v.situations p c.index_mut.result.now (Idle first_rest) at.there ∙ at.is) in
     let pending : c.close.new.open_edit ≡ open_edit_at (get_or v.open_edits p None) e.stage = c.close.ensures ∙ ap (λ (w : Effect). open_edit_by c.index_mut-2.result.now w) c.effect_of-what.ensures ∙ resolved_by e e.stage c.index_mut-2.result.now
     ∙ ap (λ (i : Option PlainIssue). open_edit_at i e.stage) (c.index_mut-2.ensures.value ∙ get_or_default v.open_edits p c.index_mut-2.result.now None there) in
     rw (← c.world.view_is)

@@ -15,16 +15,16 @@ use Rattle.ds_state.specs.KnownRecovery.{FreedFits, freed_at, ResolvedFits, reso
 use Rattle.ds_state.specs.Owing.{entry}
 use Rattle.ds_state.specs.CallsFit.{CallFits, DoubtFits, RecoveryFits}
 use Rattle.ds_state.specs.WordsFit.{VersionFits, WordFits}
-use Rattle.ds_state.specs.LayoutsFit.{WakesAt, LayoutFits, MovesFit}
+use Rattle.ds_state.specs.LayoutsFit.{WakesAt, LayoutFits, MovesFit, IsMoving, NoneMoves}
 use Rattle.ds_state.specs.Rely.{Keeps}
 use Rattle.ds_state.specs.Sound.{IsSound}
 use Rattle.ds_state.specs.declared.work.RecoverStage.{RecoverStage}
 use Rattle.ds_state.specs.declared.work.RecoverStage.TheVariants.{LoadVersion, FlushVersion, BackVersion, LoadMark}
 use Rattle.ds_state.specs.declared.situation.Situation.{Situation}
 use Rattle.ds_state.specs.declared.situation.Situation.TheVariants.{Idle, Stopped, Editing, Working, Recovering, Showing, Migrating}
-use Rattle.ds_state.proofs.Frames.{Moves, turns, NoneMoves, IsMoving, MovesVersion, MovesWord, version_word}
+use Rattle.ds_state.proofs.Frames.{Moves, turns, MovesVersion, MovesWord, version_word}
 use Rattle.ds_state.proofs.Buffers.{none, not_mark}
-use Rattle.ds_state.proofs.Migrating.{IsHalted, IsWaking, halted_keeps, doubt_on, Backed, backed}
+use Rattle.ds_recover.proofs.Migrating.{IsHalted, IsWaking, halted_keeps, doubt_on, Backed, backed}
 
 -- while a process is not stopped, no other migrates
 pub none_moves : (p : ℕ) (w : PlainWorld) → IsSound w → p < w.layout.processes → w.situation p ≢ Stopped → NoneMoves w p

@@ -23,8 +23,8 @@ use Rattle.ds_state.specs.declared.work.RecoverStage.{RecoverStage}
 use Rattle.ds_state.specs.declared.work.RecoverStage.TheVariants as recoveries
 use Rattle.ds_state.specs.CallsFit.{CallFits, DoubtFits, MigrationHolds, MigrationFits}
 use Rattle.ds_state.specs.WordsFit.{VersionFits, WordFits, RecordFits}
-use Rattle.ds_state.specs.LayoutsFit.{Copies, AreCopied, Copying, MovesAt, OthersStopped, MovesFit, LayoutFits}
-use Rattle.ds_state.specs.MigrationSteps.{at, rank, copy_from, next_at, after, StepsAt, BeginsMigration, fresh}
+use Rattle.ds_state.specs.LayoutsFit.{Copies, AreCopied, Copying, MovesAt, OthersStopped, MovesFit, LayoutFits, IsMoving, NoneMoves}
+use Rattle.ds_recover.specs.MigrationSteps.{at, rank, copy_from, next_at, after, StepsAt, BeginsMigration, fresh}
 use Rattle.ds_state.specs.Rely.{Grows, Keeps}
 use Rattle.ds_state.specs.Sound.{IsSound, IsOfSheet}
 use Rattle.ds_state.specs.declared.work.MigrateEnd.TheVariants.{Migrated, Already}
@@ -33,7 +33,7 @@ use Rattle.ds_state.specs.declared.work.MigrateStage.TheVariants.{LoadVersion, L
 use Rattle.ds_state.specs.declared.situation.Situation.{Situation}
 use Rattle.ds_state.specs.declared.situation.Situation.TheVariants.{Idle, Stopped, Editing, Working, Recovering, Showing, Migrating}
 use Rattle.ds_state.proofs.Stable.{doubt_grows}
-use Rattle.ds_state.proofs.Frames.{CatchesUp, Moves, Goes, turns, NoneMoves, IsMoving, NewTexts, Switches, MovesVersion, KeepsOwing, KeepsApart, grows_own, shown_back, agrees_on, version_word, moves_sound}
+use Rattle.ds_state.proofs.Frames.{CatchesUp, Moves, Goes, turns, NewTexts, Switches, MovesVersion, KeepsOwing, KeepsApart, grows_own, shown_back, agrees_on, version_word, moves_sound}
 use Rattle.ds_state.proofs.Bearing.{Mine, MyMarks, bears, all_stand, no_new_marks, text_same, splits_last, pends_last, marks_grow, apart_lasts}
 use Rattle.ds_state.proofs.Buffers.{buffered, none, not_mark}
 

@@ -1,5 +1,0 @@
-use Rattle.ds_state.proofs.Migrating.{migration_falls, migration_rank}
-use Rattle.ds_state.proofs.laws.migrations_are_short.Goals as goal
-
-pub returns : goal.returns
-returns c = record { falls = migration_falls; few = migration_rank }
