@@ -12,7 +12,7 @@ use Rattle.ds_core.specs.Moments.{Placed, Open, Closed, Ledger, Moment, AreApart
 use Rattle.ds_core.specs.LedgerSteps.{Stands, told_of, Closes, Resolves}
 use Rattle.ds_core.specs.Headline.{IsIssueOf, Happens, IsClosed, Headline, IsAcknowledged, IsToldDone}
 use Rattle.ds_core.specs.declared.event.Event.{Event}
-use Rattle.ds_core.specs.declared.event.Event.TheVariants.{BeginEdit, BeginWork, BeginShow, BeginRecover, Step, Offer, Evict, Stop, Crash}
+use Rattle.ds_core.specs.declared.event.Event.TheVariants.{BeginEdit, BeginWork, BeginShow, BeginRecover, BeginMigrate, Step, Offer, Evict, Stop, Crash}
 use Rattle.ds_edit.specs.declared.answer.Told.{Told}
 use Rattle.ds_edit.specs.declared.answer.Answer.TheVariants.{Done, Last}
 use Rattle.ds_core.specs.declared.reply.Reply.{Reply}
@@ -86,6 +86,7 @@ was_begun events replies shape e (BeginEdit r) _ happens is = absurd is
 was_begun events replies shape e (BeginWork q cell) reply happens is = absurd is
 was_begun events replies shape e (BeginShow q) reply happens is = absurd is
 was_begun events replies shape e (BeginRecover q) reply happens is = absurd is
+was_begun events replies shape e (BeginMigrate q) reply happens is = absurd is
 was_begun events replies shape e (Step q) reply happens is = absurd is
 was_begun events replies shape e (Offer value) reply happens is = absurd is
 was_begun events replies shape e (Evict word) reply happens is = absurd is

@@ -8,7 +8,7 @@ use Rattle.ds_state.specs.Works.{PlainShowCall}
 use Rattle.ds_state.specs.Shown.{IsQuiet}
 use Rattle.ds_state.specs.Sound.{IsSound}
 use Rattle.ds_state.specs.Value.{WorldValue, world_of}
-use Rattle.ds_state.specs.declared.situation.Situation.TheVariants.{Editing, Working, Recovering, Showing}
+use Rattle.ds_state.specs.declared.situation.Situation.TheVariants.{Editing, Working, Recovering, Showing, Migrating}
 use Rattle.ds_state.specs.declared.work.ShowEnd.{ShowEnd}
 use Rattle.ds_state.specs.declared.work.ShowEnd.TheVariants as ends
 use Rattle.ds_state.specs.declared.work.ShowStage.{ShowStage}
@@ -80,6 +80,7 @@ module _ (p : ℕ) (old new : WorldValue) (sound : IsSound (world_of old)) (low 
   is_report r (edits h) = absurd (let bad : Editing h.edit ≡ Showing a.show = sym h.at ∙ a.is in cc)
   is_report r (works h) = absurd (let bad : Working h.steps.work ≡ Showing a.show = sym h.steps.works ∙ a.is in cc)
   is_report r (recoveries h) = absurd (let bad : Recovering h.steps.recovery ≡ Showing a.show = sym h.steps.at ∙ a.is in cc)
+  is_report r (migrations h) = absurd (let bad : Migrating h.steps.migration ≡ Showing a.show = sym h.steps.at ∙ a.is in cc)
 
   on_step : (r : Reply) → StepTakes old p r new → own_step p (Step p) Stepped ≡ 1 → (r ≡ Answered Settled) ⊎ GoesAlone p (Step p) r old new
   on_step Stepped h one = inr (goes (is_report Stepped h) one)

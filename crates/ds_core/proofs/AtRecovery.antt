@@ -9,7 +9,7 @@ use Rattle.ds_state.specs.Works.{PlainShowCall, PlainRecoverCall}
 use Rattle.ds_state.specs.CallsFit.{CallFits}
 use Rattle.ds_state.specs.Value.{WorldValue, world_of, IsGood}
 use Rattle.ds_state.specs.declared.situation.Situation.{Situation}
-use Rattle.ds_state.specs.declared.situation.Situation.TheVariants.{Idle, Stopped, Editing, Working, Recovering, Showing}
+use Rattle.ds_state.specs.declared.situation.Situation.TheVariants.{Idle, Stopped, Editing, Working, Recovering, Showing, Migrating}
 use Rattle.ds_state.specs.declared.work.RecoverStage.{RecoverStage}
 use Rattle.ds_state.specs.declared.work.RecoverStage.TheVariants as stages
 use Rattle.ds_recover.specs.declared.machine.Effect.TheVariants as effects
@@ -31,6 +31,7 @@ module _ (layout : Layout) (l : Ledger) (v v' : WorldValue) (h : IsOf layout l v
   doubted (Working e) is free issue at = absurd free
   doubted (Recovering e) is free issue at = absurd free
   doubted (Showing e) is free issue at = absurd free
+  doubted (Migrating e) is free issue at = absurd free
 
   same_doubt : (q : ℕ) (issue : PlainIssue) → (world_of v).open_edits q ≡ Some issue → doubts ((world_of v).situation q) ≡ doubts ((world_of v').situation q)
   same_doubt q issue was = elim (cases_eq q p) [

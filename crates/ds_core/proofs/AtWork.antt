@@ -8,6 +8,7 @@ use Rattle.ds_state.specs.declared.situation.Situation.{Situation}
 use Rattle.ds_state.specs.declared.situation.Situation.TheVariants.{Idle, Working, Showing}
 use Rattle.ds_state.specs.declared.work.WorkStage.TheVariants as stages
 use Rattle.ds_eval.specs.Tasks.{PlainEvaluated}
+use Rattle.ds_state.specs.declared.situation.Rest.{Rest}
 use Rattle.ds_work.specs.declared.drive.Taken.{Taken}
 use Rattle.ds_work.specs.WorkTakes as works
 use Rattle.ds_work.specs.WorkSteps as work_steps
@@ -18,26 +19,26 @@ use Rattle.ds_core.specs.declared.reply.Reply.{Reply}
 use Rattle.ds_core.proofs.Ledgers.{SaysSame, says_same, doubts, numbered}
 use Rattle.ds_core.proofs.Turns.{IsTurn}
 
--- at work, or idle, with this number next
-pub data IsAtWork (n : ℕ) (s : Situation) : Type 0 where
-  in_work : (e : PlainWorkCall) → e.next ≡ n → s ≡ Working e → IsAtWork n s
+-- at work, or idle, and knows this
+pub data IsAtWork (n : Rest) (s : Situation) : Type 0 where
+  in_work : (e : PlainWorkCall) → work_steps.rest_of e ≡ n → s ≡ Working e → IsAtWork n s
   at_rest : s ≡ Idle n → IsAtWork n s
 
-says_number : (n : ℕ) (s : Situation) → IsAtWork n s → numbered s ≡ Some n
-says_number n s (in_work e next is) = ap numbered is ∙ ap (λ x. Some x) next
+says_number : (n : Rest) (s : Situation) → IsAtWork n s → numbered s ≡ Some n.number
+says_number n s (in_work e next is) = ap numbered is ∙ ap (λ (x : Rest). Some x.number) next
 says_number n s (at_rest is) = ap numbered is
 
-pub at_work_sure : (n : ℕ) (s : Situation) → IsAtWork n s → doubts s ≡ false
+pub at_work_sure : (n : Rest) (s : Situation) → IsAtWork n s → doubts s ≡ false
 at_work_sure n s (in_work e next is) = ap doubts is
 at_work_sure n s (at_rest is) = ap doubts is
 
-pub at_work_shows_not : (n : ℕ) (s : Situation) → IsAtWork n s → (f : PlainShowCall) → s ≡ Showing f → ⊥
+pub at_work_shows_not : (n : Rest) (s : Situation) → IsAtWork n s → (f : PlainShowCall) → s ≡ Showing f → ⊥
 at_work_shows_not n s (in_work e next is) f at = (let bad : Working e ≡ Showing f = sym is ∙ at in cc)
 at_work_shows_not n s (at_rest is) f at = (let bad : Idle n ≡ Showing f = sym is ∙ at in cc)
 
--- the process is at work before and after, with the same number next
+-- the process is at work before and after, and knows the same
 pub record StaysAtWork (p : ℕ) (old new : WorldValue) : Type 0 where
-  pub number : ℕ
+  pub number : Rest
   pub was : IsAtWork number ((world_of old).situation p)
   pub now : IsAtWork number ((world_of new).situation p)
 
@@ -54,7 +55,7 @@ work_says p old new s turn q = elim (cases_eq q p) [
 
 -- ---- its steps
 
-next_if : (b : Bool) (x y : PlainWorkCall) (n : ℕ) → x.next ≡ n → y.next ≡ n → (if b then x else y).next ≡ n
+next_if : (b : Bool) (x y : PlainWorkCall) (n : Rest) → work_steps.rest_of x ≡ n → work_steps.rest_of y ≡ n → work_steps.rest_of (if b then x else y) ≡ n
 next_if true x y n a c = a
 next_if false x y n a c = c
 
@@ -62,14 +63,14 @@ module _ (p : ℕ) (old new : WorldValue) (e : PlainWorkCall) (mine : e.process 
   here : (s : Situation) → (world_of new).situation e.process ≡ s → (world_of new).situation p ≡ s
   here s at = ap (λ x. (world_of new).situation x) (sym mine) ∙ at
 
-  by_turn : (f : PlainWorkCall) → f.next ≡ e.next → (world_of new).situation e.process ≡ Working f → StaysAtWork p old new
-  by_turn f same at = record { number = e.next; was = in_work e refl is; now = in_work f same (here _ at) }
+  by_turn : (f : PlainWorkCall) → work_steps.rest_of f ≡ work_steps.rest_of e → (world_of new).situation e.process ≡ Working f → StaysAtWork p old new
+  by_turn f same at = record { number = work_steps.rest_of e; was = in_work e refl is; now = in_work f same (here _ at) }
 
   by_taken : (what : Taken) → works.TakesTurn e (world_of old) (world_of new) what → StaysAtWork p old new
-  by_taken what (works.steps word t on) = by_turn (work_steps.next_at e e.stage word) (ap (λ (f : PlainWorkCall). f.next) (next_noted e word e.stage)) (t.situation ∙ after_on e e.stage word on)
-  by_taken what (works.reads content inputs at t) = by_turn (work_steps.read_from e content inputs) (next_if (nat_lt 0 (length inputs)) _ _ e.next refl refl) t.turn.situation
+  by_taken what (works.steps word t on) = by_turn (work_steps.next_at e e.stage word) (ap (λ (f : PlainWorkCall). work_steps.rest_of f) (next_noted e word e.stage)) (t.situation ∙ after_on e e.stage word on)
+  by_taken what (works.reads content inputs at t) = by_turn (work_steps.read_from e content inputs) (next_if (nat_lt 0 (length inputs)) _ _ (work_steps.rest_of e) refl refl) t.turn.situation
   by_taken what (works.lacked at t) = by_turn (work_steps.lacks e) refl t.situation
-  by_taken what (works.answers end at t) = record { number = e.next; was = in_work e refl is; now = at_rest (here _ t.situation) }
+  by_taken what (works.answers end at t) = record { number = work_steps.rest_of e; was = in_work e refl is; now = at_rest (here _ t.situation) }
 
 pub work_stays : (p : ℕ) (old new : WorldValue) (reply : Reply) → WorkStepsBy old p reply new → StaysAtWork p old new
 work_stays p old new reply h = by_taken p old new h.steps.work h.steps.mine h.steps.works h.what h.steps.turn

@@ -19,9 +19,9 @@ use Rattle.ds_edit.specs.EditTakes.{after}
 use Rattle.ds_edit.specs.EditEndings.{outcome_at}
 use Rattle.ds_edit.proofs.Stays.{each_falls}
 use Rattle.ds_core.specs.EditEvents.{reply_with, EditStepsBy}
-use Rattle.ds_core.specs.StepEvents.{edits, works, reports, recoveries}
+use Rattle.ds_core.specs.StepEvents.{edits, works, reports, recoveries, migrations}
 use Rattle.ds_core.specs.Takes.{Takes, WorldRun}
-use Rattle.ds_core.proofs.Did.{Did, did, nothing, edit_begins, work_begins, report_begins, recovery_begins, steps, offers, evicts, stops, crashes}
+use Rattle.ds_core.proofs.Did.{Did, did, nothing, edit_begins, work_begins, report_begins, recovery_begins, migration_begins, steps, offers, evicts, stops, crashes}
 use Rattle.ds_core.specs.declared.event.Event.{Event}
 use Rattle.ds_core.specs.declared.reply.Reply.{Reply}
 use Rattle.ds_core.specs.declared.reply.Reply.TheVariants.{Stepped, Answered}
@@ -70,10 +70,12 @@ layout_by old new _ _ (edit_begins r number h) = h.begun.begins.layout
 layout_by old new _ _ (work_begins p cell h) = h.begun.begins.turn.layout
 layout_by old new _ _ (report_begins p h) = h.begun.begins.layout
 layout_by old new _ _ (recovery_begins p h) = h.begun.begins.layout
+layout_by old new _ _ (migration_begins p h) = h.begun.layout
 layout_by old new _ _ (steps p reply is (edits h)) = h.steps.layout
 layout_by old new _ _ (steps p reply is (works h)) = work_layout (world_of old) (world_of new) h.steps.work h.what h.steps.turn
 layout_by old new _ _ (steps p reply is (reports h)) = h.steps.steps.layout
 layout_by old new _ _ (steps p reply is (recoveries h)) = h.steps.steps.layout
+layout_by old new _ _ (steps p reply is (migrations h)) = h.steps.steps.layout
 layout_by old new _ _ (offers value h) = h.offered.offers.turn.layout
 layout_by old new _ _ (evicts word h) = h.evicts.layout
 layout_by old new _ _ (stops p h) = h.stops.layout

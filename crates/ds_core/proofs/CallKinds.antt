@@ -3,9 +3,9 @@ use Rattle.std.proofs.Common.{ℕ, ◌≡◌, ◌≢◌, ◌<◌, ◌+◌, ◌/�
 use Rattle.ds_state.specs.Value.{WorldValue, world_of}
 use Rattle.ds_state.specs.Sound.{IsSound}
 use Rattle.ds_state.specs.Edits.{PlainEditCall}
-use Rattle.ds_state.specs.Works.{PlainWorkCall, PlainShowCall, PlainRecoverCall}
+use Rattle.ds_state.specs.Works.{PlainWorkCall, PlainShowCall, PlainRecoverCall, PlainMigrateCall}
 use Rattle.ds_state.specs.declared.situation.Situation.{Situation}
-use Rattle.ds_state.specs.declared.situation.Situation.TheVariants.{Idle, Editing, Working, Recovering, Showing}
+use Rattle.ds_state.specs.declared.situation.Situation.TheVariants.{Idle, Stopped, Editing, Working, Recovering, Showing, Migrating}
 use Rattle.ds_state.specs.declared.stage.Outcome.TheVariants as outcomes
 use Rattle.ds_state.specs.declared.stage.Stage.{Stage}
 use Rattle.ds_state.specs.declared.stage.Stage.TheVariants as stages
@@ -18,6 +18,13 @@ use Rattle.ds_state.specs.declared.work.RecoverStage.{RecoverStage}
 use Rattle.ds_state.specs.declared.work.RecoverStage.TheVariants as recover_stages
 use Rattle.ds_edit.specs.EditTakes as edit_worlds
 use Rattle.ds_edit.specs.declared.answer.Answer.{Answer}
+use Rattle.ds_edit.specs.declared.answer.Answer.TheVariants.{Done, Overtaken, Migrated, Already}
+use Rattle.ds_state.specs.declared.situation.Rest.{Rest}
+use Rattle.ds_state.specs.declared.work.MigrateStage.{MigrateStage}
+use Rattle.ds_state.specs.declared.work.MigrateStage.TheVariants as migrate_stages
+use Rattle.ds_recover.specs.MigrationSteps as migration_steps
+use Rattle.ds_recover.specs.MigrationTakes as migration_takes
+use Rattle.ds_work.specs.WorkSteps as work_steps
 use Rattle.ds_work.specs.WorkTakes as work_events
 use Rattle.ds_work.specs.declared.drive.Taken.{Taken}
 use Rattle.ds_work.specs.declared.drive.Taken.TheVariants as taken
@@ -26,6 +33,10 @@ use Rattle.ds_show.specs.ShowSteps as show_steps
 use Rattle.ds_recover.specs.RecoverySteps as recovery_steps
 use Rattle.ds_recover.specs.declared.machine.RecoveryEnd.TheVariants as recovery_ends
 use Rattle.ds_edit.specs.EditEndings.{answer_of}
+use Rattle.ds_recover.specs.declared.migrate.MigrateEffect.{MigrateEffect}
+use Rattle.ds_recover.specs.declared.migrate.MigrateEffect.TheVariants as migrate_effects
+use Rattle.ds_state.specs.declared.work.MigrateEnd.TheVariants as migrate_ends
+use Rattle.ds_core.specs.MigrationEvents.{MigrationStepsBy, MigrationBegins, migration_reply, migration_answer}
 use Rattle.ds_core.specs.EditEvents.{EditStepsBy, reply_at}
 use Rattle.ds_core.specs.WorkEvents.{WorkStepsBy, work_reply, work_answer}
 use Rattle.ds_core.specs.ReportEvents.{ReportStepsBy, report_reply, report_answer}
@@ -34,7 +45,7 @@ use Rattle.ds_core.specs.StepEvents.{StepsBy, edits, works, reports, recoveries}
 use Rattle.ds_core.specs.Own.{IsInCall}
 use Rattle.ds_core.specs.declared.reply.Reply.TheVariants.{Stepped, Answered, NotEnabled}
 use Rattle.ds_core.proofs.Bound.{edit_goes_on}
-use Rattle.ds_core.specs.Kinds.{IsEditAnswer, IsWorkAnswer, IsReportAnswer, IsRecoveryAnswer, AnswersTo}
+use Rattle.ds_core.specs.Kinds.{IsEditAnswer, IsWorkAnswer, IsReportAnswer, IsRecoveryAnswer, IsMigrationAnswer, AnswersTo, RestsAs}
 
 -- ---- a step that goes on
 
@@ -85,22 +96,61 @@ recovery_stays old new p h =
     ap (λ q. (world_of new).situation q) (sym h.steps.mine) ∙ h.steps.steps.situation ∙ recovery_on e e.stage h.steps.word goes in
     stays_by old new p (Recovering e) (Recovering (recovery_steps.next_at e e.stage h.steps.word)) h.steps.at now tt (λ answer x. x)
 
+pub migration_on : (e : PlainMigrateCall) (s : MigrateStage) (word : ℕ) → Stepped ≡ migration_reply (migration_takes.effect_at s) → migration_steps.after e s word ≡ Migrating (migration_steps.next_at e s word)
+migration_on e (migrate_stages.Answer migrate_ends.Migrated) word is = absurd (cc)
+migration_on e (migrate_stages.Answer migrate_ends.Already) word is = absurd (cc)
+migration_on e _ word is = refl
+
+migration_stays : (old new : WorldValue) (p : ℕ) → MigrationStepsBy old p Stepped new → StaysIn old p new
+migration_stays old new p h =
+    let e : PlainMigrateCall = h.steps.migration in
+    let goes : Stepped ≡ migration_reply (migration_takes.effect_at e.stage) = h.is ∙ ap migration_reply h.steps.is in
+    let now : (world_of new).situation p ≡ Migrating (migration_steps.next_at e e.stage h.steps.word) =
+    ap (λ q. (world_of new).situation q) (sym h.steps.mine) ∙ h.steps.steps.situation ∙ migration_on e e.stage h.steps.word goes in
+    stays_by old new p (Migrating e) (Migrating (migration_steps.next_at e e.stage h.steps.word)) h.steps.at now tt (λ answer x. x)
+
 pub step_stays : (old new : WorldValue) (p : ℕ) → IsSound (world_of old) → StepsBy old p Stepped new → StaysIn old p new
 step_stays old new p sound (edits h) = edit_stays old new p sound h
 step_stays old new p sound (works h) = work_stays old new p sound h
 step_stays old new p sound (reports h) = report_stays old new p h
 step_stays old new p sound (recoveries h) = recovery_stays old new p h
+step_stays old new p sound (migrations h) = migration_stays old new p h
 
 -- ---- a step that answers
 
--- the answer is one of the call, and the process is idle
+-- the answer is one of the call, and the process rests as it says
 pub record EndsIn (old : WorldValue) (p : ℕ) (answer : Answer) (new : WorldValue) : Type 0 where
   pub to : AnswersTo ((world_of old).situation p) answer
-  pub next : ℕ
-  pub idle : (world_of new).situation p ≡ Idle next
+  pub rests : RestsAs answer ((world_of new).situation p)
 
-ends_by : (old new : WorldValue) (p next : ℕ) (s : Situation) (answer : Answer) → (world_of old).situation p ≡ s → (world_of new).situation p ≡ Idle next → AnswersTo s answer → EndsIn old p answer new
-ends_by old new p next s answer was now h = record { to = subst (λ (x : Situation). AnswersTo x answer) (sym was) h; next = next; idle = now }
+rests_idle : (answer : Answer) (s : Situation) (next : Rest) → s ≡ Idle next → (IsMigrationAnswer answer → ⊥) → RestsAs answer s
+rests_idle Migrated s next is none = absurd (none tt)
+rests_idle Already s next is none = absurd (none tt)
+rests_idle _ s next is none = (next, is)
+
+ends_by : (old new : WorldValue) (p : ℕ) (next : Rest) (s : Situation) (answer : Answer) → (world_of old).situation p ≡ s → (world_of new).situation p ≡ Idle next → AnswersTo s answer → (IsMigrationAnswer answer → ⊥) → EndsIn old p answer new
+ends_by old new p next s answer was now h none = record { to = subst (λ (x : Situation). AnswersTo x answer) (sym was) h; rests = rests_idle answer ((world_of new).situation p) next now none }
+
+-- no answer is one of two kinds
+edit_no : (answer : Answer) → IsEditAnswer answer → IsMigrationAnswer answer → ⊥
+edit_no (Done n) h k = k
+edit_no (Overtaken n by) h k = k
+edit_no _ h k = h
+
+work_no : (answer : Answer) → IsWorkAnswer answer → IsMigrationAnswer answer → ⊥
+work_no Migrated h k = h
+work_no Already h k = h
+work_no _ h k = k
+
+report_no : (answer : Answer) → IsReportAnswer answer → IsMigrationAnswer answer → ⊥
+report_no Migrated h k = h
+report_no Already h k = h
+report_no _ h k = k
+
+recovery_no : (answer : Answer) → IsRecoveryAnswer answer → IsMigrationAnswer answer → ⊥
+recovery_no Migrated h k = h
+recovery_no Already h k = h
+recovery_no _ h k = k
 
 -- an answer by its reply
 answer_is : (kind : Answer → Type 0) (a b : Answer) → Answered a ≡ Answered b → kind b → kind a
@@ -108,20 +158,20 @@ answer_is kind a b is h = let same : a ≡ b = cc in subst kind (sym same) h
 
 -- what an edit does at a stage that answers
 record EditEnds (e : PlainEditCall) (s : Stage) (word : ℕ) (answer : Answer) : Type 0 where
-  next : ℕ
+  next : Rest
   after : edit_worlds.after e s word ≡ Idle next
   is : IsEditAnswer answer
 
 edit_answered : (processes : ℕ) (e : PlainEditCall) (s : Stage) (word : ℕ) (answer : Answer) → Answered answer ≡ reply_at processes e.number s → EditEnds e s word answer
-edit_answered processes e (stages.Answer outcomes.Done) word answer is = record { next = e.number + 1; after = refl; is = answer_is IsEditAnswer answer (answer_of processes e.number outcomes.Done) is tt }
+edit_answered processes e (stages.Answer outcomes.Done) word answer is = record { next = edit_worlds.rest_behind e; after = refl; is = answer_is IsEditAnswer answer (answer_of processes e.number outcomes.Done) is tt }
 edit_answered processes e (stages.Answer (outcomes.Overtaken noted seen)) word answer is =
-    record { next = e.number + 1; after = refl; is = answer_is IsEditAnswer answer (answer_of processes e.number (outcomes.Overtaken noted seen)) is tt }
+    record { next = edit_worlds.rest_behind e; after = refl; is = answer_is IsEditAnswer answer (answer_of processes e.number (outcomes.Overtaken noted seen)) is tt }
 edit_answered processes e _ word answer is = absurd (cc)
 
 edit_ends : (old new : WorldValue) (p : ℕ) (answer : Answer) → EditStepsBy old p (Answered answer) new → EndsIn old p answer new
 edit_ends old new p answer h =
     let g = edit_answered old.sheet.layout.processes h.edit h.edit.stage h.word answer h.is in
-    ends_by old new p g.next (Editing h.edit) answer h.at (ap (λ q. (world_of new).situation q) (sym h.mine) ∙ h.steps.situation ∙ g.after) g.is
+    ends_by old new p g.next (Editing h.edit) answer h.at (ap (λ q. (world_of new).situation q) (sym h.mine) ∙ h.steps.situation ∙ g.after) g.is (edit_no answer g.is)
 
 each_work_answer : (end : WorkEnd) → IsWorkAnswer (work_answer end)
 each_work_answer work_ends.NotDirty = tt
@@ -136,7 +186,8 @@ work_ends_in old new p answer h = by h.what h.steps h.is
   where
     turned : (e : PlainWorkCall) (end : WorkEnd) → e.process ≡ p → (world_of old).situation p ≡ Working e → work_events.TakesTurn e (world_of old) (world_of new) (taken.Answered end) → Answered answer ≡ work_reply (taken.Answered end) → EndsIn old p answer new
     turned e end mine at (work_events.answers _ at_answer s) is =
-        ends_by old new p e.next (Working e) answer at (ap (λ q. (world_of new).situation q) (sym mine) ∙ s.situation) (answer_is IsWorkAnswer answer (work_answer end) is (each_work_answer end))
+        let kind = answer_is IsWorkAnswer answer (work_answer end) is (each_work_answer end) in
+        ends_by old new p (work_steps.rest_of e) (Working e) answer at (ap (λ q. (world_of new).situation q) (sym mine) ∙ s.situation) kind (work_no answer kind)
 
     by : (what : Taken) → work_events.StepsBy (world_of old) p what (world_of new) → Answered answer ≡ work_reply what → EndsIn old p answer new
     by (taken.Answered end) s is = turned s.work end s.mine s.works s.turn is
@@ -145,7 +196,7 @@ work_ends_in old new p answer h = by h.what h.steps h.is
 
 -- what a report does at a stage that answers
 record ReportEnds (e : PlainShowCall) (s : ShowStage) (word : ℕ) (answer : Answer) : Type 0 where
-  after : show_steps.after e s word ≡ Idle e.next
+  after : show_steps.after e s word ≡ Idle (show_steps.rest_of e)
   is : IsReportAnswer answer
 
 report_answered : (e : PlainShowCall) (s : ShowStage) (word : ℕ) (answer : Answer) → Answered answer ≡ report_reply (show_steps.effect_at s) → ReportEnds e s word answer
@@ -157,27 +208,51 @@ report_answered e _ word answer is = absurd (cc)
 report_ends : (old new : WorldValue) (p : ℕ) (answer : Answer) → ReportStepsBy old p (Answered answer) new → EndsIn old p answer new
 report_ends old new p answer h =
     let g = report_answered h.steps.show h.steps.show.stage h.steps.word answer (h.is ∙ ap report_reply h.steps.is) in
-    ends_by old new p h.steps.show.next (Showing h.steps.show) answer h.steps.at (ap (λ q. (world_of new).situation q) (sym h.steps.mine) ∙ h.steps.steps.situation ∙ g.after) g.is
+    ends_by old new p (show_steps.rest_of h.steps.show) (Showing h.steps.show) answer h.steps.at (ap (λ q. (world_of new).situation q) (sym h.steps.mine) ∙ h.steps.steps.situation ∙ g.after) g.is (report_no answer g.is)
 
 -- what a recovery does at a stage that answers
 record RecoveryEnds (e : PlainRecoverCall) (s : RecoverStage) (word : ℕ) (answer : Answer) : Type 0 where
-  next : ℕ
+  next : Rest
   after : recovery_steps.after e s word ≡ Idle next
   is : IsRecoveryAnswer answer
 
 recovery_answered : (e : PlainRecoverCall) (s : RecoverStage) (word : ℕ) (answer : Answer) → Answered answer ≡ recovery_reply (recovery_steps.effect_at e s) → RecoveryEnds e s word answer
-recovery_answered e (recover_stages.Answer None) word answer is = record { next = 0; after = refl; is = answer_is IsRecoveryAnswer answer (recovery_answer recovery_ends.Nothing) is tt }
+recovery_answered e (recover_stages.Answer None) word answer is = record { next = recovery_steps.rest_after e None; after = refl; is = answer_is IsRecoveryAnswer answer (recovery_answer recovery_ends.Nothing) is tt }
 recovery_answered e (recover_stages.Answer (Some how)) word answer is =
-    record { next = e.announcement / 4; after = refl; is = answer_is IsRecoveryAnswer answer (recovery_answer (recovery_steps.end_of e (Some how))) is tt }
+    record { next = recovery_steps.rest_after e (Some how); after = refl; is = answer_is IsRecoveryAnswer answer (recovery_answer (recovery_steps.end_of e (Some how))) is tt }
 recovery_answered e _ word answer is = absurd (cc)
 
 recovery_ends_in : (old new : WorldValue) (p : ℕ) (answer : Answer) → RecoveryStepsBy old p (Answered answer) new → EndsIn old p answer new
 recovery_ends_in old new p answer h =
     let g = recovery_answered h.steps.recovery h.steps.recovery.stage h.steps.word answer (h.is ∙ ap recovery_reply h.steps.is) in
-    ends_by old new p g.next (Recovering h.steps.recovery) answer h.steps.at (ap (λ q. (world_of new).situation q) (sym h.steps.mine) ∙ h.steps.steps.situation ∙ g.after) g.is
+    ends_by old new p g.next (Recovering h.steps.recovery) answer h.steps.at (ap (λ q. (world_of new).situation q) (sym h.steps.mine) ∙ h.steps.steps.situation ∙ g.after) g.is (recovery_no answer g.is)
+
+-- what a migration does at a stage that answers
+record MigrationEnds (e : PlainMigrateCall) (s : MigrateStage) (word : ℕ) (answer : Answer) : Type 0 where
+  after : migration_steps.after e s word ≡ Stopped
+  is : IsMigrationAnswer answer
+
+migration_answered : (e : PlainMigrateCall) (s : MigrateStage) (word : ℕ) (answer : Answer) → Answered answer ≡ migration_reply (migration_takes.effect_at s) → MigrationEnds e s word answer
+migration_answered e (migrate_stages.Answer migrate_ends.Migrated) word answer is = record { after = refl; is = answer_is IsMigrationAnswer answer (migration_answer migrate_ends.Migrated) is tt }
+migration_answered e (migrate_stages.Answer migrate_ends.Already) word answer is = record { after = refl; is = answer_is IsMigrationAnswer answer (migration_answer migrate_ends.Already) is tt }
+migration_answered e _ word answer is = absurd (cc)
+
+rests_stopped : (answer : Answer) (s : Situation) → s ≡ Stopped → IsMigrationAnswer answer → RestsAs answer s
+rests_stopped Migrated s is kind = is
+rests_stopped Already s is kind = is
+rests_stopped _ s is kind = absurd kind
+
+migration_ends_in : (old new : WorldValue) (p : ℕ) (answer : Answer) → MigrationStepsBy old p (Answered answer) new → EndsIn old p answer new
+migration_ends_in old new p answer h =
+    let g = migration_answered h.steps.migration h.steps.migration.stage h.steps.word answer (h.is ∙ ap migration_reply h.steps.is) in
+    record {
+      to = subst (λ (x : Situation). AnswersTo x answer) (sym h.steps.at) g.is;
+      rests = rests_stopped answer ((world_of new).situation p) (ap (λ q. (world_of new).situation q) (sym h.steps.mine) ∙ h.steps.steps.situation ∙ g.after) g.is;
+    }
 
 pub step_ends : (old new : WorldValue) (p : ℕ) (answer : Answer) → StepsBy old p (Answered answer) new → EndsIn old p answer new
 step_ends old new p answer (edits h) = edit_ends old new p answer h
 step_ends old new p answer (works h) = work_ends_in old new p answer h
 step_ends old new p answer (reports h) = report_ends old new p answer h
 step_ends old new p answer (recoveries h) = recovery_ends_in old new p answer h
+step_ends old new p answer (migrations h) = migration_ends_in old new p answer h

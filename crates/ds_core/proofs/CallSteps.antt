@@ -3,14 +3,18 @@ use Rattle.std.proofs.Common.{ℕ, ◌≡◌, ◌≢◌, ◌<◌, ◌≤◌, ◌
 use Rattle.std.specs.Prelude.{if◌then◌else◌}
 use Rattle.std.proofs.lemmas.Bool.Decides.{eqb_tells}
 use Rattle.ds_state.specs.Edits.{PlainEditCall}
-use Rattle.ds_state.specs.Works.{PlainWorkCall, PlainShowCall, PlainRecoverCall}
+use Rattle.ds_state.specs.Works.{PlainWorkCall, PlainShowCall, PlainRecoverCall, PlainMigrateCall, IsCopied, old_words}
+use Rattle.ds_state.specs.declared.work.MigrateStage.{MigrateStage}
+use Rattle.ds_state.specs.declared.work.MigrateStage.TheVariants as migrating
+use Rattle.ds_recover.specs.MigrationSteps as migrations
 use Rattle.ds_state.specs.Value.{WorldValue, world_of}
 use Rattle.ds_state.specs.World.{PlainWorld}
 use Rattle.ds_state.specs.CallsFit.{CallFits}
 use Rattle.ds_state.specs.ShowStages.{IsStage}
 use Rattle.ds_state.specs.Sound.{IsSound}
+use Rattle.ds_state.specs.declared.situation.Rest.{Rest}
 use Rattle.ds_state.specs.declared.situation.Situation.{Situation}
-use Rattle.ds_state.specs.declared.situation.Situation.TheVariants.{Idle, Stopped, Editing, Working, Recovering, Showing}
+use Rattle.ds_state.specs.declared.situation.Situation.TheVariants.{Idle, Stopped, Editing, Working, Recovering, Showing, Migrating}
 use Rattle.ds_state.specs.declared.work.WorkStage.{WorkStage}
 use Rattle.ds_state.specs.declared.work.WorkStage.TheVariants as works
 use Rattle.ds_state.specs.declared.work.Spread.TheVariants as spreads
@@ -32,15 +36,15 @@ use Rattle.ds_core.specs.StepEvents as steps
 use Rattle.ds_core.specs.Takes.{Takes, WorldRun}
 use Rattle.ds_core.specs.WorkEvents.{TakesEntry}
 use Rattle.ds_core.proofs.Did as did_so
-use Rattle.ds_core.proofs.Did.{Did, did, IsNothing, IsOfStep, nothing, edit_begins, work_begins, report_begins, recovery_begins, offers, evicts, stops, crashes}
+use Rattle.ds_core.proofs.Did.{Did, did, IsNothing, IsOfStep, nothing, edit_begins, work_begins, report_begins, recovery_begins, migration_begins, offers, evicts, stops, crashes}
 use Rattle.ds_core.specs.Headline.{Happens}
 use Rattle.ds_eval.specs.Tasks.{PlainEvaluated}
 use Rattle.ds_core.specs.Own.{own_step, own_steps, IsUnanswered, AreUnanswered, IsUnhalted, AreUnhalted, IsInCall, left_in, steps_left}
 use Rattle.ds_core.specs.declared.event.Event.{Event}
-use Rattle.ds_core.specs.declared.event.Event.TheVariants.{BeginEdit, BeginWork, BeginShow, BeginRecover, Step, Offer, Evict, Stop, Crash}
+use Rattle.ds_core.specs.declared.event.Event.TheVariants.{BeginEdit, BeginWork, BeginShow, BeginRecover, BeginMigrate, Step, Offer, Evict, Stop, Crash}
 use Rattle.ds_core.specs.declared.reply.Reply.{Reply}
 use Rattle.ds_core.specs.declared.reply.Reply.TheVariants as reply
-use Rattle.ds_core.proofs.Turns.{IsTurn, edit_turn, report_turn, recovery_turn, work_leaves, work_begins_leaves, offer_leaves}
+use Rattle.ds_core.proofs.Turns.{IsTurn, edit_turn, report_turn, recovery_turn, migration_turn, work_leaves, work_begins_leaves, offer_leaves}
 use Rattle.ds_core.proofs.Bound.{same_layout, run_layout, run_sound}
 use Rattle.ds_core.proofs.Counts.{steps_on}
 use Rattle.ds_core.proofs.CallKinds.{step_stays, step_ends}
@@ -52,6 +56,7 @@ step_turn old new q r sound (steps.edits h) = edit_turn old new q r sound h
 step_turn old new q r sound (steps.works h) = (work_leaves old new q r sound h).turn
 step_turn old new q r sound (steps.reports h) = report_turn old new q r sound h
 step_turn old new q r sound (steps.recoveries h) = recovery_turn old new q r sound h
+step_turn old new q r sound (steps.migrations h) = migration_turn old new q r sound h
 
 not_free : (s : Situation) → IsInCall s → MayRecover s → ⊥
 not_free (Idle n) calls free = calls
@@ -60,6 +65,7 @@ not_free (Editing e) calls free = free
 not_free (Working e) calls free = free
 not_free (Recovering e) calls free = free
 not_free (Showing e) calls free = free
+not_free (Migrating e) calls free = free
 
 not_own : (p q : ℕ) → q ≢ p → (q == p) ≡ false
 not_own p q ne = elim (eqb_tells q p) [ inl same ↦ absurd (ne same.1) | inr differs ↦ differs.0 ]
@@ -73,6 +79,7 @@ no_step p (BeginEdit request) r none = refl
 no_step p (BeginWork q cell) r none = refl
 no_step p (BeginShow q) r none = refl
 no_step p (BeginRecover q) r none = refl
+no_step p (BeginMigrate q) r none = refl
 no_step p (Offer value) r none = refl
 no_step p (Evict word) r none = refl
 no_step p (Stop q) r none = refl
@@ -89,7 +96,7 @@ module _ (p : ℕ) (old new : WorldValue) (sound : IsSound (world_of old)) (call
   unchanged : new ≡ old → OwnMove p old new 0
   unchanged same = stays (ap (λ (v : WorldValue). (world_of v).situation p) same)
 
-  busy : (n : ℕ) → (world_of old).situation p ≡ Idle n → ⊥
+  busy : (n : Rest) → (world_of old).situation p ≡ Idle n → ⊥
   busy n is = subst IsInCall is calls
 
   others : (q : ℕ) → q ≢ p → ((r : ℕ) → r ≢ q → (world_of new).situation r ≡ (world_of old).situation r) → OwnMove p old new 0
@@ -105,7 +112,7 @@ module _ (p : ℕ) (old new : WorldValue) (sound : IsSound (world_of old)) (call
   by_answer q answer ne h = subst (λ b. OwnMove p old new (if b then 1 else 0)) (sym (not_own p q ne)) (others q ne (step_turn old new q (reply.Answered answer) sound h).others)
 
   -- a beginning of another process
-  begins : (q n : ℕ) → (world_of old).situation q ≡ Idle n → ((r : ℕ) → r ≢ q → (world_of new).situation r ≡ (world_of old).situation r) → OwnMove p old new 0
+  begins : (q : ℕ) (n : Rest) → (world_of old).situation q ≡ Idle n → ((r : ℕ) → r ≢ q → (world_of new).situation r ≡ (world_of old).situation r) → OwnMove p old new 0
   begins q n idle rest = others q (λ same. busy n (ap (λ x. (world_of old).situation x) (sym same) ∙ idle)) rest
 
   by_offer : (value : PlainEvaluated) → TakesEntry old value new → OwnMove p old new 0
@@ -121,9 +128,10 @@ module _ (p : ℕ) (old new : WorldValue) (sound : IsSound (world_of old)) (call
 
   by : (event : Event) (r : Reply) → Did old new event r → IsUnanswered p event r → OwnMove p old new (own_step p event r)
   by _ _ (nothing event r none is same) u = subst (λ n. OwnMove p old new n) (sym (no_step p event r none)) (unchanged same)
-  by _ _ (edit_begins q n h) u = begins h.begun.edit.process h.begun.edit.number h.begun.begins.idle h.begun.begins.others
+  by _ _ (edit_begins q n h) u = begins h.begun.edit.process _ h.begun.begins.idle h.begun.begins.others
   by _ _ (work_begins q cell h) u = begins q h.begun.next (ap (λ x. (world_of old).situation x) (sym h.begun.process_is) ∙ h.begun.begins.was) (work_begins_leaves old new q cell sound h).turn.others
   by _ _ (report_begins q h) u = begins q h.begun.next h.begun.begins.idle h.begun.begins.others
+  by _ _ (migration_begins q h) u = others q (λ same. not_free ((world_of old).situation p) calls (subst (λ x. MayRecover ((world_of old).situation x)) same (subst MayRecover (sym h.begun.stopped) tt))) h.begun.others
   by _ _ (recovery_begins q h) u = others q (λ same. not_free ((world_of old).situation p) calls (subst (λ x. MayRecover ((world_of old).situation x)) same h.begun.free)) h.begun.begins.others
   by _ _ (did_so.steps q r is h) u = by_turn q r is u h
   by _ _ (offers value h) u = by_offer value h
@@ -210,6 +218,9 @@ show_some e (shows.AgainAnnounce i) h = let low = h.0 in omega (arith, low)
 show_some e (shows.Answer end) h = omega arith
 
 recovery_some : (cells : ℕ) (s : RecoverStage) → 0 < rank cells s
+recovery_some cells recoveries.LoadVersion = omega arith
+recovery_some cells recoveries.FlushVersion = omega arith
+recovery_some cells recoveries.BackVersion = omega arith
 recovery_some cells (recoveries.LoadMark cell) = omega arith
 recovery_some cells (recoveries.FlushValue cell) = omega arith
 recovery_some cells (recoveries.FlushKind cell) = omega arith
@@ -237,6 +248,17 @@ recovery_some cells (recoveries.FlushOutcome how) = omega arith
 recovery_some cells (recoveries.BackOutcome how) = omega arith
 recovery_some cells (recoveries.Answer how) = omega arith
 
+migration_some : (words : ℕ) (s : MigrateStage) → 0 < migrations.rank words s
+migration_some words migrating.LoadVersion = omega arith
+migration_some words (migrating.LoadOld n) = omega arith
+migration_some words (migrating.StoreNew n) = omega arith
+migration_some words (migrating.FlushNew n) = omega arith
+migration_some words (migrating.BackNew n) = omega arith
+migration_some words migrating.Swap = omega arith
+migration_some words (migrating.FlushVersion how) = omega arith
+migration_some words (migrating.BackVersion how) = omega arith
+migration_some words (migrating.Answer how) = omega arith
+
 pub some_left : (w : PlainWorld) (p : ℕ) (s : Situation) → CallFits w p s → IsInCall s → 0 < left_in s
 some_left w p (Idle n) fits calls = absurd calls
 some_left w p Stopped fits calls = absurd calls
@@ -244,6 +266,7 @@ some_left w p (Editing e) fits calls = each_some e fits.is
 some_left w p (Working e) fits calls = work_some e.cells e e.stage
 some_left w p (Recovering e) fits calls = recovery_some e.cells e.stage
 some_left w p (Showing e) fits calls = show_some e e.stage fits.1.is.stage
+some_left w p (Migrating e) fits calls = migration_some (old_words e.processes) e.stage
 
 -- a call that is not answered has made fewer steps than it had left
 pub short : (old : WorldValue) (events : List Event) (replies : List Reply) (new : WorldValue) (p : ℕ) → IsSound (world_of old) → p < old.sheet.layout.processes → IsInCall ((world_of old).situation p)
@@ -255,15 +278,26 @@ short old events replies new p sound low calls run u =
     let few = on.fewer in
     omega (arith, some, few)
 
+migration_few : (processes : ℕ) (s : MigrateStage) → IsCopied (old_words processes) s → migrations.rank (old_words processes) s ≤ 15360 * processes + 5
+migration_few processes migrating.LoadVersion h = omega arith
+migration_few processes (migrating.LoadOld n) h = omega arith
+migration_few processes (migrating.StoreNew n) h = omega arith
+migration_few processes (migrating.FlushNew n) h = omega arith
+migration_few processes (migrating.BackNew n) h = omega arith
+migration_few processes migrating.Swap h = omega arith
+migration_few processes (migrating.FlushVersion how) h = omega arith
+migration_few processes (migrating.BackVersion how) h = omega arith
+migration_few processes (migrating.Answer how) h = omega arith
+
 -- what is left of a call at most
-pub edit_left : (v : WorldValue) (p : ℕ) (e : PlainEditCall) → IsSound (world_of v) → p < v.sheet.layout.processes → (world_of v).situation p ≡ Editing e → steps_left p v ≤ 67 + 3 * length e.refs
+pub edit_left : (v : WorldValue) (p : ℕ) (e : PlainEditCall) → IsSound (world_of v) → p < v.sheet.layout.processes → (world_of v).situation p ≡ Editing e → steps_left p v ≤ 112 + 3 * length e.refs
 edit_left v p e sound low at =
     let fits = subst (λ (x : Situation). CallFits (world_of v) p x) at (sound.calls p low) in
     let few = each_few e fits.is in
     let is : steps_left p v ≡ left_in (Editing e) = ap left_in at in
     omega (arith, few, is)
 
-pub work_left : (v : WorldValue) (p : ℕ) (e : PlainWorkCall) → (world_of v).situation p ≡ Working e → e.stage ≡ works.LoadMark → steps_left p v ≤ 5 * e.cells + (e.cells + 63) / 64 + 36
+pub work_left : (v : WorldValue) (p : ℕ) (e : PlainWorkCall) → (world_of v).situation p ≡ Working e → e.stage ≡ works.LoadMark → steps_left p v ≤ 5 * e.cells + (e.cells + 63) / 64 + 51
 work_left v p e at first =
     let is : steps_left p v ≡ left e.cells e works.LoadMark = ap left_in at ∙ ap (λ s. left e.cells e s) first in
     omega (arith, is)
@@ -274,11 +308,18 @@ report_left v p e at =
     let is : steps_left p v ≡ left_in (Showing e) = ap left_in at in
     omega (arith, few, is)
 
-pub recovery_left : (v : WorldValue) (p : ℕ) (e : PlainRecoverCall) → IsSound (world_of v) → p < v.sheet.layout.processes → (world_of v).situation p ≡ Recovering e → steps_left p v ≤ e.cells * (3 * e.cells + 30) + 20
+pub recovery_left : (v : WorldValue) (p : ℕ) (e : PlainRecoverCall) → IsSound (world_of v) → p < v.sheet.layout.processes → (world_of v).situation p ≡ Recovering e → steps_left p v ≤ e.cells * (3 * e.cells + 30) + 23
 recovery_left v p e sound low at =
     let fits = subst (λ (x : Situation). CallFits (world_of v) p x) at (sound.calls p low) in
     let few = recovery_ranks.each_few e fits.is in
     let is : steps_left p v ≡ left_in (Recovering e) = ap left_in at in
+    omega (arith, few, is)
+
+pub migration_left : (v : WorldValue) (p : ℕ) (e : PlainMigrateCall) → IsSound (world_of v) → p < v.sheet.layout.processes → (world_of v).situation p ≡ Migrating e → steps_left p v ≤ 15360 * e.processes + 5
+migration_left v p e sound low at =
+    let fits = subst (λ (x : Situation). CallFits (world_of v) p x) at (sound.calls p low) in
+    let few = migration_few e.processes e.stage fits.is.stage in
+    let is : steps_left p v ≡ left_in (Migrating e) = ap left_in at in
     omega (arith, few, is)
 
 -- ---- it is answered
@@ -298,6 +339,7 @@ one p (BeginEdit q) r on = inl tt
 one p (BeginWork q cell) r on = inl tt
 one p (BeginShow q) r on = inl tt
 one p (BeginRecover q) r on = inl tt
+one p (BeginMigrate q) r on = inl tt
 one p (Offer value) r on = inl tt
 one p (Evict word) r on = inl tt
 one p (Stop q) reply.Stopped on = inl on
@@ -366,7 +408,7 @@ wait_free old events replies new p sound low calls run on enough =
     (f.k, f.answer, f.happens, f.to)
 
 pub edit_few : (old : WorldValue) (events : List Event) (replies : List Reply) (new : WorldValue) (p : ℕ) (e : PlainEditCall) → IsSound (world_of old) → p < old.sheet.layout.processes → (world_of old).situation p ≡ Editing e
-    → WorldRun old events replies new → AreUnanswered p events replies → own_steps p events replies < 67 + 3 * length e.refs
+    → WorldRun old events replies new → AreUnanswered p events replies → own_steps p events replies < 112 + 3 * length e.refs
 edit_few old events replies new p e sound low at run u =
     let few = edit_left old p e sound low at in
     let fewer = short old events replies new p sound low (subst IsInCall (sym at) tt) run u in

@@ -11,7 +11,7 @@ use Rattle.ds_state.specs.declared.work.ShowEnd.TheVariants as ends
 use Rattle.ds_state.specs.declared.work.ShowStage.{ShowStage}
 use Rattle.ds_state.specs.declared.work.ShowStage.TheVariants as stages
 use Rattle.ds_state.specs.declared.situation.Situation.{Situation}
-use Rattle.ds_state.specs.declared.situation.Situation.TheVariants.{Recovering, Showing}
+use Rattle.ds_state.specs.declared.situation.Situation.TheVariants.{Recovering, Showing, Migrating}
 use Rattle.ds_state.specs.declared.stage.Outcome.{Outcome}
 use Rattle.ds_state.specs.declared.stage.Outcome.TheVariants as outcome
 use Rattle.ds_edit.specs.EditSteps.{rank}
@@ -22,6 +22,10 @@ use Rattle.ds_show.specs.declared.machine.Effect.TheVariants as effects
 use Rattle.ds_show.specs.ShowSteps as steps
 use Rattle.ds_show.specs.ShowTakes as shows
 use Rattle.ds_show.proofs.ShowKeeps as keeping
+use Rattle.ds_recover.specs.declared.migrate.MigrateEffect.{MigrateEffect}
+use Rattle.ds_recover.specs.declared.migrate.MigrateEffect.TheVariants as migrate_effects
+use Rattle.ds_state.specs.declared.work.MigrateEnd.TheVariants as migrate_ends
+use Rattle.ds_core.specs.MigrationEvents.{MigrationStepsBy, MigrationBegins, migration_reply, migration_answer}
 use Rattle.ds_core.specs.EditEvents.{SameReports, reply_with, done_with, EditStepsBy}
 use Rattle.ds_state.specs.Works.{PlainRecoverCall}
 use Rattle.ds_state.specs.declared.work.WorkEnd.TheVariants as work_ends
@@ -33,6 +37,13 @@ use Rattle.ds_recover.specs.declared.machine.Effect as recovery_effect
 use Rattle.ds_recover.specs.declared.machine.Effect.TheVariants as recovery_effects
 use Rattle.ds_recover.specs.declared.machine.RecoveryEnd.TheVariants as recovery_ends
 use Rattle.ds_recover.specs.RecoverySteps as recover_steps
+use Rattle.ds_recover.specs.MigrationSteps as migration_steps
+use Rattle.ds_recover.specs.MigrationTakes as migration_takes
+use Rattle.ds_recover.proofs.Migrating as migrating
+use Rattle.ds_state.specs.Works.{PlainMigrateCall, old_words}
+use Rattle.ds_state.specs.declared.work.MigrateEnd.{MigrateEnd}
+use Rattle.ds_state.specs.declared.work.MigrateStage.{MigrateStage}
+use Rattle.ds_state.specs.declared.work.MigrateStage.TheVariants as migrate_stages
 use Rattle.ds_recover.proofs.RecoveryRank.{each_falls}
 use Rattle.ds_layout.specs.Places.{cells_of}
 use Rattle.ds_work.specs.WorkTakes as work_events
@@ -42,14 +53,14 @@ use Rattle.ds_core.proofs.Turns.{recovery_turn}
 use Rattle.ds_core.specs.ReportEvents.{report_reply, ReportStepsBy}
 use Rattle.ds_core.specs.WorkEvents.{work_reply, WorkStepsBy}
 use Rattle.ds_core.specs.RecoveryEvents.{recovery_reply, RecoveryStepsBy}
-use Rattle.ds_core.specs.StepEvents.{edits, works, reports, recoveries}
+use Rattle.ds_core.specs.StepEvents.{edits, works, reports, recoveries, migrations}
 use Rattle.ds_core.specs.Takes.{Takes}
 use Rattle.ds_core.proofs.Did as did_so
-use Rattle.ds_core.proofs.Did.{Did, did, IsNothing, IsOfStep, nothing, edit_begins, work_begins, report_begins, recovery_begins, offers, evicts, stops, crashes}
+use Rattle.ds_core.proofs.Did.{Did, did, IsNothing, IsOfStep, nothing, edit_begins, work_begins, report_begins, recovery_begins, migration_begins, offers, evicts, stops, crashes}
 use Rattle.ds_core.specs.Own.{IsInCall, left_in, steps_left}
 use Rattle.ds_core.specs.Counts.{done_of, settled_of, IsReplyTo, KeepsReports}
 use Rattle.ds_core.specs.declared.event.Event.{Event}
-use Rattle.ds_core.specs.declared.event.Event.TheVariants.{BeginEdit, BeginWork, BeginShow, BeginRecover, Step, Offer, Evict, Stop, Crash}
+use Rattle.ds_core.specs.declared.event.Event.TheVariants.{BeginEdit, BeginWork, BeginShow, BeginRecover, BeginMigrate, Step, Offer, Evict, Stop, Crash}
 use Rattle.ds_core.specs.declared.reply.Reply.{Reply}
 use Rattle.ds_core.specs.declared.reply.Reply.TheVariants.{Begun, Entered, Stepped, Answered, Evicted, Stopped, Crashed, NotEnabled}
 use Rattle.ds_core.proofs.Bound.{edit_goes_on}
@@ -153,6 +164,17 @@ recovery_adds old new p reply h is =
     let zero_done : done_of reply ≡ 0 = ap done_of h.is ∙ n.0 in
     adds_none old new (Step p) reply is (let d = h.steps.done in omega (arith, d, zero_done)) (ap settled_of h.is ∙ n.1) (record { settled = h.steps.settled; reports = h.steps.reports })
 
+migration_none : (what : MigrateEffect) → (done_of (migration_reply what) ≡ 0) × (settled_of (migration_reply what) ≡ 0)
+migration_none migrate_effects.GoesOn = (refl, refl)
+migration_none (migrate_effects.Answers migrate_ends.Migrated) = (refl, refl)
+migration_none (migrate_effects.Answers migrate_ends.Already) = (refl, refl)
+
+migration_adds : (old new : WorldValue) (p : ℕ) (reply : Reply) → MigrationStepsBy old p reply new → IsReplyTo (Step p) reply → Adds old (Step p) reply new
+migration_adds old new p reply h is =
+    let n = migration_none h.what in
+    let zero_done : done_of reply ≡ 0 = ap done_of h.is ∙ n.0 in
+    adds_none old new (Step p) reply is (let d = h.steps.done in omega (arith, d, zero_done)) (ap settled_of h.is ∙ n.1) (record { settled = h.steps.settled; reports = h.steps.reports })
+
 nothing_adds : (reply : Reply) → IsNothing reply → (done_of reply ≡ 0) × (settled_of reply ≡ 0)
 nothing_adds (Answered answer) none = absurd none
 nothing_adds _ none = (refl, refl)
@@ -168,10 +190,12 @@ adds_by old new _ _ (edit_begins r number h) = adds_none old new (BeginEdit r) (
 adds_by old new _ _ (work_begins p cell h) = adds_none old new (BeginWork p cell) Entered tt (none old new h.done) refl h.reports
 adds_by old new _ _ (report_begins p h) = adds_none old new (BeginShow p) Entered tt (none old new h.done) refl h.reports
 adds_by old new _ _ (recovery_begins p h) = adds_none old new (BeginRecover p) Entered tt (none old new h.done) refl h.reports
+adds_by old new _ _ (migration_begins p h) = adds_none old new (BeginMigrate p) Entered tt (none old new h.done) refl h.reports
 adds_by old new _ _ (did_so.steps p reply is (edits h)) = edit_adds old new p reply h (step_reply p reply is)
 adds_by old new _ _ (did_so.steps p reply is (works h)) = work_adds old new p reply h (step_reply p reply is)
 adds_by old new _ _ (did_so.steps p reply is (reports h)) = report_adds old new p reply h (step_reply p reply is)
 adds_by old new _ _ (did_so.steps p reply is (recoveries h)) = recovery_adds old new p reply h (step_reply p reply is)
+adds_by old new _ _ (did_so.steps p reply is (migrations h)) = migration_adds old new p reply h (step_reply p reply is)
 adds_by old new _ _ (offers value h) = adds_none old new (Offer value) Stepped tt (none old new h.done) refl h.reports
 adds_by old new _ _ (evicts word h) = adds_none old new (Evict word) Evicted tt (none old new h.done) refl h.reports
 adds_by old new _ _ (stops p h) = adds_none old new (Stop p) Stopped tt (none old new h.done) refl h.reports
@@ -260,11 +284,42 @@ recovery_falls old new p sound h =
     let c = ap (λ n. recover_steps.rank n f.stage) cells in
     record { calls = subst IsInCall (sym now) tt; fewer = omega (arith, fall, a, b, c) }
 
+migration_goes : (what : MigrateEffect) → Stepped ≡ migration_reply what → what ≡ migrate_effects.GoesOn
+migration_goes migrate_effects.GoesOn is = refl
+migration_goes (migrate_effects.Answers end) is = absurd (cc)
+
+migration_after : (e : PlainMigrateCall) (s : MigrateStage) (word : ℕ) → migration_takes.effect_at s ≡ migrate_effects.GoesOn → migration_steps.after e s word ≡ Migrating (migration_steps.next_at e s word)
+migration_after e (migrate_stages.Answer how) word is = absurd (cc)
+migration_after e _ word is = refl
+
+migration_lower : (s : MigrateStage) → migration_takes.effect_at s ≡ migrate_effects.GoesOn → (how : MigrateEnd) → s ≡ migrate_stages.Answer how → ⊥
+migration_lower (migrate_stages.Answer how) is end at = cc
+migration_lower _ is end at = cc
+
+migration_processes : (e : PlainMigrateCall) (s : MigrateStage) (word : ℕ) → (migration_steps.next_at e s word).processes ≡ e.processes
+migration_processes e migrate_stages.LoadVersion word = refl
+migration_processes e (migrate_stages.LoadOld n) word = refl
+migration_processes e _ word = refl
+
+migration_falls : (old new : WorldValue) (p : ℕ) → IsSound (world_of old) → MigrationStepsBy old p Stepped new → StepsOn p old new
+migration_falls old new p sound h =
+    let e : PlainMigrateCall = h.steps.migration in
+    let f : PlainMigrateCall = migration_steps.next_at e e.stage h.steps.word in
+    let goes : migration_takes.effect_at e.stage ≡ migrate_effects.GoesOn = sym h.steps.is ∙ migration_goes h.what h.is in
+    let fits = subst (λ (s : Situation). CallFits (world_of old) p s) h.steps.at (sound.calls p h.steps.there) in
+    let now : (world_of new).situation p ≡ Migrating f = ap (λ q. (world_of new).situation q) (sym h.steps.mine) ∙ h.steps.steps.situation ∙ migration_after e e.stage h.steps.word goes in
+    let fall : migration_steps.rank (old_words e.processes) f.stage < migration_steps.rank (old_words e.processes) e.stage = migrating.migration_falls e e.stage h.steps.word fits.is.stage (migration_lower e.stage goes) in
+    let a : steps_left p old ≡ migration_steps.rank (old_words e.processes) e.stage = ap left_in h.steps.at in
+    let b : steps_left p new ≡ migration_steps.rank (old_words f.processes) f.stage = ap left_in now in
+    let c = ap (λ n. migration_steps.rank (old_words n) f.stage) (migration_processes e e.stage h.steps.word) in
+    record { calls = subst IsInCall (sym now) tt; fewer = omega (arith, fall, a, b, c) }
+
 pub steps_on : (old new : WorldValue) (p : ℕ) → IsSound (world_of old) → Takes old (Step p) Stepped new → StepsOn p old new
 steps_on old new p sound (edits h) = edit_falls old new p sound h
 steps_on old new p sound (works h) = work_falls old new p sound h
 steps_on old new p sound (reports h) = report_falls old new p sound h
 steps_on old new p sound (recoveries h) = recovery_falls old new p sound h
+steps_on old new p sound (migrations h) = migration_falls old new p sound h
 
 -- so of whatever event this is
 pub falls_by : (old new : WorldValue) (event : Event) (reply : Reply) → IsSound (world_of old) → Takes old event reply new → (p : ℕ) → event ≡ Step p → reply ≡ Stepped → steps_left p new < steps_left p old

@@ -1,4 +1,4 @@
--- What an event did, in one type: nothing, or one of nine things. A law over events is a case for each of them.
+-- What an event did, in one type: nothing, or one of ten things. A law over events is a case for each of them.
 use Rattle.std.proofs.Common.{ℕ, ◌≡◌}
 use Rattle.ds_formula.specs.declared.cells.Cell.{Cell}
 use Rattle.ds_eval.specs.Tasks.{PlainEvaluated}
@@ -8,12 +8,13 @@ use Rattle.ds_core.specs.Requests.{PlainRequest}
 use Rattle.ds_core.specs.ReportEvents.{ReportBegins}
 use Rattle.ds_core.specs.WorkEvents.{WorkBegins, TakesEntry}
 use Rattle.ds_core.specs.RecoveryEvents.{RecoveryBegins}
+use Rattle.ds_core.specs.MigrationEvents.{MigrationBegins}
 use Rattle.ds_core.specs.StepEvents.{StepsBy, EvictsWord}
 use Rattle.ds_core.specs.StopEvents.{StopsProcess, CrashesWorld}
 use Rattle.ds_core.specs.Takes.{EditBegins, Takes}
 use Rattle.ds_core.specs.Counts.{IsReplyTo}
 use Rattle.ds_core.specs.declared.event.Event.{Event}
-use Rattle.ds_core.specs.declared.event.Event.TheVariants.{BeginEdit, BeginWork, BeginShow, BeginRecover, Step, Offer, Evict, Stop, Crash}
+use Rattle.ds_core.specs.declared.event.Event.TheVariants.{BeginEdit, BeginWork, BeginShow, BeginRecover, BeginMigrate, Step, Offer, Evict, Stop, Crash}
 use Rattle.ds_core.specs.declared.reply.Reply.{Reply}
 use Rattle.ds_core.specs.declared.reply.Reply.TheVariants.{Begun, Entered, Refused, Stepped, Answered, WrongTask, Evicted, Stopped, Crashed, NotEnabled}
 
@@ -50,6 +51,7 @@ pub data Did (old new : WorldValue) : Event → Reply → Type 0 where
   work_begins : (p : ℕ) (cell : Cell) → WorkBegins old p cell new → Did old new (BeginWork p cell) Entered
   report_begins : (p : ℕ) → ReportBegins old p new → Did old new (BeginShow p) Entered
   recovery_begins : (p : ℕ) → RecoveryBegins old p new → Did old new (BeginRecover p) Entered
+  migration_begins : (p : ℕ) → MigrationBegins old p new → Did old new (BeginMigrate p) Entered
   steps : (p : ℕ) (reply : Reply) → IsOfStep reply → StepsBy old p reply new → Did old new (Step p) reply
   offers : (value : PlainEvaluated) → TakesEntry old value new → Did old new (Offer value) Stepped
   evicts : (word : Place) → EvictsWord old word new → Did old new (Evict word) Evicted
@@ -73,6 +75,10 @@ did old new (BeginRecover p) Entered h = recovery_begins p h
 did old new (BeginRecover p) (Refused why) h = nothing (BeginRecover p) (Refused why) tt tt h.same
 did old new (BeginRecover p) NotEnabled h = nothing (BeginRecover p) NotEnabled tt tt h.same
 did old new (BeginRecover p) _ h = absurd h
+did old new (BeginMigrate p) Entered h = migration_begins p h
+did old new (BeginMigrate p) (Refused why) h = nothing (BeginMigrate p) (Refused why) tt tt h.same
+did old new (BeginMigrate p) NotEnabled h = nothing (BeginMigrate p) NotEnabled tt tt h.same
+did old new (BeginMigrate p) _ h = absurd h
 did old new (Step p) Stepped h = steps p Stepped tt h
 did old new (Step p) (Answered answer) h = steps p (Answered answer) tt h
 did old new (Step p) NotEnabled h = nothing (Step p) NotEnabled tt tt h.same

@@ -24,14 +24,19 @@ use Rattle.ds_state.specs.declared.work.ShowStage.TheVariants as stages
 use Rattle.ds_show.specs.declared.machine.Effect.{Effect}
 use Rattle.ds_show.specs.declared.machine.Effect.TheVariants as effects
 use Rattle.ds_show.specs.ShowSteps as shows
+use Rattle.ds_edit.specs.EditTakes.{rest_before}
 use Rattle.ds_edit.specs.EditSteps.{access_at}
 use Rattle.ds_edit.specs.EditEndings.{answer_of, outcome_at, other_of}
 use Rattle.ds_edit.specs.declared.answer.Other.{Other}
 use Rattle.ds_edit.specs.declared.answer.Answer as replies
 use Rattle.ds_edit.specs.declared.answer.Answer.TheVariants.{Done, Overtaken}
+use Rattle.ds_recover.specs.declared.migrate.MigrateEffect.{MigrateEffect}
+use Rattle.ds_recover.specs.declared.migrate.MigrateEffect.TheVariants as migrate_effects
+use Rattle.ds_state.specs.declared.work.MigrateEnd.TheVariants as migrate_ends
+use Rattle.ds_core.specs.MigrationEvents.{MigrationStepsBy, MigrationBegins, migration_reply, migration_answer}
 use Rattle.ds_core.specs.EditEvents.{EditStepsBy}
 use Rattle.ds_core.specs.ReportEvents.{report_reply, ReportBegins, ReportStepsBy}
-use Rattle.ds_core.specs.StepEvents.{edits, works, reports, recoveries}
+use Rattle.ds_core.specs.StepEvents.{edits, works, reports, recoveries, migrations}
 use Rattle.ds_core.specs.WorkEvents.{work_reply, WorkStepsBy, WorkBegins, TakesEntry}
 use Rattle.ds_core.specs.RecoveryEvents.{recovery_reply, RecoveryStepsBy, RecoveryBegins}
 use Rattle.ds_work.specs.declared.drive.Taken.{Taken}
@@ -44,7 +49,7 @@ use Rattle.ds_core.specs.Takes.{Takes}
 use Rattle.ds_core.specs.Moments.{Ledger}
 use Rattle.ds_core.specs.LedgerSteps.{IsOvertakenBy, OneAccess, WordsMove, AnswerMoves, LedgerMoves}
 use Rattle.ds_core.specs.declared.event.Event.{Event}
-use Rattle.ds_core.specs.declared.event.Event.TheVariants.{BeginEdit, BeginWork, BeginShow, BeginRecover, Step, Offer, Evict, Stop, Crash}
+use Rattle.ds_core.specs.declared.event.Event.TheVariants.{BeginEdit, BeginWork, BeginShow, BeginRecover, BeginMigrate, Step, Offer, Evict, Stop, Crash}
 use Rattle.ds_core.specs.declared.reply.Reply.{Reply}
 use Rattle.ds_core.specs.declared.reply.Reply.TheVariants.{Begun, Entered, Refused, Stepped, Answered, WrongTask, Evicted, Stopped, Crashed, NotEnabled}
 use Rattle.ds_core.proofs.Traces as traces
@@ -64,6 +69,7 @@ use Rattle.ds_core.proofs.ToldCalls.{report_sides, work_sides_of}
 use Rattle.ds_core.proofs.Recovered.{tells_recovery_begun, tells_recovery_on}
 use Rattle.ds_core.proofs.Resolved.{resolves}
 use Rattle.ds_core.proofs.AtWork.{StaysAtWork, at_work_sure, work_says, work_stays, work_begins_stays, offer_stays}
+use Rattle.ds_core.proofs.AtMigration.{migration_access, migration_says, migration_begins_says, tells_migration_on, tells_migration_begun}
 use Rattle.ds_core.proofs.AtRecovery.{recovery_begins_after, recovery_access, recovery_pending, recovery_says}
 
 -- ---- one event
@@ -115,8 +121,9 @@ module _ (place : ℕ) (layout : Layout) (l : Ledger) (v v' : WorldValue) (h : I
       let s : traces.Issues (world_of v) edit (world_of v') =
       subst (λ (x : Layout). traces.Issues (world_of v) (record { process = r.process; number = n; cell = index_of x.shape r.cell; text = r.text }) (world_of v')) h.same
       (begins_move (world_of v) (world_of v') h.good.sound r.process _ r.text n t.begun) in
-      let was : (world_of v).situation r.process ≡ Idle n = ap (λ q. (world_of v).situation q) (sym process) ∙ t.begun.begins.idle ∙ ap (λ i. Idle i) number in
-      let idle : (world_of v).situation e.process ≡ Idle e.number = t.begun.begins.idle in
+      let was : (world_of v).situation r.process ≡ Idle (rest_before e) = ap (λ q. (world_of v).situation q) (sym process) ∙ t.begun.begins.idle in
+      let told : numbered ((world_of v).situation r.process) ≡ Some n = ap numbered was ∙ ap (λ i. Some i) number in
+      let idle : (world_of v).situation e.process ≡ Idle (rest_before e) = t.begun.begins.idle in
       let all : (q : ℕ) → SaysSame ((world_of v).situation q) ((world_of v').situation q) = λ q. elim (cases_eq q e.process) [
         | inl here ↦ (
             let now = ap (λ x. (world_of v').situation x) here ∙ t.begun.begins.situation in
@@ -132,11 +139,11 @@ module _ (place : ℕ) (layout : Layout) (l : Ledger) (v v' : WorldValue) (h : I
           layout = kept ∙ sym h.same;
           takes = t;
           words = t.begun.begins.memory;
-          ledger = issues_fit layout l v v' h good kept place edit s all sure (h.numbers r.process n (ap numbered was));
+          ledger = issues_fit layout l v v' h good kept place edit s all sure (h.numbers r.process n told);
         };
         after = issue_of layout l v v' h good kept place edit s all sure;
         tells = tells_begun l (issued layout l v v' h good kept place edit s all sure) v v' edit tells s t.begun.begins.layout t.begun.begins.memory
-            (λ q ne. t.begun.begins.others q (λ same. ne (same ∙ process))) ((all r.process).doubt ∙ sure) (h.numbers r.process n (ap numbered was)) (refl {a = l.counted}) (λ q. refl {a = l.told q});
+            (λ q ne. t.begun.begins.others q (λ same. ne (same ∙ process))) ((all r.process).doubt ∙ sure) (h.numbers r.process n told) (refl {a = l.counted}) (λ q. refl {a = l.told q});
       }
 
   module _ (p : ℕ) (reply : Reply) (t : EditStepsBy v p reply v') where
@@ -361,6 +368,22 @@ module _ (place : ℕ) (layout : Layout) (l : Ledger) (v v' : WorldValue) (h : I
       let goes = recovery_goes t.what t.is in
       silent (Step p) Stepped (recoveries t) t.steps.steps.counted (recovery_pending v v' p Stepped t goes) (recovery_says v v' p Stepped t goes) (recovery_access v v' p Stepped t) (inl refl) (tells_recovery_on layout l v v' p Stepped h tells t goes)
 
+  -- a migration begins, and makes a step
+  migration_begins : (p : ℕ) → MigrationBegins v p v' → Next place layout l v (BeginMigrate p) Entered v'
+  migration_begins p t = silent (BeginMigrate p) Entered t t.begun.counted t.begun.open_edits (migration_begins_says layout l v v' p h tells t) t.begun.memory refl (tells_migration_begun layout l v v' p h tells t)
+
+  migration_stepped : (p : ℕ) → MigrationStepsBy v p Stepped v' → Next place layout l v (Step p) Stepped v'
+  migration_stepped p t = silent (Step p) Stepped (migrations t) t.steps.steps.counted t.steps.steps.open_edits (migration_says v v' p Stepped t) (migration_access v v' p Stepped t) (inl refl) (tells_migration_on layout l v v' p Stepped h tells t)
+
+  migration_answered : (p : ℕ) (answer : replies.Answer) → MigrationStepsBy v p (Answered answer) v' → Next place layout l v (Step p) (Answered answer) v'
+  migration_answered p answer t =
+      silent (Step p) (Answered answer) (migrations t) t.steps.steps.counted t.steps.steps.open_edits (migration_says v v' p (Answered answer) t) (migration_access v v' p (Answered answer) t) (nothing t.what answer t.is) (tells_migration_on layout l v v' p (Answered answer) h tells t)
+    where
+      nothing : (what : MigrateEffect) (answer : replies.Answer) → Answered answer ≡ migration_reply what → AnswerMoves l p answer l
+      nothing migrate_effects.GoesOn answer is = absurd (cc)
+      nothing (migrate_effects.Answers migrate_ends.Migrated) answer is = subst (λ (a : replies.Answer). AnswerMoves l p a l) (the_answer answer _ (sym is)) refl
+      nothing (migrate_effects.Answers migrate_ends.Already) answer is = subst (λ (a : replies.Answer). AnswerMoves l p a l) (the_answer answer _ (sym is)) refl
+
   recovery_answered : (p : ℕ) (answer : replies.Answer) → RecoveryStepsBy v p (Answered answer) v' → Next place layout l v (Step p) (Answered answer) v'
   recovery_answered p answer t =
       let kept = kept_layout (Step p) (Answered answer) (recoveries t) in
@@ -411,10 +434,12 @@ module _ (place : ℕ) (layout : Layout) (l : Ledger) (v v' : WorldValue) (h : I
   next (Step p) Stepped (reports t) = report_stepped p t
   next (Step p) Stepped (works t) = work_stepped p t
   next (Step p) Stepped (recoveries t) = recovery_stepped p t
+  next (Step p) Stepped (migrations t) = migration_stepped p t
   next (Step p) (Answered answer) (edits t) = answered p answer t
   next (Step p) (Answered answer) (reports t) = report_answered p answer t
   next (Step p) (Answered answer) (works t) = work_answered p answer t
   next (Step p) (Answered answer) (recoveries t) = recovery_answered p answer t
+  next (Step p) (Answered answer) (migrations t) = migration_answered p answer t
   next (Step p) NotEnabled t = unchanged (Step p) NotEnabled (subst (λ (x : WorldValue). Takes v (Step p) NotEnabled x) t.same t) t.same (still (world_of v).memory) refl
   next (Step p) _ t = absurd t
   next (Evict word) Evicted t = evicts word t
@@ -437,6 +462,10 @@ module _ (place : ℕ) (layout : Layout) (l : Ledger) (v v' : WorldValue) (h : I
   next (BeginRecover q) (Refused why) t = unchanged (BeginRecover q) (Refused why) (subst (λ (x : WorldValue). Takes v (BeginRecover q) (Refused why) x) t.same t) t.same (still (world_of v).memory) refl
   next (BeginRecover q) NotEnabled t = unchanged (BeginRecover q) NotEnabled (subst (λ (x : WorldValue). Takes v (BeginRecover q) NotEnabled x) t.same t) t.same (still (world_of v).memory) refl
   next (BeginRecover q) _ t = absurd t
+  next (BeginMigrate q) Entered t = migration_begins q t
+  next (BeginMigrate q) (Refused why) t = unchanged (BeginMigrate q) (Refused why) (subst (λ (x : WorldValue). Takes v (BeginMigrate q) (Refused why) x) t.same t) t.same (still (world_of v).memory) refl
+  next (BeginMigrate q) NotEnabled t = unchanged (BeginMigrate q) NotEnabled (subst (λ (x : WorldValue). Takes v (BeginMigrate q) NotEnabled x) t.same t) t.same (still (world_of v).memory) refl
+  next (BeginMigrate q) _ t = absurd t
   next (Offer value) Stepped t = offers value t
   next (Offer value) WrongTask t = unchanged (Offer value) WrongTask (subst (λ (x : WorldValue). Takes v (Offer value) WrongTask x) t.same t) t.same (still (world_of v).memory) refl
   next (Offer value) _ t = absurd t

@@ -1,7 +1,7 @@
 -- The headline of every run.
 use Rattle.std.proofs.Common.{ℕ, ◌≡◌, ◌≤◌, ◌+◌, List, [], ◌∷◌, refl, ap, sym, ◌∙◌, arith, zero, suc, length, None, true, false}
 use Rattle.ds_layout.specs.declared.layout.Layout.{Layout}
-use Rattle.ds_state.specs.Value.{WorldValue, world_of, IsGood}
+use Rattle.ds_state.specs.Value.{first_rest, WorldValue, world_of, IsGood}
 use Rattle.ds_state.specs.Fresh.{IsNew}
 use Rattle.ds_core.specs.Takes.{WorldRun, world_at}
 use Rattle.ds_core.specs.Moments.{Ledger, empty_ledger}
@@ -9,6 +9,7 @@ use Rattle.ds_core.specs.Headline.{HasHeadline}
 use Rattle.ds_core.specs.declared.event.Event.{Event}
 use Rattle.ds_core.specs.declared.reply.Reply.{Reply}
 use Rattle.ds_core.proofs.Closing.{headline}
+use Rattle.ds_core.proofs.NewIdle.{new_idle}
 use Rattle.ds_core.proofs.Ledgers.{IsOf, fits_of, doubts, numbered, no_some, one_some}
 use Rattle.ds_core.proofs.Told.{Tells}
 use Rattle.ds_state.specs.declared.situation.Situation.TheVariants.{Idle, Recovering}
@@ -60,20 +61,20 @@ first_ledger v good new = record {
   counted = sym new.counted;
   none = λ p is. refl;
   some = λ p issue is. absurd (no_some ((world_of v).open_edits p) issue (new.open_edits p) is);
-  numbers = λ p n is. one_some (numbered ((world_of v).situation p)) n 0 is (ap numbered (new.situation p));
+  numbers = λ p n is. (let f = new_idle v good new p in one_some (numbered ((world_of v).situation p)) n 0 is (ap numbered f.is ∙ ap (λ k. Some k) f.zero));
 }
 
-first_tells : (v : WorldValue) → IsNew (world_of v) → Tells empty_ledger v
-first_tells v new = record {
+first_tells : (v : WorldValue) → IsGood v → IsNew (world_of v) → Tells empty_ledger v
+first_tells v good new = record {
   told = λ p c is. absurd (no_some None c refl is);
   opens = λ p issue is. absurd (no_some ((world_of v).open_edits p) issue (new.open_edits p) is);
-  announced = λ p lt doubt none. absurd (let bad : false ≡ true = sym (ap doubts (new.situation p)) ∙ doubt in cc);
-  sees = λ p e is. absurd (let bad : Idle 0 ≡ Recovering e = sym (new.situation p) ∙ is in cc);
+  announced = λ p lt doubt none. absurd (let bad : false ≡ true = sym (ap doubts (new.situation p lt)) ∙ doubt in cc);
+  sees = λ p e is. absurd (let f = new_idle v good new p in let bad : Idle f.rest ≡ Recovering e = sym f.is ∙ is in cc);
 }
 
 -- every run from a new world has the headline, with its own worlds
 pub runs_have_headline : (old : WorldValue) (events : List Event) (replies : List Reply) (new : WorldValue) → IsNew (world_of old) → IsGood old → (run : WorldRun old events replies new) → HasHeadline old events replies new run
 unfolding headline fits_all
 runs_have_headline old events replies new fresh good run =
-    let f = follows old.sheet.layout 0 empty_ledger old events replies new (first_ledger old good fresh) (first_tells old fresh) run in
+    let f = follows old.sheet.layout 0 empty_ledger old events replies new (first_ledger old good fresh) (first_tells old good fresh) run in
     record { is = headline old events replies new (fits_all old events replies new f.on (reports_fit old events replies new f.on f.good fresh)); worlds = f.worlds }

@@ -12,7 +12,7 @@ use Rattle.ds_layout.specs.declared.place.Place.{Place}
 use Rattle.ds_layout.specs.SheetMemory.{SheetValue, memory, CanPerform, PerformsAt}
 use Rattle.ds_state.specs.Edits.{PlainEditCall}
 use Rattle.ds_state.specs.World.{PlainEdit, PlainIssue, edit_of}
-use Rattle.ds_state.specs.Value.{WorldValue, world_of, IsGood, IsReserved}
+use Rattle.ds_state.specs.Value.{first_rest, WorldValue, world_of, IsGood, IsReserved}
 use Rattle.ds_state.specs.CallsFit.{CallFits, EditFits}
 use Rattle.ds_state.specs.Events.{Evicts}
 use Rattle.ds_state.specs.Sound.{IsSound}
@@ -40,7 +40,7 @@ use Rattle.ds_core.specs.declared.reply.Reply.TheVariants.{Stepped}
 use Rattle.ds_edit.specs.EditEndings.{outcome_at}
 
 pub editing_from : (v : WorldValue) (p : ℕ) (e : PlainEditCall) (read : Situation) → p < length v.situations → read ≡ get_or v.situations p read → read ≡ Editing e → IsEditing v p e
-editing_from v p e read lt is here = record { there = lt; is = get_or_default v.situations p (Idle 0) read lt ∙ sym is ∙ here }
+editing_from v p e read lt is here = record { there = lt; is = get_or_default v.situations p (Idle first_rest) read lt ∙ sym is ∙ here }
 
 -- what comes to count at a stage is nothing, or the edit
 pub counted_cases : (e : PlainEdit) (s : Stage) (word : ℕ) → (counted_at e s word ≡ []) ⊎ (counted_at e s word ≡ e ∷ [])
@@ -107,8 +107,8 @@ module _ (v : WorldValue) (g : IsGood v) (p : ℕ) (e : PlainEditCall) (at : IsE
     steps = record {
       layout = layout;
       memory = subst (λ (q : ℕ). PerformsAt (access_at e e.stage) q (memory v.sheet) (memory sheet) word) (sym mine) performs;
-      situation = ap (λ q. get_or (set v.situations p (after e e.stage word)) q (Idle 0)) mine ∙ get_or-set_same v.situations p (after e e.stage word) (Idle 0) at.there;
-      others = λ q ne. get_or-set_other v.situations p q (after e e.stage word) (Idle 0) (λ same. ne (same ∙ sym mine));
+      situation = ap (λ q. get_or (set v.situations p (after e e.stage word)) q (Idle first_rest)) mine ∙ get_or-set_same v.situations p (after e e.stage word) (Idle first_rest) at.there;
+      others = λ q ne. get_or-set_other v.situations p q (after e e.stage word) (Idle first_rest) (λ same. ne (same ∙ sym mine));
       counted = refl;
       open_edits = ap (λ q. get_or (set v.open_edits p (open_edit_at (get_or v.open_edits p None) e.stage)) q None) mine ∙ get_or-set_same v.open_edits p (open_edit_at (get_or v.open_edits p None) e.stage) None open_edit_there
           ∙ ap (λ q. open_edit_at (get_or v.open_edits q None) e.stage) (sym mine);

@@ -6,6 +6,7 @@ use Rattle.ds_words.specs.Memory.{Memory, SameMemory, StoresAt, EvictsAt, StopsA
 use Rattle.ds_words.specs.declared.access.Access.{Access}
 use Rattle.ds_words.specs.declared.access.Access.TheVariants as acts
 use Rattle.ds_words.specs.declared.access.BufferEntry.{BufferEntry}
+use Rattle.ds_layout.specs.declared.place.Edition.{Edition}
 use Rattle.ds_layout.specs.declared.place.Place.{Place}
 use Rattle.ds_layout.specs.declared.place.Place.TheVariants.{Header, Version}
 use Rattle.ds_layout.specs.SheetMemory.{PerformsAt}
@@ -108,23 +109,23 @@ edit_spares : (p n : ℕ) (e : PlainEditCall) (s : Stage) → (e.number ≡ n �
 edit_spares p n e StoreHeader ne = λ a b. ne b
 edit_spares p n e _ ne = tt
 
-record_spares : (p n : ℕ) (e : PlainEdit) (first count : ℕ) → (e.number ≡ n → ⊥) → FirstSpares p n (map (record_entry e) (range_with_len first count))
-record_spares p n e first zero ne = tt
-record_spares p n e zero (suc count) ne = λ a b. ne b
-record_spares p n e (suc first) (suc count) ne = tt
+record_spares : (p n : ℕ) (edition : Edition) (e : PlainEdit) (first count : ℕ) → (e.number ≡ n → ⊥) → FirstSpares p n (map (record_entry edition e) (range_with_len first count))
+record_spares p n edition e first zero ne = tt
+record_spares p n edition e zero (suc count) ne = λ a b. ne b
+record_spares p n edition e (suc first) (suc count) ne = tt
 
-held_spares : (p n : ℕ) (w : PlainWorld) (e : PlainEdit) (h : Held) → (e.number ≡ n → ⊥) → Holds w e h → FirstSpares p n (w.memory.buffer e.process)
-held_spares p n w e held.empty ne h = subst (λ (xs : List (BufferEntry Place)). FirstSpares p n xs) (sym h) tt
-held_spares p n w e (held.record_words first count) ne h = subst (λ (xs : List (BufferEntry Place)). FirstSpares p n xs) (sym h) (record_spares p n e first count ne)
-held_spares p n w e (held.announcing_word a) ne h = subst (λ (xs : List (BufferEntry Place)). FirstSpares p n xs) (sym h) tt
-held_spares p n w e (held.row_bits row) ne h = subst (λ (xs : List (BufferEntry Place)). FirstSpares p n xs) (sym h.alone) tt
-held_spares p n w e (held.done_bits process number) ne h = subst (λ (xs : List (BufferEntry Place)). FirstSpares p n xs) (sym h.alone) tt
-held_spares p n w e (held.head_from least) ne h = subst (λ (xs : List (BufferEntry Place)). FirstSpares p n xs) (sym h.alone) tt
-held_spares p n w e held.mark ne h = subst (λ (xs : List (BufferEntry Place)). FirstSpares p n xs) (sym h.alone) tt
+held_spares : (p n : ℕ) (w : PlainWorld) (edition : Edition) (e : PlainEdit) (h : Held) → (e.number ≡ n → ⊥) → Holds w edition e h → FirstSpares p n (w.memory.buffer e.process)
+held_spares p n w edition e held.empty ne h = subst (λ (xs : List (BufferEntry Place)). FirstSpares p n xs) (sym h) tt
+held_spares p n w edition e (held.record_words first count) ne h = subst (λ (xs : List (BufferEntry Place)). FirstSpares p n xs) (sym h) (record_spares p n edition e first count ne)
+held_spares p n w edition e (held.announcing_word a) ne h = subst (λ (xs : List (BufferEntry Place)). FirstSpares p n xs) (sym h) tt
+held_spares p n w edition e (held.row_bits row) ne h = subst (λ (xs : List (BufferEntry Place)). FirstSpares p n xs) (sym h.alone) tt
+held_spares p n w edition e (held.done_bits process number) ne h = subst (λ (xs : List (BufferEntry Place)). FirstSpares p n xs) (sym h.alone) tt
+held_spares p n w edition e (held.head_from least) ne h = subst (λ (xs : List (BufferEntry Place)). FirstSpares p n xs) (sym h.alone) tt
+held_spares p n w edition e held.mark ne h = subst (λ (xs : List (BufferEntry Place)). FirstSpares p n xs) (sym h.alone) tt
 
-pub edit_sides : (p n : ℕ) (old new : PlainWorld) (e : PlainEditCall) (word : ℕ) → (e.number ≡ n → ⊥) → Holds old (edit_of e) (held_at (text_parts e.text) e.refs e.stage) → PerformsAt (edits.access_at e e.stage) e.process old.memory new.memory word
+pub edit_sides : (p n : ℕ) (old new : PlainWorld) (e : PlainEditCall) (word : ℕ) → (e.number ≡ n → ⊥) → Holds old e.edition (edit_of e) (held_at (text_parts e.text) e.refs e.stage) → PerformsAt (edits.access_at e e.stage) e.process old.memory new.memory word
     → SidesStay old.memory new.memory (Header p n)
-edit_sides p n old new e word ne h performs = sides_performed p n e.process (edits.access_at e e.stage) old.memory new.memory word (edit_spares p n e e.stage ne) (held_spares p n old (edit_of e) (held_at (text_parts e.text) e.refs e.stage) ne h) performs
+edit_sides p n old new e word ne h performs = sides_performed p n e.process (edits.access_at e e.stage) old.memory new.memory word (edit_spares p n e e.stage ne) (held_spares p n old e.edition (edit_of e) (held_at (text_parts e.text) e.refs e.stage) ne h) performs
 
 -- ---- of work
 
@@ -157,4 +158,5 @@ recovery_first p n q w word cell (recoveries.both_words c) h = subst (λ (xs : L
 recovery_first p n q w word cell (recoveries.the_kind c) h = subst (λ (xs : List (BufferEntry Place)). FirstSpares p n xs) (sym h) tt
 recovery_first p n q w word cell (recoveries.a_mark c) h = subst (λ (xs : List (BufferEntry Place)). FirstSpares p n xs) (sym h.alone) tt
 recovery_first p n q w word cell recoveries.a_head h = subst (λ (xs : List (BufferEntry Place)). FirstSpares p n xs) (sym h.alone) tt
+recovery_first p n q w word cell recoveries.the_version h = subst (λ (xs : List (BufferEntry Place)). FirstSpares p n xs) (sym h.alone) tt
 recovery_first p n q w word cell recoveries.the_outcome h = subst (λ (xs : List (BufferEntry Place)). FirstSpares p n xs) (sym h) tt

@@ -8,13 +8,13 @@ use Rattle.std.proofs.lemmas.List.{append-nil, map-append, get_or_default, get_o
 use Rattle.std.proofs.lemmas.List.Elements.{All-contains, Contains-append_cases, Contains-append_right}
 use Rattle.ds_layout.specs.declared.layout.Layout.{Layout}
 use Rattle.ds_state.specs.World.{PlainEdit, PlainIssue, PlainWorld, of_cell}
-use Rattle.ds_state.specs.Value.{WorldValue, world_of, IsGood}
+use Rattle.ds_state.specs.Value.{first_rest, WorldValue, world_of, IsGood}
 use Rattle.ds_state.specs.Shown.{last_text, values_shown}
 use Rattle.ds_state.specs.KnownShow.{AreScratch}
 use Rattle.ds_state.specs.Sound.{Increasing}
 use Rattle.ds_state.specs.Crashes.{StopsIn, CrashesTo}
 use Rattle.ds_state.specs.declared.situation.Situation.{Situation}
-use Rattle.ds_state.specs.declared.situation.Situation.TheVariants.{Idle, Stopped, Editing, Working, Recovering, Showing}
+use Rattle.ds_state.specs.declared.situation.Situation.TheVariants.{Idle, Stopped, Editing, Working, Recovering, Showing, Migrating}
 use Rattle.ds_state.proofs.LastText.{text_right}
 use Rattle.ds_state.proofs.QuietShown.{quiet_shows}
 use Rattle.ds_edit.specs.declared.answer.Other.{Other}
@@ -66,17 +66,19 @@ put_other f p x q ne = elim (eqb_tells q p) [
 
 -- the number of the process's edit, or of its next one, where it has not stopped
 abbrev pub numbered : Situation → Option ℕ
-numbered (Idle next) = Some next
+numbered (Idle next) = Some next.number
 numbered Stopped = None
 numbered (Editing e) = Some e.number
 numbered (Working e) = Some e.next
 numbered (Recovering e) = None
 numbered (Showing e) = Some e.next
+numbered (Migrating e) = None
 
 -- whether the open edit of a process in this situation is in doubt
 abbrev pub doubts : Situation → Bool
 doubts Stopped = true
 doubts (Recovering e) = true
+doubts (Migrating e) = true
 doubts _ = false
 
 -- what came to count since the issue
@@ -413,8 +415,8 @@ module _ (layout : Layout) (l : Ledger) (v v' : WorldValue) (h : IsOf layout l v
       numbers = λ q k is. elim (cases_lt q v.sheet.layout.processes) [
         | inl lt ↦ absurd (let bad : None ≡ Some k = sym (ap numbered (c.situation q lt)) ∙ is in cc)
         | inr ge ↦ (
-            let was : (world_of v).situation q ≡ Idle 0 = get_or_past v.situations q (Idle 0) (let n = h.good.situations in omega arith) in
-            let now : (world_of v').situation q ≡ Idle 0 = get_or_past v'.situations q (Idle 0) (let n = good.situations in let lay = ap (λ (x : Layout). x.processes) c.layout in omega arith) in
+            let was : (world_of v).situation q ≡ Idle first_rest = get_or_past v.situations q (Idle first_rest) (let n = h.good.situations in omega arith) in
+            let now : (world_of v').situation q ≡ Idle first_rest = get_or_past v'.situations q (Idle first_rest) (let n = good.situations in let lay = ap (λ (x : Layout). x.processes) c.layout in omega arith) in
             h.numbers q k (ap numbered (was ∙ sym now) ∙ is))
       ];
     }

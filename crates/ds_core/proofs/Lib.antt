@@ -26,11 +26,13 @@ pub mod Alone
 pub mod AloneReport
 pub mod AtWork
 pub mod AtRecovery
+pub mod NewIdle
 pub mod Stepping
 pub mod Advancing
 pub mod Headers
 pub mod Told
 pub mod Telling
+pub mod AtMigration
 pub mod ToldEdits
 pub mod ToldCalls
 pub mod Recovered

@@ -16,7 +16,9 @@ use Rattle.ds_layout.specs.Bits.{HasBit}
 use Rattle.ds_state.specs.KnownWork.{WorkFits}
 use Rattle.ds_state.specs.CallsFit.{CallFits}
 use Rattle.ds_state.specs.declared.situation.Situation.{Situation}
-use Rattle.ds_state.specs.declared.situation.Situation.TheVariants.{Idle, Editing, Working, Recovering, Showing}
+use Rattle.ds_state.specs.declared.situation.Situation.TheVariants.{Idle, Editing, Working, Recovering, Showing, Migrating}
+use Rattle.ds_state.specs.declared.situation.Rest.{Rest}
+use Rattle.ds_work.specs.WorkSteps.{rest_of}
 use Rattle.ds_work.specs.WorkTakes as work_events
 use Rattle.ds_work.specs.declared.drive.Taken.{Taken}
 use Rattle.ds_work.specs.declared.drive.Taken.TheVariants as taken
@@ -25,14 +27,14 @@ use Rattle.ds_work.specs.WorkShows.{CellWords, shown_in, EndsShowing, ShowsAt}
 use Rattle.ds_work.specs.WorkAlone.{IsMarkedAt, IsAloneAt, IsAlone, RefersToItself, EndsAlone, GoesAlone}
 use Rattle.ds_work.proofs.WorkShows.{shown_same}
 use Rattle.ds_work.proofs.WorkAlone.{turn_alone, offer_alone, same_sees}
-use Rattle.ds_core.specs.StepEvents.{edits, works, reports, recoveries}
+use Rattle.ds_core.specs.StepEvents.{edits, works, reports, recoveries, migrations}
 use Rattle.ds_core.specs.Takes.{Takes, WorldRun}
 use Rattle.ds_core.specs.WorkEvents.{work_answer, work_reply, WorkStepsBy}
 use Rattle.ds_core.proofs.Did as did_so
-use Rattle.ds_core.proofs.Did.{Did, did, IsNothing, edit_begins, work_begins, report_begins, recovery_begins, steps, offers, evicts, stops, crashes}
+use Rattle.ds_core.proofs.Did.{Did, did, IsNothing, edit_begins, work_begins, report_begins, recovery_begins, migration_begins, steps, offers, evicts, stops, crashes}
 use Rattle.ds_core.specs.Solo.{IsLoneEvent, IsLone, IsLoneAnswer, IsLoneReply, AreLoneReplies, StandsInOwnRow}
 use Rattle.ds_core.specs.declared.event.Event.{Event}
-use Rattle.ds_core.specs.declared.event.Event.TheVariants.{BeginEdit, BeginWork, BeginShow, BeginRecover, Step, Offer, Evict, Stop, Crash}
+use Rattle.ds_core.specs.declared.event.Event.TheVariants.{BeginEdit, BeginWork, BeginShow, BeginRecover, BeginMigrate, Step, Offer, Evict, Stop, Crash}
 use Rattle.ds_core.specs.declared.reply.Reply.{Reply}
 use Rattle.ds_core.specs.declared.reply.Reply.TheVariants.{Stepped, Answered, WrongTask, Evicted, NotEnabled}
 
@@ -45,10 +47,10 @@ says_nothing first last cell _ none = tt
 -- nothing is answered any more, and all words stay
 record IsOver (first last : PlainWorld) (cell p : ℕ) (reply : Reply) (old new : WorldValue) : Type 0 where
   silent : IsLoneReply first last cell reply
-  idle : (n : ℕ) → (world_of old).situation p ≡ Idle n → (world_of new).situation p ≡ Idle n
+  idle : (n : Rest) → (world_of old).situation p ≡ Idle n → (world_of new).situation p ≡ Idle n
   words : (r : Place) → (world_of new).memory.cached r ≡ (world_of old).memory.cached r
 
-module _ (first last : PlainWorld) (cell p n : ℕ) (old new : WorldValue) (idle : (world_of old).situation p ≡ Idle n) where
+module _ (first last : PlainWorld) (cell p : ℕ) (n : Rest) (old new : WorldValue) (idle : (world_of old).situation p ≡ Idle n) where
   nothing : (reply : Reply) → IsLoneReply first last cell reply → new ≡ old → IsOver first last cell p reply old new
   nothing reply silent same = subst (λ (v : WorldValue). IsOver first last cell p reply old v) (sym same) (record { silent = silent; idle = λ k is. is; words = λ r. refl })
 
@@ -61,19 +63,21 @@ module _ (first last : PlainWorld) (cell p n : ℕ) (old new : WorldValue) (idle
   by _ _ (steps q reply is (works h)) same = absurd (let bad : Idle n ≡ Working h.steps.work = sym (idle_at q same) ∙ h.steps.works in cc)
   by _ _ (steps q reply is (reports h)) same = absurd (let bad : Idle n ≡ Showing h.steps.show = sym (idle_at q same) ∙ h.steps.at in cc)
   by _ _ (steps q reply is (recoveries h)) same = absurd (let bad : Idle n ≡ Recovering h.steps.recovery = sym (idle_at q same) ∙ h.steps.at in cc)
+  by _ _ (steps q reply is (migrations h)) same = absurd (let bad : Idle n ≡ Migrating h.steps.migration = sym (idle_at q same) ∙ h.steps.at in cc)
   by _ _ (evicts word h) same = record { silent = tt; idle = λ k is. h.evicts.situation p ∙ is; words = λ x. h.evicts.memory.cached x }
   by _ _ (offers value h) same = absurd (let bad : Idle n ≡ Working h.offered.work = sym (idle_at value.task.process same) ∙ h.offered.waits.works in cc)
   by _ _ (edit_begins r k h) same = absurd same
   by _ _ (work_begins q c h) same = absurd same
   by _ _ (report_begins q h) same = absurd same
   by _ _ (recovery_begins q h) same = absurd same
+  by _ _ (migration_begins q h) same = absurd same
   by _ _ (stops q h) same = absurd same
   by _ _ (crashes h) same = absurd same
 
   over : (event : Event) (reply : Reply) → Takes old event reply new → IsLoneEvent p event → IsOver first last cell p reply old new
   over event reply h same = by event reply (did old new event reply h) same
 
-rest : (first last : PlainWorld) (cell : ℕ) (events : List Event) (replies : List Reply) (old new : WorldValue) (p n : ℕ) → (world_of old).situation p ≡ Idle n → WorldRun old events replies new → IsLone p events
+rest : (first last : PlainWorld) (cell : ℕ) (events : List Event) (replies : List Reply) (old new : WorldValue) (p : ℕ) (n : Rest) → (world_of old).situation p ≡ Idle n → WorldRun old events replies new → IsLone p events
     → AreLoneReplies first last cell replies × ((r : Place) → (world_of new).memory.cached r ≡ (world_of old).memory.cached r)
 rest first last cell [] [] old new p n idle run lone = (tt, λ r. ap (λ (v : WorldValue). (world_of v).memory.cached r) run)
 rest first last cell (event ∷ events) (reply ∷ replies) old new p n idle run lone =
@@ -132,7 +136,7 @@ record Ends (row : ℕ → ℕ) (before : CellWords) (p cell : ℕ) (reply : Rep
   of_cell : work.cell ≡ cell
   so : EndsAlone row (world_of new) work end
   showing : EndsShowing before (shown_in (world_of new) work.cell) end
-  n : ℕ
+  n : Rest
   idle : (world_of new).situation p ≡ Idle n
 
 module _ (first last : PlainWorld) (row : ℕ → ℕ) (before : CellWords) (p cell : ℕ) (old new : WorldValue) (sound : IsSound (world_of old)) (u : IsUnderway row before p cell old) where
@@ -160,7 +164,7 @@ module _ (first last : PlainWorld) (row : ℕ → ℕ) (before : CellWords) (p c
             of_cell = ap (λ (x : PlainWorkCall). x.cell) one ∙ u.of_cell;
             so = k.1;
             showing = k.2;
-            n = h.steps.work.next;
+            n = rest_of h.steps.work;
             idle = ap (λ x. (world_of new).situation x) (sym same ∙ sym h.steps.mine) ∙ k.0;
           })
 
@@ -173,6 +177,7 @@ module _ (first last : PlainWorld) (row : ℕ → ℕ) (before : CellWords) (p c
   by_event _ _ (steps q reply is (works h)) same = by_work q reply same h
   by_event _ _ (steps q reply is (reports h)) same = absurd (no_report row before p cell old new sound u q h.steps.show same h.steps.at)
   by_event _ _ (steps q reply is (recoveries h)) same = absurd (no_recovery row before p cell old new sound u q h.steps.recovery same h.steps.at)
+  by_event _ _ (steps q reply is (migrations h)) same = absurd (let bad : Migrating h.steps.migration ≡ Working u.work = sym h.steps.at ∙ ap (λ x. (world_of old).situation x) same ∙ u.at in cc)
   by_event _ _ (evicts word h) same = inl (record {
     silent = tt;
     on = record {
@@ -196,6 +201,7 @@ module _ (first last : PlainWorld) (row : ℕ → ℕ) (before : CellWords) (p c
   by_event _ _ (work_begins q c h) same = absurd same
   by_event _ _ (report_begins q h) same = absurd same
   by_event _ _ (recovery_begins q h) same = absurd same
+  by_event _ _ (migration_begins q h) same = absurd same
   by_event _ _ (stops q h) same = absurd same
   by_event _ _ (crashes h) same = absurd same
 

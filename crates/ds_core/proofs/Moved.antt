@@ -8,9 +8,9 @@ use Rattle.ds_core.specs.Moments.{Placed, Open, Closed, Ledger}
 use Rattle.ds_core.specs.Headline.{IsIssueOf}
 use Rattle.ds_core.specs.LedgerSteps.{put, in_doubt, next_number, Stands, Issues, Counts, Closes, Forgets, Loses, AnswerMoves, LedgerMoves}
 use Rattle.ds_core.specs.declared.event.Event.{Event}
-use Rattle.ds_core.specs.declared.event.Event.TheVariants.{BeginEdit, BeginWork, BeginShow, BeginRecover, Step, Offer, Evict, Stop, Crash}
+use Rattle.ds_core.specs.declared.event.Event.TheVariants.{BeginEdit, BeginWork, BeginShow, BeginRecover, BeginMigrate, Step, Offer, Evict, Stop, Crash}
 use Rattle.ds_edit.specs.declared.answer.Answer.{Answer}
-use Rattle.ds_edit.specs.declared.answer.Answer.TheVariants.{Done, Overtaken, NotDirty, Missed, Worn, Published, Again, NoMemory, Last, Nothing, Settled, Unsettled}
+use Rattle.ds_edit.specs.declared.answer.Answer.TheVariants.{Done, Overtaken, NotDirty, Missed, Worn, Published, Again, NoMemory, Last, Nothing, Migrated, Already, Settled, Unsettled}
 use Rattle.ds_core.specs.declared.reply.Reply.{Reply}
 use Rattle.ds_core.specs.declared.reply.Reply.TheVariants.{Begun, Entered, Refused, Stepped, Answered, WrongTask, Evicted, Stopped, Crashed, NotEnabled}
 
@@ -192,6 +192,8 @@ answer_moved k I old p Worn new h = same_moved k I old new h
 answer_moved k I old p (Published changed) new h = same_moved k I old new h
 answer_moved k I old p Again new h = same_moved k I old new h
 answer_moved k I old p NoMemory new h = same_moved k I old new h
+answer_moved k I old p Migrated new h = same_moved k I old new h
+answer_moved k I old p Already new h = same_moved k I old new h
 answer_moved k I old p Settled new h = same_moved k I old new h
 answer_moved k I old p (Unsettled place word) new h = same_moved k I old new h
 
@@ -213,6 +215,10 @@ moved k shape old (BeginRecover p) Entered new h = same_moved k _ old new h
 moved k shape old (BeginRecover p) (Refused why) new h = same_moved k _ old new h
 moved k shape old (BeginRecover p) NotEnabled new h = same_moved k _ old new h
 moved k shape old (BeginRecover p) _ new h = absurd h
+moved k shape old (BeginMigrate p) Entered new h = same_moved k _ old new h
+moved k shape old (BeginMigrate p) (Refused why) new h = same_moved k _ old new h
+moved k shape old (BeginMigrate p) NotEnabled new h = same_moved k _ old new h
+moved k shape old (BeginMigrate p) _ new h = absurd h
 moved k shape old (Step p) Stepped new (inl h) = same_moved k _ old new h
 moved k shape old (Step p) Stepped new (inr h) = counts_moved k _ old p new h
 moved k shape old (Step p) (Answered answer) new h = answer_moved k _ old p answer new h

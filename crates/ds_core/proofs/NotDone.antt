@@ -28,11 +28,15 @@ use Rattle.ds_work.specs.declared.drive.Taken.{Taken}
 use Rattle.ds_work.specs.declared.drive.Taken.TheVariants as taken
 use Rattle.ds_recover.specs.RecoverySteps.{number_of, end_of, access_at}
 use Rattle.ds_recover.proofs.RecoveryLaws.{fits_of, repeated}
+use Rattle.ds_recover.specs.declared.migrate.MigrateEffect.{MigrateEffect}
+use Rattle.ds_recover.specs.declared.migrate.MigrateEffect.TheVariants as migrate_effects
+use Rattle.ds_state.specs.declared.work.MigrateEnd.TheVariants as migrate_ends
+use Rattle.ds_core.specs.MigrationEvents.{MigrationStepsBy, MigrationBegins, migration_reply, migration_answer}
 use Rattle.ds_core.specs.RecoveryEvents.{recovery_answer, recovery_reply, RecoveryStepsBy}
 use Rattle.ds_core.specs.ReportEvents.{report_reply}
 use Rattle.ds_core.specs.WorkEvents.{work_reply}
 use Rattle.ds_core.specs.SpentNumbers.{IsOut}
-use Rattle.ds_core.specs.StepEvents.{edits, works, reports, recoveries}
+use Rattle.ds_core.specs.StepEvents.{edits, works, reports, recoveries, migrations}
 use Rattle.ds_core.specs.Takes.{Takes, WorldRun}
 use Rattle.ds_core.specs.declared.event.Event.{Event}
 use Rattle.ds_core.specs.declared.event.Event.TheVariants.{Step}
@@ -92,6 +96,11 @@ resolved_out old mid p told sound s not =
           cc),
     )
 
+migration_not_last : (what : MigrateEffect) (told : Told) → Answered (Last told) ≡ migration_reply what → ⊥
+migration_not_last migrate_effects.GoesOn told is = absurd (cc)
+migration_not_last (migrate_effects.Answers migrate_ends.Migrated) told is = absurd (cc)
+migration_not_last (migrate_effects.Answers migrate_ends.Already) told is = absurd (cc)
+
 pub told_not_done_never : (old mid new : WorldValue) (events : List Event) (replies : List Reply) (p : ℕ) (told : Told) → IsSound (world_of old) → Takes old (Step p) (Answered (Last told)) mid → told.counts ≡ false
     → WorldRun mid events replies new → IsSpent (world_of new) p told.number × IsOut (world_of new) p told.number
 told_not_done_never old mid new events replies p told sound (recoveries s) not run =
@@ -99,4 +108,5 @@ told_not_done_never old mid new events replies p told sound (recoveries s) not r
     stays_out events replies mid new p told.number (recovery_turn old mid p (Answered (Last told)) sound s).keeps.sound o.0 o.1 run
 told_not_done_never old mid new events replies p told sound (edits s) not run = absurd (let found = some_outcome old.sheet.layout.processes s.edit.number (Last told) (outcome_at s.edit.stage) s.is in edit_not_last old.sheet.layout.processes s.edit.number told found.0 found.2)
 told_not_done_never old mid new events replies p told sound (works s) not run = absurd (work_not_last s.what told s.is)
+told_not_done_never old mid new events replies p told sound (migrations s) not run = absurd (migration_not_last s.what told s.is)
 told_not_done_never old mid new events replies p told sound (reports s) not run = absurd (report_not_last s.what told s.is)

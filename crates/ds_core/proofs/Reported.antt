@@ -31,16 +31,20 @@ use Rattle.ds_state.specs.declared.work.ShowStage.{ShowStage}
 use Rattle.ds_state.specs.declared.work.ShowStage.TheVariants as stages
 use Rattle.ds_state.specs.Rely.{Rely}
 use Rattle.ds_state.specs.CallsFit.{CallFits}
-use Rattle.ds_state.specs.Value.{WorldValue, world_of, IsGood}
+use Rattle.ds_state.specs.Value.{first_rest, WorldValue, world_of, IsGood}
 use Rattle.ds_state.specs.declared.situation.Situation.{Situation}
 use Rattle.ds_state.specs.declared.situation.Situation.TheVariants as situation
-use Rattle.ds_state.specs.declared.situation.Situation.TheVariants.{Idle, Editing, Recovering, Showing}
+use Rattle.ds_state.specs.declared.situation.Situation.TheVariants.{Idle, Editing, Recovering, Showing, Migrating}
 use Rattle.ds_state.proofs.Accesses.{evict_sound}
 use Rattle.ds_state.proofs.Buffers.{buffered}
 use Rattle.ds_edit.specs.EditTakes as edit_steps
 use Rattle.ds_edit.proofs.Answering.{begin_sound}
 use Rattle.ds_show.specs.ShowRuns.{Passes, HasBegun, Call, IsOf, AreInTurn, WasStill, WasOff, IsTrueReport}
 use Rattle.ds_show.proofs.ShowRuns.{rely_same, answer_true}
+use Rattle.ds_recover.specs.declared.migrate.MigrateEffect.{MigrateEffect}
+use Rattle.ds_recover.specs.declared.migrate.MigrateEffect.TheVariants as migrate_effects
+use Rattle.ds_state.specs.declared.work.MigrateEnd.TheVariants as migrate_ends
+use Rattle.ds_core.specs.MigrationEvents.{MigrationStepsBy, MigrationBegins, migration_reply, migration_answer}
 use Rattle.ds_core.specs.EditEvents.{reply_with, EditStepsBy}
 use Rattle.ds_core.specs.ReportEvents.{report_answer, report_reply, ReportStepsBy, ReportBegins}
 use Rattle.ds_core.specs.StepEvents.{StepsBy, edits, works, reports, recoveries}
@@ -56,15 +60,17 @@ use Rattle.ds_recover.specs.declared.machine.RecoveryEnd.TheVariants as recovery
 use Rattle.ds_core.specs.Takes.{Takes}
 use Rattle.ds_core.specs.Moments.{Moment, MomentFits, empty_ledger}
 use Rattle.ds_core.proofs.Did as did_so
-use Rattle.ds_core.proofs.Did.{Did, did, nothing, edit_begins, work_begins, report_begins, recovery_begins, offers, evicts, stops, crashes}
+use Rattle.ds_core.proofs.Did.{Did, did, nothing, edit_begins, work_begins, report_begins, recovery_begins, migration_begins, offers, evicts, stops, crashes}
 use Rattle.ds_core.specs.Headline.{Happens, IsCall, IsWatched, IsUnrest, SettledFits, UnsettledFits, ReportsFit, kept_values}
 use Rattle.ds_core.specs.declared.event.Event.{Event}
-use Rattle.ds_core.specs.declared.event.Event.TheVariants.{BeginEdit, BeginWork, BeginShow, BeginRecover, Step, Offer, Evict, Stop, Crash}
+use Rattle.ds_core.specs.declared.event.Event.TheVariants.{BeginEdit, BeginWork, BeginShow, BeginRecover, BeginMigrate, Step, Offer, Evict, Stop, Crash}
 use Rattle.ds_core.specs.declared.reply.Reply.{Reply}
 use Rattle.ds_core.specs.declared.reply.Reply.TheVariants.{Begun, Entered, Refused, Stepped, Answered, WrongTask, Evicted, Stopped, Crashed, NotEnabled}
-use Rattle.ds_core.proofs.Turns.{IsTurn, LeavesEdits, edit_turn, report_turn, report_begins_turn, stop_turn, work_leaves, work_begins_leaves, offer_leaves, recovery_turn, recovery_begins_turn}
+use Rattle.ds_core.proofs.Turns.{IsTurn, LeavesEdits, edit_turn, report_turn, report_begins_turn, stop_turn, work_leaves, work_begins_leaves, offer_leaves, recovery_turn, recovery_begins_turn, migration_turn, migration_begins_turn}
 use Rattle.ds_core.proofs.AtWork.{StaysAtWork, at_work_shows_not, work_stays, work_begins_stays, offer_stays}
 use Rattle.ds_core.proofs.AtRecovery.{recovery_shows_not}
+use Rattle.ds_core.proofs.AtMigration.{migration_shows_not}
+use Rattle.ds_core.proofs.NewIdle.{new_idle}
 use Rattle.ds_core.proofs.Carry.{RunOn, at_place}
 use Rattle.ds_core.proofs.Closing.{found_at, up}
 
@@ -156,6 +162,8 @@ module _ (p : ℕ) (old new : WorldValue) (good : IsGood old) (low : p < old.she
   by _ _ (did_so.steps q reply is (works h)) = by_work (Step q) reply q (work_leaves old new q reply good.sound h) (work_stays q old new reply h)
   by _ _ (did_so.steps q reply is (reports h)) = by_report q reply h
   by _ _ (did_so.steps q reply is (recoveries h)) = by_recovery q reply h
+  by _ _ (migration_begins q h) = by_turn (BeginMigrate q) Entered q (migration_begins_turn old new q good.sound h) (λ same f is. let bad : Migrating _ ≡ Showing f = sym h.begun.situation ∙ is in cc)
+  by _ _ (did_so.steps q reply is (migrations h)) = by_turn (Step q) reply q (migration_turn old new q reply good.sound h) (λ same f is. migration_shows_not old new q reply h f is)
   by _ _ (offers value h) = by_work (Offer value) Stepped value.task.process (offer_leaves old new value good.sound h) (offer_stays old new value h)
   by _ _ (evicts word h) = inr (record {
     show = e;
@@ -188,7 +196,7 @@ there (y ∷ ys) (suc k) x is = let r = there ys k x is in omega arith
 real : (v : WorldValue) (p : ℕ) (e : PlainShowCall) → IsGood v → (world_of v).situation p ≡ Showing e → p < v.sheet.layout.processes
 real v p e good is = elim (cases_lt p v.sheet.layout.processes) [
   | inl lt ↦ lt
-  | inr ge ↦ absurd (let bad : Idle 0 ≡ Showing e = sym (get_or_past v.situations p (Idle 0) (let n = good.situations in omega arith)) ∙ is in cc)
+  | inr ge ↦ absurd (let bad : Idle first_rest ≡ Showing e = sym (get_or_past v.situations p (Idle first_rest) (let n = good.situations in omega arith)) ∙ is in cc)
 ]
 
 module _ (old : WorldValue) (events : List Event) (replies : List Reply) (new : WorldValue) (run : RunOn 0 old.sheet.layout.shape empty_ledger old events replies new)
@@ -216,7 +224,7 @@ module _ (old : WorldValue) (events : List Event) (replies : List Reply) (new : 
   not_twice k p e is happens = let t : ReportBegins (at k) p (at (k + 1)) = takes_at k (BeginShow p) Entered happens in let bad : Idle t.begun.next ≡ Showing e = sym t.begun.begins.idle ∙ is in cc
 
   reporting : (k : ℕ) → k ≤ length events → (p : ℕ) (e : PlainShowCall) → (world_of (at k)).situation p ≡ Showing e → IsReporting p k
-  reporting zero lt p e is = absurd (let bad : Idle 0 ≡ Showing e = sym (fresh.situation p) ∙ ap (λ (m : Moment). (world_of m.world).situation p) (sym run.first) ∙ is in cc)
+  reporting zero lt p e is = absurd (let old_good : IsGood old = subst IsGood (ap (λ (m : Moment). m.world) run.first) (good 0 (omega arith)) in let here : (world_of old).situation p ≡ Showing e = ap (λ (m : Moment). (world_of m.world).situation p) (sym run.first) ∙ is in let f = new_idle old old_good fresh p in let bad : Idle f.rest ≡ Showing e = sym f.is ∙ here in cc)
   reporting (suc k) lt p e is =
       let event = found_at events k (omega arith) in
       let reply = found_at replies k (let same = run.answered in omega arith) in
@@ -360,6 +368,11 @@ module _ (old : WorldValue) (events : List Event) (replies : List Reply) (new : 
   recovery_reports_not (recovery_effects.Answers recovery_ends.Nothing) answer is = no_report answer _ is tt
   recovery_reports_not (recovery_effects.Answers (recovery_ends.Last number cell counts)) answer is = no_report answer _ is tt
 
+  migration_reports_not : (what : MigrateEffect) (answer : call_answers.Answer) → Answered answer ≡ migration_reply what → IsNoReport answer
+  migration_reports_not migrate_effects.GoesOn answer is = absurd (cc)
+  migration_reports_not (migrate_effects.Answers migrate_ends.Migrated) answer is = no_report answer _ is tt
+  migration_reports_not (migrate_effects.Answers migrate_ends.Already) answer is = no_report answer _ is tt
+
   settles : (what : Effect) → Answered Settled ≡ report_reply what → what ≡ Answers ends.Settled
   settles GoesOn is = absurd (cc)
   settles (Answers ends.Settled) is = refl
@@ -376,6 +389,7 @@ module _ (old : WorldValue) (events : List Event) (replies : List Reply) (new : 
       by (edits h) = absurd (edit_settles (at k).sheet.layout.processes h.edit.number (outcome_at h.edit.stage) h.is)
       by (works h) = absurd (work_reports_not h.what Settled h.is)
       by (recoveries h) = absurd (recovery_reports_not h.what Settled h.is)
+      by (migrations h) = absurd (migration_reports_not h.what Settled h.is)
       by (reports h) =
           let e : Ends k p ends.Settled = ends_of k p (Answered Settled) ends.Settled h (settles h.what h.is) in
           let within : k ≤ length events = (let l = lt in omega arith) in
@@ -456,6 +470,7 @@ module _ (old : WorldValue) (events : List Event) (replies : List Reply) (new : 
       by (edits h) = absurd (edit_unsettles (at k).sheet.layout.processes h.edit.number place word (outcome_at h.edit.stage) h.is)
       by (works h) = absurd (work_reports_not h.what (Unsettled place word) h.is)
       by (recoveries h) = absurd (recovery_reports_not h.what (Unsettled place word) h.is)
+      by (migrations h) = absurd (migration_reports_not h.what (Unsettled place word) h.is)
       by (reports h) =
           let u = unsettles h.what place word h.is in
           let e : Ends k p u.end = ends_of k p (Answered (Unsettled place word)) u.end h u.is in

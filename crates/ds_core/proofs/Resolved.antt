@@ -15,6 +15,7 @@ use Rattle.ds_state.specs.Known.{Standing, outside, inside, safe, Announced, las
 use Rattle.ds_state.specs.CallsFit.{CallFits, MaySay, DoubtFits, IsInDoubt, IsWritten, RecoveryFits}
 use Rattle.ds_state.specs.KnownRecovery.{Tells as Announced_as, ResolvedFits, resolved_at, over, phase_for}
 use Rattle.ds_state.specs.Value.{WorldValue, world_of, IsGood}
+use Rattle.ds_state.specs.declared.situation.Rest.{Rest}
 use Rattle.ds_state.specs.declared.situation.Situation.{Situation}
 use Rattle.ds_state.specs.declared.situation.Situation.TheVariants.{Idle}
 use Rattle.ds_state.specs.declared.stage.Outcome.{Outcome}
@@ -107,10 +108,10 @@ pub record IsResolved (layout : Layout) (l : Ledger) (p : ℕ) (answer : Answer)
   pub tells : Tells ledger v'
 
 -- a ledger that differs only in what it has of one process, whose recovery has answered
-module _ (layout : Layout) (l l' : Ledger) (v v' : WorldValue) (h : IsOf layout l v) (good : IsGood v') (p next : ℕ) (same : v'.sheet.layout ≡ layout) (list : l'.counted ≡ l.counted) (counted : v'.counted ≡ v.counted)
+module _ (layout : Layout) (l l' : Ledger) (v v' : WorldValue) (h : IsOf layout l v) (good : IsGood v') (p : ℕ) (next : Rest) (same : v'.sheet.layout ≡ layout) (list : l'.counted ≡ l.counted) (counted : v'.counted ≡ v.counted)
     (gone : l'.opens p ≡ None) (opens : (q : ℕ) → q ≢ p → l'.opens q ≡ l.opens q) (told : (q : ℕ) → q ≢ p → l'.told q ≡ l.told q)
     (now : (world_of v').situation p ≡ Idle next) (others : (q : ℕ) → q ≢ p → (world_of v').situation q ≡ (world_of v).situation q)
-    (none : (world_of v').open_edits p ≡ None) (pends : (q : ℕ) → q ≢ p → (world_of v').open_edits q ≡ (world_of v).open_edits q) (number : next ≡ next_number (l'.told p)) where
+    (none : (world_of v').open_edits p ≡ None) (pends : (q : ℕ) → q ≢ p → (world_of v').open_edits q ≡ (world_of v).open_edits q) (number : next.number ≡ next_number (l'.told p)) where
   open_on : (q : ℕ) (issue : PlainIssue) (b : Bool) → q ≢ p → IsOpenAs l issue q b → IsOpenAs l' issue q b
   open_on q issue b ne a = record {
     o = a.o;
@@ -136,7 +137,7 @@ module _ (layout : Layout) (l l' : Ledger) (v v' : WorldValue) (h : IsOf layout 
       | inr other ↦ subst (λ (b : Bool). IsOpenAs l' issue q b) (ap doubts (sym (others q other))) (open_on q issue _ other (h.some q issue (sym (pends q other) ∙ is)))
     ];
     numbers = λ q n is. elim (cases_eq q p) [
-      | inl here ↦ one_some (numbered ((world_of v').situation q)) n next is (ap numbered (ap (λ x. (world_of v').situation x) here ∙ now)) ∙ number ∙ ap next_number (ap l'.told (sym here))
+      | inl here ↦ one_some (numbered ((world_of v').situation q)) n next.number is (ap numbered (ap (λ x. (world_of v').situation x) here ∙ now)) ∙ number ∙ ap next_number (ap l'.told (sym here))
       | inr other ↦ h.numbers q n (ap numbered (sym (others q other)) ∙ is) ∙ ap next_number (sym (told q other))
     ];
   }
@@ -200,7 +201,10 @@ module _ (layout : Layout) (l : Ledger) (v v' : WorldValue) (h : IsOf layout l v
   abbrev next : ℕ
   next = steps.next_number s.steps.recovery.announcement found.how
 
-  now : (world_of v').situation p ≡ Idle next
+  abbrev resting : Rest
+  resting = steps.rest_after s.steps.recovery found.how
+
+  now : (world_of v').situation p ≡ Idle resting
   now = ap (λ q. (world_of v').situation q) (sym s.steps.mine) ∙ s.steps.steps.situation ∙ ap (λ (x : RecoverStage). steps.after s.steps.recovery x s.steps.word) found.at
 
   sure : doubts ((world_of v').situation p) ≡ false
@@ -257,7 +261,7 @@ module _ (layout : Layout) (l : Ledger) (v v' : WorldValue) (h : IsOf layout l v
   -- what follows where no edit is closed under its number
   module _ (l' : Ledger) (list : l'.counted ≡ l.counted) (closed : l'.opens p ≡ None) (opens : (q : ℕ) → q ≢ p → l'.opens q ≡ l.opens q) (told : (q : ℕ) → l'.told q ≡ l.told q) (number : next ≡ next_number (l.told p)) where
     quiet_after : IsOf layout l' v'
-    quiet_after = rested layout l l' v v' h good p next (s.steps.steps.layout ∙ h.same) list s.steps.steps.counted closed opens (λ q ne. told q) now others gone pends (number ∙ ap next_number (sym (told p)))
+    quiet_after = rested layout l l' v v' h good p resting (s.steps.steps.layout ∙ h.same) list s.steps.steps.counted closed opens (λ q ne. told q) now others gone pends (number ∙ ap next_number (sym (told p)))
 
     quiet_tells : Tells l' v'
     quiet_tells = tells_on p l l' v v' t (turn_leaves p v v' (recovery_turn v v' p (Answered answer) h.good.sound s)) s.steps.steps.layout told
@@ -342,7 +346,7 @@ module _ (layout : Layout) (l : Ledger) (v v' : WorldValue) (h : IsOf layout l v
       }
 
       after_close : IsOf layout ended_in v'
-      after_close = rested layout l ended_in v v' h good p next (s.steps.steps.layout ∙ h.same) refl s.steps.steps.counted (put_here l.opens p None) (λ q ne. put_other l.opens p None q ne) (λ q ne. put_other l.told p (Some ended_as) q ne)
+      after_close = rested layout l ended_in v v' h good p resting (s.steps.steps.layout ∙ h.same) refl s.steps.steps.counted (put_here l.opens p None) (λ q ne. put_other l.opens p None q ne) (λ q ne. put_other l.told p (Some ended_as) q ne)
           now others gone pends (next_word ∙ sym number ∙ ap (λ (x : PlainEdit). x.number + 1) (sym own.edit) ∙ ap next_number (sym (put_here l.told p (Some ended_as))))
 
       tells_close : Tells ended_in v'

@@ -2,7 +2,7 @@
 use Rattle.std.proofs.Common.{ℕ, ◌≡◌, ◌+◌, List, [], ◌∷◌, refl, ap, sym, ◌∙◌, subst, Some, None}
 use Rattle.std.specs.Prelude.{Option}
 use Rattle.ds_layout.specs.declared.place.Place.TheVariants as place
-use Rattle.ds_state.specs.Works.{PlainWorkCall, PlainShowCall, PlainRecoverCall}
+use Rattle.ds_state.specs.Works.{PlainWorkCall, PlainShowCall, PlainRecoverCall, PlainMigrateCall}
 use Rattle.ds_state.specs.Edits.{PlainEditCall}
 use Rattle.ds_state.specs.World.{PlainWorld}
 use Rattle.ds_state.specs.Value.{WorldValue, world_of}
@@ -12,19 +12,19 @@ use Rattle.ds_state.specs.declared.stage.Outcome.TheVariants as outcome
 use Rattle.ds_state.specs.declared.stage.Stage.{Stage}
 use Rattle.ds_state.specs.declared.stage.Stage.TheVariants.{StoreHeader, FlushNoted, BackNoted, OrDone, FlushDone, BackDone, Swap, StoreOutcome, FlushOutcome, BackOutcome, Answer}
 use Rattle.ds_state.specs.declared.situation.Situation.{Situation}
-use Rattle.ds_state.specs.declared.situation.Situation.TheVariants.{Idle, Editing, Working, Recovering, Showing}
+use Rattle.ds_state.specs.declared.situation.Situation.TheVariants.{Idle, Editing, Working, Recovering, Showing, Migrating}
 use Rattle.ds_edit.specs.EditSteps.{next_at}
-use Rattle.ds_edit.specs.EditTakes.{after}
+use Rattle.ds_edit.specs.EditTakes.{rest_behind, after}
 use Rattle.ds_edit.specs.Alone.{IsAloneAt}
 use Rattle.ds_edit.proofs.Alone.{alone}
 use Rattle.ds_core.specs.EditEvents.{reply_with, EditStepsBy}
-use Rattle.ds_core.specs.StepEvents.{edits, works, reports, recoveries}
+use Rattle.ds_core.specs.StepEvents.{edits, works, reports, recoveries, migrations}
 use Rattle.ds_edit.specs.EditEndings.{outcome_at, answer_of}
 use Rattle.ds_core.specs.Takes.{Takes, WorldRun}
 use Rattle.ds_core.specs.Solo.{IsSoloEvent, IsSolo, IsDoneOnly, AreDoneOnly}
-use Rattle.ds_core.proofs.Did.{Did, did, IsNothing, IsOfStep, nothing, edit_begins, work_begins, report_begins, recovery_begins, steps, offers, evicts, stops, crashes}
+use Rattle.ds_core.proofs.Did.{Did, did, IsNothing, IsOfStep, nothing, edit_begins, work_begins, report_begins, recovery_begins, migration_begins, steps, offers, evicts, stops, crashes}
 use Rattle.ds_core.specs.declared.event.Event.{Event}
-use Rattle.ds_core.specs.declared.event.Event.TheVariants.{BeginEdit, BeginWork, BeginShow, BeginRecover, Step, Offer, Evict, Stop, Crash}
+use Rattle.ds_core.specs.declared.event.Event.TheVariants.{BeginEdit, BeginWork, BeginShow, BeginRecover, BeginMigrate, Step, Offer, Evict, Stop, Crash}
 use Rattle.ds_edit.specs.declared.answer.Answer.{Answer as ReplyAnswer}
 use Rattle.ds_edit.specs.declared.answer.Answer.TheVariants.{Done}
 use Rattle.ds_core.specs.declared.reply.Reply.{Reply}
@@ -60,7 +60,7 @@ pub some_outcome : (processes number : ℕ) (a : ReplyAnswer) (o : Option Outcom
 some_outcome processes number a None is = absurd (cc)
 some_outcome processes number a (Some how) is = (how, refl, cc)
 
-pub after_answer : (e : PlainEditCall) (s : Stage) (how : Outcome) (word : ℕ) → s ≡ Answer how → after e s word ≡ Idle (e.number + 1)
+pub after_answer : (e : PlainEditCall) (s : Stage) (how : Outcome) (word : ℕ) → s ≡ Answer how → after e s word ≡ Idle (rest_behind e)
 after_answer e s how word is = ap (λ x. after e x word) is
 
 module _ (old new : WorldValue) (sound : IsSound (world_of old)) (p number : ℕ) (a : IsAlone old p number) where
@@ -95,7 +95,7 @@ module _ (old new : WorldValue) (sound : IsSound (world_of old)) (p number : ℕ
     last : h.edit.stage ≡ Answer found.0
     last = answers_at h.edit.stage found.0 found.1
 
-    over : (world_of new).situation p ≡ Idle (h.edit.number + 1)
+    over : (world_of new).situation p ≡ Idle (rest_behind h.edit)
     over = situation_now h.edit q h.mine same _ (h.steps.situation ∙ after_answer h.edit h.edit.stage found.0 h.word last)
 
     answered : (answer ≡ Done number) × IsAlone new p number
@@ -105,7 +105,7 @@ module _ (old new : WorldValue) (sound : IsSound (world_of old)) (p number : ℕ
           found.2 ∙ ap (λ how. answer_of old.sheet.layout.processes h.edit.number how) done ∙ ap (λ n. Done n) before.0,
           record {
             only = subst EditsOnly (sym over) tt;
-            edit = λ e' is. absurd (let bad : Idle (h.edit.number + 1) ≡ Editing e' = sym over ∙ is in cc);
+            edit = λ e' is. absurd (let bad : Idle (rest_behind h.edit) ≡ Editing e' = sym over ∙ is in cc);
           },
         )
 
@@ -118,6 +118,9 @@ module _ (old new : WorldValue) (sound : IsSound (world_of old)) (p number : ℕ
 
   no_recovery : (q : ℕ) → q ≡ p → (f : PlainRecoverCall) → (world_of old).situation q ≡ Recovering f → ⊥
   no_recovery q same f is = subst EditsOnly (ap (λ x. (world_of old).situation x) (sym same) ∙ is) a.only
+
+  no_migration : (q : ℕ) → q ≡ p → (f : PlainMigrateCall) → (world_of old).situation q ≡ Migrating f → ⊥
+  no_migration q same f is = subst EditsOnly (ap (λ x. (world_of old).situation x) (sym same) ∙ is) a.only
 
   unchanged : new ≡ old → IsAlone new p number
   unchanged same = subst (λ (v : WorldValue). IsAlone v p number) (sym same) a
@@ -137,10 +140,12 @@ module _ (old new : WorldValue) (sound : IsSound (world_of old)) (p number : ℕ
   by _ _ (work_begins q cell h) solo = absurd solo
   by _ _ (report_begins q h) solo = absurd solo
   by _ _ (recovery_begins q h) solo = absurd solo
+  by _ _ (migration_begins q h) solo = absurd solo
   by _ _ (steps q reply is (edits h)) same = by_edit q reply same is h
   by _ _ (steps q reply is (works h)) same = absurd (no_work q same h.steps.work h.steps.works)
   by _ _ (steps q reply is (reports h)) same = absurd (no_report q same h.steps.show h.steps.at)
   by _ _ (steps q reply is (recoveries h)) same = absurd (no_recovery q same h.steps.recovery h.steps.at)
+  by _ _ (steps q reply is (migrations h)) same = absurd (no_migration q same h.steps.migration h.steps.at)
   by _ _ (offers value h) solo = absurd solo
   by _ _ (evicts word h) solo = (
     tt,

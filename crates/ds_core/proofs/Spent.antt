@@ -16,11 +16,15 @@ use Rattle.ds_state.specs.declared.stage.Stage.TheVariants.{Answer}
 use Rattle.ds_state.specs.declared.situation.Situation.{Situation}
 use Rattle.ds_state.specs.declared.situation.Situation.TheVariants.{Editing}
 use Rattle.ds_edit.specs.EditTakes.{counted_at}
+use Rattle.ds_recover.specs.declared.migrate.MigrateEffect.{MigrateEffect}
+use Rattle.ds_recover.specs.declared.migrate.MigrateEffect.TheVariants as migrate_effects
+use Rattle.ds_state.specs.declared.work.MigrateEnd.TheVariants as migrate_ends
+use Rattle.ds_core.specs.MigrationEvents.{MigrationStepsBy, MigrationBegins, migration_reply, migration_answer}
 use Rattle.ds_core.specs.EditEvents.{EditStepsBy}
 use Rattle.ds_edit.specs.EditEndings.{answer_of, outcome_at}
 use Rattle.ds_core.specs.Takes.{Takes, WorldRun}
 use Rattle.ds_core.specs.SpentNumbers.{IsOut}
-use Rattle.ds_core.proofs.Did.{Did, did, nothing, edit_begins, work_begins, report_begins, recovery_begins, steps, offers, evicts, stops, crashes}
+use Rattle.ds_core.proofs.Did.{Did, did, nothing, edit_begins, work_begins, report_begins, recovery_begins, migration_begins, steps, offers, evicts, stops, crashes}
 use Rattle.ds_state.specs.Spent.{IsSpent}
 use Rattle.ds_state.specs.Rely.{Keeps}
 use Rattle.ds_state.proofs.Spent.{spent_grown, spent_stays, spent_evicted, spent_crashed, swap_unspent, answer_spent}
@@ -28,7 +32,7 @@ use Rattle.ds_state.proofs.Crashed.{was_counted}
 use Rattle.ds_layout.specs.declared.place.Place.TheVariants.{Announce}
 use Rattle.ds_edit.proofs.Sound.{step_sound}
 use Rattle.ds_core.specs.declared.event.Event.{Event}
-use Rattle.ds_core.specs.declared.event.Event.TheVariants.{BeginEdit, BeginWork, BeginShow, BeginRecover, Step, Offer, Evict, Stop, Crash}
+use Rattle.ds_core.specs.declared.event.Event.TheVariants.{BeginEdit, BeginWork, BeginShow, BeginRecover, BeginMigrate, Step, Offer, Evict, Stop, Crash}
 use Rattle.ds_edit.specs.declared.answer.Other.{Other}
 use Rattle.ds_edit.specs.declared.answer.Answer.TheVariants.{Overtaken}
 use Rattle.ds_core.specs.declared.reply.Reply.{Reply}
@@ -47,8 +51,8 @@ use Rattle.ds_recover.specs.declared.machine.Effect.TheVariants as recovery_effe
 use Rattle.ds_recover.specs.declared.machine.RecoveryEnd.TheVariants as recovery_ends
 use Rattle.ds_core.specs.WorkEvents.{work_reply, WorkStepsBy}
 use Rattle.ds_core.specs.RecoveryEvents.{recovery_reply, RecoveryStepsBy}
-use Rattle.ds_core.specs.StepEvents.{edits, works, reports, recoveries}
-use Rattle.ds_core.proofs.Turns.{IsTurn, LeavesEdits, edit_turn, report_turn, report_begins_turn, stop_turn, work_leaves, work_begins_leaves, offer_leaves, recovery_turn, recovery_begins_turn}
+use Rattle.ds_core.specs.StepEvents.{edits, works, reports, recoveries, migrations}
+use Rattle.ds_core.proofs.Turns.{IsTurn, LeavesEdits, edit_turn, report_turn, report_begins_turn, stop_turn, work_leaves, work_begins_leaves, offer_leaves, recovery_turn, recovery_begins_turn, migration_turn, migration_begins_turn}
 use Rattle.ds_core.proofs.Solo.{some_outcome}
 use Rattle.ds_state.proofs.Counting.{contains_one}
 
@@ -106,10 +110,12 @@ module _ (old new : WorldValue) (sound : IsSound (world_of old)) (p n : ℕ) (sp
   by _ _ (work_begins q cell h) = by_leaves q (work_begins_leaves old new q cell sound h)
   by _ _ (report_begins q h) = by_turn q (report_begins_turn old new q sound h) h.begun.begins.counted
   by _ _ (recovery_begins q h) = by_turn q (recovery_begins_turn old new q sound h) h.begun.begins.counted
+  by _ _ (migration_begins q h) = by_turn q (migration_begins_turn old new q sound h) h.begun.counted
   by _ _ (steps q reply is (edits h)) = by_step q reply h
   by _ _ (steps q reply is (works h)) = by_work q reply h
   by _ _ (steps q reply is (reports h)) = by_report q reply h
   by _ _ (steps q reply is (recoveries h)) = by_recovery q reply h
+  by _ _ (steps q reply is (migrations h)) = by_turn q (migration_turn old new q reply sound h) h.steps.steps.counted
   by _ _ (offers value h) = by_leaves value.task.process (offer_leaves old new value sound h)
   by _ _ (evicts word h) = (spent_evicted word (world_of old) (world_of new) sound h.evicts p n spent, same_list h.evicts.counted)
   by _ _ (stops q h) = by_turn q (stop_turn old new q sound h) h.stops.counted
@@ -176,6 +182,11 @@ recovery_not_overtaken recovery_effects.GoesOn n other is = absurd (cc)
 recovery_not_overtaken (recovery_effects.Answers recovery_ends.Nothing) n other is = absurd (cc)
 recovery_not_overtaken (recovery_effects.Answers (recovery_ends.Last m cell counts)) n other is = absurd (cc)
 
+migration_not_overtaken : (what : MigrateEffect) (n : ℕ) (other : Other) → Answered (Overtaken n other) ≡ migration_reply what → ⊥
+migration_not_overtaken migrate_effects.GoesOn n other is = absurd (cc)
+migration_not_overtaken (migrate_effects.Answers migrate_ends.Migrated) n other is = absurd (cc)
+migration_not_overtaken (migrate_effects.Answers migrate_ends.Already) n other is = absurd (cc)
+
 pub overtaken_never : (old mid new : WorldValue) (events : List Event) (replies : List Reply) (p n : ℕ) (other : Other) → IsSound (world_of old) → Takes old (Step p) (Answered (Overtaken n other)) mid
     → WorldRun mid events replies new → IsSpent (world_of new) p n × IsOut (world_of new) p n
 overtaken_never old mid new events replies p n other sound (edits h) run =
@@ -184,3 +195,4 @@ overtaken_never old mid new events replies p n other sound (edits h) run =
 overtaken_never old mid new events replies p n other sound (works h) run = absurd (work_not_overtaken h.what n other h.is)
 overtaken_never old mid new events replies p n other sound (reports h) run = absurd (not_overtaken h.what n other h.is)
 overtaken_never old mid new events replies p n other sound (recoveries h) run = absurd (recovery_not_overtaken h.what n other h.is)
+overtaken_never old mid new events replies p n other sound (migrations h) run = absurd (migration_not_overtaken h.what n other h.is)

@@ -7,7 +7,7 @@ use Rattle.ds_words.specs.Memory.{StopsAt, Crashes}
 use Rattle.ds_layout.specs.declared.layout.Layout.{Layout}
 use Rattle.ds_layout.specs.SheetMemory.{SheetValue, memory}
 use Rattle.ds_state.specs.World.{PlainEdit, PlainIssue}
-use Rattle.ds_state.specs.Value.{WorldValue, world_of, IsGood, IsReserved}
+use Rattle.ds_state.specs.Value.{first_rest, WorldValue, world_of, IsGood, IsReserved}
 use Rattle.ds_state.specs.Dones.{HasAnswered}
 use Rattle.ds_state.specs.Crashes.{StopsIn, CrashesTo, is_lost, survivors}
 use Rattle.ds_state.specs.Sound.{IsOfSheet}
@@ -28,7 +28,7 @@ abbrev pub stopped : WorldValue → SheetValue → ℕ → WorldValue
 stopped v sheet p = record v { sheet = sheet; situations = set v.situations p situation.Stopped }
 
 module _ (v : WorldValue) (sheet : SheetValue) (p room : ℕ) (k : IsReserved v room) (layout : sheet.layout ≡ v.sheet.layout) (stops : StopsAt p (memory v.sheet) (memory sheet))
-    (there : p < length v.situations) (runs : get_or v.situations p (situation.Idle 0) ≢ situation.Stopped) where
+    (there : p < length v.situations) (runs : get_or v.situations p (situation.Idle first_rest) ≢ situation.Stopped) where
   processes : sheet.layout.processes ≡ v.sheet.layout.processes
   processes = ap (λ (l : Layout). l.processes) layout
 
@@ -40,8 +40,8 @@ module _ (v : WorldValue) (sheet : SheetValue) (p room : ℕ) (k : IsReserved v 
     runs = runs;
     layout = layout;
     memory = stops;
-    situation = get_or-set_same v.situations p situation.Stopped (situation.Idle 0) there;
-    others = λ q ne. get_or-set_other v.situations p q situation.Stopped (situation.Idle 0) ne;
+    situation = get_or-set_same v.situations p situation.Stopped (situation.Idle first_rest) there;
+    others = λ q ne. get_or-set_other v.situations p q situation.Stopped (situation.Idle first_rest) ne;
     counted = refl;
     open_edits = λ q. refl;
   }
@@ -62,7 +62,7 @@ module _ (v : WorldValue) (sheet : SheetValue) (p room : ℕ) (k : IsReserved v 
 -- ---- a crash
 
 -- no report is under way where every process has stopped
-none_stopped : (ss : List Situation) → ((p : ℕ) → p < length ss → get_or ss p (situation.Idle 0) ≡ situation.Stopped) → reports_under_way ss ≡ 0
+none_stopped : (ss : List Situation) → ((p : ℕ) → p < length ss → get_or ss p (situation.Idle first_rest) ≡ situation.Stopped) → reports_under_way ss ≡ 0
 none_stopped [] all = refl
 none_stopped (s ∷ ss) all =
     let first = all 0 (omega arith) in
@@ -81,7 +81,7 @@ heads_there v g k d lt =
     record { cell = e.cell; process = (let p = e.process in omega arith); number = e.number }
 
 module _ (v : WorldValue) (sheet : SheetValue) (situations : List Situation) (room : ℕ) (k : IsReserved v room) (layout : sheet.layout ≡ v.sheet.layout) (crash : Crashes (memory v.sheet) (memory sheet))
-    (count : length situations ≡ length v.situations) (all : (p : ℕ) → p < length situations → get_or situations p (situation.Idle 0) ≡ situation.Stopped) where
+    (count : length situations ≡ length v.situations) (all : (p : ℕ) → p < length situations → get_or situations p (situation.Idle first_rest) ≡ situation.Stopped) where
   same_processes : sheet.layout.processes ≡ v.sheet.layout.processes
   same_processes = ap (λ (l : Layout). l.processes) layout
 

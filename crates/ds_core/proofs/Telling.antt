@@ -10,14 +10,14 @@ use Rattle.ds_layout.specs.declared.layout.Layout.{Layout}
 use Rattle.ds_layout.specs.Places.{cells_of}
 use Rattle.ds_state.specs.World.{PlainEdit, PlainIssue, PlainWorld, edit_of}
 use Rattle.ds_state.specs.Works.{PlainRecoverCall}
-use Rattle.ds_state.specs.Value.{WorldValue, world_of, IsGood}
+use Rattle.ds_state.specs.Value.{first_rest, WorldValue, world_of, IsGood}
 use Rattle.ds_state.specs.Sound.{IsSound}
 use Rattle.ds_state.specs.CallsFit.{CallFits, DoubtFits}
 use Rattle.ds_state.specs.KnownWork.{IsAtRest}
 use Rattle.ds_state.specs.Crashes.{CrashesTo}
 use Rattle.ds_state.specs.Events.{Evicts}
 use Rattle.ds_state.specs.declared.situation.Situation.{Situation}
-use Rattle.ds_state.specs.declared.situation.Situation.TheVariants.{Idle, Stopped, Editing, Working, Recovering, Showing}
+use Rattle.ds_state.specs.declared.situation.Situation.TheVariants.{Idle, Stopped, Editing, Working, Recovering, Showing, Migrating}
 use Rattle.ds_state.specs.World.{announcement, phase_among}
 use Rattle.ds_layout.specs.declared.announcement.Phase.{Phase}
 use Rattle.ds_layout.specs.declared.announcement.Phase.TheVariants as phase
@@ -52,6 +52,7 @@ module _ (w : PlainWorld) (sound : IsSound w) (p : ℕ) (low : p < w.layout.proc
   sides_of (Editing e) is = absurd (let f = subst (λ (x : Situation). CallFits w p x) is (sound.calls p low) in let bad : None ≡ Some (record { edit = edit_of e; since = f.since }) = sym none ∙ f.open_edits in cc)
   sides_of (Working e) is = let f = subst (λ (x : Situation). CallFits w p x) is (sound.calls p low) in subst (λ q. w.memory.persisted (Announce q) ≡ w.memory.cached (Announce q)) f.mine (f.rest.persisted ∙ sym f.rest.cached)
   sides_of (Recovering e) is = let f = subst (λ (x : Situation). CallFits w p x) is (sound.calls p low) in let d = subst (λ (o : Option PlainIssue). DoubtFits w p o) none f.doubt in d.rest.persisted ∙ sym d.rest.cached
+  sides_of (Migrating e) is = let f = subst (λ (x : Situation). CallFits w p x) is (sound.calls p low) in let d = subst (λ (o : Option PlainIssue). DoubtFits w p o) none f.doubt in d.rest.persisted ∙ sym d.rest.cached
   sides_of (Showing e) is = let f = subst (λ (x : Situation). CallFits w p x) is (sound.calls p low) in subst (λ q. w.memory.persisted (Announce q) ≡ w.memory.cached (Announce q)) f.1.mine (f.1.rest.persisted ∙ sym f.1.rest.cached)
 
   pub sides_agree : w.memory.persisted (Announce p) ≡ w.memory.cached (Announce p)
@@ -59,11 +60,12 @@ module _ (w : PlainWorld) (sound : IsSound w) (p : ℕ) (low : p < w.layout.proc
 
   module _ (told : Option Closed) (numbers : (n : ℕ) → numbered (w.situation p) ≡ Some n → n ≡ next_number told) (carried : doubts (w.situation p) ≡ true → Announces w p told) where
     by_situation : (s : Situation) → w.situation p ≡ s → Announces w p told
-    by_situation (Idle next) is = let f = subst (λ (x : Situation). CallFits w p x) is (sound.calls p low) in rest_word w p next (record { number = f.number; open_edits = f.open_edits; below = f.below; cached = f.cached; persisted = f.persisted }) ∙ numbers next (ap numbered is)
+    by_situation (Idle next) is = let f = subst (λ (x : Situation). CallFits w p x) is (sound.calls p low) in rest_word w p next.number (record { number = f.number; open_edits = f.open_edits; below = f.below; cached = f.cached; persisted = f.persisted }) ∙ numbers next.number (ap numbered is)
     by_situation Stopped is = carried (ap doubts is)
     by_situation (Editing e) is = absurd (let f = subst (λ (x : Situation). CallFits w p x) is (sound.calls p low) in let bad : None ≡ Some (record { edit = edit_of e; since = f.since }) = sym none ∙ f.open_edits in cc)
     by_situation (Working e) is = let f = subst (λ (x : Situation). CallFits w p x) is (sound.calls p low) in ap (λ q. w.memory.cached (Announce q) / 4) (sym f.mine) ∙ rest_word w e.process e.next f.rest ∙ numbers e.next (ap numbered is)
     by_situation (Recovering e) is = carried (ap doubts is)
+    by_situation (Migrating e) is = carried (ap doubts is)
     by_situation (Showing e) is = let f = subst (λ (x : Situation). CallFits w p x) is (sound.calls p low) in ap (λ q. w.memory.cached (Announce q) / 4) (sym f.1.mine) ∙ rest_word w e.process e.next f.1.rest ∙ numbers e.next (ap numbered is)
 
     pub announces_now : Announces w p told
@@ -156,7 +158,7 @@ module _ (layout : Layout) (l : Ledger) (v v' : WorldValue) (h : IsOf layout l v
         ∙ announces_now (world_of v) h.good.sound p low none_before (l.told p) (λ n is. h.numbers p n is) (λ d. t.announced p low d none_before) ∙ ap next_number (sym (told_same p)));
     sees = λ p e is. elim (cases_lt p v.sheet.layout.processes) [
       | inl lt ↦ absurd (let bad : Stopped ≡ Recovering e = sym (c.situation p lt) ∙ is in cc)
-      | inr ge ↦ absurd (let bad : Idle 0 ≡ Recovering e = sym (get_or_past v'.situations p (Idle 0) (let n = good.situations in let lay = ap (λ (x : Layout). x.processes) c.layout in omega arith)) ∙ is in cc)
+      | inr ge ↦ absurd (let bad : Idle first_rest ≡ Recovering e = sym (get_or_past v'.situations p (Idle first_rest) (let n = good.situations in let lay = ap (λ (x : Layout). x.processes) c.layout in omega arith)) ∙ is in cc)
     ];
   }
 

@@ -19,6 +19,8 @@ use Rattle.ds_work.specs.WorkTakes as works
 use Rattle.ds_work.specs.WorkSteps as work_steps
 use Rattle.ds_work.proofs.EachWork.{work_steps_keep, reads_keep, lacks_keep, offer_keep, begins_keep}
 use Rattle.ds_recover.proofs.RecoveryLaws as recoveries
+use Rattle.ds_recover.proofs.Migrating.{migration_keeps, migration_begins}
+use Rattle.ds_core.specs.MigrationEvents.{MigrationStepsBy, MigrationBegins}
 use Rattle.ds_core.specs.EditEvents.{EditStepsBy}
 use Rattle.ds_core.specs.WorkEvents.{WorkStepsBy, WorkBegins, TakesEntry}
 use Rattle.ds_core.specs.RecoveryEvents.{RecoveryStepsBy, RecoveryBegins}
@@ -160,4 +162,21 @@ recovery_begins_turn old new q sound h = record {
   there = h.there;
   keeps = recoveries.begins q (world_of old) (world_of new) sound h.there h.begun;
   others = h.begun.begins.others;
+}
+
+-- ---- migration
+
+pub migration_turn : (old new : WorldValue) (q : ℕ) (reply : Reply) → IsSound (world_of old) → MigrationStepsBy old q reply new → IsTurn q old new
+migration_turn old new q reply sound h = record {
+  there = h.steps.there;
+  keeps = subst (λ (p : ℕ). Keeps p (world_of old) (world_of new)) h.steps.mine
+      (migration_keeps h.steps.migration h.steps.migration.stage h.steps.word (world_of old) (world_of new) sound (rw h.steps.mine h.steps.there) (ap (λ p. (world_of old).situation p) h.steps.mine ∙ h.steps.at) h.steps.steps);
+  others = λ r ne. h.steps.steps.others r (λ same. ne (same ∙ h.steps.mine));
+}
+
+pub migration_begins_turn : (old new : WorldValue) (q : ℕ) → IsSound (world_of old) → MigrationBegins old q new → IsTurn q old new
+migration_begins_turn old new q sound h = record {
+  there = h.there;
+  keeps = migration_begins q (world_of old) (world_of new) sound h.there h.begun;
+  others = h.begun.others;
 }

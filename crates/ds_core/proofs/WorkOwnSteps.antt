@@ -11,7 +11,7 @@ use Rattle.ds_state.specs.Telling.{told_from}
 use Rattle.ds_state.specs.Value.{WorldValue, world_of}
 use Rattle.ds_state.specs.Sound.{IsSound}
 use Rattle.ds_state.specs.declared.situation.Situation.{Situation}
-use Rattle.ds_state.specs.declared.situation.Situation.TheVariants.{Editing, Working, Recovering, Showing}
+use Rattle.ds_state.specs.declared.situation.Situation.TheVariants.{Editing, Working, Recovering, Showing, Migrating}
 use Rattle.ds_state.specs.declared.work.WorkStage.{WorkStage}
 use Rattle.ds_state.specs.declared.work.WorkStage.TheVariants.{LoadMark, Claim, FlushClaim, BackClaim, LoadHead, LoadHeader, LoadText, Read, LoadKind, Wait, StoreValue, Telling, Clear, Give}
 use Rattle.ds_state.specs.declared.work.Spread.TheVariants.{LoadRow, OrTold, FlushTold, BackTold}
@@ -163,6 +163,7 @@ goes p n e old new at (steps_once (steps.works h)) = subst (λ (x : PlainWorkCal
     (by_taken p old new h.steps.work h.steps.mine h.steps.is h.what (stepped h.what h.is) h.steps.turn)
 goes p n e old new at (steps_once (steps.reports h)) = absurd (let bad : Working e ≡ Showing h.steps.show = sym at ∙ h.steps.at in cc)
 goes p n e old new at (steps_once (steps.recoveries h)) = absurd (let bad : Working e ≡ Recovering h.steps.recovery = sym at ∙ h.steps.at in cc)
+goes p n e old new at (steps_once (steps.migrations h)) = absurd (let bad : Working e ≡ Migrating h.steps.migration = sym at ∙ h.steps.at in cc)
 goes p n e old new at (is_offered value mine h) =
     let o = h.offered in
     subst (λ (x : PlainWorkCall). Goes p x 0 new) (working_same ((world_of old).situation p) e o.work at (ap (λ q. (world_of old).situation q) (sym mine) ∙ o.waits.works))

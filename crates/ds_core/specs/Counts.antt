@@ -3,7 +3,7 @@ use Rattle.std.specs.Prelude.{ℕ, ◌≡◌, ◌≢◌, [], slice_index_or}
 use Rattle.ds_state.specs.Value.{WorldValue}
 use Rattle.ds_edit.specs.declared.answer.Answer.TheVariants.{Done, Settled}
 use Rattle.ds_core.specs.declared.event.Event.{Event}
-use Rattle.ds_core.specs.declared.event.Event.TheVariants.{BeginEdit, BeginWork, BeginShow, BeginRecover, Step, Offer, Evict, Stop, Crash}
+use Rattle.ds_core.specs.declared.event.Event.TheVariants.{BeginEdit, BeginWork, BeginShow, BeginRecover, BeginMigrate, Step, Offer, Evict, Stop, Crash}
 use Rattle.ds_core.specs.declared.reply.Reply.{Reply}
 use Rattle.ds_core.specs.declared.reply.Reply.TheVariants.{Begun, Entered, Refused, Stepped, Answered, WrongTask, Evicted, Stopped, Crashed, NotEnabled}
 
@@ -17,6 +17,8 @@ IsReplyTo (BeginShow p) Entered = Unit {0}
 IsReplyTo (BeginShow p) (Refused why) = Unit {0}
 IsReplyTo (BeginRecover p) Entered = Unit {0}
 IsReplyTo (BeginRecover p) (Refused why) = Unit {0}
+IsReplyTo (BeginMigrate p) Entered = Unit {0}
+IsReplyTo (BeginMigrate p) (Refused why) = Unit {0}
 IsReplyTo (Step p) Stepped = Unit {0}
 IsReplyTo (Step p) (Answered answer) = Unit {0}
 IsReplyTo (Offer value) Stepped = Unit {0}

@@ -1,8 +1,10 @@
 -- Which answers the calls of each kind have.
+use Rattle.std.specs.Prelude.{◌≡◌}
 use Rattle.ds_edit.specs.declared.answer.Answer.{Answer}
-use Rattle.ds_edit.specs.declared.answer.Answer.TheVariants.{Done, Overtaken, NotDirty, Missed, Worn, Published, Again, NoMemory, Last, Nothing, Settled, Unsettled}
+use Rattle.ds_edit.specs.declared.answer.Answer.TheVariants.{Done, Overtaken, NotDirty, Missed, Worn, Published, Again, NoMemory, Last, Nothing, Migrated, Already, Settled, Unsettled}
+use Rattle.ds_state.specs.declared.situation.Rest.{Rest}
 use Rattle.ds_state.specs.declared.situation.Situation.{Situation}
-use Rattle.ds_state.specs.declared.situation.Situation.TheVariants.{Idle, Stopped, Editing, Working, Recovering, Showing}
+use Rattle.ds_state.specs.declared.situation.Situation.TheVariants.{Idle, Stopped, Editing, Working, Recovering, Showing, Migrating}
 
 -- the answer is one of an edit
 abbrev pub IsEditAnswer : Answer → Type 0
@@ -32,6 +34,12 @@ IsRecoveryAnswer (Last told) = Unit {0}
 IsRecoveryAnswer Nothing = Unit {0}
 IsRecoveryAnswer answer = ⊥
 
+-- the answer is one of a migration
+abbrev pub IsMigrationAnswer : Answer → Type 0
+IsMigrationAnswer Migrated = Unit {0}
+IsMigrationAnswer Already = Unit {0}
+IsMigrationAnswer answer = ⊥
+
 -- the answer is one of the call of this situation
 abbrev pub AnswersTo : Situation → Answer → Type 0
 AnswersTo (Idle number) = λ answer. ⊥
@@ -40,3 +48,10 @@ AnswersTo (Editing e) = IsEditAnswer
 AnswersTo (Working e) = IsWorkAnswer
 AnswersTo (Recovering e) = IsRecoveryAnswer
 AnswersTo (Showing e) = IsReportAnswer
+AnswersTo (Migrating e) = IsMigrationAnswer
+
+-- how the process rests that is answered so: behind a migration it is stopped, behind any other call idle
+abbrev pub RestsAs : Answer → Situation → Type 0
+RestsAs Migrated s = s ≡ Stopped
+RestsAs Already s = s ≡ Stopped
+RestsAs answer s = (next : Rest) × (s ≡ Idle next)

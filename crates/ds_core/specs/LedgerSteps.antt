@@ -9,10 +9,10 @@ use Rattle.ds_layout.specs.SheetMemory.{PerformsAt}
 use Rattle.ds_state.specs.World.{PlainEdit}
 use Rattle.ds_core.specs.Moments.{Placed, Open, Closed, Ledger}
 use Rattle.ds_core.specs.declared.event.Event.{Event}
-use Rattle.ds_core.specs.declared.event.Event.TheVariants.{BeginEdit, BeginWork, BeginShow, BeginRecover, Step, Offer, Evict, Stop, Crash}
+use Rattle.ds_core.specs.declared.event.Event.TheVariants.{BeginEdit, BeginWork, BeginShow, BeginRecover, BeginMigrate, Step, Offer, Evict, Stop, Crash}
 use Rattle.ds_edit.specs.declared.answer.Other.{Other}
 use Rattle.ds_edit.specs.declared.answer.Answer.{Answer}
-use Rattle.ds_edit.specs.declared.answer.Answer.TheVariants.{Done, Overtaken, NotDirty, Missed, Worn, Published, Again, NoMemory, Last, Nothing, Settled, Unsettled}
+use Rattle.ds_edit.specs.declared.answer.Answer.TheVariants.{Done, Overtaken, NotDirty, Missed, Worn, Published, Again, NoMemory, Last, Nothing, Migrated, Already, Settled, Unsettled}
 use Rattle.ds_core.specs.declared.reply.Reply.{Reply}
 use Rattle.ds_core.specs.declared.reply.Reply.TheVariants.{Begun, Entered, Refused, Stepped, Answered, WrongTask, Evicted, Stopped, Crashed, NotEnabled}
 
@@ -37,6 +37,9 @@ WordsMove old (BeginShow p) NotEnabled new = SameMemory old new
 WordsMove old (BeginRecover p) Entered new = SameMemory old new
 WordsMove old (BeginRecover p) (Refused why) new = SameMemory old new
 WordsMove old (BeginRecover p) NotEnabled new = SameMemory old new
+WordsMove old (BeginMigrate p) Entered new = SameMemory old new
+WordsMove old (BeginMigrate p) (Refused why) new = SameMemory old new
+WordsMove old (BeginMigrate p) NotEnabled new = SameMemory old new
 WordsMove old (Step p) Stepped new = OneAccess p old new
 WordsMove old (Step p) (Answered answer) new = OneAccess p old new
 WordsMove old (Step p) NotEnabled new = SameMemory old new
@@ -147,6 +150,8 @@ AnswerMoves old p Worn new = new ≡ old
 AnswerMoves old p (Published changed) new = new ≡ old
 AnswerMoves old p Again new = new ≡ old
 AnswerMoves old p NoMemory new = new ≡ old
+AnswerMoves old p Migrated new = new ≡ old
+AnswerMoves old p Already new = new ≡ old
 AnswerMoves old p Settled new = new ≡ old
 AnswerMoves old p (Unsettled place word) new = new ≡ old
 
@@ -164,6 +169,9 @@ LedgerMoves place shape old (BeginShow p) NotEnabled new = new ≡ old
 LedgerMoves place shape old (BeginRecover p) Entered new = new ≡ old
 LedgerMoves place shape old (BeginRecover p) (Refused why) new = new ≡ old
 LedgerMoves place shape old (BeginRecover p) NotEnabled new = new ≡ old
+LedgerMoves place shape old (BeginMigrate p) Entered new = new ≡ old
+LedgerMoves place shape old (BeginMigrate p) (Refused why) new = new ≡ old
+LedgerMoves place shape old (BeginMigrate p) NotEnabled new = new ≡ old
 LedgerMoves place shape old (Step p) Stepped new = (new ≡ old) ⊎ Counts old p new
 LedgerMoves place shape old (Step p) (Answered answer) new = AnswerMoves old p answer new
 LedgerMoves place shape old (Step p) NotEnabled new = new ≡ old

@@ -3,6 +3,7 @@ pub mod EditEvents
 pub mod ReportEvents
 pub mod WorkEvents
 pub mod RecoveryEvents
+pub mod MigrationEvents
 pub mod StepEvents
 pub mod StopEvents
 pub mod Kinds

@@ -1,16 +1,17 @@
 -- How many steps a process makes in a run.
 use Rattle.std.specs.Prelude.{ℕ, ◌≡◌, ◌<◌, ◌+◌, ◌*◌, ◌==◌, List, [], ◌∷◌, if◌then◌else◌, length}
 use Rattle.ds_layout.specs.Bits.{parts_for}
-use Rattle.ds_state.specs.Works.{PlainWorkCall}
+use Rattle.ds_state.specs.Works.{PlainWorkCall, old_words}
 use Rattle.ds_state.specs.Value.{WorldValue, world_of}
 use Rattle.ds_state.specs.declared.situation.Situation.{Situation}
-use Rattle.ds_state.specs.declared.situation.Situation.TheVariants.{Idle, Stopped, Editing, Working, Recovering, Showing}
+use Rattle.ds_state.specs.declared.situation.Situation.TheVariants.{Idle, Stopped, Editing, Working, Recovering, Showing, Migrating}
 use Rattle.ds_edit.specs.EditSteps.{rank}
 use Rattle.ds_work.specs.WorkRank as works
 use Rattle.ds_show.specs.ShowSteps as shows
 use Rattle.ds_recover.specs.RecoverySteps as recoveries
+use Rattle.ds_recover.specs.MigrationSteps as migrations
 use Rattle.ds_core.specs.declared.event.Event.{Event}
-use Rattle.ds_core.specs.declared.event.Event.TheVariants.{BeginEdit, BeginWork, BeginShow, BeginRecover, Step, Offer, Evict, Stop, Crash}
+use Rattle.ds_core.specs.declared.event.Event.TheVariants.{BeginEdit, BeginWork, BeginShow, BeginRecover, BeginMigrate, Step, Offer, Evict, Stop, Crash}
 use Rattle.ds_core.specs.declared.reply.Reply.{Reply}
 use Rattle.ds_core.specs.declared.reply.Reply.TheVariants as reply
 
@@ -23,6 +24,7 @@ own_step p (BeginEdit request) _ = 0
 own_step p (BeginWork q cell) _ = 0
 own_step p (BeginShow q) _ = 0
 own_step p (BeginRecover q) _ = 0
+own_step p (BeginMigrate q) _ = 0
 own_step p (Offer value) _ = 0
 own_step p (Evict place) _ = 0
 own_step p (Stop q) _ = 0
@@ -41,6 +43,7 @@ IsUnanswered p (BeginEdit request) _ = Unit {0}
 IsUnanswered p (BeginWork q cell) _ = Unit {0}
 IsUnanswered p (BeginShow q) _ = Unit {0}
 IsUnanswered p (BeginRecover q) _ = Unit {0}
+IsUnanswered p (BeginMigrate q) _ = Unit {0}
 IsUnanswered p (Offer value) _ = Unit {0}
 IsUnanswered p (Evict place) _ = Unit {0}
 IsUnanswered p (Stop q) reply.Stopped = q ≡ p → ⊥
@@ -58,6 +61,7 @@ left_in (Editing e) = rank e e.stage
 left_in (Working e) = works.steps_left e.cells e
 left_in (Recovering e) = recoveries.rank e.cells e.stage
 left_in (Showing e) = shows.rank e
+left_in (Migrating e) = migrations.rank (old_words e.processes) e.stage
 left_in (Idle number) = 0
 left_in Stopped = 0
 
@@ -65,7 +69,7 @@ left_in Stopped = 0
 abbrev pub steps_left : ℕ → WorldValue → ℕ
 steps_left p v = left_in ((world_of v).situation p)
 
--- the process is in a call: an edit, a work, a recovery or a report
+-- the process is in a call: an edit, a work, a recovery, a report or a migration
 abbrev pub IsInCall : Situation → Type 0
 IsInCall (Idle number) = ⊥
 IsInCall Stopped = ⊥
@@ -73,6 +77,7 @@ IsInCall (Editing e) = Unit {0}
 IsInCall (Working e) = Unit {0}
 IsInCall (Recovering e) = Unit {0}
 IsInCall (Showing e) = Unit {0}
+IsInCall (Migrating e) = Unit {0}
 
 -- the event neither stops the process nor crashes the machine
 abbrev pub IsUnhalted : ℕ → Event → Type 0
@@ -80,6 +85,7 @@ IsUnhalted p (BeginEdit request) = Unit {0}
 IsUnhalted p (BeginWork q cell) = Unit {0}
 IsUnhalted p (BeginShow q) = Unit {0}
 IsUnhalted p (BeginRecover q) = Unit {0}
+IsUnhalted p (BeginMigrate q) = Unit {0}
 IsUnhalted p (Step q) = Unit {0}
 IsUnhalted p (Offer value) = Unit {0}
 IsUnhalted p (Evict place) = Unit {0}
@@ -92,8 +98,8 @@ AreUnhalted p [] = Unit {0}
 AreUnhalted p (event ∷ events) = IsUnhalted p event × AreUnhalted p events
 
 -- the process is in the work that this one has come to be, so many steps of its own later: fewer than two for each
--- reference that it has read, three for each cell, one for each part of an index row, and 36
+-- reference that it has read, three for each cell, one for each part of an index row, and 51
 pub record WorkGoesOn (p : ℕ) (e : PlainWorkCall) (steps : ℕ) (new : WorldValue) : Type 0 where
   pub work : PlainWorkCall
   pub works : (world_of new).situation p ≡ Working work
-  pub few : steps < 2 * length work.inputs + 3 * e.cells + parts_for e.cells + 36
+  pub few : steps < 2 * length work.inputs + 3 * e.cells + parts_for e.cells + 51

@@ -9,10 +9,11 @@ use Rattle.ds_core.specs.EditEvents.{SameReports}
 use Rattle.ds_core.specs.ReportEvents.{BeginShowTakes}
 use Rattle.ds_core.specs.WorkEvents.{BeginWorkTakes, OfferTakes}
 use Rattle.ds_core.specs.RecoveryEvents.{BeginRecoverTakes}
+use Rattle.ds_core.specs.MigrationEvents.{BeginMigrateTakes}
 use Rattle.ds_core.specs.StepEvents.{StepTakes, EvictTakes}
 use Rattle.ds_core.specs.StopEvents.{StopTakes, CrashTakes}
 use Rattle.ds_core.specs.declared.event.Event.{Event}
-use Rattle.ds_core.specs.declared.event.Event.TheVariants.{BeginEdit, BeginWork, BeginShow, BeginRecover, Step, Offer, Evict, Stop, Crash}
+use Rattle.ds_core.specs.declared.event.Event.TheVariants.{BeginEdit, BeginWork, BeginShow, BeginRecover, BeginMigrate, Step, Offer, Evict, Stop, Crash}
 use Rattle.ds_core.specs.declared.reply.Reply.{Reply}
 use Rattle.ds_core.specs.declared.reply.Reply.TheVariants.{Begun, Refused, NotEnabled}
 
@@ -52,6 +53,7 @@ Takes old (BeginEdit r) reply new = BeginTakes old r reply new
 Takes old (BeginWork p cell) reply new = BeginWorkTakes old p cell reply new
 Takes old (BeginShow p) reply new = BeginShowTakes old p reply new
 Takes old (BeginRecover p) reply new = BeginRecoverTakes old p reply new
+Takes old (BeginMigrate p) reply new = BeginMigrateTakes old p reply new
 Takes old (Step p) reply new = StepTakes old p reply new
 Takes old (Offer value) reply new = OfferTakes old value reply new
 Takes old (Evict place) reply new = EvictTakes old place reply new

@@ -35,6 +35,8 @@ pub enum Event {
     BeginShow(usize),
     /// A process begins to recover.
     BeginRecover(usize),
+    /// A process begins to migrate the sheet to the second layout.
+    BeginMigrate(usize),
     /// A process makes the next step of its call.
     Step(usize),
     /// An evaluated task is offered to the work that waits for it.

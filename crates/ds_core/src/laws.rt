@@ -7,7 +7,7 @@ ghost use Rattle.ds_state.specs.Fresh.{IsNew};
 ghost use Rattle.ds_state.specs.Value.{WorldValue, world_of, IsGood};
 ghost use Rattle.ds_state.specs.Sound.{IsSound};
 ghost use Rattle.ds_state.specs.declared.stage.Stage.TheVariants.{StoreHeader};
-ghost use Rattle.ds_state.specs.declared.situation.Situation.TheVariants.{Editing, Working, Recovering, Showing};
+ghost use Rattle.ds_state.specs.declared.situation.Situation.TheVariants.{Editing, Working, Recovering, Showing, Migrating};
 ghost use Rattle.ds_core.specs.declared.event.Event.{Event};
 ghost use Rattle.ds_core.specs.declared.event.Event.TheVariants.{Step, BeginShow};
 ghost use Rattle.ds_edit.specs.declared.answer.Other.{Other};
@@ -23,7 +23,7 @@ ghost use Rattle.ds_core.specs.Kinds.{AnswersTo};
 ghost use Rattle.ds_state.specs.Spent.{IsSpent};
 ghost use Rattle.ds_core.specs.SpentNumbers.{IsOut};
 ghost use Rattle.ds_core.specs.Solo.{IsSolo, AreDoneOnly, IsLone, IsLoneAnswer, AreLoneReplies};
-ghost use Rattle.ds_state.specs.Works.{PlainWorkCall, PlainShowCall, PlainRecoverCall};
+ghost use Rattle.ds_state.specs.Works.{PlainWorkCall, PlainShowCall, PlainRecoverCall, PlainMigrateCall};
 ghost use Rattle.ds_state.specs.declared.work.WorkStage.TheVariants.{LoadMark};
 ghost use Rattle.ds_layout.specs.Bits.{parts_for};
 ghost use Rattle.ds_layout.specs.Places.{cells_of};
@@ -40,7 +40,7 @@ pub fn overtaken_edits_stay_out()
         → IsSpent (world_of new) p number × IsOut (world_of new) p number }
 {}
 
-/// From its beginning until it is answered, an edit with r references makes fewer than 3r + 67 steps
+/// From its beginning until it is answered, an edit with r references makes fewer than 3r + 112 steps
 /// of its own, and one more that answers, whatever the other processes do between them.
 #[tactic(auto, using(crate::proofs::CallSteps::edit_few))]
 pub fn own_steps_are_few()
@@ -48,12 +48,12 @@ pub fn own_steps_are_few()
         (p : ℕ) (e : PlainEditCall) → IsSound (world_of old) → p < old.sheet.layout.processes
         → (world_of old).situation p ≡ Editing e → WorldRun old events replies new
         → AreUnanswered p events replies
-        → own_steps p events replies < 67 + 3 * length e.refs }
+        → own_steps p events replies < 112 + 3 * length e.refs }
 {}
 
 /// From its beginning until it is answered, work on a sheet of N cells whose content has r references
-/// makes fewer than 2r + 3N + 52 steps of its own, and one more that answers, whatever the other
-/// processes do between them; 52 stands for the parts of an index row, at most 16, and 36.
+/// makes fewer than 2r + 3N + 67 steps of its own, and one more that answers, whatever the other
+/// processes do between them; 67 stands for the parts of an index row, at most 16, and 51.
 #[tactic(auto, using(crate::proofs::WorkOwnSteps::works_go_on))]
 pub fn work_own_steps_are_few()
     ensures { (old : WorldValue) (events : List Event) (replies : List Reply) (new : WorldValue)
@@ -63,9 +63,9 @@ pub fn work_own_steps_are_few()
 {}
 
 /// A call that is not answered has made fewer steps of its own than it had left, whatever the other
-/// processes do between them; a report has at most 2P + 4N + 1 left, a recovery N(3N + 30) + 20, on a
-/// sheet of N cells for P processes.
-#[tactic(auto, using(crate::proofs::CallSteps::short, crate::proofs::CallSteps::report_left, crate::proofs::CallSteps::recovery_left))]
+/// processes do between them; a report has at most 2P + 4N + 1 left, a recovery N(3N + 30) + 23, a
+/// migration 15,360P + 5, on a sheet of N cells for P processes.
+#[tactic(auto, using(crate::proofs::CallSteps::short, crate::proofs::CallSteps::report_left, crate::proofs::CallSteps::recovery_left, crate::proofs::CallSteps::migration_left))]
 pub fn calls_are_short()
     ensures fewer { (old : WorldValue) (events : List Event) (replies : List Reply) (new : WorldValue)
         (p : ℕ) → IsSound (world_of old) → p < old.sheet.layout.processes
@@ -75,7 +75,10 @@ pub fn calls_are_short()
         → steps_left p v ≤ 2 * e.processes + 4 * e.cells + 1 }
     ensures recovery { (v : WorldValue) (p : ℕ) (e : PlainRecoverCall) → IsSound (world_of v)
         → p < v.sheet.layout.processes → (world_of v).situation p ≡ Recovering e
-        → steps_left p v ≤ e.cells * (3 * e.cells + 30) + 20 }
+        → steps_left p v ≤ e.cells * (3 * e.cells + 30) + 23 }
+    ensures migration { (v : WorldValue) (p : ℕ) (e : PlainMigrateCall) → IsSound (world_of v)
+        → p < v.sheet.layout.processes → (world_of v).situation p ≡ Migrating e
+        → steps_left p v ≤ 15360 * e.processes + 5 }
 {}
 
 /// Calls are wait-free (Herlihy, "Wait-Free Synchronization", TOPLAS 1991): one that makes as many

@@ -15,6 +15,7 @@ ghost use Rattle.ds_core.specs.declared.reply.Reply.TheVariants.{Stepped};
 ghost use Rattle.ds_core.specs.ReportEvents.{report_answer, report_reply};
 ghost use Rattle.ds_core.specs.WorkEvents.{work_answer, work_reply};
 ghost use Rattle.ds_core.specs.RecoveryEvents.{recovery_answer, recovery_reply};
+ghost use Rattle.ds_core.specs.MigrationEvents.{migration_answer, migration_reply};
 ghost use Rattle.ds_core.specs.StepEvents.{StepTakes, EvictTakes};
 
 use crate::reply::Reply;
@@ -22,11 +23,12 @@ use ds_edit::answer::{Answer, Told};
 use ds_edit::machine::{Effect, effect_of, got, outcome_of, want};
 use ds_layout::place::Place;
 use ds_recover::machine::RecoveryEnd;
+use ds_recover::migrate::MigrateEffect;
 use ds_state::edit::EditCall;
 use ds_state::ledger::{Edit, Issue};
-use ds_state::situation::Situation;
+use ds_state::situation::{Rest, Situation};
 use ds_state::stage::{Outcome, Stage};
-use ds_state::work::{ShowEnd, WorkEnd};
+use ds_state::work::{MigrateEnd, ShowEnd, WorkEnd};
 use ds_state::world::World;
 use ds_words::access::Access;
 use ds_work::drive::Taken;
@@ -42,6 +44,7 @@ fn call_of(situation: &Situation) -> Option<&EditCall>
         Situation::Editing(call) => Some(call),
         Situation::Idle(_) | Situation::Stopped => None,
         Situation::Working(_) | Situation::Recovering(_) | Situation::Showing(_) => None,
+        Situation::Migrating(_) => None,
     }
 }
 
@@ -54,8 +57,11 @@ fn go_on(situation: &mut Situation, what: Effect, word: u64)
         match what {
             Effect::GoesOn | Effect::Counts => got(call, word),
             Effect::Answers(_) => {
-                let number = call.number;
-                *situation = Situation::Idle(number + 1);
+                let rest = Rest {
+                    number: call.number + 1,
+                    edition: call.edition,
+                };
+                *situation = Situation::Idle(rest);
             }
         }
     }
@@ -241,11 +247,31 @@ fn recovery_reply(what: ds_recover::machine::Effect) -> Reply
     }
 }
 
+// What a migration answers that ended so.
+fn migration_answer(end: MigrateEnd) -> Answer
+    ensures { result ≡ migration_answer end }
+{
+    match end {
+        MigrateEnd::Migrated => Answer::Migrated,
+        MigrateEnd::Already => Answer::Already,
+    }
+}
+
+// What a step of a migration answers.
+fn migration_reply(what: MigrateEffect) -> Reply
+    ensures { result ≡ migration_reply what }
+{
+    match what {
+        MigrateEffect::GoesOn => Reply::Stepped,
+        MigrateEffect::Answers(end) => Reply::Answered(migration_answer(end)),
+    }
+}
+
 /// A process makes the next step of its call. Where it is in none, or in work that waits for an
 /// entry, or the sheet has no such process, the step can not happen and nothing changes. Only the
 /// step of work that reads a content takes memory. Each machine tells whether the process is in a
 /// call of its own.
-#[tactic(auto, using(crate::proofs::Stepping::recovers))]
+#[tactic(auto, using(crate::proofs::Stepping::recovers, crate::proofs::Stepping::migrates))]
 pub fn step(alloc: Global, world: &mut World, process: usize) -> Reply
     ensures { StepTakes world.old process result world.new }
 {
@@ -260,8 +286,11 @@ pub fn step(alloc: Global, world: &mut World, process: usize) -> Reply
     if let Some(what) = ds_show::step::step(world, process) {
         return report_reply(what);
     }
-    match ds_recover::step::step(world, process) {
-        Some(what) => recovery_reply(what),
+    if let Some(what) = ds_recover::step::step(world, process) {
+        return recovery_reply(what);
+    }
+    match ds_recover::migrate_step::step(world, process) {
+        Some(what) => migration_reply(what),
         None => Reply::NotEnabled,
     }
 }

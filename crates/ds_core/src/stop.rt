@@ -3,6 +3,7 @@
 ghost use Rattle.std.specs.Prelude.{◌≡◌, ◌<◌, ◌==◌, ℕ, All, length, slice_index_or, vec_capacity, vec_len};
 ghost use Rattle.ds_layout.specs.SheetMemory.{memory};
 ghost use Rattle.ds_state.specs.Crashes.{is_lost, survivors};
+ghost use Rattle.ds_state.specs.Value.{first_rest};
 ghost use Rattle.ds_state.specs.declared.situation.Situation as situation;
 ghost use Rattle.ds_core.specs.StopEvents.{StopTakes, CrashTakes, HasHeadPlace};
 
@@ -44,7 +45,7 @@ fn lose(counted: &mut Vec<Edit>, words: &SheetWords)
 fn stop_all(situations: &mut Vec<Situation>)
     ensures count { vec_len situations.new ≡ vec_len situations.old }
     ensures stopped { (p : ℕ) → p < vec_len situations.new
-        → slice_index_or situations.new.items p (situation.Situation.Idle 0) ≡ situation.Situation.Stopped }
+        → slice_index_or situations.new.items p (situation.Situation.Idle first_rest) ≡ situation.Situation.Stopped }
 {
     for p in 0..situations.len() {
         put(situations, p, Situation::Stopped);

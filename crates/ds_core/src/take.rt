@@ -8,6 +8,7 @@ ghost use Rattle.ds_core.specs.Own.{steps_left};
 ghost use Rattle.ds_core.specs.ReportEvents.{BeginShowTakes};
 ghost use Rattle.ds_core.specs.WorkEvents.{BeginWorkTakes, OfferTakes};
 ghost use Rattle.ds_core.specs.RecoveryEvents.{BeginRecoverTakes};
+ghost use Rattle.ds_core.specs.MigrationEvents.{BeginMigrateTakes};
 ghost use Rattle.ds_core.specs.Takes.{BeginTakes, Takes, Fits, WorldRun};
 
 use crate::event::{Event, Request};
@@ -74,6 +75,19 @@ fn begin_recover(world: &mut World, process: usize) -> Reply
     }
 }
 
+// A migration begins, or is refused.
+fn begin_migrate(world: &mut World, process: usize) -> Reply
+    ensures { BeginMigrateTakes world.old process result world.new }
+{
+    if process >= world.words.layout().processes {
+        return Reply::NotEnabled;
+    }
+    match ds_recover::migrate_begin::begin_migration(world, process) {
+        Ok(()) => Reply::Entered,
+        Err(refusal) => Reply::Refused(refusal),
+    }
+}
+
 // A report begins, or is refused.
 fn begin_show(alloc: Global, world: &mut World, process: usize) -> Reply
     ensures { BeginShowTakes world.old process result world.new }
@@ -100,6 +114,7 @@ fn happen(alloc: Global, world: &mut World, event: &Event) -> Reply
         Event::BeginShow(process) => begin_show(alloc, world, *process),
         Event::BeginWork(process, cell) => begin_work(alloc, world, *process, *cell),
         Event::BeginRecover(process) => begin_recover(world, *process),
+        Event::BeginMigrate(process) => begin_migrate(world, *process),
         Event::Offer(evaluated) => offer(world, evaluated),
     }
 }

@@ -35,7 +35,7 @@ use Rattle.ds_state.specs.declared.situation.Situation.{Situation}
 use Rattle.ds_state.specs.declared.situation.Situation.TheVariants.{Idle, Stopped, Editing, Working, Recovering, Showing, Migrating}
 use Rattle.ds_edit.specs.EditTakes.{Begins}
 use Rattle.ds_state.specs.Refusals.{next_edit}
-use Rattle.ds_edit.specs.Begun.{RefusesIdle, RefersTo, IsAskedFor, IsIdle, Refuses}
+use Rattle.ds_edit.specs.Begun.{within, RefusesIdle, RefersTo, IsAskedFor, IsIdle, Refuses}
 use Rattle.ds_edit.proofs.Answering.{begin_sound}
 use Rattle.ds_edit.specs.EditTakes.{rest_before}
 use Rattle.ds_state.specs.Editions.{most_in}
@@ -153,13 +153,13 @@ refuses_of w process text (Showing e) r at is = rw at (let same : r ≡ refusal.
 refuses_of w process text (Migrating e) r at is = rw at (let same : r ≡ refusal.Busy = cc in same)
 
 -- the refusal that the answer to a text without a content is
-pub text_refused : (shape : Shape) (number : ℕ) (text : List ℕ) (fault : TextFault) → Answers shape text (Err fault) → RefusesIdle shape number text (refusal_of fault)
-text_refused shape number text fault (inl (is, takes)) = subst (λ (f : TextFault). RefusesIdle shape number text (refusal_of f)) (sym is) (inl takes)
-text_refused shape number text fault (inr faults) = by fault.kind refl
+pub text_refused : (shape : Shape) (next : Rest) (text : List ℕ) (fault : TextFault) → length text ≤ most_in next.edition → Answers shape text (Err fault) → RefusesIdle shape next text (refusal_of fault)
+text_refused shape next text fault short (inl (is, takes)) = subst (λ (f : TextFault). RefusesIdle shape next text (refusal_of f)) (sym is) (short, inl takes)
+text_refused shape next text fault short (inr faults) = by fault.kind refl
   where
-    by : (kind : FaultKind) → fault.kind ≡ kind → RefusesIdle shape number text (refusal_by kind fault)
-    by kinds.NoMemory is = inl (of_formulas (scope_of shape) text fault faults is)
-    by _ is = faults
+    by : (kind : FaultKind) → fault.kind ≡ kind → RefusesIdle shape next text (refusal_by kind fault)
+    by kinds.NoMemory is = (short, inl (of_formulas (scope_of shape) text fault faults is))
+    by _ is = within short faults
 
 -- the error that is handed on
 pub handed_on : {X : Type 0} (r : Result X Refusal) (given : Refusal) (P : Refusal → Type 0) → IsErrAnd r (λ x. x ≡ given) → P given → IfErr r P

@@ -57,14 +57,16 @@ pub data FaultsIn (shape : Shape) (edition : Edition) (text : List ℕ) (fault :
   too_long : most_in edition < length text → fault ≡ record { kind = TooLong; offset = most_in edition } → FaultsIn shape edition text fault
   within : length text ≤ most_in edition → Faults shape text fault → FaultsIn shape edition text fault
 
--- why an idle process that knows this may not begin its edit, to the text: memory is wanting where the text is read, or,
--- with records left, for its references
+-- why an idle process that knows this may not begin its edit, to the text: memory is wanting where a text that its
+-- layout has room for is read, or, with records left, for its references
 abbrev pub RefusesIdle : Shape → Rest → List ℕ → Refusal → Type 0
 RefusesIdle shape next text refusal.Busy = ⊥
 RefusesIdle shape next text refusal.Stopped = ⊥
 RefusesIdle shape next text (refusal.Text fault) = FaultsIn shape next.edition text fault
 RefusesIdle shape next text refusal.RecordsFull = (next.number ≡ RECORDS) × ((content : PlainContent) × Reads shape text content)
-RefusesIdle shape next text refusal.NoMemory = TakesMemory text ⊎ ((next.number ≢ RECORDS) × ((content : PlainContent) × Reads shape text content))
+RefusesIdle shape next text refusal.NoMemory = (length text ≤ most_in next.edition) × (TakesMemory text ⊎ ((next.number ≢ RECORDS) × ((content : PlainContent) × Reads shape text content)))
+RefusesIdle shape next text (refusal.Migrating q) = ⊥
+RefusesIdle shape next text (refusal.NotStopped q) = ⊥
 
 -- why a process may not begin an edit to the text: by its situation
 abbrev pub RefusesIn : Shape → List ℕ → Situation → Refusal → Type 0

@@ -51,6 +51,10 @@ pub enum Answer {
     Last(Told),
     /// Recovery: the process has announced no edit.
     Nothing,
+    /// A migration: the sheet has come to the second layout.
+    Migrated,
+    /// A migration: the sheet had the second layout already.
+    Already,
     /// A report: its values are the process's last ones that the world keeps.
     Settled,
     /// A report: this mark or announcement, whose word it saw, was not at rest.

@@ -1,3 +1,8 @@
+pub mod Migrating
+pub mod Waking
+pub mod MigrationPossible
+pub mod MigrationGood
+pub mod MigrationLaws
 pub mod RecoveryKeeping
 pub mod RecoveryFrame
 pub mod RecoveryGive

@@ -127,17 +127,20 @@ module _ (e : PlainRecoverCall) (mark : ℕ) (row : List ℕ) (word : ℕ) (cell
       → (ResolvedFits new e.process e.announcement e.cell (resolved_at s) → ResolvedFits new e.process word cell (resolved_at s'))
       → RecoveryHolds new e.process word cell (recovery_held cell s') → IsStage (on e mark row word cell s') s' → Keeps e.process old new
   backs_none place value rest m same there g freed resolved buffer rows =
+      let kept : (r : Place) → new.memory.persisted r ≡ old.memory.persisted r = λ r. elim (place_cases r place) [
+        | inl eq ↦ subst (λ (y : Place). new.memory.persisted y ≡ old.memory.persisted y) (sym eq) (m.there ∙ same)
+        | inr apart ↦ m.elsewhere r apart
+      ] in
       let moves : Moves e.process Version old new = record {
         layout = tn.layout;
         cached = λ r ne. m.cached r;
-        persisted = λ r ne. elim (place_cases r place) [
-          | inl eq ↦ subst (λ (y : Place). new.memory.persisted y ≡ old.memory.persisted y) (sym eq) (m.there ∙ same)
-          | inr apart ↦ m.elsewhere r apart
-        ];
+        persisted = λ r ne. kept r;
         here = tt;
         buffers = m.others;
         situations = tn.situations;
         pendings = tn.pendings;
+        goes = tn.goes;
+        version = inl (m.cached Version, inl (kept Version));
       } in
       silent_step e mark row word cell s s' old new sound was fits real tn is pending passes moves (λ c. m.cached (Head c)) (λ my. no_new_marks e.process Version old new moves (λ c at. cc) there)
       (stays e mark row word cell s s' old new sound was fits real tn is pending passes g freed resolved buffer rows)
@@ -145,7 +148,7 @@ module _ (e : PlainRecoverCall) (mark : ℕ) (row : List ℕ) (word : ℕ) (cell
 -- the dirty bit comes to a mark
 module _ (p d : ℕ) (old new : PlainWorld) (tn : Turn p old new) (m : OrsAt (Mark d) DIRTY old.memory new.memory) where
   pub moved_or : Moves p (Mark d) old new
-  moved_or = store_moves p old new tn (Mark d) (bit_or (old.memory.cached (Mark d)) DIRTY) (or_moves p (old.memory.cached (Mark d)) (old.memory.persisted (Mark d))) m
+  moved_or = store_moves p old new tn (Mark d) (bit_or (old.memory.cached (Mark d)) DIRTY) (λ x. cc) (or_moves p (old.memory.cached (Mark d)) (old.memory.persisted (Mark d))) m
 
   or_hold : (cell : ℕ) → Mark cell ≢ Version → KeepsHold p (old.memory.cached (Mark cell)) (old.memory.persisted (Mark cell)) (new.memory.cached (Mark cell)) (new.memory.persisted (Mark cell))
   or_hold cell ne = elim (cases_eq cell d) [
@@ -183,7 +186,7 @@ module _ (e : PlainRecoverCall) (mark : ℕ) (row : List ℕ) (word : ℕ) (cell
       (all_stand p (Mark d) old new moves sound (buffered old sound) my (text_same old new moves.layout tn.counted) marks)
       (recovery_apart e mark row word cell s s' old new was is (Mark d) moves passes) (λ k ne. recovery_keeps e mark row word cell s s' old new was is (Mark d) moves passes pending k)
       (subst (λ (x : ℕ). WordFits new (Mark d) x (new.memory.persisted (Mark d))) (sym m.there) (subst (λ (y : ℕ). WordFits new (Mark d) (bit_or c DIRTY) y) (sym (m.persisted (Mark d)))
-      (or_mark_fits new d c v (word_bears p (Mark d) old new moves tn.counted (Mark d) c v (λ k at. cc) (λ k at a. elim at [ inl x ↦ cc | inr x ↦ cc ]) (sound.words (Mark d))))))
+      (or_mark_fits new d c v (word_bears p (Mark d) old new moves tn.counted (Mark d) c v (λ k at. cc) (λ k at a. elim at [ inl x ↦ cc | inr x ↦ cc ]) (λ edition q n part at now. absurd (cc)) (sound.words (Mark d))))))
       (λ l. subst (λ (t : Situation). CallFits new p t) (sym is)
       (stays e mark row word cell s s' old new sound was fits real tn is pending passes (grown_or p d old new tn m) freed resolved buffer rows))
     where

@@ -15,6 +15,7 @@ use Rattle.ds_layout.specs.Places.{cells_of}
 use Rattle.ds_layout.specs.Bits.{HasBit}
 use Rattle.ds_layout.proofs.OrBits.{HasBit-subset}
 use Rattle.ds_layout.proofs.Packed.{announcement_of-announcement_word, header_of-header_word}
+use Rattle.ds_layout.specs.declared.place.Edition.TheVariants.{First}
 use Rattle.ds_state.specs.World.{PlainEdit, PlainIssue, PlainWorld, of_cell, head_after_all, announcement, last_announcement, phase_among, is_edit_of, done_place, record_size}
 use Rattle.ds_state.specs.Known.{IsRecorded, Standing, outside, inside, safe, Announced, last, pending, ended, word_of, phase_of, AreBelow, IsIn, IsSafe, IsSafelyIn, StandsAs}
 use Rattle.ds_state.specs.declared.stage.Outcome.TheVariants as outcome
@@ -109,7 +110,7 @@ last_number w p (suc n) word how is k = elim (phases w.counted p n) [
   | inr lost ↦ (let same : announcement n phase.NotDone ≡ word = ap (λ (f : Phase). announcement n f) (sym lost) ∙ is in omega arith)
 ]
 
-pub recorded_reads : (w : PlainWorld) (p : ℕ) (issue : PlainIssue) → (h : IsInDoubt w p issue) → IsRecorded w issue.edit (record_size issue.edit) (record_size issue.edit) → (word : ℕ) → word ≡ w.memory.cached (Header p issue.edit.number) → cell_from (header_of (cells_of w.layout) word) ≡ issue.edit.cell
+pub recorded_reads : (w : PlainWorld) (p : ℕ) (issue : PlainIssue) → (h : IsInDoubt w p issue) → IsRecorded w First issue.edit 1 1 → (word : ℕ) → word ≡ w.memory.cached (Header p issue.edit.number) → cell_from (header_of (cells_of w.layout) word) ≡ issue.edit.cell
 recorded_reads w p issue h written word is =
     let e : PlainEdit = issue.edit in
     let few = h.text in
@@ -124,10 +125,10 @@ header_reads w p issue h now word is = recorded_reads w p issue h (subst (λ (a 
 
 -- where the announcement is the edit's own, and tells how it ended, its record stands
 ended_written : (w : PlainWorld) (p word : ℕ) (how : Bool) (issue : PlainIssue) (h : IsInDoubt w p issue) → w.memory.cached (Announce p) ≡ word → Tells word how → issue.edit.number + 1 ≡ word / 4
-    → IsRecorded w issue.edit (record_size issue.edit) (record_size issue.edit)
+    → IsRecorded w First issue.edit 1 1
 ended_written w p word how issue h there tells own = by h.now h.cached h.written
   where
-    by : (a : Announced) → w.memory.cached (Announce p) ≡ word_of w issue.edit a → Rattle.ds_state.specs.CallsFit.IsWritten w issue.edit a → IsRecorded w issue.edit (record_size issue.edit) (record_size issue.edit)
+    by : (a : Announced) → w.memory.cached (Announce p) ≡ word_of w issue.edit a → Rattle.ds_state.specs.CallsFit.IsWritten w issue.edit a → IsRecorded w First issue.edit 1 1
     by last c written = absurd (let n : issue.edit.number ≡ word / 4 = last_number w issue.edit.process issue.edit.number word how (sym c ∙ there) tells in omega arith)
     by pending c written = written
     by (ended end) c written = written

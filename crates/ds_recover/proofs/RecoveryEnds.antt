@@ -14,6 +14,7 @@ use Rattle.ds_formula.specs.Cells.{count_of}
 use Rattle.ds_formula.specs.declared.cells.Cell.{Cell}
 use Rattle.ds_formula.specs.declared.cells.Shape.{Shape}
 use Rattle.ds_eval.proofs.Walks.{index_below}
+use Rattle.ds_layout.specs.declared.place.Edition.TheVariants.{First}
 use Rattle.ds_state.specs.Works.{PlainRecoverCall}
 use Rattle.ds_state.specs.World.{PlainEdit, PlainIssue, PlainWorld, of_cell, head_after_all, announcement, last_announcement, phase_among}
 use Rattle.ds_state.specs.Known.{Standing, outside, inside, safe, Announced, last, pending, ended, word_of, phase_of, AreBelow, StandsAs}
@@ -231,7 +232,7 @@ module _ (e : PlainRecoverCall) (old new : PlainWorld) (sound : IsSound old) (re
     mine = refl;
     cells = rw tb.layout cells;
     processes = rw tb.layout processes;
-    doubt = subst (λ (o : Option PlainIssue). DoubtFits new q o) (sym (b.open_edits q)) (doubt_grows Version old new q gb (b.open_edits q) (λ x. cc) (λ n k. record_no_version q n k) (old.open_edits q) doubt);
+    doubt = subst (λ (o : Option PlainIssue). DoubtFits new q o) (sym (b.open_edits q)) (doubt_grows Version old new q gb (b.open_edits q) (λ x. cc) (λ n x. cc) (old.open_edits q) doubt);
     freed = λ r l by. omega arith;
     resolved = tt;
     buffer = b.memory.buffer q ∙ empty;

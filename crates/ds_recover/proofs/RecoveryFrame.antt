@@ -7,6 +7,7 @@ use Rattle.ds_words.specs.Memory.{SameMemory, FlushesAt}
 use Rattle.ds_layout.specs.Places.{class_of}
 use Rattle.ds_layout.specs.declared.place.Place.{Place}
 use Rattle.ds_layout.specs.declared.place.Place.TheVariants.{Version, Head, Mark, Value, Kind, Announce}
+use Rattle.ds_layout.specs.declared.place.Edition.TheVariants.{First}
 use Rattle.ds_state.specs.Works.{PlainRecoverCall}
 use Rattle.ds_state.specs.RecoverStages.{IsStage}
 use Rattle.ds_state.specs.World.{PlainEdit, PlainIssue, PlainWorld, of_cell, head_after_all}
@@ -152,7 +153,7 @@ module _ (e : PlainRecoverCall) (mark : ℕ) (row : List ℕ) (word : ℕ) (cell
       → (ResolvedFits new e.process e.announcement e.cell (resolved_at s) → ResolvedFits new e.process word cell (resolved_at s'))
       → RecoveryHolds new e.process word cell (recovery_held cell s') → IsStage (on e mark row word cell s') s' → RecoveryFits new e.process (on e mark row word cell s')
   stays g freed resolved buffer rows = recovery_fits e mark row word cell s s' old new was is fits tn.layout pending
-      (doubt_grows Version old new e.process g pending (λ x. cc) (λ n k. record_no_version e.process n k) (old.open_edits e.process) fits.doubt)
+      (doubt_grows Version old new e.process g pending (λ x. cc) (λ n x. cc) (old.open_edits e.process) fits.doubt)
       (freed (freed_stable old new e.process g e.mark (freed_at s) fits.freed))
       (resolved (resolved_stable old new e.process g pending e.announcement e.cell (resolved_at s) fits.resolved))
       buffer rows

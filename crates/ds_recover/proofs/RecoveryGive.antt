@@ -62,7 +62,7 @@ module _ (e : PlainRecoverCall) (c : ℕ) (s : RecoverStage) (old new : PlainWor
       other q k = let m = mine_now in omega arith
 
   moves : Moves p (Mark c) old new
-  moves = store_moves p old new tn (Mark c) (given e.mark) moved store
+  moves = store_moves p old new tn (Mark c) (given e.mark) (λ x. cc) moved store
 
   held : (r : ℕ) → c ≢ r → IsHeld old.memory p r → IsHeld new.memory p r
   held r ne k =
@@ -132,5 +132,5 @@ module _ (e : PlainRecoverCall) (c : ℕ) (s : RecoverStage) (old new : PlainWor
       (λ d ne. recovery_keeps e e.mark e.row e.announcement e.cell s (FlushGiven c) old new was is (Mark c) moves passes pending d) mark_fits
       (λ l. subst (λ (t : Situation). CallFits new p t) (sym is)
       (recovery_fits e e.mark e.row e.announcement e.cell s (FlushGiven c) old new was is fits tn.layout pending
-      (doubt_grows (Mark c) old new p g pending (λ x. cc) (λ n k. record_no_mark p n k c) (old.open_edits p) fits.doubt)
+      (doubt_grows (Mark c) old new p g pending (λ x. cc) (λ n x. cc) (old.open_edits p) fits.doubt)
       freed tt (store.buffer p ∙ empty) free))

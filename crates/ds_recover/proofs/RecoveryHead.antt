@@ -6,6 +6,7 @@ use Rattle.ds_words.specs.Memory.{FlushesAt, WritesBack}
 use Rattle.ds_layout.specs.Places.{class_of}
 use Rattle.ds_layout.specs.declared.place.Place.{Place}
 use Rattle.ds_layout.specs.declared.place.Place.TheVariants.{Version, Head, Mark, Announce}
+use Rattle.ds_layout.specs.declared.place.Edition.TheVariants.{First}
 use Rattle.ds_state.specs.Works.{PlainRecoverCall}
 use Rattle.ds_state.specs.World.{PlainEdit, PlainIssue, PlainWorld, of_cell, head_after_all, IsHeadBy}
 use Rattle.ds_state.specs.Known.{IsIn}
@@ -257,7 +258,7 @@ module _ (e : PlainRecoverCall) (word : ℕ) (old new : PlainWorld) (sound : IsS
           mine = refl;
           cells = rw tn.layout fits.cells;
           processes = rw tn.layout fits.processes;
-          doubt = subst (λ (o : Option PlainIssue). DoubtFits new p o) (sym t.open_edits) (doubt_grows Version old new p g t.open_edits (λ x. cc) (λ n k. record_no_version p n k) (old.open_edits p) fits.doubt);
+          doubt = subst (λ (o : Option PlainIssue). DoubtFits new p o) (sym t.open_edits) (doubt_grows Version old new p g t.open_edits (λ x. cc) (λ n x. cc) (old.open_edits p) fits.doubt);
           freed = λ r by. fits.freed r (subst (λ (x : ℕ). IsHeldBy p x) (m.cached (Mark r)) by);
           resolved = resolved;
           buffer = m.mine;

@@ -23,17 +23,13 @@ use Rattle.ds_state.specs.declared.work.RecoverStage.TheVariants.{StoreOutcome, 
 use Rattle.ds_state.specs.declared.situation.Situation.{Situation}
 use Rattle.ds_state.specs.declared.situation.Situation.TheVariants.{Recovering}
 use Rattle.ds_state.proofs.Found.{gave_counts}
-use Rattle.ds_state.proofs.Stable.{standing_stable, word_stable, recorded_stable}
+use Rattle.ds_state.proofs.Stable.{standing_stable, word_stable, written_stable}
 use Rattle.ds_state.proofs.Frames.{MovesWord, Moves, grows_own, moves_sound, kept_stable}
 use Rattle.ds_state.proofs.Bearing.{Mine, MyMarks, bears, all_stand, text_same, stored_marks}
 use Rattle.ds_state.proofs.Buffers.{buffered}
 use Rattle.ds_state.proofs.Accesses.{Turn, store_moves}
 use Rattle.ds_recover.proofs.RecoveryFrame.{on, Passes, turn_of, recovery_mine, recovery_apart, recovery_keeps, recovery_fits}
 use Rattle.ds_recover.proofs.RecoveryDoubt.{IsDoubted, pending_open, not_below}
-
-record_no_announce : (p n k q : ℕ) → record_place p n k ≢ Announce q
-record_no_announce p n zero q = λ same. cc
-record_no_announce p n (suc k) q = λ same. cc
 
 -- how an edit is resolved, as its process announces it
 abbrev pub outcome_for : Bool → Outcome
@@ -63,10 +59,10 @@ stands_for : (w : PlainWorld) (f : PlainEdit) (how : Bool) → SettledAs w f how
 stands_for w f true h = h
 stands_for w f false h = h
 
-written_pending : (w : PlainWorld) (f : PlainEdit) (a : Announced) → a ≡ pending → IsWritten w f a → IsRecorded w f (record_size f) (record_size f)
-written_pending w f last same h = absurd (let k : last ≡ pending = same in cc)
-written_pending w f pending same h = h
-written_pending w f (ended how) same h = h
+written_pending : (w : PlainWorld) (f : PlainEdit) (how : Bool) (a : Announced) → a ≡ pending → IsWritten w f a → IsWritten w f (ended (outcome_for how))
+written_pending w f how last same h = absurd (let k : last ≡ pending = same in cc)
+written_pending w f how pending same h = h
+written_pending w f how (ended end) same h = h
 
 -- what was said before is still so
 said_before : (w : PlainWorld) (f : PlainEdit) (s : Standing) (b : Announced) (how : Bool) → StandsAs w f s → MaySay s b → rank b ≤ 1 → SettledAs w f how → MaySay (standing_for how) b
@@ -109,7 +105,7 @@ module _ (e : PlainRecoverCall) (how : Bool) (word : ℕ) (old new : PlainWorld)
   moved = ((let c = h.it.cached in let w = h.it.is in let m = more how in omega arith), omega arith, inl refl)
 
   moves : Moves p (Announce p) old new
-  moves = store_moves p old new tn (Announce p) said_word moved store
+  moves = store_moves p old new tn (Announce p) said_word (λ x. cc) moved store
 
   passes : Passes p e.row (StoreOutcome how) e.row (FlushOutcome how) old new
   passes = record {
@@ -179,7 +175,7 @@ module _ (e : PlainRecoverCall) (how : Bool) (word : ℕ) (old new : PlainWorld)
     said = may_end how;
     said_before = said_before old f doubt.0.standing doubt.0.before how doubt.0.stands doubt.0.said_before few_before h.and;
     order = (let l = few_before in omega arith);
-    written = recorded_stable (Announce p) old new f gf (λ k. record_no_announce f.process f.number k p) (record_size f) (record_size f) (written_pending old f doubt.0.now doubt.1 doubt.0.written);
+    written = written_stable (Announce p) old new f gf (λ x. cc) (ended (outcome_for how)) (written_pending old f how doubt.0.now doubt.1 doubt.0.written);
   }
 
   pub step_store_outcome : Keeps p old new

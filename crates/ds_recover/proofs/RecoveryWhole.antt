@@ -25,6 +25,7 @@ use Rattle.ds_recover.proofs.RecoveryEnds.{step_answer, rests_none}
 use Rattle.ds_recover.proofs.RecoveryLate.{step_or_mark, step_flush_mark, step_back_mark, step_flush_outcome, step_back_outcome}
 use Rattle.ds_recover.proofs.RecoveryFree.{step_load_mark, step_flush_value, step_flush_kind, step_give, step_give_dirty, step_flush_given, step_back_given}
 use Rattle.ds_recover.proofs.RecoveryTell.{step_back_value, step_back_kind, step_load_row, step_or_told, step_flush_told, step_back_told}
+use Rattle.ds_recover.proofs.RecoveryWakes.{step_load_version, step_flush_version, step_back_version}
 use Rattle.ds_recover.proofs.RecoveryHead.{step_flush_head, step_back_head}
 
 module _ (e : PlainRecoverCall) (word : ℕ) (old new : PlainWorld) (sound : IsSound old) (real : e.process < old.layout.processes) where

@@ -1,9 +1,10 @@
 //! The beginning of a recovery.
 
-ghost use Rattle.std.specs.Prelude.{◌≡◌, ◌<◌, ◌↔◌, ℕ, IsTrue, IfOk, IfErr, IfSome, IfNone, OnErr};
+ghost use Rattle.std.specs.Prelude.{◌≡◌, ◌<◌, ◌↔◌, ℕ, IsTrue, IfOk, IfErr, IfSome, IfNone, OnErr, length, slice_index_or};
 ghost use Rattle.ds_layout.specs.Places.{cells_of};
-ghost use Rattle.ds_state.specs.LayoutsFit.{IsMigrating, IsMoving, NoneMoves};
-ghost use Rattle.ds_state.specs.Value.{world_of};
+ghost use Rattle.ds_state.specs.LayoutsFit.{IsMoving, NoneMoves};
+ghost use Rattle.ds_state.specs.declared.situation.Situation.TheVariants.{Idle};
+ghost use Rattle.ds_state.specs.Value.{first_rest, world_of};
 ghost use Rattle.ds_recover.specs.RecoverySteps.{BeginsRecovery, fresh};
 ghost use Rattle.ds_recover.specs.RecoverBegun.{MayRecover, IsBegun, Refuses};
 
@@ -37,13 +38,14 @@ fn is_moving(situation: &Situation) -> bool
 }
 
 // A process that migrates the sheet.
-fn migrating(world: &World) -> Option<usize>
-    ensures some { IfSome result (λ q. IsMigrating (world_of world.now) q) }
-    ensures none { IfNone result ((q : ℕ) → q < world.now.sheet.layout.processes → IsMoving ((world_of world.now).situation q) → ⊥) }
+fn migrating(situations: &[Situation]) -> Option<usize>
+    ensures there { IfSome result (λ q. q < length situations.now) }
+    ensures some { IfSome result (λ q. IsMoving (slice_index_or situations.now q (Idle first_rest))) }
+    ensures none { IfNone result ((q : ℕ) → q < length situations.now → IsMoving (slice_index_or situations.now q (Idle first_rest)) → ⊥) }
 {
     let mut process = 0;
-    while process < world.situations.len() {
-        if is_moving(&world.situations[process]) {
+    while process < situations.len() {
+        if is_moving(&situations[process]) {
             return Some(process);
         }
         process += 1;
@@ -105,7 +107,7 @@ pub fn begin(world: &mut World, process: usize) -> Result<(), Refusal>
     if !may_recover(&world.situations[process]) {
         return Err(Refusal::Busy);
     }
-    if let Some(other) = migrating(world) {
+    if let Some(other) = migrating(&world.situations) {
         return Err(Refusal::Migrating(other));
     }
     let layout = world.words.layout();

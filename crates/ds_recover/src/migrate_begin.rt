@@ -1,10 +1,10 @@
 //! The beginning of a migration.
 
-ghost use Rattle.std.specs.Prelude.{◌≡◌, ◌<◌, ◌↔◌, IsTrue, IfOk, IfErr, IfSome, IfNone, OnErr};
-ghost use Rattle.ds_state.specs.Value.{world_of};
-ghost use Rattle.ds_state.specs.declared.situation.Situation.TheVariants as situations;
+ghost use Rattle.std.specs.Prelude.{◌≡◌, ◌<◌, ◌↔◌, IsTrue, ◌≢◌, ℕ, IfOk, IfErr, IfSome, IfNone, OnErr, length, slice_index_or};
+ghost use Rattle.ds_state.specs.Value.{first_rest, world_of};
+ghost use Rattle.ds_state.specs.declared.situation.Situation.TheVariants.{Idle, Stopped};
 ghost use Rattle.ds_recover.specs.MigrationSteps.{BeginsMigration, fresh};
-ghost use Rattle.ds_recover.specs.MigrationTakes.{AllStopped, IsFirstRunning, Refuses};
+ghost use Rattle.ds_recover.specs.MigrationTakes.{AllStopped, Refuses};
 
 use crate::begin::may_recover;
 use crate::migrate::fresh;
@@ -14,7 +14,7 @@ use ds_state::work::MigrateCall;
 use ds_state::world::World;
 
 fn is_stopped(situation: &Situation) -> bool
-    ensures { IsTrue result ↔ (situation.now ≡ situations.Stopped) }
+    ensures { IsTrue result ↔ (situation.now ≡ Stopped) }
 {
     match situation {
         Situation::Stopped => true,
@@ -24,13 +24,15 @@ fn is_stopped(situation: &Situation) -> bool
 }
 
 // The first process that is not stopped.
-fn first_running(world: &World) -> Option<usize>
-    ensures some { IfSome result (λ q. IsFirstRunning (world_of world.now) q) }
-    ensures none { IfNone result (AllStopped (world_of world.now)) }
+fn first_running(situations: &[Situation]) -> Option<usize>
+    ensures there { IfSome result (λ q. q < length situations.now) }
+    ensures some { IfSome result (λ q. slice_index_or situations.now q (Idle first_rest) ≢ Stopped) }
+    ensures first { IfSome result (λ q. (r : ℕ) → r < q → slice_index_or situations.now r (Idle first_rest) ≡ Stopped) }
+    ensures none { IfNone result ((q : ℕ) → q < length situations.now → slice_index_or situations.now q (Idle first_rest) ≡ Stopped) }
 {
     let mut process = 0;
-    while process < world.situations.len() {
-        if !is_stopped(&world.situations[process]) {
+    while process < situations.len() {
+        if !is_stopped(&situations[process]) {
             return Some(process);
         }
         process += 1;
@@ -74,7 +76,7 @@ pub fn begin_migration(world: &mut World, process: usize) -> Result<(), Refusal>
     if !may_recover(&world.situations[process]) {
         return Err(Refusal::Busy);
     }
-    if let Some(running) = first_running(world) {
+    if let Some(running) = first_running(&world.situations) {
         return Err(Refusal::NotStopped(running));
     }
     let layout = world.words.layout();

@@ -17,6 +17,7 @@ use Rattle.ds_state.specs.ShowStages.{IsStage, HaveNoted}
 use Rattle.ds_state.specs.declared.work.ShowEnd.TheVariants.{Settled, AtMark, AtAnnounce}
 use Rattle.ds_state.specs.declared.work.ShowStage.{ShowStage}
 use Rattle.ds_state.specs.declared.work.ShowStage.TheVariants.{LoadAnnounce, LoadMark, LoadValue, LoadKind, AgainMark, AgainAnnounce, Answer}
+use Rattle.ds_state.specs.declared.situation.Rest.{Rest}
 use Rattle.ds_state.specs.declared.situation.Situation.TheVariants.{Showing}
 use Rattle.ds_state.proofs.Leaves.{leaves_same}
 use Rattle.ds_state.proofs.Middles.{lasts_kept, lasts_same, lasts_on, lasts_counts, but_here, but_there, others_go}
@@ -30,7 +31,7 @@ use Rattle.ds_show.proofs.ShowTruth.{IsSettled, settled_true}
 
 -- ---- it comes to be at the begin
 
-module _ (p next : ℕ) (old new : PlainWorld) (sound : IsSound old) (real : p < old.layout.processes) (b : Begins p next old new) where
+module _ (p : ℕ) (next : Rest) (old new : PlainWorld) (sound : IsSound old) (real : p < old.layout.processes) (b : Begins p next old new) where
   pub middle_begins : Middle new new p (fresh p next (cells_of old.layout) old.layout.processes) new
   middle_begins = record {
     sound = (begin_keeps p next old new sound real b).sound;
@@ -82,7 +83,7 @@ module _ (e : PlainShowCall) (word : ℕ) (old new : PlainWorld) (sound : IsSoun
 -- ---- the middles of all
 
 module _ (firsts mids : ℕ → PlainWorld) (old new : PlainWorld) (h : Middles firsts mids old) where
-  pub middles_begin : (p next : ℕ) → IsSound old → p < old.layout.processes → Begins p next old new → Middles (but_for firsts p new) (but_for mids p new) new
+  pub middles_begin : (p : ℕ) (next : Rest) → IsSound old → p < old.layout.processes → Begins p next old new → Middles (but_for firsts p new) (but_for mids p new) new
   middles_begin p next sound real b q low e is = elim (cases_eq q p) [
     | inl eq ↦ (
         let same : fresh p next (cells_of old.layout) old.layout.processes ≡ e = showing_inj (new.situation p) _ e b.situation (ap new.situation (sym eq) ∙ is) in
@@ -192,7 +193,7 @@ pub step_leaves : (e : PlainShowCall) (word : ℕ) (old new : PlainWorld) → Is
 step_leaves e word old new sound real was t = leaves_same e.process old new (steps e word old new sound real was t) t.counted
     (λ h. (h.0, but_for h.1 e.process (middle_after old (h.1 e.process) e.stage), middles_step h.0 h.1 old new h.2 e word sound real was t))
 
-pub begin_leaves : (p next : ℕ) (old new : PlainWorld) → IsSound old → p < old.layout.processes → Begins p next old new → Leaves p old new
+pub begin_leaves : (p : ℕ) (next : Rest) (old new : PlainWorld) → IsSound old → p < old.layout.processes → Begins p next old new → Leaves p old new
 begin_leaves p next old new sound real b = leaves_same p old new (begin_keeps p next old new sound real b) b.counted
     (λ h. (but_for h.0 p new, but_for h.1 p new, middles_begin h.0 h.1 old new h.2 p next sound real b))
 

@@ -24,6 +24,8 @@ RefusesIdle v refusal.Stopped = ⊥
 RefusesIdle v (refusal.Text fault) = ⊥
 RefusesIdle v refusal.RecordsFull = v.settled + reports_under_way v.situations ≡ SETTLED_MOST
 RefusesIdle v refusal.NoMemory = v.settled + reports_under_way v.situations < SETTLED_MOST
+RefusesIdle v (refusal.Migrating q) = ⊥
+RefusesIdle v (refusal.NotStopped q) = ⊥
 
 -- why a process may not begin a report, by its situation
 abbrev pub RefusesIn : WorldValue → Situation → Refusal → Type 0

@@ -85,7 +85,7 @@ pub fn solo_reports_are_settled()
 /// load of a kind makes it the world before that step, and the load of the last one, which ends the
 /// first collect, does so for good; its other steps leave it.
 pub fn reports_have_middles()
-    ensures begin { (p next : ℕ) (old new : PlainWorld) → IsSound old → p < old.layout.processes
+    ensures begin { (p : ℕ) (next : Rest) (old new : PlainWorld) → IsSound old → p < old.layout.processes
         → Begins p next old new
         → Middle new new p (fresh p next (cells_of old.layout) old.layout.processes) new }
     ensures step { (e : PlainShowCall) (word : ℕ) (old new : PlainWorld) → IsSound old
@@ -97,7 +97,7 @@ pub fn reports_have_middles()
 /// So all reports under way have their middles, also where one begins, or goes on, or answers.
 pub fn middles_go_on()
     ensures begins { (firsts mids : ℕ → PlainWorld) (old new : PlainWorld) → Middles firsts mids old
-        → (p next : ℕ) → IsSound old → p < old.layout.processes → Begins p next old new
+        → (p : ℕ) (next : Rest) → IsSound old → p < old.layout.processes → Begins p next old new
         → Middles (but_for firsts p new) (but_for mids p new) new }
     ensures steps { (firsts mids : ℕ → PlainWorld) (old new : PlainWorld) → Middles firsts mids old
         → (e : PlainShowCall) (word : ℕ) → IsSound old → e.process < old.layout.processes
@@ -123,7 +123,7 @@ pub fn reports_leave_others()
     ensures steps { (e : PlainShowCall) (word : ℕ) (old new : PlainWorld) → IsSound old
         → e.process < old.layout.processes → old.situation e.process ≡ Showing e
         → Steps e word old new → Leaves e.process old new }
-    ensures begins { (p next : ℕ) (old new : PlainWorld) → IsSound old → p < old.layout.processes
+    ensures begins { (p : ℕ) (next : Rest) (old new : PlainWorld) → IsSound old → p < old.layout.processes
         → Begins p next old new → Leaves p old new }
 {}
 

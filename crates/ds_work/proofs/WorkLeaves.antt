@@ -3,6 +3,7 @@ use Rattle.std.proofs.Common.{ℕ, ◌≡◌, ◌<◌, List, sym, ◌∙◌}
 use Rattle.ds_formula.specs.Plain.{PlainContent}
 use Rattle.ds_eval.specs.declared.inputs.Entry as entries
 use Rattle.ds_eval.specs.declared.inputs.Input.{Input}
+use Rattle.ds_state.specs.declared.situation.Rest.{Rest}
 use Rattle.ds_state.specs.Works.{PlainWorkCall, PlainShowCall}
 use Rattle.ds_state.specs.World.{PlainWorld}
 use Rattle.ds_state.specs.Leaves.{Leaves}
@@ -37,5 +38,5 @@ lack_leaves e old new sound real was t = turn_leaves e (lacks e) old new (laws.l
 pub offer_leaves : (e : PlainWorkCall) (entry : entries.Entry) (old new : PlainWorld) → IsSound old → e.process < old.layout.processes → old.situation e.process ≡ Working (at e works.Wait) → OffersAt e entry old new → Leaves e.process old new
 offer_leaves e entry old new sound real was t = turn_leaves e (offered e entry) old new (laws.offer_keep e entry old new sound real was t) t.turn
 
-pub begin_leaves : (next : ℕ) (e : PlainWorkCall) (old new : PlainWorld) → IsSound old → e.process < old.layout.processes → BeginsWork next e old new → Leaves e.process old new
+pub begin_leaves : (next : Rest) (e : PlainWorkCall) (old new : PlainWorld) → IsSound old → e.process < old.layout.processes → BeginsWork next e old new → Leaves e.process old new
 begin_leaves next e old new sound real b = turn_leaves e (at e works.LoadMark) old new (laws.begins_keep next e old new sound real b) b.turn

@@ -75,7 +75,7 @@ pub fn fresh(
     alloc: Global,
     layout: &Layout,
     process: usize,
-    next: usize,
+    next: Rest,
     cell: Cell,
 ) -> Result<WorkCall, AllocError>
     requires process { process < layout.now.processes }
@@ -120,10 +120,10 @@ pub fn begin(alloc: Global, world: &mut World, process: usize, cell: Cell) -> Re
     ensures settled { world.new.settled ≡ world.old.settled }
     ensures reports { world.new.reports ≡ world.old.reports }
 {
-    let number = next_edit(&world.situations[process])?;
+    let next = next_edit(&world.situations[process])?;
     let layout = world.words.layout();
     let inputs = inputs_for(alloc, &mut world.spare, layout.cells())?;
-    let call = prepared(&layout, process, number, cell, inputs);
-    start(world, call, cell, number);
+    let call = prepared(&layout, process, next, cell, inputs);
+    start(world, call, cell, next);
     Ok(())
 }

@@ -133,6 +133,6 @@ pub fn works_leave_others()
         → old.situation e.process ≡ Working (at e works.Read) → LacksAt e old new → Leaves e.process old new }
     ensures offers { (e : PlainWorkCall) (entry : entries.Entry) (old new : PlainWorld) → IsSound old → e.process < old.layout.processes
         → old.situation e.process ≡ Working (at e works.Wait) → OffersAt e entry old new → Leaves e.process old new }
-    ensures begins { (next : ℕ) (e : PlainWorkCall) (old new : PlainWorld) → IsSound old → e.process < old.layout.processes
+    ensures begins { (next : Rest) (e : PlainWorkCall) (old new : PlainWorld) → IsSound old → e.process < old.layout.processes
         → BeginsWork next e old new → Leaves e.process old new }
 {}

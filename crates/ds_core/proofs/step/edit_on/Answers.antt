@@ -3,7 +3,7 @@ use Rattle.std.specs.Prelude.{Option, None, vec_capacity}
 use Rattle.std.proofs.lemmas.List.{get_or_default}
 use Rattle.ds_layout.specs.SheetMemory.{PerformsAt, memory}
 use Rattle.ds_state.specs.Edits.{PlainEditCall}
-use Rattle.ds_state.specs.Value.{WorldValue, IsReserved}
+use Rattle.ds_state.specs.Value.{first_rest, WorldValue, IsReserved}
 use Rattle.ds_state.specs.World.{PlainEdit, PlainIssue, edit_of}
 use Rattle.ds_state.specs.declared.stage.Stage.{Stage}
 use Rattle.ds_state.specs.declared.stage.Outcome.{Outcome}
@@ -64,8 +64,8 @@ invariant_of-world c =
     let performs : PerformsAt (access_at e e.stage) p (memory v.sheet) (memory c.perform-word.new.self) word = rw (← c.requires.3) c.perform-word.ensures.performs in
     let there : p < _ = open_edit_there v c.world.invariant.good p e at in
     let what : c.effect_of-what.result ≡ effect_at e.stage word = c.effect_of-what.ensures ∙ ap (λ (s : Stage). effect_at s word) stage in
-    let situation : c.go_on.new.situation ≡ after e e.stage word = c.go_on.ensures e (c.index_mut.ensures.value ∙ get_or_default v.situations p c.index_mut.result.now (Idle 0) at.there ∙ at.is) ∙ ap (λ (x : Effect). after_by e word x) what ∙ after_same e e.stage word refl in
-    let counted : c.count.new.counted.items ≡ v.counted ++ counted_at (edit_of e) e.stage word = c.count.ensures.items e (c.index.ensures ∙ get_or_default v.situations p c.index.result.now (Idle 0) at.there ∙ at.is) ∙ ap (λ (x : Effect). v.counted ++ counted_by (edit_of e) x) what ∙ ap (λ (es : List PlainEdit). v.counted ++ es) (counted_same (edit_of e) e.stage word) in
+    let situation : c.go_on.new.situation ≡ after e e.stage word = c.go_on.ensures e (c.index_mut.ensures.value ∙ get_or_default v.situations p c.index_mut.result.now (Idle first_rest) at.there ∙ at.is) ∙ ap (λ (x : Effect). after_by e word x) what ∙ after_same e e.stage word refl in
+    let counted : c.count.new.counted.items ≡ v.counted ++ counted_at (edit_of e) e.stage word = c.count.ensures.items e (c.index.ensures ∙ get_or_default v.situations p c.index.result.now (Idle first_rest) at.there ∙ at.is) ∙ ap (λ (x : Effect). v.counted ++ counted_by (edit_of e) x) what ∙ ap (λ (es : List PlainEdit). v.counted ++ es) (counted_same (edit_of e) e.stage word) in
     let open_edit : c.close.new.open_edit ≡ open_edit_at (get_or v.open_edits p None) e.stage = c.close.ensures ∙ ap (λ (i : Option PlainIssue). open_edit_by i c.effect_of-what.result) (c.index_mut-2.ensures.value ∙ get_or_default v.open_edits p c.index_mut-2.result.now None there) ∙ ap (λ (x : Effect). open_edit_by (get_or v.open_edits p None) x) what ∙ open_edit_same (get_or v.open_edits p None) e.stage word in
     let done : c.done_after-world-inside.result ≡ done_at v.done e.stage = c.done_after-world-inside.ensures ∙ ap (λ (x : Effect). done_by v.done x) what ∙ ap (λ (o : Option Outcome). done_with v.done o) (outcome_same e.stage word) in
     subst (λ (w : WorldValue). IsReserved w (vec_capacity c.count.new.counted)) (sym (next_is v c.world.invariant.good p e at word c.perform-word.new.self c.perform-word.ensures.layout performs c.go_on.new.situation c.count.new.counted.items c.close.new.open_edit c.done_after-world-inside.result situation counted open_edit done))
@@ -82,8 +82,8 @@ returns c =
     let performs : PerformsAt (access_at e e.stage) p (memory v.sheet) (memory c.perform-word.new.self) word = rw (← c.requires.3) c.perform-word.ensures.performs in
     let there : p < _ = open_edit_there v c.world.invariant.good p e at in
     let what : c.effect_of-what.result ≡ effect_at e.stage word = c.effect_of-what.ensures ∙ ap (λ (s : Stage). effect_at s word) stage in
-    let situation : c.go_on.new.situation ≡ after e e.stage word = c.go_on.ensures e (c.index_mut.ensures.value ∙ get_or_default v.situations p c.index_mut.result.now (Idle 0) at.there ∙ at.is) ∙ ap (λ (x : Effect). after_by e word x) what ∙ after_same e e.stage word refl in
-    let counted : c.count.new.counted.items ≡ v.counted ++ counted_at (edit_of e) e.stage word = c.count.ensures.items e (c.index.ensures ∙ get_or_default v.situations p c.index.result.now (Idle 0) at.there ∙ at.is) ∙ ap (λ (x : Effect). v.counted ++ counted_by (edit_of e) x) what ∙ ap (λ (es : List PlainEdit). v.counted ++ es) (counted_same (edit_of e) e.stage word) in
+    let situation : c.go_on.new.situation ≡ after e e.stage word = c.go_on.ensures e (c.index_mut.ensures.value ∙ get_or_default v.situations p c.index_mut.result.now (Idle first_rest) at.there ∙ at.is) ∙ ap (λ (x : Effect). after_by e word x) what ∙ after_same e e.stage word refl in
+    let counted : c.count.new.counted.items ≡ v.counted ++ counted_at (edit_of e) e.stage word = c.count.ensures.items e (c.index.ensures ∙ get_or_default v.situations p c.index.result.now (Idle first_rest) at.there ∙ at.is) ∙ ap (λ (x : Effect). v.counted ++ counted_by (edit_of e) x) what ∙ ap (λ (es : List PlainEdit). v.counted ++ es) (counted_same (edit_of e) e.stage word) in
     let open_edit : c.close.new.open_edit ≡ open_edit_at (get_or v.open_edits p None) e.stage = c.close.ensures ∙ ap (λ (i : Option PlainIssue). open_edit_by i c.effect_of-what.result) (c.index_mut-2.ensures.value ∙ get_or_default v.open_edits p c.index_mut-2.result.now None there) ∙ ap (λ (x : Effect). open_edit_by (get_or v.open_edits p None) x) what ∙ open_edit_same (get_or v.open_edits p None) e.stage word in
     let done : c.done_after-world-inside.result ≡ done_at v.done e.stage = c.done_after-world-inside.ensures ∙ ap (λ (x : Effect). done_by v.done x) what ∙ ap (λ (o : Option Outcome). done_with v.done o) (outcome_same e.stage word) in
     let outcome : outcome_by c.effect_of-what.result ≡ outcome_at c.args.stage = ap (λ (x : Effect). outcome_by x) c.effect_of-what.ensures ∙ outcome_same c.args.stage word in

@@ -1,3 +1,4 @@
+use Rattle.std.proofs.Common.{arith}
 use Rattle.ds_formula.proofs.Formed.{read_inside}
 use Rattle.ds_formula.specs.Plain.{plain}
 use Rattle.ds_state.specs.declared.refusal.Refusal.{Refusal}
@@ -11,5 +12,5 @@ numbers-requires c = λ cell refers. read_inside c.args.shape.now c.args.text.no
 
 pub returns-in_err-content-clause-refused : goal.returns-in_err-content-clause-refused
 returns-in_err-content-clause-refused c =
-    handed_on c.from_residual.result (refusal_of c.in_err-content.field-0.0) (λ (r : Refusal). RefusesIdle c.args.shape.now c.args.number c.args.text.now r) c.from_residual.ensures.1
-    (text_refused c.args.shape.now c.args.number c.args.text.now c.in_err-content.field-0.0 c.in_err-content.ensures)
+    handed_on c.from_residual.result (refusal_of c.in_err-content.field-0.0) (λ (r : Refusal). RefusesIdle c.args.shape.now c.args.next c.args.text.now r) c.from_residual.ensures.1
+    (text_refused c.args.shape.now c.args.next c.args.text.now c.in_err-content.field-0.0 (let f = c.if-text-most.false in let k = c.parts-most.ensures in omega arith) c.in_err-content.ensures)

@@ -10,7 +10,7 @@ use Rattle.ds_recover.proofs.machine.tell_next.Goals as goal
 pub invariant_of-call : goal.invariant_of-call
 invariant_of-call c =
     let i = c.call.inside in
-    let e : PlainRecoverCall = record { process = i.process; cells = i.cells; processes = i.processes; mark = i.mark; row = i.row; announcement = i.announcement; cell = i.cell; stage = i.stage } in
+    let e : PlainRecoverCall = record { process = i.process; edition = i.edition; cells = i.cells; processes = i.processes; mark = i.mark; row = i.row; announcement = i.announcement; cell = i.cell; stage = i.stage } in
     let at : e.stage ≡ Telling c.args.cell (BackTold c.args.told) = ap (λ (x : PlainRecoverCall). x.stage) c.call.view_is ∙ c.requires in
     let was : IsStage e (Telling c.args.cell (BackTold c.args.told)) = subst (λ (s : RecoverStage). IsStage e s) at c.call.invariant.stage in
     rw (c.tell_from-call-inside.ensures, c.as_slice.ensures)

@@ -4,7 +4,7 @@ use Rattle.std.proofs.lemmas.List.{get_or_default}
 use Rattle.ds_layout.specs.SheetMemory.{PerformsAt, memory}
 use Rattle.ds_state.specs.Works.{PlainRecoverCall}
 use Rattle.ds_state.specs.World.{PlainIssue}
-use Rattle.ds_state.specs.Value.{WorldValue, IsReserved}
+use Rattle.ds_state.specs.Value.{WorldValue, first_rest, IsReserved}
 use Rattle.ds_state.specs.declared.situation.Situation.TheVariants.{Idle}
 use Rattle.ds_recover.specs.declared.machine.Effect.{Effect}
 use Rattle.ds_recover.specs.RecoverySteps.{access_at, after, open_edit_at}
