@@ -41,7 +41,7 @@ done_there number (reply ∷ replies) zero answer all is = let same : reply ≡ 
 done_there number (reply ∷ replies) (suc k) answer all is = done_there number replies k answer all.1 is
 
 pub solo_answered : (old : WorldValue) (events : List Event) (replies : List Reply) (new : WorldValue) (p : ℕ) (e : PlainEditCall) → IsSound (world_of old) → p < old.sheet.layout.processes
-    → (world_of old).situation p ≡ Editing e → e.stage ≡ StoreHeader → WorldRun old events replies new → IsSolo p events → 67 + 3 * length e.refs ≤ own_steps p events replies
+    → (world_of old).situation p ≡ Editing e → e.stage ≡ StoreHeader → WorldRun old events replies new → IsSolo p events → 112 + 3 * length e.refs ≤ own_steps p events replies
     → (k : ℕ) × Happens events replies k (Step p) (Answered (Done e.number))
 solo_answered old events replies new p e sound low at first run solo enough =
     let few = edit_left old p e sound low at in
@@ -66,7 +66,7 @@ lone_there first last cell (reply ∷ replies) (suc k) answer all is = lone_ther
 
 pub lone_answered : (old : WorldValue) (events : List Event) (replies : List Reply) (new : WorldValue) (p : ℕ) (e : PlainWorkCall) → IsSound (world_of old) → p < old.sheet.layout.processes
     → (world_of old).situation p ≡ Working e → e.stage ≡ LoadMark → IsMarkedAt (world_of old) e → WorldRun old events replies new → IsLone p events
-    → 5 * e.cells + (e.cells + 63) / 64 + 36 ≤ own_steps p events replies
+    → 5 * e.cells + (e.cells + 63) / 64 + 51 ≤ own_steps p events replies
     → (k : ℕ) × (answer : Answer) × Happens events replies k (Step p) (Answered answer)
     × IsLoneAnswer (world_of old) (world_of new) e.cell answer
 lone_answered old events replies new p e sound low at first marked run lone enough =

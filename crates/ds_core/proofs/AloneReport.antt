@@ -21,7 +21,7 @@ use Rattle.ds_show.specs.ShowSteps as shows
 use Rattle.ds_show.specs.ShowSolo.{SoloCall}
 use Rattle.ds_show.proofs.ShowSolo.{solo_settles}
 use Rattle.ds_core.specs.Takes.{Takes, WorldRun}
-use Rattle.ds_core.specs.StepEvents.{StepTakes, StepsBy, EvictTakes, edits, works, reports, recoveries}
+use Rattle.ds_core.specs.StepEvents.{StepTakes, StepsBy, EvictTakes, edits, works, reports, recoveries, migrations}
 use Rattle.ds_core.specs.ReportEvents.{ReportStepsBy, ReportBegins, report_answer, report_reply}
 use Rattle.ds_core.specs.Own.{own_step, own_steps, left_in, steps_left, IsInCall}
 use Rattle.ds_core.specs.Solo.{IsSoloEvent, IsSolo}

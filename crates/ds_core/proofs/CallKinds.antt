@@ -41,7 +41,7 @@ use Rattle.ds_core.specs.EditEvents.{EditStepsBy, reply_at}
 use Rattle.ds_core.specs.WorkEvents.{WorkStepsBy, work_reply, work_answer}
 use Rattle.ds_core.specs.ReportEvents.{ReportStepsBy, report_reply, report_answer}
 use Rattle.ds_core.specs.RecoveryEvents.{RecoveryStepsBy, recovery_reply, recovery_answer}
-use Rattle.ds_core.specs.StepEvents.{StepsBy, edits, works, reports, recoveries}
+use Rattle.ds_core.specs.StepEvents.{StepsBy, edits, works, reports, recoveries, migrations}
 use Rattle.ds_core.specs.Own.{IsInCall}
 use Rattle.ds_core.specs.declared.reply.Reply.TheVariants.{Stepped, Answered, NotEnabled}
 use Rattle.ds_core.proofs.Bound.{edit_goes_on}

@@ -17,7 +17,7 @@ use Rattle.ds_state.specs.declared.stage.Stage.{Stage}
 use Rattle.ds_state.specs.declared.stage.Stage.TheVariants.{Swap, Answer}
 use Rattle.ds_state.specs.declared.situation.Situation.{Situation}
 use Rattle.ds_state.specs.declared.situation.Situation.TheVariants.{Editing}
-use Rattle.ds_edit.specs.EditTakes.{Begins, counted_at, open_edit_at}
+use Rattle.ds_edit.specs.EditTakes.{rest_before, Begins, counted_at, open_edit_at}
 use Rattle.ds_edit.specs.EditAnswers.{IsTrueAnswer, IsTrueOf}
 use Rattle.ds_edit.specs.Begun.{IsBegun}
 use Rattle.ds_edit.proofs.Truth.{answer_true}
@@ -48,7 +48,7 @@ begins_move old new sound process cell text number h =
     let e : PlainEditCall = h.edit in
     let b : Begins e old new = h.begins in
     let low : e.process < old.layout.processes = rw h.asked.sheet.processes h.asked.is.process in
-    let idle : IdleFits old e.process e.number = subst (λ (x : Situation). CallFits old e.process x) b.idle (sound.calls e.process low) in
+    let idle : IdleFits old e.process (rest_before e) = subst (λ (x : Situation). CallFits old e.process x) b.idle (sound.calls e.process low) in
     let i : Issues old (edit_of e) new = record {
       none = idle.open_edits;
       issued = b.open_edits;
@@ -91,8 +91,8 @@ module _ (old new : WorldValue) (g : IsSound (world_of old)) (p : ℕ) (reply : 
     })
     | inr one ↦ inr (
         let swaps = counts_at E h.edit.stage h.word one in
-        let knows : Knowing (world_of old) E h.edit.refs fits.since (known_at (text_parts h.edit.text) (length h.edit.refs) (Swap swaps.0)) =
-        subst (λ (s : Stage). Knowing (world_of old) E h.edit.refs fits.since (known_at (text_parts h.edit.text) (length h.edit.refs) s)) swaps.1 fits.knows in
+        let knows : Knowing (world_of old) h.edit.edition E h.edit.refs fits.since (known_at (text_parts h.edit.text) (length h.edit.refs) (Swap swaps.0)) =
+        subst (λ (s : Stage). Knowing (world_of old) h.edit.edition E h.edit.refs fits.since (known_at (text_parts h.edit.text) (length h.edit.refs) s)) swaps.1 fits.knows in
         record {
           issue = record { edit = E; since = fits.since };
           open_is = open_here;

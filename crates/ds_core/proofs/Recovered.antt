@@ -172,6 +172,9 @@ module _ (layout : Layout) (m : Memory Place) (p : ℕ) where
   now_sees e h = seen_all e.stage _ h
 
   sees_next : (e : PlainRecoverCall) (s : RecoverStage) (word : ℕ) → cells_of layout ≡ e.cells → HasSeen s (SeesNow e) → (s ≡ stages.LoadHeader → word ≡ m.cached (Header p (number_of e))) → steps.effect_at e s ≡ effects.GoesOn → Sees (steps.next_at e s word)
+  sees_next e stages.LoadVersion word cells h load goes = tt
+  sees_next e stages.FlushVersion word cells h load goes = tt
+  sees_next e stages.BackVersion word cells h load goes = tt
   sees_next e (stages.LoadMark cell) word cells h load goes = early _ _ (holds_early (steps.reads_held e.process word) e cell word)
   sees_next e (stages.FlushValue cell) word cells h load goes = tt
   sees_next e (stages.FlushKind cell) word cells h load goes = tt
@@ -206,7 +209,7 @@ tells_recovery_begun layout l v v' p h t b =
       told = λ c is. (let k = t.told p c is in told_on l.counted l.counted (world_of v) (world_of v') p c k g.layout (sides_same (world_of v).memory (world_of v').memory (Header p c.it.edit.number) g.memory) k.counted);
       opens = λ issue is. t.opens p issue (sym (g.open_edits p) ∙ is);
       announced = λ doubt none. ap (λ x. x / 4) (g.memory.cached (Announce p)) ∙ announces_now (world_of v) h.good.sound p b.there (sym (g.open_edits p) ∙ none) (l.told p) (λ n is. h.numbers p n is) (λ d. t.announced p b.there d (sym (g.open_edits p) ∙ none));
-      sees = λ e is. (let same : steps.at (steps.fresh p (cells_of v.sheet.layout) v.sheet.layout.processes) (stages.LoadMark 0) ≡ e = (let x = sym g.situation ∙ is in cc) in
+      sees = λ e is. (let same : steps.at (steps.fresh p (cells_of v.sheet.layout) v.sheet.layout.processes) stages.LoadVersion ≡ e = (let x = sym g.situation ∙ is in cc) in
           subst (λ (x : PlainRecoverCall). SeesCell (world_of v') p x) same tt);
     }) (λ q ne. refl) (λ q c ne is. (t.told q c is).counted)
 

@@ -47,7 +47,7 @@ use Rattle.ds_state.specs.declared.work.MigrateEnd.TheVariants as migrate_ends
 use Rattle.ds_core.specs.MigrationEvents.{MigrationStepsBy, MigrationBegins, migration_reply, migration_answer}
 use Rattle.ds_core.specs.EditEvents.{reply_with, EditStepsBy}
 use Rattle.ds_core.specs.ReportEvents.{report_answer, report_reply, ReportStepsBy, ReportBegins}
-use Rattle.ds_core.specs.StepEvents.{StepsBy, edits, works, reports, recoveries}
+use Rattle.ds_core.specs.StepEvents.{StepsBy, edits, works, reports, recoveries, migrations}
 use Rattle.ds_core.specs.WorkEvents.{work_reply}
 use Rattle.ds_core.specs.RecoveryEvents.{recovery_reply, RecoveryStepsBy}
 use Rattle.ds_work.specs.declared.drive.Taken.{Taken}

@@ -3,6 +3,7 @@ use Rattle.std.proofs.Common.{ℕ, ◌≡◌, ◌≢◌, ◌<◌, ◌+◌, ◌-�
 use Rattle.std.specs.Prelude.{Option, Contains, if◌then◌else◌}
 use Rattle.std.proofs.lemmas.Bool.{cases_eq}
 use Rattle.std.proofs.lemmas.Bool.Decides.{eqb_tells}
+use Rattle.ds_layout.specs.declared.place.Edition.TheVariants.{First}
 use Rattle.ds_words.specs.Memory.{SameMemory}
 use Rattle.ds_layout.specs.declared.announcement.Phase.{Phase}
 use Rattle.ds_layout.specs.declared.announcement.Phase.TheVariants as phase
@@ -314,7 +315,7 @@ module _ (layout : Layout) (l : Ledger) (v v' : WorldValue) (h : IsOf layout l v
 
     -- ---- it is closed under its number
 
-    module _ (b : Bool) (how : found.how ≡ Some b) (number : issue.edit.number + 1 ≡ (world_of v).memory.cached (Announce p) / 4) (written : IsRecorded (world_of v) issue.edit (record_size issue.edit) (record_size issue.edit)) (counted : IsCounted l.counted own.o.it b) where
+    module _ (b : Bool) (how : found.how ≡ Some b) (number : issue.edit.number + 1 ≡ (world_of v).memory.cached (Announce p) / 4) (written : IsRecorded (world_of v) First issue.edit 1 1) (counted : IsCounted l.counted own.o.it b) where
       abbrev ended_as : Closed
       ended_as = record { it = own.o.it; counts = b }
 
@@ -351,7 +352,7 @@ module _ (layout : Layout) (l : Ledger) (v v' : WorldValue) (h : IsOf layout l v
 
       tells_close : Tells ended_in v'
       tells_close = tells_closed p l ended_in v v' t (recovery_turn v v' p (Answered answer) h.good.sound s) s.steps.steps.layout ended_as (put_here l.told p (Some ended_as)) (λ q ne. put_other l.told p (Some ended_as) q ne) refl
-          (told_by l.counted (world_of v) p ended_as issue.edit (record_size issue.edit) own.edit doubt.mine counted (omega arith) written doubt.cell doubt.text)
+          (told_by l.counted (world_of v) p ended_as First issue.edit 1 own.edit doubt.mine counted (omega arith) written doubt.cell doubt.text)
           (sides_same (world_of v).memory (world_of v').memory (Header p ended_as.it.edit.number) memory) gone sure
 
       is_closed : IsResolved layout l p answer v'

@@ -147,8 +147,8 @@ overtaken_out old mid p n other sound h =
     let low : h.edit.process < old.sheet.layout.processes = rw h.mine h.there in
     let here : (world_of old).situation h.edit.process ≡ Editing h.edit = ap (λ q. (world_of old).situation q) h.mine ∙ h.at in
     let fits : EditFits (world_of old) h.edit.process h.edit = subst (λ (x : Situation). CallFits (world_of old) h.edit.process x) here (sound.calls h.edit.process low) in
-    let knows : Knowing (world_of old) (edit_of h.edit) h.edit.refs fits.since (known_at (text_parts h.edit.text) (length h.edit.refs) (Answer (outcome.Overtaken how.1.0 how.1.1))) =
-    subst (λ (s : Stage). Knowing (world_of old) (edit_of h.edit) h.edit.refs fits.since (known_at (text_parts h.edit.text) (length h.edit.refs) s)) stage fits.knows in
+    let knows : Knowing (world_of old) h.edit.edition (edit_of h.edit) h.edit.refs fits.since (known_at (text_parts h.edit.text) (length h.edit.refs) (Answer (outcome.Overtaken how.1.0 how.1.1))) =
+    subst (λ (s : Stage). Knowing (world_of old) h.edit.edition (edit_of h.edit) h.edit.refs fits.since (known_at (text_parts h.edit.text) (length h.edit.refs) s)) stage fits.knows in
     let below : AreBelow (world_of old) h.edit.process h.edit.number = knows.standing in
     let kept : Keeps h.edit.process (world_of old) (world_of mid) = step_sound h.edit h.word (world_of old) (world_of mid) sound low here h.steps in
     let spent : IsSpent (world_of old) h.edit.process h.edit.number = answer_spent (world_of old) h.edit sound low here found.0 last in

@@ -4,6 +4,7 @@ use Rattle.std.specs.Prelude.{Option, Contains, filter}
 use Rattle.std.proofs.lemmas.Bool.{cases_eq, cases_lt}
 use Rattle.std.proofs.lemmas.List.{get_or_past}
 use Rattle.std.proofs.lemmas.List.Elements.{All-contains}
+use Rattle.ds_layout.specs.declared.place.Edition.{Edition}
 use Rattle.ds_layout.specs.declared.place.Place.{Place}
 use Rattle.ds_layout.specs.declared.place.Place.TheVariants.{Header, Announce}
 use Rattle.ds_layout.specs.declared.layout.Layout.{Layout}
@@ -204,9 +205,9 @@ module _ (q : ℕ) (l l' : Ledger) (v v' : WorldValue) (t : Tells l v) (turn : I
 
 -- ---- what a record that stands tells
 
-pub recorded_tells : (w : PlainWorld) (e : PlainEdit) (size : ℕ) → 0 < size → IsRecorded w e size size → e.cell < cells_of w.layout → length e.text ≤ TEXT_MOST
+pub recorded_tells : (w : PlainWorld) (edition : Edition) (e : PlainEdit) (size : ℕ) → 0 < size → IsRecorded w edition e size size → e.cell < cells_of w.layout → length e.text ≤ TEXT_MOST
     → (cell_told w.layout (w.memory.cached (Header e.process e.number)) ≡ e.cell) × (cell_told w.layout (w.memory.persisted (Header e.process e.number)) ≡ e.cell)
-recorded_tells w e size some r low few =
+recorded_tells w edition e size some r low few =
     let m = w.layout.limited in
     let back = header_of-header_word (cells_of w.layout) (record { cell = e.cell; length = length e.text }) (record { cell = omega arith; length = omega arith }) (record { cell = low; length = few }) in (
       ap (λ x. cell_told w.layout x) (r.cached 0 some) ∙ ap cell_from back,
@@ -214,9 +215,9 @@ recorded_tells w e size some r low few =
     )
 
 -- the closed edit is told, where it is one whose record stands
-pub told_by : (es : List Placed) (w : PlainWorld) (p : ℕ) (c : Closed) (e : PlainEdit) (size : ℕ) → c.it.edit ≡ e → e.process ≡ p → IsCounted es c.it c.counts → 0 < size → IsRecorded w e size size → e.cell < cells_of w.layout → length e.text ≤ TEXT_MOST → IsTold es w p c
-told_by es w p c e size same mine counted some r low few =
-    let tells = recorded_tells w e size some r low few in
+pub told_by : (es : List Placed) (w : PlainWorld) (p : ℕ) (c : Closed) (edition : Edition) (e : PlainEdit) (size : ℕ) → c.it.edit ≡ e → e.process ≡ p → IsCounted es c.it c.counts → 0 < size → IsRecorded w edition e size size → e.cell < cells_of w.layout → length e.text ≤ TEXT_MOST → IsTold es w p c
+told_by es w p c edition e size same mine counted some r low few =
+    let tells = recorded_tells w edition e size some r low few in
     let place : (m : Place → ℕ) → cell_told w.layout (m (Header e.process e.number)) ≡ e.cell → cell_told w.layout (m (Header p c.it.edit.number)) ≡ c.it.edit.cell =
     λ m is. ap (λ n. cell_told w.layout (m (Header p n))) (ap (λ (x : PlainEdit). x.number) same) ∙ ap (λ q. cell_told w.layout (m (Header q e.number))) (sym mine) ∙ is ∙ ap (λ (x : PlainEdit). x.cell) (sym same) in
     record {

@@ -94,8 +94,8 @@ module _ (layout : _) (l : Ledger) (v v' : WorldValue) (h : IsOf layout l v) (t 
 
   -- it is answered
   module _ (how : Outcome) (at : s.edit.stage ≡ Answer how) where
-    knows : Knowing (world_of v) (edit_of s.edit) s.edit.refs fits.since (known_at (text_parts s.edit.text) (length s.edit.refs) (Answer how))
-    knows = subst (λ (x : Stage). Knowing (world_of v) (edit_of s.edit) s.edit.refs fits.since (known_at (text_parts s.edit.text) (length s.edit.refs) x)) at fits.knows
+    knows : Knowing (world_of v) s.edit.edition (edit_of s.edit) s.edit.refs fits.since (known_at (text_parts s.edit.text) (length s.edit.refs) (Answer how))
+    knows = subst (λ (x : Stage). Knowing (world_of v) s.edit.edition (edit_of s.edit) s.edit.refs fits.since (known_at (text_parts s.edit.text) (length s.edit.refs) x)) at fits.knows
 
     memory : SameMemory (world_of v).memory (world_of v').memory
     memory = (subst (λ (x : Stage). PerformsAt (access_at s.edit x) s.edit.process (world_of v).memory (world_of v').memory s.word) at s.steps.memory).1
@@ -107,7 +107,7 @@ module _ (layout : _) (l : Ledger) (v v' : WorldValue) (h : IsOf layout l v) (t 
           let cells = fits.sheet.cells in
           let low = fits.is.cell in
           tells_closed p l l' v v' t (edit_turn v v' p reply h.good.sound s) s.steps.layout c here others list
-          (told_by l.counted (world_of v) p c (edit_of s.edit) (suc (text_parts s.edit.text)) (same ∙ its issue open_is) fits.mine counted (omega arith) knows.recorded (omega arith) fits.is.text.short)
+          (told_by l.counted (world_of v) p c s.edit.edition (edit_of s.edit) (suc (text_parts s.edit.text)) (same ∙ its issue open_is) fits.mine counted (omega arith) knows.recorded (omega arith) fits.is.text.short)
           (sides_same (world_of v).memory (world_of v').memory (Header p c.it.edit.number) memory) none sure
 
   pub overtaken_is_out : (noted seen : ℕ) → s.edit.stage ≡ Answer (outcome.Overtaken noted seen) → (issue : PlainIssue) → (world_of v).open_edits p ≡ Some issue → (it : Placed) → it.edit ≡ issue.edit → IsCounted l.counted it false

@@ -164,7 +164,7 @@ pub fn solo_edits_are_answered()
         (p : ℕ) (e : PlainEditCall) → IsSound (world_of old) → p < old.sheet.layout.processes
         → (world_of old).situation p ≡ Editing e → e.stage ≡ StoreHeader
         → WorldRun old events replies new → IsSolo p events
-        → 67 + 3 * length e.refs ≤ own_steps p events replies
+        → 112 + 3 * length e.refs ≤ own_steps p events replies
         → (k : ℕ) × Happens events replies k (Step p) (Answered (Done e.number)) }
 {}
 
@@ -195,7 +195,7 @@ pub fn lone_works_publish()
 {}
 
 /// Work on a marked cell that is alone from its beginning on, and makes as many steps as work on a
-/// sheet of N cells can need, 5N and one for each part of an index row and 36, is answered; and the
+/// sheet of N cells can need, 5N and one for each part of an index row and 51, is answered; and the
 /// answer is one of `lone_works_publish`.
 #[tactic(auto, using(crate::proofs::Alone::lone_answered))]
 pub fn lone_works_are_answered()
@@ -203,7 +203,7 @@ pub fn lone_works_are_answered()
         (p : ℕ) (e : PlainWorkCall) → IsSound (world_of old) → p < old.sheet.layout.processes
         → (world_of old).situation p ≡ Working e → e.stage ≡ LoadMark → IsMarkedAt (world_of old) e
         → WorldRun old events replies new → IsLone p events
-        → 5 * e.cells + parts_for e.cells + 36 ≤ own_steps p events replies
+        → 5 * e.cells + parts_for e.cells + 51 ≤ own_steps p events replies
         → (k : ℕ) × (answer : Answer) × Happens events replies k (Step p) (Answered answer)
         × IsLoneAnswer (world_of old) (world_of new) e.cell answer }
 {}
