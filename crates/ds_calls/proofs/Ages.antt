@@ -1,6 +1,9 @@
 -- Each event leaves each mark at most one generation older.
 use Rattle.std.proofs.Common.{ℕ, ◌≡◌, ◌<◌, ◌≤◌, ◌+◌, ◌*◌, ◌/◌, ◌⊎◌, refl, ap, sym, ◌∙◌, arith, inl, inr, List, [], ◌∷◌, length}
 use Rattle.std.specs.Prelude.{bit_or}
+use Rattle.ds_state.specs.declared.work.MigrateStage.TheVariants as migrate_stages
+use Rattle.ds_state.specs.declared.work.MigrateStage.{MigrateStage}
+use Rattle.ds_recover.specs.MigrationSteps as migration_steps
 use Rattle.ds_words.specs.declared.access.Access.{Access}
 use Rattle.ds_words.specs.declared.access.Access.TheVariants.{Nothing, Load, Store, Or, SwapIf, Flush, Back}
 use Rattle.ds_words.specs.Memory.{Memory, SameMemory, StoresAt}
@@ -12,7 +15,7 @@ use Rattle.ds_layout.specs.Mark.{generation_of}
 use Rattle.ds_layout.specs.SheetMemory.{PerformsAt}
 use Rattle.ds_layout.proofs.PlaceCases.{place_cases}
 use Rattle.ds_state.specs.Edits.{PlainEditCall}
-use Rattle.ds_state.specs.Works.{PlainWorkCall, PlainRecoverCall}
+use Rattle.ds_state.specs.Works.{PlainWorkCall, PlainRecoverCall, PlainMigrateCall}
 use Rattle.ds_state.specs.Fresh.{IsNew}
 use Rattle.ds_state.specs.Value.{WorldValue, world_of, IsGood}
 use Rattle.ds_state.specs.Sound.{IsSound}
@@ -33,7 +36,7 @@ use Rattle.ds_work.specs.WorkTakes as work_events
 use Rattle.ds_work.specs.declared.drive.Taken.{Taken}
 use Rattle.ds_recover.specs.RecoverySteps as recovery_steps
 use Rattle.ds_show.specs.ShowSteps as show_steps
-use Rattle.ds_core.specs.StepEvents.{StepsBy, edits, works, reports, recoveries}
+use Rattle.ds_core.specs.StepEvents.{StepsBy, edits, works, reports, recoveries, migrations}
 use Rattle.ds_core.specs.Takes.{Takes, WorldRun}
 use Rattle.ds_core.proofs.Did as did_so
 use Rattle.ds_core.proofs.Did.{Did, did, edit_begins, work_begins, report_begins, recovery_begins, steps, offers, evicts, stops, crashes}
@@ -127,6 +130,11 @@ recovery_gentle e (recover_stages.OrMark how) = inr refl
 recovery_gentle e (recover_stages.StoreOutcome how) = λ c is. cc
 recovery_gentle e _ = tt
 
+migration_gentle : (e : PlainMigrateCall) (s : MigrateStage) → IsGentle (migration_steps.access_at e s)
+migration_gentle e (migrate_stages.StoreNew n) = λ c is. cc
+migration_gentle e migrate_stages.Swap = inl (λ c is. cc)
+migration_gentle e _ = tt
+
 show_gentle : (s : ShowStage) → IsGentle (show_steps.access_at s)
 show_gentle (show_stages.LoadAnnounce i) = tt
 show_gentle (show_stages.LoadMark i) = tt
@@ -156,6 +164,7 @@ module _ (old new : WorldValue) (sound : IsSound (world_of old)) (c : ℕ) where
   step_older p reply (works h) = turn_older h.steps.work (let a = h.steps.is.process in let b = h.steps.is.processes in omega arith) h.what h.steps.turn
   step_older p reply (reports h) = gentle (world_of old).memory (world_of new).memory (show_steps.access_at h.steps.show.stage) h.steps.show.process h.steps.word (show_gentle h.steps.show.stage) h.steps.steps.memory c
   step_older p reply (recoveries h) = gentle (world_of old).memory (world_of new).memory (recovery_steps.access_at h.steps.recovery h.steps.recovery.stage) h.steps.recovery.process h.steps.word (recovery_gentle h.steps.recovery h.steps.recovery.stage) h.steps.steps.memory c
+  step_older p reply (migrations h) = gentle (world_of old).memory (world_of new).memory (migration_steps.access_at h.steps.migration h.steps.migration.stage) h.steps.migration.process h.steps.word (migration_gentle h.steps.migration h.steps.migration.stage) h.steps.steps.memory c
 
   by : (event : Event) (reply : Reply) → Did old new event reply → Older
   by _ _ (did_so.nothing event reply none is all) = let e : age (world_of new) c ≡ age (world_of old) c = ap (λ (v : WorldValue). age (world_of v) c) all in omega (arith, e)
@@ -163,6 +172,7 @@ module _ (old new : WorldValue) (sound : IsSound (world_of old)) (c : ℕ) where
   by _ _ (work_begins p cell h) = still h.begun.begins.turn.memory
   by _ _ (report_begins p h) = still h.begun.begins.memory
   by _ _ (recovery_begins p h) = still h.begun.begins.memory
+  by _ _ (did_so.migration_begins p h) = still h.begun.memory
   by _ _ (steps p reply is h) = step_older p reply h
   by _ _ (offers value h) = still h.offered.offers.turn.memory
   by _ _ (evicts word h) = same_grows (world_of old).memory (world_of new).memory c (h.evicts.memory.cached (Mark c))
@@ -190,7 +200,7 @@ run_older c (event ∷ events) [] old new sound run = absurd run
 pub run_young : (old : WorldValue) (events : List Event) (replies : List Reply) (new : WorldValue) → IsNew (world_of old) → IsGood old → WorldRun old events replies new → (c : ℕ) → age (world_of new) c ≤ length events
 run_young old events replies new fresh good run c =
     let more = run_older c events replies old new good.sound run in
-    let none : (world_of old).memory.cached (Mark c) ≡ 0 = fresh.memory.cached (Mark c) in
+    let none : (world_of old).memory.cached (Mark c) ≡ 0 = fresh.memory.cached (Mark c) (λ x. cc) in
     omega (arith, more, none)
 
 pub young_marks : (old : WorldValue) (events : List Event) (replies : List Reply) (new : WorldValue) (rounds : ℕ) → IsNew (world_of old) → IsGood old → WorldRun old events replies new → length events + 2 * rounds ≤ SEEN_MOST → AreYoung (world_of new) rounds

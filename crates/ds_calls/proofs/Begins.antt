@@ -6,8 +6,10 @@ use Rattle.ds_state.specs.Value.{WorldValue, world_of}
 use Rattle.ds_state.specs.World.{PlainEdit}
 use Rattle.ds_state.specs.declared.refusal.Refusal.{Refusal}
 use Rattle.ds_state.specs.declared.situation.Situation.{Situation}
-use Rattle.ds_state.specs.declared.situation.Situation.TheVariants.{Editing, Working, Recovering, Showing}
+use Rattle.ds_state.specs.declared.situation.Situation.TheVariants.{Stopped, Editing, Working, Recovering, Showing, Migrating}
 use Rattle.ds_edit.specs.declared.answer.Answer.{Answer}
+use Rattle.ds_edit.specs.declared.answer.Answer.TheVariants.{Migrated, Already}
+use Rattle.ds_recover.specs.MigrationSteps as migrations
 use Rattle.ds_show.specs.ShowSteps as shows
 use Rattle.ds_work.specs.WorkSteps as works
 use Rattle.ds_recover.specs.RecoverySteps as recoveries
@@ -19,12 +21,12 @@ use Rattle.ds_core.specs.Own.{IsInCall}
 use Rattle.ds_core.specs.WorkEvents.{HasWork}
 use Rattle.ds_core.specs.Takes.{Takes, Fits, IsOfWorld}
 use Rattle.ds_core.specs.declared.event.Event.{Event}
-use Rattle.ds_core.specs.declared.event.Event.TheVariants.{BeginEdit, BeginWork, BeginShow, BeginRecover}
+use Rattle.ds_core.specs.declared.event.Event.TheVariants.{BeginEdit, BeginWork, BeginShow, BeginRecover, BeginMigrate}
 use Rattle.ds_core.specs.declared.reply.Reply.{Reply}
 use Rattle.ds_core.specs.declared.reply.Reply.TheVariants.{Begun, Entered, Refused, NotEnabled}
 use Rattle.ds_core.proofs.Bound.{same_layout}
-use Rattle.ds_core.specs.Kinds.{IsEditAnswer, IsWorkAnswer, IsReportAnswer, IsRecoveryAnswer, AnswersTo}
-use Rattle.ds_calls.specs.Whole.{HasProcess, HasBegun, IsCalling, finishes, refused, IsWhole}
+use Rattle.ds_core.specs.Kinds.{IsEditAnswer, IsWorkAnswer, IsReportAnswer, IsRecoveryAnswer, IsMigrationAnswer, AnswersTo, RestsAs}
+use Rattle.ds_calls.specs.Whole.{HasProcess, HasBegun, IsCalling, IsIdle, finishes, refused, IsWhole, IsWholeMigration}
 use Rattle.ds_calls.specs.Driven.{CanGoOn, BeginsCall, IsDriven}
 
 -- a process that has come into a call
@@ -64,12 +66,32 @@ report_begins old new p _ there fits = absurd fits.takes
 pub recovery_begins : (old new : WorldValue) (p : ℕ) (reply : Reply) → HasProcess old p → Fits old (BeginRecover p) reply new → BeginsCall IsRecoveryAnswer old p new reply
 recovery_begins old new p Entered there fits =
     let h = fits.takes in
-    calls_by old new p (BeginRecover p) Entered (Recovering (recoveries.at (recoveries.fresh p (cells_of old.sheet.layout) old.sheet.layout.processes) (recover_stages.LoadMark 0))) IsRecoveryAnswer there h h.begun.begins.situation tt (λ answer x. x)
+    calls_by old new p (BeginRecover p) Entered (Recovering (recoveries.at (recoveries.fresh p (cells_of old.sheet.layout) old.sheet.layout.processes) recover_stages.LoadVersion)) IsRecoveryAnswer there h h.begun.begins.situation tt (λ answer x. x)
 recovery_begins old new p (Refused why) there fits = fits.takes.same
 recovery_begins old new p NotEnabled there fits = absurd (fits.takes.none there)
 recovery_begins old new p _ there fits = absurd fits.takes
 
+pub migration_begins : (old new : WorldValue) (p : ℕ) (reply : Reply) → HasProcess old p → Fits old (BeginMigrate p) reply new → BeginsCall IsMigrationAnswer old p new reply
+migration_begins old new p Entered there fits =
+    let h = fits.takes in
+    calls_by old new p (BeginMigrate p) Entered (Migrating (migrations.fresh p old.sheet.layout.processes)) IsMigrationAnswer there h h.begun.situation tt (λ answer x. x)
+migration_begins old new p (Refused why) there fits = fits.takes.same
+migration_begins old new p NotEnabled there fits = absurd (fits.takes.none there)
+migration_begins old new p _ there fits = absurd fits.takes
+
 -- ---- whole calls
+
+-- an answer of another call leaves the process idle
+pub idle_of : (answer : Answer) (v : WorldValue) (p : ℕ) → (IsMigrationAnswer answer → ⊥) → RestsAs answer ((world_of v).situation p) → IsIdle v p
+idle_of Migrated v p other rests = absurd (other tt)
+idle_of Already v p other rests = absurd (other tt)
+idle_of _ v p other rests = record { next = rests.0; is = rests.1 }
+
+-- one of a migration leaves it stopped
+stopped_of : (answer : Answer) (v : WorldValue) (p : ℕ) → IsMigrationAnswer answer → RestsAs answer ((world_of v).situation p) → (world_of v).situation p ≡ Stopped
+stopped_of Migrated v p kind rests = rests
+stopped_of Already v p kind rests = rests
+stopped_of _ v p kind rests = absurd kind
 
 pub can_go_on : (kind : Answer → Type 0) (old : WorldValue) (p : ℕ) (new : WorldValue) (reply : Reply) → BeginsCall kind old p new reply → CanGoOn new p reply
 can_go_on kind old p new (Begun number) h = h.0
@@ -85,17 +107,34 @@ kind_of kind old p mid _ answer b h a = absurd b
 stays_refused : (kind : Answer → Type 0) (old : WorldValue) (p : ℕ) (mid : WorldValue) (reply : Reply) (why : Refusal) → reply ≡ Refused why → BeginsCall kind old p mid reply → mid ≡ old
 stays_refused kind old p mid reply why is h = subst (BeginsCall kind old p mid) is h
 
-pub whole_of : (kind : Answer → Type 0) (p : ℕ) (event : Event) (old mid new : WorldValue) (reply : Reply) (result : Result Answer Refusal) → Fits old event reply mid → BeginsCall kind old p mid reply → IsDriven p reply mid result new
+pub whole_of : (kind : Answer → Type 0) (p : ℕ) (event : Event) (old mid new : WorldValue) (reply : Reply) (result : Result Answer Refusal) → ((answer : Answer) → kind answer → IsMigrationAnswer answer → ⊥) → Fits old event reply mid → BeginsCall kind old p mid reply → IsDriven p reply mid result new
     → IsWhole kind p event old result new
-whole_of kind p event old mid new reply (Ok answer) fits begins h = record {
+whole_of kind p event old mid new reply (Ok answer) other fits begins h = record {
   whole = finishes reply mid new answer h.0 fits h.1;
   answer = kind_of kind old p mid reply answer h.0 begins h.2;
-  idle = h.3;
+  idle = idle_of answer new p (other answer (kind_of kind old p mid reply answer h.0 begins h.2)) h.3;
   unchanged = tt;
 }
-whole_of kind p event old mid new reply (Err why) fits begins h = record {
+whole_of kind p event old mid new reply (Err why) other fits begins h = record {
   whole = refused why new (subst (λ (w : WorldValue). Fits old event (Refused why) w) (sym h.1) (subst (λ (r : Reply). Fits old event r mid) h.0 fits));
   answer = tt;
   idle = tt;
   unchanged = h.1 ∙ stays_refused kind old p mid reply why h.0 begins;
+}
+
+pub whole_migration_of : (p : ℕ) (event : Event) (old mid new : WorldValue) (reply : Reply) (result : Result Answer Refusal) → Fits old event reply mid → BeginsCall IsMigrationAnswer old p mid reply → IsDriven p reply mid result new
+    → IsWholeMigration p event old result new
+whole_migration_of p event old mid new reply (Ok answer) fits begins h =
+    let kind = kind_of IsMigrationAnswer old p mid reply answer h.0 begins h.2 in
+    record {
+      whole = finishes reply mid new answer h.0 fits h.1;
+      answer = kind;
+      stopped = stopped_of answer new p kind h.3;
+      unchanged = tt;
+    }
+whole_migration_of p event old mid new reply (Err why) fits begins h = record {
+  whole = refused why new (subst (λ (w : WorldValue). Fits old event (Refused why) w) (sym h.1) (subst (λ (r : Reply). Fits old event r mid) h.0 fits));
+  answer = tt;
+  stopped = tt;
+  unchanged = h.1 ∙ stays_refused IsMigrationAnswer old p mid reply why h.0 begins;
 }

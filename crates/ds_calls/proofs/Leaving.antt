@@ -2,6 +2,7 @@
 use Rattle.std.proofs.Common.{ℕ, ◌≡◌, ◌<◌, ◌+◌, ◌-◌, ◌*◌, ◌/◌, ◌==◌, [], ◌∷◌, ◌++◌, nat_lt, if◌then◌else◌, refl, ap, sym, ◌∙◌, arith, inl, inr, length, take, Bool, true, false, Some, None}
 use Rattle.std.specs.Prelude.{Option}
 use Rattle.std.proofs.lemmas.Bool.{cases_eq, eq-eqb, ne_eqb}
+use Rattle.ds_state.specs.Shown.{header_in}
 use Rattle.ds_words.proofs.Frames.{cached_kept, Changes}
 use Rattle.ds_formula.specs.Cells.{index_of}
 use Rattle.ds_formula.specs.declared.cells.Cell.{Cell}
@@ -281,7 +282,7 @@ module _ (first : PlainWorld) (shape : Shape) (e : PlainWorkCall) (word : ℕ) (
   leaves works.FlushClaim low help m h = (untold works.FlushClaim tt m h.0, h.1)
   leaves works.BackClaim low help m h = (untold works.BackClaim tt m h.0, h.1)
   leaves works.LoadHead low help m h = head_leaves first new e word (head_of e.processes word) (untold works.LoadHead tt m h.0, h.1)
-  leaves works.LoadHeader low help m h = header_leaves first new e (header_of e.cells word) (untold works.LoadHeader tt m h.0, h.1)
+  leaves works.LoadHeader low help m h = header_leaves first new e (header_in e.edition (header_of e.cells word)) (untold works.LoadHeader tt m h.0, h.1)
   leaves (works.LoadText part) low help m h = text_leaves first new (record e { text = take e.length (e.text ++ bytes_of word) }) (part + 1) (untold (works.LoadText part) tt m h.0, h.1)
   leaves works.Read low help m h = (untold works.Read tt m h.0, h.1)
   leaves (works.LoadValue i) low help m h = (untold (works.LoadValue i) tt m h.0, h.1)

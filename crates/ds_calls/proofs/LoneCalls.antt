@@ -1,7 +1,9 @@
 -- A whole work that is alone: what it leaves.
 use Rattle.std.proofs.Common.{ℕ, ◌≡◌, ◌<◌, refl, ap, sym, ◌∙◌, subst, List}
+use Rattle.ds_work.specs.WorkSteps.{rest_of}
+use Rattle.ds_state.specs.declared.situation.Rest.{Rest}
 use Rattle.ds_layout.specs.declared.place.Place.TheVariants.{Index}
-use Rattle.ds_state.specs.Works.{PlainWorkCall, PlainShowCall, PlainRecoverCall}
+use Rattle.ds_state.specs.Works.{PlainWorkCall, PlainShowCall, PlainRecoverCall, PlainMigrateCall}
 use Rattle.ds_state.specs.Edits.{PlainEditCall}
 use Rattle.ds_state.specs.World.{PlainWorld}
 use Rattle.ds_state.specs.Value.{WorldValue, world_of, IsGood}
@@ -9,7 +11,7 @@ use Rattle.ds_state.specs.KnownWork.{WorkFits}
 use Rattle.ds_state.specs.CallsFit.{CallFits}
 use Rattle.ds_state.specs.Sound.{IsSound}
 use Rattle.ds_state.specs.declared.situation.Situation.{Situation}
-use Rattle.ds_state.specs.declared.situation.Situation.TheVariants.{Idle, Editing, Working, Recovering, Showing}
+use Rattle.ds_state.specs.declared.situation.Situation.TheVariants.{Idle, Editing, Working, Recovering, Showing, Migrating}
 use Rattle.ds_state.specs.declared.work.WorkEnd.{WorkEnd}
 use Rattle.ds_state.specs.declared.work.WorkStage.{WorkStage}
 use Rattle.ds_state.specs.declared.work.WorkStage.TheVariants as stages
@@ -20,7 +22,7 @@ use Rattle.ds_work.specs.WorkShows.{shown_in, EndsShowing, ShowsAt}
 use Rattle.ds_work.specs.WorkAlone.{IsAloneAt, IsAlone, EndsAlone, GoesAlone}
 use Rattle.ds_work.proofs.WorkAlone.{turn_alone, offer_alone}
 use Rattle.ds_edit.specs.declared.answer.Answer.{Answer}
-use Rattle.ds_core.specs.StepEvents.{StepsBy, edits, works, reports, recoveries}
+use Rattle.ds_core.specs.StepEvents.{StepsBy, edits, works, reports, recoveries, migrations}
 use Rattle.ds_core.specs.Takes.{Fits}
 use Rattle.ds_core.specs.WorkEvents.{work_answer, work_reply, WorkStepsBy, TakesEntry}
 use Rattle.ds_core.specs.declared.event.Event.{Event}
@@ -58,7 +60,7 @@ pub record Over (first : PlainWorld) (p c : ℕ) (answer : Answer) (v : WorldVal
   pub showing : EndsShowing (shown_in first c) (shown_in (world_of v) c) end
   pub since : Since first (world_of v) p c
   pub leaves : EndLeaves first (world_of v) c end
-  pub n : ℕ
+  pub n : Rest
   pub idle : (world_of v).situation p ≡ Idle n
 
 module _ (first : PlainWorld) (p c : ℕ) (all : AreIdle first) (old new : WorldValue) (sound : IsSound (world_of old)) (u : Under first p c old) where
@@ -76,6 +78,9 @@ module _ (first : PlainWorld) (p c : ℕ) (all : AreIdle first) (old new : World
 
   no_report : (f : PlainShowCall) → (world_of old).situation p ≡ Showing f → ⊥
   no_report f is = let bad : Showing f ≡ Working u.work = sym is ∙ u.at in cc
+
+  no_migration : (f : PlainMigrateCall) → (world_of old).situation p ≡ Migrating f → ⊥
+  no_migration f is = let bad : Migrating f ≡ Working u.work = sym is ∙ u.at in cc
 
   no_recovery : (f : PlainRecoverCall) → (world_of old).situation p ≡ Recovering f → ⊥
   no_recovery f is = let bad : Recovering f ≡ Working u.work = sym is ∙ u.at in cc
@@ -134,7 +139,7 @@ module _ (first : PlainWorld) (p c : ℕ) (all : AreIdle first) (old new : World
       showing = subst (λ d. EndsShowing (shown_in first c) (shown_in (world_of new) d) end) cell_is g.2;
       since = since_back s;
       leaves = subst (λ d. EndLeaves first (world_of new) d end) cell_is l;
-      n = e.next;
+      n = rest_of e;
       idle = ap (λ q. (world_of new).situation q) (sym its) ∙ g.0;
     }
 
@@ -168,12 +173,14 @@ module _ (first : PlainWorld) (p c : ℕ) (all : AreIdle first) (old new : World
   step_goes (edits h) = absurd (no_edit h.edit h.at)
   step_goes (reports h) = absurd (no_report h.steps.show h.steps.at)
   step_goes (recoveries h) = absurd (no_recovery h.steps.recovery h.steps.at)
+  step_goes (migrations h) = absurd (no_migration h.steps.migration h.steps.at)
 
   pub step_ends : (answer : Answer) → StepsBy old p (Answered answer) new → Over first p c answer new
   step_ends answer (works h) = answered (Answered answer) h h.what answer h.is (turned (Answered answer) h) (leaves_so (Answered answer) h)
   step_ends answer (edits h) = absurd (no_edit h.edit h.at)
   step_ends answer (reports h) = absurd (no_report h.steps.show h.steps.at)
   step_ends answer (recoveries h) = absurd (no_recovery h.steps.recovery h.steps.at)
+  step_ends answer (migrations h) = absurd (no_migration h.steps.migration h.steps.at)
 
   -- ---- an offer
 

@@ -2,6 +2,7 @@
 use Rattle.std.proofs.Common.{ℕ, ◌≡◌, ◌≢◌, ◌<◌, ◌≤◌, ◌+◌, ◌⊎◌, ◌++◌, append_assoc, refl, ap, sym, ◌∙◌, subst, arith, inl, inr, List, [], ◌∷◌, Bool, true, false, Some, None, length}
 use Rattle.std.specs.Prelude.{Option, Result, Ok, Err}
 use Rattle.std.proofs.lemmas.Bool.{cases_eq}
+use Rattle.ds_state.specs.declared.situation.Rest.{Rest}
 use Rattle.ds_formula.specs.Cells.{IsInside, index_of, cell_at}
 use Rattle.ds_formula.specs.declared.cells.Cell.{Cell}
 use Rattle.ds_formula.specs.Plain.{PlainContent}
@@ -194,7 +195,7 @@ pub data CallLeft (old : WorldValue) (p c : ℕ) : Result Answer Refusal → Wor
 
 module _ (old : WorldValue) (p c : ℕ) (good : IsGood old) (idle : AreIdle (world_of old)) (inside : c < cells_of old.sheet.layout) (there : p < old.sheet.layout.processes)
     (marked : is_marked (state_at (world_of old) c) ≡ true) (young : age (world_of old) c ≤ SEEN_MOST) where
-  all_idle : (new : WorldValue) (n : ℕ) → Since (world_of old) (world_of new) p c → (world_of new).situation p ≡ Idle n → AreIdle (world_of new)
+  all_idle : (new : WorldValue) (n : Rest) → Since (world_of old) (world_of new) p c → (world_of new).situation p ≡ Idle n → AreIdle (world_of new)
   all_idle new n since is = record {
     each = λ q l. elim (cases_eq q p) [
       | inl same ↦ (n, ap (λ x. (world_of new).situation x) same ∙ is)

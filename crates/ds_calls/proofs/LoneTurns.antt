@@ -1,6 +1,7 @@
 -- A turn of work that is alone, and an offer to it: what it leaves.
 use Rattle.std.proofs.Common.{ℕ, ◌≡◌, ◌<◌, ◌==◌, ◌&&◌, if◌then◌else◌, ap, sym, ◌∙◌, subst, arith, inl, inr, length, Bool, true, false, List}
 use Rattle.std.proofs.lemmas.Bool.{cases_eq}
+use Rattle.ds_state.specs.declared.situation.Rest.{Rest}
 use Rattle.ds_words.specs.Memory.{SameMemory}
 use Rattle.ds_formula.specs.Cells.{IsInside, index_of}
 use Rattle.ds_formula.specs.declared.cells.Cell.{Cell}
@@ -40,7 +41,7 @@ use Rattle.ds_calls.proofs.Leaving.{entries_in, IsGiven, Untold, EndLeaves, Leav
 
 -- each other process is idle
 abbrev pub OthersIdle : PlainWorld → ℕ → Type 0
-OthersIdle w p = (q : ℕ) → q < w.layout.processes → (q ≡ p → ⊥) → (n : ℕ) × (w.situation q ≡ Idle n)
+OthersIdle w p = (q : ℕ) → q < w.layout.processes → (q ≡ p → ⊥) → (n : Rest) × (w.situation q ≡ Idle n)
 
 module _ (w : PlainWorld) (p : ℕ) (e : PlainWorkCall) (here : w.situation p ≡ Working e) (others : OthersIdle w p) where
   no_excuse : (c x : ℕ) → IsExcused w c x → ⊥

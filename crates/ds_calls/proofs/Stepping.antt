@@ -4,14 +4,14 @@ use Rattle.ds_state.specs.Value.{WorldValue, world_of}
 use Rattle.ds_state.specs.Sound.{IsSound}
 use Rattle.ds_state.specs.Works.{PlainWorkCall}
 use Rattle.ds_state.specs.declared.situation.Situation.{Situation}
-use Rattle.ds_state.specs.declared.situation.Situation.TheVariants.{Idle, Stopped, Editing, Working, Recovering, Showing}
+use Rattle.ds_state.specs.declared.situation.Situation.TheVariants.{Idle, Stopped, Editing, Working, Recovering, Showing, Migrating}
 use Rattle.ds_state.specs.declared.work.WorkStage.TheVariants as work_stages
 use Rattle.ds_edit.specs.declared.answer.Answer.{Answer}
 use Rattle.ds_work.specs.WorkTakes as work_events
 use Rattle.ds_state.specs.World.{PlainWorld}
 use Rattle.ds_work.specs.WorkSteps.{IsPlainStep}
 use Rattle.ds_work.specs.declared.drive.Taken.{Taken}
-use Rattle.ds_core.specs.StepEvents.{StepsBy, edits, works, reports, recoveries, CanNotStep}
+use Rattle.ds_core.specs.StepEvents.{StepsBy, edits, works, reports, recoveries, migrations, CanNotStep}
 use Rattle.ds_core.specs.Own.{IsInCall}
 use Rattle.ds_core.specs.Takes.{Fits}
 use Rattle.ds_core.specs.declared.event.Event.{Event}
@@ -42,6 +42,7 @@ not_waiting old new p reply (works h) e at waits =
     never_waits h.steps.work (world_of old) (world_of new) h.what h.steps.turn (ap (λ (w : PlainWorkCall). w.stage) is ∙ waits)
 not_waiting old new p reply (reports h) e at waits = absurd (let bad : Showing h.steps.show ≡ Working e = sym h.steps.at ∙ at in cc)
 not_waiting old new p reply (recoveries h) e at waits = absurd (let bad : Recovering h.steps.recovery ≡ Working e = sym h.steps.at ∙ at in cc)
+not_waiting old new p reply (migrations h) e at waits = absurd (let bad : Migrating h.steps.migration ≡ Working e = sym h.steps.at ∙ at in cc)
 
 pub answered_wants : (old new : WorldValue) (p : ℕ) (answer : Answer) → Fits old (Step p) (Answered answer) new → wants old p ≡ Step p
 answered_wants old new p answer fits = wants_step old p (not_waiting old new p (Answered answer) fits.takes)
@@ -58,7 +59,7 @@ step_goes old new p sound calling fits =
     }
 
 pub step_answers : (old new : WorldValue) (p : ℕ) (answer : Answer) → Fits old (Step p) (Answered answer) new → IsAnswered old p answer new
-step_answers old new p answer fits = let g = step_ends old new p answer fits.takes in record { fits = fits; to = g.to; idle = record { next = g.next; is = g.idle } }
+step_answers old new p answer fits = let g = step_ends old new p answer fits.takes in record { fits = fits; to = g.to; rests = g.rests }
 
 -- ---- a process in a call that does not wait can step
 
@@ -69,6 +70,7 @@ can_step old new p (Editing e) is calls there waits h = h.no_edit e there is
 can_step old new p (Working e) is calls there waits h = waits e (record { inside = there; works = is; waits = h.no_work e there is })
 can_step old new p (Recovering e) is calls there waits h = h.no_recovery e there is
 can_step old new p (Showing e) is calls there waits h = h.no_report e there is
+can_step old new p (Migrating e) is calls there waits h = h.no_migration e there is
 
 -- a process in a call whose step has another reply can make none, and waits
 can_not : (old new : WorldValue) (p : ℕ) (reply : Reply) → Fits old (Step p) reply new → reply ≢ Stepped → ((answer : Answer) → reply ≢ Answered answer) → CanNotStep old p new

@@ -10,8 +10,8 @@ use Rattle.ds_core.specs.Takes.{Fits}
 use Rattle.ds_core.specs.declared.event.Event.TheVariants.{Step}
 use Rattle.ds_core.specs.declared.reply.Reply.TheVariants.{Begun, Entered, Refused, Stepped, Answered}
 use Rattle.ds_calls.specs.Wanted.{wants}
-use Rattle.ds_core.specs.Kinds.{AnswersTo}
-use Rattle.ds_calls.specs.Whole.{IsCalling, IsIdle, HasBegun, Finishes}
+use Rattle.ds_core.specs.Kinds.{AnswersTo, RestsAs}
+use Rattle.ds_calls.specs.Whole.{IsCalling, HasBegun, Finishes}
 
 -- no work of the process waits for an entry
 abbrev pub IsNotWaiting : WorldValue → ℕ → Type 0
@@ -23,11 +23,11 @@ pub record GoesOn (old : WorldValue) (p : ℕ) (new : WorldValue) : Type 0 where
   pub calling : IsCalling new p
   pub same : (answer : Answer) → AnswersTo ((world_of new).situation p) answer → AnswersTo ((world_of old).situation p) answer
 
--- the step that the process wants answers its call, and leaves the process idle
+-- the step that the process wants answers its call, and the process rests as the answer says
 pub record IsAnswered (old : WorldValue) (p : ℕ) (answer : Answer) (new : WorldValue) : Type 0 where
   pub fits : Fits old (Step p) (Answered answer) new
   pub to : AnswersTo ((world_of old).situation p) answer
-  pub idle : IsIdle new p
+  pub rests : RestsAs answer ((world_of new).situation p)
 
 -- a call whose begin has this reply can be driven: it has begun, or it was refused
 abbrev pub CanGoOn : WorldValue → ℕ → Reply → Type 0
@@ -45,5 +45,5 @@ BeginsCall kind old p new reply = ⊥
 
 -- a call whose begin has this reply is driven to its answer, or it was refused
 abbrev pub IsDriven : ℕ → Reply → WorldValue → Result Answer Refusal → WorldValue → Type 0
-IsDriven p reply old (Ok answer) new = HasBegun reply × Finishes p old answer new × AnswersTo ((world_of old).situation p) answer × IsIdle new p
+IsDriven p reply old (Ok answer) new = HasBegun reply × Finishes p old answer new × AnswersTo ((world_of old).situation p) answer × RestsAs answer ((world_of new).situation p)
 IsDriven p reply old (Err why) new = (reply ≡ Refused why) × (new ≡ old)

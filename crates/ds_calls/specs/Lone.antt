@@ -1,5 +1,6 @@
 -- A settle that is alone.
 use Rattle.std.specs.Prelude.{ℕ, ◌≡◌, ◌<◌, ◌≤◌, ◌+◌, ◌*◌}
+use Rattle.ds_state.specs.declared.situation.Rest.{Rest}
 use Rattle.ds_layout.specs.Places.{cells_of}
 use Rattle.ds_layout.specs.Mark.{generation_of}
 use Rattle.ds_layout.specs.declared.place.Place.TheVariants.{Mark}
@@ -13,7 +14,7 @@ use Rattle.ds_calls.specs.declared.settle.SettleEnd.TheVariants.{Left, Refused, 
 
 -- each process is idle: in no call, and neither stopped nor recovering; so no edit is open, and no cell is held
 pub record AreIdle (w : PlainWorld) : Type 0 where
-  pub each : (q : ℕ) → q < w.layout.processes → (n : ℕ) × (w.situation q ≡ Idle n)
+  pub each : (q : ℕ) → q < w.layout.processes → (n : Rest) × (w.situation q ≡ Idle n)
 
 -- each mark has generations left for work in so many rounds
 pub record AreYoung (w : PlainWorld) (rounds : ℕ) : Type 0 where

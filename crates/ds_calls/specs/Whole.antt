@@ -3,12 +3,14 @@ use Rattle.std.specs.Prelude.{ℕ, ◌≡◌, ◌<◌, List, [], ◌∷◌, ◌+
 use Rattle.ds_formula.specs.declared.cells.Cell.{Cell}
 use Rattle.ds_state.specs.Value.{WorldValue, world_of}
 use Rattle.ds_state.specs.declared.refusal.Refusal.{Refusal}
-use Rattle.ds_state.specs.declared.situation.Situation.TheVariants.{Idle}
+use Rattle.ds_state.specs.declared.situation.Rest.{Rest}
+use Rattle.ds_state.specs.declared.situation.Situation.TheVariants.{Idle, Stopped}
 use Rattle.ds_edit.specs.declared.answer.Answer.{Answer}
 use Rattle.ds_recover.specs.RecoverBegun.{MayRecover}
 use Rattle.ds_core.specs.Requests.{PlainRequest}
 use Rattle.ds_core.specs.Takes.{Fits, WorldRun}
 use Rattle.ds_core.specs.Own.{IsInCall}
+use Rattle.ds_core.specs.Kinds.{IsMigrationAnswer}
 use Rattle.ds_core.specs.declared.event.Event.{Event}
 use Rattle.ds_core.specs.declared.event.Event.TheVariants.{Step}
 use Rattle.ds_core.specs.declared.reply.Reply.{Reply}
@@ -26,7 +28,7 @@ pub record IsCalling (v : WorldValue) (p : ℕ) : Type 0 where
 
 -- the process is idle
 pub record IsIdle (v : WorldValue) (p : ℕ) : Type 0 where
-  pub next : ℕ
+  pub next : Rest
   pub is : (world_of v).situation p ≡ Idle next
 
 -- a process that is in no call, idle or stopped, is in none afterwards
@@ -69,6 +71,13 @@ pub record IsWhole (kind : Answer → Type 0) (p : ℕ) (event : Event) (old : W
   pub whole : Whole p event old result new
   pub answer : IfOk result kind
   pub idle : OnOk result (IsIdle new p)
+  pub unchanged : OnErr result (new ≡ old)
+
+-- a whole migration by the process, which leaves it stopped; where the begin is refused, the world stays
+pub record IsWholeMigration (p : ℕ) (event : Event) (old : WorldValue) (result : Result Answer Refusal) (new : WorldValue) : Type 0 where
+  pub whole : Whole p event old result new
+  pub answer : IfOk result IsMigrationAnswer
+  pub stopped : OnOk result ((world_of new).situation p ≡ Stopped)
   pub unchanged : OnErr result (new ≡ old)
 
 -- some events, with their replies, lead from the one world to the other

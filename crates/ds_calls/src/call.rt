@@ -1,11 +1,11 @@
-//! Whole calls: an edit, work, a report, a recovery.
+//! Whole calls: an edit, work, a report, a recovery, a migration.
 
 ghost use Rattle.std.specs.Prelude.{◌≡◌};
-ghost use Rattle.ds_core.specs.declared.event.Event.TheVariants.{BeginEdit, BeginWork, BeginShow, BeginRecover};
+ghost use Rattle.ds_core.specs.declared.event.Event.TheVariants.{BeginEdit, BeginWork, BeginShow, BeginRecover, BeginMigrate};
 ghost use Rattle.ds_core.specs.Takes.{IsOfWorld, Fits, BeginTakes};
 ghost use Rattle.ds_core.specs.WorkEvents.{HasWork};
-ghost use Rattle.ds_core.specs.Kinds.{IsEditAnswer, IsWorkAnswer, IsReportAnswer, IsRecoveryAnswer};
-ghost use Rattle.ds_calls.specs.Whole.{HasProcess, IsWhole, request};
+ghost use Rattle.ds_core.specs.Kinds.{IsEditAnswer, IsWorkAnswer, IsReportAnswer, IsRecoveryAnswer, IsMigrationAnswer};
+ghost use Rattle.ds_calls.specs.Whole.{HasProcess, IsWhole, IsWholeMigration, request};
 ghost use Rattle.ds_calls.specs.Driven.{CanGoOn, BeginsCall, IsDriven};
 
 use crate::finish::finish;
@@ -74,6 +74,15 @@ fn begin_recovery(alloc: Global, world: &mut World, process: usize) -> Reply
     take(alloc, world, &event)
 }
 
+fn begin_migration(alloc: Global, world: &mut World, process: usize) -> Reply
+    requires { HasProcess world.old process }
+    ensures fits { Fits world.old (BeginMigrate process) result world.new }
+    ensures begins { BeginsCall IsMigrationAnswer world.old process world.new result }
+{
+    let event = Event::BeginMigrate(process);
+    take(alloc, world, &event)
+}
+
 // What a call comes to whose begin has this reply: it is driven to its answer, or it was refused.
 fn driven(alloc: Global, world: &mut World, process: usize, reply: Reply) -> Result<Answer, Refusal>
     requires { CanGoOn world.old process reply }
@@ -134,5 +143,20 @@ pub fn whole_recovery(alloc: Global, world: &mut World, process: usize) -> Resul
     ensures { IsWhole IsRecoveryAnswer process (BeginRecover process) world.old result world.new }
 {
     let reply = begin_recovery(alloc, world, process);
+    driven(alloc, world, process, reply)
+}
+
+/// A whole migration of the sheet to the second layout, by a process of it; all are stopped. It is answered `Migrated`,
+/// or `Already` where the sheet has come to that layout before; behind either the process is stopped, and recovers
+/// next. Where its begin is refused, the world is as it was.
+pub fn whole_migration(
+    alloc: Global,
+    world: &mut World,
+    process: usize,
+) -> Result<Answer, Refusal>
+    requires { HasProcess world.old process }
+    ensures { IsWholeMigration process (BeginMigrate process) world.old result world.new }
+{
+    let reply = begin_migration(alloc, world, process);
     driven(alloc, world, process, reply)
 }

@@ -7,8 +7,8 @@ ghost use Rattle.ds_core.specs.declared.reply.Reply.TheVariants.{Stepped};
 ghost use Rattle.ds_core.specs.StepEvents.{CanNotAdvance};
 ghost use Rattle.ds_core.specs.Takes.{Fits};
 ghost use Rattle.ds_core.specs.Own.{steps_left};
-ghost use Rattle.ds_core.specs.Kinds.{AnswersTo};
-ghost use Rattle.ds_calls.specs.Whole.{IsCalling, IsIdle, Finishes};
+ghost use Rattle.ds_core.specs.Kinds.{AnswersTo, RestsAs};
+ghost use Rattle.ds_calls.specs.Whole.{IsCalling, Finishes};
 ghost use Rattle.ds_calls.specs.Driven.{IsNotWaiting, GoesOn, IsAnswered};
 
 use ds_core::advance::advance;
@@ -78,7 +78,7 @@ pub fn finish(alloc: Global, world: &mut World, process: usize) -> Answer
     requires { IsCalling world.old process }
     ensures finishes { Finishes process world.old result world.new }
     ensures answers { AnswersTo ((world_of world.old).situation process) result }
-    ensures idle { IsIdle world.new process }
+    ensures rests { RestsAs result ((world_of world.new).situation process) }
 {
     'steps: loop {
         if !advances(alloc, world, process) {

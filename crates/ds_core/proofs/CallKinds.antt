@@ -132,22 +132,22 @@ ends_by : (old new : WorldValue) (p : ℕ) (next : Rest) (s : Situation) (answer
 ends_by old new p next s answer was now h none = record { to = subst (λ (x : Situation). AnswersTo x answer) (sym was) h; rests = rests_idle answer ((world_of new).situation p) next now none }
 
 -- no answer is one of two kinds
-edit_no : (answer : Answer) → IsEditAnswer answer → IsMigrationAnswer answer → ⊥
+pub edit_no : (answer : Answer) → IsEditAnswer answer → IsMigrationAnswer answer → ⊥
 edit_no (Done n) h k = k
 edit_no (Overtaken n by) h k = k
 edit_no _ h k = h
 
-work_no : (answer : Answer) → IsWorkAnswer answer → IsMigrationAnswer answer → ⊥
+pub work_no : (answer : Answer) → IsWorkAnswer answer → IsMigrationAnswer answer → ⊥
 work_no Migrated h k = h
 work_no Already h k = h
 work_no _ h k = k
 
-report_no : (answer : Answer) → IsReportAnswer answer → IsMigrationAnswer answer → ⊥
+pub report_no : (answer : Answer) → IsReportAnswer answer → IsMigrationAnswer answer → ⊥
 report_no Migrated h k = h
 report_no Already h k = h
 report_no _ h k = k
 
-recovery_no : (answer : Answer) → IsRecoveryAnswer answer → IsMigrationAnswer answer → ⊥
+pub recovery_no : (answer : Answer) → IsRecoveryAnswer answer → IsMigrationAnswer answer → ⊥
 recovery_no Migrated h k = h
 recovery_no Already h k = h
 recovery_no _ h k = k
