@@ -4,6 +4,8 @@ use Rattle.std.specs.Fmt.{decimal}
 use Rattle.ds_formula.specs.declared.cells.Shape.{Shape}
 use Rattle.ds_formula.specs.Cells.{cell_at}
 use Rattle.ds_formula.specs.Names.{cell_text}
+use Rattle.ds_layout.specs.declared.place.Edition.{Edition}
+use Rattle.ds_layout.specs.declared.place.Edition.TheVariants.{First, Second}
 use Rattle.ds_layout.specs.declared.place.Place.{Place}
 use Rattle.ds_layout.specs.declared.place.Place.TheVariants as place
 use Rattle.ds_play.specs.Points.{name_of_point}
@@ -18,6 +20,11 @@ numbered word n = word ++ (codes " " ++ decimal n)
 abbrev pub celled : List ℕ → Shape → ℕ → List ℕ
 celled word shape cell = word ++ (codes " " ++ cell_text (cell_at shape cell))
 
+-- the word for the texts of a layout
+abbrev pub text_kind : Edition → List ℕ
+text_kind First = codes "text"
+text_kind Second = codes "newtext"
+
 -- the place of a word, as scripts write it
 abbrev pub place_text : Shape → Place → List ℕ
 place_text shape place.Version = codes "version"
@@ -28,7 +35,7 @@ place_text shape (place.Kind cell) = celled (codes "kind") shape cell
 place_text shape (place.Index row part) = numbered (celled (codes "index") shape row) part
 place_text shape (place.Announce process) = numbered (codes "announce") process
 place_text shape (place.Header process number) = numbered (numbered (codes "header") process) number
-place_text shape (place.Text process number part) = codes "text " ++ (decimal process ++ (codes " " ++ (decimal number ++ (codes " " ++ decimal part))))
+place_text shape (place.Text edition process number part) = text_kind edition ++ (codes " " ++ (decimal process ++ (codes " " ++ (decimal number ++ (codes " " ++ decimal part)))))
 place_text shape (place.Done process part) = numbered (numbered (codes "done") process) part
 
 -- the words of a line, without its end

@@ -1,10 +1,10 @@
 //! The lines that a script goes on with.
 
 ghost use Rattle.std.specs.Prelude.{◌≡◌, ◌++◌, ◌∷◌, ℕ, List, IfOk, string_bytes};
-ghost use Rattle.ds_explore.specs.Lines.{IsLines, line_text, place_text, words_of};
+ghost use Rattle.ds_explore.specs.Lines.{text_kind, IsLines, line_text, place_text, words_of};
 
 use ds_formula::cells::Shape;
-use ds_layout::place::Place;
+use ds_layout::place::{Edition, Place};
 use ds_play::point::PointName;
 use ds_streams::answer::cell_at;
 use std::alloc::{AllocError, Global};
@@ -37,6 +37,16 @@ pub enum FoundLine {
     Report,
 }
 
+// The word for the texts of a layout.
+fn text_kind(edition: Edition) -> &'static str
+    ensures { result.now ≡ text_kind edition }
+{
+    match edition {
+        Edition::First => "text",
+        Edition::Second => "newtext",
+    }
+}
+
 // A place as scripts write it.
 fn place_line(alloc: Global, shape: Shape, place: Place) -> Result<String, AllocError>
     ensures { IfOk result (λ text. string_bytes text ≡ place_text shape place) }
@@ -51,10 +61,14 @@ fn place_line(alloc: Global, shape: Shape, place: Place) -> Result<String, Alloc
         Place::Announce(process) => format!(in alloc; "announce {process}"),
         Place::Header { process, number } => format!(in alloc; "header {process} {number}"),
         Place::Text {
+            edition,
             process,
             number,
             part,
-        } => format!(in alloc; "text {process} {number} {part}"),
+        } => {
+            let kind = text_kind(edition);
+            format!(in alloc; "{kind} {process} {number} {part}")
+        }
         Place::Done { process, part } => format!(in alloc; "done {process} {part}"),
     }
 }

@@ -9,7 +9,7 @@ use ds_state::world::World;
 use std::alloc::{AllocError, Global};
 
 // The points of all calls, those of each call in their order.
-const POINTS: [PointName; 14] = [
+const POINTS: [PointName; 16] = [
     PointName::Written,
     PointName::Announced,
     PointName::Indexed,
@@ -24,6 +24,8 @@ const POINTS: [PointName; 14] = [
     PointName::Kept,
     PointName::Marked,
     PointName::Answered,
+    PointName::Copied,
+    PointName::Switched,
 ];
 
 // Steps of one process, one after another.

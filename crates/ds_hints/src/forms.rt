@@ -13,6 +13,8 @@ const SHEET: Form = &[
     Wanted::Nothing,
 ];
 
+const LAYOUT: Form = &[Wanted::Layout, Wanted::Nothing];
+
 const SET: Form = &[Wanted::Process, Wanted::Cell, Wanted::Text];
 
 const WORK: Form = &[Wanted::Process, Wanted::Cell, Wanted::Nothing];
@@ -57,6 +59,16 @@ const OF_TEXT: Form = &[
     Wanted::Nothing,
 ];
 
+const OF_NEW_TEXT: Form = &[
+    Wanted::Place,
+    Wanted::Process,
+    Wanted::Number,
+    Wanted::NewTextPart,
+    Wanted::Nothing,
+];
+
+const OF_VERSION: Form = &[Wanted::Place, Wanted::Nothing];
+
 const OF_DONE: Form = &[
     Wanted::Place,
     Wanted::Process,
@@ -65,11 +77,13 @@ const OF_DONE: Form = &[
 ];
 
 // The first words of commands, each with its form. `begin`, `run`, `evict` and `word` have several.
-const COMMANDS: [(&str, Form); 11] = [
+const COMMANDS: [(&str, Form); 13] = [
     ("sheet", SHEET),
+    ("layout", LAYOUT),
     ("set", SET),
     ("work", WORK),
     ("recover", PROCESS),
+    ("migrate", PROCESS),
     ("report", PROCESS),
     ("settle", PROCESS),
     ("step", PROCESS),
@@ -80,11 +94,13 @@ const COMMANDS: [(&str, Form); 11] = [
 ];
 
 // The words of the sheet, each kind with the form of its place.
-const PLACES: [(&str, Form); 5] = [
+const PLACES: [(&str, Form); 7] = [
+    ("version", OF_VERSION),
     ("index", OF_ROW),
     ("announce", OF_PROCESS),
     ("header", OF_HEADER),
     ("text", OF_TEXT),
+    ("newtext", OF_NEW_TEXT),
     ("done", OF_DONE),
 ];
 

@@ -6,7 +6,7 @@ use crate::forms::form_of;
 use crate::wanted::Wanted;
 use ds_formula::cells::{COLUMN_LIMIT, ROW_LIMIT, Shape};
 use ds_layout::layout::{Layout, PROCESS_LIMIT};
-use ds_layout::place::{DONE_PARTS, RECORDS, TEXT_PARTS};
+use ds_layout::place::{DONE_PARTS, FIRST_PARTS, RECORDS, SECOND_PARTS};
 use ds_streams::ending::ScriptFault;
 use ds_streams::fields::{is_skipped, numbered};
 use ds_streams::line::{LINE_LIMIT, NextLine, next_line, word};
@@ -33,6 +33,7 @@ impl fmt::Display for Hint {
             ),
             Wanted::Rows => write!(f, "rows, from 1 to {ROW_LIMIT}, for at most 1024 cells"),
             Wanted::Processes => write!(f, "processes, from 1 to {PROCESS_LIMIT}"),
+            Wanted::Layout => f.write_str("a layout, 1 or 2"),
             Wanted::Process => write!(
                 f,
                 "a process, from 0 to {}",
@@ -49,13 +50,14 @@ impl fmt::Display for Hint {
                 "a part, from 0 to {}",
                 self.layout.row_parts().saturating_sub(1)
             ),
-            Wanted::TextPart => write!(f, "a part, from 0 to {}", TEXT_PARTS - 1),
+            Wanted::TextPart => write!(f, "a part, from 0 to {}", FIRST_PARTS - 1),
+            Wanted::NewTextPart => write!(f, "a part, from 0 to {}", SECOND_PARTS - 1),
             Wanted::DonePart => write!(f, "a part, from 0 to {}", DONE_PARTS - 1),
             Wanted::To => f.write_str("`to`, and a point"),
             Wanted::Point => f.write_str("a point of the call that the process is in"),
-            Wanted::Call => f.write_str("set, work, show or recover"),
+            Wanted::Call => f.write_str("set, work, show, recover or migrate"),
             Wanted::Place => f.write_str(
-                "head, mark, value, kind, index, announce, header, text or done",
+                "version, head, mark, value, kind, index, announce, header, text, newtext or done",
             ),
             Wanted::Text => f.write_str("a text"),
             Wanted::Nothing => f.write_str("nothing more"),
@@ -111,7 +113,8 @@ pub fn hint_at(layout: &Layout, line: &[u8], fault: ScriptFault) -> Option<Hint>
     let (offset, wanted) = match fault {
         ScriptFault::BadField => bad_word(layout, line),
         ScriptFault::UnknownCommand => (0, Wanted::Command),
-        ScriptFault::SheetNotFirst | ScriptFault::LineTooLong => return None,
+        ScriptFault::SheetNotFirst | ScriptFault::LayoutNotFirst => return None,
+        ScriptFault::LineTooLong => return None,
     };
     Some(Hint {
         offset,

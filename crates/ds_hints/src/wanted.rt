@@ -2,11 +2,11 @@
 
 use ds_formula::cells::{COLUMN_LIMIT, ROW_LIMIT};
 use ds_layout::layout::{Layout, PROCESS_LIMIT};
-use ds_layout::place::{DONE_PARTS, RECORDS, TEXT_PARTS};
+use ds_layout::place::{DONE_PARTS, FIRST_PARTS, RECORDS, SECOND_PARTS};
 use ds_streams::fields::{named, numbered};
 
 // The names of the points that a call may have behind it.
-const POINTS: [&str; 14] = [
+const POINTS: [&str; 16] = [
     "written",
     "announced",
     "indexed",
@@ -21,15 +21,17 @@ const POINTS: [&str; 14] = [
     "spread",
     "cleared",
     "freed",
+    "copied",
+    "switched",
 ];
 
 // The kinds of words of a sheet.
-const PLACES: [&str; 9] = [
-    "head", "mark", "value", "kind", "index", "announce", "header", "text", "done",
+const PLACES: [&str; 11] = [
+    "version", "head", "mark", "value", "kind", "index", "announce", "header", "text", "newtext", "done",
 ];
 
 // The calls that begin, each by its name.
-const CALLS: [&str; 4] = ["set", "work", "show", "recover"];
+const CALLS: [&str; 5] = ["set", "work", "show", "recover", "migrate"];
 
 /// What a word of a command has to be.
 #[derive(Clone, Copy, Debug, PartialEq, Eq)]
@@ -42,6 +44,8 @@ pub enum Wanted {
     Rows,
     /// How many processes.
     Processes,
+    /// A layout of a sheet's words: 1 or 2.
+    Layout,
     /// A process of the sheet.
     Process,
     /// A cell of the sheet.
@@ -50,8 +54,10 @@ pub enum Wanted {
     Number,
     /// A part of a row of the index.
     RowPart,
-    /// A part of a text.
+    /// A part of a text in the first layout.
     TextPart,
+    /// A part of a text in the second layout.
+    NewTextPart,
     /// A part of the bits of edits that are done.
     DonePart,
     /// `to`.
@@ -90,11 +96,13 @@ impl Wanted {
             Wanted::Columns => is_from_one(COLUMN_LIMIT, word),
             Wanted::Rows => is_from_one(ROW_LIMIT, word),
             Wanted::Processes => is_from_one(PROCESS_LIMIT, word),
+            Wanted::Layout => is_from_one(2, word),
             Wanted::Process => is_below(layout.processes, word),
             Wanted::Cell => named(&layout.shape, Some(word)).is_some(),
             Wanted::Number => is_below(RECORDS, word),
             Wanted::RowPart => is_below(layout.row_parts(), word),
-            Wanted::TextPart => is_below(TEXT_PARTS, word),
+            Wanted::TextPart => is_below(FIRST_PARTS, word),
+            Wanted::NewTextPart => is_below(SECOND_PARTS, word),
             Wanted::DonePart => is_below(DONE_PARTS, word),
             Wanted::To => word == b"to".as_slice(),
             Wanted::Point => is_one_of(&POINTS, word),

@@ -1,12 +1,13 @@
 -- Journals: lists of lines from which a sheet is made again.
 use Rattle.std.specs.Prelude.{ℕ, ◌≡◌, List, [], ◌∷◌, ◌++◌, Ok, Some, true}
+use Rattle.ds_layout.specs.declared.place.Edition.TheVariants.{Second}
 use Rattle.ds_state.specs.Value.{WorldValue}
 use Rattle.ds_edit.specs.declared.answer.Answer.TheVariants.{Done}
 use Rattle.ds_core.specs.Requests.{PlainRequest}
 use Rattle.ds_core.specs.declared.event.Event.TheVariants.{BeginEdit}
 use Rattle.ds_calls.specs.Whole.{Whole, IsRun}
 use Rattle.ds_streams.specs.Fields.{is_skipped}
-use Rattle.ds_play.specs.declared.order.Begun.TheVariants.{Nothing, Command}
+use Rattle.ds_play.specs.declared.order.Begun.TheVariants.{Nothing, Sheet, Command}
 use Rattle.ds_play.specs.Orders.{Make, Does, order_of}
 use Rattle.ds_play.specs.Orders as deed
 use Rattle.ds_play.specs.Script.{IsMade}
@@ -20,11 +21,11 @@ pub record Keeps (old : WorldValue) (asked : PlainRequest) (number : ℕ) (line 
   pub asks : IsEditLine old line asked
   pub done : Whole asked.process (BeginEdit asked) old (Ok (Done number)) new
 
--- the lines lead to this world: the first one makes a new sheet, and each that is not skipped is a whole edit, which is
+-- the lines lead to this world: the first one makes a new sheet, in the second layout, and each that is not skipped is a whole edit, which is
 -- answered Done
 pub data Follows : List (List ℕ) → WorldValue → Type 0 where
   makes : (line : List ℕ) (before world : WorldValue) (columns rows processes : ℕ)
-      → order_of Nothing before line ≡ Ok (Some (Make columns rows processes)) → IsMade columns rows processes world → Follows (line ∷ []) world
+      → order_of Nothing before line ≡ Ok (Some (Make Sheet columns rows processes Second)) → IsMade columns rows processes Second world → Follows (line ∷ []) world
   skips : (lines : List (List ℕ)) (line : List ℕ) (world : WorldValue) → Follows lines world → is_skipped line ≡ true → Follows (lines ++ line ∷ []) world
   edits : (lines : List (List ℕ)) (line : List ℕ) (asked : PlainRequest) (number : ℕ) (old new : WorldValue)
       → Follows lines old → Keeps old asked number line new → Follows (lines ++ line ∷ []) new
@@ -42,5 +43,5 @@ pub record IsOfRun (world : WorldValue) : Type 0 where
   pub rows : ℕ
   pub processes : ℕ
   pub first : WorldValue
-  pub made : IsMade columns rows processes first
+  pub made : IsMade columns rows processes Second first
   pub run : IsRun first world

@@ -12,6 +12,8 @@ use crate::fault::JournalFault;
 use ds_calls::call::whole_edit;
 use ds_edit::answer::Answer;
 use ds_formula::cells::{Cell, Shape};
+use ds_layout::layout::Layout;
+use ds_layout::place::Edition;
 use ds_play::carry::new_world;
 use ds_play::order::{Begun, Call, Command, read_order};
 use ds_state::world::World;
@@ -26,7 +28,7 @@ pub struct Told<'a> {
     pub number: usize,
     /// Its cell, one of the sheet.
     pub cell: Cell,
-    /// Its text, at most 120 bytes.
+    /// Its text, at most 240 bytes.
     pub text: &'a [u8],
 }
 
@@ -66,8 +68,8 @@ fn edit_line(alloc: Global, told: Told<'_>) -> Result<Vec<u8>, AllocError> {
     Ok(line)
 }
 
-/// The new sheet that the first line of a journal asks for. The fault is that of the line, that it is no `sheet`, or want
-/// of memory.
+/// The new sheet that the first line of a journal asks for, in the second layout. The fault is that of the line, that it is
+/// no `sheet`, or want of memory.
 pub fn begin(alloc: Global, line: &[u8]) -> Result<World, JournalFault>
     ensures { IfOk result (λ world. Follows (line.now ∷ []) world) }
 {
@@ -75,9 +77,13 @@ pub fn begin(alloc: Global, line: &[u8]) -> Result<World, JournalFault>
         columns: 2,
         rows: 2,
     };
-    let before = new_world(alloc, shape, 2)?;
+    let small = Layout {
+        shape,
+        processes: 2,
+    };
+    let before = new_world(alloc, small, Edition::Second)?;
     match read_order(line, Begun::Nothing, &before) {
-        Ok(Some(Command::Sheet(shape, processes))) => Ok(new_world(alloc, shape, processes)?),
+        Ok(Some(Command::Sheet(layout))) => Ok(new_world(alloc, layout, Edition::Second)?),
         Ok(_) => Err(JournalFault::NoSheet),
         Err(fault) => Err(JournalFault::Line(fault)),
     }

@@ -4,7 +4,7 @@ use Rattle.std.specs.Prelude.{Option, None, IfSome, IfNone}
 use Rattle.std.proofs.lemmas.Bool.{cases_lt}
 use Rattle.std.proofs.lemmas.List.{get_or_past}
 use Rattle.ds_eval.specs.declared.inputs.Entry.{Entry}
-use Rattle.ds_state.specs.Value.{WorldValue, world_of, IsGood}
+use Rattle.ds_state.specs.Value.{WorldValue, world_of, IsGood, first_rest}
 use Rattle.ds_state.specs.Works.{PlainWorkCall}
 use Rattle.ds_state.specs.declared.situation.Situation.TheVariants.{Idle, Working}
 use Rattle.ds_work.specs.WorkTakes.{Waits, IsOffered}
@@ -42,7 +42,7 @@ module _ (old new : WorldValue) (p : ℕ) (until : Until) (given : (entry : Entr
 inside : (v : WorldValue) (p : ℕ) (e : PlainWorkCall) → IsGood v → (world_of v).situation p ≡ Working e → p < v.sheet.layout.processes
 inside v p e good is = elim (cases_lt p v.sheet.layout.processes) [
   | inl lt ↦ lt
-  | inr ge ↦ absurd (let bad : Idle 0 ≡ Working e = sym (get_or_past v.situations p (Idle 0) (let n = good.situations in omega arith)) ∙ is in cc)
+  | inr ge ↦ absurd (let bad : Idle first_rest ≡ Working e = sym (get_or_past v.situations p (Idle first_rest) (let n = good.situations in omega arith)) ∙ is in cc)
 ]
 
 pub wants_step : (v : WorldValue) (p : ℕ) → IsGood v → ((e : PlainWorkCall) → Waits (world_of v) p e → ⊥) → WantsStep v p

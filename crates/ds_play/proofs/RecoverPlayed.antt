@@ -3,10 +3,16 @@ use Rattle.std.proofs.Common.{ℕ, ◌≡◌, ◌≢◌, ◌<◌, List, [], ◌�
 use Rattle.ds_state.specs.Works.{PlainRecoverCall}
 use Rattle.ds_state.specs.Value.{WorldValue, world_of, IsGood}
 use Rattle.ds_state.specs.declared.situation.Situation.{Situation}
-use Rattle.ds_state.specs.declared.situation.Situation.TheVariants.{Idle, Stopped, Editing, Working, Recovering, Showing}
+use Rattle.ds_state.specs.declared.situation.Rest.{Rest}
+use Rattle.ds_state.specs.LayoutsFit.{IsMigrating, IsMoving, NoneMoves}
+use Rattle.ds_state.specs.declared.refusal.Refusal.TheVariants.{Busy}
+use Rattle.ds_state.specs.declared.refusal.Refusal.TheVariants as refusal
+use Rattle.ds_state.specs.declared.situation.Situation.TheVariants.{Idle, Stopped, Editing, Working, Recovering, Showing, Migrating}
 use Rattle.ds_recover.specs.RecoverBegun.{MayRecover}
 use Rattle.ds_recover.specs.RecoverySteps as recoveries
 use Rattle.ds_edit.specs.declared.answer.Answer.{Answer}
+use Rattle.ds_edit.specs.declared.answer.Answer.TheVariants.{Migrated, Already}
+use Rattle.ds_core.specs.Kinds.{AnswersTo, IsRecoveryAnswer, RestsAs}
 use Rattle.ds_core.specs.StepEvents as steps
 use Rattle.ds_core.specs.RecoveryEvents.{RecoveryStepsBy, recovery_reply}
 use Rattle.ds_core.specs.Takes.{Fits}
@@ -25,7 +31,7 @@ use Rattle.ds_play.specs.Plays.{Plays}
 
 -- the process is idle now, and nobody else did anything
 pub record IsRecovered (p : ℕ) (old new : WorldValue) : Type 0 where
-  pub next : ℕ
+  pub next : Rest
   pub idle : (world_of new).situation p ≡ Idle next
   pub others : (q : ℕ) → q ≢ p → (world_of new).situation q ≡ (world_of old).situation q
   pub layout : new.sheet.layout ≡ old.sheet.layout
@@ -38,6 +44,12 @@ says_ends (event ∷ events) (reply ∷ replies) before after w new h = absurd (
 says_ends [] (reply ∷ replies) before after w new h = absurd h
 says_ends (event ∷ events) [] before after w new h = absurd h
 
+-- behind an answer of a recovery a process is idle
+rested : (answer : Answer) (s : Situation) → IsRecoveryAnswer answer → RestsAs answer s → (next : Rest) × (s ≡ Idle next)
+rested Migrated s is r = absurd is
+rested Already s is r = absurd is
+rested _ s is r = r
+
 module _ (p : ℕ) where
   behind : (old mid new : WorldValue) → ((q : ℕ) → q ≢ p → (world_of mid).situation q ≡ (world_of old).situation q) → mid.sheet.layout ≡ old.sheet.layout → IsRecovered p mid new → IsRecovered p old new
   behind old mid new others layout r = record { next = r.next; idle = r.idle; others = λ q ne. r.others q ne ∙ others q ne; layout = r.layout ∙ layout; good = r.good }
@@ -47,6 +59,7 @@ module _ (p : ℕ) where
   its_step w mid reply e at (steps.recoveries h) = h
   its_step w mid reply e at (steps.edits h) = absurd (let bad : Editing h.edit ≡ Recovering e = sym h.at ∙ at in cc)
   its_step w mid reply e at (steps.works h) = absurd (let bad : Working h.steps.work ≡ Recovering e = sym h.steps.works ∙ at in cc)
+  its_step w mid reply e at (steps.migrations h) = absurd (let bad : Migrating h.steps.migration ≡ Recovering e = sym h.steps.at ∙ at in cc)
   its_step w mid reply e at (steps.reports h) = absurd (let bad : Showing h.steps.show ≡ Recovering e = sym h.steps.at ∙ at in cc)
 
   driven_on : (events : List Event) (replies : List Reply) (w new : WorldValue) (text : List ℕ) (e : PlainRecoverCall) → IsGood w → HasProcess w p → (world_of w).situation p ≡ Recovering e
@@ -73,10 +86,11 @@ module _ (p : ℕ) where
       by go (Answered answer) fits on =
           let s = its_step w h.0 (Answered answer) e at fits.takes in
           let ends = step_ends w h.0 p answer fits.takes in
+          let rests = rested answer ((world_of h.0).situation p) (subst (λ (s : Situation). AnswersTo s answer) at ends.to) ends.rests in
           let same = says_ends events replies _ text h.0 new on in
           subst (λ (v : WorldValue). IsRecovered p w v) (sym same) (record {
-            next = ends.next;
-            idle = ends.idle;
+            next = rests.0;
+            idle = rests.1;
             others = (recovery_turn w h.0 p (Answered answer) good.sound s).others;
             layout = same_layout w h.0 (Step p) (Answered answer) fits.takes;
             good = fits.good;
@@ -84,20 +98,25 @@ module _ (p : ℕ) where
       by go NotEnabled fits on = absurd (fits.takes.no_recovery e there at)
       by go _ fits on = absurd fits.takes
 
-  pub recovered : (events : List Event) (replies : List Reply) (w new : WorldValue) (text : List ℕ) → IsGood w → HasProcess w p → (world_of w).situation p ≡ Stopped
+  pub recovered : (events : List Event) (replies : List Reply) (w new : WorldValue) (text : List ℕ) → IsGood w → HasProcess w p → (world_of w).situation p ≡ Stopped → NoneMoves (world_of w) p
       → Plays (Calls p (BeginRecover p)) w events replies (Says text) new → IsRecovered p w new
-  recovered [] [] w new text good there at h = absurd (let bad : Says text ≡ Calls p (BeginRecover p) = h.0 in cc)
-  recovered [] (reply ∷ replies) w new text good there at h = absurd h
-  recovered (event ∷ events) [] w new text good there at h = absurd h
-  recovered (event ∷ events) (reply ∷ replies) w new text good there at h =
+  recovered [] [] w new text good there at alone h = absurd (let bad : Says text ≡ Calls p (BeginRecover p) = h.0 in cc)
+  recovered [] (reply ∷ replies) w new text good there at alone h = absurd h
+  recovered (event ∷ events) [] w new text good there at alone h = absurd h
+  recovered (event ∷ events) (reply ∷ replies) w new text good there at alone h =
       let asked : Some (BeginRecover p) ≡ Some event = h.1 in
       let is : event ≡ BeginRecover p = cc in
       by reply (subst (λ (x : Event). Fits w x reply h.0) is h.2) (subst (λ (x : Event). Plays (told (Calls p (BeginRecover p)) x reply h.0) h.0 events replies (Says text) new) is h.3)
     where
+      still : (q : ℕ) → q ≡ p → IsMigrating (world_of w) q → ⊥
+      still q same m = subst IsMoving (ap (λ n. (world_of w).situation n) same ∙ at) m.is
+
       by : (r : Reply) → Fits w (BeginRecover p) r h.0 → Plays (told (Calls p (BeginRecover p)) (BeginRecover p) r h.0) h.0 events replies (Says text) new → IsRecovered p w new
       by Entered fits on =
           let layout = same_layout w h.0 (BeginRecover p) Entered fits.takes in
           behind w h.0 new fits.takes.begun.begins.others layout (driven_on events replies h.0 new text _ fits.good (rw layout there) fits.takes.begun.begins.situation on)
-      by (Refused why) fits on = absurd (fits.takes.holds.calls (subst MayRecover (sym at) tt))
+      by (Refused Busy) fits on = absurd (fits.takes.holds (subst MayRecover (sym at) tt))
+      by (Refused (refusal.Migrating q)) fits on = absurd (alone q fits.takes.holds.1.there (λ same. still q same fits.takes.holds.1) fits.takes.holds.1.is)
+      by (Refused _) fits on = absurd fits.takes.holds
       by NotEnabled fits on = absurd (fits.takes.none there)
       by _ fits on = absurd fits.takes

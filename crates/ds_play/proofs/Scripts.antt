@@ -31,20 +31,20 @@ use Rattle.ds_play.proofs.Played.{play_runs}
 pub carried_runs : (whole : Bool) (script : List ℕ) (lines : ℕ) (p : Progress) (out rest : List ℕ) → Carried whole script lines p out rest → WorldRun p.start p.events p.replies p.world
 carried_runs whole script lines p out rest (begins w made) = refl
 carried_runs whole script lines p out rest (skips n q o r line behind before next asks) = carried_runs whole script n q o r before
-carried_runs whole script lines p out rest (makes n q o r line behind columns rows processes w before next asks made) = refl
+carried_runs whole script lines p out rest (makes n q o r line behind first columns rows processes edition w before next asks made) = refl
 carried_runs whole script lines p out rest (obeys n q o r line behind deed events replies answer new before next asks plays) =
     run_both q.events q.replies events replies q.start q.world new (carried_runs whole script n q o r before) (play_runs events replies (plan q.world deed) (Says answer) q.world new plays)
 
 pub carried_new : (whole : Bool) (script : List ℕ) (lines : ℕ) (p : Progress) (out rest : List ℕ) → Carried whole script lines p out rest → IsNew (world_of p.start)
 carried_new whole script lines p out rest (begins w made) = made.new
 carried_new whole script lines p out rest (skips n q o r line behind before next asks) = carried_new whole script n q o r before
-carried_new whole script lines p out rest (makes n q o r line behind columns rows processes w before next asks made) = made.new
+carried_new whole script lines p out rest (makes n q o r line behind first columns rows processes edition w before next asks made) = made.new
 carried_new whole script lines p out rest (obeys n q o r line behind deed events replies answer new before next asks plays) = carried_new whole script n q o r before
 
 pub carried_good : (whole : Bool) (script : List ℕ) (lines : ℕ) (p : Progress) (out rest : List ℕ) → Carried whole script lines p out rest → IsGood p.start
 carried_good whole script lines p out rest (begins w made) = made.good
 carried_good whole script lines p out rest (skips n q o r line behind before next asks) = carried_good whole script n q o r before
-carried_good whole script lines p out rest (makes n q o r line behind columns rows processes w before next asks made) = made.good
+carried_good whole script lines p out rest (makes n q o r line behind first columns rows processes edition w before next asks made) = made.good
 carried_good whole script lines p out rest (obeys n q o r line behind deed events replies answer new before next asks plays) = carried_good whole script n q o r before
 
 pub carried_headline : (whole : Bool) (script : List ℕ) (lines : ℕ) (p : Progress) (out rest : List ℕ) → Carried whole script lines p out rest
@@ -67,9 +67,9 @@ led_by whole script lines p out rest carried = record { progress = p; begun_is =
 obeyed_more : (whole : Bool) (script : List ℕ) (lines : ℕ) (p : Progress) (out rest line behind : List ℕ) (order : Order) (answer : List ℕ) (new : WorldValue)
     → Carried whole script lines p out rest → next_of whole rest ≡ ALine line behind → Asks p line (Some order) → Obeys p.world order answer new
     → Led whole script (suc lines) (after order) new (out ++ answer) behind
-obeyed_more whole script lines p out rest line behind (Make columns rows processes) answer new carried next asks h =
-    subst (λ (o : List ℕ). Led whole script (suc lines) begun.Sheet new o behind) (sym (ap (λ (a : List ℕ). out ++ a) h.0 ∙ append-nil out))
-    (led_by whole script (suc lines) (begins_at begun.Sheet new) out behind (makes lines p out rest line behind columns rows processes new carried next asks h.1))
+obeyed_more whole script lines p out rest line behind (Make first columns rows processes edition) answer new carried next asks h =
+    subst (λ (o : List ℕ). Led whole script (suc lines) first new o behind) (sym (ap (λ (a : List ℕ). out ++ a) h.0 ∙ append-nil out))
+    (led_by whole script (suc lines) (begins_at first new) out behind (makes lines p out rest line behind first columns rows processes edition new carried next asks h.1))
 obeyed_more whole script lines p out rest line behind (Does deed) answer new carried next asks h =
     led_by whole script (suc lines) (goes_on p h.events h.replies new) (out ++ answer) behind (obeys lines p out rest line behind deed h.events h.replies answer new carried next asks h.plays)
 

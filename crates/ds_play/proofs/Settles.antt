@@ -18,7 +18,7 @@ use Rattle.ds_calls.specs.Whole.{Goes, Finishes, Whole, HasBegun, IsCalling, req
 use Rattle.ds_calls.specs.Settling as settling
 use Rattle.ds_calls.specs.Settling.{Settling, worked}
 use Rattle.ds_calls.proofs.Stepping.{answered_wants}
-use Rattle.ds_calls.proofs.Begins.{edit_begins, work_begins, report_begins, recovery_begins}
+use Rattle.ds_calls.proofs.Begins.{edit_begins, work_begins, report_begins, recovery_begins, migration_begins}
 use Rattle.ds_play.specs.declared.drive.Until.{Until}
 use Rattle.ds_play.specs.declared.drive.Until.TheVariants.{InRound, ToAnswer}
 use Rattle.ds_play.specs.declared.order.Call.{Call}
@@ -93,6 +93,8 @@ starts old new p calls.Report Entered fits h = (report_begins old new p Entered 
 starts old new p calls.Report (Begun number) fits h = absurd fits.takes
 starts old new p calls.Recovery Entered fits h = (recovery_begins old new p Entered fits.takes.there fits).0
 starts old new p calls.Recovery (Begun number) fits h = absurd fits.takes
+starts old new p calls.Migration Entered fits h = (migration_begins old new p Entered fits.takes.there fits).0
+starts old new p calls.Migration (Begun number) fits h = absurd fits.takes
 starts old new p call _ fits h = absurd h
 
 -- ---- a settle

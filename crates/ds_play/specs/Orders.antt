@@ -1,11 +1,13 @@
 -- The commands of a script over a world, and the lines that give them.
-use Rattle.std.specs.Prelude.{ℕ, ◌≤◌, ◌+◌, ◌*◌, Bool, ◌&&◌, nat_le, List, [], codes, Option, Some, None, is_none, option_map, unwrap_or, Result, Ok, Err, if◌then◌else◌}
+use Rattle.std.specs.Prelude.{ℕ, ◌≤◌, ◌+◌, ◌*◌, Bool, ◌&&◌, ◌==◌, nat_le, List, [], codes, Option, Some, None, is_none, option_map, unwrap_or, Result, Ok, Err, if◌then◌else◌}
 use Rattle.std.specs.Str.{bytes_eq}
 use Rattle.ds_formula.specs.declared.cells.Shape.{Shape}
 use Rattle.ds_formula.specs.declared.cells.Cell.{Cell}
 use Rattle.ds_formula.specs.Cells.{IsInside, index_of}
 use Rattle.ds_formula.specs.Limits.{COLUMNS_MOST, ROWS_MOST, CELLS_MOST, PROCESSES_MOST}
-use Rattle.ds_layout.specs.declared.place.TheConstants.{RECORDS, TEXT_PARTS, DONE_PARTS}
+use Rattle.ds_layout.specs.declared.place.TheConstants.{RECORDS, FIRST_PARTS, SECOND_PARTS, DONE_PARTS}
+use Rattle.ds_layout.specs.declared.place.Edition.{Edition}
+use Rattle.ds_layout.specs.declared.place.Edition.TheVariants.{First, Second}
 use Rattle.ds_layout.specs.declared.place.Place.{Place}
 use Rattle.ds_layout.specs.declared.place.Place.TheVariants as place
 use Rattle.ds_layout.specs.declared.layout.Layout.{Layout}
@@ -15,7 +17,7 @@ use Rattle.ds_core.specs.declared.event.Event.{Event}
 use Rattle.ds_core.specs.declared.event.Event.TheVariants as events
 use Rattle.ds_calls.specs.Whole.{request}
 use Rattle.ds_streams.specs.declared.ending.ScriptFault.{ScriptFault}
-use Rattle.ds_streams.specs.declared.ending.ScriptFault.TheVariants.{UnknownCommand, BadField, SheetNotFirst}
+use Rattle.ds_streams.specs.declared.ending.ScriptFault.TheVariants.{UnknownCommand, BadField, SheetNotFirst, LayoutNotFirst}
 use Rattle.ds_streams.specs.ScriptLines.{word_of}
 use Rattle.ds_streams.specs.Fields.{◌>>=◌, number_field, cell_field, is_skipped}
 use Rattle.ds_play.specs.declared.point.PointName.{PointName}
@@ -50,9 +52,10 @@ pub data Deed : Type 0 where
   Peek : Cell → Deed
   Word : Place → Deed
 
--- what a line asks for: a new sheet of so many columns, rows and processes, or something of the one that is there
+-- what a line asks for: a new sheet of so many columns, rows and processes, in a layout, and how the script has begun
+-- then; or something of the sheet that is there
 pub data Order : Type 0 where
-  Make : ℕ → ℕ → ℕ → Order
+  Make : Begun → ℕ → ℕ → ℕ → Edition → Order
   Does : Deed → Order
 
 -- the event that begins a call of the process
@@ -61,10 +64,12 @@ beginning process (calls.Edit cell text) = events.BeginEdit (request process cel
 beginning process (calls.Work cell) = events.BeginWork process cell
 beginning process calls.Report = events.BeginShow process
 beginning process calls.Recovery = events.BeginRecover process
+beginning process calls.Migration = events.BeginMigrate process
 
 -- the order that a command gives
 abbrev pub command_view : Command → Order
-command_view (commands.Sheet shape processes) = Make shape.columns shape.rows processes
+command_view (commands.Sheet layout) = Make begun.Sheet layout.shape.columns layout.shape.rows layout.processes Second
+command_view (commands.Layout layout edition) = Make begun.Command layout.shape.columns layout.shape.rows layout.processes edition
 command_view (commands.Whole process call) = Does (Whole process (beginning process call))
 command_view (commands.Begin process call) = Does (Begin process (beginning process call))
 command_view (commands.Settle process) = Does (Settle process)
@@ -79,7 +84,6 @@ command_view (commands.Word place) = Does (Word place)
 
 -- a sheet of this layout can carry the command out
 abbrev pub CanDo : Layout → Command → Type 0
-CanDo layout (commands.Sheet shape processes) = (1 ≤ processes) × (processes ≤ PROCESSES_MOST)
 CanDo layout (commands.Evict place) = IsPlace layout place
 CanDo layout (commands.Peek cell) = IsInside layout.shape cell
 CanDo layout (commands.Word place) = IsPlace layout place
@@ -107,10 +111,12 @@ kind_of word =
     else (if bytes_eq word (codes "header") then Some kinds.Header
     else (if bytes_eq word (codes "text") then Some kinds.Text
     else (if bytes_eq word (codes "done") then Some kinds.Done
-    else None))))))))
+    else (if bytes_eq word (codes "version") then Some kinds.Version
+    else (if bytes_eq word (codes "newtext") then Some kinds.NewText
+    else None))))))))))
 
 -- the place by its kind: head C, mark C, value C, kind C, index C PART, announce P, header P NUMBER,
--- text P NUMBER PART, done P PART
+-- text P NUMBER PART, done P PART; version; newtext P NUMBER PART, in the texts of the second layout
 abbrev pub place_by : Layout → PlaceKind → Option (List ℕ) → Option Place
 place_by layout kinds.Head rest = cell_only layout.shape rest >>= λ c. Some (place.Head c)
 place_by layout kinds.Mark rest = cell_only layout.shape rest >>= λ c. Some (place.Mark c)
@@ -121,8 +127,11 @@ place_by layout kinds.Index rest =
 place_by layout kinds.Announce rest = number_only layout.processes rest >>= λ p. Some (place.Announce p)
 place_by layout kinds.Header rest = number_field layout.processes rest >>= λ p. number_only RECORDS p.1 >>= λ n. Some (place.Header p.0 n)
 place_by layout kinds.Text rest =
-    number_field layout.processes rest >>= λ p. number_field RECORDS p.1 >>= λ n. number_only TEXT_PARTS n.1 >>= λ part. Some (place.Text p.0 n.0 part)
+    number_field layout.processes rest >>= λ p. number_field RECORDS p.1 >>= λ n. number_only FIRST_PARTS n.1 >>= λ part. Some (place.Text First p.0 n.0 part)
 place_by layout kinds.Done rest = number_field layout.processes rest >>= λ p. number_only DONE_PARTS p.1 >>= λ part. Some (place.Done p.0 part)
+place_by layout kinds.Version rest = if is_none rest then Some place.Version else None
+place_by layout kinds.NewText rest =
+    number_field layout.processes rest >>= λ p. number_field RECORDS p.1 >>= λ n. number_only SECOND_PARTS n.1 >>= λ part. Some (place.Text Second p.0 n.0 part)
 
 -- the place that the fields of a line name: its kind, then its numbers
 abbrev pub place_field : Layout → Option (List ℕ) → Option Place
@@ -147,7 +156,9 @@ point_named word =
     else (if bytes_eq word (codes "spread") then Some name.Spread
     else (if bytes_eq word (codes "cleared") then Some name.Cleared
     else (if bytes_eq word (codes "freed") then Some name.Freed
-    else None)))))))))))))
+    else (if bytes_eq word (codes "copied") then Some name.Copied
+    else (if bytes_eq word (codes "switched") then Some name.Switched
+    else None)))))))))))))))
 
 -- ---- commands
 
@@ -173,6 +184,7 @@ work_of layout rest =
 abbrev pub deed_of : Verb → ℕ → Option Deed
 deed_of verbs.Recover process = Some (Whole process (events.BeginRecover process))
 deed_of verbs.Report process = Some (Whole process (events.BeginShow process))
+deed_of verbs.Migrate process = Some (Whole process (events.BeginMigrate process))
 deed_of verbs.Settle process = Some (Settle process)
 deed_of verbs.Step process = Some (Step process)
 deed_of verbs.Stop process = Some (Stop process)
@@ -214,14 +226,24 @@ sheet_of rest =
     number_field (COLUMNS_MOST + 1) rest >>= λ columns.
     number_field (ROWS_MOST + 1) columns.1 >>= λ rows.
     number_field (PROCESSES_MOST + 1) rows.1 >>= λ processes.
-    if may_have columns.0 rows.0 && (nat_le 1 processes.0 && is_none processes.1) then Some (Make columns.0 rows.0 processes.0) else None
+    if may_have columns.0 rows.0 && (nat_le 1 processes.0 && is_none processes.1) then Some (Make begun.Sheet columns.0 rows.0 processes.0 Second) else None
+
+-- the layout with this number: 1 or 2
+abbrev pub edition_numbered : ℕ → Option Edition
+edition_numbered n = if n == 1 then Some First else (if n == 2 then Some Second else None)
+
+-- the field of `layout`: 1 or 2; the sheet that is there is made anew in that layout
+abbrev pub layout_of : Layout → Option (List ℕ) → Option Order
+layout_of layout rest =
+    number_only 3 rest >>= λ n. edition_numbered n >>= λ edition.
+    Some (Make begun.Command layout.shape.columns layout.shape.rows layout.processes edition)
 
 -- the order that the fields give; where they give none, the fault BadField
 abbrev pub or_bad_field : Option Order → Result Order ScriptFault
 or_bad_field None = Err BadField
 or_bad_field (Some order) = Ok order
 
--- ---- begin PROCESS set CELL TEXT, work CELL, show, recover; a word that is no call's is no command
+-- ---- begin PROCESS set CELL TEXT, work CELL, show, recover, migrate; a word that is no call's is no command
 
 -- the fields of `begin PROCESS set`: CELL TEXT
 abbrev pub begin_edit_of : Layout → ℕ → Option (List ℕ) → Option Order
@@ -239,7 +261,8 @@ call_named word =
     else (if bytes_eq word (codes "work") then Some names.Work
     else (if bytes_eq word (codes "show") then Some names.Report
     else (if bytes_eq word (codes "recover") then Some names.Recovery
-    else None)))
+    else (if bytes_eq word (codes "migrate") then Some names.Migration
+    else None))))
 
 -- the order of `begin` by the call that it names; a word that is no call's is an unknown command
 abbrev pub begin_by : Layout → ℕ → Option CallName → Option (List ℕ) → Result Order ScriptFault
@@ -248,6 +271,7 @@ begin_by layout process (Some names.Edit) rest = or_bad_field (begin_edit_of lay
 begin_by layout process (Some names.Work) rest = or_bad_field (begin_work_of layout process rest)
 begin_by layout process (Some names.Report) rest = or_bad_field (alone (Begin process (events.BeginShow process)) rest)
 begin_by layout process (Some names.Recovery) rest = or_bad_field (alone (Begin process (events.BeginRecover process)) rest)
+begin_by layout process (Some names.Migration) rest = or_bad_field (alone (Begin process (events.BeginMigrate process)) rest)
 
 -- the words of `begin` behind its process: a call's name, then its fields
 abbrev pub begin_words : Layout → ℕ → Option (List ℕ) → Result Order ScriptFault
@@ -278,7 +302,9 @@ verb_of word =
     else (if bytes_eq word (codes "evict") then Some verbs.Evict
     else (if bytes_eq word (codes "peek") then Some verbs.Peek
     else (if bytes_eq word (codes "word") then Some verbs.Word
-    else None)))))))))))))
+    else (if bytes_eq word (codes "layout") then Some verbs.Layout
+    else (if bytes_eq word (codes "migrate") then Some verbs.Migrate
+    else None)))))))))))))))
 
 -- the order that the words behind the first give, by the command
 abbrev pub fields_of : Verb → Layout → Option (List ℕ) → Result Order ScriptFault
@@ -296,12 +322,16 @@ fields_of verbs.Crash layout rest = or_bad_field (alone Crash rest)
 fields_of verbs.Evict layout rest = or_bad_field (evict_of layout rest)
 fields_of verbs.Peek layout rest = or_bad_field (peek_of layout rest)
 fields_of verbs.Word layout rest = or_bad_field (word_order layout rest)
+fields_of verbs.Layout layout rest = or_bad_field (layout_of layout rest)
+fields_of verbs.Migrate layout rest = or_bad_field (of_process verbs.Migrate layout rest)
 
--- the order of a line by its command: an unknown one is a fault, and so is `sheet` behind another command
+-- the order of a line by its command: an unknown one is a fault, and so is `sheet` behind another command, and `layout`
+-- behind one that is not `sheet`
 abbrev pub order_by : Option Verb → Begun → Layout → Option (List ℕ) → Result Order ScriptFault
 order_by None first layout rest = Err UnknownCommand
 order_by (Some verbs.Sheet) begun.Sheet layout rest = Err SheetNotFirst
 order_by (Some verbs.Sheet) begun.Command layout rest = Err SheetNotFirst
+order_by (Some verbs.Layout) begun.Command layout rest = Err LayoutNotFirst
 order_by (Some verb) first layout rest = fields_of verb layout rest
 
 -- the order, checked in this world: a point that the process's call does not have is a bad field

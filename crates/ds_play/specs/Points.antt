@@ -3,15 +3,18 @@ use Rattle.std.specs.Prelude.{ℕ, Bool, true, false, ◌&&◌, nat_le, List, co
 use Rattle.ds_state.specs.Stages.{order, point_at}
 use Rattle.ds_state.specs.declared.stage.Point.{Point}
 use Rattle.ds_state.specs.declared.situation.Situation.{Situation}
-use Rattle.ds_state.specs.declared.situation.Situation.TheVariants.{Idle, Stopped, Editing, Working, Recovering, Showing}
+use Rattle.ds_state.specs.declared.situation.Situation.TheVariants.{Idle, Stopped, Editing, Working, Recovering, Showing, Migrating}
 use Rattle.ds_state.specs.declared.work.WorkEnd.{WorkEnd}
 use Rattle.ds_state.specs.declared.work.WorkEnd.TheVariants as ends
 use Rattle.ds_state.specs.declared.work.WorkStage.{WorkStage}
 use Rattle.ds_state.specs.declared.work.WorkStage.TheVariants as work
 use Rattle.ds_state.specs.declared.work.RecoverStage.{RecoverStage}
 use Rattle.ds_state.specs.declared.work.RecoverStage.TheVariants as recovery
+use Rattle.ds_state.specs.declared.work.MigrateStage.{MigrateStage}
+use Rattle.ds_state.specs.declared.work.MigrateStage.TheVariants as migration
+use Rattle.ds_state.specs.declared.work.MigrateEnd.TheVariants as migrate_ends
 use Rattle.ds_play.specs.declared.point.PointName.{PointName}
-use Rattle.ds_play.specs.declared.point.PointName.TheVariants.{Written, Announced, Indexed, Helped, Swung, Kept, Marked, Answered, Held, Stored, Valued, Spread, Cleared, Freed}
+use Rattle.ds_play.specs.declared.point.PointName.TheVariants.{Written, Announced, Indexed, Helped, Swung, Kept, Marked, Answered, Held, Stored, Valued, Spread, Cleared, Freed, Copied, Switched}
 
 -- the name of a point in a script
 abbrev pub name_of_point : PointName → List ℕ
@@ -29,6 +32,8 @@ name_of_point Valued = codes "valued"
 name_of_point Spread = codes "spread"
 name_of_point Cleared = codes "cleared"
 name_of_point Freed = codes "freed"
+name_of_point Copied = codes "copied"
+name_of_point Switched = codes "switched"
 
 -- ---- the points of each call, in their order, from 1
 
@@ -61,6 +66,12 @@ recovery_order Marked = Some 3
 recovery_order Answered = Some 4
 recovery_order _ = None
 
+-- the place of a point among those of a migration, from 1
+abbrev pub migration_order : PointName → Option ℕ
+migration_order Copied = Some 1
+migration_order Switched = Some 2
+migration_order _ = None
+
 -- the place of a point among those of the process's call, if that call has it
 abbrev pub order_in : Situation → PointName → Option ℕ
 order_in (Idle next) name = None
@@ -69,6 +80,7 @@ order_in (Editing e) name = edit_order name
 order_in (Working e) name = work_order name
 order_in (Recovering e) name = recovery_order name
 order_in (Showing e) name = None
+order_in (Migrating e) name = migration_order name
 
 -- whether the process is in a call
 abbrev pub is_in_call : Situation → Bool
@@ -78,6 +90,7 @@ is_in_call (Editing e) = true
 is_in_call (Working e) = true
 is_in_call (Recovering e) = true
 is_in_call (Showing e) = true
+is_in_call (Migrating e) = true
 
 -- whether the process is in a call that has no such point
 abbrev pub lacks : Situation → PointName → Bool
@@ -145,6 +158,9 @@ behind_recovered (Some counts) = 4
 
 -- the order of the last point that a recovery at a stage has behind it, 0 for none
 abbrev pub behind_recovery : RecoverStage → ℕ
+behind_recovery recovery.LoadVersion = 0
+behind_recovery recovery.FlushVersion = 0
+behind_recovery recovery.BackVersion = 0
 behind_recovery (recovery.LoadMark cell) = 0
 behind_recovery (recovery.FlushValue cell) = 0
 behind_recovery (recovery.FlushKind cell) = 0
@@ -169,6 +185,22 @@ behind_recovery (recovery.FlushOutcome counts) = 3
 behind_recovery (recovery.BackOutcome counts) = 3
 behind_recovery (recovery.Answer how) = behind_recovered how
 
+-- the order of the last point that a migration at a stage has behind it, 0 for none: behind its last copy all words are
+-- copied, and with its answer the second layout is the sheet's
+abbrev pub behind_migration : MigrateStage → ℕ
+behind_migration migration.LoadVersion = 0
+behind_migration (migration.LoadOld at) = 0
+behind_migration (migration.StoreNew at) = 0
+behind_migration (migration.FlushNew at) = 0
+behind_migration (migration.BackNew at) = 0
+behind_migration migration.Swap = 1
+behind_migration (migration.FlushVersion migrate_ends.Migrated) = 1
+behind_migration (migration.BackVersion migrate_ends.Migrated) = 1
+behind_migration (migration.Answer migrate_ends.Migrated) = 2
+behind_migration (migration.FlushVersion migrate_ends.Already) = 0
+behind_migration (migration.BackVersion migrate_ends.Already) = 0
+behind_migration (migration.Answer migrate_ends.Already) = 0
+
 -- the order of the last point that the process's call has behind it, 0 for none
 abbrev pub behind_in : Situation → ℕ
 behind_in (Idle next) = 0
@@ -177,6 +209,7 @@ behind_in (Editing e) = behind_point (point_at e.stage)
 behind_in (Working e) = behind_work e.stage
 behind_in (Recovering e) = behind_recovery e.stage
 behind_in (Showing e) = 0
+behind_in (Migrating e) = behind_migration e.stage
 
 -- whether the point of this order is behind, where a call has it
 abbrev pub is_passed : Option ℕ → ℕ → Bool

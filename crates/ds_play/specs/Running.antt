@@ -17,12 +17,12 @@ use Rattle.ds_play.specs.Script.{IsMade, Finishes, Breaks, Lacks}
 
 -- an order is carried out: a new sheet is made, or the deed is played to its end with this answer
 abbrev pub Obeys : WorldValue → Order → List ℕ → WorldValue → Type 0
-Obeys old (Make columns rows processes) answer new = (answer ≡ []) × IsMade columns rows processes new
+Obeys old (Make first columns rows processes edition) answer new = (answer ≡ []) × IsMade columns rows processes edition new
 Obeys old (Does deed) answer new = Played (plan old deed) old answer new
 
--- how a script has begun once it has carried an order out: with a sheet, or with another command
+-- how a script has begun once it has carried an order out: with a sheet alone, or with another command
 abbrev pub after : Order → Begun
-after (Make columns rows processes) = begun.Sheet
+after (Make first columns rows processes edition) = first
 after (Does deed) = begun.Command
 
 -- the line is skipped: the world stays, and what was written stays

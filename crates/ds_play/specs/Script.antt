@@ -1,7 +1,10 @@
 -- What a script does: its lines in order, what happens to its world, and the answers.
 use Rattle.std.specs.Prelude.{◌≡◌, ◌⊎◌, ℕ, suc, ◌+◌, Bool, true, false, List, [], ◌∷◌, ◌++◌, take, Option, Some, None, Ok, Err}
 use Rattle.ds_formula.specs.Cells.{count_of}
+use Rattle.ds_layout.specs.declared.place.Edition.{Edition}
+use Rattle.ds_layout.specs.declared.place.Edition.TheVariants.{Second}
 use Rattle.ds_state.specs.Value.{WorldValue, world_of, IsGood}
+use Rattle.ds_state.specs.Editions.{Agrees}
 use Rattle.ds_state.specs.Fresh.{IsNew}
 use Rattle.ds_state.specs.Reports.{no_reports}
 use Rattle.ds_core.specs.declared.event.Event.{Event}
@@ -33,10 +36,11 @@ pub record Progress : Type 0 where
   pub replies : List Reply
   pub world : WorldValue
 
--- a new sheet of so many columns, rows and processes
-pub record IsMade (columns rows processes : ℕ) (w : WorldValue) : Type 0 where
+-- a new sheet of so many columns, rows and processes, in this layout
+pub record IsMade (columns rows processes : ℕ) (edition : Edition) (w : WorldValue) : Type 0 where
   pub new : IsNew (world_of w)
   pub good : IsGood w
+  pub says : Agrees (world_of w).memory edition
   pub columns_are : w.sheet.layout.shape.columns ≡ columns
   pub rows_are : w.sheet.layout.shape.rows ≡ rows
   pub processes_are : w.sheet.layout.processes ≡ processes
@@ -59,14 +63,14 @@ Asks p line order = order_of p.begun p.world line ≡ Ok order
 -- the first lines of a script, this many, are carried out; they led to this point, were answered with this text, and
 -- left this rest of the script
 pub data Carried (whole : Bool) (script : List ℕ) : ℕ → Progress → List ℕ → List ℕ → Type 0 where
-  -- before the first command there are two columns, two rows and two processes
-  begins : (w : WorldValue) → IsMade 2 2 2 w → Carried whole script 0 (begins_at begun.Nothing w) [] script
+  -- before the first command there are two columns, two rows and two processes, in the second layout
+  begins : (w : WorldValue) → IsMade 2 2 2 Second w → Carried whole script 0 (begins_at begun.Nothing w) [] script
   skips : (lines : ℕ) (p : Progress) (out rest line behind : List ℕ)
       → Carried whole script lines p out rest → next_of whole rest ≡ ALine line behind → Asks p line None
       → Carried whole script (suc lines) p out behind
-  makes : (lines : ℕ) (p : Progress) (out rest line behind : List ℕ) (columns rows processes : ℕ) (w : WorldValue)
-      → Carried whole script lines p out rest → next_of whole rest ≡ ALine line behind → Asks p line (Some (Make columns rows processes)) → IsMade columns rows processes w
-      → Carried whole script (suc lines) (begins_at begun.Sheet w) out behind
+  makes : (lines : ℕ) (p : Progress) (out rest line behind : List ℕ) (first : Begun) (columns rows processes : ℕ) (edition : Edition) (w : WorldValue)
+      → Carried whole script lines p out rest → next_of whole rest ≡ ALine line behind → Asks p line (Some (Make first columns rows processes edition)) → IsMade columns rows processes edition w
+      → Carried whole script (suc lines) (begins_at first w) out behind
   obeys : (lines : ℕ) (p : Progress) (out rest line behind : List ℕ) (deed : Deed) (events : List Event) (replies : List Reply) (answer : List ℕ) (new : WorldValue)
       → Carried whole script lines p out rest → next_of whole rest ≡ ALine line behind → Asks p line (Some (Does deed))
       → Plays (plan p.world deed) p.world events replies (Says answer) new

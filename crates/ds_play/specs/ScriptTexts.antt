@@ -75,6 +75,8 @@ answer_text w p answers.Again = word_line p (codes "again")
 answer_text w p answers.NoMemory = word_line p (codes "nomemory")
 answer_text w p (answers.Last told) = last_text w.sheet.layout.shape p told
 answer_text w p answers.Nothing = word_line p (codes "nothing")
+answer_text w p answers.Migrated = word_line p (codes "migrated")
+answer_text w p answers.Already = word_line p (codes "already")
 answer_text w p answers.Settled = settled_text w.sheet.layout.shape (values_of w p)
 answer_text w p (answers.Unsettled place word) = unsettled_text w.sheet.layout.shape place word
 

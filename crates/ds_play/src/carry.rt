@@ -1,7 +1,6 @@
 //! Carries commands out.
 
 ghost use Rattle.std.specs.Prelude.{◌≡◌, ◌≤◌, IfOk};
-ghost use Rattle.ds_formula.specs.Limits.{PROCESSES_MOST};
 ghost use Rattle.ds_state.specs.Value.{world_of};
 ghost use Rattle.ds_core.specs.Takes.{Fits};
 ghost use Rattle.ds_core.specs.declared.event.Event.TheVariants.{BeginEdit};
@@ -22,17 +21,21 @@ use ds_calls::finish::finish;
 use ds_core::event::Event;
 use ds_core::reply::Reply;
 use ds_core::take::take;
-use ds_formula::cells::{Cell, Shape};
+use ds_formula::cells::Cell;
+use ds_layout::layout::Layout;
+use ds_layout::place::Edition;
 use ds_state::world::World;
 use std::alloc::{AllocError, Global};
 
-/// A new world. An error is a want of memory.
-pub fn new_world(alloc: Global, shape: Shape, processes: usize) -> Result<World, AllocError>
-    requires some { 1 ≤ processes }
-    requires limited { processes ≤ PROCESSES_MOST }
-    ensures { IfOk result (λ w. IsMade shape.columns shape.rows processes w) }
+/// A new world: a sheet of this shape and so many processes, in one of the two layouts of its words. An error is a want
+/// of memory.
+pub fn new_world(alloc: Global, layout: Layout, edition: Edition) -> Result<World, AllocError>
+    ensures { IfOk result (λ w. IsMade layout.shape.columns layout.shape.rows layout.processes edition w) }
 {
-    let world = World::new(alloc, shape, processes)?;
+    let world = match edition {
+        Edition::First => World::first(alloc, layout.shape, layout.processes)?,
+        Edition::Second => World::new(alloc, layout.shape, layout.processes)?,
+    };
     world.is_always_good();
     Ok(world)
 }
@@ -64,6 +67,7 @@ pub fn begins(alloc: Global, world: &mut World, process: usize, call: Call<'_>) 
         Call::Work(cell) => happen(alloc, world, &Event::BeginWork(process, cell)),
         Call::Report => happen(alloc, world, &Event::BeginShow(process)),
         Call::Recovery => happen(alloc, world, &Event::BeginRecover(process)),
+        Call::Migration => happen(alloc, world, &Event::BeginMigrate(process)),
     }
 }
 
@@ -152,8 +156,12 @@ pub fn carry_out(
     ensures { IfOk result (λ answer. Obeys world.old (command_view command.entry) answer.items world.new) }
 {
     match command {
-        Command::Sheet(shape, processes) => {
-            *world = new_world(alloc, shape, processes)?;
+        Command::Sheet(layout) => {
+            *world = new_world(alloc, layout, Edition::Second)?;
+            Ok(Vec::new(alloc))
+        }
+        Command::Layout(layout, edition) => {
+            *world = new_world(alloc, layout, edition)?;
             Ok(Vec::new(alloc))
         }
         Command::Whole(process, call) => whole(alloc, world, process, call),

@@ -7,14 +7,14 @@ ghost use Rattle.ds_layout.specs.Places.{IsPlace};
 ghost use Rattle.ds_layout.specs.declared.layout.Layout.{Layout};
 ghost use Rattle.ds_state.specs.Value.{world_of};
 ghost use Rattle.ds_play.specs.Points.{lacks};
-ghost use Rattle.ds_play.specs.Orders.{CanDo, beginning, command_view, read_view, answer_view, point_named, call_named, alone, of_process, set_of, work_of, run_by, run_of, evict_of, word_order, peek_of, sheet_of, or_bad_field, begin_edit_of, begin_work_of, begin_by, begin_words, verb_of, fields_of, order_by, checked, order_of};
+ghost use Rattle.ds_play.specs.Orders.{CanDo, beginning, command_view, read_view, answer_view, point_named, call_named, alone, of_process, set_of, work_of, run_by, run_of, evict_of, word_order, peek_of, sheet_of, edition_numbered, layout_of, or_bad_field, begin_edit_of, begin_work_of, begin_by, begin_words, verb_of, fields_of, order_by, checked, order_of};
 ghost use Rattle.ds_play.specs.Orders as deed;
 
 use crate::places::{last_number, read_place};
 use crate::point::{PointName, is_lacking};
 use ds_formula::cells::{COLUMN_LIMIT, Cell, ROW_LIMIT, Shape};
 use ds_layout::layout::{Layout, PROCESS_LIMIT};
-use ds_layout::place::Place;
+use ds_layout::place::{Edition, Place};
 use ds_state::world::World;
 use ds_streams::ending::ScriptFault;
 use ds_streams::fields::{is_skipped, named, numbered};
@@ -51,6 +51,10 @@ pub enum Verb {
     Peek,
     /// `word`.
     Word,
+    /// `layout`.
+    Layout,
+    /// `migrate`.
+    Migrate,
 }
 
 /// A call, as `begin` names it.
@@ -64,6 +68,8 @@ pub enum CallName {
     Report,
     /// `recover`.
     Recovery,
+    /// `migrate`.
+    Migration,
 }
 
 /// What came before a line.
@@ -88,16 +94,21 @@ pub enum Call<'a> {
     Report,
     /// A recovery.
     Recovery,
+    /// A migration.
+    Migration,
 }
 
 /// A command of a script.
 #[derive(Clone, Copy, Debug)]
 pub enum Command<'a> {
-    /// `sheet COLUMNS ROWS PROCESSES`: a new sheet.
-    Sheet(Shape, usize),
-    /// `set PROCESS CELL TEXT`, `work PROCESS CELL`, `report PROCESS`, `recover PROCESS`: a whole call.
+    /// `sheet COLUMNS ROWS PROCESSES`: a new sheet, in the second layout.
+    Sheet(Layout),
+    /// `layout 1`, `layout 2`: a new sheet in that layout, of the shape and the processes of the one that is there.
+    Layout(Layout, Edition),
+    /// `set PROCESS CELL TEXT`, `work PROCESS CELL`, `report PROCESS`, `recover PROCESS`, `migrate PROCESS`: a whole
+    /// call.
     Whole(usize, Call<'a>),
-    /// `begin PROCESS` and `set CELL TEXT`, `work CELL`, `show` or `recover`: the beginning of a call.
+    /// `begin PROCESS` and `set CELL TEXT`, `work CELL`, `show`, `recover` or `migrate`: the beginning of a call.
     Begin(usize, Call<'a>),
     /// `settle PROCESS`: works until no cell is marked.
     Settle(usize),
@@ -130,7 +141,25 @@ fn sheet<'a>(_layout: &Layout, rest: Option<&'a [u8]>) -> Option<Command<'a>>
     if processes == 0 || rest.is_some() {
         return None;
     }
-    Some(Command::Sheet(shape, processes))
+    Some(Command::Sheet(Layout { shape, processes }))
+}
+
+fn edition_numbered(number: usize) -> Option<Edition>
+    ensures { result ≡ edition_numbered number }
+{
+    match number {
+        1 => Some(Edition::First),
+        2 => Some(Edition::Second),
+        _ => None,
+    }
+}
+
+fn layout_as<'a>(layout: &Layout, rest: Option<&'a [u8]>) -> Option<Command<'a>>
+    ensures value { option_map command_view result ≡ layout_of layout.now (option_map (λ r. r.now) rest.entry) }
+    ensures can { IfSome result (CanDo layout.now) }
+{
+    let number = last_number(3, rest)?;
+    Some(Command::Layout(*layout, edition_numbered(number)?))
 }
 
 fn set<'a>(layout: &Layout, rest: Option<&'a [u8]>) -> Option<Command<'a>>
@@ -195,6 +224,10 @@ fn point(word: &[u8]) -> Option<PointName>
         Some(PointName::Cleared)
     } else if word == b"freed".as_slice() {
         Some(PointName::Freed)
+    } else if word == b"copied".as_slice() {
+        Some(PointName::Copied)
+    } else if word == b"switched".as_slice() {
+        Some(PointName::Switched)
     } else {
         None
     }
@@ -278,6 +311,8 @@ fn call_named(word: &[u8]) -> Option<CallName>
         Some(CallName::Report)
     } else if word == b"recover".as_slice() {
         Some(CallName::Recovery)
+    } else if word == b"migrate".as_slice() {
+        Some(CallName::Migration)
     } else {
         None
     }
@@ -310,6 +345,7 @@ fn begin_call<'a>(
         Some(CallName::Work) => found(layout, begin_work(layout, process, rest)),
         Some(CallName::Report) => found(layout, begin_bare(process, Call::Report, rest)),
         Some(CallName::Recovery) => found(layout, begin_bare(process, Call::Recovery, rest)),
+        Some(CallName::Migration) => found(layout, begin_bare(process, Call::Migration, rest)),
     }
 }
 
@@ -338,6 +374,7 @@ fn of_process<'a>(verb: Verb, layout: &Layout, rest: Option<&'a [u8]>) -> Option
     match verb {
         Verb::Recover => Some(Command::Whole(process, Call::Recovery)),
         Verb::Report => Some(Command::Whole(process, Call::Report)),
+        Verb::Migrate => Some(Command::Whole(process, Call::Migration)),
         Verb::Settle => Some(Command::Settle(process)),
         Verb::Step => Some(Command::Step(process)),
         Verb::Stop => Some(Command::Stop(process)),
@@ -376,6 +413,10 @@ fn verb_named(word: &[u8]) -> Option<Verb>
         Some(Verb::Peek)
     } else if word == b"word".as_slice() {
         Some(Verb::Word)
+    } else if word == b"layout".as_slice() {
+        Some(Verb::Layout)
+    } else if word == b"migrate".as_slice() {
+        Some(Verb::Migrate)
     } else {
         None
     }
@@ -410,7 +451,9 @@ fn fields<'a>(
         Verb::Sheet => found(layout, sheet(layout, rest)),
         Verb::Set => found(layout, set(layout, rest)),
         Verb::Work => found(layout, work(layout, rest)),
+        Verb::Layout => found(layout, layout_as(layout, rest)),
         Verb::Recover | Verb::Report => found(layout, of_process(verb, layout, rest)),
+        Verb::Migrate => found(layout, of_process(verb, layout, rest)),
         Verb::Settle | Verb::Step | Verb::Stop => found(layout, of_process(verb, layout, rest)),
         Verb::Run => found(layout, run(layout, rest)),
         Verb::Crash => found(layout, crash(rest)),
@@ -433,6 +476,7 @@ fn command_of<'a>(
     match (verb, begun) {
         (None, _) => Err(ScriptFault::UnknownCommand),
         (Some(Verb::Sheet), Begun::Sheet | Begun::Command) => Err(ScriptFault::SheetNotFirst),
+        (Some(Verb::Layout), Begun::Command) => Err(ScriptFault::LayoutNotFirst),
         (Some(verb), _) => fields(verb, layout, rest),
     }
 }

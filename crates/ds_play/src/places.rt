@@ -8,7 +8,7 @@ ghost use Rattle.ds_play.specs.Orders.{cell_only, number_only, kind_of, place_by
 
 use ds_formula::cells::Shape;
 use ds_layout::layout::Layout;
-use ds_layout::place::{DONE_PARTS, Place, RECORDS, TEXT_PARTS};
+use ds_layout::place::{DONE_PARTS, Edition, FIRST_PARTS, Place, RECORDS, SECOND_PARTS};
 use ds_streams::fields::{named, numbered};
 use ds_streams::line::word;
 
@@ -33,6 +33,10 @@ pub enum PlaceKind {
     Text,
     /// `done P PART`.
     Done,
+    /// `version`.
+    Version,
+    /// `newtext P NUMBER PART`.
+    NewText,
 }
 
 // The number of a cell that is the last word.
@@ -79,6 +83,10 @@ fn kind(word: &[u8]) -> Option<PlaceKind>
         Some(PlaceKind::Text)
     } else if word == b"done".as_slice() {
         Some(PlaceKind::Done)
+    } else if word == b"version".as_slice() {
+        Some(PlaceKind::Version)
+    } else if word == b"newtext".as_slice() {
+        Some(PlaceKind::NewText)
     } else {
         None
     }
@@ -113,12 +121,38 @@ fn text_place(layout: &Layout, rest: Option<&[u8]>) -> Option<Place>
 {
     let (process, rest) = numbered(layout.processes, rest)?;
     let (number, rest) = numbered(RECORDS, rest)?;
-    let part = last_number(TEXT_PARTS, rest)?;
+    let part = last_number(FIRST_PARTS, rest)?;
     Some(Place::Text {
+        edition: Edition::First,
         process,
         number,
         part,
     })
+}
+
+fn new_text_place(layout: &Layout, rest: Option<&[u8]>) -> Option<Place>
+    ensures value { result ≡ place_by layout.now PlaceKind.NewText (option_map (λ r. r.now) rest.entry) }
+    ensures inside { IfSome result (IsPlace layout.now) }
+{
+    let (process, rest) = numbered(layout.processes, rest)?;
+    let (number, rest) = numbered(RECORDS, rest)?;
+    let part = last_number(SECOND_PARTS, rest)?;
+    Some(Place::Text {
+        edition: Edition::Second,
+        process,
+        number,
+        part,
+    })
+}
+
+fn version_place(_layout: &Layout, rest: Option<&[u8]>) -> Option<Place>
+    ensures value { result ≡ place_by _layout.now PlaceKind.Version (option_map (λ r. r.now) rest.entry) }
+    ensures inside { IfSome result (IsPlace _layout.now) }
+{
+    match rest {
+        None => Some(Place::Version),
+        Some(_) => None,
+    }
 }
 
 fn done_place(layout: &Layout, rest: Option<&[u8]>) -> Option<Place>
@@ -146,6 +180,8 @@ fn place_of(layout: &Layout, kind: PlaceKind, rest: Option<&[u8]>) -> Option<Pla
         PlaceKind::Header => header_place(layout, rest),
         PlaceKind::Text => text_place(layout, rest),
         PlaceKind::Done => done_place(layout, rest),
+        PlaceKind::Version => version_place(layout, rest),
+        PlaceKind::NewText => new_text_place(layout, rest),
     }
 }
 

@@ -1,11 +1,11 @@
 //! The points of calls, by their names.
 
 ghost use Rattle.std.specs.Prelude.{◌≡◌};
-ghost use Rattle.ds_play.specs.Points.{name_of_point, edit_order, work_order, recovery_order, order_in, is_in_call, lacks, behind_point, behind_end, behind_answer, behind_work, behind_recovered, behind_recovery, behind_in, is_passed, has_passed};
+ghost use Rattle.ds_play.specs.Points.{name_of_point, edit_order, work_order, recovery_order, migration_order, order_in, is_in_call, lacks, behind_point, behind_end, behind_answer, behind_work, behind_recovered, behind_recovery, behind_migration, behind_in, is_passed, has_passed};
 
 use ds_state::situation::Situation;
 use ds_state::stage::Point;
-use ds_state::work::{RecoverStage, WorkEnd, WorkStage};
+use ds_state::work::{MigrateEnd, MigrateStage, RecoverStage, WorkEnd, WorkStage};
 
 /// The name of a point, of whichever call.
 #[derive(Clone, Copy, Debug, PartialEq, Eq)]
@@ -38,6 +38,10 @@ pub enum PointName {
     Cleared,
     /// Of a recovery.
     Freed,
+    /// Of a migration: all words of the texts are copied, and persisted.
+    Copied,
+    /// Of a migration: the sheet has the second layout, and no crash takes that away.
+    Switched,
 }
 
 impl PointName {
@@ -60,6 +64,8 @@ impl PointName {
             PointName::Spread => "spread",
             PointName::Cleared => "cleared",
             PointName::Freed => "freed",
+            PointName::Copied => "copied",
+            PointName::Switched => "switched",
         }
     }
 
@@ -107,6 +113,17 @@ impl PointName {
         }
     }
 
+    // Which point of a migration it is, from 1.
+    fn of_migration(self) -> Option<u8>
+        ensures { result ≡ migration_order self }
+    {
+        match self {
+            PointName::Copied => Some(1),
+            PointName::Switched => Some(2),
+            _ => None,
+        }
+    }
+
     // Which point of the process's call it is, from 1.
     fn order_in(self, situation: &Situation) -> Option<u8>
         ensures { result ≡ order_in situation.now self }
@@ -115,6 +132,7 @@ impl PointName {
             Situation::Editing(_) => self.of_edit(),
             Situation::Working(_) => self.of_work(),
             Situation::Recovering(_) => self.of_recovery(),
+            Situation::Migrating(_) => self.of_migration(),
             Situation::Idle(_) | Situation::Stopped | Situation::Showing(_) => None,
         }
     }
@@ -180,6 +198,7 @@ fn behind_recovery(stage: RecoverStage) -> u8
     ensures { result ≡ behind_recovery stage }
 {
     match stage {
+        RecoverStage::LoadVersion | RecoverStage::FlushVersion | RecoverStage::BackVersion => 0,
         RecoverStage::LoadMark(_) | RecoverStage::FlushValue(_) => 0,
         RecoverStage::FlushKind(_) | RecoverStage::BackValue(_) => 0,
         RecoverStage::BackKind(_) | RecoverStage::Telling(_, _) => 0,
@@ -195,6 +214,22 @@ fn behind_recovery(stage: RecoverStage) -> u8
     }
 }
 
+fn behind_migration(stage: MigrateStage) -> u8
+    ensures { result ≡ behind_migration stage }
+{
+    match stage {
+        MigrateStage::LoadVersion | MigrateStage::LoadOld(_) | MigrateStage::StoreNew(_) => 0,
+        MigrateStage::FlushNew(_) | MigrateStage::BackNew(_) => 0,
+        MigrateStage::Swap => 1,
+        MigrateStage::FlushVersion(MigrateEnd::Migrated) => 1,
+        MigrateStage::BackVersion(MigrateEnd::Migrated) => 1,
+        MigrateStage::Answer(MigrateEnd::Migrated) => 2,
+        MigrateStage::FlushVersion(MigrateEnd::Already) => 0,
+        MigrateStage::BackVersion(MigrateEnd::Already) => 0,
+        MigrateStage::Answer(MigrateEnd::Already) => 0,
+    }
+}
+
 // The order of the last point that the process's call has behind it; 0 for none.
 fn behind_in(situation: &Situation) -> u8
     ensures { result ≡ behind_in situation.now }
@@ -203,6 +238,7 @@ fn behind_in(situation: &Situation) -> u8
         Situation::Editing(call) => behind_point(call.stage.point()),
         Situation::Working(call) => behind_work(call.stage),
         Situation::Recovering(call) => behind_recovery(call.stage),
+        Situation::Migrating(call) => behind_migration(call.stage),
         Situation::Idle(_) | Situation::Stopped | Situation::Showing(_) => 0,
     }
 }

@@ -25,6 +25,8 @@ ghost use Rattle.ds_formula.specs.Limits.{INPUT_MOST};
 use crate::carry::{carry_out, new_world};
 use crate::order::{Begun, Command, read_order};
 use ds_formula::cells::Shape;
+use ds_layout::layout::Layout;
+use ds_layout::place::Edition;
 use ds_state::world::World;
 use ds_streams::ending::{ScriptEnd, ScriptFault};
 use ds_streams::input::{Input, InputEnd, read_input};
@@ -62,7 +64,7 @@ pub fn begun_by(command: Command<'_>) -> Begun
     ensures { result ≡ after (command_view command.entry) }
 {
     match command {
-        Command::Sheet(_, _) => Begun::Sheet,
+        Command::Sheet(_) => Begun::Sheet,
         _ => Begun::Command,
     }
 }
@@ -125,7 +127,11 @@ fn run_lines<W: Write>(
         columns: 2,
         rows: 2,
     };
-    let Ok(mut world) = new_world(alloc, shape, 2) else {
+    let layout = Layout {
+        shape,
+        processes: 2,
+    };
+    let Ok(mut world) = new_world(alloc, layout, Edition::Second) else {
         return Err(Break::NoMemory);
     };
     let mut begun = Begun::Nothing;

@@ -127,6 +127,8 @@ fn answer_line(
         Answer::NoMemory => format!(in alloc; "{process} nomemory\n"),
         Answer::Last(told) => last_line(alloc, shape, process, told),
         Answer::Nothing => format!(in alloc; "{process} nothing\n"),
+        Answer::Migrated => format!(in alloc; "{process} migrated\n"),
+        Answer::Already => format!(in alloc; "{process} already\n"),
         Answer::Settled => format!(in alloc; "settled\n"),
         Answer::Unsettled(place, word) => unsettled_line(alloc, shape, place, word),
     }

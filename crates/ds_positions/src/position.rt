@@ -9,7 +9,8 @@ use ds_core::reply::Reply;
 use ds_core::take::take;
 use ds_edit::answer::Answer;
 use ds_formula::cells::Shape;
-use ds_layout::place::Place;
+use ds_layout::layout::Layout;
+use ds_layout::place::{Edition, Place};
 use ds_play::carry::new_world;
 use ds_play::texts::reply_bytes;
 use ds_state::situation::Situation;
@@ -62,7 +63,11 @@ pub fn start(alloc: Global, script: &[u8]) -> Result<World, Short>
         columns: 2,
         rows: 2,
     };
-    let Ok(mut world) = new_world(alloc, shape, 2) else {
+    let layout = Layout {
+        shape,
+        processes: 2,
+    };
+    let Ok(mut world) = new_world(alloc, layout, Edition::Second) else {
         return Err(Short::NoMemory);
     };
     match reach(alloc, script, true, u64::MAX, &mut world) {
@@ -89,6 +94,7 @@ fn wanted(world: &World, process: usize) -> Access<Place> {
         }
         Some(Situation::Showing(call)) => ds_show::machine::want(call),
         Some(Situation::Recovering(call)) => ds_recover::machine::want(call),
+        Some(Situation::Migrating(call)) => ds_recover::migrate::want(call),
         None | Some(Situation::Idle(_)) | Some(Situation::Stopped) => Access::Nothing,
     }
 }

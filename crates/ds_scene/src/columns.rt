@@ -1,7 +1,7 @@
 //! The columns of a picture: the words that change, side by side, and how they come from one side to the other.
 
 ghost use Rattle.std.specs.Prelude.{◌≡◌, ◌<◌, All, IfOk, length, slice_index_or};
-ghost use Rattle.ds_scene.specs.Columns.{IsColumnOf, IsTrueSpan, side_of, word_in};
+ghost use Rattle.ds_scene.specs.Columns.{IsColumnOf, IsTrueSpan, first_in, side_of, word_in};
 
 use ds_core::reply::Reply;
 use ds_layout::place::Place;
@@ -69,8 +69,8 @@ pub struct Passage {
     pub end: PassageEnd,
 }
 
-/// A word of a new sheet.
-pub const NEW_WORD: Word = Word {
+/// Where there is no such word.
+pub const NO_WORD: Word = Word {
     cached: 0,
     persisted: 0,
 };
@@ -87,7 +87,7 @@ pub fn word_in(row: &Row, number: usize) -> Word
     if number < row.words.len() {
         row.words[number]
     } else {
-        NEW_WORD
+        NO_WORD
     }
 }
 
@@ -100,12 +100,18 @@ fn side_of(word: Word, side: Side) -> u64
     }
 }
 
-// The numbers of a side of a word, line by line.
-fn spans(alloc: Global, rows: &[Row], number: usize, side: Side) -> Result<Vec<Span>, AllocError>
-    ensures { IfOk result (λ spans. All (IsTrueSpan rows.now number side) spans.items) }
+// The numbers of a side of a word, line by line, which was this one first.
+fn spans(
+    alloc: Global,
+    first: Word,
+    rows: &[Row],
+    number: usize,
+    side: Side,
+) -> Result<Vec<Span>, AllocError>
+    ensures { IfOk result (λ spans. All (IsTrueSpan first rows.now number side) spans.items) }
 {
     let mut spans = Vec::new(alloc);
-    let mut word = 0;
+    let mut word = side_of(first, side);
     let mut from = 0;
     for event in 0..rows.len() {
         let next = side_of(word_in(&rows[event], number), side);
@@ -129,9 +135,21 @@ fn spans(alloc: Global, rows: &[Row], number: usize, side: Side) -> Result<Vec<S
     Ok(spans)
 }
 
-// Whether a word ever is another one than in a new sheet.
-fn changes(rows: &[Row], number: usize) -> bool {
-    rows.iter().any(|row| word_in(row, number) != NEW_WORD)
+/// Both sides of a word of the recording before all events, by the word's number; zeros where there is no such word.
+pub fn first_in(trace: &Trace, number: usize) -> Word
+    ensures { result ≡ first_in trace.now number }
+{
+    if number < trace.start.len() {
+        trace.start[number]
+    } else {
+        NO_WORD
+    }
+}
+
+// Whether a word ever is another one than in the new sheet.
+fn changes(trace: &Trace, number: usize) -> bool {
+    let first = first_in(trace, number);
+    trace.rows.iter().any(|row| word_in(row, number) != first)
 }
 
 fn place_of(trace: &Trace, number: usize) -> Place
@@ -146,10 +164,11 @@ fn column_of(alloc: Global, trace: &Trace, number: usize) -> Result<Column, Allo
     requires { number < length trace.now.places.items }
     ensures { IfOk result (λ column. IsColumnOf trace.now column) }
 {
+    let first = first_in(trace, number);
     Ok(Column {
         place: place_of(trace, number),
-        cached: spans(alloc, &trace.rows, number, Side::Cached)?,
-        persisted: spans(alloc, &trace.rows, number, Side::Persisted)?,
+        cached: spans(alloc, first, &trace.rows, number, Side::Cached)?,
+        persisted: spans(alloc, first, &trace.rows, number, Side::Persisted)?,
     })
 }
 
@@ -159,7 +178,7 @@ pub fn columns(alloc: Global, trace: &Trace) -> Result<Vec<Column>, AllocError>
 {
     let mut columns = Vec::new(alloc);
     for number in 0..trace.places.len() {
-        if changes(&trace.rows, number) {
+        if changes(trace, number) {
             columns.push(column_of(alloc, trace, number)?)?;
         }
     }

@@ -102,6 +102,7 @@ fn points_of(begin: Begin) -> &'static [PointName] {
             PointName::Marked,
             PointName::Answered,
         ],
+        Begin::Migration => &[PointName::Copied, PointName::Switched],
         Begin::Report => &[],
     }
 }

@@ -7,13 +7,27 @@ use ds_layout::head::Head;
 use ds_layout::header::Header;
 use ds_layout::layout::Layout;
 use ds_layout::mark::{Mark, State};
-use ds_layout::place::Place;
+use ds_layout::place::{Edition, Place};
 use ds_layout::stored::{Kind, Stored};
 use ds_layout::text::part_bytes;
 use std::alloc::{AllocError, Global};
 
 // How many bits of a word are named one by one; of the others only how many there are is told.
 const NAMED: usize = 2;
+
+fn version_label(alloc: Global, word: u64) -> Result<String, AllocError> {
+    match Edition::read(word) {
+        Edition::First => format!(in alloc; "layout 1"),
+        Edition::Second => format!(in alloc; "layout 2"),
+    }
+}
+
+fn version_meaning(alloc: Global, word: u64) -> Result<String, AllocError> {
+    match Edition::read(word) {
+        Edition::First => format!(in alloc; "the first layout, texts of up to 120 bytes"),
+        Edition::Second => format!(in alloc; "the second layout, texts of up to 240 bytes"),
+    }
+}
 
 fn head_label(alloc: Global, layout: Layout, word: u64) -> Result<String, AllocError> {
     match Head::read(word, layout.processes) {
@@ -182,7 +196,7 @@ fn first_of(part: usize) -> usize {
 /// What the word of this place says, in a few letters.
 pub fn label(alloc: Global, layout: Layout, place: Place, word: u64) -> Result<String, AllocError> {
     match place {
-        Place::Version => format!(in alloc; "{word}"),
+        Place::Version => version_label(alloc, word),
         Place::Head(_) => head_label(alloc, layout, word),
         Place::Mark(_) => mark_label(alloc, layout, word),
         Place::Value(_) => format!(in alloc; "{}", word.cast_signed()),
@@ -194,6 +208,7 @@ pub fn label(alloc: Global, layout: Layout, place: Place, word: u64) -> Result<S
             number: _,
         } => header_label(alloc, layout, word),
         Place::Text {
+            edition: _,
             process: _,
             number: _,
             part: _,
@@ -220,8 +235,10 @@ pub fn meaning(
             process: _,
             number: _,
         } => header_meaning(alloc, layout, word),
-        Place::Version | Place::Value(_) => label(alloc, layout, place, word),
+        Place::Version => version_meaning(alloc, word),
+        Place::Value(_) => label(alloc, layout, place, word),
         Place::Text {
+            edition: _,
             process: _,
             number: _,
             part: _,

@@ -1,7 +1,7 @@
 //! Cells and places, as scripts name them.
 
 use ds_layout::layout::Layout;
-use ds_layout::place::Place;
+use ds_layout::place::{Edition, Place};
 use ds_streams::answer::cell_at;
 use std::alloc::{AllocError, Global};
 
@@ -32,10 +32,17 @@ pub fn place_name(alloc: Global, layout: Layout, place: Place) -> Result<String,
         Place::Announce(process) => format!(in alloc; "announce {process}"),
         Place::Header { process, number } => format!(in alloc; "header {process} {number}"),
         Place::Text {
+            edition: Edition::First,
             process,
             number,
             part,
         } => format!(in alloc; "text {process} {number} {part}"),
+        Place::Text {
+            edition: Edition::Second,
+            process,
+            number,
+            part,
+        } => format!(in alloc; "newtext {process} {number} {part}"),
         Place::Done { process, part } => format!(in alloc; "done {process} {part}"),
     }
 }

@@ -1,6 +1,6 @@
 //! The texts of a recording's rows.
 
-use crate::columns::{NEW_WORD, Passage, PassageEnd, word_in};
+use crate::columns::{NO_WORD, Passage, PassageEnd, first_in, word_in};
 use crate::meaning::meaning;
 use crate::names::place_name;
 use ds_core::reply::Reply;
@@ -38,6 +38,7 @@ fn call_text(alloc: Global, begin: Begin, text: &[u8]) -> Result<Vec<u8>, AllocE
         Begin::Work(cell) => Ok(format!(in alloc; "work {cell}")?.into_bytes()),
         Begin::Report => Ok(format!(in alloc; "report")?.into_bytes()),
         Begin::Recovery => Ok(format!(in alloc; "recover")?.into_bytes()),
+        Begin::Migration => Ok(format!(in alloc; "migrate")?.into_bytes()),
     }
 }
 
@@ -66,14 +67,14 @@ fn number_of(trace: &Trace, place: Place) -> Option<usize> {
 /// Both sides of a word before the event with this number, from 0, and behind it.
 pub fn sides_at(trace: &Trace, event: usize, place: Place) -> (Word, Word) {
     let Some(number) = number_of(trace, place) else {
-        return (NEW_WORD, NEW_WORD);
+        return (NO_WORD, NO_WORD);
     };
     let before = match event.checked_sub(1) {
         Some(last) => match trace.rows.get(last) {
             Some(row) => word_in(row, number),
-            None => NEW_WORD,
+            None => NO_WORD,
         },
-        None => NEW_WORD,
+        None => first_in(trace, number),
     };
     match trace.rows.get(event) {
         Some(row) => (before, word_in(row, number)),

@@ -26,13 +26,16 @@ use Rattle.ds_server.specs.Boards.{Rules}
 
 -- ---- what a session is answered, by what the whole call was
 
--- why a call of a session is refused, by why the world refuses its begin: a process in a call is another's
+-- why a call of a session is refused, by why the world refuses its begin: a process in a call is another's, and while
+-- one migrates the sheet all are its
 abbrev pub refused_by : Refusal → CallRefusal
 refused_by (begin.Text fault) = refusal.Text fault
 refused_by begin.Busy = refusal.ProcessTaken
 refused_by begin.Stopped = refusal.Stopped
 refused_by begin.RecordsFull = refusal.RecordsFull
 refused_by begin.NoMemory = refusal.NoMemory
+refused_by (begin.Migrating q) = refusal.ProcessTaken
+refused_by (begin.NotStopped q) = refusal.ProcessTaken
 
 -- a recovery that ended so tells this; no recovery has another answer
 abbrev pub Recovers : Result Answer Refusal → Result (Option Told) CallRefusal → Type 0

@@ -32,6 +32,7 @@ impl From<Refusal> for CallRefusal {
             Refusal::Stopped => CallRefusal::Stopped,
             Refusal::RecordsFull => CallRefusal::RecordsFull,
             Refusal::NoMemory => CallRefusal::NoMemory,
+            Refusal::Migrating(_) | Refusal::NotStopped(_) => CallRefusal::ProcessTaken,
         }
     }
 }

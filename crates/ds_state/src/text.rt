@@ -7,7 +7,7 @@ ghost use Rattle.ds_state.specs.Text.{IsText};
 use ds_formula::reading::TEXT_LIMIT;
 use std::marker::Model;
 
-/// The bytes of an edit's text, at most 120, in place: a copy takes no memory.
+/// The bytes of an edit's text, at most 240, in place: a copy takes no memory.
 #[derive(Clone, Copy, Debug)]
 pub struct Text {
     bytes: [u8; TEXT_LIMIT],
@@ -30,7 +30,7 @@ impl Model for Text {
 }
 
 impl Text {
-    /// The text of these bytes; `None` where they are more than 120.
+    /// The text of these bytes; `None` where they are more than 240.
     pub fn new(bytes: &[u8]) -> Option<Text>
         ensures short { IsSome result ↔ (length bytes.now ≤ TEXT_MOST) }
         ensures same { IfSome result (λ text. text ≡ bytes.now) }
@@ -54,7 +54,7 @@ impl Text {
         }
     }
 
-    /// One more byte at its end. It has fewer than 120.
+    /// One more byte at its end. It has fewer than 240.
     pub fn push(&mut self, byte: u8)
         requires { length self.old < TEXT_MOST }
         ensures { self.new ≡ self.old ++ byte ∷ [] }
@@ -63,7 +63,7 @@ impl Text {
         self.len += 1;
     }
 
-    /// A law: a text has at most 120 bytes, always.
+    /// A law: a text has at most 240 bytes, always.
     pub fn is_always_a_text(&self)
         ensures { IsText self.now }
     {
@@ -77,7 +77,7 @@ impl Text {
         &self.bytes[..self.len]
     }
 
-    /// How many bytes it has, at most 120.
+    /// How many bytes it has, at most 240.
     pub fn len(&self) -> usize
         ensures value { result ≡ length self.now }
         ensures at_most { result ≤ TEXT_MOST }

@@ -63,14 +63,14 @@ opened doing old mid l before o = record { events = o.events; replies = o.replie
 -- how far an order is carried out that was opened
 pub carried_on : (order : Order) (old mid new : WorldValue) (l : Left) (taken before last : ℕ) (how : Played) → before ≡ taken_before order taken
     → OpensOrder old order (Some l) mid → IsPlayed (doing_of l) mid before last how new → IsCarried old order taken last how new
-carried_on (Make columns rows processes) old mid new l taken before last how is o h = absurd (let n : Some l ≡ None = o.0 in cc)
+carried_on (Make first columns rows processes edition) old mid new l taken before last how is o h = absurd (let n : Some l ≡ None = o.0 in cc)
 carried_on (Does deed) old mid new l taken before last (played.Ended now) is o h =
     (subst (λ (n : ℕ). Ends (plan old deed) old n now new) is (way_ends (plan old deed) old mid new l before before now (opened (plan old deed) old mid l before o) h.0), h.1)
 carried_on (Does deed) old mid new l taken before last (played.Halted left) is o h =
     subst (λ (n : ℕ). Halts (plan old deed) old n last left new) is (way_halts (plan old deed) old mid new l before before last left (opened (plan old deed) old mid l before o) h)
 
 pub ends_at_once : (order : Order) (old new : WorldValue) (taken before : ℕ) → before ≡ taken_before order taken → OpensOrder old order None new → EndsOrder old order taken before new
-ends_at_once (Make columns rows processes) old new taken before is o = (is, o.1)
+ends_at_once (Make first columns rows processes edition) old new taken before is o = (is, o.1)
 ends_at_once (Does deed) old new taken before is o = record {
   events = o.events;
   replies = o.replies;
@@ -80,5 +80,5 @@ ends_at_once (Does deed) old new taken before is o = record {
 }
 
 pub before_below : (order : Order) (taken before last : ℕ) → before ≡ taken_before order taken → taken < last → before < last
-before_below (Make columns rows processes) taken before last is below = omega (arith, is, below)
+before_below (Make first columns rows processes edition) taken before last is below = omega (arith, is, below)
 before_below (Does deed) taken before last is below = omega (arith, is, below)

@@ -6,6 +6,8 @@ use Rattle.ds_layout.specs.declared.layout.Layout.{Layout}
 use Rattle.ds_layout.specs.Places.{cells_of}
 use Rattle.ds_state.specs.Works.{SEEN_MOST}
 use Rattle.ds_state.specs.Value.{WorldValue, world_of, IsGood}
+use Rattle.ds_state.specs.LayoutsFit.{IsMoving, NoneMoves}
+use Rattle.ds_state.specs.declared.situation.Rest.{Rest}
 use Rattle.ds_state.specs.declared.situation.Situation.TheVariants.{Idle, Stopped}
 use Rattle.ds_core.specs.Takes.{WorldRun}
 use Rattle.ds_core.specs.declared.event.Event.{Event}
@@ -84,19 +86,26 @@ ends_with start deeds before last es rs answers new is (one_deed_more ds es1 rs1
 
 -- the first processes, this many, are idle, and the others have stopped
 record AreBack (n : ℕ) (first w : WorldValue) : Type 0 where
-  idle : (q : ℕ) → q < n → (m : ℕ) × ((world_of w).situation q ≡ Idle m)
+  idle : (q : ℕ) → q < n → (m : Rest) × ((world_of w).situation q ≡ Idle m)
   stopped : (q : ℕ) → n ≤ q → q < first.sheet.layout.processes → (world_of w).situation q ≡ Stopped
   layout : w.sheet.layout ≡ first.sheet.layout
   good : IsGood w
 
 module _ (first : WorldValue) (good : IsGood first) (stopped : (q : ℕ) → q < first.sheet.layout.processes → (world_of first).situation q ≡ Stopped) where
+  -- none of them migrates
+  alone : (n : ℕ) (w : WorldValue) → AreBack n first w → (p : ℕ) → NoneMoves (world_of w) p
+  alone n w b p q lt ne moves = elim (cases_lt q n) [
+    | inl before ↦ (let idle = b.idle q before in subst IsMoving idle.1 moves)
+    | inr behind ↦ subst IsMoving (b.stopped q (omega (arith, behind)) (subst (λ (y : Layout). q < y.processes) b.layout lt)) moves
+  ]
+
   back : (n : ℕ) (deeds : List Deed) (es : List Event) (rs : List Reply) (answers : List ℕ) (w : WorldValue) → n ≤ first.sheet.layout.processes → deeds ≡ recoveries n → InTurn first deeds es rs answers w → AreBack n first w
   back zero deeds es rs answers w few is no_deed = record { idle = λ q lt. absurd (omega arith); stopped = λ q le lt. stopped q lt; layout = refl; good = good }
   back zero deeds es rs answers w few is (one_deed_more ds es1 rs1 ts v deed own told answer new h plays) = absurd (no_last ds deed is)
   back (suc n) deeds es rs answers w few is h =
       let e = ends_with first deeds (recoveries n) (Whole n (events.BeginRecover n)) es rs answers w is h in
       let b = back n (recoveries n) e.events e.replies e.answers e.world (omega (arith, few)) refl e.turn in
-      let r = recovered n e.own e.told e.world w e.answer b.good (rw b.layout (omega (arith, few))) (b.stopped n (omega arith) (omega (arith, few))) e.plays in
+      let r = recovered n e.own e.told e.world w e.answer b.good (rw b.layout (omega (arith, few))) (b.stopped n (omega arith) (omega (arith, few))) (alone n e.world b n) e.plays in
       record {
         idle = λ q lt. elim (cases_lt q n) [
           | inl before ↦ (let was = b.idle q before in (was.0, r.others q (λ same. omega arith) ∙ was.1))

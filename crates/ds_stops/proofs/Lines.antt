@@ -1,6 +1,7 @@
 -- A script, line by line, up to a step.
 use Rattle.std.proofs.Common.{ℕ, suc, ◌+◌, ◌≡◌, ◌<◌, ◌∙◌, inl, inr, Bool, List, [], ◌∷◌, ◌++◌, Ok, Err, refl, sym, ap, subst, arith, add-one}
 use Rattle.std.specs.Prelude.{Option, Some, None, Result}
+use Rattle.ds_layout.specs.declared.place.Edition.TheVariants.{Second}
 use Rattle.ds_state.specs.Value.{WorldValue}
 use Rattle.ds_core.specs.declared.event.Event.TheVariants.{Step}
 use Rattle.ds_streams.specs.declared.ending.ScriptFault.{ScriptFault}
@@ -25,7 +26,7 @@ use Rattle.ds_stops.specs.Reaching.{Ends, Halts, EndsOrder, HaltsOrder, PassesLi
 use Rattle.ds_stops.proofs.Playing.{count_on}
 use Rattle.ds_stops.proofs.Carrying.{way_ends, way_halts}
 
-pub begins_led : (whole : Bool) (script : List ℕ) (w : WorldValue) → IsMade 2 2 2 w → Led whole script 0 (record { begun = begun.Nothing; taken = 0 }) w script
+pub begins_led : (whole : Bool) (script : List ℕ) (w : WorldValue) → IsMade 2 2 2 Second w → Led whole script 0 (record { begun = begun.Nothing; taken = 0 }) w script
 begins_led whole script w made = record { progress = begins_at begun.Nothing w; begun_is = refl; world_is = refl; count = refl; out = []; carried = begins w made }
 
 -- ---- one line more
@@ -33,13 +34,13 @@ begins_led whole script w made = record { progress = begins_at begun.Nothing w; 
 ends_led : (whole : Bool) (script : List ℕ) (lines : ℕ) (p : Progress) (out rest line behind : List ℕ) (order : Order) (taken : ℕ) (now : Point) (new : WorldValue)
     → Carried whole script lines p out rest → next_of whole rest ≡ ALine line behind → order_of p.begun p.world line ≡ Ok (Some order) → now.begun ≡ after order
     → steps_taken p.events p.replies ≡ taken → EndsOrder p.world order taken now.taken new → Led whole script (suc lines) now new behind
-ends_led whole script lines p out rest line behind (Make columns rows processes) taken now new carried next asks begun_is count h = record {
-  progress = begins_at begun.Sheet new;
+ends_led whole script lines p out rest line behind (Make first columns rows processes edition) taken now new carried next asks begun_is count h = record {
+  progress = begins_at first new;
   begun_is = sym begun_is;
   world_is = refl;
   count = sym h.0;
   out = out;
-  carried = makes lines p out rest line behind columns rows processes new carried next asks h.1;
+  carried = makes lines p out rest line behind first columns rows processes edition new carried next asks h.1;
 }
 ends_led whole script lines p out rest line behind (Does deed) taken now new carried next asks begun_is count h = record {
   progress = goes_on p h.events h.replies new;
@@ -71,7 +72,7 @@ module _ (whole : Bool) (script : List ℕ) (lines : ℕ) (point : Point) (w : W
 
   -- a run that stands at a step of the line
   stands : (order : Order) (last : ℕ) (left : Option Left) (new : WorldValue) → order_of led.progress.begun led.progress.world line ≡ Ok (Some order) → HaltsOrder led.progress.world order point.taken last left new → StandsAt whole script last new
-  stands (Make columns rows processes) last left new asks h = absurd h
+  stands (Make first columns rows processes edition) last left new asks h = absurd h
   stands (Does deed) last left new asks h = record {
     lines = lines;
     progress = led.progress;
@@ -98,7 +99,7 @@ module _ (whole : Bool) (script : List ℕ) (lines : ℕ) (point : Point) (w : W
   -- where it stands: in the line's command, or behind it
   at : (order : Order) (last : ℕ) (begun : Begun) (left : Option Left) (new : WorldValue) → order_of point.begun w line ≡ Ok (Some order) → begun ≡ after order → HaltsOrder w order point.taken last left new
       → IsAtLeft whole script (lines + 1) (record { begun = begun; taken = last }) behind left new
-  at (Make columns rows processes) last begun left new asks is h = absurd h
+  at (Make first columns rows processes edition) last begun left new asks is h = absurd h
   at (Does deed) last begun None new asks is h =
       let over : Ends (plan w deed) w point.taken last new = record {
         events = h.events ++ Step h.p ∷ [];

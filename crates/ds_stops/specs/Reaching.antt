@@ -82,23 +82,23 @@ IsPlayed doing old before last (played.Halted left) new = Halts doing old before
 
 -- how many steps were taken on the sheet that the order finds, of so many before it: a new sheet begins with none
 abbrev pub taken_before : Order → ℕ → ℕ
-taken_before (Make columns rows processes) taken = 0
+taken_before (Make first columns rows processes edition) taken = 0
 taken_before (Does deed) taken = taken
 
 -- the order is carried out up to its first step, without it, and this is left of it there
 abbrev pub OpensOrder : WorldValue → Order → Option Left → WorldValue → Type 0
-OpensOrder old (Make columns rows processes) left new = (left ≡ None) × IsMade columns rows processes new
+OpensOrder old (Make first columns rows processes edition) left new = (left ≡ None) × IsMade columns rows processes edition new
 OpensOrder old (Does deed) left new = Opens (plan old deed) old left new
 
 -- the order is carried out, in a run that had taken so many steps before it and has taken so many then
 abbrev pub EndsOrder : WorldValue → Order → ℕ → ℕ → WorldValue → Type 0
-EndsOrder old (Make columns rows processes) before now new = (now ≡ 0) × IsMade columns rows processes new
+EndsOrder old (Make first columns rows processes edition) before now new = (now ≡ 0) × IsMade columns rows processes edition new
 EndsOrder old (Does deed) before now new = Ends (plan old deed) old before now new
 
 -- the order is carried out up to a step, with which a run that had taken so many steps before has taken so many, and
 -- this is left of it there
 abbrev pub HaltsOrder : WorldValue → Order → ℕ → ℕ → Option Left → WorldValue → Type 0
-HaltsOrder old (Make columns rows processes) before now left new = ⊥
+HaltsOrder old (Make first columns rows processes edition) before now left new = ⊥
 HaltsOrder old (Does deed) before now left new = Halts (plan old deed) old before now left new
 
 -- how far the order is carried out, in a run that had taken so many steps before it and goes up to the last one

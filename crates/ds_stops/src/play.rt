@@ -93,7 +93,7 @@ fn before(command: Command<'_>, taken: u64) -> u64
     ensures { result ≡ taken_before (command_view command.entry) taken }
 {
     match command {
-        Command::Sheet(_, _) => 0,
+        Command::Sheet(_) | Command::Layout(_, _) => 0,
         _ => taken,
     }
 }

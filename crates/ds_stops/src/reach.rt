@@ -1,6 +1,7 @@
 //! Runs a script from step to step.
 
 ghost use Rattle.std.specs.Prelude.{◌≡◌, ◌<◌, ◌≤◌, ◌+◌, ◌^◌, Bool, List, ℕ, None, IfOk, IfErr, IfSome, length};
+ghost use Rattle.ds_layout.specs.declared.place.Edition.TheVariants as editions;
 ghost use Rattle.ds_state.specs.Value.{WorldValue};
 ghost use Rattle.ds_play.specs.Script.{IsMade, StandsAt};
 ghost use Rattle.ds_stops.specs.ScriptTurns.{IsWithin};
@@ -167,7 +168,7 @@ fn through_lines<'a>(
 impl<'a> Place<'a> {
     /// Before the first line of a script.
     pub fn first(script: &'a [u8]) -> Place<'a>
-        ensures at { (whole : Bool) (w : WorldValue) → IsMade 2 2 2 w → IsAt whole script.now result w }
+        ensures at { (whole : Bool) (w : WorldValue) → IsMade 2 2 2 editions.Second w → IsAt whole script.now result w }
         ensures taken { result.point.taken ≡ 0 }
         ensures within { (w : WorldValue) → IfSome result.left (IsWithin w) }
         ensures short { result.lines + length result.rest.now ≤ length script.now }
@@ -247,7 +248,7 @@ pub fn reach(
     last: u64,
     world: &mut World,
 ) -> Result<(), Short>
-    requires made { IsMade 2 2 2 world.old }
+    requires made { IsMade 2 2 2 editions.Second world.old }
     requires some { 1 ≤ last }
     requires short { length script.now < 2 ^ 62 }
     ensures { Reaches whole script.now last world.new result }

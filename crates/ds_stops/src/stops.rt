@@ -12,6 +12,7 @@ ghost use Rattle.ds_streams.specs.Streams.{writer_of, write_failed};
 ghost use Rattle.ds_streams.specs.declared.ending.ScriptEnd.TheVariants as ends;
 ghost use Rattle.ds_stops.specs.Reaching.{IsTold, end_of};
 ghost use Rattle.ds_layout.specs.Places.{cells_of};
+ghost use Rattle.ds_layout.specs.declared.place.Edition.TheVariants as editions;
 ghost use Rattle.ds_state.specs.Works.{SEEN_MOST};
 ghost use Rattle.ds_calls.specs.Whole.{HasProcess};
 ghost use Rattle.ds_stops.specs.CleanBlocks.{TellsClean};
@@ -21,6 +22,8 @@ use crate::block::block_of;
 use crate::range::StopRange;
 use crate::reach::{Place, Short, go_on};
 use ds_formula::cells::Shape;
+use ds_layout::layout::Layout;
+use ds_layout::place::Edition;
 use ds_play::carry::new_world;
 use ds_state::world::World;
 use ds_streams::ending::ScriptEnd;
@@ -31,13 +34,17 @@ use std::io::Write;
 
 // A new world of two columns, two rows and two processes.
 fn fresh(alloc: Global) -> Result<World, AllocError>
-    ensures { IfOk result (λ w. IsMade 2 2 2 w) }
+    ensures { IfOk result (λ w. IsMade 2 2 2 editions.Second w) }
 {
     let shape = Shape {
         columns: 2,
         rows: 2,
     };
-    new_world(alloc, shape, 2)
+    let layout = Layout {
+        shape,
+        processes: 2,
+    };
+    new_world(alloc, layout, Edition::Second)
 }
 
 // The block of the stop behind so many steps in this world, and nothing where it is not one of the range. An error is a

@@ -21,7 +21,7 @@ pub struct ToldEdit {
     pub number: usize,
     /// Its cell, one of the sheet.
     pub cell: Cell,
-    /// Its text, at most 120 bytes.
+    /// Its text, at most 240 bytes.
     pub text: Vec<u8>,
 }
 

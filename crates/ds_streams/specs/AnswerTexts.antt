@@ -7,7 +7,7 @@ use Rattle.ds_formula.specs.Names.{fault_text}
 use Rattle.ds_eval.specs.declared.value.Value.{Value}
 use Rattle.ds_eval.specs.Numbers.{value_text}
 use Rattle.ds_state.specs.declared.refusal.Refusal.{Refusal}
-use Rattle.ds_state.specs.declared.refusal.Refusal.TheVariants.{Text, Busy, Stopped, RecordsFull, NoMemory}
+use Rattle.ds_state.specs.declared.refusal.Refusal.TheVariants.{Text, Busy, Stopped, RecordsFull, NoMemory, Migrating, NotStopped}
 
 -- the answer to an edit that is done: P NUMBER done
 abbrev pub done_text : ℕ → ℕ → List ℕ
@@ -20,6 +20,8 @@ refusal_text Busy = codes "2 Busy"
 refusal_text Stopped = codes "3 Stopped"
 refusal_text RecordsFull = codes "4 RecordsFull"
 refusal_text NoMemory = codes "5 NoMemory"
+refusal_text (Migrating process) = codes "6 Migrating"
+refusal_text (NotStopped process) = codes "7 NotStopped"
 
 -- the answer to an edit that is refused: P refused CODE NAME
 abbrev pub refused_text : ℕ → Refusal → List ℕ

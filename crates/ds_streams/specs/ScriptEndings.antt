@@ -2,7 +2,7 @@
 use Rattle.std.specs.Prelude.{ℕ, List, ◌++◌, codes}
 use Rattle.std.specs.Fmt.{decimal}
 use Rattle.ds_streams.specs.declared.ending.ScriptFault.{ScriptFault}
-use Rattle.ds_streams.specs.declared.ending.ScriptFault.TheVariants.{UnknownCommand, BadField, SheetNotFirst, LineTooLong}
+use Rattle.ds_streams.specs.declared.ending.ScriptFault.TheVariants.{UnknownCommand, BadField, SheetNotFirst, LayoutNotFirst, LineTooLong}
 use Rattle.ds_streams.specs.declared.ending.ScriptEnd.{ScriptEnd}
 use Rattle.ds_streams.specs.declared.ending.ScriptEnd.TheVariants.{Ended, Fault, TooLong, ReadFailed, WriteFailed, NoMemory}
 
@@ -11,6 +11,7 @@ abbrev pub name_of_fault : ScriptFault → List ℕ
 name_of_fault UnknownCommand = codes "unknown command"
 name_of_fault BadField = codes "bad field"
 name_of_fault SheetNotFirst = codes "sheet not first"
+name_of_fault LayoutNotFirst = codes "layout not first"
 name_of_fault LineTooLong = codes "line too long"
 
 -- the text of how a script ended: a fault with the number of its line

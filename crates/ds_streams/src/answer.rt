@@ -47,6 +47,8 @@ pub fn refused_line(alloc: Global, process: usize, refusal: Refusal) -> Result<S
         Refusal::Stopped => format!(in alloc; "{process} refused 3 Stopped\n"),
         Refusal::RecordsFull => format!(in alloc; "{process} refused 4 RecordsFull\n"),
         Refusal::NoMemory => format!(in alloc; "{process} refused 5 NoMemory\n"),
+        Refusal::Migrating(_) => format!(in alloc; "{process} refused 6 Migrating\n"),
+        Refusal::NotStopped(_) => format!(in alloc; "{process} refused 7 NotStopped\n"),
     }
 }
 

@@ -11,6 +11,8 @@ pub enum ScriptFault {
     BadField,
     /// `sheet` after another command.
     SheetNotFirst,
+    /// `layout` after a command other than `sheet`.
+    LayoutNotFirst,
     /// More than 512 bytes, without the line's end.
     LineTooLong,
 }
@@ -26,6 +28,7 @@ impl fmt::Display for ScriptFault {
             ScriptFault::UnknownCommand => "unknown command",
             ScriptFault::BadField => "bad field",
             ScriptFault::SheetNotFirst => "sheet not first",
+            ScriptFault::LayoutNotFirst => "layout not first",
             ScriptFault::LineTooLong => "line too long",
         })
     }

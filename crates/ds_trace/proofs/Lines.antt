@@ -1,8 +1,13 @@
 -- A script, line by line.
-use Rattle.std.proofs.Common.{ℕ, suc, ◌+◌, ◌≡◌, ◌∙◌, inl, inr, Bool, List, [], ◌++◌, Ok, Err, refl, sym, ap, subst}
+use Rattle.std.proofs.Common.{ℕ, suc, ◌+◌, ◌≡◌, ◌∙◌, inl, inr, Bool, List, [], ◌∷◌, ◌++◌, map, Ok, Err, refl, sym, ap, subst}
 use Rattle.std.specs.Prelude.{Option, Some, None, Result}
+use Rattle.ds_layout.specs.declared.place.Edition.TheVariants.{Second}
 use Rattle.ds_layout.specs.declared.place.Place.{Place}
+use Rattle.ds_words.specs.declared.words.Word.{Word}
 use Rattle.ds_state.specs.Value.{WorldValue}
+use Rattle.ds_core.specs.declared.event.Event.{Event}
+use Rattle.ds_core.specs.declared.reply.Reply.{Reply}
+use Rattle.ds_trace.specs.Rows.{sides_of}
 use Rattle.ds_streams.specs.declared.ending.ScriptFault.{ScriptFault}
 use Rattle.ds_streams.specs.declared.ending.ScriptFault.TheVariants.{LineTooLong}
 use Rattle.ds_streams.specs.ScriptLines.{AtFront, NoLine, ALine, LongLine, next_of}
@@ -29,7 +34,7 @@ pub record Led (places : List Place) (whole : Bool) (script : List ℕ) (lines :
   pub carried : Carried whole script lines progress out rest
   pub are : AreRows places progress.start progress.events progress.replies rows progress.world
 
-pub begins_led : (places : List Place) (whole : Bool) (script : List ℕ) (w : WorldValue) (rows : List Row) → IsMade 2 2 2 w → rows ≡ [] → Led places whole script 0 begun.Nothing w rows script
+pub begins_led : (places : List Place) (whole : Bool) (script : List ℕ) (w : WorldValue) (rows : List Row) → IsMade 2 2 2 Second w → rows ≡ [] → Led places whole script 0 begun.Nothing w rows script
 begins_led places whole script w rows made none = record {
   progress = begins_at begun.Nothing w;
   begun_is = refl;
@@ -39,17 +44,31 @@ begins_led places whole script w rows made none = record {
   are = subst (λ (l : List Row). AreRows places w [] [] l w) (sym none) refl;
 }
 
+-- where no event has a row yet, the world is the new sheet
+no_events : (places : List Place) (old : WorldValue) (events : List Event) (replies : List Reply) (rows : List Row) (new : WorldValue) → AreRows places old events replies rows new → rows ≡ [] → new ≡ old
+no_events places old [] [] [] new h none = h
+no_events places old (event ∷ events) (reply ∷ replies) (row ∷ rows) new h none = absurd (let bad : row ∷ rows ≡ [] = none in cc)
+no_events places old [] [] (row ∷ rows) new h none = absurd h
+no_events places old [] (reply ∷ replies) rows new h none = absurd h
+no_events places old (event ∷ events) [] rows new h none = absurd h
+no_events places old (event ∷ events) (reply ∷ replies) [] new h none = absurd h
+
+pub starts_here : (places : List Place) (whole : Bool) (script : List ℕ) (lines : ℕ) (first : Begun) (w : WorldValue) (rows : List Row) (rest : List ℕ) (led : Led places whole script lines first w rows rest) → rows ≡ []
+    → led.progress.start ≡ w
+starts_here places whole script lines first w rows rest led none =
+    sym (no_events places led.progress.start led.progress.events led.progress.replies rows led.progress.world led.are none) ∙ led.world_is
+
 -- ---- one line more
 
 carries_led : (places : List Place) (whole : Bool) (script : List ℕ) (lines : ℕ) (p : Progress) (out rest line behind : List ℕ) (order : Order) (now : Begun) (new : WorldValue) (rows rows' : List Row)
     → Carried whole script lines p out rest → next_of whole rest ≡ ALine line behind → order_of p.begun p.world line ≡ Ok (Some order) → now ≡ after order
     → AreRows places p.start p.events p.replies rows p.world → ObeysBy places p.world order new rows rows' → Led places whole script (suc lines) now new rows' behind
-carries_led places whole script lines p out rest line behind (Make columns rows processes) now new r s carried next asks begun_is are h = record {
-  progress = begins_at begun.Sheet new;
+carries_led places whole script lines p out rest line behind (Make first columns rows processes edition) now new r s carried next asks begun_is are h = record {
+  progress = begins_at first new;
   begun_is = sym begun_is;
   world_is = refl;
   out = out;
-  carried = makes lines p out rest line behind columns rows processes new carried next asks h.0;
+  carried = makes lines p out rest line behind first columns rows processes edition new carried next asks h.0;
   are = subst (λ (l : List Row). AreRows places new [] [] l new) (sym h.1) refl;
 }
 carries_led places whole script lines p out rest line behind (Does deed) now new r s carried next asks begun_is are h = record {
@@ -61,6 +80,13 @@ carries_led places whole script lines p out rest line behind (Does deed) now new
   are = subst (λ (l : List Row). AreRows places p.start (p.events ++ h.events) (p.replies ++ h.replies) l new) (sym h.behind)
       (rows_on places p.events p.replies r h.events h.replies h.rows p.start p.world new are h.are);
 }
+
+carries_still : (places : List Place) (whole : Bool) (script : List ℕ) (lines : ℕ) (p : Progress) (out rest line behind : List ℕ) (order : Order) (now : Begun) (new : WorldValue) (rows rows' : List Row)
+    → (carried : Carried whole script lines p out rest) (next : next_of whole rest ≡ ALine line behind) (asks : order_of p.begun p.world line ≡ Ok (Some order)) (begun_is : now ≡ after order)
+    → (are : AreRows places p.start p.events p.replies rows p.world) (obeys_so : ObeysBy places p.world order new rows rows') → (rows' ≡ [] → ⊥)
+    → (carries_led places whole script lines p out rest line behind order now new rows rows' carried next asks begun_is are obeys_so).progress.start ≡ p.start
+carries_still places whole script lines p out rest line behind (Make first columns rows processes edition) now new r s carried next asks begun_is are h some = absurd (some h.1)
+carries_still places whole script lines p out rest line behind (Does deed) now new r s carried next asks begun_is are h some = refl
 
 module _ (places : List Place) (whole : Bool) (script : List ℕ) (lines : ℕ) (first : Begun) (w : WorldValue) (rows : List Row) (rest : List ℕ) (led : Led places whole script lines first w rows rest) where
   -- what a line asks for at the point that the lines led to
@@ -79,6 +105,14 @@ module _ (places : List Place) (whole : Bool) (script : List ℕ) (lines : ℕ) 
   line_more line behind next now new rows' (inr e) =
       carries_led places whole script lines led.progress led.out rest line behind e.order now new rows rows' led.carried next (asked line (Ok (Some e.order)) e.asks) e.begun_is led.are
       (subst (λ (v : WorldValue). ObeysBy places v e.order new rows rows') (sym led.world_is) e.obeys)
+
+  -- a line that leaves rows has left the new sheet
+  pub still : (line behind : List ℕ) (next : next_of whole rest ≡ ALine line behind) (now : Begun) (new : WorldValue) (rows' : List Row) (passes : PassesLine places first w line now new rows rows') → (rows' ≡ [] → ⊥)
+      → (line_more line behind next now new rows' passes).progress.start ≡ led.progress.start
+  still line behind next now new rows' (inl s) some = refl
+  still line behind next now new rows' (inr e) some =
+      carries_still places whole script lines led.progress led.out rest line behind e.order now new rows rows' led.carried next (asked line (Ok (Some e.order)) e.asks) e.begun_is led.are
+      (subst (λ (v : WorldValue). ObeysBy places v e.order new rows rows') (sym led.world_is) e.obeys) some
 
   -- a line that stops the script
   pub line_stops : (line behind : List ℕ) → next_of whole rest ≡ ALine line behind → (stop : Stop) → StopsLine first w line stop → IsUntraced whole script (why_not (lines + 1) stop)
@@ -111,8 +145,8 @@ module _ (places : List Place) (whole : Bool) (script : List ℕ) (lines : ℕ) 
   )
 
   -- no line is left
-  pub ends_led : next_of whole rest ≡ NoLine → IsRecord whole script places w rows
-  ends_led none = record {
+  pub ends_led : (start : List Word) → start ≡ map (sides_of led.progress.start) places → next_of whole rest ≡ NoLine → IsRecord whole script places start w rows
+  ends_led start starts none = record {
     lines = lines;
     progress = led.progress;
     out = led.out;
@@ -120,5 +154,6 @@ module _ (places : List Place) (whole : Bool) (script : List ℕ) (lines : ℕ) 
     carried = led.carried;
     none = none;
     world_is = led.world_is;
+    starts = starts;
     are = led.are;
   }

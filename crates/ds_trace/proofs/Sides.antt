@@ -53,9 +53,11 @@ begin_what old p (calls.Edit cell text) = refl
 begin_what old p (calls.Work cell) = refl
 begin_what old p calls.Report = refl
 begin_what old p calls.Recovery = refl
+begin_what old p calls.Migration = refl
 
 pub begin_text : (p : ℕ) (call : Call) → text_in call ≡ text_by (beginning p call)
 begin_text p (calls.Edit cell text) = refl
 begin_text p (calls.Work cell) = refl
 begin_text p calls.Report = refl
 begin_text p calls.Recovery = refl
+begin_text p calls.Migration = refl

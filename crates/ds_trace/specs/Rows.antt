@@ -13,6 +13,7 @@ use Rattle.ds_edit.specs.EditSteps as edits
 use Rattle.ds_work.specs.WorkSteps as works
 use Rattle.ds_show.specs.ShowSteps as shows
 use Rattle.ds_recover.specs.RecoverySteps as recoveries
+use Rattle.ds_recover.specs.MigrationSteps as migrations
 use Rattle.ds_core.specs.Takes.{Fits}
 use Rattle.ds_core.specs.declared.event.Event.{Event}
 use Rattle.ds_core.specs.declared.event.Event.TheVariants as events
@@ -37,6 +38,7 @@ access_in shape (situations.Editing e) = edits.access_at e e.stage
 access_in shape (situations.Working e) = works.access_at shape e e.stage
 access_in shape (situations.Recovering e) = recoveries.access_at e e.stage
 access_in shape (situations.Showing e) = shows.access_at e.stage
+access_in shape (situations.Migrating e) = migrations.access_at e e.stage
 
 -- the access that the process makes by its next step in the world
 abbrev pub access_of : WorldValue → ℕ → Access Place
@@ -48,6 +50,7 @@ what_of old (events.BeginEdit r) = Begins r.process (begins.Edit r.cell)
 what_of old (events.BeginWork p cell) = Begins p (begins.Work cell)
 what_of old (events.BeginShow p) = Begins p begins.Report
 what_of old (events.BeginRecover p) = Begins p begins.Recovery
+what_of old (events.BeginMigrate p) = Begins p begins.Migration
 what_of old (events.Step p) = Steps p (access_of old p)
 what_of old (events.Offer value) = TakesEntry value.task.process
 what_of old (events.Evict place) = Evicts place
@@ -65,6 +68,7 @@ begin_in (calls.Edit cell text) = begins.Edit cell
 begin_in (calls.Work cell) = begins.Work cell
 begin_in calls.Report = begins.Report
 begin_in calls.Recovery = begins.Recovery
+begin_in calls.Migration = begins.Migration
 
 -- the text that an edit is to have which begins by the call; else none
 abbrev pub text_in : Call → List ℕ
@@ -72,6 +76,7 @@ text_in (calls.Edit cell text) = text.now
 text_in (calls.Work cell) = []
 text_in calls.Report = []
 text_in calls.Recovery = []
+text_in calls.Migration = []
 
 -- ---- the words
 

@@ -1,5 +1,6 @@
 -- The recording of a script.
-use Rattle.std.specs.Prelude.{ℕ, ◌≡◌, ◌⊎◌, Bool, List, Option, Some, None, Ok, Err, IfSome, Contains}
+use Rattle.std.specs.Prelude.{ℕ, ◌≡◌, ◌⊎◌, Bool, List, Option, Some, None, Ok, Err, IfSome, Contains, map}
+use Rattle.ds_words.specs.declared.words.Word.{Word}
 use Rattle.ds_words.specs.declared.access.Access.{Access}
 use Rattle.ds_words.specs.declared.access.Access.TheVariants as accesses
 use Rattle.ds_layout.specs.declared.place.Place.{Place}
@@ -18,11 +19,12 @@ use Rattle.ds_trace.specs.declared.record.Stop.{Stop}
 use Rattle.ds_trace.specs.declared.record.Stop.TheVariants as stops
 use Rattle.ds_trace.specs.declared.record.Untraced.{Untraced}
 use Rattle.ds_trace.specs.declared.record.Untraced.TheVariants as untraced
+use Rattle.ds_trace.specs.Rows.{sides_of}
 use Rattle.ds_trace.specs.Trails.{AreRows, ObeysBy}
 
 -- the lines of a script are carried out to the last one, which leads to this world; and the rows are those of the events,
--- from the new sheet on that it begins with, with the words at these places
-pub record IsRecord (whole : Bool) (script : List ℕ) (places : List Place) (w : WorldValue) (rows : List Row) : Type 0 where
+-- from the new sheet on that it begins with, with the words at these places, which the new sheet has so
+pub record IsRecord (whole : Bool) (script : List ℕ) (places : List Place) (start : List Word) (w : WorldValue) (rows : List Row) : Type 0 where
   pub lines : ℕ
   pub progress : Progress
   pub out : List ℕ
@@ -30,12 +32,13 @@ pub record IsRecord (whole : Bool) (script : List ℕ) (places : List Place) (w 
   pub carried : Carried whole script lines progress out rest
   pub none : next_of whole rest ≡ NoLine
   pub world_is : progress.world ≡ w
+  pub starts : start ≡ map (sides_of progress.start) places
   pub are : AreRows places progress.start progress.events progress.replies rows progress.world
 
 -- the recording is that of a script, which leads to a world of its layout
 pub record IsTraceOf (whole : Bool) (script : List ℕ) (trace : Trace) : Type 0 where
   pub world : WorldValue
-  pub record_is : IsRecord whole script trace.places.items world trace.rows.items
+  pub record_is : IsRecord whole script trace.places.items trace.start.items world trace.rows.items
   pub layout : trace.layout ≡ world.sheet.layout
 
 -- why a script has no recording: a line of it has a fault, which a run of it meets there; or for want of room

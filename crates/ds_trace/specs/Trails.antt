@@ -44,5 +44,5 @@ pub record TakesTurn (places : List Place) (l : Left) (old : WorldValue) (next :
 -- an order is carried out: a new sheet is made, without rows; or the deed is played to its end, and the rows of its
 -- events stand behind the others
 abbrev pub ObeysBy : List Place → WorldValue → Order → WorldValue → List Row → List Row → Type 0
-ObeysBy places old (Make columns rows processes) new before after = IsMade columns rows processes new × (after ≡ [])
+ObeysBy places old (Make first columns rows processes edition) new before after = IsMade columns rows processes edition new × (after ≡ [])
 ObeysBy places old (Does deed) new before after = Trail places (plan old deed) old new before after

@@ -26,6 +26,7 @@ pub fn wanted(world: &World, process: usize) -> Access<Place>
         Situation::Working(call) => ds_work::machine::want(call, world.words.layout().shape),
         Situation::Recovering(call) => ds_recover::machine::want(call),
         Situation::Showing(call) => ds_show::machine::want(call),
+        Situation::Migrating(call) => ds_recover::migrate::want(call),
         Situation::Idle(_) | Situation::Stopped => Access::Nothing,
     }
 }
@@ -56,7 +57,7 @@ pub fn words(alloc: Global, world: &World, places: &[Place]) -> Result<Vec<Word>
 }
 
 // The points of calls, those of each in their order.
-const POINTS: [PointName; 14] = [
+const POINTS: [PointName; 16] = [
     PointName::Freed,
     PointName::Written,
     PointName::Announced,
@@ -71,6 +72,8 @@ const POINTS: [PointName; 14] = [
     PointName::Valued,
     PointName::Spread,
     PointName::Cleared,
+    PointName::Copied,
+    PointName::Switched,
 ];
 
 /// The last point that the call of a process has behind it, if it has one.

@@ -1,7 +1,6 @@
 //! Carries commands out, and keeps their events.
 
 ghost use Rattle.std.specs.Prelude.{◌≡◌, ◌<◌, ◌≤◌, List, [], IfOk, IfSome, OnOk, length};
-ghost use Rattle.ds_formula.specs.Limits.{PROCESSES_MOST};
 ghost use Rattle.ds_layout.specs.Places.{cells_of};
 ghost use Rattle.ds_core.specs.declared.event.Event.TheVariants.{Step};
 ghost use Rattle.ds_core.specs.declared.reply.Reply.TheVariants.{Answered};
@@ -20,8 +19,8 @@ use crate::turn::{NoTrace, begin, crash, evict, note, step, stop};
 use ds_calls::settle;
 use ds_core::reply::Reply;
 use ds_edit::answer::Answer;
-use ds_formula::cells::Shape;
-use ds_layout::place::Place;
+use ds_layout::layout::Layout;
+use ds_layout::place::{Edition, Place};
 use ds_play::carry::new_world;
 use ds_play::drive::Until;
 use ds_play::order::{Call, Command};
@@ -285,16 +284,14 @@ fn begin_only(
 fn make(
     alloc: Global,
     world: &mut World,
-    shape: Shape,
-    processes: usize,
+    layout: Layout,
+    edition: Edition,
     rows: &mut Vec<Row>,
 ) -> Result<(), NoTrace>
-    requires some { 1 ≤ processes }
-    requires limited { processes ≤ PROCESSES_MOST }
-    ensures made { OnOk result (IsMade shape.columns shape.rows processes world.new) }
+    ensures made { OnOk result (IsMade layout.shape.columns layout.shape.rows layout.processes edition world.new) }
     ensures no_row { OnOk result (rows.new.items ≡ []) }
 {
-    *world = new_world(alloc, shape, processes)?;
+    *world = new_world(alloc, layout, edition)?;
     rows.clear();
     Ok(())
 }
@@ -312,7 +309,8 @@ pub fn carry_out(
     ensures { OnOk result (ObeysBy places.now world.old (command_view command.entry) world.new rows.old.items rows.new.items) }
 {
     match command {
-        Command::Sheet(shape, processes) => make(alloc, world, shape, processes, rows),
+        Command::Sheet(layout) => make(alloc, world, layout, Edition::Second, rows),
+        Command::Layout(layout, edition) => make(alloc, world, layout, edition, rows),
         Command::Whole(process, call) => whole(alloc, world, places, process, call, rows),
         Command::Begin(process, call) => begin_only(alloc, world, places, process, call, rows),
         Command::Settle(process) => settle(alloc, world, places, process, rows),

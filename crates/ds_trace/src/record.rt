@@ -1,22 +1,26 @@
 //! Records a script, with the words at given places.
 
 ghost use Rattle.std.specs.Prelude.{◌≡◌, ◌<◌, ◌^◌, [], IfErr, IfOk, OnOk, length};
+ghost use Rattle.ds_layout.specs.declared.place.Edition.TheVariants as editions;
 ghost use Rattle.ds_play.specs.Script.{IsMade};
 ghost use Rattle.ds_trace.specs.Traces.{IsRecord, IsTraceOf, IsUntraced, PassesLine, StopsLine, why_not};
 ghost use Rattle.ds_trace.specs.declared.record.Stop.TheVariants as stops;
+ghost use Rattle.ds_trace.specs.declared.record.Untraced.TheVariants as untraced;
 
+use crate::look::words;
 use crate::play::carry_out;
 use crate::row::{Row, Trace};
 use crate::turn::NoTrace;
 use ds_formula::cells::Shape;
 use ds_layout::layout::Layout;
-use ds_layout::place::Place;
+use ds_layout::place::{Edition, Place};
 use ds_play::carry::new_world;
 use ds_play::order::{Begun, read_order};
 use ds_play::script::begun_by;
 use ds_state::world::World;
 use ds_streams::ending::ScriptFault;
 use ds_streams::line::{NextLine, next_line};
+use ds_words::words::Word;
 use std::alloc::{AllocError, Global};
 
 /// Why a script has no recording.
@@ -33,6 +37,14 @@ pub enum Untraced {
     TooManyEvents,
     /// An allocation failed, outside a command that has a refusal for it.
     NoMemory,
+}
+
+impl From<AllocError> for Untraced {
+    ghost from_gives = { λ _ why. why ≡ untraced.NoMemory };
+
+    fn from(_error: AllocError) -> Untraced {
+        Untraced::NoMemory
+    }
 }
 
 // Why no further line is carried out.
@@ -91,16 +103,21 @@ fn obey(
 
 // A new world of two columns, two rows and two processes.
 fn fresh(alloc: Global) -> Result<World, AllocError>
-    ensures { IfOk result (λ w. IsMade 2 2 2 w) }
+    ensures { IfOk result (λ w. IsMade 2 2 2 editions.Second w) }
 {
     let shape = Shape {
         columns: 2,
         rows: 2,
     };
-    new_world(alloc, shape, 2)
+    let layout = Layout {
+        shape,
+        processes: 2,
+    };
+    new_world(alloc, layout, Edition::Second)
 }
 
-// Carries the lines of a script out, from a new world on, and puts the rows of their events behind each other.
+// Carries the lines of a script out, from a new world on, and puts the rows of their events behind each other. It answers
+// the words of the new sheet: those of the world that has no row yet.
 fn record_lines(
     alloc: Global,
     places: &[Place],
@@ -108,19 +125,20 @@ fn record_lines(
     whole: bool,
     world: &mut World,
     rows: &mut Vec<Row>,
-) -> Result<(), Untraced>
-    requires made { IsMade 2 2 2 world.old }
+) -> Result<Vec<Word>, Untraced>
+    requires made { IsMade 2 2 2 editions.Second world.old }
     requires empty { rows.old.items ≡ [] }
     requires short { length script.now < 2 ^ 62 }
-    ensures record { OnOk result (IsRecord whole script.now places.now world.new rows.new.items) }
+    ensures record { IfOk result (λ start. IsRecord whole script.now places.now start.items world.new rows.new.items) }
     ensures untraced { IfErr result (λ why. IsUntraced whole script.now why) }
 {
+    let mut start = words(alloc, world, places)?;
     let mut begun = Begun::Nothing;
     let mut lines = 0usize;
     let mut rest = script;
     'lines: loop {
         match next_line(rest, whole) {
-            NextLine::Nothing => return Ok(()),
+            NextLine::Nothing => return Ok(start),
             NextLine::TooLong => {
                 return Err(Untraced::Fault {
                     line: lines + 1,
@@ -131,6 +149,9 @@ fn record_lines(
                 match obey(alloc, places, line, begun, world, rows) {
                     Ok(now) => begun = now,
                     Err(stop) => return Err(why_not(lines + 1, stop)),
+                }
+                if rows.is_empty() {
+                    start = words(alloc, world, places)?;
                 }
                 lines += 1;
                 rest = behind;
@@ -163,11 +184,12 @@ pub fn record(
         return Err(Untraced::NoMemory);
     };
     let mut rows = Vec::new(alloc);
-    record_lines(alloc, &places, script, whole, &mut world, &mut rows)?;
+    let start = record_lines(alloc, &places, script, whole, &mut world, &mut rows)?;
     let layout = layout_of(&world);
     Ok(Trace {
         layout,
         places,
+        start,
         rows,
     })
 }

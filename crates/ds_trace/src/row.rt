@@ -19,6 +19,8 @@ pub enum Begin {
     Report,
     /// A recovery.
     Recovery,
+    /// A migration.
+    Migration,
 }
 
 /// What happened in a run.
@@ -64,6 +66,8 @@ pub struct Trace {
     pub layout: Layout,
     /// The words that are looked at.
     pub places: Vec<Place>,
+    /// Both sides of each of them in the new sheet, before the first event.
+    pub start: Vec<Word>,
     /// The events, in their order.
     pub rows: Vec<Row>,
 }

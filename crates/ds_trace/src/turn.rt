@@ -111,6 +111,7 @@ fn begin_of(call: Call<'_>) -> Begin
         Call::Work(cell) => Begin::Work(cell),
         Call::Report => Begin::Report,
         Call::Recovery => Begin::Recovery,
+        Call::Migration => Begin::Migration,
     }
 }
 
@@ -120,7 +121,7 @@ fn text_of<'a>(call: Call<'a>) -> &'a [u8]
 {
     match call {
         Call::Edit(_, text) => text,
-        Call::Work(_) | Call::Report | Call::Recovery => &[],
+        Call::Work(_) | Call::Report | Call::Recovery | Call::Migration => &[],
     }
 }
 

@@ -14,7 +14,7 @@ lines-init c = record {
 
 pub returns-in-Nothing-clause-record : goal.returns-in-Nothing-clause-record
 returns-in-Nothing-clause-record c =
-    ends_led c.args.places.now c.args.whole c.args.script.now c.lines.lines c.lines.begun c.lines.world c.lines.rows.items c.lines.rest.now c.lines.invariant.led (sym c.in-Nothing.ensures)
+    ends_led c.args.places.now c.args.whole c.args.script.now c.lines.lines c.lines.begun c.lines.world c.lines.rows.items c.lines.rest.now c.lines.invariant.led c.lines.start.items c.lines.invariant.starts (sym c.in-Nothing.ensures)
 
 pub returns-in-TooLong-clause-untraced : goal.returns-in-TooLong-clause-untraced
 returns-in-TooLong-clause-untraced c =
