@@ -28,6 +28,20 @@ A crash in mid-edit: the edit was announced, and its cell's head was not persist
 0
 ('LAST', 0)
 
+A sheet of the first layout is migrated to the second one, which has room for longer texts.
+
+>>> with World(columns=1, rows=1, processes=1, first_layout=True) as world:
+...     world.edit(0, "A1", "7").name, world.edit(0, "A1", 121 * "0").why
+...     world.crash()
+...     world.migrate(0).name, world.migrate(0).name
+...     told = world.recover(0)
+...     told.name, told.holds
+...     world.edit(0, "A1", 240 * "0").name, world.edit(0, "A1", 241 * "0").why
+('DONE', 'TOO_LONG')
+('MIGRATED', 'ALREADY')
+('LAST', 1)
+('DONE', 'TOO_LONG')
+
 What is wrong has a name.
 
 >>> World(columns=27, rows=1, processes=1)
@@ -81,11 +95,11 @@ STATUSES = ("OK EMPTY FULL BAD_SHAPE NO_PROCESS NO_CELL NO_WORD NO_TASK TOO_SMAL
             "WRONG_HANDLE SEAT_TAKEN").split()
 KINDS = ("_ BEGUN ENTERED REFUSED STEPPED WRONG_TASK EVICTED STOPPED CRASHED NOT_ENABLED DONE OVERTAKEN NOT_DIRTY MISSED "
          "WORN PUBLISHED AGAIN WORK_NO_MEMORY LAST NOTHING SETTLED UNSETTLED_MARK UNSETTLED_ANNOUNCEMENT UNSETTLED_WORD "
-         "LEFT").split()
-CAUSES = "_ TEXT BUSY STOPPED RECORDS_FULL NO_MEMORY".split()
+         "LEFT MIGRATED ALREADY").split()
+CAUSES = "_ TEXT BUSY STOPPED RECORDS_FULL NO_MEMORY MIGRATING NOT_STOPPED".split()
 FAULTS = ("_ TOO_LONG BAD_TOKEN NOT_WHOLE NUMBER_TOO_LARGE UNKNOWN_FUNCTION WRONG_ARGUMENTS OUTSIDE_SHEET "
           "RANGE_NOT_ALLOWED TOO_DEEP UNFINISHED NO_MEMORY").split()
-PLACES = "VERSION HEAD MARK VALUE KIND INDEX ANNOUNCE HEADER TEXT DONE".split()
+PLACES = "VERSION HEAD MARK VALUE KIND INDEX ANNOUNCE HEADER TEXT DONE NEW_TEXT".split()
 ERRORS = {2: "#DIV/0!", 3: "#NUM!", 4: "Err:522"}
 
 
@@ -150,10 +164,11 @@ _at = os.environ.get("DSHEET_LIBRARY") or pathlib.Path(__file__).parents[2] / "c
 _library = ctypes.CDLL(str(_at))
 _number = ctypes.c_size_t
 _signatures = {
-    "make": [_number, _number, _number], "free": [],
+    "make": [_number, _number, _number], "make_first": [_number, _number, _number], "free": [],
     "begin_edit": [_number, _number, _number, ctypes.c_char_p, _number, ctypes.POINTER(Answer)],
     "begin_work": [_number, _number, _number, ctypes.POINTER(Answer)],
     "begin_report": [_number, ctypes.POINTER(Answer)], "begin_recovery": [_number, ctypes.POINTER(Answer)],
+    "begin_migration": [_number, ctypes.POINTER(Answer)], "migrate": [_number, ctypes.POINTER(Answer)],
     "step": [_number, ctypes.POINTER(Answer)], "offer": [_number, ctypes.POINTER(Answer)],
     "stop": [_number, ctypes.POINTER(Answer)], "evict": [ctypes.POINTER(_Place)], "crash": [],
     "edit": [_number, _number, _number, ctypes.c_char_p, _number, ctypes.POINTER(Answer)],
@@ -223,13 +238,13 @@ class _Handle:
 
 
 class World(_Handle):
-    """A sheet and its processes."""
+    """A sheet and its processes. In the first layout texts have at most 120 bytes, until a process has migrated it."""
 
     _prefix = "world_"
 
-    def __init__(self, columns, rows, processes):
+    def __init__(self, columns, rows, processes, first_layout=False):
         super().__init__()
-        self._call("make", columns, rows, processes)
+        self._call("make_first" if first_layout else "make", columns, rows, processes)
 
     def begin_edit(self, process, cell, text):
         data = text.encode()
@@ -243,6 +258,13 @@ class World(_Handle):
 
     def begin_recovery(self, process):
         return self._ask(Answer(), "begin_recovery", process)
+
+    def begin_migration(self, process):
+        return self._ask(Answer(), "begin_migration", process)
+
+    def migrate(self, process):
+        """Every process has to be stopped, and is so behind it."""
+        return self._ask(Answer(), "migrate", process)
 
     def step(self, process):
         return self._ask(Answer(), "step", process)

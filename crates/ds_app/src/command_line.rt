@@ -63,15 +63,17 @@ const VERSION: &str = "0.1.0";
 const RUN_HELP: &str = "\
 Commands, one a line. P is a process, from 0; C is a cell, as A1.
   sheet COLUMNS ROWS PROCESSES   a new sheet; only as the first command; without it 2 2 2
+  layout N                       makes it in layout 1, of shorter texts, or in 2; first, or behind sheet
   set P C TEXT                   an edit: sets the text of a cell
   work P C                       works on a cell that is marked, and gives it its value
   settle P                       works until no cell is marked
   report P                       shows all values as CSV
   recover P                      tells, after a crash or a stop, whether its last edit counts
+  migrate P                      takes a sheet of layout 1 to layout 2, where all processes have stopped
 
 The same in parts, with what may come between:
-  begin P set C TEXT             begins an edit; so do begin P work C, begin P show (a report)
-                                 and begin P recover for the other calls
+  begin P set C TEXT             begins an edit; so do begin P work C, begin P show (a report),
+                                 begin P recover and begin P migrate for the other calls
   step P                         makes one step of its call
   run P to POINT                 makes steps until its call has the point behind it
   run P                          makes steps to the end of its call
@@ -85,16 +87,18 @@ Points, in order:
   an edit       written announced indexed helped swung kept marked answered
   work          held stored valued spread cleared
   a recovery    freed kept marked answered
+  a migration   copied switched
 Places (N is one of the edits of P, from 0; PART is from 0):
   head C, mark C, value C, kind C, index C PART,
-  announce P, header P N, text P N PART, done P PART
+  announce P, header P N, text P N PART (layout 1), newtext P N PART (layout 2), done P PART,
+  version
 
 A text is empty, a whole number or a formula, as =[.A1]*2 or =SUM([.A1:.B3];7):
 a reference is [.A1], a range [.A1:.B3], and ; parts arguments. =A1 is refused: write =[.A1].
 Functions: SUM MIN MAX COUNT AND OR of one argument or more, ranges among them;
 ABS and NOT of one; MOD and QUOTIENT of two; IF of two or three.
 Limits: 26 columns, 64 rows, 1024 cells; 8 processes, 256 edits of each;
-120 bytes a text, 512 a line, 1048576 a script.
+240 bytes a text (120 in layout 1), 512 a line, 1048576 a script.
 Empty lines and lines that begin with # are skipped. The answers come when the input has ended.
 
 With --stops its own answers are not written. Behind each of its steps, or of those from --from
@@ -114,7 +118,7 @@ A text is empty, a whole number or a formula, as =[.A1]*2 or =SUM([.A1:.B3];7):
 a reference is [.A1], a range [.A1:.B3], and ; parts arguments. =A1 is refused: write =[.A1].
 Functions: SUM MIN MAX COUNT AND OR of one argument or more, ranges among them;
 ABS and NOT of one; MOD and QUOTIENT of two; IF of two or three.
-Limits: 26 columns, 64 rows, 1024 cells; 120 bytes a text, 1048576 the grid.
+Limits: 26 columns, 64 rows, 1024 cells; 240 bytes a text, 1048576 the grid.
 What is written is the values, as CSV. Nothing is written where a fault is told:
   empty grid        no record
   bad csv           a record has another number of fields than the first

@@ -87,7 +87,7 @@ struct dsheet_closed {
 /* Which reply, answer or end a dsheet_answer is, and which of its fields are used. The others are 0. */
 enum dsheet_kind {
     DSHEET_BEGUN = 1,       /* The edit has begun. number: its number. */
-    DSHEET_ENTERED = 2,     /* The work, the report or the recovery has begun. */
+    DSHEET_ENTERED = 2,     /* The work, the report, the recovery or the migration has begun. */
     DSHEET_REFUSED = 3,     /* The call has not begun, and nothing has changed. cause; of a text also fault, number. */
     DSHEET_STEPPED = 4,     /* The process has made a step, or its work has taken the entry that was offered. */
     DSHEET_WRONG_TASK = 5,  /* The work waits for another task. No call of this library comes to it. */
@@ -114,7 +114,10 @@ enum dsheet_kind {
     DSHEET_UNSETTLED_ANNOUNCEMENT = 22, /* The announcement of the process was not at rest. process, seen. */
     DSHEET_UNSETTLED_WORD = 23,         /* No report answers it. */
     /* the end of a settle */
-    DSHEET_LEFT = 24 /* number: how many cells are marked or held; 0 where all are clean. */
+    DSHEET_LEFT = 24, /* number: how many cells are marked or held; 0 where all are clean. */
+    /* answers of a migration; its process is stopped then */
+    DSHEET_MIGRATED = 25, /* The sheet has come to the second layout: no crash takes that back. */
+    DSHEET_ALREADY = 26   /* It had the second layout already. */
 };
 
 /* Why a call is refused. */
@@ -123,12 +126,14 @@ enum dsheet_cause {
     DSHEET_CAUSE_BUSY = 2,         /* The process is in a call. */
     DSHEET_CAUSE_STOPPED = 3,      /* The process is stopped: it has to recover. */
     DSHEET_CAUSE_RECORDS_FULL = 4, /* The process has spent its 256 records; of a report, the count of settled ones. */
-    DSHEET_CAUSE_NO_MEMORY = 5     /* An allocation failed. */
+    DSHEET_CAUSE_NO_MEMORY = 5,    /* An allocation failed. */
+    DSHEET_CAUSE_MIGRATING = 6,    /* process migrates the sheet: no other one may recover. */
+    DSHEET_CAUSE_NOT_STOPPED = 7   /* process is not stopped: no other one may migrate the sheet. */
 };
 
 /* What is wrong with a text. docs/LANGUAGE.md has the language. */
 enum dsheet_fault {
-    DSHEET_FAULT_TOO_LONG = 1, /* More than 120 bytes. */
+    DSHEET_FAULT_TOO_LONG = 1, /* More than 240 bytes; in the first layout more than 120. */
     DSHEET_FAULT_BAD_TOKEN = 2,
     DSHEET_FAULT_NOT_WHOLE = 3,
     DSHEET_FAULT_NUMBER_TOO_LARGE = 4,
@@ -201,8 +206,9 @@ enum dsheet_place_kind {
     DSHEET_PLACE_INDEX = 5,    /* owner: a cell; part. Which cells may refer to it. */
     DSHEET_PLACE_ANNOUNCE = 6, /* owner: a process. Its last announced edit. */
     DSHEET_PLACE_HEADER = 7,   /* owner: a process; number: of its edit. The cell and the length of the text. */
-    DSHEET_PLACE_TEXT = 8,     /* owner: a process; number; part. Eight bytes of the text. */
-    DSHEET_PLACE_DONE = 9      /* owner: a process; part. Which of its edits count and were superseded. */
+    DSHEET_PLACE_TEXT = 8,     /* owner: a process; number; part. Eight bytes of the text, in the first layout. */
+    DSHEET_PLACE_DONE = 9,     /* owner: a process; part. Which of its edits count and were superseded. */
+    DSHEET_PLACE_NEW_TEXT = 10 /* owner: a process; number; part. Eight bytes of the text, in the second layout. */
 };
 
 /* The name of a word. Cells are by their number: row * columns + column. */
@@ -222,6 +228,7 @@ struct dsheet_word {
 /* The exports of the archive. Their pointers may not be null, nor that of an empty buffer: call the functions below
  * instead, which see to it. */
 uint32_t ds_c_world_make(struct dsheet_world *, size_t columns, size_t rows, size_t processes);
+uint32_t ds_c_world_make_first(struct dsheet_world *, size_t columns, size_t rows, size_t processes);
 uint32_t ds_c_world_free(struct dsheet_world *);
 uint32_t ds_c_world_begin_edit(struct dsheet_world *, size_t process, size_t column, size_t row, const uint8_t *text,
                                size_t length, struct dsheet_answer *);
@@ -229,6 +236,7 @@ uint32_t ds_c_world_begin_work(struct dsheet_world *, size_t process, size_t col
                                struct dsheet_answer *);
 uint32_t ds_c_world_begin_report(struct dsheet_world *, size_t process, struct dsheet_answer *);
 uint32_t ds_c_world_begin_recovery(struct dsheet_world *, size_t process, struct dsheet_answer *);
+uint32_t ds_c_world_begin_migration(struct dsheet_world *, size_t process, struct dsheet_answer *);
 uint32_t ds_c_world_step(struct dsheet_world *, size_t process, struct dsheet_answer *);
 uint32_t ds_c_world_offer(struct dsheet_world *, size_t process, struct dsheet_answer *);
 uint32_t ds_c_world_stop(struct dsheet_world *, size_t process, struct dsheet_answer *);
@@ -239,6 +247,7 @@ uint32_t ds_c_world_edit(struct dsheet_world *, size_t process, size_t column, s
 uint32_t ds_c_world_work(struct dsheet_world *, size_t process, size_t column, size_t row, struct dsheet_answer *);
 uint32_t ds_c_world_report(struct dsheet_world *, size_t process, struct dsheet_answer *);
 uint32_t ds_c_world_recover(struct dsheet_world *, size_t process, struct dsheet_answer *);
+uint32_t ds_c_world_migrate(struct dsheet_world *, size_t process, struct dsheet_answer *);
 uint32_t ds_c_world_settle(struct dsheet_world *, size_t process, struct dsheet_answer *);
 uint32_t ds_c_world_size(struct dsheet_world *, struct dsheet_size *);
 uint32_t ds_c_world_value(struct dsheet_world *, size_t column, size_t row, struct dsheet_value *);
@@ -285,6 +294,15 @@ DSHEET_FUNCTION uint32_t dsheet_world_make(struct dsheet_world *world, size_t co
     return ds_c_world_make(world, columns, rows, processes);
 }
 
+/* Makes a world as dsheet_world_make does, but in the first layout: texts have at most 120 bytes until a process has
+ * migrated it. */
+DSHEET_FUNCTION uint32_t dsheet_world_make_first(struct dsheet_world *world, size_t columns, size_t rows,
+                                                 size_t processes) {
+    if (!world)
+        return DSHEET_NULL;
+    return ds_c_world_make_first(world, columns, rows, processes);
+}
+
 /* Gives the memory of the world back. The handle holds none then. DSHEET_EMPTY, DSHEET_NULL. */
 DSHEET_FUNCTION uint32_t dsheet_world_free(struct dsheet_world *world) {
     if (!world)
@@ -328,6 +346,15 @@ DSHEET_FUNCTION uint32_t dsheet_world_begin_recovery(struct dsheet_world *world,
     if (!world || !answer)
         return DSHEET_NULL;
     return ds_c_world_begin_recovery(world, process, answer);
+}
+
+/* A process begins to migrate the sheet to the second layout, whose texts have up to 240 bytes; every process has to be
+ * stopped. DSHEET_ENTERED or DSHEET_REFUSED. One that is stopped or crashed is begun anew. */
+DSHEET_FUNCTION uint32_t dsheet_world_begin_migration(struct dsheet_world *world, size_t process,
+                                                      struct dsheet_answer *answer) {
+    if (!world || !answer)
+        return DSHEET_NULL;
+    return ds_c_world_begin_migration(world, process, answer);
 }
 
 /* A process makes the next step of its call: one access to one side of one word. DSHEET_STEPPED; the answer of the
@@ -404,6 +431,15 @@ DSHEET_FUNCTION uint32_t dsheet_world_recover(struct dsheet_world *world, size_t
     if (!world || !answer)
         return DSHEET_NULL;
     return ds_c_world_recover(world, process, answer);
+}
+
+/* A whole migration of the sheet to the second layout, of at most 15,360 steps for each process of the sheet and 5:
+ * DSHEET_MIGRATED, DSHEET_ALREADY or DSHEET_REFUSED. Every process has to be stopped, and is so behind it. */
+DSHEET_FUNCTION uint32_t dsheet_world_migrate(struct dsheet_world *world, size_t process,
+                                              struct dsheet_answer *answer) {
+    if (!world || !answer)
+        return DSHEET_NULL;
+    return ds_c_world_migrate(world, process, answer);
 }
 
 /* Whole works on all cells that are marked, in rounds, until a round finds none: DSHEET_LEFT, DSHEET_REFUSED or

@@ -4,7 +4,7 @@ use Rattle.ds_state.specs.Value.{WorldValue}
 use Rattle.ds_edit.specs.declared.answer.Answer.{Answer}
 use Rattle.ds_core.specs.Takes.{Fits}
 use Rattle.ds_core.specs.declared.event.Event.{Event}
-use Rattle.ds_core.specs.declared.event.Event.TheVariants.{Offer, Evict, Crash}
+use Rattle.ds_core.specs.declared.event.Event.TheVariants.{BeginMigrate, Offer, Evict, Crash}
 use Rattle.ds_core.specs.declared.reply.Reply.{Reply}
 use Rattle.ds_core.specs.declared.reply.Reply.TheVariants.{Evicted, Crashed}
 use Rattle.ds_calls.specs.Whole.{IsRun}
@@ -12,7 +12,7 @@ use Rattle.ds_calls.specs.declared.settle.Turn.TheVariants.{Ends}
 use Rattle.ds_calls.proofs.Runs.{whole_runs, settling_runs}
 use Rattle.ds_c.specs.declared.answer.AnswerRow.{AnswerRow}
 use Rattle.ds_c.specs.declared.rows.PlaceRow.{PlaceRow}
-use Rattle.ds_c.specs.Events.{evaluated, Replies, Ended, Settles, Offers, Evicts, Crashes}
+use Rattle.ds_c.specs.Events.{evaluated, Replies, Ended, Migrates, Settles, Offers, Evicts, Crashes}
 
 one_event : (event : Event) (reply : Reply) (old new : WorldValue) → Fits old event reply new → IsRun old new
 one_event event reply old new fits = record { events = event ∷ []; replies = reply ∷ []; run = (new, fits, refl) }
@@ -31,6 +31,9 @@ crashes_run old told new h = one_event Crash Crashed old new h
 
 pub ended_run : (kind : Answer → Type 0) (p : ℕ) (event : Event) (old : WorldValue) (row : AnswerRow) (new : WorldValue) → Ended kind p event old row new → IsRun old new
 ended_run kind p event old row new h = whole_runs p event old h.came_to new h.whole.whole
+
+pub migrates_run : (p : ℕ) (old : WorldValue) (row : AnswerRow) (new : WorldValue) → Migrates p old row new → IsRun old new
+migrates_run p old row new h = whole_runs p (BeginMigrate p) old h.came_to new h.whole.whole
 
 pub settles_run : (p : ℕ) (old : WorldValue) (row : AnswerRow) (new : WorldValue) → Settles p old row new → IsRun old new
 settles_run p old row new h = settling_runs p old (Ends h.end) new h.settles

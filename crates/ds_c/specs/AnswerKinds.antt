@@ -1,7 +1,7 @@
 -- The numbers of kinds of answers, as C has them.
 use Rattle.std.specs.Prelude.{ℕ}
 use Rattle.ds_c.specs.declared.answer_kind.AnswerKind.{AnswerKind}
-use Rattle.ds_c.specs.declared.answer_kind.AnswerKind.TheVariants.{Begun, Entered, Refused, Stepped, WrongTask, Evicted, Stopped, Crashed, NotEnabled, Done, Overtaken, NotDirty, Missed, Worn, Published, Again, NoMemory, Last, Nothing, Settled, UnsettledMark, UnsettledAnnouncement, UnsettledWord, Left}
+use Rattle.ds_c.specs.declared.answer_kind.AnswerKind.TheVariants.{Begun, Entered, Refused, Stepped, WrongTask, Evicted, Stopped, Crashed, NotEnabled, Done, Overtaken, NotDirty, Missed, Worn, Published, Again, NoMemory, Last, Nothing, Settled, UnsettledMark, UnsettledAnnouncement, UnsettledWord, Left, Migrated, Already}
 
 -- the number of a kind of answer, from 1
 abbrev pub kind_number : AnswerKind → ℕ
@@ -29,3 +29,5 @@ kind_number UnsettledMark = 21
 kind_number UnsettledAnnouncement = 22
 kind_number UnsettledWord = 23
 kind_number Left = 24
+kind_number Migrated = 25
+kind_number Already = 26

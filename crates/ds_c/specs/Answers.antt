@@ -38,13 +38,16 @@ fault_number fault.TooDeep = 9
 fault_number fault.Unfinished = 10
 fault_number fault.NoMemory = 11
 
--- the row of a refusal: its cause, and of a text what is wrong with it, and where
+-- the row of a refusal: its cause, and of a text what is wrong with it, and where; or the process that stands in the way
+-- of a recovery or a migration
 abbrev pub refusal_row : Refusal → AnswerRow
 refusal_row (refusal.Text f) = record (plain_row kind.Refused) { cause = 1; fault = fault_number f.kind; number = f.offset }
 refusal_row refusal.Busy = record (plain_row kind.Refused) { cause = 2 }
 refusal_row refusal.Stopped = record (plain_row kind.Refused) { cause = 3 }
 refusal_row refusal.RecordsFull = record (plain_row kind.Refused) { cause = 4 }
 refusal_row refusal.NoMemory = record (plain_row kind.Refused) { cause = 5 }
+refusal_row (refusal.Migrating p) = record (plain_row kind.Refused) { cause = 6; process = p }
+refusal_row (refusal.NotStopped p) = record (plain_row kind.Refused) { cause = 7; process = p }
 
 -- the row of what a report saw that was not at rest
 abbrev pub unsettled_row : Place → ℕ → AnswerRow
@@ -64,6 +67,8 @@ answer_row answer.Again = plain_row kind.Again
 answer_row answer.NoMemory = plain_row kind.NoMemory
 answer_row (answer.Last told) = record (plain_row kind.Last) { number = told.number; cell = told.cell; holds = flag told.counts }
 answer_row answer.Nothing = plain_row kind.Nothing
+answer_row answer.Migrated = plain_row kind.Migrated
+answer_row answer.Already = plain_row kind.Already
 answer_row answer.Settled = plain_row kind.Settled
 answer_row (answer.Unsettled at seen) = unsettled_row at seen
 

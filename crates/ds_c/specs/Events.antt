@@ -9,11 +9,11 @@ use Rattle.ds_state.specs.Works.{PlainWorkCall}
 use Rattle.ds_state.specs.declared.refusal.Refusal.{Refusal}
 use Rattle.ds_work.specs.WorkTakes.{Waits, WaitsFor}
 use Rattle.ds_core.specs.declared.event.Event.{Event}
-use Rattle.ds_core.specs.declared.event.Event.TheVariants.{Offer, Evict, Crash}
+use Rattle.ds_core.specs.declared.event.Event.TheVariants.{BeginMigrate, Offer, Evict, Crash}
 use Rattle.ds_core.specs.declared.reply.Reply.{Reply}
 use Rattle.ds_core.specs.declared.reply.Reply.TheVariants.{Crashed, Evicted}
 use Rattle.ds_core.specs.Takes.{Fits}
-use Rattle.ds_calls.specs.Whole.{HasProcess, IsWhole}
+use Rattle.ds_calls.specs.Whole.{HasProcess, IsWhole, IsWholeMigration}
 use Rattle.ds_calls.specs.Settling.{Settling}
 use Rattle.ds_calls.specs.declared.settle.SettleEnd.{SettleEnd}
 use Rattle.ds_calls.specs.declared.settle.Turn.TheVariants.{Ends}
@@ -43,6 +43,12 @@ pub record Replies (event : Event) (old : WorldValue) (row : AnswerRow) (new : W
 pub record Ended (kind : Answer → Type 0) (p : ℕ) (event : Event) (old : WorldValue) (row : AnswerRow) (new : WorldValue) : Type 0 where
   pub came_to : Result Answer Refusal
   pub whole : IsWhole kind p event old came_to new
+  pub row_is : row ≡ result_row came_to
+
+-- a whole migration by the process, which leaves it stopped; the row says its answer, or why it is refused
+pub record Migrates (p : ℕ) (old : WorldValue) (row : AnswerRow) (new : WorldValue) : Type 0 where
+  pub came_to : Result Answer Refusal
+  pub whole : IsWholeMigration p (BeginMigrate p) old came_to new
   pub row_is : row ≡ result_row came_to
 
 -- a whole settle of the process; the row says how it ended

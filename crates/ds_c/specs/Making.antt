@@ -5,17 +5,20 @@ use Rattle.ds_formula.specs.Cells.{count_of}
 use Rattle.ds_formula.specs.Shapes.{MayHave}
 use Rattle.ds_state.specs.Value.{WorldValue, world_of, IsGood}
 use Rattle.ds_state.specs.Reports.{no_reports}
+use Rattle.ds_state.specs.Editions.{Agrees}
 use Rattle.ds_state.specs.Fresh.{IsNew}
+use Rattle.ds_layout.specs.declared.place.Edition.{Edition}
 use Rattle.ds_c.specs.declared.handle.Handle.{Handle}
 use Rattle.ds_c.specs.declared.failure.Failure.{Failure}
 use Rattle.ds_c.specs.declared.failure.Failure.TheVariants.{Empty, Full, BadShape, NoMemory}
 use Rattle.ds_c.specs.Failures.{failure_number}
 use Rattle.ds_c.specs.Handles.{Holds, IsEmpty, IsFull}
 
--- a new and good sheet with so many columns, rows and processes, of which no call was answered
-pub record IsMade (columns rows processes : ℕ) (v : WorldValue) : Type 0 where
+-- a new and good sheet with so many columns, rows and processes, in this layout, of which no call was answered
+pub record IsMade (columns rows processes : ℕ) (edition : Edition) (v : WorldValue) : Type 0 where
   pub new : IsNew (world_of v)
   pub good : IsGood v
+  pub says : Agrees (world_of v).memory edition
   pub columns_are : v.sheet.layout.shape.columns ≡ columns
   pub rows_are : v.sheet.layout.shape.rows ≡ rows
   pub processes_are : v.sheet.layout.processes ≡ processes
@@ -35,11 +38,11 @@ CanNotMake columns rows processes BadShape = MayBe columns rows processes → �
 CanNotMake columns rows processes NoMemory = MayBe columns rows processes
 CanNotMake columns rows processes why = ⊥
 
--- an empty handle gets a new world; or it stays, for a cause that holds; or it is full, and stays
-pub data Makes (columns rows processes : ℕ) (old new : Handle) (number : ℕ) : Type 0 where
-  made : (v : WorldValue) → IsEmpty old → IsMade columns rows processes v → Holds new v → number ≡ 0 → Makes columns rows processes old new number
-  fails : (why : Failure) → IsEmpty old → CanNotMake columns rows processes why → new ≡ old → number ≡ failure_number why → Makes columns rows processes old new number
-  full : IsFull old → new ≡ old → number ≡ failure_number Full → Makes columns rows processes old new number
+-- an empty handle gets a new world, in this layout; or it stays, for a cause that holds; or it is full, and stays
+pub data Makes (columns rows processes : ℕ) (edition : Edition) (old new : Handle) (number : ℕ) : Type 0 where
+  made : (v : WorldValue) → IsEmpty old → IsMade columns rows processes edition v → Holds new v → number ≡ 0 → Makes columns rows processes edition old new number
+  fails : (why : Failure) → IsEmpty old → CanNotMake columns rows processes why → new ≡ old → number ≡ failure_number why → Makes columns rows processes edition old new number
+  full : IsFull old → new ≡ old → number ≡ failure_number Full → Makes columns rows processes edition old new number
 
 -- a handle that held a world is empty; or it was empty, and stays
 pub data Frees (old new : Handle) (number : ℕ) : Type 0 where

@@ -7,6 +7,7 @@ use Rattle.ds_layout.specs.declared.mark.Mark.{Mark}
 use Rattle.ds_layout.specs.declared.mark.State.{State}
 use Rattle.ds_layout.specs.declared.mark.State.TheVariants as state
 use Rattle.ds_layout.specs.Mark.{state_of}
+use Rattle.ds_layout.specs.declared.place.Edition.TheVariants.{First, Second}
 use Rattle.ds_layout.specs.declared.place.Place.{Place}
 use Rattle.ds_layout.specs.declared.place.Place.TheVariants as place
 use Rattle.ds_words.specs.declared.words.Word.{Word}
@@ -49,8 +50,9 @@ later_named r =
     if r.kind == 5 then Some (place.Index r.owner r.part)
     else if r.kind == 6 then Some (place.Announce r.owner)
     else if r.kind == 7 then Some (place.Header r.owner r.number)
-    else if r.kind == 8 then Some (place.Text r.owner r.number r.part)
+    else if r.kind == 8 then Some (place.Text First r.owner r.number r.part)
     else if r.kind == 9 then Some (place.Done r.owner r.part)
+    else if r.kind == 10 then Some (place.Text Second r.owner r.number r.part)
     else None
 
 -- the place that a row names, if its kind is one

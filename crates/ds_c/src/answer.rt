@@ -95,6 +95,16 @@ impl AnswerRow {
             Refusal::Stopped => AnswerRow { cause: 3, ..row },
             Refusal::RecordsFull => AnswerRow { cause: 4, ..row },
             Refusal::NoMemory => AnswerRow { cause: 5, ..row },
+            Refusal::Migrating(process) => AnswerRow {
+                cause: 6,
+                process,
+                ..row
+            },
+            Refusal::NotStopped(process) => AnswerRow {
+                cause: 7,
+                process,
+                ..row
+            },
         }
     }
 
@@ -129,6 +139,8 @@ impl AnswerRow {
                 ..AnswerRow::plain(AnswerKind::Last)
             },
             Answer::Nothing => AnswerRow::plain(AnswerKind::Nothing),
+            Answer::Migrated => AnswerRow::plain(AnswerKind::Migrated),
+            Answer::Already => AnswerRow::plain(AnswerKind::Already),
             Answer::Settled => AnswerRow::plain(AnswerKind::Settled),
             Answer::Unsettled(Place::Mark(cell), seen) => AnswerRow {
                 cell,

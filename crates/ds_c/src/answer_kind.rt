@@ -8,7 +8,7 @@ ghost use Rattle.ds_c.specs.AnswerKinds.{kind_number};
 pub enum AnswerKind {
     /// The edit has begun, with a number.
     Begun,
-    /// The work, the report or the recovery has begun.
+    /// The work, the report, the recovery or the migration has begun.
     Entered,
     /// The call has not begun, for a cause.
     Refused,
@@ -54,6 +54,10 @@ pub enum AnswerKind {
     UnsettledWord,
     /// A settle: so many cells are marked or held.
     Left,
+    /// A migration: the sheet has come to the second layout.
+    Migrated,
+    /// A migration: the sheet had the second layout already.
+    Already,
 }
 
 impl AnswerKind {
@@ -86,6 +90,8 @@ impl AnswerKind {
             AnswerKind::UnsettledAnnouncement => 22,
             AnswerKind::UnsettledWord => 23,
             AnswerKind::Left => 24,
+            AnswerKind::Migrated => 25,
+            AnswerKind::Already => 26,
         }
     }
 }

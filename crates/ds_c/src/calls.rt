@@ -2,14 +2,14 @@
 
 ghost use Rattle.std.specs.Prelude.{◌≡◌, IfOk, IfErr, Some};
 ghost use Rattle.ds_formula.specs.Cells.{IsInside};
-ghost use Rattle.ds_core.specs.declared.event.Event.TheVariants.{BeginEdit, BeginWork, BeginShow, BeginRecover, Step, Offer, Stop};
+ghost use Rattle.ds_core.specs.declared.event.Event.TheVariants.{BeginEdit, BeginWork, BeginShow, BeginRecover, BeginMigrate, Step, Offer, Stop};
 ghost use Rattle.ds_core.specs.Kinds.{IsEditAnswer, IsWorkAnswer, IsReportAnswer, IsRecoveryAnswer};
 ghost use Rattle.ds_calls.specs.Whole.{HasProcess, request};
 ghost use Rattle.ds_c.specs.Calls.{Does};
 ghost use Rattle.ds_layout.specs.Places.{IsPlace};
 ghost use Rattle.ds_c.specs.Rows.{place_named};
 ghost use Rattle.ds_c.specs.Reading.{Never};
-ghost use Rattle.ds_c.specs.Events.{evaluated, Replies, Ended, Settles, Offers, Evicts, Crashes, LacksProcess, LacksRequest, LacksTask, LacksWord};
+ghost use Rattle.ds_c.specs.Events.{evaluated, Replies, Ended, Migrates, Settles, Offers, Evicts, Crashes, LacksProcess, LacksRequest, LacksTask, LacksWord};
 
 use crate::answer::AnswerRow;
 use crate::failure::Failure;
@@ -114,6 +114,18 @@ pub fn begin_recovery(
     Ok(AnswerRow::of_reply(take(alloc, world, &Event::BeginRecover(process))))
 }
 
+/// A process begins to migrate the sheet to the second layout, or is refused.
+pub fn begin_migration(
+    alloc: Global,
+    world: &mut World,
+    process: usize,
+) -> Result<AnswerRow, Failure>
+    ensures { Does (Replies (BeginMigrate process)) (LacksProcess process) world.old result world.new }
+{
+    find_process(world, process)?;
+    Ok(AnswerRow::of_reply(take(alloc, world, &Event::BeginMigrate(process))))
+}
+
 /// A process makes the next step of its call.
 pub fn step(alloc: Global, world: &mut World, process: usize) -> Result<AnswerRow, Failure>
     ensures { Does (Replies (Step process)) (LacksProcess process) world.old result world.new }
@@ -207,6 +219,14 @@ pub fn recover(alloc: Global, world: &mut World, process: usize) -> Result<Answe
 {
     find_process(world, process)?;
     Ok(AnswerRow::of_result(call::whole_recovery(alloc, world, process)))
+}
+
+/// A whole migration, which leaves its process stopped.
+pub fn migrate(alloc: Global, world: &mut World, process: usize) -> Result<AnswerRow, Failure>
+    ensures { Does (Migrates process) (LacksProcess process) world.old result world.new }
+{
+    find_process(world, process)?;
+    Ok(AnswerRow::of_result(call::whole_migration(alloc, world, process)))
 }
 
 /// Works on all cells that are marked, in rounds.

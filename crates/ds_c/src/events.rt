@@ -1,7 +1,7 @@
 //! Exports: events.
 
 ghost use Rattle.std.specs.Prelude.{◌≡◌};
-ghost use Rattle.ds_core.specs.declared.event.Event.TheVariants.{BeginEdit, BeginWork, BeginShow, BeginRecover, Step, Stop};
+ghost use Rattle.ds_core.specs.declared.event.Event.TheVariants.{BeginEdit, BeginWork, BeginShow, BeginRecover, BeginMigrate, Step, Stop};
 ghost use Rattle.ds_calls.specs.Whole.{request};
 ghost use Rattle.ds_c.specs.Calls.{OnHandle, Does, Tells, Numbers};
 ghost use Rattle.ds_c.specs.Events.{cell_of, Replies, Offers, Evicts, Crashes, LacksProcess, LacksRequest, LacksTask, LacksWord};
@@ -91,6 +91,24 @@ pub extern "C" fn ds_c_world_begin_recovery(
         return Failure::Empty.number();
     };
     let told = calls::begin_recovery(alloc, &mut world, process);
+    *handle = Handle::of(world);
+    tell(told, answer)
+}
+
+/// A process begins to migrate the sheet to the second layout, or is refused.
+#[unsafe(no_mangle)]
+pub extern "C" fn ds_c_world_begin_migration(
+    alloc: Global,
+    handle: &mut Handle,
+    process: usize,
+    answer: &mut AnswerRow,
+) -> u32
+    ensures { OnHandle (Does (Replies (BeginMigrate process)) (LacksProcess process)) (Tells answer.old answer.new) handle.old handle.new result }
+{
+    let Some(mut world) = handle.take(alloc) else {
+        return Failure::Empty.number();
+    };
+    let told = calls::begin_migration(alloc, &mut world, process);
     *handle = Handle::of(world);
     tell(told, answer)
 }

@@ -6,7 +6,7 @@ ghost use Rattle.ds_c.specs.Rows.{value_row, mark_row, size_row, word_row, place
 use ds_eval::value::Value;
 use ds_layout::layout::Layout;
 use ds_layout::mark::{Mark, State};
-use ds_layout::place::Place;
+use ds_layout::place::{Edition, Place};
 use ds_words::words::Word;
 
 /// The value of a cell.
@@ -153,12 +153,19 @@ impl PlaceRow {
                 number,
             }),
             8 => Some(Place::Text {
+                edition: Edition::First,
                 process: owner,
                 number,
                 part,
             }),
             9 => Some(Place::Done {
                 process: owner,
+                part,
+            }),
+            10 => Some(Place::Text {
+                edition: Edition::Second,
+                process: owner,
+                number,
                 part,
             }),
             _ => None,

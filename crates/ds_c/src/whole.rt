@@ -4,7 +4,7 @@ ghost use Rattle.ds_core.specs.declared.event.Event.TheVariants.{BeginEdit, Begi
 ghost use Rattle.ds_core.specs.Kinds.{IsEditAnswer, IsWorkAnswer, IsReportAnswer, IsRecoveryAnswer};
 ghost use Rattle.ds_calls.specs.Whole.{request};
 ghost use Rattle.ds_c.specs.Calls.{OnHandle, Does, Tells};
-ghost use Rattle.ds_c.specs.Events.{cell_of, Ended, Settles, LacksProcess, LacksRequest};
+ghost use Rattle.ds_c.specs.Events.{cell_of, Ended, Migrates, Settles, LacksProcess, LacksRequest};
 
 use crate::answer::AnswerRow;
 use crate::calls;
@@ -89,6 +89,25 @@ pub extern "C" fn ds_c_world_recover(
         return Failure::Empty.number();
     };
     let told = calls::recover(alloc, &mut world, process);
+    *handle = Handle::of(world);
+    tell(told, answer)
+}
+
+/// A whole migration of the sheet to the second layout by a process, which it leaves stopped. Every process has to be
+/// stopped.
+#[unsafe(no_mangle)]
+pub extern "C" fn ds_c_world_migrate(
+    alloc: Global,
+    handle: &mut Handle,
+    process: usize,
+    answer: &mut AnswerRow,
+) -> u32
+    ensures { OnHandle (Does (Migrates process) (LacksProcess process)) (Tells answer.old answer.new) handle.old handle.new result }
+{
+    let Some(mut world) = handle.take(alloc) else {
+        return Failure::Empty.number();
+    };
+    let told = calls::migrate(alloc, &mut world, process);
     *handle = Handle::of(world);
     tell(told, answer)
 }

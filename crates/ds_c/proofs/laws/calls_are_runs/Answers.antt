@@ -1,5 +1,5 @@
 use Rattle.ds_core.specs.Kinds.{IsEditAnswer, IsWorkAnswer, IsReportAnswer, IsRecoveryAnswer}
-use Rattle.ds_c.proofs.CallRuns.{replies_run, offers_run, evicts_run, crashes_run, ended_run, settles_run}
+use Rattle.ds_c.proofs.CallRuns.{replies_run, offers_run, evicts_run, crashes_run, ended_run, migrates_run, settles_run}
 use Rattle.ds_c.proofs.laws.calls_are_runs.Goals as goal
 
 pub returns-clause-events : goal.returns-clause-events
@@ -25,6 +25,9 @@ returns-clause-reports c = ended_run IsReportAnswer
 
 pub returns-clause-recoveries : goal.returns-clause-recoveries
 returns-clause-recoveries c = ended_run IsRecoveryAnswer
+
+pub returns-clause-migrations : goal.returns-clause-migrations
+returns-clause-migrations c = migrates_run
 
 pub returns-clause-settles : goal.returns-clause-settles
 returns-clause-settles c = settles_run

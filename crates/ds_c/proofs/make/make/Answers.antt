@@ -1,6 +1,6 @@
 use Rattle.std.proofs.Common.{refl}
 use Rattle.ds_c.specs.Making.{made, fails}
-use Rattle.ds_c.proofs.make.ds_c_world_make.Goals as goal
+use Rattle.ds_c.proofs.make.make.Goals as goal
 
 pub returns-in-Ok : goal.returns-in-Ok
 returns-in-Ok c = made c.in-Ok.world.value (c.if-not-is_empty.ensures.empty refl) c.in-Ok.ensures.ok c.of.ensures refl
