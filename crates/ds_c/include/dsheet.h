@@ -315,7 +315,7 @@ DSHEET_FUNCTION uint32_t dsheet_world_free(struct dsheet_world *world) {
 
 /* A process begins an edit of the cell in this column and row, both from 0, to a text of so many bytes, which is
  * copied: a number, or "=" and a formula; none empties the cell. DSHEET_BEGUN or DSHEET_REFUSED. Its steps are few:
- * 67 and 3 for each reference of the text. DSHEET_NO_CELL too. */
+ * 112 and 3 for each reference of the text. DSHEET_NO_CELL too. */
 DSHEET_FUNCTION uint32_t dsheet_world_begin_edit(struct dsheet_world *world, size_t process, size_t column, size_t row,
                                                  const char *text, size_t length, struct dsheet_answer *answer) {
     if (!world || !answer || (!text && length))

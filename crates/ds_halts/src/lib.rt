@@ -6,6 +6,8 @@ mod blocks;
 #[cfg(test)]
 mod endings;
 #[cfg(test)]
+mod migrations;
+#[cfg(test)]
 mod ranges;
 #[cfg(test)]
 mod rows;

@@ -98,7 +98,7 @@ fn limits(rt: HostRuntime) -> Result<(), AllocError> {
     let (_, end) = report(alloc, &rows);
     assert_eq!(rt; end, GridEnd::Grid(GridFault::TooLarge));
     let (_, end) = report(alloc, wide(alloc, 1_048_575)?.as_slice());
-    assert_eq!(rt; end, fault(0, 0, FaultKind::TooLong, 120));
+    assert_eq!(rt; end, fault(0, 0, FaultKind::TooLong, 240));
     let (text, end) = report(alloc, wide(alloc, 1_048_576)?.as_slice());
     assert_eq!(rt; end, GridEnd::TooLong);
     assert!(rt; text.is_empty());

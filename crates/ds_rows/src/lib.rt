@@ -16,6 +16,8 @@ mod journals;
 #[cfg(test)]
 mod large;
 #[cfg(test)]
+mod migrations;
+#[cfg(test)]
 mod refusals;
 #[cfg(test)]
 mod rows;
