@@ -188,7 +188,7 @@ fn lock_and_ask<L: Ledger, M: Ledger, R: Wait>(
 }
 
 // The same of a sheet of two processes, under two new names.
-fn ask<R: Wait>(rt: &R, alloc: Global, world: World, rows: &[Row]) -> Option<(World, usize)> {
+fn ask_two<R: Wait>(rt: &R, alloc: Global, world: World, rows: &[Row]) -> Option<(World, usize)> {
     if world.words.layout().processes != 2 {
         return None;
     }
@@ -197,12 +197,12 @@ fn ask<R: Wait>(rt: &R, alloc: Global, world: World, rows: &[Row]) -> Option<(Wo
 
 fn new_right<R: Wait>(rt: &R, alloc: Global) -> Option<usize> {
     let world = World::new(alloc, Shape::new(2, 2)?, 2).ok()?;
-    let (_world, right) = ask(rt, alloc, world, &ROWS)?;
+    let (_world, right) = ask_two(rt, alloc, world, &ROWS)?;
     Some(right)
 }
 
 // A new sheet of the first layout, whose process 0 has made some steps of a migration, and whose process 1 is stopped.
-fn migrating(alloc: Global) -> Option<World> {
+fn half_migrated(alloc: Global) -> Option<World> {
     let mut world = World::first(alloc, Shape::new(2, 2)?, 2).ok()?;
     let _stopped = take(alloc, &mut world, &Event::Stop(1));
     let _entered = take(alloc, &mut world, &Event::BeginMigrate(0));
@@ -226,7 +226,7 @@ fn finish(alloc: Global, world: &mut World) -> Option<Answer> {
 
 // What is asked in the middle of a migration; how many rows are right, and how the migration ends behind the close.
 fn between<R: Wait>(rt: &R, alloc: Global) -> Option<(usize, Option<Answer>)> {
-    let (mut world, right) = ask(rt, alloc, migrating(alloc)?, &MIGRATING)?;
+    let (mut world, right) = ask_two(rt, alloc, half_migrated(alloc)?, &MIGRATING)?;
     Some((right, finish(alloc, &mut world)))
 }
 

@@ -1,4 +1,4 @@
-use Rattle.ds_crews.proofs.answers.ask.Given as goal
+use Rattle.ds_crews.proofs.answers.ask_two.Given as goal
 
 abbrev pub ghosts-lock_and_ask-L-Ledger : goal.ghosts-lock_and_ask-L-Ledger
 ghosts-lock_and_ask-L-Ledger g a = record { name = a.dones.name; parts = a.dones.parts }
