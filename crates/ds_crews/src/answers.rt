@@ -201,10 +201,11 @@ fn new_right<R: Wait>(rt: &R, alloc: Global) -> Option<usize> {
     Some(right)
 }
 
-// A new sheet of the first layout, whose process 0 has made some steps of a migration, and whose process 1 is stopped.
+// A sheet of the first layout behind a crash, whose process 0 has made some steps of a migration, and whose process 1 is
+// stopped.
 fn half_migrated(alloc: Global) -> Option<World> {
     let mut world = World::first(alloc, Shape::new(2, 2)?, 2).ok()?;
-    let _stopped = take(alloc, &mut world, &Event::Stop(1));
+    let _stopped = take(alloc, &mut world, &Event::Crash);
     let _entered = take(alloc, &mut world, &Event::BeginMigrate(0));
     for _ in 0..9u8 {
         let _stepped = take(alloc, &mut world, &Event::Step(0));
