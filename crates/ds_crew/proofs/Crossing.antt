@@ -33,6 +33,7 @@ use Rattle.std.specs.contracts.alloc.Global as Global
 use Rattle.std.specs.contracts.impls.GlobalAllocator.TheImpl.{ghosts}
 use Rattle.std.specs.contracts.vec.Vec as Vec
 use Rattle.ds_layout.specs.contracts.layout.Layout as Layout
+use Rattle.ds_layout.specs.contracts.place.Edition as Edition
 use Rattle.ds_layout.specs.contracts.sheet_words.SheetWords as SheetWords
 use Rattle.ds_words.specs.contracts.words.Words as Words
 use Rattle.ds_state.specs.contracts.edit.EditCall as EditCall
@@ -43,6 +44,7 @@ use Rattle.ds_state.specs.contracts.row.Row as Row
 use Rattle.ds_state.specs.contracts.situation.Situation as Situation
 use Rattle.ds_state.specs.contracts.stage.Stage as Stage
 use Rattle.ds_state.specs.contracts.text.Text as Text
+use Rattle.ds_state.specs.contracts.work.MigrateCall as MigrateCall
 use Rattle.ds_state.specs.contracts.work.RecoverCall as RecoverCall
 use Rattle.ds_state.specs.contracts.work.RecoverStage as RecoverStage
 use Rattle.ds_state.specs.contracts.work.ShowCall as ShowCall
@@ -62,6 +64,9 @@ Text-send = search (sendable, crosses) depth 20
 
 Row-send : IsSend Row.the_row
 Row-send = search (sendable, crosses) depth 20
+
+Edition-send : IsSend Edition.the_row
+Edition-send = search (sendable, crosses) depth 20
 
 Stage-send : IsSend Stage.the_row
 Stage-send = search (sendable, crosses) depth 60 fits 100000
@@ -93,16 +98,19 @@ EditCall-inside = declared_send (declared edit.struct edit.the_propositions) (
   (
     usize-send,
     (
-      usize-send,
+      Edition-send,
       (
-        as_row_send Text.the_field Text-send,
+        usize-send,
         (
-          as_row_send (Vec.the_field usize Global.the_row ghosts) usizes-send,
+          as_row_send Text.the_field Text-send,
           (
-            usize-send,
+            as_row_send (Vec.the_field usize Global.the_row ghosts) usizes-send,
             (
               usize-send,
-              (Stage-send, tt),
+              (
+                usize-send,
+                (Stage-send, tt),
+              ),
             ),
           ),
         ),
@@ -118,7 +126,7 @@ WorkCall-inside : IsSend (row (declared work.struct work.the_propositions))
 WorkCall-inside = declared_send (declared work.struct work.the_propositions) (
   usize-send,
   (
-    usize-send,
+    Edition-send,
     (
       usize-send,
       (
@@ -126,26 +134,29 @@ WorkCall-inside = declared_send (declared work.struct work.the_propositions) (
         (
           usize-send,
           (
-            u64-send,
+            usize-send,
             (
               u64-send,
               (
-                usize-send,
+                u64-send,
                 (
-                  as_row_send Text.the_field Text-send,
+                  usize-send,
                   (
-                    Content-send,
+                    as_row_send Text.the_field Text-send,
                     (
-                      as_row_send Inputs.the_field Inputs-send,
+                      Content-send,
                       (
-                        u64-send,
+                        as_row_send Inputs.the_field Inputs-send,
                         (
                           u64-send,
                           (
-                            Entry-send,
+                            u64-send,
                             (
-                              as_row_send Row.the_field Row-send,
-                              (WorkStage-send, tt),
+                              Entry-send,
+                              (
+                                as_row_send Row.the_field Row-send,
+                                (WorkStage-send, tt),
+                              ),
                             ),
                           ),
                         ),
@@ -171,8 +182,11 @@ RecoverCall-send = search (sendable, crosses, Row-send) depth 60 fits 100000
 ShowCall-send : IsSend ShowCall.the_row
 ShowCall-send = search (sendable, crosses) depth 60 fits 100000
 
+MigrateCall-send : IsSend MigrateCall.the_row
+MigrateCall-send = search (sendable, crosses) depth 60 fits 100000
+
 Situation-send : IsSend Situation.the_row
-Situation-send = search (sendable, crosses, EditCall-send, WorkCall-send, RecoverCall-send, ShowCall-send) depth 60 fits 100000
+Situation-send = search (sendable, crosses, EditCall-send, WorkCall-send, RecoverCall-send, ShowCall-send, MigrateCall-send) depth 60 fits 100000
 
 Words-send : IsSend Words.the_row
 Words-send = search (sendable, crosses) depth 40

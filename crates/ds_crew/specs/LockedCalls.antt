@@ -10,14 +10,15 @@ use Rattle.ds_core.specs.Kinds.{IsEditAnswer, IsWorkAnswer, IsReportAnswer, IsRe
 use Rattle.ds_crew.specs.declared.steps.Call.{Call}
 use Rattle.ds_crew.specs.declared.steps.Call.TheVariants.{Edit, Work, Report, Recovery}
 
--- the call that a process is in, by its situation
+-- the call that a process is in, by its situation; of none of the lock's calls where it migrates the sheet
 abbrev pub call_in : Situation → Option Call
-call_in (situations.Idle number) = None
+call_in (situations.Idle next) = None
 call_in situations.Stopped = None
 call_in (situations.Editing e) = Some Edit
 call_in (situations.Working e) = Some Work
 call_in (situations.Recovering e) = Some Recovery
 call_in (situations.Showing e) = Some Report
+call_in (situations.Migrating e) = None
 
 -- the replies that a step of each call can have
 abbrev pub IsStepOf : Call → Reply → Type 0

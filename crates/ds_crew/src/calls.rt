@@ -189,7 +189,7 @@ impl<L: Ledger, M: Ledger> LockedSheet<L, M> {
 
     /// Gives a cell a text: a whole edit by the pass's process, which the pass remembers, with its end. A
     /// Done is counted in the pass's share, and has a receipt of the process, the cell and the text; any
-    /// other end drops the text.
+    /// other end drops the text. Where the process migrates the sheet, it is refused as `Busy`.
     pub fn edit<R: Wait>(
         &self,
         rt: &R,
@@ -247,7 +247,8 @@ impl<L: Ledger, M: Ledger> LockedSheet<L, M> {
 
     /// Reports the values of all cells: a whole report by the pass's process, which the pass remembers,
     /// with its end. A Settled is counted in the pass's share, and its values are those that the pass then
-    /// keeps: `Pass::last`. Any other end leaves both as they were.
+    /// keeps: `Pass::last`. Any other end leaves both as they were. Where the process migrates the sheet, it is
+    /// refused as `Busy`.
     pub fn show<R: Wait>(&self, rt: &R, alloc: Global, pass: &mut Pass<L, M>) -> Shown
         ensures { AfterReport (cells_of self.now.layout) pass.old result pass.new }
     {
@@ -341,7 +342,8 @@ impl<L: Ledger, M: Ledger> LockedSheet<L, M> {
     }
 
     /// Recalculates a cell: a whole work by the pass's process. The evaluation is made while the lock
-    /// is free, so that works on other cells go on meanwhile. Work counts nothing: the pass stays.
+    /// is free, so that works on other cells go on meanwhile. Work counts nothing: the pass stays. Where the
+    /// process migrates the sheet, it is refused as `Busy`.
     pub fn work<R: Wait>(&self, rt: &R, alloc: Global, pass: &mut Pass<L, M>, cell: Cell) -> Worked
         ensures { pass.new ≡ pass.old }
     {
@@ -385,7 +387,8 @@ impl<L: Ledger, M: Ledger> LockedSheet<L, M> {
     }
 
     /// Recovers the pass's process, stopped or idle. The pass remembers the recovery, with its end, and
-    /// counts nothing.
+    /// counts nothing. Where the process itself migrates the sheet, it is refused as `Busy`; where another one
+    /// does, and this one is in no call, as `Migrating`, with the process that migrates.
     pub fn recover<R: Wait>(&self, rt: &R, alloc: Global, pass: &mut Pass<L, M>) -> Recovered
         ensures { pass.new ≡ after_recovery pass.old result }
     {

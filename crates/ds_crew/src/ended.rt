@@ -78,7 +78,8 @@ pub enum Recovered {
     Last(Told),
     /// The process has announced no edit.
     Nothing,
-    /// It has not begun, for this cause. The sheet is unchanged.
+    /// It has not begun, for this cause: `Busy`, where the process is in a call or migrates the sheet; else
+    /// `Migrating`, where another process migrates it, with that process. The sheet is unchanged.
     Refused(Refusal),
     /// The sheet has no such process. The sheet is unchanged.
     NotEnabled,

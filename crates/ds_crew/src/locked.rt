@@ -15,6 +15,10 @@ use std::sync::ledger::{Blank, Ledger};
 /// A sheet behind a lock. Its world is sound whenever the lock is free, and each event is one
 /// `ds_core::take` on the world while the lock is held. `L` names the count of edits that are answered
 /// Done, `M` that of reports that are answered Settled.
+///
+/// No call of it migrates the sheet. Where a process of the world was in the middle of a migration, it stays there while
+/// the sheet is behind the lock: it makes no step, each of its calls is refused as `Busy`, and a recovery of another
+/// process that is in no call is refused as `Migrating`, with the process that migrates.
 #[derive(Drop)]
 pub struct LockedSheet<L: Ledger, M: Ledger> {
     pub(crate) layout: Layout,

@@ -28,12 +28,12 @@ pub(crate) enum Call {
     Recovery,
 }
 
-// The call that a process is in.
+// The call that a process is in; none where it migrates the sheet, which is no call of the lock's.
 fn call_in(situation: &Situation) -> Option<Call>
     ensures { result ≡ call_in situation.now }
 {
     match situation {
-        Situation::Idle(_) | Situation::Stopped => None,
+        Situation::Idle(_) | Situation::Stopped | Situation::Migrating(_) => None,
         Situation::Editing(_) => Some(Call::Edit),
         Situation::Working(_) => Some(Call::Work),
         Situation::Recovering(_) => Some(Call::Recovery),
@@ -49,7 +49,7 @@ fn is_in(world: &World, process: usize, call: Call) -> bool
 }
 
 // The next step of a process's call, where that is this one; else nothing happens, and the reply is
-// `NotEnabled`.
+// `NotEnabled`. So it is for every call, where the process migrates the sheet.
 pub(crate) fn step(alloc: Global, world: &mut World, process: usize, call: Call) -> Reply
     ensures steps { StepsIn call process world.old result world.new }
     ensures happened { HasStepped call process result }

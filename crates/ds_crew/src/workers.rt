@@ -67,7 +67,9 @@ fn rounds<L: Ledger, M: Ledger, G: Gate, R: Wait>(
 
 /// Lets a worker thread drive the process of each pass, for at most `turns` rounds over all cells of
 /// the sheet, and answers how many threads could be started. A worker whose process is stopped
-/// recovers it. Returns when all have ended. Work counts nothing, so the passes are as they were.
+/// recovers it. Where a process migrates the sheet, its own work is refused, and so are recoveries of the others: then a
+/// worker whose process is stopped has nothing to do in its rounds. Returns when all have ended. Work counts nothing,
+/// so the passes are as they were.
 pub fn work_all<
     L: Ledger + Send + Sync,
     M: Ledger + Send + Sync,

@@ -1,11 +1,14 @@
-//! What the calls of a locked sheet answer, one after the other by one pass.
+//! What the calls of a locked sheet answer, one after the other: by one pass, and by two in the middle of a migration.
 
-ghost use Rattle.std.specs.Prelude.{◌≡◌};
+ghost use Rattle.std.specs.Prelude.{◌≡◌, length};
 
+use ds_core::event::Event;
+use ds_core::reply::Reply;
+use ds_core::take::take;
 use ds_crew::ended::{Edited, Recovered, Shown, Worked};
-use ds_crew::locked::LockedSheet;
+use ds_crew::locked::{Closed, LockedSheet};
 use ds_crew::pass::Pass;
-use ds_edit::answer::Told;
+use ds_edit::answer::{Answer, Told};
 use ds_formula::cells::{Cell, Shape};
 use ds_formula::fault::{FaultKind, TextFault};
 use ds_layout::place::Place;
@@ -17,6 +20,9 @@ use std::marker::Brand;
 use std::sync::Wait;
 use std::sync::ledger::{Blank, Ledger};
 use std::test::Fail;
+
+// More steps than a migration of two processes takes.
+const STEPS: usize = 65536;
 
 // What is asked of a sheet.
 #[derive(Clone, Copy, Debug)]
@@ -67,29 +73,40 @@ const A1: Cell = Cell { column: 0, row: 0 };
 
 const C1: Cell = Cell { column: 2, row: 0 };
 
-const ROWS: [(Ask, Seen); 10] = [
-    (Ask::Recover, Seen::Recovered(Recovered::Nothing)),
-    (Ask::Edit(A1, "=1+2"), Seen::Done(0)),
-    (Ask::Show, Seen::Shown(Shown::Unsettled(Place::Mark(0), 1))),
+// What is asked by the pass of a process, and what it is to be answered.
+type Row = (usize, Ask, Seen);
+
+const ROWS: [Row; 10] = [
+    (0, Ask::Recover, Seen::Recovered(Recovered::Nothing)),
+    (0, Ask::Edit(A1, "=1+2"), Seen::Done(0)),
     (
+        0,
+        Ask::Show,
+        Seen::Shown(Shown::Unsettled(Place::Mark(0), 1)),
+    ),
+    (
+        0,
         Ask::Work(A1),
         Seen::Worked(Worked::Ended(WorkEnd::Published(true))),
     ),
     (
+        0,
         Ask::Work(A1),
         Seen::Worked(Worked::Ended(WorkEnd::NotDirty)),
     ),
-    (Ask::Show, Seen::Shown(Shown::Settled)),
+    (0, Ask::Show, Seen::Shown(Shown::Settled)),
     (
+        0,
         Ask::Edit(A1, "=1.5"),
         Seen::Refused(Refusal::Text(TextFault {
             kind: FaultKind::NotWhole,
             offset: 2,
         })),
     ),
-    (Ask::Edit(C1, "1"), Seen::NotEnabled),
-    (Ask::Work(C1), Seen::Worked(Worked::NotEnabled)),
+    (0, Ask::Edit(C1, "1"), Seen::NotEnabled),
+    (0, Ask::Work(C1), Seen::Worked(Worked::NotEnabled)),
     (
+        0,
         Ask::Recover,
         Seen::Recovered(Recovered::Last(Told {
             number: 0,
@@ -99,31 +116,59 @@ const ROWS: [(Ask, Seen); 10] = [
     ),
 ];
 
+// Of a sheet that process 0 migrates, while process 1 is stopped.
+const MIGRATING: [Row; 6] = [
+    (
+        1,
+        Ask::Recover,
+        Seen::Recovered(Recovered::Refused(Refusal::Migrating(0))),
+    ),
+    (1, Ask::Edit(A1, "1"), Seen::Refused(Refusal::Stopped)),
+    (0, Ask::Edit(A1, "1"), Seen::Refused(Refusal::Busy)),
+    (
+        0,
+        Ask::Work(A1),
+        Seen::Worked(Worked::Refused(Refusal::Busy)),
+    ),
+    (0, Ask::Show, Seen::Shown(Shown::Refused(Refusal::Busy))),
+    (
+        0,
+        Ask::Recover,
+        Seen::Recovered(Recovered::Refused(Refusal::Busy)),
+    ),
+];
+
 // The first row whose answer is another one; how many rows there are, where all are right.
 fn rows_right<L: Ledger, M: Ledger, R: Wait>(
     rt: &R,
     alloc: Global,
     sheet: &LockedSheet<L, M>,
-    pass: &mut Pass<L, M>,
-) -> usize {
-    let mut right = 0;
-    for (what, wanted) in ROWS {
-        if answer_to(rt, alloc, sheet, pass, what) != wanted {
-            return right;
+    passes: &mut [Pass<L, M>],
+    rows: &[Row],
+) -> usize
+    ensures { length passes.new ≡ length passes.old }
+{
+    for place in 0..rows.len() {
+        let (process, what, wanted) = rows[place];
+        if process >= passes.len()
+            || answer_to(rt, alloc, sheet, &mut passes[process], what) != wanted
+        {
+            return place;
         }
-        right += 1;
     }
-    right
+    rows.len()
 }
 
-// That of a sheet that is made for it and closed; `None` for want of memory, or where there is a stray.
-fn first_wrong<L: Ledger, M: Ledger, R: Wait>(
+// That of a sheet that is made for it, and the world that its close gives back; `None` for want of memory, or where
+// there is a stray.
+fn lock_and_ask<L: Ledger, M: Ledger, R: Wait>(
     rt: &R,
     alloc: Global,
     world: World,
     dones: Blank,
     settleds: Blank,
-) -> Option<usize>
+    rows: &[Row],
+) -> Option<(World, usize)>
     requires names { (dones.name ≡ L.name) × (settleds.name ≡ M.name) }
     requires parts { (dones.parts ≡ L.parts) × (settleds.parts ≡ M.parts) }
     requires processes { (L.parts ≡ world.sheet.layout.processes) × (M.parts ≡ world.sheet.layout.processes) }
@@ -134,23 +179,69 @@ fn first_wrong<L: Ledger, M: Ledger, R: Wait>(
     if passes.is_empty() {
         return None;
     }
-    let right = rows_right(rt, alloc, &sheet, &mut passes[0]);
-    let closed = sheet.close(passes);
-    if closed.stray.is_some() {
-        None
-    } else {
-        Some(right)
+    let right = rows_right(rt, alloc, &sheet, &mut passes, rows);
+    let Closed { world, stray } = sheet.close(passes);
+    if stray.is_some() {
+        return None;
     }
+    Some((world, right))
+}
+
+// The same of a sheet of two processes, under two new names.
+fn ask_two<R: Wait>(rt: &R, alloc: Global, world: World, rows: &[Row]) -> Option<(World, usize)> {
+    if world.words.layout().processes != 2 {
+        return None;
+    }
+    lock_and_ask::<Brand, Brand, R>(rt, alloc, world, Blank::new(2), Blank::new(2), rows)
+}
+
+fn new_right<R: Wait>(rt: &R, alloc: Global) -> Option<usize> {
+    let world = World::new(alloc, Shape::new(2, 2)?, 2).ok()?;
+    let (_world, right) = ask_two(rt, alloc, world, &ROWS)?;
+    Some(right)
+}
+
+// A sheet of the first layout behind a crash, whose process 0 has made some steps of a migration, and whose process 1 is
+// stopped.
+fn half_migrated(alloc: Global) -> Option<World> {
+    let mut world = World::first(alloc, Shape::new(2, 2)?, 2).ok()?;
+    let _stopped = take(alloc, &mut world, &Event::Crash);
+    let _entered = take(alloc, &mut world, &Event::BeginMigrate(0));
+    for _ in 0..9u8 {
+        let _stepped = take(alloc, &mut world, &Event::Step(0));
+    }
+    Some(world)
+}
+
+// The answer of the call that process 0 is in.
+fn finish(alloc: Global, world: &mut World) -> Option<Answer> {
+    for _ in 0..STEPS {
+        match take(alloc, world, &Event::Step(0)) {
+            Reply::Stepped => {}
+            Reply::Answered(answer) => return Some(answer),
+            _ => return None,
+        }
+    }
+    None
+}
+
+// What is asked in the middle of a migration; how many rows are right, and how the migration ends behind the close.
+fn between<R: Wait>(rt: &R, alloc: Global) -> Option<(usize, Option<Answer>)> {
+    let (mut world, right) = ask_two(rt, alloc, half_migrated(alloc)?, &MIGRATING)?;
+    Some((right, finish(alloc, &mut world)))
 }
 
 #[test]
 fn calls_answer(rt: HostRuntime) -> Result<(), Fail> {
     let alloc = rt.alloc();
-    let Some(shape) = Shape::new(2, 2) else {
-        return Ok(());
-    };
-    let world = World::new(alloc, shape, 2)?;
-    let right = first_wrong::<Brand, Brand, _>(&rt, alloc, world, Blank::new(2), Blank::new(2));
-    assert_eq!(rt; right, Some(10));
+    assert_eq!(rt; new_right(&rt, alloc), Some(10));
+    Ok(())
+}
+
+#[test]
+fn locked_in_a_migration(rt: HostRuntime) -> Result<(), Fail> {
+    let alloc = rt.alloc();
+    let wanted = (6, Some(Answer::Migrated));
+    assert_eq!(rt; between(&rt, alloc), Some(wanted));
     Ok(())
 }
