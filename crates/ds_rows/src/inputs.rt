@@ -68,7 +68,7 @@ const FIELDS: [&str; 25] = [
     "peek a0",
     "peek 1",
     "begin 0 work C1",
-    "word version",
+    "word version 0",
     "word head C1",
     "word mark A3",
     "word index A1 1",

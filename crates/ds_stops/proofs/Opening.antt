@@ -35,6 +35,7 @@ begins_unstepped p (calls.Edit cell text) reply = refl
 begins_unstepped p (calls.Work cell) reply = refl
 begins_unstepped p calls.Report reply = refl
 begins_unstepped p calls.Recovery reply = refl
+begins_unstepped p calls.Migration reply = refl
 
 pub call_opens : (old new : WorldValue) (p : ℕ) (call : Call) (reply : Reply) (l : Option Left) → Fits old (beginning p call) reply new → Remains l (called new p ToAnswer reply)
     → Opens (Calls p (beginning p call)) old l new
@@ -94,7 +95,8 @@ pub stepless : (old new : WorldValue) (command : Command) (answer : List ℕ)
     → ((p : ℕ) (call : Call) → command ≡ commands.Whole p call → ⊥) → ((p : ℕ) → command ≡ commands.Settle p → ⊥) → ((p : ℕ) → command ≡ commands.Step p → ⊥)
     → ((p : ℕ) (name : PointName) → command ≡ commands.RunTo p name → ⊥) → ((p : ℕ) → command ≡ commands.Run p → ⊥)
     → Obeys old (command_view command) answer new → OpensOrder old (command_view command) None new
-stepless old new (commands.Sheet shape processes) answer a b c d e h = (refl, h.1)
+stepless old new (commands.Sheet layout) answer a b c d e h = (refl, h.1)
+stepless old new (commands.Layout layout edition) answer a b c d e h = (refl, h.1)
 stepless old new (commands.Whole p call) answer a b c d e h = absurd (a p call refl)
 stepless old new (commands.Begin p call) answer a b c d e h = once_opens p (beginning p call) (begins_unstepped p call) old answer new h
 stepless old new (commands.Settle p) answer a b c d e h = absurd (b p refl)
