@@ -11,4 +11,4 @@ drive-requires-clause-poised g c =
     let s = c.args.place.now in
     let e = c.args.call.now in
     let begun = c.requires.begun in
-    sits l s.me (sole s) e.process (Editing e) c.requires.place.1 c.requires.place.2 (edit_begins l (sole s) e c.requires.idle begun.is begun.sheet begun.refs begun.first)
+    sits l s.me (sole s) e.process (Editing e) c.requires.place.1 c.requires.place.2 (edit_begins l (sole s) e c.requires.idle begun.edition begun.is begun.sheet begun.refs begun.first)
