@@ -1,16 +1,13 @@
 -- Seats are made, cut and joined.
-use Rattle.std.proofs.Common.{◌≡◌, ◌≢◌, ◌⊎◌, ℕ, zero, suc, ◌+◌, ◌*◌, ◌<◌, ◌≤◌, eqb, Bool, false, cond, List, [], ◌∷◌, ◌++◌, replicate, get_or, set, length, refl, sym, ap, subst, ◌∙◌, inl, inr, ⊎_elim, arith, eq-eqb, ne_eqb, le_refl, Contains}
+use Rattle.std.proofs.Common.{◌≡◌, ◌≢◌, ◌⊎◌, ℕ, zero, suc, ◌+◌, ◌*◌, ◌<◌, ◌≤◌, eqb, Bool, false, cond, List, [], ◌∷◌, ◌++◌, replicate, get_or, set, length, refl, sym, ap, subst, ◌∙◌, inl, inr, ⊎_elim, arith, eq-eqb, ne_eqb, le_refl}
 use Rattle.std.specs.Prelude.{None}
-use Rattle.std.proofs.lemmas.List.{length-replicate, get_or-set_same, get_or-set_other}
-use Rattle.std.proofs.lemmas.List.{length-set}
-use Rattle.std.proofs.lemmas.List.Elements.{Contains-push_cases}
+use Rattle.std.proofs.lemmas.List.{length-replicate, length-set, get_or-set_same, get_or-set_other}
 use mathlib.Core.Option.{some, some-injective, some-ne-none}
 use lib.ListN.{get_elem?}
 use Rattle.atomic_table.specs.Table.{State, Splits, Joins, opening, Final, Seen}
 use Rattle.atomic_table.proofs.Lists.{at_set}
 use Rattle.ds_layout.specs.declared.layout.Layout.{Layout}
 use Rattle.ds_layout.specs.declared.place.Edition.TheVariants.{Second}
-use Rattle.ds_layout.specs.declared.place.Place.{Place}
 use Rattle.ds_layout.specs.declared.place.Place.TheVariants.{Version}
 use Rattle.ds_layout.specs.Places.{words_of, number_of}
 use Rattle.ds_layout.specs.SheetMemory.{memory_at}
@@ -247,14 +244,14 @@ module _ (layout : Layout) (count at : ℕ) (is : count ≡ 8 * words_of layout)
   seen_first : get_or (first_words count at) (8 * version) 0 ≡ 1
   seen_first =
       let there : 8 * version ≡ at = omega arith in
-      let low : at < length (replicate count 0) = (let l = inside in let n = length-replicate count 0 in omega arith) in
+      let low : at < length (replicate count 0) = (let l = inside in let n : length (replicate {A = ℕ} count 0) ≡ count = length-replicate count 0 in omega (arith, l, n)) in
       get_or-set_other (set (replicate count 0) at 1) (at + 1) (8 * version) 1 0 (λ e. omega arith)
       ∙ ap (λ (i : ℕ). get_or (set (replicate count 0) at 1) i 0) there ∙ get_or-set_same (replicate count 0) at 1 0 low
 
   kept_first : get_or (first_words count at) (8 * version + 1) 0 ≡ 1
   kept_first =
       let there : 8 * version + 1 ≡ at + 1 = omega arith in
-      let low : at + 1 < length (set (replicate count 0) at 1) = (let l = inside in let n = length-set (replicate count 0) at 1 ∙ length-replicate count 0 in omega arith) in
+      let low : at + 1 < length (set (replicate count 0) at 1) = (let l = inside in let n : length (set (replicate {A = ℕ} count 0) at 1) ≡ count = length-set (replicate count 0) at 1 ∙ length-replicate count 0 in omega (arith, l, n)) in
       ap (λ (i : ℕ). get_or (first_words count at) i 0) there ∙ get_or-set_same (set (replicate count 0) at 1) (at + 1) 1 0 low
 
   none_first : (i : ℕ) → i ≢ at → i ≢ at + 1 → get_or (first_words count at) i 0 ≡ 0

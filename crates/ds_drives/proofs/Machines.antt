@@ -17,7 +17,7 @@ use Rattle.ds_drives.specs.declared.board.View.{View}
 use Rattle.ds_drives.specs.Table.{word_of, change, answer, told, oldest_of}
 use Rattle.ds_drives.specs.Views.{In, lone, seated, steps_later, deeds_at}
 use Rattle.ds_drives.specs.Rules.{Rules, Came, Ran, still, steps, turns}
-use Rattle.ds_drives.specs.Rule.{Behind, world_on, IsSecond, Stands, Fits, Ruled, IsTold, CallsHold, class_in, After, Ready, Poised}
+use Rattle.ds_drives.specs.Rule.{Behind, world_on, IsSecond, Fits, Ruled, IsTold, CallsHold, class_in, After, Ready, Poised}
 use Rattle.ds_drives.specs.Machines.{asked, stepped, left, IsServed, MayStep, Drives, IsBroken, unbegun, within, Lawful}
 use Rattle.ds_drives.proofs.Words.{answer_told, buffer_told}
 use Rattle.ds_drives.proofs.Behinds.{told_on, after_both, read, written, answered, kept_back, Ends}

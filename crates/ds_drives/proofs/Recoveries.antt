@@ -13,7 +13,7 @@ use Rattle.ds_state.specs.Works.{PlainRecoverCall}
 use Rattle.ds_state.specs.World.{PlainEdit, PlainWorld, phase_among, is_edit_of}
 use Rattle.ds_state.specs.KnownRecovery.{phase_for, Tells}
 use Rattle.ds_state.specs.CallsFit.{RecoveryFits}
-use Rattle.ds_state.specs.LayoutsFit.{LayoutFits, NoneMoves}
+use Rattle.ds_state.specs.LayoutsFit.{LayoutFits}
 use Rattle.ds_state.specs.Sound.{IsSound}
 use Rattle.ds_state.specs.Middles.{HaveMiddles}
 use Rattle.ds_state.specs.Spent.{IsSpent}

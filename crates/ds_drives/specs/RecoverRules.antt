@@ -1,5 +1,5 @@
 -- A recovery, as one loop drives it.
-use Rattle.std.specs.Prelude.{ℕ, ◌≡◌, List, ◌∷◌, Bool, Option}
+use Rattle.std.specs.Prelude.{ℕ, ◌≡◌, List, Bool, Option}
 use Rattle.ds_words.specs.declared.access.BufferEntry.{BufferEntry}
 use Rattle.ds_layout.specs.declared.layout.Layout.{Layout}
 use Rattle.ds_layout.specs.Places.{cells_of}

@@ -1,5 +1,5 @@
 -- The rule of the table: a sound world stands behind the words and the views.
-use Rattle.std.specs.Prelude.{ℕ, ◌≡◌, ◌≢◌, ◌⊎◌, ◌+◌, ◌*◌, ◌<◌, ◌≤◌, ◌==◌, slice_index, if◌then◌else◌, zero, suc, Bool, true, false, List, [], ◌∷◌, ◌++◌, length, Option, Contains}
+use Rattle.std.specs.Prelude.{ℕ, ◌≡◌, ◌≢◌, ◌⊎◌, ◌+◌, ◌*◌, ◌<◌, ◌≤◌, ◌==◌, slice_index, if◌then◌else◌, Bool, true, false, List, [], ◌∷◌, length, Option, Contains}
 use mathlib.Core.Option.{some}
 use lib.ListN.{get_elem?}
 use Rattle.atomic_table.specs.Table.{State, Me}
@@ -18,7 +18,7 @@ use Rattle.ds_state.specs.LayoutsFit.{IsMoving}
 use Rattle.ds_state.specs.Sound.{IsSound}
 use Rattle.ds_state.specs.Spent.{IsSpent}
 use Rattle.ds_state.specs.Edits.{PlainEditCall}
-use Rattle.ds_state.specs.Works.{PlainShowCall, PlainWorkCall, PlainRecoverCall}
+use Rattle.ds_state.specs.Works.{PlainShowCall}
 use Rattle.ds_state.specs.Middles.{HaveMiddles}
 use Rattle.ds_show.specs.ShowMiddles.{WasSettled}
 use Rattle.ds_state.specs.declared.work.ShowEnd.TheVariants.{Settled}
@@ -31,7 +31,7 @@ use Rattle.ds_state.specs.declared.work.RecoverStage.TheVariants as recover_stag
 use Rattle.ds_recover.specs.RecoverySteps.{end_of}
 use Rattle.ds_state.specs.declared.stage.Outcome.TheVariants.{Done, Overtaken}
 use Rattle.ds_state.specs.declared.situation.Situation.{Situation}
-use Rattle.ds_state.specs.declared.situation.Situation.TheVariants.{Idle, Stopped}
+use Rattle.ds_state.specs.declared.situation.Situation.TheVariants.{Stopped}
 use Rattle.ds_recover.specs.declared.machine.RecoveryEnd.TheVariants.{Last, Nothing}
 use Rattle.ds_recover.specs.declared.machine.RecoveryEnd.{RecoveryEnd}
 use Rattle.ds_drives.specs.declared.board.Deeds.{Deeds}

@@ -1,5 +1,5 @@
 -- Work, as one loop drives it: reading the content and the offer go with the step before them.
-use Rattle.std.specs.Prelude.{ℕ, ◌≡◌, List, ◌∷◌}
+use Rattle.std.specs.Prelude.{ℕ, ◌≡◌, List}
 use Rattle.ds_words.specs.declared.access.BufferEntry.{BufferEntry}
 use Rattle.ds_eval.specs.Local.{local}
 use Rattle.ds_eval.specs.Inputs.{entry_in}

@@ -1,4 +1,3 @@
-use Rattle.std.proofs.Common.{refl}
 use Rattle.ds_state.specs.declared.situation.Situation.TheVariants.{Editing}
 use Rattle.ds_drives.specs.Views.{sole}
 use Rattle.ds_drives.proofs.Driving.{sits}

@@ -1,4 +1,4 @@
-use Rattle.std.proofs.Common.{◌≡◌, ℕ, true}
+use Rattle.std.proofs.Common.{ℕ, true}
 use Rattle.ds_state.specs.World.{PlainWorld}
 use Rattle.ds_state.proofs.Middles.{middles_at_rest}
 use Rattle.ds_drives.specs.Rule.{world_on}
