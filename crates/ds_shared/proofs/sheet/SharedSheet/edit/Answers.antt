@@ -1,4 +1,4 @@
-use Rattle.std.proofs.Common.{◌≡◌, ◌∙◌, refl, ap}
+use Rattle.std.proofs.Common.{◌∙◌, refl, ap}
 use Rattle.ds_formula.specs.Cells.{index_of}
 use Rattle.ds_state.specs.World.{PlainEdit}
 use Rattle.ds_state.specs.declared.situation.Rest.{Rest}
