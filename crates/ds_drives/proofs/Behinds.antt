@@ -1,6 +1,8 @@
 -- What stands behind the words goes on by a step of one process.
-use Rattle.std.proofs.Common.{ℕ, ◌≡◌, ◌≢◌, ◌*◌, ◌<◌, List, [], ◌∷◌, length, get_or, set, map, refl, sym, ap, subst, ◌∙◌, inl, inr, arith, le_refl, le_trans}
+use Rattle.std.proofs.Common.{ℕ, ◌≡◌, ◌≢◌, ◌*◌, ◌<◌, ◌≤◌, List, [], ◌∷◌, length, get_or, set, map, refl, sym, ap, subst, ◌∙◌, inl, inr, arith, le_refl, le_trans}
 use Rattle.std.proofs.lemmas.List.{length-map}
+use mathlib.Core.Logic.{dite}
+use native.Mathlib.Decide.{ℕ_discrete}
 use Rattle.std.specs.Prelude.{Contains, Option, Bool, true, false}
 use Rattle.ds_words.specs.declared.access.BufferEntry.{BufferEntry}
 use Rattle.ds_words.specs.declared.access.Access.{Access}
@@ -8,6 +10,7 @@ use Rattle.ds_words.specs.declared.access.Access.TheVariants.{Nothing, Load, Sto
 use Rattle.ds_words.specs.declared.words.TheConstants.{BUFFER_ENTRIES}
 use Rattle.ds_layout.specs.declared.layout.Layout.{Layout}
 use Rattle.ds_layout.specs.declared.place.Place.{Place}
+use Rattle.ds_layout.specs.declared.place.Place.TheVariants.{Version}
 use Rattle.ds_layout.specs.Places.{words_of, class_of, place_of, IsPlace}
 use Rattle.ds_layout.specs.SheetMemory.{memory_at, access_at, entry_at, CanPerform, HasBuffer, PerformsAt}
 use Rattle.ds_layout.proofs.Places.{place_of-number_of, number_of-place_of, number_of_below}
@@ -16,6 +19,7 @@ use Rattle.ds_state.specs.World.{PlainEdit, PlainIssue, edit_of}
 use Rattle.ds_state.specs.Sound.{IsSound}
 use Rattle.ds_state.specs.Spent.{IsSpent}
 use Rattle.ds_state.specs.Leaves.{Leaves}
+use Rattle.ds_state.specs.LayoutsFit.{IsMoving}
 use Rattle.ds_state.proofs.Middles.{lasts_counts}
 use Rattle.ds_state.specs.declared.stage.Outcome.{Outcome}
 use Rattle.ds_state.specs.declared.stage.Outcome.TheVariants.{Done, Overtaken}
@@ -26,8 +30,9 @@ use Rattle.ds_drives.specs.declared.board.Told.{Told}
 use Rattle.ds_drives.specs.declared.board.Told.TheVariants.{Edited, Worked, Recovered, Shown}
 use Rattle.ds_drives.specs.Table.{two_sided, word_of, change, answer, oldest_of, buffer_after}
 use Rattle.ds_drives.specs.Views.{In}
-use Rattle.ds_drives.specs.Rule.{put, Behind, world_on, class_in, IsTold, IsTrueTold, CountsAs, CallsHold, After, Serves}
+use Rattle.ds_drives.specs.Rule.{put, Behind, world_on, class_in, IsSecond, IsTold, IsTrueTold, CountsAs, CallsHold, After, Serves}
 use Rattle.ds_drives.proofs.Words.{IsThere, performs}
+use Rattle.ds_drives.proofs.Seconds.{both_one}
 
 -- ---- what was told stays true
 
@@ -72,15 +77,28 @@ module _ (layout : Layout) where
     kept = λ d h. g.kept d (f.kept d h);
     came = λ d h. elim (g.came d h) [ inl k ↦ f.came d k | inr k ↦ inr (k.0, λ m spent. k.1 m (le_trans spent (f.announced p))) ];
     middles = λ h. g.middles (f.middles h);
+    second = λ h. g.second (f.second h);
   }
 
   pub after_none : (words : List ℕ) (b : Behind) (p : ℕ) (s : Situation) (x : List (BufferEntry ℕ)) → IsSound (world_on layout words b) → b.situation p ≡ s → b.buffer p ≡ x → After layout words words b b p s x
-  after_none words b p s x sound now buffer = record { sound = sound; now = now; buffer = buffer; others = λ q ne. refl; other_buffers = λ q ne. refl; announced = λ q. le_refl _; kept = λ d h. h; came = λ d h. inl h; middles = λ h. h }
+  after_none words b p s x sound now buffer = record { sound = sound; now = now; buffer = buffer; others = λ q ne. refl; other_buffers = λ q ne. refl; announced = λ q. le_refl _; kept = λ d h. h; came = λ d h. inl h; middles = λ h. h; second = λ h. h }
+
+  -- the second layout stays, where the version's word does not lessen and the process does not migrate the sheet
+  second_on : (words words' : List ℕ) (b b' : Behind) (p : ℕ) (s : Situation) → Leaves p (world_on layout words b) (world_on layout words' b') → b'.situation p ≡ s
+      → (world_on layout words b).memory.persisted Version ≤ (world_on layout words' b').memory.persisted Version → (IsMoving s → ⊥) → IsSecond (world_on layout words b) → IsSecond (world_on layout words' b')
+  second_on words words' b b' p s k now grows rests h =
+      let both = both_one (world_on layout words' b') ((world_on layout words b).memory.persisted Version) k.sound h.persisted grows in record {
+        cached = both.0;
+        persisted = both.1;
+        settled = λ q low. dite (ℕ_discrete q p)
+            (λ same moving. rests (subst (λ (z : Situation). IsMoving z) (ap b'.situation same ∙ now) moving))
+            (λ other moving. h.settled q low (subst (λ (z : Situation). IsMoving z) (k.situations q other) moving));
+      }
 
   -- what a process leaves
   pub after_left : (words words' : List ℕ) (b b' : Behind) (p : ℕ) (s : Situation) (x : List (BufferEntry ℕ)) → Leaves p (world_on layout words b) (world_on layout words' b') → b'.situation p ≡ s → b'.buffer p ≡ x
-      → ((q : ℕ) → q ≢ p → b'.buffer q ≡ b.buffer q) → After layout words words' b b' p s x
-  after_left words words' b b' p s x k now buffer other_buffers = record {
+      → ((q : ℕ) → q ≢ p → b'.buffer q ≡ b.buffer q) → (world_on layout words b).memory.persisted Version ≤ (world_on layout words' b').memory.persisted Version → (IsMoving s → ⊥) → After layout words words' b b' p s x
+  after_left words words' b b' p s x k now buffer other_buffers grows rests = record {
     sound = k.sound;
     now = now;
     buffer = buffer;
@@ -90,6 +108,7 @@ module _ (layout : Layout) where
     kept = lasts_counts (world_on layout words b) (world_on layout words' b') k.lasts;
     came = k.came;
     middles = k.middles;
+    second = second_on words words' b b' p s k now grows rests;
   }
 
   -- ---- one access

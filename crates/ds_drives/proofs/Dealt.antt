@@ -1,17 +1,19 @@
 -- Seats are made, cut and joined.
-use Rattle.std.proofs.Common.{◌≡◌, ◌≢◌, ◌⊎◌, ℕ, zero, suc, ◌+◌, ◌*◌, ◌<◌, ◌≤◌, eqb, Bool, false, cond, List, [], ◌∷◌, ◌++◌, replicate, get_or, set, length, refl, sym, ap, subst, ◌∙◌, inl, inr, ⊎_elim, arith, eq-eqb, ne_eqb, le_refl, Contains}
+use Rattle.std.proofs.Common.{◌≡◌, ◌≢◌, ◌⊎◌, ℕ, zero, suc, ◌+◌, ◌*◌, ◌<◌, ◌≤◌, eqb, Bool, false, cond, List, [], ◌∷◌, ◌++◌, replicate, get_or, set, length, refl, sym, ap, subst, ◌∙◌, inl, inr, ⊎_elim, arith, eq-eqb, ne_eqb, le_refl}
 use Rattle.std.specs.Prelude.{None}
-use Rattle.std.proofs.lemmas.List.{length-replicate}
-use Rattle.std.proofs.lemmas.List.Elements.{Contains-push_cases}
+use Rattle.std.proofs.lemmas.List.{length-replicate, length-set, get_or-set_same, get_or-set_other}
 use mathlib.Core.Option.{some, some-injective, some-ne-none}
 use lib.ListN.{get_elem?}
 use Rattle.atomic_table.specs.Table.{State, Splits, Joins, opening, Final, Seen}
 use Rattle.atomic_table.proofs.Lists.{at_set}
-use Rattle.ds_words.specs.Memory.{IsFresh}
 use Rattle.ds_layout.specs.declared.layout.Layout.{Layout}
-use Rattle.ds_layout.specs.Places.{words_of}
-use Rattle.ds_layout.proofs.Sheet.{fresh_at}
-use Rattle.ds_state.specs.Fresh.{IsNew}
+use Rattle.ds_layout.specs.declared.place.Edition.TheVariants.{Second}
+use Rattle.ds_layout.specs.declared.place.Place.TheVariants.{Version}
+use Rattle.ds_layout.specs.Places.{words_of, number_of}
+use Rattle.ds_layout.specs.SheetMemory.{memory_at}
+use Rattle.ds_layout.proofs.Places.{number_of_below}
+use Rattle.ds_layout.proofs.Sheet.{side_at_place, side_other, side_zero}
+use Rattle.ds_state.specs.Fresh.{AreNew, IsNew}
 use Rattle.ds_state.specs.Sound.{IsSound}
 use Rattle.ds_state.specs.declared.situation.Situation.{Situation}
 use Rattle.ds_state.specs.declared.situation.Situation.TheVariants.{Idle}
@@ -23,8 +25,8 @@ use Rattle.ds_drives.specs.declared.board.Seated.{Seated}
 use Rattle.ds_drives.specs.declared.board.Told.{Told}
 use Rattle.ds_drives.specs.declared.board.View.{View}
 use Rattle.ds_drives.specs.Table.{two_sided}
-use Rattle.ds_drives.specs.Views.{In, lone, newcomer, newcomers_from, first_now, first_view, headed, tailed, united, nobody, bygone, HasRest}
-use Rattle.ds_drives.specs.Rule.{put, Behind, world_on, IsTold, CallsHold, Stands, Fits, AreTrue, Ruled, Closes}
+use Rattle.ds_drives.specs.Views.{In, second_rest, lone, newcomer, newcomers_from, first_now, first_view, headed, tailed, united, nobody, bygone, HasRest}
+use Rattle.ds_drives.specs.Rule.{put, Behind, world_on, IsSecond, IsTold, CallsHold, Stands, Fits, AreTrue, Ruled, Closes}
 use Rattle.ds_drives.proofs.Words.{put_here, put_else}
 use Rattle.ds_drives.proofs.Resting.{rests}
 
@@ -73,6 +75,7 @@ module _ {S : Type 0} (layout : Layout) where
         behind = h.behind;
         owner = put h.owner e.process last;
         sound = h.sound;
+        second = h.second;
         long = h.long;
         middles = h.middles;
         knows = λ j u there x inside. ⊎_elim
@@ -114,6 +117,7 @@ module _ {S : Type 0} (layout : Layout) where
         behind = h.behind;
         owner = h.owner;
         sound = h.sound;
+        second = h.second;
         long = h.long;
         middles = h.middles;
         knows = λ j u there x inside. ⊎_elim
@@ -137,6 +141,7 @@ module _ {S : Type 0} (layout : Layout) where
     behind = h.behind;
     owner = swapped h.owner other id;
     sound = h.sound;
+    second = h.second;
     long = h.long;
     middles = h.middles;
     knows = λ j u now x inside. ⊎_elim
@@ -182,15 +187,16 @@ zeros zero i = refl
 zeros (suc n) zero = refl
 zeros (suc n) (suc i) = zeros n i
 
--- a table opens with a sound world in which each process of the sheet does the same, and has flushed nothing, and what
+-- a table opens with a sound world, in the second layout, in which each process of the sheet does the same, and has flushed nothing, and what
 -- was told before is true of it
-pub opens : {S : Type 0} (layout : Layout) (words : List ℕ) (b : Behind) (stopped : Bool) (past : List Seated) → IsSound (world_on layout words b) → HaveMiddles (world_on layout words b) → length words ≡ 8 * words_of layout
+pub opens : {S : Type 0} (layout : Layout) (words : List ℕ) (b : Behind) (stopped : Bool) (past : List Seated) → IsSound (world_on layout words b) → IsSecond (world_on layout words b) → HaveMiddles (world_on layout words b) → length words ≡ 8 * words_of layout
     → ((p : ℕ) → p < layout.processes → b.situation p ≡ first_now stopped) → ((p : ℕ) → p < layout.processes → b.buffer p ≡ []) → AreTrue layout words b past
     → Ruled {S = S} layout (opening words [] (first_view stopped layout.processes past))
-opens layout words b stopped past sound middles long now buffer true_then = record {
+opens layout words b stopped past sound second middles long now buffer true_then = record {
   behind = b;
   owner = λ q. 0;
   sound = sound;
+  second = second;
   long = long;
   middles = middles;
   knows = one_seat;
@@ -219,20 +225,58 @@ opens layout words b stopped past sound middles long now buffer true_then = reco
 
 -- nothing has happened
 blank : Behind
-blank = record { situation = λ p. Idle 0; buffer = λ p. []; counted = []; open_edits = λ p. None }
+blank = record { situation = λ p. Idle (second_rest 0); buffer = λ p. []; counted = []; open_edits = λ p. None }
 
-pub opens_new : {S : Type 0} (layout : Layout) (count : ℕ) → count ≡ 8 * words_of layout → Ruled {S = S} layout (opening (replicate count 0) [] (first_view false layout.processes []))
-unfolding blank
-opens_new layout count is =
-    let fresh : IsFresh (two_sided (replicate count 0) blank.buffer) = record {
-      cached = λ n. zeros count (8 * n);
-      persisted = λ n. zeros count (8 * n + 1);
-      buffer = λ q. refl;
-    } in
-    let w : PlainWorld = world_on layout (replicate count 0) blank in
-    let new : IsNew w = record { memory = fresh_at layout (two_sided (replicate count 0) blank.buffer) fresh; situation = λ p. refl; counted = refl; open_edits = λ p. refl } in
-    opens layout (replicate count 0) blank false [] (new_sound w new) ((λ p. w), (λ p. w), middles_new (λ p. w) (λ p. w) w new)
-    (length-replicate count 0 ∙ is) (λ p low. refl) (λ p low. refl) (λ x d none here. absurd none)
+-- the words of a new sheet: the version's word says the second layout on both sides, all others are zero
+abbrev pub first_words : ℕ → ℕ → List ℕ
+first_words count at = set (set (replicate count 0) at 1) (at + 1) 1
+
+module _ (layout : Layout) (count at : ℕ) (is : count ≡ 8 * words_of layout) (where_is : at ≡ 8 * number_of layout Version) where
+  abbrev version : ℕ
+  version = number_of layout Version
+
+  first_long : length (first_words count at) ≡ count
+  first_long = length-set (set (replicate count 0) at 1) (at + 1) 1 ∙ length-set (replicate count 0) at 1 ∙ length-replicate count 0
+
+  inside : at + 1 < count
+  inside = (let l = number_of_below layout Version tt in omega arith)
+
+  seen_first : get_or (first_words count at) (8 * version) 0 ≡ 1
+  seen_first =
+      let there : 8 * version ≡ at = omega arith in
+      let low : at < length (replicate count 0) = (let l = inside in let n : length (replicate {A = ℕ} count 0) ≡ count = length-replicate count 0 in omega (arith, l, n)) in
+      get_or-set_other (set (replicate count 0) at 1) (at + 1) (8 * version) 1 0 (λ e. omega arith)
+      ∙ ap (λ (i : ℕ). get_or (set (replicate count 0) at 1) i 0) there ∙ get_or-set_same (replicate count 0) at 1 0 low
+
+  kept_first : get_or (first_words count at) (8 * version + 1) 0 ≡ 1
+  kept_first =
+      let there : 8 * version + 1 ≡ at + 1 = omega arith in
+      let low : at + 1 < length (set (replicate count 0) at 1) = (let l = inside in let n : length (set (replicate {A = ℕ} count 0) at 1) ≡ count = length-set (replicate count 0) at 1 ∙ length-replicate count 0 in omega (arith, l, n)) in
+      ap (λ (i : ℕ). get_or (first_words count at) i 0) there ∙ get_or-set_same (set (replicate count 0) at 1) (at + 1) 1 0 low
+
+  none_first : (i : ℕ) → i ≢ at → i ≢ at + 1 → get_or (first_words count at) i 0 ≡ 0
+  none_first i a b = get_or-set_other (set (replicate count 0) at 1) (at + 1) i 1 0 b ∙ get_or-set_other (replicate count 0) at i 1 0 a ∙ zeros count i
+
+  new_words : AreNew (memory_at layout (two_sided (first_words count at) blank.buffer)) Second
+  unfolding blank
+  new_words =
+      let cached : ℕ → ℕ = λ n. get_or (first_words count at) (8 * n) 0 in
+      let persisted : ℕ → ℕ = λ n. get_or (first_words count at) (8 * n + 1) 0 in record {
+        seen = side_at_place layout cached Version tt ∙ seen_first;
+        kept = side_at_place layout persisted Version tt ∙ kept_first;
+        cached = λ r ne. side_other layout cached (λ n. 0) Version tt (λ n other. none_first (8 * n) (λ e. other (omega arith)) (λ e. omega arith)) r ne ∙ side_zero layout (λ n. 0) (λ n. refl) r;
+        persisted = λ r ne. side_other layout persisted (λ n. 0) Version tt (λ n other. none_first (8 * n + 1) (λ e. omega arith) (λ e. other (omega arith))) r ne ∙ side_zero layout (λ n. 0) (λ n. refl) r;
+        buffer = λ p. refl;
+      }
+
+  pub opens_new : {S : Type 0} → Ruled {S = S} layout (opening (first_words count at) [] (first_view false layout.processes []))
+  unfolding blank
+  opens_new =
+      let w : PlainWorld = world_on layout (first_words count at) blank in
+      let new : IsNew w = record { edition = Second; memory = new_words; situation = λ p low. refl; counted = refl; open_edits = λ p. refl } in
+      let second : IsSecond w = record { cached = new_words.seen; persisted = new_words.kept; settled = λ q low moving. moving } in
+      opens layout (first_words count at) blank false [] (new_sound w new) second ((λ p. w), (λ p. w), middles_new (λ p. w) (λ p. w) w new)
+      (first_long ∙ is) (λ p low. refl) (λ p low. refl) (λ x d none here. absurd none)
 
 pub record Cut (s : Situation) (p processes : ℕ) (past : List Seated) (v : View) : Type 0 where
   pub left : HasRest s (p + 1) processes past (tailed v)
@@ -259,9 +303,10 @@ may_split s layout id p past v h f = subst (λ (u : View). Splits (Ruled {S = �
 pub ended : (layout : Layout) (id : ℕ) (v : View) (ws xs : List ℕ) → Final (Seen (Ruled {S = ℕ} layout) id v) ws xs → Closes layout ws (In v.entries) (v.past ++ v.entries)
 ended layout id v ws xs f =
     let h = f.1.0 in
-    let stops = rests layout ws h.behind (subst (λ (l : List ℕ). IsSound (world_on layout l h.behind)) f.2 h.sound) in record {
+    let stops = rests layout ws h.behind (subst (λ (l : List ℕ). IsSound (world_on layout l h.behind)) f.2 h.sound) (subst (λ (l : List ℕ). IsSecond (world_on layout l h.behind)) f.2 h.second) in record {
       last = h.behind;
       sound = subst (λ (l : List ℕ). IsSound (world_on layout l h.behind)) f.2 h.sound;
+      second = subst (λ (l : List ℕ). IsSecond (world_on layout l h.behind)) f.2 h.second;
       stands = λ e t. subst (λ (l : List ℕ). Stands layout l h.behind e) f.2 (h.knows id v f.1.1 e t).stands;
       behind = stops.behind;
       stops = stops.by;

@@ -1,26 +1,30 @@
 -- Edits are calls whose steps the rule allows.
-use Rattle.std.proofs.Common.{ℕ, ◌≡◌, ◌+◌, ◌*◌, ◌<◌, List, [], ◌∷◌, ◌++◌, length, refl, sym, ap, subst, ◌∙◌, inl, inr, arith}
+use Rattle.std.proofs.Common.{ℕ, ◌≡◌, ◌+◌, ◌*◌, ◌<◌, List, [], ◌∷◌, ◌++◌, length, refl, sym, ap, subst, ◌∙◌, inl, inr, arith, le_refl}
 use Rattle.std.proofs.lemmas.List.{append-nil}
 use Rattle.std.proofs.lemmas.List.Elements.{Contains-push_cases}
 use Rattle.std.specs.Prelude.{Contains, Some, None, Bool, true, false, ◌==◌, if◌then◌else◌}
 use Rattle.ds_words.specs.declared.access.BufferEntry.{BufferEntry}
 use Rattle.ds_layout.specs.declared.layout.Layout.{Layout}
+use Rattle.ds_layout.specs.declared.place.Edition.{Edition}
+use Rattle.ds_layout.specs.declared.place.Edition.TheVariants.{Second}
 use Rattle.ds_layout.specs.Places.{words_of}
 use Rattle.ds_state.specs.Edits.{PlainEditCall, IsEdit}
 use Rattle.ds_state.specs.World.{PlainEdit, PlainWorld, edit_of}
 use Rattle.ds_state.specs.CallsFit.{CallFits, IdleFits, IsSheetOf, HasRefs}
+use Rattle.ds_state.specs.LayoutsFit.{LayoutFits}
 use Rattle.ds_state.specs.Sound.{IsSound}
 use Rattle.ds_state.specs.Middles.{HaveMiddles}
 use Rattle.ds_state.specs.declared.stage.Outcome.{Outcome}
 use Rattle.ds_state.specs.declared.stage.Outcome.TheVariants.{Done, Overtaken}
 use Rattle.ds_state.specs.declared.stage.Stage.{Stage}
 use Rattle.ds_state.specs.declared.stage.Stage.TheVariants.{StoreHeader, Swap, Answer}
+use Rattle.ds_state.specs.declared.situation.Rest.{Rest}
 use Rattle.ds_state.specs.declared.situation.Situation.{Situation}
 use Rattle.ds_state.specs.declared.situation.Situation.TheVariants.{Idle, Editing}
 use Rattle.ds_state.proofs.Spent.{answer_law}
 use Rattle.ds_edit.specs.EditSteps as edit_steps
 use Rattle.ds_edit.specs.EditAnswers.{IsTrueOf}
-use Rattle.ds_edit.specs.EditTakes.{Steps, Begins, after, counted_at, open_edit_at}
+use Rattle.ds_edit.specs.EditTakes.{Steps, Begins, rest_before, rest_behind, after, counted_at, open_edit_at}
 use Rattle.ds_edit.proofs.EditLeaves.{edit_leaves, begin_leaves}
 use Rattle.ds_edit.proofs.Truth.{answer_true}
 use Rattle.ds_edit.proofs.Possible.{can_perform}
@@ -28,14 +32,15 @@ use Rattle.ds_drives.specs.declared.board.Seated.{Seated}
 use Rattle.ds_drives.specs.declared.board.Deeds.{Deeds}
 use Rattle.ds_drives.specs.declared.board.Told.{Told}
 use Rattle.ds_drives.specs.declared.board.Told.TheVariants.{Edited}
-use Rattle.ds_drives.specs.Views.{In, seated}
+use Rattle.ds_drives.specs.Views.{In, seated, second_rest}
 use Rattle.ds_drives.specs.Rules.{Ran}
-use Rattle.ds_drives.specs.Rule.{put, Behind, world_on, IsTold, IsTrueTold, CallHolds, CallsHold, After, Ready}
+use Rattle.ds_drives.specs.Rule.{put, Behind, world_on, IsSecond, IsTold, IsTrueTold, CallHolds, CallsHold, After, Ready}
 use Rattle.ds_drives.specs.Machines.{Lawful, IsSettled}
 use Rattle.atomic_table.specs.Table.{Me}
 use Rattle.ds_drives.specs.declared.board.View.{View}
 use Rattle.ds_drives.specs.EditRules.{IsGoing, IsEnded, landed_at, edit_rules}
 use Rattle.ds_drives.proofs.Words.{put_here, put_else}
+use Rattle.ds_drives.proofs.Seconds.{version_grows, noted_second}
 use Rattle.ds_drives.proofs.Behinds.{told_on, after_none, after_left, written, answered, kept_back, performed, serves, nothing_kept, came_to, Ends}
 use Rattle.ds_drives.proofs.Machines.{lawful}
 
@@ -86,21 +91,23 @@ module _ (layout : Layout) where
       others_open_edits = λ q n. put_else b.open_edits e.process (open_edit_at (b.open_edits e.process) e.stage) q n;
     }
 
-    after_step : After layout words (written layout words (edit_steps.access_at e e.stage) x) b behind e.process (after e e.stage word) (kept_back layout words (edit_steps.access_at e e.stage) x)
-    after_step = after_left layout words (written layout words (edit_steps.access_at e e.stage) x) b behind e.process (after e e.stage word) (kept_back layout words (edit_steps.access_at e e.stage) x)
-        (edit_leaves e word old new sound low at steps) steps.situation (put_here b.buffer e.process _ e.process refl) (λ q n. put_else b.buffer e.process _ q n)
-
     pub edit_step : IsGoing e.stage
         → (b' : Behind) × After layout words (written layout words (edit_steps.access_at e e.stage) x) b b' e.process (Editing (edit_steps.got_at e word)) (kept_back layout words (edit_steps.access_at e e.stage) x)
-    edit_step going = (behind, subst (λ (z : Situation). After layout words (written layout words (edit_steps.access_at e e.stage) x) b behind e.process z (kept_back layout words (edit_steps.access_at e e.stage) x)) (after_going e e.stage word going) after_step)
+    edit_step going = (
+      behind,
+      after_left layout words (written layout words (edit_steps.access_at e e.stage) x) b behind e.process (Editing (edit_steps.got_at e word)) (kept_back layout words (edit_steps.access_at e e.stage) x)
+          (edit_leaves e word old new sound low at steps) (steps.situation ∙ after_going e e.stage word going) (put_here b.buffer e.process _ e.process refl) (λ q n. put_else b.buffer e.process _ q n)
+          (version_grows old new.memory e.process (edit_steps.access_at e e.stage) word sound low steps.memory) (λ moving. moving),
+    )
 
   -- the answer's step
-  ends : (s : Stage) (words : List ℕ) (b : Behind) (e : PlainEditCall) (x : List (BufferEntry ℕ)) (ts : Deeds) → Ran edit_rules layout (record e { stage = s }) → IsSound (world_on layout words b) → HaveMiddles (world_on layout words b) → e.process < layout.processes
+  ends : (s : Stage) (words : List ℕ) (b : Behind) (e : PlainEditCall) (x : List (BufferEntry ℕ)) (ts : Deeds) → Ran edit_rules layout (record e { stage = s }) → IsSound (world_on layout words b) → IsSecond (world_on layout words b) → HaveMiddles (world_on layout words b) → e.process < layout.processes
       → b.situation e.process ≡ Editing (record e { stage = s }) → b.buffer e.process ≡ x → ((t : Told) → In ts.told t → IsTold (world_on layout words b) e.process t) → CallsHold layout e.process ts.told → Ends layout words b e.process (landed_at e s x ts)
-  ends (Answer how) words b e x ts ran sound middles low at same old reports =
+  ends (Answer how) words b e x ts ran sound second middles low at same old reports =
       let e' : PlainEditCall = record e { stage = Answer how } in
+      let noted : rest_behind e' ≡ second_rest (e.number + 1) = knows (e.number + 1) (noted_second (world_on layout words b) e.edition second (subst (λ (z : Situation). LayoutFits (world_on layout words b) e.process z) at (sound.layouts e.process low))) in
       let b' : Behind = record b {
-        situation = put b.situation e.process (Idle (e.number + 1));
+        situation = put b.situation e.process (Idle (second_rest (e.number + 1)));
         open_edits = put b.open_edits e.process None;
       } in
       let w : PlainWorld = world_on layout words b in
@@ -108,25 +115,28 @@ module _ (layout : Layout) where
       let t : Steps e' 0 w w' = record {
         layout = refl;
         memory = (refl, record { cached = λ r. refl; persisted = λ r. refl; buffer = λ q. refl });
-        situation = put_here b.situation e.process (Idle (e.number + 1)) e.process refl;
-        others = λ q n. put_else b.situation e.process (Idle (e.number + 1)) q n;
+        situation = put_here b.situation e.process (Idle (second_rest (e.number + 1))) e.process refl ∙ ap Idle (sym noted);
+        others = λ q n. put_else b.situation e.process (Idle (second_rest (e.number + 1))) q n;
         counted = sym (append-nil b.counted);
         open_edits = put_here b.open_edits e.process None e.process refl;
         others_open_edits = λ q n. put_else b.open_edits e.process None q n;
       } in
       let told_now = answer_true e' how w sound low refl at in
-      let aft : After layout words words b b' e.process (Idle (e.number + 1)) x = after_left layout words words b b' e.process (Idle (e.number + 1)) x (edit_leaves e' 0 w w' sound low at t) t.situation same (λ q n. refl) in
+      let aft : After layout words words b b' e.process (Idle (second_rest (e.number + 1))) x = after_left layout words words b b' e.process (Idle (second_rest (e.number + 1))) x (edit_leaves e' 0 w w' sound low at t) (put_here b.situation e.process (Idle (second_rest (e.number + 1))) e.process refl) same (λ q n. refl) (le_refl _) (λ moving. moving) in
       record {
         behind = b';
         own = refl;
         after = aft;
         told = λ u inside. elim inside [
           | inl new ↦ subst (λ (z : Told). IsTold w' e.process z) new (record { own = refl; spent = answer_law w e' how sound low at refl; holds = true_told w (edit_of e) told_now.since how told_now.holds })
-          | inr last ↦ told_on layout words words b b' e.process (Idle (e.number + 1)) x aft e.process u (old u last)
+          | inr last ↦ told_on layout words words b b' e.process (Idle (second_rest (e.number + 1))) x aft e.process u (old u last)
         ];
         calls = ((ran, refl), reports);
       }
-  ends _ words b e x ts ran sound middles low at same old reports = record { behind = b; own = refl; after = after_none layout words b e.process _ x sound at same; told = old; calls = reports }
+    where
+      knows : (number : ℕ) → e.edition ≡ Second → (let r : Rest = record { number = number; edition = e.edition } in r) ≡ second_rest number
+      knows number is = ap (λ (d : Edition). (let r : Rest = record { number = number; edition = d } in r)) is
+  ends _ words b e x ts ran sound second middles low at same old reports = record { behind = b; own = refl; after = after_none layout words b e.process _ x sound at same; told = old; calls = reports }
 
   apart : (s : Stage) → IsGoing s → IsEnded s → ⊥
   apart s go end = subst IsGoing end.1 go
@@ -138,24 +148,25 @@ module _ (layout : Layout) where
       (λ words b e f x sound low at same is. (b, after_none layout words b e.process (Editing f) x sound (at ∙ ap Editing is) same))
       (λ e f is. sym (ap (λ (z : PlainEditCall). z.process) is))
       (λ first e n h. h)
-      (λ words b e x ts ran sound middles low at same old reports. ends e.stage words b e x ts ran sound middles low at same old reports)
+      (λ words b e x ts ran sound second middles low at same old reports. ends e.stage words b e x ts ran sound second middles low at same old reports)
       (λ e f x ts is go. landed_going e e.stage x ts (subst (λ (z : PlainEditCall). IsGoing z.stage) (sym is) go))
       (λ e f is end. is)
       (λ e. apart e.stage)
       (λ words b e x sound low at same fits. let can = can_perform e (world_on layout words b) sound low at in (can.0, serves layout words b e.process (edit_steps.access_at e e.stage) can.1 x same))
 
   -- an idle process may begin its edit
-  pub edit_begins : (seat : Seated) (e : PlainEditCall) → seat.now ≡ Idle e.number → IsEdit e → IsSheetOf layout e → HasRefs layout.shape e.text e.refs → e.stage ≡ StoreHeader → Ready layout seat e.process (Editing e) []
-  edit_begins seat e idle is sheet refs first words b sound low at same =
+  pub edit_begins : (seat : Seated) (e : PlainEditCall) → seat.now ≡ Idle (second_rest e.number) → e.edition ≡ Second → IsEdit e → IsSheetOf layout e → HasRefs layout.shape e.text e.refs → e.stage ≡ StoreHeader → Ready layout seat e.process (Editing e) []
+  edit_begins seat e idle edition is sheet refs first words b sound second low at same =
       let b' : Behind = record b {
         situation = put b.situation e.process (Editing e);
         open_edits = put b.open_edits e.process (Some (record { edit = edit_of e; since = length b.counted }));
       } in
-      let fits : IdleFits (world_on layout words b) e.process e.number = subst (λ (s : Situation). CallFits (world_on layout words b) e.process s) (at ∙ idle) (sound.calls e.process low) in
+      let knows : second_rest e.number ≡ rest_before e = ap (λ (d : Edition). (let r : Rest = record { number = e.number; edition = d } in r)) (sym edition) in
+      let fits : IdleFits (world_on layout words b) e.process (second_rest e.number) = subst (λ (s : Situation). CallFits (world_on layout words b) e.process s) (at ∙ idle) (sound.calls e.process low) in
       let begins : Begins e (world_on layout words b) (world_on layout words b') = record {
         layout = refl;
         memory = record { cached = λ r. refl; persisted = λ r. refl; buffer = λ q. refl };
-        idle = at ∙ idle;
+        idle = at ∙ idle ∙ ap Idle knows;
         first = first;
         situation = put_here b.situation e.process (Editing e) e.process refl;
         others = λ q n. put_else b.situation e.process (Editing e) q n;
@@ -164,7 +175,7 @@ module _ (layout : Layout) where
         others_open_edits = λ q n. put_else b.open_edits e.process (Some (record { edit = edit_of e; since = length b.counted })) q n;
       } in (
         b',
-        after_left layout words words b b' e.process (Editing e) [] (begin_leaves e (world_on layout words b) (world_on layout words b') sound is sheet refs begins) begins.situation (nothing_kept layout (b.buffer e.process) fits.buffer) (λ q n. refl),
+        after_left layout words words b b' e.process (Editing e) [] (begin_leaves e (world_on layout words b) (world_on layout words b') sound is sheet refs begins) begins.situation (nothing_kept layout (b.buffer e.process) fits.buffer) (λ q n. refl) (le_refl _) (λ moving. moving),
       )
 
 -- the call that has ended is told as it is

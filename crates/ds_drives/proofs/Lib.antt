@@ -1,4 +1,5 @@
 pub mod Words
+pub mod Seconds
 pub mod Behinds
 pub mod Machines
 pub mod Resting

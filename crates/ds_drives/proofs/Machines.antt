@@ -17,7 +17,7 @@ use Rattle.ds_drives.specs.declared.board.View.{View}
 use Rattle.ds_drives.specs.Table.{word_of, change, answer, told, oldest_of}
 use Rattle.ds_drives.specs.Views.{In, lone, seated, steps_later, deeds_at}
 use Rattle.ds_drives.specs.Rules.{Rules, Came, Ran, still, steps, turns}
-use Rattle.ds_drives.specs.Rule.{Behind, world_on, Stands, Fits, Ruled, IsTold, CallsHold, class_in, After, Ready, Poised}
+use Rattle.ds_drives.specs.Rule.{Behind, world_on, IsSecond, Fits, Ruled, IsTold, CallsHold, class_in, After, Ready, Poised}
 use Rattle.ds_drives.specs.Machines.{asked, stepped, left, IsServed, MayStep, Drives, IsBroken, unbegun, within, Lawful}
 use Rattle.ds_drives.proofs.Words.{answer_told, buffer_told}
 use Rattle.ds_drives.proofs.Behinds.{told_on, after_both, read, written, answered, kept_back, Ends}
@@ -32,6 +32,7 @@ turns_to layout s h b id i n e e' at after own told_now calls_now = let mine : F
   sound = after.sound;
   long = length-set s.words i n ∙ h.long;
   middles = after.middles h.middles;
+  second = after.second h.second;
   knows = λ j v there x inside. ⊎_elim
       (λ (t : (j ≡ id) × (lone e' ≡ v)). ⊎_elim
       (λ (same : e' ≡ x). subst (λ (z : ℕ × Seated). Fits layout (set s.words i n) b h.owner z.0 z.1) (λ k. (sym t.0 k, same k))
@@ -75,7 +76,7 @@ module _ {C : Type 0} (r : Rules C) (layout : Layout)
     → (b' : Behind) × After layout words words b b' (r.process c) (r.doing d) x)
     (kin : (c d : C) → r.turns layout c d → r.process d ≡ r.process c)
     (kept : (first c : C) (n : ℕ) → r.stays first c → r.stays first (r.next c n))
-    (lands : (words : List ℕ) (b : Behind) (c : C) (x : List (BufferEntry ℕ)) (ts : Deeds) → Ran r layout c → IsSound (world_on layout words b) → HaveMiddles (world_on layout words b) → r.process c < layout.processes
+    (lands : (words : List ℕ) (b : Behind) (c : C) (x : List (BufferEntry ℕ)) (ts : Deeds) → Ran r layout c → IsSound (world_on layout words b) → IsSecond (world_on layout words b) → HaveMiddles (world_on layout words b) → r.process c < layout.processes
     → b.situation (r.process c) ≡ r.doing c → b.buffer (r.process c) ≡ x → ((t : Told) → In ts.told t → IsTold (world_on layout words b) (r.process c) t) → CallsHold layout (r.process c) ts.told → Ends layout words b (r.process c) (r.land c x ts))
     (going : (c d : C) (x : List (BufferEntry ℕ)) (ts : Deeds) → r.turns layout c d → r.goes d → r.land c x ts ≡ seated (r.process c) (r.doing c) x ts)
     (over : (c d : C) → r.turns layout c d → r.ends d → c ≡ d)
@@ -89,7 +90,7 @@ module _ {C : Type 0} (r : Rules C) (layout : Layout)
       let a : Access ℕ = asked r layout c in
       let fit : Fits layout s.words h.behind h.owner id seat = h.knows id (lone seat) at seat (inl refl) in
       let low : p < layout.processes = subst (λ (q : ℕ). q < layout.processes) own fit.low in
-      let begins = ready s.words h.behind h.sound low (ap h.behind.situation (sym own) ∙ fit.stands.now) (ap h.behind.buffer (sym own) ∙ fit.stands.buffer) in
+      let begins = ready s.words h.behind h.sound h.second low (ap h.behind.situation (sym own) ∙ fit.stands.now) (ap h.behind.buffer (sym own) ∙ fit.stands.buffer) in
       let n : ℕ = read layout s.words (r.access layout c) x in
       let k : ℕ = told a (oldest_of x) n in
       let words2 : List ℕ = written layout s.words (r.access layout c) x in
@@ -104,7 +105,7 @@ module _ {C : Type 0} (r : Rules C) (layout : Layout)
       let low2 : r.process c2 < layout.processes = subst (λ (q : ℕ). q < layout.processes) (sym p2) low in
       let now2 : b2.situation (r.process c2) ≡ r.doing c2 = ap b2.situation p2 ∙ (taken.1.now ∙ ap (λ (m : ℕ). r.doing (r.next c m)) (sym (answer_told a x n))) in
       let buffer2 : b2.buffer (r.process c2) ≡ x2 = ap b2.buffer p2 ∙ (taken.1.buffer ∙ sym (buffer_told (class_in layout) a x n)) in
-      let end = lands words2 b2 c2 x2 deeds2 ran taken.1.sound (both.middles h.middles) low2 now2 buffer2 (λ u here. subst (λ (q : ℕ). IsTold (world_on layout words2 b2) q u) (sym p2)
+      let end = lands words2 b2 c2 x2 deeds2 ran taken.1.sound (both.second h.second) (both.middles h.middles) low2 now2 buffer2 (λ u here. subst (λ (q : ℕ). IsTold (world_on layout words2 b2) q u) (sym p2)
       (told_on layout s.words words2 h.behind b2 p (r.doing (r.next c (answer a n))) (kept_back layout s.words (r.access layout c) x) both p u
       (subst (λ (q : ℕ). IsTold (world_on layout s.words h.behind) q u) own (fit.stands.told u here)))) (subst (λ (q : ℕ). CallsHold layout q seat.deeds.told) (own ∙ sym p2) fit.stands.calls) in
       let e' : Seated = r.land c2 x2 deeds2 in
@@ -147,7 +148,7 @@ module _ {C : Type 0} (r : Rules C) (layout : Layout)
           at = at_going held me c d x t.1 t.2 go;
           held_is = refl;
           own = sym k;
-          ready = λ words b sound low now buffer.
+          ready = λ words b sound second low now buffer.
               let turned = turn words b c d x sound (subst (λ (z : ℕ). z < layout.processes) k low) (ap b.situation (sym k) ∙ now) (ap b.buffer (sym k) ∙ buffer) t.2 in
               (turned.0, subst (λ (z : ℕ). After layout words words b turned.0 z (r.doing d) x) (sym k) turned.1);
         })

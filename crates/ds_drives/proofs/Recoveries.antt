@@ -1,9 +1,11 @@
 -- Recoveries are calls whose steps the rule allows.
-use Rattle.std.proofs.Common.{ℕ, ◌≡◌, ◌*◌, ◌<◌, ◌≤◌, ◌/◌, ◌-◌, List, [], ◌∷◌, length, refl, sym, ap, subst, ◌∙◌, inl, inr, arith, suc, zero}
+use Rattle.std.proofs.Common.{ℕ, ◌≡◌, ◌*◌, ◌<◌, ◌≤◌, ◌/◌, ◌-◌, List, [], ◌∷◌, length, refl, sym, ap, subst, ◌∙◌, inl, inr, arith, suc, zero, le_refl}
 use Rattle.std.specs.Prelude.{Contains, Option, Some, None, Bool, true, false, ◌==◌, ◌&&◌, if◌then◌else◌}
 use Rattle.std.proofs.lemmas.Bool.{eqb-true, eq-eqb}
 use Rattle.ds_words.specs.declared.access.BufferEntry.{BufferEntry}
 use Rattle.ds_layout.specs.declared.layout.Layout.{Layout}
+use Rattle.ds_layout.specs.declared.place.Edition.{Edition}
+use Rattle.ds_layout.specs.declared.place.Edition.TheVariants.{Second}
 use Rattle.ds_layout.specs.declared.announcement.Phase.TheVariants as phase
 use Rattle.ds_layout.specs.declared.place.Place.TheVariants as place
 use Rattle.ds_layout.specs.Places.{words_of, cells_of}
@@ -11,11 +13,13 @@ use Rattle.ds_state.specs.Works.{PlainRecoverCall}
 use Rattle.ds_state.specs.World.{PlainEdit, PlainWorld, phase_among, is_edit_of}
 use Rattle.ds_state.specs.KnownRecovery.{phase_for, Tells}
 use Rattle.ds_state.specs.CallsFit.{RecoveryFits}
+use Rattle.ds_state.specs.LayoutsFit.{LayoutFits}
 use Rattle.ds_state.specs.Sound.{IsSound}
 use Rattle.ds_state.specs.Middles.{HaveMiddles}
 use Rattle.ds_state.specs.Spent.{IsSpent}
+use Rattle.ds_state.specs.declared.situation.Rest.{Rest}
 use Rattle.ds_state.specs.declared.situation.Situation.{Situation}
-use Rattle.ds_state.specs.declared.situation.Situation.TheVariants.{Idle, Stopped, Editing, Working, Recovering, Showing}
+use Rattle.ds_state.specs.declared.situation.Situation.TheVariants.{Idle, Stopped, Editing, Working, Recovering, Showing, Migrating}
 use Rattle.ds_layout.specs.declared.announcement.Announcement.{Announcement}
 use Rattle.ds_layout.specs.Announcement.{announcement_of}
 use Rattle.ds_layout.specs.Head.{head_of}
@@ -26,7 +30,7 @@ use Rattle.ds_state.specs.declared.work.RecoverStage.TheVariants as stages
 use Rattle.ds_state.specs.declared.work.RecoverStage.{RecoverStage}
 use Rattle.ds_state.specs.declared.work.RecoverStage.TheVariants.{Answer}
 use Rattle.ds_recover.specs.RecoverySteps as recovery
-use Rattle.ds_recover.specs.RecoverySteps.{Steps, after, next_number, end_of, number_of, fresh, RepeatsAs}
+use Rattle.ds_recover.specs.RecoverySteps.{Steps, after, next_number, rest_after, end_of, number_of, fresh, RepeatsAs}
 use Rattle.ds_recover.specs.RecoverBegun.{MayRecover, IsBegun}
 use Rattle.ds_recover.proofs.RecoveryLaws as laws
 use Rattle.ds_recover.proofs.RecoveryLeaves.{recovery_leaves, begin_leaves}
@@ -36,14 +40,15 @@ use Rattle.ds_drives.specs.declared.board.Seated.{Seated}
 use Rattle.ds_drives.specs.declared.board.Deeds.{Deeds}
 use Rattle.ds_drives.specs.declared.board.Told.{Told}
 use Rattle.ds_drives.specs.declared.board.Told.TheVariants.{Edited, Recovered}
-use Rattle.ds_drives.specs.Views.{In, seated}
+use Rattle.ds_drives.specs.Views.{In, seated, second_rest}
 use Rattle.ds_drives.specs.Rules.{Ran}
-use Rattle.ds_drives.specs.Rule.{put, Behind, world_on, IsTold, CallHolds, CallsHold, Recalls, CountsAs, After, Ready}
+use Rattle.ds_drives.specs.Rule.{put, Behind, world_on, IsSecond, IsTold, CallHolds, CallsHold, Recalls, CountsAs, After, Ready}
 use Rattle.ds_drives.specs.Machines.{Lawful, IsSettled}
 use Rattle.atomic_table.specs.Table.{Me}
 use Rattle.ds_drives.specs.declared.board.View.{View}
 use Rattle.ds_drives.specs.RecoverRules.{IsGoing, IsEnded, IsRecoveryOn, landed_at, recover_rules}
 use Rattle.ds_drives.proofs.Words.{put_here, put_else}
+use Rattle.ds_drives.proofs.Seconds.{version_grows, noted_second}
 use Rattle.ds_drives.proofs.Behinds.{told_on, after_none, after_left, after_both, written, answered, kept_back, performed, serves, came_to, Ends}
 use Rattle.ds_drives.proofs.Resting.{stopped, stops, still}
 use Rattle.ds_drives.proofs.Machines.{lawful}
@@ -80,6 +85,9 @@ same_spread e cell (spreads.FlushTold d) word = same _ _ refl refl refl
 same_spread e cell (spreads.BackTold d) word = same _ _ refl refl refl
 
 pub next_same : (e : PlainRecoverCall) (s : RecoverStage) (word : ℕ) → Same e (recovery.next_at e s word)
+next_same e stages.LoadVersion word = same _ _ refl refl refl
+next_same e stages.FlushVersion word = same _ _ refl refl refl
+next_same e stages.BackVersion word = same _ _ refl refl refl
 next_same e (stages.LoadMark cell) word = same_if e (recovery.reads_held e.process word) _ _ (same _ _ refl refl refl) (same _ _ refl refl refl)
 next_same e (stages.FlushValue cell) word = same _ _ refl refl refl
 next_same e (stages.FlushKind cell) word = same _ _ refl refl refl
@@ -192,14 +200,16 @@ module _ (layout : Layout) where
     recovery_step going = (
       behind,
       after_left layout words (written layout words (recovery.access_at e e.stage) x) b behind e.process (Recovering (recovery.got_at e word)) (kept_back layout words (recovery.access_at e e.stage) x)
-          (recovery_leaves e word old new sound low at steps) (steps.situation ∙ after_going e e.stage word going) (put_here b.buffer e.process _ e.process refl) (λ q n. put_else b.buffer e.process _ q n),
+          (recovery_leaves e word old new sound low at steps) (steps.situation ∙ after_going e e.stage word going) (put_here b.buffer e.process _ e.process refl) (λ q n. put_else b.buffer e.process _ q n)
+          (version_grows old new.memory e.process (recovery.access_at e e.stage) word sound low steps.memory) (λ moving. moving),
     )
 
-  ends : (s : RecoverStage) (words : List ℕ) (b : Behind) (e : PlainRecoverCall) (x : List (BufferEntry ℕ)) (ts : Deeds) → Ran recover_rules layout (record e { stage = s }) → IsSound (world_on layout words b) → HaveMiddles (world_on layout words b) → e.process < layout.processes
+  ends : (s : RecoverStage) (words : List ℕ) (b : Behind) (e : PlainRecoverCall) (x : List (BufferEntry ℕ)) (ts : Deeds) → Ran recover_rules layout (record e { stage = s }) → IsSound (world_on layout words b) → IsSecond (world_on layout words b) → HaveMiddles (world_on layout words b) → e.process < layout.processes
       → b.situation e.process ≡ Recovering (record e { stage = s }) → b.buffer e.process ≡ x → ((t : Told) → In ts.told t → IsTold (world_on layout words b) e.process t) → CallsHold layout e.process ts.told → Ends layout words b e.process (landed_at e s x ts)
-  ends (Answer how) words b e x ts ran sound middles low at same old reports =
+  ends (Answer how) words b e x ts ran sound second middles low at same old reports =
       let e' : PlainRecoverCall = record e { stage = Answer how } in
-      let s' : Situation = Idle (next_number e.announcement how) in
+      let s' : Situation = Idle (second_rest (next_number e.announcement how)) in
+      let noted : rest_after e' how ≡ second_rest (next_number e.announcement how) = knows (noted_second (world_on layout words b) e.edition second (subst (λ (z : Situation). LayoutFits (world_on layout words b) e.process z) at (sound.layouts e.process low))) in
       let b' : Behind = record b {
         situation = put b.situation e.process s';
         open_edits = put b.open_edits e.process None;
@@ -209,14 +219,14 @@ module _ (layout : Layout) where
       let t : Steps e' 0 w w' = record {
         layout = refl;
         memory = (refl, record { cached = λ r. refl; persisted = λ r. refl; buffer = λ q. refl });
-        situation = put_here b.situation e.process s' e.process refl;
+        situation = put_here b.situation e.process s' e.process refl ∙ ap Idle (sym noted);
         others = λ q n. put_else b.situation e.process s' q n;
         counted = refl;
         open_edits = put_here b.open_edits e.process None e.process refl;
         others_open_edits = λ q n. put_else b.open_edits e.process None q n;
       } in
       let says : IsTold w' e.process (Recovered e' (end_of e how)) = same_told how (tells e how w (laws.fits_of e' w sound low at) (laws.repeated e' how w sound low at refl)) in
-      let aft : After layout words words b b' e.process s' x = after_left layout words words b b' e.process s' x (recovery_leaves e' 0 w w' sound low at t) t.situation same (λ q n. refl) in
+      let aft : After layout words words b b' e.process s' x = after_left layout words words b b' e.process s' x (recovery_leaves e' 0 w w' sound low at t) (put_here b.situation e.process s' e.process refl) same (λ q n. refl) (le_refl _) (λ moving. moving) in
       record {
         behind = b';
         own = refl;
@@ -228,11 +238,14 @@ module _ (layout : Layout) where
         calls = ((ran, (how, refl, refl), recalls e how w ts.told (laws.fits_of e' w sound low at) old), reports);
       }
     where
+      knows : e.edition ≡ Second → rest_after e how ≡ second_rest (next_number e.announcement how)
+      knows noted = ap (λ (d : Edition). (let r : Rest = record { number = next_number e.announcement how; edition = d } in r)) noted
+
       same_told : (o : Option Bool) → IsTold (world_on layout words b) e.process (Recovered (record e { stage = Answer how }) (end_of e o))
-          → IsTold (world_on layout words (record b { situation = put b.situation e.process (Idle (next_number e.announcement how)); open_edits = put b.open_edits e.process None })) e.process (Recovered (record e { stage = Answer how }) (end_of e o))
+          → IsTold (world_on layout words (record b { situation = put b.situation e.process (Idle (second_rest (next_number e.announcement how))); open_edits = put b.open_edits e.process None })) e.process (Recovered (record e { stage = Answer how }) (end_of e o))
       same_told None h = tt
       same_told (Some k) h = record { spent = h.spent; holds = h.holds }
-  ends _ words b e x ts ran sound middles low at same old reports = record { behind = b; own = refl; after = after_none layout words b e.process _ x sound at same; told = old; calls = reports }
+  ends _ words b e x ts ran sound second middles low at same old reports = record { behind = b; own = refl; after = after_none layout words b e.process _ x sound at same; told = old; calls = reports }
 
   apart : (s : RecoverStage) → IsGoing s → IsEnded s → ⊥
   apart s go end = subst IsGoing end.1 go
@@ -244,7 +257,7 @@ module _ (layout : Layout) where
       (λ words b e f x sound low at same is. (b, after_none layout words b e.process (Recovering f) x sound (at ∙ ap Recovering is) same))
       (λ e f is. sym (ap (λ (z : PlainRecoverCall). z.process) is))
       (λ first e n h. (next_same e e.stage n).process ∙ h)
-      (λ words b e x ts ran sound middles low at same old reports. ends e.stage words b e x ts ran sound middles low at same old reports)
+      (λ words b e x ts ran sound second middles low at same old reports. ends e.stage words b e x ts ran sound second middles low at same old reports)
       (λ e f x ts is go. landed_going e e.stage x ts (subst (λ (z : PlainRecoverCall). IsGoing z.stage) (sym is) go))
       (λ e f is end. is)
       (λ e. apart e.stage)
@@ -253,13 +266,14 @@ module _ (layout : Layout) where
   -- ---- the beginning
 
   -- a process in no call begins
-  begins : (words : List ℕ) (b : Behind) (p : ℕ) → IsSound (world_on layout words b) → p < layout.processes → MayRecover (b.situation p) → b.buffer p ≡ []
+  begins : (words : List ℕ) (b : Behind) (p : ℕ) → IsSound (world_on layout words b) → IsSecond (world_on layout words b) → p < layout.processes → MayRecover (b.situation p) → b.buffer p ≡ []
       → (b' : Behind) × After layout words words b b' p (Recovering (fresh p (cells_of layout) layout.processes)) []
-  begins words b p sound low free empty =
+  begins words b p sound second low free empty =
       let s : Situation = Recovering (fresh p (cells_of layout) layout.processes) in
       let b' : Behind = record b { situation = put b.situation p s } in
       let t : IsBegun (world_on layout words b) p (world_on layout words b') = record {
         free = free;
+        alone = λ q inside other. second.settled q inside;
         begins = record {
           layout = refl;
           memory = record { cached = λ r. refl; persisted = λ r. refl; buffer = λ q. refl };
@@ -269,25 +283,26 @@ module _ (layout : Layout) where
           open_edits = λ q. refl;
         };
       } in
-      (b', after_left layout words words b b' p s [] (begin_leaves p (world_on layout words b) (world_on layout words b') sound low t) t.begins.situation empty (λ q n. refl))
+      (b', after_left layout words words b b' p s [] (begin_leaves p (world_on layout words b) (world_on layout words b') sound low t) t.begins.situation empty (λ q n. refl) (le_refl _) (λ moving. moving))
 
   -- a process that runs stops first
-  begins_after : (words : List ℕ) (b c : Behind) (p : ℕ) → p < layout.processes → After layout words words b c p Stopped []
+  begins_after : (words : List ℕ) (b c : Behind) (p : ℕ) → IsSecond (world_on layout words b) → p < layout.processes → After layout words words b c p Stopped []
       → (b' : Behind) × After layout words words b b' p (Recovering (fresh p (cells_of layout) layout.processes)) []
-  begins_after words b c p low f =
-      let g = begins words c p f.sound low (subst MayRecover (sym f.now) tt) f.buffer in
+  begins_after words b c p second low f =
+      let g = begins words c p f.sound (f.second second) low (subst MayRecover (sym f.now) tt) f.buffer in
       (g.0, after_both layout words words words b c g.0 p Stopped (Recovering (fresh p (cells_of layout) layout.processes)) [] [] f g.1)
 
   pub recovery_begins : (seat : Seated) (p : ℕ) → Ready layout seat p (Recovering (fresh p (cells_of layout) layout.processes)) []
-  recovery_begins seat p words b sound low at same = by (b.situation p) refl
+  recovery_begins seat p words b sound second low at same = by (b.situation p) refl
     where
       by : (s : Situation) → b.situation p ≡ s → (b' : Behind) × After layout words words b b' p (Recovering (fresh p (cells_of layout) layout.processes)) []
-      by Stopped is = begins_after words b b p low (still layout words b p sound low is)
-      by (Idle n) is = begins_after words b (stopped layout words b p) p low (stops layout words b p sound low (λ e. cc))
-      by (Editing e) is = begins_after words b (stopped layout words b p) p low (stops layout words b p sound low (λ e'. cc))
-      by (Working e) is = begins_after words b (stopped layout words b p) p low (stops layout words b p sound low (λ e'. cc))
-      by (Recovering e) is = begins_after words b (stopped layout words b p) p low (stops layout words b p sound low (λ e'. cc))
-      by (Showing e) is = begins_after words b (stopped layout words b p) p low (stops layout words b p sound low (λ e'. cc))
+      by Stopped is = begins_after words b b p second low (still layout words b p sound low is)
+      by (Idle n) is = begins_after words b (stopped layout words b p) p second low (stops layout words b p sound low (λ e. cc))
+      by (Editing e) is = begins_after words b (stopped layout words b p) p second low (stops layout words b p sound low (λ e'. cc))
+      by (Working e) is = begins_after words b (stopped layout words b p) p second low (stops layout words b p sound low (λ e'. cc))
+      by (Recovering e) is = begins_after words b (stopped layout words b p) p second low (stops layout words b p sound low (λ e'. cc))
+      by (Showing e) is = begins_after words b (stopped layout words b p) p second low (stops layout words b p sound low (λ e'. cc))
+      by (Migrating e) is = begins_after words b (stopped layout words b p) p second low (stops layout words b p sound low (λ e'. cc))
 
 -- ---- one step
 

@@ -8,10 +8,10 @@ use Rattle.ds_state.specs.CallsFit.{CallFits, StoppedFits}
 use Rattle.ds_state.specs.Crashes.{StopsIn}
 use Rattle.ds_state.specs.Sound.{IsSound}
 use Rattle.ds_state.specs.declared.situation.Situation.{Situation}
-use Rattle.ds_state.specs.declared.situation.Situation.TheVariants.{Idle, Stopped, Editing, Working, Recovering, Showing}
+use Rattle.ds_state.specs.declared.situation.Situation.TheVariants.{Idle, Stopped, Editing, Working, Recovering, Showing, Migrating}
 use Rattle.ds_state.proofs.Leaves.{stop_leaves}
 use Rattle.ds_drives.specs.declared.board.Told.{Told}
-use Rattle.ds_drives.specs.Rule.{put, Behind, world_on, IsTold, After, AtRest, Stops, none, stop}
+use Rattle.ds_drives.specs.Rule.{put, Behind, world_on, IsSecond, IsTold, After, AtRest, Stops, none, stop}
 use Rattle.ds_drives.proofs.Words.{put_here, put_else}
 use Rattle.ds_drives.proofs.Behinds.{told_on, after_none, after_left, nothing_kept}
 
@@ -39,7 +39,7 @@ module _ (layout : Layout) (words : List ℕ) where
   pub stops : (b : Behind) (p : ℕ) → IsSound (world_on layout words b) → p < layout.processes → b.situation p ≢ Stopped → After layout words words b (stopped b p) p Stopped []
   stops b p sound low runs =
       let t : StopsIn p (world_on layout words b) (world_on layout words (stopped b p)) = stops_in b p runs in
-      after_left layout words words b (stopped b p) p Stopped [] (stop_leaves p (world_on layout words b) (world_on layout words (stopped b p)) sound low t) t.situation (put_here b.buffer p [] p refl) (λ q n. put_else b.buffer p [] q n)
+      after_left layout words words b (stopped b p) p Stopped [] (stop_leaves p (world_on layout words b) (world_on layout words (stopped b p)) sound low t) t.situation (put_here b.buffer p [] p refl) (λ q n. put_else b.buffer p [] q n) (le_refl _) (λ moving. moving)
 
   -- a process that has stopped has an empty buffer
   pub still : (b : Behind) (p : ℕ) → IsSound (world_on layout words b) → p < layout.processes → b.situation p ≡ Stopped → After layout words words b b p Stopped []
@@ -67,24 +67,27 @@ module _ (layout : Layout) (words : List ℕ) where
       by_stop (Working e) at = runs (λ e'. cc)
       by_stop (Recovering e) at = runs (λ e'. cc)
       by_stop (Showing e) at = runs (λ e'. cc)
+      by_stop (Migrating e) at = runs (λ e'. cc)
 
   -- the first so many processes have stopped, and what was told stayed true
   pub record Rest (b : Behind) (n : ℕ) : Type 0 where
     pub behind : Behind
     pub by : Stops layout words b behind
     pub sound : IsSound (world_on layout words behind)
+    pub second : IsSecond (world_on layout words behind)
     pub now : (p : ℕ) → p < n → behind.situation p ≡ Stopped
     pub buffer : (p : ℕ) → p < n → behind.buffer p ≡ []
     pub told : (q : ℕ) (t : Told) → IsTold (world_on layout words b) q t → IsTold (world_on layout words behind) q t
 
-  first_rest : (b : Behind) (n : ℕ) → n ≤ layout.processes → IsSound (world_on layout words b) → Rest b n
-  first_rest b zero few sound = record { behind = b; by = none; sound = sound; now = λ p low. absurd (omega arith); buffer = λ p low. absurd (omega arith); told = λ q t h. h }
-  first_rest b (suc n) few sound =
-      let r : Rest b n = first_rest b n (omega arith) sound in
+  first_rest : (b : Behind) (n : ℕ) → n ≤ layout.processes → IsSound (world_on layout words b) → IsSecond (world_on layout words b) → Rest b n
+  first_rest b zero few sound second = record { behind = b; by = none; sound = sound; second = second; now = λ p low. absurd (omega arith); buffer = λ p low. absurd (omega arith); told = λ q t h. h }
+  first_rest b (suc n) few sound second =
+      let r : Rest b n = first_rest b n (omega arith) sound second in
       let one : Rested b r.behind n = comes_to_rest b r.behind n r.by r.sound (omega arith) in record {
         behind = one.behind;
         by = one.by;
         sound = one.after.sound;
+        second = one.after.second r.second;
         now = λ p low. dite (ℕ_discrete p n) (λ e. ap one.behind.situation e ∙ one.after.now) (λ ne. one.after.others p ne ∙ r.now p (omega arith));
         buffer = λ p low. dite (ℕ_discrete p n) (λ e. ap one.behind.buffer e ∙ one.after.buffer) (λ ne. one.after.other_buffers p ne ∙ r.buffer p (omega arith));
         told = λ q t h. told_on layout words words r.behind one.behind n Stopped [] one.after q t (r.told q t h);
@@ -96,10 +99,10 @@ module _ (layout : Layout) (words : List ℕ) where
     pub rests : AtRest layout words behind
     pub told : (q : ℕ) (t : Told) → IsTold (world_on layout words b) q t → IsTold (world_on layout words behind) q t
 
-  pub rests : (b : Behind) → IsSound (world_on layout words b) → Rests b
-  rests b sound = let r = first_rest b layout.processes (le_refl layout.processes) sound in record {
+  pub rests : (b : Behind) → IsSound (world_on layout words b) → IsSecond (world_on layout words b) → Rests b
+  rests b sound second = let r = first_rest b layout.processes (le_refl layout.processes) sound second in record {
     behind = r.behind;
     by = r.by;
-    rests = record { sound = r.sound; stopped = r.now; buffer = r.buffer };
+    rests = record { sound = r.sound; second = r.second; stopped = r.now; buffer = r.buffer };
     told = r.told;
   }

@@ -1,16 +1,20 @@
 -- Reports are calls whose steps the rule allows.
-use Rattle.std.proofs.Common.{ℕ, ◌≡◌, ◌+◌, ◌*◌, ◌<◌, List, [], length, refl, sym, ap, subst, ◌∙◌, inl, inr}
+use Rattle.std.proofs.Common.{ℕ, ◌≡◌, ◌+◌, ◌*◌, ◌<◌, List, [], length, refl, sym, ap, subst, ◌∙◌, inl, inr, le_refl}
 use Rattle.std.specs.Prelude.{Bool, true, false, nat_lt, ◌==◌, if◌then◌else◌}
 use Rattle.ds_words.specs.declared.access.BufferEntry.{BufferEntry}
 use Rattle.ds_layout.specs.declared.layout.Layout.{Layout}
+use Rattle.ds_layout.specs.declared.place.Edition.{Edition}
+use Rattle.ds_layout.specs.declared.place.Edition.TheVariants.{Second}
 use Rattle.ds_layout.specs.Places.{words_of, cells_of}
 use Rattle.ds_state.specs.Works.{PlainShowCall}
 use Rattle.ds_state.specs.World.{PlainWorld, edit_of}
 use Rattle.ds_state.specs.KnownShow.{reads_pending, reads_clean, noted}
 use Rattle.ds_state.specs.CallsFit.{CallFits, IdleFits}
 use Rattle.ds_state.specs.ShowStages.{IsShow}
+use Rattle.ds_state.specs.LayoutsFit.{LayoutFits}
 use Rattle.ds_state.specs.Sound.{IsSound}
 use Rattle.ds_state.specs.Middles.{HaveMiddles}
+use Rattle.ds_state.specs.declared.situation.Rest.{Rest}
 use Rattle.ds_state.specs.declared.situation.Situation.{Situation}
 use Rattle.ds_state.specs.declared.situation.Situation.TheVariants.{Idle, Showing}
 use Rattle.ds_state.specs.declared.work.ShowEnd.{ShowEnd}
@@ -19,7 +23,7 @@ use Rattle.ds_state.specs.declared.stage.Outcome.TheVariants.{Done}
 use Rattle.ds_state.specs.declared.work.ShowStage.{ShowStage}
 use Rattle.ds_state.specs.declared.work.ShowStage.TheVariants.{LoadAnnounce, LoadMark, LoadValue, LoadKind, AgainMark, AgainAnnounce, Answer}
 use Rattle.ds_show.specs.ShowSteps as report
-use Rattle.ds_show.specs.ShowSteps.{Steps, Begins, after, fresh}
+use Rattle.ds_show.specs.ShowSteps.{Steps, Begins, rest_of, after, fresh}
 use Rattle.ds_show.specs.ShowMiddles.{WasSettled}
 use Rattle.ds_show.proofs.ShowLaws as laws
 use Rattle.ds_show.proofs.ShowMiddles.{step_leaves, begin_leaves, middle_settles}
@@ -27,14 +31,15 @@ use Rattle.ds_drives.specs.declared.board.Seated.{Seated}
 use Rattle.ds_drives.specs.declared.board.Deeds.{Deeds}
 use Rattle.ds_drives.specs.declared.board.Told.{Told}
 use Rattle.ds_drives.specs.declared.board.Told.TheVariants.{Edited, Shown}
-use Rattle.ds_drives.specs.Views.{In, seated}
+use Rattle.ds_drives.specs.Views.{In, seated, second_rest}
 use Rattle.ds_drives.specs.Rules.{Ran}
-use Rattle.ds_drives.specs.Rule.{put, Behind, world_on, IsTold, ReportHolds, CallHolds, CallsHold, After, Ready}
+use Rattle.ds_drives.specs.Rule.{put, Behind, world_on, IsSecond, IsTold, ReportHolds, CallHolds, CallsHold, After, Ready}
 use Rattle.ds_drives.specs.Machines.{Lawful, IsSettled}
 use Rattle.atomic_table.specs.Table.{Me}
 use Rattle.ds_drives.specs.declared.board.View.{View}
 use Rattle.ds_drives.specs.ShowRules.{IsGoing, IsEnded, IsShowOn, IsOfOne, landed_at, show_rules}
 use Rattle.ds_drives.proofs.Words.{put_here, put_else}
+use Rattle.ds_drives.proofs.Seconds.{version_grows, noted_second}
 use Rattle.ds_drives.proofs.Behinds.{told_on, after_none, after_left, written, answered, kept_back, performed, serves, nothing_kept, came_to, Ends}
 use Rattle.ds_drives.proofs.Machines.{lawful}
 
@@ -102,7 +107,8 @@ module _ (layout : Layout) where
     show_step going = (
       behind,
       after_left layout words (written layout words (report.access_at e.stage) x) b behind e.process (Showing (report.got_at e word)) (kept_back layout words (report.access_at e.stage) x)
-          (step_leaves e word old new sound low is steps) (steps.situation ∙ after_going e e.stage word going) (put_here b.buffer e.process _ e.process refl) (λ q n. put_else b.buffer e.process _ q n),
+          (step_leaves e word old new sound low is steps) (steps.situation ∙ after_going e e.stage word going) (put_here b.buffer e.process _ e.process refl) (λ q n. put_else b.buffer e.process _ q n)
+          (version_grows old new.memory e.process (report.access_at e.stage) word sound low steps.memory) (λ moving. moving),
     )
 
   -- the report that ends has its middle, with each edit that its process was told is done
@@ -122,33 +128,37 @@ module _ (layout : Layout) where
   reported w same e (AtMark c w') ts h low is at told = tt
   reported w same e (AtAnnounce q w') ts h low is at told = tt
 
-  ends : (s : ShowStage) (words : List ℕ) (b : Behind) (e : PlainShowCall) (x : List (BufferEntry ℕ)) (ts : Deeds) → Ran show_rules layout (record e { stage = s }) → IsSound (world_on layout words b) → HaveMiddles (world_on layout words b) → e.process < layout.processes
+  ends : (s : ShowStage) (words : List ℕ) (b : Behind) (e : PlainShowCall) (x : List (BufferEntry ℕ)) (ts : Deeds) → Ran show_rules layout (record e { stage = s }) → IsSound (world_on layout words b) → IsSecond (world_on layout words b) → HaveMiddles (world_on layout words b) → e.process < layout.processes
       → b.situation e.process ≡ Showing (record e { stage = s }) → b.buffer e.process ≡ x → ((t : Told) → In ts.told t → IsTold (world_on layout words b) e.process t) → CallsHold layout e.process ts.told → Ends layout words b e.process (landed_at e s x ts)
-  ends (Answer end) words b e x ts ran sound middles low is same old reports =
+  ends (Answer end) words b e x ts ran sound second middles low is same old reports =
       let e' : PlainShowCall = record e { stage = Answer end } in
-      let b' : Behind = record b { situation = put b.situation e.process (Idle e.next) } in
+      let noted : rest_of e' ≡ second_rest e.next = knows (noted_second (world_on layout words b) e.edition second (subst (λ (z : Situation). LayoutFits (world_on layout words b) e.process z) is (sound.layouts e.process low))) in
+      let b' : Behind = record b { situation = put b.situation e.process (Idle (second_rest e.next)) } in
       let w : PlainWorld = world_on layout words b in
       let w' : PlainWorld = world_on layout words b' in
       let t : Steps e' 0 w w' = record {
         layout = refl;
         memory = (refl, record { cached = λ r. refl; persisted = λ r. refl; buffer = λ q. refl });
-        situation = put_here b.situation e.process (Idle e.next) e.process refl;
-        others = λ q n. put_else b.situation e.process (Idle e.next) q n;
+        situation = put_here b.situation e.process (Idle (second_rest e.next)) e.process refl ∙ ap Idle (sym noted);
+        others = λ q n. put_else b.situation e.process (Idle (second_rest e.next)) q n;
         counted = refl;
         open_edits = λ q. refl;
       } in
-      let aft : After layout words words b b' e.process (Idle e.next) x = after_left layout words words b b' e.process (Idle e.next) x (step_leaves e' 0 w w' sound low is t) t.situation same (λ q n. refl) in
+      let aft : After layout words words b b' e.process (Idle (second_rest e.next)) x = after_left layout words words b b' e.process (Idle (second_rest e.next)) x (step_leaves e' 0 w w' sound low is t) (put_here b.situation e.process (Idle (second_rest e.next)) e.process refl) same (λ q n. refl) (le_refl _) (λ moving. moving) in
       record {
         behind = b';
         own = refl;
         after = aft;
         told = λ u inside. elim inside [
           | inl new ↦ subst (λ (z : Told). IsTold w' e.process z) new tt
-          | inr last ↦ told_on layout words words b b' e.process (Idle e.next) x aft e.process u (old u last)
+          | inr last ↦ told_on layout words words b b' e.process (Idle (second_rest e.next)) x aft e.process u (old u last)
         ];
         calls = ((ran, reported w refl e' end ts.told middles low is refl old), reports);
       }
-  ends _ words b e x ts ran sound middles low is same old reports = record { behind = b; own = refl; after = after_none layout words b e.process _ x sound is same; told = old; calls = reports }
+    where
+      knows : e.edition ≡ Second → rest_of e ≡ second_rest e.next
+      knows noted = ap (λ (d : Edition). (let r : Rest = record { number = e.next; edition = d } in r)) noted
+  ends _ words b e x ts ran sound second middles low is same old reports = record { behind = b; own = refl; after = after_none layout words b e.process _ x sound is same; told = old; calls = reports }
 
   pub shows_lawful : Lawful show_rules layout
   shows_lawful = lawful show_rules layout
@@ -157,21 +167,21 @@ module _ (layout : Layout) where
       (λ words b e f x sound low is same turn. (b, after_none layout words b e.process (Showing f) x sound (is ∙ ap Showing turn) same))
       (λ e f turn. sym (ap (λ (z : PlainShowCall). z.process) turn))
       (λ first e n h. let same = next_same e e.stage n in record { process = same.process ∙ h.process; next = same.next ∙ h.next })
-      (λ words b e x ts ran sound middles low is same old reports. ends e.stage words b e x ts ran sound middles low is same old reports)
+      (λ words b e x ts ran sound second middles low is same old reports. ends e.stage words b e x ts ran sound second middles low is same old reports)
       (λ e f x ts turn go. landed_going e e.stage x ts (subst (λ (z : PlainShowCall). IsGoing z.stage) (sym turn) go))
       (λ e f turn end. turn)
       (λ e. apart e.stage)
       (λ words b e x sound low is same fits. let can = laws.accesses e (world_on layout words b) sound low is in (can.0, serves layout words b e.process (report.access_at e.stage) can.1 x same))
 
   -- an idle process may begin a report
-  pub show_begins : (seat : Seated) (p next : ℕ) → seat.now ≡ Idle next → Ready layout seat p (Showing (fresh p next (cells_of layout) layout.processes)) []
-  show_begins seat p next idle words b sound low is same =
-      let s : Situation = Showing (fresh p next (cells_of layout) layout.processes) in
+  pub show_begins : (seat : Seated) (p next : ℕ) → seat.now ≡ Idle (second_rest next) → Ready layout seat p (Showing (fresh p (second_rest next) (cells_of layout) layout.processes)) []
+  show_begins seat p next idle words b sound second low is same =
+      let s : Situation = Showing (fresh p (second_rest next) (cells_of layout) layout.processes) in
       let b' : Behind = record b { situation = put b.situation p s } in
       let w : PlainWorld = world_on layout words b in
       let w' : PlainWorld = world_on layout words b' in
-      let fits : IdleFits w p next = subst (λ (z : Situation). CallFits w p z) (is ∙ idle) (sound.calls p low) in
-      let t : Begins p next w w' = record {
+      let fits : IdleFits w p (second_rest next) = subst (λ (z : Situation). CallFits w p z) (is ∙ idle) (sound.calls p low) in
+      let t : Begins p (second_rest next) w w' = record {
         layout = refl;
         memory = record { cached = λ r. refl; persisted = λ r. refl; buffer = λ q. refl };
         idle = is ∙ idle;
@@ -180,7 +190,7 @@ module _ (layout : Layout) where
         counted = refl;
         open_edits = λ q. refl;
       } in
-      (b', after_left layout words words b b' p s [] (begin_leaves p next w w' sound low t) t.situation (nothing_kept layout (b.buffer p) fits.buffer) (λ q n. refl))
+      (b', after_left layout words words b b' p s [] (begin_leaves p (second_rest next) w w' sound low t) t.situation (nothing_kept layout (b.buffer p) fits.buffer) (λ q n. refl) (le_refl _) (λ moving. moving))
 
 -- ---- one step
 

@@ -7,20 +7,24 @@ use Rattle.ds_eval.specs.declared.inputs.Input.{Input}
 use Rattle.ds_eval.specs.Local.{local}
 use Rattle.ds_eval.specs.Inputs.{entry_in}
 use Rattle.ds_layout.specs.declared.layout.Layout.{Layout}
+use Rattle.ds_layout.specs.declared.place.Edition.{Edition}
+use Rattle.ds_layout.specs.declared.place.Edition.TheVariants.{Second}
 use Rattle.ds_layout.specs.Places.{words_of, cells_of}
 use Rattle.ds_state.specs.Works.{PlainWorkCall, IsWork}
 use Rattle.ds_state.specs.World.{PlainWorld}
 use Rattle.ds_state.specs.CallsFit.{CallFits, IdleFits}
+use Rattle.ds_state.specs.LayoutsFit.{LayoutFits}
 use Rattle.ds_state.specs.Sound.{IsSound}
 use Rattle.ds_state.specs.Middles.{HaveMiddles}
 use Rattle.ds_state.specs.Leaves.{Leaves}
+use Rattle.ds_state.specs.declared.situation.Rest.{Rest}
 use Rattle.ds_state.specs.declared.situation.Situation.{Situation}
 use Rattle.ds_state.specs.declared.situation.Situation.TheVariants.{Idle, Working}
 use Rattle.ds_state.specs.declared.work.WorkEnd.{WorkEnd}
 use Rattle.ds_state.specs.declared.work.WorkStage.{WorkStage}
 use Rattle.ds_state.specs.declared.work.WorkStage.TheVariants.{Read, Wait, Clear, StoreValue, LoadValue, LoadOwnValue, Give, Answer}
 use Rattle.ds_work.specs.WorkSteps as work
-use Rattle.ds_work.specs.WorkSteps.{StepsAt, Turns, ReadsAt, LacksAt, OffersAt, BeginsWork, IsPlainStep, IsContent, read_from, lacks, offered, after, at}
+use Rattle.ds_work.specs.WorkSteps.{StepsAt, Turns, ReadsAt, LacksAt, OffersAt, BeginsWork, IsPlainStep, IsContent, read_from, lacks, offered, rest_of, after, at}
 use Rattle.ds_work.specs.WorkTakes.{IsAskedFor}
 use Rattle.ds_work.specs.Reading.{IsReading}
 use Rattle.ds_work.specs.WorkRank.{steps_left, left}
@@ -34,14 +38,15 @@ use Rattle.ds_drives.specs.declared.board.Seated.{Seated}
 use Rattle.ds_drives.specs.declared.board.Deeds.{Deeds}
 use Rattle.ds_drives.specs.declared.board.Told.{Told}
 use Rattle.ds_drives.specs.declared.board.Told.TheVariants.{Worked}
-use Rattle.ds_drives.specs.Views.{In, seated}
+use Rattle.ds_drives.specs.Views.{In, seated, second_rest}
 use Rattle.ds_drives.specs.Rules.{Ran}
-use Rattle.ds_drives.specs.Rule.{put, Behind, world_on, IsTold, CallHolds, CallsHold, After, Ready}
+use Rattle.ds_drives.specs.Rule.{put, Behind, world_on, IsSecond, IsTold, CallHolds, CallsHold, After, Ready}
 use Rattle.ds_drives.specs.Machines.{Lawful, IsSettled}
 use Rattle.atomic_table.specs.Table.{Me}
 use Rattle.ds_drives.specs.declared.board.View.{View}
 use Rattle.ds_drives.specs.WorkRules.{IsGoing, IsEnded, IsWorkOn, Turned, IsOfOne, stays, reads, takes, landed_at, work_rules}
 use Rattle.ds_drives.proofs.Words.{put_here, put_else}
+use Rattle.ds_drives.proofs.Seconds.{version_grows, noted_second}
 use Rattle.ds_drives.proofs.Behinds.{told_on, after_none, after_left, written, answered, kept_back, performed, serves, nothing_kept, came_to, Ends}
 use Rattle.ds_drives.proofs.Machines.{lawful}
 
@@ -112,7 +117,8 @@ module _ (layout : Layout) where
     work_step going = let t = steps (plain_going e.stage going) in (
       behind,
       after_left layout words (written layout words (work.access_at layout.shape e e.stage) x) b behind e.process (Working (work.next_at e e.stage word)) (kept_back layout words (work.access_at layout.shape e e.stage) x)
-          (work_leaves e e.stage word old new sound low is t) (t.situation ∙ after_going e e.stage word going) (put_here b.buffer e.process _ e.process refl) (λ q n. put_else b.buffer e.process _ q n),
+          (work_leaves e e.stage word old new sound low is t) (t.situation ∙ after_going e e.stage word going) (put_here b.buffer e.process _ e.process refl) (λ q n. put_else b.buffer e.process _ q n)
+          (version_grows old new.memory e.process (work.access_at layout.shape e e.stage) word sound low t.memory) (λ moving. moving),
     )
 
   -- ---- what touches no word
@@ -136,7 +142,7 @@ module _ (layout : Layout) where
     }
 
     turned_after : (f : PlainWorkCall) → Leaves e.process was (world_on layout words (turned f)) → (b' : Behind) × After layout words words b b' e.process (Working f) x
-    turned_after f k = (turned f, after_left layout words words b (turned f) e.process (Working f) x k (turns f).situation same (λ q n. refl))
+    turned_after f k = (turned f, after_left layout words words b (turned f) e.process (Working f) x k (turns f).situation same (λ q n. refl) (le_refl _) (λ moving. moving))
 
     at_stage : (s : WorkStage) → e.stage ≡ s → b.situation e.process ≡ Working (record e { stage = s })
     at_stage s here = is ∙ ap (λ (z : WorkStage). Working (record e { stage = z })) here
@@ -158,34 +164,38 @@ module _ (layout : Layout) where
         let g : PlainWorkCall = offered e entry in
         turned_after g (offer_leaves e entry was (world_on layout words (turned g)) sound low (at_stage Wait here) (record { turn = turns g; is = refl }))
 
-  ends : (s : WorkStage) (words : List ℕ) (b : Behind) (e : PlainWorkCall) (x : List (BufferEntry ℕ)) (ts : Deeds) → Ran work_rules layout (record e { stage = s }) → IsSound (world_on layout words b) → HaveMiddles (world_on layout words b) → e.process < layout.processes
+  ends : (s : WorkStage) (words : List ℕ) (b : Behind) (e : PlainWorkCall) (x : List (BufferEntry ℕ)) (ts : Deeds) → Ran work_rules layout (record e { stage = s }) → IsSound (world_on layout words b) → IsSecond (world_on layout words b) → HaveMiddles (world_on layout words b) → e.process < layout.processes
       → b.situation e.process ≡ Working (record e { stage = s }) → b.buffer e.process ≡ x → ((t : Told) → In ts.told t → IsTold (world_on layout words b) e.process t) → CallsHold layout e.process ts.told → Ends layout words b e.process (landed_at e s x ts)
-  ends (Answer end) words b e x ts ran sound middles low is same old reports =
+  ends (Answer end) words b e x ts ran sound second middles low is same old reports =
       let e' : PlainWorkCall = record e { stage = Answer end } in
-      let b' : Behind = record b { situation = put b.situation e.process (Idle e.next) } in
+      let noted : rest_of e' ≡ second_rest e.next = knows (noted_second (world_on layout words b) e.edition second (subst (λ (z : Situation). LayoutFits (world_on layout words b) e.process z) is (sound.layouts e.process low))) in
+      let b' : Behind = record b { situation = put b.situation e.process (Idle (second_rest e.next)) } in
       let w : PlainWorld = world_on layout words b in
       let w' : PlainWorld = world_on layout words b' in
       let t : StepsAt e' (Answer end) 0 w w' = record {
         plain = tt;
         layout = refl;
         memory = (refl, record { cached = λ r. refl; persisted = λ r. refl; buffer = λ q. refl });
-        situation = put_here b.situation e.process (Idle e.next) e.process refl;
-        others = λ q n. put_else b.situation e.process (Idle e.next) q n;
+        situation = put_here b.situation e.process (Idle (second_rest e.next)) e.process refl ∙ ap Idle (sym noted);
+        others = λ q n. put_else b.situation e.process (Idle (second_rest e.next)) q n;
         counted = refl;
         open_edits = λ q. refl;
       } in
-      let aft : After layout words words b b' e.process (Idle e.next) x = after_left layout words words b b' e.process (Idle e.next) x (work_leaves e' (Answer end) 0 w w' sound low is t) t.situation same (λ q n. refl) in
+      let aft : After layout words words b b' e.process (Idle (second_rest e.next)) x = after_left layout words words b b' e.process (Idle (second_rest e.next)) x (work_leaves e' (Answer end) 0 w w' sound low is t) (put_here b.situation e.process (Idle (second_rest e.next)) e.process refl) same (λ q n. refl) (le_refl _) (λ moving. moving) in
       record {
         behind = b';
         own = refl;
         after = aft;
         told = λ u inside. elim inside [
           | inl new ↦ subst (λ (z : Told). IsTold w' e.process z) new tt
-          | inr last ↦ told_on layout words words b b' e.process (Idle e.next) x aft e.process u (old u last)
+          | inr last ↦ told_on layout words words b b' e.process (Idle (second_rest e.next)) x aft e.process u (old u last)
         ];
         calls = ((ran, refl), reports);
       }
-  ends _ words b e x ts ran sound middles low is same old reports = record { behind = b; own = refl; after = after_none layout words b e.process _ x sound is same; told = old; calls = reports }
+    where
+      knows : e.edition ≡ Second → rest_of e ≡ second_rest e.next
+      knows noted = ap (λ (d : Edition). (let r : Rest = record { number = e.next; edition = d } in r)) noted
+  ends _ words b e x ts ran sound second middles low is same old reports = record { behind = b; own = refl; after = after_none layout words b e.process _ x sound is same; told = old; calls = reports }
 
   turned_kin : (e f : PlainWorkCall) → Turned layout e f → f.process ≡ e.process
   turned_kin e f (stays plain) = refl
@@ -221,20 +231,20 @@ module _ (layout : Layout) where
       (λ words b e f x sound low is same t. work_turn words b e x sound low is same f t)
       turned_kin
       (λ first e n h. let same = next_noted e n e.stage in record { process = ap (λ (z : PlainWorkCall). z.process) same ∙ h.process; next = ap (λ (z : PlainWorkCall). z.next) same ∙ h.next; cell = ap (λ (z : PlainWorkCall). z.cell) same ∙ h.cell })
-      (λ words b e x ts ran sound middles low is same old reports. ends e.stage words b e x ts ran sound middles low is same old reports)
+      (λ words b e x ts ran sound second middles low is same old reports. ends e.stage words b e x ts ran sound second middles low is same old reports)
       turned_landed
       turned_over
       (λ e. apart e.stage)
       (λ words b e x sound low is same fits. let can = can_perform (world_on layout words b) e sound low e.stage is in (can.0, serves layout words b e.process (work.access_at layout.shape e e.stage) can.1 x same))
 
   -- an idle process may begin work
-  pub work_begins : (seat : Seated) (next : ℕ) (index : ℕ) (e : PlainWorkCall) → seat.now ≡ Idle next → IsAskedFor layout e.process next index e → Ready layout seat e.process (Working e) []
-  work_begins seat next index e idle asked words b sound low is same =
+  pub work_begins : (seat : Seated) (next : ℕ) (index : ℕ) (e : PlainWorkCall) → seat.now ≡ Idle (second_rest next) → IsAskedFor layout e.process (second_rest next) index e → Ready layout seat e.process (Working e) []
+  work_begins seat next index e idle asked words b sound second low is same =
       let b' : Behind = record b { situation = put b.situation e.process (Working e) } in
       let w : PlainWorld = world_on layout words b in
       let w' : PlainWorld = world_on layout words b' in
-      let fits : IdleFits w e.process next = subst (λ (s : Situation). CallFits w e.process s) (is ∙ idle) (sound.calls e.process low) in
-      let t : BeginsWork next e w w' = record {
+      let fits : IdleFits w e.process (second_rest next) = subst (λ (s : Situation). CallFits w e.process s) (is ∙ idle) (sound.calls e.process low) in
+      let t : BeginsWork (second_rest next) e w w' = record {
         turn = record {
           layout = refl;
           memory = record { cached = λ r. refl; persisted = λ r. refl; buffer = λ q. refl };
@@ -249,7 +259,7 @@ module _ (layout : Layout) where
         processes = asked.processes;
         cell = asked.inside;
       } in
-      (b', after_left layout words words b b' e.process (Working e) [] (begin_leaves next e w w' sound low t) (put_here b.situation e.process (Working e) e.process refl) (nothing_kept layout (b.buffer e.process) fits.buffer) (λ q n. refl))
+      (b', after_left layout words words b b' e.process (Working e) [] (begin_leaves (second_rest next) e w w' sound low t) (put_here b.situation e.process (Working e) e.process refl) (nothing_kept layout (b.buffer e.process) fits.buffer) (λ q n. refl) (le_refl _) (λ moving. moving))
 
 -- ---- one step, and what goes with it
 

@@ -1,7 +1,8 @@
 -- An edit, as one loop drives it.
-use Rattle.std.specs.Prelude.{ℕ, ◌≡◌, ◌+◌, List, ◌∷◌}
+use Rattle.std.specs.Prelude.{ℕ, ◌≡◌, ◌+◌, List}
 use Rattle.ds_words.specs.declared.access.BufferEntry.{BufferEntry}
 use Rattle.ds_layout.specs.declared.layout.Layout.{Layout}
+use Rattle.ds_layout.specs.declared.place.Edition.TheVariants.{Second}
 use Rattle.ds_state.specs.Edits.{PlainEditCall, IsEdit}
 use Rattle.ds_state.specs.World.{edit_of}
 use Rattle.ds_state.specs.CallsFit.{IsSheetOf, HasRefs}
@@ -13,7 +14,7 @@ use Rattle.ds_edit.specs.EditSteps.{access_at, got_at, rank}
 use Rattle.ds_drives.specs.declared.board.Seated.{Seated}
 use Rattle.ds_drives.specs.declared.board.Deeds.{Deeds}
 use Rattle.ds_drives.specs.declared.board.Told.TheVariants.{Edited}
-use Rattle.ds_drives.specs.Views.{seated, told_also}
+use Rattle.ds_drives.specs.Views.{seated, told_also, second_rest}
 use Rattle.ds_drives.specs.Rules.{Rules}
 
 -- not only its answer is left
@@ -30,16 +31,17 @@ pub record IsEditOn (layout : Layout) (e : PlainEditCall) : Type 0 where
   pub is : IsEdit e
   pub sheet : IsSheetOf layout e
 
--- the edit is before its first step, and its references are the cells of its text
+-- the edit is before its first step, writes the second layout, and its references are the cells of its text
 pub record IsFirst (layout : Layout) (e : PlainEditCall) : Type 0 where
   pub is : IsEdit e
   pub sheet : IsSheetOf layout e
+  pub edition : e.edition ≡ Second
   pub refs : HasRefs layout.shape e.text e.refs
   pub first : e.stage ≡ StoreHeader
 
--- the process at a stage of its edit: where only its answer is left, it is idle
+-- the process at a stage of its edit: where only its answer is left, it is idle, and knows the second layout
 abbrev pub landed_at : PlainEditCall → Stage → List (BufferEntry ℕ) → Deeds → Seated
-landed_at e (Answer how) buffer deeds = seated e.process (Idle (e.number + 1)) buffer (told_also deeds (Edited (record e { stage = Answer how }) how))
+landed_at e (Answer how) buffer deeds = seated e.process (Idle (second_rest (e.number + 1))) buffer (told_also deeds (Edited (record e { stage = Answer how }) how))
 landed_at e stage buffer deeds = seated e.process (Editing (record e { stage = stage })) buffer deeds
 
 -- the rules of an edit

@@ -4,10 +4,7 @@ use Rattle.atomic_table.specs.Table.{Me, Allows}
 use Rattle.ds_words.specs.declared.access.BufferEntry.{BufferEntry}
 use Rattle.ds_words.specs.declared.access.Access.{Access}
 use Rattle.ds_layout.specs.declared.layout.Layout.{Layout}
-use Rattle.ds_layout.specs.declared.place.Place.{Place}
 use Rattle.ds_layout.specs.SheetMemory.{access_at, NamesPlace}
-use Rattle.ds_state.specs.declared.situation.Situation.{Situation}
-use Rattle.ds_drives.specs.declared.board.Seated.{Seated}
 use Rattle.ds_drives.specs.declared.board.Deeds.{Deeds}
 use Rattle.ds_drives.specs.declared.board.View.{View}
 use Rattle.ds_drives.specs.Table.{word_of, change, answer, told, oldest_of, buffer_after}

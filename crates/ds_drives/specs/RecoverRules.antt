@@ -1,5 +1,5 @@
 -- A recovery, as one loop drives it.
-use Rattle.std.specs.Prelude.{ℕ, ◌≡◌, List, ◌∷◌, Bool, Option}
+use Rattle.std.specs.Prelude.{ℕ, ◌≡◌, List, Bool, Option}
 use Rattle.ds_words.specs.declared.access.BufferEntry.{BufferEntry}
 use Rattle.ds_layout.specs.declared.layout.Layout.{Layout}
 use Rattle.ds_layout.specs.Places.{cells_of}
@@ -12,7 +12,7 @@ use Rattle.ds_recover.specs.RecoverySteps.{access_at, got_at, rank, next_number,
 use Rattle.ds_drives.specs.declared.board.Seated.{Seated}
 use Rattle.ds_drives.specs.declared.board.Deeds.{Deeds}
 use Rattle.ds_drives.specs.declared.board.Told.TheVariants.{Recovered}
-use Rattle.ds_drives.specs.Views.{seated, told_also}
+use Rattle.ds_drives.specs.Views.{seated, told_also, second_rest}
 use Rattle.ds_drives.specs.Rules.{Rules}
 
 -- not only its answer is left
@@ -30,9 +30,9 @@ pub record IsRecoveryOn (layout : Layout) (e : PlainRecoverCall) : Type 0 where
   pub cells : cells_of layout ≡ e.cells
   pub processes : layout.processes ≡ e.processes
 
--- the process at a stage of its recovery: where only its answer is left, it is idle
+-- the process at a stage of its recovery: where only its answer is left, it is idle, and knows the second layout
 abbrev pub landed_at : PlainRecoverCall → RecoverStage → List (BufferEntry ℕ) → Deeds → Seated
-landed_at e (Answer how) buffer deeds = seated e.process (Idle (next_number e.announcement how)) buffer (told_also deeds (Recovered (record e { stage = Answer how }) (end_of e how)))
+landed_at e (Answer how) buffer deeds = seated e.process (Idle (second_rest (next_number e.announcement how))) buffer (told_also deeds (Recovered (record e { stage = Answer how }) (end_of e how)))
 landed_at e stage buffer deeds = seated e.process (Recovering (record e { stage = stage })) buffer deeds
 
 -- the rules of a recovery

@@ -1,5 +1,5 @@
 -- The rule of the table: a sound world stands behind the words and the views.
-use Rattle.std.specs.Prelude.{ℕ, ◌≡◌, ◌≢◌, ◌⊎◌, ◌+◌, ◌*◌, ◌<◌, ◌≤◌, ◌==◌, slice_index, if◌then◌else◌, zero, suc, Bool, true, false, List, [], ◌∷◌, ◌++◌, length, Option, Contains}
+use Rattle.std.specs.Prelude.{ℕ, ◌≡◌, ◌≢◌, ◌⊎◌, ◌+◌, ◌*◌, ◌<◌, ◌≤◌, ◌==◌, slice_index, if◌then◌else◌, Bool, true, false, List, [], ◌∷◌, length, Option, Contains}
 use mathlib.Core.Option.{some}
 use lib.ListN.{get_elem?}
 use Rattle.atomic_table.specs.Table.{State, Me}
@@ -14,10 +14,11 @@ use Rattle.ds_layout.specs.SheetMemory.{memory_at}
 use Rattle.ds_layout.specs.declared.place.Place.TheVariants as place
 use Rattle.ds_state.specs.World.{PlainEdit, PlainIssue, PlainWorld, edit_of}
 use Rattle.ds_state.specs.Crashes.{StopsIn}
+use Rattle.ds_state.specs.LayoutsFit.{IsMoving}
 use Rattle.ds_state.specs.Sound.{IsSound}
 use Rattle.ds_state.specs.Spent.{IsSpent}
 use Rattle.ds_state.specs.Edits.{PlainEditCall}
-use Rattle.ds_state.specs.Works.{PlainShowCall, PlainWorkCall, PlainRecoverCall}
+use Rattle.ds_state.specs.Works.{PlainShowCall}
 use Rattle.ds_state.specs.Middles.{HaveMiddles}
 use Rattle.ds_show.specs.ShowMiddles.{WasSettled}
 use Rattle.ds_state.specs.declared.work.ShowEnd.TheVariants.{Settled}
@@ -30,7 +31,7 @@ use Rattle.ds_state.specs.declared.work.RecoverStage.TheVariants as recover_stag
 use Rattle.ds_recover.specs.RecoverySteps.{end_of}
 use Rattle.ds_state.specs.declared.stage.Outcome.TheVariants.{Done, Overtaken}
 use Rattle.ds_state.specs.declared.situation.Situation.{Situation}
-use Rattle.ds_state.specs.declared.situation.Situation.TheVariants.{Idle, Stopped}
+use Rattle.ds_state.specs.declared.situation.Situation.TheVariants.{Stopped}
 use Rattle.ds_recover.specs.declared.machine.RecoveryEnd.TheVariants.{Last, Nothing}
 use Rattle.ds_recover.specs.declared.machine.RecoveryEnd.{RecoveryEnd}
 use Rattle.ds_drives.specs.declared.board.Deeds.{Deeds}
@@ -66,6 +67,12 @@ world_on layout words b = record {
   counted = b.counted;
   open_edits = b.open_edits;
 }
+
+-- a sheet of the second layout for good: both sides of the version's word say it, and no process migrates the sheet
+pub record IsSecond (w : PlainWorld) : Type 0 where
+  pub cached : w.memory.cached place.Version ≡ 1
+  pub persisted : w.memory.persisted place.Version ≡ 1
+  pub settled : (q : ℕ) → q < w.layout.processes → IsMoving (w.situation q) → ⊥
 
 -- ---- what a seat was told
 
@@ -150,12 +157,13 @@ pub record Fits (layout : Layout) (words : List ℕ) (b : Behind) (owner : ℕ �
 abbrev pub AreTrue : Layout → List ℕ → Behind → List Seated → Type 0
 AreTrue layout words b past = (e : Seated) (t : Told) → In past e → In e.deeds.told t → IsTold (world_on layout words b) e.process t
 
--- a sound world stands behind the words and the views: each process of a view is one of the sheet's that its seat alone
--- runs, and what was told is true, also what was told at the sheets before
+-- a sound world, in the second layout, stands behind the words and the views: each process of a view is one of the
+-- sheet's that its seat alone runs, and what was told is true, also what was told at the sheets before
 pub record Ruled {S : Type 0} (layout : Layout) (s : State S View) : Type 0 where
   pub behind : Behind
   pub owner : ℕ → ℕ
   pub sound : IsSound (world_on layout s.words behind)
+  pub second : IsSecond (world_on layout s.words behind)
   pub long : length s.words ≡ 8 * words_of layout
   pub middles : HaveMiddles (world_on layout s.words behind)
   pub knows : (j : ℕ) (v : View) → get_elem? s.views j ≡ some v → (e : Seated) → In v.entries e → Fits layout s.words behind owner j e
@@ -167,8 +175,8 @@ class_in layout n = class_of (place_of layout n)
 
 -- ---- one process goes on
 
--- the process p is in this situation with this buffer, the others are as they were, announcements only grow, and at most
--- an edit of p came to count, with a number that is not spent
+-- the process p is in this situation with this buffer, the others are as they were, announcements only grow, at most
+-- an edit of p came to count, with a number that is not spent, and the second layout stays
 pub record After (layout : Layout) (words words' : List ℕ) (b b' : Behind) (p : ℕ) (s : Situation) (x : List (BufferEntry ℕ)) : Type 0 where
   pub sound : IsSound (world_on layout words' b')
   pub now : b'.situation p ≡ s
@@ -179,11 +187,12 @@ pub record After (layout : Layout) (words words' : List ℕ) (b b' : Behind) (p 
   pub kept : (d : PlainEdit) → Contains b.counted d → Contains b'.counted d
   pub came : (d : PlainEdit) → Contains b'.counted d → Contains b.counted d ⊎ ((d.process ≡ p) × ((m : ℕ) → IsSpent (world_on layout words b) p m → m < d.number))
   pub middles : HaveMiddles (world_on layout words b) → HaveMiddles (world_on layout words' b')
+  pub second : IsSecond (world_on layout words b) → IsSecond (world_on layout words' b')
 
--- in each sound world behind what the seat knows, the process may come to this situation and this buffer, and no word
--- changes
+-- in each sound world of the second layout behind what the seat knows, the process may come to this situation and this
+-- buffer, and no word changes
 abbrev pub Ready : Layout → Seated → ℕ → Situation → List (BufferEntry ℕ) → Type 0
-Ready layout seat p s x = (words : List ℕ) (b : Behind) → IsSound (world_on layout words b) → p < layout.processes → b.situation p ≡ seat.now → b.buffer p ≡ seat.buffer
+Ready layout seat p s x = (words : List ℕ) (b : Behind) → IsSound (world_on layout words b) → IsSecond (world_on layout words b) → p < layout.processes → b.situation p ≡ seat.now → b.buffer p ≡ seat.buffer
     → (b' : Behind) × After layout words words b b' p s x
 
 -- the seat has the one process, which has done this, and its process may come to this situation
@@ -201,9 +210,10 @@ Serves layout Back [] = ⊥
 Serves layout Back (x ∷ rest) = x.place < words_of layout
 Serves layout _ buffer = Unit {0}
 
--- a sound world with these words, in which all processes have stopped
+-- a sound world with these words, in the second layout, in which all processes have stopped
 pub record AtRest (layout : Layout) (words : List ℕ) (b : Behind) : Type 0 where
   pub sound : IsSound (world_on layout words b)
+  pub second : IsSecond (world_on layout words b)
   pub stopped : (p : ℕ) → p < layout.processes → b.situation p ≡ Stopped
   pub buffer : (p : ℕ) → p < layout.processes → b.buffer p ≡ []
 
@@ -212,11 +222,12 @@ pub data Stops (layout : Layout) (words : List ℕ) (first : Behind) : Behind �
   none : Stops layout words first first
   stop : (a b : Behind) (p : ℕ) → Stops layout words first a → StopsIn p (world_on layout words a) (world_on layout words b) → Stops layout words first b
 
--- these words are those of a sound world in which each process that was handed in does what its seat says, and stops
--- alone lead from it to one at rest, in which all that was told is true still
+-- these words are those of a sound world, in the second layout, in which each process that was handed in does what its
+-- seat says, and stops alone lead from it to one at rest, in which all that was told is true still
 pub record Closes (layout : Layout) (words : List ℕ) (Handed : Seated → Type 0) (past : List Seated) : Type 0 where
   pub last : Behind
   pub sound : IsSound (world_on layout words last)
+  pub second : IsSecond (world_on layout words last)
   pub stands : (e : Seated) → Handed e → Stands layout words last e
   pub behind : Behind
   pub stops : Stops layout words last behind

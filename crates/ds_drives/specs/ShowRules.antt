@@ -1,5 +1,5 @@
 -- A report, as one loop drives it.
-use Rattle.std.specs.Prelude.{ℕ, ◌≡◌, List, ◌∷◌}
+use Rattle.std.specs.Prelude.{ℕ, ◌≡◌, List}
 use Rattle.ds_words.specs.declared.access.BufferEntry.{BufferEntry}
 use Rattle.ds_layout.specs.declared.layout.Layout.{Layout}
 use Rattle.ds_layout.specs.Places.{cells_of}
@@ -13,7 +13,7 @@ use Rattle.ds_show.specs.ShowSteps.{access_at, got_at, rank, fresh}
 use Rattle.ds_drives.specs.declared.board.Seated.{Seated}
 use Rattle.ds_drives.specs.declared.board.Deeds.{Deeds}
 use Rattle.ds_drives.specs.declared.board.Told.TheVariants.{Shown}
-use Rattle.ds_drives.specs.Views.{seated, told_also}
+use Rattle.ds_drives.specs.Views.{seated, told_also, second_rest}
 use Rattle.ds_drives.specs.Rules.{Rules}
 
 -- not only its answer is left
@@ -31,9 +31,9 @@ pub record IsShowOn (layout : Layout) (e : PlainShowCall) : Type 0 where
   pub cells : cells_of layout ≡ e.cells
   pub processes : layout.processes ≡ e.processes
 
--- the process at a stage of its report: where only its answer is left, it is idle
+-- the process at a stage of its report: where only its answer is left, it is idle, and knows the second layout
 abbrev pub landed_at : PlainShowCall → ShowStage → List (BufferEntry ℕ) → Deeds → Seated
-landed_at e (Answer end) buffer deeds = seated e.process (Idle e.next) buffer (told_also deeds (Shown (record e { stage = Answer end })))
+landed_at e (Answer end) buffer deeds = seated e.process (Idle (second_rest e.next)) buffer (told_also deeds (Shown (record e { stage = Answer end })))
 landed_at e stage buffer deeds = seated e.process (Showing (record e { stage = stage })) buffer deeds
 
 -- the same process and number
@@ -46,7 +46,7 @@ abbrev pub show_rules : Rules PlainShowCall
 show_rules = record {
   process = λ e. e.process;
   doing = Showing;
-  begun = λ layout e. e ≡ fresh e.process e.next (cells_of layout) layout.processes;
+  begun = λ layout e. e ≡ fresh e.process (second_rest e.next) (cells_of layout) layout.processes;
   access = λ layout e. access_at e.stage;
   next = got_at;
   land = λ e buffer deeds. landed_at e e.stage buffer deeds;

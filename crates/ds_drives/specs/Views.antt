@@ -3,6 +3,8 @@ use Rattle.std.specs.Prelude.{ℕ, ◌≡◌, ◌⊎◌, ◌+◌, zero, suc, Boo
 use Rattle.atomic_table.specs.Table.{Me}
 use Rattle.atomic_table.specs.declared.shared.Seat.{Seat}
 use Rattle.ds_words.specs.declared.access.BufferEntry.{BufferEntry}
+use Rattle.ds_layout.specs.declared.place.Edition.TheVariants.{Second}
+use Rattle.ds_state.specs.declared.situation.Rest.{Rest}
 use Rattle.ds_state.specs.declared.situation.Situation.{Situation}
 use Rattle.ds_state.specs.declared.situation.Situation.TheVariants.{Idle, Stopped}
 use Rattle.ds_drives.specs.declared.board.Deeds.{Deeds}
@@ -48,10 +50,14 @@ abbrev pub newcomers_from : Situation → ℕ → ℕ → List Seated
 newcomers_from s p zero = []
 newcomers_from s p (suc n) = newcomer s p ∷ newcomers_from s (suc p) n
 
+-- what an idle process of a shared sheet knows: the number of its next edit, and the second layout
+abbrev pub second_rest : ℕ → Rest
+second_rest number = record { number = number; edition = Second }
+
 -- what each process does at first
 abbrev pub first_now : Bool → Situation
 first_now true = Stopped
-first_now false = Idle 0
+first_now false = Idle (second_rest 0)
 
 -- the view that has every process, and this past
 abbrev pub first_view : Bool → ℕ → List Seated → View

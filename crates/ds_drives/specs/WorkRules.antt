@@ -1,5 +1,5 @@
 -- Work, as one loop drives it: reading the content and the offer go with the step before them.
-use Rattle.std.specs.Prelude.{ℕ, ◌≡◌, List, ◌∷◌}
+use Rattle.std.specs.Prelude.{ℕ, ◌≡◌, List}
 use Rattle.ds_words.specs.declared.access.BufferEntry.{BufferEntry}
 use Rattle.ds_eval.specs.Local.{local}
 use Rattle.ds_eval.specs.Inputs.{entry_in}
@@ -17,7 +17,7 @@ use Rattle.ds_work.specs.WorkRank.{steps_left}
 use Rattle.ds_drives.specs.declared.board.Seated.{Seated}
 use Rattle.ds_drives.specs.declared.board.Deeds.{Deeds}
 use Rattle.ds_drives.specs.declared.board.Told.TheVariants.{Worked}
-use Rattle.ds_drives.specs.Views.{seated, told_also}
+use Rattle.ds_drives.specs.Views.{seated, told_also, second_rest}
 use Rattle.ds_drives.specs.Rules.{Rules}
 
 -- a step that touches a word is left
@@ -44,9 +44,9 @@ pub data Turned (layout : Layout) (e : PlainWorkCall) : PlainWorkCall → Type 0
   reads : (f : PlainWorkCall) → e.stage ≡ Read → IsReading layout.shape e f → Turned layout e f
   takes : e.stage ≡ Wait → Turned layout e (offered e (local layout.shape e.content (entry_in e.inputs)))
 
--- the process at a stage of its work: where only its answer is left, it is idle
+-- the process at a stage of its work: where only its answer is left, it is idle, and knows the second layout
 abbrev pub landed_at : PlainWorkCall → WorkStage → List (BufferEntry ℕ) → Deeds → Seated
-landed_at e (Answer end) buffer deeds = seated e.process (Idle e.next) buffer (told_also deeds (Worked (record e { stage = Answer end }) end))
+landed_at e (Answer end) buffer deeds = seated e.process (Idle (second_rest e.next)) buffer (told_also deeds (Worked (record e { stage = Answer end }) end))
 landed_at e stage buffer deeds = seated e.process (Working (record e { stage = stage })) buffer deeds
 
 -- the same process, number and cell
@@ -60,7 +60,7 @@ abbrev pub work_rules : Rules PlainWorkCall
 work_rules = record {
   process = λ e. e.process;
   doing = Working;
-  begun = λ layout e. IsAskedFor layout e.process e.next e.cell e;
+  begun = λ layout e. IsAskedFor layout e.process (second_rest e.next) e.cell e;
   access = λ layout e. access_at layout.shape e e.stage;
   next = λ e word. next_at e e.stage word;
   land = λ e buffer deeds. landed_at e e.stage buffer deeds;

@@ -8,6 +8,7 @@ ghost use Rattle.ds_drives.specs.Rule.{AreTrue, AtRest, Behind, Closes};
 
 use atomic_table::{Closed, Join, Play, Seat, Split, Table, TableRule};
 use ds_layout::layout::Layout;
+use ds_layout::place;
 use ds_recover::machine::RecoveryEnd;
 use ds_state::edit::EditCall;
 use ds_state::situation::Situation;
@@ -154,13 +155,17 @@ pub struct Board {
 }
 
 impl Board {
-    /// A board of a new sheet, and a seat that runs every process. An error is a want of memory.
+    /// A board of a new sheet, in the second layout: the version's word says it on both sides, and stays. All
+    /// other words are 0. A seat runs every process. An error is a want of memory.
     pub fn make(alloc: Global, layout: Layout) -> Result<(Board, Place), AllocError>
         ensures layout { IfOk result (λ r. r.0.layout ≡ layout) }
         ensures place { IfOk result (λ r. (r.1.table_id ≡ r.0.table.shared.table_id) × (r.1.me ≡ (first_view false layout.processes [], []))) }
     {
         let count = layout.words() * 8;
-        let words: Vec<u64, Global> = vec![in alloc; 0; count]?;
+        let mut words: Vec<u64, Global> = vec![in alloc; 0; count]?;
+        let version = layout.number(place::Place::Version) * 8;
+        words[version] = 1;
+        words[version + 1] = 1;
         let key = Key {
             layout,
             stopped: false,
@@ -170,8 +175,9 @@ impl Board {
         Ok((Board { table, layout }, place))
     }
 
-    /// A board with these words, and a seat that runs every process, each of which has stopped. The
-    /// seat of a sheet before remembers what was told there; where memory is wanting it comes back.
+    /// A board with these words, of a sheet in the second layout, and a seat that runs every process, each of
+    /// which has stopped. The seat of a sheet before remembers what was told there; where memory is wanting it
+    /// comes back.
     pub fn remake(
         alloc: Global,
         layout: Layout,

@@ -5,7 +5,7 @@ ghost use Rattle.ds_state.specs.Edits.{IsEdit};
 ghost use Rattle.ds_state.specs.declared.situation.Situation.TheVariants.{Idle};
 ghost use Rattle.ds_drives.specs.EditRules.{IsFirst, edit_rules};
 ghost use Rattle.ds_drives.specs.Fuses.{Asked};
-ghost use Rattle.ds_drives.specs.Views.{deeds_at, lone, sole, steps_later};
+ghost use Rattle.ds_drives.specs.Views.{deeds_at, lone, second_rest, sole, steps_later};
 ghost use Rattle.ds_drives.specs.Rules.{Came};
 ghost use Rattle.ds_drives.specs.Machines.{IsBroken, IsSettled};
 
@@ -58,7 +58,7 @@ impl Machine for EditCall {
 }
 
 impl Board {
-    /// An idle process makes the edit, as long as the fuse says yes. Says whether it came to its end.
+    /// An idle process makes the edit, in the second layout, as long as the fuse says yes. Says whether it came to its end.
     pub fn edit<F: Fuse>(
         &self,
         alloc: Global,
@@ -67,7 +67,7 @@ impl Board {
         fuse: &mut F,
     ) -> bool
         requires place { (place.old.table_id ≡ self.now.table.shared.table_id) × (place.old.me ≡ (lone (sole place.old), [])) × ((sole place.old).process ≡ call.old.process) }
-        requires idle { (sole place.old).now ≡ Idle call.old.number }
+        requires idle { (sole place.old).now ≡ Idle (second_rest call.old.number) }
         requires begun { IsFirst self.now.layout call.old }
         ensures place { place.new.table_id ≡ place.old.table_id }
         ensures fits { edit_rules.fits self.now.layout call.new }

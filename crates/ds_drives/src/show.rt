@@ -7,7 +7,7 @@ ghost use Rattle.ds_state.specs.declared.situation.Situation.TheVariants.{Idle};
 ghost use Rattle.ds_show.specs.ShowSteps.{fresh};
 ghost use Rattle.ds_drives.specs.ShowRules.{show_rules};
 ghost use Rattle.ds_drives.specs.Fuses.{Asked};
-ghost use Rattle.ds_drives.specs.Views.{deeds_at, lone, sole, steps_later};
+ghost use Rattle.ds_drives.specs.Views.{deeds_at, lone, second_rest, sole, steps_later};
 ghost use Rattle.ds_drives.specs.Rules.{Came};
 ghost use Rattle.ds_drives.specs.Machines.{IsBroken, IsSettled};
 
@@ -59,7 +59,7 @@ impl Machine for ShowCall {
 }
 
 impl Board {
-    /// An idle process reports the sheet, as long as the fuse says yes. Says whether it came to its end.
+    /// An idle process reports the sheet, in the second layout, as long as the fuse says yes. Says whether it came to its end.
     pub fn show<F: Fuse>(
         &self,
         alloc: Global,
@@ -68,8 +68,8 @@ impl Board {
         fuse: &mut F,
     ) -> bool
         requires place { (place.old.table_id ≡ self.now.table.shared.table_id) × (place.old.me ≡ (lone (sole place.old), [])) × ((sole place.old).process ≡ call.old.process) }
-        requires idle { (sole place.old).now ≡ Idle call.old.next }
-        requires begun { call.old ≡ fresh call.old.process call.old.next (cells_of self.now.layout) self.now.layout.processes }
+        requires idle { (sole place.old).now ≡ Idle (second_rest call.old.next) }
+        requires begun { call.old ≡ fresh call.old.process (second_rest call.old.next) (cells_of self.now.layout) self.now.layout.processes }
         ensures place { place.new.table_id ≡ place.old.table_id }
         ensures fits { show_rules.fits self.now.layout call.new }
         ensures stays { show_rules.stays call.old call.new }

@@ -6,7 +6,7 @@ ghost use Rattle.ds_state.specs.declared.situation.Situation.TheVariants.{Idle};
 ghost use Rattle.ds_work.specs.WorkTakes.{IsAskedFor};
 ghost use Rattle.ds_drives.specs.WorkRules.{Turned, work_rules};
 ghost use Rattle.ds_drives.specs.Fuses.{Asked};
-ghost use Rattle.ds_drives.specs.Views.{deeds_at, lone, sole, steps_later};
+ghost use Rattle.ds_drives.specs.Views.{deeds_at, lone, second_rest, sole, steps_later};
 ghost use Rattle.ds_drives.specs.Rules.{Came};
 ghost use Rattle.ds_drives.specs.Machines.{IsBroken, IsSettled};
 
@@ -65,7 +65,7 @@ impl Machine for WorkCall {
 }
 
 impl Board {
-    /// An idle process works, as long as the fuse says yes. Says whether it came to its end.
+    /// An idle process works, in the second layout, as long as the fuse says yes. Says whether it came to its end.
     pub fn work<F: Fuse>(
         &self,
         alloc: Global,
@@ -74,8 +74,8 @@ impl Board {
         fuse: &mut F,
     ) -> bool
         requires place { (place.old.table_id ≡ self.now.table.shared.table_id) × (place.old.me ≡ (lone (sole place.old), [])) × ((sole place.old).process ≡ call.old.process) }
-        requires idle { (sole place.old).now ≡ Idle call.old.next }
-        requires begun { IsAskedFor self.now.layout call.old.process call.old.next call.old.cell call.old }
+        requires idle { (sole place.old).now ≡ Idle (second_rest call.old.next) }
+        requires begun { IsAskedFor self.now.layout call.old.process (second_rest call.old.next) call.old.cell call.old }
         ensures place { place.new.table_id ≡ place.old.table_id }
         ensures fits { work_rules.fits self.now.layout call.new }
         ensures stays { work_rules.stays call.old call.new }

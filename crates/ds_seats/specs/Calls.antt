@@ -17,7 +17,7 @@ use Rattle.ds_recover.specs.RecoverySteps as recoveries
 use Rattle.ds_recover.specs.declared.machine.RecoveryEnd.{RecoveryEnd}
 use Rattle.ds_drives.specs.declared.board.Told.{Told}
 use Rattle.ds_drives.specs.declared.board.Told.TheVariants.{Edited, Worked, Recovered, Shown}
-use Rattle.ds_drives.specs.Views.{In}
+use Rattle.ds_drives.specs.Views.{In, second_rest}
 use Rattle.ds_drives.specs.EditRules.{IsFirst, edit_rules}
 use Rattle.ds_drives.specs.WorkRules.{work_rules}
 use Rattle.ds_drives.specs.RecoverRules.{recover_rules}
@@ -56,7 +56,7 @@ pub record Works (s : SharedSheet) (cell : Cell) (fuse : ℕ) (old new : Pass) (
   pub goes : Goes fuse old new how
   pub answered : IfAnswered how (λ a. (e : PlainWorkCall) × (end : WorkEnd) × IsWorkOf e old (index_of s.board.layout.shape cell) × Tells s.board.layout old new (Worked e end) a)
   pub runs : IfAnswered how (λ a. (new.stopped ≡ false) × (new.number ≡ old.number))
-  pub stopped : IfStopped how ((e : PlainWorkCall) × works.IsAskedFor s.board.layout old.process old.number (index_of s.board.layout.shape cell) e × BreaksOff work_rules s.board.layout e old new)
+  pub stopped : IfStopped how ((e : PlainWorkCall) × works.IsAskedFor s.board.layout old.process (second_rest old.number) (index_of s.board.layout.shape cell) e × BreaksOff work_rules s.board.layout e old new)
   pub refused : IfRefused how (λ r. works.RefusesIn (doing old.stopped old.number) r)
   pub unchanged : IfRefused how (λ r. new ≡ old)
 
@@ -73,7 +73,7 @@ pub record Reports (s : SharedSheet) (fuse : ℕ) (old new : Pass) (how : Ended)
   pub goes : Goes fuse old new how
   pub answered : IfAnswered how (λ a. (e : PlainShowCall) × (e.process ≡ old.process) × Tells s.board.layout old new (Shown e) a × ShowsValues e values)
   pub runs : IfAnswered how (λ a. (new.stopped ≡ false) × (new.number ≡ old.number))
-  pub stopped : IfStopped how ((values ≡ None) × ((e : PlainShowCall) × (e ≡ shows.fresh old.process old.number (cells_of s.board.layout) s.board.layout.processes) × BreaksOff show_rules s.board.layout e old new))
+  pub stopped : IfStopped how ((values ≡ None) × ((e : PlainShowCall) × (e ≡ shows.fresh old.process (second_rest old.number) (cells_of s.board.layout) s.board.layout.processes) × BreaksOff show_rules s.board.layout e old new))
   pub refused : IfRefused how (λ r. works.RefusesIn (doing old.stopped old.number) r)
   pub unchanged : IfRefused how (λ r. (new ≡ old) × (values ≡ None))
 

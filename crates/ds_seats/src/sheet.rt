@@ -97,8 +97,8 @@ impl OpenSheet {
         }
     }
 
-    /// A new sheet, whose words are all 0, with no past. Each process is between calls, and was told nothing yet. An
-    /// error is a want of memory.
+    /// A new sheet, in the second layout, with no past: its words are all 0 but for the version's. Each process is
+    /// between calls, and was told nothing yet. An error is a want of memory.
     pub fn make(alloc: Global, layout: Layout) -> Result<OpenSheet, AllocError>
         ensures layout { IfOk result (λ r. (arc_value r.sheet).board.layout ≡ layout) }
         ensures fresh { IfOk result (λ r. AllFresh false r × (past_in r.past.place ≡ [])) }

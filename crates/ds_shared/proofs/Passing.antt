@@ -25,7 +25,7 @@ use Rattle.ds_drives.specs.declared.board.Seated.{Seated}
 use Rattle.ds_drives.specs.declared.board.Told.{Told}
 use Rattle.ds_drives.specs.declared.board.Told.TheVariants.{Edited, Worked, Recovered, Shown}
 use Rattle.ds_drives.specs.declared.board.View.{View}
-use Rattle.ds_drives.specs.Views.{In, lone, seated, first_in, sole, deeds_at, told_also}
+use Rattle.ds_drives.specs.Views.{In, lone, second_rest, seated, first_in, sole, deeds_at, told_also}
 use Rattle.ds_drives.specs.Rules.{Rules}
 use Rattle.ds_drives.specs.Machines.{IsSettled, IsBroken, unbegun, within}
 use Rattle.ds_drives.specs.EditRules as edits
@@ -63,7 +63,7 @@ module _ {C : Type 0} (r : Rules C) (layout : Layout) (first : C) (old : Me ℕ 
 -- the seat's process is idle again, and was told one thing more
 pub record Lands (me : Me ℕ View) (p n : ℕ) (held : Deeds) (t : Told) : Type 0 where
   pub buffer : List (BufferEntry ℕ)
-  pub at : me ≡ (lone (seated p (Idle n) buffer (told_also held t)), [])
+  pub at : me ≡ (lone (seated p (Idle (second_rest n)) buffer (told_also held t)), [])
 
 pub landed_done : (me : Me ℕ View) (p n : ℕ) (held : Deeds) (t : Told) → Lands me p n held t → deeds_at me ≡ told_also held t
 landed_done me p n held t l = ap deeds_at l.at
@@ -71,35 +71,35 @@ landed_done me p n held t l = ap deeds_at l.at
 pub known_landed : (s : Seat ℕ View) (p n q m : ℕ) (held : Deeds) (t : Told) → Lands s.me p n held t → p ≡ q → n ≡ m → IsKnown s q m false
 known_landed s p n q m held t l own number =
     let at = l.at in
-    let one : sole s ≡ seated p (Idle n) l.buffer (told_also held t) = ap (λ (z : Me ℕ View). first_in z.0.entries) at in record {
+    let one : sole s ≡ seated p (Idle (second_rest n)) l.buffer (told_also held t) = ap (λ (z : Me ℕ View). first_in z.0.entries) at in record {
       alone = at ∙ ap (λ (z : Seated). (lone z, [])) (sym one);
       process_is = ap (λ (z : Seated). z.process) one ∙ own;
-      idle = λ e. ap (λ (z : Seated). z.now) one ∙ ap Idle number;
+      idle = λ e. ap (λ (z : Seated). z.now) one ∙ ap (λ (k : ℕ). Idle (second_rest k)) number;
     }
 
 pub edit_lands : (layout : Layout) (held : Deeds) (me : Me ℕ View) (e : PlainEditCall) (how : Outcome) → e.stage ≡ stage.Answer how → IsSettled edits.edit_rules layout held me e → Lands me e.process (e.number + 1) held (Edited e how)
 edit_lands layout held me e how is s = record { buffer = s.buffer; at = s.at ∙ ap (λ (z : Seated). (lone z, [])) (one e.stage is) }
   where
-    one : (z : Stage) → z ≡ stage.Answer how → edits.landed_at e z s.buffer held ≡ seated e.process (Idle (e.number + 1)) s.buffer (told_also held (Edited (record e { stage = z }) how))
-    one z at = subst (λ (y : Stage). edits.landed_at e y s.buffer held ≡ seated e.process (Idle (e.number + 1)) s.buffer (told_also held (Edited (record e { stage = y }) how))) (sym at) refl
+    one : (z : Stage) → z ≡ stage.Answer how → edits.landed_at e z s.buffer held ≡ seated e.process (Idle (second_rest (e.number + 1))) s.buffer (told_also held (Edited (record e { stage = z }) how))
+    one z at = subst (λ (y : Stage). edits.landed_at e y s.buffer held ≡ seated e.process (Idle (second_rest (e.number + 1))) s.buffer (told_also held (Edited (record e { stage = y }) how))) (sym at) refl
 
 pub work_lands : (layout : Layout) (held : Deeds) (me : Me ℕ View) (e : PlainWorkCall) (end : WorkEnd) → e.stage ≡ work.Answer end → IsSettled works.work_rules layout held me e → Lands me e.process e.next held (Worked e end)
 work_lands layout held me e end is s = record { buffer = s.buffer; at = s.at ∙ ap (λ (z : Seated). (lone z, [])) (one e.stage is) }
   where
-    one : (z : WorkStage) → z ≡ work.Answer end → works.landed_at e z s.buffer held ≡ seated e.process (Idle e.next) s.buffer (told_also held (Worked (record e { stage = z }) end))
-    one z at = subst (λ (y : WorkStage). works.landed_at e y s.buffer held ≡ seated e.process (Idle e.next) s.buffer (told_also held (Worked (record e { stage = y }) end))) (sym at) refl
+    one : (z : WorkStage) → z ≡ work.Answer end → works.landed_at e z s.buffer held ≡ seated e.process (Idle (second_rest e.next)) s.buffer (told_also held (Worked (record e { stage = z }) end))
+    one z at = subst (λ (y : WorkStage). works.landed_at e y s.buffer held ≡ seated e.process (Idle (second_rest e.next)) s.buffer (told_also held (Worked (record e { stage = y }) end))) (sym at) refl
 
 pub recovery_lands : (layout : Layout) (held : Deeds) (me : Me ℕ View) (e : PlainRecoverCall) (how : Option Bool) → e.stage ≡ recovery.Answer how → IsSettled recoveries.recover_rules layout held me e → Lands me e.process (next_number e.announcement how) held (Recovered e (end_of e how))
 recovery_lands layout held me e how is s = record { buffer = s.buffer; at = s.at ∙ ap (λ (z : Seated). (lone z, [])) (one e.stage is) }
   where
-    one : (z : RecoverStage) → z ≡ recovery.Answer how → recoveries.landed_at e z s.buffer held ≡ seated e.process (Idle (next_number e.announcement how)) s.buffer (told_also held (Recovered (record e { stage = z }) (end_of e how)))
-    one z at = subst (λ (y : RecoverStage). recoveries.landed_at e y s.buffer held ≡ seated e.process (Idle (next_number e.announcement how)) s.buffer (told_also held (Recovered (record e { stage = y }) (end_of e how)))) (sym at) refl
+    one : (z : RecoverStage) → z ≡ recovery.Answer how → recoveries.landed_at e z s.buffer held ≡ seated e.process (Idle (second_rest (next_number e.announcement how))) s.buffer (told_also held (Recovered (record e { stage = z }) (end_of e how)))
+    one z at = subst (λ (y : RecoverStage). recoveries.landed_at e y s.buffer held ≡ seated e.process (Idle (second_rest (next_number e.announcement how))) s.buffer (told_also held (Recovered (record e { stage = y }) (end_of e how)))) (sym at) refl
 
 pub show_lands : (layout : Layout) (held : Deeds) (me : Me ℕ View) (e : PlainShowCall) (end : ShowEnd) → e.stage ≡ show.Answer end → IsSettled shows.show_rules layout held me e → Lands me e.process e.next held (Shown e)
 show_lands layout held me e end is s = record { buffer = s.buffer; at = s.at ∙ ap (λ (z : Seated). (lone z, [])) (one e.stage is) }
   where
-    one : (z : ShowStage) → z ≡ show.Answer end → shows.landed_at e z s.buffer held ≡ seated e.process (Idle e.next) s.buffer (told_also held (Shown (record e { stage = z })))
-    one z at = subst (λ (y : ShowStage). shows.landed_at e y s.buffer held ≡ seated e.process (Idle e.next) s.buffer (told_also held (Shown (record e { stage = y })))) (sym at) refl
+    one : (z : ShowStage) → z ≡ show.Answer end → shows.landed_at e z s.buffer held ≡ seated e.process (Idle (second_rest e.next)) s.buffer (told_also held (Shown (record e { stage = z })))
+    one z at = subst (λ (y : ShowStage). shows.landed_at e y s.buffer held ≡ seated e.process (Idle (second_rest e.next)) s.buffer (told_also held (Shown (record e { stage = y })))) (sym at) refl
 
 -- what was told stays told
 pub told_more : (old new : List Told) (t u : Told) → new ≡ t ∷ old → In old u → In new u

@@ -9,10 +9,11 @@ use native.Mathlib.Decide.{ℕ_discrete}
 use Rattle.ds_words.specs.Memory.{EvictsAt}
 use Rattle.ds_layout.specs.declared.layout.Layout.{Layout}
 use Rattle.ds_layout.specs.declared.place.Place.{Place}
+use Rattle.ds_layout.specs.declared.place.Place.TheVariants.{Version}
 use Rattle.ds_layout.specs.Places.{words_of, place_of, number_of, IsPlace}
 use Rattle.ds_layout.specs.SheetMemory.{memory_at}
-use Rattle.ds_layout.proofs.Places.{number_of-place_of, IsPlace-place_of}
-use Rattle.ds_layout.proofs.Sheet.{evicts_at, side_same}
+use Rattle.ds_layout.proofs.Places.{number_of_below, number_of-place_of, IsPlace-place_of}
+use Rattle.ds_layout.proofs.Sheet.{evicts_at, side_at_place, side_same}
 use Rattle.ds_state.specs.World.{PlainWorld, edit_of}
 use Rattle.ds_state.specs.Events.{Evicts}
 use Rattle.ds_state.specs.Crashes.{survivors, CrashesTo}
@@ -26,7 +27,7 @@ use Rattle.ds_recover.specs.declared.machine.RecoveryEnd.TheVariants.{Last, Noth
 use Rattle.ds_drives.specs.declared.board.Told.{Told}
 use Rattle.ds_drives.specs.declared.board.Told.TheVariants.{Edited, Worked, Recovered, Shown}
 use Rattle.ds_drives.specs.Table.{two_sided}
-use Rattle.ds_drives.specs.Rule.{Behind, world_on, IsTold, AtRest, Survives}
+use Rattle.ds_drives.specs.Rule.{Behind, world_on, IsSecond, IsTold, AtRest, Survives}
 use Rattle.ds_shared.proofs.Losses.{told_crashed}
 
 told_evicted : (place : Place) (old new : PlainWorld) → IsSound old → Evicts place old new → (q : ℕ) (t : Told) → IsTold old q t → IsTold new q t
@@ -150,10 +151,31 @@ module _ (layout : Layout) (c : ℕ → Bool) (ws : List ℕ) (long : length ws 
         open_edits = λ q. refl;
       }
 
+      -- both sides of the version's word say the second layout, whichever is left
+      left_one : (n : ℕ) → get_or ws (8 * n) 0 ≡ 1 → get_or ws (8 * n + 1) 0 ≡ 1 → left_side c ws n ≡ 1
+      left_one n x y = by (c n)
+        where
+          by : (t : Bool) → (if t then get_or ws (8 * n) 0 else get_or ws (8 * n + 1) 0) ≡ 1
+          by true = x
+          by false = y
+
+      second : IsSecond (world_on layout ws' after)
+      unfolding after
+      second =
+          let n : ℕ = number_of layout Version in
+          let low = number_of_below layout Version tt in
+          let one = left_one n
+          (sym (side_at_place layout (λ k. get_or ws (8 * k) 0) Version tt) ∙ rests.second.cached)
+          (sym (side_at_place layout (λ k. get_or ws (8 * k + 1) 0) Version tt) ∙ rests.second.persisted) in record {
+            cached = side_at_place layout (λ k. get_or ws' (8 * k) 0) Version tt ∙ cached n low ∙ one;
+            persisted = side_at_place layout (λ k. get_or ws' (8 * k + 1) 0) Version tt ∙ persisted n low ∙ one;
+            settled = λ q inside moving. moving;
+          }
+
       pub survives : Survives layout ws ws' b
       unfolding after mid
       survives = let e = evicted (words_of layout) (le_refl (words_of layout)) in record {
         behind = after;
-        rests = record { sound = crash_sound (world_on layout mid b) (world_on layout ws' after) e.sound crash; stopped = λ p low. refl; buffer = λ p low. refl };
+        rests = record { sound = crash_sound (world_on layout mid b) (world_on layout ws' after) e.sound crash; second = second; stopped = λ p low. refl; buffer = λ p low. refl };
         told = λ q t h. told_crashed (world_on layout mid b) (world_on layout ws' after) e.sound rests.stopped crash q t (e.told q t h);
       }

@@ -8,6 +8,7 @@ use Rattle.ds_layout.specs.declared.place.Place.{Place}
 use Rattle.ds_layout.specs.declared.place.Place.TheVariants as place
 use Rattle.ds_layout.specs.Head.{head_of}
 use Rattle.ds_layout.specs.SheetMemory.{memory_at}
+use Rattle.ds_state.specs.Editions.{seen_edition}
 use Rattle.ds_state.specs.World.{of_cell}
 use Rattle.ds_state.specs.Sound.{IsSound}
 use Rattle.ds_state.specs.Shown.{last_text, named_at, text_at}
@@ -24,7 +25,7 @@ module _ (layout : Layout) (words : List ℕ) (cell : ℕ) (b : Behind) (s : IsS
   by_head None is = sym (text_without_head (world_on layout words b) cell s is)
   by_head (Some head) is =
       let h = text_at_head (world_on layout words b) cell head s is in
-      record_read layout closed head.process head.number h.cell (last_text (of_cell cell b.counted)) h.within (record { header = h.stands.header; parts = record { is = h.stands.parts.is; each = h.stands.parts.each } })
+      record_read layout closed (seen_edition closed) head.process head.number h.cell (last_text (of_cell cell b.counted)) h.within (record { header = h.stands.header; parts = record { is = h.stands.parts.is; fits = h.stands.parts.fits; each = h.stands.parts.each } })
 
   pub text_closed : text_at layout closed cell ≡ last_text (of_cell cell b.counted)
   text_closed = by_head (head_of layout.processes (closed.cached (place.Head cell))) refl

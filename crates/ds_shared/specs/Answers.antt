@@ -22,7 +22,7 @@ use Rattle.ds_drives.specs.declared.board.Told.{Told}
 use Rattle.ds_drives.specs.declared.board.Told.TheVariants.{Edited, Worked, Recovered, Shown}
 use Rattle.ds_drives.specs.Fuses.{Asked}
 use Rattle.ds_drives.specs.declared.board.Seated.{Seated}
-use Rattle.ds_drives.specs.Views.{deeds_at, sole}
+use Rattle.ds_drives.specs.Views.{deeds_at, second_rest, sole}
 use Rattle.ds_drives.specs.Rules.{Rules}
 use Rattle.ds_drives.specs.Rule.{CallHolds}
 use Rattle.ds_drives.specs.Machines.{IsBroken}
@@ -145,7 +145,7 @@ pub record IsWorkOf (e : PlainWorkCall) (p : Pass) (cell : ℕ) : Type 0 where
   pub next : e.next ≡ p.number
   pub cell_is : e.cell ≡ cell
 
--- what the process of a pass does between calls
+-- what the process of a pass does between calls: where it is not stopped, it knows the second layout
 abbrev pub doing : Bool → ℕ → Situation
 doing true number = Stopped
-doing false number = Idle number
+doing false number = Idle (second_rest number)

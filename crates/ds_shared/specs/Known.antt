@@ -5,13 +5,13 @@ use Rattle.ds_state.specs.declared.situation.Situation.TheVariants.{Idle}
 use Rattle.ds_drives.specs.declared.board.Seated.{Seated}
 use Rattle.ds_drives.specs.declared.board.View.{View}
 use Rattle.ds_drives.specs.declared.board.Told.{Told}
-use Rattle.ds_drives.specs.Views.{lone, sole, deeds_at}
+use Rattle.ds_drives.specs.Views.{lone, second_rest, sole, deeds_at}
 
--- the seat has this one process, which is idle where it is not stopped
+-- the seat has this one process, which is idle, and knows the second layout, where it is not stopped
 pub record IsKnown (s : Seat ℕ View) (process number : ℕ) (stopped : Bool) : Type 0 where
   pub alone : s.me ≡ (lone (sole s), [])
   pub process_is : (sole s).process ≡ process
-  pub idle : stopped ≡ false → (sole s).now ≡ Idle number
+  pub idle : stopped ≡ false → (sole s).now ≡ Idle (second_rest number)
 
 -- what the seat's process was told, the last thing first
 abbrev pub outcomes : Seat ℕ View → List Told

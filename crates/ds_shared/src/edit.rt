@@ -68,7 +68,7 @@ impl SharedSheet {
             alloc,
             &self.board.layout,
             pass.process,
-            pass.number,
+            pass.rest(),
             cell,
             text,
         ) {

@@ -7,6 +7,8 @@ ghost use Rattle.ds_eval.specs.Code.{plain_code};
 ghost use Rattle.std.specs.Coded.{codes};
 
 use ds_drives::board::Place;
+use ds_layout::place::Edition;
+use ds_state::situation::Rest;
 
 /// What was told before a sheet was opened. Its owner keeps it for the close.
 #[derive(Drop)]
@@ -28,11 +30,22 @@ pub struct Pass {
 
 impl Pass {
     ghost use Rattle.std.specs.Prelude.{◌≡◌};
+    ghost use Rattle.ds_drives.specs.Views.{second_rest};
 
     /// The process that it acts for.
     pub fn process(&self) -> usize
         ensures { result ≡ self.now.process }
     {
         self.process
+    }
+
+    // What its process knows between calls: the number of its next edit, and the second layout.
+    pub(crate) fn rest(&self) -> Rest
+        ensures { result ≡ second_rest self.now.number }
+    {
+        Rest {
+            number: self.number,
+            edition: Edition::Second,
+        }
     }
 }

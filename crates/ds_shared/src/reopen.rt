@@ -27,8 +27,8 @@ impl ClosedSheet {
     }
 
     /// Opens a sheet with these words, in which every process has stopped, with a pass for each, in
-    /// order. It asks for what `close` and `crash_with` leave: a sound world at rest has the words,
-    /// and what is remembered is true of it. It is the past of the new sheet. Where memory is
+    /// order. It asks for what `close` and `crash_with` leave: a sound world at rest, in the second
+    /// layout, has the words, and what is remembered is true of it. It is the past of the new sheet. Where memory is
     /// wanting the words are handed back.
     pub fn reopen(
         self,

@@ -43,8 +43,9 @@ pub(crate) fn dealt(
 }
 
 impl SharedSheet {
-    /// A new sheet, whose words are all 0, with no past, and a pass for each process, in order:
-    /// between calls, and told nothing yet. An error is a want of memory.
+    /// A new sheet, in the second layout, with no past, and a pass for each process, in order: between
+    /// calls, and told nothing yet. Its words are all 0 but for the version's, which says the layout on
+    /// both sides, for as long as the sheet lasts, through crashes too. An error is a want of memory.
     pub fn make(
         alloc: Global,
         layout: Layout,
@@ -61,7 +62,7 @@ impl SharedSheet {
     }
 
     /// Ends the sheet, with passes between calls or broken off in one. Its words are those of a sound
-    /// world in which each of these passes' processes does what its pass says; from there stops alone
+    /// world, in the second layout, in which each of these passes' processes does what its pass says; from there stops alone
     /// lead to one at rest. All that these passes were told, and what was told before the sheet was
     /// opened, is true of it; just that is remembered, with which processes they were of.
     pub fn close(self, past: Past, mut passes: Vec<Pass, Global>) -> ClosedSheet

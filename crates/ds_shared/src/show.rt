@@ -10,7 +10,7 @@ ghost use Rattle.ds_work.specs.WorkTakes.{RefusesIn};
 ghost use Rattle.ds_drives.specs.declared.board.Told.{Told};
 ghost use Rattle.ds_drives.specs.declared.board.Told.TheVariants.{Shown};
 ghost use Rattle.ds_drives.specs.ShowRules.{IsEnded, show_rules};
-ghost use Rattle.ds_drives.specs.Views.{In};
+ghost use Rattle.ds_drives.specs.Views.{In, second_rest};
 ghost use Rattle.ds_shared.specs.Known.{outcomes};
 ghost use Rattle.ds_shared.specs.Answers.{IsOf, IfAnswered, IfRefused, IfStopped, IsAskedEachStep, BreaksOff, ShowsValues, Tells, show_answer, doing};
 
@@ -98,7 +98,7 @@ impl SharedSheet {
         ensures answered { IfAnswered result.0 (λ a. (e : PlainShowCall) × (e.process ≡ pass.old.process) × Tells self.now.board.layout pass.old pass.new (Shown e) a × ShowsValues e result.1) }
         ensures runs { IfAnswered result.0 (λ a. (pass.new.stopped ≡ false) × (pass.new.number ≡ pass.old.number)) }
         ensures steps { IsAskedEachStep F.said fuse.old fuse.new pass.old pass.new result.0 }
-        ensures stopped { IfStopped result.0 ((result.1 ≡ None) × ((e : PlainShowCall) × (e ≡ begun pass.old.process pass.old.number (cells_of self.now.board.layout) self.now.board.layout.processes) × BreaksOff show_rules self.now.board.layout e pass.old pass.new)) }
+        ensures stopped { IfStopped result.0 ((result.1 ≡ None) × ((e : PlainShowCall) × (e ≡ begun pass.old.process (second_rest pass.old.number) (cells_of self.now.board.layout) self.now.board.layout.processes) × BreaksOff show_rules self.now.board.layout e pass.old pass.new)) }
         ensures kept { (t : Told) → In (outcomes pass.old.place) t → In (outcomes pass.new.place) t }
         ensures refused { IfRefused result.0 (λ r. RefusesIn (doing pass.old.stopped pass.old.number) r) }
         ensures unchanged { IfRefused result.0 (λ r. (pass.new ≡ pass.old) × (result.1 ≡ None)) }
@@ -110,7 +110,7 @@ impl SharedSheet {
             Ok(values) => values,
             Err(_) => return (Ended::Refused(Refusal::NoMemory), None),
         };
-        let mut call = match fresh(alloc, &self.board.layout, pass.process, pass.number) {
+        let mut call = match fresh(alloc, &self.board.layout, pass.process, pass.rest()) {
             Ok(call) => call,
             Err(_) => return (Ended::Refused(Refusal::NoMemory), None),
         };

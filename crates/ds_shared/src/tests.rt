@@ -12,8 +12,10 @@ use ds_drives::fuse::{Fuse, Whole};
 use ds_edit::answer::Answer;
 use ds_eval::value::Value;
 use ds_formula::cells::{Cell, Shape};
+use ds_formula::fault::{FaultKind, TextFault};
 use ds_layout::layout::Layout;
 use ds_layout::place::Place;
+use ds_state::refusal::Refusal;
 use std::alloc::Global;
 use std::test::Fail;
 use std::thread::{Threads, join};
@@ -296,6 +298,67 @@ fn edits_are_resolved(rt: HostRuntime) -> Result<(), Fail> {
             assert_eq!(rt; one, told(steps, 6, 10));
             assert_eq!(rt; two, Ended::Answered(Answer::Nothing));
         }
+    }
+    Ok(())
+}
+
+// A text of 240 bytes, which are all that the second layout has room for.
+const LONGEST: &str =
+    "=SUM(1000000000;1000000;1000000;1000000;1000000;1000000;1000000;1000000;1000000;1000000;1000000;1000000;1000000;1000000;1000000;1000000;1000000;1000000;1000000;1000000;1000000;1000000;1000000;1000000;1000000;1000000;1000000;1000000;1000000)";
+
+// What was told of an edit, and what its sheet shows behind a crash that leaves persisted sides.
+#[derive(Drop)]
+struct Outcome {
+    edited: Ended,
+    text: Vec<u8>,
+    value: Value,
+    version: (u64, u64),
+}
+
+// The first cell is given a text and worked on; then the sheet is closed and crashes.
+fn kept(alloc: Global, text: &[u8]) -> Option<Outcome> {
+    let (sheet, past, mut first, second, a, _b) = opened(alloc)?;
+    let edited = sheet.edit(alloc, &mut first, a, text, &mut Whole);
+    let _worked = sheet.work(alloc, &mut first, a, &mut Whole);
+    let count = sheet.board.layout.words();
+    let choice: Vec<bool, Global> = match vec![in alloc; false; count] {
+        Ok(choice) => choice,
+        Err(_) => return None,
+    };
+    let mut closed = ended(alloc, sheet, past, first, second)?;
+    closed.crash_with(choice.as_slice());
+    let version = (
+        closed.cached(Place::Version),
+        closed.persisted(Place::Version),
+    );
+    let value = closed.value_of(a);
+    let text = closed.text_of(alloc, a);
+    closed.free();
+    Some(Outcome {
+        edited,
+        text: text.ok()?,
+        value,
+        version,
+    })
+}
+
+#[test]
+fn texts_have_up_to_240_bytes(rt: HostRuntime) -> Result<(), Fail> {
+    if let Some(kept) = kept(rt.alloc(), LONGEST.as_bytes()) {
+        assert_eq!(rt; kept.edited, Ended::Answered(Answer::Done(0)));
+        assert_eq!(rt; kept.text.len(), 240);
+        assert_eq!(rt; kept.text.as_slice(), LONGEST.as_bytes());
+        assert_eq!(rt; kept.value, Value::Number(1_028_000_000));
+        assert_eq!(rt; kept.version, (1, 1));
+    }
+    if let Some(kept) = kept(rt.alloc(), [b'1'; 241].as_slice()) {
+        let fault = TextFault {
+            kind: FaultKind::TooLong,
+            offset: 240,
+        };
+        assert_eq!(rt; kept.edited, Ended::Refused(Refusal::Text(fault)));
+        assert_eq!(rt; kept.text.len(), 0);
+        assert_eq!(rt; kept.version, (1, 1));
     }
     Ok(())
 }

@@ -9,7 +9,7 @@ ghost use Rattle.ds_work.specs.WorkTakes.{IsAskedFor, RefusesIn};
 ghost use Rattle.ds_drives.specs.declared.board.Told.{Told};
 ghost use Rattle.ds_drives.specs.declared.board.Told.TheVariants.{Worked};
 ghost use Rattle.ds_drives.specs.WorkRules.{IsEnded, work_rules};
-ghost use Rattle.ds_drives.specs.Views.{In};
+ghost use Rattle.ds_drives.specs.Views.{In, second_rest};
 ghost use Rattle.ds_shared.specs.Known.{outcomes};
 ghost use Rattle.ds_shared.specs.Answers.{IsOf, IfAnswered, IfRefused, IfStopped, IsAskedEachStep, BreaksOff, IsWorkOf, Tells, work_answer, doing};
 
@@ -58,7 +58,7 @@ impl SharedSheet {
         ensures answered { IfAnswered result (λ a. (e : PlainWorkCall) × (end : End) × IsWorkOf e pass.old (index_of self.now.board.layout.shape cell) × Tells self.now.board.layout pass.old pass.new (Worked e end) a) }
         ensures runs { IfAnswered result (λ a. (pass.new.stopped ≡ false) × (pass.new.number ≡ pass.old.number)) }
         ensures steps { IsAskedEachStep F.said fuse.old fuse.new pass.old pass.new result }
-        ensures stopped { IfStopped result ((e : PlainWorkCall) × IsAskedFor self.now.board.layout pass.old.process pass.old.number (index_of self.now.board.layout.shape cell) e × BreaksOff work_rules self.now.board.layout e pass.old pass.new) }
+        ensures stopped { IfStopped result ((e : PlainWorkCall) × IsAskedFor self.now.board.layout pass.old.process (second_rest pass.old.number) (index_of self.now.board.layout.shape cell) e × BreaksOff work_rules self.now.board.layout e pass.old pass.new) }
         ensures kept { (t : Told) → In (outcomes pass.old.place) t → In (outcomes pass.new.place) t }
         ensures refused { IfRefused result (λ r. RefusesIn (doing pass.old.stopped pass.old.number) r) }
         ensures unchanged { IfRefused result (λ r. pass.new ≡ pass.old) }
@@ -66,7 +66,7 @@ impl SharedSheet {
         if pass.stopped {
             return Ended::Refused(Refusal::Stopped);
         }
-        let mut call = match fresh(alloc, &self.board.layout, pass.process, pass.number, cell) {
+        let mut call = match fresh(alloc, &self.board.layout, pass.process, pass.rest(), cell) {
             Ok(call) => call,
             Err(_) => return Ended::Refused(Refusal::NoMemory),
         };

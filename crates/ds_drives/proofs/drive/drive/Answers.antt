@@ -8,8 +8,8 @@ use Rattle.ds_drives.specs.declared.board.Deeds.{Deeds}
 use Rattle.ds_drives.specs.declared.board.View.{View}
 use Rattle.ds_drives.specs.Table.{answer, buffer_after, class_flushed, HasRoom}
 use Rattle.ds_drives.specs.Views.{lone, deeds_at, steps_later}
-use Rattle.ds_drives.specs.Rules.{Came, still, steps, turns}
-use Rattle.ds_drives.specs.Rule.{CallsHold, Poised, class_in}
+use Rattle.ds_drives.specs.Rules.{steps}
+use Rattle.ds_drives.specs.Rule.{CallsHold, Poised}
 use Rattle.ds_drives.specs.Machines.{asked, stepped, left, IsServed}
 use Rattle.ds_drives.proofs.Driving.{flushed_in, some_words, below, within, room, held_still, one_more, asked_none, asked_also, asked_stop}
 use Rattle.ds_drives.proofs.drive.drive.Goals as goal

@@ -1,4 +1,4 @@
-use Rattle.std.proofs.Common.{rules, ◌≡◌, ◌*◌, ◌<◌, ◌++◌, ℕ, arith, subst, ap, sym}
+use Rattle.std.proofs.Common.{◌≡◌, ◌<◌, ◌++◌, ℕ, arith, subst, ap}
 use Rattle.std.specs.Mem.Slots.{slots_items}
 use Rattle.ds_layout.specs.declared.layout.Layout.{Layout}
 use Rattle.ds_drives.specs.declared.board.View.{View}

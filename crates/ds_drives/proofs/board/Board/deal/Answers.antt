@@ -1,6 +1,5 @@
-use Rattle.std.proofs.Common.{rules, ◌≡◌, ◌+◌, ◌*◌, ◌<◌, ℕ, arith, subst, sym, ap}
-use Rattle.ds_drives.specs.Views.{HasRest, first_now}
-use Rattle.ds_drives.specs.declared.board.View.{View}
+use Rattle.std.proofs.Common.{rules, arith}
+use Rattle.ds_drives.specs.Views.{first_now}
 use Rattle.ds_drives.proofs.Dealt.{cut, may_split}
 use Rattle.ds_drives.proofs.Driving.{some_words}
 use Rattle.ds_drives.proofs.board.Board.deal.Goals as goal

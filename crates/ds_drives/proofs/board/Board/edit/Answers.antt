@@ -1,4 +1,3 @@
-use Rattle.std.proofs.Common.{refl}
 use Rattle.ds_state.specs.declared.situation.Situation.TheVariants.{Editing}
 use Rattle.ds_drives.specs.Views.{sole}
 use Rattle.ds_drives.proofs.Driving.{sits}
@@ -11,4 +10,4 @@ drive-requires-clause-poised g c =
     let s = c.args.place.now in
     let e = c.args.call.now in
     let begun = c.requires.begun in
-    sits l s.me (sole s) e.process (Editing e) c.requires.place.1 c.requires.place.2 (edit_begins l (sole s) e c.requires.idle begun.is begun.sheet begun.refs begun.first)
+    sits l s.me (sole s) e.process (Editing e) c.requires.place.1 c.requires.place.2 (edit_begins l (sole s) e c.requires.idle begun.edition begun.is begun.sheet begun.refs begun.first)

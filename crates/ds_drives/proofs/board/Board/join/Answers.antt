@@ -1,4 +1,4 @@
-use Rattle.std.proofs.Common.{◌≡◌, ◌*◌, ◌<◌, ℕ, arith}
+use Rattle.std.proofs.Common.{◌<◌, ℕ, arith}
 use Rattle.ds_drives.proofs.Dealt.{joins}
 use Rattle.ds_drives.proofs.Driving.{some_words}
 use Rattle.ds_drives.proofs.board.Board.join.Goals as goal

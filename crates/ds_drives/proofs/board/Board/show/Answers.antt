@@ -1,8 +1,6 @@
 use Rattle.std.proofs.Common.{sym, subst, []}
-use Rattle.ds_layout.specs.Places.{cells_of}
 use Rattle.ds_state.specs.Works.{PlainShowCall}
 use Rattle.ds_state.specs.declared.situation.Situation.TheVariants.{Showing}
-use Rattle.ds_show.specs.ShowSteps.{fresh}
 use Rattle.ds_drives.specs.Views.{sole}
 use Rattle.ds_drives.specs.Rule.{Ready}
 use Rattle.ds_drives.proofs.Driving.{sits}

@@ -42,6 +42,7 @@ returns-clause-stand c =
     let s = c.close-table.ensures.stand in record {
       last = s.last;
       sound = s.sound;
+      second = s.second;
       stands = λ e t. s.stands e (subst (λ (x : Seated). In c.loop-pass.seat.me.0.entries x) (sym t.2) (none_left _ t.0 c.loop-pass.seat.me.0 (search rules) (c.loop-pass.invariant.3 t.0 t.1)));
       behind = s.behind;
       stops = s.stops;

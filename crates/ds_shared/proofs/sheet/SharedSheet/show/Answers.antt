@@ -1,4 +1,7 @@
-use Rattle.std.proofs.Common.{refl, ap}
+use Rattle.std.proofs.Common.{◌∙◌, refl, ap}
+use Rattle.ds_layout.specs.Places.{cells_of}
+use Rattle.ds_state.specs.declared.situation.Rest.{Rest}
+use Rattle.ds_show.specs.ShowSteps.{fresh}
 use Rattle.ds_shared.proofs.Passing.{broken_done, broken_view}
 use Rattle.ds_shared.proofs.sheet.SharedSheet.show.Goals as goal
 
@@ -8,7 +11,7 @@ returns-then-not-show-clause-stopped g c =
       refl,
       (
         c.in-Ok-fresh.call,
-        c.in-Ok-fresh.ensures,
+        c.in-Ok-fresh.ensures ∙ ap (λ (r : Rest). fresh c.args.pass.now.process r (cells_of c.args.self.now.board.layout) c.args.self.now.board.layout.processes) c.rest.ensures,
         record { stopped = refl; told = ap (λ d. d.told) (broken_done _ _ _ _ _ _ b.2); view = broken_view _ _ _ _ _ _ b.2 },
       ),
     )
