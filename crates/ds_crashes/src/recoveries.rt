@@ -22,7 +22,7 @@ const fn last(counts: bool) -> Answer {
 // A recovery is crashed where it has persisted the head, or before it.
 #[test]
 fn recovery_crashed(rt: HostRuntime) -> Result<(), Fail> {
-    for (steps, counts) in [(4, false), (7, false), (9, true), (12, true), (14, true)] {
+    for (steps, counts) in [(7, false), (10, false), (12, true), (15, true), (17, true)] {
         let shown = if counts { Value::Number(1) } else { BLANK };
         let rows = [
             Row::Event(Action::Edit(0, A1, "1"), Reply::Begun(0)),

@@ -3,7 +3,19 @@
 use crate::grid::Grid;
 use ds_fixtures::sheet::{A1, A2, B1, B2};
 use ds_formula::cells::Cell;
-use ds_layout::place::Place;
+use ds_layout::place::{Edition, Place};
+
+// 121 bytes.
+const LONG: &str =
+    "=[.A1]+[.A2]+000000000000000000000000000000000000000000000000000000000000000000000000000000000000000000000000000000000001";
+
+// 240 bytes.
+const LONGEST: &str =
+    "=[.A2]*00000000000000000000000000000000000000000000000000000000000000000000000000000000000000000000000000000000000000000000000000000000000000000000000000000000000000000000000000000000000000000000000000000000000000000000000000000000000000002";
+
+// 241 bytes.
+const TOO_LONG: &str =
+    "=[.A2]*000000000000000000000000000000000000000000000000000000000000000000000000000000000000000000000000000000000000000000000000000000000000000000000000000000000000000000000000000000000000000000000000000000000000000000000000000000000000000002";
 
 // The cell `A3`.
 const A3: Cell = Cell { column: 0, row: 2 };
@@ -41,8 +53,20 @@ impl Draw {
         }
     }
 
-    /// One of them has a fault.
+    // Two of them are too long for the first layout, and one for both.
+    fn long_text(&mut self) -> &'static str {
+        match self.below(3) {
+            0 => LONG,
+            1 => LONGEST,
+            _ => TOO_LONG,
+        }
+    }
+
+    /// One of them has a fault, and some are long.
     pub fn text(&mut self) -> &'static str {
+        if self.below(8) == 0 {
+            return self.long_text();
+        }
         match (self.grid, self.below(7)) {
             (_, 0) => "",
             (_, 1) => "7",
@@ -56,12 +80,19 @@ impl Draw {
         }
     }
 
+    fn edition(&mut self) -> Edition {
+        match self.below(2) {
+            0 => Edition::First,
+            _ => Edition::Second,
+        }
+    }
+
     /// A word of a sheet with so many processes.
     pub fn place(&mut self, processes: u64) -> Place {
         let cell = self.below(self.grid.cells());
         let process = self.below(processes);
         let number = self.below(4);
-        match self.below(11) {
+        match self.below(12) {
             0 => Place::Head(cell),
             1 => Place::Mark(cell),
             2 => Place::Value(cell),
@@ -70,12 +101,14 @@ impl Draw {
             5 => Place::Announce(process),
             6 => Place::Header { process, number },
             7 => Place::Text {
+                edition: self.edition(),
                 process,
                 number,
                 part: self.below(3),
             },
             8 => Place::Done { process, part: 0 },
             9 => Place::Head(0),
+            10 => Place::Version,
             _ => Place::Mark(0),
         }
     }

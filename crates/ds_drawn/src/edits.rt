@@ -107,11 +107,11 @@ fn play(
 }
 
 #[test]
-fn ten_lists(rt: HostRuntime) -> Result<(), Fail> {
+fn twenty_lists(rt: HostRuntime) -> Result<(), Fail> {
     let mut draw = Draw::new(2026, Grid::Square);
     let mut done = 0usize;
     let mut overtaken = 0usize;
-    for _ in 0..10usize {
+    for _ in 0..20usize {
         let mut world = small(rt.alloc())?;
         let answers = play(&rt, &mut world, &mut draw, 400)?;
         assert_eq!(rt; u64::try_from(answers.done), Ok(world.done));

@@ -1,7 +1,10 @@
 //! The sheets that lists are drawn for.
 
-use ds_fixtures::sheet::{column_of_three, small_of_three};
+use ds_fixtures::sheet::{
+    column_first_of_three, column_of_three, small_first_of_three, small_of_three,
+};
 use ds_formula::cells::Cell;
+use ds_layout::place::Edition;
 use ds_state::world::World;
 use std::alloc::Global;
 use std::test::Fail;
@@ -54,11 +57,13 @@ impl Grid {
         }
     }
 
-    /// New.
-    pub fn world(self, alloc: Global) -> Result<World, Fail> {
-        match self {
-            Grid::Square => small_of_three(alloc),
-            Grid::Column => column_of_three(alloc),
+    /// New, in a layout.
+    pub fn world(self, alloc: Global, edition: Edition) -> Result<World, Fail> {
+        match (self, edition) {
+            (Grid::Square, Edition::First) => small_first_of_three(alloc),
+            (Grid::Column, Edition::First) => column_first_of_three(alloc),
+            (Grid::Square, Edition::Second) => small_of_three(alloc),
+            (Grid::Column, Edition::Second) => column_of_three(alloc),
         }
     }
 }

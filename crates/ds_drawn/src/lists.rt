@@ -1,10 +1,12 @@
 // Lists of all events drawn at random, for three processes: the edits that count are those of a recount, and at each
 // quiet moment the values are those of an evaluation from scratch. A list that fails is printed as a script.
 
+use crate::course;
 use crate::draw::Draw;
 use crate::grid::Grid;
 use crate::recount::{Counts, Doing, Recount};
-use crate::simulation::{Drawn, Meeting, Simulation};
+use crate::simulation::{Drawn, Ending, Meeting, Migration, Simulation};
+use ds_layout::place::Edition;
 use std::process::Abort;
 use std::test::Fail;
 
@@ -23,13 +25,38 @@ fn draw_meeting(draw: &mut Draw, process: usize) -> Meeting {
     }
 }
 
+// Some steps of a migration, some of its last ones, all, or any.
+fn draw_steps(draw: &mut Draw) -> usize {
+    match draw.below(4) {
+        0 => draw.below(60),
+        1 => course::STEPS.wrapping_sub(draw.below(8)),
+        2 => course::STEPS,
+        _ => draw.below(46085),
+    }
+}
+
+fn draw_migration(draw: &mut Draw, process: usize) -> Migration {
+    let steps = draw_steps(draw);
+    let ending = match draw.below(4) {
+        0 => Ending::Stops,
+        1 => Ending::Crashes,
+        2 => Ending::Evicts,
+        _ => Ending::Stays,
+    };
+    Migration {
+        process,
+        steps,
+        ending,
+    }
+}
+
 // A stopped process mostly recovers.
 fn draw_next(draw: &mut Draw, recount: &Recount) -> Drawn {
     let process = draw.below(3);
     if recount.doing(process) == Doing::Stopped && draw.below(3) != 0 {
         return Drawn::Recover(process);
     }
-    match draw.below(110) {
+    match draw.below(117) {
         0 => Drawn::Crash,
         1 | 2 => Drawn::Stop(process),
         3 | 106 | 107 => Drawn::Calm,
@@ -44,8 +71,10 @@ fn draw_next(draw: &mut Draw, recount: &Recount) -> Drawn {
             Drawn::Edit(process, cell, draw.text())
         }
         58..62 => Drawn::Loss(draw_meeting(draw, process)),
-        62 | 63 => Drawn::Race(draw_meeting(draw, process)),
+        62 | 63 | 115 | 116 => Drawn::Race(draw_meeting(draw, process)),
         108 | 109 => Drawn::Help(draw_meeting(draw, process)),
+        110..113 => Drawn::Migrate(process),
+        113 | 114 => Drawn::Migration(draw_migration(draw, process)),
         _ => Drawn::Steps(process, draw.below(12).wrapping_add(1)),
     }
 }
@@ -91,15 +120,21 @@ impl Met {
         let edits = counts.done > 100 && counts.overtaken > 10;
         let recoveries = counts.counted > 50 && counts.uncounted > 20 && counts.nothing > 10;
         let others = counts.published > 10 && counts.settled > 5;
-        edits && recoveries && others && self.late > 0 && self.quiet > 100
+        let migrations = counts.already > 10 && counts.held_up > 10 && counts.far_too_long > 5;
+        edits && recoveries && others && migrations && self.late > 0 && self.quiet > 100
+    }
+
+    // So do draws for a sheet of the first layout, which comes to the second one.
+    fn is_all_of_the_first(&self) -> bool {
+        self.is_all() && self.counts.migrated > 5 && self.counts.too_long > 10
     }
 }
 
-// So many lists of so many drawn events on new sheets, and what they met.
+// So many lists of so many drawn events on new sheets in a layout, and what they met.
 fn play_all(
     rt: &(impl Abort + AllocGlobal),
     draw: &mut Draw,
-    grid: Grid,
+    (grid, edition): (Grid, Edition),
     lists: usize,
     events: usize,
 ) -> Result<Met, Fail> {
@@ -109,7 +144,7 @@ fn play_all(
         quiet: 0,
     };
     for _ in 0..lists {
-        let mut simulation = Simulation::new(rt.alloc(), grid)?;
+        let mut simulation = Simulation::new(rt.alloc(), grid, edition)?;
         play(rt, &mut simulation, draw, events)?;
         met.add(&simulation);
     }
@@ -119,7 +154,7 @@ fn play_all(
 #[test]
 fn sixty_four_lists(rt: HostRuntime) -> Result<(), Fail> {
     let mut draw = Draw::new(20261122, Grid::Square);
-    let met = play_all(&rt, &mut draw, Grid::Square, 64, 110)?;
+    let met = play_all(&rt, &mut draw, (Grid::Square, Edition::Second), 64, 110)?;
     assert!(rt; met.is_all(), "{met:?}");
     Ok(())
 }
@@ -127,7 +162,23 @@ fn sixty_four_lists(rt: HostRuntime) -> Result<(), Fail> {
 #[test]
 fn sixteen_lists_of_a_column(rt: HostRuntime) -> Result<(), Fail> {
     let mut draw = Draw::new(20261123, Grid::Column);
-    let met = play_all(&rt, &mut draw, Grid::Column, 16, 400)?;
+    let met = play_all(&rt, &mut draw, (Grid::Column, Edition::Second), 16, 400)?;
     assert!(rt; met.is_all(), "{met:?}");
+    Ok(())
+}
+
+#[test]
+fn lists_of_the_first_layout(rt: HostRuntime) -> Result<(), Fail> {
+    let mut draw = Draw::new(20261126, Grid::Square);
+    let met = play_all(&rt, &mut draw, (Grid::Square, Edition::First), 32, 200)?;
+    assert!(rt; met.is_all_of_the_first(), "{met:?}");
+    Ok(())
+}
+
+#[test]
+fn lists_of_a_column_of_the_first_layout(rt: HostRuntime) -> Result<(), Fail> {
+    let mut draw = Draw::new(20261127, Grid::Column);
+    let met = play_all(&rt, &mut draw, (Grid::Column, Edition::First), 12, 400)?;
+    assert!(rt; met.is_all_of_the_first(), "{met:?}");
     Ok(())
 }

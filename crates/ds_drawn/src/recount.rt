@@ -1,10 +1,13 @@
-//! A recount of the edits of a sheet with three processes, from events and their replies alone.
+//! A recount of the edits of a sheet with three processes, and of its layout, from events and their replies alone.
 
+use crate::course::{Course, Version, are_copied};
 use crate::grid::Grid;
 use crate::last::times_counted;
 use ds_core::reply::Reply;
 use ds_edit::answer::{Answer, Told};
 use ds_formula::cells::Cell;
+use ds_formula::fault::{FaultKind, TextFault};
+use ds_layout::place::{Edition, Place};
 use ds_state::ledger::Edit;
 use ds_state::refusal::Refusal;
 use ds_state::world::World;
@@ -33,10 +36,13 @@ struct Issued {
     text: &'static str,
 }
 
-// A process: what it does, its next number, and its edit that is not answered.
+// A process: what it does and how far it is, the layout that it noted, its next number, and its edit that is not
+// answered.
 #[derive(Clone, Copy, Debug)]
 struct Seen {
     doing: Doing,
+    course: Course,
+    edition: Edition,
     next: usize,
     open: Option<usize>,
 }
@@ -58,6 +64,16 @@ pub struct Counts {
     pub published: u64,
     /// Reports that were settled.
     pub settled: u64,
+    /// Migrations that copied the texts.
+    pub migrated: u64,
+    /// Migrations of a sheet that had the second layout.
+    pub already: u64,
+    /// Recoveries and migrations that were refused for what other processes did.
+    pub held_up: u64,
+    /// Texts that were too long for the first layout.
+    pub too_long: u64,
+    /// Texts that were too long for the second one.
+    pub far_too_long: u64,
 }
 
 impl Counts {
@@ -71,6 +87,11 @@ impl Counts {
             nothing: 0,
             published: 0,
             settled: 0,
+            migrated: 0,
+            already: 0,
+            held_up: 0,
+            too_long: 0,
+            far_too_long: 0,
         }
     }
 
@@ -86,6 +107,27 @@ impl Counts {
             Answer::Nothing => self.nothing = self.nothing.wrapping_add(1),
             Answer::Published(_) => self.published = self.published.wrapping_add(1),
             Answer::Settled => self.settled = self.settled.wrapping_add(1),
+            Answer::Migrated => self.migrated = self.migrated.wrapping_add(1),
+            Answer::Already => self.already = self.already.wrapping_add(1),
+            _ => {}
+        }
+    }
+
+    fn refuse(&mut self, refusal: Refusal) {
+        match refusal {
+            Refusal::Migrating(_) | Refusal::NotStopped(_) => {
+                self.held_up = self.held_up.wrapping_add(1);
+            }
+            Refusal::Text(
+                TextFault {
+                    kind: FaultKind::TooLong,
+                    offset,
+                },
+            ) => if offset == 120 {
+                self.too_long = self.too_long.wrapping_add(1);
+            } else {
+                self.far_too_long = self.far_too_long.wrapping_add(1);
+            },
             _ => {}
         }
     }
@@ -100,6 +142,11 @@ impl Counts {
             nothing: self.nothing.wrapping_add(other.nothing),
             published: self.published.wrapping_add(other.published),
             settled: self.settled.wrapping_add(other.settled),
+            migrated: self.migrated.wrapping_add(other.migrated),
+            already: self.already.wrapping_add(other.already),
+            held_up: self.held_up.wrapping_add(other.held_up),
+            too_long: self.too_long.wrapping_add(other.too_long),
+            far_too_long: self.far_too_long.wrapping_add(other.far_too_long),
         }
     }
 }
@@ -108,6 +155,7 @@ impl Counts {
 #[derive(Drop)]
 pub struct Recount {
     grid: Grid,
+    version: Version,
     issued: Vec<Issued>,
     processes: [Seen; PROCESSES],
     // Edits that count for good, and edits that never will.
@@ -120,15 +168,18 @@ pub struct Recount {
 }
 
 impl Recount {
-    /// That of a new sheet.
-    pub fn new(alloc: Global, grid: Grid) -> Recount {
+    /// That of a new sheet in a layout.
+    pub fn new(alloc: Global, grid: Grid, edition: Edition) -> Recount {
         let seen = Seen {
             doing: Doing::Idle,
+            course: Course::Other,
+            edition,
             next: 0,
             open: None,
         };
         Recount {
             grid,
+            version: Version::new(edition),
             issued: Vec::new(alloc),
             processes: [seen; PROCESSES],
             inside: Vec::new(alloc),
@@ -154,8 +205,19 @@ impl Recount {
     }
 
     fn set_doing(&mut self, process: usize, doing: Doing) {
+        self.set_course(process, doing, Course::Other);
+    }
+
+    fn set_course(&mut self, process: usize, doing: Doing, course: Course) {
         if let Some(seen) = self.seen(process) {
-            self.put(process, Seen { doing, ..seen });
+            self.put(
+                process,
+                Seen {
+                    doing,
+                    course,
+                    ..seen
+                },
+            );
         }
     }
 
@@ -165,6 +227,32 @@ impl Recount {
             Some(seen) => seen.doing,
             None => Doing::Stopped,
         }
+    }
+
+    /// The process that migrates.
+    pub fn migrating(&self) -> Option<usize> {
+        for (process, seen) in self.processes.iter().enumerate() {
+            if matches!(seen.course, Course::Migration(_, _)) {
+                return Some(process);
+            }
+        }
+        None
+    }
+
+    // The first process that is not stopped.
+    fn running(&self) -> Option<usize> {
+        for (process, seen) in self.processes.iter().enumerate() {
+            if seen.doing != Doing::Stopped {
+                return Some(process);
+            }
+        }
+        None
+    }
+
+    // A beginning is refused for this.
+    fn refused(&mut self, reply: Reply, refusal: Refusal) {
+        self.expect(reply == Reply::Refused(refusal));
+        self.counts.refuse(refusal);
     }
 
     // Why a call can not begin, if it can not.
@@ -188,6 +276,11 @@ impl Recount {
             self.expect(reply == wanted);
             return Ok(());
         }
+        let edition = self.seen(process).map(|seen| seen.edition);
+        if let Some(fault) = fault_of(edition.unwrap_or_default(), text) {
+            self.refused(reply, Refusal::Text(fault));
+            return Ok(());
+        }
         match (reply, self.seen(process)) {
             (Reply::Begun(number), Some(seen)) => {
                 self.expect(number == seen.next && seen.open.is_none());
@@ -206,10 +299,7 @@ impl Recount {
                     },
                 );
             }
-            (other, _) => {
-                self.expect(matches!(other, Reply::Refused(Refusal::Text(_))));
-                self.expect(text == "=[.C1]");
-            }
+            _ => self.expect(false),
         }
         Ok(())
     }
@@ -229,9 +319,31 @@ impl Recount {
     pub fn recover(&mut self, process: usize, reply: Reply) {
         if self.doing(process) == Doing::Busy {
             self.expect(reply == Reply::Refused(Refusal::Busy));
+        } else if let Some(other) = self.migrating() {
+            self.refused(reply, Refusal::Migrating(other));
         } else {
             self.expect(reply == Reply::Entered);
-            self.set_doing(process, Doing::Busy);
+            self.set_course(process, Doing::Busy, Course::Recovery(0));
+        }
+    }
+
+    /// A migration was asked for.
+    pub fn migrate(&mut self, process: usize, reply: Reply) {
+        if self.doing(process) == Doing::Busy {
+            self.expect(reply == Reply::Refused(Refusal::Busy));
+        } else if let Some(other) = self.running() {
+            self.refused(reply, Refusal::NotStopped(other));
+        } else {
+            self.expect(reply == Reply::Entered);
+            self.set_course(process, Doing::Busy, Course::migration(self.version));
+        }
+    }
+
+    /// A word was evicted.
+    pub fn evict(&mut self, place: Place, reply: Reply) {
+        self.expect(reply == Reply::Evicted);
+        if place == Place::Version {
+            self.version = self.version.persist();
         }
     }
 
@@ -250,6 +362,7 @@ impl Recount {
     /// All stopped.
     pub fn crash(&mut self, reply: Reply) {
         self.expect(reply == Reply::Crashed);
+        self.version = self.version.crash();
         for process in 0..PROCESSES {
             self.set_doing(process, Doing::Stopped);
         }
@@ -258,10 +371,10 @@ impl Recount {
     /// A process made a step, or could not.
     pub fn step(&mut self, world: &World, process: usize, reply: Reply) -> Result<(), AllocError> {
         match reply {
-            Reply::Stepped => self.expect(self.doing(process) == Doing::Busy),
-            Reply::NotEnabled => {}
+            Reply::Stepped => self.go_on(process, reply),
+            Reply::NotEnabled => self.expect(self.migrating() != Some(process)),
             Reply::Answered(answer) => {
-                self.expect(self.doing(process) == Doing::Busy);
+                self.go_on(process, reply);
                 self.counts.add(answer);
                 self.set_doing(process, Doing::Idle);
                 self.answer(world, process, answer)?;
@@ -269,6 +382,29 @@ impl Recount {
             _ => self.expect(false),
         }
         Ok(())
+    }
+
+    // A step was made: what it made of the version's word. A recovery's first one notes the layout.
+    fn go_on(&mut self, process: usize, reply: Reply) {
+        self.expect(self.doing(process) == Doing::Busy);
+        if let Some(seen) = self.seen(process) {
+            self.expect(seen.course.allows(reply));
+            let edition = if seen.course == Course::Recovery(0) {
+                self.version.cached
+            } else {
+                seen.edition
+            };
+            self.version = seen.course.after(self.version);
+            let course = seen.course.next();
+            self.put(
+                process,
+                Seen {
+                    course,
+                    edition,
+                    ..seen
+                },
+            );
+        }
     }
 
     fn answer(&mut self, world: &World, process: usize, answer: Answer) -> Result<(), AllocError> {
@@ -286,6 +422,11 @@ impl Recount {
             Answer::Nothing => {
                 self.drop_open(world, process, 0);
             }
+            Answer::Migrated => {
+                self.set_doing(process, Doing::Stopped);
+                self.expect(are_copied(world));
+            }
+            Answer::Already => self.set_doing(process, Doing::Stopped),
             _ => {}
         }
         Ok(())
@@ -301,6 +442,7 @@ impl Recount {
                     doing: Doing::Idle,
                     next: number.wrapping_add(1),
                     open: None,
+                    ..seen
                 },
             );
         }
@@ -322,6 +464,7 @@ impl Recount {
                     doing: Doing::Idle,
                     next: number,
                     open: None,
+                    ..seen
                 },
             );
         }
@@ -369,7 +512,8 @@ impl Recount {
     }
 
     /// Whether the edits that the world counts are those of the recount: each one that was answered or told as counting
-    /// stands there once, none that was answered or told as not counting does, and all others were asked for.
+    /// stands there once, none that was answered or told as not counting does, and all others were asked for. So is the
+    /// version's word.
     pub fn agrees(&self, world: &World) -> bool {
         for (process, number) in &self.inside {
             if times_counted(world, *process, *number) != 1 {
@@ -386,7 +530,29 @@ impl Recount {
                 return false;
             }
         }
-        world.done == self.counts.done && world.settled == self.counts.settled
+        let are_counts = world.done == self.counts.done && world.settled == self.counts.settled;
+        are_counts && self.version.is_in(world)
+    }
+}
+
+// The fault of a text that is drawn, in a layout.
+fn fault_of(edition: Edition, text: &str) -> Option<TextFault> {
+    let most = match edition {
+        Edition::First => 120,
+        Edition::Second => 240,
+    };
+    if text.len() > most {
+        Some(TextFault {
+            kind: FaultKind::TooLong,
+            offset: most,
+        })
+    } else if text == "=[.C1]" {
+        Some(TextFault {
+            kind: FaultKind::OutsideSheet,
+            offset: 1,
+        })
+    } else {
+        None
     }
 }
 

@@ -2,7 +2,7 @@
 
 use crate::grid::Grid;
 use ds_formula::cells::Cell;
-use ds_layout::place::Place;
+use ds_layout::place::{Edition, Place};
 use std::alloc::{AllocError, Global};
 
 /// The lines so far.
@@ -26,14 +26,17 @@ fn cell_of(place: Place) -> usize {
 }
 
 impl Script {
-    /// That of a new sheet.
-    pub fn new(alloc: Global, grid: Grid) -> Result<Script, AllocError> {
+    /// That of a new sheet in a layout. Scripts have no command for the first one.
+    pub fn new(alloc: Global, grid: Grid, edition: Edition) -> Result<Script, AllocError> {
         let mut script = Script {
             alloc,
             grid,
             lines: String::new(alloc),
         };
         script.line(format!(in alloc; "{}", grid.command()))?;
+        if edition == Edition::First {
+            script.line(format!(in alloc; "# the sheet has the first layout"))?;
+        }
         Ok(script)
     }
 
@@ -99,6 +102,17 @@ impl Script {
                 format!(in alloc; "evict header {process} {number}")
             }
             Place::Text {
+                edition: Edition::First,
+                process,
+                number,
+                part,
+            } => {
+                format!(in alloc;
+                    "# part {part} of {process} {number} in the first layout is evicted"
+                )
+            }
+            Place::Text {
+                edition: Edition::Second,
                 process,
                 number,
                 part,

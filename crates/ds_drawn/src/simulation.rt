@@ -1,5 +1,6 @@
 //! A sheet of three processes on which drawn events happen, and its recount.
 
+use crate::course;
 use crate::grid::Grid;
 use crate::last::{are_last_texts, last_text};
 use crate::recount::{Doing, PROCESSES, Recount};
@@ -13,7 +14,7 @@ use ds_eval::task::Evaluated;
 use ds_fixtures::calls::{edit, evaluated, settle};
 use ds_formula::cells::Cell;
 use ds_formula::reading::read_content;
-use ds_layout::place::Place;
+use ds_layout::place::{Edition, Place};
 use ds_state::stage::Point;
 use ds_state::world::World;
 use std::alloc::Global;
@@ -34,6 +35,30 @@ pub struct Meeting {
     pub steps: usize,
 }
 
+/// What comes behind the steps of a migration.
+#[derive(Clone, Copy, Debug)]
+pub enum Ending {
+    /// Nothing: it may go on.
+    Stays,
+    /// It stops.
+    Stops,
+    /// A crash.
+    Crashes,
+    /// A crash, before which the version's word is evicted.
+    Evicts,
+}
+
+/// A migration.
+#[derive(Clone, Copy, Debug)]
+pub struct Migration {
+    /// The process that migrates.
+    pub process: usize,
+    /// How many steps it makes, or fewer where it is answered.
+    pub steps: usize,
+    /// What comes behind them.
+    pub ending: Ending,
+}
+
 /// What is drawn: one event or some.
 #[derive(Clone, Copy, Debug)]
 pub enum Drawn {
@@ -45,6 +70,8 @@ pub enum Drawn {
     Show(usize),
     /// A process begins to recover.
     Recover(usize),
+    /// A process begins to migrate.
+    Migrate(usize),
     /// So many steps of a process.
     Steps(usize, usize),
     /// The work of a process is offered its own entry.
@@ -64,6 +91,8 @@ pub enum Drawn {
     /// The other process edits the cell where the edit has just taken the head, and takes the head, too; that is evicted,
     /// and then a crash comes.
     Help(Meeting),
+    /// All processes stop, and one migrates.
+    Migration(Migration),
     /// Each process ends its call, and recovers if it is stopped; then the sheet settles.
     Calm,
 }
@@ -85,19 +114,19 @@ pub struct Simulation {
     pub quiet: u64,
 }
 
-// More steps than a call of the sheet has.
+// More steps than a call of the sheet has that is no migration.
 const STEPS: usize = 500;
 
 impl Simulation {
-    /// A new sheet.
-    pub fn new(alloc: Global, grid: Grid) -> Result<Simulation, Fail> {
-        let world = grid.world(alloc)?;
+    /// A new sheet in a layout.
+    pub fn new(alloc: Global, grid: Grid, edition: Edition) -> Result<Simulation, Fail> {
+        let world = grid.world(alloc, edition)?;
         Ok(Simulation {
             alloc,
             grid,
             world,
-            recount: Recount::new(alloc, grid),
-            script: Script::new(alloc, grid)?,
+            recount: Recount::new(alloc, grid, edition),
+            script: Script::new(alloc, grid, edition)?,
             kept: None,
             late: 0,
             quiet: 0,
@@ -121,13 +150,31 @@ impl Simulation {
         Ok(reply)
     }
 
-    fn step(&mut self, process: usize) -> Result<Reply, Fail> {
-        let reply = self.take(&Event::Step(process))?;
+    // A step, behind which a quiet moment is not compared yet.
+    fn stride(&mut self, process: usize) -> Result<Reply, Fail> {
+        let reply = take(self.alloc, &mut self.world, &Event::Step(process));
         if reply != Reply::NotEnabled {
             self.script.by("step", process)?;
         }
         self.recount.step(&self.world, process, reply)?;
         Ok(reply)
+    }
+
+    fn step(&mut self, process: usize) -> Result<Reply, Fail> {
+        let reply = self.stride(process)?;
+        self.compare()?;
+        Ok(reply)
+    }
+
+    // So many steps of a migration, or fewer where it is answered; then a quiet moment is compared.
+    fn leap(&mut self, process: usize, count: usize) -> Result<(), Fail> {
+        for _ in 0..count {
+            if self.recount.migrating() != Some(process) {
+                return self.compare();
+            }
+            self.stride(process)?;
+        }
+        self.compare()
     }
 
     // Where its work waits, it is offered its entry: one of the steps.
@@ -190,6 +237,13 @@ impl Simulation {
         Ok(())
     }
 
+    fn migrate(&mut self, process: usize) -> Result<(), Fail> {
+        self.script.begin(process, "migrate")?;
+        let reply = self.take(&Event::BeginMigrate(process))?;
+        self.recount.migrate(process, reply);
+        Ok(())
+    }
+
     fn stop(&mut self, process: usize) -> Result<(), Fail> {
         self.script.by("stop", process)?;
         let reply = self.take(&Event::Stop(process))?;
@@ -207,7 +261,7 @@ impl Simulation {
     fn evict(&mut self, place: Place) -> Result<(), Fail> {
         self.script.evict(place)?;
         let reply = self.take(&Event::Evict(place))?;
-        self.recount.expect(reply == Reply::Evicted);
+        self.recount.evict(place, reply);
         Ok(())
     }
 
@@ -223,8 +277,11 @@ impl Simulation {
         Err(Fail::from("a call without an end"))
     }
 
-    // The process ends its call, and recovers if it is stopped.
+    // The process ends its call, and recovers if it is stopped. A migration, for which a recovery waits, ends first.
     fn rest(&mut self, process: usize) -> Result<(), Fail> {
+        if let Some(other) = self.recount.migrating() {
+            self.leap(other, course::STEPS)?;
+        }
         self.finish(process)?;
         if self.recount.doing(process) == Doing::Stopped {
             self.recover(process)?;
@@ -294,6 +351,28 @@ impl Simulation {
         self.finish(meeting.process)
     }
 
+    fn stop_all(&mut self) -> Result<(), Fail> {
+        for process in 0..PROCESSES {
+            self.stop(process)?;
+        }
+        Ok(())
+    }
+
+    fn migration(&mut self, drawn: Migration) -> Result<(), Fail> {
+        self.stop_all()?;
+        self.migrate(drawn.process)?;
+        self.leap(drawn.process, drawn.steps)?;
+        match drawn.ending {
+            Ending::Stays => Ok(()),
+            Ending::Stops => self.stop(drawn.process),
+            Ending::Crashes => self.crash(),
+            Ending::Evicts => {
+                self.evict(Place::Version)?;
+                self.crash()
+            }
+        }
+    }
+
     /// What is drawn happens.
     pub fn happen(&mut self, drawn: Drawn) -> Result<(), Fail> {
         match drawn {
@@ -301,6 +380,7 @@ impl Simulation {
             Drawn::Work(process, cell) => self.work(process, cell),
             Drawn::Show(process) => self.show(process),
             Drawn::Recover(process) => self.recover(process),
+            Drawn::Migrate(process) => self.migrate(process),
             Drawn::Steps(process, count) => self.steps(process, count),
             Drawn::Offer(process) => self.offer(process),
             Drawn::Late => self.offer_late(),
@@ -310,6 +390,7 @@ impl Simulation {
             Drawn::Loss(meeting) => self.lose(meeting),
             Drawn::Race(meeting) => self.race(meeting),
             Drawn::Help(meeting) => self.help(meeting),
+            Drawn::Migration(migration) => self.migration(migration),
             Drawn::Calm => self.calm(),
         }
     }

@@ -51,8 +51,8 @@ pub fn advance(alloc: Global, world: &mut World, process: usize) -> Result<Reply
     Ok(take(alloc, world, &Event::Step(process)))
 }
 
-// More steps than a call of the sheet has.
-const STEPS: usize = 500;
+// More steps than a call of a sheet of eight processes has: its longest one is a migration.
+const STEPS: usize = 123_000;
 
 /// A process steps until its call ends; where its work waits, the entry of its task is offered. How the call ended:
 /// `NotEnabled` where there was none.

@@ -2,7 +2,7 @@
 
 use crate::calls::{advance, edit, evaluated, finish, settle, whole};
 use crate::mismatch::Mismatch;
-use crate::sheet::{CELLS, small};
+use crate::sheet::{CELLS, small, small_first};
 use crate::shown::{
     expect_point, expect_report, expect_state, expect_text, expect_value, expect_word,
 };
@@ -32,6 +32,8 @@ pub enum Action {
     Show(usize),
     /// A process begins to recover.
     Recover(usize),
+    /// A process begins to migrate the sheet to the second layout.
+    Migrate(usize),
     /// A process makes its next step.
     Step(usize),
     /// The work of a process is offered the entry of its task.
@@ -88,7 +90,8 @@ impl Action {
             Action::Edit(process, _, _)
             | Action::Work(process, _)
             | Action::Show(process)
-            | Action::Recover(process) => Some(process),
+            | Action::Recover(process)
+            | Action::Migrate(process) => Some(process),
             _ => None,
         }
     }
@@ -100,6 +103,7 @@ impl Action {
             Action::Work(process, cell) => Event::BeginWork(process, cell),
             Action::Show(process) => Event::BeginShow(process),
             Action::Recover(process) => Event::BeginRecover(process),
+            Action::Migrate(process) => Event::BeginMigrate(process),
             Action::Step(process) => Event::Step(process),
             Action::Offer(process) => match evaluated(alloc, world, process)? {
                 Some(entry) => Event::Offer(entry),
@@ -299,5 +303,11 @@ pub fn play_on(alloc: Global, world: &mut World, rows: &[Row]) -> Result<(), Fai
 /// The rows are true of a new sheet of two processes, one after the other.
 pub fn play(alloc: Global, rows: &[Row]) -> Result<(), Fail> {
     let mut world = small(alloc)?;
+    play_on(alloc, &mut world, rows)
+}
+
+/// The rows are true of a new sheet of two processes in the first layout, one after the other.
+pub fn play_first(alloc: Global, rows: &[Row]) -> Result<(), Fail> {
+    let mut world = small_first(alloc)?;
     play_on(alloc, &mut world, rows)
 }

@@ -1,4 +1,4 @@
-//! A sheet of two columns and two rows, and one of a column and three rows.
+//! A sheet of two columns and two rows, and one of a column and three rows, in either layout.
 
 use ds_formula::cells::{Cell, Shape};
 use ds_state::world::World;
@@ -36,4 +36,28 @@ pub fn small_of_three(alloc: Global) -> Result<World, Fail> {
 pub fn column_of_three(alloc: Global) -> Result<World, Fail> {
     let shape = Shape::new(1, 3).ok_or("shape")?;
     Ok(World::new(alloc, shape, 3)?)
+}
+
+/// The sheet, new in the first layout, with two processes.
+pub fn small_first(alloc: Global) -> Result<World, Fail> {
+    let shape = Shape::new(2, 2).ok_or("shape")?;
+    Ok(World::first(alloc, shape, 2)?)
+}
+
+/// The sheet, new in the first layout, with one process.
+pub fn small_first_of_one(alloc: Global) -> Result<World, Fail> {
+    let shape = Shape::new(2, 2).ok_or("shape")?;
+    Ok(World::first(alloc, shape, 1)?)
+}
+
+/// The sheet, new in the first layout, with three processes.
+pub fn small_first_of_three(alloc: Global) -> Result<World, Fail> {
+    let shape = Shape::new(2, 2).ok_or("shape")?;
+    Ok(World::first(alloc, shape, 3)?)
+}
+
+/// A sheet of one column and three rows, new in the first layout, with three processes.
+pub fn column_first_of_three(alloc: Global) -> Result<World, Fail> {
+    let shape = Shape::new(1, 3).ok_or("shape")?;
+    Ok(World::first(alloc, shape, 3)?)
 }

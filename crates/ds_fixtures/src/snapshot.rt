@@ -1,32 +1,41 @@
 //! All that is seen of a sheet.
 
-use ds_state::situation::Situation;
+use ds_layout::place::Edition;
+use ds_state::situation::{Rest, Situation};
 use ds_state::stage::{Point, Stage};
-use ds_state::work::{RecoverStage, ShowStage, WorkStage};
+use ds_state::work::{MigrateStage, RecoverStage, ShowStage, WorkStage};
 use ds_state::world::World;
 use ds_words::words::Word;
 use std::alloc::{AllocError, Global};
 
-// What a process does: its edit's number, or its next one's, and the stage of its call.
+// What a process does: its edit's number, or its next one's, the layout that it noted, and the stage of its call.
 #[derive(Clone, Copy, Debug, PartialEq, Eq)]
 enum Doing {
-    Idle(usize),
+    Idle(Rest),
     Stopped,
-    Editing(usize, Stage),
-    Working(usize, WorkStage),
-    Recovering(RecoverStage),
-    Showing(usize, ShowStage),
+    Editing(Rest, Stage),
+    Working(Rest, WorkStage),
+    Recovering(Edition, RecoverStage),
+    Showing(Rest, ShowStage),
+    Migrating(u64, MigrateStage),
+}
+
+fn rest(number: usize, edition: Edition) -> Rest {
+    Rest { number, edition }
 }
 
 impl Doing {
     fn of(situation: &Situation) -> Doing {
         match situation {
-            Situation::Idle(number) => Doing::Idle(*number),
+            Situation::Idle(rest) => Doing::Idle(*rest),
             Situation::Stopped => Doing::Stopped,
-            Situation::Editing(call) => Doing::Editing(call.number, call.stage),
-            Situation::Working(call) => Doing::Working(call.next, call.stage),
-            Situation::Recovering(call) => Doing::Recovering(call.stage),
-            Situation::Showing(call) => Doing::Showing(call.next, call.stage),
+            Situation::Editing(call) => {
+                Doing::Editing(rest(call.number, call.edition), call.stage)
+            }
+            Situation::Working(call) => Doing::Working(rest(call.next, call.edition), call.stage),
+            Situation::Recovering(call) => Doing::Recovering(call.edition, call.stage),
+            Situation::Showing(call) => Doing::Showing(rest(call.next, call.edition), call.stage),
+            Situation::Migrating(call) => Doing::Migrating(call.word, call.stage),
         }
     }
 }

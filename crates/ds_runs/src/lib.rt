@@ -1,8 +1,10 @@
-//! Runs of edits, works and reports by events, step by step, and the words that they leave.
+//! Runs of edits, works, reports and migrations by events, step by step, and the words that they leave.
 #![tactic(auto)]
 
 #[cfg(test)]
 mod edits;
+#[cfg(test)]
+mod migrations;
 #[cfg(test)]
 mod mismatches;
 #[cfg(test)]

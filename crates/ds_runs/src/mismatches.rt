@@ -8,6 +8,7 @@ use ds_fixtures::row::{Action, Row, carry_out};
 use ds_fixtures::sheet::{A1, small};
 use ds_layout::mark::State;
 use ds_layout::place::Place;
+use ds_state::refusal::Refusal;
 use ds_state::stage::Point;
 use ds_words::words::Word;
 use std::test::Fail;
@@ -19,7 +20,12 @@ const ZERO: Word = Word {
     persisted: 0,
 };
 
-const FALSE_ROWS: [(Row, Mismatch); 18] = [
+const ONE: Word = Word {
+    cached: 1,
+    persisted: 1,
+};
+
+const FALSE_ROWS: [(Row, Mismatch); 20] = [
     (
         Row::Event(Action::Step(0), Reply::Stepped),
         Mismatch::RepliedLast(Some(Reply::NotEnabled)),
@@ -46,6 +52,10 @@ const FALSE_ROWS: [(Row, Mismatch); 18] = [
         Mismatch::Replied(Reply::Answered(Answer::NotDirty)),
     ),
     (
+        Row::Call(Action::Migrate(0), Answer::Migrated),
+        Mismatch::Replied(Reply::Refused(Refusal::NotStopped(0))),
+    ),
+    (
         Row::End(0, Answer::NotDirty),
         Mismatch::Replied(Reply::NotEnabled),
     ),
@@ -55,6 +65,7 @@ const FALSE_ROWS: [(Row, Mismatch); 18] = [
     ),
     (Row::Word(Place::Head(0), 1, 0), Mismatch::Word(ZERO)),
     (Row::Word(Place::Head(0), 0, 1), Mismatch::Word(ZERO)),
+    (Row::Word(Place::Version, 0, 0), Mismatch::Word(ONE)),
     (Row::Word(Place::Head(4), 0, 0), Mismatch::NotThere),
     (Row::Text(A1, "1"), Mismatch::Text(0)),
     (Row::State(A1, State::Marked), Mismatch::State(State::Clean)),

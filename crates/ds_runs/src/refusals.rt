@@ -6,7 +6,7 @@ use ds_fixtures::row::{Action, Row, play, play_on};
 use ds_fixtures::sheet::{A1, A2, small};
 use ds_formula::cells::Cell;
 use ds_formula::fault::{FaultKind, TextFault};
-use ds_layout::place::Place;
+use ds_layout::place::{Edition, Place};
 use ds_state::refusal::Refusal;
 use ds_state::world::World;
 use std::alloc::Global;
@@ -32,12 +32,12 @@ const OUTSIDE: Reply = Reply::Refused(Refusal::Text(TextFault {
 
 const TOO_LONG: Reply = Reply::Refused(Refusal::Text(TextFault {
     kind: FaultKind::TooLong,
-    offset: 120,
+    offset: 240,
 }));
 
-// 121 digits.
+// 241 digits.
 const LONG: &str =
-    "1111111111111111111111111111111111111111111111111111111111111111111111111111111111111111111111111111111111111111111111111";
+    "1111111111111111111111111111111111111111111111111111111111111111111111111111111111111111111111111111111111111111111111111111111111111111111111111111111111111111111111111111111111111111111111111111111111111111111111111111111111111111111111111";
 
 // Process 0 is in an edit, and process 1 is idle.
 const REFUSED: [Row; 6] = [
@@ -168,7 +168,7 @@ const BESIDE: Cell = Cell { column: 2, row: 0 };
 const BELOW: Cell = Cell { column: 0, row: 2 };
 
 // Process 1 is idle, and there is no third one.
-const NOT_ENABLED: [Row; 15] = [
+const NOT_ENABLED: [Row; 17] = [
     Row::Still(Action::Edit(1, BESIDE, "1"), Reply::NotEnabled),
     Row::Still(Action::Edit(1, BELOW, "=1.5"), Reply::NotEnabled),
     Row::Still(Action::Edit(2, A1, "1"), Reply::NotEnabled),
@@ -182,9 +182,19 @@ const NOT_ENABLED: [Row; 15] = [
     Row::Still(Action::Evict(Place::Announce(2)), Reply::NotEnabled),
     Row::Still(
         Action::Evict(Place::Text {
+            edition: Edition::First,
             process: 0,
             number: 0,
             part: 15,
+        }),
+        Reply::NotEnabled,
+    ),
+    Row::Still(
+        Action::Evict(Place::Text {
+            edition: Edition::Second,
+            process: 0,
+            number: 0,
+            part: 30,
         }),
         Reply::NotEnabled,
     ),
@@ -192,6 +202,7 @@ const NOT_ENABLED: [Row; 15] = [
     Row::Still(Action::Stop(7), Reply::NotEnabled),
     Row::Still(Action::Show(2), Reply::NotEnabled),
     Row::Still(Action::Recover(2), Reply::NotEnabled),
+    Row::Still(Action::Migrate(2), Reply::NotEnabled),
     Row::Still(Action::Work(2, A1), Reply::NotEnabled),
     Row::Still(Action::Work(0, BESIDE), Reply::NotEnabled),
 ];
@@ -219,25 +230,38 @@ fn not_enabled(rt: HostRuntime) -> Result<(), Fail> {
 }
 
 // A process that is in a call begins no other one.
-const SECOND_CALLS: [Row; 4] = [
+const SECOND_CALLS: [Row; 5] = [
     Row::Still(Action::Edit(0, A1, "1"), BUSY),
     Row::Still(Action::Work(0, A2), BUSY),
     Row::Still(Action::Show(0), BUSY),
     Row::Still(Action::Recover(0), BUSY),
+    Row::Still(Action::Migrate(0), BUSY),
 ];
 
-// They are refused behind this call.
-fn busy_behind(alloc: Global, first: Row) -> Result<(), Fail> {
+// They are refused behind these rows.
+fn busy_behind(alloc: Global, first: &[Row]) -> Result<(), Fail> {
     let mut rows = Vec::new(alloc);
-    rows.push(first)?;
+    rows.extend_from_slice(first)?;
     rows.extend_from_slice(&SECOND_CALLS)?;
     play(alloc, &rows)
 }
 
+const WORKING: [Row; 1] = [Row::Event(Action::Work(0, A1), Reply::Entered)];
+
+const SHOWING: [Row; 1] = [Row::Event(Action::Show(0), Reply::Entered)];
+
+const RECOVERING: [Row; 1] = [Row::Event(Action::Recover(0), Reply::Entered)];
+
+const MIGRATING: [Row; 2] = [
+    Row::Event(Action::Crash, Reply::Crashed),
+    Row::Event(Action::Migrate(0), Reply::Entered),
+];
+
 #[test]
 fn busy(rt: HostRuntime) -> Result<(), Fail> {
-    busy_behind(rt.alloc(), BEGUN[0])?;
-    busy_behind(rt.alloc(), Row::Event(Action::Work(0, A1), Reply::Entered))?;
-    busy_behind(rt.alloc(), Row::Event(Action::Show(0), Reply::Entered))?;
-    busy_behind(rt.alloc(), Row::Event(Action::Recover(0), Reply::Entered))
+    busy_behind(rt.alloc(), &BEGUN)?;
+    busy_behind(rt.alloc(), &WORKING)?;
+    busy_behind(rt.alloc(), &SHOWING)?;
+    busy_behind(rt.alloc(), &RECOVERING)?;
+    busy_behind(rt.alloc(), &MIGRATING)
 }

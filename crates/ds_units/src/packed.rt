@@ -6,7 +6,7 @@ use ds_layout::head::Head;
 use ds_layout::header::Header;
 use ds_layout::layout::Layout;
 use ds_layout::mark::{Mark, State};
-use ds_layout::place::Place;
+use ds_layout::place::{Edition, Place};
 use ds_layout::sheet_words::SheetWords;
 use ds_layout::stored::{Kind, Stored};
 use ds_layout::text::{part_bytes, part_word};
@@ -44,11 +44,21 @@ fn numbers(rt: HostRuntime) {
         ),
         (
             Place::Text {
+                edition: Edition::First,
                 process: 0,
                 number: 1,
                 part: 14,
             },
             Some(564),
+        ),
+        (
+            Place::Text {
+                edition: Edition::Second,
+                process: 0,
+                number: 1,
+                part: 29,
+            },
+            Some(8282),
         ),
         (
             Place::Done {
@@ -61,9 +71,28 @@ fn numbers(rt: HostRuntime) {
         (Place::Index { row: 0, part: 1 }, None),
         (
             Place::Text {
+                edition: Edition::First,
                 process: 1,
                 number: 256,
                 part: 0,
+            },
+            None,
+        ),
+        (
+            Place::Text {
+                edition: Edition::First,
+                process: 1,
+                number: 0,
+                part: 15,
+            },
+            None,
+        ),
+        (
+            Place::Text {
+                edition: Edition::Second,
+                process: 1,
+                number: 255,
+                part: 30,
             },
             None,
         ),
@@ -89,6 +118,20 @@ fn numbers(rt: HostRuntime) {
             }
         ),
         Some(53288)
+    );
+    assert_eq!(rt;
+        number(
+            16,
+            64,
+            8,
+            Place::Text {
+                edition: Edition::Second,
+                process: 7,
+                number: 255,
+                part: 29
+            }
+        ),
+        Some(114728)
     );
 }
 
@@ -169,7 +212,7 @@ fn largest(rt: HostRuntime) -> Result<(), Fail> {
     if let Some(layout) = layout(16, 64, 8) {
         let words = SheetWords::new(rt.alloc(), layout)?;
         assert_eq!(rt; words.word(Place::Version).cached, 0);
-        assert_eq!(rt; layout.words(), 53289);
+        assert_eq!(rt; layout.words(), 114729);
     }
     Ok(())
 }

@@ -28,7 +28,7 @@ fn no_edit(rt: HostRuntime) -> Result<(), Fail> {
         if world.words.layout().processes == 2 {
             assert_eq!(rt; begin(&mut world, 1), Err(Refusal::Busy));
         }
-        assert_eq!(rt; steps(&mut world, 1, 5), Some(Effect::GoesOn));
+        assert_eq!(rt; steps(&mut world, 1, 8), Some(Effect::GoesOn));
         assert_eq!(rt;
             step(&mut world, 1),
             Some(Effect::Answers(RecoveryEnd::Nothing))

@@ -5,13 +5,14 @@ use ds_formula::cells::{Cell, Shape};
 use ds_layout::header::Header;
 use ds_layout::layout::Layout;
 use ds_layout::mark::State;
-use ds_layout::place::Place;
+use ds_layout::place::{Edition, Place};
 use ds_layout::sheet_words::SheetWords;
 use ds_layout::text::part_word;
 use ds_state::shown;
 use ds_state::text::Text;
 use ds_state::world::World;
 use ds_words::access::Access;
+use std::alloc::{AllocError, Global};
 use std::test::Fail;
 
 #[test]
@@ -33,7 +34,9 @@ fn new_sheet(rt: HostRuntime) -> Result<(), Fail> {
 #[test]
 fn texts(rt: HostRuntime) {
     assert_eq!(rt; Text::new(&[7; 120]).map(|text| text.len()), Some(120));
-    assert_eq!(rt; Text::new(&[7; 121]).map(|text| text.len()), None);
+    assert_eq!(rt; Text::new(&[7; 121]).map(|text| text.len()), Some(121));
+    assert_eq!(rt; Text::new(&[7; 240]).map(|text| text.len()), Some(240));
+    assert_eq!(rt; Text::new(&[7; 241]).map(|text| text.len()), None);
     assert_eq!(rt; Text::new(b"").map(|text| text.is_empty()), Some(true));
     let bytes: &[u8] = b"=A1+B2";
     if let Some(text) = Text::new(bytes) {
@@ -48,12 +51,38 @@ fn store(words: &mut SheetWords, place: Place, value: u64) {
 }
 
 // A part of the text of process 1's edit 7.
-fn text_place(part: usize) -> Place {
+fn text_place(edition: Edition, part: usize) -> Place {
     Place::Text {
+        edition,
         process: 1,
         number: 7,
         part,
     }
+}
+
+// The text of that edit's record, as it is read in the layout in which it was written down.
+fn written(
+    alloc: Global,
+    layout: Layout,
+    text: &[u8],
+    edition: Edition,
+) -> Result<Vec<u8>, AllocError> {
+    let mut words = SheetWords::new(alloc, layout)?;
+    let header = Header {
+        cell: 3,
+        length: 13,
+    };
+    let place = Place::Header {
+        process: 1,
+        number: 7,
+    };
+    store(&mut words, place, header.word());
+    store(&mut words, text_place(edition, 0), part_word(text, 0));
+    store(&mut words, text_place(edition, 1), part_word(text, 1));
+    if words.layout().processes != 2 {
+        return Ok(Vec::new(alloc));
+    }
+    shown::record_text(&words, alloc, edition, 1, 7)
 }
 
 #[test]
@@ -61,23 +90,8 @@ fn record(rt: HostRuntime) -> Result<(), Fail> {
     let text: &[u8] = b"=SUM(A1:B2)*2";
     let layout = Shape::new(2, 2).and_then(|shape| Layout::new(shape, 2));
     if let Some(layout) = layout {
-        let mut words = SheetWords::new(rt.alloc(), layout)?;
-        let header = Header {
-            cell: 3,
-            length: 13,
-        };
-        store(
-            &mut words,
-            Place::Header {
-                process: 1,
-                number: 7,
-            },
-            header.word(),
-        );
-        store(&mut words, text_place(0), part_word(text, 0));
-        store(&mut words, text_place(1), part_word(text, 1));
-        if words.layout().processes == 2 {
-            let read = shown::record_text(&words, rt.alloc(), 1, 7)?;
+        for edition in [Edition::First, Edition::Second] {
+            let read = written(rt.alloc(), layout, text, edition)?;
             assert_eq!(rt; read.as_slice(), text);
         }
     }
