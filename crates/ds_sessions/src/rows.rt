@@ -1,4 +1,4 @@
-use crate::talking::{edit, expect_talk, new_world, steps};
+use crate::talking::{edit, expect_talk, first_world, new_world, steps};
 use ds_core::event::Event;
 use ds_core::take::take;
 use ds_formula::cells::Cell;
@@ -121,6 +121,28 @@ fn beside_an_edit(rt: HostRuntime) -> Result<(), AllocError> {
             let _reply = take(alloc, &mut world, &Event::Crash);
         }
         expect_talk(&rt, &mut world, lines, expected);
+    }
+    Ok(())
+}
+
+// Process 0 migrates the sheet: no process can be joined, its own neither. Behind the migration each can be.
+#[test]
+fn beside_a_migration(rt: HostRuntime) -> Result<(), AllocError> {
+    let alloc = rt.alloc();
+    let mut world = first_world(alloc)?;
+    let _crashed = take(alloc, &mut world, &Event::Crash);
+    let _begun = take(alloc, &mut world, &Event::BeginMigrate(0));
+    steps(alloc, &mut world, 0, 9);
+    for process in 0..2usize {
+        let lines = format!(in alloc; "{{\"op\":\"join\",\"process\":{process}}}\n")?;
+        let expected = "{\"code\":4,\"error\":\"process-taken\"}\n";
+        expect_talk(&rt, &mut world, lines.as_str(), expected);
+    }
+    steps(alloc, &mut world, 0, 30_725);
+    for process in 0..2usize {
+        let lines = format!(in alloc; "{{\"op\":\"join\",\"process\":{process}}}\n")?;
+        let expected = format!(in alloc; "{{\"last\":null,\"ok\":\"join\",\"process\":{process}}}\n")?;
+        expect_talk(&rt, &mut world, lines.as_str(), expected.as_str());
     }
     Ok(())
 }

@@ -17,6 +17,14 @@ pub fn new_world(alloc: Global) -> Result<World, AllocError> {
     }
 }
 
+/// A new sheet in the first layout.
+pub fn first_world(alloc: Global) -> Result<World, AllocError> {
+    match Shape::new(2, 2) {
+        Some(shape) => World::first(alloc, shape, 2),
+        None => Err(AllocError),
+    }
+}
+
 /// What a session answers, and how it ends.
 pub fn talk(alloc: Global, world: &mut World, lines: &[u8]) -> (Vec<u8>, SessionEnd) {
     let mut reader = Reading::new(lines);
