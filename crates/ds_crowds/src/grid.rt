@@ -25,8 +25,12 @@ const SUMS: [&str; 3] = ["=[.A1]+1", "=[.A1]*2", ""];
 /// The texts of A2, which refer to the cells above.
 const TOTALS: [&str; 3] = ["=[.B1]-3", "=SUM([.A1:.B1])", ""];
 
-/// The texts of B2, which refer to the others, or to it.
-const PRODUCTS: [&str; 5] = ["=[.A2]*[.B1]", "=[.B2]", "=[.A1]", "5", ""];
+/// A text of 240 bytes, which are all that a cell's text may have.
+const LONGEST: &str =
+    "=SUM(1000000000;1000000;1000000;1000000;1000000;1000000;1000000;1000000;1000000;1000000;1000000;1000000;1000000;1000000;1000000;1000000;1000000;1000000;1000000;1000000;1000000;1000000;1000000;1000000;1000000;1000000;1000000;1000000;1000000)";
+
+/// The texts of B2, which refer to the others, or to it; and the longest one.
+const PRODUCTS: [&str; 5] = ["=[.A2]*[.B1]", "=[.B2]", "=[.A1]", LONGEST, ""];
 
 /// A text with a fault, which no cell takes.
 pub const FAULTY: &str = "=1.5";
