@@ -87,18 +87,21 @@ const TELLS_ONE: [Row; 4] = [
     Row::Call(Action::Edit(0, B1, "4"), Answer::Done(2)),
 ];
 
-// Without a migration.
+// Without a migration: what the texts are behind this end, and what recoveries tell.
+fn told_without(alloc: Global, ended: &[Row], texts: &[Row], told: &[Row]) -> Result<(), Fail> {
+    let mut rows = Vec::new(alloc);
+    rows.extend_from_slice(&TWO_EDITS)?;
+    rows.extend_from_slice(ended)?;
+    rows.extend_from_slice(texts)?;
+    rows.extend_from_slice(told)?;
+    let mut world = small_first_of_one(alloc)?;
+    play_on(alloc, &mut world, &rows)
+}
+
 #[test]
 fn no_migration(rt: HostRuntime) -> Result<(), Fail> {
-    let mut stopped = small_first_of_one(rt.alloc())?;
-    play_on(rt.alloc(), &mut stopped, &TWO_EDITS)?;
-    play_on(rt.alloc(), &mut stopped, &TEXTS_WITH_BOTH)?;
-    play_on(rt.alloc(), &mut stopped, &TELLS_BOTH)?;
-    let mut crashed = small_first_of_one(rt.alloc())?;
-    play_on(rt.alloc(), &mut crashed, &TWO_EDITS)?;
-    play_on(rt.alloc(), &mut crashed, &[CRASH])?;
-    play_on(rt.alloc(), &mut crashed, &TEXTS_WITH_ONE)?;
-    play_on(rt.alloc(), &mut crashed, &TELLS_ONE)
+    told_without(rt.alloc(), &[], &TEXTS_WITH_BOTH, &TELLS_BOTH)?;
+    told_without(rt.alloc(), &[CRASH], &TEXTS_WITH_ONE, &TELLS_ONE)
 }
 
 // The version's word behind so many steps of a migration of one process.
