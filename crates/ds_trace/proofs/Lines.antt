@@ -34,6 +34,11 @@ pub record Led (places : List Place) (whole : Bool) (script : List ℕ) (lines :
   pub carried : Carried whole script lines progress out rest
   pub are : AreRows places progress.start progress.events progress.replies rows progress.world
 
+-- so, and these are the words of the new sheet at the places
+pub record LedFrom (places : List Place) (whole : Bool) (script : List ℕ) (lines : ℕ) (first : Begun) (w : WorldValue) (rows : List Row) (start : List Word) (rest : List ℕ) : Type 0 where
+  pub led : Led places whole script lines first w rows rest
+  pub starts : start ≡ map (sides_of led.progress.start) places
+
 pub begins_led : (places : List Place) (whole : Bool) (script : List ℕ) (w : WorldValue) (rows : List Row) → IsMade 2 2 2 Second w → rows ≡ [] → Led places whole script 0 begun.Nothing w rows script
 begins_led places whole script w rows made none = record {
   progress = begins_at begun.Nothing w;
@@ -43,6 +48,10 @@ begins_led places whole script w rows made none = record {
   carried = begins w made;
   are = subst (λ (l : List Row). AreRows places w [] [] l w) (sym none) refl;
 }
+
+pub begins_start : (places : List Place) (whole : Bool) (script : List ℕ) (w : WorldValue) (rows : List Row) (made : IsMade 2 2 2 Second w) (none : rows ≡ []) → (begins_led places whole script w rows made none).progress.start ≡ w
+unfolding begins_led
+begins_start places whole script w rows made none = refl
 
 -- where no event has a row yet, the world is the new sheet
 no_events : (places : List Place) (old : WorldValue) (events : List Event) (replies : List Reply) (rows : List Row) (new : WorldValue) → AreRows places old events replies rows new → rows ≡ [] → new ≡ old
@@ -85,6 +94,7 @@ carries_still : (places : List Place) (whole : Bool) (script : List ℕ) (lines 
     → (carried : Carried whole script lines p out rest) (next : next_of whole rest ≡ ALine line behind) (asks : order_of p.begun p.world line ≡ Ok (Some order)) (begun_is : now ≡ after order)
     → (are : AreRows places p.start p.events p.replies rows p.world) (obeys_so : ObeysBy places p.world order new rows rows') → (rows' ≡ [] → ⊥)
     → (carries_led places whole script lines p out rest line behind order now new rows rows' carried next asks begun_is are obeys_so).progress.start ≡ p.start
+unfolding carries_led
 carries_still places whole script lines p out rest line behind (Make first columns rows processes edition) now new r s carried next asks begun_is are h some = absurd (some h.1)
 carries_still places whole script lines p out rest line behind (Does deed) now new r s carried next asks begun_is are h some = refl
 
@@ -109,6 +119,7 @@ module _ (places : List Place) (whole : Bool) (script : List ℕ) (lines : ℕ) 
   -- a line that leaves rows has left the new sheet
   pub still : (line behind : List ℕ) (next : next_of whole rest ≡ ALine line behind) (now : Begun) (new : WorldValue) (rows' : List Row) (passes : PassesLine places first w line now new rows rows') → (rows' ≡ [] → ⊥)
       → (line_more line behind next now new rows' passes).progress.start ≡ led.progress.start
+  unfolding line_more
   still line behind next now new rows' (inl s) some = refl
   still line behind next now new rows' (inr e) some =
       carries_still places whole script lines led.progress led.out rest line behind e.order now new rows rows' led.carried next (asked line (Ok (Some e.order)) e.asks) e.begun_is led.are

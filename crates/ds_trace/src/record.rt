@@ -1,6 +1,6 @@
 //! Records a script, with the words at given places.
 
-ghost use Rattle.std.specs.Prelude.{◌≡◌, ◌<◌, ◌^◌, [], IfErr, IfOk, OnOk, length};
+ghost use Rattle.std.specs.Prelude.{◌≡◌, ◌<◌, ◌↔◌, ◌^◌, [], IfErr, IfOk, IsTrue, OnOk, length};
 ghost use Rattle.ds_layout.specs.declared.place.Edition.TheVariants as editions;
 ghost use Rattle.ds_play.specs.Script.{IsMade};
 ghost use Rattle.ds_trace.specs.Traces.{IsRecord, IsTraceOf, IsUntraced, PassesLine, StopsLine, why_not};
@@ -116,6 +116,13 @@ fn fresh(alloc: Global) -> Result<World, AllocError>
     new_world(alloc, layout, Edition::Second)
 }
 
+// Whether no event has a row yet.
+fn has_none(rows: &Vec<Row>) -> bool
+    ensures { IsTrue result ↔ (rows.now.items ≡ []) }
+{
+    rows.is_empty()
+}
+
 // Carries the lines of a script out, from a new world on, and puts the rows of their events behind each other. It answers
 // the words of the new sheet: those of the world that has no row yet.
 fn record_lines(
@@ -150,7 +157,7 @@ fn record_lines(
                     Ok(now) => begun = now,
                     Err(stop) => return Err(why_not(lines + 1, stop)),
                 }
-                if rows.is_empty() {
+                if has_none(rows) {
                     start = words(alloc, world, places)?;
                 }
                 lines += 1;
