@@ -5,6 +5,6 @@ use Rattle.ds_scene.proofs.columns.spans.Given as goal
 
 abbrev pub invariant-loop-event : goal.invariant-loop-event
 invariant-loop-event l = record {
-  spans : All (IsTrueSpan l.first l.rows l.number l.side) l.spans.items;
-  stays : Stays l.first l.rows l.number l.side l.from l.word l.event;
+  spans : All (IsTrueSpan l.fn.first l.rows l.number l.side) l.spans.items;
+  stays : Stays l.fn.first l.rows l.number l.side l.from l.word l.event;
 }
