@@ -7,6 +7,7 @@ use denote.Hole.{as_row}
 use denote.Struct.Field.{usize-field, u64-field}
 use denote.Struct.Declared.{row}
 use denote.Struct.Record.{declared}
+use Rattle.ds_layout.specs.contracts.place.Edition as Edition
 use Rattle.ds_state.specs.contracts.edit.EditCall.TheInside as edit
 use Rattle.ds_state.specs.contracts.work.WorkCall.TheInside as work
 use Rattle.ds_formula.proofs.content.Tree.TheLaws.TheKnot.{crosses as trees}
@@ -28,6 +29,7 @@ use Rattle.ds_state.specs.contracts.situation.Situation as Situation
 use Rattle.ds_state.specs.contracts.stage.Stage as Stage
 use Rattle.ds_state.specs.contracts.text.Text as Text
 use Rattle.ds_state.specs.contracts.work.RecoverCall as RecoverCall
+use Rattle.ds_state.specs.contracts.work.MigrateCall as MigrateCall
 use Rattle.ds_state.specs.contracts.work.RecoverStage as RecoverStage
 use Rattle.ds_state.specs.contracts.work.ShowCall as ShowCall
 use Rattle.ds_state.specs.contracts.work.ShowStage as ShowStage
@@ -43,6 +45,9 @@ Inputs-send = search (sendable, crosses) depth 20
 
 Text-send : IsSend Text.the_row
 Text-send = search (sendable, crosses) depth 20
+
+Edition-send : IsSend Edition.the_row
+Edition-send = search (sendable, crosses) depth 20
 
 Row-send : IsSend Row.the_row
 Row-send = search (sendable, crosses) depth 20
@@ -77,16 +82,19 @@ EditCall-inside = declared_send (declared edit.struct edit.the_propositions) (
   (
     usize-send,
     (
-      usize-send,
+      Edition-send,
       (
-        as_row_send Text.the_field Text-send,
+        usize-send,
         (
-          as_row_send (Vec.the_field usize Global.the_row ghosts) usizes-send,
+          as_row_send Text.the_field Text-send,
           (
-            usize-send,
+            as_row_send (Vec.the_field usize Global.the_row ghosts) usizes-send,
             (
               usize-send,
-              (Stage-send, tt),
+              (
+                usize-send,
+                (Stage-send, tt),
+              ),
             ),
           ),
         ),
@@ -102,7 +110,7 @@ WorkCall-inside : IsSend (row (declared work.struct work.the_propositions))
 WorkCall-inside = declared_send (declared work.struct work.the_propositions) (
   usize-send,
   (
-    usize-send,
+    Edition-send,
     (
       usize-send,
       (
@@ -110,26 +118,29 @@ WorkCall-inside = declared_send (declared work.struct work.the_propositions) (
         (
           usize-send,
           (
-            u64-send,
+            usize-send,
             (
               u64-send,
               (
-                usize-send,
+                u64-send,
                 (
-                  as_row_send Text.the_field Text-send,
+                  usize-send,
                   (
-                    Content-send,
+                    as_row_send Text.the_field Text-send,
                     (
-                      as_row_send Inputs.the_field Inputs-send,
+                      Content-send,
                       (
-                        u64-send,
+                        as_row_send Inputs.the_field Inputs-send,
                         (
                           u64-send,
                           (
-                            Entry-send,
+                            u64-send,
                             (
-                              as_row_send Row.the_field Row-send,
-                              (WorkStage-send, tt),
+                              Entry-send,
+                              (
+                                as_row_send Row.the_field Row-send,
+                                (WorkStage-send, tt),
+                              ),
                             ),
                           ),
                         ),
@@ -155,8 +166,11 @@ RecoverCall-send = search (sendable, crosses, Row-send) depth 60 fits 100000
 ShowCall-send : IsSend ShowCall.the_row
 ShowCall-send = search (sendable, crosses) depth 60 fits 100000
 
+MigrateCall-send : IsSend MigrateCall.the_row
+MigrateCall-send = search (sendable, crosses) depth 60 fits 100000
+
 Situation-send : IsSend Situation.the_row
-Situation-send = search (sendable, crosses, EditCall-send, WorkCall-send, RecoverCall-send, ShowCall-send) depth 60 fits 100000
+Situation-send = search (sendable, crosses, EditCall-send, WorkCall-send, RecoverCall-send, ShowCall-send, MigrateCall-send) depth 60 fits 100000
 
 Words-send : IsSend Words.the_row
 Words-send = search (sendable, crosses) depth 40

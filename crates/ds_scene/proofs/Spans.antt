@@ -1,5 +1,5 @@
 -- The numbers of a side, line by line.
-use Rattle.std.proofs.Common.{ℕ, zero, suc, ◌≡◌, ◌<◌, ◌≤◌, ◌+◌, inl, inr, List, length, get_or, refl, ap, subst, arith}
+use Rattle.std.proofs.Common.{ℕ, zero, suc, ◌≡◌, ◌<◌, ◌≤◌, ◌+◌, inl, inr, List, [], ◌∷◌, length, get_or, refl, ap, subst, arith}
 use Rattle.std.specs.Prelude.{All}
 use Rattle.std.proofs.lemmas.Bool.{cases_lt}
 use Rattle.std.proofs.lemmas.List.{get_or-map}
@@ -42,3 +42,8 @@ true_span first rows number side span last stays to most = record {
 -- spans of a word that was the same first
 pub firsts : (rows : List Row) (number : ℕ) (side : Side) (one other : Word) (spans : List Span) → one ≡ other → All (IsTrueSpan one rows number side) spans → All (IsTrueSpan other rows number side) spans
 firsts rows number side one other spans same h = subst (λ (w : Word). All (IsTrueSpan w rows number side) spans) same h
+
+-- of no span all is so
+pub none_is : (P : Span → Type 0) (spans : List Span) → spans ≡ [] → All P spans
+none_is P [] none = λ k d lt. absurd (let e : ⊥ = omega (arith, lt) in e)
+none_is P (span ∷ spans) none = absurd (let bad : span ∷ spans ≡ [] = none in cc)

@@ -6,13 +6,13 @@ use Rattle.ds_words.specs.declared.words.Word.{Word}
 use Rattle.ds_trace.specs.declared.row.Row.{Row}
 use Rattle.ds_scene.specs.declared.columns.Span.{Span}
 use Rattle.ds_scene.specs.Columns.{IsTrueSpan, side_at, side_of, word_in}
-use Rattle.ds_scene.proofs.Spans.{Stays, stays_first, stays_anew, stays_on, side_behind, true_span}
+use Rattle.ds_scene.proofs.Spans.{Stays, none_is, stays_first, stays_anew, stays_on, side_behind, true_span}
 use Rattle.ds_scene.proofs.columns.spans.Goals.{then-next-word+in_ok-push, else-next-word}
 use Rattle.ds_scene.proofs.columns.spans.Goals as goal
 
 pub loop-event-init : goal.loop-event-init
 loop-event-init c = record {
-  spans = tt;
+  spans = none_is (IsTrueSpan c.args.first c.args.rows.now c.args.number c.args.side) c.new-spans.result.items c.new-spans.ensures.items;
   stays = subst (λ (n : ℕ). Stays c.args.first c.args.rows.now c.args.number c.args.side 0 n 0) (sym c.side_of-word.ensures) (stays_first c.args.first c.args.rows.now c.args.number c.args.side);
 }
 
