@@ -9,6 +9,7 @@ const SCRIPT: &[u8] = b"sheet 1 1 1\nlayout 1\nset 0 A1 7\ncrash\nmigrate 0\n";
 
 // The last step of the edit, and that of the migration.
 const EDITED: u64 = 20;
+
 const MIGRATED: u64 = 15_385;
 
 // What is told behind these steps: the sheet and the last outcome are as they were before the migration.
@@ -29,7 +30,10 @@ fn expect(rt: &(impl Abort + AllocGlobal), first: u64, last: u64) -> Result<(), 
     };
     let (text, end) = stops_in(rt.alloc(), SCRIPT, range);
     assert_eq!(rt; end, ScriptEnd::Ended);
-    assert!(rt; text.as_slice() == told(rt.alloc(), first, last)?.as_bytes(), "{first}");
+    assert!(rt;
+        text.as_slice() == told(rt.alloc(), first, last)?.as_bytes(),
+        "{first}"
+    );
     Ok(())
 }
 

@@ -27,7 +27,8 @@ const POINTS: [&str; 16] = [
 
 // The kinds of words of a sheet.
 const PLACES: [&str; 11] = [
-    "version", "head", "mark", "value", "kind", "index", "announce", "header", "text", "newtext", "done",
+    "version", "head", "mark", "value", "kind", "index", "announce", "header", "text", "newtext",
+    "done",
 ];
 
 // The calls that begin, each by its name.

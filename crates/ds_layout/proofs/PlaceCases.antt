@@ -73,7 +73,7 @@ code_cases x y = elim (cases_eq x.kind y.kind) [
         | inl d ↦ elim (cases_eq x.fourth y.fourth) [
           | inr ne ↦ inr (λ e. ne (ap (λ (c : Code). c.fourth) e))
           | inl f ↦ inl (ap (λ n. code_with n x.first x.second x.third x.fourth) k ∙ ap (λ n. code_with y.kind n x.second x.third x.fourth) a ∙ ap (λ n. code_with y.kind y.first n x.third x.fourth) b
-            ∙ ap (λ n. code_with y.kind y.first y.second n x.fourth) d ∙ ap (λ n. code_with y.kind y.first y.second y.third n) f)
+              ∙ ap (λ n. code_with y.kind y.first y.second n x.fourth) d ∙ ap (λ n. code_with y.kind y.first y.second y.third n) f)
         ]
       ]
     ]

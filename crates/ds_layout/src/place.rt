@@ -98,7 +98,11 @@ impl Edition {
     pub fn read(word: u64) -> Edition
         ensures { result ≡ edition_of word }
     {
-        if word == 0 { Edition::First } else { Edition::Second }
+        if word == 0 {
+            Edition::First
+        } else {
+            Edition::Second
+        }
     }
 
     /// The version's word of the layout.

@@ -53,7 +53,7 @@ pub fn migrations_are_short()
     ensures falls { (e : PlainMigrateCall) (stage : MigrateStage) (word : ℕ) → IsCopied (old_words e.processes) stage
         → ((how : MigrateEnd) → stage ≡ migrate_stages.Answer how → ⊥)
         → migrations.rank (old_words e.processes) (migrations.next_at e stage word).stage
-            < migrations.rank (old_words e.processes) stage }
+        < migrations.rank (old_words e.processes) stage }
     ensures few { (p processes : ℕ) → migrations.rank (old_words processes) (migrations.fresh p processes).stage
         ≡ 15360 * processes + 5 }
 {}

@@ -94,12 +94,17 @@ fn limits(rt: HostRuntime) -> std::io::Result<()> {
     for (before, most) in [("", 240usize), ("layout 1\n", 120)] {
         let text = format!(in alloc; "{:0>most$}", 7)?;
         let script = format!(in alloc; "{before}set 0 A1 {text}\nset 0 A1 0{text}\npeek A1\n")?;
-        let expected = format!(in alloc; "0 0 done\n0 refused 1 TooLong {most}\nA1 dirty blank {text}\n")?;
+        let expected = format!(in alloc;
+            "0 0 done\n0 refused 1 TooLong {most}\nA1 dirty blank {text}\n"
+        )?;
         expect_answers(&rt, script.as_str(), expected.as_str());
     }
     let text = format!(in alloc; "{:0>240}", 7)?;
-    let script = format!(in alloc; "sheet 1 1 1\nlayout 1\nset 0 A1 {text}\ncrash\nmigrate 0\nrecover 0\nset 0 A1 {text}\nsettle 0\nreport 0\n")?;
-    let expected = "0 refused 1 TooLong 120\ncrashed\n0 migrated\n0 nothing\n0 0 done\nclean\nsettled\n7\n";
+    let script = format!(in alloc;
+        "sheet 1 1 1\nlayout 1\nset 0 A1 {text}\ncrash\nmigrate 0\nrecover 0\nset 0 A1 {text}\nsettle 0\nreport 0\n"
+    )?;
+    let expected =
+        "0 refused 1 TooLong 120\ncrashed\n0 migrated\n0 nothing\n0 0 done\nclean\nsettled\n7\n";
     expect_answers(&rt, script.as_str(), expected);
     Ok(())
 }
@@ -108,7 +113,12 @@ fn limits(rt: HostRuntime) -> std::io::Result<()> {
 const FAULTS: [(&str, &str, usize, ScriptFault); 8] = [
     ("layout 1\nlayout 2\n", "", 2, ScriptFault::LayoutNotFirst),
     ("layout 1\nsheet 1 1 1\n", "", 2, ScriptFault::SheetNotFirst),
-    ("crash\nlayout 1\n", "crashed\n", 2, ScriptFault::LayoutNotFirst),
+    (
+        "crash\nlayout 1\n",
+        "crashed\n",
+        2,
+        ScriptFault::LayoutNotFirst,
+    ),
     ("layout 3\n", "", 1, ScriptFault::BadField),
     ("layout 0\n", "", 1, ScriptFault::BadField),
     ("layout 1 1\n", "", 1, ScriptFault::BadField),

@@ -141,7 +141,9 @@ fn beside_a_migration(rt: HostRuntime) -> Result<(), AllocError> {
     steps(alloc, &mut world, 0, 30_725);
     for process in 0..2usize {
         let lines = format!(in alloc; "{{\"op\":\"join\",\"process\":{process}}}\n")?;
-        let expected = format!(in alloc; "{{\"last\":null,\"ok\":\"join\",\"process\":{process}}}\n")?;
+        let expected = format!(in alloc;
+            "{{\"last\":null,\"ok\":\"join\",\"process\":{process}}}\n"
+        )?;
         expect_talk(&rt, &mut world, lines.as_str(), expected.as_str());
     }
     Ok(())

@@ -92,10 +92,13 @@ module _ (p : ℕ) (old new : PlainWorld) (t : Turn p old new) where
   module _ (s : IsSound old) (place : Place) (value : ℕ) (b : Backs place value)
       (between : IsBetween old.layout place (old.memory.cached place) (old.memory.persisted place) value) where
     pub version_back : CatchesUp (old.memory.cached Version) (old.memory.persisted Version) (new.memory.cached Version) (new.memory.persisted Version)
-    version_back = (b.cached Version, elim (place_cases Version place) [
-      | inl eq ↦ by_between place eq between b.there
-      | inr ne ↦ inl (b.elsewhere Version ne)
-    ])
+    version_back = (
+      b.cached Version,
+      elim (place_cases Version place) [
+        | inl eq ↦ by_between place eq between b.there
+        | inr ne ↦ inl (b.elsewhere Version ne)
+      ],
+    )
       where
         by_between : (r : Place) → Version ≡ r → IsBetween old.layout r (old.memory.cached r) (old.memory.persisted r) value → new.memory.persisted r ≡ value
             → (new.memory.persisted Version ≡ old.memory.persisted Version) ⊎ (new.memory.persisted Version ≡ old.memory.cached Version)

@@ -23,11 +23,7 @@ use std::alloc::{AllocError, Global};
 
 // As many idle processes, each before its edit 0.
 #[tactic(auto, using(crate::proofs::Made::one_more))]
-fn idle(
-    alloc: Global,
-    processes: usize,
-    edition: Edition,
-) -> Result<Vec<Situation>, AllocError>
+fn idle(alloc: Global, processes: usize, edition: Edition) -> Result<Vec<Situation>, AllocError>
     ensures { IfOk result (λ v. v.items ≡ replicate processes (Situation.Idle (rest_in edition))) }
 {
     let mut situations = Vec::with_capacity(alloc, processes)?;

@@ -140,8 +140,8 @@ fn parts<W: SheetReader>(
 }
 
 /// The text of the record that this process has at this number, in a layout: as many bytes as its
-/// header says. Where the header is none of the sheet's, or says more than the layout has, no part is read and the text is empty. An error is a
-/// want of memory.
+/// header says. Where the header is none of the sheet's, or says more than the layout has, no part
+/// is read and the text is empty. An error is a want of memory.
 pub fn record_text<W: SheetReader>(
     words: &W,
     alloc: Global,

@@ -16,7 +16,7 @@ lines-init c = record {
   from = record {
     led = begins_led c.args.places.now c.args.whole c.args.script.now c.args.world.now c.args.rows.now.items c.requires.made c.requires.empty;
     starts = c.in_ok-start.ensures
-      ∙ ap (λ (v : WorldValue). map (sides_of v) c.args.places.now) (sym (begins_start c.args.places.now c.args.whole c.args.script.now c.args.world.now c.args.rows.now.items c.requires.made c.requires.empty));
+        ∙ ap (λ (v : WorldValue). map (sides_of v) c.args.places.now) (sym (begins_start c.args.places.now c.args.whole c.args.script.now c.args.world.now c.args.rows.now.items c.requires.made c.requires.empty));
   };
   within = omega arith;
 }
