@@ -64,7 +64,7 @@ static void handles(void) {
 /* Each argument of each call that can be wrong. */
 static void refusals(void) {
     struct dsheet_world *w = &world;
-    struct dsheet_place nowhere = {10, 0, 0, 0}, outside = {DSHEET_PLACE_HEAD, 6, 0, 0};
+    struct dsheet_place nowhere = {11, 0, 0, 0}, outside = {DSHEET_PLACE_HEAD, 6, 0, 0};
     struct dsheet_word word;
     struct dsheet_value value;
     struct dsheet_mark mark;
@@ -84,7 +84,8 @@ static void refusals(void) {
     WANT(dsheet_world_work(w, 2, 0, 0, &answer) == DSHEET_NO_PROCESS);
     uint32_t (*const calls[])(struct dsheet_world *, size_t, struct dsheet_answer *) = {
         dsheet_world_begin_report, dsheet_world_begin_recovery, dsheet_world_step,   dsheet_world_offer,
-        dsheet_world_stop,         dsheet_world_report,         dsheet_world_recover, dsheet_world_settle};
+        dsheet_world_stop,         dsheet_world_report,         dsheet_world_recover, dsheet_world_settle,
+        dsheet_world_migrate,      dsheet_world_begin_migration};
     for (size_t at = 0; at < sizeof calls / sizeof *calls; at++) {
         WANT(calls[at](NULL, 0, &answer) == DSHEET_NULL);
         WANT(calls[at](w, 0, NULL) == DSHEET_NULL);
@@ -400,11 +401,43 @@ static void shared_want_of_memory(void) {
     WANT(dsheet_sheet_close(&sheet, &closed) == DSHEET_OK && dsheet_closed_free(&closed) == DSHEET_OK);
 }
 
+/* A sheet of the first layout, migrated: with its texts, and with room for longer ones. */
+static void migration(void) {
+    struct dsheet_world first = DSHEET_WORLD_INIT;
+    struct dsheet_place version = {DSHEET_PLACE_VERSION, 0, 0, 0}, old = {DSHEET_PLACE_TEXT, 0, 0, 0};
+    struct dsheet_place copy = {DSHEET_PLACE_NEW_TEXT, 0, 0, 0};
+    struct dsheet_word word;
+    char text[240];
+    memset(text, '0', sizeof text);
+    WANT(dsheet_world_make_first(NULL, 1, 1, 1) == DSHEET_NULL);
+    WANT(dsheet_world_make_first(&first, 1, 1, 2) == DSHEET_OK);
+    WANT(dsheet_world_make_first(&first, 1, 1, 2) == DSHEET_FULL);
+    WANT(dsheet_world_edit(&first, 0, 0, 0, "7", 1, &answer) == DSHEET_OK && answer.kind == DSHEET_DONE);
+    WANT(dsheet_world_edit(&first, 0, 0, 0, text, 121, &answer) == DSHEET_OK && answer.kind == DSHEET_REFUSED);
+    WANT(answer.fault == DSHEET_FAULT_TOO_LONG && answer.number == 120);
+    WANT(dsheet_world_migrate(&first, 0, &answer) == DSHEET_OK && answer.kind == DSHEET_REFUSED);
+    WANT(answer.cause == DSHEET_CAUSE_NOT_STOPPED && answer.process == 0);
+    WANT(dsheet_world_crash(&first) == DSHEET_OK);
+    WANT(dsheet_world_begin_migration(&first, 1, &answer) == DSHEET_OK && answer.kind == DSHEET_ENTERED);
+    WANT(dsheet_world_recover(&first, 0, &answer) == DSHEET_OK && answer.kind == DSHEET_REFUSED);
+    WANT(answer.cause == DSHEET_CAUSE_MIGRATING && answer.process == 1);
+    WANT(dsheet_world_stop(&first, 1, &answer) == DSHEET_OK);
+    WANT(dsheet_world_migrate(&first, 0, &answer) == DSHEET_OK && answer.kind == DSHEET_MIGRATED);
+    WANT(dsheet_world_migrate(&first, 0, &answer) == DSHEET_OK && answer.kind == DSHEET_ALREADY);
+    WANT(dsheet_world_word(&first, &version, &word) == DSHEET_OK && word.cached == 1 && word.persisted == 1);
+    WANT(dsheet_world_word(&first, &old, &word) == DSHEET_OK && word.cached == '7');
+    WANT(dsheet_world_word(&first, &copy, &word) == DSHEET_OK && word.cached == '7' && word.persisted == '7');
+    WANT(dsheet_world_recover(&first, 0, &answer) == DSHEET_OK && answer.kind == DSHEET_LAST && answer.holds == 1);
+    WANT(dsheet_world_edit(&first, 0, 0, 0, text, 240, &answer) == DSHEET_OK && answer.kind == DSHEET_DONE);
+    WANT(dsheet_world_free(&first) == DSHEET_OK);
+}
+
 int main(void) {
     handles();
     refusals();
     whole_calls();
     event_by_event();
+    migration();
     losses();
     want_of_memory();
     shared_handles();
