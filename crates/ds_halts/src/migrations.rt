@@ -44,11 +44,11 @@ fn first_and_last_steps(rt: HostRuntime) -> Result<(), AllocError> {
     expect(&rt, MIGRATED - 199, MIGRATED + 1)
 }
 
-// A crash behind every 500th step; tools/migrations.sh tries all of them.
+// A crash behind every 50th step; tools/migrations.sh tries all of them.
 #[test]
 fn steps_between(rt: HostRuntime) -> Result<(), AllocError> {
-    for part in 1..31u64 {
-        let stop = 500 * part;
+    for part in 1..308u64 {
+        let stop = 50 * part;
         expect(&rt, stop, stop)?;
     }
     Ok(())
