@@ -3,6 +3,7 @@ use Rattle.std.proofs.Common.{ℕ, ◌≡◌, ◌≢◌, ◌<◌, ◌+◌, ◌/�
 use Rattle.ds_state.specs.Value.{WorldValue, world_of}
 use Rattle.ds_state.specs.Sound.{IsSound}
 use Rattle.ds_state.specs.Works.{PlainWorkCall}
+use Rattle.ds_state.specs.declared.refusal.Refusal.{Refusal}
 use Rattle.ds_state.specs.declared.situation.Situation.{Situation}
 use Rattle.ds_state.specs.declared.situation.Situation.TheVariants.{Idle, Stopped, Editing, Working, Recovering, Showing, Migrating}
 use Rattle.ds_state.specs.declared.work.WorkStage.TheVariants as work_stages
@@ -17,12 +18,12 @@ use Rattle.ds_core.specs.Takes.{Fits}
 use Rattle.ds_core.specs.declared.event.Event.{Event}
 use Rattle.ds_core.specs.declared.event.Event.TheVariants.{Step}
 use Rattle.ds_core.specs.declared.reply.Reply.{Reply}
-use Rattle.ds_core.specs.declared.reply.Reply.TheVariants.{Stepped, Answered, NotEnabled}
+use Rattle.ds_core.specs.declared.reply.Reply.TheVariants.{Begun, Entered, Refused, Stepped, Answered, NotEnabled}
 use Rattle.ds_core.proofs.Bound.{same_layout}
 use Rattle.ds_core.proofs.CallKinds.{step_stays, step_ends}
 use Rattle.ds_calls.specs.Wanted.{wants}
-use Rattle.ds_calls.specs.Whole.{HasProcess, IsCalling}
-use Rattle.ds_calls.specs.Driven.{IsNotWaiting, GoesOn, IsAnswered}
+use Rattle.ds_calls.specs.Whole.{HasBegun, HasProcess, IsCalling}
+use Rattle.ds_calls.specs.Driven.{CanGoOn, IsNotWaiting, GoesOn, IsAnswered}
 use Rattle.ds_calls.proofs.Driving.{wants_step}
 
 -- ---- a step is what the process wants
@@ -83,3 +84,17 @@ can_not old new p _ fits ns na = absurd fits.takes
 module _ (old new : WorldValue) (p : ℕ) (reply : Reply) (calling : IsCalling old p) (fits : Fits old (Step p) reply new) (ns : reply ≢ Stepped) (na : (answer : Answer) → reply ≢ Answered answer) where
   pub must_wait : IsNotWaiting old p → ⊥
   must_wait none = can_step old new p ((world_of old).situation p) refl calling.calls calling.there none (can_not old new p reply fits ns na)
+
+-- so its step is one, where it does not answer
+pub must_step : (old new : WorldValue) (p : ℕ) (reply : Reply) → IsCalling old p → Fits old (Step p) reply new → ((answer : Answer) → reply ≢ Answered answer) → IsNotWaiting old p → reply ≡ Stepped
+must_step old new p Stepped calling fits na none = refl
+must_step old new p (Answered answer) calling fits na none = absurd (na answer refl)
+must_step old new p reply calling fits na none = absurd (must_wait old new p reply calling fits (λ e. cc) (λ answer e. cc) none)
+
+-- ---- a call whose begin was not refused
+
+pub has_begun : (v : WorldValue) (p : ℕ) (reply : Reply) → CanGoOn v p reply → ((why : Refusal) → reply ≢ Refused why) → HasBegun reply × IsCalling v p
+has_begun v p (Begun number) can none = (tt, can)
+has_begun v p Entered can none = (tt, can)
+has_begun v p (Refused why) can none = absurd (none why refl)
+has_begun v p _ can none = absurd can

@@ -89,9 +89,8 @@ fn driven(alloc: Global, world: &mut World, process: usize, reply: Reply) -> Res
     ensures { IsDriven process reply world.old result world.new }
 {
     match reply {
-        Reply::Begun(_) | Reply::Entered => Ok(finish(alloc, world, process)),
         Reply::Refused(refusal) => Err(refusal),
-        _ => unreachable!(),
+        _ => Ok(finish(alloc, world, process)),
     }
 }
 

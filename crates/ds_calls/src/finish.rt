@@ -54,9 +54,8 @@ fn go(alloc: Global, world: &mut World, process: usize) -> Option<Answer>
     }
     world.is_always_good();
     match step_once(alloc, world, process) {
-        Reply::Stepped => None,
         Reply::Answered(answer) => Some(answer),
-        _ => unreachable!(),
+        _ => None,
     }
 }
 

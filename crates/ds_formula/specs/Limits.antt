@@ -25,6 +25,10 @@ EDITS_MOST = 256
 abbrev pub TEXT_MOST : ℕ
 TEXT_MOST = 240
 
+-- how many bytes a text may have on a sheet whose words are in the first layout
+abbrev pub FIRST_TEXT_MOST : ℕ
+FIRST_TEXT_MOST = 120
+
 -- how many nodes a formula may have
 abbrev pub NODES_MOST : ℕ
 NODES_MOST = 64

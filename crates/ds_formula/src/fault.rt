@@ -5,7 +5,7 @@ use std::fmt;
 /// Why a text is refused: the numbers from 1 to 11 are in the order of the variants.
 #[derive(Clone, Copy, Debug, PartialEq, Eq)]
 pub enum FaultKind {
-    /// More than 240 bytes. The offset is 240.
+    /// More than 240 bytes, or than a sheet has room for in its layout of words. The offset is that limit.
     TooLong,
     /// A byte that cannot stand where it stands.
     BadToken,

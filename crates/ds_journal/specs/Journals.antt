@@ -21,8 +21,8 @@ pub record Keeps (old : WorldValue) (asked : PlainRequest) (number : ℕ) (line 
   pub asks : IsEditLine old line asked
   pub done : Whole asked.process (BeginEdit asked) old (Ok (Done number)) new
 
--- the lines lead to this world: the first one makes a new sheet, in the second layout, and each that is not skipped is a whole edit, which is
--- answered Done
+-- the lines lead to this world: the first one makes a new sheet, in the second layout, and each that is not skipped is a
+-- whole edit, which is answered Done
 pub data Follows : List (List ℕ) → WorldValue → Type 0 where
   makes : (line : List ℕ) (before world : WorldValue) (columns rows processes : ℕ)
       → order_of Nothing before line ≡ Ok (Some (Make Sheet columns rows processes Second)) → IsMade columns rows processes Second world → Follows (line ∷ []) world

@@ -1,7 +1,7 @@
 //! The numbers of the words of a sheet.
 
 ghost use Rattle.std.specs.Prelude.{◌≡◌, ◌*◌, ◌/◌, ◌%◌, ◌<◌, ◌≤◌, ◌-◌, ◌^◌, ◌↔◌, IsTrue, IsSome, IfSome, IfOk};
-ghost use Rattle.ds_formula.specs.Limits.{CELLS_MOST, EDITS_MOST, PROCESSES_MOST, TEXT_MOST};
+ghost use Rattle.ds_formula.specs.Limits.{CELLS_MOST, EDITS_MOST, FIRST_TEXT_MOST, PROCESSES_MOST, TEXT_MOST};
 ghost use Rattle.ds_layout.specs.Bits.{parts_for};
 ghost use Rattle.ds_layout.specs.declared.place.TheConstants as places;
 ghost use Rattle.ds_layout.specs.declared.place.TheConstants.{RECORDS, FIRST_PARTS, SECOND_PARTS, DONE_PARTS};
@@ -69,9 +69,10 @@ fn header_place(at: usize) -> Place
     }
 }
 
-/// The part of a text of the first layout that stands there among those of all its texts.
+/// The part of a text of the first layout that stands there, from 0, among those of all its texts: by process, then
+/// number, then part. It need not be one of a sheet.
 pub fn first_text(at: usize) -> Place
-    ensures { result ≡ place.Text edition.First (at / FIRST_PARTS / RECORDS) (at / FIRST_PARTS % RECORDS) (at % FIRST_PARTS) }
+    ensures { result ≡ first_text at }
 {
     let record = at / FIRST_PARTS;
     Place::Text {
@@ -349,6 +350,7 @@ impl Layout {
 /// that fits its 48 bits, and the bit that says dirty the lowest of a mark.
 pub fn constants_are_limits()
     ensures edits { places.RECORDS ≡ EDITS_MOST }
+    ensures first_text { 8 * places.FIRST_PARTS ≡ FIRST_TEXT_MOST }
     ensures text { 8 * places.SECOND_PARTS ≡ TEXT_MOST }
     ensures processes { constants.PROCESS_LIMIT ≡ PROCESSES_MOST }
     ensures row { places.ROW_PARTS ≡ parts_for CELLS_MOST }

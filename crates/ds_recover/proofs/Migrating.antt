@@ -12,12 +12,12 @@ use Rattle.ds_layout.specs.declared.place.Edition.TheVariants.{First, Second}
 use Rattle.ds_layout.specs.declared.place.Place.{Place}
 use Rattle.ds_layout.specs.declared.place.Place.TheVariants.{Version, Head, Mark, Value, Kind, Index, Announce, Header, Text, Done}
 use Rattle.ds_layout.specs.declared.layout.Layout.{Layout}
-use Rattle.ds_layout.specs.Places.{class_of, edition_of}
+use Rattle.ds_layout.specs.Places.{class_of, edition_of, first_text}
 use Rattle.ds_layout.proofs.PlaceCases.{place_cases}
 use Rattle.ds_layout.proofs.Places.{first_text_at}
 use Rattle.ds_state.specs.Editions.{seen_edition, Shows, Agrees}
 use Rattle.ds_state.specs.World.{PlainEdit, PlainIssue, PlainWorld, of_cell, head_after_all, record_word, record_size}
-use Rattle.ds_state.specs.Works.{PlainMigrateCall, IsMigration, IsCopied, old_words, old_text, new_text}
+use Rattle.ds_state.specs.Works.{PlainMigrateCall, IsMigration, IsCopied, old_words, new_text}
 use Rattle.ds_state.specs.Owing.{entry, IsHeld, Owes, Parts, IsPending, Excuses, Splits, RecoveryOwes, RecoveryParts, RecoveryExcuses, RecoverySplits}
 use Rattle.ds_state.specs.declared.work.RecoverStage.{RecoverStage}
 use Rattle.ds_state.specs.declared.work.RecoverStage.TheVariants as recoveries
@@ -332,7 +332,7 @@ module _ (e : PlainMigrateCall) (s : MigrateStage) (word : ℕ) (old new : Plain
   copying_same : (n : ℕ) → ((r : Place) → new.memory.cached r ≡ old.memory.cached r) → ((r : Place) → new.memory.persisted r ≡ old.memory.persisted r) → Copying old.memory n → Copying new.memory n
   copying_same n c v h = record {
     agrees = record { cached = ap edition_of (c Version) ∙ h.agrees.cached; persisted = ap edition_of (v Version) ∙ h.agrees.persisted };
-    copied = λ j l. record { cached = c (new_text j) ∙ (h.copied j l).cached ∙ sym (c (old_text j)); persisted = v (new_text j) ∙ (h.copied j l).persisted ∙ sym (c (old_text j)) };
+    copied = λ j l. record { cached = c (new_text j) ∙ (h.copied j l).cached ∙ sym (c (first_text j)); persisted = v (new_text j) ∙ (h.copied j l).persisted ∙ sym (c (first_text j)) };
   }
 
 -- the version's word is loaded
@@ -369,7 +369,7 @@ load_old e n word old new sound real is t =
     let empty : new.memory.buffer e.process ≡ [] = m.buffer e.process ∙ (fits e (LoadOld n) word old new sound real is t).buffer in
     let h : Copying old.memory n = (lay e (LoadOld n) word old new sound real is t).at in
     step_on e (LoadOld n) word old new sound real is t (record e { word = word; stage = StoreNew n }) t.situation refl refl (fits e (LoadOld n) word old new sound real is t).is.stage
-    (copying_same e (LoadOld n) word old new sound real is t n m.cached m.persisted h, t.memory.0 ∙ sym (m.cached (old_text n))) Version tt (λ r ne. m.cached r) (λ r ne. m.persisted r) (λ q ne. m.buffer q) (λ k. version_word e.process old new k sound) tt
+    (copying_same e (LoadOld n) word old new sound real is t n m.cached m.persisted h, t.memory.0 ∙ sym (m.cached (first_text n))) Version tt (λ r ne. m.cached r) (λ r ne. m.persisted r) (λ q ne. m.buffer q) (λ k. version_word e.process old new k sound) tt
     empty (λ c x. no_mark e (LoadOld n) word old new sound real is t c x empty) (same_version e (LoadOld n) word old new sound real is t m)
 
 -- it is stored where the second layout has it
@@ -378,17 +378,17 @@ store_new e n word old new sound real is t =
     let m : StoresAt (new_text n) e.word old.memory new.memory = t.memory.1 in
     let empty : new.memory.buffer e.process ≡ [] = m.buffer e.process ∙ (fits e (StoreNew n) word old new sound real is t).buffer in
     let h = (lay e (StoreNew n) word old new sound real is t).at in
-    let away : (j : ℕ) → old_text j ≢ new_text n = λ j x. cc in
+    let away : (j : ℕ) → first_text j ≢ new_text n = λ j x. cc in
     let version : MovesVersion e.process old new = inl (m.elsewhere Version (λ x. cc), inl (m.persisted Version)) in
     let copying : Copying new.memory n = record {
       agrees = record { cached = ap edition_of (m.elsewhere Version (λ x. cc)) ∙ h.0.agrees.cached; persisted = ap edition_of (m.persisted Version) ∙ h.0.agrees.persisted };
       copied = λ j l. record {
-        cached = m.elsewhere (new_text j) (new_apart j n (λ x. omega arith)) ∙ (h.0.copied j l).cached ∙ sym (m.elsewhere (old_text j) (away j));
-        persisted = m.persisted (new_text j) ∙ (h.0.copied j l).persisted ∙ sym (m.elsewhere (old_text j) (away j));
+        cached = m.elsewhere (new_text j) (new_apart j n (λ x. omega arith)) ∙ (h.0.copied j l).cached ∙ sym (m.elsewhere (first_text j) (away j));
+        persisted = m.persisted (new_text j) ∙ (h.0.copied j l).persisted ∙ sym (m.elsewhere (first_text j) (away j));
       };
     } in
     step_on e (StoreNew n) word old new sound real is t (at e (FlushNew n)) t.situation refl refl (fits e (StoreNew n) word old new sound real is t).is.stage
-    (copying, h.1 ∙ sym (m.elsewhere (old_text n) (away n)), m.there) (new_text n) tt m.elsewhere (λ r ne. m.persisted r) (λ q ne. m.buffer q)
+    (copying, h.1 ∙ sym (m.elsewhere (first_text n) (away n)), m.there) (new_text n) tt m.elsewhere (λ r ne. m.persisted r) (λ q ne. m.buffer q)
     (λ k now. absurd (no_second new copying.agrees now)) (inr (inr (λ seen. no_second old h.0.agrees (inl seen))))
     empty (λ c x. no_mark e (StoreNew n) word old new sound real is t c x empty) version
 
@@ -400,7 +400,7 @@ flush_new e n word old new sound real is t =
     let one : new.memory.buffer e.process ≡ entry (new_text n) e.word ∷ [] =
     m.mine ∙ ap (λ (xs : List (BufferEntry Place)). xs ++ entry (new_text n) (old.memory.cached (new_text n)) ∷ []) (fits e (FlushNew n) word old new sound real is t).buffer ∙ ap (λ (v : ℕ). entry (new_text n) v ∷ []) h.2 in
     step_on e (FlushNew n) word old new sound real is t (at e (BackNew n)) t.situation refl refl (fits e (FlushNew n) word old new sound real is t).is.stage
-    (copying_same e (FlushNew n) word old new sound real is t n m.cached m.persisted h.0, h.1 ∙ sym (m.cached (old_text n)), m.cached (new_text n) ∙ h.2) Version tt (λ r ne. m.cached r) (λ r ne. m.persisted r) m.others
+    (copying_same e (FlushNew n) word old new sound real is t n m.cached m.persisted h.0, h.1 ∙ sym (m.cached (first_text n)), m.cached (new_text n) ∙ h.2) Version tt (λ r ne. m.cached r) (λ r ne. m.persisted r) m.others
     (λ k. version_word e.process old new k sound) tt one (λ c x k. not_mark (new_text n) e.word c x (λ y. cc) one k) (inl (m.cached Version, inl (m.persisted Version)))
 
 -- one entry is written back
@@ -429,8 +429,8 @@ back_new e n word old new sound real is t =
     let copying : Copying new.memory (n + 1) = record {
       agrees = record { cached = ap edition_of (b.cached Version) ∙ h.0.agrees.cached; persisted = ap edition_of (b.elsewhere Version (λ x. cc)) ∙ h.0.agrees.persisted };
       copied = λ j l. elim (cases_eq j n) [
-        | inl same ↦ subst (λ (k : ℕ). Copies new.memory k) (sym same) (record { cached = b.cached (new_text n) ∙ h.2 ∙ h.1 ∙ sym (b.cached (old_text n)); persisted = b.there ∙ h.1 ∙ sym (b.cached (old_text n)) })
-        | inr ne ↦ (let c = h.0.copied j (omega arith) in record { cached = b.cached (new_text j) ∙ c.cached ∙ sym (b.cached (old_text j)); persisted = b.elsewhere (new_text j) (new_apart j n ne) ∙ c.persisted ∙ sym (b.cached (old_text j)) })
+        | inl same ↦ subst (λ (k : ℕ). Copies new.memory k) (sym same) (record { cached = b.cached (new_text n) ∙ h.2 ∙ h.1 ∙ sym (b.cached (first_text n)); persisted = b.there ∙ h.1 ∙ sym (b.cached (first_text n)) })
+        | inr ne ↦ (let c = h.0.copied j (omega arith) in record { cached = b.cached (new_text j) ∙ c.cached ∙ sym (b.cached (first_text j)); persisted = b.elsewhere (new_text j) (new_apart j n ne) ∙ c.persisted ∙ sym (b.cached (first_text j)) })
       ];
     } in
     let stage : MigrateStage = copy_from (old_words e.processes) (n + 1) in
@@ -452,11 +452,11 @@ texts_copied w processes sound count h q n part e there i j k =
     let num : n < RECORDS = subst (λ (x : ℕ). x < RECORDS) j few in
     let low : q < processes = subst (λ (x : ℕ). q < x) count (subst (λ (x : ℕ). x < w.layout.processes) i inside) in
     let below : which < old_words processes = omega arith in
-    let old_is : old_text which ≡ Text First q n part = first_text_at q n part num small in
+    let old_is : first_text which ≡ Text First q n part = first_text_at q n part num small in
     let new_is : new_text which ≡ Text Second q n part = new_text_at q n part num small in
     let c : Copies w.memory which = h.copied which below in
     let was = sound.words (Text First q n part) (inl h.agrees.cached) e there i j k in
-    let old_word : w.memory.cached (old_text which) ≡ record_word e (suc part) = ap w.memory.cached old_is ∙ was.0 in
+    let old_word : w.memory.cached (first_text which) ≡ record_word e (suc part) = ap w.memory.cached old_is ∙ was.0 in
     (ap w.memory.cached (sym new_is) ∙ c.cached ∙ old_word, ap w.memory.persisted (sym new_is) ∙ c.persisted ∙ old_word)
 
 -- the second layout becomes the sheet's

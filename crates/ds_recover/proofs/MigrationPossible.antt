@@ -7,9 +7,9 @@ use Rattle.ds_layout.specs.declared.layout.Layout.{Layout}
 use Rattle.ds_layout.specs.declared.place.Place.{Place}
 use Rattle.ds_layout.specs.declared.place.Place.TheVariants as place
 use Rattle.ds_layout.specs.declared.place.TheConstants.{RECORDS, FIRST_PARTS}
-use Rattle.ds_layout.specs.Places.{IsPlace}
+use Rattle.ds_layout.specs.Places.{IsPlace, first_text}
 use Rattle.ds_layout.specs.SheetMemory.{NamesPlace, HasEntry, HasBuffer, CanPerform}
-use Rattle.ds_state.specs.Works.{PlainMigrateCall, IsMigration, IsCopied, old_words, old_text, new_text}
+use Rattle.ds_state.specs.Works.{PlainMigrateCall, IsMigration, IsCopied, old_words, new_text}
 use Rattle.ds_state.specs.World.{PlainWorld}
 use Rattle.ds_state.specs.Owing.{entry}
 use Rattle.ds_state.specs.CallsFit.{MigrationHolds, MigrationFits}
@@ -21,7 +21,7 @@ use Rattle.ds_recover.specs.MigrationSteps.{access_at}
 process_below : (n processes : ℕ) → n < old_words processes → n / FIRST_PARTS / RECORDS < processes
 process_below n processes l = omega arith
 
-old_there : (layout : Layout) (e : PlainMigrateCall) (n : ℕ) → layout.processes ≡ e.processes → n < old_words e.processes → IsPlace layout (old_text n)
+old_there : (layout : Layout) (e : PlainMigrateCall) (n : ℕ) → layout.processes ≡ e.processes → n < old_words e.processes → IsPlace layout (first_text n)
 old_there layout e n processes l = (rw processes (process_below n e.processes l), omega arith, omega arith)
 
 new_there : (layout : Layout) (e : PlainMigrateCall) (n : ℕ) → layout.processes ≡ e.processes → n < old_words e.processes → IsPlace layout (new_text n)

@@ -4,10 +4,11 @@ use Rattle.ds_words.specs.Memory.{SameMemory}
 use Rattle.ds_words.specs.declared.access.Access.{Access}
 use Rattle.ds_words.specs.declared.access.Access.TheVariants as acts
 use Rattle.ds_layout.specs.declared.place.Place.{Place}
+use Rattle.ds_layout.specs.Places.{first_text}
 use Rattle.ds_layout.specs.declared.place.Place.TheVariants as place
 use Rattle.ds_layout.specs.SheetMemory.{PerformsAt}
 use Rattle.ds_state.specs.World.{PlainWorld}
-use Rattle.ds_state.specs.Works.{PlainMigrateCall, old_words, old_text, new_text}
+use Rattle.ds_state.specs.Works.{PlainMigrateCall, old_words, new_text}
 use Rattle.ds_state.specs.LayoutsFit.{OthersStopped}
 use Rattle.ds_state.specs.declared.work.MigrateEnd.TheVariants.{Migrated, Already}
 use Rattle.ds_state.specs.declared.work.MigrateStage.{MigrateStage}
@@ -18,7 +19,7 @@ use Rattle.ds_state.specs.declared.situation.Situation.TheVariants.{Stopped, Mig
 -- the access of a stage of a migration
 abbrev pub access_at : PlainMigrateCall → MigrateStage → Access Place
 access_at e LoadVersion = acts.Load place.Version
-access_at e (LoadOld at) = acts.Load (old_text at)
+access_at e (LoadOld at) = acts.Load (first_text at)
 access_at e (StoreNew at) = acts.Store (new_text at) e.word
 access_at e (FlushNew at) = acts.Flush (new_text at)
 access_at e (BackNew at) = acts.Back

@@ -23,11 +23,11 @@ use Rattle.ds_state.proofs.Stable.{call_stable}
 use Rattle.std.specs.Prelude.{Option}
 use Rattle.ds_layout.specs.declared.place.Edition.{Edition}
 use Rattle.ds_layout.specs.declared.place.Edition.TheVariants.{First, Second}
-use Rattle.ds_layout.specs.Places.{edition_of}
+use Rattle.ds_layout.specs.Places.{edition_of, first_text}
 use Rattle.ds_state.specs.Editions.{seen_edition, Shows, Agrees}
 use Rattle.ds_state.specs.Owing.{entry}
 use Rattle.ds_state.specs.LayoutsFit.{WakesAt, Copies, Copying, MovesAt, OthersStopped, MovesFit, LayoutFits, IsMoving, NoneMoves}
-use Rattle.ds_state.specs.Works.{PlainMigrateCall, old_words, old_text, new_text}
+use Rattle.ds_state.specs.Works.{PlainMigrateCall, old_words, new_text}
 use Rattle.ds_state.specs.declared.work.RecoverStage.{RecoverStage}
 use Rattle.ds_state.specs.declared.work.RecoverStage.TheVariants.{LoadVersion, FlushVersion, BackVersion}
 use Rattle.ds_state.specs.declared.work.MigrateStage.{MigrateStage}
@@ -215,8 +215,8 @@ agrees_noted w p (Migrating e) edition is h = absurd (cc)
 -- where words at most catch up, a migration has come as far as before
 copies_on : (old new : PlainWorld) → ((r : Place) → CatchesUp (old.memory.cached r) (old.memory.persisted r) (new.memory.cached r) (new.memory.persisted r)) → (at : ℕ) → Copies old.memory at → Copies new.memory at
 copies_on old new up at h = record {
-  cached = (up (new_text at)).0 ∙ h.cached ∙ sym (up (old_text at)).0;
-  persisted = elim (up (new_text at)).1 [ inl same ↦ same ∙ h.persisted ∙ sym (up (old_text at)).0 | inr caught ↦ caught ∙ h.cached ∙ sym (up (old_text at)).0 ];
+  cached = (up (new_text at)).0 ∙ h.cached ∙ sym (up (first_text at)).0;
+  persisted = elim (up (new_text at)).1 [ inl same ↦ same ∙ h.persisted ∙ sym (up (first_text at)).0 | inr caught ↦ caught ∙ h.cached ∙ sym (up (first_text at)).0 ];
 }
 
 copying_on : (old new : PlainWorld) → ((r : Place) → CatchesUp (old.memory.cached r) (old.memory.persisted r) (new.memory.cached r) (new.memory.persisted r)) → (count : ℕ) → Copying old.memory count → Copying new.memory count
@@ -225,9 +225,9 @@ copying_on old new up count h = record { agrees = agrees_on old new (up Version)
 moves_on : (old new : PlainWorld) → ((r : Place) → CatchesUp (old.memory.cached r) (old.memory.persisted r) (new.memory.cached r) (new.memory.persisted r)) → (e : PlainMigrateCall) (s : MigrateStage) → MovesAt old e s → MovesAt new e s
 moves_on old new up e stages.LoadVersion h = tt
 moves_on old new up e (stages.LoadOld at) h = copying_on old new up at h
-moves_on old new up e (stages.StoreNew at) h = (copying_on old new up at h.0, h.1 ∙ sym (up (old_text at)).0)
-moves_on old new up e (stages.FlushNew at) h = (copying_on old new up at h.0, h.1 ∙ sym (up (old_text at)).0, (up (new_text at)).0 ∙ h.2)
-moves_on old new up e (stages.BackNew at) h = (copying_on old new up at h.0, h.1 ∙ sym (up (old_text at)).0, (up (new_text at)).0 ∙ h.2)
+moves_on old new up e (stages.StoreNew at) h = (copying_on old new up at h.0, h.1 ∙ sym (up (first_text at)).0)
+moves_on old new up e (stages.FlushNew at) h = (copying_on old new up at h.0, h.1 ∙ sym (up (first_text at)).0, (up (new_text at)).0 ∙ h.2)
+moves_on old new up e (stages.BackNew at) h = (copying_on old new up at h.0, h.1 ∙ sym (up (first_text at)).0, (up (new_text at)).0 ∙ h.2)
 moves_on old new up e stages.Swap h = copying_on old new up (old_words e.processes) h
 moves_on old new up e (stages.FlushVersion how) h = (up Version).0 ∙ h
 moves_on old new up e (stages.BackVersion how) h = (up Version).0 ∙ h

@@ -2,12 +2,13 @@
 use Rattle.std.specs.Prelude.{ℕ, ◌≡◌, ◌≢◌, ◌<◌, ◌+◌, [], ◌∷◌}
 use Rattle.ds_words.specs.Memory.{Memory}
 use Rattle.ds_layout.specs.declared.place.Edition.TheVariants.{First, Second}
+use Rattle.ds_layout.specs.Places.{first_text}
 use Rattle.ds_layout.specs.declared.place.Place.{Place}
 use Rattle.ds_layout.specs.declared.place.Place.TheVariants as place
 use Rattle.ds_state.specs.Editions.{seen_edition, Agrees}
 use Rattle.ds_state.specs.Owing.{entry}
 use Rattle.ds_state.specs.World.{PlainWorld}
-use Rattle.ds_state.specs.Works.{PlainRecoverCall, PlainMigrateCall, old_words, old_text, new_text}
+use Rattle.ds_state.specs.Works.{PlainRecoverCall, PlainMigrateCall, old_words, new_text}
 use Rattle.ds_state.specs.declared.work.RecoverStage.{RecoverStage}
 use Rattle.ds_state.specs.declared.work.RecoverStage.TheVariants.{LoadVersion, FlushVersion, BackVersion}
 use Rattle.ds_state.specs.declared.work.MigrateStage.{MigrateStage}
@@ -24,8 +25,8 @@ WakesAt w p e _ = Agrees w.memory e.edition
 
 -- the new word holds on both sides what the old one holds on the cached side
 pub record Copies (m : Memory Place) (at : ℕ) : Type 0 where
-  pub cached : m.cached (new_text at) ≡ m.cached (old_text at)
-  pub persisted : m.persisted (new_text at) ≡ m.cached (old_text at)
+  pub cached : m.cached (new_text at) ≡ m.cached (first_text at)
+  pub persisted : m.persisted (new_text at) ≡ m.cached (first_text at)
 
 -- the first so many words are copied
 abbrev pub AreCopied : Memory Place → ℕ → Type 0
@@ -40,9 +41,9 @@ pub record Copying (m : Memory Place) (count : ℕ) : Type 0 where
 abbrev pub MovesAt : PlainWorld → PlainMigrateCall → MigrateStage → Type 0
 MovesAt w e stages.LoadVersion = Unit {0}
 MovesAt w e (stages.LoadOld at) = Copying w.memory at
-MovesAt w e (stages.StoreNew at) = Copying w.memory at × (e.word ≡ w.memory.cached (old_text at))
-MovesAt w e (stages.FlushNew at) = Copying w.memory at × (e.word ≡ w.memory.cached (old_text at)) × (w.memory.cached (new_text at) ≡ e.word)
-MovesAt w e (stages.BackNew at) = Copying w.memory at × (e.word ≡ w.memory.cached (old_text at)) × (w.memory.cached (new_text at) ≡ e.word)
+MovesAt w e (stages.StoreNew at) = Copying w.memory at × (e.word ≡ w.memory.cached (first_text at))
+MovesAt w e (stages.FlushNew at) = Copying w.memory at × (e.word ≡ w.memory.cached (first_text at)) × (w.memory.cached (new_text at) ≡ e.word)
+MovesAt w e (stages.BackNew at) = Copying w.memory at × (e.word ≡ w.memory.cached (first_text at)) × (w.memory.cached (new_text at) ≡ e.word)
 MovesAt w e stages.Swap = Copying w.memory (old_words e.processes)
 MovesAt w e (stages.FlushVersion how) = w.memory.cached place.Version ≡ 1
 MovesAt w e (stages.BackVersion how) = w.memory.cached place.Version ≡ 1

@@ -19,8 +19,8 @@ refusal_by kind fault = Text fault
 abbrev pub refusal_of : TextFault → Refusal
 refusal_of fault = refusal_by fault.kind fault
 
--- the number of the next edit, and the layout, of a process in this situation, if it may begin an edit, work or a report; else why it
--- may not
+-- what a process in this situation knows of its next edit and of the layout, if it may begin an edit, work or a report;
+-- else why it may not
 abbrev pub next_edit : Situation → Result Rest Refusal
 next_edit (Idle next) = Ok next
 next_edit Stopped = Err refusal.Stopped

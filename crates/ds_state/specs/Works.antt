@@ -16,7 +16,7 @@ use Rattle.ds_state.specs.declared.work.WorkStage.{WorkStage}
 use Rattle.ds_state.specs.declared.work.RecoverStage.{RecoverStage}
 use Rattle.ds_state.specs.declared.work.ShowStage.{ShowStage}
 use Rattle.ds_layout.specs.declared.place.Edition.{Edition}
-use Rattle.ds_layout.specs.declared.place.Edition.TheVariants.{First, Second}
+use Rattle.ds_layout.specs.declared.place.Edition.TheVariants.{Second}
 use Rattle.ds_layout.specs.declared.place.Place.{Place}
 use Rattle.ds_layout.specs.declared.place.Place.TheVariants as place
 use Rattle.ds_layout.specs.declared.place.TheConstants.{RECORDS, FIRST_PARTS}
@@ -121,8 +121,8 @@ pub record IsWorkIn (e : PlainWorkCall) (places : ℕ) : Type 0 where
   pub is : IsWork e
   pub room : e.cells ≤ places
 
--- a recovery under way: its process; the layout that it noted; the mark that it saw, the index row of the cell that it gives back; the
--- announcement that it saw, and the cell of that edit
+-- a recovery under way: its process; the layout that it noted; the mark that it saw, the index row of the cell that it
+-- gives back; the announcement that it saw, and the cell of that edit
 pub record PlainRecoverCall : Type 0 where
   pub process : ℕ
   pub edition : Edition
@@ -158,11 +158,7 @@ pub record PlainMigrateCall : Type 0 where
 abbrev pub old_words : ℕ → ℕ
 old_words processes = processes * RECORDS * FIRST_PARTS
 
--- the place of the word that a migration copies from, by where it stands among those of all texts
-abbrev pub old_text : ℕ → Place
-old_text at = place.Text First (at / FIRST_PARTS / RECORDS) (at / FIRST_PARTS % RECORDS) (at % FIRST_PARTS)
-
--- the place that it copies this word to
+-- the place that a migration copies a word of the first layout's texts to, by where it stands among all of them
 abbrev pub new_text : ℕ → Place
 new_text at = place.Text Second (at / FIRST_PARTS / RECORDS) (at / FIRST_PARTS % RECORDS) (at % FIRST_PARTS)
 
