@@ -1,7 +1,7 @@
 -- What calls of the library do is a run.
 use Rattle.std.proofs.Common.{ℕ, [], ◌∷◌, refl}
 use Rattle.ds_state.specs.Value.{WorldValue}
-use Rattle.ds_edit.specs.declared.answer.Answer.{Answer}
+use Rattle.ds_state.specs.declared.answer.Answer.{Answer}
 use Rattle.ds_core.specs.Takes.{Fits}
 use Rattle.ds_core.specs.declared.event.Event.{Event}
 use Rattle.ds_core.specs.declared.event.Event.TheVariants.{BeginMigrate, Offer, Evict, Crash}

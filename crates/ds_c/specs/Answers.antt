@@ -4,8 +4,8 @@ use Rattle.ds_calls.specs.declared.settle.SettleEnd.{SettleEnd}
 use Rattle.ds_calls.specs.declared.settle.SettleEnd.TheVariants as ends
 use Rattle.ds_core.specs.declared.reply.Reply.{Reply}
 use Rattle.ds_core.specs.declared.reply.Reply.TheVariants as reply
-use Rattle.ds_edit.specs.declared.answer.Answer.{Answer}
-use Rattle.ds_edit.specs.declared.answer.Answer.TheVariants as answer
+use Rattle.ds_state.specs.declared.answer.Answer.{Answer}
+use Rattle.ds_state.specs.declared.answer.Answer.TheVariants as answer
 use Rattle.ds_formula.specs.declared.fault.FaultKind.{FaultKind}
 use Rattle.ds_formula.specs.declared.fault.FaultKind.TheVariants as fault
 use Rattle.ds_layout.specs.declared.place.Place.{Place}

@@ -6,10 +6,14 @@ ghost use Rattle.ds_c.specs.Answers.{answer_row, reply_row, refusal_row, result_
 use crate::answer_kind::AnswerKind;
 use ds_calls::settle::SettleEnd;
 use ds_core::reply::Reply;
-use ds_edit::answer::Answer;
 use ds_formula::fault::FaultKind;
 use ds_layout::place::Place;
 use ds_shared::ended::Ended;
+use ds_state::answer::{Answer, EditEnd};
+use ds_state::migration::MigrateEnd;
+use ds_state::recovery::RecoveryEnd;
+use ds_state::report::ReportEnd;
+use ds_state::work::WorkEnd;
 use ds_state::refusal::Refusal;
 
 /// What was replied to an event, or answered by a call. `kind` says which; fields that it does not use are 0.
@@ -113,46 +117,46 @@ impl AnswerRow {
         ensures { result ≡ answer_row answer }
     {
         match answer {
-            Answer::Done(number) => AnswerRow {
+            Answer::Edit(EditEnd::Done(number)) => AnswerRow {
                 number,
                 ..AnswerRow::plain(AnswerKind::Done)
             },
-            Answer::Overtaken(number, other) => AnswerRow {
+            Answer::Edit(EditEnd::Overtaken(number, other)) => AnswerRow {
                 number,
                 process: other.process,
                 other: other.number,
                 ..AnswerRow::plain(AnswerKind::Overtaken)
             },
-            Answer::NotDirty => AnswerRow::plain(AnswerKind::NotDirty),
-            Answer::Missed => AnswerRow::plain(AnswerKind::Missed),
-            Answer::Worn => AnswerRow::plain(AnswerKind::Worn),
-            Answer::Published(changed) => AnswerRow {
+            Answer::Work(WorkEnd::NotDirty) => AnswerRow::plain(AnswerKind::NotDirty),
+            Answer::Work(WorkEnd::Missed) => AnswerRow::plain(AnswerKind::Missed),
+            Answer::Work(WorkEnd::Worn) => AnswerRow::plain(AnswerKind::Worn),
+            Answer::Work(WorkEnd::Published(changed)) => AnswerRow {
                 holds: changed as u32,
                 ..AnswerRow::plain(AnswerKind::Published)
             },
-            Answer::Again => AnswerRow::plain(AnswerKind::Again),
-            Answer::NoMemory => AnswerRow::plain(AnswerKind::NoMemory),
-            Answer::Last(told) => AnswerRow {
+            Answer::Work(WorkEnd::Again) => AnswerRow::plain(AnswerKind::Again),
+            Answer::Work(WorkEnd::NoMemory) => AnswerRow::plain(AnswerKind::NoMemory),
+            Answer::Recovery(RecoveryEnd::Last(told)) => AnswerRow {
                 number: told.number,
                 cell: told.cell,
                 holds: told.counts as u32,
                 ..AnswerRow::plain(AnswerKind::Last)
             },
-            Answer::Nothing => AnswerRow::plain(AnswerKind::Nothing),
-            Answer::Migrated => AnswerRow::plain(AnswerKind::Migrated),
-            Answer::Already => AnswerRow::plain(AnswerKind::Already),
-            Answer::Settled => AnswerRow::plain(AnswerKind::Settled),
-            Answer::Unsettled(Place::Mark(cell), seen) => AnswerRow {
+            Answer::Recovery(RecoveryEnd::Nothing) => AnswerRow::plain(AnswerKind::Nothing),
+            Answer::Migration(MigrateEnd::Migrated) => AnswerRow::plain(AnswerKind::Migrated),
+            Answer::Migration(MigrateEnd::Already) => AnswerRow::plain(AnswerKind::Already),
+            Answer::Report(ReportEnd::Settled) => AnswerRow::plain(AnswerKind::Settled),
+            Answer::Report(ReportEnd::Unsettled(Place::Mark(cell), seen)) => AnswerRow {
                 cell,
                 seen,
                 ..AnswerRow::plain(AnswerKind::UnsettledMark)
             },
-            Answer::Unsettled(Place::Announce(process), seen) => AnswerRow {
+            Answer::Report(ReportEnd::Unsettled(Place::Announce(process), seen)) => AnswerRow {
                 process,
                 seen,
                 ..AnswerRow::plain(AnswerKind::UnsettledAnnouncement)
             },
-            Answer::Unsettled(_, _) => AnswerRow::plain(AnswerKind::UnsettledWord),
+            Answer::Report(ReportEnd::Unsettled(_, _)) => AnswerRow::plain(AnswerKind::UnsettledWord),
         }
     }
 

@@ -2,7 +2,7 @@
 
 ghost use Rattle.std.specs.Prelude.{◌≡◌, IfOk, IfErr, Some};
 ghost use Rattle.ds_formula.specs.Cells.{IsInside};
-ghost use Rattle.ds_core.specs.declared.event.Event.TheVariants.{BeginEdit, BeginWork, BeginShow, BeginRecover, BeginMigrate, Step, Offer, Stop};
+ghost use Rattle.ds_core.specs.declared.event.Event.TheVariants.{BeginEdit, BeginWork, BeginReport, BeginRecover, BeginMigrate, Step, Offer, Stop};
 ghost use Rattle.ds_core.specs.Kinds.{IsEditAnswer, IsWorkAnswer, IsReportAnswer, IsRecoveryAnswer};
 ghost use Rattle.ds_calls.specs.Whole.{HasProcess, request};
 ghost use Rattle.ds_c.specs.Calls.{Does};
@@ -96,10 +96,10 @@ pub fn begin_work(
 
 /// A process begins a report, or is refused.
 pub fn begin_report(alloc: Global, world: &mut World, process: usize) -> Result<AnswerRow, Failure>
-    ensures { Does (Replies (BeginShow process)) (LacksProcess process) world.old result world.new }
+    ensures { Does (Replies (BeginReport process)) (LacksProcess process) world.old result world.new }
 {
     find_process(world, process)?;
-    Ok(AnswerRow::of_reply(take(alloc, world, &Event::BeginShow(process))))
+    Ok(AnswerRow::of_reply(take(alloc, world, &Event::BeginReport(process))))
 }
 
 /// A process begins to recover, or is refused.
@@ -207,7 +207,7 @@ pub fn work(
 
 /// A whole report. Where it is settled, the world keeps its values as the process's last ones.
 pub fn report(alloc: Global, world: &mut World, process: usize) -> Result<AnswerRow, Failure>
-    ensures { Does (Ended IsReportAnswer process (BeginShow process)) (LacksProcess process) world.old result world.new }
+    ensures { Does (Ended IsReportAnswer process (BeginReport process)) (LacksProcess process) world.old result world.new }
 {
     find_process(world, process)?;
     Ok(AnswerRow::of_result(call::whole_report(alloc, world, process)))

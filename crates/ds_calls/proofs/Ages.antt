@@ -1,8 +1,8 @@
 -- Each event leaves each mark at most one generation older.
 use Rattle.std.proofs.Common.{ℕ, ◌≡◌, ◌<◌, ◌≤◌, ◌+◌, ◌*◌, ◌/◌, ◌⊎◌, refl, ap, sym, ◌∙◌, arith, inl, inr, List, [], ◌∷◌, length}
 use Rattle.std.specs.Prelude.{bit_or}
-use Rattle.ds_state.specs.declared.work.MigrateStage.TheVariants as migrate_stages
-use Rattle.ds_state.specs.declared.work.MigrateStage.{MigrateStage}
+use Rattle.ds_state.specs.declared.migration.MigrateStage.TheVariants as migrate_stages
+use Rattle.ds_state.specs.declared.migration.MigrateStage.{MigrateStage}
 use Rattle.ds_recover.specs.MigrationSteps as migration_steps
 use Rattle.ds_words.specs.declared.access.Access.{Access}
 use Rattle.ds_words.specs.declared.access.Access.TheVariants.{Nothing, Load, Store, Or, SwapIf, Flush, Back}
@@ -21,21 +21,21 @@ use Rattle.ds_state.specs.Value.{WorldValue, world_of, IsGood}
 use Rattle.ds_state.specs.Sound.{IsSound}
 use Rattle.ds_state.specs.declared.stage.Stage.{Stage}
 use Rattle.ds_state.specs.declared.stage.Stage.TheVariants as edit_stages
-use Rattle.ds_state.specs.declared.work.Spread.{Spread}
-use Rattle.ds_state.specs.declared.work.Spread.TheVariants.{OrTold}
+use Rattle.ds_state.specs.declared.spread.Spread.{Spread}
+use Rattle.ds_state.specs.declared.spread.Spread.TheVariants.{OrTold}
 use Rattle.ds_state.specs.declared.work.WorkStage.{WorkStage}
 use Rattle.ds_state.specs.declared.work.WorkStage.TheVariants as work_stages
-use Rattle.ds_state.specs.declared.work.RecoverStage.{RecoverStage}
-use Rattle.ds_state.specs.declared.work.RecoverStage.TheVariants as recover_stages
-use Rattle.ds_state.specs.declared.work.ShowStage.{ShowStage}
-use Rattle.ds_state.specs.declared.work.ShowStage.TheVariants as show_stages
+use Rattle.ds_state.specs.declared.recovery.RecoverStage.{RecoverStage}
+use Rattle.ds_state.specs.declared.recovery.RecoverStage.TheVariants as recover_stages
+use Rattle.ds_state.specs.declared.report.ReportStage.{ReportStage}
+use Rattle.ds_state.specs.declared.report.ReportStage.TheVariants as show_stages
 use Rattle.ds_state.proofs.Dirty.{or_dirty}
 use Rattle.ds_edit.specs.EditSteps as edit_steps
 use Rattle.ds_work.specs.WorkSteps as work_steps
 use Rattle.ds_work.specs.WorkTakes as work_events
 use Rattle.ds_work.specs.declared.drive.Taken.{Taken}
 use Rattle.ds_recover.specs.RecoverySteps as recovery_steps
-use Rattle.ds_show.specs.ShowSteps as show_steps
+use Rattle.ds_report.specs.ReportSteps as show_steps
 use Rattle.ds_core.specs.StepEvents.{StepsBy, edits, works, reports, recoveries, migrations}
 use Rattle.ds_core.specs.Takes.{Takes, WorldRun}
 use Rattle.ds_core.proofs.Did as did_so
@@ -135,7 +135,7 @@ migration_gentle e (migrate_stages.StoreNew n) = λ c is. cc
 migration_gentle e migrate_stages.Swap = inl (λ c is. cc)
 migration_gentle e _ = tt
 
-show_gentle : (s : ShowStage) → IsGentle (show_steps.access_at s)
+show_gentle : (s : ReportStage) → IsGentle (show_steps.access_at s)
 show_gentle (show_stages.LoadAnnounce i) = tt
 show_gentle (show_stages.LoadMark i) = tt
 show_gentle (show_stages.LoadValue i) = tt

@@ -6,22 +6,22 @@ use Rattle.ds_state.specs.Value.{WorldValue, world_of}
 use Rattle.ds_state.specs.World.{PlainEdit}
 use Rattle.ds_state.specs.declared.refusal.Refusal.{Refusal}
 use Rattle.ds_state.specs.declared.situation.Situation.{Situation}
-use Rattle.ds_state.specs.declared.situation.Situation.TheVariants.{Stopped, Editing, Working, Recovering, Showing, Migrating}
-use Rattle.ds_edit.specs.declared.answer.Answer.{Answer}
-use Rattle.ds_edit.specs.declared.answer.Answer.TheVariants.{Migrated, Already}
+use Rattle.ds_state.specs.declared.situation.Situation.TheVariants.{Stopped, Editing, Working, Recovering, Reporting, Migrating}
+use Rattle.ds_state.specs.declared.answer.Answer.{Answer}
+use Rattle.ds_state.specs.declared.answer.Answer.TheVariants.{Migrated, Already}
 use Rattle.ds_recover.specs.MigrationSteps as migrations
-use Rattle.ds_show.specs.ShowSteps as shows
+use Rattle.ds_report.specs.ReportSteps as shows
 use Rattle.ds_work.specs.WorkSteps as works
 use Rattle.ds_recover.specs.RecoverySteps as recoveries
 use Rattle.ds_layout.specs.Places.{cells_of}
 use Rattle.ds_state.specs.declared.work.WorkStage.TheVariants as work_stages
-use Rattle.ds_state.specs.declared.work.RecoverStage.TheVariants as recover_stages
+use Rattle.ds_state.specs.declared.recovery.RecoverStage.TheVariants as recover_stages
 use Rattle.ds_core.specs.Requests.{PlainRequest}
 use Rattle.ds_core.specs.Own.{IsInCall}
 use Rattle.ds_core.specs.WorkEvents.{HasWork}
 use Rattle.ds_core.specs.Takes.{Takes, Fits, IsOfWorld}
 use Rattle.ds_core.specs.declared.event.Event.{Event}
-use Rattle.ds_core.specs.declared.event.Event.TheVariants.{BeginEdit, BeginWork, BeginShow, BeginRecover, BeginMigrate}
+use Rattle.ds_core.specs.declared.event.Event.TheVariants.{BeginEdit, BeginWork, BeginReport, BeginRecover, BeginMigrate}
 use Rattle.ds_core.specs.declared.reply.Reply.{Reply}
 use Rattle.ds_core.specs.declared.reply.Reply.TheVariants.{Begun, Entered, Refused, NotEnabled}
 use Rattle.ds_core.proofs.Bound.{same_layout}
@@ -55,10 +55,10 @@ work_begins old new p cell (Refused why) named fits = fits.takes.same
 work_begins old new p cell NotEnabled named fits = absurd (fits.takes.unnamed named)
 work_begins old new p cell _ named fits = absurd fits.takes
 
-pub report_begins : (old new : WorldValue) (p : ℕ) (reply : Reply) → HasProcess old p → Fits old (BeginShow p) reply new → BeginsCall IsReportAnswer old p new reply
+pub report_begins : (old new : WorldValue) (p : ℕ) (reply : Reply) → HasProcess old p → Fits old (BeginReport p) reply new → BeginsCall IsReportAnswer old p new reply
 report_begins old new p Entered there fits =
     let h = fits.takes in
-    calls_by old new p (BeginShow p) Entered (Showing (shows.fresh p h.begun.next (cells_of old.sheet.layout) old.sheet.layout.processes)) IsReportAnswer there h h.begun.begins.situation tt (λ answer x. x)
+    calls_by old new p (BeginReport p) Entered (Reporting (shows.fresh p h.begun.next (cells_of old.sheet.layout) old.sheet.layout.processes)) IsReportAnswer there h h.begun.begins.situation tt (λ answer x. x)
 report_begins old new p (Refused why) there fits = fits.takes.same
 report_begins old new p NotEnabled there fits = absurd (fits.takes.none there)
 report_begins old new p _ there fits = absurd fits.takes

@@ -28,8 +28,8 @@ use Rattle.ds_state.specs.Standing.{cached_side, entry_on, HasContent, value_for
 use Rattle.ds_state.specs.Telling.{told_from}
 use Rattle.ds_state.specs.World.{PlainWorld}
 use Rattle.ds_state.specs.KnownWork.{WorkFits, WorkKnows, work_known, CachedAre}
-use Rattle.ds_state.specs.declared.work.Spread.{Spread}
-use Rattle.ds_state.specs.declared.work.Spread.TheVariants.{LoadRow, OrTold, FlushTold, BackTold}
+use Rattle.ds_state.specs.declared.spread.Spread.{Spread}
+use Rattle.ds_state.specs.declared.spread.Spread.TheVariants.{LoadRow, OrTold, FlushTold, BackTold}
 use Rattle.ds_state.specs.declared.work.WorkEnd.{WorkEnd}
 use Rattle.ds_state.specs.declared.work.WorkEnd.TheVariants as ends
 use Rattle.ds_state.specs.declared.work.WorkStage.{WorkStage}

@@ -35,12 +35,12 @@ use Rattle.ds_state.specs.declared.work.WorkStage.TheVariants as stages
 use Rattle.ds_state.proofs.Heads.{Small, small_counted, small_of_cell, head_low, head_push, head_grows}
 use Rattle.ds_state.proofs.MarkLaws.{mark_names}
 use Rattle.ds_state.proofs.CleanRead.{clean_read}
-use Rattle.ds_edit.specs.declared.answer.Answer.{Answer}
-use Rattle.ds_edit.specs.declared.answer.Answer.TheVariants as answers
+use Rattle.ds_state.specs.declared.answer.Answer.{Answer}
+use Rattle.ds_state.specs.declared.answer.Answer.TheVariants as answers
 use Rattle.ds_work.specs.WorkTakes.{RefusesIn}
 use Rattle.ds_work.specs.WorkSteps as steps
 use Rattle.ds_work.specs.WorkAnswers.{mark_now}
-use Rattle.ds_work.specs.WorkShows.{CellWords, shown_in, EndsShowing}
+use Rattle.ds_work.specs.WorkShows.{CellWords, shown_in, EndsReporting}
 use Rattle.ds_work.specs.WorkAlone.{EndsAlone}
 use Rattle.ds_work.proofs.WorkShows.{shown_kept}
 use Rattle.ds_core.specs.Takes.{Fits}
@@ -209,7 +209,7 @@ module _ (old : WorldValue) (p c : ℕ) (good : IsGood old) (idle : AreIdle (wor
       clean : IsClean (mark_now (world_of new) o.work) → IsClean ((world_of new).memory.cached (Mark c))
       clean h = subst (λ d. IsClean ((world_of new).memory.cached (Mark d))) o.of_cell h
 
-      by : (end : WorkEnd) → EndsAlone (λ part. (world_of old).memory.cached (Index c part)) (world_of new) o.work end → EndsShowing (shown_in (world_of old) c) (shown_in (world_of new) c) end → EndLeaves (world_of old) (world_of new) c end → CallLeft old p c (Ok (work_answer end)) new
+      by : (end : WorkEnd) → EndsAlone (λ part. (world_of old).memory.cached (Index c part)) (world_of new) o.work end → EndsReporting (shown_in (world_of old) c) (shown_in (world_of new) c) end → EndLeaves (world_of old) (world_of new) c end → CallLeft old p c (Ok (work_answer end)) new
       by ends.NotDirty so showing left = absurd so
       by ends.Missed so showing left = absurd so
       by ends.Worn so showing left = absurd so

@@ -12,7 +12,7 @@ use Rattle.ds_layout.specs.declared.mark.State.TheVariants as state
 use Rattle.ds_layout.specs.Places.{cells_of}
 use Rattle.ds_layout.specs.declared.place.Place.TheVariants.{Mark, Head}
 use Rattle.ds_layout.specs.Mark.{IsClean}
-use Rattle.ds_state.specs.KnownShow as shows
+use Rattle.ds_state.specs.KnownReport as shows
 use Rattle.ds_state.specs.Standing.{HasContent}
 use Rattle.ds_state.specs.World.{PlainWorld, PlainIssue}
 use Rattle.ds_state.specs.CallsFit.{CallFits}
@@ -24,7 +24,7 @@ use Rattle.ds_state.specs.declared.refusal.Refusal.TheVariants as refusal
 use Rattle.ds_state.specs.declared.work.WorkEnd.{WorkEnd}
 use Rattle.ds_state.specs.declared.work.WorkEnd.TheVariants as ends
 use Rattle.ds_state.proofs.CleanRead.{clean_reads}
-use Rattle.ds_edit.specs.declared.answer.Answer.{Answer}
+use Rattle.ds_state.specs.declared.answer.Answer.{Answer}
 use Rattle.ds_core.specs.WorkEvents.{work_answer}
 use Rattle.ds_calls.specs.declared.settle.SettleEnd.{SettleEnd}
 use Rattle.ds_calls.specs.declared.settle.SettleEnd.TheVariants as settle_ends

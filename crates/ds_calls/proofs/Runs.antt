@@ -3,7 +3,7 @@ use Rattle.std.proofs.Common.{ℕ, ◌≡◌, List, [], ◌∷◌, ◌++◌, ref
 use Rattle.std.specs.Prelude.{Result}
 use Rattle.ds_state.specs.Value.{WorldValue}
 use Rattle.ds_state.specs.declared.refusal.Refusal.{Refusal}
-use Rattle.ds_edit.specs.declared.answer.Answer.{Answer}
+use Rattle.ds_state.specs.declared.answer.Answer.{Answer}
 use Rattle.ds_core.specs.Takes.{WorldRun}
 use Rattle.ds_core.specs.declared.event.Event.{Event}
 use Rattle.ds_core.specs.declared.event.Event.TheVariants.{Step}

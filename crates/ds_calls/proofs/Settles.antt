@@ -6,7 +6,7 @@ use Rattle.ds_layout.specs.Places.{cells_of}
 use Rattle.ds_state.specs.Value.{WorldValue, world_of}
 use Rattle.ds_state.specs.declared.refusal.Refusal.{Refusal}
 use Rattle.ds_recover.specs.RecoverBegun.{MayRecover}
-use Rattle.ds_edit.specs.declared.answer.Answer.{Answer}
+use Rattle.ds_state.specs.declared.answer.Answer.{Answer}
 use Rattle.ds_calls.specs.declared.settle.Turn.TheVariants.{Works}
 use Rattle.ds_calls.specs.Marked.{marked_from}
 use Rattle.ds_calls.specs.Whole.{IsIdle, KeepsFree}

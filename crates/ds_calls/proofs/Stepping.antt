@@ -5,9 +5,9 @@ use Rattle.ds_state.specs.Sound.{IsSound}
 use Rattle.ds_state.specs.Works.{PlainWorkCall}
 use Rattle.ds_state.specs.declared.refusal.Refusal.{Refusal}
 use Rattle.ds_state.specs.declared.situation.Situation.{Situation}
-use Rattle.ds_state.specs.declared.situation.Situation.TheVariants.{Idle, Stopped, Editing, Working, Recovering, Showing, Migrating}
+use Rattle.ds_state.specs.declared.situation.Situation.TheVariants.{Idle, Stopped, Editing, Working, Recovering, Reporting, Migrating}
 use Rattle.ds_state.specs.declared.work.WorkStage.TheVariants as work_stages
-use Rattle.ds_edit.specs.declared.answer.Answer.{Answer}
+use Rattle.ds_state.specs.declared.answer.Answer.{Answer}
 use Rattle.ds_work.specs.WorkTakes as work_events
 use Rattle.ds_state.specs.World.{PlainWorld}
 use Rattle.ds_work.specs.WorkSteps.{IsPlainStep}
@@ -41,7 +41,7 @@ not_waiting old new p reply (works h) e at waits =
     let same : Working h.steps.work ≡ Working e = sym h.steps.works ∙ at in
     let is : h.steps.work ≡ e = cc in
     never_waits h.steps.work (world_of old) (world_of new) h.what h.steps.turn (ap (λ (w : PlainWorkCall). w.stage) is ∙ waits)
-not_waiting old new p reply (reports h) e at waits = absurd (let bad : Showing h.steps.show ≡ Working e = sym h.steps.at ∙ at in cc)
+not_waiting old new p reply (reports h) e at waits = absurd (let bad : Reporting h.steps.show ≡ Working e = sym h.steps.at ∙ at in cc)
 not_waiting old new p reply (recoveries h) e at waits = absurd (let bad : Recovering h.steps.recovery ≡ Working e = sym h.steps.at ∙ at in cc)
 not_waiting old new p reply (migrations h) e at waits = absurd (let bad : Migrating h.steps.migration ≡ Working e = sym h.steps.at ∙ at in cc)
 
@@ -70,7 +70,7 @@ can_step old new p Stopped is calls there waits h = calls
 can_step old new p (Editing e) is calls there waits h = h.no_edit e there is
 can_step old new p (Working e) is calls there waits h = waits e (record { inside = there; works = is; waits = h.no_work e there is })
 can_step old new p (Recovering e) is calls there waits h = h.no_recovery e there is
-can_step old new p (Showing e) is calls there waits h = h.no_report e there is
+can_step old new p (Reporting e) is calls there waits h = h.no_report e there is
 can_step old new p (Migrating e) is calls there waits h = h.no_migration e there is
 
 -- a process in a call whose step has another reply can make none, and waits

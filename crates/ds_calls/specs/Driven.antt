@@ -5,7 +5,7 @@ use Rattle.ds_core.specs.declared.reply.Reply.{Reply}
 use Rattle.ds_state.specs.Value.{WorldValue, world_of}
 use Rattle.ds_state.specs.Works.{PlainWorkCall}
 use Rattle.ds_work.specs.WorkTakes.{Waits}
-use Rattle.ds_edit.specs.declared.answer.Answer.{Answer}
+use Rattle.ds_state.specs.declared.answer.Answer.{Answer}
 use Rattle.ds_core.specs.Takes.{Fits}
 use Rattle.ds_core.specs.declared.event.Event.TheVariants.{Step}
 use Rattle.ds_core.specs.declared.reply.Reply.TheVariants.{Begun, Entered, Refused, Stepped, Answered}

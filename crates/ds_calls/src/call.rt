@@ -1,7 +1,7 @@
 //! Whole calls: an edit, work, a report, a recovery, a migration.
 
 ghost use Rattle.std.specs.Prelude.{◌≡◌};
-ghost use Rattle.ds_core.specs.declared.event.Event.TheVariants.{BeginEdit, BeginWork, BeginShow, BeginRecover, BeginMigrate};
+ghost use Rattle.ds_core.specs.declared.event.Event.TheVariants.{BeginEdit, BeginWork, BeginReport, BeginRecover, BeginMigrate};
 ghost use Rattle.ds_core.specs.Takes.{IsOfWorld, Fits, BeginTakes};
 ghost use Rattle.ds_core.specs.WorkEvents.{HasWork};
 ghost use Rattle.ds_core.specs.Kinds.{IsEditAnswer, IsWorkAnswer, IsReportAnswer, IsRecoveryAnswer, IsMigrationAnswer};
@@ -12,8 +12,8 @@ use crate::finish::finish;
 use ds_core::event::Event;
 use ds_core::reply::Reply;
 use ds_core::take::take;
-use ds_edit::answer::Answer;
 use ds_formula::cells::Cell;
+use ds_state::answer::Answer;
 use ds_state::refusal::Refusal;
 use ds_state::world::World;
 use std::alloc::Global;
@@ -58,10 +58,10 @@ fn begin_work(alloc: Global, world: &mut World, process: usize, cell: Cell) -> R
 
 fn begin_report(alloc: Global, world: &mut World, process: usize) -> Reply
     requires { HasProcess world.old process }
-    ensures fits { Fits world.old (BeginShow process) result world.new }
+    ensures fits { Fits world.old (BeginReport process) result world.new }
     ensures begins { BeginsCall IsReportAnswer world.old process world.new result }
 {
-    let event = Event::BeginShow(process);
+    let event = Event::BeginReport(process);
     take(alloc, world, &event)
 }
 
@@ -129,7 +129,7 @@ pub fn whole_work(
 /// ones that the world keeps. Where its begin is refused, the world is as it was.
 pub fn whole_report(alloc: Global, world: &mut World, process: usize) -> Result<Answer, Refusal>
     requires { HasProcess world.old process }
-    ensures { IsWhole IsReportAnswer process (BeginShow process) world.old result world.new }
+    ensures { IsWhole IsReportAnswer process (BeginReport process) world.old result world.new }
 {
     let reply = begin_report(alloc, world, process);
     driven(alloc, world, process, reply)

@@ -15,7 +15,7 @@ use ds_core::advance::advance;
 use ds_core::event::Event;
 use ds_core::reply::Reply;
 use ds_core::take::take;
-use ds_edit::answer::Answer;
+use ds_state::answer::Answer;
 use ds_state::world::World;
 use ds_work::offer::offer_own;
 use std::alloc::Global;

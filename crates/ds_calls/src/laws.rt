@@ -6,7 +6,7 @@ ghost use Rattle.ds_state.specs.Value.{WorldValue, world_of, IsGood};
 ghost use Rattle.ds_state.specs.Fresh.{IsNew};
 ghost use Rattle.ds_state.specs.Works.{SEEN_MOST};
 ghost use Rattle.ds_state.specs.declared.refusal.Refusal.{Refusal};
-ghost use Rattle.ds_edit.specs.declared.answer.Answer.{Answer};
+ghost use Rattle.ds_state.specs.declared.answer.Answer.{Answer};
 ghost use Rattle.ds_core.specs.Takes.{WorldRun};
 ghost use Rattle.ds_core.specs.declared.event.Event.{Event};
 ghost use Rattle.ds_core.specs.declared.reply.Reply.{Reply};

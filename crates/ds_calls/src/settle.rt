@@ -11,7 +11,8 @@ ghost use Rattle.ds_calls.specs.Settling.{ends, round, first_turn, goes_behind, 
 
 use crate::call::whole_work;
 use crate::marked::{cells, left, next_marked};
-use ds_edit::answer::Answer;
+use ds_state::answer::Answer;
+use ds_state::work::WorkEnd;
 use ds_state::refusal::Refusal;
 use ds_state::world::World;
 use std::alloc::Global;
@@ -98,7 +99,7 @@ pub fn worked(world: &World, rounds: usize, cell: usize, answered: Result<Answer
 {
     match answered {
         Err(refusal) => Turn::Ends(SettleEnd::Refused(refusal)),
-        Ok(Answer::NoMemory) => Turn::Ends(SettleEnd::NoMemory),
+        Ok(Answer::Work(WorkEnd::NoMemory)) => Turn::Ends(SettleEnd::NoMemory),
         Ok(_) => goes_behind(world, rounds, cell),
     }
 }

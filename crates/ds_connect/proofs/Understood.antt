@@ -7,7 +7,7 @@ use Rattle.ds_formula.specs.Names.{cell_text, name_of_kind}
 use Rattle.ds_formula.specs.Cells.{cell_at}
 use Rattle.ds_layout.specs.declared.place.Place.{Place}
 use Rattle.ds_layout.specs.declared.place.Place.TheVariants as place
-use Rattle.ds_edit.specs.declared.answer.Told.{Told}
+use Rattle.ds_state.specs.declared.recovery.Told.{Told}
 use Rattle.ds_play.specs.ScriptTexts.{counts_text}
 use Rattle.ds_server.specs.LineRequests.{call_of, join_by, or_bad_field}
 use Rattle.ds_server.specs.declared.board.CallRefusal.TheVariants as refusal

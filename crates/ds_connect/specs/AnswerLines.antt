@@ -6,7 +6,7 @@ use Rattle.std.specs.Str.{bytes_eq}
 use Rattle.serde_json.specs.Data.{Data, null}
 use Rattle.serde_json.specs.Find.{get, as_str, as_number, as_u64}
 use Rattle.ds_formula.specs.declared.cells.Shape.{Shape}
-use Rattle.ds_edit.specs.declared.answer.Told.{Told}
+use Rattle.ds_state.specs.declared.recovery.Told.{Told}
 use Rattle.ds_state.specs.declared.refusal.Refusal.TheVariants as state
 use Rattle.ds_streams.specs.AnswerTexts.{done_text, refused_text, settled_text}
 use Rattle.ds_play.specs.ScriptTexts.{last_text, overtaken_text, unsettled_text, word_line}

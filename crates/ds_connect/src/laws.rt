@@ -2,7 +2,7 @@
 
 ghost use Rattle.std.specs.Prelude.{◌≡◌, ℕ, List, Some, None, Ok};
 ghost use Rattle.ds_formula.specs.declared.cells.Shape.{Shape};
-ghost use Rattle.ds_server.specs.BoardCalls.{Last as LastCall, Report as ReportCall};
+ghost use Rattle.ds_server.specs.BoardCalls.{Last as LastCall, Report as AskedReport};
 ghost use Rattle.ds_server.specs.LineRequests.{call_of, join_by, or_bad_field};
 ghost use Rattle.ds_server.specs.Replies.{Said};
 ghost use Rattle.ds_server.specs.SessionTexts.{said_data};
@@ -17,7 +17,7 @@ pub fn requests_are_read()
     ensures join { (shape : Shape) (processes process : ℕ) → call_of shape processes None (wish_data (Join process)) ≡ or_bad_field (join_by processes process) }
     ensures set { (shape : Shape) (processes process : ℕ) (cell text : List ℕ)
         → call_of shape processes (Some process) (wish_data (Set cell text)) ≡ or_bad_field (edit_named shape process cell text) }
-    ensures report { (shape : Shape) (processes process : ℕ) → call_of shape processes (Some process) (wish_data Report) ≡ Ok (ReportCall process) }
+    ensures report { (shape : Shape) (processes process : ℕ) → call_of shape processes (Some process) (wish_data Report) ≡ Ok (AskedReport process) }
     ensures last { (shape : Shape) (processes process : ℕ) → call_of shape processes (Some process) (wish_data Last) ≡ Ok (LastCall process) }
 {}
 

@@ -12,9 +12,11 @@ use Rattle.ds_core.specs.Moments.{Placed, Open, Closed, Ledger, Moment, AreApart
 use Rattle.ds_core.specs.LedgerSteps.{Stands, told_of, Closes, Resolves}
 use Rattle.ds_core.specs.Headline.{IsIssueOf, Happens, IsClosed, Headline, IsAcknowledged, IsToldDone}
 use Rattle.ds_core.specs.declared.event.Event.{Event}
-use Rattle.ds_core.specs.declared.event.Event.TheVariants.{BeginEdit, BeginWork, BeginShow, BeginRecover, BeginMigrate, Step, Offer, Evict, Stop, Crash}
-use Rattle.ds_edit.specs.declared.answer.Told.{Told}
-use Rattle.ds_edit.specs.declared.answer.Answer.TheVariants.{Done, Last}
+use Rattle.ds_core.specs.declared.event.Event.TheVariants.{BeginEdit, BeginWork, BeginReport, BeginRecover, BeginMigrate, Step, Offer, Evict, Stop, Crash}
+use Rattle.ds_state.specs.declared.recovery.Told.{Told}
+use Rattle.ds_state.specs.declared.answer.Answer.TheVariants.{Edit, Recovery}
+use Rattle.ds_state.specs.declared.answer.EditEnd.TheVariants.{Done}
+use Rattle.ds_state.specs.declared.recovery.RecoveryEnd.TheVariants.{Last}
 use Rattle.ds_core.specs.declared.reply.Reply.{Reply}
 use Rattle.ds_core.specs.declared.reply.Reply.TheVariants.{Begun, Answered}
 use Rattle.ds_core.proofs.Moved.{put_here}
@@ -84,7 +86,7 @@ was_begun events replies shape e (BeginEdit r) (Begun number) happens is =
     }
 was_begun events replies shape e (BeginEdit r) _ happens is = absurd is
 was_begun events replies shape e (BeginWork q cell) reply happens is = absurd is
-was_begun events replies shape e (BeginShow q) reply happens is = absurd is
+was_begun events replies shape e (BeginReport q) reply happens is = absurd is
 was_begun events replies shape e (BeginRecover q) reply happens is = absurd is
 was_begun events replies shape e (BeginMigrate q) reply happens is = absurd is
 was_begun events replies shape e (Step q) reply happens is = absurd is
@@ -137,9 +139,9 @@ module _ (old : WorldValue) (events : List Event) (replies : List Reply) (new : 
   spent_at k p number doubt counts And c = subst (λ n. IsBehind p n (at (k + 1))) c.number_is (behind_closed (at (k + 1)) p (record { it = c.open_edit.it; counts = counts })
       (ap (λ (l : Ledger). l.told p) c.is ∙ put_here (at k).told p _) (ap (λ (l : Ledger). l.opens p) c.is ∙ put_here (at k).opens p None))
 
-  done_once : (k p n : ℕ) → Happens events replies k (Step p) (Answered (Done n)) → IsAcknowledged old events replies k p n new.counted
+  done_once : (k p n : ℕ) → Happens events replies k (Step p) (Answered (Edit (Done n))) → IsAcknowledged old events replies k p n new.counted
   done_once k p n done =
-      let c : Closes (at k) p n false true (λ o. Unit {0}) (at (k + 1)) = h.run.ledger k (Step p) (Answered (Done n)) done in
+      let c : Closes (at k) p n false true (λ o. Unit {0}) (at (k + 1)) = h.run.ledger k (Step p) (Answered (Edit (Done n))) done in
       stands_once k p n k c.open_edit.it (within events k (Step p) done.event_is) (omega arith) (let l = within events k (Step p) done.event_is in omega arith) (closed_at k p n false true _ c) c.stands c.number_is
       (spent_at k p n false true _ c)
 
@@ -201,13 +203,13 @@ module _ (old : WorldValue) (events : List Event) (replies : List Reply) (new : 
     by_moves (inr (inl f)) = by_told ((at k).told p) refl f.repeats
     by_moves (inr (inr r)) = by_told ((at k).told p) refl r.repeats
 
-  told_once : (k p : ℕ) (told : Told) → Happens events replies k (Step p) (Answered (Last told)) → told.counts ≡ true → IsToldDone old events replies k p told new.counted
-  told_once k p told happens counts = by_moves k p told (within events k (Step p) happens.event_is) counts (h.run.ledger k (Step p) (Answered (Last told)) happens)
+  told_once : (k p : ℕ) (told : Told) → Happens events replies k (Step p) (Answered (Recovery (Last told))) → told.counts ≡ true → IsToldDone old events replies k p told new.counted
+  told_once k p told happens counts = by_moves k p told (within events k (Step p) happens.event_is) counts (h.run.ledger k (Step p) (Answered (Recovery (Last told))) happens)
 
-pub acknowledged_once : (old : WorldValue) (events : List Event) (replies : List Reply) (new : WorldValue) (k p n : ℕ) → Headline old events replies new → Happens events replies k (Step p) (Answered (Done n))
+pub acknowledged_once : (old : WorldValue) (events : List Event) (replies : List Reply) (new : WorldValue) (k p n : ℕ) → Headline old events replies new → Happens events replies k (Step p) (Answered (Edit (Done n)))
     → IsAcknowledged old events replies k p n new.counted
 acknowledged_once old events replies new k p n h done = done_once old events replies new h k p n done
 
-pub resolved_once : (old : WorldValue) (events : List Event) (replies : List Reply) (new : WorldValue) (k p : ℕ) (told : Told) → Headline old events replies new → Happens events replies k (Step p) (Answered (Last told)) → told.counts ≡ true
+pub resolved_once : (old : WorldValue) (events : List Event) (replies : List Reply) (new : WorldValue) (k p : ℕ) (told : Told) → Headline old events replies new → Happens events replies k (Step p) (Answered (Recovery (Last told))) → told.counts ≡ true
     → IsToldDone old events replies k p told new.counted
 resolved_once old events replies new k p told h happens counts = told_once old events replies new h k p told happens counts

@@ -16,8 +16,9 @@ use Rattle.ds_core.specs.Solo.{IsSoloEvent, IsSolo, IsDoneOnly, AreDoneOnly, IsL
 use Rattle.ds_core.specs.Headline.{Happens}
 use Rattle.ds_core.specs.declared.event.Event.{Event}
 use Rattle.ds_core.specs.declared.event.Event.TheVariants.{Step, Stop, Crash}
-use Rattle.ds_edit.specs.declared.answer.Answer.{Answer}
-use Rattle.ds_edit.specs.declared.answer.Answer.TheVariants.{Done}
+use Rattle.ds_state.specs.declared.answer.Answer.{Answer}
+use Rattle.ds_state.specs.declared.answer.Answer.TheVariants.{Edit}
+use Rattle.ds_state.specs.declared.answer.EditEnd.TheVariants.{Done}
 use Rattle.ds_core.specs.declared.reply.Reply.{Reply}
 use Rattle.ds_core.specs.declared.reply.Reply.TheVariants.{Answered}
 use Rattle.ds_core.proofs.CallSteps.{answered, edit_left, work_left}
@@ -42,7 +43,7 @@ done_there number (reply ∷ replies) (suc k) answer all is = done_there number 
 
 pub solo_answered : (old : WorldValue) (events : List Event) (replies : List Reply) (new : WorldValue) (p : ℕ) (e : PlainEditCall) → IsSound (world_of old) → p < old.sheet.layout.processes
     → (world_of old).situation p ≡ Editing e → e.stage ≡ StoreHeader → WorldRun old events replies new → IsSolo p events → 112 + 3 * length e.refs ≤ own_steps p events replies
-    → (k : ℕ) × Happens events replies k (Step p) (Answered (Done e.number))
+    → (k : ℕ) × Happens events replies k (Step p) (Answered (Edit (Done e.number)))
 solo_answered old events replies new p e sound low at first run solo enough =
     let few = edit_left old p e sound low at in
     let f = answered old events replies new p sound low (subst IsInCall (sym at) tt) run (solo_unhalted p events solo) (omega (arith, few, enough)) in

@@ -4,22 +4,23 @@ use Rattle.std.proofs.lemmas.Bool.Decides.{eqb_tells}
 use Rattle.ds_layout.specs.declared.place.Place.{Place}
 use Rattle.ds_layout.specs.Places.{cells_of}
 use Rattle.ds_state.specs.World.{PlainWorld}
-use Rattle.ds_state.specs.Works.{PlainShowCall}
+use Rattle.ds_state.specs.Works.{PlainReportCall}
 use Rattle.ds_state.specs.Shown.{IsQuiet}
 use Rattle.ds_state.specs.Sound.{IsSound}
 use Rattle.ds_state.specs.Value.{WorldValue, world_of}
-use Rattle.ds_state.specs.declared.situation.Situation.TheVariants.{Editing, Working, Recovering, Showing, Migrating}
-use Rattle.ds_state.specs.declared.work.ShowEnd.{ShowEnd}
-use Rattle.ds_state.specs.declared.work.ShowEnd.TheVariants as ends
-use Rattle.ds_state.specs.declared.work.ShowStage.{ShowStage}
-use Rattle.ds_state.specs.declared.work.ShowStage.TheVariants as stages
+use Rattle.ds_state.specs.declared.situation.Situation.TheVariants.{Editing, Working, Recovering, Reporting, Migrating}
+use Rattle.ds_state.specs.declared.report.ReportEnd.{ReportEnd}
+use Rattle.ds_state.specs.declared.report.ReportEnd.TheVariants as ends
+use Rattle.ds_state.specs.declared.report.ReportStage.{ReportStage}
+use Rattle.ds_state.specs.declared.report.ReportStage.TheVariants as stages
 use Rattle.ds_state.proofs.Accesses.{evict_sound}
 use Rattle.ds_state.proofs.Buffers.{buffered}
-use Rattle.ds_edit.specs.declared.answer.Answer.{Answer}
-use Rattle.ds_edit.specs.declared.answer.Answer.TheVariants.{Settled}
-use Rattle.ds_show.specs.ShowSteps as shows
-use Rattle.ds_show.specs.ShowSolo.{SoloCall}
-use Rattle.ds_show.proofs.ShowSolo.{solo_settles}
+use Rattle.ds_state.specs.declared.answer.Answer.{Answer}
+use Rattle.ds_state.specs.declared.answer.Answer.TheVariants.{Report}
+use Rattle.ds_state.specs.declared.report.ReportEnd.TheVariants.{Settled}
+use Rattle.ds_report.specs.ReportSteps as shows
+use Rattle.ds_report.specs.ReportSolo.{SoloCall}
+use Rattle.ds_report.proofs.ReportSolo.{solo_settles}
 use Rattle.ds_core.specs.Takes.{Takes, WorldRun}
 use Rattle.ds_core.specs.StepEvents.{StepTakes, StepsBy, EvictTakes, edits, works, reports, recoveries, migrations}
 use Rattle.ds_core.specs.ReportEvents.{ReportStepsBy, ReportBegins, report_answer, report_reply}
@@ -27,7 +28,7 @@ use Rattle.ds_core.specs.Own.{own_step, own_steps, left_in, steps_left, IsInCall
 use Rattle.ds_core.specs.Solo.{IsSoloEvent, IsSolo}
 use Rattle.ds_core.specs.Headline.{Happens}
 use Rattle.ds_core.specs.declared.event.Event.{Event}
-use Rattle.ds_core.specs.declared.event.Event.TheVariants.{BeginShow, Step, Evict}
+use Rattle.ds_core.specs.declared.event.Event.TheVariants.{BeginReport, Step, Evict}
 use Rattle.ds_core.specs.declared.reply.Reply.{Reply}
 use Rattle.ds_core.specs.declared.reply.Reply.TheVariants.{Entered, Stepped, Answered, Evicted, NotEnabled}
 use Rattle.ds_core.proofs.Turns.{report_begins_turn}
@@ -40,8 +41,8 @@ use Rattle.ds_core.proofs.CallSteps.{some_left, report_left}
 record IsAloneIn (p : ℕ) (v : WorldValue) : Type 0 where
   past : List PlainWorld
   solo : SoloCall p (world_of v) past
-  show : PlainShowCall
-  is : (world_of v).situation p ≡ Showing show
+  show : PlainReportCall
+  is : (world_of v).situation p ≡ Reporting show
 
 -- the report goes on alone, with this step one less of those that it had left
 record GoesAlone (p : ℕ) (event : Event) (r : Reply) (old new : WorldValue) : Type 0 where
@@ -49,14 +50,14 @@ record GoesAlone (p : ℕ) (event : Event) (r : Reply) (old new : WorldValue) : 
   fewer : own_step p event r + steps_left p new ≤ steps_left p old
 
 -- the stage of a report that answers
-answering : (s : ShowStage) (answer : Answer) → Answered answer ≡ report_reply (shows.effect_at s) → (end : ShowEnd) × (s ≡ stages.Answer end) × (answer ≡ report_answer end)
+answering : (s : ReportStage) (answer : Answer) → Answered answer ≡ report_reply (shows.effect_at s) → (end : ReportEnd) × (s ≡ stages.Answer end) × (answer ≡ report_answer end)
 answering (stages.Answer end) answer is = (end, refl, cc)
 answering _ answer is = absurd (cc)
 
 module _ (p : ℕ) (old new : WorldValue) (sound : IsSound (world_of old)) (low : p < old.sheet.layout.processes) (a : IsAloneIn p old) where
   goes : ReportStepsBy old p Stepped new → own_step p (Step p) Stepped ≡ 1 → GoesAlone p (Step p) Stepped old new
   goes h one =
-      let e : PlainShowCall = h.steps.show in
+      let e : PlainReportCall = h.steps.show in
       let on : Stepped ≡ report_reply (shows.effect_at e.stage) = h.is ∙ ap report_reply h.steps.is in
       let less = (steps_on old new p sound (reports h)).fewer in
       record {
@@ -77,12 +78,12 @@ module _ (p : ℕ) (old new : WorldValue) (sound : IsSound (world_of old)) (low 
   -- a step is one of the report
   is_report : (r : Reply) → StepsBy old p r new → ReportStepsBy old p r new
   is_report r (reports h) = h
-  is_report r (edits h) = absurd (let bad : Editing h.edit ≡ Showing a.show = sym h.at ∙ a.is in cc)
-  is_report r (works h) = absurd (let bad : Working h.steps.work ≡ Showing a.show = sym h.steps.works ∙ a.is in cc)
-  is_report r (recoveries h) = absurd (let bad : Recovering h.steps.recovery ≡ Showing a.show = sym h.steps.at ∙ a.is in cc)
-  is_report r (migrations h) = absurd (let bad : Migrating h.steps.migration ≡ Showing a.show = sym h.steps.at ∙ a.is in cc)
+  is_report r (edits h) = absurd (let bad : Editing h.edit ≡ Reporting a.show = sym h.at ∙ a.is in cc)
+  is_report r (works h) = absurd (let bad : Working h.steps.work ≡ Reporting a.show = sym h.steps.works ∙ a.is in cc)
+  is_report r (recoveries h) = absurd (let bad : Recovering h.steps.recovery ≡ Reporting a.show = sym h.steps.at ∙ a.is in cc)
+  is_report r (migrations h) = absurd (let bad : Migrating h.steps.migration ≡ Reporting a.show = sym h.steps.at ∙ a.is in cc)
 
-  on_step : (r : Reply) → StepTakes old p r new → own_step p (Step p) Stepped ≡ 1 → (r ≡ Answered Settled) ⊎ GoesAlone p (Step p) r old new
+  on_step : (r : Reply) → StepTakes old p r new → own_step p (Step p) Stepped ≡ 1 → (r ≡ Answered (Report Settled)) ⊎ GoesAlone p (Step p) r old new
   on_step Stepped h one = inr (goes (is_report Stepped h) one)
   on_step (Answered answer) h one = inl (ap (λ x. Answered x) (settles answer (is_report (Answered answer) h)))
   on_step NotEnabled h one = absurd (h.no_report a.show low a.is)
@@ -109,7 +110,7 @@ own p = elim (eqb_tells p p) [ inl same ↦ rw same.0 refl | inr other ↦ absur
 
 -- an event beside the report that is alone: it settles it, or it goes on
 on_event : (p : ℕ) (event : Event) (r : Reply) (old new : WorldValue) → IsSound (world_of old) → p < old.sheet.layout.processes → IsAloneIn p old → Takes old event r new → IsSoloEvent p event
-    → ((event ≡ Step p) × (r ≡ Answered Settled)) ⊎ GoesAlone p event r old new
+    → ((event ≡ Step p) × (r ≡ Answered (Report Settled))) ⊎ GoesAlone p event r old new
 on_event p (Step q) r old new sound low a takes solo = elim (on_step p old new sound low a r (subst (λ (x : ℕ). StepTakes old x r new) solo takes) (own p)) [
   | inl done ↦ inl (ap (λ x. Step x) solo, done)
   | inr goes ↦ inr (subst (λ (x : ℕ). GoesAlone p (Step x) r old new) (sym solo) goes)
@@ -118,7 +119,7 @@ on_event p (Evict place) r old new sound low a takes solo = inr (on_eviction p o
 on_event p _ r old new sound low a takes solo = absurd solo
 
 find : (events : List Event) (replies : List Reply) (old new : WorldValue) (p : ℕ) → IsSound (world_of old) → p < old.sheet.layout.processes → IsAloneIn p old → WorldRun old events replies new → IsSolo p events
-    → steps_left p old ≤ own_steps p events replies → (k : ℕ) × Happens events replies k (Step p) (Answered Settled)
+    → steps_left p old ≤ own_steps p events replies → (k : ℕ) × Happens events replies k (Step p) (Answered (Report Settled))
 find [] replies old new p sound low a run solo enough = absurd (
     let some = some_left (world_of old) p ((world_of old).situation p) (sound.calls p low) (subst IsInCall (sym a.is) tt) in
     omega (arith, some, enough))
@@ -131,12 +132,12 @@ find (event ∷ events) (r ∷ replies) old new p sound low a run solo enough = 
       (suc rest.0, record { event_is = rest.1.event_is; reply_is = rest.1.reply_is }))
 ]
 
-pub solo_settled : (old mid new : WorldValue) (events : List Event) (replies : List Reply) (p : ℕ) → IsSound (world_of old) → IsQuiet (world_of old) → Takes old (BeginShow p) Entered mid
+pub solo_settled : (old mid new : WorldValue) (events : List Event) (replies : List Reply) (p : ℕ) → IsSound (world_of old) → IsQuiet (world_of old) → Takes old (BeginReport p) Entered mid
     → WorldRun mid events replies new → IsSolo p events → 2 * old.sheet.layout.processes + 4 * cells_of old.sheet.layout + 1 ≤ own_steps p events replies
-    → (k : ℕ) × Happens events replies k (Step p) (Answered Settled)
+    → (k : ℕ) × Happens events replies k (Step p) (Answered (Report Settled))
 solo_settled old mid new events replies p sound quiet takes run solo enough =
     let b : ReportBegins old p mid = takes in
     let few = report_left mid p _ b.begun.begins.situation in
-    find events replies mid new p (report_begins_turn old mid p sound b).keeps.sound (rw (same_layout old mid (BeginShow p) Entered takes) b.there)
+    find events replies mid new p (report_begins_turn old mid p sound b).keeps.sound (rw (same_layout old mid (BeginReport p) Entered takes) b.there)
     (record { past = []; solo = (record { before = world_of old; next = b.begun.next; sound = sound; real = b.there; begins = b.begun.begins }, quiet); show = _; is = b.begun.begins.situation })
     run solo (omega (arith, few, enough))

@@ -2,14 +2,15 @@
 use Rattle.std.proofs.Common.{ℕ, ◌≡◌, refl, ap, sym, ◌∙◌, inl, inr, Bool, true, false, Some, length}
 use Rattle.std.specs.Prelude.{nat_lt, if◌then◌else◌}
 use Rattle.std.proofs.lemmas.Bool.{cases_eq}
-use Rattle.ds_state.specs.Works.{PlainWorkCall, PlainShowCall}
+use Rattle.ds_state.specs.Works.{PlainWorkCall, PlainReportCall}
 use Rattle.ds_state.specs.Value.{WorldValue, world_of}
 use Rattle.ds_state.specs.declared.situation.Situation.{Situation}
-use Rattle.ds_state.specs.declared.situation.Situation.TheVariants.{Idle, Working, Showing}
+use Rattle.ds_state.specs.declared.situation.Situation.TheVariants.{Idle, Working, Reporting}
 use Rattle.ds_state.specs.declared.work.WorkStage.TheVariants as stages
 use Rattle.ds_eval.specs.Tasks.{PlainEvaluated}
 use Rattle.ds_state.specs.declared.situation.Rest.{Rest}
-use Rattle.ds_work.specs.declared.drive.Taken.{Taken}
+use Rattle.ds_state.specs.declared.turn.Turn.{Turn}
+use Rattle.ds_state.specs.declared.work.WorkEnd.{WorkEnd}
 use Rattle.ds_work.specs.WorkTakes as works
 use Rattle.ds_work.specs.WorkSteps as work_steps
 use Rattle.ds_work.proofs.Next.{next_noted}
@@ -32,9 +33,9 @@ pub at_work_sure : (n : Rest) (s : Situation) → IsAtWork n s → doubts s ≡ 
 at_work_sure n s (in_work e next is) = ap doubts is
 at_work_sure n s (at_rest is) = ap doubts is
 
-pub at_work_shows_not : (n : Rest) (s : Situation) → IsAtWork n s → (f : PlainShowCall) → s ≡ Showing f → ⊥
-at_work_shows_not n s (in_work e next is) f at = (let bad : Working e ≡ Showing f = sym is ∙ at in cc)
-at_work_shows_not n s (at_rest is) f at = (let bad : Idle n ≡ Showing f = sym is ∙ at in cc)
+pub at_work_shows_not : (n : Rest) (s : Situation) → IsAtWork n s → (f : PlainReportCall) → s ≡ Reporting f → ⊥
+at_work_shows_not n s (in_work e next is) f at = (let bad : Working e ≡ Reporting f = sym is ∙ at in cc)
+at_work_shows_not n s (at_rest is) f at = (let bad : Idle n ≡ Reporting f = sym is ∙ at in cc)
 
 -- the process is at work before and after, and knows the same
 pub record StaysAtWork (p : ℕ) (old new : WorldValue) : Type 0 where
@@ -66,7 +67,7 @@ module _ (p : ℕ) (old new : WorldValue) (e : PlainWorkCall) (mine : e.process 
   by_turn : (f : PlainWorkCall) → work_steps.rest_of f ≡ work_steps.rest_of e → (world_of new).situation e.process ≡ Working f → StaysAtWork p old new
   by_turn f same at = record { number = work_steps.rest_of e; was = in_work e refl is; now = in_work f same (here _ at) }
 
-  by_taken : (what : Taken) → works.TakesTurn e (world_of old) (world_of new) what → StaysAtWork p old new
+  by_taken : (what : Turn WorkEnd) → works.TakesTurn e (world_of old) (world_of new) what → StaysAtWork p old new
   by_taken what (works.steps word t on) = by_turn (work_steps.next_at e e.stage word) (ap (λ (f : PlainWorkCall). work_steps.rest_of f) (next_noted e word e.stage)) (t.situation ∙ after_on e e.stage word on)
   by_taken what (works.reads content inputs at t) = by_turn (work_steps.read_from e content inputs) (next_if (nat_lt 0 (length inputs)) _ _ (work_steps.rest_of e) refl refl) t.turn.situation
   by_taken what (works.lacked at t) = by_turn (work_steps.lacks e) refl t.situation

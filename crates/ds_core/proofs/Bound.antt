@@ -4,7 +4,8 @@ use Rattle.std.specs.Prelude.{Option}
 use Rattle.ds_state.specs.Edits.{PlainEditCall}
 use Rattle.ds_state.specs.World.{PlainWorld}
 use Rattle.ds_state.specs.Works.{PlainWorkCall}
-use Rattle.ds_work.specs.declared.drive.Taken.{Taken}
+use Rattle.ds_state.specs.declared.turn.Turn.{Turn}
+use Rattle.ds_state.specs.declared.work.WorkEnd.{WorkEnd}
 use Rattle.ds_work.specs.WorkTakes as work_events
 use Rattle.ds_state.specs.Value.{WorldValue, world_of}
 use Rattle.ds_state.specs.CallsFit.{CallFits, EditFits}
@@ -16,7 +17,7 @@ use Rattle.ds_state.specs.declared.situation.Situation.{Situation}
 use Rattle.ds_state.specs.declared.situation.Situation.TheVariants.{Editing}
 use Rattle.ds_edit.specs.EditSteps.{rank, next_at, Falls}
 use Rattle.ds_edit.specs.EditTakes.{after}
-use Rattle.ds_edit.specs.EditEndings.{outcome_at}
+use Rattle.ds_state.specs.EditEndings.{outcome_at}
 use Rattle.ds_edit.proofs.Stays.{each_falls}
 use Rattle.ds_core.specs.EditEvents.{reply_with, EditStepsBy}
 use Rattle.ds_core.specs.StepEvents.{edits, works, reports, recoveries, migrations}
@@ -58,7 +59,7 @@ edit_goes_on old new p sound h =
       fewer = falls_on e e.stage _ goes (each_falls e h.word fits.is);
     }
 
-work_layout : (old new : PlainWorld) (e : PlainWorkCall) (what : Taken) → work_events.TakesTurn e old new what → new.layout ≡ old.layout
+work_layout : (old new : PlainWorld) (e : PlainWorkCall) (what : Turn WorkEnd) → work_events.TakesTurn e old new what → new.layout ≡ old.layout
 work_layout old new e what (work_events.steps word t on) = t.layout
 work_layout old new e what (work_events.reads content inputs at t) = t.turn.layout
 work_layout old new e what (work_events.lacked at t) = t.layout

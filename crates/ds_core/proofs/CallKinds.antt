@@ -1,41 +1,43 @@
 -- A step of a call stays in a call of its kind, or is answered as calls of its kind are.
 use Rattle.std.proofs.Common.{ℕ, ◌≡◌, ◌≢◌, ◌<◌, ◌+◌, ◌/◌, refl, sym, ap, ◌∙◌, subst, Some, None}
+use Rattle.ds_state.specs.declared.turn.Turn.{Turn}
+use Rattle.ds_state.specs.declared.migration.MigrateEnd.{MigrateEnd}
 use Rattle.ds_state.specs.Value.{WorldValue, world_of}
 use Rattle.ds_state.specs.Sound.{IsSound}
 use Rattle.ds_state.specs.Edits.{PlainEditCall}
-use Rattle.ds_state.specs.Works.{PlainWorkCall, PlainShowCall, PlainRecoverCall, PlainMigrateCall}
+use Rattle.ds_state.specs.Works.{PlainWorkCall, PlainReportCall, PlainRecoverCall, PlainMigrateCall}
 use Rattle.ds_state.specs.declared.situation.Situation.{Situation}
-use Rattle.ds_state.specs.declared.situation.Situation.TheVariants.{Idle, Stopped, Editing, Working, Recovering, Showing, Migrating}
+use Rattle.ds_state.specs.declared.situation.Situation.TheVariants.{Idle, Stopped, Editing, Working, Recovering, Reporting, Migrating}
 use Rattle.ds_state.specs.declared.stage.Outcome.TheVariants as outcomes
 use Rattle.ds_state.specs.declared.stage.Stage.{Stage}
 use Rattle.ds_state.specs.declared.stage.Stage.TheVariants as stages
 use Rattle.ds_state.specs.declared.work.WorkEnd.{WorkEnd}
 use Rattle.ds_state.specs.declared.work.WorkEnd.TheVariants as work_ends
-use Rattle.ds_state.specs.declared.work.ShowEnd.TheVariants as show_ends
-use Rattle.ds_state.specs.declared.work.ShowStage.{ShowStage}
-use Rattle.ds_state.specs.declared.work.ShowStage.TheVariants as show_stages
-use Rattle.ds_state.specs.declared.work.RecoverStage.{RecoverStage}
-use Rattle.ds_state.specs.declared.work.RecoverStage.TheVariants as recover_stages
+use Rattle.ds_state.specs.declared.report.ReportEnd.TheVariants as show_ends
+use Rattle.ds_state.specs.declared.report.ReportStage.{ReportStage}
+use Rattle.ds_state.specs.declared.report.ReportStage.TheVariants as show_stages
+use Rattle.ds_state.specs.declared.recovery.RecoverStage.{RecoverStage}
+use Rattle.ds_state.specs.declared.recovery.RecoverStage.TheVariants as recover_stages
 use Rattle.ds_edit.specs.EditTakes as edit_worlds
-use Rattle.ds_edit.specs.declared.answer.Answer.{Answer}
-use Rattle.ds_edit.specs.declared.answer.Answer.TheVariants.{Done, Overtaken, Migrated, Already}
+use Rattle.ds_state.specs.declared.answer.Answer.{Answer}
+use Rattle.ds_state.specs.declared.answer.Answer.TheVariants.{Edit, Migration}
+use Rattle.ds_state.specs.declared.answer.EditEnd.TheVariants.{Done, Overtaken}
+use Rattle.ds_state.specs.declared.migration.MigrateEnd.TheVariants.{Migrated, Already}
 use Rattle.ds_state.specs.declared.situation.Rest.{Rest}
-use Rattle.ds_state.specs.declared.work.MigrateStage.{MigrateStage}
-use Rattle.ds_state.specs.declared.work.MigrateStage.TheVariants as migrate_stages
+use Rattle.ds_state.specs.declared.migration.MigrateStage.{MigrateStage}
+use Rattle.ds_state.specs.declared.migration.MigrateStage.TheVariants as migrate_stages
 use Rattle.ds_recover.specs.MigrationSteps as migration_steps
 use Rattle.ds_recover.specs.MigrationTakes as migration_takes
 use Rattle.ds_work.specs.WorkSteps as work_steps
 use Rattle.ds_work.specs.WorkTakes as work_events
-use Rattle.ds_work.specs.declared.drive.Taken.{Taken}
-use Rattle.ds_work.specs.declared.drive.Taken.TheVariants as taken
+use Rattle.ds_state.specs.declared.turn.Turn.TheVariants as taken
 use Rattle.ds_work.proofs.Turning.{turns_fall}
-use Rattle.ds_show.specs.ShowSteps as show_steps
+use Rattle.ds_report.specs.ReportSteps as show_steps
 use Rattle.ds_recover.specs.RecoverySteps as recovery_steps
-use Rattle.ds_recover.specs.declared.machine.RecoveryEnd.TheVariants as recovery_ends
-use Rattle.ds_edit.specs.EditEndings.{answer_of}
-use Rattle.ds_recover.specs.declared.migrate.MigrateEffect.{MigrateEffect}
-use Rattle.ds_recover.specs.declared.migrate.MigrateEffect.TheVariants as migrate_effects
-use Rattle.ds_state.specs.declared.work.MigrateEnd.TheVariants as migrate_ends
+use Rattle.ds_state.specs.declared.recovery.RecoveryEnd.TheVariants as recovery_ends
+use Rattle.ds_state.specs.EditEndings.{answer_of}
+use Rattle.ds_state.specs.declared.turn.Turn.TheVariants as migrate_effects
+use Rattle.ds_state.specs.declared.migration.MigrateEnd.TheVariants as migrate_ends
 use Rattle.ds_core.specs.MigrationEvents.{MigrationStepsBy, MigrationBegins, migration_reply, migration_answer}
 use Rattle.ds_core.specs.EditEvents.{EditStepsBy, reply_at}
 use Rattle.ds_core.specs.WorkEvents.{WorkStepsBy, work_reply, work_answer}
@@ -67,21 +69,20 @@ edit_stays old new p sound h = let g = edit_goes_on old new p sound h in stays_b
 work_stays : (old new : WorldValue) (p : ℕ) → IsSound (world_of old) → WorkStepsBy old p Stepped new → StaysIn old p new
 work_stays old new p sound h = by h.what h.steps h.is
   where
-    by : (what : Taken) → work_events.StepsBy (world_of old) p what (world_of new) → Stepped ≡ work_reply what → StaysIn old p new
-    by taken.Stepped s is = let g = turns_fall p (world_of old) (world_of new) sound s in stays_by old new p (Working s.work) (Working g.work) s.works g.works tt (λ answer x. x)
-    by taken.NotEnabled s is = absurd (cc)
-    by (taken.Answered end) s is = absurd (cc)
+    by : (what : Turn WorkEnd) → work_events.StepsBy (world_of old) p what (world_of new) → Stepped ≡ work_reply what → StaysIn old p new
+    by taken.GoesOn s is = let g = turns_fall p (world_of old) (world_of new) sound s in stays_by old new p (Working s.work) (Working g.work) s.works g.works tt (λ answer x. x)
+    by (taken.Answers end) s is = absurd (cc)
 
-pub report_on : (e : PlainShowCall) (s : ShowStage) (word : ℕ) → Stepped ≡ report_reply (show_steps.effect_at s) → show_steps.after e s word ≡ Showing (show_steps.next_at e s word)
+pub report_on : (e : PlainReportCall) (s : ReportStage) (word : ℕ) → Stepped ≡ report_reply (show_steps.effect_at s) → show_steps.after e s word ≡ Reporting (show_steps.next_at e s word)
 report_on e (show_stages.Answer end) word is = absurd (cc)
 report_on e _ word is = refl
 
 report_stays : (old new : WorldValue) (p : ℕ) → ReportStepsBy old p Stepped new → StaysIn old p new
 report_stays old new p h =
-    let e : PlainShowCall = h.steps.show in
+    let e : PlainReportCall = h.steps.show in
     let goes : Stepped ≡ report_reply (show_steps.effect_at e.stage) = h.is ∙ ap report_reply h.steps.is in
-    let now : (world_of new).situation p ≡ Showing (show_steps.next_at e e.stage h.steps.word) = ap (λ q. (world_of new).situation q) (sym h.steps.mine) ∙ h.steps.steps.situation ∙ report_on e e.stage h.steps.word goes in
-    stays_by old new p (Showing e) (Showing (show_steps.next_at e e.stage h.steps.word)) h.steps.at now tt (λ answer x. x)
+    let now : (world_of new).situation p ≡ Reporting (show_steps.next_at e e.stage h.steps.word) = ap (λ q. (world_of new).situation q) (sym h.steps.mine) ∙ h.steps.steps.situation ∙ report_on e e.stage h.steps.word goes in
+    stays_by old new p (Reporting e) (Reporting (show_steps.next_at e e.stage h.steps.word)) h.steps.at now tt (λ answer x. x)
 
 pub recovery_on : (e : PlainRecoverCall) (s : RecoverStage) (word : ℕ) → Stepped ≡ recovery_reply (recovery_steps.effect_at e s) → recovery_steps.after e s word ≡ Recovering (recovery_steps.next_at e s word)
 recovery_on e (recover_stages.Answer None) word is = absurd (cc)
@@ -184,31 +185,29 @@ each_work_answer work_ends.NoMemory = tt
 work_ends_in : (old new : WorldValue) (p : ℕ) (answer : Answer) → WorkStepsBy old p (Answered answer) new → EndsIn old p answer new
 work_ends_in old new p answer h = by h.what h.steps h.is
   where
-    turned : (e : PlainWorkCall) (end : WorkEnd) → e.process ≡ p → (world_of old).situation p ≡ Working e → work_events.TakesTurn e (world_of old) (world_of new) (taken.Answered end) → Answered answer ≡ work_reply (taken.Answered end) → EndsIn old p answer new
+    turned : (e : PlainWorkCall) (end : WorkEnd) → e.process ≡ p → (world_of old).situation p ≡ Working e → work_events.TakesTurn e (world_of old) (world_of new) (taken.Answers end) → Answered answer ≡ work_reply (taken.Answers end) → EndsIn old p answer new
     turned e end mine at (work_events.answers _ at_answer s) is =
         let kind = answer_is IsWorkAnswer answer (work_answer end) is (each_work_answer end) in
         ends_by old new p (work_steps.rest_of e) (Working e) answer at (ap (λ q. (world_of new).situation q) (sym mine) ∙ s.situation) kind (work_no answer kind)
 
-    by : (what : Taken) → work_events.StepsBy (world_of old) p what (world_of new) → Answered answer ≡ work_reply what → EndsIn old p answer new
-    by (taken.Answered end) s is = turned s.work end s.mine s.works s.turn is
-    by taken.NotEnabled s is = absurd (cc)
-    by taken.Stepped s is = absurd (cc)
+    by : (what : Turn WorkEnd) → work_events.StepsBy (world_of old) p what (world_of new) → Answered answer ≡ work_reply what → EndsIn old p answer new
+    by (taken.Answers end) s is = turned s.work end s.mine s.works s.turn is
+    by taken.GoesOn s is = absurd (cc)
 
 -- what a report does at a stage that answers
-record ReportEnds (e : PlainShowCall) (s : ShowStage) (word : ℕ) (answer : Answer) : Type 0 where
+record ReportEnds (e : PlainReportCall) (s : ReportStage) (word : ℕ) (answer : Answer) : Type 0 where
   after : show_steps.after e s word ≡ Idle (show_steps.rest_of e)
   is : IsReportAnswer answer
 
-report_answered : (e : PlainShowCall) (s : ShowStage) (word : ℕ) (answer : Answer) → Answered answer ≡ report_reply (show_steps.effect_at s) → ReportEnds e s word answer
+report_answered : (e : PlainReportCall) (s : ReportStage) (word : ℕ) (answer : Answer) → Answered answer ≡ report_reply (show_steps.effect_at s) → ReportEnds e s word answer
 report_answered e (show_stages.Answer show_ends.Settled) word answer is = record { after = refl; is = answer_is IsReportAnswer answer (report_answer show_ends.Settled) is tt }
-report_answered e (show_stages.Answer (show_ends.AtMark cell seen)) word answer is = record { after = refl; is = answer_is IsReportAnswer answer (report_answer (show_ends.AtMark cell seen)) is tt }
-report_answered e (show_stages.Answer (show_ends.AtAnnounce q seen)) word answer is = record { after = refl; is = answer_is IsReportAnswer answer (report_answer (show_ends.AtAnnounce q seen)) is tt }
+report_answered e (show_stages.Answer (show_ends.Unsettled place seen)) word answer is = record { after = refl; is = answer_is IsReportAnswer answer (report_answer (show_ends.Unsettled place seen)) is tt }
 report_answered e _ word answer is = absurd (cc)
 
 report_ends : (old new : WorldValue) (p : ℕ) (answer : Answer) → ReportStepsBy old p (Answered answer) new → EndsIn old p answer new
 report_ends old new p answer h =
     let g = report_answered h.steps.show h.steps.show.stage h.steps.word answer (h.is ∙ ap report_reply h.steps.is) in
-    ends_by old new p (show_steps.rest_of h.steps.show) (Showing h.steps.show) answer h.steps.at (ap (λ q. (world_of new).situation q) (sym h.steps.mine) ∙ h.steps.steps.situation ∙ g.after) g.is (report_no answer g.is)
+    ends_by old new p (show_steps.rest_of h.steps.show) (Reporting h.steps.show) answer h.steps.at (ap (λ q. (world_of new).situation q) (sym h.steps.mine) ∙ h.steps.steps.situation ∙ g.after) g.is (report_no answer g.is)
 
 -- what a recovery does at a stage that answers
 record RecoveryEnds (e : PlainRecoverCall) (s : RecoverStage) (word : ℕ) (answer : Answer) : Type 0 where

@@ -1,49 +1,50 @@
 -- What each event adds to the counts, and that steps of a call end.
 use Rattle.std.proofs.Common.{ℕ, ◌≡◌, ◌<◌, ◌+◌, [], refl, ap, sym, ◌∙◌, subst, arith}
+use Rattle.ds_state.specs.declared.turn.Turn.{Turn}
+use Rattle.ds_state.specs.declared.recovery.RecoveryEnd.{RecoveryEnd}
+use Rattle.ds_state.specs.declared.report.ReportEnd.{ReportEnd}
 use Rattle.std.specs.Prelude.{Option, Some, None, slice_index_or}
 use Rattle.std.proofs.lemmas.List.{get_or-set_other}
 use Rattle.ds_state.specs.Value.{WorldValue, world_of}
 use Rattle.ds_state.specs.Sound.{IsSound}
 use Rattle.ds_state.specs.Reports.{PlainReports}
-use Rattle.ds_state.specs.Works.{PlainShowCall}
+use Rattle.ds_state.specs.Works.{PlainReportCall}
 use Rattle.ds_state.specs.CallsFit.{CallFits}
-use Rattle.ds_state.specs.declared.work.ShowEnd.TheVariants as ends
-use Rattle.ds_state.specs.declared.work.ShowStage.{ShowStage}
-use Rattle.ds_state.specs.declared.work.ShowStage.TheVariants as stages
+use Rattle.ds_state.specs.declared.report.ReportEnd.TheVariants as ends
+use Rattle.ds_state.specs.declared.report.ReportStage.{ReportStage}
+use Rattle.ds_state.specs.declared.report.ReportStage.TheVariants as stages
 use Rattle.ds_state.specs.declared.situation.Situation.{Situation}
-use Rattle.ds_state.specs.declared.situation.Situation.TheVariants.{Recovering, Showing, Migrating}
+use Rattle.ds_state.specs.declared.situation.Situation.TheVariants.{Recovering, Reporting, Migrating}
 use Rattle.ds_state.specs.declared.stage.Outcome.{Outcome}
 use Rattle.ds_state.specs.declared.stage.Outcome.TheVariants as outcome
 use Rattle.ds_edit.specs.EditSteps.{rank}
-use Rattle.ds_edit.specs.EditEndings.{outcome_at}
-use Rattle.ds_edit.specs.declared.answer.Answer.TheVariants.{Settled}
-use Rattle.ds_show.specs.declared.machine.Effect.{Effect}
-use Rattle.ds_show.specs.declared.machine.Effect.TheVariants as effects
-use Rattle.ds_show.specs.ShowSteps as steps
-use Rattle.ds_show.specs.ShowTakes as shows
-use Rattle.ds_show.proofs.ShowKeeps as keeping
-use Rattle.ds_recover.specs.declared.migrate.MigrateEffect.{MigrateEffect}
-use Rattle.ds_recover.specs.declared.migrate.MigrateEffect.TheVariants as migrate_effects
-use Rattle.ds_state.specs.declared.work.MigrateEnd.TheVariants as migrate_ends
+use Rattle.ds_state.specs.EditEndings.{outcome_at}
+use Rattle.ds_state.specs.declared.answer.Answer.TheVariants.{Report}
+use Rattle.ds_state.specs.declared.report.ReportEnd.TheVariants.{Settled}
+use Rattle.ds_state.specs.declared.turn.Turn.TheVariants as effects
+use Rattle.ds_report.specs.ReportSteps as steps
+use Rattle.ds_report.specs.ReportTakes as shows
+use Rattle.ds_report.proofs.ReportKeeps as keeping
+use Rattle.ds_state.specs.declared.turn.Turn.TheVariants as migrate_effects
+use Rattle.ds_state.specs.declared.migration.MigrateEnd.TheVariants as migrate_ends
 use Rattle.ds_core.specs.MigrationEvents.{MigrationStepsBy, MigrationBegins, migration_reply, migration_answer}
 use Rattle.ds_core.specs.EditEvents.{SameReports, reply_with, done_with, EditStepsBy}
 use Rattle.ds_state.specs.Works.{PlainRecoverCall}
 use Rattle.ds_state.specs.declared.work.WorkEnd.TheVariants as work_ends
-use Rattle.ds_state.specs.declared.work.RecoverStage.{RecoverStage}
-use Rattle.ds_state.specs.declared.work.RecoverStage.TheVariants as recover_stages
-use Rattle.ds_work.specs.declared.drive.Taken.{Taken}
-use Rattle.ds_work.specs.declared.drive.Taken.TheVariants as taken
-use Rattle.ds_recover.specs.declared.machine.Effect as recovery_effect
-use Rattle.ds_recover.specs.declared.machine.Effect.TheVariants as recovery_effects
-use Rattle.ds_recover.specs.declared.machine.RecoveryEnd.TheVariants as recovery_ends
+use Rattle.ds_state.specs.declared.recovery.RecoverStage.{RecoverStage}
+use Rattle.ds_state.specs.declared.recovery.RecoverStage.TheVariants as recover_stages
+use Rattle.ds_state.specs.declared.work.WorkEnd.{WorkEnd}
+use Rattle.ds_state.specs.declared.turn.Turn.TheVariants as taken
+use Rattle.ds_state.specs.declared.turn.Turn.TheVariants as recovery_effects
+use Rattle.ds_state.specs.declared.recovery.RecoveryEnd.TheVariants as recovery_ends
 use Rattle.ds_recover.specs.RecoverySteps as recover_steps
 use Rattle.ds_recover.specs.MigrationSteps as migration_steps
 use Rattle.ds_recover.specs.MigrationTakes as migration_takes
 use Rattle.ds_recover.proofs.Migrating as migrating
 use Rattle.ds_state.specs.Works.{PlainMigrateCall, old_words}
-use Rattle.ds_state.specs.declared.work.MigrateEnd.{MigrateEnd}
-use Rattle.ds_state.specs.declared.work.MigrateStage.{MigrateStage}
-use Rattle.ds_state.specs.declared.work.MigrateStage.TheVariants as migrate_stages
+use Rattle.ds_state.specs.declared.migration.MigrateEnd.{MigrateEnd}
+use Rattle.ds_state.specs.declared.migration.MigrateStage.{MigrateStage}
+use Rattle.ds_state.specs.declared.migration.MigrateStage.TheVariants as migrate_stages
 use Rattle.ds_recover.proofs.RecoveryRank.{each_falls}
 use Rattle.ds_layout.specs.Places.{cells_of}
 use Rattle.ds_work.specs.WorkTakes as work_events
@@ -60,7 +61,7 @@ use Rattle.ds_core.proofs.Did.{Did, did, IsNothing, IsOfStep, nothing, edit_begi
 use Rattle.ds_core.specs.Own.{IsInCall, left_in, steps_left}
 use Rattle.ds_core.specs.Counts.{done_of, settled_of, IsReplyTo, KeepsReports}
 use Rattle.ds_core.specs.declared.event.Event.{Event}
-use Rattle.ds_core.specs.declared.event.Event.TheVariants.{BeginEdit, BeginWork, BeginShow, BeginRecover, BeginMigrate, Step, Offer, Evict, Stop, Crash}
+use Rattle.ds_core.specs.declared.event.Event.TheVariants.{BeginEdit, BeginWork, BeginReport, BeginRecover, BeginMigrate, Step, Offer, Evict, Stop, Crash}
 use Rattle.ds_core.specs.declared.reply.Reply.{Reply}
 use Rattle.ds_core.specs.declared.reply.Reply.TheVariants.{Begun, Entered, Stepped, Answered, Evicted, Stopped, Crashed, NotEnabled}
 use Rattle.ds_core.proofs.Bound.{edit_goes_on}
@@ -82,7 +83,7 @@ step_adds old new p reply h = h.done ∙ outcome_adds old.sheet.layout.processes
 
 -- where no report changes, none but an answered one does
 keeps : (old : WorldValue) (event : Event) (reply : Reply) (new : WorldValue) → new.reports ≡ old.reports → KeepsReports old event reply new
-keeps old (Step p) (Answered Settled) new same = λ q ne. ap (λ (r : PlainReports). slice_index_or r.values q []) same
+keeps old (Step p) (Answered (Report Settled)) new same = λ q ne. ap (λ (r : PlainReports). slice_index_or r.values q []) same
 keeps old event reply new same = same
 
 -- an event that adds to no report
@@ -110,23 +111,20 @@ edit_adds : (old new : WorldValue) (p : ℕ) (reply : Reply) → EditStepsBy old
 edit_adds old new p reply h is = adds_none old new (Step p) reply is (step_adds old new p reply h) (ap settled_of h.is ∙ edit_settles_none old.sheet.layout.processes h.edit.number (outcome_at h.edit.stage)) h.reports
 
 -- a report answers nothing as Done, and settles what it answers as Settled
-report_done : (what : Effect) → done_of (report_reply what) ≡ 0
+report_done : (what : Turn ReportEnd) → done_of (report_reply what) ≡ 0
 report_done effects.GoesOn = refl
 report_done (effects.Answers ends.Settled) = refl
-report_done (effects.Answers (ends.AtMark cell word)) = refl
-report_done (effects.Answers (ends.AtAnnounce process word)) = refl
+report_done (effects.Answers (ends.Unsettled place word)) = refl
 
-report_settles : (what : Effect) → settled_of (report_reply what) ≡ shows.settled_by what
+report_settles : (what : Turn ReportEnd) → settled_of (report_reply what) ≡ shows.settled_by what
 report_settles effects.GoesOn = refl
 report_settles (effects.Answers ends.Settled) = refl
-report_settles (effects.Answers (ends.AtMark cell word)) = refl
-report_settles (effects.Answers (ends.AtAnnounce process word)) = refl
+report_settles (effects.Answers (ends.Unsettled place word)) = refl
 
-report_keeps : (old new : WorldValue) (p : ℕ) (what : Effect) → shows.StepsBy old p what new → KeepsReports old (Step p) (report_reply what) new
+report_keeps : (old new : WorldValue) (p : ℕ) (what : Turn ReportEnd) → shows.StepsBy old p what new → KeepsReports old (Step p) (report_reply what) new
 report_keeps old new p effects.GoesOn h = h.reports
 report_keeps old new p (effects.Answers ends.Settled) h = λ q ne. ap (λ (r : PlainReports). slice_index_or r.values q []) h.reports ∙ get_or-set_other old.reports.values h.show.process q _ [] (λ same. ne (same ∙ h.mine))
-report_keeps old new p (effects.Answers (ends.AtMark cell word)) h = h.reports
-report_keeps old new p (effects.Answers (ends.AtAnnounce process word)) h = h.reports
+report_keeps old new p (effects.Answers (ends.Unsettled place word)) h = h.reports
 
 report_adds : (old new : WorldValue) (p : ℕ) (reply : Reply) → ReportStepsBy old p reply new → IsReplyTo (Step p) reply → Adds old (Step p) reply new
 report_adds old new p reply h is = subst (λ (r : Reply). Adds old (Step p) r new) (sym h.is) (record {
@@ -137,15 +135,9 @@ report_adds old new p reply h is = subst (λ (r : Reply). Adds old (Step p) r ne
 })
 
 -- work and a recovery answer nothing as Done or Settled
-work_none : (what : Taken) → (done_of (work_reply what) ≡ 0) × (settled_of (work_reply what) ≡ 0)
-work_none taken.NotEnabled = (refl, refl)
-work_none taken.Stepped = (refl, refl)
-work_none (taken.Answered work_ends.NotDirty) = (refl, refl)
-work_none (taken.Answered work_ends.Missed) = (refl, refl)
-work_none (taken.Answered work_ends.Worn) = (refl, refl)
-work_none (taken.Answered (work_ends.Published changed)) = (refl, refl)
-work_none (taken.Answered work_ends.Again) = (refl, refl)
-work_none (taken.Answered work_ends.NoMemory) = (refl, refl)
+work_none : (what : Turn WorkEnd) → (done_of (work_reply what) ≡ 0) × (settled_of (work_reply what) ≡ 0)
+work_none taken.GoesOn = (refl, refl)
+work_none (taken.Answers end) = (refl, refl)
 
 work_adds : (old new : WorldValue) (p : ℕ) (reply : Reply) → WorkStepsBy old p reply new → IsReplyTo (Step p) reply → Adds old (Step p) reply new
 work_adds old new p reply h is =
@@ -153,10 +145,9 @@ work_adds old new p reply h is =
     let zero_done : done_of reply ≡ 0 = ap done_of h.is ∙ n.0 in
     adds_none old new (Step p) reply is (let d = h.done in omega (arith, d, zero_done)) (ap settled_of h.is ∙ n.1) h.reports
 
-recovery_none : (what : recovery_effect.Effect) → (done_of (recovery_reply what) ≡ 0) × (settled_of (recovery_reply what) ≡ 0)
+recovery_none : (what : Turn RecoveryEnd) → (done_of (recovery_reply what) ≡ 0) × (settled_of (recovery_reply what) ≡ 0)
 recovery_none recovery_effects.GoesOn = (refl, refl)
-recovery_none (recovery_effects.Answers recovery_ends.Nothing) = (refl, refl)
-recovery_none (recovery_effects.Answers (recovery_ends.Last number cell counts)) = (refl, refl)
+recovery_none (recovery_effects.Answers end) = (refl, refl)
 
 recovery_adds : (old new : WorldValue) (p : ℕ) (reply : Reply) → RecoveryStepsBy old p reply new → IsReplyTo (Step p) reply → Adds old (Step p) reply new
 recovery_adds old new p reply h is =
@@ -164,10 +155,9 @@ recovery_adds old new p reply h is =
     let zero_done : done_of reply ≡ 0 = ap done_of h.is ∙ n.0 in
     adds_none old new (Step p) reply is (let d = h.steps.done in omega (arith, d, zero_done)) (ap settled_of h.is ∙ n.1) (record { settled = h.steps.settled; reports = h.steps.reports })
 
-migration_none : (what : MigrateEffect) → (done_of (migration_reply what) ≡ 0) × (settled_of (migration_reply what) ≡ 0)
+migration_none : (what : Turn MigrateEnd) → (done_of (migration_reply what) ≡ 0) × (settled_of (migration_reply what) ≡ 0)
 migration_none migrate_effects.GoesOn = (refl, refl)
-migration_none (migrate_effects.Answers migrate_ends.Migrated) = (refl, refl)
-migration_none (migrate_effects.Answers migrate_ends.Already) = (refl, refl)
+migration_none (migrate_effects.Answers end) = (refl, refl)
 
 migration_adds : (old new : WorldValue) (p : ℕ) (reply : Reply) → MigrationStepsBy old p reply new → IsReplyTo (Step p) reply → Adds old (Step p) reply new
 migration_adds old new p reply h is =
@@ -188,7 +178,7 @@ adds_by : (old new : WorldValue) (event : Event) (reply : Reply) → Did old new
 adds_by old new _ _ (nothing event reply none is same) = let zero = nothing_adds reply none in unchanged old new event reply is zero.0 zero.1 same
 adds_by old new _ _ (edit_begins r number h) = adds_none old new (BeginEdit r) (Begun number) tt (none old new h.done) refl h.reports
 adds_by old new _ _ (work_begins p cell h) = adds_none old new (BeginWork p cell) Entered tt (none old new h.done) refl h.reports
-adds_by old new _ _ (report_begins p h) = adds_none old new (BeginShow p) Entered tt (none old new h.done) refl h.reports
+adds_by old new _ _ (report_begins p h) = adds_none old new (BeginReport p) Entered tt (none old new h.done) refl h.reports
 adds_by old new _ _ (recovery_begins p h) = adds_none old new (BeginRecover p) Entered tt (none old new h.done) refl h.reports
 adds_by old new _ _ (migration_begins p h) = adds_none old new (BeginMigrate p) Entered tt (none old new h.done) refl h.reports
 adds_by old new _ _ (did_so.steps p reply is (edits h)) = edit_adds old new p reply h (step_reply p reply is)
@@ -218,24 +208,24 @@ edit_falls old new p sound h =
     let b : steps_left p new ≡ rank g.edit g.edit.stage = ap left_in g.edits in
     record { calls = subst IsInCall (sym g.edits) tt; fewer = omega (arith, few, a, b) }
 
-goes_on : (what : Effect) → Stepped ≡ report_reply what → what ≡ effects.GoesOn
+goes_on : (what : Turn ReportEnd) → Stepped ≡ report_reply what → what ≡ effects.GoesOn
 goes_on effects.GoesOn is = refl
 goes_on (effects.Answers end) is = absurd (cc)
 
-after_on : (e : PlainShowCall) (s : ShowStage) (word : ℕ) → steps.effect_at s ≡ effects.GoesOn → steps.after e s word ≡ Showing (steps.next_at e s word)
+after_on : (e : PlainReportCall) (s : ReportStage) (word : ℕ) → steps.effect_at s ≡ effects.GoesOn → steps.after e s word ≡ Reporting (steps.next_at e s word)
 after_on e (stages.Answer end) word is = absurd (cc)
 after_on e _ word is = refl
 
-falls_on : (e : PlainShowCall) (s : ShowStage) (f : PlainShowCall) → steps.effect_at s ≡ effects.GoesOn → steps.Falls e s f → steps.rank f < steps.rank (steps.at e s)
+falls_on : (e : PlainReportCall) (s : ReportStage) (f : PlainReportCall) → steps.effect_at s ≡ effects.GoesOn → steps.Falls e s f → steps.rank f < steps.rank (steps.at e s)
 falls_on e (stages.Answer end) f is h = absurd (cc)
 falls_on e _ f is h = h
 
 report_falls : (old new : WorldValue) (p : ℕ) → IsSound (world_of old) → ReportStepsBy old p Stepped new → StepsOn p old new
 report_falls old new p sound h =
-    let e : PlainShowCall = h.steps.show in
+    let e : PlainReportCall = h.steps.show in
     let goes : steps.effect_at e.stage ≡ effects.GoesOn = sym h.steps.is ∙ goes_on h.what h.is in
     let fits = subst (λ (s : Situation). CallFits (world_of old) p s) h.steps.at (sound.calls p h.steps.there) in
-    let now : (world_of new).situation p ≡ Showing (steps.next_at e e.stage h.steps.word) = ap (λ q. (world_of new).situation q) (sym h.steps.mine) ∙ h.steps.steps.situation ∙ after_on e e.stage h.steps.word goes in
+    let now : (world_of new).situation p ≡ Reporting (steps.next_at e e.stage h.steps.word) = ap (λ q. (world_of new).situation q) (sym h.steps.mine) ∙ h.steps.steps.situation ∙ after_on e e.stage h.steps.word goes in
     let fall : steps.rank (steps.next_at e e.stage h.steps.word) < steps.rank e = falls_on e e.stage (steps.next_at e e.stage h.steps.word) goes (keeping.falls e e.stage h.steps.word fits.1.is.stage) in
     let a : steps_left p old ≡ steps.rank e = ap left_in h.steps.at in
     let b : steps_left p new ≡ steps.rank (steps.next_at e e.stage h.steps.word) = ap left_in now in
@@ -244,21 +234,19 @@ report_falls old new p sound h =
 work_falls : (old new : WorldValue) (p : ℕ) → IsSound (world_of old) → WorkStepsBy old p Stepped new → StepsOn p old new
 work_falls old new p sound h = by h.what h.steps h.is
   where
-    by : (what : Taken) → work_events.StepsBy (world_of old) p what (world_of new) → Stepped ≡ work_reply what → StepsOn p old new
-    by taken.Stepped s is =
+    by : (what : Turn WorkEnd) → work_events.StepsBy (world_of old) p what (world_of new) → Stepped ≡ work_reply what → StepsOn p old new
+    by taken.GoesOn s is =
         let g = turns_fall p (world_of old) (world_of new) sound s in
         let less = g.fewer in
         let a : steps_left p old ≡ work_ranks.steps_left s.work.cells s.work = ap left_in s.works in
         let b : steps_left p new ≡ work_ranks.steps_left g.work.cells g.work = ap left_in g.works in
         let c : work_ranks.steps_left g.work.cells g.work ≡ work_ranks.steps_left s.work.cells g.work = ap (λ r. work_ranks.steps_left r g.work) g.cells in
         record { calls = subst IsInCall (sym g.works) tt; fewer = omega (arith, less, a, b, c) }
-    by taken.NotEnabled s is = absurd (cc)
-    by (taken.Answered end) s is = absurd (cc)
+    by (taken.Answers end) s is = absurd (cc)
 
-recovery_goes : (what : recovery_effect.Effect) → Stepped ≡ recovery_reply what → what ≡ recovery_effects.GoesOn
+recovery_goes : (what : Turn RecoveryEnd) → Stepped ≡ recovery_reply what → what ≡ recovery_effects.GoesOn
 recovery_goes recovery_effects.GoesOn is = refl
-recovery_goes (recovery_effects.Answers recovery_ends.Nothing) is = absurd (cc)
-recovery_goes (recovery_effects.Answers (recovery_ends.Last number cell counts)) is = absurd (cc)
+recovery_goes (recovery_effects.Answers end) is = absurd (cc)
 
 recovery_after : (e : PlainRecoverCall) (s : RecoverStage) (word : ℕ) → recover_steps.effect_at e s ≡ recovery_effects.GoesOn → recover_steps.after e s word ≡ Recovering (recover_steps.next_at e s word)
 recovery_after e (recover_stages.Answer how) word is = absurd (cc)
@@ -284,7 +272,7 @@ recovery_falls old new p sound h =
     let c = ap (λ n. recover_steps.rank n f.stage) cells in
     record { calls = subst IsInCall (sym now) tt; fewer = omega (arith, fall, a, b, c) }
 
-migration_goes : (what : MigrateEffect) → Stepped ≡ migration_reply what → what ≡ migrate_effects.GoesOn
+migration_goes : (what : Turn MigrateEnd) → Stepped ≡ migration_reply what → what ≡ migrate_effects.GoesOn
 migration_goes migrate_effects.GoesOn is = refl
 migration_goes (migrate_effects.Answers end) is = absurd (cc)
 

@@ -1,5 +1,9 @@
 -- What each event does to a world's ledger.
 use Rattle.std.proofs.Common.{ℕ, ◌≡◌, ◌≢◌, ◌+◌, ◌==◌, refl, ap, sym, ◌∙◌, subst, inl, inr, Some, None, true, false}
+use Rattle.ds_state.specs.declared.turn.Turn.{Turn}
+use Rattle.ds_state.specs.declared.migration.MigrateEnd.{MigrateEnd}
+use Rattle.ds_state.specs.declared.recovery.RecoveryEnd.{RecoveryEnd}
+use Rattle.ds_state.specs.declared.report.ReportEnd.{ReportEnd}
 use Rattle.std.specs.Prelude.{Contains, Bool, nat_lt, if◌then◌else◌}
 use Rattle.std.proofs.lemmas.Bool.{cases_eq}
 use Rattle.ds_words.specs.Memory.{Memory, SameMemory}
@@ -15,41 +19,39 @@ use Rattle.ds_state.specs.Value.{WorldValue, world_of, IsGood}
 use Rattle.ds_state.specs.declared.stage.Outcome.{Outcome}
 use Rattle.ds_state.specs.declared.stage.Outcome.TheVariants as outcome
 use Rattle.ds_state.specs.declared.stage.Stage.TheVariants.{Answer}
-use Rattle.ds_state.specs.declared.situation.Situation.TheVariants.{Idle, Editing, Showing}
-use Rattle.ds_state.specs.Works.{PlainShowCall}
-use Rattle.ds_state.specs.KnownShow.{noted, reads_pending, reads_clean}
-use Rattle.ds_state.specs.declared.work.ShowEnd.TheVariants as ends
-use Rattle.ds_state.specs.declared.work.ShowStage.{ShowStage}
-use Rattle.ds_state.specs.declared.work.ShowStage.TheVariants as stages
-use Rattle.ds_show.specs.declared.machine.Effect.{Effect}
-use Rattle.ds_show.specs.declared.machine.Effect.TheVariants as effects
-use Rattle.ds_show.specs.ShowSteps as shows
+use Rattle.ds_state.specs.declared.situation.Situation.TheVariants.{Idle, Editing, Reporting}
+use Rattle.ds_state.specs.Works.{PlainReportCall}
+use Rattle.ds_state.specs.KnownReport.{noted, reads_pending, reads_clean}
+use Rattle.ds_state.specs.declared.report.ReportEnd.TheVariants as ends
+use Rattle.ds_state.specs.declared.report.ReportStage.{ReportStage}
+use Rattle.ds_state.specs.declared.report.ReportStage.TheVariants as stages
+use Rattle.ds_state.specs.declared.turn.Turn.TheVariants as effects
+use Rattle.ds_report.specs.ReportSteps as shows
 use Rattle.ds_edit.specs.EditTakes.{rest_before}
 use Rattle.ds_edit.specs.EditSteps.{access_at}
-use Rattle.ds_edit.specs.EditEndings.{answer_of, outcome_at, other_of}
-use Rattle.ds_edit.specs.declared.answer.Other.{Other}
-use Rattle.ds_edit.specs.declared.answer.Answer as replies
-use Rattle.ds_edit.specs.declared.answer.Answer.TheVariants.{Done, Overtaken}
-use Rattle.ds_recover.specs.declared.migrate.MigrateEffect.{MigrateEffect}
-use Rattle.ds_recover.specs.declared.migrate.MigrateEffect.TheVariants as migrate_effects
-use Rattle.ds_state.specs.declared.work.MigrateEnd.TheVariants as migrate_ends
+use Rattle.ds_state.specs.EditEndings.{answer_of, outcome_at, other_of}
+use Rattle.ds_state.specs.declared.answer.Other.{Other}
+use Rattle.ds_state.specs.declared.answer.Answer as replies
+use Rattle.ds_state.specs.declared.answer.Answer.TheVariants.{Edit}
+use Rattle.ds_state.specs.declared.answer.EditEnd.TheVariants.{Done, Overtaken}
+use Rattle.ds_state.specs.declared.turn.Turn.TheVariants as migrate_effects
+use Rattle.ds_state.specs.declared.migration.MigrateEnd.TheVariants as migrate_ends
 use Rattle.ds_core.specs.MigrationEvents.{MigrationStepsBy, MigrationBegins, migration_reply, migration_answer}
 use Rattle.ds_core.specs.EditEvents.{EditStepsBy}
 use Rattle.ds_core.specs.ReportEvents.{report_reply, ReportBegins, ReportStepsBy}
 use Rattle.ds_core.specs.StepEvents.{edits, works, reports, recoveries, migrations}
 use Rattle.ds_core.specs.WorkEvents.{work_reply, WorkStepsBy, WorkBegins, TakesEntry}
 use Rattle.ds_core.specs.RecoveryEvents.{recovery_reply, RecoveryStepsBy, RecoveryBegins}
-use Rattle.ds_work.specs.declared.drive.Taken.{Taken}
-use Rattle.ds_work.specs.declared.drive.Taken.TheVariants as taken
+use Rattle.ds_state.specs.declared.work.WorkEnd.{WorkEnd}
+use Rattle.ds_state.specs.declared.turn.Turn.TheVariants as taken
 use Rattle.ds_state.specs.declared.work.WorkEnd.TheVariants as work_ends
-use Rattle.ds_recover.specs.declared.machine.Effect as recovery_effect
-use Rattle.ds_recover.specs.declared.machine.Effect.TheVariants as recovery_effects
-use Rattle.ds_recover.specs.declared.machine.RecoveryEnd.TheVariants as recovery_ends
+use Rattle.ds_state.specs.declared.turn.Turn.TheVariants as recovery_effects
+use Rattle.ds_state.specs.declared.recovery.RecoveryEnd.TheVariants as recovery_ends
 use Rattle.ds_core.specs.Takes.{Takes}
 use Rattle.ds_core.specs.Moments.{Ledger}
 use Rattle.ds_core.specs.LedgerSteps.{IsOvertakenBy, OneAccess, WordsMove, AnswerMoves, LedgerMoves}
 use Rattle.ds_core.specs.declared.event.Event.{Event}
-use Rattle.ds_core.specs.declared.event.Event.TheVariants.{BeginEdit, BeginWork, BeginShow, BeginRecover, BeginMigrate, Step, Offer, Evict, Stop, Crash}
+use Rattle.ds_core.specs.declared.event.Event.TheVariants.{BeginEdit, BeginWork, BeginReport, BeginRecover, BeginMigrate, Step, Offer, Evict, Stop, Crash}
 use Rattle.ds_core.specs.declared.reply.Reply.{Reply}
 use Rattle.ds_core.specs.declared.reply.Reply.TheVariants.{Begun, Entered, Refused, Stepped, Answered, WrongTask, Evicted, Stopped, Crashed, NotEnabled}
 use Rattle.ds_core.proofs.Traces as traces
@@ -74,12 +76,12 @@ use Rattle.ds_core.proofs.AtRecovery.{recovery_begins_after, recovery_access, re
 
 -- ---- one event
 
-if_next : (b : Bool) (x y : PlainShowCall) (n : ℕ) → x.next ≡ n → y.next ≡ n → (if b then x else y).next ≡ n
+if_next : (b : Bool) (x y : PlainReportCall) (n : ℕ) → x.next ≡ n → y.next ≡ n → (if b then x else y).next ≡ n
 if_next true x y n a b = a
 if_next false x y n a b = b
 
 -- a report keeps the number of its process's next edit
-next_stays : (e : PlainShowCall) (s : ShowStage) (word : ℕ) → (shows.next_at e s word).next ≡ e.next
+next_stays : (e : PlainReportCall) (s : ReportStage) (word : ℕ) → (shows.next_at e s word).next ≡ e.next
 next_stays e (stages.LoadAnnounce i) word = if_next (reads_pending word) _ _ e.next refl (if_next (nat_lt (i + 1) e.processes) _ _ e.next refl refl)
 next_stays e (stages.LoadMark i) word = if_next (reads_clean e.processes word) _ _ e.next (if_next (nat_lt (i + 1) e.cells) _ _ e.next refl refl) refl
 next_stays e (stages.LoadValue i) word = refl
@@ -88,7 +90,7 @@ next_stays e (stages.AgainMark i) word = if_next (word == noted e.marks i) _ _ e
 next_stays e (stages.AgainAnnounce i) word = if_next (word == noted e.announcements i) _ _ e.next (if_next (nat_lt (i + 1) e.processes) _ _ e.next refl refl) refl
 next_stays e (stages.Answer end) word = refl
 
-goes : (e : PlainShowCall) (s : ShowStage) (word : ℕ) → SaysSame (Showing e) (Showing (shows.next_at e s word))
+goes : (e : PlainReportCall) (s : ReportStage) (word : ℕ) → SaysSame (Reporting e) (Reporting (shows.next_at e s word))
 goes e s word = record { number = ap (λ n. Some n) (next_stays e s word); doubt = refl }
 
 the_answer : (a b : replies.Answer) → Answered b ≡ Answered a → b ≡ a
@@ -199,8 +201,8 @@ module _ (place : ℕ) (layout : Layout) (l : Ledger) (v v' : WorldValue) (h : I
   answered_by : (p : ℕ) (how : Outcome) (number : ℕ) (answer : replies.Answer) → answer ≡ answer_of v.sheet.layout.processes number how
       → (t : EditStepsBy v p (Answered answer) v') → t.edit.stage ≡ Answer how → t.edit.number ≡ number → Next place layout l v (Step p) (Answered answer) v'
   answered_by p outcome.Done number answer is t at same =
-      let t' : EditStepsBy v p (Answered (Done number)) v' = subst (λ (a : replies.Answer). EditStepsBy v p (Answered a) v') is t in
-      let s : traces.Closes (world_of v) p number (λ issue. Contains v.counted issue.edit) (world_of v') = step_moves v v' h.good.sound p (Answered (Done number)) t' in
+      let t' : EditStepsBy v p (Answered (Edit (Done number))) v' = subst (λ (a : replies.Answer). EditStepsBy v p (Answered a) v') is t in
+      let s : traces.Closes (world_of v) p number (λ issue. Contains v.counted issue.edit) (world_of v') = step_moves v v' h.good.sound p (Answered (Edit (Done number))) t' in
       let kept = kept_layout (Step p) (Answered answer) (edits t) in
       let now = number_after p (Answered answer) t outcome.Done at ∙ ap (λ n. Some (n + 1)) same in
       let others = other_same p (Answered answer) t in
@@ -220,8 +222,8 @@ module _ (place : ℕ) (layout : Layout) (l : Ledger) (v v' : WorldValue) (h : I
       })
   answered_by p (outcome.Overtaken noted seen) number answer is t at same =
       let other : Other = other_of (head_of v.sheet.layout.processes seen) in
-      let t' : EditStepsBy v p (Answered (Overtaken number other)) v' = subst (λ (a : replies.Answer). EditStepsBy v p (Answered a) v') is t in
-      let s : traces.Closes (world_of v) p number (traces.IsOvertakenBy (world_of v) other) (world_of v') = step_moves v v' h.good.sound p (Answered (Overtaken number other)) t' in
+      let t' : EditStepsBy v p (Answered (Edit (Overtaken number other))) v' = subst (λ (a : replies.Answer). EditStepsBy v p (Answered a) v') is t in
+      let s : traces.Closes (world_of v) p number (traces.IsOvertakenBy (world_of v) other) (world_of v') = step_moves v v' h.good.sound p (Answered (Edit (Overtaken number other))) t' in
       let kept = kept_layout (Step p) (Answered answer) (edits t) in
       let now = number_after p (Answered answer) t (outcome.Overtaken noted seen) at ∙ ap (λ n. Some (n + 1)) same in
       let others = other_same p (Answered answer) t in
@@ -258,10 +260,10 @@ module _ (place : ℕ) (layout : Layout) (l : Ledger) (v v' : WorldValue) (h : I
       }
 
   -- a report begins
-  reports_begin : (p : ℕ) → ReportBegins v p v' → Next place layout l v (BeginShow p) Entered v'
+  reports_begin : (p : ℕ) → ReportBegins v p v' → Next place layout l v (BeginReport p) Entered v'
   reports_begin p t =
       let b = t.begun.begins in
-      silent (BeginShow p) Entered t b.counted b.open_edits (λ q. elim (cases_eq q p) [
+      silent (BeginReport p) Entered t b.counted b.open_edits (λ q. elim (cases_eq q p) [
         | inl here ↦ (
             let now = ap (λ x. (world_of v').situation x) here ∙ b.situation in
             let before = ap (λ x. (world_of v).situation x) here ∙ b.idle in
@@ -274,7 +276,7 @@ module _ (place : ℕ) (layout : Layout) (l : Ledger) (v v' : WorldValue) (h : I
     report_access : OneAccess p (world_of v).memory (world_of v').memory
     report_access = (shows.access_at t.steps.show.stage, t.steps.word, subst (λ (q : ℕ). PerformsAt (shows.access_at t.steps.show.stage) q (world_of v).memory (world_of v').memory t.steps.word) t.steps.mine t.steps.steps.memory)
 
-    after_says : (e : PlainShowCall) (s : ShowStage) (word : ℕ) → SaysSame (Showing e) (shows.after e s word)
+    after_says : (e : PlainReportCall) (s : ReportStage) (word : ℕ) → SaysSame (Reporting e) (shows.after e s word)
     after_says e (stages.Answer end) word = record { number = refl; doubt = refl }
     after_says e (stages.LoadAnnounce i) word = goes e (stages.LoadAnnounce i) word
     after_says e (stages.LoadMark i) word = goes e (stages.LoadMark i) word
@@ -287,7 +289,7 @@ module _ (place : ℕ) (layout : Layout) (l : Ledger) (v v' : WorldValue) (h : I
     report_says q = elim (cases_eq q p) [
       | inl here ↦ (
           let now : (world_of v').situation q ≡ shows.after t.steps.show t.steps.show.stage t.steps.word = ap (λ x. (world_of v').situation x) (here ∙ sym t.steps.mine) ∙ t.steps.steps.situation in
-          let before : (world_of v).situation q ≡ Showing t.steps.show = ap (λ x. (world_of v).situation x) here ∙ t.steps.at in
+          let before : (world_of v).situation q ≡ Reporting t.steps.show = ap (λ x. (world_of v).situation x) here ∙ t.steps.at in
           let s = after_says t.steps.show t.steps.show.stage t.steps.word in
           record { number = ap numbered now ∙ s.number ∙ sym (ap numbered before); doubt = ap doubts now ∙ s.doubt ∙ sym (ap doubts before) })
       | inr other ↦ says_same _ _ (t.steps.steps.others q (λ same. other (same ∙ t.steps.mine)))
@@ -303,11 +305,10 @@ module _ (place : ℕ) (layout : Layout) (l : Ledger) (v v' : WorldValue) (h : I
   report_answered p answer t =
       silent (Step p) (Answered answer) (reports t) t.steps.steps.counted t.steps.steps.open_edits (report_says p (Answered answer) t) (report_access p (Answered answer) t) (nothing t.what answer t.is) (report_tells p (Answered answer) t)
     where
-      nothing : (what : Effect) (answer : replies.Answer) → Answered answer ≡ report_reply what → AnswerMoves l p answer l
+      nothing : (what : Turn ReportEnd) (answer : replies.Answer) → Answered answer ≡ report_reply what → AnswerMoves l p answer l
       nothing effects.GoesOn answer is = absurd (cc)
       nothing (effects.Answers ends.Settled) answer is = subst (λ (a : replies.Answer). AnswerMoves l p a l) (the_answer answer _ (sym is)) refl
-      nothing (effects.Answers (ends.AtMark cell word)) answer is = subst (λ (a : replies.Answer). AnswerMoves l p a l) (the_answer answer _ (sym is)) refl
-      nothing (effects.Answers (ends.AtAnnounce process word)) answer is = subst (λ (a : replies.Answer). AnswerMoves l p a l) (the_answer answer _ (sym is)) refl
+      nothing (effects.Answers (ends.Unsettled place word)) answer is = subst (λ (a : replies.Answer). AnswerMoves l p a l) (the_answer answer _ (sym is)) refl
 
   -- work begins, is offered an entry, makes a step
   work_tells : (p : ℕ) → (k : LeavesEdits p v v') → (a : StaysAtWork p v v') → ((n : ℕ) → SidesStay (world_of v).memory (world_of v').memory (Header p n)) → Tells l v'
@@ -337,15 +338,9 @@ module _ (place : ℕ) (layout : Layout) (l : Ledger) (v v' : WorldValue) (h : I
       silent (Step p) (Answered answer) (works t) k.counted k.open_edits (work_says p v v' (work_stays p v v' (Answered answer) t) k.turn) k.words (nothing t.what answer t.is)
       (work_tells p k (work_stays p v v' (Answered answer) t) (λ n. work_sides_of p n v v' (Answered answer) h.good.sound t))
     where
-      nothing : (what : Taken) (answer : replies.Answer) → Answered answer ≡ work_reply what → AnswerMoves l p answer l
-      nothing taken.NotEnabled answer is = absurd (cc)
-      nothing taken.Stepped answer is = absurd (cc)
-      nothing (taken.Answered work_ends.NotDirty) answer is = subst (λ (a : replies.Answer). AnswerMoves l p a l) (the_answer answer _ (sym is)) refl
-      nothing (taken.Answered work_ends.Missed) answer is = subst (λ (a : replies.Answer). AnswerMoves l p a l) (the_answer answer _ (sym is)) refl
-      nothing (taken.Answered work_ends.Worn) answer is = subst (λ (a : replies.Answer). AnswerMoves l p a l) (the_answer answer _ (sym is)) refl
-      nothing (taken.Answered (work_ends.Published changed)) answer is = subst (λ (a : replies.Answer). AnswerMoves l p a l) (the_answer answer _ (sym is)) refl
-      nothing (taken.Answered work_ends.Again) answer is = subst (λ (a : replies.Answer). AnswerMoves l p a l) (the_answer answer _ (sym is)) refl
-      nothing (taken.Answered work_ends.NoMemory) answer is = subst (λ (a : replies.Answer). AnswerMoves l p a l) (the_answer answer _ (sym is)) refl
+      nothing : (what : Turn WorkEnd) (answer : replies.Answer) → Answered answer ≡ work_reply what → AnswerMoves l p answer l
+      nothing taken.GoesOn answer is = absurd (cc)
+      nothing (taken.Answers end) answer is = subst (λ (a : replies.Answer). AnswerMoves l p a l) (the_answer answer _ (sym is)) refl
 
   -- a recovery begins, and makes a step
   recovery_begins : (p : ℕ) → RecoveryBegins v p v' → Next place layout l v (BeginRecover p) Entered v'
@@ -358,10 +353,9 @@ module _ (place : ℕ) (layout : Layout) (l : Ledger) (v v' : WorldValue) (h : I
         tells = tells_recovery_begun layout l v v' p h tells t;
       }
 
-  recovery_goes : (what : recovery_effect.Effect) → Stepped ≡ recovery_reply what → what ≡ recovery_effects.GoesOn
+  recovery_goes : (what : Turn RecoveryEnd) → Stepped ≡ recovery_reply what → what ≡ recovery_effects.GoesOn
   recovery_goes recovery_effects.GoesOn is = refl
-  recovery_goes (recovery_effects.Answers recovery_ends.Nothing) is = absurd (cc)
-  recovery_goes (recovery_effects.Answers (recovery_ends.Last number cell counts)) is = absurd (cc)
+  recovery_goes (recovery_effects.Answers end) is = absurd (cc)
 
   recovery_stepped : (p : ℕ) → RecoveryStepsBy v p Stepped v' → Next place layout l v (Step p) Stepped v'
   recovery_stepped p t =
@@ -379,10 +373,9 @@ module _ (place : ℕ) (layout : Layout) (l : Ledger) (v v' : WorldValue) (h : I
   migration_answered p answer t =
       silent (Step p) (Answered answer) (migrations t) t.steps.steps.counted t.steps.steps.open_edits (migration_says v v' p (Answered answer) t) (migration_access v v' p (Answered answer) t) (nothing t.what answer t.is) (tells_migration_on layout l v v' p (Answered answer) h tells t)
     where
-      nothing : (what : MigrateEffect) (answer : replies.Answer) → Answered answer ≡ migration_reply what → AnswerMoves l p answer l
+      nothing : (what : Turn MigrateEnd) (answer : replies.Answer) → Answered answer ≡ migration_reply what → AnswerMoves l p answer l
       nothing migrate_effects.GoesOn answer is = absurd (cc)
-      nothing (migrate_effects.Answers migrate_ends.Migrated) answer is = subst (λ (a : replies.Answer). AnswerMoves l p a l) (the_answer answer _ (sym is)) refl
-      nothing (migrate_effects.Answers migrate_ends.Already) answer is = subst (λ (a : replies.Answer). AnswerMoves l p a l) (the_answer answer _ (sym is)) refl
+      nothing (migrate_effects.Answers end) answer is = subst (λ (a : replies.Answer). AnswerMoves l p a l) (the_answer answer _ (sym is)) refl
 
   recovery_answered : (p : ℕ) (answer : replies.Answer) → RecoveryStepsBy v p (Answered answer) v' → Next place layout l v (Step p) (Answered answer) v'
   recovery_answered p answer t =
@@ -445,10 +438,10 @@ module _ (place : ℕ) (layout : Layout) (l : Ledger) (v v' : WorldValue) (h : I
   next (Evict word) Evicted t = evicts word t
   next (Evict word) NotEnabled t = unchanged (Evict word) NotEnabled (subst (λ (x : WorldValue). Takes v (Evict word) NotEnabled x) t.same t) t.same (still (world_of v).memory) refl
   next (Evict word) _ t = absurd t
-  next (BeginShow p) Entered t = reports_begin p t
-  next (BeginShow p) (Refused why) t = unchanged (BeginShow p) (Refused why) (subst (λ (x : WorldValue). Takes v (BeginShow p) (Refused why) x) t.same t) t.same (still (world_of v).memory) refl
-  next (BeginShow p) NotEnabled t = unchanged (BeginShow p) NotEnabled (subst (λ (x : WorldValue). Takes v (BeginShow p) NotEnabled x) t.same t) t.same (still (world_of v).memory) refl
-  next (BeginShow p) _ t = absurd t
+  next (BeginReport p) Entered t = reports_begin p t
+  next (BeginReport p) (Refused why) t = unchanged (BeginReport p) (Refused why) (subst (λ (x : WorldValue). Takes v (BeginReport p) (Refused why) x) t.same t) t.same (still (world_of v).memory) refl
+  next (BeginReport p) NotEnabled t = unchanged (BeginReport p) NotEnabled (subst (λ (x : WorldValue). Takes v (BeginReport p) NotEnabled x) t.same t) t.same (still (world_of v).memory) refl
+  next (BeginReport p) _ t = absurd t
   next (Stop p) Stopped t = stops p t
   next (Stop p) NotEnabled t = unchanged (Stop p) NotEnabled (subst (λ (x : WorldValue). Takes v (Stop p) NotEnabled x) t.same t) t.same (still (world_of v).memory) refl
   next (Stop p) _ t = absurd t

@@ -11,7 +11,9 @@ use Rattle.ds_core.specs.LedgerSteps.{put, in_doubt, LedgerMoves}
 use Rattle.ds_core.specs.Headline.{Happens, Headline}
 use Rattle.ds_core.specs.declared.event.Event.{Event}
 use Rattle.ds_core.specs.declared.event.Event.TheVariants.{BeginEdit, BeginRecover, Step, Crash}
-use Rattle.ds_edit.specs.declared.answer.Answer.TheVariants.{Done, Nothing}
+use Rattle.ds_state.specs.declared.answer.Answer.TheVariants.{Edit, Recovery}
+use Rattle.ds_state.specs.declared.answer.EditEnd.TheVariants.{Done}
+use Rattle.ds_state.specs.declared.recovery.RecoveryEnd.TheVariants.{Nothing}
 use Rattle.ds_core.specs.declared.reply.Reply.{Reply}
 use Rattle.ds_core.specs.declared.reply.Reply.TheVariants.{Begun, Entered, Stepped, Answered, Crashed}
 use Rattle.ds_core.proofs.Closing.{contains_none}
@@ -55,7 +57,7 @@ module _ (shape : Shape) (r : PlainRequest) where
   -- of the same cell and text and under the same number, and that one counts
   given_out_again : LedgersMove 0 shape empty_ledger
       (BeginEdit r ∷ Crash ∷ BeginRecover r.process ∷ Step r.process ∷ BeginEdit r ∷ Step r.process ∷ [])
-      (Begun 0 ∷ Crashed ∷ Entered ∷ Answered Nothing ∷ Begun 0 ∷ Stepped ∷ []) counted
+      (Begun 0 ∷ Crashed ∷ Entered ∷ Answered (Recovery Nothing) ∷ Begun 0 ∷ Stepped ∷ []) counted
   given_out_again = (
     begun,
     record { none = refl; next = refl; is = refl },
@@ -114,6 +116,6 @@ module _ (shape : Shape) (r : PlainRequest) where
           cc
 
 -- a run that drops an edit that was answered Done, at a crash or anywhere, has no headline
-dropped : (old : WorldValue) (events : List Event) (replies : List Reply) (new : WorldValue) (k p n : ℕ) → Happens events replies k (Step p) (Answered (Done n))
+dropped : (old : WorldValue) (events : List Event) (replies : List Reply) (new : WorldValue) (k p n : ℕ) → Happens events replies k (Step p) (Answered (Edit (Done n)))
     → filter (is_edit_of p n) new.counted ≡ [] → Headline old events replies new → ⊥
 dropped old events replies new k p n done none h = let one = (acknowledged_once old events replies new k p n h done).once in cc

@@ -37,7 +37,7 @@ use Rattle.ds_edit.proofs.Sound.{step_sound}
 use Rattle.ds_edit.proofs.Possible.{can_perform}
 use Rattle.ds_core.specs.EditEvents.{IsEditing, reply_at, reply_with, done_at, done_with, EditStepsBy, EditStepTakes}
 use Rattle.ds_core.specs.declared.reply.Reply.TheVariants.{Stepped}
-use Rattle.ds_edit.specs.EditEndings.{outcome_at}
+use Rattle.ds_state.specs.EditEndings.{outcome_at}
 
 pub editing_from : (v : WorldValue) (p : ℕ) (e : PlainEditCall) (read : Situation) → p < length v.situations → read ≡ get_or v.situations p read → read ≡ Editing e → IsEditing v p e
 editing_from v p e read lt is here = record { there = lt; is = get_or_default v.situations p (Idle first_rest) read lt ∙ sym is ∙ here }

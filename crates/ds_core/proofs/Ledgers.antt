@@ -10,14 +10,14 @@ use Rattle.ds_layout.specs.declared.layout.Layout.{Layout}
 use Rattle.ds_state.specs.World.{PlainEdit, PlainIssue, PlainWorld, of_cell}
 use Rattle.ds_state.specs.Value.{first_rest, WorldValue, world_of, IsGood}
 use Rattle.ds_state.specs.Shown.{last_text, values_shown}
-use Rattle.ds_state.specs.KnownShow.{AreScratch}
+use Rattle.ds_state.specs.KnownReport.{AreScratch}
 use Rattle.ds_state.specs.Sound.{Increasing}
 use Rattle.ds_state.specs.Crashes.{StopsIn, CrashesTo}
 use Rattle.ds_state.specs.declared.situation.Situation.{Situation}
-use Rattle.ds_state.specs.declared.situation.Situation.TheVariants.{Idle, Stopped, Editing, Working, Recovering, Showing, Migrating}
+use Rattle.ds_state.specs.declared.situation.Situation.TheVariants.{Idle, Stopped, Editing, Working, Recovering, Reporting, Migrating}
 use Rattle.ds_state.proofs.LastText.{text_right}
 use Rattle.ds_state.proofs.QuietShown.{quiet_shows}
-use Rattle.ds_edit.specs.declared.answer.Other.{Other}
+use Rattle.ds_state.specs.declared.answer.Other.{Other}
 use Rattle.ds_core.specs.Moments.{Placed, Open, Closed, Ledger, MomentFits, AreApart, NoneTwice, edits_in}
 use Rattle.ds_core.specs.LedgerSteps.{put, next_number, in_doubt, Stands, Issues, Counts, Closes, IsOvertakenBy, Loses}
 use Rattle.ds_core.proofs.Traces as traces
@@ -71,7 +71,7 @@ numbered Stopped = None
 numbered (Editing e) = Some e.number
 numbered (Working e) = Some e.next
 numbered (Recovering e) = None
-numbered (Showing e) = Some e.next
+numbered (Reporting e) = Some e.next
 numbered (Migrating e) = None
 
 -- whether the open edit of a process in this situation is in doubt

@@ -4,7 +4,7 @@ use Rattle.ds_layout.specs.declared.place.Place.{Place}
 use Rattle.ds_layout.specs.declared.place.Place.TheVariants.{Mark, Value, Kind, Index}
 use Rattle.ds_layout.specs.Mark.{IsClean}
 use Rattle.ds_state.specs.World.{PlainWorld}
-use Rattle.ds_state.specs.Works.{PlainWorkCall, PlainShowCall, PlainRecoverCall}
+use Rattle.ds_state.specs.Works.{PlainWorkCall, PlainReportCall, PlainRecoverCall}
 use Rattle.ds_state.specs.Edits.{PlainEditCall}
 use Rattle.ds_state.specs.Sound.{IsSound}
 use Rattle.ds_state.specs.Value.{WorldValue, world_of}
@@ -16,14 +16,14 @@ use Rattle.ds_layout.specs.Bits.{HasBit}
 use Rattle.ds_state.specs.KnownWork.{WorkFits}
 use Rattle.ds_state.specs.CallsFit.{CallFits}
 use Rattle.ds_state.specs.declared.situation.Situation.{Situation}
-use Rattle.ds_state.specs.declared.situation.Situation.TheVariants.{Idle, Editing, Working, Recovering, Showing, Migrating}
+use Rattle.ds_state.specs.declared.situation.Situation.TheVariants.{Idle, Editing, Working, Recovering, Reporting, Migrating}
 use Rattle.ds_state.specs.declared.situation.Rest.{Rest}
 use Rattle.ds_work.specs.WorkSteps.{rest_of}
 use Rattle.ds_work.specs.WorkTakes as work_events
-use Rattle.ds_work.specs.declared.drive.Taken.{Taken}
-use Rattle.ds_work.specs.declared.drive.Taken.TheVariants as taken
+use Rattle.ds_state.specs.declared.turn.Turn.{Turn}
+use Rattle.ds_state.specs.declared.turn.Turn.TheVariants as taken
 use Rattle.ds_work.specs.WorkAnswers.{mark_now}
-use Rattle.ds_work.specs.WorkShows.{CellWords, shown_in, EndsShowing, ShowsAt}
+use Rattle.ds_work.specs.WorkShows.{CellWords, shown_in, EndsReporting, ShowsAt}
 use Rattle.ds_work.specs.WorkAlone.{IsMarkedAt, IsAloneAt, IsAlone, RefersToItself, EndsAlone, GoesAlone}
 use Rattle.ds_work.proofs.WorkShows.{shown_same}
 use Rattle.ds_work.proofs.WorkAlone.{turn_alone, offer_alone, same_sees}
@@ -34,7 +34,7 @@ use Rattle.ds_core.proofs.Did as did_so
 use Rattle.ds_core.proofs.Did.{Did, did, IsNothing, edit_begins, work_begins, report_begins, recovery_begins, migration_begins, steps, offers, evicts, stops, crashes}
 use Rattle.ds_core.specs.Solo.{IsLoneEvent, IsLone, IsLoneAnswer, IsLoneReply, AreLoneReplies, StandsInOwnRow}
 use Rattle.ds_core.specs.declared.event.Event.{Event}
-use Rattle.ds_core.specs.declared.event.Event.TheVariants.{BeginEdit, BeginWork, BeginShow, BeginRecover, BeginMigrate, Step, Offer, Evict, Stop, Crash}
+use Rattle.ds_core.specs.declared.event.Event.TheVariants.{BeginEdit, BeginWork, BeginReport, BeginRecover, BeginMigrate, Step, Offer, Evict, Stop, Crash}
 use Rattle.ds_core.specs.declared.reply.Reply.{Reply}
 use Rattle.ds_core.specs.declared.reply.Reply.TheVariants.{Stepped, Answered, WrongTask, Evicted, NotEnabled}
 
@@ -61,7 +61,7 @@ module _ (first last : PlainWorld) (cell p : ℕ) (n : Rest) (old new : WorldVal
   by _ _ (did_so.nothing event reply none is all) same = nothing reply (says_nothing first last cell reply none) all
   by _ _ (steps q reply is (edits h)) same = absurd (let bad : Idle n ≡ Editing h.edit = sym (idle_at q same) ∙ h.at in cc)
   by _ _ (steps q reply is (works h)) same = absurd (let bad : Idle n ≡ Working h.steps.work = sym (idle_at q same) ∙ h.steps.works in cc)
-  by _ _ (steps q reply is (reports h)) same = absurd (let bad : Idle n ≡ Showing h.steps.show = sym (idle_at q same) ∙ h.steps.at in cc)
+  by _ _ (steps q reply is (reports h)) same = absurd (let bad : Idle n ≡ Reporting h.steps.show = sym (idle_at q same) ∙ h.steps.at in cc)
   by _ _ (steps q reply is (recoveries h)) same = absurd (let bad : Idle n ≡ Recovering h.steps.recovery = sym (idle_at q same) ∙ h.steps.at in cc)
   by _ _ (steps q reply is (migrations h)) same = absurd (let bad : Idle n ≡ Migrating h.steps.migration = sym (idle_at q same) ∙ h.steps.at in cc)
   by _ _ (evicts word h) same = record { silent = tt; idle = λ k is. h.evicts.situation p ∙ is; words = λ x. h.evicts.memory.cached x }
@@ -103,13 +103,13 @@ module _ (row : ℕ → ℕ) (before : CellWords) (p cell : ℕ) (old new : Worl
   no_edit : (q : ℕ) (f : PlainEditCall) → q ≡ p → (world_of old).situation q ≡ Editing f → ⊥
   no_edit q f same is = let bad : Editing f ≡ Working u.work = sym is ∙ ap (λ x. (world_of old).situation x) same ∙ u.at in cc
 
-  no_report : (q : ℕ) (f : PlainShowCall) → q ≡ p → (world_of old).situation q ≡ Showing f → ⊥
-  no_report q f same is = let bad : Showing f ≡ Working u.work = sym is ∙ ap (λ x. (world_of old).situation x) same ∙ u.at in cc
+  no_report : (q : ℕ) (f : PlainReportCall) → q ≡ p → (world_of old).situation q ≡ Reporting f → ⊥
+  no_report q f same is = let bad : Reporting f ≡ Working u.work = sym is ∙ ap (λ x. (world_of old).situation x) same ∙ u.at in cc
 
   no_recovery : (q : ℕ) (f : PlainRecoverCall) → q ≡ p → (world_of old).situation q ≡ Recovering f → ⊥
   no_recovery q f same is = let bad : Recovering f ≡ Working u.work = sym is ∙ ap (λ x. (world_of old).situation x) same ∙ u.at in cc
 
-  goes : (e : PlainWorkCall) → e ≡ u.work → GoesAlone row before e (world_of new) taken.Stepped → IsUnderway row before p cell new
+  goes : (e : PlainWorkCall) → e ≡ u.work → GoesAlone row before e (world_of new) taken.GoesOn → IsUnderway row before p cell new
   goes e same g =
       let mine : e.process ≡ p = ap (λ (x : PlainWorkCall). x.process) same ∙ u.mine in
       record { work = g.0; mine = g.2 ∙ mine; of_cell = g.1 ∙ ap (λ (x : PlainWorkCall). x.cell) same ∙ u.of_cell; at = ap (λ x. (world_of new).situation x) (sym mine) ∙ g.3; alone = g.4 }
@@ -135,7 +135,7 @@ record Ends (row : ℕ → ℕ) (before : CellWords) (p cell : ℕ) (reply : Rep
   work : PlainWorkCall
   of_cell : work.cell ≡ cell
   so : EndsAlone row (world_of new) work end
-  showing : EndsShowing before (shown_in (world_of new) work.cell) end
+  showing : EndsReporting before (shown_in (world_of new) work.cell) end
   n : Rest
   idle : (world_of new).situation p ≡ Idle n
 
@@ -146,17 +146,16 @@ module _ (first last : PlainWorld) (row : ℕ → ℕ) (before : CellWords) (p c
       one : h.steps.work ≡ u.work
       one = same_work row before p cell old new sound u q h.steps.work same h.steps.works
 
-      none : (what : Taken) → what ≡ taken.NotEnabled → work_events.TakesTurn h.steps.work (world_of old) (world_of new) what → ⊥
+      none : (what : Turn WorkEnd) → what ≡ taken.NotEnabled → work_events.TakesTurn h.steps.work (world_of old) (world_of new) what → ⊥
       none what is (work_events.steps word t on) = cc
       none what is (work_events.reads content inputs at t) = cc
       none what is (work_events.lacked at t) = cc
       none what is (work_events.answers end at t) = cc
 
-      by : (what : Taken) → h.what ≡ what → reply ≡ work_reply h.what → GoesAlone row before h.steps.work (world_of new) h.what → Goes first last row before p cell reply new ⊎ Ends row before p cell reply new
-      by taken.NotEnabled at is g = absurd (none h.what at h.steps.turn)
-      by taken.Stepped at is g = inl (record { silent = subst (λ (r : Reply). IsLoneReply first last cell r) (sym (is ∙ ap work_reply at)) tt; on = goes row before p cell old new sound u h.steps.work one (subst (λ (x : Taken). GoesAlone row before h.steps.work (world_of new) x) at g) })
-      by (taken.Answered end) at is g =
-          let k = subst (λ (x : Taken). GoesAlone row before h.steps.work (world_of new) x) at g in
+      by : (what : Turn WorkEnd) → h.what ≡ what → reply ≡ work_reply h.what → GoesAlone row before h.steps.work (world_of new) h.what → Goes first last row before p cell reply new ⊎ Ends row before p cell reply new
+      by taken.GoesOn at is g = inl (record { silent = subst (λ (r : Reply). IsLoneReply first last cell r) (sym (is ∙ ap work_reply at)) tt; on = goes row before p cell old new sound u h.steps.work one (subst (λ (x : Turn WorkEnd). GoesAlone row before h.steps.work (world_of new) x) at g) })
+      by (taken.Answers end) at is g =
+          let k = subst (λ (x : Turn WorkEnd). GoesAlone row before h.steps.work (world_of new) x) at g in
           inr (record {
             end = end;
             is = is ∙ ap work_reply at;
@@ -224,7 +223,7 @@ module _ (row : ℕ → ℕ) (first middle last : PlainWorld) (cell : ℕ) (work
   refers h = subst (λ c. HasBit (row (c / 64)) c) (sym of_cell) (subst (λ x. HasBit x cell) (index (cell / 64)) h)
 
   -- the answer says what is so at the end
-  answers_so : (end : WorkEnd) → EndsAlone row middle work end → EndsShowing (shown_in first cell) (shown_in middle work.cell) end → IsLoneAnswer first last cell (work_answer end)
+  answers_so : (end : WorkEnd) → EndsAlone row middle work end → EndsReporting (shown_in first cell) (shown_in middle work.cell) end → IsLoneAnswer first last cell (work_answer end)
   answers_so ends.NotDirty so showing = absurd so
   answers_so ends.Missed so showing = absurd so
   answers_so ends.Worn so showing = absurd so

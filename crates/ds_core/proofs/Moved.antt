@@ -8,9 +8,14 @@ use Rattle.ds_core.specs.Moments.{Placed, Open, Closed, Ledger}
 use Rattle.ds_core.specs.Headline.{IsIssueOf}
 use Rattle.ds_core.specs.LedgerSteps.{put, in_doubt, next_number, Stands, Issues, Counts, Closes, Forgets, Loses, AnswerMoves, LedgerMoves}
 use Rattle.ds_core.specs.declared.event.Event.{Event}
-use Rattle.ds_core.specs.declared.event.Event.TheVariants.{BeginEdit, BeginWork, BeginShow, BeginRecover, BeginMigrate, Step, Offer, Evict, Stop, Crash}
-use Rattle.ds_edit.specs.declared.answer.Answer.{Answer}
-use Rattle.ds_edit.specs.declared.answer.Answer.TheVariants.{Done, Overtaken, NotDirty, Missed, Worn, Published, Again, NoMemory, Last, Nothing, Migrated, Already, Settled, Unsettled}
+use Rattle.ds_core.specs.declared.event.Event.TheVariants.{BeginEdit, BeginWork, BeginReport, BeginRecover, BeginMigrate, Step, Offer, Evict, Stop, Crash}
+use Rattle.ds_state.specs.declared.answer.Answer.{Answer}
+use Rattle.ds_state.specs.declared.answer.Answer.TheVariants.{Edit, Work, Recovery, Migration, Report}
+use Rattle.ds_state.specs.declared.answer.EditEnd.TheVariants.{Done, Overtaken}
+use Rattle.ds_state.specs.declared.work.WorkEnd.TheVariants.{NotDirty, Missed, Worn, Published, Again, NoMemory}
+use Rattle.ds_state.specs.declared.recovery.RecoveryEnd.TheVariants.{Last, Nothing}
+use Rattle.ds_state.specs.declared.migration.MigrateEnd.TheVariants.{Migrated, Already}
+use Rattle.ds_state.specs.declared.report.ReportEnd.TheVariants.{Settled, Unsettled}
 use Rattle.ds_core.specs.declared.reply.Reply.{Reply}
 use Rattle.ds_core.specs.declared.reply.Reply.TheVariants.{Begun, Entered, Refused, Stepped, Answered, WrongTask, Evicted, Stopped, Crashed, NotEnabled}
 
@@ -207,10 +212,10 @@ moved k shape old (BeginWork p cell) Entered new h = same_moved k _ old new h
 moved k shape old (BeginWork p cell) (Refused why) new h = same_moved k _ old new h
 moved k shape old (BeginWork p cell) NotEnabled new h = same_moved k _ old new h
 moved k shape old (BeginWork p cell) _ new h = absurd h
-moved k shape old (BeginShow p) Entered new h = same_moved k _ old new h
-moved k shape old (BeginShow p) (Refused why) new h = same_moved k _ old new h
-moved k shape old (BeginShow p) NotEnabled new h = same_moved k _ old new h
-moved k shape old (BeginShow p) _ new h = absurd h
+moved k shape old (BeginReport p) Entered new h = same_moved k _ old new h
+moved k shape old (BeginReport p) (Refused why) new h = same_moved k _ old new h
+moved k shape old (BeginReport p) NotEnabled new h = same_moved k _ old new h
+moved k shape old (BeginReport p) _ new h = absurd h
 moved k shape old (BeginRecover p) Entered new h = same_moved k _ old new h
 moved k shape old (BeginRecover p) (Refused why) new h = same_moved k _ old new h
 moved k shape old (BeginRecover p) NotEnabled new h = same_moved k _ old new h

@@ -22,7 +22,7 @@ use Rattle.ds_edit.specs.EditAnswers.{IsTrueAnswer, IsTrueOf}
 use Rattle.ds_edit.specs.Begun.{IsBegun}
 use Rattle.ds_edit.proofs.Truth.{answer_true}
 use Rattle.ds_core.specs.EditEvents.{reply_with, EditStepsBy}
-use Rattle.ds_edit.specs.EditEndings.{answer_of, other_of, outcome_at}
+use Rattle.ds_state.specs.EditEndings.{answer_of, other_of, outcome_at}
 use Rattle.ds_core.proofs.Traces.{Stays, Issues, Counts, Closes, StepMoves}
 use Rattle.ds_core.specs.declared.reply.Reply.{Reply}
 use Rattle.ds_core.specs.declared.reply.Reply.TheVariants.{Answered}

@@ -21,11 +21,11 @@ use Rattle.ds_state.specs.CallsFit.{CallFits, RecoveryFits}
 use Rattle.ds_state.specs.KnownRecovery.{recovery_held, phase_for, ResolvedFits, resolved_at}
 use Rattle.std.specs.Int.{bit_at}
 use Rattle.ds_state.specs.declared.situation.Situation.{Situation}
-use Rattle.ds_state.specs.declared.work.Spread.{Spread}
-use Rattle.ds_state.specs.declared.work.Spread.TheVariants as spreads
-use Rattle.ds_state.specs.declared.work.RecoverStage.{RecoverStage}
-use Rattle.ds_state.specs.declared.work.RecoverStage.TheVariants as stages
-use Rattle.ds_recover.specs.declared.machine.Effect.TheVariants as effects
+use Rattle.ds_state.specs.declared.spread.Spread.{Spread}
+use Rattle.ds_state.specs.declared.spread.Spread.TheVariants as spreads
+use Rattle.ds_state.specs.declared.recovery.RecoverStage.{RecoverStage}
+use Rattle.ds_state.specs.declared.recovery.RecoverStage.TheVariants as stages
+use Rattle.ds_state.specs.declared.turn.Turn.TheVariants as effects
 use Rattle.ds_recover.specs.RecoverySteps as steps
 use Rattle.ds_recover.specs.RecoverySteps.{number_of, cell_from}
 use Rattle.ds_core.specs.RecoveryEvents.{RecoveryStepsBy, RecoveryBegins}

@@ -21,11 +21,12 @@ use Rattle.ds_state.specs.declared.situation.Situation.{Situation}
 use Rattle.ds_state.specs.declared.situation.Situation.TheVariants.{Idle}
 use Rattle.ds_state.specs.declared.stage.Outcome.{Outcome}
 use Rattle.ds_state.specs.declared.stage.Outcome.TheVariants as outcome
-use Rattle.ds_state.specs.declared.work.RecoverStage.{RecoverStage}
-use Rattle.ds_state.specs.declared.work.RecoverStage.TheVariants as stages
+use Rattle.ds_state.specs.declared.recovery.RecoverStage.{RecoverStage}
+use Rattle.ds_state.specs.declared.recovery.RecoverStage.TheVariants as stages
 use Rattle.ds_state.proofs.Found.{gave_counts}
-use Rattle.ds_edit.specs.declared.answer.Answer.{Answer}
-use Rattle.ds_edit.specs.declared.answer.Answer.TheVariants.{Last}
+use Rattle.ds_state.specs.declared.answer.Answer.{Answer}
+use Rattle.ds_state.specs.declared.answer.Answer.TheVariants.{Recovery}
+use Rattle.ds_state.specs.declared.recovery.RecoveryEnd.TheVariants.{Last}
 use Rattle.ds_recover.specs.RecoverySteps as steps
 use Rattle.ds_recover.specs.RecoverySteps.{number_of, end_of}
 use Rattle.ds_recover.proofs.RecoveryLaws.{repeated}

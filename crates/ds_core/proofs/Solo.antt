@@ -2,7 +2,7 @@
 use Rattle.std.proofs.Common.{ℕ, ◌≡◌, ◌+◌, List, [], ◌∷◌, refl, ap, sym, ◌∙◌, subst, Some, None}
 use Rattle.std.specs.Prelude.{Option}
 use Rattle.ds_layout.specs.declared.place.Place.TheVariants as place
-use Rattle.ds_state.specs.Works.{PlainWorkCall, PlainShowCall, PlainRecoverCall, PlainMigrateCall}
+use Rattle.ds_state.specs.Works.{PlainWorkCall, PlainReportCall, PlainRecoverCall, PlainMigrateCall}
 use Rattle.ds_state.specs.Edits.{PlainEditCall}
 use Rattle.ds_state.specs.World.{PlainWorld}
 use Rattle.ds_state.specs.Value.{WorldValue, world_of}
@@ -12,21 +12,22 @@ use Rattle.ds_state.specs.declared.stage.Outcome.TheVariants as outcome
 use Rattle.ds_state.specs.declared.stage.Stage.{Stage}
 use Rattle.ds_state.specs.declared.stage.Stage.TheVariants.{StoreHeader, FlushNoted, BackNoted, OrDone, FlushDone, BackDone, Swap, StoreOutcome, FlushOutcome, BackOutcome, Answer}
 use Rattle.ds_state.specs.declared.situation.Situation.{Situation}
-use Rattle.ds_state.specs.declared.situation.Situation.TheVariants.{Idle, Editing, Working, Recovering, Showing, Migrating}
+use Rattle.ds_state.specs.declared.situation.Situation.TheVariants.{Idle, Editing, Working, Recovering, Reporting, Migrating}
 use Rattle.ds_edit.specs.EditSteps.{next_at}
 use Rattle.ds_edit.specs.EditTakes.{rest_behind, after}
 use Rattle.ds_edit.specs.Alone.{IsAloneAt}
 use Rattle.ds_edit.proofs.Alone.{alone}
 use Rattle.ds_core.specs.EditEvents.{reply_with, EditStepsBy}
 use Rattle.ds_core.specs.StepEvents.{edits, works, reports, recoveries, migrations}
-use Rattle.ds_edit.specs.EditEndings.{outcome_at, answer_of}
+use Rattle.ds_state.specs.EditEndings.{outcome_at, answer_of}
 use Rattle.ds_core.specs.Takes.{Takes, WorldRun}
 use Rattle.ds_core.specs.Solo.{IsSoloEvent, IsSolo, IsDoneOnly, AreDoneOnly}
 use Rattle.ds_core.proofs.Did.{Did, did, IsNothing, IsOfStep, nothing, edit_begins, work_begins, report_begins, recovery_begins, migration_begins, steps, offers, evicts, stops, crashes}
 use Rattle.ds_core.specs.declared.event.Event.{Event}
-use Rattle.ds_core.specs.declared.event.Event.TheVariants.{BeginEdit, BeginWork, BeginShow, BeginRecover, BeginMigrate, Step, Offer, Evict, Stop, Crash}
-use Rattle.ds_edit.specs.declared.answer.Answer.{Answer as ReplyAnswer}
-use Rattle.ds_edit.specs.declared.answer.Answer.TheVariants.{Done}
+use Rattle.ds_core.specs.declared.event.Event.TheVariants.{BeginEdit, BeginWork, BeginReport, BeginRecover, BeginMigrate, Step, Offer, Evict, Stop, Crash}
+use Rattle.ds_state.specs.declared.answer.Answer.{Answer as ReplyAnswer}
+use Rattle.ds_state.specs.declared.answer.Answer.TheVariants.{Edit}
+use Rattle.ds_state.specs.declared.answer.EditEnd.TheVariants.{Done}
 use Rattle.ds_core.specs.declared.reply.Reply.{Reply}
 use Rattle.ds_core.specs.declared.reply.Reply.TheVariants.{Stepped, Answered, Evicted, NotEnabled}
 use Rattle.ds_core.proofs.Good.{answers_at}
@@ -110,7 +111,7 @@ module _ (old new : WorldValue) (sound : IsSound (world_of old)) (p number : ℕ
         )
 
   -- it is in no report
-  no_report : (q : ℕ) → q ≡ p → (f : PlainShowCall) → (world_of old).situation q ≡ Showing f → ⊥
+  no_report : (q : ℕ) → q ≡ p → (f : PlainReportCall) → (world_of old).situation q ≡ Reporting f → ⊥
   no_report q same f is = subst EditsOnly (ap (λ x. (world_of old).situation x) (sym same) ∙ is) a.only
 
   no_work : (q : ℕ) → q ≡ p → (f : PlainWorkCall) → (world_of old).situation q ≡ Working f → ⊥

@@ -1,5 +1,9 @@
 -- An edit that was answered Overtaken never counts.
 use Rattle.std.proofs.Common.{ℕ, ◌≡◌, ◌<◌, List, [], ◌∷◌, ◌++◌, refl, ap, sym, ◌∙◌, subst, arith, inl, inr, length}
+use Rattle.ds_state.specs.declared.turn.Turn.{Turn}
+use Rattle.ds_state.specs.declared.migration.MigrateEnd.{MigrateEnd}
+use Rattle.ds_state.specs.declared.recovery.RecoveryEnd.{RecoveryEnd}
+use Rattle.ds_state.specs.declared.report.ReportEnd.{ReportEnd}
 use Rattle.std.specs.Prelude.{Contains}
 use Rattle.std.proofs.lemmas.List.{append-nil}
 use Rattle.std.proofs.lemmas.List.Elements.{All-contains, Contains-append_cases}
@@ -16,12 +20,11 @@ use Rattle.ds_state.specs.declared.stage.Stage.TheVariants.{Answer}
 use Rattle.ds_state.specs.declared.situation.Situation.{Situation}
 use Rattle.ds_state.specs.declared.situation.Situation.TheVariants.{Editing}
 use Rattle.ds_edit.specs.EditTakes.{counted_at}
-use Rattle.ds_recover.specs.declared.migrate.MigrateEffect.{MigrateEffect}
-use Rattle.ds_recover.specs.declared.migrate.MigrateEffect.TheVariants as migrate_effects
-use Rattle.ds_state.specs.declared.work.MigrateEnd.TheVariants as migrate_ends
+use Rattle.ds_state.specs.declared.turn.Turn.TheVariants as migrate_effects
+use Rattle.ds_state.specs.declared.migration.MigrateEnd.TheVariants as migrate_ends
 use Rattle.ds_core.specs.MigrationEvents.{MigrationStepsBy, MigrationBegins, migration_reply, migration_answer}
 use Rattle.ds_core.specs.EditEvents.{EditStepsBy}
-use Rattle.ds_edit.specs.EditEndings.{answer_of, outcome_at}
+use Rattle.ds_state.specs.EditEndings.{answer_of, outcome_at}
 use Rattle.ds_core.specs.Takes.{Takes, WorldRun}
 use Rattle.ds_core.specs.SpentNumbers.{IsOut}
 use Rattle.ds_core.proofs.Did.{Did, did, nothing, edit_begins, work_begins, report_begins, recovery_begins, migration_begins, steps, offers, evicts, stops, crashes}
@@ -32,23 +35,22 @@ use Rattle.ds_state.proofs.Crashed.{was_counted}
 use Rattle.ds_layout.specs.declared.place.Place.TheVariants.{Announce}
 use Rattle.ds_edit.proofs.Sound.{step_sound}
 use Rattle.ds_core.specs.declared.event.Event.{Event}
-use Rattle.ds_core.specs.declared.event.Event.TheVariants.{BeginEdit, BeginWork, BeginShow, BeginRecover, BeginMigrate, Step, Offer, Evict, Stop, Crash}
-use Rattle.ds_edit.specs.declared.answer.Other.{Other}
-use Rattle.ds_edit.specs.declared.answer.Answer.TheVariants.{Overtaken}
+use Rattle.ds_core.specs.declared.event.Event.TheVariants.{BeginEdit, BeginWork, BeginReport, BeginRecover, BeginMigrate, Step, Offer, Evict, Stop, Crash}
+use Rattle.ds_state.specs.declared.answer.Other.{Other}
+use Rattle.ds_state.specs.declared.answer.Answer.TheVariants.{Edit}
+use Rattle.ds_state.specs.declared.answer.EditEnd.TheVariants.{Overtaken}
 use Rattle.ds_core.specs.declared.reply.Reply.{Reply}
 use Rattle.ds_core.specs.declared.reply.Reply.TheVariants.{Begun, Entered, Refused, Stepped, Answered, WrongTask, Evicted, Stopped, Crashed, NotEnabled}
 use Rattle.ds_core.proofs.Good.{counted_cases, answers_at}
 use Rattle.ds_core.proofs.Moves.{counts_at}
-use Rattle.ds_show.specs.declared.machine.Effect.{Effect}
-use Rattle.ds_show.specs.declared.machine.Effect.TheVariants as effects
-use Rattle.ds_state.specs.declared.work.ShowEnd.TheVariants as ends
+use Rattle.ds_state.specs.declared.turn.Turn.TheVariants as effects
+use Rattle.ds_state.specs.declared.report.ReportEnd.TheVariants as ends
 use Rattle.ds_core.specs.ReportEvents.{report_reply, ReportStepsBy}
 use Rattle.ds_state.specs.declared.work.WorkEnd.TheVariants as work_ends
-use Rattle.ds_work.specs.declared.drive.Taken.{Taken}
-use Rattle.ds_work.specs.declared.drive.Taken.TheVariants as taken
-use Rattle.ds_recover.specs.declared.machine.Effect as recovery_effect
-use Rattle.ds_recover.specs.declared.machine.Effect.TheVariants as recovery_effects
-use Rattle.ds_recover.specs.declared.machine.RecoveryEnd.TheVariants as recovery_ends
+use Rattle.ds_state.specs.declared.work.WorkEnd.{WorkEnd}
+use Rattle.ds_state.specs.declared.turn.Turn.TheVariants as taken
+use Rattle.ds_state.specs.declared.turn.Turn.TheVariants as recovery_effects
+use Rattle.ds_state.specs.declared.recovery.RecoveryEnd.TheVariants as recovery_ends
 use Rattle.ds_core.specs.WorkEvents.{work_reply, WorkStepsBy}
 use Rattle.ds_core.specs.RecoveryEvents.{recovery_reply, RecoveryStepsBy}
 use Rattle.ds_core.specs.StepEvents.{edits, works, reports, recoveries, migrations}
@@ -138,7 +140,7 @@ overtaken_how : (processes number n : ℕ) (other : Other) (how : Outcome) → O
 overtaken_how processes number n other outcome.Done is = absurd (cc)
 overtaken_how processes number n other (outcome.Overtaken noted seen) is = (cc, (noted, seen, refl))
 
-pub overtaken_out : (old mid : WorldValue) (p n : ℕ) (other : Other) → IsSound (world_of old) → EditStepsBy old p (Answered (Overtaken n other)) mid → IsSpent (world_of mid) p n × IsOut (world_of mid) p n
+pub overtaken_out : (old mid : WorldValue) (p n : ℕ) (other : Other) → IsSound (world_of old) → EditStepsBy old p (Answered (Edit (Overtaken n other))) mid → IsSpent (world_of mid) p n × IsOut (world_of mid) p n
 overtaken_out old mid p n other sound h =
     let found = some_outcome old.sheet.layout.processes h.edit.number (Overtaken n other) (outcome_at h.edit.stage) h.is in
     let last : h.edit.stage ≡ Answer found.0 = answers_at h.edit.stage found.0 found.1 in
@@ -161,37 +163,28 @@ overtaken_out old mid p n other sound h =
     )
 
 -- a report answers nothing as Overtaken
-not_overtaken : (what : Effect) (n : ℕ) (other : Other) → Answered (Overtaken n other) ≡ report_reply what → ⊥
+not_overtaken : (what : Turn ReportEnd) (n : ℕ) (other : Other) → Answered (Edit (Overtaken n other)) ≡ report_reply what → ⊥
 not_overtaken effects.GoesOn n other is = absurd (cc)
 not_overtaken (effects.Answers ends.Settled) n other is = absurd (cc)
-not_overtaken (effects.Answers (ends.AtMark cell word)) n other is = absurd (cc)
-not_overtaken (effects.Answers (ends.AtAnnounce process word)) n other is = absurd (cc)
+not_overtaken (effects.Answers (ends.Unsettled place word)) n other is = absurd (cc)
 
-work_not_overtaken : (what : Taken) (n : ℕ) (other : Other) → Answered (Overtaken n other) ≡ work_reply what → ⊥
-work_not_overtaken taken.NotEnabled n other is = absurd (cc)
-work_not_overtaken taken.Stepped n other is = absurd (cc)
-work_not_overtaken (taken.Answered work_ends.NotDirty) n other is = absurd (cc)
-work_not_overtaken (taken.Answered work_ends.Missed) n other is = absurd (cc)
-work_not_overtaken (taken.Answered work_ends.Worn) n other is = absurd (cc)
-work_not_overtaken (taken.Answered (work_ends.Published changed)) n other is = absurd (cc)
-work_not_overtaken (taken.Answered work_ends.Again) n other is = absurd (cc)
-work_not_overtaken (taken.Answered work_ends.NoMemory) n other is = absurd (cc)
+work_not_overtaken : (what : Turn WorkEnd) (n : ℕ) (other : Other) → Answered (Edit (Overtaken n other)) ≡ work_reply what → ⊥
+work_not_overtaken taken.GoesOn n other is = absurd (cc)
+work_not_overtaken (taken.Answers end) n other is = absurd (cc)
 
-recovery_not_overtaken : (what : recovery_effect.Effect) (n : ℕ) (other : Other) → Answered (Overtaken n other) ≡ recovery_reply what → ⊥
+recovery_not_overtaken : (what : Turn RecoveryEnd) (n : ℕ) (other : Other) → Answered (Edit (Overtaken n other)) ≡ recovery_reply what → ⊥
 recovery_not_overtaken recovery_effects.GoesOn n other is = absurd (cc)
-recovery_not_overtaken (recovery_effects.Answers recovery_ends.Nothing) n other is = absurd (cc)
-recovery_not_overtaken (recovery_effects.Answers (recovery_ends.Last m cell counts)) n other is = absurd (cc)
+recovery_not_overtaken (recovery_effects.Answers end) n other is = absurd (cc)
 
-migration_not_overtaken : (what : MigrateEffect) (n : ℕ) (other : Other) → Answered (Overtaken n other) ≡ migration_reply what → ⊥
+migration_not_overtaken : (what : Turn MigrateEnd) (n : ℕ) (other : Other) → Answered (Edit (Overtaken n other)) ≡ migration_reply what → ⊥
 migration_not_overtaken migrate_effects.GoesOn n other is = absurd (cc)
-migration_not_overtaken (migrate_effects.Answers migrate_ends.Migrated) n other is = absurd (cc)
-migration_not_overtaken (migrate_effects.Answers migrate_ends.Already) n other is = absurd (cc)
+migration_not_overtaken (migrate_effects.Answers end) n other is = absurd (cc)
 
-pub overtaken_never : (old mid new : WorldValue) (events : List Event) (replies : List Reply) (p n : ℕ) (other : Other) → IsSound (world_of old) → Takes old (Step p) (Answered (Overtaken n other)) mid
+pub overtaken_never : (old mid new : WorldValue) (events : List Event) (replies : List Reply) (p n : ℕ) (other : Other) → IsSound (world_of old) → Takes old (Step p) (Answered (Edit (Overtaken n other))) mid
     → WorldRun mid events replies new → IsSpent (world_of new) p n × IsOut (world_of new) p n
 overtaken_never old mid new events replies p n other sound (edits h) run =
     let o = overtaken_out old mid p n other sound h in
-    stays_out events replies mid new p n (edit_turn old mid p (Answered (Overtaken n other)) sound h).keeps.sound o.0 o.1 run
+    stays_out events replies mid new p n (edit_turn old mid p (Answered (Edit (Overtaken n other))) sound h).keeps.sound o.0 o.1 run
 overtaken_never old mid new events replies p n other sound (works h) run = absurd (work_not_overtaken h.what n other h.is)
 overtaken_never old mid new events replies p n other sound (reports h) run = absurd (not_overtaken h.what n other h.is)
 overtaken_never old mid new events replies p n other sound (recoveries h) run = absurd (recovery_not_overtaken h.what n other h.is)

@@ -18,7 +18,7 @@ use Rattle.ds_state.specs.KnownWork.{IsAtRest}
 use Rattle.ds_state.specs.Crashes.{CrashesTo}
 use Rattle.ds_state.specs.Events.{Evicts}
 use Rattle.ds_state.specs.declared.situation.Situation.{Situation}
-use Rattle.ds_state.specs.declared.situation.Situation.TheVariants.{Idle, Stopped, Editing, Working, Recovering, Showing, Migrating}
+use Rattle.ds_state.specs.declared.situation.Situation.TheVariants.{Idle, Stopped, Editing, Working, Recovering, Reporting, Migrating}
 use Rattle.ds_state.specs.World.{announcement, phase_among}
 use Rattle.ds_layout.specs.declared.announcement.Phase.{Phase}
 use Rattle.ds_layout.specs.declared.announcement.Phase.TheVariants as phase
@@ -54,7 +54,7 @@ module _ (w : PlainWorld) (sound : IsSound w) (p : ℕ) (low : p < w.layout.proc
   sides_of (Working e) is = let f = subst (λ (x : Situation). CallFits w p x) is (sound.calls p low) in subst (λ q. w.memory.persisted (Announce q) ≡ w.memory.cached (Announce q)) f.mine (f.rest.persisted ∙ sym f.rest.cached)
   sides_of (Recovering e) is = let f = subst (λ (x : Situation). CallFits w p x) is (sound.calls p low) in let d = subst (λ (o : Option PlainIssue). DoubtFits w p o) none f.doubt in d.rest.persisted ∙ sym d.rest.cached
   sides_of (Migrating e) is = let f = subst (λ (x : Situation). CallFits w p x) is (sound.calls p low) in let d = subst (λ (o : Option PlainIssue). DoubtFits w p o) none f.doubt in d.rest.persisted ∙ sym d.rest.cached
-  sides_of (Showing e) is = let f = subst (λ (x : Situation). CallFits w p x) is (sound.calls p low) in subst (λ q. w.memory.persisted (Announce q) ≡ w.memory.cached (Announce q)) f.1.mine (f.1.rest.persisted ∙ sym f.1.rest.cached)
+  sides_of (Reporting e) is = let f = subst (λ (x : Situation). CallFits w p x) is (sound.calls p low) in subst (λ q. w.memory.persisted (Announce q) ≡ w.memory.cached (Announce q)) f.1.mine (f.1.rest.persisted ∙ sym f.1.rest.cached)
 
   pub sides_agree : w.memory.persisted (Announce p) ≡ w.memory.cached (Announce p)
   sides_agree = sides_of (w.situation p) refl
@@ -67,7 +67,7 @@ module _ (w : PlainWorld) (sound : IsSound w) (p : ℕ) (low : p < w.layout.proc
     by_situation (Working e) is = let f = subst (λ (x : Situation). CallFits w p x) is (sound.calls p low) in ap (λ q. w.memory.cached (Announce q) / 4) (sym f.mine) ∙ rest_word w e.process e.next f.rest ∙ numbers e.next (ap numbered is)
     by_situation (Recovering e) is = carried (ap doubts is)
     by_situation (Migrating e) is = carried (ap doubts is)
-    by_situation (Showing e) is = let f = subst (λ (x : Situation). CallFits w p x) is (sound.calls p low) in ap (λ q. w.memory.cached (Announce q) / 4) (sym f.1.mine) ∙ rest_word w e.process e.next f.1.rest ∙ numbers e.next (ap numbered is)
+    by_situation (Reporting e) is = let f = subst (λ (x : Situation). CallFits w p x) is (sound.calls p low) in ap (λ q. w.memory.cached (Announce q) / 4) (sym f.1.mine) ∙ rest_word w e.process e.next f.1.rest ∙ numbers e.next (ap numbered is)
 
     pub announces_now : Announces w p told
     announces_now = by_situation (w.situation p) refl

@@ -11,10 +11,11 @@ use Rattle.ds_state.specs.Sound.{IsSound}
 use Rattle.ds_state.specs.Value.{WorldValue, world_of}
 use Rattle.ds_state.specs.declared.situation.Situation.{Situation}
 use Rattle.ds_state.specs.declared.situation.Situation.TheVariants.{Working}
-use Rattle.ds_state.specs.declared.work.ShowStage.{ShowStage}
-use Rattle.ds_state.specs.declared.work.ShowStage.TheVariants as stages
-use Rattle.ds_show.specs.ShowSteps as shows
-use Rattle.ds_work.specs.declared.drive.Taken.{Taken}
+use Rattle.ds_state.specs.declared.report.ReportStage.{ReportStage}
+use Rattle.ds_state.specs.declared.report.ReportStage.TheVariants as stages
+use Rattle.ds_report.specs.ReportSteps as shows
+use Rattle.ds_state.specs.declared.turn.Turn.{Turn}
+use Rattle.ds_state.specs.declared.work.WorkEnd.{WorkEnd}
 use Rattle.ds_work.specs.WorkTakes as works
 use Rattle.ds_core.specs.ReportEvents.{ReportStepsBy}
 use Rattle.ds_core.specs.WorkEvents.{WorkStepsBy}
@@ -22,7 +23,7 @@ use Rattle.ds_core.specs.declared.reply.Reply.{Reply}
 use Rattle.ds_core.proofs.Headers.{SidesStay, sides_same, work_sides}
 
 -- a report loads, and nothing else
-loads : (s : ShowStage) (q : ℕ) (old new : Memory Place) (word : ℕ) → PerformsAt (shows.access_at s) q old new word → SameMemory old new
+loads : (s : ReportStage) (q : ℕ) (old new : Memory Place) (word : ℕ) → PerformsAt (shows.access_at s) q old new word → SameMemory old new
 loads (stages.LoadAnnounce i) q old new word h = h.1
 loads (stages.LoadMark i) q old new word h = h.1
 loads (stages.LoadValue i) q old new word h = h.1
@@ -42,7 +43,7 @@ module _ (p n : ℕ) (old new : WorldValue) (sound : IsSound (world_of old)) (e 
   still : SameMemory (world_of old).memory (world_of new).memory → SidesStay (world_of old).memory (world_of new).memory (Header p n)
   still same = sides_same (world_of old).memory (world_of new).memory (Header p n) same
 
-  by_taken : (what : Taken) → works.TakesTurn e (world_of old) (world_of new) what → SidesStay (world_of old).memory (world_of new).memory (Header p n)
+  by_taken : (what : Turn WorkEnd) → works.TakesTurn e (world_of old) (world_of new) what → SidesStay (world_of old).memory (world_of new).memory (Header p n)
   by_taken what (works.steps word t on) = work_sides p n old.sheet.layout.shape (world_of old) (world_of new) e word fits.buffer t.memory
   by_taken what (works.reads content inputs at t) = still t.turn.memory
   by_taken what (works.lacked at t) = still t.memory

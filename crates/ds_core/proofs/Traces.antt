@@ -1,8 +1,9 @@
 -- What an event of an edit does to the world's own list of edits that count, and to its issues.
 use Rattle.std.specs.Prelude.{ℕ, ◌≡◌, ◌≢◌, ◌⊎◌, ◌++◌, [], ◌∷◌, length, drop, Some, None, Contains}
 use Rattle.ds_state.specs.World.{PlainEdit, PlainIssue, PlainWorld}
-use Rattle.ds_edit.specs.declared.answer.Other.{Other}
-use Rattle.ds_edit.specs.declared.answer.Answer.TheVariants.{Done, Overtaken}
+use Rattle.ds_state.specs.declared.answer.Other.{Other}
+use Rattle.ds_state.specs.declared.answer.Answer.TheVariants.{Edit}
+use Rattle.ds_state.specs.declared.answer.EditEnd.TheVariants.{Done, Overtaken}
 use Rattle.ds_core.specs.declared.reply.Reply.{Reply}
 use Rattle.ds_core.specs.declared.reply.Reply.TheVariants.{Stepped, Answered}
 
@@ -50,6 +51,6 @@ pub record IsOvertakenBy (w : PlainWorld) (other : Other) (issue : PlainIssue) :
 -- a step of an edit, by its answer
 abbrev pub StepMoves : PlainWorld → ℕ → Reply → PlainWorld → Type 0
 StepMoves old p Stepped new = Stays old new ⊎ Counts old p new
-StepMoves old p (Answered (Done number)) new = Closes old p number (λ issue. Contains old.counted issue.edit) new
-StepMoves old p (Answered (Overtaken number other)) new = Closes old p number (IsOvertakenBy old other) new
+StepMoves old p (Answered (Edit (Done number))) new = Closes old p number (λ issue. Contains old.counted issue.edit) new
+StepMoves old p (Answered (Edit (Overtaken number other))) new = Closes old p number (IsOvertakenBy old other) new
 StepMoves old p reply new = Stays old new

@@ -5,8 +5,8 @@ use Rattle.ds_state.specs.Sound.{IsSound}
 use Rattle.ds_state.specs.Rely.{Keeps}
 use Rattle.ds_state.proofs.Stopping.{stop_keeps}
 use Rattle.ds_edit.proofs.Sound.{step_sound}
-use Rattle.ds_show.proofs.ShowKeeps as keeping
-use Rattle.ds_show.proofs.ShowLaws as shows
+use Rattle.ds_report.proofs.ReportKeeps as keeping
+use Rattle.ds_report.proofs.ReportLaws as shows
 use Rattle.ds_state.specs.Works.{PlainWorkCall}
 use Rattle.ds_state.specs.declared.work.WorkStage.{WorkStage}
 use Rattle.ds_state.specs.declared.work.WorkStage.TheVariants as stages
@@ -14,7 +14,8 @@ use Rattle.ds_state.specs.declared.situation.Situation.TheVariants.{Working}
 use Rattle.ds_words.specs.declared.access.Access.TheVariants.{Nothing}
 use Rattle.ds_layout.specs.SheetMemory.{PerformsAt}
 use Rattle.ds_eval.specs.Tasks.{PlainEvaluated}
-use Rattle.ds_work.specs.declared.drive.Taken.{Taken}
+use Rattle.ds_state.specs.declared.turn.Turn.{Turn}
+use Rattle.ds_state.specs.declared.work.WorkEnd.{WorkEnd}
 use Rattle.ds_work.specs.WorkTakes as works
 use Rattle.ds_work.specs.WorkSteps as work_steps
 use Rattle.ds_work.proofs.EachWork.{work_steps_keep, reads_keep, lacks_keep, offer_keep, begins_keep}
@@ -104,7 +105,7 @@ module _ (old new : WorldValue) (q : ℕ) (sound : IsSound (world_of old)) (e : 
     words = (Nothing, 0, (refl, t.memory));
   }
 
-  by_taken : (what : Taken) → works.TakesTurn e (world_of old) (world_of new) what → LeavesEdits q old new
+  by_taken : (what : Turn WorkEnd) → works.TakesTurn e (world_of old) (world_of new) what → LeavesEdits q old new
   by_taken what (works.steps word t on) = by_step e.stage word refl t
   by_taken what (works.reads content inputs at t) = by_turn _ t.turn (reads_keep e content inputs (world_of old) (world_of new) sound low (here ∙ ap (λ x. Working (work_steps.at e x)) at) t)
   by_taken what (works.lacked at t) = by_turn _ t (lacks_keep e (world_of old) (world_of new) sound low (here ∙ ap (λ x. Working (work_steps.at e x)) at) t)

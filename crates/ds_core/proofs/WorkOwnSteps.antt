@@ -11,12 +11,13 @@ use Rattle.ds_state.specs.Telling.{told_from}
 use Rattle.ds_state.specs.Value.{WorldValue, world_of}
 use Rattle.ds_state.specs.Sound.{IsSound}
 use Rattle.ds_state.specs.declared.situation.Situation.{Situation}
-use Rattle.ds_state.specs.declared.situation.Situation.TheVariants.{Editing, Working, Recovering, Showing, Migrating}
+use Rattle.ds_state.specs.declared.situation.Situation.TheVariants.{Editing, Working, Recovering, Reporting, Migrating}
 use Rattle.ds_state.specs.declared.work.WorkStage.{WorkStage}
 use Rattle.ds_state.specs.declared.work.WorkStage.TheVariants.{LoadMark, Claim, FlushClaim, BackClaim, LoadHead, LoadHeader, LoadText, Read, LoadKind, Wait, StoreValue, Telling, Clear, Give}
-use Rattle.ds_state.specs.declared.work.Spread.TheVariants.{LoadRow, OrTold, FlushTold, BackTold}
-use Rattle.ds_work.specs.declared.drive.Taken.{Taken}
-use Rattle.ds_work.specs.declared.drive.Taken.TheVariants as taken
+use Rattle.ds_state.specs.declared.spread.Spread.TheVariants.{LoadRow, OrTold, FlushTold, BackTold}
+use Rattle.ds_state.specs.declared.turn.Turn.{Turn}
+use Rattle.ds_state.specs.declared.work.WorkEnd.{WorkEnd}
+use Rattle.ds_state.specs.declared.turn.Turn.TheVariants as taken
 use Rattle.ds_work.specs.WorkTakes as work_events
 use Rattle.ds_work.specs.WorkRank.{left, steps_left}
 use Rattle.ds_work.specs.WorkSteps.{next_at, read_from, lacks, offered, told}
@@ -121,7 +122,7 @@ module _ (p : ℕ) (old new : WorldValue) (e : PlainWorkCall) (mine : e.process 
             omega (arith, less, is));
       }
 
-  by_taken : IsWork e → (what : Taken) → what ≡ taken.Stepped → work_events.TakesTurn e (world_of old) (world_of new) what → Goes p e 1 new
+  by_taken : IsWork e → (what : Turn WorkEnd) → what ≡ taken.GoesOn → work_events.TakesTurn e (world_of old) (world_of new) what → Goes p e 1 new
   by_taken is what on (work_events.steps word t goes) = record {
     work = next_at e e.stage word;
     works = here (next_at e e.stage word) (t.situation ∙ after_goes e e.stage word goes);
@@ -151,17 +152,16 @@ module _ (p : ℕ) (old new : WorldValue) (e : PlainWorkCall) (mine : e.process 
         omega (arith, less, is));
   }
 
-stepped : (what : Taken) → reply.Stepped ≡ work_reply what → what ≡ taken.Stepped
-stepped taken.NotEnabled is = absurd (cc)
-stepped taken.Stepped is = refl
-stepped (taken.Answered end) is = absurd (cc)
+stepped : (what : Turn WorkEnd) → reply.Stepped ≡ work_reply what → what ≡ taken.GoesOn
+stepped taken.GoesOn is = refl
+stepped (taken.Answers end) is = absurd (cc)
 
 goes : (p n : ℕ) (e : PlainWorkCall) (old new : WorldValue) → (world_of old).situation p ≡ Working e → OwnMove p old new n → Goes p e n new
 goes p n e old new at (stays same) = still p e new (same ∙ at)
 goes p n e old new at (steps_once (steps.edits h)) = absurd (let bad : Working e ≡ Editing h.edit = sym at ∙ h.at in cc)
 goes p n e old new at (steps_once (steps.works h)) = subst (λ (x : PlainWorkCall). Goes p x 1 new) (working_same ((world_of old).situation p) e h.steps.work at h.steps.works)
     (by_taken p old new h.steps.work h.steps.mine h.steps.is h.what (stepped h.what h.is) h.steps.turn)
-goes p n e old new at (steps_once (steps.reports h)) = absurd (let bad : Working e ≡ Showing h.steps.show = sym at ∙ h.steps.at in cc)
+goes p n e old new at (steps_once (steps.reports h)) = absurd (let bad : Working e ≡ Reporting h.steps.show = sym at ∙ h.steps.at in cc)
 goes p n e old new at (steps_once (steps.recoveries h)) = absurd (let bad : Working e ≡ Recovering h.steps.recovery = sym at ∙ h.steps.at in cc)
 goes p n e old new at (steps_once (steps.migrations h)) = absurd (let bad : Working e ≡ Migrating h.steps.migration = sym at ∙ h.steps.at in cc)
 goes p n e old new at (is_offered value mine h) =

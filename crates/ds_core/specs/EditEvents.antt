@@ -7,23 +7,31 @@ use Rattle.ds_state.specs.declared.stage.Outcome.TheVariants as outcome
 use Rattle.ds_state.specs.declared.stage.Stage.{Stage}
 use Rattle.ds_state.specs.declared.situation.Situation.TheVariants.{Editing}
 use Rattle.ds_edit.specs.EditTakes as edits
-use Rattle.ds_edit.specs.EditEndings.{answer_of, outcome_at}
+use Rattle.ds_state.specs.EditEndings.{end_of, outcome_at}
+use Rattle.ds_state.specs.declared.answer.EditEnd.{EditEnd}
+use Rattle.ds_state.specs.declared.answer.Answer.TheVariants.{Edit}
+use Rattle.ds_state.specs.declared.turn.Turn.{Turn}
+use Rattle.ds_state.specs.declared.turn.Turn.TheVariants.{GoesOn, Answers}
+use Rattle.ds_core.specs.Replies.{reply_of}
 use Rattle.ds_edit.specs.declared.machine.Effect.{Effect}
 use Rattle.ds_core.specs.declared.reply.Reply.{Reply}
-use Rattle.ds_core.specs.declared.reply.Reply.TheVariants.{Stepped, Answered, NotEnabled}
 
--- the reply to a step of the edit with this number: the answer of its outcome where it has one, else Stepped
+-- what a step does to the edit with this number: it ends where it has an outcome, else it goes on
+abbrev pub turn_with : ℕ → ℕ → Option Outcome → Turn EditEnd
+turn_with processes number None = GoesOn
+turn_with processes number (Some how) = Answers (end_of processes number how)
+
+-- the reply to a step of the edit with this number
 abbrev pub reply_with : ℕ → ℕ → Option Outcome → Reply
-reply_with processes number None = Stepped
-reply_with processes number (Some how) = Answered (answer_of processes number how)
+reply_with processes number outcome = reply_of Edit (turn_with processes number outcome)
 
 -- the reply to the step of an edit at this stage
 abbrev pub reply_at : ℕ → ℕ → Stage → Reply
 reply_at processes number s = reply_with processes number (outcome_at s)
 
--- the reply to a step of this effect, of the edit with this number
-abbrev pub reply_by : ℕ → ℕ → Effect → Reply
-reply_by processes number what = reply_with processes number (edits.outcome_by what)
+-- what a step of this effect does to the edit with this number
+abbrev pub turn_by : ℕ → ℕ → Effect → Turn EditEnd
+turn_by processes number what = turn_with processes number (edits.outcome_by what)
 
 -- how many edits have been answered Done after a step of an edit: one more where its outcome is Done
 abbrev pub done_with : ℕ → Option Outcome → ℕ
@@ -65,9 +73,7 @@ pub record CanNotEdit (old : WorldValue) (p : ℕ) (new : WorldValue) : Type 0 w
   pub same : new ≡ old
   pub none : (edit : PlainEditCall) → p < old.sheet.layout.processes → (world_of old).situation p ≡ Editing edit → ⊥
 
--- what a step of a process's edit does, by its reply
-abbrev pub EditStepTakes : WorldValue → ℕ → Reply → WorldValue → Type 0
-EditStepTakes old p Stepped new = EditStepsBy old p Stepped new
-EditStepTakes old p (Answered answer) new = EditStepsBy old p (Answered answer) new
-EditStepTakes old p NotEnabled new = CanNotEdit old p new
-EditStepTakes old p _ new = ⊥
+-- the process makes a step of its edit, with what that did to it; or it can make none, and the world stays
+abbrev pub EditStepTakes : WorldValue → ℕ → Option (Turn EditEnd) → WorldValue → Type 0
+EditStepTakes old p None new = CanNotEdit old p new
+EditStepTakes old p (Some turn) new = EditStepsBy old p (reply_of Edit turn) new

@@ -8,16 +8,17 @@ use Rattle.ds_layout.specs.declared.place.Place.TheVariants as place
 use Rattle.ds_layout.specs.Places.{cells_of}
 use Rattle.ds_state.specs.World.{PlainEdit, PlainWorld, is_edit_of}
 use Rattle.ds_layout.specs.Mark.{IsClean}
-use Rattle.ds_state.specs.KnownShow.{IsStill, IsPendingWord, AreScratch, moment_of}
+use Rattle.ds_state.specs.KnownReport.{IsStill, IsPendingWord, AreScratch, moment_of}
 use Rattle.ds_state.specs.Value.{WorldValue, world_of}
 use Rattle.ds_core.specs.Takes.{Takes, WorldRun, world_at}
 use Rattle.ds_core.specs.Moments.{Placed, Open, empty_ledger, edits_in, Moment, MomentFits}
 use Rattle.ds_core.specs.Requests.{PlainRequest}
 use Rattle.ds_core.specs.LedgerSteps.{WordsMove, LedgerMoves}
 use Rattle.ds_core.specs.declared.event.Event.{Event}
-use Rattle.ds_core.specs.declared.event.Event.TheVariants.{BeginEdit, BeginShow, Step}
-use Rattle.ds_edit.specs.declared.answer.Told.{Told}
-use Rattle.ds_edit.specs.declared.answer.Answer.TheVariants.{Settled, Unsettled}
+use Rattle.ds_core.specs.declared.event.Event.TheVariants.{BeginEdit, BeginReport, Step}
+use Rattle.ds_state.specs.declared.recovery.Told.{Told}
+use Rattle.ds_state.specs.declared.answer.Answer.TheVariants.{Report}
+use Rattle.ds_state.specs.declared.report.ReportEnd.TheVariants.{Settled, Unsettled}
 use Rattle.ds_core.specs.declared.reply.Reply.{Reply}
 use Rattle.ds_core.specs.declared.reply.Reply.TheVariants.{Begun, Entered, Answered}
 
@@ -36,9 +37,9 @@ IsIssueOf shape event reply edit = ⊥
 -- the process's last report before this place began at `start`: a moment of its call is behind that begin and not
 -- behind the place
 pub record IsCall (events : List Event) (replies : List Reply) (p start k : ℕ) : Type 0 where
-  pub begins : Happens events replies start (BeginShow p) Entered
+  pub begins : Happens events replies start (BeginReport p) Entered
   pub earlier : start < k
-  pub last : (j : ℕ) → start < j → j < k → Happens events replies j (BeginShow p) Entered → ⊥
+  pub last : (j : ℕ) → start < j → j < k → Happens events replies j (BeginReport p) Entered → ⊥
 
 -- of a settled report: at a moment of its call all is still, and its values are those from scratch of the edits that
 -- count then
@@ -78,9 +79,9 @@ kept_values v p = slice_index_or v.reports.values p []
 
 -- each report that is answered settled has its values from a moment of its call, and each unsettled one its word
 pub record ReportsFit (moment : ℕ → Moment) (events : List Event) (replies : List Reply) : Type 0 where
-  pub settled : (k p : ℕ) → Happens events replies k (Step p) (Answered Settled)
+  pub settled : (k p : ℕ) → Happens events replies k (Step p) (Answered (Report Settled))
       → (start : ℕ) × IsCall events replies p start k × SettledFits moment start k (kept_values (moment (k + 1)).world p)
-  pub unsettled : (k p : ℕ) (r : Place) (word : ℕ) → Happens events replies k (Step p) (Answered (Unsettled r word))
+  pub unsettled : (k p : ℕ) (r : Place) (word : ℕ) → Happens events replies k (Step p) (Answered (Report (Unsettled r word)))
       → (start : ℕ) × IsCall events replies p start k × UnsettledFits moment start k r word
 
 -- ---- the run

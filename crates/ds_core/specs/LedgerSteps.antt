@@ -9,10 +9,13 @@ use Rattle.ds_layout.specs.SheetMemory.{PerformsAt}
 use Rattle.ds_state.specs.World.{PlainEdit}
 use Rattle.ds_core.specs.Moments.{Placed, Open, Closed, Ledger}
 use Rattle.ds_core.specs.declared.event.Event.{Event}
-use Rattle.ds_core.specs.declared.event.Event.TheVariants.{BeginEdit, BeginWork, BeginShow, BeginRecover, BeginMigrate, Step, Offer, Evict, Stop, Crash}
-use Rattle.ds_edit.specs.declared.answer.Other.{Other}
-use Rattle.ds_edit.specs.declared.answer.Answer.{Answer}
-use Rattle.ds_edit.specs.declared.answer.Answer.TheVariants.{Done, Overtaken, NotDirty, Missed, Worn, Published, Again, NoMemory, Last, Nothing, Migrated, Already, Settled, Unsettled}
+use Rattle.ds_core.specs.declared.event.Event.TheVariants.{BeginEdit, BeginWork, BeginReport, BeginRecover, BeginMigrate, Step, Offer, Evict, Stop, Crash}
+use Rattle.ds_state.specs.declared.answer.Other.{Other}
+use Rattle.ds_state.specs.declared.answer.Answer.{Answer}
+use Rattle.ds_state.specs.declared.answer.Answer.TheVariants.{Edit, Work, Report, Recovery, Migration}
+use Rattle.ds_state.specs.declared.answer.EditEnd.TheVariants.{Done, Overtaken}
+use Rattle.ds_state.specs.declared.recovery.RecoveryEnd.{RecoveryEnd}
+use Rattle.ds_state.specs.declared.recovery.RecoveryEnd.TheVariants.{Last, Nothing}
 use Rattle.ds_core.specs.declared.reply.Reply.{Reply}
 use Rattle.ds_core.specs.declared.reply.Reply.TheVariants.{Begun, Entered, Refused, Stepped, Answered, WrongTask, Evicted, Stopped, Crashed, NotEnabled}
 
@@ -31,9 +34,9 @@ WordsMove old (BeginEdit r) NotEnabled new = SameMemory old new
 WordsMove old (BeginWork p cell) Entered new = SameMemory old new
 WordsMove old (BeginWork p cell) (Refused why) new = SameMemory old new
 WordsMove old (BeginWork p cell) NotEnabled new = SameMemory old new
-WordsMove old (BeginShow p) Entered new = SameMemory old new
-WordsMove old (BeginShow p) (Refused why) new = SameMemory old new
-WordsMove old (BeginShow p) NotEnabled new = SameMemory old new
+WordsMove old (BeginReport p) Entered new = SameMemory old new
+WordsMove old (BeginReport p) (Refused why) new = SameMemory old new
+WordsMove old (BeginReport p) NotEnabled new = SameMemory old new
 WordsMove old (BeginRecover p) Entered new = SameMemory old new
 WordsMove old (BeginRecover p) (Refused why) new = SameMemory old new
 WordsMove old (BeginRecover p) NotEnabled new = SameMemory old new
@@ -102,30 +105,30 @@ pub record IsOvertakenBy (old : Ledger) (other : Other) (open_edit : Open) : Typ
   pub number : by.edit.number ≡ other.number
 
 -- what a recovery answers of the last edit that was closed under its number: Nothing where there is none
-abbrev pub told_of : Option Closed → Answer
+abbrev pub told_of : Option Closed → RecoveryEnd
 told_of None = Nothing
 told_of (Some c) = Last (record { number = c.it.edit.number; cell = c.it.edit.cell; counts = c.counts })
 
 -- the process's edit in doubt was never announced: it does not count, and its number will be given out again
-pub record Forgets (old : Ledger) (p : ℕ) (answer : Answer) (new : Ledger) : Type 0 where
+pub record Forgets (old : Ledger) (p : ℕ) (end : RecoveryEnd) (new : Ledger) : Type 0 where
   pub open_edit : Open
   pub was : old.opens p ≡ Some open_edit
   pub doubt_is : open_edit.doubt ≡ true
   pub out : Contains old.counted open_edit.it → ⊥
-  pub repeats : answer ≡ told_of (old.told p)
+  pub repeats : end ≡ told_of (old.told p)
   pub is : new ≡ record old { opens = put old.opens p None }
 
 -- the process has no open edit, and its recovery tells again of the last one that was closed under its number
-pub record Repeats (old : Ledger) (p : ℕ) (answer : Answer) (new : Ledger) : Type 0 where
+pub record Repeats (old : Ledger) (p : ℕ) (end : RecoveryEnd) (new : Ledger) : Type 0 where
   pub none : old.opens p ≡ None
-  pub repeats : answer ≡ told_of (old.told p)
+  pub repeats : end ≡ told_of (old.told p)
   pub is : new ≡ old
 
 -- a recovery's answer closes the edit in doubt as it is told, or forgets it, or, where no edit is open, repeats what
 -- was told
-abbrev pub Resolves : Ledger → ℕ → Answer → Ledger → Type 0
+abbrev pub Resolves : Ledger → ℕ → RecoveryEnd → Ledger → Type 0
 Resolves old p (Last told) new = Closes old p told.number true told.counts (λ o. o.it.edit.cell ≡ told.cell) new ⊎ (Forgets old p (Last told) new ⊎ Repeats old p (Last told) new)
-Resolves old p answer new = Forgets old p answer new ⊎ Repeats old p answer new
+Resolves old p Nothing new = Forgets old p Nothing new ⊎ Repeats old p Nothing new
 
 -- a process's open edit, if it has one, put in doubt
 abbrev pub in_doubt : Option Open → Option Open
@@ -140,20 +143,12 @@ pub record Loses (old new : Ledger) : Type 0 where
 
 -- what the answer of a call's last step does to the ledger
 abbrev pub AnswerMoves : Ledger → ℕ → Answer → Ledger → Type 0
-AnswerMoves old p (Done number) new = Closes old p number false true (λ o. Unit {0}) new
-AnswerMoves old p (Overtaken number other) new = Closes old p number false false (IsOvertakenBy old other) new
-AnswerMoves old p (Last told) new = Resolves old p (Last told) new
-AnswerMoves old p Nothing new = Resolves old p Nothing new
-AnswerMoves old p NotDirty new = new ≡ old
-AnswerMoves old p Missed new = new ≡ old
-AnswerMoves old p Worn new = new ≡ old
-AnswerMoves old p (Published changed) new = new ≡ old
-AnswerMoves old p Again new = new ≡ old
-AnswerMoves old p NoMemory new = new ≡ old
-AnswerMoves old p Migrated new = new ≡ old
-AnswerMoves old p Already new = new ≡ old
-AnswerMoves old p Settled new = new ≡ old
-AnswerMoves old p (Unsettled place word) new = new ≡ old
+AnswerMoves old p (Edit (Done number)) new = Closes old p number false true (λ o. Unit {0}) new
+AnswerMoves old p (Edit (Overtaken number other)) new = Closes old p number false false (IsOvertakenBy old other) new
+AnswerMoves old p (Recovery end) new = Resolves old p end new
+AnswerMoves old p (Work end) new = new ≡ old
+AnswerMoves old p (Report end) new = new ≡ old
+AnswerMoves old p (Migration end) new = new ≡ old
 
 -- what the event at this place does to the ledger, by its reply; no other reply is given
 abbrev pub LedgerMoves : ℕ → Shape → Ledger → Event → Reply → Ledger → Type 0
@@ -163,9 +158,9 @@ LedgerMoves place shape old (BeginEdit r) NotEnabled new = new ≡ old
 LedgerMoves place shape old (BeginWork p cell) Entered new = new ≡ old
 LedgerMoves place shape old (BeginWork p cell) (Refused why) new = new ≡ old
 LedgerMoves place shape old (BeginWork p cell) NotEnabled new = new ≡ old
-LedgerMoves place shape old (BeginShow p) Entered new = new ≡ old
-LedgerMoves place shape old (BeginShow p) (Refused why) new = new ≡ old
-LedgerMoves place shape old (BeginShow p) NotEnabled new = new ≡ old
+LedgerMoves place shape old (BeginReport p) Entered new = new ≡ old
+LedgerMoves place shape old (BeginReport p) (Refused why) new = new ≡ old
+LedgerMoves place shape old (BeginReport p) NotEnabled new = new ≡ old
 LedgerMoves place shape old (BeginRecover p) Entered new = new ≡ old
 LedgerMoves place shape old (BeginRecover p) (Refused why) new = new ≡ old
 LedgerMoves place shape old (BeginRecover p) NotEnabled new = new ≡ old

@@ -1,10 +1,12 @@
 pub mod Requests
+pub mod Replies
 pub mod EditEvents
 pub mod ReportEvents
 pub mod WorkEvents
 pub mod RecoveryEvents
 pub mod MigrationEvents
 pub mod StepEvents
+pub mod Ends
 pub mod StopEvents
 pub mod Kinds
 pub mod Takes

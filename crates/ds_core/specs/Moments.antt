@@ -3,7 +3,7 @@ use Rattle.std.specs.Prelude.{ℕ, ◌≡◌, ◌<◌, Bool, List, [], ◌∷◌
 use Rattle.ds_layout.specs.Places.{cells_of}
 use Rattle.ds_state.specs.World.{PlainEdit, PlainIssue, of_cell}
 use Rattle.ds_state.specs.Shown.{text_at, last_text, values_shown, IsQuiet}
-use Rattle.ds_state.specs.KnownShow.{AreScratch}
+use Rattle.ds_state.specs.KnownReport.{AreScratch}
 use Rattle.ds_state.specs.Value.{WorldValue, world_of}
 
 -- ---- the ledger

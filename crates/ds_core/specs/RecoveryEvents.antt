@@ -1,33 +1,25 @@
 -- The beginning of a recovery and its steps, from world to world.
 use Rattle.std.specs.Prelude.{ℕ, ◌≡◌, ◌<◌}
+use Rattle.ds_state.specs.declared.turn.Turn.{Turn}
 use Rattle.ds_state.specs.Value.{WorldValue, world_of}
 use Rattle.ds_state.specs.declared.refusal.Refusal.{Refusal}
-use Rattle.ds_edit.specs.declared.answer.Answer.{Answer}
-use Rattle.ds_edit.specs.declared.answer.Answer.TheVariants.{Last, Nothing}
-use Rattle.ds_recover.specs.declared.machine.Effect.{Effect}
-use Rattle.ds_recover.specs.declared.machine.Effect.TheVariants as effects
-use Rattle.ds_recover.specs.declared.machine.RecoveryEnd.{RecoveryEnd}
-use Rattle.ds_recover.specs.declared.machine.RecoveryEnd.TheVariants as ends
+use Rattle.ds_state.specs.declared.answer.Answer.TheVariants.{Recovery}
+use Rattle.ds_core.specs.Replies.{reply_of}
+use Rattle.ds_state.specs.declared.recovery.RecoveryEnd.{RecoveryEnd}
 use Rattle.ds_recover.specs.RecoverBegun.{IsBegun, Refuses}
 use Rattle.ds_recover.specs.RecoverTakes as recoveries
 use Rattle.ds_core.specs.EditEvents.{SameReports}
 use Rattle.ds_core.specs.ReportEvents.{NoSuchProcess}
 use Rattle.ds_core.specs.declared.reply.Reply.{Reply}
-use Rattle.ds_core.specs.declared.reply.Reply.TheVariants.{Entered, Refused, Stepped, Answered, NotEnabled}
-
--- the answer of a recovery, by how it ended
-abbrev pub recovery_answer : RecoveryEnd → Answer
-recovery_answer ends.Nothing = Nothing
-recovery_answer (ends.Last number cell counts) = Last (record { number = number; cell = cell; counts = counts })
+use Rattle.ds_core.specs.declared.reply.Reply.TheVariants.{Entered, Refused, NotEnabled}
 
 -- the reply to a step of a recovery: Stepped, or its answer
-abbrev pub recovery_reply : Effect → Reply
-recovery_reply effects.GoesOn = Stepped
-recovery_reply (effects.Answers end) = Answered (recovery_answer end)
+abbrev pub recovery_reply : Turn RecoveryEnd → Reply
+recovery_reply what = reply_of Recovery what
 
 -- the process makes one step of its recovery, with the reply of that step
 pub record RecoveryStepsBy (old : WorldValue) (p : ℕ) (reply : Reply) (new : WorldValue) : Type 0 where
-  pub what : Effect
+  pub what : Turn RecoveryEnd
   pub steps : recoveries.StepsBy old p what new
   pub is : reply ≡ recovery_reply what
 

@@ -7,8 +7,10 @@ use Rattle.ds_layout.specs.Mark.{IsClean}
 use Rattle.ds_layout.specs.declared.place.Place.TheVariants.{Mark}
 use Rattle.ds_state.specs.World.{PlainWorld, index_place}
 use Rattle.ds_work.specs.WorkShows.{shown_in}
-use Rattle.ds_edit.specs.declared.answer.Answer.{Answer}
-use Rattle.ds_edit.specs.declared.answer.Answer.TheVariants.{Done, Published, Again, NoMemory}
+use Rattle.ds_state.specs.declared.answer.Answer.{Answer}
+use Rattle.ds_state.specs.declared.answer.Answer.TheVariants.{Edit, Work}
+use Rattle.ds_state.specs.declared.answer.EditEnd.TheVariants.{Done}
+use Rattle.ds_state.specs.declared.work.WorkEnd.TheVariants.{Published, Again, NoMemory}
 use Rattle.ds_core.specs.declared.reply.Reply.{Reply}
 use Rattle.ds_core.specs.declared.reply.Reply.TheVariants.{Answered}
 
@@ -25,7 +27,7 @@ IsSolo p (event ∷ events) = IsSoloEvent p event × IsSolo p events
 
 -- where the reply is an answer, it is Done with this number
 abbrev pub IsDoneOnly : ℕ → Reply → Type 0
-IsDoneOnly number (Answered answer) = answer ≡ Done number
+IsDoneOnly number (Answered answer) = answer ≡ Edit (Done number)
 IsDoneOnly number reply = Unit {0}
 
 -- each answer among the replies is Done with this number
@@ -55,10 +57,10 @@ StandsInOwnRow w cell = HasBit (w.memory.cached (index_place cell cell)) cell
 -- that the cell is clean, and whether it shows another value now; where it does, the cell does not stand in its own index
 -- row. Where it stands there, a new value is answered Again. For want of memory the cell shows what it did.
 abbrev pub IsLoneAnswer : PlainWorld → PlainWorld → ℕ → Answer → Type 0
-IsLoneAnswer first last cell (Published true) = IsClean (last.memory.cached (Mark cell)) × (shown_in last cell ≢ shown_in first cell) × (StandsInOwnRow first cell → ⊥)
-IsLoneAnswer first last cell (Published false) = IsClean (last.memory.cached (Mark cell)) × (shown_in last cell ≡ shown_in first cell)
-IsLoneAnswer first last cell Again = StandsInOwnRow first cell × (shown_in last cell ≢ shown_in first cell)
-IsLoneAnswer first last cell NoMemory = shown_in last cell ≡ shown_in first cell
+IsLoneAnswer first last cell (Work (Published true)) = IsClean (last.memory.cached (Mark cell)) × (shown_in last cell ≢ shown_in first cell) × (StandsInOwnRow first cell → ⊥)
+IsLoneAnswer first last cell (Work (Published false)) = IsClean (last.memory.cached (Mark cell)) × (shown_in last cell ≡ shown_in first cell)
+IsLoneAnswer first last cell (Work Again) = StandsInOwnRow first cell × (shown_in last cell ≢ shown_in first cell)
+IsLoneAnswer first last cell (Work NoMemory) = shown_in last cell ≡ shown_in first cell
 IsLoneAnswer first last cell answer = ⊥
 
 -- where the reply is an answer, it is one of work that was alone

@@ -6,14 +6,14 @@ use Rattle.ds_edit.specs.Begun.{IsBegun, Refuses}
 use Rattle.ds_state.specs.declared.refusal.Refusal.{Refusal}
 use Rattle.ds_core.specs.Requests.{PlainRequest}
 use Rattle.ds_core.specs.EditEvents.{SameReports}
-use Rattle.ds_core.specs.ReportEvents.{BeginShowTakes}
+use Rattle.ds_core.specs.ReportEvents.{BeginReportTakes}
 use Rattle.ds_core.specs.WorkEvents.{BeginWorkTakes, OfferTakes}
 use Rattle.ds_core.specs.RecoveryEvents.{BeginRecoverTakes}
 use Rattle.ds_core.specs.MigrationEvents.{BeginMigrateTakes}
 use Rattle.ds_core.specs.StepEvents.{StepTakes, EvictTakes}
 use Rattle.ds_core.specs.StopEvents.{StopTakes, CrashTakes}
 use Rattle.ds_core.specs.declared.event.Event.{Event}
-use Rattle.ds_core.specs.declared.event.Event.TheVariants.{BeginEdit, BeginWork, BeginShow, BeginRecover, BeginMigrate, Step, Offer, Evict, Stop, Crash}
+use Rattle.ds_core.specs.declared.event.Event.TheVariants.{BeginEdit, BeginWork, BeginReport, BeginRecover, BeginMigrate, Step, Offer, Evict, Stop, Crash}
 use Rattle.ds_core.specs.declared.reply.Reply.{Reply}
 use Rattle.ds_core.specs.declared.reply.Reply.TheVariants.{Begun, Refused, NotEnabled}
 
@@ -51,7 +51,7 @@ BeginTakes old r _ new = ⊥
 abbrev pub Takes : WorldValue → Event → Reply → WorldValue → Type 0
 Takes old (BeginEdit r) reply new = BeginTakes old r reply new
 Takes old (BeginWork p cell) reply new = BeginWorkTakes old p cell reply new
-Takes old (BeginShow p) reply new = BeginShowTakes old p reply new
+Takes old (BeginReport p) reply new = BeginReportTakes old p reply new
 Takes old (BeginRecover p) reply new = BeginRecoverTakes old p reply new
 Takes old (BeginMigrate p) reply new = BeginMigrateTakes old p reply new
 Takes old (Step p) reply new = StepTakes old p reply new

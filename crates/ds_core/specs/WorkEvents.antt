@@ -6,34 +6,21 @@ use Rattle.ds_eval.specs.Tasks.{PlainEvaluated}
 use Rattle.ds_state.specs.Value.{WorldValue, world_of}
 use Rattle.ds_state.specs.declared.refusal.Refusal.{Refusal}
 use Rattle.ds_state.specs.declared.work.WorkEnd.{WorkEnd}
-use Rattle.ds_state.specs.declared.work.WorkEnd.TheVariants as ends
-use Rattle.ds_edit.specs.declared.answer.Answer.{Answer}
-use Rattle.ds_edit.specs.declared.answer.Answer.TheVariants.{NotDirty, Missed, Worn, Published, Again, NoMemory}
-use Rattle.ds_work.specs.declared.drive.Taken.{Taken}
-use Rattle.ds_work.specs.declared.drive.Taken.TheVariants as taken
+use Rattle.ds_state.specs.declared.answer.Answer.TheVariants.{Work}
+use Rattle.ds_state.specs.declared.turn.Turn.{Turn}
+use Rattle.ds_core.specs.Replies.{reply_of}
 use Rattle.ds_work.specs.WorkTakes as works
 use Rattle.ds_core.specs.EditEvents.{SameReports}
 use Rattle.ds_core.specs.declared.reply.Reply.{Reply}
-use Rattle.ds_core.specs.declared.reply.Reply.TheVariants.{Entered, Refused, Stepped, Answered, WrongTask, NotEnabled}
-
--- the answer of work, by how it ended
-abbrev pub work_answer : WorkEnd → Answer
-work_answer ends.NotDirty = NotDirty
-work_answer ends.Missed = Missed
-work_answer ends.Worn = Worn
-work_answer (ends.Published changed) = Published changed
-work_answer ends.Again = Again
-work_answer ends.NoMemory = NoMemory
+use Rattle.ds_core.specs.declared.reply.Reply.TheVariants.{Entered, Refused, Stepped, WrongTask, NotEnabled}
 
 -- the reply to a turn of work, by what the turn came to
-abbrev pub work_reply : Taken → Reply
-work_reply taken.NotEnabled = NotEnabled
-work_reply taken.Stepped = Stepped
-work_reply (taken.Answered end) = Answered (work_answer end)
+abbrev pub work_reply : Turn WorkEnd → Reply
+work_reply what = reply_of Work what
 
 -- the process makes one step of its work, with the reply of that step; counts and kept reports stay
 pub record WorkStepsBy (old : WorldValue) (p : ℕ) (reply : Reply) (new : WorldValue) : Type 0 where
-  pub what : Taken
+  pub what : Turn WorkEnd
   pub steps : works.StepsBy (world_of old) p what (world_of new)
   pub is : reply ≡ work_reply what
   pub done : new.done ≡ old.done

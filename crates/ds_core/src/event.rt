@@ -32,7 +32,7 @@ pub enum Event {
     /// A process begins to work on a cell.
     BeginWork(usize, Cell),
     /// A process begins a report.
-    BeginShow(usize),
+    BeginReport(usize),
     /// A process begins to recover.
     BeginRecover(usize),
     /// A process begins to migrate the sheet to the second layout.

@@ -7,13 +7,16 @@ ghost use Rattle.ds_state.specs.Fresh.{IsNew};
 ghost use Rattle.ds_state.specs.Value.{WorldValue, world_of, IsGood};
 ghost use Rattle.ds_state.specs.Sound.{IsSound};
 ghost use Rattle.ds_state.specs.declared.stage.Stage.TheVariants.{StoreHeader};
-ghost use Rattle.ds_state.specs.declared.situation.Situation.TheVariants.{Editing, Working, Recovering, Showing, Migrating};
+ghost use Rattle.ds_state.specs.declared.situation.Situation.TheVariants.{Editing, Working, Recovering, Reporting, Migrating};
 ghost use Rattle.ds_core.specs.declared.event.Event.{Event};
-ghost use Rattle.ds_core.specs.declared.event.Event.TheVariants.{Step, BeginShow};
-ghost use Rattle.ds_edit.specs.declared.answer.Other.{Other};
-ghost use Rattle.ds_edit.specs.declared.answer.Told.{Told};
-ghost use Rattle.ds_edit.specs.declared.answer.Answer.{Answer};
-ghost use Rattle.ds_edit.specs.declared.answer.Answer.TheVariants.{Done, Overtaken, Last, Settled};
+ghost use Rattle.ds_core.specs.declared.event.Event.TheVariants.{Step, BeginReport};
+ghost use Rattle.ds_state.specs.declared.answer.Other.{Other};
+ghost use Rattle.ds_state.specs.declared.recovery.Told.{Told};
+ghost use Rattle.ds_state.specs.declared.answer.Answer.{Answer};
+ghost use Rattle.ds_state.specs.declared.answer.Answer.TheVariants.{Edit, Recovery, Report};
+ghost use Rattle.ds_state.specs.declared.answer.EditEnd.TheVariants.{Done, Overtaken};
+ghost use Rattle.ds_state.specs.declared.recovery.RecoveryEnd.TheVariants.{Last};
+ghost use Rattle.ds_state.specs.declared.report.ReportEnd.TheVariants.{Settled};
 ghost use Rattle.ds_core.specs.declared.reply.Reply.TheVariants.{Answered, Entered};
 ghost use Rattle.ds_core.specs.declared.reply.Reply.{Reply};
 ghost use Rattle.ds_core.specs.Takes.{Takes, WorldRun};
@@ -23,7 +26,7 @@ ghost use Rattle.ds_core.specs.Kinds.{AnswersTo};
 ghost use Rattle.ds_state.specs.Spent.{IsSpent};
 ghost use Rattle.ds_core.specs.SpentNumbers.{IsOut};
 ghost use Rattle.ds_core.specs.Solo.{IsSolo, AreDoneOnly, IsLone, IsLoneAnswer, AreLoneReplies};
-ghost use Rattle.ds_state.specs.Works.{PlainWorkCall, PlainShowCall, PlainRecoverCall, PlainMigrateCall};
+ghost use Rattle.ds_state.specs.Works.{PlainWorkCall, PlainReportCall, PlainRecoverCall, PlainMigrateCall};
 ghost use Rattle.ds_state.specs.declared.work.WorkStage.TheVariants.{LoadMark};
 ghost use Rattle.ds_layout.specs.Bits.{parts_for};
 ghost use Rattle.ds_layout.specs.Places.{cells_of};
@@ -35,7 +38,7 @@ ghost use Rattle.ds_work.specs.WorkAlone.{IsMarkedAt};
 pub fn overtaken_edits_stay_out()
     ensures { (old mid new : WorldValue) (events : List Event) (replies : List Reply)
         (p number : ℕ) (other : Other) → IsSound (world_of old)
-        → Takes old (Step p) (Answered (Overtaken number other)) mid
+        → Takes old (Step p) (Answered (Edit (Overtaken number other))) mid
         → WorldRun mid events replies new
         → IsSpent (world_of new) p number × IsOut (world_of new) p number }
 {}
@@ -71,7 +74,7 @@ pub fn calls_are_short()
         (p : ℕ) → IsSound (world_of old) → p < old.sheet.layout.processes
         → IsInCall ((world_of old).situation p) → WorldRun old events replies new
         → AreUnanswered p events replies → own_steps p events replies < steps_left p old }
-    ensures report { (v : WorldValue) (p : ℕ) (e : PlainShowCall) → (world_of v).situation p ≡ Showing e
+    ensures report { (v : WorldValue) (p : ℕ) (e : PlainReportCall) → (world_of v).situation p ≡ Reporting e
         → steps_left p v ≤ 2 * e.processes + 4 * e.cells + 1 }
     ensures recovery { (v : WorldValue) (p : ℕ) (e : PlainRecoverCall) → IsSound (world_of v)
         → p < v.sheet.layout.processes → (world_of v).situation p ≡ Recovering e
@@ -132,7 +135,7 @@ pub fn fitting_runs_have_the_headline()
 pub fn acknowledged_edits_stand_once()
     ensures { (old : WorldValue) (events : List Event) (replies : List Reply) (new : WorldValue)
         (k p number : ℕ) → Headline old events replies new
-        → Happens events replies k (Step p) (Answered (Done number))
+        → Happens events replies k (Step p) (Answered (Edit (Done number)))
         → IsAcknowledged old events replies k p number new.counted }
 {}
 
@@ -142,7 +145,7 @@ pub fn acknowledged_edits_stand_once()
 pub fn edits_told_as_done_stand_once()
     ensures { (old : WorldValue) (events : List Event) (replies : List Reply) (new : WorldValue)
         (k p : ℕ) (told : Told) → Headline old events replies new
-        → Happens events replies k (Step p) (Answered (Last told)) → told.counts ≡ true
+        → Happens events replies k (Step p) (Answered (Recovery (Last told))) → told.counts ≡ true
         → IsToldDone old events replies k p told new.counted }
 {}
 
@@ -151,7 +154,7 @@ pub fn edits_told_as_done_stand_once()
 pub fn edits_told_as_not_done_stay_out()
     ensures { (old mid new : WorldValue) (events : List Event) (replies : List Reply)
         (p : ℕ) (told : Told) → IsSound (world_of old)
-        → Takes old (Step p) (Answered (Last told)) mid → told.counts ≡ false
+        → Takes old (Step p) (Answered (Recovery (Last told))) mid → told.counts ≡ false
         → WorldRun mid events replies new
         → IsSpent (world_of new) p told.number × IsOut (world_of new) p told.number }
 {}
@@ -165,7 +168,7 @@ pub fn solo_edits_are_answered()
         → (world_of old).situation p ≡ Editing e → e.stage ≡ StoreHeader
         → WorldRun old events replies new → IsSolo p events
         → 112 + 3 * length e.refs ≤ own_steps p events replies
-        → (k : ℕ) × Happens events replies k (Step p) (Answered (Done e.number)) }
+        → (k : ℕ) × Happens events replies k (Step p) (Answered (Edit (Done e.number))) }
 {}
 
 /// A report that begins in a quiet world, and is alone from its beginning on but for evictions, is
@@ -174,9 +177,9 @@ pub fn solo_edits_are_answered()
 pub fn solo_reports_are_answered()
     ensures { (old mid new : WorldValue) (events : List Event) (replies : List Reply)
         (p : ℕ) → IsSound (world_of old) → IsQuiet (world_of old)
-        → Takes old (BeginShow p) Entered mid → WorldRun mid events replies new → IsSolo p events
+        → Takes old (BeginReport p) Entered mid → WorldRun mid events replies new → IsSolo p events
         → 2 * old.sheet.layout.processes + 4 * cells_of old.sheet.layout + 1 ≤ own_steps p events replies
-        → (k : ℕ) × Happens events replies k (Step p) (Answered Settled) }
+        → (k : ℕ) × Happens events replies k (Step p) (Answered (Report Settled)) }
 {}
 
 /// Work on a marked cell whose mark has generations left, which is alone from its beginning on, but

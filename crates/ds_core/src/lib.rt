@@ -1,7 +1,7 @@
 //! What the processes of a sheet do, event by event.
 #![tactic(auto)]
 
-pub mod advance;
+pub mod ends;
 pub mod event;
 pub mod laws;
 pub mod reply;

@@ -1,6 +1,6 @@
 //! What a world answers to an event.
 
-use ds_edit::answer::Answer;
+use ds_state::answer::Answer;
 use ds_state::refusal::Refusal;
 
 /// What a world answers to an event.

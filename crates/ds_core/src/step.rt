@@ -8,30 +8,23 @@ ghost use Rattle.ds_state.specs.Value.{WorldValue};
 ghost use Rattle.ds_state.specs.World.{edit_of};
 ghost use Rattle.ds_edit.specs.EditSteps.{access_at};
 ghost use Rattle.ds_edit.specs.EditTakes.{after_by, counted_by, open_edit_by, outcome_by};
-ghost use Rattle.ds_edit.specs.EditEndings.{outcome_at};
+ghost use Rattle.ds_state.specs.EditEndings.{outcome_at};
 ghost use Rattle.ds_edit.specs.declared.machine.Effect.TheVariants.{Counts};
-ghost use Rattle.ds_core.specs.EditEvents.{IsEditing, reply_at, reply_by, done_by, EditStepsBy, EditStepTakes};
-ghost use Rattle.ds_core.specs.declared.reply.Reply.TheVariants.{Stepped};
-ghost use Rattle.ds_core.specs.ReportEvents.{report_answer, report_reply};
-ghost use Rattle.ds_core.specs.WorkEvents.{work_answer, work_reply};
-ghost use Rattle.ds_core.specs.RecoveryEvents.{recovery_answer, recovery_reply};
-ghost use Rattle.ds_core.specs.MigrationEvents.{migration_answer, migration_reply};
+ghost use Rattle.ds_core.specs.EditEvents.{IsEditing, reply_at, turn_by, done_by, EditStepsBy, EditStepTakes};
 ghost use Rattle.ds_core.specs.StepEvents.{StepTakes, EvictTakes};
 
+use crate::ends::CallEnd;
 use crate::reply::Reply;
-use ds_edit::answer::{Answer, Told};
-use ds_edit::machine::{Effect, effect_of, got, outcome_of, want};
+use ds_edit::machine::{Effect, effect_of, got, want};
 use ds_layout::place::Place;
-use ds_recover::machine::RecoveryEnd;
-use ds_recover::migrate::MigrateEffect;
+use ds_state::answer::{Answer, EditEnd};
 use ds_state::edit::EditCall;
 use ds_state::ledger::{Edit, Issue};
 use ds_state::situation::{Rest, Situation};
 use ds_state::stage::{Outcome, Stage};
-use ds_state::work::{MigrateEnd, ShowEnd, WorkEnd};
+use ds_state::turn::Turn;
 use ds_state::world::World;
 use ds_words::access::Access;
-use ds_work::drive::Taken;
 use std::alloc::Global;
 
 // The edit of a process, where it is in one.
@@ -43,7 +36,7 @@ fn call_of(situation: &Situation) -> Option<&EditCall>
     match situation {
         Situation::Editing(call) => Some(call),
         Situation::Idle(_) | Situation::Stopped => None,
-        Situation::Working(_) | Situation::Recovering(_) | Situation::Showing(_) => None,
+        Situation::Working(_) | Situation::Recovering(_) | Situation::Reporting(_) => None,
         Situation::Migrating(_) => None,
     }
 }
@@ -108,12 +101,13 @@ fn done_after(done: u64, what: Effect) -> u64
     }
 }
 
-fn reply(processes: usize, number: usize, what: Effect) -> Reply
-    ensures { result ≡ reply_by processes number what }
+// What the step does to the edit with this number.
+fn turn(processes: usize, number: usize, what: Effect) -> Turn<EditEnd>
+    ensures { result ≡ turn_by processes number what }
 {
     match what {
-        Effect::GoesOn | Effect::Counts => Reply::Stepped,
-        Effect::Answers(how) => Reply::Answered(Answer::of(processes, number, how)),
+        Effect::GoesOn | Effect::Counts => Turn::GoesOn,
+        Effect::Answers(how) => Turn::Answers(EditEnd::of(processes, number, how)),
     }
 }
 
@@ -121,7 +115,7 @@ fn reply(processes: usize, number: usize, what: Effect) -> Reply
 #[inline(always)]
 fn edit_on(world: &mut World, process: usize, stage: Stage, access: Access<Place>) -> Effect
     requires { (e : PlainEditCall) × IsEditing world.old process e × (stage ≡ e.stage) × (access ≡ access_at e e.stage) }
-    ensures takes { (e : PlainEditCall) → IsEditing world.old process e → EditStepTakes world.old process (reply_at world.old.sheet.layout.processes e.number stage) world.new }
+    ensures takes { (e : PlainEditCall) → IsEditing world.old process e → EditStepsBy world.old process (reply_at world.old.sheet.layout.processes e.number stage) world.new }
     ensures outcome { outcome_by result ≡ outcome_at stage }
 {
     let word = world.words.perform(process, access);
@@ -133,164 +127,32 @@ fn edit_on(world: &mut World, process: usize, stage: Stage, access: Access<Place
     what
 }
 
-// A process makes the next step of its edit. Where it has none, or the sheet has no such process,
-// the step can not happen and nothing changes.
-fn edit_step(world: &mut World, process: usize) -> Reply
+/// A process makes the next step of its edit, and what that did to it. Where it has none, or the sheet has no such
+/// process, the step can not happen and nothing changes.
+pub fn edit_step(world: &mut World, process: usize) -> Option<Turn<EditEnd>>
     ensures { EditStepTakes world.old process result world.new }
 {
     if process >= world.situations.len() {
-        return Reply::NotEnabled;
+        return None;
     }
     let Some(call) = call_of(&world.situations[process]) else {
-        return Reply::NotEnabled;
+        return None;
     };
     let (number, stage, access) = (call.number, call.stage, want(call));
     let processes = call.processes;
     let what = edit_on(world, process, stage, access);
-    reply(processes, number, what)
-}
-
-// A process makes the next step of its edit, where it has one that is not its answer, and says so;
-// else nothing changes.
-pub(crate) fn edit_advances(world: &mut World, process: usize) -> bool
-    ensures steps { IsTrue result → EditStepTakes world.old process Stepped world.new }
-    ensures none { IsFalse result → (new : WorldValue) → EditStepsBy world.old process Stepped new → ⊥ }
-    ensures unchanged { IsFalse result → world.new ≡ world.old }
-{
-    if process >= world.situations.len() {
-        return false;
-    }
-    let Some(call) = call_of(&world.situations[process]) else {
-        return false;
-    };
-    let (stage, access) = (call.stage, want(call));
-    match outcome_of(stage) {
-        Some(_) => false,
-        None => {
-            edit_on(world, process, stage, access);
-            true
-        }
-    }
-}
-
-// What a report answers that ended so.
-fn report_answer(end: ShowEnd) -> Answer
-    ensures { result ≡ report_answer end }
-{
-    match end {
-        ShowEnd::Settled => Answer::Settled,
-        ShowEnd::AtMark { cell, word } => Answer::Unsettled(Place::Mark(cell), word),
-        ShowEnd::AtAnnounce { process, word } => Answer::Unsettled(Place::Announce(process), word),
-    }
-}
-
-// What a step of a report answers.
-fn report_reply(what: ds_show::machine::Effect) -> Reply
-    ensures { result ≡ report_reply what }
-{
-    match what {
-        ds_show::machine::Effect::GoesOn => Reply::Stepped,
-        ds_show::machine::Effect::Answers(end) => Reply::Answered(report_answer(end)),
-    }
-}
-
-// What work answers that ended so.
-fn work_answer(end: WorkEnd) -> Answer
-    ensures { result ≡ work_answer end }
-{
-    match end {
-        WorkEnd::NotDirty => Answer::NotDirty,
-        WorkEnd::Missed => Answer::Missed,
-        WorkEnd::Worn => Answer::Worn,
-        WorkEnd::Published(changed) => Answer::Published(changed),
-        WorkEnd::Again => Answer::Again,
-        WorkEnd::NoMemory => Answer::NoMemory,
-    }
-}
-
-// What a step of work answers.
-fn work_reply(taken: Taken) -> Reply
-    ensures { result ≡ work_reply taken }
-{
-    match taken {
-        Taken::NotEnabled => Reply::NotEnabled,
-        Taken::Stepped => Reply::Stepped,
-        Taken::Answered(end) => Reply::Answered(work_answer(end)),
-    }
-}
-
-// What a recovery answers that ended so.
-fn recovery_answer(end: RecoveryEnd) -> Answer
-    ensures { result ≡ recovery_answer end }
-{
-    match end {
-        RecoveryEnd::Nothing => Answer::Nothing,
-        RecoveryEnd::Last {
-            number,
-            cell,
-            counts,
-        } => Answer::Last(Told {
-            number,
-            cell,
-            counts,
-        }),
-    }
-}
-
-// What a step of a recovery answers.
-fn recovery_reply(what: ds_recover::machine::Effect) -> Reply
-    ensures { result ≡ recovery_reply what }
-{
-    match what {
-        ds_recover::machine::Effect::GoesOn => Reply::Stepped,
-        ds_recover::machine::Effect::Answers(end) => Reply::Answered(recovery_answer(end)),
-    }
-}
-
-// What a migration answers that ended so.
-fn migration_answer(end: MigrateEnd) -> Answer
-    ensures { result ≡ migration_answer end }
-{
-    match end {
-        MigrateEnd::Migrated => Answer::Migrated,
-        MigrateEnd::Already => Answer::Already,
-    }
-}
-
-// What a step of a migration answers.
-fn migration_reply(what: MigrateEffect) -> Reply
-    ensures { result ≡ migration_reply what }
-{
-    match what {
-        MigrateEffect::GoesOn => Reply::Stepped,
-        MigrateEffect::Answers(end) => Reply::Answered(migration_answer(end)),
-    }
+    Some(turn(processes, number, what))
 }
 
 /// A process makes the next step of its call. Where it is in none, or in work that waits for an
 /// entry, or the sheet has no such process, the step can not happen and nothing changes. Only the
-/// step of work that reads a content takes memory. Each machine tells whether the process is in a
-/// call of its own.
-#[tactic(auto, using(crate::proofs::Stepping::recovers, crate::proofs::Stepping::migrates))]
+/// step of work that reads a content takes memory.
 pub fn step(alloc: Global, world: &mut World, process: usize) -> Reply
     ensures { StepTakes world.old process result world.new }
 {
-    let reply = edit_step(world, process);
-    if reply != Reply::NotEnabled {
-        return reply;
-    }
-    let taken = ds_work::drive::step(alloc, world, process);
-    if taken != Taken::NotEnabled {
-        return work_reply(taken);
-    }
-    if let Some(what) = ds_show::step::step(world, process) {
-        return report_reply(what);
-    }
-    if let Some(what) = ds_recover::step::step(world, process) {
-        return recovery_reply(what);
-    }
-    match ds_recover::migrate_step::step(world, process) {
-        Some(what) => migration_reply(what),
+    match Answer::step(alloc, world, process) {
+        Some(Turn::GoesOn) => Reply::Stepped,
+        Some(Turn::Answers(answer)) => Reply::Answered(answer),
         None => Reply::NotEnabled,
     }
 }

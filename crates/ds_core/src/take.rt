@@ -5,7 +5,7 @@ ghost use Rattle.ds_core.specs.declared.event.Event.TheVariants.{Step};
 ghost use Rattle.ds_core.specs.declared.reply.Reply.TheVariants.{Stepped};
 ghost use Rattle.ds_core.specs.Counts.{IsReplyTo, KeepsReports, done_of, settled_of};
 ghost use Rattle.ds_core.specs.Own.{steps_left};
-ghost use Rattle.ds_core.specs.ReportEvents.{BeginShowTakes};
+ghost use Rattle.ds_core.specs.ReportEvents.{BeginReportTakes};
 ghost use Rattle.ds_core.specs.WorkEvents.{BeginWorkTakes, OfferTakes};
 ghost use Rattle.ds_core.specs.RecoveryEvents.{BeginRecoverTakes};
 ghost use Rattle.ds_core.specs.MigrationEvents.{BeginMigrateTakes};
@@ -89,13 +89,13 @@ fn begin_migrate(world: &mut World, process: usize) -> Reply
 }
 
 // A report begins, or is refused.
-fn begin_show(alloc: Global, world: &mut World, process: usize) -> Reply
-    ensures { BeginShowTakes world.old process result world.new }
+fn begin_report(alloc: Global, world: &mut World, process: usize) -> Reply
+    ensures { BeginReportTakes world.old process result world.new }
 {
     if process >= world.words.layout().processes {
         return Reply::NotEnabled;
     }
-    match ds_show::begin::begin(alloc, world, process) {
+    match ds_report::begin::begin(alloc, world, process) {
         Ok(()) => Reply::Entered,
         Err(refusal) => Reply::Refused(refusal),
     }
@@ -111,7 +111,7 @@ fn happen(alloc: Global, world: &mut World, event: &Event) -> Reply
         Event::Evict(place) => evict(world, *place),
         Event::Stop(process) => stop(world, *process),
         Event::Crash => crash(world),
-        Event::BeginShow(process) => begin_show(alloc, world, *process),
+        Event::BeginReport(process) => begin_report(alloc, world, *process),
         Event::BeginWork(process, cell) => begin_work(alloc, world, *process, *cell),
         Event::BeginRecover(process) => begin_recover(world, *process),
         Event::BeginMigrate(process) => begin_migrate(world, *process),

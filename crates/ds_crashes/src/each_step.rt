@@ -1,11 +1,12 @@
 // A crash, or a stop, after each step of an edit and of a work.
 
 use ds_core::reply::Reply;
-use ds_edit::answer::{Answer, Told};
 use ds_eval::value::Value;
 use ds_fixtures::row::{Action, Row, play, play_on};
 use ds_fixtures::sheet::{A1, B1, small};
 use ds_formula::cells::Cell;
+use ds_state::answer::{Answer, EditEnd};
+use ds_state::recovery::{RecoveryEnd, Told};
 use std::alloc::Global;
 use std::test::Fail;
 
@@ -14,11 +15,11 @@ const BLANK: Value = Value::Blank;
 const BLANKS: [Value; 4] = [BLANK, BLANK, BLANK, BLANK];
 
 fn last(number: usize, cell: usize, counts: bool) -> Answer {
-    Answer::Last(Told {
+    Answer::Recovery(RecoveryEnd::Last(Told {
         number,
         cell,
         counts,
-    })
+    }))
 }
 
 // A crash after so many steps of an edit: what its recovery says, and the values then.
@@ -34,7 +35,7 @@ fn crash_after(
         Row::Moves(0, steps),
         Row::Event(Action::Crash, Reply::Crashed),
         Row::Call(Action::Recover(0), told),
-        Row::Call(Action::Recover(1), Answer::Nothing),
+        Row::Call(Action::Recover(1), Answer::Recovery(RecoveryEnd::Nothing)),
         Row::Settled(0, wanted),
     ];
     play(alloc, &rows)
@@ -45,7 +46,7 @@ fn of_an_edit(rt: HostRuntime) -> Result<(), Fail> {
     let seven = [Value::Number(7), BLANK, BLANK, BLANK];
     for steps in 0..21usize {
         let (told, wanted) = match steps {
-            0..9 => (Answer::Nothing, BLANKS),
+            0..9 => (Answer::Recovery(RecoveryEnd::Nothing), BLANKS),
             9..13 => (last(0, 0, false), BLANKS),
             _ => (last(0, 0, true), seven),
         };
@@ -59,7 +60,7 @@ fn of_an_edit_with_a_reference(rt: HostRuntime) -> Result<(), Fail> {
     let zero = [BLANK, Value::Number(0), BLANK, BLANK];
     for steps in 0..24usize {
         let (told, wanted) = match steps {
-            0..9 => (Answer::Nothing, BLANKS),
+            0..9 => (Answer::Recovery(RecoveryEnd::Nothing), BLANKS),
             9..16 => (last(0, 1, false), BLANKS),
             _ => (last(0, 1, true), zero),
         };
@@ -70,10 +71,10 @@ fn of_an_edit_with_a_reference(rt: HostRuntime) -> Result<(), Fail> {
 
 // A cell is marked that another one refers to, and process 1 begins to work on it.
 const WORK: [Row; 5] = [
-    Row::Call(Action::Edit(0, B1, "=[.A1]+1"), Answer::Done(0)),
-    Row::Call(Action::Edit(0, A1, "5"), Answer::Done(1)),
+    Row::Call(Action::Edit(0, B1, "=[.A1]+1"), Answer::Edit(EditEnd::Done(0))),
+    Row::Call(Action::Edit(0, A1, "5"), Answer::Edit(EditEnd::Done(1))),
     Row::Settle(0),
-    Row::Call(Action::Edit(0, A1, "6"), Answer::Done(2)),
+    Row::Call(Action::Edit(0, A1, "6"), Answer::Edit(EditEnd::Done(2))),
     Row::Event(Action::Work(1, A1), Reply::Entered),
 ];
 
@@ -87,13 +88,13 @@ const STOPS: [Row; 2] = [
 const BEHIND_WORK: [Row; 3] = [
     Row::Call(
         Action::Recover(0),
-        Answer::Last(Told {
+        Answer::Recovery(RecoveryEnd::Last(Told {
             number: 2,
             cell: 0,
             counts: true,
-        }),
+        })),
     ),
-    Row::Call(Action::Recover(1), Answer::Nothing),
+    Row::Call(Action::Recover(1), Answer::Recovery(RecoveryEnd::Nothing)),
     Row::Settled(1, [Value::Number(6), Value::Number(7), BLANK, BLANK]),
 ];
 

@@ -1,12 +1,14 @@
 // A crash, a stop or an eviction in a migration, and one that is begun anew.
 
 use ds_core::reply::Reply;
-use ds_edit::answer::{Answer, Told};
 use ds_eval::value::Value;
 use ds_fixtures::row::{Action, Row, play_first, play_on};
 use ds_fixtures::sheet::{A1, B1, B2, small_first_of_one};
 use ds_formula::fault::{FaultKind, TextFault};
 use ds_layout::place::Place;
+use ds_state::answer::{Answer, EditEnd};
+use ds_state::migration::MigrateEnd;
+use ds_state::recovery::{RecoveryEnd, Told};
 use ds_state::refusal::Refusal;
 use ds_state::stage::Point;
 use std::alloc::Global;
@@ -16,9 +18,9 @@ const BLANK: Value = Value::Blank;
 
 const THREE: Value = Value::Number(3);
 
-const MIGRATED: Reply = Reply::Answered(Answer::Migrated);
+const MIGRATED: Reply = Reply::Answered(Answer::Migration(MigrateEnd::Migrated));
 
-const ALREADY: Reply = Reply::Answered(Answer::Already);
+const ALREADY: Reply = Reply::Answered(Answer::Migration(MigrateEnd::Already));
 
 const CRASH: Row = Row::Event(Action::Crash, Reply::Crashed);
 
@@ -44,7 +46,7 @@ const OF_TWO: usize = 30725;
 
 // One edit is done; the other one has taken its head on the cached side alone, and stops there.
 const TWO_EDITS: [Row; 7] = [
-    Row::Call(Action::Edit(0, A1, "=1+2"), Answer::Done(0)),
+    Row::Call(Action::Edit(0, A1, "=1+2"), Answer::Edit(EditEnd::Done(0))),
     Row::Settle(0),
     Row::Event(Action::Edit(0, B2, LONG), Reply::Begun(1)),
     Row::Steps(0, 62, Reply::Stepped),
@@ -59,15 +61,15 @@ const TEXTS_WITH_BOTH: [Row; 3] = [Row::Text(A1, "=1+2"), Row::Text(B2, LONG), R
 const TELLS_BOTH: [Row; 4] = [
     Row::Call(
         Action::Recover(0),
-        Answer::Last(Told {
+        Answer::Recovery(RecoveryEnd::Last(Told {
             number: 1,
             cell: 3,
             counts: true,
-        }),
+        })),
     ),
     Row::Text(B2, LONG),
     Row::Settled(0, [THREE, BLANK, BLANK, Value::Number(36900000003)]),
-    Row::Call(Action::Edit(0, B1, "4"), Answer::Done(2)),
+    Row::Call(Action::Edit(0, B1, "4"), Answer::Edit(EditEnd::Done(2))),
 ];
 
 // What they are behind one: it took the edit in doubt.
@@ -76,15 +78,15 @@ const TEXTS_WITH_ONE: [Row; 3] = [Row::Text(A1, "=1+2"), Row::Text(B2, ""), Row:
 const TELLS_ONE: [Row; 4] = [
     Row::Call(
         Action::Recover(0),
-        Answer::Last(Told {
+        Answer::Recovery(RecoveryEnd::Last(Told {
             number: 1,
             cell: 3,
             counts: false,
-        }),
+        })),
     ),
     Row::Text(B2, ""),
     Row::Settled(0, [THREE, BLANK, BLANK, BLANK]),
-    Row::Call(Action::Edit(0, B1, "4"), Answer::Done(2)),
+    Row::Call(Action::Edit(0, B1, "4"), Answer::Edit(EditEnd::Done(2))),
 ];
 
 // Without a migration: what the texts are behind this end, and what recoveries tell.
@@ -188,8 +190,8 @@ fn stopped_behind_each_step(rt: HostRuntime) -> Result<(), Fail> {
 
 // Edits of both processes, which are done.
 const DONE: [Row; 4] = [
-    Row::Call(Action::Edit(0, A1, "1"), Answer::Done(0)),
-    Row::Call(Action::Edit(1, B2, LONG), Answer::Done(0)),
+    Row::Call(Action::Edit(0, A1, "1"), Answer::Edit(EditEnd::Done(0))),
+    Row::Call(Action::Edit(1, B2, LONG), Answer::Edit(EditEnd::Done(0))),
     Row::Settle(0),
     CRASH,
 ];
@@ -197,19 +199,19 @@ const DONE: [Row; 4] = [
 const TELLS_DONE: [Row; 5] = [
     Row::Call(
         Action::Recover(0),
-        Answer::Last(Told {
+        Answer::Recovery(RecoveryEnd::Last(Told {
             number: 0,
             cell: 0,
             counts: true,
-        }),
+        })),
     ),
     Row::Call(
         Action::Recover(1),
-        Answer::Last(Told {
+        Answer::Recovery(RecoveryEnd::Last(Told {
             number: 0,
             cell: 3,
             counts: true,
-        }),
+        })),
     ),
     Row::Text(A1, "1"),
     Row::Text(B2, LONG),
@@ -232,7 +234,7 @@ fn behind_done(alloc: Global, migration: &[Row], last: &[Row]) -> Result<(), Fai
 // The sheet takes a longer text then, and it stays.
 const TAKES_LONGER: [Row; 4] = [
     Row::Word(Place::Version, 1, 1),
-    Row::Call(Action::Edit(1, B2, LONGER), Answer::Done(1)),
+    Row::Call(Action::Edit(1, B2, LONGER), Answer::Edit(EditEnd::Done(1))),
     CRASH,
     Row::Text(B2, LONGER),
 ];
@@ -284,8 +286,8 @@ const LOST: [Row; 5] = [
 // So it takes no longer text; one that is edited now is copied by the next migration, over what the first one has copied.
 const TAKES_NO_LONGER: [Row; 12] = [
     Row::Still(Action::Edit(0, B1, LONGER), TOO_LONG),
-    Row::Call(Action::Edit(0, A1, "22"), Answer::Done(1)),
-    Row::Call(Action::Edit(1, B2, "=[.A1]"), Answer::Done(1)),
+    Row::Call(Action::Edit(0, A1, "22"), Answer::Edit(EditEnd::Done(1))),
+    Row::Call(Action::Edit(1, B2, "=[.A1]"), Answer::Edit(EditEnd::Done(1))),
     CRASH,
     Row::Event(Action::Migrate(0), Reply::Entered),
     Row::Steps(0, OF_TWO, MIGRATED),
@@ -294,14 +296,14 @@ const TAKES_NO_LONGER: [Row; 12] = [
     Row::Text(B2, "=[.A1]"),
     Row::Call(
         Action::Recover(1),
-        Answer::Last(Told {
+        Answer::Recovery(RecoveryEnd::Last(Told {
             number: 1,
             cell: 3,
             counts: true,
-        }),
+        })),
     ),
     Row::Settled(1, [Value::Number(22), BLANK, BLANK, Value::Number(22)]),
-    Row::Call(Action::Edit(1, B1, LONGER), Answer::Done(2)),
+    Row::Call(Action::Edit(1, B1, LONGER), Answer::Edit(EditEnd::Done(2))),
 ];
 
 #[test]
@@ -322,11 +324,11 @@ const STOPPED: [Row; 7] = [
 
 const ENDS: [Row; 1] = [Row::End(
     1,
-    Answer::Last(Told {
+    Answer::Recovery(RecoveryEnd::Last(Told {
         number: 0,
         cell: 3,
         counts: true,
-    }),
+    })),
 )];
 
 #[test]

@@ -1,22 +1,23 @@
 // Recoveries: of a process that stopped in an edit, of one that was idle, and some that are crashed.
 
 use ds_core::reply::Reply;
-use ds_edit::answer::{Answer, Told};
 use ds_eval::value::Value;
 use ds_fixtures::row::{Action, Row, play};
 use ds_fixtures::sheet::{A1, B1};
 use ds_layout::place::Place;
+use ds_state::answer::{Answer, EditEnd};
+use ds_state::recovery::{RecoveryEnd, Told};
 use std::test::Fail;
 
 const BLANK: Value = Value::Blank;
 
 // Edit 0 in A1.
 const fn last(counts: bool) -> Answer {
-    Answer::Last(Told {
+    Answer::Recovery(RecoveryEnd::Last(Told {
         number: 0,
         cell: 0,
         counts,
-    })
+    }))
 }
 
 // A recovery is crashed where it has persisted the head, or before it.
@@ -41,19 +42,19 @@ fn recovery_crashed(rt: HostRuntime) -> Result<(), Fail> {
 }
 
 const MARKS_ONE_CELL: [Row; 13] = [
-    Row::Call(Action::Edit(0, A1, "1"), Answer::Done(0)),
-    Row::Call(Action::Edit(0, B1, "2"), Answer::Done(1)),
+    Row::Call(Action::Edit(0, A1, "1"), Answer::Edit(EditEnd::Done(0))),
+    Row::Call(Action::Edit(0, B1, "2"), Answer::Edit(EditEnd::Done(1))),
     Row::Settle(0),
     Row::Event(Action::Edit(0, A1, "3"), Reply::Begun(2)),
     Row::Steps(0, 16, Reply::Stepped),
     Row::Event(Action::Stop(0), Reply::Stopped),
     Row::Call(
         Action::Recover(0),
-        Answer::Last(Told {
+        Answer::Recovery(RecoveryEnd::Last(Told {
             number: 2,
             cell: 0,
             counts: true,
-        }),
+        })),
     ),
     Row::Word(Place::Mark(0), 65, 65),
     Row::Word(Place::Mark(1), 64, 64),
@@ -71,12 +72,12 @@ fn marks_one_cell(rt: HostRuntime) -> Result<(), Fail> {
 #[test]
 fn recovery_of_an_idle_process(rt: HostRuntime) -> Result<(), Fail> {
     let rows = [
-        Row::Call(Action::Recover(0), Answer::Nothing),
-        Row::Call(Action::Edit(0, A1, "1"), Answer::Done(0)),
+        Row::Call(Action::Recover(0), Answer::Recovery(RecoveryEnd::Nothing)),
+        Row::Call(Action::Edit(0, A1, "1"), Answer::Edit(EditEnd::Done(0))),
         Row::Call(Action::Recover(0), last(true)),
         Row::Event(Action::Recover(0), Reply::Entered),
         Row::End(0, last(true)),
-        Row::Call(Action::Edit(0, A1, "2"), Answer::Done(1)),
+        Row::Call(Action::Edit(0, A1, "2"), Answer::Edit(EditEnd::Done(1))),
     ];
     play(rt.alloc(), &rows)
 }

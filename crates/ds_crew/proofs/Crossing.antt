@@ -47,8 +47,8 @@ use Rattle.ds_state.specs.contracts.text.Text as Text
 use Rattle.ds_state.specs.contracts.work.MigrateCall as MigrateCall
 use Rattle.ds_state.specs.contracts.work.RecoverCall as RecoverCall
 use Rattle.ds_state.specs.contracts.work.RecoverStage as RecoverStage
-use Rattle.ds_state.specs.contracts.work.ShowCall as ShowCall
-use Rattle.ds_state.specs.contracts.work.ShowStage as ShowStage
+use Rattle.ds_state.specs.contracts.work.ReportCall as ReportCall
+use Rattle.ds_state.specs.contracts.work.ReportStage as ReportStage
 use Rattle.ds_state.specs.contracts.work.WorkCall as WorkCall
 use Rattle.ds_state.specs.contracts.work.WorkStage as WorkStage
 use Rattle.ds_state.specs.contracts.world.World as World
@@ -77,8 +77,8 @@ WorkStage-send = search (sendable, crosses) depth 60 fits 100000
 RecoverStage-send : IsSend RecoverStage.the_row
 RecoverStage-send = search (sendable, crosses) depth 60 fits 100000
 
-ShowStage-send : IsSend ShowStage.the_row
-ShowStage-send = search (sendable, crosses) depth 60 fits 100000
+ReportStage-send : IsSend ReportStage.the_row
+ReportStage-send = search (sendable, crosses) depth 60 fits 100000
 
 usize-send : IsSend (as_row usize-field)
 usize-send = search (sendable, crosses) depth 20
@@ -179,14 +179,14 @@ WorkCall-send = view_send (row (declared work.struct work.the_propositions)) _ _
 RecoverCall-send : IsSend RecoverCall.the_row
 RecoverCall-send = search (sendable, crosses, Row-send) depth 60 fits 100000
 
-ShowCall-send : IsSend ShowCall.the_row
-ShowCall-send = search (sendable, crosses) depth 60 fits 100000
+ReportCall-send : IsSend ReportCall.the_row
+ReportCall-send = search (sendable, crosses) depth 60 fits 100000
 
 MigrateCall-send : IsSend MigrateCall.the_row
 MigrateCall-send = search (sendable, crosses) depth 60 fits 100000
 
 Situation-send : IsSend Situation.the_row
-Situation-send = search (sendable, crosses, EditCall-send, WorkCall-send, RecoverCall-send, ShowCall-send, MigrateCall-send) depth 60 fits 100000
+Situation-send = search (sendable, crosses, EditCall-send, WorkCall-send, RecoverCall-send, ReportCall-send, MigrateCall-send) depth 60 fits 100000
 
 Words-send : IsSend Words.the_row
 Words-send = search (sendable, crosses) depth 40

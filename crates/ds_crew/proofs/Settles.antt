@@ -2,7 +2,7 @@
 use Rattle.std.proofs.Common.{ℕ, ◌≡◌, List, refl, sym, subst}
 use Rattle.ds_eval.specs.declared.value.Value.{Value}
 use Rattle.ds_state.specs.Value.{WorldValue, IsGood}
-use Rattle.ds_edit.specs.declared.answer.Answer.TheVariants.{Settled}
+use Rattle.ds_state.specs.declared.answer.Answer.TheVariants.{Settled}
 use Rattle.ds_core.specs.Takes.{Fits}
 use Rattle.ds_core.specs.declared.event.Event.TheVariants.{Step}
 use Rattle.ds_core.specs.declared.reply.Reply.{Reply}

@@ -1,10 +1,10 @@
 -- What the ends of locked calls say, and what they do to a pass.
 use Rattle.std.specs.Prelude.{ℕ, ◌≡◌, ◌+◌, List, length}
 use Rattle.ds_formula.specs.declared.cells.Cell.{Cell}
-use Rattle.ds_edit.specs.declared.answer.Answer.TheVariants.{Settled}
-use Rattle.ds_edit.specs.declared.answer.Answer.TheVariants as answers
+use Rattle.ds_state.specs.declared.answer.Answer.TheVariants.{Settled}
+use Rattle.ds_state.specs.declared.answer.Answer.TheVariants as answers
 use Rattle.ds_core.specs.declared.event.Event.{Event}
-use Rattle.ds_core.specs.declared.event.Event.TheVariants.{BeginEdit, BeginRecover, BeginShow}
+use Rattle.ds_core.specs.declared.event.Event.TheVariants.{BeginEdit, BeginRecover, BeginReport}
 use Rattle.ds_core.specs.declared.reply.Reply.{Reply}
 use Rattle.ds_core.specs.declared.reply.Reply.TheVariants.{Answered}
 use Rattle.ds_core.specs.declared.reply.Reply.TheVariants as replies
@@ -75,9 +75,9 @@ IsBegin (BeginEdit request) = Unit {0}
 IsBegin event = ⊥
 
 -- the beginning of a report
-abbrev pub IsShowBegin : Event → Type 0
-IsShowBegin (BeginShow process) = Unit {0}
-IsShowBegin event = ⊥
+abbrev pub IsReportBegin : Event → Type 0
+IsReportBegin (BeginReport process) = Unit {0}
+IsReportBegin event = ⊥
 
 -- the receipt names this process, this cell and this text
 pub record Names (process : ℕ) (cell : Cell) (text : List ℕ) (receipt : PlainReceipt) : Type 0 where
@@ -98,5 +98,5 @@ HasReceiptOf begin end = ⊥
 -- the pass after a report of a sheet with so many cells: it has the report as its last call; a Settled is counted, and
 -- the pass then keeps a value for each cell; else all else stays
 abbrev pub AfterReport : ℕ → PlainPass → Shown → PlainPass → Type 0
-AfterReport cells old shown.Settled new = IsSettled cells (asked old (BeginShow old.process) (Answered Settled)) new
-AfterReport cells old end new = new ≡ asked old (BeginShow old.process) (show_reply end)
+AfterReport cells old shown.Settled new = IsSettled cells (asked old (BeginReport old.process) (Answered Settled)) new
+AfterReport cells old end new = new ≡ asked old (BeginReport old.process) (show_reply end)

@@ -5,10 +5,10 @@ use Rattle.ds_layout.specs.declared.layout.Layout.{Layout}
 use Rattle.ds_layout.specs.Places.{cells_of}
 use Rattle.ds_state.specs.Reports.{PlainReports}
 use Rattle.ds_state.specs.Value.{WorldValue, IsGood, world_of}
-use Rattle.ds_edit.specs.declared.answer.Answer.TheVariants.{Settled}
+use Rattle.ds_state.specs.declared.answer.Answer.TheVariants.{Settled}
 use Rattle.ds_core.specs.Takes.{Fits}
 use Rattle.ds_core.specs.declared.event.Event.{Event}
-use Rattle.ds_core.specs.declared.event.Event.TheVariants.{Step, BeginEdit, BeginShow, BeginRecover}
+use Rattle.ds_core.specs.declared.event.Event.TheVariants.{Step, BeginEdit, BeginReport, BeginRecover}
 use Rattle.ds_core.specs.declared.reply.Reply.{Reply}
 use Rattle.ds_core.specs.declared.reply.Reply.TheVariants.{Answered, Begun, Entered, NotEnabled}
 use Rattle.ds_crew.specs.LockedCalls.{call_in}
@@ -82,6 +82,6 @@ pub data HasEnded (call : Call) (process : ℕ) (begin : Event) (reply : Reply) 
 -- the process's edit, report or recovery that this event begins ended with this reply
 abbrev pub HasUsed : ℕ → Event → Reply → Type 0
 HasUsed process (BeginEdit request) reply = (request.process ≡ process) × HasEnded Edit process (BeginEdit request) reply
-HasUsed process (BeginShow p) reply = (p ≡ process) × HasEnded Report process (BeginShow p) reply
+HasUsed process (BeginReport p) reply = (p ≡ process) × HasEnded Report process (BeginReport p) reply
 HasUsed process (BeginRecover p) reply = (p ≡ process) × HasEnded Recovery process (BeginRecover p) reply
 HasUsed process begin reply = ⊥

@@ -17,7 +17,7 @@ call_in situations.Stopped = None
 call_in (situations.Editing e) = Some Edit
 call_in (situations.Working e) = Some Work
 call_in (situations.Recovering e) = Some Recovery
-call_in (situations.Showing e) = Some Report
+call_in (situations.Reporting e) = Some Report
 call_in (situations.Migrating e) = None
 
 -- the replies that a step of each call can have

@@ -6,7 +6,7 @@ ghost use Rattle.ds_core.specs.Counts.{IsReplyTo, done_of};
 ghost use Rattle.ds_core.specs.declared.event.Event.TheVariants.{BeginRecover};
 ghost use Rattle.ds_crew.specs.LockedCalls.{CountsNothing, IsEndOf, IsNoStep, IsStepOf};
 ghost use Rattle.ds_core.specs.Kinds.{IsWorkAnswer};
-ghost use Rattle.ds_crew.specs.Ends.{AfterReport, AfterStep, HasReceipt, HasReceiptOf, IsBegin, IsShowBegin, after_edit, after_recovery, edit_reply, recovery_reply, show_reply};
+ghost use Rattle.ds_crew.specs.Ends.{AfterReport, AfterStep, HasReceipt, HasReceiptOf, IsBegin, IsReportBegin, after_edit, after_recovery, edit_reply, recovery_reply, show_reply};
 ghost use Rattle.ds_crew.specs.Kept.{Happened, HasBegun, HasEnded, HasMade, HasStepped, IsEntry};
 ghost use Rattle.ds_crew.specs.declared.steps.Call.TheVariants.{Edit, Recovery, Report};
 
@@ -17,9 +17,11 @@ use crate::steps::Call;
 use crate::workers::{Gate, Open};
 use ds_core::event::{Event, Request};
 use ds_core::reply::Reply;
-use ds_edit::answer::Answer;
 use ds_eval::task::{Task, evaluate};
 use ds_formula::cells::Cell;
+use ds_state::answer::{Answer, EditEnd};
+use ds_state::recovery::RecoveryEnd;
+use ds_state::report::ReportEnd;
 use ds_state::work::WorkEnd;
 use ds_work::offer::TaskFault;
 use std::alloc::Global;
@@ -110,7 +112,7 @@ fn edited_by(begin: Event, reply: Reply) -> Edited
     ensures receipt { HasReceiptOf begin result }
 {
     match reply {
-        Reply::Answered(Answer::Done(number)) => match begin {
+        Reply::Answered(Answer::Edit(EditEnd::Done(number))) => match begin {
             Event::BeginEdit(request) => Edited::Done(Receipt {
                 process: request.process,
                 number,
@@ -119,7 +121,7 @@ fn edited_by(begin: Event, reply: Reply) -> Edited
             }),
             _ => unreachable!(),
         },
-        Reply::Answered(Answer::Overtaken(number, by)) => Edited::Overtaken { number, by },
+        Reply::Answered(Answer::Edit(EditEnd::Overtaken(number, by))) => Edited::Overtaken { number, by },
         Reply::Refused(why) => Edited::Refused(why),
         Reply::NotEnabled => Edited::NotEnabled,
         _ => unreachable!(),
@@ -132,8 +134,8 @@ fn shown_by(reply: Reply) -> Shown
     ensures { show_reply result ≡ reply }
 {
     match reply {
-        Reply::Answered(Answer::Settled) => Shown::Settled,
-        Reply::Answered(Answer::Unsettled(place, word)) => Shown::Unsettled(place, word),
+        Reply::Answered(Answer::Report(ReportEnd::Settled)) => Shown::Settled,
+        Reply::Answered(Answer::Report(ReportEnd::Unsettled(place, word))) => Shown::Unsettled(place, word),
         Reply::Refused(why) => Shown::Refused(why),
         Reply::NotEnabled => Shown::NotEnabled,
         _ => unreachable!(),
@@ -146,8 +148,8 @@ fn recovered_by(reply: Reply) -> Recovered
     ensures { recovery_reply result ≡ reply }
 {
     match reply {
-        Reply::Answered(Answer::Last(told)) => Recovered::Last(told),
-        Reply::Answered(Answer::Nothing) => Recovered::Nothing,
+        Reply::Answered(Answer::Recovery(RecoveryEnd::Last(told))) => Recovered::Last(told),
+        Reply::Answered(Answer::Recovery(RecoveryEnd::Nothing)) => Recovered::Nothing,
         Reply::Refused(why) => Recovered::Refused(why),
         Reply::NotEnabled => Recovered::NotEnabled,
         _ => unreachable!(),
@@ -230,8 +232,8 @@ impl<L: Ledger, M: Ledger> LockedSheet<L, M> {
     }
 
     // A report, from the event that begins it to its last reply.
-    fn show_as<R: Wait>(&self, rt: &R, alloc: Global, pass: &mut Pass<L, M>, begin: &Event) -> Reply
-        requires { IsShowBegin begin.now }
+    fn report_as<R: Wait>(&self, rt: &R, alloc: Global, pass: &mut Pass<L, M>, begin: &Event) -> Reply
+        requires { IsReportBegin begin.now }
         ensures ended { HasEnded Report pass.old.process begin.now result }
         ensures end { IsEndOf Report result }
         ensures process { pass.new.process ≡ pass.old.process }
@@ -249,11 +251,11 @@ impl<L: Ledger, M: Ledger> LockedSheet<L, M> {
     /// with its end. A Settled is counted in the pass's share, and its values are those that the pass then
     /// keeps: `Pass::last`. Any other end leaves both as they were. Where the process migrates the sheet, it is
     /// refused as `Busy`.
-    pub fn show<R: Wait>(&self, rt: &R, alloc: Global, pass: &mut Pass<L, M>) -> Shown
+    pub fn report<R: Wait>(&self, rt: &R, alloc: Global, pass: &mut Pass<L, M>) -> Shown
         ensures { AfterReport (cells_of self.now.layout) pass.old result pass.new }
     {
-        let begin = Event::BeginShow(pass.process);
-        let reply = self.show_as(rt, alloc, pass, &begin);
+        let begin = Event::BeginReport(pass.process);
+        let reply = self.report_as(rt, alloc, pass, &begin);
         pass.remember(&begin, &reply);
         shown_by(reply)
     }
@@ -264,12 +266,12 @@ fn work_end(answer: Answer) -> WorkEnd
     requires { IsWorkAnswer answer }
 {
     match answer {
-        Answer::NotDirty => WorkEnd::NotDirty,
-        Answer::Missed => WorkEnd::Missed,
-        Answer::Worn => WorkEnd::Worn,
-        Answer::Published(changed) => WorkEnd::Published(changed),
-        Answer::Again => WorkEnd::Again,
-        Answer::NoMemory => WorkEnd::NoMemory,
+        Answer::Work(WorkEnd::NotDirty) => WorkEnd::NotDirty,
+        Answer::Work(WorkEnd::Missed) => WorkEnd::Missed,
+        Answer::Work(WorkEnd::Worn) => WorkEnd::Worn,
+        Answer::Work(WorkEnd::Published(changed)) => WorkEnd::Published(changed),
+        Answer::Work(WorkEnd::Again) => WorkEnd::Again,
+        Answer::Work(WorkEnd::NoMemory) => WorkEnd::NoMemory,
         _ => unreachable!(),
     }
 }

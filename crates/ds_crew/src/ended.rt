@@ -1,8 +1,9 @@
 //! How calls of a locked sheet end.
 
-use ds_edit::answer::{Other, Told};
 use ds_formula::cells::Cell;
 use ds_layout::place::Place;
+use ds_state::answer::Other;
+use ds_state::recovery::Told;
 use ds_state::refusal::Refusal;
 use ds_state::work::WorkEnd;
 use std::marker::Model;

@@ -2,7 +2,7 @@
 
 ghost use Rattle.std.specs.Prelude.{◌≡◌, ◌+◌, ◌<◌, ◌≤◌, IfSome, length, vec_capacity};
 ghost use Rattle.ds_layout.specs.Places.{cells_of};
-ghost use Rattle.ds_edit.specs.declared.answer.Answer.TheVariants.{Settled};
+ghost use Rattle.ds_state.specs.declared.answer.Answer.TheVariants.{Settled};
 ghost use Rattle.ds_core.specs.Takes.{Fits};
 ghost use Rattle.ds_core.specs.Counts.{done_of, settled_of, IsReplyTo};
 ghost use Rattle.ds_core.specs.declared.reply.Reply.TheVariants.{Answered};
@@ -14,10 +14,11 @@ use crate::steps::{Call, step};
 use ds_core::event::Event;
 use ds_core::reply::Reply;
 use ds_core::take::take;
-use ds_edit::answer::Answer;
 use ds_eval::task::Task;
 use ds_eval::value::Value;
 use ds_layout::mark::State;
+use ds_state::answer::{Answer, EditEnd};
+use ds_state::report::ReportEnd;
 use ds_state::shown::mark;
 use ds_state::world::World;
 use ds_work::offer::{TaskFault, task_of};
@@ -100,7 +101,7 @@ impl<L: Ledger, M: Ledger> Kept<L, M> {
             settleds: _,
         } = self;
         let reply = step(alloc, world, process, Call::Edit);
-        if let Reply::Answered(Answer::Done(_)) = reply {
+        if let Reply::Answered(Answer::Edit(EditEnd::Done(_))) = reply {
             dones.add(share, 1);
         }
         reply
@@ -137,7 +138,7 @@ impl<L: Ledger, M: Ledger> Kept<L, M> {
             return Reply::NotEnabled;
         }
         let reply = step(alloc, world, process, Call::Report);
-        if let Reply::Answered(Answer::Settled) = reply {
+        if let Reply::Answered(Answer::Report(ReportEnd::Settled)) = reply {
             settleds.add(share, 1);
             replace(last, world.reports.of(process));
         }

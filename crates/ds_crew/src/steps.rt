@@ -2,7 +2,7 @@
 
 ghost use Rattle.std.specs.Prelude.{◌≡◌, ◌<◌, ◌+◌, ◌↔◌, IsTrue, Some};
 ghost use Rattle.ds_state.specs.Value.{world_of};
-ghost use Rattle.ds_edit.specs.declared.answer.Answer.TheVariants.{Settled};
+ghost use Rattle.ds_state.specs.declared.answer.Answer.TheVariants.{Settled};
 ghost use Rattle.ds_core.specs.Counts.{done_of, settled_of};
 ghost use Rattle.ds_core.specs.declared.reply.Reply.TheVariants.{Answered};
 ghost use Rattle.ds_crew.specs.LockedCalls.{call_in, IsStepOf};
@@ -37,7 +37,7 @@ fn call_in(situation: &Situation) -> Option<Call>
         Situation::Editing(_) => Some(Call::Edit),
         Situation::Working(_) => Some(Call::Work),
         Situation::Recovering(_) => Some(Call::Recovery),
-        Situation::Showing(_) => Some(Call::Report),
+        Situation::Reporting(_) => Some(Call::Report),
     }
 }
 

@@ -8,10 +8,12 @@ use ds_core::take::take;
 use ds_crew::ended::{Edited, Recovered, Shown, Worked};
 use ds_crew::locked::{Closed, LockedSheet};
 use ds_crew::pass::Pass;
-use ds_edit::answer::{Answer, Told};
 use ds_formula::cells::{Cell, Shape};
 use ds_formula::fault::{FaultKind, TextFault};
 use ds_layout::place::Place;
+use ds_state::answer::Answer;
+use ds_state::migration::MigrateEnd;
+use ds_state::recovery::Told;
 use ds_state::refusal::Refusal;
 use ds_state::work::WorkEnd;
 use ds_state::world::World;
@@ -64,7 +66,7 @@ fn answer_to<L: Ledger, M: Ledger, R: Wait>(
             Err(_) => Seen::NoMemory,
         },
         Ask::Work(cell) => Seen::Worked(sheet.work(rt, alloc, pass, cell)),
-        Ask::Show => Seen::Shown(sheet.show(rt, alloc, pass)),
+        Ask::Show => Seen::Shown(sheet.report(rt, alloc, pass)),
         Ask::Recover => Seen::Recovered(sheet.recover(rt, alloc, pass)),
     }
 }
@@ -241,7 +243,7 @@ fn calls_answer(rt: HostRuntime) -> Result<(), Fail> {
 #[test]
 fn locked_in_a_migration(rt: HostRuntime) -> Result<(), Fail> {
     let alloc = rt.alloc();
-    let wanted = (6, Some(Answer::Migrated));
+    let wanted = (6, Some(Answer::Migration(MigrateEnd::Migrated)));
     assert_eq!(rt; between(&rt, alloc), Some(wanted));
     Ok(())
 }

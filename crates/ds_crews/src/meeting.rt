@@ -97,7 +97,7 @@ fn run_both<L: Ledger + Send + Sync, M: Ledger + Send + Sync, R: Threads + Wait 
         met: AtomicU64::new(0),
     };
     let started = work_all(rt, alloc, &sheet, &mut passes, &gate, 1);
-    let shown = sheet.show(rt, alloc, &mut passes[0]);
+    let shown = sheet.report(rt, alloc, &mut passes[0]);
     Ok(Some(Seen {
         started,
         met: gate.met.load(Ordering::SeqCst),

@@ -1,9 +1,12 @@
 //! What a process was told of its edits.
 
 use crate::draw::Call;
-use ds_edit::answer::{Answer, Told};
 use ds_layout::place::RECORDS;
 use ds_shared::ended::Ended;
+use ds_state::answer::{Answer, EditEnd};
+use ds_state::recovery::{RecoveryEnd, Told};
+use ds_state::report::ReportEnd;
+use ds_state::work::WorkEnd;
 use ds_state::refusal::Refusal;
 use std::alloc::Global;
 
@@ -120,8 +123,8 @@ impl Account {
     fn edited(&mut self, cell: usize, text: &'static str, ended: Ended) -> bool {
         let next = self.next();
         let (number, fate) = match ended {
-            Ended::Answered(Answer::Done(number)) => (number, Fate::Counts),
-            Ended::Answered(Answer::Overtaken(number, _)) => (number, Fate::Never),
+            Ended::Answered(Answer::Edit(EditEnd::Done(number))) => (number, Fate::Counts),
+            Ended::Answered(Answer::Edit(EditEnd::Overtaken(number, _))) => (number, Fate::Never),
             Ended::Stopped => (next, Fate::Open),
             Ended::Refused(Refusal::Text(_)) => return text == crate::grid::FAULTY,
             Ended::Refused(Refusal::RecordsFull) => return next == RECORDS,
@@ -138,11 +141,11 @@ impl Account {
 
     fn recovered(&mut self, ended: Ended) -> bool {
         match ended {
-            Ended::Answered(Answer::Nothing) => {
+            Ended::Answered(Answer::Recovery(RecoveryEnd::Nothing)) => {
                 self.forget();
                 self.edits.is_empty()
             }
-            Ended::Answered(Answer::Last(told)) => self.resolve(told),
+            Ended::Answered(Answer::Recovery(RecoveryEnd::Last(told))) => self.resolve(told),
             Ended::Stopped => true,
             _ => false,
         }
@@ -185,8 +188,8 @@ impl Account {
 // Whether a work of a process that runs ends so.
 fn is_of_work(ended: Ended) -> bool {
     match ended {
-        Ended::Answered(Answer::NotDirty | Answer::Missed | Answer::Again) => true,
-        Ended::Answered(Answer::Published(_)) => true,
+        Ended::Answered(Answer::Work(WorkEnd::NotDirty) | Answer::Work(WorkEnd::Missed) | Answer::Work(WorkEnd::Again)) => true,
+        Ended::Answered(Answer::Work(WorkEnd::Published(_))) => true,
         Ended::Stopped => true,
         _ => false,
     }
@@ -195,7 +198,7 @@ fn is_of_work(ended: Ended) -> bool {
 // Whether a report of a process that runs ends so.
 fn is_of_report(ended: Ended) -> bool {
     match ended {
-        Ended::Answered(Answer::Settled | Answer::Unsettled(_, _)) => true,
+        Ended::Answered(Answer::Report(ReportEnd::Settled) | Answer::Report(ReportEnd::Unsettled(_, _))) => true,
         Ended::Stopped => true,
         _ => false,
     }

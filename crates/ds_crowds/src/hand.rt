@@ -7,12 +7,13 @@ use crate::account::Account;
 use crate::draw::{Call, Draw, Limit};
 use crate::grid::{Values, cell_of};
 use ds_drives::fuse::Whole;
-use ds_edit::answer::Answer;
 use ds_eval::value::Value;
 use ds_formula::cells::Cell;
 use ds_shared::ended::Ended;
 use ds_shared::pass::Pass;
 use ds_shared::sheet::SharedSheet;
+use ds_state::answer::Answer;
+use ds_state::report::ReportEnd;
 use std::alloc::Global;
 
 /// What a process draws, and what it was told.
@@ -107,7 +108,7 @@ pub fn call(
         Call::Work(cell) => (work(alloc, sheet, pass, cell, limit), None),
         Call::Recover => (Some(sheet.recover(alloc, pass, limit)), None),
         Call::Show => {
-            let (ended, values) = sheet.show(alloc, pass, limit);
+            let (ended, values) = sheet.report(alloc, pass, limit);
             (Some(ended), values)
         }
     }
@@ -176,8 +177,8 @@ pub fn settle(alloc: Global, sheet: &SharedSheet, member: &mut Member) -> Option
             member.make(alloc, sheet, Call::Work(cell), Limit::none(), &[]);
         }
     }
-    match sheet.show(alloc, &mut member.pass, &mut Whole) {
-        (Ended::Answered(Answer::Settled), values) => values,
+    match sheet.report(alloc, &mut member.pass, &mut Whole) {
+        (Ended::Answered(Answer::Report(ReportEnd::Settled)), values) => values,
         _ => None,
     }
 }

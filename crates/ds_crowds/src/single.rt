@@ -13,7 +13,9 @@ use ds_layout::place::Place;
 use ds_shared::ended::Ended;
 use ds_state::situation::Situation;
 use ds_state::stage::Stage;
-use ds_state::work::{RecoverStage, ShowStage, WorkStage};
+use ds_state::recovery::RecoverStage;
+use ds_state::report::ReportStage;
+use ds_state::work::WorkStage;
 use ds_state::world::World;
 use ds_words::words::Word;
 use ds_work::offer::task_of;
@@ -52,8 +54,8 @@ fn next_of(world: &World, process: usize) -> Due {
             RecoverStage::Answer(_) => Due::Thought,
             _ => Due::Word,
         },
-        Some(Situation::Showing(call)) => match call.stage {
-            ShowStage::Answer(_) => Due::Thought,
+        Some(Situation::Reporting(call)) => match call.stage {
+            ReportStage::Answer(_) => Due::Thought,
             _ => Due::Word,
         },
         _ => Due::Thought,
@@ -94,7 +96,7 @@ impl Single {
             })),
             Call::Work(cell) => Some(Event::BeginWork(process, cell_of(shape, cell)?)),
             Call::Recover => Some(Event::BeginRecover(process)),
-            Call::Show => Some(Event::BeginShow(process)),
+            Call::Show => Some(Event::BeginReport(process)),
         }
     }
 

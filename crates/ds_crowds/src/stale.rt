@@ -5,13 +5,14 @@ ghost use Rattle.ds_formula.specs.Cells.{IsInside};
 ghost use Rattle.ds_shared.specs.Answers.{IsOf, IsPastOf};
 
 use ds_drives::fuse::{Fuse, Whole};
-use ds_edit::answer::Answer;
 use ds_eval::value::Value;
 use ds_formula::cells::{Cell, Shape};
 use ds_layout::layout::Layout;
 use ds_shared::ended::Ended;
 use ds_shared::pass::Pass;
 use ds_shared::sheet::SharedSheet;
+use ds_state::answer::{Answer, EditEnd};
+use ds_state::work::WorkEnd;
 use std::alloc::Global;
 use std::test::Fail;
 
@@ -77,7 +78,7 @@ fn reported(alloc: Global, sheet: &SharedSheet, pass: &mut Pass) -> Option<Value
     requires { IsOf sheet.now pass.old }
     ensures { IsOf sheet.now pass.new }
 {
-    let (_ended, values) = sheet.show(alloc, pass, &mut Whole);
+    let (_ended, values) = sheet.report(alloc, pass, &mut Whole);
     values?.first().copied()
 }
 
@@ -125,13 +126,13 @@ const CLEARS: u64 = 16;
 fn wanted(before: u64) -> Outcome {
     let meets = before < STEPS;
     let (worked, settles) = match before {
-        0 | 1 => (Answer::Published(true), true),
-        2..=CLEARS => (Answer::Again, false),
-        _ => (Answer::Published(true), !meets),
+        0 | 1 => (Answer::Work(WorkEnd::Published(true)), true),
+        2..=CLEARS => (Answer::Work(WorkEnd::Again), false),
+        _ => (Answer::Work(WorkEnd::Published(true)), !meets),
     };
     Outcome {
         edited: if meets {
-            Some(Ended::Answered(Answer::Done(0)))
+            Some(Ended::Answered(Answer::Edit(EditEnd::Done(0))))
         } else {
             None
         },

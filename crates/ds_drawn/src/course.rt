@@ -2,8 +2,9 @@
 
 use crate::recount::PROCESSES;
 use ds_core::reply::Reply;
-use ds_edit::answer::Answer;
 use ds_layout::place::{Edition, Place};
+use ds_state::answer::Answer;
+use ds_state::migration::MigrateEnd;
 use ds_state::world::World;
 
 /// How many steps a migration has that copies the texts of three processes.
@@ -59,8 +60,8 @@ impl Course {
     /// A migration that begins.
     pub fn migration(version: Version) -> Course {
         match version.cached {
-            Edition::First => Course::Migration(STEPS, Answer::Migrated),
-            Edition::Second => Course::Migration(4, Answer::Already),
+            Edition::First => Course::Migration(STEPS, Answer::Migration(MigrateEnd::Migrated)),
+            Edition::Second => Course::Migration(4, Answer::Migration(MigrateEnd::Already)),
         }
     }
 
@@ -78,7 +79,7 @@ impl Course {
     pub fn after(self, version: Version) -> Version {
         match self {
             Course::Recovery(2) | Course::Migration(2, _) => version.persist(),
-            Course::Migration(4, Answer::Migrated) => Version {
+            Course::Migration(4, Answer::Migration(MigrateEnd::Migrated)) => Version {
                 cached: Edition::Second,
                 persisted: version.persisted,
             },
@@ -97,7 +98,7 @@ impl Course {
 }
 
 fn is_migration(reply: Reply) -> bool {
-    matches!(reply, Reply::Answered(Answer::Migrated | Answer::Already))
+    matches!(reply, Reply::Answered(Answer::Migration(MigrateEnd::Migrated) | Answer::Migration(MigrateEnd::Already)))
 }
 
 // The word of a text that stands there among all those of the first layout, in this one.

@@ -6,10 +6,10 @@ use crate::last::{are_last_texts, times_counted};
 use ds_core::event::Event;
 use ds_core::reply::Reply;
 use ds_core::take::run;
-use ds_edit::answer::Answer;
 use ds_fixtures::calls::edit;
 use ds_fixtures::sheet::small;
 use ds_layout::place::Place;
+use ds_state::answer::{Answer, EditEnd};
 use ds_state::world::World;
 use std::alloc::{AllocError, Global};
 use std::process::Abort;
@@ -46,8 +46,8 @@ struct Answers {
 impl Answers {
     fn add(&mut self, answer: Answer) {
         match answer {
-            Answer::Done(_) => self.done = self.done.wrapping_add(1),
-            Answer::Overtaken(_, _) => self.overtaken = self.overtaken.wrapping_add(1),
+            Answer::Edit(EditEnd::Done(_)) => self.done = self.done.wrapping_add(1),
+            Answer::Edit(EditEnd::Overtaken(_, _)) => self.overtaken = self.overtaken.wrapping_add(1),
             _ => {}
         }
     }
@@ -56,8 +56,8 @@ impl Answers {
 // An edit of the process that was Done counts once, one that was overtaken does not, and the other one does.
 fn is_counted(world: &World, process: usize, answer: Answer) -> bool {
     match answer {
-        Answer::Done(number) => times_counted(world, process, number) == 1,
-        Answer::Overtaken(number, other) => {
+        Answer::Edit(EditEnd::Done(number)) => times_counted(world, process, number) == 1,
+        Answer::Edit(EditEnd::Overtaken(number, other)) => {
             times_counted(world, process, number) == 0
                 && times_counted(world, other.process, other.number) == 1
         }

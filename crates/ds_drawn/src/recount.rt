@@ -4,10 +4,14 @@ use crate::course::{Course, Version, are_copied};
 use crate::grid::Grid;
 use crate::last::times_counted;
 use ds_core::reply::Reply;
-use ds_edit::answer::{Answer, Told};
 use ds_formula::cells::Cell;
 use ds_formula::fault::{FaultKind, TextFault};
 use ds_layout::place::{Edition, Place};
+use ds_state::answer::{Answer, EditEnd};
+use ds_state::migration::MigrateEnd;
+use ds_state::recovery::{RecoveryEnd, Told};
+use ds_state::report::ReportEnd;
+use ds_state::work::WorkEnd;
 use ds_state::ledger::Edit;
 use ds_state::refusal::Refusal;
 use ds_state::world::World;
@@ -97,18 +101,18 @@ impl Counts {
 
     fn add(&mut self, answer: Answer) {
         match answer {
-            Answer::Done(_) => self.done = self.done.wrapping_add(1),
-            Answer::Overtaken(_, _) => self.overtaken = self.overtaken.wrapping_add(1),
-            Answer::Last(told) => if told.counts {
+            Answer::Edit(EditEnd::Done(_)) => self.done = self.done.wrapping_add(1),
+            Answer::Edit(EditEnd::Overtaken(_, _)) => self.overtaken = self.overtaken.wrapping_add(1),
+            Answer::Recovery(RecoveryEnd::Last(told)) => if told.counts {
                 self.counted = self.counted.wrapping_add(1);
             } else {
                 self.uncounted = self.uncounted.wrapping_add(1);
             },
-            Answer::Nothing => self.nothing = self.nothing.wrapping_add(1),
-            Answer::Published(_) => self.published = self.published.wrapping_add(1),
-            Answer::Settled => self.settled = self.settled.wrapping_add(1),
-            Answer::Migrated => self.migrated = self.migrated.wrapping_add(1),
-            Answer::Already => self.already = self.already.wrapping_add(1),
+            Answer::Recovery(RecoveryEnd::Nothing) => self.nothing = self.nothing.wrapping_add(1),
+            Answer::Work(WorkEnd::Published(_)) => self.published = self.published.wrapping_add(1),
+            Answer::Report(ReportEnd::Settled) => self.settled = self.settled.wrapping_add(1),
+            Answer::Migration(MigrateEnd::Migrated) => self.migrated = self.migrated.wrapping_add(1),
+            Answer::Migration(MigrateEnd::Already) => self.already = self.already.wrapping_add(1),
             _ => {}
         }
     }
@@ -409,24 +413,24 @@ impl Recount {
 
     fn answer(&mut self, world: &World, process: usize, answer: Answer) -> Result<(), AllocError> {
         match answer {
-            Answer::Done(number) => {
+            Answer::Edit(EditEnd::Done(number)) => {
                 self.close(process, number);
                 self.inside.push((process, number))?;
             }
-            Answer::Overtaken(number, other) => {
+            Answer::Edit(EditEnd::Overtaken(number, other)) => {
                 self.close(process, number);
                 self.outside.push((process, number))?;
                 self.expect(times_counted(world, other.process, other.number) == 1);
             }
-            Answer::Last(told) => self.told(world, process, told)?,
-            Answer::Nothing => {
+            Answer::Recovery(RecoveryEnd::Last(told)) => self.told(world, process, told)?,
+            Answer::Recovery(RecoveryEnd::Nothing) => {
                 self.drop_open(world, process, 0);
             }
-            Answer::Migrated => {
+            Answer::Migration(MigrateEnd::Migrated) => {
                 self.set_doing(process, Doing::Stopped);
                 self.expect(are_copied(world));
             }
-            Answer::Already => self.set_doing(process, Doing::Stopped),
+            Answer::Migration(MigrateEnd::Already) => self.set_doing(process, Doing::Stopped),
             _ => {}
         }
         Ok(())

@@ -225,7 +225,7 @@ impl Simulation {
 
     fn show(&mut self, process: usize) -> Result<(), Fail> {
         self.script.begin(process, "show")?;
-        let reply = self.take(&Event::BeginShow(process))?;
+        let reply = self.take(&Event::BeginReport(process))?;
         self.recount.enter(process, reply);
         Ok(())
     }

@@ -19,16 +19,16 @@ use Rattle.ds_state.specs.Middles.{HaveMiddles}
 use Rattle.ds_state.specs.Spent.{IsSpent}
 use Rattle.ds_state.specs.declared.situation.Rest.{Rest}
 use Rattle.ds_state.specs.declared.situation.Situation.{Situation}
-use Rattle.ds_state.specs.declared.situation.Situation.TheVariants.{Idle, Stopped, Editing, Working, Recovering, Showing, Migrating}
+use Rattle.ds_state.specs.declared.situation.Situation.TheVariants.{Idle, Stopped, Editing, Working, Recovering, Reporting, Migrating}
 use Rattle.ds_layout.specs.declared.announcement.Announcement.{Announcement}
 use Rattle.ds_layout.specs.Announcement.{announcement_of}
 use Rattle.ds_layout.specs.Head.{head_of}
 use Rattle.ds_layout.specs.Bits.{bit_in}
-use Rattle.ds_state.specs.declared.work.Spread.{Spread}
-use Rattle.ds_state.specs.declared.work.Spread.TheVariants as spreads
-use Rattle.ds_state.specs.declared.work.RecoverStage.TheVariants as stages
-use Rattle.ds_state.specs.declared.work.RecoverStage.{RecoverStage}
-use Rattle.ds_state.specs.declared.work.RecoverStage.TheVariants.{Answer}
+use Rattle.ds_state.specs.declared.spread.Spread.{Spread}
+use Rattle.ds_state.specs.declared.spread.Spread.TheVariants as spreads
+use Rattle.ds_state.specs.declared.recovery.RecoverStage.TheVariants as stages
+use Rattle.ds_state.specs.declared.recovery.RecoverStage.{RecoverStage}
+use Rattle.ds_state.specs.declared.recovery.RecoverStage.TheVariants.{Answer}
 use Rattle.ds_recover.specs.RecoverySteps as recovery
 use Rattle.ds_recover.specs.RecoverySteps.{Steps, after, next_number, rest_after, end_of, number_of, fresh, RepeatsAs}
 use Rattle.ds_recover.specs.RecoverBegun.{MayRecover, IsBegun}
@@ -301,7 +301,7 @@ module _ (layout : Layout) where
       by (Editing e) is = begins_after words b (stopped layout words b p) p second low (stops layout words b p sound low (λ e'. cc))
       by (Working e) is = begins_after words b (stopped layout words b p) p second low (stops layout words b p sound low (λ e'. cc))
       by (Recovering e) is = begins_after words b (stopped layout words b p) p second low (stops layout words b p sound low (λ e'. cc))
-      by (Showing e) is = begins_after words b (stopped layout words b p) p second low (stops layout words b p sound low (λ e'. cc))
+      by (Reporting e) is = begins_after words b (stopped layout words b p) p second low (stops layout words b p sound low (λ e'. cc))
       by (Migrating e) is = begins_after words b (stopped layout words b p) p second low (stops layout words b p sound low (λ e'. cc))
 
 -- ---- one step

@@ -8,7 +8,7 @@ use Rattle.ds_state.specs.CallsFit.{CallFits, StoppedFits}
 use Rattle.ds_state.specs.Crashes.{StopsIn}
 use Rattle.ds_state.specs.Sound.{IsSound}
 use Rattle.ds_state.specs.declared.situation.Situation.{Situation}
-use Rattle.ds_state.specs.declared.situation.Situation.TheVariants.{Idle, Stopped, Editing, Working, Recovering, Showing, Migrating}
+use Rattle.ds_state.specs.declared.situation.Situation.TheVariants.{Idle, Stopped, Editing, Working, Recovering, Reporting, Migrating}
 use Rattle.ds_state.proofs.Leaves.{stop_leaves}
 use Rattle.ds_drives.specs.declared.board.Told.{Told}
 use Rattle.ds_drives.specs.Rule.{put, Behind, world_on, IsSecond, IsTold, After, AtRest, Stops, none, stop}
@@ -66,7 +66,7 @@ module _ (layout : Layout) (words : List ℕ) where
       by_stop (Editing e) at = runs (λ e'. cc)
       by_stop (Working e) at = runs (λ e'. cc)
       by_stop (Recovering e) at = runs (λ e'. cc)
-      by_stop (Showing e) at = runs (λ e'. cc)
+      by_stop (Reporting e) at = runs (λ e'. cc)
       by_stop (Migrating e) at = runs (λ e'. cc)
 
   -- the first so many processes have stopped, and what was told stayed true

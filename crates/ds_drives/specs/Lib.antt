@@ -5,6 +5,6 @@ pub mod Rules
 pub mod EditRules
 pub mod RecoverRules
 pub mod WorkRules
-pub mod ShowRules
+pub mod ReportRules
 pub mod Rule
 pub mod Machines

@@ -18,22 +18,22 @@ use Rattle.ds_state.specs.LayoutsFit.{IsMoving}
 use Rattle.ds_state.specs.Sound.{IsSound}
 use Rattle.ds_state.specs.Spent.{IsSpent}
 use Rattle.ds_state.specs.Edits.{PlainEditCall}
-use Rattle.ds_state.specs.Works.{PlainShowCall}
+use Rattle.ds_state.specs.Works.{PlainReportCall}
 use Rattle.ds_state.specs.Middles.{HaveMiddles}
-use Rattle.ds_show.specs.ShowMiddles.{WasSettled}
-use Rattle.ds_state.specs.declared.work.ShowEnd.TheVariants.{Settled}
-use Rattle.ds_state.specs.declared.work.ShowStage.{ShowStage}
-use Rattle.ds_state.specs.declared.work.ShowStage.TheVariants.{Answer}
+use Rattle.ds_report.specs.ReportMiddles.{WasSettled}
+use Rattle.ds_state.specs.declared.report.ReportEnd.TheVariants.{Settled}
+use Rattle.ds_state.specs.declared.report.ReportStage.{ReportStage}
+use Rattle.ds_state.specs.declared.report.ReportStage.TheVariants.{Answer}
 use Rattle.ds_state.specs.declared.stage.Outcome.{Outcome}
 use Rattle.ds_state.specs.declared.stage.Stage.TheVariants as edit_stage
 use Rattle.ds_state.specs.declared.work.WorkStage.TheVariants as work_stage
-use Rattle.ds_state.specs.declared.work.RecoverStage.TheVariants as recover_stage
+use Rattle.ds_state.specs.declared.recovery.RecoverStage.TheVariants as recover_stage
 use Rattle.ds_recover.specs.RecoverySteps.{end_of}
 use Rattle.ds_state.specs.declared.stage.Outcome.TheVariants.{Done, Overtaken}
 use Rattle.ds_state.specs.declared.situation.Situation.{Situation}
 use Rattle.ds_state.specs.declared.situation.Situation.TheVariants.{Stopped}
-use Rattle.ds_recover.specs.declared.machine.RecoveryEnd.TheVariants.{Last, Nothing}
-use Rattle.ds_recover.specs.declared.machine.RecoveryEnd.{RecoveryEnd}
+use Rattle.ds_state.specs.declared.recovery.RecoveryEnd.TheVariants.{Last, Nothing}
+use Rattle.ds_state.specs.declared.recovery.RecoveryEnd.{RecoveryEnd}
 use Rattle.ds_drives.specs.declared.board.Deeds.{Deeds}
 use Rattle.ds_drives.specs.declared.board.Told.{Told}
 use Rattle.ds_drives.specs.declared.board.Told.TheVariants.{Edited, Worked, Recovered, Shown}
@@ -45,7 +45,7 @@ use Rattle.ds_drives.specs.Rules.{Ran}
 use Rattle.ds_drives.specs.EditRules.{edit_rules}
 use Rattle.ds_drives.specs.RecoverRules.{recover_rules}
 use Rattle.ds_drives.specs.WorkRules.{work_rules}
-use Rattle.ds_drives.specs.ShowRules.{show_rules}
+use Rattle.ds_drives.specs.ReportRules.{show_rules}
 
 -- the function with another value at one place
 abbrev pub put : {X : Type 0} → (ℕ → X) → ℕ → X → ℕ → X
@@ -107,7 +107,7 @@ IsTold w process (Shown e) = Unit {0}
 
 -- a report of the process was settled at a middle that had each edit which it was told before is done; this speaks of
 -- no world but those that it names, so that it stays as it is
-pub record IsReported (layout : Layout) (process : ℕ) (before : List Told) (e : PlainShowCall) : Type 0 where
+pub record IsReported (layout : Layout) (process : ℕ) (before : List Told) (e : PlainReportCall) : Type 0 where
   pub begun : PlainWorld
   pub ended : PlainWorld
   pub middle : PlainWorld
@@ -116,7 +116,7 @@ pub record IsReported (layout : Layout) (process : ℕ) (before : List Told) (e 
   pub holds : (d : PlainEditCall) → In before (Edited d Done) → Contains middle.counted (edit_of d)
 
 -- where a report ended settled, it was
-abbrev pub ReportHolds : Layout → ℕ → List Told → PlainShowCall → ShowStage → Type 0
+abbrev pub ReportHolds : Layout → ℕ → List Told → PlainReportCall → ReportStage → Type 0
 ReportHolds layout process before e (Answer Settled) = IsReported layout process before e
 ReportHolds layout process before e _ = Unit {0}
 

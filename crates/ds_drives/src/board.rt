@@ -13,7 +13,9 @@ use ds_recover::machine::RecoveryEnd;
 use ds_state::edit::EditCall;
 use ds_state::situation::Situation;
 use ds_state::stage::Outcome;
-use ds_state::work::{RecoverCall, ShowCall, WorkCall, WorkEnd};
+use ds_state::recovery::RecoverCall;
+use ds_state::report::ReportCall;
+use ds_state::work::{WorkCall, WorkEnd};
 use ds_words::access::BufferEntry;
 use std::alloc::{AllocError, Global};
 use std::marker::{Brand, PhantomData};
@@ -47,7 +49,7 @@ pub enum Told {
     /// A recovery.
     Recovered(RecoverCall, RecoveryEnd),
     /// A report.
-    Shown(ShowCall),
+    Shown(ReportCall),
 }
 
 /// What a seat knows. No value of it is made.

@@ -8,6 +8,6 @@ pub mod edit;
 pub mod fuse;
 mod machine;
 pub mod recover;
-pub mod show;
+pub mod report;
 mod steps;
 pub mod work;

@@ -17,7 +17,7 @@ use crate::machine::Machine;
 use ds_layout::layout::Layout;
 use ds_layout::place;
 use ds_recover::machine::{got, want};
-use ds_state::work::{RecoverCall, RecoverStage};
+use ds_state::recovery::{RecoverCall, RecoverStage};
 use ds_words::access::Access;
 use std::alloc::Global;
 

@@ -32,7 +32,7 @@ use Rattle.ds_state.specs.declared.refusal.Refusal.{Refusal}
 use Rattle.ds_state.specs.declared.refusal.Refusal.TheVariants as refusal
 use Rattle.ds_state.specs.declared.stage.Stage.TheVariants.{StoreHeader}
 use Rattle.ds_state.specs.declared.situation.Situation.{Situation}
-use Rattle.ds_state.specs.declared.situation.Situation.TheVariants.{Idle, Stopped, Editing, Working, Recovering, Showing, Migrating}
+use Rattle.ds_state.specs.declared.situation.Situation.TheVariants.{Idle, Stopped, Editing, Working, Recovering, Reporting, Migrating}
 use Rattle.ds_edit.specs.EditTakes.{Begins}
 use Rattle.ds_state.specs.Refusals.{next_edit}
 use Rattle.ds_edit.specs.Begun.{within, RefusesIdle, RefersTo, IsAskedFor, IsIdle, Refuses}
@@ -149,7 +149,7 @@ refuses_of w process text Stopped r at is = rw at (let same : r ≡ refusal.Stop
 refuses_of w process text (Editing e) r at is = rw at (let same : r ≡ refusal.Busy = cc in same)
 refuses_of w process text (Working e) r at is = rw at (let same : r ≡ refusal.Busy = cc in same)
 refuses_of w process text (Recovering e) r at is = rw at (let same : r ≡ refusal.Busy = cc in same)
-refuses_of w process text (Showing e) r at is = rw at (let same : r ≡ refusal.Busy = cc in same)
+refuses_of w process text (Reporting e) r at is = rw at (let same : r ≡ refusal.Busy = cc in same)
 refuses_of w process text (Migrating e) r at is = rw at (let same : r ≡ refusal.Busy = cc in same)
 
 -- the refusal that the answer to a text without a content is

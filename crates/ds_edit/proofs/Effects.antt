@@ -10,7 +10,7 @@ use Rattle.ds_state.specs.declared.situation.Situation.{Situation}
 use Rattle.ds_state.specs.declared.situation.Situation.TheVariants.{Editing}
 use Rattle.ds_edit.specs.EditSteps.{next_at}
 use Rattle.ds_edit.specs.EditTakes.{after, after_by, counted_at, counted_by, effect_at, open_edit_at, open_edit_by, outcome_by}
-use Rattle.ds_edit.specs.EditEndings.{outcome_at}
+use Rattle.ds_state.specs.EditEndings.{outcome_at}
 use Rattle.ds_edit.specs.declared.machine.Effect.{Effect}
 use Rattle.ds_edit.specs.declared.machine.Effect.TheVariants.{GoesOn, Counts}
 

@@ -1,7 +1,6 @@
 //! The steps of an edit.
 #![tactic(auto)]
 
-pub mod answer;
 pub mod begin;
 pub mod laws;
 pub mod machine;

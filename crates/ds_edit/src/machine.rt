@@ -11,7 +11,7 @@ ghost use Rattle.ds_state.specs.CallsFit.{IsSheetOf};
 ghost use Rattle.ds_state.specs.World.{done_place};
 ghost use Rattle.ds_edit.specs.EditSteps.{access_at, next_at, got_at, head_after, announced, reference_place, header_place, text_place, store_from, flush_from, back_from, index_from, help_from, wins, swung_from, rank, Falls};
 ghost use Rattle.ds_edit.specs.EditTakes.{effect_at};
-ghost use Rattle.ds_edit.specs.EditEndings.{outcome_at};
+ghost use Rattle.ds_state.specs.EditEndings.{outcome_at};
 
 use ds_layout::announcement::{Announcement, Phase};
 use ds_layout::bits;

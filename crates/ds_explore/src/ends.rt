@@ -3,9 +3,9 @@
 use ds_calls::call::{whole_recovery, whole_report};
 use ds_calls::settle::{SettleEnd, settle};
 use ds_core::reply::Reply;
-use ds_edit::answer::Answer;
 use ds_eval::value::Value;
 use ds_play::texts::{end_bytes, reply_bytes};
+use ds_state::answer::Answer;
 use ds_state::refusal::Refusal;
 use ds_state::world::World;
 use std::alloc::{AllocError, Global};

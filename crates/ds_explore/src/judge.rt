@@ -5,13 +5,15 @@ use crate::flaw::Flaw;
 use ds_calls::settle::SettleEnd;
 use ds_core::event::Event;
 use ds_core::take::take;
-use ds_edit::answer::{Answer, Told};
 use ds_eval::scratch::scratch;
 use ds_eval::sheet::Sheet;
 use ds_eval::value::Value;
 use ds_formula::content::Content;
 use ds_formula::reading::read_content;
 use ds_positions::position::Position;
+use ds_state::answer::{Answer, EditEnd};
+use ds_state::recovery::{RecoveryEnd, Told};
+use ds_state::report::ReportEnd;
 use ds_state::refusal::Refusal;
 use ds_state::shown;
 use ds_state::situation::Situation;
@@ -75,7 +77,7 @@ fn is_told_done(asked: &Asked, told: Told) -> bool {
 // What the recovery of a process told.
 fn told_of(ending: &Ending, process: usize) -> Option<Told> {
     match ending.told.get(process) {
-        Some(Ok(Answer::Last(told))) => Some(*told),
+        Some(Ok(Answer::Recovery(RecoveryEnd::Last(told)))) => Some(*told),
         _ => None,
     }
 }
@@ -91,8 +93,8 @@ fn is_done(asked: &Asked, ending: &Ending, process: usize) -> bool {
 // What is wrong with the answer to an edit.
 fn edit_flaw(done: bool, answer: Option<Answer>) -> bool {
     match answer {
-        Some(Answer::Done(_)) => !done,
-        Some(Answer::Overtaken(_, _)) => done,
+        Some(Answer::Edit(EditEnd::Done(_))) => !done,
+        Some(Answer::Edit(EditEnd::Overtaken(_, _))) => done,
         _ => false,
     }
 }
@@ -100,7 +102,7 @@ fn edit_flaw(done: bool, answer: Option<Answer>) -> bool {
 // What is wrong with the answer to a recovery.
 fn recovery_flaw(answer: Option<Answer>, again: Option<&Result<Answer, Refusal>>) -> bool {
     match answer {
-        Some(Answer::Last(_)) | Some(Answer::Nothing) => match (answer, again) {
+        Some(Answer::Recovery(RecoveryEnd::Last(_))) | Some(Answer::Recovery(RecoveryEnd::Nothing)) => match (answer, again) {
             (Some(answer), Some(Ok(again))) => answer != *again,
             _ => true,
         },
@@ -149,7 +151,7 @@ impl Judge {
         if recovery_flaw(answer, ending.told.get(process)) {
             return Some(Flaw::ToldTwice(process));
         }
-        if let Some(Answer::Overtaken(_, by)) = answer {
+        if let Some(Answer::Edit(EditEnd::Overtaken(_, by))) = answer {
             if !ending.crashed && self.is_none(ending, by.process, by.number) {
                 return Some(Flaw::OvertakenByNone(process));
             }
@@ -225,7 +227,7 @@ impl Judge {
         if ending.left != SettleEnd::Left(0) {
             flaws.push(Flaw::NotClean)?;
         }
-        if ending.reported != Ok(Answer::Settled) {
+        if ending.reported != Ok(Answer::Report(ReportEnd::Settled)) {
             flaws.push(Flaw::NotSettled)?;
             return Ok(flaws);
         }

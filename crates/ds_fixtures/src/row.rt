@@ -10,11 +10,12 @@ use crate::snapshot::Snapshot;
 use ds_core::event::Event;
 use ds_core::reply::Reply;
 use ds_core::take::{run, take};
-use ds_edit::answer::Answer;
 use ds_eval::value::Value;
 use ds_formula::cells::Cell;
 use ds_layout::mark::State;
 use ds_layout::place::Place;
+use ds_state::answer::Answer;
+use ds_state::report::ReportEnd;
 use ds_state::stage::Point;
 use ds_state::world::World;
 use ds_words::words::Word;
@@ -101,7 +102,7 @@ impl Action {
         Ok(match self {
             Action::Edit(process, cell, text) => edit(alloc, process, cell, text)?,
             Action::Work(process, cell) => Event::BeginWork(process, cell),
-            Action::Show(process) => Event::BeginShow(process),
+            Action::Show(process) => Event::BeginReport(process),
             Action::Recover(process) => Event::BeginRecover(process),
             Action::Migrate(process) => Event::BeginMigrate(process),
             Action::Step(process) => Event::Step(process),
@@ -240,7 +241,7 @@ fn expect_settled(
     for (cell, value) in CELLS.into_iter().zip(wanted) {
         expect_value(world, cell, value)?;
     }
-    expect_call(alloc, world, Action::Show(process), Answer::Settled)?;
+    expect_call(alloc, world, Action::Show(process), Answer::Report(ReportEnd::Settled))?;
     expect_report(world, process, &wanted)
 }
 

@@ -3,7 +3,10 @@
 use ds_layout::place::Edition;
 use ds_state::situation::{Rest, Situation};
 use ds_state::stage::{Point, Stage};
-use ds_state::work::{MigrateStage, RecoverStage, ShowStage, WorkStage};
+use ds_state::migration::MigrateStage;
+use ds_state::recovery::RecoverStage;
+use ds_state::report::ReportStage;
+use ds_state::work::WorkStage;
 use ds_state::world::World;
 use ds_words::words::Word;
 use std::alloc::{AllocError, Global};
@@ -16,7 +19,7 @@ enum Doing {
     Editing(Rest, Stage),
     Working(Rest, WorkStage),
     Recovering(Edition, RecoverStage),
-    Showing(Rest, ShowStage),
+    Reporting(Rest, ReportStage),
     Migrating(u64, MigrateStage),
 }
 
@@ -34,7 +37,7 @@ impl Doing {
             }
             Situation::Working(call) => Doing::Working(rest(call.next, call.edition), call.stage),
             Situation::Recovering(call) => Doing::Recovering(call.edition, call.stage),
-            Situation::Showing(call) => Doing::Showing(rest(call.next, call.edition), call.stage),
+            Situation::Reporting(call) => Doing::Reporting(rest(call.next, call.edition), call.stage),
             Situation::Migrating(call) => Doing::Migrating(call.word, call.stage),
         }
     }

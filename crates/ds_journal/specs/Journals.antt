@@ -2,7 +2,7 @@
 use Rattle.std.specs.Prelude.{ℕ, ◌≡◌, List, [], ◌∷◌, ◌++◌, Ok, Some, true}
 use Rattle.ds_layout.specs.declared.place.Edition.TheVariants.{Second}
 use Rattle.ds_state.specs.Value.{WorldValue}
-use Rattle.ds_edit.specs.declared.answer.Answer.TheVariants.{Done}
+use Rattle.ds_state.specs.declared.answer.Answer.TheVariants.{Done}
 use Rattle.ds_core.specs.Requests.{PlainRequest}
 use Rattle.ds_core.specs.declared.event.Event.TheVariants.{BeginEdit}
 use Rattle.ds_calls.specs.Whole.{Whole, IsRun}

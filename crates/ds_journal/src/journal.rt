@@ -4,18 +4,18 @@ ghost use Rattle.std.specs.Prelude.{◌≡◌, ◌++◌, [], ◌∷◌, ℕ, Lis
 ghost use Rattle.ds_streams.specs.Fields.{is_skipped};
 ghost use Rattle.ds_core.specs.Takes.{IsOfWorld};
 ghost use Rattle.ds_core.specs.declared.event.Event.TheVariants.{BeginEdit};
-ghost use Rattle.ds_edit.specs.declared.answer.Answer.TheVariants.{Done};
+ghost use Rattle.ds_state.specs.declared.answer.Answer.TheVariants.{Done};
 ghost use Rattle.ds_calls.specs.Whole.{Whole, request};
 ghost use Rattle.ds_journal.specs.Journals.{Follows, IsEditLine, Keeps, Opens};
 
 use crate::fault::JournalFault;
 use ds_calls::call::whole_edit;
-use ds_edit::answer::Answer;
 use ds_formula::cells::{Cell, Shape};
 use ds_layout::layout::Layout;
 use ds_layout::place::Edition;
 use ds_play::carry::new_world;
 use ds_play::order::{Begun, Call, Command, read_order};
+use ds_state::answer::{Answer, EditEnd};
 use ds_state::world::World;
 use std::alloc::{AllocError, Global};
 
@@ -142,7 +142,7 @@ fn done(
     ensures { IfOk result (λ number. Whole process (BeginEdit (request process cell text.now)) world.old (Ok (Done number)) world.new) }
 {
     match whole_edit(alloc, world, process, cell, text) {
-        Ok(Answer::Done(number)) => Ok(number),
+        Ok(Answer::Edit(EditEnd::Done(number))) => Ok(number),
         Ok(_) => Err(JournalFault::NotDone),
         Err(why) => Err(JournalFault::Refused(why)),
     }

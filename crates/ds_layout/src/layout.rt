@@ -72,7 +72,7 @@ fn header_place(at: usize) -> Place
 /// The part of a text of the first layout that stands there, from 0, among those of all its texts: by process, then
 /// number, then part. It need not be one of a sheet.
 pub fn first_text(at: usize) -> Place
-    ensures { result ≡ first_text at }
+    ensures { result ≡ place.Text edition.First (at / FIRST_PARTS / RECORDS) (at / FIRST_PARTS % RECORDS) (at % FIRST_PARTS) }
 {
     let record = at / FIRST_PARTS;
     Place::Text {

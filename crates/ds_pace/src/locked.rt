@@ -65,7 +65,7 @@ fn call<L: Ledger, M: Ledger, R: Wait>(
                     _ => false,
                 }
         }
-        Task::Report => sheet.show(rt, alloc, pass) == Shown::Settled,
+        Task::Report => sheet.report(rt, alloc, pass) == Shown::Settled,
     }
 }
 

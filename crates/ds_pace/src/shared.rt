@@ -8,12 +8,14 @@ use crate::pace::{CALLS, PROCESSES, Pace, TEXTS, Task};
 use crate::round::Round;
 use crate::tally::Tally;
 use ds_drives::fuse::Whole;
-use ds_edit::answer::Answer;
 use ds_formula::cells::{Cell, Shape};
 use ds_layout::layout::Layout;
 use ds_shared::ended::Ended;
 use ds_shared::pass::Pass;
 use ds_shared::sheet::SharedSheet;
+use ds_state::answer::{Answer, EditEnd};
+use ds_state::report::ReportEnd;
+use ds_state::work::WorkEnd;
 use std::alloc::{AllocError, Global};
 use std::sync::Arc;
 use std::thread::{Threads, map_vec};
@@ -43,7 +45,7 @@ impl Seat {
             return false;
         }
         match sheet.edit(alloc, &mut self.pass, cell, text.as_bytes(), &mut Whole) {
-            Ended::Answered(Answer::Done(_)) => true,
+            Ended::Answered(Answer::Edit(EditEnd::Done(_))) => true,
             _ => false,
         }
     }
@@ -56,15 +58,15 @@ impl Seat {
             return false;
         }
         match sheet.work(alloc, &mut self.pass, cell, &mut Whole) {
-            Ended::Answered(Answer::Published(_)) => true,
+            Ended::Answered(Answer::Work(WorkEnd::Published(_))) => true,
             _ => false,
         }
     }
 
     // A report: whether it is Settled.
     fn report(&mut self, alloc: Global) -> bool {
-        let (ended, _values) = self.sheet.show(alloc, &mut self.pass, &mut Whole);
-        ended == Ended::Answered(Answer::Settled)
+        let (ended, _values) = self.sheet.report(alloc, &mut self.pass, &mut Whole);
+        ended == Ended::Answered(Answer::Report(ReportEnd::Settled))
     }
 
     // The call with this number of a task.

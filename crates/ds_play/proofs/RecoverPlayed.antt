@@ -7,11 +7,11 @@ use Rattle.ds_state.specs.declared.situation.Rest.{Rest}
 use Rattle.ds_state.specs.LayoutsFit.{IsMigrating, IsMoving, NoneMoves}
 use Rattle.ds_state.specs.declared.refusal.Refusal.TheVariants.{Busy}
 use Rattle.ds_state.specs.declared.refusal.Refusal.TheVariants as refusal
-use Rattle.ds_state.specs.declared.situation.Situation.TheVariants.{Idle, Stopped, Editing, Working, Recovering, Showing, Migrating}
+use Rattle.ds_state.specs.declared.situation.Situation.TheVariants.{Idle, Stopped, Editing, Working, Recovering, Reporting, Migrating}
 use Rattle.ds_recover.specs.RecoverBegun.{MayRecover}
 use Rattle.ds_recover.specs.RecoverySteps as recoveries
-use Rattle.ds_edit.specs.declared.answer.Answer.{Answer}
-use Rattle.ds_edit.specs.declared.answer.Answer.TheVariants.{Migrated, Already}
+use Rattle.ds_state.specs.declared.answer.Answer.{Answer}
+use Rattle.ds_state.specs.declared.answer.Answer.TheVariants.{Migrated, Already}
 use Rattle.ds_core.specs.Kinds.{AnswersTo, IsRecoveryAnswer, RestsAs}
 use Rattle.ds_core.specs.StepEvents as steps
 use Rattle.ds_core.specs.RecoveryEvents.{RecoveryStepsBy, recovery_reply}
@@ -60,7 +60,7 @@ module _ (p : ℕ) where
   its_step w mid reply e at (steps.edits h) = absurd (let bad : Editing h.edit ≡ Recovering e = sym h.at ∙ at in cc)
   its_step w mid reply e at (steps.works h) = absurd (let bad : Working h.steps.work ≡ Recovering e = sym h.steps.works ∙ at in cc)
   its_step w mid reply e at (steps.migrations h) = absurd (let bad : Migrating h.steps.migration ≡ Recovering e = sym h.steps.at ∙ at in cc)
-  its_step w mid reply e at (steps.reports h) = absurd (let bad : Showing h.steps.show ≡ Recovering e = sym h.steps.at ∙ at in cc)
+  its_step w mid reply e at (steps.reports h) = absurd (let bad : Reporting h.steps.show ≡ Recovering e = sym h.steps.at ∙ at in cc)
 
   driven_on : (events : List Event) (replies : List Reply) (w new : WorldValue) (text : List ℕ) (e : PlainRecoverCall) → IsGood w → HasProcess w p → (world_of w).situation p ≡ Recovering e
       → Plays (Drives p ToAnswer) w events replies (Says text) new → IsRecovered p w new

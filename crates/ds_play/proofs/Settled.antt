@@ -17,8 +17,8 @@ use Rattle.ds_state.specs.declared.situation.Situation.TheVariants.{Working}
 use Rattle.ds_state.specs.declared.work.WorkStage.{WorkStage}
 use Rattle.ds_state.specs.declared.work.WorkStage.TheVariants.{Wait}
 use Rattle.ds_work.specs.WorkTakes.{Waits}
-use Rattle.ds_edit.specs.declared.answer.Answer.{Answer}
-use Rattle.ds_edit.specs.declared.answer.Answer.TheVariants as answers
+use Rattle.ds_state.specs.declared.answer.Answer.{Answer}
+use Rattle.ds_state.specs.declared.answer.Answer.TheVariants as answers
 use Rattle.ds_core.specs.Takes.{Fits, WorldRun}
 use Rattle.ds_core.specs.WorkEvents.{HasWork}
 use Rattle.ds_core.specs.declared.event.Event.{Event}

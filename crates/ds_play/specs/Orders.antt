@@ -62,7 +62,7 @@ pub data Order : Type 0 where
 abbrev pub beginning : ℕ → Call → Event
 beginning process (calls.Edit cell text) = events.BeginEdit (request process cell text.now)
 beginning process (calls.Work cell) = events.BeginWork process cell
-beginning process calls.Report = events.BeginShow process
+beginning process calls.Report = events.BeginReport process
 beginning process calls.Recovery = events.BeginRecover process
 beginning process calls.Migration = events.BeginMigrate process
 
@@ -183,7 +183,7 @@ work_of layout rest =
 -- the deed of a command whose one field is a process
 abbrev pub deed_of : Verb → ℕ → Option Deed
 deed_of verbs.Recover process = Some (Whole process (events.BeginRecover process))
-deed_of verbs.Report process = Some (Whole process (events.BeginShow process))
+deed_of verbs.Report process = Some (Whole process (events.BeginReport process))
 deed_of verbs.Migrate process = Some (Whole process (events.BeginMigrate process))
 deed_of verbs.Settle process = Some (Settle process)
 deed_of verbs.Step process = Some (Step process)
@@ -269,7 +269,7 @@ abbrev pub begin_by : Layout → ℕ → Option CallName → Option (List ℕ) �
 begin_by layout process None rest = Err UnknownCommand
 begin_by layout process (Some names.Edit) rest = or_bad_field (begin_edit_of layout process rest)
 begin_by layout process (Some names.Work) rest = or_bad_field (begin_work_of layout process rest)
-begin_by layout process (Some names.Report) rest = or_bad_field (alone (Begin process (events.BeginShow process)) rest)
+begin_by layout process (Some names.Report) rest = or_bad_field (alone (Begin process (events.BeginReport process)) rest)
 begin_by layout process (Some names.Recovery) rest = or_bad_field (alone (Begin process (events.BeginRecover process)) rest)
 begin_by layout process (Some names.Migration) rest = or_bad_field (alone (Begin process (events.BeginMigrate process)) rest)
 

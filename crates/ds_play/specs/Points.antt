@@ -3,16 +3,16 @@ use Rattle.std.specs.Prelude.{ℕ, Bool, true, false, ◌&&◌, nat_le, List, co
 use Rattle.ds_state.specs.Stages.{order, point_at}
 use Rattle.ds_state.specs.declared.stage.Point.{Point}
 use Rattle.ds_state.specs.declared.situation.Situation.{Situation}
-use Rattle.ds_state.specs.declared.situation.Situation.TheVariants.{Idle, Stopped, Editing, Working, Recovering, Showing, Migrating}
+use Rattle.ds_state.specs.declared.situation.Situation.TheVariants.{Idle, Stopped, Editing, Working, Recovering, Reporting, Migrating}
 use Rattle.ds_state.specs.declared.work.WorkEnd.{WorkEnd}
 use Rattle.ds_state.specs.declared.work.WorkEnd.TheVariants as ends
 use Rattle.ds_state.specs.declared.work.WorkStage.{WorkStage}
 use Rattle.ds_state.specs.declared.work.WorkStage.TheVariants as work
-use Rattle.ds_state.specs.declared.work.RecoverStage.{RecoverStage}
-use Rattle.ds_state.specs.declared.work.RecoverStage.TheVariants as recovery
-use Rattle.ds_state.specs.declared.work.MigrateStage.{MigrateStage}
-use Rattle.ds_state.specs.declared.work.MigrateStage.TheVariants as migration
-use Rattle.ds_state.specs.declared.work.MigrateEnd.TheVariants as migrate_ends
+use Rattle.ds_state.specs.declared.recovery.RecoverStage.{RecoverStage}
+use Rattle.ds_state.specs.declared.recovery.RecoverStage.TheVariants as recovery
+use Rattle.ds_state.specs.declared.migration.MigrateStage.{MigrateStage}
+use Rattle.ds_state.specs.declared.migration.MigrateStage.TheVariants as migration
+use Rattle.ds_state.specs.declared.migration.MigrateEnd.TheVariants as migrate_ends
 use Rattle.ds_play.specs.declared.point.PointName.{PointName}
 use Rattle.ds_play.specs.declared.point.PointName.TheVariants.{Written, Announced, Indexed, Helped, Swung, Kept, Marked, Answered, Held, Stored, Valued, Spread, Cleared, Freed, Copied, Switched}
 
@@ -79,7 +79,7 @@ order_in Stopped name = None
 order_in (Editing e) name = edit_order name
 order_in (Working e) name = work_order name
 order_in (Recovering e) name = recovery_order name
-order_in (Showing e) name = None
+order_in (Reporting e) name = None
 order_in (Migrating e) name = migration_order name
 
 -- whether the process is in a call
@@ -89,7 +89,7 @@ is_in_call Stopped = false
 is_in_call (Editing e) = true
 is_in_call (Working e) = true
 is_in_call (Recovering e) = true
-is_in_call (Showing e) = true
+is_in_call (Reporting e) = true
 is_in_call (Migrating e) = true
 
 -- whether the process is in a call that has no such point
@@ -208,7 +208,7 @@ behind_in Stopped = 0
 behind_in (Editing e) = behind_point (point_at e.stage)
 behind_in (Working e) = behind_work e.stage
 behind_in (Recovering e) = behind_recovery e.stage
-behind_in (Showing e) = 0
+behind_in (Reporting e) = 0
 behind_in (Migrating e) = behind_migration e.stage
 
 -- whether the point of this order is behind, where a call has it

@@ -17,10 +17,10 @@ use Rattle.ds_layout.specs.Mark.{state_of}
 use Rattle.ds_state.specs.Value.{WorldValue}
 use Rattle.ds_state.specs.World.{PlainWorld}
 use Rattle.ds_state.specs.Shown.{mark_in, value_in, text_in}
-use Rattle.ds_edit.specs.declared.answer.Answer.{Answer}
-use Rattle.ds_edit.specs.declared.answer.Answer.TheVariants as answers
-use Rattle.ds_edit.specs.declared.answer.Other.{Other}
-use Rattle.ds_edit.specs.declared.answer.Told.{Told}
+use Rattle.ds_state.specs.declared.answer.Answer.{Answer}
+use Rattle.ds_state.specs.declared.answer.Answer.TheVariants as answers
+use Rattle.ds_state.specs.declared.answer.Other.{Other}
+use Rattle.ds_state.specs.declared.recovery.Told.{Told}
 use Rattle.ds_core.specs.declared.reply.Reply.{Reply}
 use Rattle.ds_core.specs.declared.reply.Reply.TheVariants.{Begun, Entered, Refused, Stepped, Answered, WrongTask, Evicted, Stopped, Crashed, NotEnabled}
 use Rattle.ds_streams.specs.AnswerTexts.{done_text, refused_text, settled_text}

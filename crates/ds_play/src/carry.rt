@@ -65,7 +65,7 @@ pub fn begins(alloc: Global, world: &mut World, process: usize, call: Call<'_>) 
     match call {
         Call::Edit(cell, text) => edits(alloc, world, process, cell, text),
         Call::Work(cell) => happen(alloc, world, &Event::BeginWork(process, cell)),
-        Call::Report => happen(alloc, world, &Event::BeginShow(process)),
+        Call::Report => happen(alloc, world, &Event::BeginReport(process)),
         Call::Recovery => happen(alloc, world, &Event::BeginRecover(process)),
         Call::Migration => happen(alloc, world, &Event::BeginMigrate(process)),
     }

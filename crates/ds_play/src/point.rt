@@ -5,7 +5,9 @@ ghost use Rattle.ds_play.specs.Points.{name_of_point, edit_order, work_order, re
 
 use ds_state::situation::Situation;
 use ds_state::stage::Point;
-use ds_state::work::{MigrateEnd, MigrateStage, RecoverStage, WorkEnd, WorkStage};
+use ds_state::migration::{MigrateEnd, MigrateStage};
+use ds_state::recovery::RecoverStage;
+use ds_state::work::{WorkEnd, WorkStage};
 
 /// The name of a point, of whichever call.
 #[derive(Clone, Copy, Debug, PartialEq, Eq)]
@@ -133,7 +135,7 @@ impl PointName {
             Situation::Working(_) => self.of_work(),
             Situation::Recovering(_) => self.of_recovery(),
             Situation::Migrating(_) => self.of_migration(),
-            Situation::Idle(_) | Situation::Stopped | Situation::Showing(_) => None,
+            Situation::Idle(_) | Situation::Stopped | Situation::Reporting(_) => None,
         }
     }
 }
@@ -239,7 +241,7 @@ fn behind_in(situation: &Situation) -> u8
         Situation::Working(call) => behind_work(call.stage),
         Situation::Recovering(call) => behind_recovery(call.stage),
         Situation::Migrating(call) => behind_migration(call.stage),
-        Situation::Idle(_) | Situation::Stopped | Situation::Showing(_) => 0,
+        Situation::Idle(_) | Situation::Stopped | Situation::Reporting(_) => 0,
     }
 }
 

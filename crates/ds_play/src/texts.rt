@@ -5,7 +5,7 @@ ghost use Rattle.ds_formula.specs.Cells.{IsInside};
 ghost use Rattle.ds_layout.specs.Places.{IsPlace};
 ghost use Rattle.ds_layout.specs.SheetMemory.{memory};
 ghost use Rattle.ds_state.specs.Value.{world_of};
-ghost use Rattle.ds_edit.specs.declared.answer.Answer.TheVariants.{Settled};
+ghost use Rattle.ds_state.specs.declared.answer.Answer.TheVariants.{Settled};
 ghost use Rattle.ds_core.specs.declared.reply.Reply.TheVariants.{Answered};
 ghost use Rattle.ds_streams.specs.AnswerTexts.{settled_text};
 ghost use Rattle.ds_play.specs.ScriptTexts.{counts_text, changed_text, last_text, unsettled_text, values_of, answer_text, reply_text, at_text, left_text, shown_text, state_text, peek_head, peek_text, word_line, word_text};
@@ -16,11 +16,15 @@ use crate::drive::Halt;
 use crate::point::PointName;
 use ds_calls::settle::SettleEnd;
 use ds_core::reply::Reply;
-use ds_edit::answer::{Answer, Told};
 use ds_eval::value::Value;
 use ds_formula::cells::{Cell, Shape};
 use ds_layout::mark::State;
 use ds_layout::place::Place;
+use ds_state::answer::{Answer, EditEnd};
+use ds_state::migration::MigrateEnd;
+use ds_state::recovery::{RecoveryEnd, Told};
+use ds_state::report::ReportEnd;
+use ds_state::work::WorkEnd;
 use ds_state::world::World;
 use ds_streams::answer::{SHORT_LINE, cell_at, done_line, refused_line, settled_lines};
 use std::alloc::{AllocError, Global};
@@ -112,25 +116,25 @@ fn answer_line(
 {
     let shape = world.words.layout().shape;
     match answer {
-        Answer::Done(number) => done_line(alloc, process, number),
-        Answer::Overtaken(number, by) => {
+        Answer::Edit(EditEnd::Done(number)) => done_line(alloc, process, number),
+        Answer::Edit(EditEnd::Overtaken(number, by)) => {
             format!(in alloc;
                 "{process} {number} overtaken by {} {}\n",
                 by.process, by.number
             )
         }
-        Answer::NotDirty => format!(in alloc; "{process} notdirty\n"),
-        Answer::Missed => format!(in alloc; "{process} missed\n"),
-        Answer::Worn => format!(in alloc; "{process} worn\n"),
-        Answer::Published(how) => { published_line(alloc, process, how) }
-        Answer::Again => format!(in alloc; "{process} again\n"),
-        Answer::NoMemory => format!(in alloc; "{process} nomemory\n"),
-        Answer::Last(told) => last_line(alloc, shape, process, told),
-        Answer::Nothing => format!(in alloc; "{process} nothing\n"),
-        Answer::Migrated => format!(in alloc; "{process} migrated\n"),
-        Answer::Already => format!(in alloc; "{process} already\n"),
-        Answer::Settled => format!(in alloc; "settled\n"),
-        Answer::Unsettled(place, word) => unsettled_line(alloc, shape, place, word),
+        Answer::Work(WorkEnd::NotDirty) => format!(in alloc; "{process} notdirty\n"),
+        Answer::Work(WorkEnd::Missed) => format!(in alloc; "{process} missed\n"),
+        Answer::Work(WorkEnd::Worn) => format!(in alloc; "{process} worn\n"),
+        Answer::Work(WorkEnd::Published(how)) => { published_line(alloc, process, how) }
+        Answer::Work(WorkEnd::Again) => format!(in alloc; "{process} again\n"),
+        Answer::Work(WorkEnd::NoMemory) => format!(in alloc; "{process} nomemory\n"),
+        Answer::Recovery(RecoveryEnd::Last(told)) => last_line(alloc, shape, process, told),
+        Answer::Recovery(RecoveryEnd::Nothing) => format!(in alloc; "{process} nothing\n"),
+        Answer::Migration(MigrateEnd::Migrated) => format!(in alloc; "{process} migrated\n"),
+        Answer::Migration(MigrateEnd::Already) => format!(in alloc; "{process} already\n"),
+        Answer::Report(ReportEnd::Settled) => format!(in alloc; "settled\n"),
+        Answer::Report(ReportEnd::Unsettled(place, word)) => unsettled_line(alloc, shape, place, word),
     }
 }
 
@@ -176,7 +180,7 @@ pub fn reply_bytes(
 ) -> Result<Vec<u8>, AllocError>
     ensures { IfOk result (λ line. line.items ≡ reply_text world.now process reply) }
 {
-    if reply == Reply::Answered(Answer::Settled) {
+    if reply == Reply::Answered(Answer::Report(ReportEnd::Settled)) {
         let shape = world.words.layout().shape;
         return report_lines(alloc, shape, values(world, process));
     }
@@ -225,7 +229,7 @@ pub fn end_bytes(
             reply_bytes(alloc, world, process, Reply::Refused(refusal))
         }
         SettleEnd::NoMemory => {
-            reply_bytes(alloc, world, process, Reply::Answered(Answer::NoMemory))
+            reply_bytes(alloc, world, process, Reply::Answered(Answer::Work(WorkEnd::NoMemory)))
         }
     }
 }

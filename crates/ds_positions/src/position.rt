@@ -7,12 +7,12 @@ use ds_calls::finish::step_once;
 use ds_core::event::Event;
 use ds_core::reply::Reply;
 use ds_core::take::take;
-use ds_edit::answer::Answer;
 use ds_formula::cells::Shape;
 use ds_layout::layout::Layout;
 use ds_layout::place::{Edition, Place};
 use ds_play::carry::new_world;
 use ds_play::texts::reply_bytes;
+use ds_state::answer::Answer;
 use ds_state::situation::Situation;
 use ds_state::world::World;
 use ds_stops::reach::{Short, reach};
@@ -92,7 +92,7 @@ fn wanted(world: &World, process: usize) -> Access<Place> {
         Some(Situation::Working(call)) => {
             ds_work::machine::want(call, world.words.layout().shape)
         }
-        Some(Situation::Showing(call)) => ds_show::machine::want(call),
+        Some(Situation::Reporting(call)) => ds_report::machine::want(call),
         Some(Situation::Recovering(call)) => ds_recover::machine::want(call),
         Some(Situation::Migrating(call)) => ds_recover::migrate::want(call),
         None | Some(Situation::Idle(_)) | Some(Situation::Stopped) => Access::Nothing,

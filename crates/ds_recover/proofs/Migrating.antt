@@ -19,19 +19,19 @@ use Rattle.ds_state.specs.Editions.{seen_edition, Shows, Agrees}
 use Rattle.ds_state.specs.World.{PlainEdit, PlainIssue, PlainWorld, of_cell, head_after_all, record_word, record_size}
 use Rattle.ds_state.specs.Works.{PlainMigrateCall, IsMigration, IsCopied, old_words, new_text}
 use Rattle.ds_state.specs.Owing.{entry, IsHeld, Owes, Parts, IsPending, Excuses, Splits, RecoveryOwes, RecoveryParts, RecoveryExcuses, RecoverySplits}
-use Rattle.ds_state.specs.declared.work.RecoverStage.{RecoverStage}
-use Rattle.ds_state.specs.declared.work.RecoverStage.TheVariants as recoveries
+use Rattle.ds_state.specs.declared.recovery.RecoverStage.{RecoverStage}
+use Rattle.ds_state.specs.declared.recovery.RecoverStage.TheVariants as recoveries
 use Rattle.ds_state.specs.CallsFit.{CallFits, DoubtFits, MigrationHolds, MigrationFits}
 use Rattle.ds_state.specs.WordsFit.{VersionFits, WordFits, RecordFits}
 use Rattle.ds_state.specs.LayoutsFit.{Copies, AreCopied, Copying, MovesAt, OthersStopped, MovesFit, LayoutFits, IsMoving, NoneMoves}
 use Rattle.ds_recover.specs.MigrationSteps.{at, rank, copy_from, next_at, after, StepsAt, BeginsMigration, fresh}
 use Rattle.ds_state.specs.Rely.{Grows, Keeps}
 use Rattle.ds_state.specs.Sound.{IsSound, IsOfSheet}
-use Rattle.ds_state.specs.declared.work.MigrateEnd.TheVariants.{Migrated, Already}
-use Rattle.ds_state.specs.declared.work.MigrateStage.{MigrateStage}
-use Rattle.ds_state.specs.declared.work.MigrateStage.TheVariants.{LoadVersion, LoadOld, StoreNew, FlushNew, BackNew, Swap, FlushVersion, BackVersion, Answer}
+use Rattle.ds_state.specs.declared.migration.MigrateEnd.TheVariants.{Migrated, Already}
+use Rattle.ds_state.specs.declared.migration.MigrateStage.{MigrateStage}
+use Rattle.ds_state.specs.declared.migration.MigrateStage.TheVariants.{LoadVersion, LoadOld, StoreNew, FlushNew, BackNew, Swap, FlushVersion, BackVersion, Answer}
 use Rattle.ds_state.specs.declared.situation.Situation.{Situation}
-use Rattle.ds_state.specs.declared.situation.Situation.TheVariants.{Idle, Stopped, Editing, Working, Recovering, Showing, Migrating}
+use Rattle.ds_state.specs.declared.situation.Situation.TheVariants.{Idle, Stopped, Editing, Working, Recovering, Reporting, Migrating}
 use Rattle.ds_state.proofs.Stable.{doubt_grows}
 use Rattle.ds_state.proofs.Frames.{CatchesUp, Moves, Goes, turns, NewTexts, Switches, MovesVersion, KeepsOwing, KeepsApart, grows_own, shown_back, agrees_on, version_word, moves_sound}
 use Rattle.ds_state.proofs.Bearing.{Mine, MyMarks, bears, all_stand, no_new_marks, text_same, splits_last, pends_last, marks_grow, apart_lasts}
@@ -52,7 +52,7 @@ IsHalted Stopped = Unit {0}
 IsHalted (Editing e) = ⊥
 IsHalted (Working e) = ⊥
 IsHalted (Recovering e) = IsWaking e.stage
-IsHalted (Showing e) = ⊥
+IsHalted (Reporting e) = ⊥
 IsHalted (Migrating e) = Unit {0}
 
 -- the words that a migration moves
@@ -96,7 +96,7 @@ owes_halted m p (Idle next) r c x h = absurd h
 owes_halted m p (Editing e) r c x h = absurd h
 owes_halted m p (Working e) r c x h = absurd h
 owes_halted m p (Recovering e) r c x h = waking_owes m p e.row e.stage r c x h
-owes_halted m p (Showing e) r c x h = absurd h
+owes_halted m p (Reporting e) r c x h = absurd h
 
 parts_halted : (s : Situation) (r : ℕ) → IsHalted s → Parts s r
 parts_halted Stopped r h = tt
@@ -105,7 +105,7 @@ parts_halted (Idle next) r h = absurd h
 parts_halted (Editing e) r h = absurd h
 parts_halted (Working e) r h = absurd h
 parts_halted (Recovering e) r h = waking_parts e.stage r h
-parts_halted (Showing e) r h = absurd h
+parts_halted (Reporting e) r h = absurd h
 
 pends_halted : (w : PlainWorld) (p : ℕ) (s : Situation) (c x : ℕ) → IsHalted s → Excuses w p s c x → IsPending w p c
 pends_halted w p Stopped c x h o = o
@@ -114,7 +114,7 @@ pends_halted w p (Idle next) c x h o = absurd h
 pends_halted w p (Editing e) c x h o = absurd h
 pends_halted w p (Working e) c x h o = absurd h
 pends_halted w p (Recovering e) c x h o = o.0
-pends_halted w p (Showing e) c x h o = absurd h
+pends_halted w p (Reporting e) c x h o = absurd h
 
 excuses_halted : (w : PlainWorld) (p : ℕ) (s : Situation) (c x : ℕ) → IsHalted s → IsPending w p c → Excuses w p s c x
 excuses_halted w p Stopped c x h o = o
@@ -123,7 +123,7 @@ excuses_halted w p (Idle next) c x h o = absurd h
 excuses_halted w p (Editing e) c x h o = absurd h
 excuses_halted w p (Working e) c x h o = absurd h
 excuses_halted w p (Recovering e) c x h o = (o, waking_excuses w.memory p c e.stage x h)
-excuses_halted w p (Showing e) c x h o = absurd h
+excuses_halted w p (Reporting e) c x h o = absurd h
 
 split_pends : (w : PlainWorld) (p : ℕ) (s : Situation) (c head : ℕ) → IsHalted s → Splits w p s c head → IsPending w p c
 split_pends w p Stopped c head h o = o
@@ -132,7 +132,7 @@ split_pends w p (Idle next) c head h o = absurd h
 split_pends w p (Editing e) c head h o = absurd h
 split_pends w p (Working e) c head h o = absurd h
 split_pends w p (Recovering e) c head h o = o.0
-split_pends w p (Showing e) c head h o = absurd h
+split_pends w p (Reporting e) c head h o = absurd h
 
 splits_halted : (w : PlainWorld) (p : ℕ) (s : Situation) (c head : ℕ) → IsHalted s → IsPending w p c → Splits w p s c head
 splits_halted w p Stopped c head h o = o
@@ -141,7 +141,7 @@ splits_halted w p (Idle next) c head h o = absurd h
 splits_halted w p (Editing e) c head h o = absurd h
 splits_halted w p (Working e) c head h o = absurd h
 splits_halted w p (Recovering e) c head h o = (o, waking_splits e.stage h)
-splits_halted w p (Showing e) c head h o = absurd h
+splits_halted w p (Reporting e) c head h o = absurd h
 
 away_from : (place r : Place) → IsAway place → (IsAway r → ⊥) → r ≢ place
 away_from place r away not same = not (subst (λ (x : Place). IsAway x) (sym same) away)

@@ -1,5 +1,7 @@
 -- Each step of a migration, and its beginning, keep a world good.
 use Rattle.std.proofs.Common.{ℕ, ◌≡◌, ◌<◌, length, get_or, set, refl, ap, sym, ◌∙◌, subst, arith}
+use Rattle.ds_state.specs.declared.turn.Turn.{Turn}
+use Rattle.ds_state.specs.declared.migration.MigrateEnd.{MigrateEnd}
 use Rattle.std.proofs.Math.ListN.{length-set}
 use Rattle.std.proofs.lemmas.List.{get_or-set_same, get_or-set_other, get_or_default}
 use Rattle.ds_layout.specs.declared.layout.Layout.{Layout}
@@ -8,12 +10,11 @@ use Rattle.ds_state.specs.Works.{PlainMigrateCall}
 use Rattle.ds_state.specs.Underway.{reports_in}
 use Rattle.ds_state.specs.Value.{WorldValue, first_rest, world_of, IsGood, IsReserved}
 use Rattle.ds_state.specs.CallsFit.{CallFits, MigrationFits}
-use Rattle.ds_state.specs.declared.work.MigrateStage.{MigrateStage}
-use Rattle.ds_state.specs.declared.work.MigrateStage.TheVariants.{Answer}
+use Rattle.ds_state.specs.declared.migration.MigrateStage.{MigrateStage}
+use Rattle.ds_state.specs.declared.migration.MigrateStage.TheVariants.{Answer}
 use Rattle.ds_state.specs.declared.situation.Situation.{Situation}
 use Rattle.ds_state.specs.declared.situation.Situation.TheVariants.{Idle, Migrating}
 use Rattle.ds_state.proofs.Underway.{no_more}
-use Rattle.ds_recover.specs.declared.migrate.MigrateEffect.{MigrateEffect}
 use Rattle.ds_recover.specs.MigrationSteps.{StepsAt, BeginsMigration, access_at, after, fresh}
 use Rattle.ds_recover.specs.MigrationTakes.{AllStopped, StepsBy, effect_at}
 use Rattle.ds_recover.proofs.Migrating.{migration_keeps, migration_begins}
@@ -81,7 +82,7 @@ module _ (v : WorldValue) (g : IsGood v) (p : ℕ) (e : PlainMigrateCall) (at : 
       reserved = (let same = ap (λ (l : Layout). l.processes) layout in let r = kept.reserved in omega arith);
     }
 
-    pub next_takes : (what : MigrateEffect) → what ≡ effect_at e.stage → StepsBy v p what next
+    pub next_takes : (what : Turn MigrateEnd) → what ≡ effect_at e.stage → StepsBy v p what next
     unfolding next
     next_takes what is = record {
       there = low;

@@ -13,8 +13,8 @@ use Rattle.ds_state.specs.Works.{PlainMigrateCall, IsMigration, IsCopied, old_wo
 use Rattle.ds_state.specs.World.{PlainWorld}
 use Rattle.ds_state.specs.Owing.{entry}
 use Rattle.ds_state.specs.CallsFit.{MigrationHolds, MigrationFits}
-use Rattle.ds_state.specs.declared.work.MigrateStage.{MigrateStage}
-use Rattle.ds_state.specs.declared.work.MigrateStage.TheVariants.{LoadVersion, LoadOld, StoreNew, FlushNew, BackNew, Swap, FlushVersion, BackVersion, Answer}
+use Rattle.ds_state.specs.declared.migration.MigrateStage.{MigrateStage}
+use Rattle.ds_state.specs.declared.migration.MigrateStage.TheVariants.{LoadVersion, LoadOld, StoreNew, FlushNew, BackNew, Swap, FlushVersion, BackVersion, Answer}
 use Rattle.ds_recover.specs.MigrationSteps.{access_at}
 
 -- a word that is copied is a text's of a process of the sheet

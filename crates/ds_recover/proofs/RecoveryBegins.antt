@@ -11,7 +11,7 @@ use Rattle.ds_state.specs.Value.{WorldValue, first_rest, world_of, IsReserved}
 use Rattle.ds_state.specs.declared.situation.Rest.{Rest}
 use Rattle.ds_state.specs.declared.situation.Situation.{Situation}
 use Rattle.ds_state.specs.LayoutsFit.{NoneMoves}
-use Rattle.ds_state.specs.declared.situation.Situation.TheVariants.{Idle, Stopped, Editing, Working, Recovering, Showing, Migrating}
+use Rattle.ds_state.specs.declared.situation.Situation.TheVariants.{Idle, Stopped, Editing, Working, Recovering, Reporting, Migrating}
 use Rattle.ds_state.proofs.Underway.{no_more}
 use Rattle.ds_recover.specs.RecoverySteps.{BeginsRecovery, fresh}
 use Rattle.ds_recover.specs.RecoverBegun.{MayRecover, IsBegun}
@@ -23,7 +23,7 @@ may_be w p Stopped is may = inl is
 may_be w p (Editing e) is may = absurd may
 may_be w p (Working e) is may = absurd may
 may_be w p (Recovering e) is may = absurd may
-may_be w p (Showing e) is may = absurd may
+may_be w p (Reporting e) is may = absurd may
 may_be w p (Migrating e) is may = absurd may
 
 -- a beginning keeps a sound world sound, and what others count on

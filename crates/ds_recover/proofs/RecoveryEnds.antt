@@ -26,7 +26,7 @@ use Rattle.ds_state.specs.KnownRecovery.{Tells, ResolvedFits, over}
 use Rattle.ds_state.specs.Rely.{Grows, Keeps}
 use Rattle.ds_state.specs.Sound.{IsSound}
 use Rattle.ds_recover.specs.RecoverySteps.{StepsAt, BeginsRecovery, at, next_number, rest_after}
-use Rattle.ds_state.specs.declared.work.RecoverStage.TheVariants.{LoadVersion, Answer}
+use Rattle.ds_state.specs.declared.recovery.RecoverStage.TheVariants.{LoadVersion, Answer}
 use Rattle.ds_state.specs.declared.situation.Situation.{Situation}
 use Rattle.ds_state.specs.declared.situation.Situation.TheVariants.{Idle, Stopped, Recovering}
 use Rattle.ds_state.proofs.Outcomes.{not_among, among}

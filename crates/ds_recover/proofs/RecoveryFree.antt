@@ -19,7 +19,7 @@ use Rattle.ds_state.specs.Sound.{IsSound}
 use Rattle.ds_state.specs.Telling.{told_from}
 use Rattle.ds_state.proofs.Telling.{ToldFits, first_told as first_fits}
 use Rattle.ds_recover.specs.RecoverySteps.{StepsAt, at, reads_held}
-use Rattle.ds_state.specs.declared.work.RecoverStage.TheVariants.{LoadMark, FlushValue, FlushKind, BackValue, Give, GiveDirty, FlushGiven, BackGiven, LoadAnnounce}
+use Rattle.ds_state.specs.declared.recovery.RecoverStage.TheVariants.{LoadMark, FlushValue, FlushKind, BackValue, Give, GiveDirty, FlushGiven, BackGiven, LoadAnnounce}
 use Rattle.ds_state.specs.declared.situation.Situation.TheVariants.{Recovering}
 use Rattle.ds_state.proofs.Frames.{Moves}
 use Rattle.ds_state.proofs.Bearing.{text_same}

@@ -1,5 +1,7 @@
 -- Each step of a recovery keeps a world good.
 use Rattle.std.proofs.Common.{ℕ, ◌≡◌, ◌<◌, length, get_or, set, refl, ap, sym, ◌∙◌, subst, arith, inl, inr, Some, None}
+use Rattle.ds_state.specs.declared.turn.Turn.{Turn}
+use Rattle.ds_state.specs.declared.recovery.RecoveryEnd.{RecoveryEnd}
 use Rattle.std.specs.Prelude.{Option, Contains}
 use Rattle.std.proofs.Math.ListN.{length-set}
 use Rattle.std.proofs.lemmas.Bool.{cases_eq}
@@ -11,13 +13,12 @@ use Rattle.ds_state.specs.World.{PlainEdit, PlainIssue}
 use Rattle.ds_state.specs.Underway.{reports_in}
 use Rattle.ds_state.specs.Value.{WorldValue, first_rest, world_of, IsGood, IsReserved}
 use Rattle.ds_state.specs.CallsFit.{CallFits, RecoveryFits}
-use Rattle.ds_state.specs.declared.work.RecoverStage.{RecoverStage}
-use Rattle.ds_state.specs.declared.work.RecoverStage.TheVariants.{Answer}
+use Rattle.ds_state.specs.declared.recovery.RecoverStage.{RecoverStage}
+use Rattle.ds_state.specs.declared.recovery.RecoverStage.TheVariants.{Answer}
 use Rattle.ds_state.specs.declared.situation.Situation.{Situation}
 use Rattle.ds_state.specs.declared.situation.Situation.TheVariants.{Idle, Recovering}
 use Rattle.ds_state.proofs.Dones.{still_answered}
 use Rattle.ds_state.proofs.Underway.{no_more}
-use Rattle.ds_recover.specs.declared.machine.Effect.{Effect}
 use Rattle.ds_recover.specs.RecoverySteps.{Steps, access_at, after, effect_at, open_edit_at}
 use Rattle.ds_recover.specs.RecoverTakes.{open_edit_by, StepsBy}
 use Rattle.ds_recover.proofs.RecoveryLaws.{steps as steps_keep}
@@ -110,7 +111,7 @@ module _ (v : WorldValue) (g : IsGood v) (p : ℕ) (e : PlainRecoverCall) (at : 
       reserved = (let same = ap (λ (l : Layout). l.processes) layout in let r = kept.reserved in omega arith);
     }
 
-    pub next_takes : (what : Effect) → what ≡ effect_at e e.stage → StepsBy v p what next
+    pub next_takes : (what : Turn RecoveryEnd) → what ≡ effect_at e e.stage → StepsBy v p what next
     unfolding next
     next_takes what is = record {
       there = low;

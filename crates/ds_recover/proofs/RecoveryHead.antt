@@ -18,7 +18,7 @@ use Rattle.ds_state.specs.WordsFit.{WordFits}
 use Rattle.ds_state.specs.Rely.{Grows, Keeps}
 use Rattle.ds_state.specs.Sound.{IsSound, Increasing}
 use Rattle.ds_recover.specs.RecoverySteps.{StepsAt, at}
-use Rattle.ds_state.specs.declared.work.RecoverStage.TheVariants.{FlushHead, BackHead, OrMark}
+use Rattle.ds_state.specs.declared.recovery.RecoverStage.TheVariants.{FlushHead, BackHead, OrMark}
 use Rattle.ds_state.specs.declared.situation.Situation.{Situation}
 use Rattle.ds_state.specs.declared.situation.Situation.TheVariants.{Recovering}
 use Rattle.ds_state.proofs.Heads.{Small, small_counted, small_of_cell, by_most, by_last, by_cases, persisted_most}

@@ -17,7 +17,7 @@ use Rattle.ds_state.specs.CallsFit.{RecoveryFits}
 use Rattle.ds_state.specs.Rely.{Grows, Keeps}
 use Rattle.ds_state.specs.Sound.{IsSound}
 use Rattle.ds_recover.specs.RecoverySteps.{StepsAt, at}
-use Rattle.ds_state.specs.declared.work.RecoverStage.TheVariants.{OrMark, FlushMark, BackMark, StoreOutcome, FlushOutcome, BackOutcome, Answer}
+use Rattle.ds_state.specs.declared.recovery.RecoverStage.TheVariants.{OrMark, FlushMark, BackMark, StoreOutcome, FlushOutcome, BackOutcome, Answer}
 use Rattle.ds_state.specs.declared.situation.Situation.TheVariants.{Recovering}
 use Rattle.ds_state.proofs.Dirty.{or_dirty}
 use Rattle.ds_state.proofs.Frames.{Moves, grows_own}

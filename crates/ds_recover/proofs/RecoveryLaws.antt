@@ -10,8 +10,8 @@ use Rattle.ds_state.specs.Rely.{Keeps}
 use Rattle.ds_state.specs.Sound.{IsSound}
 use Rattle.ds_state.specs.declared.situation.Situation.{Situation}
 use Rattle.ds_state.specs.declared.situation.Situation.TheVariants.{Idle, Recovering}
-use Rattle.ds_state.specs.declared.work.RecoverStage.{RecoverStage}
-use Rattle.ds_state.specs.declared.work.RecoverStage.TheVariants.{Answer}
+use Rattle.ds_state.specs.declared.recovery.RecoverStage.{RecoverStage}
+use Rattle.ds_state.specs.declared.recovery.RecoverStage.TheVariants.{Answer}
 use Rattle.ds_recover.specs.RecoverySteps.{Steps, access_at, after, rest_after, end_of, ResolvesAs, RepeatsAs}
 use Rattle.ds_recover.proofs.RecoveryRepeats.{repeats}
 use Rattle.ds_recover.specs.RecoverBegun.{IsBegun}

@@ -13,9 +13,9 @@ use Rattle.ds_state.specs.World.{PlainWorld}
 use Rattle.ds_state.specs.Owing.{entry}
 use Rattle.ds_state.specs.KnownRecovery.{RecoveryHolds, recovery_held, value_now, kind_now}
 use Rattle.ds_state.specs.CallsFit.{RecoveryFits}
-use Rattle.ds_state.specs.declared.work.Spread.TheVariants.{LoadRow, OrTold, FlushTold, BackTold}
-use Rattle.ds_state.specs.declared.work.RecoverStage.{RecoverStage}
-use Rattle.ds_state.specs.declared.work.RecoverStage.TheVariants.{LoadVersion, FlushVersion, BackVersion, LoadMark, FlushValue, FlushKind, BackValue, BackKind, Telling, Give, GiveDirty, FlushGiven, BackGiven, LoadAnnounce, LoadHeader, LoadHead, FlushHead, BackHead, LoadDone, OrMark, FlushMark, BackMark, StoreOutcome, FlushOutcome, BackOutcome, Answer}
+use Rattle.ds_state.specs.declared.spread.Spread.TheVariants.{LoadRow, OrTold, FlushTold, BackTold}
+use Rattle.ds_state.specs.declared.recovery.RecoverStage.{RecoverStage}
+use Rattle.ds_state.specs.declared.recovery.RecoverStage.TheVariants.{LoadVersion, FlushVersion, BackVersion, LoadMark, FlushValue, FlushKind, BackValue, BackKind, Telling, Give, GiveDirty, FlushGiven, BackGiven, LoadAnnounce, LoadHeader, LoadHead, FlushHead, BackHead, LoadDone, OrMark, FlushMark, BackMark, StoreOutcome, FlushOutcome, BackOutcome, Answer}
 use Rattle.ds_recover.specs.RecoverySteps.{access_at}
 
 -- each access names a place of the sheet

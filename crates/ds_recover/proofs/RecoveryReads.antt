@@ -9,8 +9,8 @@ use Rattle.ds_state.proofs.Dirty.{or_dirty}
 use Rattle.ds_state.specs.Works.{PlainRecoverCall}
 use Rattle.ds_state.specs.RecoverStages.{IsFreeing, IsStage, IsRecovery}
 use Rattle.ds_layout.specs.Bits.{parts_for}
-use Rattle.ds_state.specs.declared.work.Spread.TheVariants.{LoadRow}
-use Rattle.ds_state.specs.declared.work.RecoverStage.TheVariants.{Telling}
+use Rattle.ds_state.specs.declared.spread.Spread.TheVariants.{LoadRow}
+use Rattle.ds_state.specs.declared.recovery.RecoverStage.TheVariants.{Telling}
 use Rattle.ds_recover.specs.RecoverySteps.{told, tell_from, row_from}
 use Rattle.ds_recover.proofs.RecoveryFree.{told_below}
 

@@ -24,8 +24,8 @@ use Rattle.ds_state.specs.KnownRecovery.{IsItsCell, Tells, phase_for, IsOpenAnd,
 use Rattle.ds_state.specs.Rely.{Keeps}
 use Rattle.ds_state.specs.Sound.{IsSound}
 use Rattle.ds_recover.specs.RecoverySteps.{StepsAt, at, number_of, announced_from, resolves_from, phase_from, cell_from, is_shown}
-use Rattle.ds_state.specs.declared.work.RecoverStage.{RecoverStage}
-use Rattle.ds_state.specs.declared.work.RecoverStage.TheVariants.{LoadAnnounce, LoadHeader, LoadHead, FlushHead, LoadDone, OrMark, FlushOutcome, Answer}
+use Rattle.ds_state.specs.declared.recovery.RecoverStage.{RecoverStage}
+use Rattle.ds_state.specs.declared.recovery.RecoverStage.TheVariants.{LoadAnnounce, LoadHeader, LoadHead, FlushHead, LoadDone, OrMark, FlushOutcome, Answer}
 use Rattle.ds_state.specs.declared.situation.Situation.TheVariants.{Recovering}
 use Rattle.ds_state.proofs.Frames.{Moves}
 use Rattle.ds_state.proofs.Accesses.{Turn, same_moves}

@@ -19,7 +19,7 @@ use Rattle.ds_state.specs.WordsFit.{WordFits, IsKept}
 use Rattle.ds_state.specs.Rely.{Grows, Keeps}
 use Rattle.ds_state.specs.Sound.{IsSound}
 use Rattle.ds_recover.specs.RecoverySteps.{StepsAt, at, number_of}
-use Rattle.ds_state.specs.declared.work.RecoverStage.TheVariants.{StoreOutcome, FlushOutcome}
+use Rattle.ds_state.specs.declared.recovery.RecoverStage.TheVariants.{StoreOutcome, FlushOutcome}
 use Rattle.ds_state.specs.declared.situation.Situation.{Situation}
 use Rattle.ds_state.specs.declared.situation.Situation.TheVariants.{Recovering}
 use Rattle.ds_state.proofs.Found.{gave_counts}

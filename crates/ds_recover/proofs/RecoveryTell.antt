@@ -18,8 +18,8 @@ use Rattle.ds_state.specs.Rely.{Grows, Keeps}
 use Rattle.ds_state.specs.Sound.{IsSound}
 use Rattle.ds_state.specs.Telling.{told_from}
 use Rattle.ds_recover.specs.RecoverySteps.{StepsAt, at, told}
-use Rattle.ds_state.specs.declared.work.Spread.TheVariants.{LoadRow, OrTold, FlushTold, BackTold}
-use Rattle.ds_state.specs.declared.work.RecoverStage.TheVariants.{BackValue, BackKind, Telling, Give}
+use Rattle.ds_state.specs.declared.spread.Spread.TheVariants.{LoadRow, OrTold, FlushTold, BackTold}
+use Rattle.ds_state.specs.declared.recovery.RecoverStage.TheVariants.{BackValue, BackKind, Telling, Give}
 use Rattle.ds_state.specs.declared.situation.Situation.{Situation}
 use Rattle.ds_state.specs.declared.situation.Situation.TheVariants.{Recovering}
 use Rattle.ds_state.proofs.Dirty.{or_dirty}

@@ -10,9 +10,9 @@ use Rattle.ds_layout.specs.SheetMemory.{PerformsAt}
 use Rattle.ds_state.specs.World.{PlainWorld}
 use Rattle.ds_state.specs.Works.{PlainMigrateCall, old_words, new_text}
 use Rattle.ds_state.specs.LayoutsFit.{OthersStopped}
-use Rattle.ds_state.specs.declared.work.MigrateEnd.TheVariants.{Migrated, Already}
-use Rattle.ds_state.specs.declared.work.MigrateStage.{MigrateStage}
-use Rattle.ds_state.specs.declared.work.MigrateStage.TheVariants.{LoadVersion, LoadOld, StoreNew, FlushNew, BackNew, Swap, FlushVersion, BackVersion, Answer}
+use Rattle.ds_state.specs.declared.migration.MigrateEnd.TheVariants.{Migrated, Already}
+use Rattle.ds_state.specs.declared.migration.MigrateStage.{MigrateStage}
+use Rattle.ds_state.specs.declared.migration.MigrateStage.TheVariants.{LoadVersion, LoadOld, StoreNew, FlushNew, BackNew, Swap, FlushVersion, BackVersion, Answer}
 use Rattle.ds_state.specs.declared.situation.Situation.{Situation}
 use Rattle.ds_state.specs.declared.situation.Situation.TheVariants.{Stopped, Migrating}
 

@@ -1,20 +1,21 @@
 -- What a step of a migration, and its beginning, make of a world, with what the world counts and keeps.
 use Rattle.std.specs.Prelude.{ℕ, ◌≡◌, ◌≢◌, ◌<◌, Option, Some, None}
+use Rattle.ds_state.specs.declared.turn.Turn.{Turn}
+use Rattle.ds_state.specs.declared.migration.MigrateEnd.{MigrateEnd}
 use Rattle.ds_state.specs.Works.{PlainMigrateCall}
 use Rattle.ds_state.specs.World.{PlainWorld}
 use Rattle.ds_state.specs.Value.{WorldValue, world_of}
 use Rattle.ds_state.specs.declared.refusal.Refusal.{Refusal}
 use Rattle.ds_state.specs.declared.refusal.Refusal.TheVariants as refusal
-use Rattle.ds_state.specs.declared.work.MigrateStage.{MigrateStage}
-use Rattle.ds_state.specs.declared.work.MigrateStage.TheVariants.{Answer}
+use Rattle.ds_state.specs.declared.migration.MigrateStage.{MigrateStage}
+use Rattle.ds_state.specs.declared.migration.MigrateStage.TheVariants.{Answer}
 use Rattle.ds_state.specs.declared.situation.Situation.TheVariants.{Stopped, Migrating}
 use Rattle.ds_recover.specs.RecoverBegun.{MayRecover}
 use Rattle.ds_recover.specs.MigrationSteps.{StepsAt, BeginsMigration, next_at}
-use Rattle.ds_recover.specs.declared.migrate.MigrateEffect.{MigrateEffect}
-use Rattle.ds_recover.specs.declared.migrate.MigrateEffect.TheVariants.{GoesOn, Answers}
+use Rattle.ds_state.specs.declared.turn.Turn.TheVariants.{GoesOn, Answers}
 
 -- what a step at a stage does to the migration: it goes on, or it answers
-abbrev pub effect_at : MigrateStage → MigrateEffect
+abbrev pub effect_at : MigrateStage → Turn MigrateEnd
 effect_at (Answer how) = Answers how
 effect_at _ = GoesOn
 
@@ -23,7 +24,7 @@ abbrev pub got_at : PlainMigrateCall → ℕ → PlainMigrateCall
 got_at e word = next_at e e.stage word
 
 -- the process makes a step of its migration
-pub record StepsBy (old : WorldValue) (p : ℕ) (what : MigrateEffect) (new : WorldValue) : Type 0 where
+pub record StepsBy (old : WorldValue) (p : ℕ) (what : Turn MigrateEnd) (new : WorldValue) : Type 0 where
   pub there : p < old.sheet.layout.processes
   pub migration : PlainMigrateCall
   pub mine : migration.process ≡ p
@@ -41,7 +42,7 @@ pub record CanNotStep (old : WorldValue) (p : ℕ) (new : WorldValue) : Type 0 w
   pub none : (migration : PlainMigrateCall) → p < old.sheet.layout.processes → (world_of old).situation p ≡ Migrating migration → ⊥
 
 -- the process makes a step of its migration; or it can make none, and the world stays
-abbrev pub StepTakes : WorldValue → ℕ → Option MigrateEffect → WorldValue → Type 0
+abbrev pub StepTakes : WorldValue → ℕ → Option (Turn MigrateEnd) → WorldValue → Type 0
 StepTakes old p None new = CanNotStep old p new
 StepTakes old p (Some what) new = StepsBy old p what new
 

@@ -1,5 +1,6 @@
 -- The steps of a recovery: what each stage does to the memory, and what comes then.
 use Rattle.std.specs.Prelude.{ℕ, ◌≡◌, ◌≢◌, ◌<◌, ◌≤◌, ◌⊎◌, ◌+◌, ◌-◌, ◌*◌, ◌==◌, nat_lt, if◌then◌else◌, List, [], ◌∷◌, ◌++◌, Option, Some, None, Bool, true, false}
+use Rattle.ds_state.specs.declared.turn.Turn.{Turn}
 use Rattle.ds_words.specs.Memory.{SameMemory}
 use Rattle.ds_words.specs.declared.access.Access.{Access}
 use Rattle.ds_words.specs.declared.access.Access.TheVariants as acts
@@ -25,18 +26,18 @@ use Rattle.ds_state.specs.Owing.{StandsIn}
 use Rattle.ds_state.specs.Known.{AreBelow, IsSafelyIn}
 use Rattle.ds_state.specs.KnownRecovery.{phase_for}
 use Rattle.ds_state.specs.Telling.{told_from}
-use Rattle.ds_recover.specs.declared.machine.Effect.{Effect}
-use Rattle.ds_recover.specs.declared.machine.Effect.TheVariants.{GoesOn, Answers}
-use Rattle.ds_recover.specs.declared.machine.RecoveryEnd.{RecoveryEnd}
-use Rattle.ds_recover.specs.declared.machine.RecoveryEnd.TheVariants.{Nothing, Last}
+use Rattle.ds_state.specs.declared.turn.Turn.TheVariants.{GoesOn, Answers}
+use Rattle.ds_state.specs.declared.recovery.RecoveryEnd.{RecoveryEnd}
+use Rattle.ds_state.specs.declared.recovery.RecoveryEnd.TheVariants.{Nothing, Last}
+use Rattle.ds_state.specs.declared.recovery.Told.{Told}
 use Rattle.ds_state.specs.declared.situation.Rest.{Rest}
 use Rattle.ds_state.specs.declared.situation.Situation.{Situation}
 use Rattle.ds_layout.specs.declared.place.Edition.TheVariants.{First}
 use Rattle.ds_state.specs.declared.situation.Situation.TheVariants.{Idle, Recovering}
-use Rattle.ds_state.specs.declared.work.Spread.{Spread}
-use Rattle.ds_state.specs.declared.work.Spread.TheVariants.{LoadRow, OrTold, FlushTold, BackTold}
-use Rattle.ds_state.specs.declared.work.RecoverStage.{RecoverStage}
-use Rattle.ds_state.specs.declared.work.RecoverStage.TheVariants.{LoadVersion, FlushVersion, BackVersion, LoadMark, FlushValue, FlushKind, BackValue, BackKind, Telling, Give, GiveDirty, FlushGiven, BackGiven, LoadAnnounce, LoadHeader, LoadHead, FlushHead, BackHead, LoadDone, OrMark, FlushMark, BackMark, StoreOutcome, FlushOutcome, BackOutcome, Answer}
+use Rattle.ds_state.specs.declared.spread.Spread.{Spread}
+use Rattle.ds_state.specs.declared.spread.Spread.TheVariants.{LoadRow, OrTold, FlushTold, BackTold}
+use Rattle.ds_state.specs.declared.recovery.RecoverStage.{RecoverStage}
+use Rattle.ds_state.specs.declared.recovery.RecoverStage.TheVariants.{LoadVersion, FlushVersion, BackVersion, LoadMark, FlushValue, FlushKind, BackValue, BackKind, Telling, Give, GiveDirty, FlushGiven, BackGiven, LoadAnnounce, LoadHeader, LoadHead, FlushHead, BackHead, LoadDone, OrMark, FlushMark, BackMark, StoreOutcome, FlushOutcome, BackOutcome, Answer}
 
 -- how many parts an index row of the recovery's sheet has
 abbrev pub parts_of : PlainRecoverCall → ℕ
@@ -240,10 +241,10 @@ pub record BeginsRecovery (e : PlainRecoverCall) (old new : PlainWorld) : Type 0
 -- what the recovery answers, where it found an announcement and settled how that edit ended
 abbrev pub end_of : PlainRecoverCall → Option Bool → RecoveryEnd
 end_of e None = Nothing
-end_of e (Some how) = Last (number_of e) e.cell how
+end_of e (Some how) = Last (record { number = number_of e; cell = e.cell; counts = how })
 
 -- what a step at a stage does to the recovery: it goes on, or it answers
-abbrev pub effect_at : PlainRecoverCall → RecoverStage → Effect
+abbrev pub effect_at : PlainRecoverCall → RecoverStage → Turn RecoveryEnd
 effect_at e (Answer how) = Answers (end_of e how)
 effect_at e _ = GoesOn
 
@@ -292,17 +293,21 @@ abbrev pub Falls : PlainRecoverCall → RecoverStage → PlainRecoverCall → Ty
 Falls e (Answer how) after = Unit {0}
 Falls e stage after = rank e.cells after.stage < rank e.cells stage
 
--- what a recovery's answer says of an edit in doubt: with its number it has its cell; with Done it counts for good;
--- else it does not count
+-- what it says of an edit in doubt that a recovery tells this edit as one that counts, or does not: with its number it
+-- has its cell; where that counts, it counts for good; else it does not count
+abbrev pub ResolvesBy : PlainWorld → PlainEdit → Told → Bool → Type 0
+ResolvesBy w f told true = ((told.number ≡ f.number) × (f.cell ≡ told.cell) × IsSafelyIn w f) ⊎ ((told.number < f.number) × AreBelow w f.process f.number)
+ResolvesBy w f told false = (told.number ≤ f.number) × AreBelow w f.process f.number × (told.number ≡ f.number → f.cell ≡ told.cell)
+
+-- what a recovery's answer says of an edit in doubt
 abbrev pub ResolvesAs : PlainWorld → PlainEdit → RecoveryEnd → Type 0
 ResolvesAs w f Nothing = AreBelow w f.process f.number
-ResolvesAs w f (Last n cell true) = ((n ≡ f.number) × (f.cell ≡ cell) × IsSafelyIn w f) ⊎ ((n < f.number) × AreBelow w f.process f.number)
-ResolvesAs w f (Last n cell false) = (n ≤ f.number) × AreBelow w f.process f.number × (n ≡ f.number → f.cell ≡ cell)
+ResolvesAs w f (Last told) = ResolvesBy w f told told.counts
 
 -- the answer repeats how the process's last edit with a spent number ended: with that number, and whether one counts
 abbrev pub RepeatsAs : PlainWorld → ℕ → RecoveryEnd → Type 0
 RepeatsAs w p Nothing = AreBelow w p 0
-RepeatsAs w p (Last n cell counts) = AreBelow w p (n + 1) × (phase_among w.counted p n ≡ phase_for counts)
+RepeatsAs w p (Last told) = AreBelow w p (told.number + 1) × (phase_among w.counted p told.number ≡ phase_for told.counts)
 
 -- the cell that the recovery tells next is one whose bit it found in the index row
 abbrev pub TellsFound : PlainRecoverCall → Type 0

@@ -13,7 +13,7 @@ use ds_layout::place::Edition;
 use ds_state::refusal::Refusal;
 use ds_state::row::Row;
 use ds_state::situation::{Situation, put};
-use ds_state::work::{RecoverCall, RecoverStage};
+use ds_state::recovery::{RecoverCall, RecoverStage};
 use ds_state::world::World;
 
 // Whether the process is in no call.
@@ -22,7 +22,7 @@ pub(crate) fn may_recover(situation: &Situation) -> bool
 {
     match situation {
         Situation::Idle(_) | Situation::Stopped => true,
-        Situation::Working(_) | Situation::Recovering(_) | Situation::Showing(_) => false,
+        Situation::Working(_) | Situation::Recovering(_) | Situation::Reporting(_) => false,
         Situation::Editing(_) | Situation::Migrating(_) => false,
     }
 }
@@ -33,7 +33,7 @@ fn is_moving(situation: &Situation) -> bool
     match situation {
         Situation::Migrating(_) => true,
         Situation::Idle(_) | Situation::Stopped | Situation::Editing(_) => false,
-        Situation::Working(_) | Situation::Recovering(_) | Situation::Showing(_) => false,
+        Situation::Working(_) | Situation::Recovering(_) | Situation::Reporting(_) => false,
     }
 }
 

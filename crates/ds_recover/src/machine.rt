@@ -10,8 +10,8 @@ ghost use Rattle.ds_state.specs.Works.{HELD_MOST};
 ghost use Rattle.ds_state.specs.Telling.{told_from};
 ghost use Rattle.ds_state.specs.RecoverStages.{IsStage, IsAnnounced, IsResolving};
 ghost use Rattle.ds_state.specs.KnownRecovery.{phase_for};
-ghost use Rattle.ds_state.specs.declared.work.Spread.TheVariants.{LoadRow, BackTold};
-ghost use Rattle.ds_state.specs.declared.work.RecoverStage.TheVariants.{LoadVersion, BackVersion, LoadMark, Telling, Give, BackGiven, LoadAnnounce, LoadHeader, LoadHead, LoadDone, StoreOutcome};
+ghost use Rattle.ds_state.specs.declared.spread.Spread.TheVariants.{LoadRow, BackTold};
+ghost use Rattle.ds_state.specs.declared.recovery.RecoverStage.TheVariants.{LoadVersion, BackVersion, LoadMark, Telling, Give, BackGiven, LoadAnnounce, LoadHeader, LoadHead, LoadDone, StoreOutcome};
 ghost use Rattle.ds_recover.specs.RecoverySteps.{access_at, spread_access, next_at, got_at, effect_at, number_of, reads_held, looks_from, told, tell_from, row_from, is_shown, phase_from, at};
 
 use ds_layout::announcement::{Announcement, Phase};
@@ -20,37 +20,14 @@ use ds_layout::head::Head;
 use ds_layout::header::Header;
 use ds_layout::mark::{DIRTY, Mark, State};
 use ds_layout::place::{Edition, Place};
-use ds_state::work::{RecoverCall, RecoverStage, Spread};
+use ds_state::recovery::{RecoverCall, RecoverStage, RecoveryEnd, Told};
+use ds_state::spread::Spread;
+use ds_state::turn::Turn;
 use ds_words::access::Access;
 
 /// The greatest generation of a mark that a process holds: one more than the greatest one that a
 /// claim takes.
 pub const HELD_GENERATION_MOST: u64 = (1 << 58) + 1;
-
-/// What a recovery answers.
-#[derive(Clone, Copy, Debug, PartialEq, Eq)]
-pub enum RecoveryEnd {
-    /// The process has announced no edit.
-    Nothing,
-    /// The process's last edit that it announced.
-    Last {
-        /// Which of its edits it is, from 0.
-        number: usize,
-        /// Its cell, by its number.
-        cell: usize,
-        /// Whether it counts.
-        counts: bool,
-    },
-}
-
-/// What a step does to its recovery.
-#[derive(Clone, Copy, Debug, PartialEq, Eq)]
-pub enum Effect {
-    /// It goes on.
-    GoesOn,
-    /// It has ended so: its process answers that, and is idle.
-    Answers(RecoveryEnd),
-}
 
 // The number of the edit that it saw announced.
 pub(crate) fn number(call: &RecoverCall) -> usize
@@ -159,17 +136,17 @@ pub fn want(call: &RecoverCall) -> Access<Place>
 }
 
 /// What the next step does to the recovery.
-pub fn effect_of(call: &RecoverCall) -> Effect
+pub fn effect_of(call: &RecoverCall) -> Turn<RecoveryEnd>
     ensures { result ≡ effect_at call.now call.now.stage }
 {
     match call.stage {
-        RecoverStage::Answer(None) => Effect::Answers(RecoveryEnd::Nothing),
-        RecoverStage::Answer(Some(how)) => Effect::Answers(RecoveryEnd::Last {
+        RecoverStage::Answer(None) => Turn::Answers(RecoveryEnd::Nothing),
+        RecoverStage::Answer(Some(how)) => Turn::Answers(RecoveryEnd::Last(Told {
             number: number(call),
             cell: call.cell,
             counts: how,
-        }),
-        _ => Effect::GoesOn,
+        })),
+        _ => Turn::GoesOn,
     }
 }
 

@@ -3,23 +3,15 @@
 ghost use Rattle.std.specs.Prelude.{◌≡◌, ◌<◌, ◌+◌};
 ghost use Rattle.ds_formula.specs.Limits.{PROCESSES_MOST};
 ghost use Rattle.ds_state.specs.Works.{IsMigration, PlainMigrateCall, new_text, old_words};
-ghost use Rattle.ds_state.specs.declared.work.MigrateStage.TheVariants.{BackNew, LoadOld, LoadVersion};
+ghost use Rattle.ds_state.specs.declared.migration.MigrateStage.TheVariants.{BackNew, LoadOld, LoadVersion};
 ghost use Rattle.ds_recover.specs.MigrationSteps.{access_at, at, copy_from, fresh, next_at};
 ghost use Rattle.ds_recover.specs.MigrationTakes.{effect_at, got_at};
 
 use ds_layout::layout::{Layout, first_text};
 use ds_layout::place::{Edition, FIRST_PARTS, Place, RECORDS};
-use ds_state::work::{MigrateCall, MigrateEnd, MigrateStage};
+use ds_state::migration::{MigrateCall, MigrateEnd, MigrateStage};
+use ds_state::turn::Turn;
 use ds_words::access::Access;
-
-/// What a step does to its migration.
-#[derive(Clone, Copy, Debug, PartialEq, Eq)]
-pub enum MigrateEffect {
-    /// It goes on.
-    GoesOn,
-    /// It has ended so: its process answers that, and is stopped.
-    Answers(MigrateEnd),
-}
 
 /// The process's migration of the sheet, before its first step.
 pub fn fresh(layout: &Layout, process: usize) -> MigrateCall
@@ -68,12 +60,12 @@ pub fn want(call: &MigrateCall) -> Access<Place>
 }
 
 /// What the next step does to the migration.
-pub fn effect_of(call: &MigrateCall) -> MigrateEffect
+pub fn effect_of(call: &MigrateCall) -> Turn<MigrateEnd>
     ensures { result ≡ effect_at call.now.stage }
 {
     match call.stage {
-        MigrateStage::Answer(how) => MigrateEffect::Answers(how),
-        _ => MigrateEffect::GoesOn,
+        MigrateStage::Answer(how) => Turn::Answers(how),
+        _ => Turn::GoesOn,
     }
 }
 

@@ -10,7 +10,7 @@ use crate::begin::may_recover;
 use crate::migrate::fresh;
 use ds_state::refusal::Refusal;
 use ds_state::situation::{Situation, put};
-use ds_state::work::MigrateCall;
+use ds_state::migration::MigrateCall;
 use ds_state::world::World;
 
 fn is_stopped(situation: &Situation) -> bool
@@ -19,7 +19,7 @@ fn is_stopped(situation: &Situation) -> bool
     match situation {
         Situation::Stopped => true,
         Situation::Idle(_) | Situation::Editing(_) | Situation::Working(_) => false,
-        Situation::Recovering(_) | Situation::Showing(_) | Situation::Migrating(_) => false,
+        Situation::Recovering(_) | Situation::Reporting(_) | Situation::Migrating(_) => false,
     }
 }
 

@@ -6,9 +6,10 @@ ghost use Rattle.ds_state.specs.declared.situation.Situation.TheVariants.{Migrat
 ghost use Rattle.ds_recover.specs.MigrationSteps.{after};
 ghost use Rattle.ds_recover.specs.MigrationTakes.{StepTakes};
 
-use crate::migrate::{MigrateEffect, effect_of, got, want};
+use crate::migrate::{effect_of, got, want};
 use ds_state::situation::Situation;
-use ds_state::work::{MigrateCall, MigrateStage};
+use ds_state::migration::{MigrateCall, MigrateEnd, MigrateStage};
+use ds_state::turn::Turn;
 use ds_state::world::World;
 
 // The migration of a process, where it is in one.
@@ -19,7 +20,7 @@ fn call_of(situation: &Situation) -> Option<&MigrateCall>
     match situation {
         Situation::Migrating(call) => Some(call),
         Situation::Idle(_) | Situation::Stopped | Situation::Editing(_) => None,
-        Situation::Working(_) | Situation::Showing(_) | Situation::Recovering(_) => None,
+        Situation::Working(_) | Situation::Reporting(_) | Situation::Recovering(_) => None,
     }
 }
 
@@ -38,7 +39,7 @@ fn go_on(situation: &mut Situation, word: u64)
 /// A process makes the next step of its migration, and what that did to it. With its answer the process is stopped,
 /// and recovers next. It takes no memory. Where the process has no migration under way, or the sheet has no such
 /// process, the step can not happen, and nothing changes.
-pub fn step(world: &mut World, process: usize) -> Option<MigrateEffect>
+pub fn step(world: &mut World, process: usize) -> Option<Turn<MigrateEnd>>
     ensures { StepTakes world.old process result world.new }
 {
     if process >= world.situations.len() {

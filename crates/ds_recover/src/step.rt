@@ -2,15 +2,16 @@
 
 ghost use Rattle.std.specs.Prelude.{ℕ, ◌≡◌, IfSome, IfNone};
 ghost use Rattle.ds_state.specs.Works.{PlainRecoverCall};
-ghost use Rattle.ds_state.specs.declared.work.RecoverStage.TheVariants.{Answer};
+ghost use Rattle.ds_state.specs.declared.recovery.RecoverStage.TheVariants.{Answer};
 ghost use Rattle.ds_state.specs.declared.situation.Situation.TheVariants.{Recovering};
 ghost use Rattle.ds_recover.specs.RecoverySteps.{after, next_number};
 ghost use Rattle.ds_recover.specs.RecoverTakes.{StepTakes, open_edit_by};
 
-use crate::machine::{Effect, effect_of, got, number, want};
+use crate::machine::{effect_of, got, number, want};
 use ds_state::ledger::Issue;
 use ds_state::situation::{Rest, Situation};
-use ds_state::work::{RecoverCall, RecoverStage};
+use ds_state::recovery::{RecoverCall, RecoverStage, RecoveryEnd};
+use ds_state::turn::Turn;
 use ds_state::world::World;
 
 // The recovery of a process, where it is in one.
@@ -21,7 +22,7 @@ fn call_of(situation: &Situation) -> Option<&RecoverCall>
     match situation {
         Situation::Recovering(call) => Some(call),
         Situation::Idle(_) | Situation::Stopped | Situation::Editing(_) => None,
-        Situation::Working(_) | Situation::Showing(_) | Situation::Migrating(_) => None,
+        Situation::Working(_) | Situation::Reporting(_) | Situation::Migrating(_) => None,
     }
 }
 
@@ -56,10 +57,10 @@ fn go_on(situation: &mut Situation, word: u64)
 }
 
 // The edit in doubt is resolved, where this was the last step.
-fn close(open_edit: &mut Option<Issue>, what: Effect)
+fn close(open_edit: &mut Option<Issue>, what: Turn<RecoveryEnd>)
     ensures { open_edit.new ≡ open_edit_by open_edit.old what }
 {
-    if let Effect::Answers(_) = what {
+    if let Turn::Answers(_) = what {
         *open_edit = None;
     }
 }
@@ -67,7 +68,7 @@ fn close(open_edit: &mut Option<Issue>, what: Effect)
 /// A process makes the next step of its recovery, and what that did to it. With its answer no edit of
 /// the process is open any more. It takes no memory. Where the process has no recovery under way, or
 /// the sheet has no such process, the step can not happen, and nothing changes.
-pub fn step(world: &mut World, process: usize) -> Option<Effect>
+pub fn step(world: &mut World, process: usize) -> Option<Turn<RecoveryEnd>>
     ensures { StepTakes world.old process result world.new }
 {
     if process >= world.situations.len() {

@@ -1,23 +1,23 @@
 // Edits of two processes, step by step, and the words that they leave.
 
 use ds_core::reply::Reply;
-use ds_edit::answer::{Answer, Other};
 use ds_fixtures::row::{Action, Row, play};
 use ds_fixtures::sheet::{A1, B1};
 use ds_layout::place::Place;
+use ds_state::answer::{Answer, EditEnd, Other};
 use ds_state::stage::Point;
 use std::test::Fail;
 
-const DONE: Reply = Reply::Answered(Answer::Done(0));
+const DONE: Reply = Reply::Answered(Answer::Edit(EditEnd::Done(0)));
 
 // Process 0 does not count: edit 0 of process 1 took the place that it had noted.
-const OVERTAKEN: Reply = Reply::Answered(Answer::Overtaken(
+const OVERTAKEN: Reply = Reply::Answered(Answer::Edit(EditEnd::Overtaken(
     0,
     Other {
         process: 1,
         number: 0,
     },
-));
+)));
 
 // Process 0 edits the cell and notes its head in the last of so many steps; then process 1 edits the cell; then process
 // 0 tries to take the place, and announces and answers that it was overtaken.

@@ -1,12 +1,14 @@
 // Migrations by events, and what each layout takes and refuses.
 
 use ds_core::reply::Reply;
-use ds_edit::answer::{Answer, Told};
 use ds_eval::value::Value;
 use ds_fixtures::row::{Action, Row, play, play_first, play_on};
 use ds_fixtures::sheet::{A1, A2, B1, B2, small_first_of_one};
 use ds_formula::fault::{FaultKind, TextFault};
 use ds_layout::place::{Edition, Place};
+use ds_state::answer::{Answer, EditEnd};
+use ds_state::migration::MigrateEnd;
+use ds_state::recovery::{RecoveryEnd, Told};
 use ds_state::refusal::Refusal;
 use std::test::Fail;
 
@@ -14,9 +16,9 @@ const BLANK: Value = Value::Blank;
 
 const ZERO: Value = Value::Number(0);
 
-const MIGRATED: Reply = Reply::Answered(Answer::Migrated);
+const MIGRATED: Reply = Reply::Answered(Answer::Migration(MigrateEnd::Migrated));
 
-const ALREADY: Reply = Reply::Answered(Answer::Already);
+const ALREADY: Reply = Reply::Answered(Answer::Migration(MigrateEnd::Already));
 
 const BUSY: Reply = Reply::Refused(Refusal::Busy);
 
@@ -60,16 +62,16 @@ const NEW_WORD: Place = Place::Text {
 };
 
 // Edit 0 in A1 counts.
-const COUNTS: Answer = Answer::Last(Told {
+const COUNTS: Answer = Answer::Recovery(RecoveryEnd::Last(Told {
     number: 0,
     cell: 0,
     counts: true,
-});
+}));
 
 // Each word of the 256 texts of the one process is copied in four steps.
 const OF_ONE_PROCESS: [Row; 27] = [
     Row::Word(Place::Version, 0, 0),
-    Row::Call(Action::Edit(0, A1, "=1+2"), Answer::Done(0)),
+    Row::Call(Action::Edit(0, A1, "=1+2"), Answer::Edit(EditEnd::Done(0))),
     Row::Settled(0, [Value::Number(3), BLANK, BLANK, BLANK]),
     Row::Event(Action::Crash, Reply::Crashed),
     Row::Word(OLD_WORD, 841691453, 841691453),
@@ -98,7 +100,7 @@ const OF_ONE_PROCESS: [Row; 27] = [
 ];
 
 const STEPPED_TO_ITS_END: [Row; 6] = [
-    Row::Call(Action::Edit(0, A1, "=1+2"), Answer::Done(0)),
+    Row::Call(Action::Edit(0, A1, "=1+2"), Answer::Edit(EditEnd::Done(0))),
     Row::Event(Action::Crash, Reply::Crashed),
     Row::Event(Action::Migrate(0), Reply::Entered),
     Row::Steps(0, 15365, MIGRATED),
@@ -138,7 +140,7 @@ const REFUSED: [Row; 38] = [
     Row::Event(Action::Edit(1, A1, "1"), Reply::Begun(0)),
     Row::Still(Action::Migrate(0), SECOND_NOT_STOPPED),
     Row::Still(Action::Migrate(1), BUSY),
-    Row::End(1, Answer::Done(0)),
+    Row::End(1, Answer::Edit(EditEnd::Done(0))),
     Row::Event(Action::Recover(0), Reply::Entered),
     Row::Event(Action::Stop(1), Reply::Stopped),
     Row::Still(Action::Migrate(0), BUSY),
@@ -165,7 +167,7 @@ const REFUSED: [Row; 38] = [
     Row::Event(Action::Recover(0), Reply::Entered),
     Row::Still(Action::Migrate(1), FIRST_NOT_STOPPED),
     Row::Still(Action::Edit(1, A1, "2"), STOPPED),
-    Row::End(0, Answer::Nothing),
+    Row::End(0, Answer::Recovery(RecoveryEnd::Nothing)),
     Row::Call(Action::Recover(1), COUNTS),
     Row::Settled(0, [Value::Number(1), BLANK, BLANK, BLANK]),
 ];
@@ -182,7 +184,7 @@ const STOPPED_MIGRATION: [Row; 8] = [
     Row::Steps(1, 100, Reply::Stepped),
     Row::Still(Action::Recover(0), MIGRATING),
     Row::Event(Action::Stop(1), Reply::Stopped),
-    Row::Call(Action::Recover(0), Answer::Nothing),
+    Row::Call(Action::Recover(0), Answer::Recovery(RecoveryEnd::Nothing)),
     Row::Still(Action::Migrate(1), FIRST_NOT_STOPPED),
     Row::Word(Place::Version, 0, 0),
 ];
@@ -216,7 +218,7 @@ const FIRST_LAYOUT: [Row; 10] = [
     Row::Still(Action::Edit(0, A1, ZEROS_241), TOO_LONG_120),
     Row::Event(Action::Edit(0, A1, ZEROS_120), Reply::Begun(0)),
     Row::Still(Action::Edit(0, A1, ZEROS_121), BUSY),
-    Row::Steps(0, 62, Reply::Answered(Answer::Done(0))),
+    Row::Steps(0, 62, Reply::Answered(Answer::Edit(EditEnd::Done(0)))),
     Row::Text(A1, ZEROS_120),
     Row::Settled(1, [ZERO, BLANK, BLANK, BLANK]),
     Row::Word(Place::Version, 0, 0),
@@ -225,11 +227,11 @@ const FIRST_LAYOUT: [Row; 10] = [
 const SECOND_LAYOUT: [Row; 12] = [
     Row::Still(Action::Edit(0, A1, ONES_121), TOO_LARGE),
     Row::Still(Action::Edit(0, A1, ZEROS_241), TOO_LONG_240),
-    Row::Call(Action::Edit(0, A1, ZEROS_120), Answer::Done(0)),
-    Row::Call(Action::Edit(0, B1, ZEROS_121), Answer::Done(1)),
+    Row::Call(Action::Edit(0, A1, ZEROS_120), Answer::Edit(EditEnd::Done(0))),
+    Row::Call(Action::Edit(0, B1, ZEROS_121), Answer::Edit(EditEnd::Done(1))),
     Row::Event(Action::Edit(0, A2, ZEROS_240), Reply::Begun(2)),
     Row::Still(Action::Edit(0, A1, ZEROS_241), BUSY),
-    Row::Steps(0, 107, Reply::Answered(Answer::Done(2))),
+    Row::Steps(0, 107, Reply::Answered(Answer::Edit(EditEnd::Done(2)))),
     Row::Text(A1, ZEROS_120),
     Row::Text(B1, ZEROS_121),
     Row::Text(A2, ZEROS_240),
@@ -240,8 +242,8 @@ const SECOND_LAYOUT: [Row; 12] = [
 // A sheet that has come to the second layout takes what a new one takes.
 const WIDENED: [Row; 5] = [
     Row::Event(Action::Crash, Reply::Crashed),
-    Row::Call(Action::Migrate(0), Answer::Migrated),
-    Row::Call(Action::Recover(1), Answer::Nothing),
+    Row::Call(Action::Migrate(0), Answer::Migration(MigrateEnd::Migrated)),
+    Row::Call(Action::Recover(1), Answer::Recovery(RecoveryEnd::Nothing)),
     Row::Call(Action::Recover(0), COUNTS),
     Row::Text(A1, ZEROS_120),
 ];
@@ -249,9 +251,9 @@ const WIDENED: [Row; 5] = [
 const TAKES_MORE: [Row; 6] = [
     Row::Still(Action::Edit(1, A1, ZEROS_241), TOO_LONG_240),
     Row::Event(Action::Edit(1, A1, ZEROS_240), Reply::Begun(0)),
-    Row::Steps(1, 112, Reply::Answered(Answer::Done(0))),
+    Row::Steps(1, 112, Reply::Answered(Answer::Edit(EditEnd::Done(0)))),
     Row::Text(A1, ZEROS_240),
-    Row::Call(Action::Edit(0, B2, ZEROS_121), Answer::Done(1)),
+    Row::Call(Action::Edit(0, B2, ZEROS_121), Answer::Edit(EditEnd::Done(1))),
     Row::Settled(1, [ZERO, BLANK, BLANK, ZERO]),
 ];
 

@@ -1,13 +1,15 @@
 // Rows that are not true of a new sheet: each is found out.
 
 use ds_core::reply::Reply;
-use ds_edit::answer::Answer;
 use ds_eval::value::Value;
 use ds_fixtures::mismatch::Mismatch;
 use ds_fixtures::row::{Action, Row, carry_out};
 use ds_fixtures::sheet::{A1, small};
 use ds_layout::mark::State;
 use ds_layout::place::Place;
+use ds_state::answer::Answer;
+use ds_state::migration::MigrateEnd;
+use ds_state::work::WorkEnd;
 use ds_state::refusal::Refusal;
 use ds_state::stage::Point;
 use ds_words::words::Word;
@@ -48,15 +50,15 @@ const FALSE_ROWS: [(Row, Mismatch); 20] = [
     ),
     (Row::Moves(0, 1), Mismatch::Replied(Reply::NotEnabled)),
     (
-        Row::Call(Action::Work(0, A1), Answer::Published(true)),
-        Mismatch::Replied(Reply::Answered(Answer::NotDirty)),
+        Row::Call(Action::Work(0, A1), Answer::Work(WorkEnd::Published(true))),
+        Mismatch::Replied(Reply::Answered(Answer::Work(WorkEnd::NotDirty))),
     ),
     (
-        Row::Call(Action::Migrate(0), Answer::Migrated),
+        Row::Call(Action::Migrate(0), Answer::Migration(MigrateEnd::Migrated)),
         Mismatch::Replied(Reply::Refused(Refusal::NotStopped(0))),
     ),
     (
-        Row::End(0, Answer::NotDirty),
+        Row::End(0, Answer::Work(WorkEnd::NotDirty)),
         Mismatch::Replied(Reply::NotEnabled),
     ),
     (

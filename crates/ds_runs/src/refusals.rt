@@ -1,18 +1,18 @@
 // Refusals, and events that can not happen: the whole sheet is the same before and after.
 
 use ds_core::reply::Reply;
-use ds_edit::answer::Answer;
 use ds_fixtures::row::{Action, Row, play, play_on};
 use ds_fixtures::sheet::{A1, A2, small};
 use ds_formula::cells::Cell;
 use ds_formula::fault::{FaultKind, TextFault};
 use ds_layout::place::{Edition, Place};
+use ds_state::answer::{Answer, EditEnd};
 use ds_state::refusal::Refusal;
 use ds_state::world::World;
 use std::alloc::Global;
 use std::test::Fail;
 
-const DONE: Reply = Reply::Answered(Answer::Done(0));
+const DONE: Reply = Reply::Answered(Answer::Edit(EditEnd::Done(0)));
 
 const BUSY: Reply = Reply::Refused(Refusal::Busy);
 
@@ -96,7 +96,7 @@ fn spend_records(alloc: Global, world: &mut World) -> Result<(), Fail> {
         let count = if number == 0 { 20 } else { 25 };
         let rows = [
             Row::Event(Action::Edit(0, A1, "1"), Reply::Begun(number)),
-            Row::Steps(0, count, Reply::Answered(Answer::Done(number))),
+            Row::Steps(0, count, Reply::Answered(Answer::Edit(EditEnd::Done(number)))),
         ];
         play_on(alloc, world, &rows)?;
     }

@@ -2,12 +2,13 @@
 
 use ds_core::event::Event;
 use ds_core::reply::Reply;
-use ds_edit::answer::Answer;
 use ds_eval::task::Evaluated;
 use ds_fixtures::calls::evaluated;
 use ds_fixtures::row::{Action, Row, expect_unchanged, play_on};
 use ds_fixtures::sheet::{A1, small};
 use ds_layout::place::Place;
+use ds_state::answer::{Answer, EditEnd};
+use ds_state::work::WorkEnd;
 use ds_state::world::World;
 use std::alloc::Global;
 use std::test::Fail;
@@ -15,15 +16,15 @@ use std::test::Fail;
 // Five edits of the cell to one text, the first four of them worked off, so that the fifth work holds the cell in
 // generation 9, and waits.
 const FIVE_EDITS: [Row; 12] = [
-    Row::Call(Action::Edit(0, A1, "=1+2"), Answer::Done(0)),
-    Row::Call(Action::Work(0, A1), Answer::Published(true)),
-    Row::Call(Action::Edit(0, A1, "=1+2"), Answer::Done(1)),
-    Row::Call(Action::Work(0, A1), Answer::Published(false)),
-    Row::Call(Action::Edit(0, A1, "=1+2"), Answer::Done(2)),
-    Row::Call(Action::Work(0, A1), Answer::Published(false)),
-    Row::Call(Action::Edit(0, A1, "=1+2"), Answer::Done(3)),
-    Row::Call(Action::Work(0, A1), Answer::Published(false)),
-    Row::Call(Action::Edit(0, A1, "=1+2"), Answer::Done(4)),
+    Row::Call(Action::Edit(0, A1, "=1+2"), Answer::Edit(EditEnd::Done(0))),
+    Row::Call(Action::Work(0, A1), Answer::Work(WorkEnd::Published(true))),
+    Row::Call(Action::Edit(0, A1, "=1+2"), Answer::Edit(EditEnd::Done(1))),
+    Row::Call(Action::Work(0, A1), Answer::Work(WorkEnd::Published(false))),
+    Row::Call(Action::Edit(0, A1, "=1+2"), Answer::Edit(EditEnd::Done(2))),
+    Row::Call(Action::Work(0, A1), Answer::Work(WorkEnd::Published(false))),
+    Row::Call(Action::Edit(0, A1, "=1+2"), Answer::Edit(EditEnd::Done(3))),
+    Row::Call(Action::Work(0, A1), Answer::Work(WorkEnd::Published(false))),
+    Row::Call(Action::Edit(0, A1, "=1+2"), Answer::Edit(EditEnd::Done(4))),
     Row::Event(Action::Work(0, A1), Reply::Entered),
     Row::Steps(0, 10, Reply::Stepped),
     Row::Word(Place::Mark(0), 290, 290),
@@ -31,7 +32,7 @@ const FIVE_EDITS: [Row; 12] = [
 
 // One edit of that text, and a work that waits.
 const ONE_EDIT: [Row; 3] = [
-    Row::Call(Action::Edit(0, A1, "=1+2"), Answer::Done(0)),
+    Row::Call(Action::Edit(0, A1, "=1+2"), Answer::Edit(EditEnd::Done(0))),
     Row::Event(Action::Work(0, A1), Reply::Entered),
     Row::Steps(0, 10, Reply::Stepped),
 ];
@@ -54,7 +55,7 @@ fn expect_wrong(alloc: Global, world: &mut World, task: Evaluated) -> Result<(),
     Ok(())
 }
 
-const END: [Row; 1] = [Row::End(0, Answer::Published(true))];
+const END: [Row; 1] = [Row::End(0, Answer::Work(WorkEnd::Published(true)))];
 
 // The other sheet's task is wrong where no work waits, and where one waits for another task.
 fn expect_other_wrong(alloc: Global, world: &mut World, other: &World) -> Result<(), Fail> {

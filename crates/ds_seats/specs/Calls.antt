@@ -6,22 +6,22 @@ use Rattle.ds_formula.specs.Cells.{index_of}
 use Rattle.ds_eval.specs.declared.value.Value.{Value}
 use Rattle.ds_layout.specs.Places.{cells_of}
 use Rattle.ds_state.specs.Edits.{PlainEditCall}
-use Rattle.ds_state.specs.Works.{PlainRecoverCall, PlainShowCall, PlainWorkCall}
+use Rattle.ds_state.specs.Works.{PlainRecoverCall, PlainReportCall, PlainWorkCall}
 use Rattle.ds_state.specs.World.{PlainEdit, edit_of}
 use Rattle.ds_state.specs.declared.stage.Outcome.{Outcome}
 use Rattle.ds_state.specs.declared.work.WorkEnd.{WorkEnd}
 use Rattle.ds_edit.specs.Begun as edits
 use Rattle.ds_work.specs.WorkTakes as works
-use Rattle.ds_show.specs.ShowSteps as shows
+use Rattle.ds_report.specs.ReportSteps as shows
 use Rattle.ds_recover.specs.RecoverySteps as recoveries
-use Rattle.ds_recover.specs.declared.machine.RecoveryEnd.{RecoveryEnd}
+use Rattle.ds_state.specs.declared.recovery.RecoveryEnd.{RecoveryEnd}
 use Rattle.ds_drives.specs.declared.board.Told.{Told}
 use Rattle.ds_drives.specs.declared.board.Told.TheVariants.{Edited, Worked, Recovered, Shown}
 use Rattle.ds_drives.specs.Views.{In, second_rest}
 use Rattle.ds_drives.specs.EditRules.{IsFirst, edit_rules}
 use Rattle.ds_drives.specs.WorkRules.{work_rules}
 use Rattle.ds_drives.specs.RecoverRules.{recover_rules}
-use Rattle.ds_drives.specs.ShowRules.{show_rules}
+use Rattle.ds_drives.specs.ReportRules.{show_rules}
 use Rattle.ds_shared.specs.Known.{outcomes, steps_of}
 use Rattle.ds_shared.specs.Answers.{IfAnswered, IfRefused, IfStopped, BreaksOff, IsWorkOf, ShowsValues, Tells, doing, number_behind}
 use Rattle.ds_shared.specs.declared.ended.Ended.{Ended}
@@ -71,9 +71,9 @@ pub record Recovers (s : SharedSheet) (fuse : ℕ) (old new : Pass) (how : Ended
 -- the pass reports, with the values where it is settled: answered, stopped by its fuse, or refused and as it was
 pub record Reports (s : SharedSheet) (fuse : ℕ) (old new : Pass) (how : Ended) (values : Option (Vec Value Global)) : Type 0 where
   pub goes : Goes fuse old new how
-  pub answered : IfAnswered how (λ a. (e : PlainShowCall) × (e.process ≡ old.process) × Tells s.board.layout old new (Shown e) a × ShowsValues e values)
+  pub answered : IfAnswered how (λ a. (e : PlainReportCall) × (e.process ≡ old.process) × Tells s.board.layout old new (Shown e) a × ShowsValues e values)
   pub runs : IfAnswered how (λ a. (new.stopped ≡ false) × (new.number ≡ old.number))
-  pub stopped : IfStopped how ((values ≡ None) × ((e : PlainShowCall) × (e ≡ shows.fresh old.process (second_rest old.number) (cells_of s.board.layout) s.board.layout.processes) × BreaksOff show_rules s.board.layout e old new))
+  pub stopped : IfStopped how ((values ≡ None) × ((e : PlainReportCall) × (e ≡ shows.fresh old.process (second_rest old.number) (cells_of s.board.layout) s.board.layout.processes) × BreaksOff show_rules s.board.layout e old new))
   pub refused : IfRefused how (λ r. works.RefusesIn (doing old.stopped old.number) r)
   pub unchanged : IfRefused how (λ r. (new ≡ old) × (values ≡ None))
 

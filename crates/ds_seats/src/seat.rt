@@ -110,7 +110,7 @@ impl Seat {
         ensures seat { IsSeatOf (arc_value self.old.sheet) self.new }
     {
         let mut fuse = Steps::of(steps);
-        let (ended, values) = self.sheet.show(alloc, &mut self.pass, &mut fuse);
+        let (ended, values) = self.sheet.report(alloc, &mut self.pass, &mut fuse);
         if let Some(values) = values {
             self.last = values;
         }

@@ -15,7 +15,7 @@ use Rattle.ds_seats.specs.declared.fault.Fault.{Fault}
 use Rattle.ds_seats.specs.declared.fault.Fault.TheVariants.{NoProcess, NoCell, SeatTaken, ShortChoice, NoMemory}
 use Rattle.ds_seats.specs.declared.seat.Seat.{Seat}
 use Rattle.ds_server.specs.declared.board.CallRefusal.{CallRefusal}
-use Rattle.ds_server.specs.declared.board.ReportEnd.{ReportEnd}
+use Rattle.ds_server.specs.declared.board.Reported.{Reported}
 use Rattle.ds_server.specs.Replies.{Said, Refused, report_view}
 use Rattle.ds_serve.specs.SharedDesks.{HasReported, HasWorked, STEPS_MOST, goes_on, report_said, rests, sheet_of}
 
@@ -55,7 +55,7 @@ lacks s cell ShortChoice h = absurd h
 lacks s cell NoMemory h = absurd h
 
 -- an error is said
-pub refused_is : (r : Result ReportEnd CallRefusal) (P : CallRefusal → Type 0) → IsErrAnd r P → (why : CallRefusal) × (report_view r ≡ Refused why)
+pub refused_is : (r : Result Reported CallRefusal) (P : CallRefusal → Type 0) → IsErrAnd r P → (why : CallRefusal) × (report_view r ≡ Refused why)
 refused_is (Ok end) P h = absurd h
 refused_is (Err why) P h = (why, refl)
 

@@ -5,7 +5,7 @@ use Rattle.std.proofs.lemmas.List.Elements.{recursion_from_All}
 use Rattle.ds_formula.specs.declared.cells.Cell.{Cell}
 use Rattle.ds_core.specs.declared.event.Event.TheVariants.{BeginEdit}
 use Rattle.ds_core.specs.declared.reply.Reply.TheVariants.{Answered}
-use Rattle.ds_edit.specs.declared.answer.Answer.TheVariants.{Done}
+use Rattle.ds_state.specs.declared.answer.Answer.TheVariants.{Done}
 use Rattle.ds_crew.specs.Kept.{HasUsed}
 use Rattle.ds_crew.specs.Passes.{PlainPass, HaveHappened}
 use Rattle.ds_crew.specs.Receipts.{PlainReceipt}

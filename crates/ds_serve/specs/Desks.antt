@@ -2,10 +2,10 @@
 use Rattle.std.specs.Prelude.{◌≡◌, ◌⊎◌, ℕ, ◌+◌, List, Option, Some, None, Result, Ok, Err}
 use Rattle.ds_formula.specs.declared.cells.Cell.{Cell}
 use Rattle.ds_eval.specs.declared.value.Value.{Value}
-use Rattle.ds_edit.specs.declared.answer.Answer.TheVariants as answers
-use Rattle.ds_edit.specs.declared.answer.Told.{Told}
+use Rattle.ds_state.specs.declared.answer.Answer.TheVariants as answers
+use Rattle.ds_state.specs.declared.recovery.Told.{Told}
 use Rattle.ds_core.specs.declared.event.Event.{Event}
-use Rattle.ds_core.specs.declared.event.Event.TheVariants.{BeginEdit, BeginRecover, BeginShow}
+use Rattle.ds_core.specs.declared.event.Event.TheVariants.{BeginEdit, BeginRecover, BeginReport}
 use Rattle.ds_core.specs.declared.reply.Reply.{Reply}
 use Rattle.ds_core.specs.declared.reply.Reply.TheVariants.{Answered}
 use Rattle.ds_core.specs.declared.reply.Reply.TheVariants as replies
@@ -63,7 +63,7 @@ after_done pass process cell text number =
 -- whose values it keeps
 abbrev pub after_settled : PlainPass → ℕ → List Value → PlainPass
 after_settled pass process values =
-    record (asked pass (BeginShow process) (Answered answers.Settled)) { last = values; settleds = pass.settleds + 1 }
+    record (asked pass (BeginReport process) (Answered answers.Settled)) { last = values; settleds = pass.settleds + 1 }
 
 -- what a call that was answered so does to the pass that the session has, if any. A join that is not refused takes one
 -- where there was none, and tells what the process's recovery tells. An edit is of the call's cell and text, and is told
@@ -81,8 +81,8 @@ Deals (Some pass) (Set p cell text) (Refused why) new =
     ((new ≡ Some pass) × (why ≡ NoMemory)) ⊎ IsRefusedAt pass (edit_of p cell text) why new
 Deals (Some pass) (Report p) (Settled values) new = new ≡ Some (after_settled pass p values)
 Deals (Some pass) (Report p) (Unsettled place word) new =
-    new ≡ Some (asked pass (BeginShow p) (Answered (answers.Unsettled place word)))
-Deals (Some pass) (Report p) (Refused why) new = (new ≡ Some pass) ⊎ IsRefusedAt pass (BeginShow p) why new
+    new ≡ Some (asked pass (BeginReport p) (Answered (answers.Unsettled place word)))
+Deals (Some pass) (Report p) (Refused why) new = (new ≡ Some pass) ⊎ IsRefusedAt pass (BeginReport p) why new
 Deals (Some pass) (Last p) (Tells last) new = new ≡ Some (asked pass (BeginRecover p) (told_answer last))
 Deals (Some pass) (Last p) (Refused why) new = IsRefusedAt pass (BeginRecover p) why new
 Deals old (Leave p) Left new = new ≡ None

@@ -5,8 +5,8 @@ use Rattle.std.specs.Arc.{arc_value}
 use Rattle.ds_formula.specs.declared.cells.Cell.{Cell}
 use Rattle.ds_formula.specs.Cells.{IsInside}
 use Rattle.ds_eval.specs.declared.value.Value.{Value}
-use Rattle.ds_edit.specs.declared.answer.Answer.TheVariants as answers
-use Rattle.ds_edit.specs.declared.answer.Told.{Told}
+use Rattle.ds_state.specs.declared.answer.Answer.TheVariants as answers
+use Rattle.ds_state.specs.declared.recovery.Told.{Told}
 use Rattle.ds_shared.specs.declared.ended.Ended.{Ended}
 use Rattle.ds_shared.specs.declared.ended.Ended.TheVariants.{Answered, Refused, Stopped}
 use Rattle.ds_shared.specs.declared.sheet.SharedSheet.{SharedSheet}

@@ -14,10 +14,10 @@ use crossbeam_queue::ArrayQueue;
 use ds_crew::ended::{Edited, Recovered, Shown};
 use ds_crew::locked::LockedSheet;
 use ds_crew::pass::Pass;
-use ds_edit::answer::Told;
 use ds_eval::value::Value;
 use ds_formula::cells::{Cell, Shape};
-use ds_server::board::{Board, CallRefusal, EditEnd, ReportEnd};
+use ds_server::board::{Board, CallRefusal, EditEnd, Reported};
+use ds_state::recovery::Told;
 use std::alloc::Global;
 use std::sync::Wait;
 use std::sync::ledger::Ledger;
@@ -142,19 +142,19 @@ fn reported<L: Ledger, M: Ledger, R: Wait + Clock>(
     alloc: Global,
     sheet: &LockedSheet<L, M>,
     pass: &mut Pass<L, M>,
-) -> Result<ReportEnd, CallRefusal>
+) -> Result<Reported, CallRefusal>
     ensures { Deals (Some pass.old) (Report pass.old.process) (report_view result) (Some pass.new) }
 {
     settle(rt, alloc, sheet, pass)?;
     let Ok(mut values) = Vec::with_capacity(alloc, sheet.layout().cells()) else {
         return Err(CallRefusal::NoMemory);
     };
-    match sheet.show(rt, alloc, pass) {
+    match sheet.report(rt, alloc, pass) {
         Shown::Settled => {
             fill(&mut values, pass.last());
-            Ok(ReportEnd::Settled(values))
+            Ok(Reported::Settled(values))
         }
-        Shown::Unsettled(place, word) => Ok(ReportEnd::Unsettled(place, word)),
+        Shown::Unsettled(place, word) => Ok(Reported::Unsettled(place, word)),
         Shown::Refused(why) => Err(CallRefusal::from(why)),
         Shown::NotEnabled => Err(CallRefusal::ProcessTaken),
     }
@@ -223,7 +223,7 @@ impl<'a, L: Ledger, M: Ledger, R: Wait + Clock> Board for LockedDesk<'a, L, M, R
         end
     }
 
-    fn report(&mut self, alloc: Global, _process: usize) -> Result<ReportEnd, CallRefusal> {
+    fn report(&mut self, alloc: Global, _process: usize) -> Result<Reported, CallRefusal> {
         let Some(pass) = &mut self.pass else {
             return Err(CallRefusal::ProcessTaken);
         };

@@ -3,7 +3,7 @@
 ghost use Rattle.ds_core.specs.declared.event.Event.TheVariants.{BeginEdit};
 ghost use Rattle.ds_core.specs.declared.reply.Reply.TheVariants.{Answered};
 ghost use Rattle.ds_crew.specs.Kept.{HasUsed};
-ghost use Rattle.ds_edit.specs.declared.answer.Answer.TheVariants.{Done};
+ghost use Rattle.ds_state.specs.declared.answer.Answer.TheVariants.{Done};
 
 use ds_crew::ended::Receipt;
 use ds_store::edit::ToldEdit;

@@ -8,11 +8,13 @@ ghost use Rattle.ds_serve.specs.SharedDesks.{HasSet, HasReported, HasRecovered, 
 use crate::shared_settle::{STEPS_MOST, shared_settle};
 use crate::visit::Visit;
 use crossbeam_queue::ArrayQueue;
-use ds_edit::answer::{Answer, Told};
 use ds_formula::cells::{Cell, Shape};
 use ds_seats::seat::Seat;
-use ds_server::board::{Board, CallRefusal, EditEnd, ReportEnd};
+use ds_server::board::{Board, CallRefusal, EditEnd, Reported};
 use ds_shared::ended::Ended;
+use ds_state::answer::{Answer, EditEnd};
+use ds_state::recovery::{RecoveryEnd, Told};
+use ds_state::report::ReportEnd;
 use std::alloc::Global;
 use std::sync::Wait;
 use std::time::Clock;
@@ -54,8 +56,8 @@ fn told(ended: Ended) -> Result<Option<Told>, CallRefusal>
     ensures { last_view result ≡ last_said ended }
 {
     match ended {
-        Ended::Answered(Answer::Last(told)) => Ok(Some(told)),
-        Ended::Answered(Answer::Nothing) => Ok(None),
+        Ended::Answered(Answer::Recovery(RecoveryEnd::Last(told))) => Ok(Some(told)),
+        Ended::Answered(Answer::Recovery(RecoveryEnd::Nothing)) => Ok(None),
         Ended::Refused(why) => Err(CallRefusal::from(why)),
         Ended::Answered(_) | Ended::Stopped => Err(CallRefusal::Stopped),
     }
@@ -66,8 +68,8 @@ fn ended(ended: Ended) -> Result<EditEnd, CallRefusal>
     ensures { set_view result ≡ set_said ended }
 {
     match ended {
-        Ended::Answered(Answer::Done(number)) => Ok(EditEnd::Done(number)),
-        Ended::Answered(Answer::Overtaken(number, by)) => Ok(EditEnd::Overtaken(number, by)),
+        Ended::Answered(Answer::Edit(EditEnd::Done(number))) => Ok(EditEnd::Done(number)),
+        Ended::Answered(Answer::Edit(EditEnd::Overtaken(number, by))) => Ok(EditEnd::Overtaken(number, by)),
         Ended::Refused(why) => Err(CallRefusal::from(why)),
         Ended::Answered(_) | Ended::Stopped => Err(CallRefusal::Stopped),
     }
@@ -84,13 +86,13 @@ fn edited(alloc: Global, seat: &mut Seat, cell: Cell, text: &[u8]) -> Result<Edi
 }
 
 // How a report ended; where it is settled, the seat gives away the values that it has kept of it.
-fn shown(alloc: Global, ended: Ended, seat: &mut Seat) -> Result<ReportEnd, CallRefusal>
+fn shown(alloc: Global, ended: Ended, seat: &mut Seat) -> Result<Reported, CallRefusal>
     ensures said { report_view result ≡ report_said ended seat.old.last.items }
     ensures seat { IsSeatOf (sheet_of seat.old) seat.new × (seat.new.pass ≡ seat.old.pass) }
 {
     match ended {
-        Ended::Answered(Answer::Settled) => Ok(ReportEnd::Settled(seat.take_values(alloc))),
-        Ended::Answered(Answer::Unsettled(place, word)) => Ok(ReportEnd::Unsettled(place, word)),
+        Ended::Answered(Answer::Report(ReportEnd::Settled)) => Ok(Reported::Settled(seat.take_values(alloc))),
+        Ended::Answered(Answer::Report(ReportEnd::Unsettled(place, word))) => Ok(Reported::Unsettled(place, word)),
         Ended::Refused(why) => Err(CallRefusal::from(why)),
         Ended::Answered(_) | Ended::Stopped => Err(CallRefusal::Stopped),
     }
@@ -101,7 +103,7 @@ fn reported<R: Wait + Clock>(
     rt: &R,
     alloc: Global,
     seat: &mut Seat,
-) -> Result<ReportEnd, CallRefusal>
+) -> Result<Reported, CallRefusal>
     ensures { HasReported seat.old (report_view result) (Some seat.new) }
 {
     shared_settle(rt, alloc, seat)?;
@@ -173,7 +175,7 @@ impl<'a, R: Wait + Clock> Board for SharedDesk<'a, R> {
         end
     }
 
-    fn report(&mut self, alloc: Global, _process: usize) -> Result<ReportEnd, CallRefusal> {
+    fn report(&mut self, alloc: Global, _process: usize) -> Result<Reported, CallRefusal> {
         let Some(seat) = &mut self.seat else {
             return Err(CallRefusal::ProcessTaken);
         };

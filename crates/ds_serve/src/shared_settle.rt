@@ -4,11 +4,12 @@ ghost use Rattle.ds_serve.specs.SharedDesks.{HasWorked, sheet_of};
 ghost use Rattle.ds_seats.specs.Sheets.{IsSeatOf};
 
 use crate::settle::{PATIENCE, REST, Round};
-use ds_edit::answer::Answer;
 use ds_seats::fault::Fault;
 use ds_seats::seat::Seat;
 use ds_server::board::CallRefusal;
 use ds_shared::ended::Ended;
+use ds_state::answer::Answer;
+use ds_state::work::WorkEnd;
 use std::alloc::Global;
 use std::sync::Wait;
 use std::thread;
@@ -21,9 +22,9 @@ pub(crate) const STEPS_MOST: u64 = u64::MAX;
 // work.
 fn with_work(round: Round, worked: Result<Ended, Fault>) -> Result<Round, CallRefusal> {
     match worked {
-        Ok(Ended::Answered(Answer::NotDirty)) | Err(_) => Ok(round),
-        Ok(Ended::Answered(Answer::Missed)) if round != Round::Worked => Ok(Round::Held),
-        Ok(Ended::Answered(Answer::NoMemory)) => Err(CallRefusal::NoMemory),
+        Ok(Ended::Answered(Answer::Work(WorkEnd::NotDirty))) | Err(_) => Ok(round),
+        Ok(Ended::Answered(Answer::Work(WorkEnd::Missed))) if round != Round::Worked => Ok(Round::Held),
+        Ok(Ended::Answered(Answer::Work(WorkEnd::NoMemory))) => Err(CallRefusal::NoMemory),
         Ok(Ended::Answered(_)) => Ok(Round::Worked),
         Ok(Ended::Refused(why)) => Err(CallRefusal::from(why)),
         Ok(Ended::Stopped) => Err(CallRefusal::Stopped),

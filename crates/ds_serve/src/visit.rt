@@ -2,7 +2,7 @@
 
 use crate::door::Door;
 use crate::keeping::Keeping;
-use ds_server::board::{CallRefusal, EditEnd, ReportEnd};
+use ds_server::board::{CallRefusal, EditEnd, Reported};
 use std::sync::atomic::{AtomicBool, AtomicU64, Ordering};
 
 /// A session, as the log tells it: which process it has joined, whether its client was silent for too long, and whether
@@ -83,7 +83,7 @@ impl<'a> Visit<'a> {
         }
     }
 
-    pub(crate) fn counts_report(&self, end: &Result<ReportEnd, CallRefusal>) {
+    pub(crate) fn counts_report(&self, end: &Result<Reported, CallRefusal>) {
         match end {
             Ok(_) => self.door.count_report(),
             Err(_) => self.door.count_refused(),

@@ -3,7 +3,7 @@ use Rattle.std.proofs.Common.{ℕ, List, Option, Some, None, inl, inr}
 use Rattle.serde_json.specs.Data.{Data}
 use Rattle.ds_state.specs.Value.{WorldValue, world_of, IsGood}
 use Rattle.ds_state.specs.Fresh.{IsNew}
-use Rattle.ds_core.specs.declared.event.Event.TheVariants.{BeginEdit, BeginShow, BeginRecover}
+use Rattle.ds_core.specs.declared.event.Event.TheVariants.{BeginEdit, BeginReport, BeginRecover}
 use Rattle.ds_core.specs.Headline.{HasHeadline}
 use Rattle.ds_core.proofs.EachRun.{runs_have_headline}
 use Rattle.ds_calls.specs.Whole.{IsRun, request}
@@ -19,7 +19,7 @@ use Rattle.ds_server.specs.Session.{Obeys, refuses, calls, Answers, no_json, no_
 pub does_runs : (old new : WorldValue) (call : Call) (said : Said) → Does old call said new → IsRun old new
 does_runs old new call said (joins p answer told n whole is) = whole_runs p (BeginRecover p) old answer new whole
 does_runs old new call said (sets p cell text answer end n whole is) = whole_runs p (BeginEdit (request p cell text)) old answer new whole
-does_runs old new call said (reports p left mid n answer end settles whole is) = runs_on old mid new (settling_runs p old _ mid settles) (whole_runs p (BeginShow p) mid answer new whole)
+does_runs old new call said (reports p left mid n answer end settles whole is) = runs_on old mid new (settling_runs p old _ mid settles) (whole_runs p (BeginReport p) mid answer new whole)
 does_runs old new call said (is_refused p why n settles) = settling_runs p old _ new settles
 does_runs old new call said (lacks p n settles) = settling_runs p old _ new settles
 does_runs old new call said (tells p answer told n whole is) = whole_runs p (BeginRecover p) old answer new whole

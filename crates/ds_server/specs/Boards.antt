@@ -1,7 +1,7 @@
 -- What a board says of itself.
 use Rattle.std.specs.Prelude.{ℕ, ◌≡◌, Option, Some, None, Result, Ok, Err}
 use Rattle.ds_formula.specs.declared.cells.Shape.{Shape}
-use Rattle.ds_edit.specs.declared.answer.Told.{Told}
+use Rattle.ds_state.specs.declared.recovery.Told.{Told}
 use Rattle.ds_server.specs.declared.board.CallRefusal.{CallRefusal}
 use Rattle.ds_server.specs.BoardCalls.{Call, Leave}
 use Rattle.ds_server.specs.Replies.{Said, Joined, Left}

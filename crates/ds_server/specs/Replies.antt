@@ -2,13 +2,13 @@
 use Rattle.std.specs.Prelude.{ℕ, List, Option, Result, Ok, Err}
 use Rattle.ds_eval.specs.declared.value.Value.{Value}
 use Rattle.ds_layout.specs.declared.place.Place.{Place}
-use Rattle.ds_edit.specs.declared.answer.Other.{Other}
-use Rattle.ds_edit.specs.declared.answer.Told.{Told}
+use Rattle.ds_state.specs.declared.answer.Other.{Other}
+use Rattle.ds_state.specs.declared.recovery.Told.{Told}
 use Rattle.ds_server.specs.declared.board.CallRefusal.{CallRefusal}
 use Rattle.ds_server.specs.declared.board.EditEnd.{EditEnd}
 use Rattle.ds_server.specs.declared.board.EditEnd.TheVariants as edit
-use Rattle.ds_server.specs.declared.board.ReportEnd.{ReportEnd}
-use Rattle.ds_server.specs.declared.board.ReportEnd.TheVariants as report
+use Rattle.ds_server.specs.declared.board.Reported.{Reported}
+use Rattle.ds_server.specs.declared.board.Reported.TheVariants as report
 use Rattle.ds_server.specs.declared.request.LineFault.{LineFault}
 
 -- what a board answers to a call; and `Faulted`, what a session says to a line that asks for no call
@@ -35,7 +35,7 @@ set_view (Ok (edit.Overtaken number by)) = Overtaken number by
 set_view (Err why) = Refused why
 
 -- what is said to a report
-abbrev pub report_view : Result ReportEnd CallRefusal → Said
+abbrev pub report_view : Result Reported CallRefusal → Said
 report_view (Ok (report.Settled values)) = Settled values.items
 report_view (Ok (report.Unsettled place word)) = Unsettled place word
 report_view (Err why) = Refused why

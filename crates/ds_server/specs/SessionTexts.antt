@@ -12,8 +12,8 @@ use Rattle.ds_eval.specs.declared.value.Value.{Value}
 use Rattle.ds_eval.specs.Numbers.{value_text}
 use Rattle.ds_layout.specs.declared.place.Place.{Place}
 use Rattle.ds_layout.specs.declared.place.Place.TheVariants as place
-use Rattle.ds_edit.specs.declared.answer.Other.{Other}
-use Rattle.ds_edit.specs.declared.answer.Told.{Told}
+use Rattle.ds_state.specs.declared.answer.Other.{Other}
+use Rattle.ds_state.specs.declared.recovery.Told.{Told}
 use Rattle.ds_server.specs.declared.board.CallRefusal.{CallRefusal}
 use Rattle.ds_server.specs.declared.board.CallRefusal.TheVariants as refusal
 use Rattle.ds_server.specs.declared.request.LineFault.{LineFault}

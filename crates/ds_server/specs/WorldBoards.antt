@@ -6,10 +6,10 @@ use Rattle.ds_state.specs.Value.{WorldValue, world_of}
 use Rattle.ds_state.specs.declared.refusal.Refusal.{Refusal}
 use Rattle.ds_state.specs.declared.refusal.Refusal.TheVariants as begin
 use Rattle.ds_recover.specs.RecoverBegun.{MayRecover}
-use Rattle.ds_edit.specs.declared.answer.Answer.{Answer}
-use Rattle.ds_edit.specs.declared.answer.Answer.TheVariants as answers
-use Rattle.ds_edit.specs.declared.answer.Told.{Told}
-use Rattle.ds_core.specs.declared.event.Event.TheVariants.{BeginEdit, BeginShow, BeginRecover}
+use Rattle.ds_state.specs.declared.answer.Answer.{Answer}
+use Rattle.ds_state.specs.declared.answer.Answer.TheVariants as answers
+use Rattle.ds_state.specs.declared.recovery.Told.{Told}
+use Rattle.ds_core.specs.declared.event.Event.TheVariants.{BeginEdit, BeginReport, BeginRecover}
 use Rattle.ds_calls.specs.declared.settle.SettleEnd.TheVariants as settle
 use Rattle.ds_calls.specs.declared.settle.Turn.TheVariants.{Ends}
 use Rattle.ds_calls.specs.Whole.{HasProcess, Whole, request}
@@ -18,8 +18,8 @@ use Rattle.ds_server.specs.declared.board.CallRefusal.{CallRefusal}
 use Rattle.ds_server.specs.declared.board.CallRefusal.TheVariants as refusal
 use Rattle.ds_server.specs.declared.board.EditEnd.{EditEnd}
 use Rattle.ds_server.specs.declared.board.EditEnd.TheVariants as edit
-use Rattle.ds_server.specs.declared.board.ReportEnd.{ReportEnd}
-use Rattle.ds_server.specs.declared.board.ReportEnd.TheVariants as report
+use Rattle.ds_server.specs.declared.board.Reported.{Reported}
+use Rattle.ds_server.specs.declared.board.Reported.TheVariants as report
 use Rattle.ds_server.specs.BoardCalls.{Call, Join, Set, Report, Last, Leave}
 use Rattle.ds_server.specs.Replies.{Said, Left, joined_view, set_view, report_view, last_view}
 use Rattle.ds_server.specs.Boards.{Rules}
@@ -56,13 +56,13 @@ abbrev pub values_of : WorldValue → ℕ → List Value
 values_of w p = slice_index_or w.reports.values p []
 
 -- the values are copied, or memory is wanting for the copy
-abbrev pub Copies : List Value → Result ReportEnd CallRefusal → Type 0
+abbrev pub Copies : List Value → Result Reported CallRefusal → Type 0
 Copies values (Ok (report.Settled copy)) = copy.items ≡ values
 Copies values (Ok (report.Unsettled place word)) = ⊥
 Copies values (Err why) = why ≡ refusal.NoMemory
 
 -- a report that ended so, in the world behind it, is answered this; no report has another answer
-abbrev pub Reports : WorldValue → ℕ → Result Answer Refusal → Result ReportEnd CallRefusal → Type 0
+abbrev pub Reports : WorldValue → ℕ → Result Answer Refusal → Result Reported CallRefusal → Type 0
 Reports w p (Ok answers.Settled) result = Copies (values_of w p) result
 Reports w p (Ok (answers.Unsettled place word)) result = result ≡ Ok (report.Unsettled place word)
 Reports w p (Ok answer) result = ⊥
@@ -78,7 +78,7 @@ pub data Does (old : WorldValue) : Call → Said → WorldValue → Type 0 where
       → Does old (Join p) (joined_view p told) new
   sets : (p : ℕ) (cell : Cell) (text : List ℕ) (answer : Result Answer Refusal) (end : Result EditEnd CallRefusal) (new : WorldValue) → Whole p (BeginEdit (request p cell text)) old answer new → Edits answer end
       → Does old (Set p cell text) (set_view end) new
-  reports : (p left : ℕ) (mid new : WorldValue) (answer : Result Answer Refusal) (end : Result ReportEnd CallRefusal) → Settling p old (Ends (settle.Left left)) mid → Whole p (BeginShow p) mid answer new → Reports new p answer end
+  reports : (p left : ℕ) (mid new : WorldValue) (answer : Result Answer Refusal) (end : Result Reported CallRefusal) → Settling p old (Ends (settle.Left left)) mid → Whole p (BeginReport p) mid answer new → Reports new p answer end
       → Does old (Report p) (report_view end) new
   is_refused : (p : ℕ) (why : Refusal) (new : WorldValue) → Settling p old (Ends (settle.Refused why)) new → Does old (Report p) (report_view (Err (refused_by why))) new
   lacks : (p : ℕ) (new : WorldValue) → Settling p old (Ends settle.NoMemory) new → Does old (Report p) (report_view (Err refusal.NoMemory)) new
@@ -115,7 +115,7 @@ pub record HasEdited (p : ℕ) (cell : Cell) (text : List ℕ) (old : WorldValue
   pub tells : Edits answer end
 
 -- a whole report of the process, and how it ended
-pub record HasReported (p : ℕ) (old : WorldValue) (end : Result ReportEnd CallRefusal) (new : WorldValue) : Type 0 where
+pub record HasReported (p : ℕ) (old : WorldValue) (end : Result Reported CallRefusal) (new : WorldValue) : Type 0 where
   pub answer : Result Answer Refusal
-  pub whole : Whole p (BeginShow p) old answer new
+  pub whole : Whole p (BeginReport p) old answer new
   pub tells : Reports new p answer end

@@ -10,11 +10,12 @@ ghost use Rattle.ds_server.specs.LineAnswers.{reply_view};
 
 use crate::board::CallRefusal;
 use crate::request::LineFault;
-use ds_edit::answer::{Other, Told};
 use ds_eval::value::Value;
 use ds_formula::cells::Shape;
 use ds_formula::fault::TextFault;
 use ds_layout::place::Place;
+use ds_state::answer::Other;
+use ds_state::recovery::Told;
 use ds_streams::answer::cell_at;
 use serde_json::{Value as Json, json};
 use std::alloc::{AllocError, Global};

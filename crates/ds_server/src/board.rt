@@ -6,11 +6,12 @@ ghost use Rattle.ds_server.specs.BoardCalls.{Join, Set, Report, Last, Leave};
 ghost use Rattle.ds_server.specs.Replies.{Left, joined_view, set_view, report_view, last_view};
 ghost use Rattle.ds_server.specs.Boards.{SitsAfter};
 
-use ds_edit::answer::{Other, Told};
 use ds_eval::value::Value;
 use ds_formula::cells::{Cell, Shape};
 use ds_formula::fault::TextFault;
 use ds_layout::place::Place;
+use ds_state::answer::Other;
+use ds_state::recovery::Told;
 use std::alloc::Global;
 
 /// Why a board refuses a call. Its codes are apart from those of a line that is no call
@@ -41,7 +42,7 @@ pub enum EditEnd {
 
 /// How a report ended.
 #[derive(Debug, Drop)]
-pub enum ReportEnd {
+pub enum Reported {
     /// The values of the cells, row by row from the left.
     Settled(Vec<Value>),
     /// This mark or announcement, whose word the report saw, was not at rest.
@@ -86,7 +87,7 @@ pub trait Board {
         ensures sits { rules.sits self.new process };
 
     /// A settle, and a whole report.
-    fn report(&mut self, alloc: Global, process: usize) -> Result<ReportEnd, CallRefusal>
+    fn report(&mut self, alloc: Global, process: usize) -> Result<Reported, CallRefusal>
         requires { rules.sits self.old process }
         ensures does { rules.does self.old (Report process) (report_view result) self.new }
         ensures sits { rules.sits self.new process };

@@ -15,7 +15,7 @@ ghost use Rattle.ds_server.specs.LineAnswers.{reply_view, Writes, Says, Turned, 
 ghost use Rattle.ds_server.specs.declared.session.TheConstants as constants;
 
 use crate::answer::{Reply, reply_line};
-use crate::board::{Board, EditEnd, ReportEnd};
+use crate::board::{Board, EditEnd, Reported};
 use crate::line::{LineEnd, read_line};
 use crate::request::{LineFault, Request, read_json, read_request};
 use ds_formula::cells::{Cell, Shape};
@@ -97,8 +97,8 @@ fn report<B: Board>(alloc: Global, board: &mut B, process: usize) -> Reply
     ensures seated { Seated B.rules (joined_after (Some process) (reply_view result)) board.new }
 {
     match board.report(alloc, process) {
-        Ok(ReportEnd::Settled(values)) => Reply::Settled(values),
-        Ok(ReportEnd::Unsettled(place, word)) => Reply::Unsettled(place, word),
+        Ok(Reported::Settled(values)) => Reply::Settled(values),
+        Ok(Reported::Unsettled(place, word)) => Reply::Unsettled(place, word),
         Err(refusal) => Reply::Refused(refusal),
     }
 }

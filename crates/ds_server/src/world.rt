@@ -13,11 +13,13 @@ ghost use Rattle.ds_server.specs.Replies.{Left, joined_view, set_view, report_vi
 ghost use Rattle.ds_server.specs.Session.{Outcome};
 ghost use Rattle.ds_server.specs.WorldBoards.{refused_by, values_of, Copies, Does, IsSeated, world_rules, HasRecovered, HasEdited, HasReported};
 
-use crate::board::{Board, CallRefusal, EditEnd, ReportEnd};
+use crate::board::{Board, CallRefusal, EditEnd, Reported};
 use ds_calls::call::{whole_edit, whole_recovery, whole_report};
 use ds_calls::settle::{SettleEnd, settle};
-use ds_edit::answer::{Answer, Told};
 use ds_formula::cells::{Cell, Shape};
+use ds_state::answer::Answer;
+use ds_state::recovery::{RecoveryEnd, Told};
+use ds_state::report::ReportEnd;
 use ds_state::refusal::Refusal;
 use ds_state::world::World;
 use std::alloc::Global;
@@ -45,8 +47,8 @@ fn recovered(alloc: Global, world: &mut World, process: usize) -> Result<Option<
     ensures free { KeepsFree process world.old world.new }
 {
     match whole_recovery(alloc, world, process) {
-        Ok(Answer::Last(told)) => Ok(Some(told)),
-        Ok(Answer::Nothing) => Ok(None),
+        Ok(Answer::Recovery(RecoveryEnd::Last(told))) => Ok(Some(told)),
+        Ok(Answer::Recovery(RecoveryEnd::Nothing)) => Ok(None),
         Ok(_) => unreachable!(),
         Err(refusal) => Err(CallRefusal::from(refusal)),
     }
@@ -65,41 +67,41 @@ fn edited(
     ensures free { KeepsFree process world.old world.new }
 {
     match whole_edit(alloc, world, process, cell, text) {
-        Ok(Answer::Done(number)) => Ok(EditEnd::Done(number)),
-        Ok(Answer::Overtaken(number, by)) => Ok(EditEnd::Overtaken(number, by)),
+        Ok(Answer::Edit(EditEnd::Done(number))) => Ok(EditEnd::Done(number)),
+        Ok(Answer::Edit(EditEnd::Overtaken(number, by))) => Ok(EditEnd::Overtaken(number, by)),
         Ok(_) => unreachable!(),
         Err(refusal) => Err(CallRefusal::from(refusal)),
     }
 }
 
 // The values of the process's last settled report.
-fn copied(alloc: Global, world: &World, process: usize) -> Result<ReportEnd, CallRefusal>
+fn copied(alloc: Global, world: &World, process: usize) -> Result<Reported, CallRefusal>
     requires { HasProcess world.now process }
     ensures { Copies (values_of world.now process) result }
 {
     world.is_always_good();
     match Vec::from_slice(alloc, world.reports.of(process)) {
-        Ok(values) => Ok(ReportEnd::Settled(values)),
+        Ok(values) => Ok(Reported::Settled(values)),
         Err(_) => Err(CallRefusal::NoMemory),
     }
 }
 
 // A whole report, and how it ended.
-fn reported(alloc: Global, world: &mut World, process: usize) -> Result<ReportEnd, CallRefusal>
+fn reported(alloc: Global, world: &mut World, process: usize) -> Result<Reported, CallRefusal>
     requires { HasProcess world.old process }
     ensures reported { HasReported process world.old result world.new }
     ensures free { KeepsFree process world.old world.new }
 {
     match whole_report(alloc, world, process) {
-        Ok(Answer::Settled) => copied(alloc, world, process),
-        Ok(Answer::Unsettled(place, word)) => Ok(ReportEnd::Unsettled(place, word)),
+        Ok(Answer::Report(ReportEnd::Settled)) => copied(alloc, world, process),
+        Ok(Answer::Report(ReportEnd::Unsettled(place, word))) => Ok(Reported::Unsettled(place, word)),
         Ok(_) => unreachable!(),
         Err(refusal) => Err(CallRefusal::from(refusal)),
     }
 }
 
 // A settle, and then a whole report.
-fn settled(alloc: Global, world: &mut World, process: usize) -> Result<ReportEnd, CallRefusal>
+fn settled(alloc: Global, world: &mut World, process: usize) -> Result<Reported, CallRefusal>
     requires { HasProcess world.old process }
     ensures does { Does world.old (Report process) (report_view result) world.new }
     ensures free { KeepsFree process world.old world.new }
@@ -140,7 +142,7 @@ impl Board for World {
         edited(alloc, self, process, cell, text)
     }
 
-    fn report(&mut self, alloc: Global, process: usize) -> Result<ReportEnd, CallRefusal> {
+    fn report(&mut self, alloc: Global, process: usize) -> Result<Reported, CallRefusal> {
         settled(alloc, self, process)
     }
 

@@ -1,9 +1,9 @@
-use ds_edit::answer::Other;
 use ds_formula::cells::Shape;
 use ds_layout::place::Place;
 use ds_server::answer::{Reply, reply_line};
 use ds_server::board::CallRefusal;
 use ds_server::request::LineFault;
+use ds_state::answer::Other;
 use std::alloc::AllocError;
 use std::process::Abort;
 

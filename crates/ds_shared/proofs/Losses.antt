@@ -20,7 +20,7 @@ use Rattle.ds_state.specs.declared.situation.Situation.TheVariants.{Stopped}
 use Rattle.ds_state.proofs.Heads.{IsSmall, Small, small_counted, small_of_cell, head_push}
 use Rattle.ds_state.proofs.Losing.{increasing_cell}
 use Rattle.ds_state.proofs.Spent.{spent_crashed}
-use Rattle.ds_recover.specs.declared.machine.RecoveryEnd.TheVariants.{Last, Nothing}
+use Rattle.ds_state.specs.declared.recovery.RecoveryEnd.TheVariants.{Last, Nothing}
 use Rattle.ds_drives.specs.declared.board.Told.{Told}
 use Rattle.ds_drives.specs.declared.board.Told.TheVariants.{Edited, Worked, Recovered, Shown}
 use Rattle.ds_drives.specs.Rule.{IsTold, IsTrueTold, CountsAs}

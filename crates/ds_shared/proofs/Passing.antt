@@ -6,7 +6,7 @@ use Rattle.atomic_table.specs.declared.shared.Seat.{Seat}
 use Rattle.ds_words.specs.declared.access.BufferEntry.{BufferEntry}
 use Rattle.ds_layout.specs.declared.layout.Layout.{Layout}
 use Rattle.ds_state.specs.Edits.{PlainEditCall}
-use Rattle.ds_state.specs.Works.{PlainWorkCall, PlainRecoverCall, PlainShowCall}
+use Rattle.ds_state.specs.Works.{PlainWorkCall, PlainRecoverCall, PlainReportCall}
 use Rattle.ds_state.specs.declared.situation.Situation.TheVariants.{Idle}
 use Rattle.ds_state.specs.declared.stage.Outcome.{Outcome}
 use Rattle.ds_state.specs.declared.stage.Stage.{Stage}
@@ -14,11 +14,11 @@ use Rattle.ds_state.specs.declared.stage.Stage.TheVariants as stage
 use Rattle.ds_state.specs.declared.work.WorkEnd.{WorkEnd}
 use Rattle.ds_state.specs.declared.work.WorkStage.{WorkStage}
 use Rattle.ds_state.specs.declared.work.WorkStage.TheVariants as work
-use Rattle.ds_state.specs.declared.work.RecoverStage.{RecoverStage}
-use Rattle.ds_state.specs.declared.work.RecoverStage.TheVariants as recovery
-use Rattle.ds_state.specs.declared.work.ShowEnd.{ShowEnd}
-use Rattle.ds_state.specs.declared.work.ShowStage.{ShowStage}
-use Rattle.ds_state.specs.declared.work.ShowStage.TheVariants as show
+use Rattle.ds_state.specs.declared.recovery.RecoverStage.{RecoverStage}
+use Rattle.ds_state.specs.declared.recovery.RecoverStage.TheVariants as recovery
+use Rattle.ds_state.specs.declared.report.ReportEnd.{ReportEnd}
+use Rattle.ds_state.specs.declared.report.ReportStage.{ReportStage}
+use Rattle.ds_state.specs.declared.report.ReportStage.TheVariants as show
 use Rattle.ds_recover.specs.RecoverySteps.{next_number, end_of}
 use Rattle.ds_drives.specs.declared.board.Deeds.{Deeds}
 use Rattle.ds_drives.specs.declared.board.Seated.{Seated}
@@ -31,7 +31,7 @@ use Rattle.ds_drives.specs.Machines.{IsSettled, IsBroken, unbegun, within}
 use Rattle.ds_drives.specs.EditRules as edits
 use Rattle.ds_drives.specs.WorkRules as works
 use Rattle.ds_drives.specs.RecoverRules as recoveries
-use Rattle.ds_drives.specs.ShowRules as shows
+use Rattle.ds_drives.specs.ReportRules as shows
 use Rattle.ds_shared.specs.Known.{IsKnown}
 
 -- the seat has one process, which is this
@@ -95,11 +95,11 @@ recovery_lands layout held me e how is s = record { buffer = s.buffer; at = s.at
     one : (z : RecoverStage) → z ≡ recovery.Answer how → recoveries.landed_at e z s.buffer held ≡ seated e.process (Idle (second_rest (next_number e.announcement how))) s.buffer (told_also held (Recovered (record e { stage = z }) (end_of e how)))
     one z at = subst (λ (y : RecoverStage). recoveries.landed_at e y s.buffer held ≡ seated e.process (Idle (second_rest (next_number e.announcement how))) s.buffer (told_also held (Recovered (record e { stage = y }) (end_of e how)))) (sym at) refl
 
-pub show_lands : (layout : Layout) (held : Deeds) (me : Me ℕ View) (e : PlainShowCall) (end : ShowEnd) → e.stage ≡ show.Answer end → IsSettled shows.show_rules layout held me e → Lands me e.process e.next held (Shown e)
+pub show_lands : (layout : Layout) (held : Deeds) (me : Me ℕ View) (e : PlainReportCall) (end : ReportEnd) → e.stage ≡ show.Answer end → IsSettled shows.show_rules layout held me e → Lands me e.process e.next held (Shown e)
 show_lands layout held me e end is s = record { buffer = s.buffer; at = s.at ∙ ap (λ (z : Seated). (lone z, [])) (one e.stage is) }
   where
-    one : (z : ShowStage) → z ≡ show.Answer end → shows.landed_at e z s.buffer held ≡ seated e.process (Idle (second_rest e.next)) s.buffer (told_also held (Shown (record e { stage = z })))
-    one z at = subst (λ (y : ShowStage). shows.landed_at e y s.buffer held ≡ seated e.process (Idle (second_rest e.next)) s.buffer (told_also held (Shown (record e { stage = y })))) (sym at) refl
+    one : (z : ReportStage) → z ≡ show.Answer end → shows.landed_at e z s.buffer held ≡ seated e.process (Idle (second_rest e.next)) s.buffer (told_also held (Shown (record e { stage = z })))
+    one z at = subst (λ (y : ReportStage). shows.landed_at e y s.buffer held ≡ seated e.process (Idle (second_rest e.next)) s.buffer (told_also held (Shown (record e { stage = y })))) (sym at) refl
 
 -- what was told stays told
 pub told_more : (old new : List Told) (t u : Told) → new ≡ t ∷ old → In old u → In new u

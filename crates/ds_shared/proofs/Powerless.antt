@@ -23,7 +23,7 @@ use Rattle.ds_state.proofs.Accesses.{evict_sound}
 use Rattle.ds_state.proofs.Buffers.{buffered}
 use Rattle.ds_state.proofs.CrashSound.{crash_sound}
 use Rattle.ds_state.proofs.Spent.{spent_evicted}
-use Rattle.ds_recover.specs.declared.machine.RecoveryEnd.TheVariants.{Last, Nothing}
+use Rattle.ds_state.specs.declared.recovery.RecoveryEnd.TheVariants.{Last, Nothing}
 use Rattle.ds_drives.specs.declared.board.Told.{Told}
 use Rattle.ds_drives.specs.declared.board.Told.TheVariants.{Edited, Worked, Recovered, Shown}
 use Rattle.ds_drives.specs.Table.{two_sided}

@@ -2,22 +2,22 @@
 use Rattle.std.specs.Prelude.{ℕ, ◌≡◌, ◌<◌, ◌+◌, Bool, true, false, List, [], ◌∷◌, map, reverse, Option, Some, None, Vec}
 use Rattle.std.specs.Global.{Global}
 use Rattle.ds_eval.specs.declared.value.Value.{Value}
-use Rattle.ds_show.specs.ShowSteps.{answered}
+use Rattle.ds_report.specs.ReportSteps.{answered}
 use Rattle.ds_state.specs.declared.refusal.Refusal.{Refusal}
 use Rattle.ds_state.specs.declared.situation.Situation.{Situation}
 use Rattle.ds_state.specs.declared.situation.Situation.TheVariants.{Idle, Stopped}
-use Rattle.ds_state.specs.Works.{PlainShowCall, PlainWorkCall}
+use Rattle.ds_state.specs.Works.{PlainReportCall, PlainWorkCall}
 use Rattle.ds_state.specs.declared.work.WorkEnd.{WorkEnd}
 use Rattle.ds_state.specs.declared.work.WorkEnd.TheVariants as works
-use Rattle.ds_state.specs.declared.work.ShowEnd.TheVariants as shows
-use Rattle.ds_state.specs.declared.work.ShowStage.{ShowStage}
-use Rattle.ds_state.specs.declared.work.ShowStage.TheVariants as stages
+use Rattle.ds_state.specs.declared.report.ReportEnd.TheVariants as shows
+use Rattle.ds_state.specs.declared.report.ReportStage.{ReportStage}
+use Rattle.ds_state.specs.declared.report.ReportStage.TheVariants as stages
 use Rattle.ds_layout.specs.declared.place.Place.TheVariants as place
-use Rattle.ds_recover.specs.declared.machine.RecoveryEnd.{RecoveryEnd}
-use Rattle.ds_recover.specs.declared.machine.RecoveryEnd.TheVariants as recoveries
-use Rattle.ds_edit.specs.declared.answer.Answer.{Answer}
-use Rattle.ds_edit.specs.declared.answer.Answer.TheVariants as answers
-use Rattle.ds_edit.specs.EditEndings.{answer_of}
+use Rattle.ds_state.specs.declared.recovery.RecoveryEnd.{RecoveryEnd}
+use Rattle.ds_state.specs.declared.recovery.RecoveryEnd.TheVariants as recoveries
+use Rattle.ds_state.specs.declared.answer.Answer.{Answer}
+use Rattle.ds_state.specs.declared.answer.Answer.TheVariants as answers
+use Rattle.ds_state.specs.EditEndings.{answer_of}
 use Rattle.ds_drives.specs.declared.board.Told.{Told}
 use Rattle.ds_drives.specs.declared.board.Told.TheVariants.{Edited, Worked, Recovered, Shown}
 use Rattle.ds_drives.specs.Fuses.{Asked}
@@ -92,19 +92,19 @@ number_behind (answers.Last told) = told.number + 1
 number_behind _ = 0
 
 -- the answer of a report at its last stage
-abbrev pub show_answer : ShowStage → Answer
+abbrev pub show_answer : ReportStage → Answer
 show_answer (stages.Answer (shows.AtMark cell word)) = answers.Unsettled (place.Mark cell) word
 show_answer (stages.Answer (shows.AtAnnounce process word)) = answers.Unsettled (place.Announce process) word
 show_answer _ = answers.Settled
 
 -- the values are those of a settled report; another one has none
-abbrev pub ShowsAt : PlainShowCall → ShowStage → Option (Vec Value Global) → Type 0
+abbrev pub ShowsAt : PlainReportCall → ReportStage → Option (Vec Value Global) → Type 0
 ShowsAt e (stages.Answer shows.Settled) (Some values) = values.items ≡ answered e
 ShowsAt e (stages.Answer shows.Settled) None = ⊥
 ShowsAt e _ values = values ≡ None
 
 -- so it is at its last stage
-abbrev pub ShowsValues : PlainShowCall → Option (Vec Value Global) → Type 0
+abbrev pub ShowsValues : PlainReportCall → Option (Vec Value Global) → Type 0
 ShowsValues e values = ShowsAt e e.stage values
 
 -- the answer of a call of which this is told

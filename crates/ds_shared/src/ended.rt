@@ -1,6 +1,6 @@
 //! How a call on the shared sheet ended.
 
-use ds_edit::answer::Answer;
+use ds_state::answer::Answer;
 use ds_state::refusal::Refusal;
 
 /// How a call ended.

@@ -9,7 +9,7 @@ pub mod recover;
 pub mod reopen;
 pub mod seats;
 pub mod sheet;
-pub mod show;
+pub mod report;
 #[cfg(test)]
 mod tests;
 pub mod work;

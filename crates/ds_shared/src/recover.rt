@@ -5,9 +5,9 @@ ghost use Rattle.ds_layout.specs.Places.{cells_of};
 ghost use Rattle.ds_layout.specs.declared.place.TheConstants.{RECORDS};
 ghost use Rattle.ds_state.specs.Works.{PlainRecoverCall};
 ghost use Rattle.ds_state.specs.RecoverStages.{IsRecovery};
-ghost use Rattle.ds_state.specs.declared.work.RecoverStage.TheVariants.{Answer as Ends};
+ghost use Rattle.ds_state.specs.declared.recovery.RecoverStage.TheVariants.{Answer as Ends};
 ghost use Rattle.ds_recover.specs.RecoverySteps.{end_of, next_number, fresh as begun};
-ghost use Rattle.ds_recover.specs.declared.machine.RecoveryEnd.{RecoveryEnd as End};
+ghost use Rattle.ds_state.specs.declared.recovery.RecoveryEnd.{RecoveryEnd as End};
 ghost use Rattle.ds_drives.specs.declared.board.Told.{Told};
 ghost use Rattle.ds_drives.specs.declared.board.Told.TheVariants.{Recovered};
 ghost use Rattle.ds_drives.specs.RecoverRules.{IsEnded, recover_rules};
@@ -19,10 +19,10 @@ use crate::ended::Ended;
 use crate::pass::Pass;
 use crate::sheet::SharedSheet;
 use ds_drives::fuse::Fuse;
-use ds_edit::answer::{self, Answer};
 use ds_recover::begin::fresh;
 use ds_recover::machine::{Effect, RecoveryEnd, effect_of};
-use ds_state::work::RecoverCall;
+use ds_state::answer::Answer;
+use ds_state::recovery::{RecoverCall, RecoveryEnd};
 use std::alloc::Global;
 
 // It is a recovery of a sheet.
@@ -64,16 +64,16 @@ fn answered(end: RecoveryEnd) -> Answer
     ensures { result ≡ recovery_answer end }
 {
     match end {
-        RecoveryEnd::Nothing => Answer::Nothing,
+        RecoveryEnd::Nothing => Answer::Recovery(RecoveryEnd::Nothing),
         RecoveryEnd::Last {
             number,
             cell,
             counts,
-        } => Answer::Last(answer::Told {
+        } => Answer::Recovery(RecoveryEnd::Last(answer::Told {
             number,
             cell,
             counts,
-        }),
+        })),
     }
 }
 

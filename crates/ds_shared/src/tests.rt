@@ -9,12 +9,14 @@ use crate::ended::Ended;
 use crate::pass::{Pass, Past};
 use crate::sheet::{ClosedSheet, SharedSheet};
 use ds_drives::fuse::{Fuse, Whole};
-use ds_edit::answer::Answer;
 use ds_eval::value::Value;
 use ds_formula::cells::{Cell, Shape};
 use ds_formula::fault::{FaultKind, TextFault};
 use ds_layout::layout::Layout;
 use ds_layout::place::Place;
+use ds_state::answer::{Answer, EditEnd};
+use ds_state::recovery::RecoveryEnd;
+use ds_state::report::ReportEnd;
 use ds_state::refusal::Refusal;
 use std::alloc::Global;
 use std::test::Fail;
@@ -105,8 +107,8 @@ fn many(
     let mut late: u64 = 0;
     for _round in 0..times {
         match sheet.edit(alloc, &mut pass, cell, b"=1+2", &mut Whole) {
-            Ended::Answered(Answer::Done(_)) => done = done.wrapping_add(1),
-            Ended::Answered(Answer::Overtaken(_, other)) if other.process < 2 => {
+            Ended::Answered(Answer::Edit(EditEnd::Done(_))) => done = done.wrapping_add(1),
+            Ended::Answered(Answer::Edit(EditEnd::Overtaken(_, other))) if other.process < 2 => {
                 late = late.wrapping_add(1);
             }
             _ => (),
@@ -213,14 +215,14 @@ fn a_write_is_read_back(rt: HostRuntime) -> Result<(), Fail> {
         || true,
     );
     work_all(rt.alloc(), &sheet, &mut second, a, b);
-    let (said, values) = sheet.show(rt.alloc(), &mut second, &mut Whole);
+    let (said, values) = sheet.report(rt.alloc(), &mut second, &mut Whole);
     let Some(closed) = ended(rt.alloc(), sheet, past, first.0, second) else {
         return Ok(());
     };
     let value = closed.value_of(a);
     closed.free();
     assert_eq!(rt; done, true);
-    assert_eq!(rt; said, Ended::Answered(Answer::Settled));
+    assert_eq!(rt; said, Ended::Answered(Answer::Report(ReportEnd::Settled)));
     assert_eq!(rt; value, Value::Number(3));
     if let Some(values) = values {
         assert_eq!(rt; values.as_slice(), shows(3).as_slice());
@@ -238,11 +240,11 @@ fn stale_tree(rt: HostRuntime) -> Result<(), Fail> {
     let nothing = sheet.recover(rt.alloc(), &mut first, &mut Whole);
     let done = sheet.edit(rt.alloc(), &mut first, a, b"2", &mut Whole);
     work_all(rt.alloc(), &sheet, &mut second, a, b);
-    let (said, values) = sheet.show(rt.alloc(), &mut second, &mut Whole);
+    let (said, values) = sheet.report(rt.alloc(), &mut second, &mut Whole);
     assert_eq!(rt; broken, Ended::Stopped);
-    assert_eq!(rt; nothing, Ended::Answered(Answer::Nothing));
-    assert_eq!(rt; done, Ended::Answered(Answer::Done(0)));
-    assert_eq!(rt; said, Ended::Answered(Answer::Settled));
+    assert_eq!(rt; nothing, Ended::Answered(Answer::Recovery(RecoveryEnd::Nothing)));
+    assert_eq!(rt; done, Ended::Answered(Answer::Edit(EditEnd::Done(0))));
+    assert_eq!(rt; said, Ended::Answered(Answer::Report(ReportEnd::Settled)));
     if let Some(values) = values {
         assert_eq!(rt; values.as_slice(), shows(2).as_slice());
     }
@@ -277,26 +279,26 @@ fn broken_off(alloc: Global, steps: u64, cached: bool) -> Option<(Ended, Ended, 
 
 fn told(steps: u64, unannounced: u64, undone: u64) -> Ended {
     if steps <= unannounced {
-        return Ended::Answered(Answer::Nothing);
+        return Ended::Answered(Answer::Recovery(RecoveryEnd::Nothing));
     }
-    Ended::Answered(Answer::Last(ds_edit::answer::Told {
+    Ended::Answered(Answer::Recovery(RecoveryEnd::Last(ds_edit::answer::Told {
         number: 0,
         cell: 0,
         counts: steps > undone,
-    }))
+    })))
 }
 
 #[test]
 fn edits_are_resolved(rt: HostRuntime) -> Result<(), Fail> {
     for steps in 0..20u64 {
         if let Some((edited, one, two)) = broken_off(rt.alloc(), steps, false) {
-            assert_eq!(rt; edited == Ended::Answered(Answer::Done(0)), steps == 19);
+            assert_eq!(rt; edited == Ended::Answered(Answer::Edit(EditEnd::Done(0))), steps == 19);
             assert_eq!(rt; one, told(steps, 8, 12));
-            assert_eq!(rt; two, Ended::Answered(Answer::Nothing));
+            assert_eq!(rt; two, Ended::Answered(Answer::Recovery(RecoveryEnd::Nothing)));
         }
         if let Some((_edited, one, two)) = broken_off(rt.alloc(), steps, true) {
             assert_eq!(rt; one, told(steps, 6, 10));
-            assert_eq!(rt; two, Ended::Answered(Answer::Nothing));
+            assert_eq!(rt; two, Ended::Answered(Answer::Recovery(RecoveryEnd::Nothing)));
         }
     }
     Ok(())
@@ -345,7 +347,7 @@ fn kept(alloc: Global, text: &[u8]) -> Option<Outcome> {
 #[test]
 fn texts_have_up_to_240_bytes(rt: HostRuntime) -> Result<(), Fail> {
     if let Some(kept) = kept(rt.alloc(), LONGEST.as_bytes()) {
-        assert_eq!(rt; kept.edited, Ended::Answered(Answer::Done(0)));
+        assert_eq!(rt; kept.edited, Ended::Answered(Answer::Edit(EditEnd::Done(0))));
         assert_eq!(rt; kept.text.len(), 240);
         assert_eq!(rt; kept.text.as_slice(), LONGEST.as_bytes());
         assert_eq!(rt; kept.value, Value::Number(1_028_000_000));

@@ -17,8 +17,8 @@ use crate::ended::Ended;
 use crate::pass::Pass;
 use crate::sheet::SharedSheet;
 use ds_drives::fuse::Fuse;
-use ds_edit::answer::Answer;
 use ds_formula::cells::Cell;
+use ds_state::answer::Answer;
 use ds_state::refusal::Refusal;
 use ds_state::work::{WorkCall, WorkEnd, WorkStage};
 use ds_work::begin::fresh;
@@ -40,12 +40,12 @@ fn answered(end: WorkEnd) -> Answer
     ensures { result ≡ work_answer end }
 {
     match end {
-        WorkEnd::NotDirty => Answer::NotDirty,
-        WorkEnd::Missed => Answer::Missed,
-        WorkEnd::Worn => Answer::Worn,
-        WorkEnd::Published(changed) => Answer::Published(changed),
-        WorkEnd::Again => Answer::Again,
-        WorkEnd::NoMemory => Answer::NoMemory,
+        WorkEnd::NotDirty => Answer::Work(WorkEnd::NotDirty),
+        WorkEnd::Missed => Answer::Work(WorkEnd::Missed),
+        WorkEnd::Worn => Answer::Work(WorkEnd::Worn),
+        WorkEnd::Published(changed) => Answer::Work(WorkEnd::Published(changed)),
+        WorkEnd::Again => Answer::Work(WorkEnd::Again),
+        WorkEnd::NoMemory => Answer::Work(WorkEnd::NoMemory),
     }
 }
 

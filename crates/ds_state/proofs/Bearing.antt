@@ -21,14 +21,14 @@ use Rattle.ds_state.specs.Rely.{Bears}
 use Rattle.ds_state.specs.Sound.{IsSound}
 use Rattle.ds_state.specs.declared.stage.Stage.{Stage}
 use Rattle.ds_state.specs.declared.stage.Stage.TheVariants as edits
-use Rattle.ds_state.specs.declared.work.Spread.{Spread}
-use Rattle.ds_state.specs.declared.work.Spread.TheVariants.{LoadRow, OrTold, FlushTold, BackTold}
+use Rattle.ds_state.specs.declared.spread.Spread.{Spread}
+use Rattle.ds_state.specs.declared.spread.Spread.TheVariants.{LoadRow, OrTold, FlushTold, BackTold}
 use Rattle.ds_state.specs.declared.work.WorkStage.{WorkStage}
 use Rattle.ds_state.specs.declared.work.WorkStage.TheVariants as works
-use Rattle.ds_state.specs.declared.work.RecoverStage.{RecoverStage}
-use Rattle.ds_state.specs.declared.work.RecoverStage.TheVariants as recoveries
+use Rattle.ds_state.specs.declared.recovery.RecoverStage.{RecoverStage}
+use Rattle.ds_state.specs.declared.recovery.RecoverStage.TheVariants as recoveries
 use Rattle.ds_state.specs.declared.situation.Situation.{Situation}
-use Rattle.ds_state.specs.declared.situation.Situation.TheVariants.{Idle, Stopped, Editing, Working, Recovering, Showing, Migrating}
+use Rattle.ds_state.specs.declared.situation.Situation.TheVariants.{Idle, Stopped, Editing, Working, Recovering, Reporting, Migrating}
 use Rattle.ds_state.proofs.Heads.{cell_of-middle}
 use Rattle.ds_state.proofs.Noted.{of_sheet_middle}
 use Rattle.ds_state.proofs.Found.{refs_indexed}
@@ -74,7 +74,7 @@ parts_owe m p Stopped r c x h = tt
 parts_owe m p (Editing e) r c x h = absurd h
 parts_owe m p (Working e) r c x h = (h.0, work_parts m p e.row e.stage c x h.1)
 parts_owe m p (Recovering e) r c x h = recovery_parts m p e.row e.stage r c x h
-parts_owe m p (Showing e) r c x h = absurd h
+parts_owe m p (Reporting e) r c x h = absurd h
 parts_owe m p (Migrating e) r c x h = tt
 
 pub apart_owes : (w : PlainWorld) (r c x : ℕ) → IsApart w r → CellOwes w r c x
@@ -102,7 +102,7 @@ splits_excuse w p Stopped c head x h = h
 splits_excuse w p (Editing e) c head x h = (h.0, splits_at w.memory p c e.stage head x h.1)
 splits_excuse w p (Working e) c head x h = absurd h
 splits_excuse w p (Recovering e) c head x h = (h.0, recovery_splits w.memory p c e.stage x h.1)
-splits_excuse w p (Showing e) c head x h = absurd h
+splits_excuse w p (Reporting e) c head x h = absurd h
 splits_excuse w p (Migrating e) c head x h = h
 
 pub on_its_way_excuses : (w : PlainWorld) (cell persisted x : ℕ) → IsSound w → IsOnItsWay w (of_cell cell w.counted) persisted → IsExcused w cell x
@@ -155,7 +155,7 @@ module _ (old new : PlainWorld) (h : ℕ) (marks : (c : ℕ) → old.memory.cach
   owes_lasts (Editing e) r c x k = absurd k
   owes_lasts (Working e) r c x k = (k.0, work_lasts e.row e.stage c x k.1)
   owes_lasts (Recovering e) r c x k = recovery_lasts e.row e.stage r c x k
-  owes_lasts (Showing e) r c x k = absurd k
+  owes_lasts (Reporting e) r c x k = absurd k
   owes_lasts (Migrating e) r c x k = tt
 
   edit_lasts : (s : Stage) (c x : ℕ) → EditOwes old.memory h c s x → EditOwes new.memory h c s x
@@ -181,7 +181,7 @@ module _ (old new : PlainWorld) (h : ℕ) (marks : (c : ℕ) → old.memory.cach
   excuses_lasts pends (Editing e) c x k = (k.0, edit_lasts e.stage c x k.1)
   excuses_lasts pends (Working e) c x k = absurd k
   excuses_lasts pends (Recovering e) c x k = (pends c k.0, excuse_lasts e.stage c x k.1)
-  excuses_lasts pends (Showing e) c x k = absurd k
+  excuses_lasts pends (Reporting e) c x k = absurd k
   excuses_lasts pends (Migrating e) c x k = pends c k
 
   pub splits_last : ((c : ℕ) → IsPending old h c → IsPending new h c) → (s : Situation) (c head : ℕ) → Splits old h s c head → Splits new h s c head
@@ -190,7 +190,7 @@ module _ (old new : PlainWorld) (h : ℕ) (marks : (c : ℕ) → old.memory.cach
   splits_last pends (Editing e) c head k = k
   splits_last pends (Working e) c head k = absurd k
   splits_last pends (Recovering e) c head k = (pends c k.0, k.1)
-  splits_last pends (Showing e) c head k = absurd k
+  splits_last pends (Reporting e) c head k = absurd k
   splits_last pends (Migrating e) c head k = pends c k
 
 -- what others owe, while p steps

@@ -23,7 +23,7 @@ use Rattle.ds_state.specs.declared.stage.Outcome.TheVariants as outcome
 use Rattle.ds_state.specs.declared.stage.Stage.{Stage}
 use Rattle.ds_state.specs.declared.stage.Stage.TheVariants as edits
 use Rattle.ds_state.specs.declared.situation.Situation.{Situation}
-use Rattle.ds_state.specs.declared.situation.Situation.TheVariants.{Idle, Stopped, Editing, Working, Recovering, Showing, Migrating}
+use Rattle.ds_state.specs.declared.situation.Situation.TheVariants.{Idle, Stopped, Editing, Working, Recovering, Reporting, Migrating}
 use Rattle.ds_state.proofs.Outcomes.{among}
 use Rattle.std.proofs.lemmas.Bool.{cases_eq}
 use Rattle.ds_state.specs.World.{IsHeadBy, head_after_all}
@@ -304,7 +304,7 @@ module _ (old new : PlainWorld) (sound : IsSound old) (crash : CrashesTo old new
   stopped_left p (Editing e) h = editing_left p e h
   stopped_left p (Working e) h = through p e.next (ap old.open_edits (sym h.mine) ∙ h.rest.open_edits) (subst (λ (q : ℕ). IsAtRest old q e.next) h.mine h.rest)
   stopped_left p (Recovering e) h = doubt_left p (old.open_edits p) refl h.doubt
-  stopped_left p (Showing e) h = through p e.next (ap old.open_edits (sym h.1.mine) ∙ h.1.rest.open_edits) (subst (λ (q : ℕ). IsAtRest old q e.next) h.1.mine h.1.rest)
+  stopped_left p (Reporting e) h = through p e.next (ap old.open_edits (sym h.1.mine) ∙ h.1.rest.open_edits) (subst (λ (q : ℕ). IsAtRest old q e.next) h.1.mine h.1.rest)
   stopped_left p (Migrating e) h = doubt_left p (old.open_edits p) refl h.doubt
 
   pub crash_sound : IsSound new

@@ -28,12 +28,12 @@ use Rattle.ds_state.specs.Editions.{seen_edition, Shows, Agrees}
 use Rattle.ds_state.specs.Owing.{entry}
 use Rattle.ds_state.specs.LayoutsFit.{WakesAt, Copies, Copying, MovesAt, OthersStopped, MovesFit, LayoutFits, IsMoving, NoneMoves}
 use Rattle.ds_state.specs.Works.{PlainMigrateCall, old_words, new_text}
-use Rattle.ds_state.specs.declared.work.RecoverStage.{RecoverStage}
-use Rattle.ds_state.specs.declared.work.RecoverStage.TheVariants.{LoadVersion, FlushVersion, BackVersion}
-use Rattle.ds_state.specs.declared.work.MigrateStage.{MigrateStage}
-use Rattle.ds_state.specs.declared.work.MigrateStage.TheVariants as stages
+use Rattle.ds_state.specs.declared.recovery.RecoverStage.{RecoverStage}
+use Rattle.ds_state.specs.declared.recovery.RecoverStage.TheVariants.{LoadVersion, FlushVersion, BackVersion}
+use Rattle.ds_state.specs.declared.migration.MigrateStage.{MigrateStage}
+use Rattle.ds_state.specs.declared.migration.MigrateStage.TheVariants as stages
 use Rattle.ds_state.specs.declared.situation.Situation.{Situation}
-use Rattle.ds_state.specs.declared.situation.Situation.TheVariants.{Idle, Stopped, Editing, Working, Recovering, Showing, Migrating}
+use Rattle.ds_state.specs.declared.situation.Situation.TheVariants.{Idle, Stopped, Editing, Working, Recovering, Reporting, Migrating}
 
 -- the cached side stays, and the persisted side stays or becomes the cached one
 abbrev pub CatchesUp : ℕ → ℕ → ℕ → ℕ → Type 0
@@ -89,7 +89,7 @@ noted_in Stopped = None
 noted_in (Editing e) = Some e.edition
 noted_in (Working e) = Some e.edition
 noted_in (Recovering e) = noted_stage e.edition e.stage
-noted_in (Showing e) = Some e.edition
+noted_in (Reporting e) = Some e.edition
 noted_in (Migrating e) = None
 
 -- how the process's part in layouts goes on: it has noted this layout, before and after; it stops; it makes a step of
@@ -194,7 +194,7 @@ noted_agrees w p (Recovering e) edition is h = by e.stage is h
     by FlushVersion i k = absurd (cc)
     by BackVersion i k = absurd (cc)
     by _ i k = let same : e.edition ≡ edition = cc in subst (λ (d : Edition). Agrees w.memory d) same k
-noted_agrees w p (Showing e) edition is h = let same : e.edition ≡ edition = cc in subst (λ (d : Edition). Agrees w.memory d) same h
+noted_agrees w p (Reporting e) edition is h = let same : e.edition ≡ edition = cc in subst (λ (d : Edition). Agrees w.memory d) same h
 noted_agrees w p (Migrating e) edition is h = absurd (cc)
 
 agrees_noted : (w : PlainWorld) (p : ℕ) (s : Situation) (edition : Edition) → noted_in s ≡ Some edition → Agrees w.memory edition → LayoutFits w p s
@@ -209,7 +209,7 @@ agrees_noted w p (Recovering e) edition is h = by e.stage is
     by FlushVersion i = absurd (cc)
     by BackVersion i = absurd (cc)
     by _ i = let same : edition ≡ e.edition = cc in subst (λ (d : Edition). Agrees w.memory d) same h
-agrees_noted w p (Showing e) edition is h = let same : edition ≡ e.edition = cc in subst (λ (d : Edition). Agrees w.memory d) same h
+agrees_noted w p (Reporting e) edition is h = let same : edition ≡ e.edition = cc in subst (λ (d : Edition). Agrees w.memory d) same h
 agrees_noted w p (Migrating e) edition is h = absurd (cc)
 
 -- where words at most catch up, a migration has come as far as before
@@ -254,7 +254,7 @@ module _ (p : ℕ) (place : Place) (old new : PlainWorld) (m : Moves p place old
       by FlushVersion k = ap edition_of up.0 ∙ k
       by BackVersion k = (ap edition_of up.0 ∙ k.0, m.buffers q ne ∙ k.1 ∙ ap (λ (v : ℕ). entry Version v ∷ []) (sym up.0))
       by _ k = agrees_on old new up e.edition k
-  others_layout (Showing e) q l ne at up sound h = agrees_on old new up e.edition h
+  others_layout (Reporting e) q l ne at up sound h = agrees_on old new up e.edition h
   others_layout (Migrating e) q l ne at up sound h = elim (cases_lt p old.layout.processes) [
     | inl real ↦ absurd (no_turn real (h.alone p real (λ same. ne (sym same))) m.goes)
     | inr past ↦ by_nobody past m.goes

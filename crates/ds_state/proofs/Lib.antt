@@ -2,7 +2,7 @@ pub mod New
 pub mod Heads
 pub mod Lasting
 pub mod StableWork
-pub mod StableShow
+pub mod StableReport
 pub mod StableRecovery
 pub mod Stable
 pub mod Found

@@ -13,9 +13,9 @@ use Rattle.ds_layout.proofs.Packed.{announcement_of-announcement_word}
 use Rattle.ds_state.specs.World.{PlainEdit, PlainIssue, edit_of, PlainWorld, phase_among, is_edit_of, last_announcement, announcement}
 use Rattle.ds_state.specs.Shown.{IsQuiet, values_shown}
 use Rattle.ds_state.specs.CallsFit.{CallFits, DoubtFits}
-use Rattle.ds_state.specs.KnownShow.{pends, is_clean, IsPendingWord, moment_of, AreScratch, IsRight, IsStill}
+use Rattle.ds_state.specs.KnownReport.{pends, is_clean, IsPendingWord, moment_of, AreScratch, IsRight, IsStill}
 use Rattle.ds_state.specs.declared.situation.Situation.{Situation}
-use Rattle.ds_state.specs.declared.situation.Situation.TheVariants.{Idle, Stopped, Editing, Working, Recovering, Showing, Migrating}
+use Rattle.ds_state.specs.declared.situation.Situation.TheVariants.{Idle, Stopped, Editing, Working, Recovering, Reporting, Migrating}
 use Rattle.ds_state.specs.Sound.{IsSound}
 use Rattle.ds_state.proofs.CleanRead.{clean_read}
 use Rattle.ds_state.proofs.StillRight.{still_right}
@@ -44,7 +44,7 @@ says w p Stopped none h = let t = subst (λ (o : Option PlainIssue). DoubtFits w
 says w p (Editing e) none h = absurd (let e : None ≡ Some (record { edit = edit_of e; since = h.since }) = sym none ∙ h.open_edits in cc)
 says w p (Working e) none h = (e.next, h.rest.number, subst (λ (q : ℕ). w.memory.cached (Announce q) ≡ last_announcement w.counted q e.next) h.mine h.rest.cached)
 says w p (Recovering e) none h = let t = subst (λ (o : Option PlainIssue). DoubtFits w p o) none h.doubt in (t.next, t.rest.number, t.rest.cached)
-says w p (Showing e) none h = (e.next, h.1.rest.number, subst (λ (q : ℕ). w.memory.cached (Announce q) ≡ last_announcement w.counted q e.next) h.1.mine h.1.rest.cached)
+says w p (Reporting e) none h = (e.next, h.1.rest.number, subst (λ (q : ℕ). w.memory.cached (Announce q) ≡ last_announcement w.counted q e.next) h.1.mine h.1.rest.cached)
 says w p (Migrating e) none h = let t = subst (λ (o : Option PlainIssue). DoubtFits w p o) none h.doubt in (t.next, t.rest.number, t.rest.cached)
 
 pub quiet_still : (w : PlainWorld) → IsSound w → IsQuiet w → IsStill w.layout (moment_of w)

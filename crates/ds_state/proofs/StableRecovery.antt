@@ -8,9 +8,9 @@ use Rattle.ds_state.specs.Known.{AreBelow, IsIn}
 use Rattle.ds_state.specs.Owing.{entry}
 use Rattle.ds_layout.specs.Mark.{IsHeldBy, marked}
 use Rattle.ds_state.specs.KnownRecovery.{Freed, before, holding, value_back, both_back, outrun, all_free, HoldsFrom, Holding, FreedFits, Resolved, unknown, noted, doubted, is_head, not_head, settled, said, over, SettledAs, IsPassed, IsOpen, IsOpenAnd, ResolvedFits, RecoveryHeld, empty, the_value, both_words, the_kind, a_mark, a_head, the_outcome, the_version, value_now, kind_now, RecoveryHolds, freed_at, recovery_held}
-use Rattle.ds_state.specs.declared.work.Spread.TheVariants.{LoadRow, OrTold, FlushTold, BackTold}
-use Rattle.ds_state.specs.declared.work.RecoverStage.{RecoverStage}
-use Rattle.ds_state.specs.declared.work.RecoverStage.TheVariants as stages
+use Rattle.ds_state.specs.declared.spread.Spread.TheVariants.{LoadRow, OrTold, FlushTold, BackTold}
+use Rattle.ds_state.specs.declared.recovery.RecoverStage.{RecoverStage}
+use Rattle.ds_state.specs.declared.recovery.RecoverStage.TheVariants as stages
 use Rattle.ds_state.specs.Rely.{IsOwnedBy, Grows}
 use Rattle.ds_state.proofs.Lasting.{at_most, below_stable, by_stable, safe_stable}
 use Rattle.ds_state.proofs.Heads.{of_cell-append}

@@ -16,7 +16,7 @@ use Rattle.ds_state.specs.Standing.{IsDurable, Matters}
 use Rattle.ds_state.specs.Rely.{KeepsHold}
 use Rattle.ds_state.specs.Sound.{IsSound}
 use Rattle.ds_state.specs.Telling.{told_from}
-use Rattle.ds_state.specs.declared.work.Spread.TheVariants.{LoadRow, OrTold, FlushTold, BackTold}
+use Rattle.ds_state.specs.declared.spread.Spread.TheVariants.{LoadRow, OrTold, FlushTold, BackTold}
 use Rattle.ds_state.proofs.Bearing.{Buffered, durable_most, durable_least}
 use Rattle.ds_state.proofs.Dirty.{or_dirty}
 use Rattle.ds_state.proofs.Frames.{Moves, each_moved}

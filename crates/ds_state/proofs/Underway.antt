@@ -3,7 +3,7 @@ use Rattle.std.proofs.Common.{ℕ, ◌≡◌, ◌<◌, ◌≤◌, ◌+◌, List,
 use Rattle.std.proofs.lemmas.List.{take_more}
 use Rattle.ds_state.specs.Underway.{reports_in, reports_under_way}
 use Rattle.ds_state.specs.declared.situation.Situation.{Situation}
-use Rattle.ds_state.specs.declared.situation.Situation.TheVariants.{Idle, Stopped, Editing, Working, Recovering, Showing, Migrating}
+use Rattle.ds_state.specs.declared.situation.Situation.TheVariants.{Idle, Stopped, Editing, Working, Recovering, Reporting, Migrating}
 use Rattle.ds_state.specs.declared.situation.Rest.{Rest}
 
 -- the one that goes on is counted by its new situation, in place of its old one
@@ -22,7 +22,7 @@ at_most_one Stopped = omega arith
 at_most_one (Editing e) = omega arith
 at_most_one (Working e) = omega arith
 at_most_one (Recovering e) = omega arith
-at_most_one (Showing e) = omega arith
+at_most_one (Reporting e) = omega arith
 at_most_one (Migrating e) = omega arith
 
 pub at_most_all : (ss : List Situation) → reports_under_way ss ≤ length ss

@@ -22,16 +22,16 @@ use Rattle.ds_state.specs.Known.{Standing, outside, inside, safe, Announced, las
 use Rattle.ds_state.specs.Owing.{entry, IsMark, HoldsNone}
 use Rattle.ds_state.specs.declared.stage.Outcome.TheVariants.{Done, Overtaken}
 use Rattle.ds_state.specs.KnownWork.{IsAtRest, WorkFits}
-use Rattle.ds_state.specs.KnownShow.{ShowFits}
+use Rattle.ds_state.specs.KnownReport.{ReportFits}
 use Rattle.ds_state.specs.Works.{PlainRecoverCall, PlainMigrateCall, IsMigration, new_text}
-use Rattle.ds_state.specs.declared.work.MigrateStage.{MigrateStage}
-use Rattle.ds_state.specs.declared.work.MigrateStage.TheVariants.{BackNew, BackVersion}
+use Rattle.ds_state.specs.declared.migration.MigrateStage.{MigrateStage}
+use Rattle.ds_state.specs.declared.migration.MigrateStage.TheVariants.{BackNew, BackVersion}
 use Rattle.ds_state.specs.RecoverStages.{IsRecovery}
 use Rattle.ds_state.specs.KnownRecovery.{FreedFits, freed_at, ResolvedFits, resolved_at, RecoveryHolds, recovery_held}
 use Rattle.ds_state.specs.declared.stage.Stage.{Stage}
 use Rattle.ds_state.specs.declared.stage.Stage.TheVariants.{FlushText, BackRecord, BackPending, BackIndex, BackNoted, BackDone, BackOwn, BackMark, BackOutcome}
 use Rattle.ds_state.specs.declared.situation.Situation.{Situation}
-use Rattle.ds_state.specs.declared.situation.Situation.TheVariants.{Idle, Stopped, Editing, Working, Recovering, Showing, Migrating}
+use Rattle.ds_state.specs.declared.situation.Situation.TheVariants.{Idle, Stopped, Editing, Working, Recovering, Reporting, Migrating}
 use Rattle.ds_layout.specs.declared.place.Edition.{Edition}
 use Rattle.ds_layout.specs.declared.place.Edition.TheVariants.{First}
 use Rattle.ds_state.specs.declared.situation.Rest.{Rest}
@@ -212,5 +212,5 @@ CallFits w p Stopped = StoppedFits w p
 CallFits w p (Editing e) = EditFits w p e
 CallFits w p (Working e) = WorkFits w p e
 CallFits w p (Recovering e) = RecoveryFits w p e
-CallFits w p (Showing e) = ShowFits w p e
+CallFits w p (Reporting e) = ReportFits w p e
 CallFits w p (Migrating e) = MigrationFits w p e

@@ -8,15 +8,15 @@ use Rattle.ds_state.specs.World.{PlainEdit, PlainIssue, PlainWorld, announcement
 use Rattle.ds_words.specs.declared.access.BufferEntry.{BufferEntry}
 use Rattle.ds_layout.specs.declared.place.Place.{Place}
 use Rattle.ds_state.specs.World.{of_cell, IsHeadBy}
-use Rattle.ds_state.specs.declared.work.Spread.{Spread}
-use Rattle.ds_state.specs.declared.work.Spread.TheVariants.{BackTold}
+use Rattle.ds_state.specs.declared.spread.Spread.{Spread}
+use Rattle.ds_state.specs.declared.spread.Spread.TheVariants.{BackTold}
 use Rattle.ds_state.specs.Known.{AreBelow, IsIn, IsSafelyIn}
 use Rattle.ds_state.specs.Owing.{entry, HoldsNone}
 use Rattle.ds_layout.specs.Announcement.{number_after}
 use Rattle.ds_layout.specs.Mark.{IsHeldBy, tenure, marked}
 use Rattle.ds_state.specs.KnownWork.{HasMark}
-use Rattle.ds_state.specs.declared.work.RecoverStage.{RecoverStage}
-use Rattle.ds_state.specs.declared.work.RecoverStage.TheVariants.{LoadVersion, FlushVersion, BackVersion, LoadMark, FlushValue, FlushKind, BackValue, BackKind, Telling, Give, GiveDirty, FlushGiven, BackGiven, LoadHeader, LoadHead, FlushHead, BackHead, LoadDone, OrMark, FlushMark, BackMark, StoreOutcome, FlushOutcome, BackOutcome, Answer}
+use Rattle.ds_state.specs.declared.recovery.RecoverStage.{RecoverStage}
+use Rattle.ds_state.specs.declared.recovery.RecoverStage.TheVariants.{LoadVersion, FlushVersion, BackVersion, LoadMark, FlushValue, FlushKind, BackValue, BackKind, Telling, Give, GiveDirty, FlushGiven, BackGiven, LoadHeader, LoadHead, FlushHead, BackHead, LoadDone, OrMark, FlushMark, BackMark, StoreOutcome, FlushOutcome, BackOutcome, Answer}
 
 -- how far a recovery has given its cells back: so many are looked at; this one is held; its value is persisted; its
 -- kind, too; also it was marked since it was looked at; all are free

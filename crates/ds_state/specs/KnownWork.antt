@@ -21,7 +21,7 @@ use Rattle.ds_layout.specs.Mark.{tenure, IsEven, IsHeldBy, generation_of, dirtie
 use Rattle.ds_state.specs.Standing.{HasContent, cached_side, entry_on, value_for, word_for}
 use Rattle.ds_state.specs.declared.work.WorkStage.{WorkStage}
 use Rattle.ds_state.specs.declared.work.WorkStage.TheVariants.{LoadMark, Claim, FlushClaim, BackClaim, LoadHead, LoadHeader, LoadText, Read, LoadValue, LoadKind, LoadOwnValue, LoadOwnKind, Wait, StoreValue, StoreKind, FlushValue, FlushKind, BackValue, BackKind, Telling, Clear, ClearDirty, Give, GiveDirty, FlushCleared, BackCleared, Answer}
-use Rattle.ds_state.specs.declared.work.Spread.TheVariants.{BackTold}
+use Rattle.ds_state.specs.declared.spread.Spread.TheVariants.{BackTold}
 
 -- how a work holds its cell: not at all; it saw the mark, which nobody held; on the cached side; on both sides
 pub data Hold : Type 0 where

@@ -9,12 +9,12 @@ use Rattle.ds_state.specs.Editions.{seen_edition, Agrees}
 use Rattle.ds_state.specs.Owing.{entry}
 use Rattle.ds_state.specs.World.{PlainWorld}
 use Rattle.ds_state.specs.Works.{PlainRecoverCall, PlainMigrateCall, old_words, new_text}
-use Rattle.ds_state.specs.declared.work.RecoverStage.{RecoverStage}
-use Rattle.ds_state.specs.declared.work.RecoverStage.TheVariants.{LoadVersion, FlushVersion, BackVersion}
-use Rattle.ds_state.specs.declared.work.MigrateStage.{MigrateStage}
-use Rattle.ds_state.specs.declared.work.MigrateStage.TheVariants as stages
+use Rattle.ds_state.specs.declared.recovery.RecoverStage.{RecoverStage}
+use Rattle.ds_state.specs.declared.recovery.RecoverStage.TheVariants.{LoadVersion, FlushVersion, BackVersion}
+use Rattle.ds_state.specs.declared.migration.MigrateStage.{MigrateStage}
+use Rattle.ds_state.specs.declared.migration.MigrateStage.TheVariants as stages
 use Rattle.ds_state.specs.declared.situation.Situation.{Situation}
-use Rattle.ds_state.specs.declared.situation.Situation.TheVariants.{Idle, Stopped, Editing, Working, Recovering, Showing, Migrating}
+use Rattle.ds_state.specs.declared.situation.Situation.TheVariants.{Idle, Stopped, Editing, Working, Recovering, Reporting, Migrating}
 
 -- a recovery has noted the layout that processes see; behind its write-back of the version's word both sides say it
 abbrev pub WakesAt : PlainWorld → ℕ → PlainRecoverCall → RecoverStage → Type 0
@@ -66,7 +66,7 @@ LayoutFits w p Stopped = Unit {0}
 LayoutFits w p (Editing e) = Agrees w.memory e.edition
 LayoutFits w p (Working e) = Agrees w.memory e.edition
 LayoutFits w p (Recovering e) = WakesAt w p e e.stage
-LayoutFits w p (Showing e) = Agrees w.memory e.edition
+LayoutFits w p (Reporting e) = Agrees w.memory e.edition
 LayoutFits w p (Migrating e) = MovesFit w p e
 
 -- a process that migrates the sheet
@@ -76,7 +76,7 @@ IsMoving Stopped = ⊥
 IsMoving (Editing e) = ⊥
 IsMoving (Working e) = ⊥
 IsMoving (Recovering e) = ⊥
-IsMoving (Showing e) = ⊥
+IsMoving (Reporting e) = ⊥
 IsMoving (Migrating e) = Unit {0}
 
 -- no other process migrates

@@ -13,14 +13,14 @@ use Rattle.ds_state.specs.Works.{HELD_MOST}
 use Rattle.ds_state.specs.World.{PlainIssue, PlainWorld, announcement, index_place}
 use Rattle.ds_state.specs.declared.stage.Stage.{Stage}
 use Rattle.ds_state.specs.declared.stage.Stage.TheVariants as edits
-use Rattle.ds_state.specs.declared.work.Spread.{Spread}
-use Rattle.ds_state.specs.declared.work.Spread.TheVariants.{LoadRow, OrTold, FlushTold, BackTold}
+use Rattle.ds_state.specs.declared.spread.Spread.{Spread}
+use Rattle.ds_state.specs.declared.spread.Spread.TheVariants.{LoadRow, OrTold, FlushTold, BackTold}
 use Rattle.ds_state.specs.declared.work.WorkStage.{WorkStage}
 use Rattle.ds_state.specs.declared.work.WorkStage.TheVariants as works
-use Rattle.ds_state.specs.declared.work.RecoverStage.{RecoverStage}
-use Rattle.ds_state.specs.declared.work.RecoverStage.TheVariants as recoveries
+use Rattle.ds_state.specs.declared.recovery.RecoverStage.{RecoverStage}
+use Rattle.ds_state.specs.declared.recovery.RecoverStage.TheVariants as recoveries
 use Rattle.ds_state.specs.declared.situation.Situation.{Situation}
-use Rattle.ds_state.specs.declared.situation.Situation.TheVariants.{Idle, Stopped, Editing, Working, Recovering, Showing, Migrating}
+use Rattle.ds_state.specs.declared.situation.Situation.TheVariants.{Idle, Stopped, Editing, Working, Recovering, Reporting, Migrating}
 
 -- a buffer's entry of the word at a place, with its class
 abbrev pub entry : Place → ℕ → BufferEntry Place
@@ -82,7 +82,7 @@ Owes m p Stopped r c x = Unit {0}
 Owes m p (Editing e) r c x = ⊥
 Owes m p (Working e) r c x = (e.cell ≡ r) × WorkOwes m p e.row e.stage c x
 Owes m p (Recovering e) r c x = RecoveryOwes m p e.row e.stage r c x
-Owes m p (Showing e) r c x = ⊥
+Owes m p (Reporting e) r c x = ⊥
 Owes m p (Migrating e) r c x = Unit {0}
 
 -- a work at this stage may have the two sides of its cell's value, or kind, differ
@@ -118,7 +118,7 @@ Parts Stopped r = Unit {0}
 Parts (Editing e) r = ⊥
 Parts (Working e) r = (e.cell ≡ r) × WorkParts e.stage
 Parts (Recovering e) r = RecoveryParts e.stage r
-Parts (Showing e) r = ⊥
+Parts (Reporting e) r = ⊥
 Parts (Migrating e) r = Unit {0}
 
 -- some process holds r on both sides and owes c a mark above x
@@ -186,7 +186,7 @@ Excuses w p Stopped c x = IsPending w p c
 Excuses w p (Editing e) c x = (e.cell ≡ c) × EditOwes w.memory p c e.stage x
 Excuses w p (Working e) c x = ⊥
 Excuses w p (Recovering e) c x = IsPending w p c × RecoveryExcuses w.memory p c e.stage x
-Excuses w p (Showing e) c x = ⊥
+Excuses w p (Reporting e) c x = ⊥
 Excuses w p (Migrating e) c x = IsPending w p c
 
 -- some process of the sheet owes the cell c its edit's mark, above x
@@ -237,7 +237,7 @@ Splits w p Stopped c head = IsPending w p c
 Splits w p (Editing e) c head = (e.cell ≡ c) × SplitsAt e.stage head
 Splits w p (Working e) c head = ⊥
 Splits w p (Recovering e) c head = IsPending w p c × RecoverySplits e.stage
-Splits w p (Showing e) c head = ⊥
+Splits w p (Reporting e) c head = ⊥
 Splits w p (Migrating e) c head = IsPending w p c
 
 -- r and c are cells of the sheet, and the index row of r has the bit of c on the cached side

@@ -8,7 +8,7 @@ use Rattle.ds_state.specs.declared.refusal.Refusal.TheVariants.{Text, NoMemory}
 use Rattle.ds_state.specs.declared.refusal.Refusal.TheVariants as refusal
 use Rattle.ds_state.specs.declared.situation.Rest.{Rest}
 use Rattle.ds_state.specs.declared.situation.Situation.{Situation}
-use Rattle.ds_state.specs.declared.situation.Situation.TheVariants.{Idle, Stopped, Editing, Working, Recovering, Showing, Migrating}
+use Rattle.ds_state.specs.declared.situation.Situation.TheVariants.{Idle, Stopped, Editing, Working, Recovering, Reporting, Migrating}
 
 -- the refusal that a text's fault of this kind is: want of memory is a refusal of its own
 abbrev pub refusal_by : FaultKind → TextFault → Refusal
@@ -27,5 +27,5 @@ next_edit Stopped = Err refusal.Stopped
 next_edit (Editing e) = Err refusal.Busy
 next_edit (Working e) = Err refusal.Busy
 next_edit (Recovering e) = Err refusal.Busy
-next_edit (Showing e) = Err refusal.Busy
+next_edit (Reporting e) = Err refusal.Busy
 next_edit (Migrating e) = Err refusal.Busy

@@ -25,7 +25,7 @@ use Rattle.ds_state.specs.Text.{IsText}
 use Rattle.ds_state.specs.World.{PlainEdit, PlainWorld}
 use Rattle.ds_state.specs.declared.stage.Point.{Point}
 use Rattle.ds_state.specs.declared.situation.Situation.{Situation}
-use Rattle.ds_state.specs.declared.situation.Situation.TheVariants.{Idle, Stopped, Editing, Working, Recovering, Showing, Migrating}
+use Rattle.ds_state.specs.declared.situation.Situation.TheVariants.{Idle, Stopped, Editing, Working, Recovering, Reporting, Migrating}
 use Rattle.ds_layout.specs.declared.place.Edition.{Edition}
 use Rattle.ds_state.specs.Editions.{seen_edition, most_in}
 
@@ -45,7 +45,7 @@ MayHold cell Stopped = Unit {0}
 MayHold cell (Editing e) = ⊥
 MayHold cell (Working e) = e.cell ≡ cell
 MayHold cell (Recovering e) = Unit {0}
-MayHold cell (Showing e) = ⊥
+MayHold cell (Reporting e) = ⊥
 MayHold cell (Migrating e) = Unit {0}
 
 -- the value of the cell with this number, as processes see it
@@ -67,7 +67,7 @@ point_of Stopped = None
 point_of (Editing e) = point_at e.stage
 point_of (Working e) = None
 point_of (Recovering e) = None
-point_of (Showing e) = None
+point_of (Reporting e) = None
 point_of (Migrating e) = None
 
 -- no cell's mark is dirty or held

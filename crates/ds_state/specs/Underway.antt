@@ -1,7 +1,7 @@
 -- How many reports are under way.
 use Rattle.std.specs.Prelude.{ℕ, ◌+◌, List, [], ◌∷◌}
 use Rattle.ds_state.specs.declared.situation.Situation.{Situation}
-use Rattle.ds_state.specs.declared.situation.Situation.TheVariants.{Idle, Stopped, Editing, Working, Recovering, Showing, Migrating}
+use Rattle.ds_state.specs.declared.situation.Situation.TheVariants.{Idle, Stopped, Editing, Working, Recovering, Reporting, Migrating}
 
 -- 1 where the process is in a report, else 0
 abbrev pub reports_in : Situation → ℕ
@@ -11,7 +11,7 @@ reports_in (Editing e) = 0
 reports_in (Working e) = 0
 reports_in (Recovering e) = 0
 reports_in (Migrating e) = 0
-reports_in (Showing e) = 1
+reports_in (Reporting e) = 1
 
 -- how many of all processes are in a report
 abbrev pub reports_under_way : List Situation → ℕ

@@ -7,21 +7,21 @@ use Rattle.ds_eval.specs.Inputs.{cell_in}
 use Rattle.ds_formula.specs.Limits.{CELLS_MOST, PROCESSES_MOST, TEXT_MOST}
 use Rattle.ds_layout.specs.Mark.{generation_of}
 use Rattle.ds_layout.specs.TextWords.{start_of}
-use Rattle.ds_state.specs.declared.work.Spread.TheVariants.{LoadRow, OrTold, FlushTold, BackTold}
+use Rattle.ds_state.specs.declared.spread.Spread.TheVariants.{LoadRow, OrTold, FlushTold, BackTold}
 use Rattle.ds_state.specs.declared.work.WorkStage.TheVariants.{Claim, LoadText, LoadValue, LoadKind, StoreValue, StoreKind, FlushValue, FlushKind, BackValue, BackKind, Telling, Clear}
 use Rattle.ds_formula.specs.Plain.{PlainContent}
 use Rattle.ds_eval.specs.declared.inputs.Entry.{Entry}
 use Rattle.ds_eval.specs.declared.inputs.Input.{Input}
 use Rattle.ds_state.specs.declared.work.WorkStage.{WorkStage}
-use Rattle.ds_state.specs.declared.work.RecoverStage.{RecoverStage}
-use Rattle.ds_state.specs.declared.work.ShowStage.{ShowStage}
+use Rattle.ds_state.specs.declared.recovery.RecoverStage.{RecoverStage}
+use Rattle.ds_state.specs.declared.report.ReportStage.{ReportStage}
 use Rattle.ds_layout.specs.declared.place.Edition.{Edition}
 use Rattle.ds_layout.specs.declared.place.Edition.TheVariants.{Second}
 use Rattle.ds_layout.specs.declared.place.Place.{Place}
 use Rattle.ds_layout.specs.declared.place.Place.TheVariants as place
 use Rattle.ds_layout.specs.declared.place.TheConstants.{RECORDS, FIRST_PARTS}
-use Rattle.ds_state.specs.declared.work.MigrateStage.{MigrateStage}
-use Rattle.ds_state.specs.declared.work.MigrateStage.TheVariants.{LoadOld, StoreNew, FlushNew, BackNew}
+use Rattle.ds_state.specs.declared.migration.MigrateStage.{MigrateStage}
+use Rattle.ds_state.specs.declared.migration.MigrateStage.TheVariants.{LoadOld, StoreNew, FlushNew, BackNew}
 use Rattle.ds_state.specs.Editions.{most_in}
 
 -- a work under way: its process, the layout that it reads, the number of the process's next edit, the cell; the mark that it saw, then its
@@ -135,7 +135,7 @@ pub record PlainRecoverCall : Type 0 where
   pub stage : RecoverStage
 
 -- a report under way: its process, the number of the process's next edit; what it noted so far
-pub record PlainShowCall : Type 0 where
+pub record PlainReportCall : Type 0 where
   pub process : ℕ
   pub edition : Edition
   pub next : ℕ
@@ -145,7 +145,7 @@ pub record PlainShowCall : Type 0 where
   pub marks : List ℕ
   pub values : List ℕ
   pub kinds : List ℕ
-  pub stage : ShowStage
+  pub stage : ReportStage
 
 -- a migration under way: its process, how many there are, and the word that it loaded
 pub record PlainMigrateCall : Type 0 where

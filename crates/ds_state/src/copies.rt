@@ -4,7 +4,10 @@ ghost use Rattle.std.specs.Prelude.{◌≡◌, ◌≤◌, IfOk, vec_capacity};
 
 use crate::edit::EditCall;
 use crate::situation::Situation;
-use crate::work::{MigrateCall, RecoverCall, ShowCall, WorkCall};
+use crate::migration::MigrateCall;
+use crate::recovery::RecoverCall;
+use crate::report::ReportCall;
+use crate::work::WorkCall;
 use crate::world::World;
 use std::alloc::{AllocError, Global};
 
@@ -103,16 +106,16 @@ impl MigrateCall {
     }
 }
 
-impl ShowCall {
+impl ReportCall {
     /// An equal call, in memory of its own. An error is a want of memory.
-    pub fn copy(&self, alloc: Global) -> Result<ShowCall, AllocError>
+    pub fn copy(&self, alloc: Global) -> Result<ReportCall, AllocError>
         ensures { IfOk result (λ call. call ≡ self.now) }
     {
         let announcements = with_room(alloc, &self.announcements, self.processes)?;
         let marks = with_room(alloc, &self.marks, self.cells)?;
         let values = with_room(alloc, &self.values, self.cells)?;
         let kinds = with_room(alloc, &self.kinds, self.cells)?;
-        Ok(ShowCall {
+        Ok(ReportCall {
             process: self.process,
             edition: self.edition,
             next: self.next,
@@ -138,7 +141,7 @@ impl Situation {
             Situation::Editing(call) => Ok(Situation::Editing(call.copy(alloc)?)),
             Situation::Working(call) => Ok(Situation::Working(call.copy(alloc)?)),
             Situation::Recovering(call) => Ok(Situation::Recovering(call.copy())),
-            Situation::Showing(call) => Ok(Situation::Showing(call.copy(alloc)?)),
+            Situation::Reporting(call) => Ok(Situation::Reporting(call.copy(alloc)?)),
             Situation::Migrating(call) => Ok(Situation::Migrating(call.copy())),
         }
     }

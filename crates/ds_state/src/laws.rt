@@ -8,7 +8,7 @@ ghost use Rattle.ds_layout.specs.declared.place.Place.TheVariants.{Mark};
 ghost use Rattle.ds_layout.specs.declared.place.TheConstants.{RECORDS};
 ghost use Rattle.ds_state.specs.World.{PlainEdit, PlainWorld, of_cell};
 ghost use Rattle.ds_state.specs.Shown.{last_text, mark_at, text_at, IsQuiet, MayHold, values_shown};
-ghost use Rattle.ds_state.specs.KnownShow.{AreScratch};
+ghost use Rattle.ds_state.specs.KnownReport.{AreScratch};
 ghost use Rattle.ds_state.specs.Value.{WorldValue, IsGood};
 ghost use Rattle.ds_state.specs.Fresh.{IsNew};
 ghost use Rattle.ds_state.specs.Events.{Evicts};
@@ -17,12 +17,12 @@ ghost use Rattle.ds_state.specs.Rely.{Rely, Keeps};
 ghost use Rattle.ds_state.specs.Lasts.{Lasts};
 ghost use Rattle.ds_state.specs.Middles.{Middle, Middles};
 ghost use Rattle.ds_state.specs.Leaves.{Leaves};
-ghost use Rattle.ds_state.specs.Works.{PlainShowCall};
+ghost use Rattle.ds_state.specs.Works.{PlainReportCall};
 ghost use Rattle.ds_state.specs.Spent.{IsSpent};
 ghost use Rattle.ds_state.specs.Edits.{PlainEditCall};
 ghost use Rattle.ds_state.specs.declared.stage.Outcome.{Outcome};
 ghost use Rattle.ds_state.specs.declared.stage.Stage.TheVariants.{Swap, Answer};
-ghost use Rattle.ds_state.specs.declared.situation.Situation.TheVariants.{Stopped, Editing, Showing};
+ghost use Rattle.ds_state.specs.declared.situation.Situation.TheVariants.{Stopped, Editing, Reporting};
 ghost use Rattle.ds_state.specs.Crashes.{CrashesTo, StopsIn};
 ghost use Rattle.ds_state.specs.CallsFit.{CallFits};
 ghost use Rattle.ds_state.specs.LayoutsFit.{LayoutFits};
@@ -140,10 +140,10 @@ pub fn sheets_last()
 /// report then, while one stops, and at each eviction. A new
 /// sheet, one in which every process is stopped, and one after a crash, has no report under way.
 pub fn middles_stay()
-    ensures one { (p : ℕ) (first old new : PlainWorld) (e : PlainShowCall) (mid : PlainWorld) → Rely p old new
+    ensures one { (p : ℕ) (first old new : PlainWorld) (e : PlainReportCall) (mid : PlainWorld) → Rely p old new
         → Middle first old p e mid → Middle first new p e mid }
     ensures others { (firsts mids : ℕ → PlainWorld) (old new : PlainWorld) → Middles firsts mids old
-        → (p : ℕ) → Keeps p old new → ((e : PlainShowCall) → new.situation p ≡ Showing e → ⊥) → Middles firsts mids new }
+        → (p : ℕ) → Keeps p old new → ((e : PlainReportCall) → new.situation p ≡ Reporting e → ⊥) → Middles firsts mids new }
     ensures stopped { (firsts mids : ℕ → PlainWorld) (old new : PlainWorld) → Middles firsts mids old
         → (p : ℕ) → IsSound old → p < old.layout.processes → StopsIn p old new → Middles firsts mids new }
     ensures evicted { (firsts mids : ℕ → PlainWorld) (old new : PlainWorld) → Middles firsts mids old

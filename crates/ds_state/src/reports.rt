@@ -1,7 +1,7 @@
 //! The last settled report of each process.
 
 ghost use Rattle.std.specs.Prelude.{◌≡◌, ◌<◌, ◌≤◌, IfOk, All, [], length, replicate, slice_index_or, vec_capacity};
-ghost use Rattle.ds_state.specs.KnownShow.{values_of, noted};
+ghost use Rattle.ds_state.specs.KnownReport.{values_of, noted};
 
 use crate::copies::with_room;
 use crate::shown;

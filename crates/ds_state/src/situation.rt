@@ -5,7 +5,10 @@ ghost use Rattle.ds_state.specs.Refusals.{next_edit};
 
 use crate::edit::EditCall;
 use crate::refusal::Refusal;
-use crate::work::{MigrateCall, RecoverCall, ShowCall, WorkCall};
+use crate::migration::MigrateCall;
+use crate::recovery::RecoverCall;
+use crate::report::ReportCall;
+use crate::work::WorkCall;
 use ds_layout::place::Edition;
 
 /// What a process in no call knows.
@@ -31,7 +34,7 @@ pub enum Situation {
     /// It recovers.
     Recovering(RecoverCall),
     /// It reports.
-    Showing(ShowCall),
+    Reporting(ReportCall),
     /// It migrates the sheet to the second layout.
     Migrating(MigrateCall),
 }
@@ -67,7 +70,7 @@ pub fn next_edit(situation: &Situation) -> Result<Rest, Refusal>
         Situation::Idle(next) => Ok(*next),
         Situation::Stopped => Err(Refusal::Stopped),
         Situation::Editing(_) | Situation::Working(_) => Err(Refusal::Busy),
-        Situation::Recovering(_) | Situation::Showing(_) | Situation::Migrating(_) => {
+        Situation::Recovering(_) | Situation::Reporting(_) | Situation::Migrating(_) => {
             Err(Refusal::Busy)
         }
     }

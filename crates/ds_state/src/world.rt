@@ -127,7 +127,7 @@ impl World {
         match &self.situations[process] {
             Situation::Editing(call) => call.stage.point(),
             Situation::Idle(_) | Situation::Stopped => None,
-            Situation::Working(_) | Situation::Recovering(_) | Situation::Showing(_) => None,
+            Situation::Working(_) | Situation::Recovering(_) | Situation::Reporting(_) => None,
             Situation::Migrating(_) => None,
         }
     }

@@ -123,9 +123,9 @@ module _ (whole : Bool) (script : List ℕ) (k : ℕ) (text : List ℕ) (b : IsB
   abbrev processes : ℕ
   processes = b.crashed.sheet.layout.processes
 
-  reported : EndsWith b.crashed (recoveries processes ++ Settle 0 ∷ []) (Whole 0 (events.BeginShow 0)) b.events b.replies b.answers b.new
-  reported = ends_with b.crashed (deeds_behind processes) (recoveries processes ++ Settle 0 ∷ []) (Whole 0 (events.BeginShow 0)) b.events b.replies b.answers b.new
-      (sym (append_assoc (recoveries processes) (Settle 0 ∷ []) (Whole 0 (events.BeginShow 0) ∷ []))) b.behind
+  reported : EndsWith b.crashed (recoveries processes ++ Settle 0 ∷ []) (Whole 0 (events.BeginReport 0)) b.events b.replies b.answers b.new
+  reported = ends_with b.crashed (deeds_behind processes) (recoveries processes ++ Settle 0 ∷ []) (Whole 0 (events.BeginReport 0)) b.events b.replies b.answers b.new
+      (sym (append_assoc (recoveries processes) (Settle 0 ∷ []) (Whole 0 (events.BeginReport 0) ∷ []))) b.behind
 
   settled : EndsWith b.crashed (recoveries processes) (Settle 0) reported.events reported.replies reported.answers reported.world
   settled = ends_with b.crashed (recoveries processes ++ Settle 0 ∷ []) (recoveries processes) (Settle 0) reported.events reported.replies reported.answers reported.world refl reported.turn

@@ -47,10 +47,10 @@ tells_more start w new deeds deed before text answer now t h is = record {
 }
 
 -- a settle and a report behind the recoveries
-pub tells_behind : (start new : WorldValue) (processes : ℕ) (before now : List ℕ) → Tells start ((recoveries processes ++ Settle 0 ∷ []) ++ Whole 0 (events.BeginShow 0) ∷ []) before now new
+pub tells_behind : (start new : WorldValue) (processes : ℕ) (before now : List ℕ) → Tells start ((recoveries processes ++ Settle 0 ∷ []) ++ Whole 0 (events.BeginReport 0) ∷ []) before now new
     → Tells start (deeds_behind processes) before now new
 tells_behind start new processes before now t =
-    subst (λ (deeds : List Deed). Tells start deeds before now new) (append_assoc (recoveries processes) (Settle 0 ∷ []) (Whole 0 (events.BeginShow 0) ∷ [])) t
+    subst (λ (deeds : List Deed). Tells start deeds before now new) (append_assoc (recoveries processes) (Settle 0 ∷ []) (Whole 0 (events.BeginReport 0) ∷ [])) t
 
 pub tells_block : (k : ℕ) (old crashed new : WorldValue) (text : List ℕ) → Fits old events.Crash Crashed crashed → Tells crashed (deeds_behind crashed.sheet.layout.processes) (stop_text k) text new → TellsBlock k old text new
 tells_block k old crashed new text crash t = record { crashed = crashed; crash = crash; events = t.events; replies = t.replies; answers = t.answers; behind = t.behind; is = t.is }

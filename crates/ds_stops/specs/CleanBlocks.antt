@@ -2,7 +2,7 @@
 use Rattle.std.specs.Prelude.{ℕ, ◌≡◌, List, ◌++◌}
 use Rattle.ds_state.specs.Value.{WorldValue}
 use Rattle.ds_core.specs.declared.event.Event.{Event}
-use Rattle.ds_core.specs.declared.event.Event.TheVariants.{BeginShow}
+use Rattle.ds_core.specs.declared.event.Event.TheVariants.{BeginReport}
 use Rattle.ds_core.specs.declared.reply.Reply.{Reply}
 use Rattle.ds_play.specs.LoneSettles.{SaysClean}
 use Rattle.ds_play.specs.Orders.{Whole, Settle}
@@ -28,7 +28,7 @@ pub record TellsClean (crashed : WorldValue) (events : List Event) (replies : Li
   pub report_events : List Event
   pub report_replies : List Reply
   pub report : List ℕ
-  pub reports : Plays (plan settled (Whole 0 (BeginShow 0))) settled report_events report_replies (Says report) new
+  pub reports : Plays (plan settled (Whole 0 (BeginReport 0))) settled report_events report_replies (Says report) new
   pub events_are : events ≡ (recover_events ++ settle_events) ++ report_events
   pub replies_are : replies ≡ (recover_replies ++ settle_replies) ++ report_replies
   pub answers_are : answers ≡ (told ++ line) ++ report

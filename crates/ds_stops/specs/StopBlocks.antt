@@ -36,7 +36,7 @@ recoveries (suc p) = recoveries p ++ Whole p (events.BeginRecover p) ∷ []
 
 -- what is done behind the crash of a sheet with so many processes: each recovers; then process 0 settles, and reports
 abbrev pub deeds_behind : ℕ → List Deed
-deeds_behind processes = recoveries processes ++ (Settle 0 ∷ Whole 0 (events.BeginShow 0) ∷ [])
+deeds_behind processes = recoveries processes ++ (Settle 0 ∷ Whole 0 (events.BeginReport 0) ∷ [])
 
 -- the line of a stop: stop K
 abbrev pub stop_text : ℕ → List ℕ

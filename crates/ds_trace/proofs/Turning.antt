@@ -7,7 +7,7 @@ use Rattle.ds_layout.specs.Places.{cells_of}
 use Rattle.ds_layout.specs.declared.layout.Layout.{Layout}
 use Rattle.ds_layout.specs.declared.place.Place.{Place}
 use Rattle.ds_state.specs.Value.{WorldValue, world_of, IsGood}
-use Rattle.ds_edit.specs.declared.answer.Answer.{Answer}
+use Rattle.ds_state.specs.declared.answer.Answer.{Answer}
 use Rattle.ds_work.specs.WorkTakes.{IsOffered}
 use Rattle.ds_core.specs.declared.event.Event.{Event}
 use Rattle.ds_core.specs.declared.event.Event.TheVariants.{Step, BeginWork}

@@ -11,7 +11,7 @@ use Rattle.ds_state.specs.declared.situation.Situation.{Situation}
 use Rattle.ds_state.specs.declared.situation.Situation.TheVariants as situations
 use Rattle.ds_edit.specs.EditSteps as edits
 use Rattle.ds_work.specs.WorkSteps as works
-use Rattle.ds_show.specs.ShowSteps as shows
+use Rattle.ds_report.specs.ReportSteps as shows
 use Rattle.ds_recover.specs.RecoverySteps as recoveries
 use Rattle.ds_recover.specs.MigrationSteps as migrations
 use Rattle.ds_core.specs.Takes.{Fits}
@@ -37,7 +37,7 @@ access_in shape situations.Stopped = accesses.Nothing
 access_in shape (situations.Editing e) = edits.access_at e e.stage
 access_in shape (situations.Working e) = works.access_at shape e e.stage
 access_in shape (situations.Recovering e) = recoveries.access_at e e.stage
-access_in shape (situations.Showing e) = shows.access_at e.stage
+access_in shape (situations.Reporting e) = shows.access_at e.stage
 access_in shape (situations.Migrating e) = migrations.access_at e e.stage
 
 -- the access that the process makes by its next step in the world
@@ -48,7 +48,7 @@ access_of v p = access_in v.sheet.layout.shape ((world_of v).situation p)
 abbrev pub what_of : WorldValue → Event → Happening
 what_of old (events.BeginEdit r) = Begins r.process (begins.Edit r.cell)
 what_of old (events.BeginWork p cell) = Begins p (begins.Work cell)
-what_of old (events.BeginShow p) = Begins p begins.Report
+what_of old (events.BeginReport p) = Begins p begins.Report
 what_of old (events.BeginRecover p) = Begins p begins.Recovery
 what_of old (events.BeginMigrate p) = Begins p begins.Migration
 what_of old (events.Step p) = Steps p (access_of old p)

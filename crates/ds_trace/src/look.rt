@@ -25,7 +25,7 @@ pub fn wanted(world: &World, process: usize) -> Access<Place>
         Situation::Editing(call) => ds_edit::machine::want(call),
         Situation::Working(call) => ds_work::machine::want(call, world.words.layout().shape),
         Situation::Recovering(call) => ds_recover::machine::want(call),
-        Situation::Showing(call) => ds_show::machine::want(call),
+        Situation::Reporting(call) => ds_report::machine::want(call),
         Situation::Migrating(call) => ds_recover::migrate::want(call),
         Situation::Idle(_) | Situation::Stopped => Access::Nothing,
     }

@@ -1,11 +1,11 @@
 //! A report of a new sheet of two columns, two rows and two processes.
 
 use ds_formula::cells::Shape;
-use ds_show::begin::begin;
-use ds_show::machine::Effect;
-use ds_show::step::step;
+use ds_report::begin::begin;
+use ds_report::machine::Effect;
+use ds_report::step::step;
 use ds_state::refusal::Refusal;
-use ds_state::work::ShowEnd;
+use ds_state::report::ReportEnd;
 use ds_state::world::World;
 use std::test::Fail;
 
@@ -34,7 +34,7 @@ fn new_sheet(rt: HostRuntime) -> Result<(), Fail> {
         assert_eq!(rt; steps(&mut world, 1, 20), Some(Effect::GoesOn));
         assert_eq!(rt;
             step(&mut world, 1),
-            Some(Effect::Answers(ShowEnd::Settled))
+            Some(Effect::Answers(ReportEnd::Settled))
         );
         assert_eq!(rt; step(&mut world, 1), None);
         assert_eq!(rt; world.settled, 1);
@@ -54,13 +54,13 @@ fn copies(rt: HostRuntime) -> Result<(), Fail> {
         let mut copy = world.copy(rt.alloc())?;
         assert_eq!(rt;
             steps(&mut world, 1, 14),
-            Some(Effect::Answers(ShowEnd::Settled))
+            Some(Effect::Answers(ReportEnd::Settled))
         );
         assert_eq!(rt; world.settled, 1);
         assert_eq!(rt; copy.settled, 0);
         assert_eq!(rt;
             steps(&mut copy, 1, 14),
-            Some(Effect::Answers(ShowEnd::Settled))
+            Some(Effect::Answers(ReportEnd::Settled))
         );
         assert_eq!(rt; copy.settled, 1);
     }

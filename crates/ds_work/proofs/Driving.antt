@@ -18,7 +18,7 @@ use Rattle.ds_state.proofs.Underway.{no_more}
 use Rattle.ds_state.specs.declared.refusal.Refusal.{Refusal}
 use Rattle.ds_state.specs.declared.refusal.Refusal.TheVariants as refusal
 use Rattle.ds_state.specs.declared.situation.Situation.{Situation}
-use Rattle.ds_state.specs.declared.situation.Situation.TheVariants.{Idle, Stopped, Editing, Working, Recovering, Showing, Migrating}
+use Rattle.ds_state.specs.declared.situation.Situation.TheVariants.{Idle, Stopped, Editing, Working, Recovering, Reporting, Migrating}
 use Rattle.ds_state.specs.declared.work.WorkStage.TheVariants.{LoadMark, Read, Wait, Answer}
 use Rattle.ds_eval.specs.declared.inputs.Entry as entries
 use Rattle.ds_eval.specs.Inputs.{entry_in}
@@ -26,13 +26,13 @@ use Rattle.ds_eval.specs.Local.{local}
 use Rattle.ds_state.specs.declared.work.WorkEnd.{WorkEnd}
 use Rattle.ds_state.specs.declared.work.WorkStage.{WorkStage}
 use Rattle.ds_work.specs.declared.machine.Doing.TheVariants as doings
-use Rattle.ds_work.specs.declared.drive.Taken.{Taken}
-use Rattle.ds_work.specs.declared.drive.Taken.TheVariants.{Stepped, Answered}
+use Rattle.ds_state.specs.declared.turn.Turn.{Turn}
+use Rattle.ds_state.specs.declared.turn.Turn.TheVariants as does
 use Rattle.ds_work.specs.WorkSteps.{at, access_at, next_at, after, offered, IsPlainStep, StepsAt, Turns, BeginsWork, OffersAt}
 use Rattle.ds_work.specs.Noted.{turn_at}
 use Rattle.ds_work.specs.Reading.{IsReading}
 use Rattle.ds_state.specs.Refusals.{next_edit}
-use Rattle.ds_work.specs.WorkTakes.{CanNotAdvance, IsAskedFor, IsOffered, Refuses, StepsBy, TakesTurn, answers, lacked, reads, steps}
+use Rattle.ds_work.specs.WorkTakes.{IsAskedFor, IsOffered, Refuses, StepsBy, TakesTurn, answers, lacked, reads, steps}
 use Rattle.ds_work.proofs.EachWork.{begins_keep, offer_keep, work_steps_keep, reads_keep, lacks_keep}
 use Rattle.ds_work.proofs.WorkNamed.{can_perform}
 use Rattle.ds_state.specs.Value.{first_rest}
@@ -112,7 +112,7 @@ refuses_of w p Stopped r at is = rw at (let same : r ≡ refusal.Stopped = cc in
 refuses_of w p (Editing e) r at is = rw at (let same : r ≡ refusal.Busy = cc in same)
 refuses_of w p (Working e) r at is = rw at (let same : r ≡ refusal.Busy = cc in same)
 refuses_of w p (Recovering e) r at is = rw at (let same : r ≡ refusal.Busy = cc in same)
-refuses_of w p (Showing e) r at is = rw at (let same : r ≡ refusal.Busy = cc in same)
+refuses_of w p (Reporting e) r at is = rw at (let same : r ≡ refusal.Busy = cc in same)
 refuses_of w p (Migrating e) r at is = rw at (let same : r ≡ refusal.Busy = cc in same)
 
 -- ---- works under way
@@ -186,7 +186,7 @@ module _ (v : WorldValue) (g : IsGood v) (p : ℕ) (e : PlainWorkCall) (low : p 
 
   -- the content is read, or that lacked memory
   module _ (f : PlainWorkCall) (at_read : e.stage ≡ Read) where
-    pub read_takes : IsWork e → IsReading v.sheet.layout.shape e f → StepsBy (world_of v) p Stepped (world_of (put v p v.sheet (Working f)))
+    pub read_takes : IsWork e → IsReading v.sheet.layout.shape e f → StepsBy (world_of v) p does.GoesOn (world_of (put v p v.sheet (Working f)))
     read_takes h (inl r) = record { inside = low; work = e; mine = mine; works = works; is = h; turn = reads r.content r.inputs at_read (record { turn = subst (λ (x : PlainWorkCall). Turns e x (world_of v) (world_of (put v p v.sheet (Working f)))) r.after (turns f); is = r.is }) }
     read_takes h (inr l) = record { inside = low; work = e; mine = mine; works = works; is = h; turn = lacked at_read (subst (λ (x : PlainWorkCall). Turns e x (world_of v) (world_of (put v p v.sheet (Working f)))) l (turns f)) }
 
@@ -225,20 +225,3 @@ answers_at _ end is = absurd cc
 pub waits_at : (s : WorkStage) → turn_at s ≡ doings.Waits → s ≡ Wait
 waits_at Wait is = refl
 waits_at _ is = absurd cc
-
--- a work that goes on by a step neither waits nor answers
-goes_on : (e : PlainWorkCall) (old new : PlainWorld) (taken : Taken) → TakesTurn e old new taken → taken ≡ Stepped → (turn_at e.stage ≡ doings.Waits → ⊥) × ((end : WorkEnd) → turn_at e.stage ≡ doings.Answers end → ⊥)
-goes_on e old new _ (steps word s none) is = (λ waits. subst IsPlainStep (waits_at e.stage waits) s.plain, λ end ends. none end (answers_at e.stage end ends))
-goes_on e old new _ (reads content inputs at h) is = (λ waits. let bad : Read ≡ Wait = sym at ∙ waits_at e.stage waits in absurd cc, λ end ends. let bad : Read ≡ Answer end = sym at ∙ answers_at e.stage end ends in absurd cc)
-goes_on e old new _ (lacked at h) is = (λ waits. let bad : Read ≡ Wait = sym at ∙ waits_at e.stage waits in absurd cc, λ end ends. let bad : Read ≡ Answer end = sym at ∙ answers_at e.stage end ends in absurd cc)
-goes_on e old new _ (answers end at s) is = absurd (let bad : Answered end ≡ Stepped = is in cc)
-
-module _ (v : WorldValue) (p : ℕ) (e : PlainWorkCall) (works : (world_of v).situation p ≡ Working e) where
-  same_work : (f : PlainWorkCall) → (world_of v).situation p ≡ Working f → e ≡ f
-  same_work f is = let both : Working e ≡ Working f = sym works ∙ is in cc
-
-  pub waits_on : turn_at e.stage ≡ doings.Waits → CanNotAdvance (world_of v) p
-  waits_on waits new s = (goes_on s.work (world_of v) new Stepped s.turn refl).0 (subst (λ (f : PlainWorkCall). turn_at f.stage ≡ doings.Waits) (same_work s.work s.works) waits)
-
-  pub ends_now : (end : WorkEnd) → turn_at e.stage ≡ doings.Answers end → CanNotAdvance (world_of v) p
-  ends_now end ends new s = (goes_on s.work (world_of v) new Stepped s.turn refl).1 end (subst (λ (f : PlainWorkCall). turn_at f.stage ≡ doings.Answers end) (same_work s.work s.works) ends)

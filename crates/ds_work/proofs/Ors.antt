@@ -4,7 +4,7 @@ use Rattle.ds_formula.specs.declared.cells.Shape.{Shape}
 use Rattle.ds_state.specs.Works.{PlainWorkCall, IsWork, IsSame, Differs, TellsFits}
 use Rattle.ds_state.specs.declared.work.WorkStage.{WorkStage}
 use Rattle.ds_state.specs.declared.work.WorkStage.TheVariants.{Clear, Telling}
-use Rattle.ds_state.specs.declared.work.Spread.TheVariants.{OrTold}
+use Rattle.ds_state.specs.declared.spread.Spread.TheVariants.{OrTold}
 use Rattle.ds_work.specs.WorkSteps.{access_at}
 use Rattle.ds_work.specs.WorkAnswers.{OrsOnly}
 

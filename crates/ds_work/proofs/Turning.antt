@@ -12,8 +12,8 @@ use Rattle.ds_state.specs.declared.situation.Situation.TheVariants.{Working}
 use Rattle.ds_state.specs.declared.work.WorkEnd.{WorkEnd}
 use Rattle.ds_state.specs.declared.work.WorkStage.{WorkStage}
 use Rattle.ds_state.specs.declared.work.WorkStage.TheVariants.{Read, Wait, LoadValue, LoadOwnValue, Answer}
-use Rattle.ds_work.specs.declared.drive.Taken.{Taken}
-use Rattle.ds_work.specs.declared.drive.Taken.TheVariants.{Stepped}
+use Rattle.ds_state.specs.declared.turn.Turn.{Turn}
+use Rattle.ds_state.specs.declared.turn.Turn.TheVariants as does
 use Rattle.ds_work.specs.WorkSteps.{at, after, next_at, read_from, lacks, IsPlainStep}
 use Rattle.ds_work.specs.WorkRank.{left, steps_left, Falls, GoesOn}
 use Rattle.ds_work.specs.WorkTakes.{TakesTurn, steps, reads, lacked, answers, StepsBy}
@@ -56,7 +56,7 @@ module _ (p : ℕ) (old new : PlainWorld) (sound : IsSound old) (e : PlainWorkCa
   at_own : (s : WorkStage) → e.stage ≡ s → (f : PlainWorkCall) → steps_left e.cells f < left e.cells e s → steps_left e.cells f < steps_left e.cells e
   at_own s same f lt = subst (λ (x : WorkStage). steps_left e.cells f < left e.cells e x) (sym same) lt
 
-  go : (t : Taken) → TakesTurn e old new t → t ≡ Stepped → GoesOn p e new
+  go : (t : Turn WorkEnd) → TakesTurn e old new t → t ≡ does.GoesOn → GoesOn p e new
   go t (steps word k na) same = record {
     work = next_at e e.stage word;
     works = here (next_at e e.stage word) (k.situation ∙ after_goes e e.stage word na);
@@ -77,5 +77,5 @@ module _ (p : ℕ) (old new : PlainWorld) (sound : IsSound old) (e : PlainWorkCa
   }
   go t (answers end stage k) same = absurd cc
 
-pub turns_fall : (p : ℕ) (old new : PlainWorld) → IsSound old → (by : StepsBy old p Stepped new) → GoesOn p by.work new
-turns_fall p old new sound by = go p old new sound by.work by.inside by.mine by.works by.is Stepped by.turn refl
+pub turns_fall : (p : ℕ) (old new : PlainWorld) → IsSound old → (by : StepsBy old p does.GoesOn new) → GoesOn p by.work new
+turns_fall p old new sound by = go p old new sound by.work by.inside by.mine by.works by.is does.GoesOn by.turn refl

@@ -26,15 +26,15 @@ use Rattle.ds_state.specs.declared.situation.Situation.TheVariants.{Working}
 use Rattle.ds_state.specs.declared.work.WorkEnd.{WorkEnd}
 use Rattle.ds_state.specs.declared.work.WorkEnd.TheVariants as ends
 use Rattle.ds_state.specs.Works.{IsWork}
-use Rattle.ds_work.specs.declared.drive.Taken.{Taken}
-use Rattle.ds_work.specs.declared.drive.Taken.TheVariants.{Stepped}
+use Rattle.ds_state.specs.declared.turn.Turn.{Turn}
+use Rattle.ds_state.specs.declared.turn.Turn.TheVariants as does
 use Rattle.ds_work.specs.WorkTakes as events
 use Rattle.ds_work.proofs.Next.{next_noted}
 use Rattle.ds_state.specs.Standing.{value_for, word_for, shown_entry}
 use Rattle.ds_state.specs.Telling.{told_from}
 use Rattle.ds_state.specs.World.{PlainWorld}
-use Rattle.ds_state.specs.declared.work.Spread.{Spread}
-use Rattle.ds_state.specs.declared.work.Spread.TheVariants.{LoadRow, OrTold, FlushTold, BackTold}
+use Rattle.ds_state.specs.declared.spread.Spread.{Spread}
+use Rattle.ds_state.specs.declared.spread.Spread.TheVariants.{LoadRow, OrTold, FlushTold, BackTold}
 use Rattle.ds_state.specs.declared.work.WorkStage.{WorkStage}
 use Rattle.ds_state.specs.declared.work.WorkStage.TheVariants as works
 use Rattle.ds_state.proofs.Dirty.{or_dirty}
@@ -44,7 +44,7 @@ use Rattle.ds_eval.specs.Inputs.{with_entry}
 use Rattle.ds_work.specs.WorkSteps.{at, access_at, claims_from, head_from, header_from, text_from, input_from, told, tell_from, row_from, next_at, read_from, lacks, offered, after, text_parts, parts_of, StepsAt, Turns}
 use Rattle.ds_work.specs.WorkAnswers.{mark_now}
 use Rattle.ds_work.specs.WorkAlone.{RefersToItself, IsToldTo, IsTold, IsRow, IsWholeRow, IsAloneAt, IsAlone, EndsAlone, GoesAlone}
-use Rattle.ds_work.specs.WorkShows.{CellWords, shown_in, EndsShowing, ShowsAt}
+use Rattle.ds_work.specs.WorkShows.{CellWords, shown_in, EndsReporting, ShowsAt}
 use Rattle.ds_work.proofs.WorkShows.{IsUnmarkedAt, input_shows, offer_shows, shown_kept, shows}
 use Rattle.ds_state.specs.Shown.{header_in}
 
@@ -257,7 +257,7 @@ unmarked row w e _ h = tt
 module _ (row : ℕ → ℕ) (before : CellWords) (e : PlainWorkCall) (old new : PlainWorld) (h : IsAlone row before old e) where
   -- where no word is touched
   by_turn : (f : PlainWorkCall) → Turns e f old new → f.cell ≡ e.cell → f.process ≡ e.process → (mark_now new f ≡ f.mark → IsAloneAt row new f f.stage) → mark_now old e ≡ e.mark → f.mark ≡ e.mark → ShowsAt before (shown_in old e.cell) f f.stage
-      → GoesAlone row before e new Stepped
+      → GoesAlone row before e new does.GoesOn
   by_turn f t cell process so was mark showing = (
     f,
     cell,
@@ -276,7 +276,7 @@ module _ (row : ℕ → ℕ) (before : CellWords) (e : PlainWorkCall) (old new :
   shows_at : (s : WorkStage) → e.stage ≡ s → ShowsAt before (shown_in old e.cell) e s
   shows_at s same = subst (λ (x : WorkStage). ShowsAt before (shown_in old e.cell) e x) same h.shows
 
-  pub offer_alone : (entry : entries.Entry) → e.stage ≡ works.Wait → Turns e (offered e entry) old new → GoesAlone row before e new Stepped
+  pub offer_alone : (entry : entries.Entry) → e.stage ≡ works.Wait → Turns e (offered e entry) old new → GoesAlone row before e new does.GoesOn
   offer_alone entry waits t = by_turn (offered e entry) t refl refl (λ was. stored ((e.value == value_for entry) && (e.kind == word_for entry)) was) (seen_at works.Wait waits) refl
       (offer_shows before (shown_in old e.cell) e entry (shows_at works.Wait waits))
     where
@@ -288,7 +288,7 @@ module _ (row : ℕ → ℕ) (before : CellWords) (e : PlainWorkCall) (old new :
   fits : WorkFits old e.process e
   fits = subst (λ (x : Situation). CallFits old e.process x) here (sound.calls e.process low)
 
-  pub turn_alone : (what : Taken) → events.TakesTurn e old new what → GoesAlone row before e new what
+  pub turn_alone : (what : Turn WorkEnd) → events.TakesTurn e old new what → GoesAlone row before e new what
   turn_alone what (events.steps word t on) =
       let cell : (next_at e e.stage word).cell ≡ e.cell = ap (λ (f : PlainWorkCall). f.cell) (next_noted e word e.stage) in (
         next_at e e.stage word,
@@ -313,7 +313,7 @@ module _ (row : ℕ → ℕ) (before : CellWords) (e : PlainWorkCall) (old new :
   turn_alone what (events.answers end at t) = (
     t.situation,
     end_alone row old new e end (t.memory.1.cached (Mark e.cell)) (seen_at row before e old new h (works.Answer end) at),
-    subst (λ x. EndsShowing before x end) (sym (shown_kept old new e.cell t.memory.1)) (shows_at row before e old new h (works.Answer end) at),
+    subst (λ x. EndsReporting before x end) (sym (shown_kept old new e.cell t.memory.1)) (shows_at row before e old new h (works.Answer end) at),
   )
 
 -- ---- an eviction

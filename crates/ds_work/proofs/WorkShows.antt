@@ -23,8 +23,8 @@ use Rattle.ds_state.specs.Works.{PlainWorkCall, TellsFits, IsSame, Differs, SEEN
 use Rattle.ds_state.specs.Standing.{value_for, word_for, shown_entry}
 use Rattle.ds_state.specs.Telling.{told_from}
 use Rattle.ds_state.specs.World.{PlainWorld}
-use Rattle.ds_state.specs.declared.work.Spread.{Spread}
-use Rattle.ds_state.specs.declared.work.Spread.TheVariants.{LoadRow, OrTold, FlushTold, BackTold}
+use Rattle.ds_state.specs.declared.spread.Spread.{Spread}
+use Rattle.ds_state.specs.declared.spread.Spread.TheVariants.{LoadRow, OrTold, FlushTold, BackTold}
 use Rattle.ds_state.specs.declared.work.WorkStage.{WorkStage}
 use Rattle.ds_state.specs.declared.work.WorkStage.TheVariants as works
 use Rattle.ds_work.specs.WorkSteps.{access_at, claims_from, head_from, header_from, text_from, input_from, told, tell_from, row_from, spread_next, next_at, read_from, lacks, offered, text_parts, parts_of}

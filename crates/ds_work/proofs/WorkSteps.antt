@@ -21,14 +21,14 @@ use Rattle.ds_state.specs.KnownWork.{HasHeld, HasInputs, input_row, WorkFits}
 use Rattle.ds_state.specs.Sound.{IsSound}
 use Rattle.ds_state.specs.declared.stage.Stage.{Stage}
 use Rattle.ds_state.specs.declared.stage.Stage.TheVariants as edits
-use Rattle.ds_state.specs.declared.work.Spread.{Spread}
-use Rattle.ds_state.specs.declared.work.Spread.TheVariants.{LoadRow, OrTold, FlushTold, BackTold}
+use Rattle.ds_state.specs.declared.spread.Spread.{Spread}
+use Rattle.ds_state.specs.declared.spread.Spread.TheVariants.{LoadRow, OrTold, FlushTold, BackTold}
 use Rattle.ds_state.specs.declared.work.WorkStage.{WorkStage}
 use Rattle.ds_state.specs.declared.work.WorkStage.TheVariants as works
-use Rattle.ds_state.specs.declared.work.RecoverStage.{RecoverStage}
-use Rattle.ds_state.specs.declared.work.RecoverStage.TheVariants as recoveries
+use Rattle.ds_state.specs.declared.recovery.RecoverStage.{RecoverStage}
+use Rattle.ds_state.specs.declared.recovery.RecoverStage.TheVariants as recoveries
 use Rattle.ds_state.specs.declared.situation.Situation.{Situation}
-use Rattle.ds_state.specs.declared.situation.Situation.TheVariants.{Idle, Stopped, Editing, Working, Recovering, Showing, Migrating}
+use Rattle.ds_state.specs.declared.situation.Situation.TheVariants.{Idle, Stopped, Editing, Working, Recovering, Reporting, Migrating}
 use Rattle.ds_state.proofs.Frames.{Moves, clean_free}
 use Rattle.ds_state.proofs.Telling.{matters_most, odd_above}
 use Rattle.ds_state.proofs.Bearing.{Buffered, Mine, MyMarks, text_same, stored_marks, all_stand, cell_owes_lasts, excused_lasts}
@@ -81,7 +81,7 @@ module _ (w : PlainWorld) (h : ℕ) (c x y : ℕ) (is : x ≡ w.memory.cached (M
   owes_later (Editing e) r k = absurd k
   owes_later (Working e) r k = (k.0, work_later e.row e.stage k.1)
   owes_later (Recovering e) r k = recovery_later e.row e.stage r k
-  owes_later (Showing e) r k = absurd k
+  owes_later (Reporting e) r k = absurd k
 
   edit_later : (s : Stage) → EditOwes w.memory h c s x → EditOwes w.memory h c s y
   edit_later (edits.FlushOwn own) k = tt
@@ -107,7 +107,7 @@ module _ (w : PlainWorld) (h : ℕ) (c x y : ℕ) (is : x ≡ w.memory.cached (M
   excuses_later (Editing e) k = (k.0, edit_later e.stage k.1)
   excuses_later (Working e) k = absurd k
   excuses_later (Recovering e) k = (k.0, excuse_later e.stage k.1)
-  excuses_later (Showing e) k = absurd k
+  excuses_later (Reporting e) k = absurd k
 
 no_place : (a c : ℕ) → ((Mark a ≡ Value c) ⊎ (Mark a ≡ Kind c)) → ⊥
 no_place a c (inl e) = cc

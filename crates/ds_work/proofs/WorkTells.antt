@@ -19,7 +19,7 @@ use Rattle.ds_state.specs.Rely.{IsOwnedBy, KeepsHold, Grows, Keeps}
 use Rattle.ds_state.specs.Sound.{IsSound}
 use Rattle.ds_state.specs.declared.work.WorkStage.{WorkStage}
 use Rattle.ds_state.specs.declared.work.WorkStage.TheVariants as works
-use Rattle.ds_state.specs.declared.work.Spread.TheVariants.{LoadRow, OrTold, FlushTold, BackTold}
+use Rattle.ds_state.specs.declared.spread.Spread.TheVariants.{LoadRow, OrTold, FlushTold, BackTold}
 use Rattle.ds_state.specs.declared.situation.Situation.TheVariants.{Working}
 use Rattle.ds_state.proofs.Frames.{stays_hold, grows_by}
 use Rattle.ds_state.proofs.Dirty.{or_dirty, or_moves, or_mark_fits}

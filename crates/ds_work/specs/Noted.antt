@@ -11,7 +11,7 @@ use Rattle.ds_layout.specs.TextWords.{bytes_of}
 use Rattle.ds_layout.specs.declared.place.TheConstants.{ROW_PARTS}
 use Rattle.ds_state.specs.Works.{PlainWorkCall, SEEN_MOST}
 use Rattle.ds_state.specs.Standing.{shown_entry}
-use Rattle.ds_state.specs.declared.work.Spread.TheVariants.{LoadRow}
+use Rattle.ds_state.specs.declared.spread.Spread.TheVariants.{LoadRow}
 use Rattle.ds_state.specs.declared.work.WorkStage.{WorkStage}
 use Rattle.ds_state.specs.declared.work.WorkStage.TheVariants.{LoadMark, Claim, LoadHead, LoadHeader, LoadText, Read, LoadKind, LoadOwnValue, LoadOwnKind, Wait, BackKind, Telling, Answer}
 use Rattle.ds_work.specs.WorkSteps.{next_at}

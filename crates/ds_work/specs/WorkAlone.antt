@@ -7,17 +7,17 @@ use Rattle.ds_layout.specs.declared.mark.State.TheVariants.{Marked}
 use Rattle.ds_state.specs.Works.{PlainWorkCall, SEEN_MOST}
 use Rattle.ds_state.specs.World.{PlainWorld}
 use Rattle.ds_layout.specs.Mark.{IsClean, generation_of, dirtied}
-use Rattle.ds_state.specs.declared.work.Spread.{Spread}
-use Rattle.ds_state.specs.declared.work.Spread.TheVariants.{LoadRow, OrTold, FlushTold, BackTold}
+use Rattle.ds_state.specs.declared.spread.Spread.{Spread}
+use Rattle.ds_state.specs.declared.spread.Spread.TheVariants.{LoadRow, OrTold, FlushTold, BackTold}
 use Rattle.ds_state.specs.declared.work.WorkEnd.{WorkEnd}
 use Rattle.ds_state.specs.declared.work.WorkEnd.TheVariants.{NotDirty, Missed, Worn, Published, Again, NoMemory}
 use Rattle.ds_state.specs.declared.work.WorkStage.{WorkStage}
 use Rattle.ds_state.specs.declared.work.WorkStage.TheVariants.{LoadMark, Claim, FlushClaim, BackClaim, LoadHead, LoadHeader, LoadText, Read, LoadValue, LoadKind, LoadOwnValue, LoadOwnKind, Wait, StoreValue, StoreKind, FlushValue, FlushKind, BackValue, BackKind, Telling, Clear, ClearDirty, Give, GiveDirty, FlushCleared, BackCleared, Answer}
 use Rattle.ds_state.specs.declared.situation.Situation.TheVariants.{Idle, Working}
-use Rattle.ds_work.specs.declared.drive.Taken.{Taken}
-use Rattle.ds_work.specs.declared.drive.Taken.TheVariants.{NotEnabled, Stepped, Answered}
+use Rattle.ds_state.specs.declared.turn.Turn.{Turn}
+use Rattle.ds_state.specs.declared.turn.Turn.TheVariants as does
 use Rattle.ds_work.specs.WorkAnswers.{mark_now, state_now}
-use Rattle.ds_work.specs.WorkShows.{CellWords, shown_in, EndsShowing, ShowsAt}
+use Rattle.ds_work.specs.WorkShows.{CellWords, shown_in, EndsReporting, ShowsAt}
 use Rattle.ds_work.specs.WorkSteps.{rest_of}
 
 -- the work's cell is marked, and its mark has generations left
@@ -103,7 +103,6 @@ pub record IsAlone (row : ℕ → ℕ) (before : CellWords) (w : PlainWorld) (e 
   pub index : (part : ℕ) → w.memory.cached (place.Index e.cell part) ≡ row part
 
 -- what a turn of work that is alone leaves: it goes on alone, or it has ended so and its process is idle
-abbrev pub GoesAlone : (ℕ → ℕ) → CellWords → PlainWorkCall → PlainWorld → Taken → Type 0
-GoesAlone row before e w NotEnabled = Unit {0}
-GoesAlone row before e w Stepped = (f : PlainWorkCall) × (f.cell ≡ e.cell) × (f.process ≡ e.process) × (w.situation e.process ≡ Working f) × IsAlone row before w f
-GoesAlone row before e w (Answered end) = (w.situation e.process ≡ Idle (rest_of e)) × EndsAlone row w e end × EndsShowing before (shown_in w e.cell) end
+abbrev pub GoesAlone : (ℕ → ℕ) → CellWords → PlainWorkCall → PlainWorld → Turn WorkEnd → Type 0
+GoesAlone row before e w does.GoesOn = (f : PlainWorkCall) × (f.cell ≡ e.cell) × (f.process ≡ e.process) × (w.situation e.process ≡ Working f) × IsAlone row before w f
+GoesAlone row before e w (does.Answers end) = (w.situation e.process ≡ Idle (rest_of e)) × EndsAlone row w e end × EndsReporting before (shown_in w e.cell) end

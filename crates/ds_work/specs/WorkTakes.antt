@@ -1,5 +1,5 @@
 -- The events of works, from world to world: beginnings, steps, offers.
-use Rattle.std.specs.Prelude.{ℕ, ◌≡◌, ◌<◌, List}
+use Rattle.std.specs.Prelude.{ℕ, ◌≡◌, ◌<◌, List, Option, Some, None}
 use Rattle.ds_formula.specs.declared.cells.Shape.{Shape}
 use Rattle.ds_formula.specs.Cells.{cell_at}
 use Rattle.ds_formula.specs.Plain.{PlainContent}
@@ -14,12 +14,13 @@ use Rattle.ds_state.specs.World.{PlainWorld}
 use Rattle.ds_state.specs.declared.refusal.Refusal.{Refusal}
 use Rattle.ds_state.specs.declared.refusal.Refusal.TheVariants as refusal
 use Rattle.ds_state.specs.declared.situation.Situation.{Situation}
-use Rattle.ds_state.specs.declared.situation.Situation.TheVariants.{Idle, Stopped, Editing, Working, Recovering, Showing, Migrating}
+use Rattle.ds_state.specs.declared.situation.Situation.TheVariants.{Idle, Stopped, Editing, Working, Recovering, Reporting, Migrating}
 use Rattle.ds_state.specs.declared.work.WorkEnd.{WorkEnd}
 use Rattle.ds_state.specs.declared.work.WorkStage.TheVariants.{LoadMark, Read, Wait, Answer}
-use Rattle.ds_work.specs.WorkSteps.{rest_of, BeginsWork, StepsAt, ReadsAt, LacksAt, OffersAt}
-use Rattle.ds_work.specs.declared.drive.Taken.{Taken}
-use Rattle.ds_work.specs.declared.drive.Taken.TheVariants.{NotEnabled, Stepped, Answered}
+use Rattle.ds_layout.specs.SheetMemory.{SheetValue, memory, PerformsAt}
+use Rattle.ds_work.specs.WorkSteps.{access_at, next_at, rest_of, BeginsWork, StepsAt, ReadsAt, LacksAt, OffersAt}
+use Rattle.ds_state.specs.declared.turn.Turn.{Turn}
+use Rattle.ds_state.specs.declared.turn.Turn.TheVariants as does
 use Rattle.ds_state.specs.declared.situation.Rest.{Rest}
 
 -- ---- beginnings
@@ -49,7 +50,7 @@ RefusesIn Stopped r = r ≡ refusal.Stopped
 RefusesIn (Editing e) r = r ≡ refusal.Busy
 RefusesIn (Working e) r = r ≡ refusal.Busy
 RefusesIn (Recovering e) r = r ≡ refusal.Busy
-RefusesIn (Showing e) r = r ≡ refusal.Busy
+RefusesIn (Reporting e) r = r ≡ refusal.Busy
 RefusesIn (Migrating e) r = r ≡ refusal.Busy
 
 -- why this process may not begin work
@@ -92,11 +93,11 @@ pub record IsOffered (old : PlainWorld) (process : ℕ) (entry : Entry) (new : P
 
 -- what a turn of the process's work does: it makes the step of its stage, or reads the content of its text, which may
 -- lack memory, or answers
-pub data TakesTurn (e : PlainWorkCall) (old new : PlainWorld) : Taken → Type 0 where
-  steps : (word : ℕ) → StepsAt e e.stage word old new → ((end : WorkEnd) → e.stage ≡ Answer end → ⊥) → TakesTurn e old new Stepped
-  reads : (content : PlainContent) (inputs : List Input) → e.stage ≡ Read → ReadsAt e content inputs old new → TakesTurn e old new Stepped
-  lacked : e.stage ≡ Read → LacksAt e old new → TakesTurn e old new Stepped
-  answers : (end : WorkEnd) → e.stage ≡ Answer end → StepsAt e (Answer end) 0 old new → TakesTurn e old new (Answered end)
+pub data TakesTurn (e : PlainWorkCall) (old new : PlainWorld) : Turn WorkEnd → Type 0 where
+  steps : (word : ℕ) → StepsAt e e.stage word old new → ((end : WorkEnd) → e.stage ≡ Answer end → ⊥) → TakesTurn e old new does.GoesOn
+  reads : (content : PlainContent) (inputs : List Input) → e.stage ≡ Read → ReadsAt e content inputs old new → TakesTurn e old new does.GoesOn
+  lacked : e.stage ≡ Read → LacksAt e old new → TakesTurn e old new does.GoesOn
+  answers : (end : WorkEnd) → e.stage ≡ Answer end → StepsAt e (Answer end) 0 old new → TakesTurn e old new (does.Answers end)
 
 -- the process is in this work, which is one of its sheet
 pub record IsIn (w : PlainWorld) (process : ℕ) (e : PlainWorkCall) : Type 0 where
@@ -104,24 +105,27 @@ pub record IsIn (w : PlainWorld) (process : ℕ) (e : PlainWorkCall) : Type 0 wh
   pub works : w.situation process ≡ Working e
   pub is : IsWork e
 
+-- the work made the access of its stage on these words, and its process goes on with the word that it answered
+pub record GoesBy (e : PlainWorkCall) (process : ℕ) (old new : SheetValue) (situation : Situation) : Type 0 where
+  pub word : ℕ
+  pub layout : new.layout ≡ old.layout
+  pub performs : PerformsAt (access_at old.layout.shape e e.stage) process (memory old) (memory new) word
+  pub goes : situation ≡ Working (next_at e e.stage word)
+
 -- the process takes one turn of the work that it is in
-pub record StepsBy (old : PlainWorld) (process : ℕ) (taken : Taken) (new : PlainWorld) : Type 0 where
+pub record StepsBy (old : PlainWorld) (process : ℕ) (what : Turn WorkEnd) (new : PlainWorld) : Type 0 where
   pub inside : process < old.layout.processes
   pub work : PlainWorkCall
   pub mine : work.process ≡ process
   pub works : old.situation process ≡ Working work
   pub is : IsWork work
-  pub turn : TakesTurn work old new taken
-
--- no work of the process goes on by a step: it is in none, or its work waits or answers
-abbrev pub CanNotAdvance : PlainWorld → ℕ → Type 0
-CanNotAdvance w process = (new : PlainWorld) → StepsBy w process Stepped new → ⊥
+  pub turn : TakesTurn work old new what
 
 -- the process is in no work, or its work waits
 abbrev pub CanNotStep : PlainWorld → ℕ → Type 0
 CanNotStep w process = (e : PlainWorkCall) → process < w.layout.processes → w.situation process ≡ Working e → e.stage ≡ Wait
 
--- the process takes one turn of its work; or, answered NotEnabled, it can not make a step of work
-abbrev pub StepTakes : PlainWorld → ℕ → Taken → PlainWorld → Type 0
-StepTakes old process NotEnabled new = CanNotStep old process
-StepTakes old process taken new = StepsBy old process taken new
+-- the process takes one turn of its work; or it can not make a step of work
+abbrev pub StepTakes : PlainWorld → ℕ → Option (Turn WorkEnd) → PlainWorld → Type 0
+StepTakes old process None new = CanNotStep old process
+StepTakes old process (Some turn) new = StepsBy old process turn new

@@ -7,31 +7,23 @@ ghost use Rattle.ds_state.specs.Value.{world_of};
 ghost use Rattle.ds_state.specs.declared.situation.Situation.TheVariants.{Idle, Working};
 ghost use Rattle.ds_work.specs.Noted.{turn_at};
 ghost use Rattle.ds_work.specs.Reading.{IsReading};
-ghost use Rattle.ds_work.specs.WorkSteps.{rest_of};
-ghost use Rattle.ds_work.specs.WorkTakes.{CanNotAdvance, IsIn, StepsBy, StepTakes};
+ghost use Rattle.ds_layout.specs.SheetMemory.{CanPerform, memory};
+ghost use Rattle.ds_work.specs.WorkSteps.{access_at, rest_of};
+ghost use Rattle.ds_work.specs.WorkTakes.{GoesBy, IsIn, StepsBy, StepTakes};
 ghost use Rattle.ds_work.specs.declared.machine.Doing.TheVariants.{Steps, Reads, Answers};
-ghost use Rattle.ds_work.specs.declared.drive.Taken.TheVariants.{NotEnabled, Stepped, Answered};
+ghost use Rattle.ds_state.specs.declared.turn.Turn.TheVariants as does;
 
 use crate::laws::works_are_of_a_sheet;
 use crate::machine::{Doing, got, turn, want};
 use crate::reading::reading;
 use ds_eval::inputs::Inputs;
 use ds_formula::cells::Shape;
+use ds_layout::sheet_words::SheetWords;
 use ds_state::situation::{Rest, Situation, exchange};
+use ds_state::turn::Turn;
 use ds_state::work::{WorkCall, WorkEnd};
 use ds_state::world::World;
 use std::alloc::Global;
-
-/// What came of a step of a process.
-#[derive(Clone, Copy, Debug, PartialEq, Eq)]
-pub enum Taken {
-    /// The process is in no work, or its work waits for an entry: nothing changes.
-    NotEnabled,
-    /// The work went on by one step.
-    Stepped,
-    /// The work has answered, and its process is idle.
-    Answered(WorkEnd),
-}
 
 // The work of a process, where it is in one.
 #[inline(always)]
@@ -42,7 +34,7 @@ fn work_of(situation: &Situation) -> Option<&WorkCall>
     match situation {
         Situation::Working(call) => Some(call),
         Situation::Idle(_) | Situation::Stopped | Situation::Editing(_) => None,
-        Situation::Recovering(_) | Situation::Showing(_) | Situation::Migrating(_) => None,
+        Situation::Recovering(_) | Situation::Reporting(_) | Situation::Migrating(_) => None,
     }
 }
 
@@ -57,29 +49,36 @@ fn read(alloc: Global, situation: &mut Situation, shape: Shape)
     }
 }
 
-// The step of its stage: the work goes on with the word that its access answers.
+// The step of the stage of its work: the work goes on with the word that its access answers.
+#[inline(always)]
+fn go_on(words: &mut SheetWords, situation: &mut Situation, process: usize)
+    requires { (e : PlainWorkCall) → situation.old ≡ Working e → CanPerform words.old.layout (memory words.old) process (access_at words.old.layout.shape e e.stage) }
+    ensures { (e : PlainWorkCall) → situation.old ≡ Working e → GoesBy e process words.old words.new situation.new }
+{
+    if let Situation::Working(call) = situation {
+        let access = want(call, words.layout().shape);
+        let word = words.perform(process, access);
+        got(call, word);
+    }
+}
+
+// The step of its stage.
 #[inline(always)]
 fn step_on(world: &mut World, process: usize)
     requires { (e : PlainWorkCall) × IsIn (world_of world.old) process e × (turn_at e.stage ≡ Steps) }
-    ensures takes { StepsBy (world_of world.old) process Stepped (world_of world.new) }
+    ensures takes { StepsBy (world_of world.old) process does.GoesOn (world_of world.new) }
     ensures done { world.new.done ≡ world.old.done }
     ensures settled { world.new.settled ≡ world.old.settled }
     ensures reports { world.new.reports ≡ world.old.reports }
 {
-    let shape = world.words.layout().shape;
-    let Situation::Working(call) = &mut world.situations[process] else {
-        unreachable!();
-    };
-    let access = want(call, shape);
-    let word = world.words.perform(process, access);
-    got(call, word);
+    go_on(&mut world.words, &mut world.situations[process], process);
 }
 
 // The step that reads the content.
 #[inline(always)]
 fn read_on(alloc: Global, world: &mut World, process: usize)
     requires { (e : PlainWorkCall) × IsIn (world_of world.old) process e × (turn_at e.stage ≡ Reads) }
-    ensures takes { StepsBy (world_of world.old) process Stepped (world_of world.new) }
+    ensures takes { StepsBy (world_of world.old) process does.GoesOn (world_of world.new) }
     ensures done { world.new.done ≡ world.old.done }
     ensures settled { world.new.settled ≡ world.old.settled }
     ensures reports { world.new.reports ≡ world.old.reports }
@@ -100,7 +99,7 @@ fn room_of(situation: Situation) -> Option<Inputs> {
 #[inline(always)]
 fn close(world: &mut World, process: usize, next: Rest, end: WorkEnd)
     requires { (e : PlainWorkCall) × IsIn (world_of world.old) process e × (turn_at e.stage ≡ Answers end) × (rest_of e ≡ next) }
-    ensures takes { StepsBy (world_of world.old) process (Answered end) (world_of world.new) }
+    ensures takes { StepsBy (world_of world.old) process (does.Answers end) (world_of world.new) }
     ensures done { world.new.done ≡ world.old.done }
     ensures settled { world.new.settled ≡ world.old.settled }
     ensures reports { world.new.reports ≡ world.old.reports }
@@ -112,18 +111,18 @@ fn close(world: &mut World, process: usize, next: Rest, end: WorkEnd)
 /// A process makes the next step of its work. Where it has none, or its work waits for an entry, or
 /// the sheet has no such process, the step can not happen and nothing changes. Only the step that
 /// reads a content takes memory; where that is refused, the work goes on and answers `NoMemory`.
-pub fn step(alloc: Global, world: &mut World, process: usize) -> Taken
+pub fn step(alloc: Global, world: &mut World, process: usize) -> Option<Turn<WorkEnd>>
     ensures takes { StepTakes (world_of world.old) process result (world_of world.new) }
-    ensures unchanged { result ≡ NotEnabled → world.new ≡ world.old }
+    ensures unchanged { IfNone result (world.new ≡ world.old) }
     ensures done { world.new.done ≡ world.old.done }
     ensures settled { world.new.settled ≡ world.old.settled }
     ensures reports { world.new.reports ≡ world.old.reports }
 {
     if process >= world.situations.len() {
-        return Taken::NotEnabled;
+        return None;
     }
     let Some(call) = work_of(&world.situations[process]) else {
-        return Taken::NotEnabled;
+        return None;
     };
     works_are_of_a_sheet(call);
     let doing = turn(call);
@@ -132,48 +131,18 @@ pub fn step(alloc: Global, world: &mut World, process: usize) -> Taken
         edition: call.edition,
     };
     match doing {
-        Doing::Waits => Taken::NotEnabled,
+        Doing::Waits => None,
         Doing::Reads => {
             read_on(alloc, world, process);
-            Taken::Stepped
+            Some(Turn::GoesOn)
         }
         Doing::Steps => {
             step_on(world, process);
-            Taken::Stepped
+            Some(Turn::GoesOn)
         }
         Doing::Answers(end) => {
             close(world, process, next, end);
-            Taken::Answered(end)
-        }
-    }
-}
-
-/// A process makes the next step of its work, where that is not its answer, and says so: it is the
-/// one that `step` would make. Where there is none, nothing changes.
-pub fn advances(alloc: Global, world: &mut World, process: usize) -> bool
-    ensures takes { IsTrue result → StepsBy (world_of world.old) process Stepped (world_of world.new) }
-    ensures none { IsFalse result → CanNotAdvance (world_of world.old) process }
-    ensures unchanged { IsFalse result → world.new ≡ world.old }
-    ensures done { world.new.done ≡ world.old.done }
-    ensures settled { world.new.settled ≡ world.old.settled }
-    ensures reports { world.new.reports ≡ world.old.reports }
-{
-    if process >= world.situations.len() {
-        return false;
-    }
-    let Some(call) = work_of(&world.situations[process]) else {
-        return false;
-    };
-    works_are_of_a_sheet(call);
-    match turn(call) {
-        Doing::Waits | Doing::Answers(_) => false,
-        Doing::Reads => {
-            read_on(alloc, world, process);
-            true
-        }
-        Doing::Steps => {
-            step_on(world, process);
-            true
+            Some(Turn::Answers(end))
         }
     }
 }

@@ -22,7 +22,7 @@ ghost use Rattle.ds_state.specs.declared.work.WorkEnd.{WorkEnd};
 ghost use Rattle.ds_work.specs.WorkAnswers.{IsDecided, IsTrueAnswer, OrsOnly};
 ghost use Rattle.ds_work.specs.WorkRank.{left, steps_left, Falls, GoesOn};
 ghost use Rattle.ds_work.specs.WorkTakes.{StepsBy};
-ghost use Rattle.ds_work.specs.declared.drive.Taken.TheVariants.{Stepped};
+ghost use Rattle.ds_state.specs.declared.turn.Turn.TheVariants as does;
 
 use ds_state::work::WorkCall;
 
@@ -118,7 +118,7 @@ pub fn works_are_of_a_sheet(call: &WorkCall)
 /// A turn of a work that goes on leaves fewer steps than there were.
 #[tactic(auto, using(crate::proofs::Turning::turns_fall))]
 pub fn turns_leave_fewer_steps()
-    ensures { (p : ℕ) (old new : PlainWorld) → IsSound old → (by : StepsBy old p Stepped new) → GoesOn p by.work new }
+    ensures { (p : ℕ) (old new : PlainWorld) → IsSound old → (by : StepsBy old p does.GoesOn new) → GoesOn p by.work new }
 {}
 
 /// Each step of work leaves the others what is theirs, and so do reading the content, giving up for

@@ -13,7 +13,7 @@ ghost use Rattle.ds_state.specs.Works.{PlainWorkCall, StageFits, SEEN_MOST};
 ghost use Rattle.ds_words.specs.declared.access.Access.TheVariants.{SwapIf};
 ghost use Rattle.ds_layout.specs.declared.place.Place.TheVariants as places;
 ghost use Rattle.ds_state.specs.declared.work.WorkStage.TheVariants.{LoadMark, Claim, Clear, Give, Telling};
-ghost use Rattle.ds_state.specs.declared.work.Spread.TheVariants.{LoadRow};
+ghost use Rattle.ds_state.specs.declared.spread.Spread.TheVariants.{LoadRow};
 ghost use Rattle.ds_work.specs.WorkSteps.{record_header, record_text, input_place, access_at, next_at, claims_from, head_from, header_from, text_from, input_from, told, tell_from, row_from, spread_access};
 ghost use Rattle.ds_work.specs.declared.machine.Noting.TheVariants as noted;
 ghost use Rattle.ds_work.specs.Noted.{mark_at, head_at, length_at, text_after, inputs_after, value_after, kind_after, row_after, stage_at, notes_at, turn_at, FitsInputs, FitsRow};
@@ -31,7 +31,8 @@ use ds_layout::text::{part_bytes, text_parts};
 use ds_state::row::Row;
 use ds_state::shown::header_in;
 use ds_state::text::Text;
-use ds_state::work::{Spread, WorkCall, WorkEnd, WorkStage};
+use ds_state::spread::Spread;
+use ds_state::work::{WorkCall, WorkEnd, WorkStage};
 use ds_words::access::Access;
 
 /// The greatest generation of a mark that work claims: a mark of a greater one is worn.
@@ -403,7 +404,9 @@ fn next(call: &WorkCall, word: u64) -> WorkStage
         WorkStage::FlushValue => WorkStage::FlushKind,
         WorkStage::FlushKind => WorkStage::BackValue,
         WorkStage::BackValue => WorkStage::BackKind,
-        WorkStage::BackKind | WorkStage::Telling(Spread::LoadRow(_)) => unreachable!(),
+        WorkStage::BackKind | WorkStage::Telling(Spread::LoadRow(_)) => {
+            row_next(call.row.as_slice(), call.cells, call.stage)
+        }
         WorkStage::Telling(Spread::OrTold(cell)) => WorkStage::Telling(Spread::FlushTold(cell)),
         WorkStage::Telling(Spread::FlushTold(cell)) => WorkStage::Telling(Spread::BackTold(cell)),
         WorkStage::Telling(Spread::BackTold(cell)) => {

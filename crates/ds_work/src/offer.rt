@@ -48,7 +48,7 @@ fn waiting(situation: &Situation) -> Option<&WorkCall>
             _ => None,
         },
         Situation::Idle(_) | Situation::Stopped | Situation::Editing(_) => None,
-        Situation::Recovering(_) | Situation::Showing(_) | Situation::Migrating(_) => None,
+        Situation::Recovering(_) | Situation::Reporting(_) | Situation::Migrating(_) => None,
     }
 }
 

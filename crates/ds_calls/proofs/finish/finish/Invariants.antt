@@ -1,6 +1,6 @@
 use Rattle.std.proofs.Common.{List}
 use Rattle.ds_state.specs.Value.{world_of}
-use Rattle.ds_edit.specs.declared.answer.Answer.{Answer}
+use Rattle.ds_state.specs.declared.answer.Answer.{Answer}
 use Rattle.ds_core.specs.Own.{steps_left}
 use Rattle.ds_core.specs.declared.event.Event.{Event}
 use Rattle.ds_core.specs.declared.reply.Reply.{Reply}

@@ -10,7 +10,7 @@ use Rattle.ds_state.specs.declared.stage.Outcome.{Outcome}
 use Rattle.ds_state.specs.declared.situation.Situation.TheVariants.{Idle, Editing}
 use Rattle.ds_edit.specs.EditSteps.{access_at}
 use Rattle.ds_edit.specs.EditTakes.{after, after_by, counted_at, counted_by, effect_at, open_edit_at, open_edit_by, outcome_by}
-use Rattle.ds_edit.specs.EditEndings.{outcome_at}
+use Rattle.ds_state.specs.EditEndings.{outcome_at}
 use Rattle.ds_edit.specs.declared.machine.Effect.{Effect}
 use Rattle.ds_edit.specs.declared.machine.Effect.TheVariants.{Counts}
 use Rattle.ds_edit.proofs.Effects.{after_same, counted_same, open_edit_same, outcome_same, counts_swaps}

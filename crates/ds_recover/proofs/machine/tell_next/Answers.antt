@@ -1,9 +1,9 @@
 use Rattle.std.proofs.Common.{◌≡◌, ◌+◌, ap, ◌∙◌, subst, refl, arith}
 use Rattle.ds_state.specs.Works.{PlainRecoverCall}
 use Rattle.ds_state.specs.RecoverStages.{IsStage}
-use Rattle.ds_state.specs.declared.work.RecoverStage.{RecoverStage}
-use Rattle.ds_state.specs.declared.work.RecoverStage.TheVariants.{Telling}
-use Rattle.ds_state.specs.declared.work.Spread.TheVariants.{BackTold}
+use Rattle.ds_state.specs.declared.recovery.RecoverStage.{RecoverStage}
+use Rattle.ds_state.specs.declared.recovery.RecoverStage.TheVariants.{Telling}
+use Rattle.ds_state.specs.declared.spread.Spread.TheVariants.{BackTold}
 use Rattle.ds_recover.proofs.RecoveryReads.{tell_stage, staged}
 use Rattle.ds_recover.proofs.machine.tell_next.Goals as goal
 

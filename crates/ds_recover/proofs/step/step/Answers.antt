@@ -1,4 +1,6 @@
 use Rattle.std.proofs.Common.{ℕ, ◌≡◌, ◌<◌, arith, ap, sym, ◌∙◌, subst, get_or}
+use Rattle.ds_state.specs.declared.turn.Turn.{Turn}
+use Rattle.ds_state.specs.declared.recovery.RecoveryEnd.{RecoveryEnd}
 use Rattle.std.specs.Prelude.{Option, None, vec_capacity}
 use Rattle.std.proofs.lemmas.List.{get_or_default}
 use Rattle.ds_layout.specs.SheetMemory.{PerformsAt, memory}
@@ -6,7 +8,6 @@ use Rattle.ds_state.specs.Works.{PlainRecoverCall}
 use Rattle.ds_state.specs.World.{PlainIssue}
 use Rattle.ds_state.specs.Value.{WorldValue, first_rest, IsReserved}
 use Rattle.ds_state.specs.declared.situation.Situation.TheVariants.{Idle}
-use Rattle.ds_recover.specs.declared.machine.Effect.{Effect}
 use Rattle.ds_recover.specs.RecoverySteps.{access_at, after, open_edit_at}
 use Rattle.ds_recover.specs.RecoverTakes.{open_edit_by, StepsBy}
 use Rattle.ds_recover.proofs.RecoveryGood.{IsRecovering, recovering_from, perform_at, open_edit_there, resolved_by, next_is, next_kept, next_takes}
@@ -29,7 +30,7 @@ invariant_of-world c =
     let performs : PerformsAt (access_at e e.stage) p (memory v.sheet) (memory c.perform-word.new.self) word = rw (sym c.want-access.ensures) c.perform-word.ensures.performs in
     let there : p < _ = open_edit_there v c.world.invariant.good p e at in
     let situation : c.go_on.new.situation ≡ after e e.stage word = c.go_on.ensures e (c.index_mut.ensures.value ∙ get_or_default v.situations p c.index_mut.result.now (Idle first_rest) at.there ∙ at.is) in
-    let pending : c.close.new.open_edit ≡ open_edit_at (get_or v.open_edits p None) e.stage = c.close.ensures ∙ ap (λ (w : Effect). open_edit_by c.index_mut-2.result.now w) c.effect_of-what.ensures ∙ resolved_by e e.stage c.index_mut-2.result.now
+    let pending : c.close.new.open_edit ≡ open_edit_at (get_or v.open_edits p None) e.stage = c.close.ensures ∙ ap (λ (w : Turn RecoveryEnd). open_edit_by c.index_mut-2.result.now w) c.effect_of-what.ensures ∙ resolved_by e e.stage c.index_mut-2.result.now
     ∙ ap (λ (i : Option PlainIssue). open_edit_at i e.stage) (c.index_mut-2.ensures.value ∙ get_or_default v.open_edits p c.index_mut-2.result.now None there) in
     subst (λ (w : WorldValue). IsReserved w (vec_capacity c.world.inside.counted)) (sym (next_is v c.world.invariant.good p e at word c.perform-word.new.self c.perform-word.ensures.layout performs c.go_on.new.situation c.close.new.open_edit situation pending))
     (next_kept v c.world.invariant.good p e at word c.perform-word.new.self c.perform-word.ensures.layout performs _ c.world.invariant)
@@ -44,7 +45,7 @@ returns c =
     let performs : PerformsAt (access_at e e.stage) p (memory v.sheet) (memory c.perform-word.new.self) word = rw (sym c.want-access.ensures) c.perform-word.ensures.performs in
     let there : p < _ = open_edit_there v c.world.invariant.good p e at in
     let situation : c.go_on.new.situation ≡ after e e.stage word = c.go_on.ensures e (c.index_mut.ensures.value ∙ get_or_default v.situations p c.index_mut.result.now (Idle first_rest) at.there ∙ at.is) in
-    let pending : c.close.new.open_edit ≡ open_edit_at (get_or v.open_edits p None) e.stage = c.close.ensures ∙ ap (λ (w : Effect). open_edit_by c.index_mut-2.result.now w) c.effect_of-what.ensures ∙ resolved_by e e.stage c.index_mut-2.result.now
+    let pending : c.close.new.open_edit ≡ open_edit_at (get_or v.open_edits p None) e.stage = c.close.ensures ∙ ap (λ (w : Turn RecoveryEnd). open_edit_by c.index_mut-2.result.now w) c.effect_of-what.ensures ∙ resolved_by e e.stage c.index_mut-2.result.now
     ∙ ap (λ (i : Option PlainIssue). open_edit_at i e.stage) (c.index_mut-2.ensures.value ∙ get_or_default v.open_edits p c.index_mut-2.result.now None there) in
     rw (← c.world.view_is)
     (subst (λ (w : WorldValue). StepsBy v p c.effect_of-what.result w) (sym (next_is v c.world.invariant.good p e at word c.perform-word.new.self c.perform-word.ensures.layout performs c.go_on.new.situation c.close.new.open_edit situation pending))

@@ -1,7 +1,7 @@
 use Rattle.std.proofs.Common.{◌≡◌, ◌∙◌, ◌++◌, ◌∷◌, [], ap, sym}
 use Rattle.ds_state.specs.declared.work.WorkStage.{WorkStage}
 use Rattle.ds_state.specs.declared.work.WorkStage.TheVariants.{Telling}
-use Rattle.ds_state.specs.declared.work.Spread.TheVariants.{LoadRow}
+use Rattle.ds_state.specs.declared.spread.Spread.TheVariants.{LoadRow}
 use Rattle.ds_work.specs.Noted.{row_after, stage_at}
 use Rattle.ds_work.proofs.machine.row_next.Goals as goal
 

@@ -2,7 +2,7 @@ use Rattle.std.proofs.Common.{ℕ, ◌≡◌, ◌<◌, ◌≤◌, List, length, 
 use Rattle.std.specs.Vec.{vec_capacity}
 use Rattle.std.proofs.lemmas.List.{map-set, length-map}
 use Rattle.ds_eval.specs.declared.value.Value.{Value}
-use Rattle.ds_state.specs.KnownShow.{values_of, noted}
+use Rattle.ds_state.specs.KnownReport.{values_of, noted}
 use Rattle.ds_state.specs.Reports.{PlainReports, with_report}
 use Rattle.ds_state.proofs.ReportRooms.{room_of, kept_room}
 use Rattle.ds_state.proofs.reports.Reports.keep.Goals as goal

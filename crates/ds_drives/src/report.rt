@@ -1,0 +1,82 @@
+//! Reports on the board.
+
+ghost use Rattle.std.specs.Prelude.{◌≡◌, ◌<◌, ℕ, [], MatchBool};
+ghost use Rattle.ds_layout.specs.Places.{cells_of};
+ghost use Rattle.ds_state.specs.ReportStages.{IsReport};
+ghost use Rattle.ds_state.specs.declared.situation.Situation.TheVariants.{Idle};
+ghost use Rattle.ds_report.specs.ReportSteps.{fresh};
+ghost use Rattle.ds_drives.specs.ReportRules.{show_rules};
+ghost use Rattle.ds_drives.specs.Fuses.{Asked};
+ghost use Rattle.ds_drives.specs.Views.{deeds_at, lone, second_rest, sole, steps_later};
+ghost use Rattle.ds_drives.specs.Rules.{Came};
+ghost use Rattle.ds_drives.specs.Machines.{IsBroken, IsSettled};
+
+use crate::board::{Board, Place};
+use crate::drive::drive;
+use crate::fuse::Fuse;
+use crate::machine::Machine;
+use ds_layout::layout::Layout;
+use ds_layout::place;
+use ds_report::machine::{got, want};
+use ds_state::report::{ReportCall, ReportStage};
+use ds_words::access::Access;
+use std::alloc::Global;
+
+// It is a report of a sheet.
+fn is_report(call: &ReportCall)
+    ensures { IsReport call.now }
+{
+    let _stage = call.stage;
+}
+
+impl Machine for ReportCall {
+    ghost use Rattle.ds_drives.specs.ReportRules.{show_rules};
+
+    ghost rules = { show_rules };
+
+    fn is_going(&self, layout: &Layout) -> bool {
+        let _layout = layout;
+        match self.stage {
+            ReportStage::Answer(_) => false,
+            _ => true,
+        }
+    }
+
+    fn want(&self, layout: &Layout) -> Access<place::Place> {
+        let _layout = layout;
+        want(self)
+    }
+
+    fn got(&mut self, alloc: Global, layout: &Layout, word: u64) {
+        let (_alloc, _layout) = (alloc, layout);
+        got(self, word);
+        is_report(self);
+    }
+
+    fn law(&self, layout: &Layout) {
+        let _layout = layout;
+    }
+}
+
+impl Board {
+    /// An idle process reports the sheet, in the second layout, as long as the fuse says yes. Says whether it came to its end.
+    pub fn report<F: Fuse>(
+        &self,
+        alloc: Global,
+        place: &mut Place,
+        call: &mut ReportCall,
+        fuse: &mut F,
+    ) -> bool
+        requires place { (place.old.table_id ≡ self.now.table.shared.table_id) × (place.old.me ≡ (lone (sole place.old), [])) × ((sole place.old).process ≡ call.old.process) }
+        requires idle { (sole place.old).now ≡ Idle (second_rest call.old.next) }
+        requires begun { call.old ≡ fresh call.old.process (second_rest call.old.next) (cells_of self.now.layout) self.now.layout.processes }
+        ensures place { place.new.table_id ≡ place.old.table_id }
+        ensures fits { show_rules.fits self.now.layout call.new }
+        ensures stays { show_rules.stays call.old call.new }
+        ensures came { Came show_rules self.now.layout call.old call.new }
+        ensures me { MatchBool result ((n : ℕ) × Asked F.said fuse.old fuse.new n 0 × IsSettled show_rules self.now.layout (steps_later (deeds_at place.old.me) n) place.new.me call.new) ((n : ℕ) × Asked F.said fuse.old fuse.new n 1 × IsBroken show_rules self.now.layout call.old place.old.me (steps_later (deeds_at place.old.me) n) place.new.me) }
+    {
+        is_report(call);
+        drive(alloc, &self.table.shared, &self.layout, place, call, fuse)
+    }
+}

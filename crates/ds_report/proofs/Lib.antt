@@ -1,0 +1,9 @@
+pub mod ReportSteps
+pub mod ReportKeeps
+pub mod ReportBegins
+pub mod ReportTruth
+pub mod ReportRuns
+pub mod ReportMiddles
+pub mod ReportSolo
+pub mod ReportLaws
+pub mod ReportGood

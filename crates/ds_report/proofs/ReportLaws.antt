@@ -1,0 +1,39 @@
+-- The laws of reports, at a report's own stage.
+use Rattle.std.proofs.Common.{ℕ, ◌≡◌, ◌<◌, ◌≤◌, ◌+◌, ◌*◌, subst}
+use Rattle.ds_layout.specs.declared.layout.Layout.{Layout}
+use Rattle.ds_layout.specs.Places.{cells_of}
+use Rattle.ds_layout.specs.SheetMemory.{CanPerform, NamesPlace}
+use Rattle.ds_state.specs.Works.{PlainReportCall}
+use Rattle.ds_state.specs.World.{PlainWorld}
+use Rattle.ds_state.specs.KnownReport.{ReportFits}
+use Rattle.ds_state.specs.ReportStages.{IsReport}
+use Rattle.ds_report.specs.ReportSteps.{access_at, next_at, Begins, Steps, Falls, rank}
+use Rattle.ds_state.specs.CallsFit.{CallFits}
+use Rattle.ds_state.specs.Rely.{Keeps}
+use Rattle.ds_state.specs.Sound.{IsSound}
+use Rattle.ds_state.specs.declared.situation.Situation.{Situation}
+use Rattle.ds_state.specs.declared.situation.Situation.TheVariants.{Reporting}
+use Rattle.ds_report.proofs.ReportKeeps as keeps
+use Rattle.ds_report.proofs.ReportKeeps.{step_keeps, begin_keeps, falls, few, possible}
+use Rattle.ds_state.specs.declared.situation.Rest.{Rest}
+
+fits_of : (e : PlainReportCall) (w : PlainWorld) → IsSound w → e.process < w.layout.processes → w.situation e.process ≡ Reporting e → ReportFits w e.process e
+fits_of e w sound real is = subst (λ (s : Situation). CallFits w e.process s) is (sound.calls e.process real)
+
+pub steps : (e : PlainReportCall) (word : ℕ) (old new : PlainWorld) → IsSound old → e.process < old.layout.processes → old.situation e.process ≡ Reporting e → Steps e word old new → Keeps e.process old new
+steps e word old new sound real is t = step_keeps e e.stage word old new sound is t (fits_of e old sound real is)
+
+pub accesses : (e : PlainReportCall) (w : PlainWorld) → IsSound w → e.process < w.layout.processes → w.situation e.process ≡ Reporting e → CanPerform w.layout w.memory e.process (access_at e.stage)
+accesses e w sound real is = let f = fits_of e w sound real is in possible w e.process e f.0 f.1
+
+pub named : (layout : Layout) (e : PlainReportCall) → cells_of layout ≡ e.cells → layout.processes ≡ e.processes → IsReport e → NamesPlace layout (access_at e.stage)
+named layout e cells processes is = keeps.named layout e cells processes e.stage is.stage
+
+pub each_falls : (e : PlainReportCall) (word : ℕ) → IsReport e → Falls e e.stage (next_at e e.stage word)
+each_falls e word is = falls e e.stage word is.stage
+
+pub each_few : (e : PlainReportCall) → rank e ≤ 2 * e.processes + 4 * e.cells + 1
+each_few e = few e e.stage
+
+pub begins : (p : ℕ) (next : Rest) (old new : PlainWorld) → IsSound old → p < old.layout.processes → Begins p next old new → Keeps p old new
+begins p next old new sound real b = begin_keeps p next old new sound real b

@@ -1,0 +1,6 @@
+pub mod ReportSteps
+pub mod ReportBegun
+pub mod ReportTakes
+pub mod ReportRuns
+pub mod ReportSolo
+pub mod ReportMiddles

@@ -1,0 +1,139 @@
+//! What is true of each report, as functions that do nothing.
+
+ghost use Rattle.std.specs.Prelude.{ℕ, ◌≡◌, ◌<◌, ◌≤◌, ◌+◌, ◌*◌, List, Contains};
+ghost use Rattle.ds_state.specs.declared.situation.Rest.{Rest};
+ghost use Rattle.ds_layout.specs.declared.layout.Layout.{Layout};
+ghost use Rattle.ds_layout.specs.Places.{cells_of};
+ghost use Rattle.ds_layout.specs.SheetMemory.{CanPerform, NamesPlace};
+ghost use Rattle.ds_state.specs.World.{PlainEdit, PlainWorld};
+ghost use Rattle.ds_state.specs.Sound.{IsSound};
+ghost use Rattle.ds_state.specs.Rely.{Keeps};
+ghost use Rattle.ds_state.specs.Middles.{Middle, Middles, HaveMiddles, IsMiddle, but_for};
+ghost use Rattle.ds_state.specs.Leaves.{Leaves};
+ghost use Rattle.ds_state.specs.Lasts.{Lasts};
+ghost use Rattle.ds_state.specs.KnownReport.{middle, seen_at};
+ghost use Rattle.ds_state.specs.Works.{PlainReportCall};
+ghost use Rattle.ds_state.specs.ReportStages.{IsReport};
+ghost use Rattle.ds_state.specs.declared.report.ReportEnd.{ReportEnd};
+ghost use Rattle.ds_state.specs.declared.report.ReportEnd.TheVariants.{Settled};
+ghost use Rattle.ds_state.specs.declared.report.ReportStage.TheVariants.{Answer};
+ghost use Rattle.ds_state.specs.declared.situation.Situation.TheVariants.{Reporting};
+ghost use Rattle.ds_report.specs.ReportSteps.{Steps, Begins, access_at, next_at, got_at, fresh, rank, Falls};
+ghost use Rattle.ds_report.specs.ReportMiddles.{middle_after, WasSettled, IsToldReport};
+ghost use Rattle.ds_report.specs.ReportRuns.{Call, IsTrueReport};
+ghost use Rattle.ds_report.specs.ReportSolo.{SoloCall};
+
+/// Each step of a report, whatever the word that its access answers, leaves a sound sheet sound, and
+/// leaves each other process what it may count on.
+#[tactic(auto, using(crate::proofs::ReportLaws::steps))]
+pub fn steps_keep_soundness()
+    ensures { (e : PlainReportCall) (word : ℕ) (old new : PlainWorld) → IsSound old
+        → e.process < old.layout.processes → old.situation e.process ≡ Reporting e
+        → Steps e word old new → Keeps e.process old new }
+{}
+
+/// The beginning of a report does the same.
+pub fn begins_keep_soundness()
+    ensures { (p : ℕ) (next : Rest) (old new : PlainWorld) → IsSound old → p < old.layout.processes
+        → Begins p next old new → Keeps p old new }
+{}
+
+/// Each access of a report names a place of its sheet.
+#[tactic(auto, using(crate::proofs::ReportLaws::named))]
+pub fn accesses_are_of_the_sheet()
+    ensures { (layout : Layout) (e : PlainReportCall) → cells_of layout ≡ e.cells → layout.processes ≡ e.processes
+        → IsReport e → NamesPlace layout (access_at e.stage) }
+{}
+
+/// The access of a report of a sound sheet can be performed.
+#[tactic(auto, using(crate::proofs::ReportLaws::accesses))]
+pub fn accesses_are_possible()
+    ensures { (e : PlainReportCall) (w : PlainWorld) → IsSound w → e.process < w.layout.processes
+        → w.situation e.process ≡ Reporting e
+        → CanPerform w.layout w.memory e.process (access_at e.stage) }
+{}
+
+/// Each step of a report leaves fewer steps, until the answer's, which is the last; and it has at
+/// most two for each process, four for each cell, and the answer's.
+#[tactic(auto, using(crate::proofs::ReportLaws::each_falls, crate::proofs::ReportLaws::each_few))]
+pub fn steps_are_few()
+    ensures falls { (e : PlainReportCall) (word : ℕ) → IsReport e
+        → Falls e e.stage (next_at e e.stage word) }
+    ensures few { (e : PlainReportCall) → rank e ≤ 2 * e.processes + 4 * e.cells + 1 }
+{}
+
+/// What a report answers is true of the worlds of its call. A settled one: at one of them nothing was
+/// announced as pending, every mark was clean, and its values are those from scratch of the edits that
+/// counted then, a front of those that count now. Another one: its place held its word at one of them,
+/// and that is bad, or was another one earlier in the call.
+#[tactic(auto, using(crate::proofs::ReportRuns::answer_true))]
+pub fn reports_are_true()
+    ensures { (p : ℕ) → (now : PlainWorld) (past : List PlainWorld) → Call p now past
+        → (e : PlainReportCall) (end : ReportEnd) → now.situation p ≡ Reporting e → e.stage ≡ Answer end
+        → IsTrueReport now past e end }
+{}
+
+/// A report that began in a quiet world and is alone is settled.
+#[tactic(auto, using(crate::proofs::ReportSolo::solo_settles))]
+pub fn solo_reports_are_settled()
+    ensures { (p : ℕ) → (now : PlainWorld) (past : List PlainWorld) → SoloCall p now past
+        → (e : PlainReportCall) (end : ReportEnd) → now.situation p ≡ Reporting e → e.stage ≡ Answer end
+        → end ≡ Settled }
+{}
+
+/// A report has a middle from its begin on: a sound world of its call, of the time up to now. Each
+/// load of a kind makes it the world before that step, and the load of the last one, which ends the
+/// first collect, does so for good; its other steps leave it.
+pub fn reports_have_middles()
+    ensures begin { (p : ℕ) (next : Rest) (old new : PlainWorld) → IsSound old → p < old.layout.processes
+        → Begins p next old new
+        → Middle new new p (fresh p next (cells_of old.layout) old.layout.processes) new }
+    ensures step { (e : PlainReportCall) (word : ℕ) (old new : PlainWorld) → IsSound old
+        → e.process < old.layout.processes → old.situation e.process ≡ Reporting e
+        → Steps e word old new → (first mid : PlainWorld) → Middle first old e.process e mid
+        → Middle first new e.process (got_at e word) (middle_after old mid e.stage) }
+{}
+
+/// So all reports under way have their middles, also where one begins, or goes on, or answers.
+pub fn middles_go_on()
+    ensures begins { (firsts mids : ℕ → PlainWorld) (old new : PlainWorld) → Middles firsts mids old
+        → (p : ℕ) (next : Rest) → IsSound old → p < old.layout.processes → Begins p next old new
+        → Middles (but_for firsts p new) (but_for mids p new) new }
+    ensures steps { (firsts mids : ℕ → PlainWorld) (old new : PlainWorld) → Middles firsts mids old
+        → (e : PlainReportCall) (word : ℕ) → IsSound old → e.process < old.layout.processes
+        → old.situation e.process ≡ Reporting e → Steps e word old new
+        → Middles firsts (but_for mids e.process (middle_after old (mids e.process) e.stage)) new }
+{}
+
+/// What is so of a report's middle, where its first collect is through: it lies between what was
+/// noted and now, and all that was seen again is there as it was noted. Where the report is settled,
+/// its values are those from scratch of the edits that counted there; each of its process's that
+/// counts did, and each that counted at its begin.
+pub fn middles_are_true()
+    ensures says { (first w : PlainWorld) (p : ℕ) (e : PlainReportCall) (mid : PlainWorld) (i j : ℕ)
+        → Middle first w p e mid → seen_at e.cells e.processes e.stage ≡ middle i j
+        → IsMiddle first w p e i j mid }
+    ensures settles { (first w : PlainWorld) (p : ℕ) (e : PlainReportCall) (mid : PlainWorld)
+        → Middle first w p e mid → e.stage ≡ Answer Settled → WasSettled first w p e mid }
+{}
+
+/// Each step of a report, and its beginning, leave the others what is theirs: no edit comes to
+/// count, and each report under way has a middle, this one too.
+pub fn reports_leave_others()
+    ensures steps { (e : PlainReportCall) (word : ℕ) (old new : PlainWorld) → IsSound old
+        → e.process < old.layout.processes → old.situation e.process ≡ Reporting e
+        → Steps e word old new → Leaves e.process old new }
+    ensures begins { (p : ℕ) (next : Rest) (old new : PlainWorld) → IsSound old → p < old.layout.processes
+        → Begins p next old new → Leaves p old new }
+{}
+
+/// Where reports have middles, one that is settled has had a middle with all edits that its seat was
+/// told are done, and stays such a one.
+pub fn settled_reports_last()
+    ensures settled { (w : PlainWorld) (p : ℕ) (e : PlainReportCall) (held : List PlainEdit) → HaveMiddles w
+        → p < w.layout.processes → w.situation p ≡ Reporting e → e.stage ≡ Answer Settled
+        → ((d : PlainEdit) → Contains held d → (d.process ≡ p) × Contains w.counted d)
+        → IsToldReport w p e held }
+    ensures stays { (old new : PlainWorld) (p : ℕ) (e : PlainReportCall) (held : List PlainEdit)
+        → Lasts old new → IsToldReport old p e held → IsToldReport new p e held }
+{}

@@ -1,5 +1,0 @@
-use Rattle.ds_show.proofs.ShowMiddles.{step_leaves, begin_leaves}
-use Rattle.ds_show.proofs.laws.reports_leave_others.Goals as goal
-
-pub returns : goal.returns
-returns c = record { steps = step_leaves; begins = begin_leaves }

@@ -1,6 +1,0 @@
-pub mod ShowSteps
-pub mod ShowBegun
-pub mod ShowTakes
-pub mod ShowRuns
-pub mod ShowSolo
-pub mod ShowMiddles
