@@ -33,7 +33,7 @@ pub struct Layout {
 
 /// The number of the first word of each kind, and of all words; and how many words an index row has.
 #[derive(Clone, Copy)]
-pub(crate) struct Starts {
+pub struct Starts {
     row_parts: usize,
     heads: usize,
     marks: usize,
@@ -143,8 +143,8 @@ impl Layout {
         bits::parts(self.cells())
     }
 
-    // Where each kind of words begins.
-    pub(crate) fn starts(&self) -> Starts
+    /// Where each kind of words begins, by the numbers of words: kept beside a layout, it saves each access the sums.
+    pub fn starts(&self) -> Starts
         ensures value { result ≡ starts_of self.now }
         ensures ascending { IsAscending result }
         ensures at_most { result.words ≤ WORDS_MOST }
@@ -317,9 +317,9 @@ impl Layout {
         Ok(classes)
     }
 
-    // The access by the number of its word, where each kind of words begins there.
+    /// The access by the number of its word, where the kinds of words of the sheet begin there.
     #[inline(always)]
-    pub(crate) fn numbered(&self, starts: &Starts, access: Access<Place>) -> Access<usize>
+    pub fn numbered(&self, starts: &Starts, access: Access<Place>) -> Access<usize>
         requires place { NamesPlace self.now access }
         requires starts { AreStartsOf self.now starts.now }
         ensures { result ≡ access_at self.now access }
