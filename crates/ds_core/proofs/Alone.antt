@@ -36,7 +36,7 @@ solo_unhalted p (event ∷ events) solo = (one event solo.0, solo_unhalted p eve
     one Crash solo = absurd solo
     one _ solo = tt
 
-done_there : (number : ℕ) (replies : List Reply) (k : ℕ) (answer : Answer) → AreDoneOnly number replies → slice_get replies k ≡ Some (Answered answer) → answer ≡ Done number
+done_there : (number : ℕ) (replies : List Reply) (k : ℕ) (answer : Answer) → AreDoneOnly number replies → slice_get replies k ≡ Some (Answered answer) → answer ≡ Edit (Done number)
 done_there number [] k answer all is = absurd (cc)
 done_there number (reply ∷ replies) zero answer all is = let same : reply ≡ Answered answer = cc in subst (λ (r : Reply). IsDoneOnly number r) same all.0
 done_there number (reply ∷ replies) (suc k) answer all is = done_there number replies k answer all.1 is

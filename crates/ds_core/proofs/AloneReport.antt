@@ -23,7 +23,7 @@ use Rattle.ds_report.specs.ReportSolo.{SoloCall}
 use Rattle.ds_report.proofs.ReportSolo.{solo_settles}
 use Rattle.ds_core.specs.Takes.{Takes, WorldRun}
 use Rattle.ds_core.specs.StepEvents.{StepTakes, StepsBy, EvictTakes, edits, works, reports, recoveries, migrations}
-use Rattle.ds_core.specs.ReportEvents.{ReportStepsBy, ReportBegins, report_answer, report_reply}
+use Rattle.ds_core.specs.ReportEvents.{ReportStepsBy, ReportBegins, report_reply}
 use Rattle.ds_core.specs.Own.{own_step, own_steps, left_in, steps_left, IsInCall}
 use Rattle.ds_core.specs.Solo.{IsSoloEvent, IsSolo}
 use Rattle.ds_core.specs.Headline.{Happens}
@@ -50,7 +50,7 @@ record GoesAlone (p : ℕ) (event : Event) (r : Reply) (old new : WorldValue) : 
   fewer : own_step p event r + steps_left p new ≤ steps_left p old
 
 -- the stage of a report that answers
-answering : (s : ReportStage) (answer : Answer) → Answered answer ≡ report_reply (shows.effect_at s) → (end : ReportEnd) × (s ≡ stages.Answer end) × (answer ≡ report_answer end)
+answering : (s : ReportStage) (answer : Answer) → Answered answer ≡ report_reply (shows.effect_at s) → (end : ReportEnd) × (s ≡ stages.Answer end) × (answer ≡ Report end)
 answering (stages.Answer end) answer is = (end, refl, cc)
 answering _ answer is = absurd (cc)
 
@@ -70,10 +70,10 @@ module _ (p : ℕ) (old new : WorldValue) (sound : IsSound (world_of old)) (low 
         fewer = omega (arith, less, one);
       }
 
-  settles : (answer : Answer) → ReportStepsBy old p (Answered answer) new → answer ≡ Settled
+  settles : (answer : Answer) → ReportStepsBy old p (Answered answer) new → answer ≡ Report Settled
   settles answer h =
       let s = answering h.steps.show.stage answer (h.is ∙ ap report_reply h.steps.is) in
-      s.2 ∙ ap report_answer (solo_settles p (world_of old) a.past a.solo h.steps.show s.0 h.steps.at s.1)
+      s.2 ∙ ap (λ end. Report end) (solo_settles p (world_of old) a.past a.solo h.steps.show s.0 h.steps.at s.1)
 
   -- a step is one of the report
   is_report : (r : Reply) → StepsBy old p r new → ReportStepsBy old p r new
@@ -86,7 +86,7 @@ module _ (p : ℕ) (old new : WorldValue) (sound : IsSound (world_of old)) (low 
   on_step : (r : Reply) → StepTakes old p r new → own_step p (Step p) Stepped ≡ 1 → (r ≡ Answered (Report Settled)) ⊎ GoesAlone p (Step p) r old new
   on_step Stepped h one = inr (goes (is_report Stepped h) one)
   on_step (Answered answer) h one = inl (ap (λ x. Answered x) (settles answer (is_report (Answered answer) h)))
-  on_step NotEnabled h one = absurd (h.no_report a.show low a.is)
+  on_step NotEnabled h one = absurd (let w = h.waits low (subst IsInCall (sym a.is) tt) in let bad : Working w.0 ≡ Reporting a.show = sym w.1 ∙ a.is in cc)
   on_step _ h one = absurd h
 
   on_eviction : (place : Place) (r : Reply) → EvictTakes old place r new → GoesAlone p (Evict place) r old new

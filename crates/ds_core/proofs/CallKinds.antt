@@ -8,21 +8,16 @@ use Rattle.ds_state.specs.Edits.{PlainEditCall}
 use Rattle.ds_state.specs.Works.{PlainWorkCall, PlainReportCall, PlainRecoverCall, PlainMigrateCall}
 use Rattle.ds_state.specs.declared.situation.Situation.{Situation}
 use Rattle.ds_state.specs.declared.situation.Situation.TheVariants.{Idle, Stopped, Editing, Working, Recovering, Reporting, Migrating}
-use Rattle.ds_state.specs.declared.stage.Outcome.TheVariants as outcomes
 use Rattle.ds_state.specs.declared.stage.Stage.{Stage}
 use Rattle.ds_state.specs.declared.stage.Stage.TheVariants as stages
 use Rattle.ds_state.specs.declared.work.WorkEnd.{WorkEnd}
-use Rattle.ds_state.specs.declared.work.WorkEnd.TheVariants as work_ends
-use Rattle.ds_state.specs.declared.report.ReportEnd.TheVariants as show_ends
 use Rattle.ds_state.specs.declared.report.ReportStage.{ReportStage}
 use Rattle.ds_state.specs.declared.report.ReportStage.TheVariants as show_stages
 use Rattle.ds_state.specs.declared.recovery.RecoverStage.{RecoverStage}
 use Rattle.ds_state.specs.declared.recovery.RecoverStage.TheVariants as recover_stages
 use Rattle.ds_edit.specs.EditTakes as edit_worlds
 use Rattle.ds_state.specs.declared.answer.Answer.{Answer}
-use Rattle.ds_state.specs.declared.answer.Answer.TheVariants.{Edit, Migration}
-use Rattle.ds_state.specs.declared.answer.EditEnd.TheVariants.{Done, Overtaken}
-use Rattle.ds_state.specs.declared.migration.MigrateEnd.TheVariants.{Migrated, Already}
+use Rattle.ds_state.specs.declared.answer.Answer.TheVariants.{Edit, Work, Report, Recovery, Migration}
 use Rattle.ds_state.specs.declared.situation.Rest.{Rest}
 use Rattle.ds_state.specs.declared.migration.MigrateStage.{MigrateStage}
 use Rattle.ds_state.specs.declared.migration.MigrateStage.TheVariants as migrate_stages
@@ -30,19 +25,16 @@ use Rattle.ds_recover.specs.MigrationSteps as migration_steps
 use Rattle.ds_recover.specs.MigrationTakes as migration_takes
 use Rattle.ds_work.specs.WorkSteps as work_steps
 use Rattle.ds_work.specs.WorkTakes as work_events
-use Rattle.ds_state.specs.declared.turn.Turn.TheVariants as taken
+use Rattle.ds_state.specs.declared.turn.Turn.TheVariants as turns
 use Rattle.ds_work.proofs.Turning.{turns_fall}
 use Rattle.ds_report.specs.ReportSteps as show_steps
 use Rattle.ds_recover.specs.RecoverySteps as recovery_steps
-use Rattle.ds_state.specs.declared.recovery.RecoveryEnd.TheVariants as recovery_ends
-use Rattle.ds_state.specs.EditEndings.{answer_of}
-use Rattle.ds_state.specs.declared.turn.Turn.TheVariants as migrate_effects
-use Rattle.ds_state.specs.declared.migration.MigrateEnd.TheVariants as migrate_ends
-use Rattle.ds_core.specs.MigrationEvents.{MigrationStepsBy, MigrationBegins, migration_reply, migration_answer}
+use Rattle.ds_state.specs.EditEndings.{end_of}
+use Rattle.ds_core.specs.MigrationEvents.{MigrationStepsBy, MigrationBegins, migration_reply}
 use Rattle.ds_core.specs.EditEvents.{EditStepsBy, reply_at}
-use Rattle.ds_core.specs.WorkEvents.{WorkStepsBy, work_reply, work_answer}
-use Rattle.ds_core.specs.ReportEvents.{ReportStepsBy, report_reply, report_answer}
-use Rattle.ds_core.specs.RecoveryEvents.{RecoveryStepsBy, recovery_reply, recovery_answer}
+use Rattle.ds_core.specs.WorkEvents.{WorkStepsBy, work_reply}
+use Rattle.ds_core.specs.ReportEvents.{ReportStepsBy, report_reply}
+use Rattle.ds_core.specs.RecoveryEvents.{RecoveryStepsBy, recovery_reply}
 use Rattle.ds_core.specs.StepEvents.{StepsBy, edits, works, reports, recoveries, migrations}
 use Rattle.ds_core.specs.Own.{IsInCall}
 use Rattle.ds_core.specs.declared.reply.Reply.TheVariants.{Stepped, Answered, NotEnabled}
@@ -70,8 +62,8 @@ work_stays : (old new : WorldValue) (p : ℕ) → IsSound (world_of old) → Wor
 work_stays old new p sound h = by h.what h.steps h.is
   where
     by : (what : Turn WorkEnd) → work_events.StepsBy (world_of old) p what (world_of new) → Stepped ≡ work_reply what → StaysIn old p new
-    by taken.GoesOn s is = let g = turns_fall p (world_of old) (world_of new) sound s in stays_by old new p (Working s.work) (Working g.work) s.works g.works tt (λ answer x. x)
-    by (taken.Answers end) s is = absurd (cc)
+    by turns.GoesOn s is = let g = turns_fall p (world_of old) (world_of new) sound s in stays_by old new p (Working s.work) (Working g.work) s.works g.works tt (λ answer x. x)
+    by (turns.Answers end) s is = absurd (cc)
 
 pub report_on : (e : PlainReportCall) (s : ReportStage) (word : ℕ) → Stepped ≡ report_reply (show_steps.effect_at s) → show_steps.after e s word ≡ Reporting (show_steps.next_at e s word)
 report_on e (show_stages.Answer end) word is = absurd (cc)
@@ -85,8 +77,7 @@ report_stays old new p h =
     stays_by old new p (Reporting e) (Reporting (show_steps.next_at e e.stage h.steps.word)) h.steps.at now tt (λ answer x. x)
 
 pub recovery_on : (e : PlainRecoverCall) (s : RecoverStage) (word : ℕ) → Stepped ≡ recovery_reply (recovery_steps.effect_at e s) → recovery_steps.after e s word ≡ Recovering (recovery_steps.next_at e s word)
-recovery_on e (recover_stages.Answer None) word is = absurd (cc)
-recovery_on e (recover_stages.Answer (Some how)) word is = absurd (cc)
+recovery_on e (recover_stages.Answer how) word is = absurd (cc)
 recovery_on e _ word is = refl
 
 recovery_stays : (old new : WorldValue) (p : ℕ) → RecoveryStepsBy old p Stepped new → StaysIn old p new
@@ -98,8 +89,7 @@ recovery_stays old new p h =
     stays_by old new p (Recovering e) (Recovering (recovery_steps.next_at e e.stage h.steps.word)) h.steps.at now tt (λ answer x. x)
 
 pub migration_on : (e : PlainMigrateCall) (s : MigrateStage) (word : ℕ) → Stepped ≡ migration_reply (migration_takes.effect_at s) → migration_steps.after e s word ≡ Migrating (migration_steps.next_at e s word)
-migration_on e (migrate_stages.Answer migrate_ends.Migrated) word is = absurd (cc)
-migration_on e (migrate_stages.Answer migrate_ends.Already) word is = absurd (cc)
+migration_on e (migrate_stages.Answer end) word is = absurd (cc)
 migration_on e _ word is = refl
 
 migration_stays : (old new : WorldValue) (p : ℕ) → MigrationStepsBy old p Stepped new → StaysIn old p new
@@ -125,8 +115,7 @@ pub record EndsIn (old : WorldValue) (p : ℕ) (answer : Answer) (new : WorldVal
   pub rests : RestsAs answer ((world_of new).situation p)
 
 rests_idle : (answer : Answer) (s : Situation) (next : Rest) → s ≡ Idle next → (IsMigrationAnswer answer → ⊥) → RestsAs answer s
-rests_idle Migrated s next is none = absurd (none tt)
-rests_idle Already s next is none = absurd (none tt)
+rests_idle (Migration end) s next is none = absurd (none tt)
 rests_idle _ s next is none = (next, is)
 
 ends_by : (old new : WorldValue) (p : ℕ) (next : Rest) (s : Situation) (answer : Answer) → (world_of old).situation p ≡ s → (world_of new).situation p ≡ Idle next → AnswersTo s answer → (IsMigrationAnswer answer → ⊥) → EndsIn old p answer new
@@ -134,24 +123,20 @@ ends_by old new p next s answer was now h none = record { to = subst (λ (x : Si
 
 -- no answer is one of two kinds
 pub edit_no : (answer : Answer) → IsEditAnswer answer → IsMigrationAnswer answer → ⊥
-edit_no (Done n) h k = k
-edit_no (Overtaken n by) h k = k
+edit_no (Edit end) h k = k
 edit_no _ h k = h
 
 pub work_no : (answer : Answer) → IsWorkAnswer answer → IsMigrationAnswer answer → ⊥
-work_no Migrated h k = h
-work_no Already h k = h
-work_no _ h k = k
+work_no (Work end) h k = k
+work_no _ h k = h
 
 pub report_no : (answer : Answer) → IsReportAnswer answer → IsMigrationAnswer answer → ⊥
-report_no Migrated h k = h
-report_no Already h k = h
-report_no _ h k = k
+report_no (Report end) h k = k
+report_no _ h k = h
 
 pub recovery_no : (answer : Answer) → IsRecoveryAnswer answer → IsMigrationAnswer answer → ⊥
-recovery_no Migrated h k = h
-recovery_no Already h k = h
-recovery_no _ h k = k
+recovery_no (Recovery end) h k = k
+recovery_no _ h k = h
 
 -- an answer by its reply
 answer_is : (kind : Answer → Type 0) (a b : Answer) → Answered a ≡ Answered b → kind b → kind a
@@ -164,9 +149,7 @@ record EditEnds (e : PlainEditCall) (s : Stage) (word : ℕ) (answer : Answer) :
   is : IsEditAnswer answer
 
 edit_answered : (processes : ℕ) (e : PlainEditCall) (s : Stage) (word : ℕ) (answer : Answer) → Answered answer ≡ reply_at processes e.number s → EditEnds e s word answer
-edit_answered processes e (stages.Answer outcomes.Done) word answer is = record { next = edit_worlds.rest_behind e; after = refl; is = answer_is IsEditAnswer answer (answer_of processes e.number outcomes.Done) is tt }
-edit_answered processes e (stages.Answer (outcomes.Overtaken noted seen)) word answer is =
-    record { next = edit_worlds.rest_behind e; after = refl; is = answer_is IsEditAnswer answer (answer_of processes e.number (outcomes.Overtaken noted seen)) is tt }
+edit_answered processes e (stages.Answer how) word answer is = record { next = edit_worlds.rest_behind e; after = refl; is = answer_is IsEditAnswer answer (Edit (end_of processes e.number how)) is tt }
 edit_answered processes e _ word answer is = absurd (cc)
 
 edit_ends : (old new : WorldValue) (p : ℕ) (answer : Answer) → EditStepsBy old p (Answered answer) new → EndsIn old p answer new
@@ -174,25 +157,17 @@ edit_ends old new p answer h =
     let g = edit_answered old.sheet.layout.processes h.edit h.edit.stage h.word answer h.is in
     ends_by old new p g.next (Editing h.edit) answer h.at (ap (λ q. (world_of new).situation q) (sym h.mine) ∙ h.steps.situation ∙ g.after) g.is (edit_no answer g.is)
 
-each_work_answer : (end : WorkEnd) → IsWorkAnswer (work_answer end)
-each_work_answer work_ends.NotDirty = tt
-each_work_answer work_ends.Missed = tt
-each_work_answer work_ends.Worn = tt
-each_work_answer (work_ends.Published changed) = tt
-each_work_answer work_ends.Again = tt
-each_work_answer work_ends.NoMemory = tt
-
 work_ends_in : (old new : WorldValue) (p : ℕ) (answer : Answer) → WorkStepsBy old p (Answered answer) new → EndsIn old p answer new
 work_ends_in old new p answer h = by h.what h.steps h.is
   where
-    turned : (e : PlainWorkCall) (end : WorkEnd) → e.process ≡ p → (world_of old).situation p ≡ Working e → work_events.TakesTurn e (world_of old) (world_of new) (taken.Answers end) → Answered answer ≡ work_reply (taken.Answers end) → EndsIn old p answer new
+    turned : (e : PlainWorkCall) (end : WorkEnd) → e.process ≡ p → (world_of old).situation p ≡ Working e → work_events.TakesTurn e (world_of old) (world_of new) (turns.Answers end) → Answered answer ≡ work_reply (turns.Answers end) → EndsIn old p answer new
     turned e end mine at (work_events.answers _ at_answer s) is =
-        let kind = answer_is IsWorkAnswer answer (work_answer end) is (each_work_answer end) in
+        let kind = answer_is IsWorkAnswer answer (Work end) is tt in
         ends_by old new p (work_steps.rest_of e) (Working e) answer at (ap (λ q. (world_of new).situation q) (sym mine) ∙ s.situation) kind (work_no answer kind)
 
     by : (what : Turn WorkEnd) → work_events.StepsBy (world_of old) p what (world_of new) → Answered answer ≡ work_reply what → EndsIn old p answer new
-    by (taken.Answers end) s is = turned s.work end s.mine s.works s.turn is
-    by taken.GoesOn s is = absurd (cc)
+    by (turns.Answers end) s is = turned s.work end s.mine s.works s.turn is
+    by turns.GoesOn s is = absurd (cc)
 
 -- what a report does at a stage that answers
 record ReportEnds (e : PlainReportCall) (s : ReportStage) (word : ℕ) (answer : Answer) : Type 0 where
@@ -200,8 +175,7 @@ record ReportEnds (e : PlainReportCall) (s : ReportStage) (word : ℕ) (answer :
   is : IsReportAnswer answer
 
 report_answered : (e : PlainReportCall) (s : ReportStage) (word : ℕ) (answer : Answer) → Answered answer ≡ report_reply (show_steps.effect_at s) → ReportEnds e s word answer
-report_answered e (show_stages.Answer show_ends.Settled) word answer is = record { after = refl; is = answer_is IsReportAnswer answer (report_answer show_ends.Settled) is tt }
-report_answered e (show_stages.Answer (show_ends.Unsettled place seen)) word answer is = record { after = refl; is = answer_is IsReportAnswer answer (report_answer (show_ends.Unsettled place seen)) is tt }
+report_answered e (show_stages.Answer end) word answer is = record { after = refl; is = answer_is IsReportAnswer answer (Report end) is tt }
 report_answered e _ word answer is = absurd (cc)
 
 report_ends : (old new : WorldValue) (p : ℕ) (answer : Answer) → ReportStepsBy old p (Answered answer) new → EndsIn old p answer new
@@ -216,9 +190,7 @@ record RecoveryEnds (e : PlainRecoverCall) (s : RecoverStage) (word : ℕ) (answ
   is : IsRecoveryAnswer answer
 
 recovery_answered : (e : PlainRecoverCall) (s : RecoverStage) (word : ℕ) (answer : Answer) → Answered answer ≡ recovery_reply (recovery_steps.effect_at e s) → RecoveryEnds e s word answer
-recovery_answered e (recover_stages.Answer None) word answer is = record { next = recovery_steps.rest_after e None; after = refl; is = answer_is IsRecoveryAnswer answer (recovery_answer recovery_ends.Nothing) is tt }
-recovery_answered e (recover_stages.Answer (Some how)) word answer is =
-    record { next = recovery_steps.rest_after e (Some how); after = refl; is = answer_is IsRecoveryAnswer answer (recovery_answer (recovery_steps.end_of e (Some how))) is tt }
+recovery_answered e (recover_stages.Answer how) word answer is = record { next = recovery_steps.rest_after e how; after = refl; is = answer_is IsRecoveryAnswer answer (Recovery (recovery_steps.end_of e how)) is tt }
 recovery_answered e _ word answer is = absurd (cc)
 
 recovery_ends_in : (old new : WorldValue) (p : ℕ) (answer : Answer) → RecoveryStepsBy old p (Answered answer) new → EndsIn old p answer new
@@ -232,13 +204,11 @@ record MigrationEnds (e : PlainMigrateCall) (s : MigrateStage) (word : ℕ) (ans
   is : IsMigrationAnswer answer
 
 migration_answered : (e : PlainMigrateCall) (s : MigrateStage) (word : ℕ) (answer : Answer) → Answered answer ≡ migration_reply (migration_takes.effect_at s) → MigrationEnds e s word answer
-migration_answered e (migrate_stages.Answer migrate_ends.Migrated) word answer is = record { after = refl; is = answer_is IsMigrationAnswer answer (migration_answer migrate_ends.Migrated) is tt }
-migration_answered e (migrate_stages.Answer migrate_ends.Already) word answer is = record { after = refl; is = answer_is IsMigrationAnswer answer (migration_answer migrate_ends.Already) is tt }
+migration_answered e (migrate_stages.Answer end) word answer is = record { after = refl; is = answer_is IsMigrationAnswer answer (Migration end) is tt }
 migration_answered e _ word answer is = absurd (cc)
 
 rests_stopped : (answer : Answer) (s : Situation) → s ≡ Stopped → IsMigrationAnswer answer → RestsAs answer s
-rests_stopped Migrated s is kind = is
-rests_stopped Already s is kind = is
+rests_stopped (Migration end) s is kind = is
 rests_stopped _ s is kind = absurd kind
 
 migration_ends_in : (old new : WorldValue) (p : ℕ) (answer : Answer) → MigrationStepsBy old p (Answered answer) new → EndsIn old p answer new

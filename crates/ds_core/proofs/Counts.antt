@@ -21,21 +21,18 @@ use Rattle.ds_edit.specs.EditSteps.{rank}
 use Rattle.ds_state.specs.EditEndings.{outcome_at}
 use Rattle.ds_state.specs.declared.answer.Answer.TheVariants.{Report}
 use Rattle.ds_state.specs.declared.report.ReportEnd.TheVariants.{Settled}
-use Rattle.ds_state.specs.declared.turn.Turn.TheVariants as effects
+use Rattle.ds_state.specs.declared.turn.Turn.TheVariants as turns
 use Rattle.ds_report.specs.ReportSteps as steps
 use Rattle.ds_report.specs.ReportTakes as shows
 use Rattle.ds_report.proofs.ReportKeeps as keeping
-use Rattle.ds_state.specs.declared.turn.Turn.TheVariants as migrate_effects
 use Rattle.ds_state.specs.declared.migration.MigrateEnd.TheVariants as migrate_ends
-use Rattle.ds_core.specs.MigrationEvents.{MigrationStepsBy, MigrationBegins, migration_reply, migration_answer}
+use Rattle.ds_core.specs.MigrationEvents.{MigrationStepsBy, MigrationBegins, migration_reply}
 use Rattle.ds_core.specs.EditEvents.{SameReports, reply_with, done_with, EditStepsBy}
 use Rattle.ds_state.specs.Works.{PlainRecoverCall}
 use Rattle.ds_state.specs.declared.work.WorkEnd.TheVariants as work_ends
 use Rattle.ds_state.specs.declared.recovery.RecoverStage.{RecoverStage}
 use Rattle.ds_state.specs.declared.recovery.RecoverStage.TheVariants as recover_stages
 use Rattle.ds_state.specs.declared.work.WorkEnd.{WorkEnd}
-use Rattle.ds_state.specs.declared.turn.Turn.TheVariants as taken
-use Rattle.ds_state.specs.declared.turn.Turn.TheVariants as recovery_effects
 use Rattle.ds_state.specs.declared.recovery.RecoveryEnd.TheVariants as recovery_ends
 use Rattle.ds_recover.specs.RecoverySteps as recover_steps
 use Rattle.ds_recover.specs.MigrationSteps as migration_steps
@@ -112,19 +109,18 @@ edit_adds old new p reply h is = adds_none old new (Step p) reply is (step_adds 
 
 -- a report answers nothing as Done, and settles what it answers as Settled
 report_done : (what : Turn ReportEnd) → done_of (report_reply what) ≡ 0
-report_done effects.GoesOn = refl
-report_done (effects.Answers ends.Settled) = refl
-report_done (effects.Answers (ends.Unsettled place word)) = refl
+report_done turns.GoesOn = refl
+report_done (turns.Answers end) = refl
 
 report_settles : (what : Turn ReportEnd) → settled_of (report_reply what) ≡ shows.settled_by what
-report_settles effects.GoesOn = refl
-report_settles (effects.Answers ends.Settled) = refl
-report_settles (effects.Answers (ends.Unsettled place word)) = refl
+report_settles turns.GoesOn = refl
+report_settles (turns.Answers ends.Settled) = refl
+report_settles (turns.Answers (ends.Unsettled place word)) = refl
 
 report_keeps : (old new : WorldValue) (p : ℕ) (what : Turn ReportEnd) → shows.StepsBy old p what new → KeepsReports old (Step p) (report_reply what) new
-report_keeps old new p effects.GoesOn h = h.reports
-report_keeps old new p (effects.Answers ends.Settled) h = λ q ne. ap (λ (r : PlainReports). slice_index_or r.values q []) h.reports ∙ get_or-set_other old.reports.values h.show.process q _ [] (λ same. ne (same ∙ h.mine))
-report_keeps old new p (effects.Answers (ends.Unsettled place word)) h = h.reports
+report_keeps old new p turns.GoesOn h = h.reports
+report_keeps old new p (turns.Answers ends.Settled) h = λ q ne. ap (λ (r : PlainReports). slice_index_or r.values q []) h.reports ∙ get_or-set_other old.reports.values h.show.process q _ [] (λ same. ne (same ∙ h.mine))
+report_keeps old new p (turns.Answers (ends.Unsettled place word)) h = h.reports
 
 report_adds : (old new : WorldValue) (p : ℕ) (reply : Reply) → ReportStepsBy old p reply new → IsReplyTo (Step p) reply → Adds old (Step p) reply new
 report_adds old new p reply h is = subst (λ (r : Reply). Adds old (Step p) r new) (sym h.is) (record {
@@ -136,8 +132,8 @@ report_adds old new p reply h is = subst (λ (r : Reply). Adds old (Step p) r ne
 
 -- work and a recovery answer nothing as Done or Settled
 work_none : (what : Turn WorkEnd) → (done_of (work_reply what) ≡ 0) × (settled_of (work_reply what) ≡ 0)
-work_none taken.GoesOn = (refl, refl)
-work_none (taken.Answers end) = (refl, refl)
+work_none turns.GoesOn = (refl, refl)
+work_none (turns.Answers end) = (refl, refl)
 
 work_adds : (old new : WorldValue) (p : ℕ) (reply : Reply) → WorkStepsBy old p reply new → IsReplyTo (Step p) reply → Adds old (Step p) reply new
 work_adds old new p reply h is =
@@ -146,8 +142,8 @@ work_adds old new p reply h is =
     adds_none old new (Step p) reply is (let d = h.done in omega (arith, d, zero_done)) (ap settled_of h.is ∙ n.1) h.reports
 
 recovery_none : (what : Turn RecoveryEnd) → (done_of (recovery_reply what) ≡ 0) × (settled_of (recovery_reply what) ≡ 0)
-recovery_none recovery_effects.GoesOn = (refl, refl)
-recovery_none (recovery_effects.Answers end) = (refl, refl)
+recovery_none turns.GoesOn = (refl, refl)
+recovery_none (turns.Answers end) = (refl, refl)
 
 recovery_adds : (old new : WorldValue) (p : ℕ) (reply : Reply) → RecoveryStepsBy old p reply new → IsReplyTo (Step p) reply → Adds old (Step p) reply new
 recovery_adds old new p reply h is =
@@ -156,8 +152,8 @@ recovery_adds old new p reply h is =
     adds_none old new (Step p) reply is (let d = h.steps.done in omega (arith, d, zero_done)) (ap settled_of h.is ∙ n.1) (record { settled = h.steps.settled; reports = h.steps.reports })
 
 migration_none : (what : Turn MigrateEnd) → (done_of (migration_reply what) ≡ 0) × (settled_of (migration_reply what) ≡ 0)
-migration_none migrate_effects.GoesOn = (refl, refl)
-migration_none (migrate_effects.Answers end) = (refl, refl)
+migration_none turns.GoesOn = (refl, refl)
+migration_none (turns.Answers end) = (refl, refl)
 
 migration_adds : (old new : WorldValue) (p : ℕ) (reply : Reply) → MigrationStepsBy old p reply new → IsReplyTo (Step p) reply → Adds old (Step p) reply new
 migration_adds old new p reply h is =
@@ -208,22 +204,22 @@ edit_falls old new p sound h =
     let b : steps_left p new ≡ rank g.edit g.edit.stage = ap left_in g.edits in
     record { calls = subst IsInCall (sym g.edits) tt; fewer = omega (arith, few, a, b) }
 
-goes_on : (what : Turn ReportEnd) → Stepped ≡ report_reply what → what ≡ effects.GoesOn
-goes_on effects.GoesOn is = refl
-goes_on (effects.Answers end) is = absurd (cc)
+goes_on : (what : Turn ReportEnd) → Stepped ≡ report_reply what → what ≡ turns.GoesOn
+goes_on turns.GoesOn is = refl
+goes_on (turns.Answers end) is = absurd (cc)
 
-after_on : (e : PlainReportCall) (s : ReportStage) (word : ℕ) → steps.effect_at s ≡ effects.GoesOn → steps.after e s word ≡ Reporting (steps.next_at e s word)
+after_on : (e : PlainReportCall) (s : ReportStage) (word : ℕ) → steps.effect_at s ≡ turns.GoesOn → steps.after e s word ≡ Reporting (steps.next_at e s word)
 after_on e (stages.Answer end) word is = absurd (cc)
 after_on e _ word is = refl
 
-falls_on : (e : PlainReportCall) (s : ReportStage) (f : PlainReportCall) → steps.effect_at s ≡ effects.GoesOn → steps.Falls e s f → steps.rank f < steps.rank (steps.at e s)
+falls_on : (e : PlainReportCall) (s : ReportStage) (f : PlainReportCall) → steps.effect_at s ≡ turns.GoesOn → steps.Falls e s f → steps.rank f < steps.rank (steps.at e s)
 falls_on e (stages.Answer end) f is h = absurd (cc)
 falls_on e _ f is h = h
 
 report_falls : (old new : WorldValue) (p : ℕ) → IsSound (world_of old) → ReportStepsBy old p Stepped new → StepsOn p old new
 report_falls old new p sound h =
     let e : PlainReportCall = h.steps.show in
-    let goes : steps.effect_at e.stage ≡ effects.GoesOn = sym h.steps.is ∙ goes_on h.what h.is in
+    let goes : steps.effect_at e.stage ≡ turns.GoesOn = sym h.steps.is ∙ goes_on h.what h.is in
     let fits = subst (λ (s : Situation). CallFits (world_of old) p s) h.steps.at (sound.calls p h.steps.there) in
     let now : (world_of new).situation p ≡ Reporting (steps.next_at e e.stage h.steps.word) = ap (λ q. (world_of new).situation q) (sym h.steps.mine) ∙ h.steps.steps.situation ∙ after_on e e.stage h.steps.word goes in
     let fall : steps.rank (steps.next_at e e.stage h.steps.word) < steps.rank e = falls_on e e.stage (steps.next_at e e.stage h.steps.word) goes (keeping.falls e e.stage h.steps.word fits.1.is.stage) in
@@ -235,24 +231,24 @@ work_falls : (old new : WorldValue) (p : ℕ) → IsSound (world_of old) → Wor
 work_falls old new p sound h = by h.what h.steps h.is
   where
     by : (what : Turn WorkEnd) → work_events.StepsBy (world_of old) p what (world_of new) → Stepped ≡ work_reply what → StepsOn p old new
-    by taken.GoesOn s is =
+    by turns.GoesOn s is =
         let g = turns_fall p (world_of old) (world_of new) sound s in
         let less = g.fewer in
         let a : steps_left p old ≡ work_ranks.steps_left s.work.cells s.work = ap left_in s.works in
         let b : steps_left p new ≡ work_ranks.steps_left g.work.cells g.work = ap left_in g.works in
         let c : work_ranks.steps_left g.work.cells g.work ≡ work_ranks.steps_left s.work.cells g.work = ap (λ r. work_ranks.steps_left r g.work) g.cells in
         record { calls = subst IsInCall (sym g.works) tt; fewer = omega (arith, less, a, b, c) }
-    by (taken.Answers end) s is = absurd (cc)
+    by (turns.Answers end) s is = absurd (cc)
 
-recovery_goes : (what : Turn RecoveryEnd) → Stepped ≡ recovery_reply what → what ≡ recovery_effects.GoesOn
-recovery_goes recovery_effects.GoesOn is = refl
-recovery_goes (recovery_effects.Answers end) is = absurd (cc)
+recovery_goes : (what : Turn RecoveryEnd) → Stepped ≡ recovery_reply what → what ≡ turns.GoesOn
+recovery_goes turns.GoesOn is = refl
+recovery_goes (turns.Answers end) is = absurd (cc)
 
-recovery_after : (e : PlainRecoverCall) (s : RecoverStage) (word : ℕ) → recover_steps.effect_at e s ≡ recovery_effects.GoesOn → recover_steps.after e s word ≡ Recovering (recover_steps.next_at e s word)
+recovery_after : (e : PlainRecoverCall) (s : RecoverStage) (word : ℕ) → recover_steps.effect_at e s ≡ turns.GoesOn → recover_steps.after e s word ≡ Recovering (recover_steps.next_at e s word)
 recovery_after e (recover_stages.Answer how) word is = absurd (cc)
 recovery_after e _ word is = refl
 
-recovery_lower : (e f : PlainRecoverCall) (s : RecoverStage) → recover_steps.effect_at e s ≡ recovery_effects.GoesOn → recover_steps.Falls e s f → recover_steps.rank e.cells f.stage < recover_steps.rank e.cells s
+recovery_lower : (e f : PlainRecoverCall) (s : RecoverStage) → recover_steps.effect_at e s ≡ turns.GoesOn → recover_steps.Falls e s f → recover_steps.rank e.cells f.stage < recover_steps.rank e.cells s
 recovery_lower e f (recover_stages.Answer how) is h = absurd (cc)
 recovery_lower e f _ is h = h
 
@@ -260,7 +256,7 @@ recovery_falls : (old new : WorldValue) (p : ℕ) → IsSound (world_of old) →
 recovery_falls old new p sound h =
     let e : PlainRecoverCall = h.steps.recovery in
     let f : PlainRecoverCall = recover_steps.next_at e e.stage h.steps.word in
-    let goes : recover_steps.effect_at e e.stage ≡ recovery_effects.GoesOn = sym h.steps.is ∙ recovery_goes h.what h.is in
+    let goes : recover_steps.effect_at e e.stage ≡ turns.GoesOn = sym h.steps.is ∙ recovery_goes h.what h.is in
     let fits = subst (λ (s : Situation). CallFits (world_of old) p s) h.steps.at (sound.calls p h.steps.there) in
     let now : (world_of new).situation p ≡ Recovering f = ap (λ q. (world_of new).situation q) (sym h.steps.mine) ∙ h.steps.steps.situation ∙ recovery_after e e.stage h.steps.word goes in
     let fall : recover_steps.rank e.cells f.stage < recover_steps.rank e.cells e.stage = recovery_lower e f e.stage goes (each_falls e h.steps.word fits.is) in
@@ -272,15 +268,15 @@ recovery_falls old new p sound h =
     let c = ap (λ n. recover_steps.rank n f.stage) cells in
     record { calls = subst IsInCall (sym now) tt; fewer = omega (arith, fall, a, b, c) }
 
-migration_goes : (what : Turn MigrateEnd) → Stepped ≡ migration_reply what → what ≡ migrate_effects.GoesOn
-migration_goes migrate_effects.GoesOn is = refl
-migration_goes (migrate_effects.Answers end) is = absurd (cc)
+migration_goes : (what : Turn MigrateEnd) → Stepped ≡ migration_reply what → what ≡ turns.GoesOn
+migration_goes turns.GoesOn is = refl
+migration_goes (turns.Answers end) is = absurd (cc)
 
-migration_after : (e : PlainMigrateCall) (s : MigrateStage) (word : ℕ) → migration_takes.effect_at s ≡ migrate_effects.GoesOn → migration_steps.after e s word ≡ Migrating (migration_steps.next_at e s word)
+migration_after : (e : PlainMigrateCall) (s : MigrateStage) (word : ℕ) → migration_takes.effect_at s ≡ turns.GoesOn → migration_steps.after e s word ≡ Migrating (migration_steps.next_at e s word)
 migration_after e (migrate_stages.Answer how) word is = absurd (cc)
 migration_after e _ word is = refl
 
-migration_lower : (s : MigrateStage) → migration_takes.effect_at s ≡ migrate_effects.GoesOn → (how : MigrateEnd) → s ≡ migrate_stages.Answer how → ⊥
+migration_lower : (s : MigrateStage) → migration_takes.effect_at s ≡ turns.GoesOn → (how : MigrateEnd) → s ≡ migrate_stages.Answer how → ⊥
 migration_lower (migrate_stages.Answer how) is end at = cc
 migration_lower _ is end at = cc
 
@@ -293,7 +289,7 @@ migration_falls : (old new : WorldValue) (p : ℕ) → IsSound (world_of old) �
 migration_falls old new p sound h =
     let e : PlainMigrateCall = h.steps.migration in
     let f : PlainMigrateCall = migration_steps.next_at e e.stage h.steps.word in
-    let goes : migration_takes.effect_at e.stage ≡ migrate_effects.GoesOn = sym h.steps.is ∙ migration_goes h.what h.is in
+    let goes : migration_takes.effect_at e.stage ≡ turns.GoesOn = sym h.steps.is ∙ migration_goes h.what h.is in
     let fits = subst (λ (s : Situation). CallFits (world_of old) p s) h.steps.at (sound.calls p h.steps.there) in
     let now : (world_of new).situation p ≡ Migrating f = ap (λ q. (world_of new).situation q) (sym h.steps.mine) ∙ h.steps.steps.situation ∙ migration_after e e.stage h.steps.word goes in
     let fall : migration_steps.rank (old_words e.processes) f.stage < migration_steps.rank (old_words e.processes) e.stage = migrating.migration_falls e e.stage h.steps.word fits.is.stage (migration_lower e.stage goes) in

@@ -25,27 +25,24 @@ use Rattle.ds_state.specs.KnownReport.{noted, reads_pending, reads_clean}
 use Rattle.ds_state.specs.declared.report.ReportEnd.TheVariants as ends
 use Rattle.ds_state.specs.declared.report.ReportStage.{ReportStage}
 use Rattle.ds_state.specs.declared.report.ReportStage.TheVariants as stages
-use Rattle.ds_state.specs.declared.turn.Turn.TheVariants as effects
+use Rattle.ds_state.specs.declared.turn.Turn.TheVariants as turns
 use Rattle.ds_report.specs.ReportSteps as shows
 use Rattle.ds_edit.specs.EditTakes.{rest_before}
 use Rattle.ds_edit.specs.EditSteps.{access_at}
-use Rattle.ds_state.specs.EditEndings.{answer_of, outcome_at, other_of}
+use Rattle.ds_state.specs.EditEndings.{end_of, outcome_at, other_of}
 use Rattle.ds_state.specs.declared.answer.Other.{Other}
 use Rattle.ds_state.specs.declared.answer.Answer as replies
 use Rattle.ds_state.specs.declared.answer.Answer.TheVariants.{Edit}
 use Rattle.ds_state.specs.declared.answer.EditEnd.TheVariants.{Done, Overtaken}
-use Rattle.ds_state.specs.declared.turn.Turn.TheVariants as migrate_effects
 use Rattle.ds_state.specs.declared.migration.MigrateEnd.TheVariants as migrate_ends
-use Rattle.ds_core.specs.MigrationEvents.{MigrationStepsBy, MigrationBegins, migration_reply, migration_answer}
+use Rattle.ds_core.specs.MigrationEvents.{MigrationStepsBy, MigrationBegins, migration_reply}
 use Rattle.ds_core.specs.EditEvents.{EditStepsBy}
 use Rattle.ds_core.specs.ReportEvents.{report_reply, ReportBegins, ReportStepsBy}
 use Rattle.ds_core.specs.StepEvents.{edits, works, reports, recoveries, migrations}
 use Rattle.ds_core.specs.WorkEvents.{work_reply, WorkStepsBy, WorkBegins, TakesEntry}
 use Rattle.ds_core.specs.RecoveryEvents.{recovery_reply, RecoveryStepsBy, RecoveryBegins}
 use Rattle.ds_state.specs.declared.work.WorkEnd.{WorkEnd}
-use Rattle.ds_state.specs.declared.turn.Turn.TheVariants as taken
 use Rattle.ds_state.specs.declared.work.WorkEnd.TheVariants as work_ends
-use Rattle.ds_state.specs.declared.turn.Turn.TheVariants as recovery_effects
 use Rattle.ds_state.specs.declared.recovery.RecoveryEnd.TheVariants as recovery_ends
 use Rattle.ds_core.specs.Takes.{Takes}
 use Rattle.ds_core.specs.Moments.{Ledger}
@@ -198,7 +195,7 @@ module _ (place : ℕ) (layout : Layout) (l : Ledger) (v v' : WorldValue) (h : I
         }
       ]
 
-  answered_by : (p : ℕ) (how : Outcome) (number : ℕ) (answer : replies.Answer) → answer ≡ answer_of v.sheet.layout.processes number how
+  answered_by : (p : ℕ) (how : Outcome) (number : ℕ) (answer : replies.Answer) → answer ≡ Edit (end_of v.sheet.layout.processes number how)
       → (t : EditStepsBy v p (Answered answer) v') → t.edit.stage ≡ Answer how → t.edit.number ≡ number → Next place layout l v (Step p) (Answered answer) v'
   answered_by p outcome.Done number answer is t at same =
       let t' : EditStepsBy v p (Answered (Edit (Done number))) v' = subst (λ (a : replies.Answer). EditStepsBy v p (Answered a) v') is t in
@@ -306,9 +303,8 @@ module _ (place : ℕ) (layout : Layout) (l : Ledger) (v v' : WorldValue) (h : I
       silent (Step p) (Answered answer) (reports t) t.steps.steps.counted t.steps.steps.open_edits (report_says p (Answered answer) t) (report_access p (Answered answer) t) (nothing t.what answer t.is) (report_tells p (Answered answer) t)
     where
       nothing : (what : Turn ReportEnd) (answer : replies.Answer) → Answered answer ≡ report_reply what → AnswerMoves l p answer l
-      nothing effects.GoesOn answer is = absurd (cc)
-      nothing (effects.Answers ends.Settled) answer is = subst (λ (a : replies.Answer). AnswerMoves l p a l) (the_answer answer _ (sym is)) refl
-      nothing (effects.Answers (ends.Unsettled place word)) answer is = subst (λ (a : replies.Answer). AnswerMoves l p a l) (the_answer answer _ (sym is)) refl
+      nothing turns.GoesOn answer is = absurd (cc)
+      nothing (turns.Answers end) answer is = subst (λ (a : replies.Answer). AnswerMoves l p a l) (the_answer answer _ (sym is)) refl
 
   -- work begins, is offered an entry, makes a step
   work_tells : (p : ℕ) → (k : LeavesEdits p v v') → (a : StaysAtWork p v v') → ((n : ℕ) → SidesStay (world_of v).memory (world_of v').memory (Header p n)) → Tells l v'
@@ -339,8 +335,8 @@ module _ (place : ℕ) (layout : Layout) (l : Ledger) (v v' : WorldValue) (h : I
       (work_tells p k (work_stays p v v' (Answered answer) t) (λ n. work_sides_of p n v v' (Answered answer) h.good.sound t))
     where
       nothing : (what : Turn WorkEnd) (answer : replies.Answer) → Answered answer ≡ work_reply what → AnswerMoves l p answer l
-      nothing taken.GoesOn answer is = absurd (cc)
-      nothing (taken.Answers end) answer is = subst (λ (a : replies.Answer). AnswerMoves l p a l) (the_answer answer _ (sym is)) refl
+      nothing turns.GoesOn answer is = absurd (cc)
+      nothing (turns.Answers end) answer is = subst (λ (a : replies.Answer). AnswerMoves l p a l) (the_answer answer _ (sym is)) refl
 
   -- a recovery begins, and makes a step
   recovery_begins : (p : ℕ) → RecoveryBegins v p v' → Next place layout l v (BeginRecover p) Entered v'
@@ -353,9 +349,9 @@ module _ (place : ℕ) (layout : Layout) (l : Ledger) (v v' : WorldValue) (h : I
         tells = tells_recovery_begun layout l v v' p h tells t;
       }
 
-  recovery_goes : (what : Turn RecoveryEnd) → Stepped ≡ recovery_reply what → what ≡ recovery_effects.GoesOn
-  recovery_goes recovery_effects.GoesOn is = refl
-  recovery_goes (recovery_effects.Answers end) is = absurd (cc)
+  recovery_goes : (what : Turn RecoveryEnd) → Stepped ≡ recovery_reply what → what ≡ turns.GoesOn
+  recovery_goes turns.GoesOn is = refl
+  recovery_goes (turns.Answers end) is = absurd (cc)
 
   recovery_stepped : (p : ℕ) → RecoveryStepsBy v p Stepped v' → Next place layout l v (Step p) Stepped v'
   recovery_stepped p t =
@@ -374,8 +370,8 @@ module _ (place : ℕ) (layout : Layout) (l : Ledger) (v v' : WorldValue) (h : I
       silent (Step p) (Answered answer) (migrations t) t.steps.steps.counted t.steps.steps.open_edits (migration_says v v' p (Answered answer) t) (migration_access v v' p (Answered answer) t) (nothing t.what answer t.is) (tells_migration_on layout l v v' p (Answered answer) h tells t)
     where
       nothing : (what : Turn MigrateEnd) (answer : replies.Answer) → Answered answer ≡ migration_reply what → AnswerMoves l p answer l
-      nothing migrate_effects.GoesOn answer is = absurd (cc)
-      nothing (migrate_effects.Answers end) answer is = subst (λ (a : replies.Answer). AnswerMoves l p a l) (the_answer answer _ (sym is)) refl
+      nothing turns.GoesOn answer is = absurd (cc)
+      nothing (turns.Answers end) answer is = subst (λ (a : replies.Answer). AnswerMoves l p a l) (the_answer answer _ (sym is)) refl
 
   recovery_answered : (p : ℕ) (answer : replies.Answer) → RecoveryStepsBy v p (Answered answer) v' → Next place layout l v (Step p) (Answered answer) v'
   recovery_answered p answer t =

@@ -178,13 +178,9 @@ module _ (v : WorldValue) (g : IsGood v) (p : ℕ) (e : PlainEditCall) (at : IsE
         counted_won : (noted : ℕ) → word ≡ noted → counted_at (edit_of e) (Swap noted) word ≡ edit_of e ∷ []
         counted_won noted same = rw (eq-eqb word noted same) refl
 
-    step_reply : (how : Option Outcome) → EditStepsBy v p (reply_with v.sheet.layout.processes e.number how) next → EditStepTakes v p (reply_with v.sheet.layout.processes e.number how) next
-    step_reply None h = h
-    step_reply (Some how) h = h
-
-    pub next_takes : EditStepTakes v p (reply_at v.sheet.layout.processes e.number e.stage) next
+    pub next_takes : EditStepsBy v p (reply_at v.sheet.layout.processes e.number e.stage) next
     unfolding next
-    next_takes = step_reply (outcome_at e.stage) (record {
+    next_takes = record {
       there = low;
       edit = e;
       mine = mine;
@@ -194,7 +190,7 @@ module _ (v : WorldValue) (g : IsGood v) (p : ℕ) (e : PlainEditCall) (at : IsE
       is = refl;
       done = refl;
       reports = record { settled = refl; reports = refl };
-    })
+    }
 
     -- a world of these parts is that world
     pub next_is : (situation : Situation) (counted : List PlainEdit) (open_issue : Option PlainIssue) (done : ℕ)

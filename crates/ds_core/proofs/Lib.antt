@@ -28,7 +28,6 @@ pub mod AtWork
 pub mod AtRecovery
 pub mod NewIdle
 pub mod Stepping
-pub mod Advancing
 pub mod Headers
 pub mod Told
 pub mod Telling

@@ -29,7 +29,8 @@ use Rattle.ds_work.proofs.WorkShows.{shown_same}
 use Rattle.ds_work.proofs.WorkAlone.{turn_alone, offer_alone, same_sees}
 use Rattle.ds_core.specs.StepEvents.{edits, works, reports, recoveries, migrations}
 use Rattle.ds_core.specs.Takes.{Takes, WorldRun}
-use Rattle.ds_core.specs.WorkEvents.{work_answer, work_reply, WorkStepsBy}
+use Rattle.ds_state.specs.declared.answer.Answer.TheVariants.{Work}
+use Rattle.ds_core.specs.WorkEvents.{work_reply, WorkStepsBy}
 use Rattle.ds_core.proofs.Did as did_so
 use Rattle.ds_core.proofs.Did.{Did, did, IsNothing, edit_begins, work_begins, report_begins, recovery_begins, migration_begins, steps, offers, evicts, stops, crashes}
 use Rattle.ds_core.specs.Solo.{IsLoneEvent, IsLone, IsLoneAnswer, IsLoneReply, AreLoneReplies, StandsInOwnRow}
@@ -131,7 +132,7 @@ record Goes (first last : PlainWorld) (row : ℕ → ℕ) (before : CellWords) (
 
 record Ends (row : ℕ → ℕ) (before : CellWords) (p cell : ℕ) (reply : Reply) (new : WorldValue) : Type 0 where
   end : WorkEnd
-  is : reply ≡ Answered (work_answer end)
+  is : reply ≡ Answered (Work end)
   work : PlainWorkCall
   of_cell : work.cell ≡ cell
   so : EndsAlone row (world_of new) work end
@@ -145,12 +146,6 @@ module _ (first last : PlainWorld) (row : ℕ → ℕ) (before : CellWords) (p c
     where
       one : h.steps.work ≡ u.work
       one = same_work row before p cell old new sound u q h.steps.work same h.steps.works
-
-      none : (what : Turn WorkEnd) → what ≡ taken.NotEnabled → work_events.TakesTurn h.steps.work (world_of old) (world_of new) what → ⊥
-      none what is (work_events.steps word t on) = cc
-      none what is (work_events.reads content inputs at t) = cc
-      none what is (work_events.lacked at t) = cc
-      none what is (work_events.answers end at t) = cc
 
       by : (what : Turn WorkEnd) → h.what ≡ what → reply ≡ work_reply h.what → GoesAlone row before h.steps.work (world_of new) h.what → Goes first last row before p cell reply new ⊎ Ends row before p cell reply new
       by taken.GoesOn at is g = inl (record { silent = subst (λ (r : Reply). IsLoneReply first last cell r) (sym (is ∙ ap work_reply at)) tt; on = goes row before p cell old new sound u h.steps.work one (subst (λ (x : Turn WorkEnd). GoesAlone row before h.steps.work (world_of new) x) at g) })
@@ -223,7 +218,7 @@ module _ (row : ℕ → ℕ) (first middle last : PlainWorld) (cell : ℕ) (work
   refers h = subst (λ c. HasBit (row (c / 64)) c) (sym of_cell) (subst (λ x. HasBit x cell) (index (cell / 64)) h)
 
   -- the answer says what is so at the end
-  answers_so : (end : WorkEnd) → EndsAlone row middle work end → EndsReporting (shown_in first cell) (shown_in middle work.cell) end → IsLoneAnswer first last cell (work_answer end)
+  answers_so : (end : WorkEnd) → EndsAlone row middle work end → EndsReporting (shown_in first cell) (shown_in middle work.cell) end → IsLoneAnswer first last cell (Work end)
   answers_so ends.NotDirty so showing = absurd so
   answers_so ends.Missed so showing = absurd so
   answers_so ends.Worn so showing = absurd so

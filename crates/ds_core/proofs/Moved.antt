@@ -12,10 +12,8 @@ use Rattle.ds_core.specs.declared.event.Event.TheVariants.{BeginEdit, BeginWork,
 use Rattle.ds_state.specs.declared.answer.Answer.{Answer}
 use Rattle.ds_state.specs.declared.answer.Answer.TheVariants.{Edit, Work, Recovery, Migration, Report}
 use Rattle.ds_state.specs.declared.answer.EditEnd.TheVariants.{Done, Overtaken}
-use Rattle.ds_state.specs.declared.work.WorkEnd.TheVariants.{NotDirty, Missed, Worn, Published, Again, NoMemory}
+use Rattle.ds_state.specs.declared.recovery.RecoveryEnd.{RecoveryEnd}
 use Rattle.ds_state.specs.declared.recovery.RecoveryEnd.TheVariants.{Last, Nothing}
-use Rattle.ds_state.specs.declared.migration.MigrateEnd.TheVariants.{Migrated, Already}
-use Rattle.ds_state.specs.declared.report.ReportEnd.TheVariants.{Settled, Unsettled}
 use Rattle.ds_core.specs.declared.reply.Reply.{Reply}
 use Rattle.ds_core.specs.declared.reply.Reply.TheVariants.{Begun, Entered, Refused, Stepped, Answered, WrongTask, Evicted, Stopped, Crashed, NotEnabled}
 
@@ -161,8 +159,8 @@ closes_moved k I old p number doubt counts And new h = subst (λ (l : Ledger). M
       | inr there ↦ inl (sym there.1)
     ]
 
-forgets_moved : (k : ℕ) (I : PlainEdit → Type 0) (old : Ledger) (p : ℕ) (answer : Answer) (new : Ledger) → Forgets old p answer new → Moved k I old new
-forgets_moved k I old p answer new h = subst (λ (l : Ledger). Moved k I old l) (sym h.is) (gone_moved k I old p old.told (λ q c is. inl is) (λ q. inl refl))
+forgets_moved : (k : ℕ) (I : PlainEdit → Type 0) (old : Ledger) (p : ℕ) (end : RecoveryEnd) (new : Ledger) → Forgets old p end new → Moved k I old new
+forgets_moved k I old p end new h = subst (λ (l : Ledger). Moved k I old l) (sym h.is) (gone_moved k I old p old.told (λ q c is. inl is) (λ q. inl refl))
 
 stop_moved : (k : ℕ) (I : PlainEdit → Type 0) (old : Ledger) (p : ℕ) (new : Ledger) → new ≡ record old { opens = put old.opens p (in_doubt (old.opens p)) } → Moved k I old new
 stop_moved k I old p new h = subst (λ (l : Ledger). Moved k I old l) (sym h) (record {
@@ -184,23 +182,16 @@ loses_moved k I old new h = subst (λ (l : Ledger). Moved k I old l) (sym h.is) 
 })
 
 answer_moved : (k : ℕ) (I : PlainEdit → Type 0) (old : Ledger) (p : ℕ) (answer : Answer) (new : Ledger) → AnswerMoves old p answer new → Moved k I old new
-answer_moved k I old p (Done number) new h = closes_moved k I old p number _ _ _ new h
-answer_moved k I old p (Overtaken number other) new h = closes_moved k I old p number _ _ _ new h
-answer_moved k I old p (Last told) new (inl h) = closes_moved k I old p told.number _ _ _ new h
-answer_moved k I old p (Last told) new (inr (inl h)) = forgets_moved k I old p _ new h
-answer_moved k I old p (Last told) new (inr (inr h)) = same_moved k I old new h.is
-answer_moved k I old p Nothing new (inl h) = forgets_moved k I old p _ new h
-answer_moved k I old p Nothing new (inr h) = same_moved k I old new h.is
-answer_moved k I old p NotDirty new h = same_moved k I old new h
-answer_moved k I old p Missed new h = same_moved k I old new h
-answer_moved k I old p Worn new h = same_moved k I old new h
-answer_moved k I old p (Published changed) new h = same_moved k I old new h
-answer_moved k I old p Again new h = same_moved k I old new h
-answer_moved k I old p NoMemory new h = same_moved k I old new h
-answer_moved k I old p Migrated new h = same_moved k I old new h
-answer_moved k I old p Already new h = same_moved k I old new h
-answer_moved k I old p Settled new h = same_moved k I old new h
-answer_moved k I old p (Unsettled place word) new h = same_moved k I old new h
+answer_moved k I old p (Edit (Done number)) new h = closes_moved k I old p number _ _ _ new h
+answer_moved k I old p (Edit (Overtaken number other)) new h = closes_moved k I old p number _ _ _ new h
+answer_moved k I old p (Recovery (Last told)) new (inl h) = closes_moved k I old p told.number _ _ _ new h
+answer_moved k I old p (Recovery (Last told)) new (inr (inl h)) = forgets_moved k I old p _ new h
+answer_moved k I old p (Recovery (Last told)) new (inr (inr h)) = same_moved k I old new h.is
+answer_moved k I old p (Recovery Nothing) new (inl h) = forgets_moved k I old p _ new h
+answer_moved k I old p (Recovery Nothing) new (inr h) = same_moved k I old new h.is
+answer_moved k I old p (Work end) new h = same_moved k I old new h
+answer_moved k I old p (Report end) new h = same_moved k I old new h
+answer_moved k I old p (Migration end) new h = same_moved k I old new h
 
 -- every event moves the ledger so
 pub moved : (k : ℕ) (shape : Shape) (old : Ledger) (event : Event) (reply : Reply) (new : Ledger) → LedgerMoves k shape old event reply new → Moved k (IsIssueOf shape event reply) old new

@@ -22,7 +22,8 @@ use Rattle.ds_edit.specs.EditAnswers.{IsTrueAnswer, IsTrueOf}
 use Rattle.ds_edit.specs.Begun.{IsBegun}
 use Rattle.ds_edit.proofs.Truth.{answer_true}
 use Rattle.ds_core.specs.EditEvents.{reply_with, EditStepsBy}
-use Rattle.ds_state.specs.EditEndings.{answer_of, other_of, outcome_at}
+use Rattle.ds_state.specs.declared.answer.Answer.TheVariants.{Edit}
+use Rattle.ds_state.specs.EditEndings.{end_of, other_of, outcome_at}
 use Rattle.ds_core.proofs.Traces.{Stays, Issues, Counts, Closes, StepMoves}
 use Rattle.ds_core.specs.declared.reply.Reply.{Reply}
 use Rattle.ds_core.specs.declared.reply.Reply.TheVariants.{Answered}
@@ -120,7 +121,7 @@ module _ (old new : WorldValue) (g : IsSound (world_of old)) (p : ℕ) (reply : 
       let since : t.since ≡ fits.since = same_since (record { edit = E; since = t.since }) (record { edit = E; since = fits.since }) (sym t.issued ∙ fits.open_edits) in
       subst (λ (n : ℕ). IsTrueOf (world_of old) E n how) since t.holds
 
-  answers : (how : Outcome) → h.edit.stage ≡ Answer how → StepMoves (world_of old) p (Answered (answer_of old.sheet.layout.processes h.edit.number how)) (world_of new)
+  answers : (how : Outcome) → h.edit.stage ≡ Answer how → StepMoves (world_of old) p (Answered (Edit (end_of old.sheet.layout.processes h.edit.number how))) (world_of new)
   answers outcome.Done at = closes outcome.Done _ at (true_here outcome.Done at)
   answers (outcome.Overtaken noted seen) at =
       let t = true_here (outcome.Overtaken noted seen) at in

@@ -22,19 +22,17 @@ use Rattle.ds_state.specs.declared.recovery.RecoverStage.{RecoverStage}
 use Rattle.ds_state.specs.declared.recovery.RecoverStage.TheVariants as stages
 use Rattle.ds_state.specs.declared.report.ReportEnd.TheVariants as ends
 use Rattle.ds_state.specs.declared.work.WorkEnd.TheVariants as work_ends
-use Rattle.ds_state.specs.EditEndings.{answer_of, outcome_at}
+use Rattle.ds_state.specs.EditEndings.{end_of as end_by, outcome_at}
 use Rattle.ds_state.specs.declared.recovery.Told.{Told}
-use Rattle.ds_state.specs.declared.answer.Answer.TheVariants.{Recovery}
+use Rattle.ds_state.specs.declared.answer.Answer.TheVariants.{Edit, Recovery}
 use Rattle.ds_state.specs.declared.recovery.RecoveryEnd.TheVariants.{Last}
-use Rattle.ds_state.specs.declared.turn.Turn.TheVariants as effects
+use Rattle.ds_state.specs.declared.turn.Turn.TheVariants as turns
 use Rattle.ds_state.specs.declared.work.WorkEnd.{WorkEnd}
-use Rattle.ds_state.specs.declared.turn.Turn.TheVariants as taken
 use Rattle.ds_recover.specs.RecoverySteps.{number_of, end_of, access_at}
 use Rattle.ds_recover.proofs.RecoveryLaws.{fits_of, repeated}
-use Rattle.ds_state.specs.declared.turn.Turn.TheVariants as migrate_effects
 use Rattle.ds_state.specs.declared.migration.MigrateEnd.TheVariants as migrate_ends
-use Rattle.ds_core.specs.MigrationEvents.{MigrationStepsBy, MigrationBegins, migration_reply, migration_answer}
-use Rattle.ds_core.specs.RecoveryEvents.{recovery_answer, recovery_reply, RecoveryStepsBy}
+use Rattle.ds_core.specs.MigrationEvents.{MigrationStepsBy, MigrationBegins, migration_reply}
+use Rattle.ds_core.specs.RecoveryEvents.{recovery_reply, RecoveryStepsBy}
 use Rattle.ds_core.specs.ReportEvents.{report_reply}
 use Rattle.ds_core.specs.WorkEvents.{work_reply}
 use Rattle.ds_core.specs.SpentNumbers.{IsOut}
@@ -49,21 +47,20 @@ use Rattle.ds_core.proofs.Solo.{some_outcome}
 use Rattle.ds_core.proofs.Spent.{stays_out}
 use Rattle.ds_core.proofs.Turns.{recovery_turn}
 
-edit_not_last : (processes number : ℕ) (told : Told) (how : Outcome) → Last told ≡ answer_of processes number how → ⊥
+edit_not_last : (processes number : ℕ) (told : Told) (how : Outcome) → Recovery (Last told) ≡ Edit (end_by processes number how) → ⊥
 edit_not_last processes number told outcome.Done is = absurd (cc)
 edit_not_last processes number told (outcome.Overtaken noted seen) is = absurd (cc)
 
 report_not_last : (what : Turn ReportEnd) (told : Told) → Answered (Recovery (Last told)) ≡ report_reply what → ⊥
-report_not_last effects.GoesOn told is = absurd (cc)
-report_not_last (effects.Answers ends.Settled) told is = absurd (cc)
-report_not_last (effects.Answers (ends.Unsettled place word)) told is = absurd (cc)
+report_not_last turns.GoesOn told is = absurd (cc)
+report_not_last (turns.Answers end) told is = absurd (cc)
 
 work_not_last : (what : Turn WorkEnd) (told : Told) → Answered (Recovery (Last told)) ≡ work_reply what → ⊥
-work_not_last taken.GoesOn told is = absurd (cc)
-work_not_last (taken.Answers end) told is = absurd (cc)
+work_not_last turns.GoesOn told is = absurd (cc)
+work_not_last (turns.Answers end) told is = absurd (cc)
 
 -- how a recovery ended that tells so
-told_how : (e : PlainRecoverCall) (how : Option Bool) (told : Told) → Last told ≡ recovery_answer (end_of e how) → told.counts ≡ false → (how ≡ Some false) × (told.number ≡ number_of e)
+told_how : (e : PlainRecoverCall) (how : Option Bool) (told : Told) → Recovery (Last told) ≡ Recovery (end_of e how) → told.counts ≡ false → (how ≡ Some false) × (told.number ≡ number_of e)
 told_how e None told is not = absurd (cc)
 told_how e (Some true) told is not = absurd (let same : told ≡ record { number = number_of e; cell = e.cell; counts = true } = cc in let bad : false ≡ true = sym not ∙ ap (λ (t : Told). t.counts) same in cc)
 told_how e (Some false) told is not = (refl, (let same : told ≡ record { number = number_of e; cell = e.cell; counts = false } = cc in ap (λ (t : Told). t.number) same))
@@ -71,7 +68,7 @@ told_how e (Some false) told is not = (refl, (let same : told ≡ record { numbe
 pub resolved_out : (old mid : WorldValue) (p : ℕ) (told : Told) → IsSound (world_of old) → RecoveryStepsBy old p (Answered (Recovery (Last told))) mid → told.counts ≡ false → IsSpent (world_of mid) p told.number × IsOut (world_of mid) p told.number
 resolved_out old mid p told sound s not =
     let e : PlainRecoverCall = s.steps.recovery in
-    let found = at_answer e e.stage (Last told) (s.is ∙ ap recovery_reply s.steps.is) in
+    let found = at_answer e e.stage (Recovery (Last told)) (s.is ∙ ap recovery_reply s.steps.is) in
     let how = told_how e found.how told found.is not in
     let at : e.stage ≡ stages.Answer (Some false) = found.at ∙ ap (λ x. stages.Answer x) how.0 in
     let low : e.process < old.sheet.layout.processes = rw s.steps.mine s.steps.there in
@@ -92,15 +89,15 @@ resolved_out old mid p told sound s not =
     )
 
 migration_not_last : (what : Turn MigrateEnd) (told : Told) → Answered (Recovery (Last told)) ≡ migration_reply what → ⊥
-migration_not_last migrate_effects.GoesOn told is = absurd (cc)
-migration_not_last (migrate_effects.Answers end) told is = absurd (cc)
+migration_not_last turns.GoesOn told is = absurd (cc)
+migration_not_last (turns.Answers end) told is = absurd (cc)
 
 pub told_not_done_never : (old mid new : WorldValue) (events : List Event) (replies : List Reply) (p : ℕ) (told : Told) → IsSound (world_of old) → Takes old (Step p) (Answered (Recovery (Last told))) mid → told.counts ≡ false
     → WorldRun mid events replies new → IsSpent (world_of new) p told.number × IsOut (world_of new) p told.number
 told_not_done_never old mid new events replies p told sound (recoveries s) not run =
     let o = resolved_out old mid p told sound s not in
     stays_out events replies mid new p told.number (recovery_turn old mid p (Answered (Recovery (Last told))) sound s).keeps.sound o.0 o.1 run
-told_not_done_never old mid new events replies p told sound (edits s) not run = absurd (let found = some_outcome old.sheet.layout.processes s.edit.number (Last told) (outcome_at s.edit.stage) s.is in edit_not_last old.sheet.layout.processes s.edit.number told found.0 found.2)
+told_not_done_never old mid new events replies p told sound (edits s) not run = absurd (let found = some_outcome old.sheet.layout.processes s.edit.number (Recovery (Last told)) (outcome_at s.edit.stage) s.is in edit_not_last old.sheet.layout.processes s.edit.number told found.0 found.2)
 told_not_done_never old mid new events replies p told sound (works s) not run = absurd (work_not_last s.what told s.is)
 told_not_done_never old mid new events replies p told sound (migrations s) not run = absurd (migration_not_last s.what told s.is)
 told_not_done_never old mid new events replies p told sound (reports s) not run = absurd (report_not_last s.what told s.is)

@@ -17,7 +17,7 @@ use Rattle.ds_state.specs.EditEndings.{outcome_at}
 use Rattle.ds_state.specs.declared.answer.Answer as call_answers
 use Rattle.ds_state.specs.declared.answer.Answer.TheVariants.{Report}
 use Rattle.ds_state.specs.declared.report.ReportEnd.TheVariants.{Settled, Unsettled}
-use Rattle.ds_state.specs.declared.turn.Turn.TheVariants.{GoesOn, Answers}
+use Rattle.ds_state.specs.declared.turn.Turn.TheVariants as turns
 use Rattle.ds_report.specs.ReportSteps.{answered, effect_at}
 use Rattle.ds_report.specs.ReportTakes.{reports_by}
 use Rattle.ds_state.specs.Works.{PlainReportCall}
@@ -44,18 +44,15 @@ use Rattle.ds_edit.specs.EditTakes as edit_steps
 use Rattle.ds_edit.proofs.Answering.{begin_sound}
 use Rattle.ds_report.specs.ReportRuns.{Passes, HasBegun, Call, IsOf, AreInTurn, WasStill, WasOff, IsTrueReport}
 use Rattle.ds_report.proofs.ReportRuns.{rely_same, answer_true}
-use Rattle.ds_state.specs.declared.turn.Turn.TheVariants as migrate_effects
 use Rattle.ds_state.specs.declared.migration.MigrateEnd.TheVariants as migrate_ends
-use Rattle.ds_core.specs.MigrationEvents.{MigrationStepsBy, MigrationBegins, migration_reply, migration_answer}
+use Rattle.ds_core.specs.MigrationEvents.{MigrationStepsBy, MigrationBegins, migration_reply}
 use Rattle.ds_core.specs.EditEvents.{reply_with, EditStepsBy}
-use Rattle.ds_core.specs.ReportEvents.{report_answer, report_reply, ReportStepsBy, ReportBegins}
+use Rattle.ds_core.specs.ReportEvents.{report_reply, ReportStepsBy, ReportBegins}
 use Rattle.ds_core.specs.StepEvents.{StepsBy, edits, works, reports, recoveries, migrations}
 use Rattle.ds_core.specs.WorkEvents.{work_reply}
 use Rattle.ds_core.specs.RecoveryEvents.{recovery_reply, RecoveryStepsBy}
-use Rattle.ds_state.specs.declared.turn.Turn.TheVariants as taken
 use Rattle.ds_state.specs.declared.work.WorkEnd.{WorkEnd}
 use Rattle.ds_state.specs.declared.work.WorkEnd.TheVariants as work_ends
-use Rattle.ds_state.specs.declared.turn.Turn.TheVariants as recovery_effects
 use Rattle.ds_state.specs.declared.recovery.RecoveryEnd.TheVariants as recovery_ends
 use Rattle.ds_core.specs.Takes.{Takes}
 use Rattle.ds_core.specs.Moments.{Moment, MomentFits, empty_ledger}
@@ -178,8 +175,7 @@ module _ (p : ℕ) (old new : WorldValue) (good : IsGood old) (low : p < old.she
 
 -- an answer that is no report's
 abbrev IsNoReport : call_answers.Answer → Type 0
-IsNoReport Settled = ⊥
-IsNoReport (Unsettled place word) = ⊥
+IsNoReport (Report end) = ⊥
 IsNoReport _ = Unit {0}
 
 no_report : (a b : call_answers.Answer) → Answered a ≡ Answered b → IsNoReport b → IsNoReport a
@@ -297,13 +293,13 @@ module _ (old : WorldValue) (events : List Event) (replies : List Reply) (new : 
     mine : show.process ≡ p
     was : (world_of (at k)).situation p ≡ Reporting show
     last : show.stage ≡ stages.Answer end
-    kept : (at (k + 1)).reports ≡ reports_by (at k).reports show (Answers end)
+    kept : (at (k + 1)).reports ≡ reports_by (at k).reports show (turns.Answers end)
 
-  ends_at : (s : ReportStage) (end : ReportEnd) → effect_at s ≡ Answers end → s ≡ stages.Answer end
+  ends_at : (s : ReportStage) (end : ReportEnd) → effect_at s ≡ turns.Answers end → s ≡ stages.Answer end
   ends_at (stages.Answer e) end is = let same : e ≡ end = cc in ap (λ x. stages.Answer x) same
   ends_at _ end is = absurd (cc)
 
-  ends_of : (k p : ℕ) (reply : Reply) (end : ReportEnd) (h : ReportStepsBy (at k) p reply (at (k + 1))) → h.what ≡ Answers end → Ends k p end
+  ends_of : (k p : ℕ) (reply : Reply) (end : ReportEnd) (h : ReportStepsBy (at k) p reply (at (k + 1))) → h.what ≡ turns.Answers end → Ends k p end
   ends_of k p reply end h is = record {
     show = h.steps.show;
     mine = h.steps.mine;
@@ -350,30 +346,22 @@ module _ (old : WorldValue) (events : List Event) (replies : List Reply) (new : 
   edit_unsettles processes number place word (Some (outcome.Overtaken noted seen)) is = cc
 
   -- nor does work, nor a recovery
-  work_is : (end : WorkEnd) (answer : call_answers.Answer) → Answered answer ≡ work_reply (taken.Answers end) → IsNoReport answer
-  work_is work_ends.NotDirty answer is = no_report answer _ is tt
-  work_is work_ends.Missed answer is = no_report answer _ is tt
-  work_is work_ends.Worn answer is = no_report answer _ is tt
-  work_is (work_ends.Published changed) answer is = no_report answer _ is tt
-  work_is work_ends.Again answer is = no_report answer _ is tt
-  work_is work_ends.NoMemory answer is = no_report answer _ is tt
-
   work_reports_not : (what : Turn WorkEnd) (answer : call_answers.Answer) → Answered answer ≡ work_reply what → IsNoReport answer
-  work_reports_not taken.GoesOn answer is = absurd (cc)
-  work_reports_not (taken.Answers end) answer is = work_is end answer is
+  work_reports_not turns.GoesOn answer is = absurd (cc)
+  work_reports_not (turns.Answers end) answer is = no_report answer _ is tt
 
   recovery_reports_not : (what : Turn RecoveryEnd) (answer : call_answers.Answer) → Answered answer ≡ recovery_reply what → IsNoReport answer
-  recovery_reports_not recovery_effects.GoesOn answer is = absurd (cc)
-  recovery_reports_not (recovery_effects.Answers end) answer is = no_report answer _ is tt
+  recovery_reports_not turns.GoesOn answer is = absurd (cc)
+  recovery_reports_not (turns.Answers end) answer is = no_report answer _ is tt
 
   migration_reports_not : (what : Turn MigrateEnd) (answer : call_answers.Answer) → Answered answer ≡ migration_reply what → IsNoReport answer
-  migration_reports_not migrate_effects.GoesOn answer is = absurd (cc)
-  migration_reports_not (migrate_effects.Answers end) answer is = no_report answer _ is tt
+  migration_reports_not turns.GoesOn answer is = absurd (cc)
+  migration_reports_not (turns.Answers end) answer is = no_report answer _ is tt
 
-  settles : (what : Turn ReportEnd) → Answered (Report Settled) ≡ report_reply what → what ≡ Answers ends.Settled
-  settles GoesOn is = absurd (cc)
-  settles (Answers ends.Settled) is = refl
-  settles (Answers (ends.Unsettled place word)) is = absurd (cc)
+  settles : (what : Turn ReportEnd) → Answered (Report Settled) ≡ report_reply what → what ≡ turns.Answers ends.Settled
+  settles turns.GoesOn is = absurd (cc)
+  settles (turns.Answers ends.Settled) is = refl
+  settles (turns.Answers (ends.Unsettled place word)) is = absurd (cc)
 
   settled : (k p : ℕ) → Happens events replies k (Step p) (Answered (Report Settled)) → (start : ℕ) × IsCall events replies p start k × SettledFits run.moment start k (kept_values (at (k + 1)) p)
   settled k p happens = by (takes_at k (Step p) (Answered (Report Settled)) happens)
@@ -383,9 +371,9 @@ module _ (old : WorldValue) (events : List Event) (replies : List Reply) (new : 
 
       by : StepsBy (at k) p (Answered (Report Settled)) (at (k + 1)) → (start : ℕ) × IsCall events replies p start k × SettledFits run.moment start k (kept_values (at (k + 1)) p)
       by (edits h) = absurd (edit_settles (at k).sheet.layout.processes h.edit.number (outcome_at h.edit.stage) h.is)
-      by (works h) = absurd (work_reports_not h.what Settled h.is)
-      by (recoveries h) = absurd (recovery_reports_not h.what Settled h.is)
-      by (migrations h) = absurd (migration_reports_not h.what Settled h.is)
+      by (works h) = absurd (work_reports_not h.what (Report Settled) h.is)
+      by (recoveries h) = absurd (recovery_reports_not h.what (Report Settled) h.is)
+      by (migrations h) = absurd (migration_reports_not h.what (Report Settled) h.is)
       by (reports h) =
           let e : Ends k p ends.Settled = ends_of k p (Answered (Report Settled)) ends.Settled h (settles h.what h.is) in
           let within : k ≤ length events = (let l = lt in omega arith) in
@@ -431,30 +419,18 @@ module _ (old : WorldValue) (events : List Event) (replies : List Reply) (new : 
   fits_at : (k p : ℕ) (e : PlainReportCall) → k ≤ length events → (world_of (at k)).situation p ≡ Reporting e → CallFits (world_of (at k)) p (Reporting e)
   fits_at k p e lt is = subst (λ (s : Situation). CallFits (world_of (at k)) p s) is ((good k lt).sound.calls p (real (at k) p e (good k lt) is))
 
-  unsettled_by : (k p : ℕ) → k ≤ length events → (end : ReportEnd) (place : Place) (word : ℕ) → report_answer end ≡ Unsettled place word → (h : Ends k p end) → (r : IsReporting p k) → UnsettledFits run.moment r.start k place word
-  unsettled_by k p lt ends.Settled r word is h i = absurd (cc)
-  unsettled_by k p lt (ends.AtMark c w) r word is h i =
+  unsettled_by : (k p : ℕ) → k ≤ length events → (r : Place) (word : ℕ) (h : Ends k p (ends.Unsettled r word)) → (i : IsReporting p k) → UnsettledFits run.moment i.start k r word
+  unsettled_by k p lt (place.Mark c) word h i =
       let there : c < cells_of (at k).sheet.layout = (let f = fits_at k p h.show lt h.was in let low = subst (λ (s : ReportStage). IsStage h.show s) h.last f.1.is.stage in let same = f.1.cells in omega arith) in
-      let place_is : place.Mark c ≡ r = cc in
-      let word_is : w ≡ word = cc in
-      subst (λ (q : Place). UnsettledFits run.moment i.start k q word) place_is (subst (λ (x : ℕ). UnsettledFits run.moment i.start k (place.Mark c) x) word_is
-      (off_fits k p i (place.Mark c) w _ (λ j le. (let same = cells_at k j lt le in omega arith)) (λ j le b. ((let same = cells_at k j lt le in omega arith), b)) (true_at k p (ends.AtMark c w) lt h i)))
-  unsettled_by k p lt (ends.Unsettled place w) r word is h i =
+      off_fits k p i (place.Mark c) word _ (λ j le. (let same = cells_at k j lt le in omega arith)) (λ j le b. ((let same = cells_at k j lt le in omega arith), b)) (true_at k p (ends.Unsettled (place.Mark c) word) lt h i)
+  unsettled_by k p lt (place.Announce q) word h i =
       let there : q < (at k).sheet.layout.processes = (let f = fits_at k p h.show lt h.was in let low = subst (λ (s : ReportStage). IsStage h.show s) h.last f.1.is.stage in let same = f.1.processes in omega arith) in
-      let place_is : place.Announce q ≡ r = cc in
-      let word_is : w ≡ word = cc in
-      subst (λ (x : Place). UnsettledFits run.moment i.start k x word) place_is (subst (λ (x : ℕ). UnsettledFits run.moment i.start k (place.Announce q) x) word_is
-      (off_fits k p i (place.Announce q) w _ (λ j le. (let same = processes_at k j lt le in omega arith)) (λ j le b. ((let same = processes_at k j lt le in omega arith), b)) (true_at k p (ends.Unsettled place w) lt h i)))
+      off_fits k p i (place.Announce q) word _ (λ j le. (let same = processes_at k j lt le in omega arith)) (λ j le b. ((let same = processes_at k j lt le in omega arith), b)) (true_at k p (ends.Unsettled (place.Announce q) word) lt h i)
+  unsettled_by k p lt _ word h i = absurd (let f = fits_at k p h.show lt h.was in subst (λ (s : ReportStage). IsStage h.show s) h.last f.1.is.stage)
 
-  -- an unsettled answer is that of an end
-  record UnsettledEnd (what : Turn ReportEnd) (place : Place) (word : ℕ) : Type 0 where
-    end : ReportEnd
-    is : what ≡ Answers end
-    answer : report_answer end ≡ Unsettled place word
-
-  unsettles : (what : Turn ReportEnd) (place : Place) (word : ℕ) → Answered (Report (Unsettled place word)) ≡ report_reply what → UnsettledEnd what place word
-  unsettles GoesOn place word is = absurd (cc)
-  unsettles (Answers end) place word is = record { end = end; is = refl; answer = (let same : Unsettled place word ≡ report_answer end = cc in sym same) }
+  unsettles : (what : Turn ReportEnd) (r : Place) (word : ℕ) → Answered (Report (Unsettled r word)) ≡ report_reply what → what ≡ turns.Answers (ends.Unsettled r word)
+  unsettles turns.GoesOn r word is = absurd (cc)
+  unsettles (turns.Answers end) r word is = let same : end ≡ ends.Unsettled r word = cc in ap (λ e. turns.Answers e) same
 
   unsettled : (k p : ℕ) (place : Place) (word : ℕ) → Happens events replies k (Step p) (Answered (Report (Unsettled place word))) → (start : ℕ) × IsCall events replies p start k × UnsettledFits run.moment start k place word
   unsettled k p place word happens = by (takes_at k (Step p) (Answered (Report (Unsettled place word))) happens)
@@ -464,15 +440,14 @@ module _ (old : WorldValue) (events : List Event) (replies : List Reply) (new : 
 
       by : StepsBy (at k) p (Answered (Report (Unsettled place word))) (at (k + 1)) → (start : ℕ) × IsCall events replies p start k × UnsettledFits run.moment start k place word
       by (edits h) = absurd (edit_unsettles (at k).sheet.layout.processes h.edit.number place word (outcome_at h.edit.stage) h.is)
-      by (works h) = absurd (work_reports_not h.what (Unsettled place word) h.is)
-      by (recoveries h) = absurd (recovery_reports_not h.what (Unsettled place word) h.is)
-      by (migrations h) = absurd (migration_reports_not h.what (Unsettled place word) h.is)
+      by (works h) = absurd (work_reports_not h.what (Report (Unsettled place word)) h.is)
+      by (recoveries h) = absurd (recovery_reports_not h.what (Report (Unsettled place word)) h.is)
+      by (migrations h) = absurd (migration_reports_not h.what (Report (Unsettled place word)) h.is)
       by (reports h) =
-          let u = unsettles h.what place word h.is in
-          let e : Ends k p u.end = ends_of k p (Answered (Report (Unsettled place word))) u.end h u.is in
+          let e : Ends k p (ends.Unsettled place word) = ends_of k p (Answered (Report (Unsettled place word))) (ends.Unsettled place word) h (unsettles h.what place word h.is) in
           let within : k ≤ length events = (let l = lt in omega arith) in
           let r = reporting k within p e.show e.was in
-          (r.start, is_call k p r, unsettled_by k p within u.end place word u.answer e r)
+          (r.start, is_call k p r, unsettled_by k p within place word e r)
 
   pub reports_fit : ReportsFit run.moment events replies
   reports_fit = record { settled = settled; unsettled = unsettled }

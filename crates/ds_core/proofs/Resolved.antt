@@ -30,7 +30,7 @@ use Rattle.ds_state.specs.declared.recovery.RecoveryEnd.TheVariants.{Last}
 use Rattle.ds_recover.specs.RecoverySteps as steps
 use Rattle.ds_recover.specs.RecoverySteps.{number_of, end_of}
 use Rattle.ds_recover.proofs.RecoveryLaws.{repeated}
-use Rattle.ds_core.specs.RecoveryEvents.{recovery_answer, recovery_reply, RecoveryStepsBy}
+use Rattle.ds_core.specs.RecoveryEvents.{recovery_reply, RecoveryStepsBy}
 use Rattle.ds_core.specs.Moments.{Placed, Closed, Ledger}
 use Rattle.ds_core.specs.LedgerSteps.{put, next_number, told_of, Closes, Forgets, Repeats, Stands, AnswerMoves}
 use Rattle.ds_core.specs.declared.reply.Reply.TheVariants.{Answered}
@@ -80,13 +80,13 @@ out_lost (y ∷ es) p n none =
 pub record IsAtAnswer (e : PlainRecoverCall) (s : RecoverStage) (answer : Answer) : Type 0 where
   pub how : Option Bool
   pub at : s ≡ stages.Answer how
-  pub is : answer ≡ recovery_answer (end_of e how)
+  pub is : answer ≡ Recovery (end_of e how)
 
 same_answer : (a b : Answer) → Answered a ≡ Answered b → a ≡ b
 same_answer a b is = cc
 
 pub at_answer : (e : PlainRecoverCall) (s : RecoverStage) (answer : Answer) → Answered answer ≡ recovery_reply (steps.effect_at e s) → IsAtAnswer e s answer
-at_answer e (stages.Answer how) answer is = record { how = how; at = refl; is = same_answer answer (recovery_answer (end_of e how)) is }
+at_answer e (stages.Answer how) answer is = record { how = how; at = refl; is = same_answer answer (Recovery (end_of e how)) is }
 at_answer e _ answer is = absurd (cc)
 
 -- the number that it leaves its process is announced
@@ -175,13 +175,13 @@ tells_how word n outcome.Done false k is = absurd (let i = k.is in omega arith)
 tells_how word n (outcome.Overtaken x y) true k is = absurd (let i = k.is in omega arith)
 tells_how word n (outcome.Overtaken x y) false k is = refl
 
-may_repeat : (l l' : Ledger) (p : ℕ) (e : PlainRecoverCall) (how : Option Bool) (answer : Answer) → answer ≡ recovery_answer (end_of e how) → Repeats l p answer l' → AnswerMoves l p answer l'
-may_repeat l l' p e None answer is r = subst (λ (a : Answer). AnswerMoves l p a l') (sym is) (inr (subst (λ (a : Answer). Repeats l p a l') is r))
-may_repeat l l' p e (Some b) answer is r = subst (λ (a : Answer). AnswerMoves l p a l') (sym is) (inr (inr (subst (λ (a : Answer). Repeats l p a l') is r)))
+may_repeat : (l l' : Ledger) (p : ℕ) (e : PlainRecoverCall) (how : Option Bool) (answer : Answer) → answer ≡ Recovery (end_of e how) → Repeats l p (end_of e how) l' → AnswerMoves l p answer l'
+may_repeat l l' p e None answer is r = subst (λ (a : Answer). AnswerMoves l p a l') (sym is) (inr r)
+may_repeat l l' p e (Some b) answer is r = subst (λ (a : Answer). AnswerMoves l p a l') (sym is) (inr (inr r))
 
-may_forget : (l l' : Ledger) (p : ℕ) (e : PlainRecoverCall) (how : Option Bool) (answer : Answer) → answer ≡ recovery_answer (end_of e how) → Forgets l p answer l' → AnswerMoves l p answer l'
-may_forget l l' p e None answer is r = subst (λ (a : Answer). AnswerMoves l p a l') (sym is) (inl (subst (λ (a : Answer). Forgets l p a l') is r))
-may_forget l l' p e (Some b) answer is r = subst (λ (a : Answer). AnswerMoves l p a l') (sym is) (inr (inl (subst (λ (a : Answer). Forgets l p a l') is r)))
+may_forget : (l l' : Ledger) (p : ℕ) (e : PlainRecoverCall) (how : Option Bool) (answer : Answer) → answer ≡ Recovery (end_of e how) → Forgets l p (end_of e how) l' → AnswerMoves l p answer l'
+may_forget l l' p e None answer is r = subst (λ (a : Answer). AnswerMoves l p a l') (sym is) (inl r)
+may_forget l l' p e (Some b) answer is r = subst (λ (a : Answer). AnswerMoves l p a l') (sym is) (inr (inl r))
 
 module _ (layout : Layout) (l : Ledger) (v v' : WorldValue) (h : IsOf layout l v) (good : IsGood v') (t : Tells l v) (p : ℕ) (answer : Answer) (s : RecoveryStepsBy v p (Answered answer) v') where
   abbrev e : PlainRecoverCall
@@ -246,7 +246,7 @@ module _ (layout : Layout) (l : Ledger) (v v' : WorldValue) (h : IsOf layout l v
       (ap (λ q. phase_among v.counted q c.it.edit.number) (k.process ∙ sym s.steps.mine) ∙ ap (λ n. phase_among v.counted s.steps.recovery.process n) same ∙ r.1)
 
   repeats_by : (how : Option Bool) (o : Option Closed) → found.how ≡ how → l.told p ≡ o → steps.next_number s.steps.recovery.announcement how ≡ next_number o → ResolvedFits (world_of v) p s.steps.recovery.announcement s.steps.recovery.cell (over how)
-      → recovery_answer (end_of s.steps.recovery how) ≡ told_of o
+      → end_of s.steps.recovery how ≡ told_of o
   repeats_by None None is told same r = refl
   repeats_by None (Some c) is told same r = absurd (omega arith)
   repeats_by (Some b) None is told same r = absurd (let k = tells_some s.steps.recovery.announcement b r.2 in omega arith)
@@ -257,8 +257,8 @@ module _ (layout : Layout) (l : Ledger) (v v' : WorldValue) (h : IsOf layout l v
       ∙ ap (λ n. Last (record { number = c.it.edit.number; cell = n; counts = b })) (told_cell b c is told number)
       ∙ ap (λ (d : Bool). Last (record { number = c.it.edit.number; cell = c.it.edit.cell; counts = d })) (told_counts b c is told number)
 
-  repeats_told : next ≡ next_number (l.told p) → answer ≡ told_of (l.told p)
-  repeats_told same = found.is ∙ repeats_by found.how (l.told p) refl refl same resolved
+  repeats_told : next ≡ next_number (l.told p) → end_of s.steps.recovery found.how ≡ told_of (l.told p)
+  repeats_told same = repeats_by found.how (l.told p) refl refl same resolved
 
   -- what follows where no edit is closed under its number
   module _ (l' : Ledger) (list : l'.counted ≡ l.counted) (closed : l'.opens p ≡ None) (opens : (q : ℕ) → q ≢ p → l'.opens q ≡ l.opens q) (told : (q : ℕ) → l'.told q ≡ l.told q) (number : next ≡ next_number (l.told p)) where
@@ -359,7 +359,7 @@ module _ (layout : Layout) (l : Ledger) (v v' : WorldValue) (h : IsOf layout l v
       is_closed : IsResolved layout l p answer v'
       is_closed = record {
         ledger = ended_in;
-        moves = subst (λ (a : Answer). AnswerMoves l p a ended_in) (sym (found.is ∙ ap (λ x. recovery_answer (end_of s.steps.recovery x)) how)) (inl closes);
+        moves = subst (λ (a : Answer). AnswerMoves l p a ended_in) (sym (found.is ∙ ap (λ x. Recovery (end_of s.steps.recovery x)) how)) (inl closes);
         after = after_close;
         tells = tells_close;
       }

@@ -19,7 +19,7 @@ use Rattle.ds_edit.specs.Alone.{IsAloneAt}
 use Rattle.ds_edit.proofs.Alone.{alone}
 use Rattle.ds_core.specs.EditEvents.{reply_with, EditStepsBy}
 use Rattle.ds_core.specs.StepEvents.{edits, works, reports, recoveries, migrations}
-use Rattle.ds_state.specs.EditEndings.{outcome_at, answer_of}
+use Rattle.ds_state.specs.EditEndings.{outcome_at, end_of}
 use Rattle.ds_core.specs.Takes.{Takes, WorldRun}
 use Rattle.ds_core.specs.Solo.{IsSoloEvent, IsSolo, IsDoneOnly, AreDoneOnly}
 use Rattle.ds_core.proofs.Did.{Did, did, IsNothing, IsOfStep, nothing, edit_begins, work_begins, report_begins, recovery_begins, migration_begins, steps, offers, evicts, stops, crashes}
@@ -57,7 +57,7 @@ pub record IsAlone (v : WorldValue) (p number : ℕ) : Type 0 where
   pub only : EditsOnly ((world_of v).situation p)
   pub edit : (e : PlainEditCall) → (world_of v).situation p ≡ Editing e → (e.number ≡ number) × IsAloneAt (world_of v) e.cell e.stage
 
-pub some_outcome : (processes number : ℕ) (a : ReplyAnswer) (o : Option Outcome) → Answered a ≡ reply_with processes number o → (how : Outcome) × (o ≡ Some how) × (a ≡ answer_of processes number how)
+pub some_outcome : (processes number : ℕ) (a : ReplyAnswer) (o : Option Outcome) → Answered a ≡ reply_with processes number o → (how : Outcome) × (o ≡ Some how) × (a ≡ Edit (end_of processes number how))
 some_outcome processes number a None is = absurd (cc)
 some_outcome processes number a (Some how) is = (how, refl, cc)
 
@@ -90,7 +90,7 @@ module _ (old new : WorldValue) (sound : IsSound (world_of old)) (p number : ℕ
 
   -- its answer
   module _ (q : ℕ) (answer : ReplyAnswer) (same : q ≡ p) (h : EditStepsBy old q (Answered answer) new) where
-    found : (how : Outcome) × (outcome_at h.edit.stage ≡ Some how) × (answer ≡ answer_of old.sheet.layout.processes h.edit.number how)
+    found : (how : Outcome) × (outcome_at h.edit.stage ≡ Some how) × (answer ≡ Edit (end_of old.sheet.layout.processes h.edit.number how))
     found = some_outcome old.sheet.layout.processes h.edit.number answer (outcome_at h.edit.stage) h.is
 
     last : h.edit.stage ≡ Answer found.0
@@ -99,11 +99,11 @@ module _ (old new : WorldValue) (sound : IsSound (world_of old)) (p number : ℕ
     over : (world_of new).situation p ≡ Idle (rest_behind h.edit)
     over = situation_now h.edit q h.mine same _ (h.steps.situation ∙ after_answer h.edit h.edit.stage found.0 h.word last)
 
-    answered : (answer ≡ Done number) × IsAlone new p number
+    answered : (answer ≡ Edit (Done number)) × IsAlone new p number
     answered =
         let before = a.edit h.edit (ap (λ x. (world_of old).situation x) (sym same) ∙ h.at) in
         let done : found.0 ≡ outcome.Done = subst (λ (s : Stage). IsAloneAt (world_of old) h.edit.cell s) last before.1 in (
-          found.2 ∙ ap (λ how. answer_of old.sheet.layout.processes h.edit.number how) done ∙ ap (λ n. Done n) before.0,
+          found.2 ∙ ap (λ how. Edit (end_of old.sheet.layout.processes h.edit.number how)) done ∙ ap (λ n. Edit (Done n)) before.0,
           record {
             only = subst EditsOnly (sym over) tt;
             edit = λ e' is. absurd (let bad : Idle (rest_behind h.edit) ≡ Editing e' = sym over ∙ is in cc);

@@ -20,11 +20,11 @@ use Rattle.ds_state.specs.declared.stage.Stage.TheVariants.{Answer}
 use Rattle.ds_state.specs.declared.situation.Situation.{Situation}
 use Rattle.ds_state.specs.declared.situation.Situation.TheVariants.{Editing}
 use Rattle.ds_edit.specs.EditTakes.{counted_at}
-use Rattle.ds_state.specs.declared.turn.Turn.TheVariants as migrate_effects
+use Rattle.ds_state.specs.declared.turn.Turn.TheVariants as turns
 use Rattle.ds_state.specs.declared.migration.MigrateEnd.TheVariants as migrate_ends
-use Rattle.ds_core.specs.MigrationEvents.{MigrationStepsBy, MigrationBegins, migration_reply, migration_answer}
+use Rattle.ds_core.specs.MigrationEvents.{MigrationStepsBy, MigrationBegins, migration_reply}
 use Rattle.ds_core.specs.EditEvents.{EditStepsBy}
-use Rattle.ds_state.specs.EditEndings.{answer_of, outcome_at}
+use Rattle.ds_state.specs.EditEndings.{end_of, outcome_at}
 use Rattle.ds_core.specs.Takes.{Takes, WorldRun}
 use Rattle.ds_core.specs.SpentNumbers.{IsOut}
 use Rattle.ds_core.proofs.Did.{Did, did, nothing, edit_begins, work_begins, report_begins, recovery_begins, migration_begins, steps, offers, evicts, stops, crashes}
@@ -43,13 +43,10 @@ use Rattle.ds_core.specs.declared.reply.Reply.{Reply}
 use Rattle.ds_core.specs.declared.reply.Reply.TheVariants.{Begun, Entered, Refused, Stepped, Answered, WrongTask, Evicted, Stopped, Crashed, NotEnabled}
 use Rattle.ds_core.proofs.Good.{counted_cases, answers_at}
 use Rattle.ds_core.proofs.Moves.{counts_at}
-use Rattle.ds_state.specs.declared.turn.Turn.TheVariants as effects
 use Rattle.ds_state.specs.declared.report.ReportEnd.TheVariants as ends
 use Rattle.ds_core.specs.ReportEvents.{report_reply, ReportStepsBy}
 use Rattle.ds_state.specs.declared.work.WorkEnd.TheVariants as work_ends
 use Rattle.ds_state.specs.declared.work.WorkEnd.{WorkEnd}
-use Rattle.ds_state.specs.declared.turn.Turn.TheVariants as taken
-use Rattle.ds_state.specs.declared.turn.Turn.TheVariants as recovery_effects
 use Rattle.ds_state.specs.declared.recovery.RecoveryEnd.TheVariants as recovery_ends
 use Rattle.ds_core.specs.WorkEvents.{work_reply, WorkStepsBy}
 use Rattle.ds_core.specs.RecoveryEvents.{recovery_reply, RecoveryStepsBy}
@@ -136,13 +133,13 @@ stays_out [] (reply ∷ replies) old new p n sound spent out run = absurd run
 stays_out (event ∷ events) [] old new p n sound spent out run = absurd run
 
 -- what answers Overtaken is an edit that was overtaken
-overtaken_how : (processes number n : ℕ) (other : Other) (how : Outcome) → Overtaken n other ≡ answer_of processes number how → (n ≡ number) × ((noted : ℕ) × (seen : ℕ) × (how ≡ outcome.Overtaken noted seen))
+overtaken_how : (processes number n : ℕ) (other : Other) (how : Outcome) → Edit (Overtaken n other) ≡ Edit (end_of processes number how) → (n ≡ number) × ((noted : ℕ) × (seen : ℕ) × (how ≡ outcome.Overtaken noted seen))
 overtaken_how processes number n other outcome.Done is = absurd (cc)
 overtaken_how processes number n other (outcome.Overtaken noted seen) is = (cc, (noted, seen, refl))
 
 pub overtaken_out : (old mid : WorldValue) (p n : ℕ) (other : Other) → IsSound (world_of old) → EditStepsBy old p (Answered (Edit (Overtaken n other))) mid → IsSpent (world_of mid) p n × IsOut (world_of mid) p n
 overtaken_out old mid p n other sound h =
-    let found = some_outcome old.sheet.layout.processes h.edit.number (Overtaken n other) (outcome_at h.edit.stage) h.is in
+    let found = some_outcome old.sheet.layout.processes h.edit.number (Edit (Overtaken n other)) (outcome_at h.edit.stage) h.is in
     let last : h.edit.stage ≡ Answer found.0 = answers_at h.edit.stage found.0 found.1 in
     let how = overtaken_how old.sheet.layout.processes h.edit.number n other found.0 found.2 in
     let stage : h.edit.stage ≡ Answer (outcome.Overtaken how.1.0 how.1.1) = last ∙ ap (λ x. Answer x) how.1.2 in
@@ -164,21 +161,20 @@ overtaken_out old mid p n other sound h =
 
 -- a report answers nothing as Overtaken
 not_overtaken : (what : Turn ReportEnd) (n : ℕ) (other : Other) → Answered (Edit (Overtaken n other)) ≡ report_reply what → ⊥
-not_overtaken effects.GoesOn n other is = absurd (cc)
-not_overtaken (effects.Answers ends.Settled) n other is = absurd (cc)
-not_overtaken (effects.Answers (ends.Unsettled place word)) n other is = absurd (cc)
+not_overtaken turns.GoesOn n other is = absurd (cc)
+not_overtaken (turns.Answers end) n other is = absurd (cc)
 
 work_not_overtaken : (what : Turn WorkEnd) (n : ℕ) (other : Other) → Answered (Edit (Overtaken n other)) ≡ work_reply what → ⊥
-work_not_overtaken taken.GoesOn n other is = absurd (cc)
-work_not_overtaken (taken.Answers end) n other is = absurd (cc)
+work_not_overtaken turns.GoesOn n other is = absurd (cc)
+work_not_overtaken (turns.Answers end) n other is = absurd (cc)
 
 recovery_not_overtaken : (what : Turn RecoveryEnd) (n : ℕ) (other : Other) → Answered (Edit (Overtaken n other)) ≡ recovery_reply what → ⊥
-recovery_not_overtaken recovery_effects.GoesOn n other is = absurd (cc)
-recovery_not_overtaken (recovery_effects.Answers end) n other is = absurd (cc)
+recovery_not_overtaken turns.GoesOn n other is = absurd (cc)
+recovery_not_overtaken (turns.Answers end) n other is = absurd (cc)
 
 migration_not_overtaken : (what : Turn MigrateEnd) (n : ℕ) (other : Other) → Answered (Edit (Overtaken n other)) ≡ migration_reply what → ⊥
-migration_not_overtaken migrate_effects.GoesOn n other is = absurd (cc)
-migration_not_overtaken (migrate_effects.Answers end) n other is = absurd (cc)
+migration_not_overtaken turns.GoesOn n other is = absurd (cc)
+migration_not_overtaken (turns.Answers end) n other is = absurd (cc)
 
 pub overtaken_never : (old mid new : WorldValue) (events : List Event) (replies : List Reply) (p n : ℕ) (other : Other) → IsSound (world_of old) → Takes old (Step p) (Answered (Edit (Overtaken n other))) mid
     → WorldRun mid events replies new → IsSpent (world_of new) p n × IsOut (world_of new) p n

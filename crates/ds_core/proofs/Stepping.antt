@@ -26,8 +26,8 @@ of_edit old new p (Some turn) h = edits h
 
 pub of_work : (old new : WorldValue) (p : ℕ) (turn : Option (Turn WorkEnd)) → work_takes.StepTakes (world_of old) p turn (world_of new) → IfNone turn (new ≡ old)
     → new.done ≡ old.done → new.settled ≡ old.settled → new.reports ≡ old.reports → StepsAs kinds.works old p turn new
-of_work old new p None takes same done settled reports = record { same = same; waits = λ low call. (call.0, call.1, takes call.0 low call.1) }
-of_work old new p (Some turn) takes same done settled reports = works (record { what = turn; steps = takes; is = refl; done = done; reports = record { settled = settled; reports = reports } })
+of_work old new p None takes same done count kept = record { same = same; waits = λ low call. (call.0, call.1, takes call.0 low call.1) }
+of_work old new p (Some turn) takes same done count kept = works (record { what = turn; steps = takes; is = refl; done = done; reports = record { settled = count; reports = kept } })
 
 pub of_report : (old new : WorldValue) (p : ℕ) (turn : Option (Turn ReportEnd)) → report_takes.StepTakes old p turn new → StepsAs kinds.reports old p turn new
 of_report old new p None h = record { same = h.same; waits = λ low call. absurd (h.none call.0 low call.1) }

@@ -14,7 +14,7 @@ use Rattle.ds_state.specs.EditEndings.{outcome_at}
 use Rattle.ds_edit.specs.declared.machine.Effect.{Effect}
 use Rattle.ds_edit.specs.declared.machine.Effect.TheVariants.{Counts}
 use Rattle.ds_edit.proofs.Effects.{after_same, counted_same, open_edit_same, outcome_same, counts_swaps}
-use Rattle.ds_core.specs.EditEvents.{IsEditing, EditStepTakes, reply_at, done_at, done_by, done_with}
+use Rattle.ds_core.specs.EditEvents.{IsEditing, EditStepsBy, reply_at, done_at, done_by, done_with}
 use Rattle.ds_core.specs.declared.reply.Reply.{Reply}
 use Rattle.ds_core.proofs.Good.{perform_at, next, next_is, next_kept, next_room, next_takes, open_edit_there}
 use Rattle.ds_state.proofs.Dones.{few_done}
@@ -93,8 +93,8 @@ returns c =
           let reply : reply_at v.sheet.layout.processes e.number e.stage ≡ reply_at v.sheet.layout.processes f.number c.args.stage =
           ap (λ (x : PlainEditCall). reply_at v.sheet.layout.processes x.number e.stage) same ∙ ap (λ (s : Stage). reply_at v.sheet.layout.processes f.number s) (sym stage) in
           rw (← c.world.view_is)
-          (subst (λ (w : WorldValue). EditStepTakes v p (reply_at v.sheet.layout.processes f.number c.args.stage) w) (sym (next_is v c.world.invariant.good p e at word c.perform-word.new.self c.perform-word.ensures.layout performs c.go_on.new.situation c.count.new.counted.items c.close.new.open_edit c.done_after-world-inside.result situation counted open_edit done))
-          (subst (λ (r : Reply). EditStepTakes v p r (next v c.world.invariant.good p e at word c.perform-word.new.self c.perform-word.ensures.layout performs)) reply
+          (subst (λ (w : WorldValue). EditStepsBy v p (reply_at v.sheet.layout.processes f.number c.args.stage) w) (sym (next_is v c.world.invariant.good p e at word c.perform-word.new.self c.perform-word.ensures.layout performs c.go_on.new.situation c.count.new.counted.items c.close.new.open_edit c.done_after-world-inside.result situation counted open_edit done))
+          (subst (λ (r : Reply). EditStepsBy v p r (next v c.world.invariant.good p e at word c.perform-word.new.self c.perform-word.ensures.layout performs)) reply
           (next_takes v c.world.invariant.good p e at word c.perform-word.new.self c.perform-word.ensures.layout performs)));
       outcome = outcome;
     }
