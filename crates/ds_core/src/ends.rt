@@ -18,7 +18,7 @@ use std::alloc::Global;
 pub trait CallEnd: Copy {
     ghost use Rattle.ds_core.specs.Ends.{Kind, StepsAs};
 
-    /// The answers of such calls, and what a process does that is in one.
+    /// The answer of each end, and which answers are of such calls.
     ghost kind: { Kind Self };
 
     /// The answer of a call that ended so.
