@@ -8,7 +8,7 @@ use Rattle.ds_core.specs.declared.event.Event.TheVariants.{BeginMigrate, Offer, 
 use Rattle.ds_core.specs.declared.reply.Reply.{Reply}
 use Rattle.ds_core.specs.declared.reply.Reply.TheVariants.{Evicted, Crashed}
 use Rattle.ds_calls.specs.Whole.{IsRun}
-use Rattle.ds_calls.specs.declared.settle.Turn.TheVariants.{Ends}
+use Rattle.ds_calls.specs.declared.settle.SettleStage.TheVariants.{Ends}
 use Rattle.ds_calls.proofs.Runs.{whole_runs, settling_runs}
 use Rattle.ds_c.specs.declared.answer.AnswerRow.{AnswerRow}
 use Rattle.ds_c.specs.declared.rows.PlaceRow.{PlaceRow}

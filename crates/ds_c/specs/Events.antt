@@ -16,7 +16,7 @@ use Rattle.ds_core.specs.Takes.{Fits}
 use Rattle.ds_calls.specs.Whole.{HasProcess, IsWhole, IsWholeMigration}
 use Rattle.ds_calls.specs.Settling.{Settling}
 use Rattle.ds_calls.specs.declared.settle.SettleEnd.{SettleEnd}
-use Rattle.ds_calls.specs.declared.settle.Turn.TheVariants.{Ends}
+use Rattle.ds_calls.specs.declared.settle.SettleStage.TheVariants.{Ends}
 use Rattle.ds_layout.specs.declared.place.Place.{Place}
 use Rattle.ds_layout.specs.Places.{IsPlace}
 use Rattle.ds_c.specs.declared.answer.AnswerRow.{AnswerRow}

@@ -33,7 +33,8 @@ use Rattle.ds_state.proofs.Dirty.{or_dirty}
 use Rattle.ds_edit.specs.EditSteps as edit_steps
 use Rattle.ds_work.specs.WorkSteps as work_steps
 use Rattle.ds_work.specs.WorkTakes as work_events
-use Rattle.ds_work.specs.declared.drive.Taken.{Taken}
+use Rattle.ds_state.specs.declared.turn.Turn.{Turn}
+use Rattle.ds_state.specs.declared.work.WorkEnd.{WorkEnd}
 use Rattle.ds_recover.specs.RecoverySteps as recovery_steps
 use Rattle.ds_report.specs.ReportSteps as show_steps
 use Rattle.ds_core.specs.StepEvents.{StepsBy, edits, works, reports, recoveries, migrations}
@@ -153,7 +154,7 @@ module _ (old new : WorldValue) (sound : IsSound (world_of old)) (c : ℕ) where
   still : SameMemory (world_of old).memory (world_of new).memory → Older
   still m = same_grows (world_of old).memory (world_of new).memory c (m.cached (Mark c))
 
-  turn_older : (e : PlainWorkCall) → e.process < 8 → (what : Taken) → work_events.TakesTurn e (world_of old) (world_of new) what → Older
+  turn_older : (e : PlainWorkCall) → e.process < 8 → (what : Turn WorkEnd) → work_events.TakesTurn e (world_of old) (world_of new) what → Older
   turn_older e low what (work_events.steps word t on) = gentle (world_of old).memory (world_of new).memory (work_steps.access_at old.sheet.layout.shape e e.stage) e.process word (work_gentle old.sheet.layout.shape e low e.stage) t.memory c
   turn_older e low what (work_events.reads content inputs at t) = still t.turn.memory
   turn_older e low what (work_events.lacked at t) = still t.memory

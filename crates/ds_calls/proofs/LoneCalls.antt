@@ -15,16 +15,17 @@ use Rattle.ds_state.specs.declared.situation.Situation.TheVariants.{Idle, Editin
 use Rattle.ds_state.specs.declared.work.WorkEnd.{WorkEnd}
 use Rattle.ds_state.specs.declared.work.WorkStage.{WorkStage}
 use Rattle.ds_state.specs.declared.work.WorkStage.TheVariants as stages
-use Rattle.ds_work.specs.declared.drive.Taken.{Taken}
-use Rattle.ds_work.specs.declared.drive.Taken.TheVariants as taken
+use Rattle.ds_state.specs.declared.turn.Turn.{Turn}
+use Rattle.ds_state.specs.declared.turn.Turn.TheVariants as taken
 use Rattle.ds_work.specs.WorkAnswers.{mark_now}
 use Rattle.ds_work.specs.WorkShows.{shown_in, EndsReporting, ShowsAt}
 use Rattle.ds_work.specs.WorkAlone.{IsAloneAt, IsAlone, EndsAlone, GoesAlone}
 use Rattle.ds_work.proofs.WorkAlone.{turn_alone, offer_alone}
 use Rattle.ds_state.specs.declared.answer.Answer.{Answer}
+use Rattle.ds_state.specs.declared.answer.Answer.TheVariants.{Work}
 use Rattle.ds_core.specs.StepEvents.{StepsBy, edits, works, reports, recoveries, migrations}
 use Rattle.ds_core.specs.Takes.{Fits}
-use Rattle.ds_core.specs.WorkEvents.{work_answer, work_reply, WorkStepsBy, TakesEntry}
+use Rattle.ds_core.specs.WorkEvents.{work_reply, WorkStepsBy, TakesEntry}
 use Rattle.ds_core.specs.declared.event.Event.{Event}
 use Rattle.ds_core.specs.declared.reply.Reply.{Reply}
 use Rattle.ds_core.specs.declared.reply.Reply.TheVariants.{Stepped, Answered}
@@ -53,7 +54,7 @@ pub record Under (first : PlainWorld) (p c : ℕ) (v : WorldValue) : Type 0 wher
 -- the process's work on the cell has ended so
 pub record Over (first : PlainWorld) (p c : ℕ) (answer : Answer) (v : WorldValue) : Type 0 where
   pub end : WorkEnd
-  pub is : answer ≡ work_answer end
+  pub is : answer ≡ Work end
   pub work : PlainWorkCall
   pub of_cell : work.cell ≡ c
   pub so : EndsAlone (row_in first c) (world_of v) work end
@@ -114,7 +115,7 @@ module _ (first : PlainWorld) (p c : ℕ) (all : AreIdle first) (old new : World
     leaves : LeavesAt first (world_of old) e e.stage
     leaves = subst (λ (x : PlainWorkCall). LeavesAt first (world_of old) x x.stage) (sym one) u.leaves
 
-    goes_on : GoesAlone (row_in first c) (shown_in first c) e (world_of new) taken.Stepped → Since first (world_of new) e.process e.cell → LeavesAfter first e (world_of new) taken.Stepped → Under first p c new
+    goes_on : GoesAlone (row_in first c) (shown_in first c) e (world_of new) taken.GoesOn → Since first (world_of new) e.process e.cell → LeavesAfter first e (world_of new) taken.GoesOn → Under first p c new
     goes_on g s l =
         let same : Working l.0 ≡ Working g.0 = sym l.1 ∙ g.3 in
         let f : l.0 ≡ g.0 = cc in
@@ -129,7 +130,7 @@ module _ (first : PlainWorld) (p c : ℕ) (all : AreIdle first) (old new : World
           leaves = subst (λ (x : PlainWorkCall). LeavesAt first (world_of new) x x.stage) f l.2;
         }
 
-    ends_so : (end : WorkEnd) (answer : Answer) → answer ≡ work_answer end → GoesAlone (row_in first c) (shown_in first c) e (world_of new) (taken.Answered end) → Since first (world_of new) e.process e.cell → LeavesAfter first e (world_of new) (taken.Answered end) → Over first p c answer new
+    ends_so : (end : WorkEnd) (answer : Answer) → answer ≡ Work end → GoesAlone (row_in first c) (shown_in first c) e (world_of new) (taken.Answers end) → Since first (world_of new) e.process e.cell → LeavesAfter first e (world_of new) (taken.Answers end) → Over first p c answer new
     ends_so end answer is g s l = record {
       end = end;
       is = is;
@@ -158,15 +159,13 @@ module _ (first : PlainWorld) (p c : ℕ) (all : AreIdle first) (old new : World
     leaves_so : LeavesAfter first h.steps.work (world_of new) h.what
     leaves_so = turn_leaves first h.steps.work (world_of old) (world_of new) (fits h.steps.work one) h.steps.is h.what h.steps.turn (leaves h.steps.work one)
 
-    stepped : (what : Taken) → Stepped ≡ work_reply what → GoesAlone (row_in first c) (shown_in first c) h.steps.work (world_of new) what → LeavesAfter first h.steps.work (world_of new) what → Under first p c new
-    stepped taken.Stepped is g l = goes_on h.steps.work one g since_so l
-    stepped taken.NotEnabled is g l = absurd (cc)
-    stepped (taken.Answered end) is g l = absurd (cc)
+    stepped : (what : Turn WorkEnd) → Stepped ≡ work_reply what → GoesAlone (row_in first c) (shown_in first c) h.steps.work (world_of new) what → LeavesAfter first h.steps.work (world_of new) what → Under first p c new
+    stepped taken.GoesOn is g l = goes_on h.steps.work one g since_so l
+    stepped (taken.Answers end) is g l = absurd (cc)
 
-    answered : (what : Taken) (answer : Answer) → Answered answer ≡ work_reply what → GoesAlone (row_in first c) (shown_in first c) h.steps.work (world_of new) what → LeavesAfter first h.steps.work (world_of new) what → Over first p c answer new
-    answered (taken.Answered end) answer is g l = ends_so h.steps.work one end answer (let same : answer ≡ work_answer end = cc in same) g since_so l
-    answered taken.NotEnabled answer is g l = absurd (cc)
-    answered taken.Stepped answer is g l = absurd (cc)
+    answered : (what : Turn WorkEnd) (answer : Answer) → Answered answer ≡ work_reply what → GoesAlone (row_in first c) (shown_in first c) h.steps.work (world_of new) what → LeavesAfter first h.steps.work (world_of new) what → Over first p c answer new
+    answered (taken.Answers end) answer is g l = ends_so h.steps.work one end answer (let same : answer ≡ Work end = cc in same) g since_so l
+    answered taken.GoesOn answer is g l = absurd (cc)
 
   step_goes : StepsBy old p Stepped new → Under first p c new
   step_goes (works h) = stepped Stepped h h.what h.is (turned Stepped h) (leaves_so Stepped h)

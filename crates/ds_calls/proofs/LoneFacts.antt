@@ -35,8 +35,7 @@ use Rattle.ds_state.specs.declared.work.WorkStage.TheVariants as stages
 use Rattle.ds_state.proofs.Heads.{Small, small_counted, small_of_cell, head_low, head_push, head_grows}
 use Rattle.ds_state.proofs.MarkLaws.{mark_names}
 use Rattle.ds_state.proofs.CleanRead.{clean_read}
-use Rattle.ds_state.specs.declared.answer.Answer.{Answer}
-use Rattle.ds_state.specs.declared.answer.Answer.TheVariants as answers
+use Rattle.ds_state.specs.declared.answer.Answer.TheVariants.{Work}
 use Rattle.ds_work.specs.WorkTakes.{RefusesIn}
 use Rattle.ds_work.specs.WorkSteps as steps
 use Rattle.ds_work.specs.WorkAnswers.{mark_now}
@@ -44,7 +43,7 @@ use Rattle.ds_work.specs.WorkShows.{CellWords, shown_in, EndsReporting}
 use Rattle.ds_work.specs.WorkAlone.{EndsAlone}
 use Rattle.ds_work.proofs.WorkShows.{shown_kept}
 use Rattle.ds_core.specs.Takes.{Fits}
-use Rattle.ds_core.specs.WorkEvents.{WorkBegins, work_answer}
+use Rattle.ds_core.specs.WorkEvents.{WorkBegins}
 use Rattle.ds_core.specs.declared.event.Event.TheVariants.{BeginWork}
 use Rattle.ds_core.specs.declared.reply.Reply.{Reply}
 use Rattle.ds_core.specs.declared.reply.Reply.TheVariants.{Begun, Entered}
@@ -188,10 +187,10 @@ module _ (old mid : WorldValue) (p c : ℕ) (inside : c < cells_of old.sheet.lay
       }
 
 -- it came to want memory, or it worked
-pub data CallLeft (old : WorldValue) (p c : ℕ) : Result Answer Refusal → WorldValue → Type 0 where
+pub data CallLeft (old : WorldValue) (p c : ℕ) : Result WorkEnd Refusal → WorldValue → Type 0 where
   wanted : (new : WorldValue) → CallLeft old p c (Err refusal.NoMemory) new
-  lacked : (new : WorldValue) → CallLeft old p c (Ok answers.NoMemory) new
-  worked_so : (end : WorkEnd) (new : WorldValue) → end ≢ ends.NoMemory → IsGood new → Worked (world_of old) (world_of new) p c → CallLeft old p c (Ok (work_answer end)) new
+  lacked : (new : WorldValue) → CallLeft old p c (Ok ends.NoMemory) new
+  worked_so : (end : WorkEnd) (new : WorldValue) → end ≢ ends.NoMemory → IsGood new → Worked (world_of old) (world_of new) p c → CallLeft old p c (Ok end) new
 
 module _ (old : WorldValue) (p c : ℕ) (good : IsGood old) (idle : AreIdle (world_of old)) (inside : c < cells_of old.sheet.layout) (there : p < old.sheet.layout.processes)
     (marked : is_marked (state_at (world_of old) c) ≡ true) (young : age (world_of old) c ≤ SEEN_MOST) where
@@ -203,13 +202,13 @@ module _ (old : WorldValue) (p c : ℕ) (good : IsGood old) (idle : AreIdle (wor
     ];
   }
 
-  over_left : (answer : Answer) (new : WorldValue) → IsGood new → Over (world_of old) p c answer new → CallLeft old p c (Ok answer) new
-  over_left answer new g o = subst (λ (a : Answer). CallLeft old p c (Ok a) new) (sym o.is) (by o.end o.so o.showing o.leaves)
+  over_left : (end : WorkEnd) (new : WorldValue) → IsGood new → Over (world_of old) p c (Work end) new → CallLeft old p c (Ok end) new
+  over_left end new g o = let said : Work end ≡ Work o.end = o.is in let same : end ≡ o.end = cc in subst (λ (a : WorkEnd). CallLeft old p c (Ok a) new) (sym same) (by o.end o.so o.showing o.leaves)
     where
       clean : IsClean (mark_now (world_of new) o.work) → IsClean ((world_of new).memory.cached (Mark c))
       clean h = subst (λ d. IsClean ((world_of new).memory.cached (Mark d))) o.of_cell h
 
-      by : (end : WorkEnd) → EndsAlone (λ part. (world_of old).memory.cached (Index c part)) (world_of new) o.work end → EndsReporting (shown_in (world_of old) c) (shown_in (world_of new) c) end → EndLeaves (world_of old) (world_of new) c end → CallLeft old p c (Ok (work_answer end)) new
+      by : (end : WorkEnd) → EndsAlone (λ part. (world_of old).memory.cached (Index c part)) (world_of new) o.work end → EndsReporting (shown_in (world_of old) c) (shown_in (world_of new) c) end → EndLeaves (world_of old) (world_of new) c end → CallLeft old p c (Ok end) new
       by ends.NotDirty so showing left = absurd so
       by ends.Missed so showing left = absurd so
       by ends.Worn so showing left = absurd so
@@ -218,14 +217,14 @@ module _ (old : WorldValue) (p c : ℕ) (good : IsGood old) (idle : AreIdle (wor
       by ends.Again so showing left = worked_so ends.Again new (λ is. cc) g (record { since = o.since; idle = all_idle new o.n o.since o.idle; gives = left.0; older = left.1; ends = inr showing })
       by ends.NoMemory so showing left = lacked new
 
-  begun_left : (reply : Reply) (mid new : WorldValue) (answer : Answer) → HasBegun reply → Fits old (BeginWork p (cell_at old.sheet.layout.shape c)) reply mid → Finishes p mid answer new → CallLeft old p c (Ok answer) new
-  begun_left Entered mid new answer begun fits f =
-      over_left answer new f.answers.good (call_ends (world_of old) p c idle mid answer new (record { good = fits.good; under = begins_under old mid p c inside there marked young fits.takes }) f)
-  begun_left (Begun number) mid new answer begun fits f = absurd fits.takes
-  begun_left reply mid new answer begun fits f = absurd begun
+  begun_left : (reply : Reply) (mid new : WorldValue) (end : WorkEnd) → HasBegun reply → Fits old (BeginWork p (cell_at old.sheet.layout.shape c)) reply mid → Finishes p mid (Work end) new → CallLeft old p c (Ok end) new
+  begun_left Entered mid new end begun fits f =
+      over_left end new f.answers.good (call_ends (world_of old) p c idle mid (Work end) new (record { good = fits.good; under = begins_under old mid p c inside there marked young fits.takes }) f)
+  begun_left (Begun number) mid new end begun fits f = absurd fits.takes
+  begun_left reply mid new end begun fits f = absurd begun
 
-  pub whole_left : (result : Result Answer Refusal) (new : WorldValue) → Whole p (BeginWork p (cell_at old.sheet.layout.shape c)) old result new → CallLeft old p c result new
-  whole_left result new (finishes reply mid n answer begun fits f) = begun_left reply mid new answer begun fits f
+  pub whole_left : (result : Result WorkEnd Refusal) (new : WorldValue) → Whole Work p (BeginWork p (cell_at old.sheet.layout.shape c)) old result new → CallLeft old p c result new
+  whole_left result new (finishes reply mid n end begun fits f) = begun_left reply mid new end begun fits f
   whole_left result new (refused why n fits) =
       let one = idle.each p there in
       let is : why ≡ refusal.NoMemory = subst (λ (s : Situation). RefusesIn s why) one.1 fits.takes.holds in

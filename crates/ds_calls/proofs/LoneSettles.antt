@@ -25,11 +25,10 @@ use Rattle.ds_state.specs.declared.work.WorkEnd.{WorkEnd}
 use Rattle.ds_state.specs.declared.work.WorkEnd.TheVariants as ends
 use Rattle.ds_state.proofs.CleanRead.{clean_reads}
 use Rattle.ds_state.specs.declared.answer.Answer.{Answer}
-use Rattle.ds_core.specs.WorkEvents.{work_answer}
 use Rattle.ds_calls.specs.declared.settle.SettleEnd.{SettleEnd}
 use Rattle.ds_calls.specs.declared.settle.SettleEnd.TheVariants as settle_ends
-use Rattle.ds_calls.specs.declared.settle.Turn.{Turn}
-use Rattle.ds_calls.specs.declared.settle.Turn.TheVariants.{Ends, Works}
+use Rattle.ds_calls.specs.declared.settle.SettleStage.{SettleStage}
+use Rattle.ds_calls.specs.declared.settle.SettleStage.TheVariants.{Ends, Works}
 use Rattle.ds_calls.specs.Marked.{state_at, is_marked, is_clean, marked_from, left_below, left_in}
 use Rattle.ds_calls.specs.Settling.{round, first_of, next_of, goes_behind, worked, first_turn, Settling, begins, works}
 use Rattle.ds_calls.specs.Lone.{AreIdle, AreYoung, EndsClean}
@@ -68,7 +67,7 @@ module _ (L : Layout) (sheet : Cell → PlainContent) (p : ℕ) where
     inside : cell < cells_of L
     marked : is_marked (state_at (world_of v) cell) ≡ true
 
-  abbrev Inv : Turn → WorldValue → Type 0
+  abbrev Inv : SettleStage → WorldValue → Type 0
   Inv (Ends end) v = EndsClean (world_of v) end
   Inv (Works rounds cell) v = Stage rounds cell v
 
@@ -96,15 +95,15 @@ module _ (L : Layout) (sheet : Cell → PlainContent) (p : ℕ) where
 
     -- the first cell of a round
     first_inv : (r : ℕ) → rounds_of.FindsOne L sheet r 0 (cells_of L) (world_of v) ⊎ rounds_of.FindsNone L sheet r 0 (cells_of L) (world_of v) → Inv (round v (suc r)) v
-    first_inv r (inl one) = subst (λ (t : Turn). Inv t v) (sym (ap (λ (y : Layout). first_of v r (marked_from (world_of v) (cells_of y) 0)) layout ∙ ap (λ (o : Option ℕ). first_of v r o) one.is))
+    first_inv r (inl one) = subst (λ (t : SettleStage). Inv t v) (sym (ap (λ (y : Layout). first_of v r (marked_from (world_of v) (cells_of y) 0)) layout ∙ ap (λ (o : Option ℕ). first_of v r o) one.is))
         (record { good = good; there = there; phase = one.phase; inside = one.inside; marked = one.marked })
-    first_inv r (inr none) = subst (λ (t : Turn). Inv t v) (sym (ap (λ (y : Layout). first_of v r (marked_from (world_of v) (cells_of y) 0)) layout ∙ ap (λ (o : Option ℕ). first_of v r o) none.is))
+    first_inv r (inr none) = subst (λ (t : SettleStage). Inv t v) (sym (ap (λ (y : Layout). first_of v r (marked_from (world_of v) (cells_of y) 0)) layout ∙ ap (λ (o : Option ℕ). first_of v r o) none.is))
         (ends_clean (λ c l. none.clean c (omega arith) l))
 
     round_inv : (rounds : ℕ) → MayBegin rounds (world_of v) → Inv (round v rounds) v
     round_inv zero all = ends_clean (all_states all)
     round_inv (suc r) (inl phase) = first_inv r (rounds_of.find L sheet (cells_of L) r 0 (world_of v) (omega arith) phase)
-    round_inv (suc r) (inr all) = subst (λ (t : Turn). Inv t v) (sym (ap (λ (y : Layout). first_of v r (marked_from (world_of v) (cells_of y) 0)) layout
+    round_inv (suc r) (inr all) = subst (λ (t : SettleStage). Inv t v) (sym (ap (λ (y : Layout). first_of v r (marked_from (world_of v) (cells_of y) 0)) layout
         ∙ ap (λ (o : Option ℕ). first_of v r o) (none_marked (world_of v) (cells_of L) 0 (cells_of L) (omega arith) (all_states all))))
         (ends_clean (all_states all))
 
@@ -120,30 +119,26 @@ module _ (L : Layout) (sheet : Cell → PlainContent) (p : ℕ) where
         same = ap (λ (y : Layout). next_of v rounds (marked_from (world_of v) (cells_of y - (cell + 1)) (cell + 1))) layout
 
         by : rounds_of.FindsOne L sheet rounds (cell + 1) (cells_of L - (cell + 1)) (world_of v) ⊎ rounds_of.FindsNone L sheet rounds (cell + 1) (cells_of L - (cell + 1)) (world_of v) → Inv (goes_behind v rounds cell) v
-        by (inl one) = subst (λ (t : Turn). Inv t v) (sym (same ∙ ap (λ (o : Option ℕ). next_of v rounds o) one.is))
+        by (inl one) = subst (λ (t : SettleStage). Inv t v) (sym (same ∙ ap (λ (o : Option ℕ). next_of v rounds o) one.is))
             (record { good = good; there = there; phase = one.phase; inside = one.inside; marked = one.marked })
-        by (inr none) = subst (λ (t : Turn). Inv t v) (sym (same ∙ ap (λ (o : Option ℕ). next_of v rounds o) none.is)) (round_inv rounds (may_begin rounds none.phase))
+        by (inr none) = subst (λ (t : SettleStage). Inv t v) (sym (same ∙ ap (λ (o : Option ℕ). next_of v rounds o) none.is)) (round_inv rounds (may_begin rounds none.phase))
 
   -- ---- a work
 
-  goes_on : (v : WorldValue) (rounds cell : ℕ) (end : WorkEnd) → end ≢ ends.NoMemory → goes_behind v rounds cell ≡ worked v rounds cell (Ok (work_answer end))
-  goes_on v rounds cell ends.NotDirty not = refl
-  goes_on v rounds cell ends.Missed not = refl
-  goes_on v rounds cell ends.Worn not = refl
-  goes_on v rounds cell (ends.Published changed) not = refl
-  goes_on v rounds cell ends.Again not = refl
+  goes_on : (v : WorldValue) (rounds cell : ℕ) (end : WorkEnd) → end ≢ ends.NoMemory → goes_behind v rounds cell ≡ worked v rounds cell (Ok end)
   goes_on v rounds cell ends.NoMemory not = absurd (not refl)
+  goes_on v rounds cell _ not = refl
 
-  work_inv : (rounds cell : ℕ) (old new : WorldValue) (result : Result Answer Refusal) → Stage rounds cell old → CallLeft old p cell result new → Inv (worked new rounds cell result) new
+  work_inv : (rounds cell : ℕ) (old new : WorldValue) (result : Result WorkEnd Refusal) → Stage rounds cell old → CallLeft old p cell result new → Inv (worked new rounds cell result) new
   work_inv rounds cell old new result s (wanted n) = refl
   work_inv rounds cell old new result s (lacked n) = tt
   work_inv rounds cell old new result s (worked_so end n not good left) =
       let layout : new.sheet.layout ≡ L = left.since.layout ∙ s.phase.state.layout in
-      subst (λ (t : Turn). Inv t new) (goes_on new rounds cell end not)
+      subst (λ (t : SettleStage). Inv t new) (goes_on new rounds cell end not)
       (behind_inv new good left.idle (subst (λ (y : Layout). p < y.processes) (sym left.since.layout) s.there) layout rounds cell s.inside
       (rounds_of.work L sheet rounds cell p (world_of old) (world_of new) s.inside left good.sound s.phase))
 
-  settle_inv : (first : WorldValue) → Inv (first_turn first) first → (turn : Turn) (v : WorldValue) → Settling p first turn v → Inv turn v
+  settle_inv : (first : WorldValue) → Inv (first_turn first) first → (turn : SettleStage) (v : WorldValue) → Settling p first turn v → Inv turn v
   settle_inv first h turn v begins = h
   settle_inv first h turn v (works rounds cell old new result so_far whole) =
       let s : Stage rounds cell old = settle_inv first h (Works rounds cell) old so_far in
@@ -217,9 +212,9 @@ module _ (p : ℕ) (first : WorldValue) (good : IsGood first) (idle : AreIdle (w
       turn_is = ap (λ n. round first n) (let e : cells_of first.sheet.layout + 2 ≡ suc (cells_of first.sheet.layout + 1) = omega arith in e)
 
       begins_so : (0 < cells_of first.sheet.layout) ⊎ (cells_of first.sheet.layout ≤ 0) → Inv first.sheet.layout sheet p (first_turn first) first
-      begins_so (inl some) = subst (λ (t : Turn). Inv first.sheet.layout sheet p t first) (sym turn_is) (round_inv first.sheet.layout sheet p first good idle there refl (suc (cells_of first.sheet.layout + 1))
+      begins_so (inl some) = subst (λ (t : SettleStage). Inv first.sheet.layout sheet p t first) (sym turn_is) (round_inv first.sheet.layout sheet p first good idle there refl (suc (cells_of first.sheet.layout + 1))
           (inl (rounds_of.first_phase first.sheet.layout sheet (world_of first) (record { layout = refl; sound = good.sound; idle = idle; sheet_is = has }) young.each some)))
-      begins_so (inr none) = subst (λ (t : Turn). Inv first.sheet.layout sheet p t first) (sym turn_is) (round_inv first.sheet.layout sheet p first good idle there refl (suc (cells_of first.sheet.layout + 1))
+      begins_so (inr none) = subst (λ (t : SettleStage). Inv first.sheet.layout sheet p t first) (sym turn_is) (round_inv first.sheet.layout sheet p first good idle there refl (suc (cells_of first.sheet.layout + 1))
           (inr (λ c l. absurd (omega arith))))
 
   -- without a sheet: how it ends can be told, so each cell may be taken to have a content or none

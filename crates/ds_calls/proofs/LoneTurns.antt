@@ -27,8 +27,9 @@ use Rattle.ds_state.specs.declared.situation.Situation.{Situation}
 use Rattle.ds_state.specs.declared.situation.Situation.TheVariants.{Idle, Working}
 use Rattle.ds_state.specs.declared.work.WorkStage.{WorkStage}
 use Rattle.ds_state.specs.declared.work.WorkStage.TheVariants as works
-use Rattle.ds_work.specs.declared.drive.Taken.{Taken}
-use Rattle.ds_work.specs.declared.drive.Taken.TheVariants.{NotEnabled, Stepped, Answered}
+use Rattle.ds_state.specs.declared.turn.Turn.{Turn}
+use Rattle.ds_state.specs.declared.work.WorkEnd.{WorkEnd}
+use Rattle.ds_state.specs.declared.turn.Turn.TheVariants as turns
 use Rattle.ds_work.specs.WorkTakes as events
 use Rattle.ds_work.specs.WorkSteps.{StepsAt, OffersAt, next_at, read_from, lacks, offered}
 use Rattle.ds_work.specs.WorkAnswers.{mark_now}
@@ -109,10 +110,9 @@ module _ (first old : PlainWorld) (e : PlainWorkCall) (sound : IsSound old) (fit
 -- ---- a turn
 
 -- what a turn of the work leaves: it goes on, or it has ended so
-abbrev pub LeavesAfter : PlainWorld → PlainWorkCall → PlainWorld → Taken → Type 0
-LeavesAfter first e w NotEnabled = Unit {0}
-LeavesAfter first e w Stepped = (f : PlainWorkCall) × (w.situation e.process ≡ Working f) × LeavesAt first w f f.stage
-LeavesAfter first e w (Answered end) = EndLeaves first w e.cell end
+abbrev pub LeavesAfter : PlainWorld → PlainWorkCall → PlainWorld → Turn WorkEnd → Type 0
+LeavesAfter first e w turns.GoesOn = (f : PlainWorkCall) × (w.situation e.process ≡ Working f) × LeavesAt first w f f.stage
+LeavesAfter first e w (turns.Answers end) = EndLeaves first w e.cell end
 
 module _ (first : PlainWorld) (e : PlainWorkCall) (old new : PlainWorld) where
   turn_since : SameMemory old.memory new.memory → new.layout ≡ old.layout → new.counted ≡ old.counted → ((q : ℕ) → (q ≡ e.process → ⊥) → new.situation q ≡ old.situation q)
@@ -136,7 +136,7 @@ module _ (first : PlainWorld) (e : PlainWorkCall) (old new : PlainWorld) where
     ages = λ d other. same_age first old.layout.shape e word old new s t.memory d other ∙ h.ages d other;
   }
 
-  pub since_turn : (what : Taken) → events.TakesTurn e old new what → Since first old e.process e.cell → Since first new e.process e.cell
+  pub since_turn : (what : Turn WorkEnd) → events.TakesTurn e old new what → Since first old e.process e.cell → Since first new e.process e.cell
   since_turn what (events.steps word t on) h = step_since e.stage word t h
   since_turn what (events.reads content inputs at t) h = turn_since t.turn.memory t.turn.layout t.turn.counted t.turn.others h
   since_turn what (events.lacked at t) h = turn_since t.memory t.layout t.counted t.others h
@@ -148,7 +148,7 @@ module _ (first : PlainWorld) (e : PlainWorkCall) (old new : PlainWorld) where
   leaves_at : (s : WorkStage) → e.stage ≡ s → LeavesAt first old e e.stage → LeavesAt first old e s
   leaves_at s is h = subst (λ (x : WorkStage). LeavesAt first old e x) is h
 
-  pub turn_leaves : WorkFits old e.process e → IsWork e → (what : Taken) → events.TakesTurn e old new what → LeavesAt first old e e.stage → LeavesAfter first e new what
+  pub turn_leaves : WorkFits old e.process e → IsWork e → (what : Turn WorkEnd) → events.TakesTurn e old new what → LeavesAt first old e e.stage → LeavesAfter first e new what
   turn_leaves fits is what (events.steps word t on) h = (
     next_at e e.stage word,
     t.situation ∙ after_on e e.stage word on,

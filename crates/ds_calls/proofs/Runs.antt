@@ -11,7 +11,7 @@ use Rattle.ds_core.specs.declared.reply.Reply.{Reply}
 use Rattle.ds_core.specs.declared.reply.Reply.TheVariants.{Refused, Stepped, Answered}
 use Rattle.ds_core.proofs.Runs.{run_more}
 use Rattle.ds_core.proofs.Bound.{run_layout}
-use Rattle.ds_calls.specs.declared.settle.Turn.{Turn}
+use Rattle.ds_calls.specs.declared.settle.SettleStage.{SettleStage}
 use Rattle.ds_calls.specs.Wanted.{wants}
 use Rattle.ds_calls.specs.Whole.{Goes, stays, goes, Finishes, Whole, finishes, refused, IsRun}
 use Rattle.ds_calls.specs.Settling.{Settling, begins, works}
@@ -51,13 +51,13 @@ finishes_runs p old answer new h = record {
   run = run_more old h.last new h.events (Step p) h.replies (Answered answer) (goes_runs p old h.events h.replies h.last h.goes) h.answers;
 }
 
-pub whole_runs : (p : ℕ) (event : Event) (old : WorldValue) (result : Result Answer Refusal) (new : WorldValue) → Whole p event old result new → IsRun old new
-whole_runs p event old result new (finishes reply mid n answer begun fits h) =
-    let r = finishes_runs p mid answer new h in record { events = event ∷ r.events; replies = reply ∷ r.replies; run = (mid, fits, r.run) }
-whole_runs p event old result new (refused why n fits) = record { events = event ∷ []; replies = Refused why ∷ []; run = (new, fits, refl) }
+pub whole_runs : (E : Type 0) (answer : E → Answer) (p : ℕ) (event : Event) (old : WorldValue) (result : Result E Refusal) (new : WorldValue) → Whole answer p event old result new → IsRun old new
+whole_runs E answer p event old result new (finishes reply mid n end begun fits h) =
+    let r = finishes_runs p mid (answer end) new h in record { events = event ∷ r.events; replies = reply ∷ r.replies; run = (mid, fits, r.run) }
+whole_runs E answer p event old result new (refused why n fits) = record { events = event ∷ []; replies = Refused why ∷ []; run = (new, fits, refl) }
 
 -- ---- settles
 
-pub settling_runs : (p : ℕ) (first : WorldValue) (turn : Turn) (new : WorldValue) → Settling p first turn new → IsRun first new
+pub settling_runs : (p : ℕ) (first : WorldValue) (turn : SettleStage) (new : WorldValue) → Settling p first turn new → IsRun first new
 settling_runs p first turn new begins = no_events first
-settling_runs p first turn new (works rounds cell old n result so_far whole) = runs_on first old new (settling_runs p first _ old so_far) (whole_runs p _ old result new whole)
+settling_runs p first turn new (works rounds cell old n result so_far whole) = runs_on first old new (settling_runs p first _ old so_far) (whole_runs _ _ p _ old result new whole)

@@ -6,8 +6,7 @@ use Rattle.ds_layout.specs.Places.{cells_of}
 use Rattle.ds_state.specs.Value.{WorldValue, world_of}
 use Rattle.ds_state.specs.declared.refusal.Refusal.{Refusal}
 use Rattle.ds_recover.specs.RecoverBegun.{MayRecover}
-use Rattle.ds_state.specs.declared.answer.Answer.{Answer}
-use Rattle.ds_calls.specs.declared.settle.Turn.TheVariants.{Works}
+use Rattle.ds_calls.specs.declared.settle.SettleStage.TheVariants.{Works}
 use Rattle.ds_calls.specs.Marked.{marked_from}
 use Rattle.ds_calls.specs.Whole.{IsIdle, KeepsFree}
 use Rattle.ds_calls.specs.Settling.{round, ends, first_of, works_left}
@@ -42,6 +41,6 @@ few_works cells (suc k) first some =
 
 -- ---- a whole call leaves a process free that was
 
-pub whole_free : (p : ℕ) (old new : WorldValue) (result : Result Answer Refusal) → OnOk result (IsIdle new p) → OnErr result (new ≡ old) → KeepsFree p old new
-whole_free p old new (Ok answer) idle same free = subst MayRecover (sym idle.is) tt
+pub whole_free : {E : Type 0} (p : ℕ) (old new : WorldValue) (result : Result E Refusal) → OnOk result (IsIdle new p) → OnErr result (new ≡ old) → KeepsFree p old new
+whole_free p old new (Ok end) idle same free = subst MayRecover (sym idle.is) tt
 whole_free p old new (Err why) idle same free = subst (λ (w : WorldValue). MayRecover ((world_of w).situation p)) (sym same) free

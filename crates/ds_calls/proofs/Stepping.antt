@@ -1,6 +1,7 @@
 -- A step of a call: it goes on, or it is answered.
+use Rattle.std.specs.Prelude.{Bool, true, false, IsTrue, IsFalse}
 use Rattle.std.proofs.Common.{ℕ, ◌≡◌, ◌≢◌, ◌<◌, ◌+◌, ◌/◌, refl, sym, ap, ◌∙◌, subst}
-use Rattle.ds_state.specs.Value.{WorldValue, world_of}
+use Rattle.ds_state.specs.Value.{WorldValue, world_of, IsGood}
 use Rattle.ds_state.specs.Sound.{IsSound}
 use Rattle.ds_state.specs.Works.{PlainWorkCall}
 use Rattle.ds_state.specs.declared.refusal.Refusal.{Refusal}
@@ -11,9 +12,14 @@ use Rattle.ds_state.specs.declared.answer.Answer.{Answer}
 use Rattle.ds_work.specs.WorkTakes as work_events
 use Rattle.ds_state.specs.World.{PlainWorld}
 use Rattle.ds_work.specs.WorkSteps.{IsPlainStep}
-use Rattle.ds_work.specs.declared.drive.Taken.{Taken}
-use Rattle.ds_core.specs.StepEvents.{StepsBy, edits, works, reports, recoveries, migrations, CanNotStep}
-use Rattle.ds_core.specs.Own.{IsInCall}
+use Rattle.ds_state.specs.declared.turn.Turn.{Turn}
+use Rattle.ds_state.specs.declared.turn.Turn.TheVariants as turns
+use Rattle.ds_state.specs.declared.work.WorkEnd.{WorkEnd}
+use Rattle.ds_core.specs.StepEvents.{Rests, StepsBy, edits, works, reports, recoveries, migrations}
+use Rattle.ds_core.specs.Ends.{IsCallOf, Kind}
+use Rattle.ds_core.specs.Replies.{reply_of}
+use Rattle.ds_core.proofs.Counts.{falls_by}
+use Rattle.ds_core.specs.Own.{steps_left}
 use Rattle.ds_core.specs.Takes.{Fits}
 use Rattle.ds_core.specs.declared.event.Event.{Event}
 use Rattle.ds_core.specs.declared.event.Event.TheVariants.{Step}
@@ -22,14 +28,14 @@ use Rattle.ds_core.specs.declared.reply.Reply.TheVariants.{Begun, Entered, Refus
 use Rattle.ds_core.proofs.Bound.{same_layout}
 use Rattle.ds_core.proofs.CallKinds.{step_stays, step_ends}
 use Rattle.ds_calls.specs.Wanted.{wants}
-use Rattle.ds_calls.specs.Whole.{HasBegun, HasProcess, IsCalling}
-use Rattle.ds_calls.specs.Driven.{CanGoOn, IsNotWaiting, GoesOn, IsAnswered}
+use Rattle.ds_calls.specs.Whole.{HasBegun, IsCalling, IsCallingAs}
+use Rattle.ds_calls.specs.Driven.{CanGoOn, IsNotWaiting, GoesOn, IsAnswered, Went, ended}
 use Rattle.ds_calls.proofs.Driving.{wants_step}
 
 -- ---- a step is what the process wants
 
 -- a work that takes a turn does not wait
-never_waits : (e : PlainWorkCall) (old new : PlainWorld) (what : Taken) → work_events.TakesTurn e old new what → e.stage ≡ work_stages.Wait → ⊥
+never_waits : (e : PlainWorkCall) (old new : PlainWorld) (what : Turn WorkEnd) → work_events.TakesTurn e old new what → e.stage ≡ work_stages.Wait → ⊥
 never_waits e old new what (work_events.steps word s none) is = subst IsPlainStep is s.plain
 never_waits e old new what (work_events.reads content inputs at r) is = absurd (let bad : work_stages.Read ≡ work_stages.Wait = sym at ∙ is in cc)
 never_waits e old new what (work_events.lacked at l) is = absurd (let bad : work_stages.Read ≡ work_stages.Wait = sym at ∙ is in cc)
@@ -62,39 +68,40 @@ step_goes old new p sound calling fits =
 pub step_answers : (old new : WorldValue) (p : ℕ) (answer : Answer) → Fits old (Step p) (Answered answer) new → IsAnswered old p answer new
 step_answers old new p answer fits = let g = step_ends old new p answer fits.takes in record { fits = fits; to = g.to; rests = g.rests }
 
--- ---- a process in a call that does not wait can step
+-- ---- a process in a call of this kind that makes no step of one waits
 
-can_step : (old new : WorldValue) (p : ℕ) (s : Situation) → (world_of old).situation p ≡ s → IsInCall s → HasProcess old p → IsNotWaiting old p → CanNotStep old p new → ⊥
-can_step old new p (Idle n) is calls there waits h = calls
-can_step old new p Stopped is calls there waits h = calls
-can_step old new p (Editing e) is calls there waits h = h.no_edit e there is
-can_step old new p (Working e) is calls there waits h = waits e (record { inside = there; works = is; waits = h.no_work e there is })
-can_step old new p (Recovering e) is calls there waits h = h.no_recovery e there is
-can_step old new p (Reporting e) is calls there waits h = h.no_report e there is
-can_step old new p (Migrating e) is calls there waits h = h.no_migration e there is
-
--- a process in a call whose step has another reply can make none, and waits
-can_not : (old new : WorldValue) (p : ℕ) (reply : Reply) → Fits old (Step p) reply new → reply ≢ Stepped → ((answer : Answer) → reply ≢ Answered answer) → CanNotStep old p new
-can_not old new p Stepped fits ns na = absurd (ns refl)
-can_not old new p (Answered answer) fits ns na = absurd (na answer refl)
-can_not old new p NotEnabled fits ns na = fits.takes
-can_not old new p _ fits ns na = absurd fits.takes
-
--- a process in a call, whose step has this reply, which is none of a step that it made
-module _ (old new : WorldValue) (p : ℕ) (reply : Reply) (calling : IsCalling old p) (fits : Fits old (Step p) reply new) (ns : reply ≢ Stepped) (na : (answer : Answer) → reply ≢ Answered answer) where
-  pub must_wait : IsNotWaiting old p → ⊥
-  must_wait none = can_step old new p ((world_of old).situation p) refl calling.calls calling.there none (can_not old new p reply fits ns na)
-
--- so its step is one, where it does not answer
-pub must_step : (old new : WorldValue) (p : ℕ) (reply : Reply) → IsCalling old p → Fits old (Step p) reply new → ((answer : Answer) → reply ≢ Answered answer) → IsNotWaiting old p → reply ≡ Stepped
-must_step old new p Stepped calling fits na none = refl
-must_step old new p (Answered answer) calling fits na none = absurd (na answer refl)
-must_step old new p reply calling fits na none = absurd (must_wait old new p reply calling fits (λ e. cc) (λ answer e. cc) none)
+pub must_wait : (kind : Answer → Type 0) (old new : WorldValue) (p : ℕ) → IsCallingAs kind old p → Rests (IsCallOf kind) old p new → IsNotWaiting old p → ⊥
+must_wait kind old new p calling rests none =
+    let w = rests.waits calling.there calling.calls in
+    none w.0 (record { inside = calling.there; works = w.1; waits = w.2 })
 
 -- ---- a call whose begin was not refused
 
-pub has_begun : (v : WorldValue) (p : ℕ) (reply : Reply) → CanGoOn v p reply → ((why : Refusal) → reply ≢ Refused why) → HasBegun reply × IsCalling v p
-has_begun v p (Begun number) can none = (tt, can)
-has_begun v p Entered can none = (tt, can)
-has_begun v p (Refused why) can none = absurd (none why refl)
-has_begun v p _ can none = absurd can
+pub has_begun : (kind : Answer → Type 0) (v : WorldValue) (p : ℕ) (reply : Reply) → CanGoOn kind v p reply → ((why : Refusal) → reply ≢ Refused why) → HasBegun reply × IsCallingAs kind v p
+has_begun kind v p (Begun number) can none = (tt, can)
+has_begun kind v p Entered can none = (tt, can)
+has_begun kind v p (Refused why) can none = absurd (none why refl)
+has_begun kind v p _ can none = absurd can
+
+-- a process that goes on stays in a call of this kind
+pub calls_on : (kind : Answer → Type 0) (old new : WorldValue) (p : ℕ) → IsCallingAs kind old p → GoesOn old p new → IsCallingAs kind new p
+calls_on kind old new p calling goes = record {
+  there = goes.calling.there;
+  calls = (goes.calling.calls, λ answer to. calling.calls.1 answer (goes.same answer to));
+}
+
+-- ---- what comes of a step of a call of one kind
+
+pub step_went : {E : Type 0} (kind : Kind E) (old new : WorldValue) (p : ℕ) (turn : Turn E) → IsSound (world_of old) → IsGood new → IsCallingAs kind.is old p → StepsBy old p (reply_of kind.answer turn) new → Went kind.answer old p (ended turn) new
+step_went kind old new p turns.GoesOn sound good calling steps =
+    let fits : Fits old (Step p) Stepped new = record { takes = steps; good = good } in (
+      step_goes old new p sound (record { there = calling.there; calls = calling.calls.0 }) fits,
+      falls_by old new (Step p) Stepped sound steps p refl refl,
+    )
+step_went kind old new p (turns.Answers end) sound good calling steps = step_answers old new p (kind.answer end) (record { takes = steps; good = good })
+
+-- it makes none: its work waits, and is offered its entry
+pub offer_went : (kind : Answer → Type 0) (old mid new : WorldValue) (p : ℕ) (offered : Bool) → IsCallingAs kind old p → Rests (IsCallOf kind) old p mid → (IsTrue offered → GoesOn mid p new) → (IsTrue offered → steps_left p new < steps_left p mid) → (IsFalse offered → IsNotWaiting mid p)
+    → GoesOn old p new × (steps_left p new < steps_left p old)
+offer_went kind old mid new p true calling rests goes fewer none = (subst (λ (v : WorldValue). GoesOn v p new) rests.same (goes refl), subst (λ (v : WorldValue). steps_left p new < steps_left p v) rests.same (fewer refl))
+offer_went kind old mid new p false calling rests goes fewer none = absurd (must_wait kind old mid p calling rests (subst (λ (v : WorldValue). IsNotWaiting v p) rests.same (none refl)))

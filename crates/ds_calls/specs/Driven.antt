@@ -1,5 +1,8 @@
 -- One event of a call that is driven.
-use Rattle.std.specs.Prelude.{ℕ, ◌≡◌, Result, Ok, Err}
+use Rattle.std.specs.Prelude.{ℕ, ◌≡◌, ◌<◌, Option, Some, None, Result, Ok, Err}
+use Rattle.ds_state.specs.declared.turn.Turn.{Turn}
+use Rattle.ds_state.specs.declared.turn.Turn.TheVariants as turns
+use Rattle.ds_core.specs.Own.{steps_left}
 use Rattle.ds_state.specs.declared.refusal.Refusal.{Refusal}
 use Rattle.ds_core.specs.declared.reply.Reply.{Reply}
 use Rattle.ds_state.specs.Value.{WorldValue, world_of}
@@ -11,7 +14,7 @@ use Rattle.ds_core.specs.declared.event.Event.TheVariants.{Step}
 use Rattle.ds_core.specs.declared.reply.Reply.TheVariants.{Begun, Entered, Refused, Stepped, Answered}
 use Rattle.ds_calls.specs.Wanted.{wants}
 use Rattle.ds_core.specs.Kinds.{AnswersTo, RestsAs}
-use Rattle.ds_calls.specs.Whole.{IsCalling, HasBegun, Finishes}
+use Rattle.ds_calls.specs.Whole.{IsCalling, IsCallingAs, HasBegun, Finishes}
 
 -- no work of the process waits for an entry
 abbrev pub IsNotWaiting : WorldValue → ℕ → Type 0
@@ -29,21 +32,31 @@ pub record IsAnswered (old : WorldValue) (p : ℕ) (answer : Answer) (new : Worl
   pub to : AnswersTo ((world_of old).situation p) answer
   pub rests : RestsAs answer ((world_of new).situation p)
 
--- a call whose begin has this reply can be driven: it has begun, or it was refused
-abbrev pub CanGoOn : WorldValue → ℕ → Reply → Type 0
-CanGoOn v p (Begun number) = IsCalling v p
-CanGoOn v p Entered = IsCalling v p
-CanGoOn v p (Refused why) = Unit {0}
-CanGoOn v p reply = ⊥
+-- the end of a call, where a step did this to it
+abbrev pub ended : {E : Type 0} → Turn E → Option E
+ended turns.GoesOn = None
+ended (turns.Answers end) = Some end
 
--- the begin has put the process into a call with answers of this kind; or it was refused, and the world stays
+-- the process went on with its call, whose ends are answered so: it ended; or it is in it still, with fewer steps left
+abbrev pub Went : {E : Type 0} → (E → Answer) → WorldValue → ℕ → Option E → WorldValue → Type 0
+Went answer old p (Some end) new = IsAnswered old p (answer end) new
+Went answer old p None new = GoesOn old p new × (steps_left p new < steps_left p old)
+
+-- a call of this kind whose begin has this reply can be driven: it has begun, or it was refused
+abbrev pub CanGoOn : (Answer → Type 0) → WorldValue → ℕ → Reply → Type 0
+CanGoOn kind v p (Begun number) = IsCallingAs kind v p
+CanGoOn kind v p Entered = IsCallingAs kind v p
+CanGoOn kind v p (Refused why) = Unit {0}
+CanGoOn kind v p reply = ⊥
+
+-- the begin has put the process into a call of this kind; or it was refused, and the world stays
 abbrev pub BeginsCall : (Answer → Type 0) → WorldValue → ℕ → WorldValue → Reply → Type 0
-BeginsCall kind old p new (Begun number) = IsCalling new p × ((answer : Answer) → AnswersTo ((world_of new).situation p) answer → kind answer)
-BeginsCall kind old p new Entered = IsCalling new p × ((answer : Answer) → AnswersTo ((world_of new).situation p) answer → kind answer)
+BeginsCall kind old p new (Begun number) = IsCallingAs kind new p
+BeginsCall kind old p new Entered = IsCallingAs kind new p
 BeginsCall kind old p new (Refused why) = new ≡ old
 BeginsCall kind old p new reply = ⊥
 
--- a call whose begin has this reply is driven to its answer, or it was refused
-abbrev pub IsDriven : ℕ → Reply → WorldValue → Result Answer Refusal → WorldValue → Type 0
-IsDriven p reply old (Ok answer) new = HasBegun reply × Finishes p old answer new × AnswersTo ((world_of old).situation p) answer × RestsAs answer ((world_of new).situation p)
-IsDriven p reply old (Err why) new = (reply ≡ Refused why) × (new ≡ old)
+-- a call whose begin has this reply, and whose ends are answered so, is driven to its end, or it was refused
+abbrev pub IsDriven : {E : Type 0} → (E → Answer) → ℕ → Reply → WorldValue → Result E Refusal → WorldValue → Type 0
+IsDriven answer p reply old (Ok end) new = HasBegun reply × Finishes p old (answer end) new × RestsAs (answer end) ((world_of new).situation p)
+IsDriven answer p reply old (Err why) new = (reply ≡ Refused why) × (new ≡ old)

@@ -1,16 +1,18 @@
 -- Whole calls, event by event.
-use Rattle.std.specs.Prelude.{ℕ, ◌≡◌, ◌<◌, List, [], ◌∷◌, ◌++◌, Result, Ok, Err, IfOk, OnOk, OnErr}
+use Rattle.std.specs.Prelude.{ℕ, ◌≡◌, ◌<◌, List, [], ◌∷◌, ◌++◌, Result, Ok, Err, OnOk, OnErr}
 use Rattle.ds_formula.specs.declared.cells.Cell.{Cell}
 use Rattle.ds_state.specs.Value.{WorldValue, world_of}
 use Rattle.ds_state.specs.declared.refusal.Refusal.{Refusal}
 use Rattle.ds_state.specs.declared.situation.Rest.{Rest}
 use Rattle.ds_state.specs.declared.situation.Situation.TheVariants.{Idle, Stopped}
 use Rattle.ds_state.specs.declared.answer.Answer.{Answer}
+use Rattle.ds_state.specs.declared.answer.Answer.TheVariants.{Migration}
+use Rattle.ds_state.specs.declared.migration.MigrateEnd.{MigrateEnd}
 use Rattle.ds_recover.specs.RecoverBegun.{MayRecover}
 use Rattle.ds_core.specs.Requests.{PlainRequest}
 use Rattle.ds_core.specs.Takes.{Fits, WorldRun}
 use Rattle.ds_core.specs.Own.{IsInCall}
-use Rattle.ds_core.specs.Kinds.{IsMigrationAnswer}
+use Rattle.ds_core.specs.Ends.{IsCallOf}
 use Rattle.ds_core.specs.declared.event.Event.{Event}
 use Rattle.ds_core.specs.declared.event.Event.TheVariants.{Step}
 use Rattle.ds_core.specs.declared.reply.Reply.{Reply}
@@ -25,6 +27,11 @@ HasProcess v p = p < v.sheet.layout.processes
 pub record IsCalling (v : WorldValue) (p : ℕ) : Type 0 where
   pub there : HasProcess v p
   pub calls : IsInCall ((world_of v).situation p)
+
+-- the process is in a call whose answers are of this kind
+pub record IsCallingAs (kind : Answer → Type 0) (v : WorldValue) (p : ℕ) : Type 0 where
+  pub there : HasProcess v p
+  pub calls : IsCallOf kind ((world_of v).situation p)
 
 -- the process is idle
 pub record IsIdle (v : WorldValue) (p : ℕ) : Type 0 where
@@ -59,24 +66,22 @@ HasBegun (Begun number) = Unit {0}
 HasBegun Entered = Unit {0}
 HasBegun reply = ⊥
 
--- a whole call of the process: it begins by this event and goes on to its answer, and no other event comes between; or
--- the begin is refused
-pub data Whole (p : ℕ) (event : Event) (old : WorldValue) : Result Answer Refusal → WorldValue → Type 0 where
-  finishes : (reply : Reply) (mid new : WorldValue) (answer : Answer) → HasBegun reply → Fits old event reply mid → Finishes p mid answer new → Whole p event old (Ok answer) new
-  refused : (why : Refusal) (new : WorldValue) → Fits old event (Refused why) new → Whole p event old (Err why) new
+-- a whole call of the process, whose ends are answered so: it begins by this event and goes on to its end, and no other
+-- event comes between; or the begin is refused
+pub data Whole {E : Type 0} (answer : E → Answer) (p : ℕ) (event : Event) (old : WorldValue) : Result E Refusal → WorldValue → Type 0 where
+  finishes : (reply : Reply) (mid new : WorldValue) (end : E) → HasBegun reply → Fits old event reply mid → Finishes p mid (answer end) new → Whole answer p event old (Ok end) new
+  refused : (why : Refusal) (new : WorldValue) → Fits old event (Refused why) new → Whole answer p event old (Err why) new
 
--- a whole call of the process with an answer of this kind, which leaves the process idle; where the begin is refused, the
+-- a whole call of the process, whose ends are answered so, which leaves the process idle; where the begin is refused, the
 -- world stays
-pub record IsWhole (kind : Answer → Type 0) (p : ℕ) (event : Event) (old : WorldValue) (result : Result Answer Refusal) (new : WorldValue) : Type 0 where
-  pub whole : Whole p event old result new
-  pub answer : IfOk result kind
+pub record IsWhole {E : Type 0} (answer : E → Answer) (p : ℕ) (event : Event) (old : WorldValue) (result : Result E Refusal) (new : WorldValue) : Type 0 where
+  pub whole : Whole answer p event old result new
   pub idle : OnOk result (IsIdle new p)
   pub unchanged : OnErr result (new ≡ old)
 
 -- a whole migration by the process, which leaves it stopped; where the begin is refused, the world stays
-pub record IsWholeMigration (p : ℕ) (event : Event) (old : WorldValue) (result : Result Answer Refusal) (new : WorldValue) : Type 0 where
-  pub whole : Whole p event old result new
-  pub answer : IfOk result IsMigrationAnswer
+pub record IsWholeMigration (p : ℕ) (event : Event) (old : WorldValue) (result : Result MigrateEnd Refusal) (new : WorldValue) : Type 0 where
+  pub whole : Whole Migration p event old result new
   pub stopped : OnOk result ((world_of new).situation p ≡ Stopped)
   pub unchanged : OnErr result (new ≡ old)
 

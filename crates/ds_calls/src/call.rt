@@ -4,17 +4,23 @@ ghost use Rattle.std.specs.Prelude.{◌≡◌};
 ghost use Rattle.ds_core.specs.declared.event.Event.TheVariants.{BeginEdit, BeginWork, BeginReport, BeginRecover, BeginMigrate};
 ghost use Rattle.ds_core.specs.Takes.{IsOfWorld, Fits, BeginTakes};
 ghost use Rattle.ds_core.specs.WorkEvents.{HasWork};
+ghost use Rattle.ds_state.specs.declared.answer.Answer.TheVariants.{Edit, Work, Report, Recovery};
 ghost use Rattle.ds_core.specs.Kinds.{IsEditAnswer, IsWorkAnswer, IsReportAnswer, IsRecoveryAnswer, IsMigrationAnswer};
 ghost use Rattle.ds_calls.specs.Whole.{HasProcess, IsWhole, IsWholeMigration, request};
 ghost use Rattle.ds_calls.specs.Driven.{CanGoOn, BeginsCall, IsDriven};
 
 use crate::finish::finish;
+use ds_core::ends::CallEnd;
 use ds_core::event::Event;
 use ds_core::reply::Reply;
 use ds_core::take::take;
 use ds_formula::cells::Cell;
-use ds_state::answer::Answer;
+use ds_state::answer::EditEnd;
+use ds_state::migration::MigrateEnd;
+use ds_state::recovery::RecoveryEnd;
 use ds_state::refusal::Refusal;
+use ds_state::report::ReportEnd;
+use ds_state::work::WorkEnd;
 use ds_state::world::World;
 use std::alloc::Global;
 
@@ -83,10 +89,15 @@ fn begin_migration(alloc: Global, world: &mut World, process: usize) -> Reply
     take(alloc, world, &event)
 }
 
-// What a call comes to whose begin has this reply: it is driven to its answer, or it was refused.
-fn driven(alloc: Global, world: &mut World, process: usize, reply: Reply) -> Result<Answer, Refusal>
-    requires { CanGoOn world.old process reply }
-    ensures { IsDriven process reply world.old result world.new }
+// What a call comes to whose begin has this reply: it is driven to its end, or it was refused.
+fn driven<E: CallEnd>(
+    alloc: Global,
+    world: &mut World,
+    process: usize,
+    reply: Reply,
+) -> Result<E, Refusal>
+    requires { CanGoOn E.kind.is world.old process reply }
+    ensures { IsDriven E.kind.answer process reply world.old result world.new }
 {
     match reply {
         Reply::Refused(refusal) => Err(refusal),
@@ -102,9 +113,9 @@ pub fn whole_edit(
     process: usize,
     cell: Cell,
     text: &[u8],
-) -> Result<Answer, Refusal>
+) -> Result<EditEnd, Refusal>
     requires { IsOfWorld world.old (request process cell text.now) }
-    ensures { IsWhole IsEditAnswer process (BeginEdit (request process cell text.now)) world.old result world.new }
+    ensures { IsWhole Edit process (BeginEdit (request process cell text.now)) world.old result world.new }
 {
     let reply = begin_edit(alloc, world, process, cell, text);
     driven(alloc, world, process, reply)
@@ -117,9 +128,9 @@ pub fn whole_work(
     world: &mut World,
     process: usize,
     cell: Cell,
-) -> Result<Answer, Refusal>
+) -> Result<WorkEnd, Refusal>
     requires { HasWork world.old process cell }
-    ensures { IsWhole IsWorkAnswer process (BeginWork process cell) world.old result world.new }
+    ensures { IsWhole Work process (BeginWork process cell) world.old result world.new }
 {
     let reply = begin_work(alloc, world, process, cell);
     driven(alloc, world, process, reply)
@@ -127,9 +138,9 @@ pub fn whole_work(
 
 /// A whole report by a process of the sheet. Where it is settled, its values are the process's last
 /// ones that the world keeps. Where its begin is refused, the world is as it was.
-pub fn whole_report(alloc: Global, world: &mut World, process: usize) -> Result<Answer, Refusal>
+pub fn whole_report(alloc: Global, world: &mut World, process: usize) -> Result<ReportEnd, Refusal>
     requires { HasProcess world.old process }
-    ensures { IsWhole IsReportAnswer process (BeginReport process) world.old result world.new }
+    ensures { IsWhole Report process (BeginReport process) world.old result world.new }
 {
     let reply = begin_report(alloc, world, process);
     driven(alloc, world, process, reply)
@@ -137,9 +148,9 @@ pub fn whole_report(alloc: Global, world: &mut World, process: usize) -> Result<
 
 /// A whole recovery of a process of the sheet, stopped or idle. Where its begin is refused, the world
 /// is as it was.
-pub fn whole_recovery(alloc: Global, world: &mut World, process: usize) -> Result<Answer, Refusal>
+pub fn whole_recovery(alloc: Global, world: &mut World, process: usize) -> Result<RecoveryEnd, Refusal>
     requires { HasProcess world.old process }
-    ensures { IsWhole IsRecoveryAnswer process (BeginRecover process) world.old result world.new }
+    ensures { IsWhole Recovery process (BeginRecover process) world.old result world.new }
 {
     let reply = begin_recovery(alloc, world, process);
     driven(alloc, world, process, reply)
@@ -148,7 +159,7 @@ pub fn whole_recovery(alloc: Global, world: &mut World, process: usize) -> Resul
 /// A whole migration of the sheet to the second layout, by a process of it; all are stopped. It is answered `Migrated`,
 /// or `Already` where the sheet has come to that layout before; behind either the process is stopped, and recovers
 /// next. Where its begin is refused, the world is as it was.
-pub fn whole_migration(alloc: Global, world: &mut World, process: usize) -> Result<Answer, Refusal>
+pub fn whole_migration(alloc: Global, world: &mut World, process: usize) -> Result<MigrateEnd, Refusal>
     requires { HasProcess world.old process }
     ensures { IsWholeMigration process (BeginMigrate process) world.old result world.new }
 {

@@ -4,18 +4,17 @@ ghost use Rattle.std.specs.Prelude.{◌≡◌, ◌<◌, IsTrue, IsFalse, IfSome,
 ghost use Rattle.ds_state.specs.Value.{world_of};
 ghost use Rattle.ds_core.specs.declared.event.Event.TheVariants.{Step};
 ghost use Rattle.ds_core.specs.declared.reply.Reply.TheVariants.{Stepped};
-ghost use Rattle.ds_core.specs.StepEvents.{CanNotAdvance};
 ghost use Rattle.ds_core.specs.Takes.{Fits};
 ghost use Rattle.ds_core.specs.Own.{steps_left};
 ghost use Rattle.ds_core.specs.Kinds.{AnswersTo, RestsAs};
-ghost use Rattle.ds_calls.specs.Whole.{IsCalling, Finishes};
-ghost use Rattle.ds_calls.specs.Driven.{IsNotWaiting, GoesOn, IsAnswered};
+ghost use Rattle.ds_calls.specs.Whole.{IsCalling, IsCallingAs, Finishes};
+ghost use Rattle.ds_calls.specs.Driven.{IsNotWaiting, GoesOn, Went, ended};
 
-use ds_core::advance::advance;
+use ds_core::ends::CallEnd;
 use ds_core::event::Event;
 use ds_core::reply::Reply;
 use ds_core::take::take;
-use ds_state::answer::Answer;
+use ds_state::turn::Turn;
 use ds_state::world::World;
 use ds_work::offer::offer_own;
 use std::alloc::Global;
@@ -42,48 +41,45 @@ fn offers(world: &mut World, process: usize) -> bool
     offered
 }
 
-// An offer where the work waits, else a step, and the answer where it is the last one.
-fn go(alloc: Global, world: &mut World, process: usize) -> Option<Answer>
-    requires { IsCalling world.old process }
-    ensures answers { IfSome result (λ answer. IsAnswered world.old process answer world.new) }
-    ensures goes { IfNone result (GoesOn world.old process world.new) }
-    ensures fewer { IfNone result (steps_left process world.new < steps_left process world.old) }
+// The end of a call, where a step did this to it.
+fn ended<E: CallEnd>(turn: Turn<E>) -> Option<E>
+    ensures { result ≡ ended turn }
 {
-    if offers(world, process) {
-        return None;
-    }
-    world.is_always_good();
-    match step_once(alloc, world, process) {
-        Reply::Answered(answer) => Some(answer),
-        _ => None,
+    match turn {
+        Turn::GoesOn => None,
+        Turn::Answers(end) => Some(end),
     }
 }
 
-// A step that needs no reply, and whether there was one. Such steps come first: few stages wait or answer.
-fn advances(alloc: Global, world: &mut World, process: usize) -> bool
-    requires { IsCalling world.old process }
-    ensures goes { IsTrue result → GoesOn world.old process world.new }
-    ensures none { IsFalse result → CanNotAdvance world.old process }
-    ensures fewer { IsTrue result → steps_left process world.new < steps_left process world.old }
-    ensures unchanged { IsFalse result → world.new ≡ world.old }
+// A step, or an offer where the work waits; and the end where it is the last one.
+fn go<E: CallEnd>(alloc: Global, world: &mut World, process: usize) -> Option<E>
+    requires { IsCallingAs E.kind.is world.old process }
+    ensures { Went E.kind.answer world.old process result world.new }
 {
     world.is_always_good();
-    advance(alloc, world, process)
+    match E::step(alloc, world, process) {
+        Some(turn) => {
+            world.is_always_good();
+            ended(turn)
+        }
+        None => {
+            let _offered = offers(world, process);
+            None
+        }
+    }
 }
 
-/// Lets a process go on with the call that it is in, to its answer. Where its work waits, it is
-/// offered the entry that it waits for, evaluated in place, which takes no memory.
-pub fn finish(alloc: Global, world: &mut World, process: usize) -> Answer
-    requires { IsCalling world.old process }
-    ensures finishes { Finishes process world.old result world.new }
-    ensures answers { AnswersTo ((world_of world.old).situation process) result }
-    ensures rests { RestsAs result ((world_of world.new).situation process) }
+/// Lets a process go on with the call that it is in, to its end: one of this kind of calls, or an answer, which is one of
+/// any kind. Where its work waits, it is offered the entry that it waits for, evaluated in place, which takes no memory.
+pub fn finish<E: CallEnd>(alloc: Global, world: &mut World, process: usize) -> E
+    requires { IsCallingAs E.kind.is world.old process }
+    ensures finishes { Finishes process world.old (E.kind.answer result) world.new }
+    ensures answers { AnswersTo ((world_of world.old).situation process) (E.kind.answer result) }
+    ensures rests { RestsAs (E.kind.answer result) ((world_of world.new).situation process) }
 {
     'steps: loop {
-        if !advances(alloc, world, process) {
-            if let Some(answer) = go(alloc, world, process) {
-                return answer;
-            }
+        if let Some(end) = go(alloc, world, process) {
+            return end;
         }
     }
 }

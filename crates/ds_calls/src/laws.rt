@@ -6,13 +6,18 @@ ghost use Rattle.ds_state.specs.Value.{WorldValue, world_of, IsGood};
 ghost use Rattle.ds_state.specs.Fresh.{IsNew};
 ghost use Rattle.ds_state.specs.Works.{SEEN_MOST};
 ghost use Rattle.ds_state.specs.declared.refusal.Refusal.{Refusal};
-ghost use Rattle.ds_state.specs.declared.answer.Answer.{Answer};
+ghost use Rattle.ds_state.specs.declared.answer.Answer.TheVariants.{Edit, Work, Report, Recovery, Migration};
+ghost use Rattle.ds_state.specs.declared.answer.EditEnd.{EditEnd};
+ghost use Rattle.ds_state.specs.declared.work.WorkEnd.{WorkEnd};
+ghost use Rattle.ds_state.specs.declared.report.ReportEnd.{ReportEnd};
+ghost use Rattle.ds_state.specs.declared.recovery.RecoveryEnd.{RecoveryEnd};
+ghost use Rattle.ds_state.specs.declared.migration.MigrateEnd.{MigrateEnd};
 ghost use Rattle.ds_core.specs.Takes.{WorldRun};
 ghost use Rattle.ds_core.specs.declared.event.Event.{Event};
 ghost use Rattle.ds_core.specs.declared.reply.Reply.{Reply};
 ghost use Rattle.ds_calls.specs.declared.settle.SettleEnd.{SettleEnd};
-ghost use Rattle.ds_calls.specs.declared.settle.Turn.{Turn};
-ghost use Rattle.ds_calls.specs.declared.settle.Turn.TheVariants.{Ends};
+ghost use Rattle.ds_calls.specs.declared.settle.SettleStage.{SettleStage};
+ghost use Rattle.ds_calls.specs.declared.settle.SettleStage.TheVariants.{Ends};
 ghost use Rattle.ds_calls.specs.Whole.{Whole, IsRun, HasProcess};
 ghost use Rattle.ds_calls.specs.Settling.{Settling};
 ghost use Rattle.ds_calls.specs.Lone.{AreIdle, AreYoung, EndsClean};
@@ -21,9 +26,17 @@ ghost use Rattle.ds_calls.specs.Lone.{AreIdle, AreYoung, EndsClean};
 /// runs is true of them.
 #[tactic(auto, using(crate::proofs::Runs::whole_runs, crate::proofs::Runs::settling_runs))]
 pub fn calls_are_runs()
-    ensures calls { (p : ℕ) (event : Event) (old : WorldValue) (result : Result Answer Refusal)
-        (new : WorldValue) → Whole p event old result new → IsRun old new }
-    ensures settles { (p : ℕ) (old : WorldValue) (turn : Turn) (new : WorldValue)
+    ensures edits { (p : ℕ) (event : Event) (old : WorldValue) (result : Result EditEnd Refusal)
+        (new : WorldValue) → Whole Edit p event old result new → IsRun old new }
+    ensures works { (p : ℕ) (event : Event) (old : WorldValue) (result : Result WorkEnd Refusal)
+        (new : WorldValue) → Whole Work p event old result new → IsRun old new }
+    ensures reports { (p : ℕ) (event : Event) (old : WorldValue) (result : Result ReportEnd Refusal)
+        (new : WorldValue) → Whole Report p event old result new → IsRun old new }
+    ensures recoveries { (p : ℕ) (event : Event) (old : WorldValue) (result : Result RecoveryEnd Refusal)
+        (new : WorldValue) → Whole Recovery p event old result new → IsRun old new }
+    ensures migrations { (p : ℕ) (event : Event) (old : WorldValue) (result : Result MigrateEnd Refusal)
+        (new : WorldValue) → Whole Migration p event old result new → IsRun old new }
+    ensures settles { (p : ℕ) (old : WorldValue) (turn : SettleStage) (new : WorldValue)
         → Settling p old turn new → IsRun old new }
 {}
 

@@ -4,14 +4,13 @@ ghost use Rattle.std.specs.Prelude.{◌≡◌, ◌<◌, ◌≤◌, ◌+◌, ◌*
 ghost use Rattle.ds_formula.specs.Cells.{cell_at};
 ghost use Rattle.ds_layout.specs.Places.{cells_of};
 ghost use Rattle.ds_core.specs.declared.event.Event.TheVariants.{BeginWork};
-ghost use Rattle.ds_calls.specs.declared.settle.Turn.TheVariants.{Ends, Works};
-ghost use Rattle.ds_core.specs.Kinds.{IsWorkAnswer};
+ghost use Rattle.ds_calls.specs.declared.settle.SettleStage.TheVariants.{Ends, Works};
+ghost use Rattle.ds_state.specs.declared.answer.Answer.TheVariants.{Work};
 ghost use Rattle.ds_calls.specs.Whole.{HasProcess, KeepsFree, IsWhole};
 ghost use Rattle.ds_calls.specs.Settling.{ends, round, first_turn, goes_behind, worked, Settling, works_left, IsInTurn, WorksOnce};
 
 use crate::call::whole_work;
 use crate::marked::{cells, left, next_marked};
-use ds_state::answer::Answer;
 use ds_state::work::WorkEnd;
 use ds_state::refusal::Refusal;
 use ds_state::world::World;
@@ -30,7 +29,7 @@ pub enum SettleEnd {
 
 /// What a settle does next.
 #[derive(Clone, Copy, Debug, PartialEq, Eq)]
-pub enum Turn {
+pub enum SettleStage {
     /// It ends.
     Ends(SettleEnd),
     /// A whole work on a cell.
@@ -43,14 +42,14 @@ pub enum Turn {
 }
 
 // No work is due, or no round is left.
-fn ended(world: &World) -> Turn
+fn ended(world: &World) -> SettleStage
     ensures { result ≡ ends world.now }
 {
-    Turn::Ends(SettleEnd::Left(left(world)))
+    SettleStage::Ends(SettleEnd::Left(left(world)))
 }
 
 // The next round begins, with so many left.
-fn round(world: &World, rounds: usize) -> Turn
+fn round(world: &World, rounds: usize) -> SettleStage
     ensures value { result ≡ round world.now rounds }
     ensures few { works_left (cells_of world.now.sheet.layout) result ≤ rounds * (cells_of world.now.sheet.layout + 1) }
     ensures inside { IsInTurn (cells_of world.now.sheet.layout) result }
@@ -59,7 +58,7 @@ fn round(world: &World, rounds: usize) -> Turn
         return ended(world);
     }
     match next_marked(world, 0) {
-        Some(cell) => Turn::Works {
+        Some(cell) => SettleStage::Works {
             rounds: rounds - 1,
             cell,
         },
@@ -69,7 +68,7 @@ fn round(world: &World, rounds: usize) -> Turn
 
 /// A settle begins, with two rounds more than the sheet has cells: with work on the first marked cell,
 /// if there is one.
-pub fn first_turn(world: &World) -> Turn
+pub fn first_turn(world: &World) -> SettleStage
     ensures value { result ≡ first_turn world.now }
     ensures inside { IsInTurn (cells_of world.now.sheet.layout) result }
 {
@@ -77,45 +76,45 @@ pub fn first_turn(world: &World) -> Turn
 }
 
 // A round goes on behind a cell.
-fn goes_behind(world: &World, rounds: usize, cell: usize) -> Turn
+fn goes_behind(world: &World, rounds: usize, cell: usize) -> SettleStage
     requires { cell < cells_of world.now.sheet.layout }
     ensures value { result ≡ goes_behind world.now rounds cell }
     ensures fewer { works_left (cells_of world.now.sheet.layout) result < works_left (cells_of world.now.sheet.layout) (Works rounds cell) }
     ensures inside { IsInTurn (cells_of world.now.sheet.layout) result }
 {
     match next_marked(world, cell + 1) {
-        Some(next) => Turn::Works { rounds, cell: next },
+        Some(next) => SettleStage::Works { rounds, cell: next },
         None => round(world, rounds),
     }
 }
 
 /// What a settle does, with so many rounds left behind this one, once its work on the cell has ended
 /// so: it ends where the begin was refused or memory was wanting, else it goes on behind the cell.
-pub fn worked(world: &World, rounds: usize, cell: usize, answered: Result<Answer, Refusal>) -> Turn
+pub fn worked(world: &World, rounds: usize, cell: usize, answered: Result<WorkEnd, Refusal>) -> SettleStage
     requires { cell < cells_of world.now.sheet.layout }
     ensures value { result ≡ worked world.now rounds cell answered }
     ensures fewer { works_left (cells_of world.now.sheet.layout) result < works_left (cells_of world.now.sheet.layout) (Works rounds cell) }
     ensures inside { IsInTurn (cells_of world.now.sheet.layout) result }
 {
     match answered {
-        Err(refusal) => Turn::Ends(SettleEnd::Refused(refusal)),
-        Ok(Answer::Work(WorkEnd::NoMemory)) => Turn::Ends(SettleEnd::NoMemory),
+        Err(refusal) => SettleStage::Ends(SettleEnd::Refused(refusal)),
+        Ok(WorkEnd::NoMemory) => SettleStage::Ends(SettleEnd::NoMemory),
         Ok(_) => goes_behind(world, rounds, cell),
     }
 }
 
 // A whole work on the cell with this number.
-fn work_on(alloc: Global, world: &mut World, process: usize, cell: usize) -> Result<Answer, Refusal>
+fn work_on(alloc: Global, world: &mut World, process: usize, cell: usize) -> Result<WorkEnd, Refusal>
     requires process { HasProcess world.old process }
     requires cell { cell < cells_of world.old.sheet.layout }
-    ensures { IsWhole IsWorkAnswer process (BeginWork process (cell_at world.old.sheet.layout.shape cell)) world.old result world.new }
+    ensures { IsWhole Work process (BeginWork process (cell_at world.old.sheet.layout.shape cell)) world.old result world.new }
 {
     let shape = world.words.layout().shape;
     whole_work(alloc, world, process, shape.cell(cell))
 }
 
 // A whole work of a settle, and what the settle does next.
-fn work(alloc: Global, world: &mut World, process: usize, rounds: usize, cell: usize) -> Turn
+fn work(alloc: Global, world: &mut World, process: usize, rounds: usize, cell: usize) -> SettleStage
     requires process { HasProcess world.old process }
     requires cell { cell < cells_of world.old.sheet.layout }
     ensures works { WorksOnce process rounds cell world.old result world.new }
@@ -136,8 +135,8 @@ pub fn settle(alloc: Global, world: &mut World, process: usize) -> SettleEnd
     let mut turn = first_turn(world);
     'works: loop {
         match turn {
-            Turn::Ends(end) => return end,
-            Turn::Works { rounds, cell } => turn = work(alloc, world, process, rounds, cell),
+            SettleStage::Ends(end) => return end,
+            SettleStage::Works { rounds, cell } => turn = work(alloc, world, process, rounds, cell),
         }
     }
 }

@@ -27,8 +27,8 @@ use Rattle.ds_core.specs.declared.reply.Reply.{Reply}
 use Rattle.ds_core.specs.declared.reply.Reply.TheVariants.{Entered, Refused, Stepped, Answered, WrongTask, NotEnabled}
 use Rattle.ds_calls.specs.declared.settle.SettleEnd.{SettleEnd}
 use Rattle.ds_calls.specs.declared.settle.SettleEnd.TheVariants as settle_ends
-use Rattle.ds_calls.specs.declared.settle.Turn.{Turn}
-use Rattle.ds_calls.specs.declared.settle.Turn.TheVariants as turns
+use Rattle.ds_calls.specs.declared.settle.SettleStage.{SettleStage}
+use Rattle.ds_calls.specs.declared.settle.SettleStage.TheVariants as turns
 use Rattle.ds_calls.specs.Marked.{state_at, is_marked, marked_from}
 use Rattle.ds_calls.specs.Wanted.{wants, wanted, wanted_at, evaluated}
 use Rattle.ds_calls.specs.Whole.{HasProcess, IsCalling, HasBegun, Goes, stays, goes, Whole, finishes, refused}
@@ -84,12 +84,12 @@ in_worked v rounds cell (Ok _) low = in_behind v rounds cell low
 whole_layout : (p : ℕ) (event : Event) (old : WorldValue) (result : Result Answer Refusal) (new : WorldValue) → Whole p event old result new → new.sheet.layout ≡ old.sheet.layout
 whole_layout p event old result new h = run_keeps_layout old new (whole_runs p event old result new h)
 
-pub in_turn : (p : ℕ) (first : WorldValue) (turn : Turn) (v : WorldValue) → Settling p first turn v → IsInTurn (cells_of v.sheet.layout) turn
+pub in_turn : (p : ℕ) (first : WorldValue) (turn : SettleStage) (v : WorldValue) → Settling p first turn v → IsInTurn (cells_of v.sheet.layout) turn
 in_turn p first turn v begins = in_round first (cells_of first.sheet.layout + 2)
 in_turn p first turn v (works rounds cell old new result so_far whole) =
     in_worked new rounds cell result (subst (λ (y : Layout). cell < cells_of y) (sym (whole_layout p _ old result new whole)) (in_turn p first (turns.Works rounds cell) old so_far))
 
-pub settling_layout : (p : ℕ) (first : WorldValue) (turn : Turn) (v : WorldValue) → Settling p first turn v → v.sheet.layout ≡ first.sheet.layout
+pub settling_layout : (p : ℕ) (first : WorldValue) (turn : SettleStage) (v : WorldValue) → Settling p first turn v → v.sheet.layout ≡ first.sheet.layout
 settling_layout p first turn v begins = refl
 settling_layout p first turn v (works rounds cell old new result so_far whole) = whole_layout p _ old result new whole ∙ settling_layout p first (turns.Works rounds cell) old so_far
 
@@ -97,7 +97,7 @@ whole_good : (p : ℕ) (event : Event) (old : WorldValue) (result : Result Answe
 whole_good p event old result new (finishes reply mid n answer begun fits f) = f.answers.good
 whole_good p event old result new (refused why n fits) = fits.good
 
-settling_good : (p : ℕ) (first : WorldValue) → IsGood first → (turn : Turn) (v : WorldValue) → Settling p first turn v → IsGood v
+settling_good : (p : ℕ) (first : WorldValue) → IsGood first → (turn : SettleStage) (v : WorldValue) → Settling p first turn v → IsGood v
 settling_good p first good turn v begins = good
 settling_good p first good turn v (works rounds cell old new result so_far whole) = whole_good p _ old result new whole
 
@@ -207,7 +207,7 @@ module _ (p : ℕ) (first : WorldValue) (good : IsGood first) (there : HasProces
 
   -- the rest of the play, from a turn on, and from a work under way on
   abbrev TurnsOn : List Event → List Reply → Type 0
-  TurnsOn events replies = (turn : Turn) (w : WorldValue) → Settling p first turn w → Plays (at_turn w p turn) w events replies (Says text) new → Settles
+  TurnsOn events replies = (turn : SettleStage) (w : WorldValue) → Settling p first turn w → Plays (at_turn w p turn) w events replies (Says text) new → Settles
 
   abbrev DrivesOn : List Event → List Reply → Type 0
   DrivesOn events replies = (rounds cell : ℕ) (w : WorldValue) → InRoundAt rounds cell w → Plays (Drives p (InRound rounds cell)) w events replies (Says text) new → Settles

@@ -11,7 +11,7 @@ use Rattle.ds_core.specs.declared.event.Event.{Event}
 use Rattle.ds_core.specs.declared.event.Event.TheVariants.{Step, Offer, BeginWork}
 use Rattle.ds_core.specs.declared.reply.Reply.{Reply}
 use Rattle.ds_core.specs.declared.reply.Reply.TheVariants.{Begun, Entered, Refused, Stepped, Answered}
-use Rattle.ds_calls.specs.declared.settle.Turn.{Turn}
+use Rattle.ds_calls.specs.declared.settle.SettleStage.{SettleStage}
 use Rattle.ds_calls.specs.Wanted.{wants}
 use Rattle.ds_calls.specs.Whole as whole
 use Rattle.ds_calls.specs.Whole.{Goes, Finishes, Whole, HasBegun, IsCalling, request}
@@ -99,7 +99,7 @@ starts old new p call _ fits h = absurd h
 
 -- ---- a settle
 
-pub settling_leads : (p : ℕ) (first : WorldValue) (turn : Turn) (new : WorldValue) → Settling p first turn new → Leads (settle first p) first (at_turn new p turn) new
+pub settling_leads : (p : ℕ) (first : WorldValue) (turn : SettleStage) (new : WorldValue) → Settling p first turn new → Leads (settle first p) first (at_turn new p turn) new
 settling_leads p first turn new settling.begins = stays (settle first p) (settle first p) first refl
 settling_leads p first turn new (settling.works rounds cell old n result so_far whole) =
     leads_on (settle first p) (Works p rounds cell) (at_turn new p (worked new rounds cell result)) first old new

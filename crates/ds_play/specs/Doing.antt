@@ -12,8 +12,8 @@ use Rattle.ds_core.specs.declared.reply.Reply.TheVariants.{Begun, Entered, Stepp
 use Rattle.ds_core.specs.declared.reply.Reply.TheVariants as replies
 use Rattle.ds_calls.specs.declared.settle.SettleEnd.{SettleEnd}
 use Rattle.ds_calls.specs.declared.settle.SettleEnd.TheVariants.{Left, Refused, NoMemory}
-use Rattle.ds_calls.specs.declared.settle.Turn.{Turn}
-use Rattle.ds_calls.specs.declared.settle.Turn.TheVariants as turns
+use Rattle.ds_calls.specs.declared.settle.SettleStage.{SettleStage}
+use Rattle.ds_calls.specs.declared.settle.SettleStage.TheVariants as turns
 use Rattle.ds_calls.specs.Wanted.{wants}
 use Rattle.ds_calls.specs.Settling.{first_turn, worked}
 use Rattle.ds_play.specs.declared.point.PointName.{PointName}
@@ -53,7 +53,7 @@ end_text w p (Refused why) = reply_text w p (replies.Refused why)
 end_text w p NoMemory = answer_text w p answers.NoMemory
 
 -- where a settle by the process stands at this turn: it ends with a text, or works on a cell
-abbrev pub at_turn : WorldValue → ℕ → Turn → Doing
+abbrev pub at_turn : WorldValue → ℕ → SettleStage → Doing
 at_turn w p (turns.Ends end) = Says (end_text w p end)
 at_turn w p (turns.Works rounds cell) = Works p rounds cell
 

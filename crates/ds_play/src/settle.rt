@@ -13,7 +13,7 @@ ghost use Rattle.ds_play.specs.Doing.{settle};
 ghost use Rattle.ds_play.specs.Plays.{Played};
 
 use crate::texts::{end_bytes, reply_bytes};
-use ds_calls::settle::{Turn, first_turn};
+use ds_calls::settle::{SettleStage, first_turn};
 use ds_core::event::Event;
 use ds_core::reply::Reply;
 use ds_core::take::take;
@@ -36,8 +36,8 @@ fn of_nobody(alloc: Global, world: &mut World, process: usize) -> Result<Vec<u8>
     ensures { IfOk result (λ answer. Played (settle world.old process) world.old answer.items world.new) }
 {
     match first_turn(world) {
-        Turn::Ends(end) => end_bytes(alloc, world, process, end),
-        Turn::Works { rounds: _, cell } => {
+        SettleStage::Ends(end) => end_bytes(alloc, world, process, end),
+        SettleStage::Works { rounds: _, cell } => {
             let reply = begin(alloc, world, process, cell);
             reply_bytes(alloc, world, process, reply)
         }

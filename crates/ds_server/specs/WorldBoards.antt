@@ -11,7 +11,7 @@ use Rattle.ds_state.specs.declared.answer.Answer.TheVariants as answers
 use Rattle.ds_state.specs.declared.recovery.Told.{Told}
 use Rattle.ds_core.specs.declared.event.Event.TheVariants.{BeginEdit, BeginReport, BeginRecover}
 use Rattle.ds_calls.specs.declared.settle.SettleEnd.TheVariants as settle
-use Rattle.ds_calls.specs.declared.settle.Turn.TheVariants.{Ends}
+use Rattle.ds_calls.specs.declared.settle.SettleStage.TheVariants.{Ends}
 use Rattle.ds_calls.specs.Whole.{HasProcess, Whole, request}
 use Rattle.ds_calls.specs.Settling.{Settling}
 use Rattle.ds_server.specs.declared.board.CallRefusal.{CallRefusal}

@@ -1,5 +1,5 @@
 use Rattle.std.proofs.Common.{List, ℕ}
-use Rattle.ds_calls.specs.declared.settle.Turn.TheVariants.{Ends}
+use Rattle.ds_calls.specs.declared.settle.SettleStage.TheVariants.{Ends}
 use Rattle.ds_play.specs.Doing.{end_text, settle}
 use Rattle.ds_play.specs.Plays.{Played}
 use Rattle.ds_play.proofs.Played.{answered}

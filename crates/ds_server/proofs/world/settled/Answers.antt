@@ -1,7 +1,7 @@
 use Rattle.std.proofs.Common.{◌<◌, sym, subst}
 use Rattle.ds_layout.specs.declared.layout.Layout.{Layout}
 use Rattle.ds_calls.specs.declared.settle.SettleEnd.TheVariants.{Left}
-use Rattle.ds_calls.specs.declared.settle.Turn.TheVariants.{Ends}
+use Rattle.ds_calls.specs.declared.settle.SettleStage.TheVariants.{Ends}
 use Rattle.ds_calls.proofs.Runs.{settling_runs, run_keeps_layout}
 use Rattle.ds_server.specs.declared.board.CallRefusal.{CallRefusal}
 use Rattle.ds_server.specs.BoardCalls.{Report}
