@@ -2,39 +2,36 @@
 
 use ds_calls::call::{whole_recovery, whole_report};
 use ds_calls::settle::{SettleEnd, settle};
+use ds_core::ends::CallEnd;
 use ds_core::reply::Reply;
 use ds_eval::value::Value;
 use ds_play::texts::{end_bytes, reply_bytes};
-use ds_state::answer::Answer;
+use ds_state::recovery::RecoveryEnd;
 use ds_state::refusal::Refusal;
+use ds_state::report::ReportEnd;
 use ds_state::world::World;
 use std::alloc::{AllocError, Global};
 
 /// What is told behind an order.
 #[derive(Drop)]
 pub(crate) struct Ending {
-    /// The answer to the recovery of each process.
-    pub(crate) told: Vec<Result<Answer, Refusal>>,
+    /// How the recovery of each process ended.
+    pub(crate) told: Vec<Result<RecoveryEnd, Refusal>>,
     /// What the settle leaves.
     pub(crate) left: SettleEnd,
-    /// The answer to the report.
-    pub(crate) reported: Result<Answer, Refusal>,
+    /// How the report ended.
+    pub(crate) reported: Result<ReportEnd, Refusal>,
     /// Their text.
     pub(crate) text: Vec<u8>,
     /// Whether the order ends with a crash.
     pub(crate) crashed: bool,
 }
 
-// The text of a call's answer, or of its refusal.
-fn answered(
-    alloc: Global,
-    world: &World,
-    process: usize,
-    answer: Result<Answer, Refusal>,
-) -> Result<Vec<u8>, AllocError> {
-    match answer {
-        Ok(answer) => reply_bytes(alloc, world, process, Reply::Answered(answer)),
-        Err(refusal) => reply_bytes(alloc, world, process, Reply::Refused(refusal)),
+// What is replied to a call that has come to this.
+fn replied<E: CallEnd>(came: Result<E, Refusal>) -> Reply {
+    match came {
+        Ok(end) => Reply::Answered(end.answer()),
+        Err(refusal) => Reply::Refused(refusal),
     }
 }
 
@@ -43,15 +40,15 @@ fn recover(
     alloc: Global,
     world: &mut World,
     text: &mut Vec<u8>,
-) -> Result<Vec<Result<Answer, Refusal>>, AllocError> {
+) -> Result<Vec<Result<RecoveryEnd, Refusal>>, AllocError> {
     let mut told = Vec::new(alloc);
     for process in 0..world.words.layout().processes {
         if process >= world.words.layout().processes {
             return Ok(told);
         }
-        let answer = whole_recovery(alloc, world, process);
-        text.extend_from_slice(&answered(alloc, world, process, answer)?)?;
-        told.push(answer)?;
+        let came = whole_recovery(alloc, world, process);
+        text.extend_from_slice(&reply_bytes(alloc, world, process, replied(came))?)?;
+        told.push(came)?;
     }
     Ok(told)
 }
@@ -63,7 +60,7 @@ pub(crate) fn end(alloc: Global, world: &mut World, crashed: bool) -> Result<End
     let left = settle(alloc, world, 0);
     text.extend_from_slice(&end_bytes(alloc, world, 0, left)?)?;
     let reported = whole_report(alloc, world, 0);
-    text.extend_from_slice(&answered(alloc, world, 0, reported)?)?;
+    text.extend_from_slice(&reply_bytes(alloc, world, 0, replied(reported))?)?;
     Ok(Ending {
         told,
         left,

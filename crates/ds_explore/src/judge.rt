@@ -77,7 +77,7 @@ fn is_told_done(asked: &Asked, told: Told) -> bool {
 // What the recovery of a process told.
 fn told_of(ending: &Ending, process: usize) -> Option<Told> {
     match ending.told.get(process) {
-        Some(Ok(Answer::Recovery(RecoveryEnd::Last(told)))) => Some(*told),
+        Some(Ok(RecoveryEnd::Last(told))) => Some(*told),
         _ => None,
     }
 }
@@ -100,12 +100,10 @@ fn edit_flaw(done: bool, answer: Option<Answer>) -> bool {
 }
 
 // What is wrong with the answer to a recovery.
-fn recovery_flaw(answer: Option<Answer>, again: Option<&Result<Answer, Refusal>>) -> bool {
-    match answer {
-        Some(Answer::Recovery(RecoveryEnd::Last(_))) | Some(Answer::Recovery(RecoveryEnd::Nothing)) => match (answer, again) {
-            (Some(answer), Some(Ok(again))) => answer != *again,
-            _ => true,
-        },
+fn recovery_flaw(answer: Option<Answer>, again: Option<&Result<RecoveryEnd, Refusal>>) -> bool {
+    match (answer, again) {
+        (Some(Answer::Recovery(end)), Some(Ok(again))) => end != *again,
+        (Some(Answer::Recovery(_)), _) => true,
         _ => false,
     }
 }
@@ -227,7 +225,7 @@ impl Judge {
         if ending.left != SettleEnd::Left(0) {
             flaws.push(Flaw::NotClean)?;
         }
-        if ending.reported != Ok(Answer::Report(ReportEnd::Settled)) {
+        if ending.reported != Ok(ReportEnd::Settled) {
             flaws.push(Flaw::NotSettled)?;
             return Ok(flaws);
         }

@@ -14,7 +14,7 @@ goes_on old new r o = record { columns = o.columns; rows = o.rows; processes = o
 pub is_run : (lines : List (List ℕ)) (world : WorldValue) → Follows lines world → IsOfRun world
 is_run lines world (makes line before w columns rows processes e made) = record { columns = columns; rows = rows; processes = processes; first = world; made = made; run = no_events world }
 is_run lines world (skips before line w f e) = is_run before world f
-is_run lines world (edits before line asked number old new f k) = goes_on old world (whole_runs asked.process (BeginEdit asked) old _ world k.done) (is_run before old f)
+is_run lines world (edits before line asked number old new f k) = goes_on old world (whole_runs _ _ asked.process (BeginEdit asked) old _ world k.done) (is_run before old f)
 
 pub next : (lines : List (List ℕ)) (old : WorldValue) (asked : PlainRequest) (number : ℕ) (line : List ℕ) (new : WorldValue) → Follows lines old → Keeps old asked number line new → Follows (lines ++ line ∷ []) new
 next lines old asked number line new f k = edits lines line asked number old new f k

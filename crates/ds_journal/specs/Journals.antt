@@ -2,7 +2,8 @@
 use Rattle.std.specs.Prelude.{ℕ, ◌≡◌, List, [], ◌∷◌, ◌++◌, Ok, Some, true}
 use Rattle.ds_layout.specs.declared.place.Edition.TheVariants.{Second}
 use Rattle.ds_state.specs.Value.{WorldValue}
-use Rattle.ds_state.specs.declared.answer.Answer.TheVariants.{Done}
+use Rattle.ds_state.specs.declared.answer.Answer.TheVariants.{Edit}
+use Rattle.ds_state.specs.declared.answer.EditEnd.TheVariants.{Done}
 use Rattle.ds_core.specs.Requests.{PlainRequest}
 use Rattle.ds_core.specs.declared.event.Event.TheVariants.{BeginEdit}
 use Rattle.ds_calls.specs.Whole.{Whole, IsRun}
@@ -19,7 +20,7 @@ IsEditLine world line asked = order_of Command world line ≡ Ok (Some (Does (de
 -- the line asks for this whole edit, which is answered Done with this number and leads from the one world to the other
 pub record Keeps (old : WorldValue) (asked : PlainRequest) (number : ℕ) (line : List ℕ) (new : WorldValue) : Type 0 where
   pub asks : IsEditLine old line asked
-  pub done : Whole asked.process (BeginEdit asked) old (Ok (Done number)) new
+  pub done : Whole Edit asked.process (BeginEdit asked) old (Ok (Done number)) new
 
 -- the lines lead to this world: the first one makes a new sheet, in the second layout, and each that is not skipped is a
 -- whole edit, which is answered Done

@@ -4,7 +4,8 @@ ghost use Rattle.std.specs.Prelude.{◌≡◌, ◌++◌, [], ◌∷◌, ℕ, Lis
 ghost use Rattle.ds_streams.specs.Fields.{is_skipped};
 ghost use Rattle.ds_core.specs.Takes.{IsOfWorld};
 ghost use Rattle.ds_core.specs.declared.event.Event.TheVariants.{BeginEdit};
-ghost use Rattle.ds_state.specs.declared.answer.Answer.TheVariants.{Done};
+ghost use Rattle.ds_state.specs.declared.answer.Answer.TheVariants.{Edit};
+ghost use Rattle.ds_state.specs.declared.answer.EditEnd.TheVariants.{Done};
 ghost use Rattle.ds_calls.specs.Whole.{Whole, request};
 ghost use Rattle.ds_journal.specs.Journals.{Follows, IsEditLine, Keeps, Opens};
 
@@ -15,7 +16,7 @@ use ds_layout::layout::Layout;
 use ds_layout::place::Edition;
 use ds_play::carry::new_world;
 use ds_play::order::{Begun, Call, Command, read_order};
-use ds_state::answer::{Answer, EditEnd};
+use ds_state::answer::EditEnd;
 use ds_state::world::World;
 use std::alloc::{AllocError, Global};
 
@@ -139,10 +140,10 @@ fn done(
     text: &[u8],
 ) -> Result<usize, JournalFault>
     requires { IsOfWorld world.old (request process cell text.now) }
-    ensures { IfOk result (λ number. Whole process (BeginEdit (request process cell text.now)) world.old (Ok (Done number)) world.new) }
+    ensures { IfOk result (λ number. Whole Edit process (BeginEdit (request process cell text.now)) world.old (Ok (Done number)) world.new) }
 {
     match whole_edit(alloc, world, process, cell, text) {
-        Ok(Answer::Edit(EditEnd::Done(number))) => Ok(number),
+        Ok(EditEnd::Done(number)) => Ok(number),
         Ok(_) => Err(JournalFault::NotDone),
         Err(why) => Err(JournalFault::Refused(why)),
     }

@@ -11,9 +11,10 @@ use Rattle.ds_state.specs.declared.situation.Situation.TheVariants.{Idle, Stoppe
 use Rattle.ds_recover.specs.RecoverBegun.{MayRecover}
 use Rattle.ds_recover.specs.RecoverySteps as recoveries
 use Rattle.ds_state.specs.declared.answer.Answer.{Answer}
-use Rattle.ds_state.specs.declared.answer.Answer.TheVariants.{Migrated, Already}
+use Rattle.ds_state.specs.declared.answer.Answer.TheVariants.{Migration}
 use Rattle.ds_core.specs.Kinds.{AnswersTo, IsRecoveryAnswer, RestsAs}
 use Rattle.ds_core.specs.StepEvents as steps
+use Rattle.ds_core.specs.Own.{IsInCall}
 use Rattle.ds_core.specs.RecoveryEvents.{RecoveryStepsBy, recovery_reply}
 use Rattle.ds_core.specs.Takes.{Fits}
 use Rattle.ds_core.specs.declared.event.Event.{Event}
@@ -46,8 +47,7 @@ says_ends (event ∷ events) [] before after w new h = absurd h
 
 -- behind an answer of a recovery a process is idle
 rested : (answer : Answer) (s : Situation) → IsRecoveryAnswer answer → RestsAs answer s → (next : Rest) × (s ≡ Idle next)
-rested Migrated s is r = absurd is
-rested Already s is r = absurd is
+rested (Migration end) s is r = absurd is
 rested _ s is r = r
 
 module _ (p : ℕ) where
@@ -95,7 +95,7 @@ module _ (p : ℕ) where
             layout = same_layout w h.0 (Step p) (Answered answer) fits.takes;
             good = fits.good;
           })
-      by go NotEnabled fits on = absurd (fits.takes.no_recovery e there at)
+      by go NotEnabled fits on = absurd (let w = fits.takes.waits there (subst IsInCall (sym at) tt) in let bad : Recovering e ≡ Working w.0 = sym at ∙ w.1 in cc)
       by go _ fits on = absurd fits.takes
 
   pub recovered : (events : List Event) (replies : List Reply) (w new : WorldValue) (text : List ℕ) → IsGood w → HasProcess w p → (world_of w).situation p ≡ Stopped → NoneMoves (world_of w) p

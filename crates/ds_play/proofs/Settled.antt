@@ -18,7 +18,12 @@ use Rattle.ds_state.specs.declared.work.WorkStage.{WorkStage}
 use Rattle.ds_state.specs.declared.work.WorkStage.TheVariants.{Wait}
 use Rattle.ds_work.specs.WorkTakes.{Waits}
 use Rattle.ds_state.specs.declared.answer.Answer.{Answer}
-use Rattle.ds_state.specs.declared.answer.Answer.TheVariants as answers
+use Rattle.ds_state.specs.declared.answer.Answer.TheVariants.{Work}
+use Rattle.ds_state.specs.declared.work.WorkEnd.{WorkEnd}
+use Rattle.ds_state.specs.declared.work.WorkEnd.TheVariants as work_ends
+use Rattle.ds_core.specs.Kinds.{IsWorkAnswer}
+use Rattle.ds_core.specs.Ends.{IsCallOf}
+use Rattle.ds_core.specs.StepEvents.{Rests}
 use Rattle.ds_core.specs.Takes.{Fits, WorldRun}
 use Rattle.ds_core.specs.WorkEvents.{HasWork}
 use Rattle.ds_core.specs.declared.event.Event.{Event}
@@ -31,9 +36,10 @@ use Rattle.ds_calls.specs.declared.settle.SettleStage.{SettleStage}
 use Rattle.ds_calls.specs.declared.settle.SettleStage.TheVariants as turns
 use Rattle.ds_calls.specs.Marked.{state_at, is_marked, marked_from}
 use Rattle.ds_calls.specs.Wanted.{wants, wanted, wanted_at, evaluated}
-use Rattle.ds_calls.specs.Whole.{HasProcess, IsCalling, HasBegun, Goes, stays, goes, Whole, finishes, refused}
+use Rattle.ds_calls.specs.Whole.{HasProcess, IsCallingAs, HasBegun, Goes, stays, goes, Whole, finishes, refused}
 use Rattle.ds_calls.specs.Settling.{Settling, begins, works, worked, round, first_of, next_of, goes_behind, first_turn, IsInTurn}
-use Rattle.ds_calls.proofs.Stepping.{step_goes, must_wait}
+use Rattle.ds_calls.proofs.Stepping.{step_goes, must_wait, calls_on}
+use Rattle.ds_core.proofs.CallKinds.{step_ends}
 use Rattle.ds_calls.proofs.Begins.{work_begins}
 use Rattle.ds_calls.proofs.Runs.{whole_runs, run_keeps_layout}
 use Rattle.ds_play.specs.declared.drive.Until.TheVariants.{InRound}
@@ -76,13 +82,13 @@ in_behind : (v : WorldValue) (rounds cell : ℕ) → cell < cells_of v.sheet.lay
 in_behind v rounds cell low = in_next v rounds (marked_from (world_of v) (cells_of v.sheet.layout - (cell + 1)) (cell + 1))
     (λ next is. let found = found_low (world_of v) (cells_of v.sheet.layout - (cell + 1)) (cell + 1) next is in omega (arith, found, low))
 
-in_worked : (v : WorldValue) (rounds cell : ℕ) (result : Result Answer Refusal) → cell < cells_of v.sheet.layout → IsInTurn (cells_of v.sheet.layout) (worked v rounds cell result)
+in_worked : (v : WorldValue) (rounds cell : ℕ) (result : Result WorkEnd Refusal) → cell < cells_of v.sheet.layout → IsInTurn (cells_of v.sheet.layout) (worked v rounds cell result)
 in_worked v rounds cell (Err why) low = tt
-in_worked v rounds cell (Ok answers.NoMemory) low = tt
+in_worked v rounds cell (Ok work_ends.NoMemory) low = tt
 in_worked v rounds cell (Ok _) low = in_behind v rounds cell low
 
-whole_layout : (p : ℕ) (event : Event) (old : WorldValue) (result : Result Answer Refusal) (new : WorldValue) → Whole p event old result new → new.sheet.layout ≡ old.sheet.layout
-whole_layout p event old result new h = run_keeps_layout old new (whole_runs p event old result new h)
+whole_layout : (p : ℕ) (event : Event) (old : WorldValue) (result : Result WorkEnd Refusal) (new : WorldValue) → Whole Work p event old result new → new.sheet.layout ≡ old.sheet.layout
+whole_layout p event old result new h = run_keeps_layout old new (whole_runs _ _ p event old result new h)
 
 pub in_turn : (p : ℕ) (first : WorldValue) (turn : SettleStage) (v : WorldValue) → Settling p first turn v → IsInTurn (cells_of v.sheet.layout) turn
 in_turn p first turn v begins = in_round first (cells_of first.sheet.layout + 2)
@@ -93,7 +99,7 @@ pub settling_layout : (p : ℕ) (first : WorldValue) (turn : SettleStage) (v : W
 settling_layout p first turn v begins = refl
 settling_layout p first turn v (works rounds cell old new result so_far whole) = whole_layout p _ old result new whole ∙ settling_layout p first (turns.Works rounds cell) old so_far
 
-whole_good : (p : ℕ) (event : Event) (old : WorldValue) (result : Result Answer Refusal) (new : WorldValue) → Whole p event old result new → IsGood new
+whole_good : (p : ℕ) (event : Event) (old : WorldValue) (result : Result WorkEnd Refusal) (new : WorldValue) → Whole Work p event old result new → IsGood new
 whole_good p event old result new (finishes reply mid n answer begun fits f) = f.answers.good
 whole_good p event old result new (refused why n fits) = fits.good
 
@@ -111,7 +117,19 @@ wanted_of : (p : ℕ) (shape : Shape) (s : Situation) → (wanted p shape s ≡ 
 wanted_of p shape (Working e) = elim (wanted_one p shape e e.stage refl) [ inl step ↦ inl step | inr offer ↦ inr (e, refl, offer.0, offer.1) ]
 wanted_of p shape _ = inl refl
 
-module _ (p : ℕ) (w mid : WorldValue) (good : IsGood w) (calling : IsCalling w p) where
+-- a process whose step has another reply makes none
+no_step : (w mid : WorldValue) (p : ℕ) (reply : Reply) → Fits w (Step p) reply mid → reply ≢ Stepped → ((answer : Answer) → reply ≢ Answered answer) → Rests (IsCallOf IsWorkAnswer) w p mid
+no_step w mid p Stepped fits ns na = absurd (ns refl)
+no_step w mid p (Answered answer) fits ns na = absurd (na answer refl)
+no_step w mid p NotEnabled fits ns na = record { same = fits.takes.same; waits = λ low call. fits.takes.waits low call.0 }
+no_step w mid p _ fits ns na = absurd fits.takes
+
+-- an answer of work is how it ended
+work_of : (answer : Answer) → IsWorkAnswer answer → (end : WorkEnd) × (answer ≡ Work end)
+work_of (Work end) h = (end, refl)
+work_of _ h = absurd h
+
+module _ (p : ℕ) (w mid : WorldValue) (good : IsGood w) (calling : IsCallingAs IsWorkAnswer w p) where
   step_or_offer : (wants w p ≡ Step p) ⊎ ((e : PlainWorkCall) × ((world_of w).situation p ≡ Working e) × (e.stage ≡ Wait) × (wants w p ≡ Offer (evaluated w.sheet.layout.shape e)))
   step_or_offer = wanted_of p w.sheet.layout.shape ((world_of w).situation p)
 
@@ -131,7 +149,7 @@ module _ (p : ℕ) (w mid : WorldValue) (good : IsGood w) (calling : IsCalling w
 
   no_other : (reply : Reply) → reply ≢ Stepped → ((answer : Answer) → reply ≢ Answered answer) → Fits w (wants w p) reply mid → ⊥
   no_other reply ns na fits = elim step_or_offer [
-    | inl step ↦ must_wait w mid p reply calling (subst (λ (e : Event). Fits w e reply mid) step fits) ns na (λ e waits. (let bad : Step p ≡ Offer (evaluated w.sheet.layout.shape e) = sym step ∙ waits_wants e waits in cc))
+    | inl step ↦ must_wait IsWorkAnswer w mid p calling (no_step w mid p reply (subst (λ (e : Event). Fits w e reply mid) step fits) ns na) (λ e waits. (let bad : Step p ≡ Offer (evaluated w.sheet.layout.shape e) = sym step ∙ waits_wants e waits in cc))
     | inr offer ↦ only_offered offer.0 reply offer.1 offer.2 ns (subst (λ (e : Event). Fits w e reply mid) offer.3 fits)
   ]
 
@@ -141,16 +159,16 @@ module _ (p : ℕ) (w mid : WorldValue) (good : IsGood w) (calling : IsCalling w
     | inr offer ↦ absurd (only_offered offer.0 (Answered answer) offer.1 offer.2 (λ is. cc) (subst (λ (e : Event). Fits w e (Answered answer) mid) offer.3 fits))
   ]
 
-  still_calling : Fits w (wants w p) Stepped mid → IsCalling mid p
+  still_calling : Fits w (wants w p) Stepped mid → IsCallingAs IsWorkAnswer mid p
   still_calling fits = elim step_or_offer [
-    | inl step ↦ (step_goes w mid p good.sound calling (subst (λ (e : Event). Fits w e Stepped mid) step fits)).calling
+    | inl step ↦ calls_on IsWorkAnswer w mid p calling (step_goes w mid p good.sound (record { there = calling.there; calls = calling.calls.0 }) (subst (λ (e : Event). Fits w e Stepped mid) step fits))
     | inr offer ↦ (
         let f : Fits w (Offer (evaluated w.sheet.layout.shape offer.0)) Stepped mid = subst (λ (e : Event). Fits w e Stepped mid) offer.3 fits in
         let o = f.takes.offered in
         let mine : o.work.process ≡ p = o.mine ∙ its offer.0 offer.1 in
         record {
           there = subst (λ (y : Layout). p < y.processes) (sym o.offers.turn.layout) calling.there;
-          calls = subst Rattle.ds_core.specs.Own.IsInCall (sym (ap (λ q. (world_of mid).situation q) (sym mine) ∙ o.offers.turn.situation)) tt;
+          calls = subst (λ (x : Situation). IsCallOf IsWorkAnswer x) (sym (ap (λ q. (world_of mid).situation q) (sym mine) ∙ o.offers.turn.situation)) (tt, λ answer h. h);
         })
   ]
 
@@ -160,9 +178,9 @@ on_in_round : (p rounds cell : ℕ) (w : WorldValue) (event : Event) → driven 
 on_in_round p rounds cell w (Offer value) = refl
 on_in_round p rounds cell w event = refl
 
-ends_round : (p rounds cell : ℕ) (w : WorldValue) (event : Event) (answer : Answer) → driven w p (InRound rounds cell) event (Answered answer) ≡ at_turn w p (worked w rounds cell (Ok answer))
-ends_round p rounds cell w (Offer value) answer = refl
-ends_round p rounds cell w event answer = refl
+ends_round : (p rounds cell : ℕ) (w : WorldValue) (event : Event) (end : WorkEnd) → driven w p (InRound rounds cell) event (Answered (Work end)) ≡ at_turn w p (worked w rounds cell (Ok end))
+ends_round p rounds cell w (Offer value) end = refl
+ends_round p rounds cell w event end = refl
 
 module _ (p : ℕ) (first : WorldValue) (good : IsGood first) (there : HasProcess first p) (text : List ℕ) (new : WorldValue) where
   -- it has ended so, and this is its text
@@ -181,7 +199,7 @@ module _ (p : ℕ) (first : WorldValue) (good : IsGood first) (there : HasProces
     events : List Event
     replies : List Reply
     goes_so : Goes p mid events replies w
-    calling : IsCalling w p
+    calling : IsCallingAs IsWorkAnswer w p
     good_now : IsGood w
 
   has_work : (rounds cell : ℕ) (old : WorldValue) → Settling p first (turns.Works rounds cell) old → HasWork old p (cell_at old.sheet.layout.shape cell)
@@ -230,7 +248,7 @@ module _ (p : ℕ) (first : WorldValue) (good : IsGood first) (there : HasProces
       → Plays (called mid p (InRound rounds cell) reply) mid events replies (Says text) new → Settles
   begin_plays events replies on rounds cell w mid Entered s fits h =
       on rounds cell mid
-      (record { old = w; so_far = s; reply = Entered; mid = mid; begun = tt; fits = fits; events = []; replies = []; goes_so = stays; calling = (work_begins w mid p (cell_at w.sheet.layout.shape cell) Entered (has_work rounds cell w s) fits).0; good_now = fits.good }) h
+      (record { old = w; so_far = s; reply = Entered; mid = mid; begun = tt; fits = fits; events = []; replies = []; goes_so = stays; calling = (work_begins w mid p (cell_at w.sheet.layout.shape cell) Entered (has_work rounds cell w s) fits); good_now = fits.good }) h
   begin_plays events replies on rounds cell w mid (Refused why) s fits h = refused_plays events replies rounds cell w mid why s fits h
   begin_plays events replies on rounds cell w mid NotEnabled s fits h = absurd (fits.takes.unnamed (has_work rounds cell w s))
   begin_plays events replies on rounds cell w mid _ s fits h = absurd fits.takes
@@ -240,9 +258,13 @@ module _ (p : ℕ) (first : WorldValue) (good : IsGood first) (there : HasProces
   reply_plays events replies turn on rounds cell w mid event Stepped u fits h =
       on rounds cell mid (goes_next rounds cell w mid u fits) (subst (λ (d : Doing). Plays d mid events replies (Says text) new) (on_in_round p rounds cell mid event) h)
   reply_plays events replies turn on rounds cell w mid event (Answered answer) u fits h =
-      turn (worked mid rounds cell (Ok answer)) mid
-      (works rounds cell u.old mid (Ok answer) u.so_far (finishes u.reply u.mid mid answer u.begun u.fits (record { events = u.events; replies = u.replies; last = w; goes = u.goes_so; answers = steps_end p w mid u.good_now u.calling answer fits })))
-      (subst (λ (d : Doing). Plays d mid events replies (Says text) new) (ends_round p rounds cell mid event answer) h)
+      let ends = steps_end p w mid u.good_now u.calling answer fits in
+      let work = work_of answer (u.calling.calls.1 answer (step_ends w mid p answer ends.takes).to) in
+      let answers = subst (λ (a : Answer). Fits w (Step p) (Answered a) mid) work.1 ends in
+      let plays = subst (λ (a : Answer). Plays (driven mid p (InRound rounds cell) event (Answered a)) mid events replies (Says text) new) work.1 h in
+      turn (worked mid rounds cell (Ok work.0)) mid
+      (works rounds cell u.old mid (Ok work.0) u.so_far (finishes u.reply u.mid mid work.0 u.begun u.fits (record { events = u.events; replies = u.replies; last = w; goes = u.goes_so; answers = answers })))
+      (subst (λ (d : Doing). Plays d mid events replies (Says text) new) (ends_round p rounds cell mid event work.0) plays)
   reply_plays events replies turn on rounds cell w mid event reply u fits h = absurd (no_other p w mid u.good_now u.calling reply (λ is. cc) (λ answer is. cc) fits)
 
   mutual

@@ -6,6 +6,8 @@ use Rattle.ds_formula.specs.Cells.{cell_at}
 use Rattle.ds_state.specs.Value.{WorldValue}
 use Rattle.ds_state.specs.declared.refusal.Refusal.{Refusal}
 use Rattle.ds_state.specs.declared.answer.Answer.{Answer}
+use Rattle.ds_state.specs.declared.answer.Answer.TheVariants.{Work}
+use Rattle.ds_state.specs.declared.work.WorkEnd.{WorkEnd}
 use Rattle.ds_core.specs.Takes.{Fits}
 use Rattle.ds_core.specs.declared.event.Event.{Event}
 use Rattle.ds_core.specs.declared.event.Event.TheVariants.{Step, Offer, BeginWork}
@@ -14,7 +16,8 @@ use Rattle.ds_core.specs.declared.reply.Reply.TheVariants.{Begun, Entered, Refus
 use Rattle.ds_calls.specs.declared.settle.SettleStage.{SettleStage}
 use Rattle.ds_calls.specs.Wanted.{wants}
 use Rattle.ds_calls.specs.Whole as whole
-use Rattle.ds_calls.specs.Whole.{Goes, Finishes, Whole, HasBegun, IsCalling, request}
+use Rattle.ds_calls.specs.Whole.{Goes, Finishes, Whole, HasBegun, IsCallingAs, request}
+use Rattle.ds_core.specs.Kinds.{IsEditAnswer, IsWorkAnswer, IsReportAnswer, IsRecoveryAnswer, IsMigrationAnswer}
 use Rattle.ds_calls.specs.Settling as settling
 use Rattle.ds_calls.specs.Settling.{Settling, worked}
 use Rattle.ds_calls.proofs.Stepping.{answered_wants}
@@ -65,12 +68,12 @@ begun_drives w p until (Begun number) h = refl
 begun_drives w p until Entered h = refl
 begun_drives w p until _ h = absurd h
 
-whole_leads : (p rounds cell : ℕ) (old : WorldValue) (result : Result Answer Refusal) (new : WorldValue) → Whole p (BeginWork p (cell_at old.sheet.layout.shape cell)) old result new
+whole_leads : (p rounds cell : ℕ) (old : WorldValue) (result : Result WorkEnd Refusal) (new : WorldValue) → Whole Work p (BeginWork p (cell_at old.sheet.layout.shape cell)) old result new
     → Leads (Works p rounds cell) old (at_turn new p (worked new rounds cell result)) new
-whole_leads p rounds cell old result new (whole.finishes reply mid n answer begun fits h) =
-    leads_on (Works p rounds cell) (Drives p (InRound rounds cell)) (at_turn new p (worked new rounds cell (Ok answer))) old mid new
+whole_leads p rounds cell old result new (whole.finishes reply mid n end begun fits h) =
+    leads_on (Works p rounds cell) (Drives p (InRound rounds cell)) (at_turn new p (worked new rounds cell (Ok end))) old mid new
     (one (Works p rounds cell) (Drives p (InRound rounds cell)) old mid (BeginWork p (cell_at old.sheet.layout.shape cell)) reply refl fits (begun_drives mid p (InRound rounds cell) reply begun))
-    (finishes_leads p (InRound rounds cell) (on_in_round p rounds cell) mid answer new h)
+    (finishes_leads p (InRound rounds cell) (on_in_round p rounds cell) mid (Work end) new h)
 whole_leads p rounds cell old result new (whole.refused why n fits) =
     one (Works p rounds cell) (Says (reply_text new p (Refused why))) old new (BeginWork p (cell_at old.sheet.layout.shape cell)) (Refused why) refl fits refl
 
@@ -83,17 +86,21 @@ call_leads old mid new p event reply answer fits begun h =
     leads_on (Calls p event) (Drives p ToAnswer) (Says (reply_text new p (Answered answer))) old mid new
     (one (Calls p event) (Drives p ToAnswer) old mid event reply refl fits begun) (finishes_leads p ToAnswer (on_to_answer p) mid answer new h)
 
+-- a call of some kind is one of any
+of_any : (kind : Answer → Type 0) (v : WorldValue) (p : ℕ) → IsCallingAs kind v p → IsCallingAs (λ answer. Unit {0}) v p
+of_any kind v p calling = record { there = calling.there; calls = (calling.calls.0, λ answer h. tt) }
+
 -- a call that has begun is one of a process of the sheet
-pub starts : (old new : WorldValue) (p : ℕ) (call : Call) (reply : Reply) → Fits old (beginning p call) reply new → HasBegun reply → IsCalling new p
-starts old new p (calls.Edit cell text) (Begun number) fits h = (edit_begins old new (request p cell text.now) (Begun number) fits.takes.named fits).0
+pub starts : (old new : WorldValue) (p : ℕ) (call : Call) (reply : Reply) → Fits old (beginning p call) reply new → HasBegun reply → IsCallingAs (λ answer. Unit {0}) new p
+starts old new p (calls.Edit cell text) (Begun number) fits h = of_any IsEditAnswer new p (edit_begins old new (request p cell text.now) (Begun number) fits.takes.named fits)
 starts old new p (calls.Edit cell text) Entered fits h = absurd fits.takes
-starts old new p (calls.Work cell) Entered fits h = (work_begins old new p cell Entered fits.takes.named fits).0
+starts old new p (calls.Work cell) Entered fits h = of_any IsWorkAnswer new p (work_begins old new p cell Entered fits.takes.named fits)
 starts old new p (calls.Work cell) (Begun number) fits h = absurd fits.takes
-starts old new p calls.Report Entered fits h = (report_begins old new p Entered fits.takes.there fits).0
+starts old new p calls.Report Entered fits h = of_any IsReportAnswer new p (report_begins old new p Entered fits.takes.there fits)
 starts old new p calls.Report (Begun number) fits h = absurd fits.takes
-starts old new p calls.Recovery Entered fits h = (recovery_begins old new p Entered fits.takes.there fits).0
+starts old new p calls.Recovery Entered fits h = of_any IsRecoveryAnswer new p (recovery_begins old new p Entered fits.takes.there fits)
 starts old new p calls.Recovery (Begun number) fits h = absurd fits.takes
-starts old new p calls.Migration Entered fits h = (migration_begins old new p Entered fits.takes.there fits).0
+starts old new p calls.Migration Entered fits h = of_any IsMigrationAnswer new p (migration_begins old new p Entered fits.takes.there fits)
 starts old new p calls.Migration (Begun number) fits h = absurd fits.takes
 starts old new p call _ fits h = absurd h
 

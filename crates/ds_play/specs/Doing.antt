@@ -5,6 +5,7 @@ use Rattle.ds_layout.specs.SheetMemory.{memory}
 use Rattle.ds_state.specs.Value.{WorldValue, world_of}
 use Rattle.ds_state.specs.declared.situation.Situation.{Situation}
 use Rattle.ds_state.specs.declared.answer.Answer.TheVariants as answers
+use Rattle.ds_state.specs.declared.work.WorkEnd.TheVariants as work_ends
 use Rattle.ds_core.specs.declared.event.Event.{Event}
 use Rattle.ds_core.specs.declared.event.Event.TheVariants as events
 use Rattle.ds_core.specs.declared.reply.Reply.{Reply}
@@ -50,7 +51,7 @@ asks (Works p rounds cell) w = Some (events.BeginWork p (cell_at w.sheet.layout.
 abbrev pub end_text : WorldValue → ℕ → SettleEnd → List ℕ
 end_text w p (Left count) = left_text count
 end_text w p (Refused why) = reply_text w p (replies.Refused why)
-end_text w p NoMemory = answer_text w p answers.NoMemory
+end_text w p NoMemory = answer_text w p (answers.Work work_ends.NoMemory)
 
 -- where a settle by the process stands at this turn: it ends with a text, or works on a cell
 abbrev pub at_turn : WorldValue → ℕ → SettleStage → Doing
@@ -77,9 +78,10 @@ offered w p (ToPoint name) = to_point p name ((world_of w).situation p)
 offered w p ToAnswer = Drives p ToAnswer
 offered w p (InRound rounds cell) = Drives p (InRound rounds cell)
 
--- what a command does once the call that it drives has ended, or can not go on: a settle takes its next turn
+-- what a command does once the call that it drives has ended, or can not go on: a settle takes its next turn behind a
+-- work
 abbrev pub ended : WorldValue → ℕ → Until → Reply → Doing
-ended w p (InRound rounds cell) (Answered answer) = at_turn w p (worked w rounds cell (Ok answer))
+ended w p (InRound rounds cell) (Answered (answers.Work end)) = at_turn w p (worked w rounds cell (Ok end))
 ended w p until reply = Says (reply_text w p reply)
 
 -- what a command does when the event of the process that it drives has this reply

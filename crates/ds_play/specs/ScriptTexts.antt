@@ -19,6 +19,16 @@ use Rattle.ds_state.specs.World.{PlainWorld}
 use Rattle.ds_state.specs.Shown.{mark_in, value_in, text_in}
 use Rattle.ds_state.specs.declared.answer.Answer.{Answer}
 use Rattle.ds_state.specs.declared.answer.Answer.TheVariants as answers
+use Rattle.ds_state.specs.declared.answer.EditEnd.{EditEnd}
+use Rattle.ds_state.specs.declared.answer.EditEnd.TheVariants as edit_ends
+use Rattle.ds_state.specs.declared.work.WorkEnd.{WorkEnd}
+use Rattle.ds_state.specs.declared.work.WorkEnd.TheVariants as work_ends
+use Rattle.ds_state.specs.declared.recovery.RecoveryEnd.{RecoveryEnd}
+use Rattle.ds_state.specs.declared.recovery.RecoveryEnd.TheVariants as recovery_ends
+use Rattle.ds_state.specs.declared.migration.MigrateEnd.{MigrateEnd}
+use Rattle.ds_state.specs.declared.migration.MigrateEnd.TheVariants as migrate_ends
+use Rattle.ds_state.specs.declared.report.ReportEnd.{ReportEnd}
+use Rattle.ds_state.specs.declared.report.ReportEnd.TheVariants as report_ends
 use Rattle.ds_state.specs.declared.answer.Other.{Other}
 use Rattle.ds_state.specs.declared.recovery.Told.{Told}
 use Rattle.ds_core.specs.declared.reply.Reply.{Reply}
@@ -63,22 +73,42 @@ unsettled_text shape other word = codes "unsettled " ++ (decimal word ++ codes "
 abbrev pub values_of : WorldValue → ℕ → List Value
 values_of w p = slice_index_or w.reports.values p []
 
--- the line of an answer, in the world that it leaves
+-- the line of an edit that ended so
+abbrev pub edit_text : ℕ → EditEnd → List ℕ
+edit_text p (edit_ends.Done number) = done_text p number
+edit_text p (edit_ends.Overtaken number by) = overtaken_text p number by
+
+-- the line of a work that ended so
+abbrev pub work_text : ℕ → WorkEnd → List ℕ
+work_text p work_ends.NotDirty = word_line p (codes "notdirty")
+work_text p work_ends.Missed = word_line p (codes "missed")
+work_text p work_ends.Worn = word_line p (codes "worn")
+work_text p (work_ends.Published changed) = word_line p (changed_text changed)
+work_text p work_ends.Again = word_line p (codes "again")
+work_text p work_ends.NoMemory = word_line p (codes "nomemory")
+
+-- the text of a report that ended so, where these are its values once it is settled
+abbrev pub report_text : Shape → List Value → ReportEnd → List ℕ
+report_text shape values report_ends.Settled = settled_text shape values
+report_text shape values (report_ends.Unsettled place word) = unsettled_text shape place word
+
+-- the line of a recovery that ended so
+abbrev pub recovery_text : Shape → ℕ → RecoveryEnd → List ℕ
+recovery_text shape p (recovery_ends.Last told) = last_text shape p told
+recovery_text shape p recovery_ends.Nothing = word_line p (codes "nothing")
+
+-- the line of a migration that ended so
+abbrev pub migration_text : ℕ → MigrateEnd → List ℕ
+migration_text p migrate_ends.Migrated = word_line p (codes "migrated")
+migration_text p migrate_ends.Already = word_line p (codes "already")
+
+-- the text of an answer, in the world that it leaves
 abbrev pub answer_text : WorldValue → ℕ → Answer → List ℕ
-answer_text w p (answers.Done number) = done_text p number
-answer_text w p (answers.Overtaken number by) = overtaken_text p number by
-answer_text w p answers.NotDirty = word_line p (codes "notdirty")
-answer_text w p answers.Missed = word_line p (codes "missed")
-answer_text w p answers.Worn = word_line p (codes "worn")
-answer_text w p (answers.Published changed) = word_line p (changed_text changed)
-answer_text w p answers.Again = word_line p (codes "again")
-answer_text w p answers.NoMemory = word_line p (codes "nomemory")
-answer_text w p (answers.Last told) = last_text w.sheet.layout.shape p told
-answer_text w p answers.Nothing = word_line p (codes "nothing")
-answer_text w p answers.Migrated = word_line p (codes "migrated")
-answer_text w p answers.Already = word_line p (codes "already")
-answer_text w p answers.Settled = settled_text w.sheet.layout.shape (values_of w p)
-answer_text w p (answers.Unsettled place word) = unsettled_text w.sheet.layout.shape place word
+answer_text w p (answers.Edit end) = edit_text p end
+answer_text w p (answers.Work end) = work_text p end
+answer_text w p (answers.Report end) = report_text w.sheet.layout.shape (values_of w p) end
+answer_text w p (answers.Recovery end) = recovery_text w.sheet.layout.shape p end
+answer_text w p (answers.Migration end) = migration_text p end
 
 -- the line of a reply to the process, in the world behind it
 abbrev pub reply_text : WorldValue → ℕ → Reply → List ℕ

@@ -24,6 +24,7 @@ use ds_core::take::take;
 use ds_formula::cells::Cell;
 use ds_layout::layout::Layout;
 use ds_layout::place::Edition;
+use ds_state::answer::Answer;
 use ds_state::world::World;
 use std::alloc::{AllocError, Global};
 
@@ -122,7 +123,7 @@ fn whole(
 {
     match begins(alloc, world, process, call) {
         Reply::Begun(_) | Reply::Entered => {
-            let answer = finish(alloc, world, process);
+            let answer: Answer = finish(alloc, world, process);
             reply_bytes(alloc, world, process, Reply::Answered(answer))
         }
         reply => reply_bytes(alloc, world, process, reply),

@@ -5,10 +5,8 @@ ghost use Rattle.ds_formula.specs.Cells.{IsInside};
 ghost use Rattle.ds_layout.specs.Places.{IsPlace};
 ghost use Rattle.ds_layout.specs.SheetMemory.{memory};
 ghost use Rattle.ds_state.specs.Value.{world_of};
-ghost use Rattle.ds_state.specs.declared.answer.Answer.TheVariants.{Settled};
-ghost use Rattle.ds_core.specs.declared.reply.Reply.TheVariants.{Answered};
 ghost use Rattle.ds_streams.specs.AnswerTexts.{settled_text};
-ghost use Rattle.ds_play.specs.ScriptTexts.{counts_text, changed_text, last_text, unsettled_text, values_of, answer_text, reply_text, at_text, left_text, shown_text, state_text, peek_head, peek_text, word_line, word_text};
+ghost use Rattle.ds_play.specs.ScriptTexts.{counts_text, changed_text, last_text, unsettled_text, values_of, edit_text, work_text, report_text, recovery_text, migration_text, answer_text, reply_text, at_text, left_text, shown_text, state_text, peek_head, peek_text, word_line, word_text};
 ghost use Rattle.ds_play.specs.Doing.{end_text};
 ghost use Rattle.ds_play.specs.Plays.{halt_text};
 
@@ -104,61 +102,91 @@ fn published_line(alloc: Global, process: usize, how: bool) -> Result<String, Al
     Ok(line)
 }
 
-// The line of an answer that is no settled report.
-fn answer_line(
+// The line of an edit.
+fn edit_line(alloc: Global, process: usize, end: EditEnd) -> Result<String, AllocError>
+    ensures { IfOk result (λ line. string_bytes line ≡ edit_text process end) }
+{
+    match end {
+        EditEnd::Done(number) => done_line(alloc, process, number),
+        EditEnd::Overtaken(number, by) => format!(in alloc;
+            "{process} {number} overtaken by {} {}\n",
+            by.process, by.number
+        ),
+    }
+}
+
+// The line of a work.
+fn work_line(alloc: Global, process: usize, end: WorkEnd) -> Result<String, AllocError>
+    ensures { IfOk result (λ line. string_bytes line ≡ work_text process end) }
+{
+    match end {
+        WorkEnd::NotDirty => format!(in alloc; "{process} notdirty\n"),
+        WorkEnd::Missed => format!(in alloc; "{process} missed\n"),
+        WorkEnd::Worn => format!(in alloc; "{process} worn\n"),
+        WorkEnd::Published(how) => published_line(alloc, process, how),
+        WorkEnd::Again => format!(in alloc; "{process} again\n"),
+        WorkEnd::NoMemory => format!(in alloc; "{process} nomemory\n"),
+    }
+}
+
+// The text of a report, where these are its values once it is settled.
+fn report_bytes(
+    alloc: Global,
+    shape: Shape,
+    values: &[Value],
+    end: ReportEnd,
+) -> Result<Vec<u8>, AllocError>
+    ensures { IfOk result (λ text. text.items ≡ report_text shape values.now end) }
+{
+    match end {
+        ReportEnd::Settled => report_lines(alloc, shape, values),
+        ReportEnd::Unsettled(place, word) => {
+            Ok(unsettled_line(alloc, shape, place, word)?.into_bytes())
+        }
+    }
+}
+
+// The line of a recovery.
+fn recovery_line(
+    alloc: Global,
+    shape: Shape,
+    process: usize,
+    end: RecoveryEnd,
+) -> Result<String, AllocError>
+    ensures { IfOk result (λ line. string_bytes line ≡ recovery_text shape process end) }
+{
+    match end {
+        RecoveryEnd::Last(told) => last_line(alloc, shape, process, told),
+        RecoveryEnd::Nothing => format!(in alloc; "{process} nothing\n"),
+    }
+}
+
+// The line of a migration.
+fn migration_line(alloc: Global, process: usize, end: MigrateEnd) -> Result<String, AllocError>
+    ensures { IfOk result (λ line. string_bytes line ≡ migration_text process end) }
+{
+    match end {
+        MigrateEnd::Migrated => format!(in alloc; "{process} migrated\n"),
+        MigrateEnd::Already => format!(in alloc; "{process} already\n"),
+    }
+}
+
+// The text of an answer to a process.
+fn answer_bytes(
     alloc: Global,
     world: &World,
     process: usize,
     answer: Answer,
-) -> Result<String, AllocError>
-    requires { answer ≢ Settled }
-    ensures { IfOk result (λ line. string_bytes line ≡ answer_text world.now process answer) }
+) -> Result<Vec<u8>, AllocError>
+    ensures { IfOk result (λ text. text.items ≡ answer_text world.now process answer) }
 {
     let shape = world.words.layout().shape;
     match answer {
-        Answer::Edit(EditEnd::Done(number)) => done_line(alloc, process, number),
-        Answer::Edit(EditEnd::Overtaken(number, by)) => {
-            format!(in alloc;
-                "{process} {number} overtaken by {} {}\n",
-                by.process, by.number
-            )
-        }
-        Answer::Work(WorkEnd::NotDirty) => format!(in alloc; "{process} notdirty\n"),
-        Answer::Work(WorkEnd::Missed) => format!(in alloc; "{process} missed\n"),
-        Answer::Work(WorkEnd::Worn) => format!(in alloc; "{process} worn\n"),
-        Answer::Work(WorkEnd::Published(how)) => { published_line(alloc, process, how) }
-        Answer::Work(WorkEnd::Again) => format!(in alloc; "{process} again\n"),
-        Answer::Work(WorkEnd::NoMemory) => format!(in alloc; "{process} nomemory\n"),
-        Answer::Recovery(RecoveryEnd::Last(told)) => last_line(alloc, shape, process, told),
-        Answer::Recovery(RecoveryEnd::Nothing) => format!(in alloc; "{process} nothing\n"),
-        Answer::Migration(MigrateEnd::Migrated) => format!(in alloc; "{process} migrated\n"),
-        Answer::Migration(MigrateEnd::Already) => format!(in alloc; "{process} already\n"),
-        Answer::Report(ReportEnd::Settled) => format!(in alloc; "settled\n"),
-        Answer::Report(ReportEnd::Unsettled(place, word)) => unsettled_line(alloc, shape, place, word),
-    }
-}
-
-// The line of a reply to a process, which is no settled report.
-fn reply_line(
-    alloc: Global,
-    world: &World,
-    process: usize,
-    reply: Reply,
-) -> Result<String, AllocError>
-    requires { reply ≢ Answered Settled }
-    ensures { IfOk result (λ line. string_bytes line ≡ reply_text world.now process reply) }
-{
-    match reply {
-        Reply::Begun(number) => format!(in alloc; "{process} begun {number}\n"),
-        Reply::Entered => format!(in alloc; "{process} begun\n"),
-        Reply::Refused(refusal) => refused_line(alloc, process, refusal),
-        Reply::Stepped => format!(in alloc; "{process} stepped\n"),
-        Reply::Answered(answer) => answer_line(alloc, world, process, answer),
-        Reply::WrongTask => format!(in alloc; "{process} wrong-task\n"),
-        Reply::Stopped => format!(in alloc; "{process} stopped\n"),
-        Reply::Crashed => format!(in alloc; "crashed\n"),
-        Reply::Evicted => format!(in alloc; "evicted\n"),
-        Reply::NotEnabled => format!(in alloc; "{process} not-enabled\n"),
+        Answer::Edit(end) => Ok(edit_line(alloc, process, end)?.into_bytes()),
+        Answer::Work(end) => Ok(work_line(alloc, process, end)?.into_bytes()),
+        Answer::Report(end) => report_bytes(alloc, shape, values(world, process), end),
+        Answer::Recovery(end) => Ok(recovery_line(alloc, shape, process, end)?.into_bytes()),
+        Answer::Migration(end) => Ok(migration_line(alloc, process, end)?.into_bytes()),
     }
 }
 
@@ -180,11 +208,19 @@ pub fn reply_bytes(
 ) -> Result<Vec<u8>, AllocError>
     ensures { IfOk result (λ line. line.items ≡ reply_text world.now process reply) }
 {
-    if reply == Reply::Answered(Answer::Report(ReportEnd::Settled)) {
-        let shape = world.words.layout().shape;
-        return report_lines(alloc, shape, values(world, process));
-    }
-    Ok(reply_line(alloc, world, process, reply)?.into_bytes())
+    let line = match reply {
+        Reply::Begun(number) => format!(in alloc; "{process} begun {number}\n")?,
+        Reply::Entered => format!(in alloc; "{process} begun\n")?,
+        Reply::Refused(refusal) => refused_line(alloc, process, refusal)?,
+        Reply::Stepped => format!(in alloc; "{process} stepped\n")?,
+        Reply::Answered(answer) => return answer_bytes(alloc, world, process, answer),
+        Reply::WrongTask => format!(in alloc; "{process} wrong-task\n")?,
+        Reply::Stopped => format!(in alloc; "{process} stopped\n")?,
+        Reply::Crashed => format!(in alloc; "crashed\n")?,
+        Reply::Evicted => format!(in alloc; "evicted\n")?,
+        Reply::NotEnabled => format!(in alloc; "{process} not-enabled\n")?,
+    };
+    Ok(line.into_bytes())
 }
 
 /// The text of where a process was driven to. An error is a want of memory.

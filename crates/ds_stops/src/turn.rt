@@ -3,6 +3,7 @@
 ghost use Rattle.std.specs.Prelude.{◌≡◌, ◌<◌, IfSome};
 ghost use Rattle.ds_layout.specs.Places.{cells_of};
 ghost use Rattle.ds_state.specs.Value.{WorldValue, world_of};
+ghost use Rattle.ds_state.specs.declared.answer.Answer.TheVariants.{Work};
 ghost use Rattle.ds_core.specs.declared.reply.Reply.TheVariants.{Answered};
 ghost use Rattle.ds_play.specs.declared.drive.Until.TheVariants.{InRound, ToPoint};
 ghost use Rattle.ds_calls.specs.Settling.{IsInTurn};
@@ -17,6 +18,7 @@ use ds_play::drive::{Until, has_come};
 use ds_play::point::PointName;
 use ds_play::settle::begin;
 use ds_state::answer::Answer;
+use ds_state::work::WorkEnd;
 use ds_state::world::World;
 use ds_work::offer::offer_own;
 use std::alloc::Global;
@@ -86,8 +88,8 @@ pub fn after_begin(process: usize, until: Until, reply: Reply) -> Option<Left>
     }
 }
 
-// What is left once the process's work was offered its entry.
-fn after_offer(world: &World, process: usize, until: Until) -> Option<Left>
+/// What is left once the process's work was offered its entry.
+pub fn after_offer(world: &World, process: usize, until: Until) -> Option<Left>
     requires { IsWithin world.now (Left.Drives process until) }
     ensures remains { Remains result (offered world.now process until) }
     ensures within { IfSome result (IsWithin world.now) }
@@ -101,8 +103,8 @@ fn after_offer(world: &World, process: usize, until: Until) -> Option<Left>
     }
 }
 
-// What is left once the process has made a step.
-fn after_step(world: &World, process: usize, until: Until) -> Option<Left>
+/// What is left once the process has made a step.
+pub fn after_step(world: &World, process: usize, until: Until) -> Option<Left>
     requires { IsWithin world.now (Left.Drives process until) }
     ensures remains { Remains result (stepped world.now process until) }
     ensures within { IfSome result (IsWithin world.now) }
@@ -116,31 +118,35 @@ fn after_step(world: &World, process: usize, until: Until) -> Option<Left>
     }
 }
 
-// What is left of a settle once its work on the cell was answered.
+// What is left of a settle once its work on the cell has ended so.
 fn after_work(
     world: &World,
     process: usize,
     rounds: usize,
     cell: usize,
-    answer: Answer,
+    end: WorkEnd,
 ) -> Option<Left>
     requires { cell < cells_of world.now.sheet.layout }
-    ensures remains { Remains result (ended world.now process (InRound rounds cell) (Answered answer)) }
+    ensures remains { Remains result (ended world.now process (InRound rounds cell) (Answered (Work end))) }
     ensures within { IfSome result (IsWithin world.now) }
 {
-    let next = settle::worked(world, rounds, cell, Ok(answer));
+    let next = settle::worked(world, rounds, cell, Ok(end));
     left_of(process, next)
 }
 
-// What is left once the process's call was answered.
-fn after_answer(world: &World, process: usize, until: Until, answer: Answer) -> Option<Left>
+/// What is left once the process's call was answered: of a settle, where a work of its was.
+pub fn after_answer(world: &World, process: usize, until: Until, answer: Answer) -> Option<Left>
     requires { IsWithin world.now (Left.Drives process until) }
     ensures remains { Remains result (ended world.now process until (Answered answer)) }
     ensures within { IfSome result (IsWithin world.now) }
 {
     match until {
         Until::OneStep | Until::ToPoint(_) | Until::ToAnswer => None,
-        Until::InRound { rounds, cell } => after_work(world, process, rounds, cell, answer),
+        Until::InRound { rounds, cell } => match answer {
+            Answer::Work(end) => after_work(world, process, rounds, cell, end),
+            Answer::Edit(_) | Answer::Report(_) => None,
+            Answer::Recovery(_) | Answer::Migration(_) => None,
+        },
     }
 }
 

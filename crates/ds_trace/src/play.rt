@@ -24,68 +24,10 @@ use ds_play::carry::new_world;
 use ds_play::drive::Until;
 use ds_play::order::{Call, Command};
 use ds_play::point::PointName;
-use ds_state::answer::Answer;
 use ds_state::world::World;
-use ds_stops::turn::{Left, after_begin, left_of, to_point};
+use ds_stops::turn::{Left, after_answer, after_begin, after_offer, after_step, left_of, to_point};
 use ds_work::offer::offer_own;
 use std::alloc::Global;
-
-// What is left once the process's work was given its entry.
-fn after_offer(world: &World, process: usize, until: Until) -> Option<Left>
-    requires { IsWithin world.now (Left.Drives process until) }
-    ensures remains { Remains result (offered world.now process until) }
-    ensures within { IfSome result (IsWithin world.now) }
-{
-    match until {
-        Until::ToPoint(name) => to_point(world, process, name),
-        Until::OneStep | Until::ToAnswer | Until::InRound { rounds: _, cell: _ } => {
-            Some(Left::Drives(process, until))
-        }
-    }
-}
-
-// What is left once the process has made a step.
-fn after_step(world: &World, process: usize, until: Until) -> Option<Left>
-    requires { IsWithin world.now (Left.Drives process until) }
-    ensures remains { Remains result (stepped world.now process until) }
-    ensures within { IfSome result (IsWithin world.now) }
-{
-    match until {
-        Until::OneStep => None,
-        Until::ToPoint(name) => to_point(world, process, name),
-        Until::ToAnswer | Until::InRound { rounds: _, cell: _ } => {
-            Some(Left::Drives(process, until))
-        }
-    }
-}
-
-// What is left of a settle once its work on the cell was answered.
-fn after_work(
-    world: &World,
-    process: usize,
-    rounds: usize,
-    cell: usize,
-    answer: Answer,
-) -> Option<Left>
-    requires { cell < cells_of world.now.sheet.layout }
-    ensures remains { Remains result (ended world.now process (InRound rounds cell) (Answered answer)) }
-    ensures within { IfSome result (IsWithin world.now) }
-{
-    let next = settle::worked(world, rounds, cell, Ok(answer));
-    left_of(process, next)
-}
-
-// What is left once the process's call was answered.
-fn after_answer(world: &World, process: usize, until: Until, answer: Answer) -> Option<Left>
-    requires { IsWithin world.now (Left.Drives process until) }
-    ensures remains { Remains result (ended world.now process until (Answered answer)) }
-    ensures within { IfSome result (IsWithin world.now) }
-{
-    match until {
-        Until::OneStep | Until::ToPoint(_) | Until::ToAnswer => None,
-        Until::InRound { rounds, cell } => after_work(world, process, rounds, cell, answer),
-    }
-}
 
 // What is left once a step of the process had this reply.
 fn behind_step(world: &World, process: usize, until: Until, reply: Reply) -> Option<Left>
