@@ -9,12 +9,11 @@ ghost use Rattle.ds_drives.specs.Rule.{AreTrue, AtRest, Behind, Closes};
 use atomic_table::{Closed, Join, Play, Seat, Split, Table, TableRule};
 use ds_layout::layout::Layout;
 use ds_layout::place;
-use ds_recover::machine::RecoveryEnd;
 use ds_state::edit::EditCall;
+use ds_state::recovery::{RecoverCall, RecoveryEnd};
+use ds_state::report::{ReportCall, ReportEnd};
 use ds_state::situation::Situation;
 use ds_state::stage::Outcome;
-use ds_state::recovery::RecoverCall;
-use ds_state::report::ReportCall;
 use ds_state::work::{WorkCall, WorkEnd};
 use ds_words::access::BufferEntry;
 use std::alloc::{AllocError, Global};
@@ -49,7 +48,7 @@ pub enum Told {
     /// A recovery.
     Recovered(RecoverCall, RecoveryEnd),
     /// A report.
-    Shown(ReportCall),
+    Reported(ReportCall, ReportEnd),
 }
 
 /// What a seat knows. No value of it is made.
@@ -178,31 +177,28 @@ impl Board {
     }
 
     /// A board with these words, of a sheet in the second layout, and a seat that runs every process, each of
-    /// which has stopped. The seat of a sheet before remembers what was told there; where memory is wanting it
-    /// comes back.
+    /// which has stopped. The seat of a sheet before, if any, remembers what was told there; where memory is
+    /// wanting it comes back.
     pub fn remake(
         alloc: Global,
         layout: Layout,
         words: &[u64],
-        before: Place,
-    ) -> Result<(Board, Place), Place>
+        before: Option<Place>,
+    ) -> Result<(Board, Place), Option<Place>>
         requires long { length words.now ≡ 8 * words_of layout }
-        requires rests { (b : Behind) × AtRest layout words.now b × AreTrue layout words.now b before.me.0.past }
+        requires rests { (b : Behind) × AtRest layout words.now b × AreTrue layout words.now b (past_of before) }
         ensures layout { IfOk result (λ r. r.0.layout ≡ layout) }
-        ensures place { IfOk result (λ r. (r.1.table_id ≡ r.0.table.shared.table_id) × (r.1.me ≡ (first_view true layout.processes before.me.0.past, []))) }
+        ensures place { IfOk result (λ r. (r.1.table_id ≡ r.0.table.shared.table_id) × (r.1.me ≡ (first_view true layout.processes (past_of before), []))) }
         ensures back { IfErr result (λ s. s ≡ before) }
     {
         let key = Key {
             layout,
             stopped: true,
-            before: Some(before),
+            before,
         };
         match Table::of_words(alloc, words, &key) {
             Ok((table, place)) => Ok((Board { table, layout }, place)),
-            Err(_) => match key.before {
-                Some(before) => Err(before),
-                None => unreachable!(),
-            },
+            Err(_) => Err(key.before),
         }
     }
 

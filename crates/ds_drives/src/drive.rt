@@ -1,6 +1,6 @@
 //! The loop that drives a call.
 
-ghost use Rattle.std.specs.Prelude.{◌≡◌, ◌*◌, ℕ, [], MatchBool};
+ghost use Rattle.std.specs.Prelude.{◌≡◌, ◌*◌, ℕ, [], MatchOption};
 ghost use Rattle.ds_layout.specs.Places.{words_of};
 ghost use Rattle.ds_drives.specs.Fuses.{Asked};
 ghost use Rattle.ds_drives.specs.Views.{deeds_at, steps_later};
@@ -15,10 +15,11 @@ use crate::steps::{Buffer, access, answer, flushed, keep, numbered, oldest};
 use arrayvec::ArrayVec;
 use atomic_table::Shared;
 use ds_layout::layout::Layout;
+use ds_state::turn::Turn;
 use std::alloc::Global;
 use std::marker::Brand;
 
-/// Takes the call's steps, as long as the fuse says yes. Says whether it came to its end.
+/// Takes the call's steps, as long as the fuse says yes: how it ended, or None where the fuse said no before.
 pub(crate) fn drive<M: Machine, F: Fuse>(
     alloc: Global,
     shared: &Shared<u8, View, Key, Law>,
@@ -26,7 +27,7 @@ pub(crate) fn drive<M: Machine, F: Fuse>(
     seat: &mut Place,
     call: &mut M,
     fuse: &mut F,
-) -> bool
+) -> Option<M::End>
     requires table { (seat.old.table_id ≡ shared.now.table_id) × (shared.now.table_id.words ≡ 8 * words_of layout.now) × (shared.now.key.layout ≡ layout.now) }
     requires fits { M.rules.fits layout.now call.old }
     requires goes { M.rules.goes call.old }
@@ -38,14 +39,18 @@ pub(crate) fn drive<M: Machine, F: Fuse>(
     ensures fits { M.rules.fits layout.now call.new }
     ensures stays { M.rules.stays call.old call.new }
     ensures came { Came M.rules layout.now call.old call.new }
-    ensures me { MatchBool result ((n : ℕ) × Asked F.said fuse.old fuse.new n 0 × IsSettled M.rules layout.now (steps_later (deeds_at seat.old.me) n) seat.new.me call.new) ((n : ℕ) × Asked F.said fuse.old fuse.new n 1 × IsBroken M.rules layout.now call.old seat.old.me (steps_later (deeds_at seat.old.me) n) seat.new.me) }
+    ensures me { MatchOption result ((n : ℕ) × Asked F.said fuse.old fuse.new n 1 × IsBroken M.rules layout.now call.old seat.old.me (steps_later (deeds_at seat.old.me) n) seat.new.me) (λ end. (n : ℕ) × Asked F.said fuse.old fuse.new n 0 × IsSettled M.rules layout.now (steps_later (deeds_at seat.old.me) n) seat.new.me call.new end) }
 {
     call.law(layout);
     let _count = layout.words();
     let mut buffer: Buffer = ArrayVec::new();
-    while call.is_going(layout) {
+    loop {
+        match call.turn(layout) {
+            Turn::Answers(end) => return Some(end),
+            Turn::GoesOn => (),
+        }
         if !fuse.go() {
-            return false;
+            return None;
         }
         let asked = call.want(layout);
         let class = flushed(asked);
@@ -62,5 +67,4 @@ pub(crate) fn drive<M: Machine, F: Fuse>(
         keep(&mut buffer, class, wanted, found);
         call.got(alloc, layout, answer(wanted, found));
     }
-    true
 }
