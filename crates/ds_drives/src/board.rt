@@ -2,12 +2,12 @@
 
 ghost use Rattle.std.specs.Prelude.{◌≡◌, ◌+◌, ◌*◌, ◌<◌, ◌≤◌, ℕ, [], ◌++◌, replicate, length, true, false, IfOk, IfErr};
 ghost use Rattle.std.specs.Mem.Slots.{slots_items, slots_len, IsFull};
-ghost use Rattle.ds_layout.specs.Places.{words_of};
+ghost use Rattle.ds_layout.specs.Places.{AreStartsOf, words_of};
 ghost use Rattle.ds_drives.specs.Views.{HasRest, In, bygone, first_now, first_view, lone, newcomer, past_of, united};
 ghost use Rattle.ds_drives.specs.Rule.{AreTrue, AtRest, Behind, Closes};
 
 use atomic_table::{Closed, Join, Play, Seat, Split, Table, TableRule};
-use ds_layout::layout::Layout;
+use ds_layout::layout::{Layout, Starts};
 use ds_layout::place;
 use ds_state::edit::EditCall;
 use ds_state::recovery::{RecoverCall, RecoveryEnd};
@@ -152,10 +152,26 @@ pub struct Board {
     pub(crate) table: Table<u8, View, Key, Law, Global>,
     /// Its sheet.
     pub layout: Layout,
+    // Where each kind of words begins: kept, it saves each step the sums.
+    pub(crate) starts: Starts,
+    pub ghost began: { AreStartsOf layout starts },
     pub ghost sized: { (table.shared.table_id.words ≡ 8 * words_of layout) × (table.shared.key.layout ≡ layout) × (table.shared.table_id.slots ≡ 0) },
 }
 
 impl Board {
+    // The board of a table with the words of a sheet.
+    fn of(table: Table<u8, View, Key, Law, Global>, layout: Layout) -> Board
+        requires { (table.shared.table_id.words ≡ 8 * words_of layout) × (table.shared.key.layout ≡ layout) × (table.shared.table_id.slots ≡ 0) }
+        ensures { (result.table ≡ table) × (result.layout ≡ layout) }
+    {
+        let starts = layout.starts();
+        Board {
+            table,
+            layout,
+            starts,
+        }
+    }
+
     /// A board of a new sheet, in the second layout: the version's word says it on both sides, and stays. All
     /// other words are 0. A seat runs every process. An error is a want of memory.
     pub fn make(alloc: Global, layout: Layout) -> Result<(Board, Place), AllocError>
@@ -173,7 +189,7 @@ impl Board {
             before: None,
         };
         let (table, place) = Table::of_words(alloc, words.as_slice(), &key)?;
-        Ok((Board { table, layout }, place))
+        Ok((Board::of(table, layout), place))
     }
 
     /// A board with these words, of a sheet in the second layout, and a seat that runs every process, each of
@@ -197,7 +213,7 @@ impl Board {
             before,
         };
         match Table::of_words(alloc, words, &key) {
-            Ok((table, place)) => Ok((Board { table, layout }, place)),
+            Ok((table, place)) => Ok((Board::of(table, layout), place)),
             Err(_) => Err(key.before),
         }
     }
@@ -237,7 +253,11 @@ impl Board {
     {
         let _words = self.layout.words();
         let before = self.table.shared.split_seat::<Remember>(&mut place);
-        let Board { table, layout: _ } = self;
+        let Board {
+            table,
+            layout: _,
+            starts: _,
+        } = self;
         (table.close_with(place), before)
     }
 }

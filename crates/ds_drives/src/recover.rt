@@ -76,6 +76,6 @@ impl Board {
         ensures me { MatchOption result ((n : ℕ) × Asked F.said fuse.old fuse.new n 1 × IsBroken recover_rules self.now.layout call.old place.old.me (steps_later (deeds_at place.old.me) n) place.new.me) (λ end. (n : ℕ) × Asked F.said fuse.old fuse.new n 0 × IsSettled recover_rules self.now.layout (steps_later (deeds_at place.old.me) n) place.new.me call.new end) }
     {
         is_recovery(call);
-        drive(alloc, &self.table.shared, &self.layout, place, call, fuse)
+        drive(alloc, self, place, call, fuse)
     }
 }
