@@ -27,7 +27,7 @@ use Rattle.ds_state.specs.declared.situation.Situation.{Situation}
 use Rattle.ds_state.specs.declared.recovery.RecoveryEnd.TheVariants.{Last, Nothing}
 use Rattle.ds_drives.specs.declared.board.Seated.{Seated}
 use Rattle.ds_drives.specs.declared.board.Told.{Told}
-use Rattle.ds_drives.specs.declared.board.Told.TheVariants.{Edited, Worked, Recovered, Shown}
+use Rattle.ds_drives.specs.declared.board.Told.TheVariants.{Edited, Worked, Recovered, Reported}
 use Rattle.ds_drives.specs.Table.{two_sided, word_of, change, answer, oldest_of, buffer_after}
 use Rattle.ds_drives.specs.Views.{In}
 use Rattle.ds_drives.specs.Rule.{put, Behind, world_on, class_in, IsSecond, IsTold, IsTrueTold, CountsAs, CallsHold, After, Serves}
@@ -62,8 +62,8 @@ module _ (layout : Layout) (words words' : List ℕ) (b b' : Behind) (p : ℕ) (
   }
   told_on q (Worked e end) h = tt
   told_on q (Recovered e Nothing) h = tt
-  told_on q (Recovered e (Last number cell how)) h = record { spent = le_trans h.spent (f.announced q); holds = counts q number how h.spent h.holds }
-  told_on q (Shown e) h = tt
+  told_on q (Recovered e (Last told)) h = record { spent = le_trans h.spent (f.announced q); holds = counts q told.number told.counts h.spent h.holds }
+  told_on q (Reported e end) h = tt
 
 module _ (layout : Layout) where
   pub after_both : (words mid words' : List ℕ) (a b c : Behind) (p : ℕ) (s t : Situation) (x y : List (BufferEntry ℕ)) → After layout words mid a b p s x → After layout mid words' b c p t y → After layout words words' a c p t y

@@ -14,6 +14,7 @@ use Rattle.ds_state.specs.CallsFit.{CallFits, IdleFits, IsSheetOf, HasRefs}
 use Rattle.ds_state.specs.LayoutsFit.{LayoutFits}
 use Rattle.ds_state.specs.Sound.{IsSound}
 use Rattle.ds_state.specs.Middles.{HaveMiddles}
+use Rattle.ds_state.specs.declared.answer.EditEnd.{EditEnd}
 use Rattle.ds_state.specs.declared.stage.Outcome.{Outcome}
 use Rattle.ds_state.specs.declared.stage.Outcome.TheVariants.{Done, Overtaken}
 use Rattle.ds_state.specs.declared.stage.Stage.{Stage}
@@ -38,7 +39,7 @@ use Rattle.ds_drives.specs.Rule.{put, Behind, world_on, IsSecond, IsTold, IsTrue
 use Rattle.ds_drives.specs.Machines.{Lawful, IsSettled}
 use Rattle.atomic_table.specs.Table.{Me}
 use Rattle.ds_drives.specs.declared.board.View.{View}
-use Rattle.ds_drives.specs.EditRules.{IsGoing, IsEnded, landed_at, edit_rules}
+use Rattle.ds_drives.specs.EditRules.{IsGoing, landed_at, edit_rules}
 use Rattle.ds_drives.proofs.Words.{put_here, put_else}
 use Rattle.ds_drives.proofs.Seconds.{version_grows, noted_second}
 use Rattle.ds_drives.proofs.Behinds.{told_on, after_none, after_left, written, answered, kept_back, performed, serves, nothing_kept, came_to, Ends}
@@ -138,8 +139,8 @@ module _ (layout : Layout) where
       knows number is = ap (λ (d : Edition). (let r : Rest = record { number = number; edition = d } in r)) is
   ends _ words b e x ts ran sound second middles low at same old reports = record { behind = b; own = refl; after = after_none layout words b e.process _ x sound at same; told = old; calls = reports }
 
-  apart : (s : Stage) → IsGoing s → IsEnded s → ⊥
-  apart s go end = subst IsGoing end.1 go
+  apart : (s : Stage) (how : Outcome) → IsGoing s → s ≡ Answer how → ⊥
+  apart s how go is = subst IsGoing is go
 
   pub edits_lawful : Lawful edit_rules layout
   edits_lawful = lawful edit_rules layout
@@ -150,8 +151,8 @@ module _ (layout : Layout) where
       (λ first e n h. h)
       (λ words b e x ts ran sound second middles low at same old reports. ends e.stage words b e x ts ran sound second middles low at same old reports)
       (λ e f x ts is go. landed_going e e.stage x ts (subst (λ (z : PlainEditCall). IsGoing z.stage) (sym is) go))
-      (λ e f is end. is)
-      (λ e. apart e.stage)
+      (λ e f end is over. is)
+      (λ e end go over. apart e.stage over.0 go over.1)
       (λ words b e x sound low at same fits. let can = can_perform e (world_on layout words b) sound low at in (can.0, serves layout words b e.process (edit_steps.access_at e e.stage) can.1 x same))
 
   -- an idle process may begin its edit
@@ -185,5 +186,5 @@ held_at layout e s x held how is h = subst (λ (z : Stage). CallHolds layout e.p
     one : CallsHold layout e.process (landed_at e (Answer how) x held).deeds.told → CallHolds layout e.process held.told (Edited (record e { stage = Answer how }) how)
     one k = k.0
 
-pub call_held : (layout : Layout) (held : Deeds) (me : Me ℕ View) (e : PlainEditCall) (how : Outcome) → e.stage ≡ Answer how → IsSettled edit_rules layout held me e → CallHolds layout e.process held.told (Edited e how)
-call_held layout held me e how is s = held_at layout e e.stage s.buffer held how is s.calls
+pub call_held : (layout : Layout) (held : Deeds) (me : Me ℕ View) (e : PlainEditCall) (end : EditEnd) → (s : IsSettled edit_rules layout held me e end) → CallHolds layout e.process held.told (Edited e s.ends.0)
+call_held layout held me e end s = held_at layout e e.stage s.buffer held s.ends.0 s.ends.1 s.calls

@@ -6,6 +6,6 @@ pub mod Resting
 pub mod Edits
 pub mod Recoveries
 pub mod Works
-pub mod Shows
+pub mod Reports
 pub mod Driving
 pub mod Dealt

@@ -67,7 +67,7 @@ turns_to layout s h b id i n e e' at after own told_now calls_now = let mine : F
       (at_set s.views id j (lone e') v there);
 }
 
-module _ {C : Type 0} (r : Rules C) (layout : Layout)
+module _ {C E : Type 0} (r : Rules C E) (layout : Layout)
     (same : (c : C) (n : ℕ) → r.process (r.next c n) ≡ r.process c)
     (step : (words : List ℕ) (b : Behind) (c : C) (x : List (BufferEntry ℕ)) → length words ≡ 8 * words_of layout → IsSound (world_on layout words b) → r.process c < layout.processes
     → b.situation (r.process c) ≡ r.doing c → b.buffer (r.process c) ≡ x → r.fits layout c → r.goes c
@@ -79,8 +79,8 @@ module _ {C : Type 0} (r : Rules C) (layout : Layout)
     (lands : (words : List ℕ) (b : Behind) (c : C) (x : List (BufferEntry ℕ)) (ts : Deeds) → Ran r layout c → IsSound (world_on layout words b) → IsSecond (world_on layout words b) → HaveMiddles (world_on layout words b) → r.process c < layout.processes
     → b.situation (r.process c) ≡ r.doing c → b.buffer (r.process c) ≡ x → ((t : Told) → In ts.told t → IsTold (world_on layout words b) (r.process c) t) → CallsHold layout (r.process c) ts.told → Ends layout words b (r.process c) (r.land c x ts))
     (going : (c d : C) (x : List (BufferEntry ℕ)) (ts : Deeds) → r.turns layout c d → r.goes d → r.land c x ts ≡ seated (r.process c) (r.doing c) x ts)
-    (over : (c d : C) → r.turns layout c d → r.ends d → c ≡ d)
-    (apart : (c : C) → r.goes c → r.ends c → ⊥)
+    (over : (c d : C) (end : E) → r.turns layout c d → r.ends d end → c ≡ d)
+    (apart : (c : C) (end : E) → r.goes c → r.ends c end → ⊥)
     (can : (words : List ℕ) (b : Behind) (c : C) (x : List (BufferEntry ℕ)) → IsSound (world_on layout words b) → r.process c < layout.processes
     → b.situation (r.process c) ≡ r.doing c → b.buffer (r.process c) ≡ x → r.fits layout c → IsServed r layout c x) where
   may_step : (slots id : ℕ) (seat : Seated) (first c : C) (x : List (BufferEntry ℕ)) → r.fits layout c → r.goes c → r.begun layout first → r.stays first c → Came r layout first c → seat.process ≡ r.process c → Ready layout seat (r.process c) (r.doing c) x
@@ -166,10 +166,10 @@ module _ {C : Type 0} (r : Rules C) (layout : Layout)
     | inr t ↦ within t.0 x t.4 t.5 (at_going held me t.0 d x t.1 t.2 go)
   ]
 
-  is_settled : (first : C) (old : Me ℕ View) (held : Deeds) (me : Me ℕ View) (d : C) (x : List (BufferEntry ℕ)) → r.ends d → Drives r layout first old held me d x → (me ≡ (lone (r.land d x held), [])) × CallsHold layout (r.process d) (r.land d x held).deeds.told
-  is_settled first old held me d x end by = elim by [
-    | inl t ↦ absurd (apart d t.1 end)
-    | inr t ↦ (t.1 ∙ ap (λ (z : C). (lone (r.land z x held), [])) (over t.0 d t.2 end), subst (λ (z : C). CallsHold layout (r.process z) (r.land z x held).deeds.told) (over t.0 d t.2 end) t.3)
+  is_settled : (first : C) (old : Me ℕ View) (held : Deeds) (me : Me ℕ View) (d : C) (x : List (BufferEntry ℕ)) (end : E) → r.ends d end → Drives r layout first old held me d x → (me ≡ (lone (r.land d x held), [])) × CallsHold layout (r.process d) (r.land d x held).deeds.told
+  is_settled first old held me d x how end by = elim by [
+    | inl t ↦ absurd (apart d how t.1 end)
+    | inr t ↦ (t.1 ∙ ap (λ (z : C). (lone (r.land z x held), [])) (over t.0 d how t.2 end), subst (λ (z : C). CallsHold layout (r.process z) (r.land z x held).deeds.told) (over t.0 d how t.2 end) t.3)
   ]
 
   pub lawful : Lawful r layout

@@ -27,6 +27,7 @@ use Rattle.ds_layout.specs.Bits.{bit_in}
 use Rattle.ds_state.specs.declared.spread.Spread.{Spread}
 use Rattle.ds_state.specs.declared.spread.Spread.TheVariants as spreads
 use Rattle.ds_state.specs.declared.recovery.RecoverStage.TheVariants as stages
+use Rattle.ds_state.specs.declared.recovery.RecoveryEnd.{RecoveryEnd}
 use Rattle.ds_state.specs.declared.recovery.RecoverStage.{RecoverStage}
 use Rattle.ds_state.specs.declared.recovery.RecoverStage.TheVariants.{Answer}
 use Rattle.ds_recover.specs.RecoverySteps as recovery
@@ -46,7 +47,7 @@ use Rattle.ds_drives.specs.Rule.{put, Behind, world_on, IsSecond, IsTold, CallHo
 use Rattle.ds_drives.specs.Machines.{Lawful, IsSettled}
 use Rattle.atomic_table.specs.Table.{Me}
 use Rattle.ds_drives.specs.declared.board.View.{View}
-use Rattle.ds_drives.specs.RecoverRules.{IsGoing, IsEnded, IsRecoveryOn, landed_at, recover_rules}
+use Rattle.ds_drives.specs.RecoverRules.{IsGoing, IsRecoveryOn, landed_at, recover_rules}
 use Rattle.ds_drives.proofs.Words.{put_here, put_else}
 use Rattle.ds_drives.proofs.Seconds.{version_grows, noted_second}
 use Rattle.ds_drives.proofs.Behinds.{told_on, after_none, after_left, after_both, written, answered, kept_back, performed, serves, came_to, Ends}
@@ -247,8 +248,8 @@ module _ (layout : Layout) where
       same_told (Some k) h = record { spent = h.spent; holds = h.holds }
   ends _ words b e x ts ran sound second middles low at same old reports = record { behind = b; own = refl; after = after_none layout words b e.process _ x sound at same; told = old; calls = reports }
 
-  apart : (s : RecoverStage) → IsGoing s → IsEnded s → ⊥
-  apart s go end = subst IsGoing end.1 go
+  apart : (s : RecoverStage) (how : Option Bool) → IsGoing s → s ≡ Answer how → ⊥
+  apart s how go is = subst IsGoing is go
 
   pub recoveries_lawful : Lawful recover_rules layout
   recoveries_lawful = lawful recover_rules layout
@@ -259,8 +260,8 @@ module _ (layout : Layout) where
       (λ first e n h. (next_same e e.stage n).process ∙ h)
       (λ words b e x ts ran sound second middles low at same old reports. ends e.stage words b e x ts ran sound second middles low at same old reports)
       (λ e f x ts is go. landed_going e e.stage x ts (subst (λ (z : PlainRecoverCall). IsGoing z.stage) (sym is) go))
-      (λ e f is end. is)
-      (λ e. apart e.stage)
+      (λ e f end is over. is)
+      (λ e end go over. apart e.stage over.0 go over.1)
       (λ words b e x sound low at same fits. let can = laws.accesses e (world_on layout words b) sound low at in (can.0, serves layout words b e.process (recovery.access_at e e.stage) can.1 x same))
 
   -- ---- the beginning
@@ -329,5 +330,5 @@ held_at layout e s x held how is h = subst (λ (z : RecoverStage). CallHolds lay
     one : CallsHold layout e.process (landed_at e (Answer how) x held).deeds.told → CallHolds layout e.process held.told (Recovered (record e { stage = Answer how }) (end_of e how))
     one k = k.0
 
-pub call_held : (layout : Layout) (held : Deeds) (me : Me ℕ View) (e : PlainRecoverCall) (how : Option Bool) → e.stage ≡ Answer how → IsSettled recover_rules layout held me e → CallHolds layout e.process held.told (Recovered e (end_of e how))
-call_held layout held me e how is s = held_at layout e e.stage s.buffer held how is s.calls
+pub call_held : (layout : Layout) (held : Deeds) (me : Me ℕ View) (e : PlainRecoverCall) (end : RecoveryEnd) → IsSettled recover_rules layout held me e end → CallHolds layout e.process held.told (Recovered e end)
+call_held layout held me e end s = subst (λ (r : RecoveryEnd). CallHolds layout e.process held.told (Recovered e r)) (sym s.ends.2) (held_at layout e e.stage s.buffer held s.ends.0 s.ends.1 s.calls)

@@ -44,7 +44,7 @@ use Rattle.ds_drives.specs.Rule.{put, Behind, world_on, IsSecond, IsTold, CallHo
 use Rattle.ds_drives.specs.Machines.{Lawful, IsSettled}
 use Rattle.atomic_table.specs.Table.{Me}
 use Rattle.ds_drives.specs.declared.board.View.{View}
-use Rattle.ds_drives.specs.WorkRules.{IsGoing, IsEnded, IsWorkOn, Turned, IsOfOne, stays, reads, takes, landed_at, work_rules}
+use Rattle.ds_drives.specs.WorkRules.{IsGoing, IsWorkOn, Turned, IsOfOne, stays, reads, takes, landed_at, work_rules}
 use Rattle.ds_drives.proofs.Words.{put_here, put_else}
 use Rattle.ds_drives.proofs.Seconds.{version_grows, noted_second}
 use Rattle.ds_drives.proofs.Behinds.{told_on, after_none, after_left, written, answered, kept_back, performed, serves, nothing_kept, came_to, Ends}
@@ -68,8 +68,12 @@ plain_else Read r w = absurd (r refl)
 plain_else Wait r w = absurd (w refl)
 plain_else _ r w = tt
 
-apart : (s : WorkStage) → IsGoing s → IsEnded s → ⊥
-apart s go end = subst IsGoing end.1 go
+-- a work at this stage has ended
+abbrev pub IsOver : WorkStage → Type 0
+IsOver stage = (end : WorkEnd) × (stage ≡ Answer end)
+
+apart : (s : WorkStage) → IsGoing s → IsOver s → ⊥
+apart s go over = subst IsGoing over.1 go
 
 not_ended : (s : WorkStage) → IsGoing s → (end : WorkEnd) → s ≡ Answer end → ⊥
 not_ended s go end is = apart s go (end, is)
@@ -207,19 +211,19 @@ module _ (layout : Layout) where
   turned_landed e f x ts (reads g here r) go = landed_going e e.stage x ts (λ end is. cc)
   turned_landed e f x ts (takes here) go = landed_going e e.stage x ts (λ end is. cc)
 
-  reading_goes : (e f : PlainWorkCall) → IsReading layout.shape e f → IsEnded f.stage → ⊥
-  reading_goes e f (inl h) end = not_read (nat_lt 0 (length h.inputs)) (subst (λ (z : PlainWorkCall). IsEnded z.stage) h.after end)
+  reading_goes : (e f : PlainWorkCall) → IsReading layout.shape e f → IsOver f.stage → ⊥
+  reading_goes e f (inl h) end = not_read (nat_lt 0 (length h.inputs)) (subst (λ (z : PlainWorkCall). IsOver z.stage) h.after end)
     where
-      not_read : (b : Bool) → IsEnded (if b then record e { content = h.content; inputs = h.inputs; stage = LoadValue 0 } else record e { content = h.content; inputs = h.inputs; stage = LoadOwnValue }).stage → ⊥
+      not_read : (b : Bool) → IsOver (if b then record e { content = h.content; inputs = h.inputs; stage = LoadValue 0 } else record e { content = h.content; inputs = h.inputs; stage = LoadOwnValue }).stage → ⊥
       not_read true k = apart (LoadValue 0) tt k
       not_read false k = apart LoadOwnValue tt k
-  reading_goes e f (inr h) end = apart Give tt (subst (λ (z : PlainWorkCall). IsEnded z.stage) h end)
+  reading_goes e f (inr h) end = apart Give tt (subst (λ (z : PlainWorkCall). IsOver z.stage) h end)
 
-  offered_goes : (c : Bool) → IsEnded (if c then Clear false else StoreValue) → ⊥
+  offered_goes : (c : Bool) → IsOver (if c then Clear false else StoreValue) → ⊥
   offered_goes true k = apart (Clear false) tt k
   offered_goes false k = apart StoreValue tt k
 
-  turned_over : (e f : PlainWorkCall) → Turned layout e f → IsEnded f.stage → e ≡ f
+  turned_over : (e f : PlainWorkCall) → Turned layout e f → IsOver f.stage → e ≡ f
   turned_over e f (stays plain) end = refl
   turned_over e f (reads g here r) end = absurd (reading_goes e g r end)
   turned_over e f (takes here) end = absurd (offered_goes _ end)
@@ -233,8 +237,8 @@ module _ (layout : Layout) where
       (λ first e n h. let same = next_noted e n e.stage in record { process = ap (λ (z : PlainWorkCall). z.process) same ∙ h.process; next = ap (λ (z : PlainWorkCall). z.next) same ∙ h.next; cell = ap (λ (z : PlainWorkCall). z.cell) same ∙ h.cell })
       (λ words b e x ts ran sound second middles low is same old reports. ends e.stage words b e x ts ran sound second middles low is same old reports)
       turned_landed
-      turned_over
-      (λ e. apart e.stage)
+      (λ e f end turn over. turned_over e f turn (end, over))
+      (λ e end go over. apart e.stage go (end, over))
       (λ words b e x sound low is same fits. let can = can_perform (world_on layout words b) e sound low e.stage is in (can.0, serves layout words b e.process (work.access_at layout.shape e e.stage) can.1 x same))
 
   -- an idle process may begin work
@@ -345,5 +349,5 @@ held_at layout e s x held end is h = subst (λ (z : WorkStage). CallHolds layout
     one : CallsHold layout e.process (landed_at e (Answer end) x held).deeds.told → CallHolds layout e.process held.told (Worked (record e { stage = Answer end }) end)
     one k = k.0
 
-pub call_held : (layout : Layout) (held : Deeds) (me : Me ℕ View) (e : PlainWorkCall) (end : WorkEnd) → e.stage ≡ Answer end → IsSettled work_rules layout held me e → CallHolds layout e.process held.told (Worked e end)
-call_held layout held me e end is s = held_at layout e e.stage s.buffer held end is s.calls
+pub call_held : (layout : Layout) (held : Deeds) (me : Me ℕ View) (e : PlainWorkCall) (end : WorkEnd) → IsSettled work_rules layout held me e end → CallHolds layout e.process held.told (Worked e end)
+call_held layout held me e end s = held_at layout e e.stage s.buffer held end s.ends s.calls

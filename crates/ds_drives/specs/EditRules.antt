@@ -6,6 +6,8 @@ use Rattle.ds_layout.specs.declared.place.Edition.TheVariants.{Second}
 use Rattle.ds_state.specs.Edits.{PlainEditCall, IsEdit}
 use Rattle.ds_state.specs.World.{edit_of}
 use Rattle.ds_state.specs.CallsFit.{IsSheetOf, HasRefs}
+use Rattle.ds_state.specs.declared.answer.EditEnd.{EditEnd}
+use Rattle.ds_state.specs.EditEndings.{end_of}
 use Rattle.ds_state.specs.declared.stage.Outcome.{Outcome}
 use Rattle.ds_state.specs.declared.stage.Stage.{Stage}
 use Rattle.ds_state.specs.declared.stage.Stage.TheVariants.{StoreHeader, Answer}
@@ -22,9 +24,9 @@ abbrev pub IsGoing : Stage → Type 0
 IsGoing (Answer how) = ⊥
 IsGoing _ = Unit {0}
 
--- an edit at this stage answers
-abbrev pub IsEnded : Stage → Type 0
-IsEnded stage = (how : Outcome) × (stage ≡ Answer how)
+-- the edit has ended so
+abbrev pub IsEnded : PlainEditCall → EditEnd → Type 0
+IsEnded e end = (how : Outcome) × (e.stage ≡ Answer how) × (end ≡ end_of e.processes e.number how)
 
 -- the edit is one of the sheet
 pub record IsEditOn (layout : Layout) (e : PlainEditCall) : Type 0 where
@@ -45,7 +47,7 @@ landed_at e (Answer how) buffer deeds = seated e.process (Idle (second_rest (e.n
 landed_at e stage buffer deeds = seated e.process (Editing (record e { stage = stage })) buffer deeds
 
 -- the rules of an edit
-abbrev pub edit_rules : Rules PlainEditCall
+abbrev pub edit_rules : Rules PlainEditCall EditEnd
 edit_rules = record {
   process = λ e. e.process;
   doing = Editing;
@@ -54,7 +56,7 @@ edit_rules = record {
   next = got_at;
   land = λ e buffer deeds. landed_at e e.stage buffer deeds;
   goes = λ e. IsGoing e.stage;
-  ends = λ e. IsEnded e.stage;
+  ends = IsEnded;
   fits = IsEditOn;
   turns = λ layout e f. e ≡ f;
   stays = λ e f. edit_of f ≡ edit_of e;

@@ -12,7 +12,7 @@ use Rattle.ds_drives.specs.Views.{lone, seated, steps_later, deeds_at}
 use Rattle.ds_drives.specs.Rules.{Rules, Came}
 use Rattle.ds_drives.specs.Rule.{Ruled, CallsHold, class_in, Poised, Serves}
 
-module _ {C : Type 0} (r : Rules C) (layout : Layout) where
+module _ {C E : Type 0} (r : Rules C E) (layout : Layout) where
   -- the access, by the number of its word
   abbrev pub asked : C → Access ℕ
   asked c = access_at layout (r.access layout c)
@@ -62,11 +62,11 @@ module _ {C : Type 0} (r : Rules C) (layout : Layout) where
     pub kept : (first c : C) (n : ℕ) → r.stays first c → r.stays first (r.next c n)
     pub came : (first : C) (old : Me ℕ View) (held : Deeds) (me : Me ℕ View) (c : C) (x : List (BufferEntry ℕ)) → Drives first old held me c x → Came r layout first c
     pub broken : (first : C) (old : Me ℕ View) (held : Deeds) (me : Me ℕ View) (c : C) (x : List (BufferEntry ℕ)) → r.goes c → Drives first old held me c x → IsBroken first old held me
-    pub settled : (first : C) (old : Me ℕ View) (held : Deeds) (me : Me ℕ View) (c : C) (x : List (BufferEntry ℕ)) → r.ends c → Drives first old held me c x → (me ≡ (lone (r.land c x held), [])) × CallsHold layout (r.process c) (r.land c x held).deeds.told
+    pub settled : (first : C) (old : Me ℕ View) (held : Deeds) (me : Me ℕ View) (c : C) (x : List (BufferEntry ℕ)) (end : E) → r.ends c end → Drives first old held me c x → (me ≡ (lone (r.land c x held), [])) × CallsHold layout (r.process c) (r.land c x held).deeds.told
 
--- the call is over
-pub record IsSettled {C : Type 0} (r : Rules C) (layout : Layout) (held : Deeds) (me : Me ℕ View) (c : C) : Type 0 where
-  pub ends : r.ends c
+-- the call is over, and has ended so
+pub record IsSettled {C E : Type 0} (r : Rules C E) (layout : Layout) (held : Deeds) (me : Me ℕ View) (c : C) (end : E) : Type 0 where
+  pub ends : r.ends c end
   pub buffer : List (BufferEntry ℕ)
   pub at : me ≡ (lone (r.land c buffer held), [])
   pub calls : CallsHold layout (r.process c) (r.land c buffer held).deeds.told

@@ -5,6 +5,7 @@ use Rattle.ds_layout.specs.declared.layout.Layout.{Layout}
 use Rattle.ds_layout.specs.Places.{cells_of}
 use Rattle.ds_state.specs.Works.{PlainRecoverCall}
 use Rattle.ds_state.specs.RecoverStages.{IsRecovery}
+use Rattle.ds_state.specs.declared.recovery.RecoveryEnd.{RecoveryEnd}
 use Rattle.ds_state.specs.declared.recovery.RecoverStage.{RecoverStage}
 use Rattle.ds_state.specs.declared.recovery.RecoverStage.TheVariants.{Answer}
 use Rattle.ds_state.specs.declared.situation.Situation.TheVariants.{Idle, Recovering}
@@ -20,9 +21,9 @@ abbrev pub IsGoing : RecoverStage → Type 0
 IsGoing (Answer how) = ⊥
 IsGoing _ = Unit {0}
 
--- a recovery at this stage answers
-abbrev pub IsEnded : RecoverStage → Type 0
-IsEnded stage = (how : Option Bool) × (stage ≡ Answer how)
+-- the recovery has ended so
+abbrev pub IsEnded : PlainRecoverCall → RecoveryEnd → Type 0
+IsEnded e end = (how : Option Bool) × (e.stage ≡ Answer how) × (end ≡ end_of e how)
 
 -- the recovery is one of the sheet
 pub record IsRecoveryOn (layout : Layout) (e : PlainRecoverCall) : Type 0 where
@@ -36,7 +37,7 @@ landed_at e (Answer how) buffer deeds = seated e.process (Idle (second_rest (nex
 landed_at e stage buffer deeds = seated e.process (Recovering (record e { stage = stage })) buffer deeds
 
 -- the rules of a recovery
-abbrev pub recover_rules : Rules PlainRecoverCall
+abbrev pub recover_rules : Rules PlainRecoverCall RecoveryEnd
 recover_rules = record {
   process = λ e. e.process;
   doing = Recovering;
@@ -45,7 +46,7 @@ recover_rules = record {
   next = got_at;
   land = λ e buffer deeds. landed_at e e.stage buffer deeds;
   goes = λ e. IsGoing e.stage;
-  ends = λ e. IsEnded e.stage;
+  ends = IsEnded;
   fits = IsRecoveryOn;
   turns = λ layout e f. e ≡ f;
   stays = λ e f. f.process ≡ e.process;

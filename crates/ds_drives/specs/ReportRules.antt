@@ -12,7 +12,7 @@ use Rattle.ds_state.specs.declared.situation.Situation.TheVariants.{Idle, Report
 use Rattle.ds_report.specs.ReportSteps.{access_at, got_at, rank, fresh}
 use Rattle.ds_drives.specs.declared.board.Seated.{Seated}
 use Rattle.ds_drives.specs.declared.board.Deeds.{Deeds}
-use Rattle.ds_drives.specs.declared.board.Told.TheVariants.{Shown}
+use Rattle.ds_drives.specs.declared.board.Told.TheVariants.{Reported}
 use Rattle.ds_drives.specs.Views.{seated, told_also, second_rest}
 use Rattle.ds_drives.specs.Rules.{Rules}
 
@@ -21,9 +21,9 @@ abbrev pub IsGoing : ReportStage → Type 0
 IsGoing (Answer end) = ⊥
 IsGoing _ = Unit {0}
 
--- a report at this stage answers
-abbrev pub IsEnded : ReportStage → Type 0
-IsEnded stage = (end : ReportEnd) × (stage ≡ Answer end)
+-- the report has ended so
+abbrev pub IsEnded : PlainReportCall → ReportEnd → Type 0
+IsEnded e end = e.stage ≡ Answer end
 
 -- the report is one of the sheet
 pub record IsReportOn (layout : Layout) (e : PlainReportCall) : Type 0 where
@@ -33,7 +33,7 @@ pub record IsReportOn (layout : Layout) (e : PlainReportCall) : Type 0 where
 
 -- the process at a stage of its report: where only its answer is left, it is idle, and knows the second layout
 abbrev pub landed_at : PlainReportCall → ReportStage → List (BufferEntry ℕ) → Deeds → Seated
-landed_at e (Answer end) buffer deeds = seated e.process (Idle (second_rest e.next)) buffer (told_also deeds (Shown (record e { stage = Answer end })))
+landed_at e (Answer end) buffer deeds = seated e.process (Idle (second_rest e.next)) buffer (told_also deeds (Reported (record e { stage = Answer end }) end))
 landed_at e stage buffer deeds = seated e.process (Reporting (record e { stage = stage })) buffer deeds
 
 -- the same process and number
@@ -42,8 +42,8 @@ pub record IsOfOne (e f : PlainReportCall) : Type 0 where
   pub next : f.next ≡ e.next
 
 -- the rules of a report
-abbrev pub show_rules : Rules PlainReportCall
-show_rules = record {
+abbrev pub report_rules : Rules PlainReportCall ReportEnd
+report_rules = record {
   process = λ e. e.process;
   doing = Reporting;
   begun = λ layout e. e ≡ fresh e.process (second_rest e.next) (cells_of layout) layout.processes;
@@ -51,7 +51,7 @@ show_rules = record {
   next = got_at;
   land = λ e buffer deeds. landed_at e e.stage buffer deeds;
   goes = λ e. IsGoing e.stage;
-  ends = λ e. IsEnded e.stage;
+  ends = IsEnded;
   fits = IsReportOn;
   turns = λ layout e f. e ≡ f;
   stays = IsOfOne;

@@ -21,9 +21,9 @@ use Rattle.ds_state.specs.Edits.{PlainEditCall}
 use Rattle.ds_state.specs.Works.{PlainReportCall}
 use Rattle.ds_state.specs.Middles.{HaveMiddles}
 use Rattle.ds_report.specs.ReportMiddles.{WasSettled}
-use Rattle.ds_state.specs.declared.report.ReportEnd.TheVariants.{Settled}
-use Rattle.ds_state.specs.declared.report.ReportStage.{ReportStage}
-use Rattle.ds_state.specs.declared.report.ReportStage.TheVariants.{Answer}
+use Rattle.ds_state.specs.declared.report.ReportEnd.{ReportEnd}
+use Rattle.ds_state.specs.declared.report.ReportEnd.TheVariants.{Settled, Unsettled}
+use Rattle.ds_state.specs.declared.report.ReportStage.TheVariants as report_stage
 use Rattle.ds_state.specs.declared.stage.Outcome.{Outcome}
 use Rattle.ds_state.specs.declared.stage.Stage.TheVariants as edit_stage
 use Rattle.ds_state.specs.declared.work.WorkStage.TheVariants as work_stage
@@ -36,7 +36,7 @@ use Rattle.ds_state.specs.declared.recovery.RecoveryEnd.TheVariants.{Last, Nothi
 use Rattle.ds_state.specs.declared.recovery.RecoveryEnd.{RecoveryEnd}
 use Rattle.ds_drives.specs.declared.board.Deeds.{Deeds}
 use Rattle.ds_drives.specs.declared.board.Told.{Told}
-use Rattle.ds_drives.specs.declared.board.Told.TheVariants.{Edited, Worked, Recovered, Shown}
+use Rattle.ds_drives.specs.declared.board.Told.TheVariants.{Edited, Worked, Recovered, Reported}
 use Rattle.ds_drives.specs.declared.board.Seated.{Seated}
 use Rattle.ds_drives.specs.declared.board.View.{View}
 use Rattle.ds_drives.specs.Table.{two_sided}
@@ -45,7 +45,7 @@ use Rattle.ds_drives.specs.Rules.{Ran}
 use Rattle.ds_drives.specs.EditRules.{edit_rules}
 use Rattle.ds_drives.specs.RecoverRules.{recover_rules}
 use Rattle.ds_drives.specs.WorkRules.{work_rules}
-use Rattle.ds_drives.specs.ReportRules.{show_rules}
+use Rattle.ds_drives.specs.ReportRules.{report_rules}
 
 -- the function with another value at one place
 abbrev pub put : {X : Type 0} → (ℕ → X) → ℕ → X → ℕ → X
@@ -102,8 +102,8 @@ abbrev pub IsTold : PlainWorld → ℕ → Told → Type 0
 IsTold w process (Edited e how) = HasEnded w process (edit_of e) how
 IsTold w process (Worked e end) = Unit {0}
 IsTold w process (Recovered e Nothing) = Unit {0}
-IsTold w process (Recovered e (Last number cell counts)) = IsResolved w process number counts
-IsTold w process (Shown e) = Unit {0}
+IsTold w process (Recovered e (Last told)) = IsResolved w process told.number told.counts
+IsTold w process (Reported e end) = Unit {0}
 
 -- a report of the process was settled at a middle that had each edit which it was told before is done; this speaks of
 -- no world but those that it names, so that it stays as it is
@@ -116,14 +116,14 @@ pub record IsReported (layout : Layout) (process : ℕ) (before : List Told) (e 
   pub holds : (d : PlainEditCall) → In before (Edited d Done) → Contains middle.counted (edit_of d)
 
 -- where a report ended settled, it was
-abbrev pub ReportHolds : Layout → ℕ → List Told → PlainReportCall → ReportStage → Type 0
-ReportHolds layout process before e (Answer Settled) = IsReported layout process before e
-ReportHolds layout process before e _ = Unit {0}
+abbrev pub ReportHolds : Layout → ℕ → List Told → PlainReportCall → ReportEnd → Type 0
+ReportHolds layout process before e Settled = IsReported layout process before e
+ReportHolds layout process before e (Unsettled place word) = Unit {0}
 
 -- what a recovery answers fits what its process was told before: after Nothing no edit was; Last names the last one
 abbrev pub Recalls : List Told → RecoveryEnd → Type 0
 Recalls before Nothing = (d : PlainEditCall) (how : Outcome) → In before (Edited d how) → ⊥
-Recalls before (Last number cell counts) = (d : PlainEditCall) (how : Outcome) → In before (Edited d how) → d.number ≤ number
+Recalls before (Last told) = (d : PlainEditCall) (how : Outcome) → In before (Edited d how) → d.number ≤ told.number
 
 -- a call that was told, behind those before it, came to its end by its own steps from its beginning; this speaks of no
 -- world of the table, so that it stays as it is
@@ -131,7 +131,7 @@ abbrev pub CallHolds : Layout → ℕ → List Told → Told → Type 0
 CallHolds layout process before (Edited e how) = Ran edit_rules layout e × (e.stage ≡ edit_stage.Answer how)
 CallHolds layout process before (Worked e end) = Ran work_rules layout e × (e.stage ≡ work_stage.Answer end)
 CallHolds layout process before (Recovered e end) = Ran recover_rules layout e × ((how : Option Bool) × (e.stage ≡ recover_stage.Answer how) × (end ≡ end_of e how)) × Recalls before end
-CallHolds layout process before (Shown e) = Ran show_rules layout e × ReportHolds layout process before e e.stage
+CallHolds layout process before (Reported e end) = Ran report_rules layout e × (e.stage ≡ report_stage.Answer end) × ReportHolds layout process before e end
 
 -- so it was with each call that was told, the last one first
 abbrev pub CallsHold : Layout → ℕ → List Told → Type 0

@@ -27,9 +27,9 @@ IsGoing Read = ⊥
 IsGoing Wait = ⊥
 IsGoing _ = Unit {0}
 
--- a work at this stage answers
-abbrev pub IsEnded : WorkStage → Type 0
-IsEnded stage = (end : WorkEnd) × (stage ≡ Answer end)
+-- the work has ended so
+abbrev pub IsEnded : PlainWorkCall → WorkEnd → Type 0
+IsEnded e end = e.stage ≡ Answer end
 
 -- the work is one of the sheet, and neither reads nor waits
 pub record IsWorkOn (layout : Layout) (e : PlainWorkCall) : Type 0 where
@@ -56,7 +56,7 @@ pub record IsOfOne (e f : PlainWorkCall) : Type 0 where
   pub cell : f.cell ≡ e.cell
 
 -- the rules of a work
-abbrev pub work_rules : Rules PlainWorkCall
+abbrev pub work_rules : Rules PlainWorkCall WorkEnd
 work_rules = record {
   process = λ e. e.process;
   doing = Working;
@@ -65,7 +65,7 @@ work_rules = record {
   next = λ e word. next_at e e.stage word;
   land = λ e buffer deeds. landed_at e e.stage buffer deeds;
   goes = λ e. IsGoing e.stage;
-  ends = λ e. IsEnded e.stage;
+  ends = IsEnded;
   fits = IsWorkOn;
   turns = Turned;
   stays = IsOfOne;

@@ -2,19 +2,18 @@
 
 ghost use Rattle.std.specs.Prelude.{◌≡◌, ◌+◌, ◌*◌, ◌<◌, ◌≤◌, ℕ, [], ◌++◌, replicate, length, true, false, IfOk, IfErr};
 ghost use Rattle.std.specs.Mem.Slots.{slots_items, slots_len, IsFull};
-ghost use Rattle.ds_layout.specs.Places.{words_of};
+ghost use Rattle.ds_layout.specs.Places.{AreStartsOf, words_of};
 ghost use Rattle.ds_drives.specs.Views.{HasRest, In, bygone, first_now, first_view, lone, newcomer, past_of, united};
 ghost use Rattle.ds_drives.specs.Rule.{AreTrue, AtRest, Behind, Closes};
 
 use atomic_table::{Closed, Join, Play, Seat, Split, Table, TableRule};
-use ds_layout::layout::Layout;
+use ds_layout::layout::{Layout, Starts};
 use ds_layout::place;
-use ds_recover::machine::RecoveryEnd;
 use ds_state::edit::EditCall;
+use ds_state::recovery::{RecoverCall, RecoveryEnd};
+use ds_state::report::{ReportCall, ReportEnd};
 use ds_state::situation::Situation;
 use ds_state::stage::Outcome;
-use ds_state::recovery::RecoverCall;
-use ds_state::report::ReportCall;
 use ds_state::work::{WorkCall, WorkEnd};
 use ds_words::access::BufferEntry;
 use std::alloc::{AllocError, Global};
@@ -49,7 +48,7 @@ pub enum Told {
     /// A recovery.
     Recovered(RecoverCall, RecoveryEnd),
     /// A report.
-    Shown(ReportCall),
+    Reported(ReportCall, ReportEnd),
 }
 
 /// What a seat knows. No value of it is made.
@@ -153,10 +152,26 @@ pub struct Board {
     pub(crate) table: Table<u8, View, Key, Law, Global>,
     /// Its sheet.
     pub layout: Layout,
+    // Where each kind of words begins: kept, it saves each step the sums.
+    pub(crate) starts: Starts,
+    pub ghost began: { AreStartsOf layout starts },
     pub ghost sized: { (table.shared.table_id.words ≡ 8 * words_of layout) × (table.shared.key.layout ≡ layout) × (table.shared.table_id.slots ≡ 0) },
 }
 
 impl Board {
+    // The board of a table with the words of a sheet.
+    fn of(table: Table<u8, View, Key, Law, Global>, layout: Layout) -> Board
+        requires { (table.shared.table_id.words ≡ 8 * words_of layout) × (table.shared.key.layout ≡ layout) × (table.shared.table_id.slots ≡ 0) }
+        ensures { (result.table ≡ table) × (result.layout ≡ layout) }
+    {
+        let starts = layout.starts();
+        Board {
+            table,
+            layout,
+            starts,
+        }
+    }
+
     /// A board of a new sheet, in the second layout: the version's word says it on both sides, and stays. All
     /// other words are 0. A seat runs every process. An error is a want of memory.
     pub fn make(alloc: Global, layout: Layout) -> Result<(Board, Place), AllocError>
@@ -174,35 +189,32 @@ impl Board {
             before: None,
         };
         let (table, place) = Table::of_words(alloc, words.as_slice(), &key)?;
-        Ok((Board { table, layout }, place))
+        Ok((Board::of(table, layout), place))
     }
 
     /// A board with these words, of a sheet in the second layout, and a seat that runs every process, each of
-    /// which has stopped. The seat of a sheet before remembers what was told there; where memory is wanting it
-    /// comes back.
+    /// which has stopped. The seat of a sheet before, if any, remembers what was told there; where memory is
+    /// wanting it comes back.
     pub fn remake(
         alloc: Global,
         layout: Layout,
         words: &[u64],
-        before: Place,
-    ) -> Result<(Board, Place), Place>
+        before: Option<Place>,
+    ) -> Result<(Board, Place), Option<Place>>
         requires long { length words.now ≡ 8 * words_of layout }
-        requires rests { (b : Behind) × AtRest layout words.now b × AreTrue layout words.now b before.me.0.past }
+        requires rests { (b : Behind) × AtRest layout words.now b × AreTrue layout words.now b (past_of before) }
         ensures layout { IfOk result (λ r. r.0.layout ≡ layout) }
-        ensures place { IfOk result (λ r. (r.1.table_id ≡ r.0.table.shared.table_id) × (r.1.me ≡ (first_view true layout.processes before.me.0.past, []))) }
+        ensures place { IfOk result (λ r. (r.1.table_id ≡ r.0.table.shared.table_id) × (r.1.me ≡ (first_view true layout.processes (past_of before), []))) }
         ensures back { IfErr result (λ s. s ≡ before) }
     {
         let key = Key {
             layout,
             stopped: true,
-            before: Some(before),
+            before,
         };
         match Table::of_words(alloc, words, &key) {
-            Ok((table, place)) => Ok((Board { table, layout }, place)),
-            Err(_) => match key.before {
-                Some(before) => Err(before),
-                None => unreachable!(),
-            },
+            Ok((table, place)) => Ok((Board::of(table, layout), place)),
+            Err(_) => Err(key.before),
         }
     }
 
@@ -241,7 +253,11 @@ impl Board {
     {
         let _words = self.layout.words();
         let before = self.table.shared.split_seat::<Remember>(&mut place);
-        let Board { table, layout: _ } = self;
+        let Board {
+            table,
+            layout: _,
+            starts: _,
+        } = self;
         (table.close_with(place), before)
     }
 }

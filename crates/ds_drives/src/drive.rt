@@ -1,57 +1,58 @@
 //! The loop that drives a call.
 
-ghost use Rattle.std.specs.Prelude.{◌≡◌, ◌*◌, ℕ, [], MatchBool};
-ghost use Rattle.ds_layout.specs.Places.{words_of};
+ghost use Rattle.std.specs.Prelude.{◌≡◌, ℕ, [], MatchOption};
 ghost use Rattle.ds_drives.specs.Fuses.{Asked};
 ghost use Rattle.ds_drives.specs.Views.{deeds_at, steps_later};
 ghost use Rattle.ds_drives.specs.Rules.{Came};
 ghost use Rattle.ds_drives.specs.Rule.{Poised};
 ghost use Rattle.ds_drives.specs.Machines.{IsServed, IsSettled, IsBroken};
 
-use crate::board::{Key, Law, Place, View};
+use crate::board::{Board, Place};
 use crate::fuse::Fuse;
 use crate::machine::Machine;
-use crate::steps::{Buffer, access, answer, flushed, keep, numbered, oldest};
+use crate::steps::{Buffer, access, answer, flushed, keep, oldest};
 use arrayvec::ArrayVec;
-use atomic_table::Shared;
-use ds_layout::layout::Layout;
+use ds_state::turn::Turn;
 use std::alloc::Global;
 use std::marker::Brand;
 
-/// Takes the call's steps, as long as the fuse says yes. Says whether it came to its end.
+/// Takes the call's steps, as long as the fuse says yes: how it ended, or None where the fuse said no before.
 pub(crate) fn drive<M: Machine, F: Fuse>(
     alloc: Global,
-    shared: &Shared<u8, View, Key, Law>,
-    layout: &Layout,
+    board: &Board,
     seat: &mut Place,
     call: &mut M,
     fuse: &mut F,
-) -> bool
-    requires table { (seat.old.table_id ≡ shared.now.table_id) × (shared.now.table_id.words ≡ 8 * words_of layout.now) × (shared.now.key.layout ≡ layout.now) }
-    requires fits { M.rules.fits layout.now call.old }
+) -> Option<M::End>
+    requires table { seat.old.table_id ≡ board.now.table.shared.table_id }
+    requires fits { M.rules.fits board.now.layout call.old }
     requires goes { M.rules.goes call.old }
-    requires serves { IsServed M.rules layout.now call.old [] }
-    requires begun { M.rules.begun layout.now call.old }
-    requires poised { Poised layout.now (steps_later (deeds_at seat.old.me) 0) seat.old.me (M.rules.process call.old) (M.rules.doing call.old) [] }
+    requires serves { IsServed M.rules board.now.layout call.old [] }
+    requires begun { M.rules.begun board.now.layout call.old }
+    requires poised { Poised board.now.layout (steps_later (deeds_at seat.old.me) 0) seat.old.me (M.rules.process call.old) (M.rules.doing call.old) [] }
     requires stays { M.rules.stays call.old call.old }
     ensures seat { (seat.new.table_id ≡ seat.old.table_id) × (seat.new.id ≡ seat.old.id) }
-    ensures fits { M.rules.fits layout.now call.new }
+    ensures fits { M.rules.fits board.now.layout call.new }
     ensures stays { M.rules.stays call.old call.new }
-    ensures came { Came M.rules layout.now call.old call.new }
-    ensures me { MatchBool result ((n : ℕ) × Asked F.said fuse.old fuse.new n 0 × IsSettled M.rules layout.now (steps_later (deeds_at seat.old.me) n) seat.new.me call.new) ((n : ℕ) × Asked F.said fuse.old fuse.new n 1 × IsBroken M.rules layout.now call.old seat.old.me (steps_later (deeds_at seat.old.me) n) seat.new.me) }
+    ensures came { Came M.rules board.now.layout call.old call.new }
+    ensures me { MatchOption result ((n : ℕ) × Asked F.said fuse.old fuse.new n 1 × IsBroken M.rules board.now.layout call.old seat.old.me (steps_later (deeds_at seat.old.me) n) seat.new.me) (λ end. (n : ℕ) × Asked F.said fuse.old fuse.new n 0 × IsSettled M.rules board.now.layout (steps_later (deeds_at seat.old.me) n) seat.new.me call.new end) }
 {
+    let layout = &board.layout;
     call.law(layout);
-    let _count = layout.words();
     let mut buffer: Buffer = ArrayVec::new();
-    while call.is_going(layout) {
+    loop {
+        match call.turn(layout) {
+            Turn::Answers(end) => return Some(end),
+            Turn::GoesOn => (),
+        }
         if !fuse.go() {
-            return false;
+            return None;
         }
         let asked = call.want(layout);
         let class = flushed(asked);
-        let wanted = numbered(layout, asked);
+        let wanted = layout.numbered(&board.starts, asked);
         let found = access::<Brand, M>(
-            shared,
+            &board.table.shared,
             seat,
             layout,
             call,
@@ -62,5 +63,4 @@ pub(crate) fn drive<M: Machine, F: Fuse>(
         keep(&mut buffer, class, wanted, found);
         call.got(alloc, layout, answer(wanted, found));
     }
-    true
 }

@@ -1,6 +1,6 @@
 //! Edits on the board.
 
-ghost use Rattle.std.specs.Prelude.{◌≡◌, ◌<◌, ℕ, [], MatchBool};
+ghost use Rattle.std.specs.Prelude.{◌≡◌, ◌<◌, ℕ, [], MatchOption};
 ghost use Rattle.ds_state.specs.Edits.{IsEdit};
 ghost use Rattle.ds_state.specs.declared.situation.Situation.TheVariants.{Idle};
 ghost use Rattle.ds_drives.specs.EditRules.{IsFirst, edit_rules};
@@ -16,8 +16,10 @@ use crate::machine::Machine;
 use ds_edit::machine::{got, want};
 use ds_layout::layout::Layout;
 use ds_layout::place;
+use ds_state::answer::EditEnd;
 use ds_state::edit::EditCall;
 use ds_state::stage::Stage;
+use ds_state::turn::Turn;
 use ds_words::access::Access;
 use std::alloc::Global;
 
@@ -29,15 +31,17 @@ fn is_edit(call: &EditCall)
 }
 
 impl Machine for EditCall {
+    type End = EditEnd;
+
     ghost use Rattle.ds_drives.specs.EditRules.{edit_rules};
 
     ghost rules = { edit_rules };
 
-    fn is_going(&self, layout: &Layout) -> bool {
+    fn turn(&self, layout: &Layout) -> Turn<EditEnd> {
         let _layout = layout;
         match self.stage {
-            Stage::Answer(_) => false,
-            _ => true,
+            Stage::Answer(how) => Turn::Answers(EditEnd::of(self.processes, self.number, how)),
+            _ => Turn::GoesOn,
         }
     }
 
@@ -58,14 +62,15 @@ impl Machine for EditCall {
 }
 
 impl Board {
-    /// An idle process makes the edit, in the second layout, as long as the fuse says yes. Says whether it came to its end.
+    /// An idle process makes the edit, in the second layout, as long as the fuse says yes: how it ended, or None where
+    /// the fuse said no before.
     pub fn edit<F: Fuse>(
         &self,
         alloc: Global,
         place: &mut Place,
         call: &mut EditCall,
         fuse: &mut F,
-    ) -> bool
+    ) -> Option<EditEnd>
         requires place { (place.old.table_id ≡ self.now.table.shared.table_id) × (place.old.me ≡ (lone (sole place.old), [])) × ((sole place.old).process ≡ call.old.process) }
         requires idle { (sole place.old).now ≡ Idle (second_rest call.old.number) }
         requires begun { IsFirst self.now.layout call.old }
@@ -73,9 +78,9 @@ impl Board {
         ensures fits { edit_rules.fits self.now.layout call.new }
         ensures stays { edit_rules.stays call.old call.new }
         ensures came { Came edit_rules self.now.layout call.old call.new }
-        ensures me { MatchBool result ((n : ℕ) × Asked F.said fuse.old fuse.new n 0 × IsSettled edit_rules self.now.layout (steps_later (deeds_at place.old.me) n) place.new.me call.new) ((n : ℕ) × Asked F.said fuse.old fuse.new n 1 × IsBroken edit_rules self.now.layout call.old place.old.me (steps_later (deeds_at place.old.me) n) place.new.me) }
+        ensures me { MatchOption result ((n : ℕ) × Asked F.said fuse.old fuse.new n 1 × IsBroken edit_rules self.now.layout call.old place.old.me (steps_later (deeds_at place.old.me) n) place.new.me) (λ end. (n : ℕ) × Asked F.said fuse.old fuse.new n 0 × IsSettled edit_rules self.now.layout (steps_later (deeds_at place.old.me) n) place.new.me call.new end) }
     {
         is_edit(call);
-        drive(alloc, &self.table.shared, &self.layout, place, call, fuse)
+        drive(alloc, self, place, call, fuse)
     }
 }

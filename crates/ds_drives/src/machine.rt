@@ -1,24 +1,28 @@
 //! A call of any kind, as one loop drives it.
 
-ghost use Rattle.std.specs.Prelude.{◌<◌, ◌≡◌, MatchBool};
+ghost use Rattle.std.specs.Prelude.{◌<◌, ◌≡◌};
 ghost use Rattle.ds_drives.specs.Machines.{Lawful};
 
 use ds_layout::layout::Layout;
 use ds_layout::place::Place;
+use ds_state::turn::Turn;
 use ds_words::access::Access;
 use std::alloc::Global;
 
 /// A call of a process: an edit, work, a recovery or a report.
 pub(crate) trait Machine {
-    ghost use Rattle.ds_drives.specs.Rules.{Rules};
+    ghost use Rattle.ds_drives.specs.Rules.{IsLeft, Rules};
+
+    /// How calls of this kind end.
+    type End;
 
     /// What the call says of itself.
-    ghost rules: { Rules Self };
+    ghost rules: { Rules Self Self.End };
 
-    /// Whether a step that touches a word is left, or the answer alone.
-    fn is_going(&self, layout: &Layout) -> bool
+    /// What is left of the call: a step that touches a word, or nothing, where it has ended so.
+    fn turn(&self, layout: &Layout) -> Turn<Self::End>
         requires { rules.fits layout.now self.now }
-        ensures { MatchBool result (rules.goes self.now) (rules.ends self.now) };
+        ensures { IsLeft rules self.now result };
 
     /// The access of its next step.
     fn want(&self, layout: &Layout) -> Access<Place>

@@ -1,6 +1,6 @@
 //! Recoveries on the board.
 
-ghost use Rattle.std.specs.Prelude.{◌≡◌, ◌<◌, ℕ, [], MatchBool};
+ghost use Rattle.std.specs.Prelude.{◌≡◌, ◌<◌, ℕ, [], MatchOption};
 ghost use Rattle.ds_layout.specs.Places.{cells_of};
 ghost use Rattle.ds_state.specs.RecoverStages.{IsRecovery};
 ghost use Rattle.ds_recover.specs.RecoverySteps.{fresh};
@@ -16,8 +16,9 @@ use crate::fuse::Fuse;
 use crate::machine::Machine;
 use ds_layout::layout::Layout;
 use ds_layout::place;
-use ds_recover::machine::{got, want};
-use ds_state::recovery::{RecoverCall, RecoverStage};
+use ds_recover::machine::{effect_of, got, want};
+use ds_state::recovery::{RecoverCall, RecoveryEnd};
+use ds_state::turn::Turn;
 use ds_words::access::Access;
 use std::alloc::Global;
 
@@ -29,16 +30,15 @@ fn is_recovery(call: &RecoverCall)
 }
 
 impl Machine for RecoverCall {
+    type End = RecoveryEnd;
+
     ghost use Rattle.ds_drives.specs.RecoverRules.{recover_rules};
 
     ghost rules = { recover_rules };
 
-    fn is_going(&self, layout: &Layout) -> bool {
+    fn turn(&self, layout: &Layout) -> Turn<RecoveryEnd> {
         let _layout = layout;
-        match self.stage {
-            RecoverStage::Answer(_) => false,
-            _ => true,
-        }
+        effect_of(self)
     }
 
     fn want(&self, layout: &Layout) -> Access<place::Place> {
@@ -58,23 +58,24 @@ impl Machine for RecoverCall {
 }
 
 impl Board {
-    /// A process recovers, whatever it does, as long as the fuse says yes. Says whether it came to its end.
+    /// A process recovers, whatever it does, as long as the fuse says yes: how that ended, or None where the fuse said no
+    /// before.
     pub fn recover<F: Fuse>(
         &self,
         alloc: Global,
         place: &mut Place,
         call: &mut RecoverCall,
         fuse: &mut F,
-    ) -> bool
+    ) -> Option<RecoveryEnd>
         requires place { (place.old.table_id ≡ self.now.table.shared.table_id) × (place.old.me ≡ (lone (sole place.old), [])) × ((sole place.old).process ≡ call.old.process) }
         requires begun { call.old ≡ fresh call.old.process (cells_of self.now.layout) self.now.layout.processes }
         ensures place { place.new.table_id ≡ place.old.table_id }
         ensures fits { recover_rules.fits self.now.layout call.new }
         ensures stays { recover_rules.stays call.old call.new }
         ensures came { Came recover_rules self.now.layout call.old call.new }
-        ensures me { MatchBool result ((n : ℕ) × Asked F.said fuse.old fuse.new n 0 × IsSettled recover_rules self.now.layout (steps_later (deeds_at place.old.me) n) place.new.me call.new) ((n : ℕ) × Asked F.said fuse.old fuse.new n 1 × IsBroken recover_rules self.now.layout call.old place.old.me (steps_later (deeds_at place.old.me) n) place.new.me) }
+        ensures me { MatchOption result ((n : ℕ) × Asked F.said fuse.old fuse.new n 1 × IsBroken recover_rules self.now.layout call.old place.old.me (steps_later (deeds_at place.old.me) n) place.new.me) (λ end. (n : ℕ) × Asked F.said fuse.old fuse.new n 0 × IsSettled recover_rules self.now.layout (steps_later (deeds_at place.old.me) n) place.new.me call.new end) }
     {
         is_recovery(call);
-        drive(alloc, &self.table.shared, &self.layout, place, call, fuse)
+        drive(alloc, self, place, call, fuse)
     }
 }

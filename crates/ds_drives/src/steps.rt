@@ -3,7 +3,6 @@
 ghost use Rattle.std.specs.Prelude.{◌≡◌, ◌+◌, ◌*◌, ◌<◌, ◌^◌, ℕ, length};
 ghost use Rattle.atomic_table.specs.Table.{Allows};
 ghost use Rattle.ds_words.specs.declared.words.TheConstants.{BUFFER_ENTRIES};
-ghost use Rattle.ds_layout.specs.SheetMemory.{access_at, NamesPlace};
 ghost use Rattle.ds_drives.specs.Rule.{Ruled};
 ghost use Rattle.ds_drives.specs.Table.{oldest_of, rest_of, word_of, change, told, answer, buffer_after, class_flushed, HasRoom};
 
@@ -38,31 +37,6 @@ pub(crate) fn flushed(access: Access<place::Place>) -> Class
     match access {
         Access::Flush(place) => place.class(),
         _ => Class::Owned,
-    }
-}
-
-/// The access by the number of its word.
-#[inline(always)]
-pub(crate) fn numbered(layout: &Layout, access: Access<place::Place>) -> Access<usize>
-    requires { NamesPlace layout.now access }
-    ensures { result ≡ access_at layout.now access }
-{
-    match access {
-        Access::Nothing => Access::Nothing,
-        Access::Load(place) => Access::Load(layout.number(place)),
-        Access::Store(place, value) => Access::Store(layout.number(place), value),
-        Access::Or(place, bits) => Access::Or(layout.number(place), bits),
-        Access::SwapIf {
-            place,
-            expected,
-            value,
-        } => Access::SwapIf {
-            place: layout.number(place),
-            expected,
-            value,
-        },
-        Access::Flush(place) => Access::Flush(layout.number(place)),
-        Access::Back => Access::Back,
     }
 }
 

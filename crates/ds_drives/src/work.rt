@@ -1,6 +1,6 @@
 //! Works on the board.
 
-ghost use Rattle.std.specs.Prelude.{◌≡◌, ◌<◌, ℕ, [], MatchBool};
+ghost use Rattle.std.specs.Prelude.{◌≡◌, ◌<◌, ℕ, [], MatchOption};
 ghost use Rattle.ds_layout.specs.Places.{cells_of};
 ghost use Rattle.ds_state.specs.declared.situation.Situation.TheVariants.{Idle};
 ghost use Rattle.ds_work.specs.WorkTakes.{IsAskedFor};
@@ -16,7 +16,8 @@ use crate::fuse::Fuse;
 use crate::machine::Machine;
 use ds_layout::layout::Layout;
 use ds_layout::place;
-use ds_state::work::{WorkCall, WorkStage};
+use ds_state::turn::Turn;
+use ds_state::work::{WorkCall, WorkEnd, WorkStage};
 use ds_words::access::Access;
 use ds_work::laws::works_are_of_a_sheet;
 use ds_work::machine::{got, want};
@@ -25,7 +26,7 @@ use ds_work::reading::reading;
 use std::alloc::Global;
 
 // It reads its content, or takes its entry, where one of these is next.
-fn turn(alloc: Global, layout: &Layout, call: &mut WorkCall)
+fn go_on(alloc: Global, layout: &Layout, call: &mut WorkCall)
     requires { cells_of layout.now ≡ call.old.cells }
     ensures { Turned layout.now call.old call.new }
 {
@@ -37,15 +38,17 @@ fn turn(alloc: Global, layout: &Layout, call: &mut WorkCall)
 }
 
 impl Machine for WorkCall {
+    type End = WorkEnd;
+
     ghost use Rattle.ds_drives.specs.WorkRules.{work_rules};
 
     ghost rules = { work_rules };
 
-    fn is_going(&self, layout: &Layout) -> bool {
+    fn turn(&self, layout: &Layout) -> Turn<WorkEnd> {
         let _layout = layout;
         match self.stage {
-            WorkStage::Answer(_) => false,
-            _ => true,
+            WorkStage::Answer(end) => Turn::Answers(end),
+            _ => Turn::GoesOn,
         }
     }
 
@@ -55,7 +58,7 @@ impl Machine for WorkCall {
 
     fn got(&mut self, alloc: Global, layout: &Layout, word: u64) {
         got(self, word);
-        turn(alloc, layout, self);
+        go_on(alloc, layout, self);
         works_are_of_a_sheet(self);
     }
 
@@ -65,14 +68,15 @@ impl Machine for WorkCall {
 }
 
 impl Board {
-    /// An idle process works, in the second layout, as long as the fuse says yes. Says whether it came to its end.
+    /// An idle process works, in the second layout, as long as the fuse says yes: how that ended, or None where the fuse
+    /// said no before.
     pub fn work<F: Fuse>(
         &self,
         alloc: Global,
         place: &mut Place,
         call: &mut WorkCall,
         fuse: &mut F,
-    ) -> bool
+    ) -> Option<WorkEnd>
         requires place { (place.old.table_id ≡ self.now.table.shared.table_id) × (place.old.me ≡ (lone (sole place.old), [])) × ((sole place.old).process ≡ call.old.process) }
         requires idle { (sole place.old).now ≡ Idle (second_rest call.old.next) }
         requires begun { IsAskedFor self.now.layout call.old.process (second_rest call.old.next) call.old.cell call.old }
@@ -80,9 +84,9 @@ impl Board {
         ensures fits { work_rules.fits self.now.layout call.new }
         ensures stays { work_rules.stays call.old call.new }
         ensures came { Came work_rules self.now.layout call.old call.new }
-        ensures me { MatchBool result ((n : ℕ) × Asked F.said fuse.old fuse.new n 0 × IsSettled work_rules self.now.layout (steps_later (deeds_at place.old.me) n) place.new.me call.new) ((n : ℕ) × Asked F.said fuse.old fuse.new n 1 × IsBroken work_rules self.now.layout call.old place.old.me (steps_later (deeds_at place.old.me) n) place.new.me) }
+        ensures me { MatchOption result ((n : ℕ) × Asked F.said fuse.old fuse.new n 1 × IsBroken work_rules self.now.layout call.old place.old.me (steps_later (deeds_at place.old.me) n) place.new.me) (λ end. (n : ℕ) × Asked F.said fuse.old fuse.new n 0 × IsSettled work_rules self.now.layout (steps_later (deeds_at place.old.me) n) place.new.me call.new end) }
     {
         works_are_of_a_sheet(call);
-        drive(alloc, &self.table.shared, &self.layout, place, call, fuse)
+        drive(alloc, self, place, call, fuse)
     }
 }

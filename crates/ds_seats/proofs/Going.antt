@@ -14,12 +14,12 @@ use Rattle.ds_seats.specs.declared.steps.Steps.{Steps}
 abbrev pub said : Steps → Steps → ℕ → ℕ → Type 0
 said first now yeses refusals = (first.left ≡ now.left + yeses) × (0 < refusals → now.left ≡ 0)
 
-at_stop : (how : Ended) (taken left fuse : ℕ) → fuse ≡ left + taken → (0 < noes how → left ≡ 0) → IfStopped how (taken ≡ fuse)
+at_stop : {E : Type 0} (how : Ended E) (taken left fuse : ℕ) → fuse ≡ left + taken → (0 < noes how → left ≡ 0) → IfStopped how (taken ≡ fuse)
 at_stop (ends.Answered a) taken left fuse is none = tt
 at_stop (ends.Refused r) taken left fuse is none = tt
 at_stop ends.Stopped taken left fuse is none = let empty : left ≡ 0 = none (omega arith) in omega (arith, is, empty)
 
-pub goes_of : (fuse : ℕ) (f g : Steps) (old new : Pass) (how : Ended) → f.left ≡ fuse → IsAskedEachStep said f g old new how → new.process ≡ old.process
+pub goes_of : {E : Type 0} (fuse : ℕ) (f g : Steps) (old new : Pass) (how : Ended E) → f.left ≡ fuse → IsAskedEachStep said f g old new how → new.process ≡ old.process
     → ((t : Told) → In (outcomes old.place) t → In (outcomes new.place) t) → Goes fuse old new how
 goes_of fuse f g old new how is h process kept =
     let told = h.asked f 0 0 ((omega arith), (λ no. absurd (omega (arith, no)))) in

@@ -8,20 +8,23 @@ use Rattle.ds_layout.specs.Places.{cells_of}
 use Rattle.ds_state.specs.Edits.{PlainEditCall}
 use Rattle.ds_state.specs.Works.{PlainRecoverCall, PlainReportCall, PlainWorkCall}
 use Rattle.ds_state.specs.World.{PlainEdit, edit_of}
+use Rattle.ds_state.specs.EditEndings.{end_of}
+use Rattle.ds_state.specs.declared.answer.EditEnd.{EditEnd}
+use Rattle.ds_state.specs.declared.report.ReportEnd.{ReportEnd}
 use Rattle.ds_state.specs.declared.stage.Outcome.{Outcome}
 use Rattle.ds_state.specs.declared.work.WorkEnd.{WorkEnd}
 use Rattle.ds_edit.specs.Begun as edits
 use Rattle.ds_work.specs.WorkTakes as works
-use Rattle.ds_report.specs.ReportSteps as shows
+use Rattle.ds_report.specs.ReportSteps as reports
 use Rattle.ds_recover.specs.RecoverySteps as recoveries
 use Rattle.ds_state.specs.declared.recovery.RecoveryEnd.{RecoveryEnd}
 use Rattle.ds_drives.specs.declared.board.Told.{Told}
-use Rattle.ds_drives.specs.declared.board.Told.TheVariants.{Edited, Worked, Recovered, Shown}
+use Rattle.ds_drives.specs.declared.board.Told.TheVariants.{Edited, Worked, Recovered, Reported}
 use Rattle.ds_drives.specs.Views.{In, second_rest}
 use Rattle.ds_drives.specs.EditRules.{IsFirst, edit_rules}
 use Rattle.ds_drives.specs.WorkRules.{work_rules}
 use Rattle.ds_drives.specs.RecoverRules.{recover_rules}
-use Rattle.ds_drives.specs.ReportRules.{show_rules}
+use Rattle.ds_drives.specs.ReportRules.{report_rules}
 use Rattle.ds_shared.specs.Known.{outcomes, steps_of}
 use Rattle.ds_shared.specs.Answers.{IfAnswered, IfRefused, IfStopped, BreaksOff, IsWorkOf, ShowsValues, Tells, doing, number_behind}
 use Rattle.ds_shared.specs.declared.ended.Ended.{Ended}
@@ -30,7 +33,7 @@ use Rattle.ds_shared.specs.declared.sheet.SharedSheet.{SharedSheet}
 
 -- the call took no more steps than its fuse has, and where it was stopped just so many; the pass is that of its process,
 -- and knows all that it was told
-pub record Goes (fuse : ℕ) (old new : Pass) (how : Ended) : Type 0 where
+pub record Goes {E : Type 0} (fuse : ℕ) (old new : Pass) (how : Ended E) : Type 0 where
   pub taken : ℕ
   pub steps : steps_of new.place ≡ steps_of old.place + taken
   pub few : taken ≤ fuse
@@ -43,37 +46,37 @@ abbrev pub edit_asked : SharedSheet → Pass → Cell → List ℕ → PlainEdit
 edit_asked s p cell text = record { process = p.process; number = p.number; cell = index_of s.board.layout.shape cell; text = text }
 
 -- the pass edits the cell: answered, stopped by its fuse, or refused and as it was
-pub record Edits (s : SharedSheet) (cell : Cell) (text : List ℕ) (fuse : ℕ) (old new : Pass) (how : Ended) : Type 0 where
+pub record Edits (s : SharedSheet) (cell : Cell) (text : List ℕ) (fuse : ℕ) (old new : Pass) (how : Ended EditEnd) : Type 0 where
   pub goes : Goes fuse old new how
-  pub answered : IfAnswered how (λ a. (e : PlainEditCall) × (end : Outcome) × (edit_of e ≡ edit_asked s old cell text) × Tells s.board.layout old new (Edited e end) a)
-  pub runs : IfAnswered how (λ a. (new.stopped ≡ false) × (new.number ≡ old.number + 1))
+  pub answered : IfAnswered how (λ end. (e : PlainEditCall) × (how : Outcome) × (edit_of e ≡ edit_asked s old cell text) × (end ≡ end_of s.board.layout.processes e.number how) × Tells s.board.layout old new (Edited e how))
+  pub runs : IfAnswered how (λ end. (new.stopped ≡ false) × (new.number ≡ old.number + 1))
   pub stopped : IfStopped how ((e : PlainEditCall) × IsFirst s.board.layout e × (edit_of e ≡ edit_asked s old cell text) × BreaksOff edit_rules s.board.layout e old new)
   pub refused : IfRefused how (λ r. edits.RefusesIn s.board.layout.shape text (doing old.stopped old.number) r)
   pub unchanged : IfRefused how (λ r. new ≡ old)
 
 -- the pass works on the cell: answered, stopped by its fuse, or refused and as it was
-pub record Works (s : SharedSheet) (cell : Cell) (fuse : ℕ) (old new : Pass) (how : Ended) : Type 0 where
+pub record Works (s : SharedSheet) (cell : Cell) (fuse : ℕ) (old new : Pass) (how : Ended WorkEnd) : Type 0 where
   pub goes : Goes fuse old new how
-  pub answered : IfAnswered how (λ a. (e : PlainWorkCall) × (end : WorkEnd) × IsWorkOf e old (index_of s.board.layout.shape cell) × Tells s.board.layout old new (Worked e end) a)
-  pub runs : IfAnswered how (λ a. (new.stopped ≡ false) × (new.number ≡ old.number))
+  pub answered : IfAnswered how (λ end. (e : PlainWorkCall) × IsWorkOf e old (index_of s.board.layout.shape cell) × Tells s.board.layout old new (Worked e end))
+  pub runs : IfAnswered how (λ end. (new.stopped ≡ false) × (new.number ≡ old.number))
   pub stopped : IfStopped how ((e : PlainWorkCall) × works.IsAskedFor s.board.layout old.process (second_rest old.number) (index_of s.board.layout.shape cell) e × BreaksOff work_rules s.board.layout e old new)
   pub refused : IfRefused how (λ r. works.RefusesIn (doing old.stopped old.number) r)
   pub unchanged : IfRefused how (λ r. new ≡ old)
 
 -- the process of the pass recovers: answered, or stopped by its fuse
-pub record Recovers (s : SharedSheet) (fuse : ℕ) (old new : Pass) (how : Ended) : Type 0 where
+pub record Recovers (s : SharedSheet) (fuse : ℕ) (old new : Pass) (how : Ended RecoveryEnd) : Type 0 where
   pub goes : Goes fuse old new how
-  pub answered : IfAnswered how (λ a. (e : PlainRecoverCall) × (end : RecoveryEnd) × (e.process ≡ old.process) × Tells s.board.layout old new (Recovered e end) a)
-  pub runs : IfAnswered how (λ a. (new.stopped ≡ false) × (new.number ≡ number_behind a))
+  pub answered : IfAnswered how (λ end. (e : PlainRecoverCall) × (e.process ≡ old.process) × Tells s.board.layout old new (Recovered e end))
+  pub runs : IfAnswered how (λ end. (new.stopped ≡ false) × (new.number ≡ number_behind end))
   pub stopped : IfStopped how ((e : PlainRecoverCall) × (e ≡ recoveries.fresh old.process (cells_of s.board.layout) s.board.layout.processes) × BreaksOff recover_rules s.board.layout e old new)
   pub refused : IfRefused how (λ r. ⊥)
 
 -- the pass reports, with the values where it is settled: answered, stopped by its fuse, or refused and as it was
-pub record Reports (s : SharedSheet) (fuse : ℕ) (old new : Pass) (how : Ended) (values : Option (Vec Value Global)) : Type 0 where
+pub record Reports (s : SharedSheet) (fuse : ℕ) (old new : Pass) (how : Ended ReportEnd) (values : Option (Vec Value Global)) : Type 0 where
   pub goes : Goes fuse old new how
-  pub answered : IfAnswered how (λ a. (e : PlainReportCall) × (e.process ≡ old.process) × Tells s.board.layout old new (Shown e) a × ShowsValues e values)
-  pub runs : IfAnswered how (λ a. (new.stopped ≡ false) × (new.number ≡ old.number))
-  pub stopped : IfStopped how ((values ≡ None) × ((e : PlainReportCall) × (e ≡ shows.fresh old.process (second_rest old.number) (cells_of s.board.layout) s.board.layout.processes) × BreaksOff show_rules s.board.layout e old new))
+  pub answered : IfAnswered how (λ end. (e : PlainReportCall) × (e.process ≡ old.process) × Tells s.board.layout old new (Reported e end) × ShowsValues e end values)
+  pub runs : IfAnswered how (λ end. (new.stopped ≡ false) × (new.number ≡ old.number))
+  pub stopped : IfStopped how ((values ≡ None) × ((e : PlainReportCall) × (e ≡ reports.fresh old.process (second_rest old.number) (cells_of s.board.layout) s.board.layout.processes) × BreaksOff report_rules s.board.layout e old new))
   pub refused : IfRefused how (λ r. works.RefusesIn (doing old.stopped old.number) r)
   pub unchanged : IfRefused how (λ r. (new ≡ old) × (values ≡ None))
 

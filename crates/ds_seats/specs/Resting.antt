@@ -9,20 +9,19 @@ use Rattle.ds_state.specs.Sound.{IsSound}
 use Rattle.ds_state.specs.World.{of_cell}
 use Rattle.ds_drives.specs.declared.board.Seated.{Seated}
 use Rattle.ds_drives.specs.Rule.{AreTrue, AtRest, Behind, HasSideLeft, world_on}
-use Rattle.ds_drives.specs.Views.{In}
-use Rattle.ds_shared.specs.Known.{past_in}
+use Rattle.ds_drives.specs.Views.{In, past_of}
 use Rattle.ds_shared.specs.declared.sheet.ClosedSheet.{ClosedSheet}
 use Rattle.ds_seats.specs.declared.fault.Fault.{Fault}
 use Rattle.ds_seats.specs.declared.fault.Fault.TheVariants.{NoCell, NoMemory, ShortChoice}
 
 -- a sound world at rest has the words, and all that is remembered is true of it
 abbrev pub Rests : ClosedSheet → Type 0
-Rests c = (b : Behind) × AtRest c.layout (slots_items c.table.words) b × AreTrue c.layout (slots_items c.table.words) b (past_in c.before)
+Rests c = (b : Behind) × AtRest c.layout (slots_items c.table.words) b × AreTrue c.layout (slots_items c.table.words) b (past_of c.before)
 
 -- all that the one remembers the other remembers, of the same layout
 pub record Remembers (old new : ClosedSheet) : Type 0 where
   pub layout : new.layout ≡ old.layout
-  pub before : (e : Seated) → In (past_in old.before) e → In (past_in new.before) e
+  pub before : (e : Seated) → In (past_of old.before) e → In (past_of new.before) e
 
 -- whether the word of this number is chosen: its item of the choice is not 0
 abbrev pub is_chosen : List ℕ → ℕ → Bool
@@ -31,7 +30,7 @@ is_chosen choice n = if slice_index_or choice n 0 == 0 then false else true
 -- a crash comes, before which the chosen words were evicted; what is remembered stays
 pub record Crashes (choice : List ℕ) (old new : ClosedSheet) : Type 0 where
   pub layout : new.layout ≡ old.layout
-  pub before : past_in new.before ≡ past_in old.before
+  pub before : past_of new.before ≡ past_of old.before
   pub words : (n : ℕ) → n < words_of old.layout → HasSideLeft (is_chosen choice n) (slots_items old.table.words) (slots_items new.table.words) n
 
 -- why a crash is not made: the choice is too short, or an allocation failed

@@ -10,7 +10,7 @@ use Rattle.ds_formula.specs.Cells.{IsInside}
 use Rattle.ds_layout.specs.declared.layout.Layout.{Layout}
 use Rattle.ds_drives.specs.declared.board.Seated.{Seated}
 use Rattle.ds_drives.specs.Rule.{Closes}
-use Rattle.ds_drives.specs.Views.{In, sole}
+use Rattle.ds_drives.specs.Views.{In, past_of, sole}
 use Rattle.ds_shared.specs.declared.pass.Pass.{Pass}
 use Rattle.ds_shared.specs.declared.sheet.ClosedSheet.{ClosedSheet}
 use Rattle.ds_shared.specs.declared.sheet.SharedSheet.{SharedSheet}
@@ -67,9 +67,9 @@ CanNotTake process s why = ⊥
 -- its pass says; what they were told, and what was told before, is remembered
 pub record IsClosedWith (s : SharedSheet) (past : List Seated) (passes : List Pass) (c : ClosedSheet) : Type 0 where
   pub layout : c.layout ≡ s.board.layout
-  pub handed : (p : Pass) → Contains passes p → In (past_in c.before) (sole p.place)
-  pub before : (e : Seated) → In past e → In (past_in c.before) e
-  pub stand : Closes s.board.layout (slots_items c.table.words) (λ e. (p : Pass) × Contains passes p × (e ≡ sole p.place)) (past_in c.before)
+  pub handed : (p : Pass) → Contains passes p → In (past_of c.before) (sole p.place)
+  pub before : (e : Seated) → In past e → In (past_of c.before) e
+  pub stand : Closes s.board.layout (slots_items c.table.words) (λ e. (p : Pass) × Contains passes p × (e ≡ sole p.place)) (past_of c.before)
 
 -- the sheet is closed with a pass of each of its processes, in order
 pub record IsClosed (s : OpenSheet) (c : ClosedSheet) : Type 0 where

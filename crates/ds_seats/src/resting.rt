@@ -48,6 +48,7 @@ impl RestingSheet {
     ghost use Rattle.ds_state.specs.Shown.{mark_at, value_at};
     ghost use Rattle.ds_drives.specs.Table.{two_sided};
     ghost use Rattle.ds_shared.specs.Known.{past_in};
+    ghost use Rattle.ds_drives.specs.Views.{past_of};
     ghost use Rattle.ds_seats.specs.Resting.{Remembers, Crashes, CanNotCrash, IsTextIn, LacksText, LacksCellIn};
     ghost use Rattle.ds_seats.specs.Sheets.{AllFresh};
 
@@ -134,7 +135,7 @@ impl RestingSheet {
     /// closed: all that it remembered it remembers.
     pub fn reopen(self, alloc: Global) -> Result<OpenSheet, RestingSheet>
         ensures layout { IfOk result (λ r. (arc_value r.sheet).board.layout ≡ self.sheet.layout) }
-        ensures past { IfOk result (λ r. past_in r.past.place ≡ past_in self.sheet.before) }
+        ensures past { IfOk result (λ r. past_in r.past.place ≡ past_of self.sheet.before) }
         ensures fresh { IfOk result (λ r. AllFresh true r) }
         ensures back { IfErr result (λ r. Remembers self.sheet r.sheet) }
     {

@@ -17,6 +17,10 @@ use ds_layout::layout::Layout;
 use ds_shared::ended::Ended;
 use ds_shared::pass::Pass;
 use ds_shared::sheet::SharedSheet;
+use ds_state::answer::EditEnd;
+use ds_state::recovery::RecoveryEnd;
+use ds_state::report::ReportEnd;
+use ds_state::work::WorkEnd;
 use std::alloc::Global;
 use std::sync::Arc;
 
@@ -66,7 +70,7 @@ impl Seat {
         cell: Cell,
         text: &[u8],
         steps: u64,
-    ) -> Result<Ended, Fault>
+    ) -> Result<Ended<EditEnd>, Fault>
         ensures made { IfOk result (λ how. IsInside (arc_value self.old.sheet).board.layout.shape cell × Edits (arc_value self.old.sheet) cell text.now steps self.old.pass self.new.pass how) }
         ensures err { IfErr result (λ why. LacksCell (arc_value self.old.sheet) cell why × (self.new ≡ self.old)) }
         ensures seat { IsSeatOf (arc_value self.old.sheet) self.new × (self.new.last ≡ self.old.last) }
@@ -83,7 +87,7 @@ impl Seat {
 
     /// Works on a cell: where its mark is dirty, it is claimed, evaluated and published. An error is that the sheet has
     /// no such cell.
-    pub fn work(&mut self, alloc: Global, cell: Cell, steps: u64) -> Result<Ended, Fault>
+    pub fn work(&mut self, alloc: Global, cell: Cell, steps: u64) -> Result<Ended<WorkEnd>, Fault>
         ensures made { IfOk result (λ how. IsInside (arc_value self.old.sheet).board.layout.shape cell × Works (arc_value self.old.sheet) cell steps self.old.pass self.new.pass how) }
         ensures err { IfErr result (λ why. LacksCell (arc_value self.old.sheet) cell why × (self.new ≡ self.old)) }
         ensures seat { IsSeatOf (arc_value self.old.sheet) self.new × (self.new.last ≡ self.old.last) }
@@ -96,7 +100,7 @@ impl Seat {
     }
 
     /// Recovers its process, also one that is stopped: the answer tells what became of its last edit that was announced.
-    pub fn recover(&mut self, alloc: Global, steps: u64) -> Ended
+    pub fn recover(&mut self, alloc: Global, steps: u64) -> Ended<RecoveryEnd>
         ensures made { Recovers (arc_value self.old.sheet) steps self.old.pass self.new.pass result }
         ensures seat { IsSeatOf (arc_value self.old.sheet) self.new × (self.new.last ≡ self.old.last) }
     {
@@ -105,7 +109,7 @@ impl Seat {
     }
 
     /// A report of the whole sheet. Where it is settled, the seat keeps its values, in place of those of its last one.
-    pub fn report(&mut self, alloc: Global, steps: u64) -> Ended
+    pub fn report(&mut self, alloc: Global, steps: u64) -> Ended<ReportEnd>
         ensures made { (values : Option (Vec Value Global)) × Reports (arc_value self.old.sheet) steps self.old.pass self.new.pass result values × (self.new.last ≡ last_of self.old.last values) }
         ensures seat { IsSeatOf (arc_value self.old.sheet) self.new }
     {

@@ -22,7 +22,7 @@ use Rattle.ds_state.proofs.Losing.{increasing_cell}
 use Rattle.ds_state.proofs.Spent.{spent_crashed}
 use Rattle.ds_state.specs.declared.recovery.RecoveryEnd.TheVariants.{Last, Nothing}
 use Rattle.ds_drives.specs.declared.board.Told.{Told}
-use Rattle.ds_drives.specs.declared.board.Told.TheVariants.{Edited, Worked, Recovered, Shown}
+use Rattle.ds_drives.specs.declared.board.Told.TheVariants.{Edited, Worked, Recovered, Reported}
 use Rattle.ds_drives.specs.Rule.{IsTold, IsTrueTold, CountsAs}
 
 -- ---- lists
@@ -133,5 +133,5 @@ module _ (old new : PlainWorld) (sound : IsSound old) (rest : (p : ℕ) → p < 
   }
   told_crashed q (Worked e end) h = tt
   told_crashed q (Recovered e Nothing) h = tt
-  told_crashed q (Recovered e (Last number cell how)) h = record { spent = spent_crashed old new crash q number h.spent; holds = counts q number how h.spent h.holds }
-  told_crashed q (Shown e) h = tt
+  told_crashed q (Recovered e (Last told)) h = record { spent = spent_crashed old new crash q told.number h.spent; holds = counts q told.number told.counts h.spent h.holds }
+  told_crashed q (Reported e end) h = tt

@@ -25,7 +25,7 @@ use Rattle.ds_state.proofs.CrashSound.{crash_sound}
 use Rattle.ds_state.proofs.Spent.{spent_evicted}
 use Rattle.ds_state.specs.declared.recovery.RecoveryEnd.TheVariants.{Last, Nothing}
 use Rattle.ds_drives.specs.declared.board.Told.{Told}
-use Rattle.ds_drives.specs.declared.board.Told.TheVariants.{Edited, Worked, Recovered, Shown}
+use Rattle.ds_drives.specs.declared.board.Told.TheVariants.{Edited, Worked, Recovered, Reported}
 use Rattle.ds_drives.specs.Table.{two_sided}
 use Rattle.ds_drives.specs.Rule.{Behind, world_on, IsSecond, IsTold, AtRest, Survives}
 use Rattle.ds_shared.proofs.Losses.{told_crashed}
@@ -34,8 +34,8 @@ told_evicted : (place : Place) (old new : PlainWorld) → IsSound old → Evicts
 told_evicted place old new sound v q (Edited d how) h = record { own = h.own; spent = spent_evicted place old new sound v q d.number h.spent; holds = subst (λ l. Rattle.ds_drives.specs.Rule.IsTrueTold l (edit_of d) how) (sym v.counted) h.holds }
 told_evicted place old new sound v q (Worked e end) h = tt
 told_evicted place old new sound v q (Recovered e Nothing) h = tt
-told_evicted place old new sound v q (Recovered e (Last number cell how)) h = record { spent = spent_evicted place old new sound v q number h.spent; holds = subst (λ l. Rattle.ds_drives.specs.Rule.CountsAs l q number how) (sym v.counted) h.holds }
-told_evicted place old new sound v q (Shown e) h = tt
+told_evicted place old new sound v q (Recovered e (Last told)) h = record { spent = spent_evicted place old new sound v q told.number h.spent; holds = subst (λ l. Rattle.ds_drives.specs.Rule.CountsAs l q told.number told.counts) (sym v.counted) h.holds }
+told_evicted place old new sound v q (Reported e end) h = tt
 
 -- the words after so many of them were evicted, those that are chosen
 abbrev backed : (ℕ → Bool) → List ℕ → ℕ → List ℕ

@@ -7,19 +7,11 @@ use Rattle.ds_state.specs.declared.refusal.Refusal.{Refusal}
 use Rattle.ds_state.specs.declared.situation.Situation.{Situation}
 use Rattle.ds_state.specs.declared.situation.Situation.TheVariants.{Idle, Stopped}
 use Rattle.ds_state.specs.Works.{PlainReportCall, PlainWorkCall}
-use Rattle.ds_state.specs.declared.work.WorkEnd.{WorkEnd}
-use Rattle.ds_state.specs.declared.work.WorkEnd.TheVariants as works
-use Rattle.ds_state.specs.declared.report.ReportEnd.TheVariants as shows
-use Rattle.ds_state.specs.declared.report.ReportStage.{ReportStage}
-use Rattle.ds_state.specs.declared.report.ReportStage.TheVariants as stages
-use Rattle.ds_layout.specs.declared.place.Place.TheVariants as place
+use Rattle.ds_state.specs.declared.report.ReportEnd.{ReportEnd}
+use Rattle.ds_state.specs.declared.report.ReportEnd.TheVariants.{Settled, Unsettled}
 use Rattle.ds_state.specs.declared.recovery.RecoveryEnd.{RecoveryEnd}
 use Rattle.ds_state.specs.declared.recovery.RecoveryEnd.TheVariants as recoveries
-use Rattle.ds_state.specs.declared.answer.Answer.{Answer}
-use Rattle.ds_state.specs.declared.answer.Answer.TheVariants as answers
-use Rattle.ds_state.specs.EditEndings.{answer_of}
 use Rattle.ds_drives.specs.declared.board.Told.{Told}
-use Rattle.ds_drives.specs.declared.board.Told.TheVariants.{Edited, Worked, Recovered, Shown}
 use Rattle.ds_drives.specs.Fuses.{Asked}
 use Rattle.ds_drives.specs.declared.board.Seated.{Seated}
 use Rattle.ds_drives.specs.Views.{deeds_at, second_rest, sole}
@@ -54,87 +46,55 @@ pub record IsFresh (stopped : Bool) (p : Pass) : Type 0 where
 abbrev pub seated_by : List Pass → List Seated
 seated_by passes = map (λ p. sole p.place) (reverse passes)
 
--- the call was answered, and this is so of the answer
-abbrev pub IfAnswered : Ended → (Answer → Type 0) → Type 0
-IfAnswered (ends.Answered a) P = P a
+-- the call was answered, and this is so of its end
+abbrev pub IfAnswered : {E : Type 0} → Ended E → (E → Type 0) → Type 0
+IfAnswered (ends.Answered end) P = P end
 IfAnswered (ends.Refused r) P = Unit {0}
 IfAnswered ends.Stopped P = Unit {0}
 
 -- the call was refused, and this is so of the cause
-abbrev pub IfRefused : Ended → (Refusal → Type 0) → Type 0
-IfRefused (ends.Answered a) P = Unit {0}
+abbrev pub IfRefused : {E : Type 0} → Ended E → (Refusal → Type 0) → Type 0
+IfRefused (ends.Answered end) P = Unit {0}
 IfRefused (ends.Refused r) P = P r
 IfRefused ends.Stopped P = Unit {0}
 
 -- the call was stopped by its fuse, and this is so
-abbrev pub IfStopped : Ended → Type 0 → Type 0
-IfStopped (ends.Answered a) P = Unit {0}
+abbrev pub IfStopped : {E : Type 0} → Ended E → Type 0 → Type 0
+IfStopped (ends.Answered end) P = Unit {0}
 IfStopped (ends.Refused r) P = Unit {0}
 IfStopped ends.Stopped P = P
 
--- the answer of a work that ended so
-abbrev pub work_answer : WorkEnd → Answer
-work_answer works.NotDirty = answers.NotDirty
-work_answer works.Missed = answers.Missed
-work_answer works.Worn = answers.Worn
-work_answer (works.Published changed) = answers.Published changed
-work_answer works.Again = answers.Again
-work_answer works.NoMemory = answers.NoMemory
+-- the number of a process's next edit behind a recovery that ended so
+abbrev pub number_behind : RecoveryEnd → ℕ
+number_behind recoveries.Nothing = 0
+number_behind (recoveries.Last told) = told.number + 1
 
--- the answer of a recovery that ended so
-abbrev pub recovery_answer : RecoveryEnd → Answer
-recovery_answer recoveries.Nothing = answers.Nothing
-recovery_answer (recoveries.Last number cell counts) = answers.Last (record { number = number; cell = cell; counts = counts })
+-- a report that ended so shows these values: those that it loaded where it is settled, and else none
+abbrev pub ShowsValues : PlainReportCall → ReportEnd → Option (Vec Value Global) → Type 0
+ShowsValues e Settled (Some values) = values.items ≡ answered e
+ShowsValues e Settled None = ⊥
+ShowsValues e (Unsettled place word) values = values ≡ None
 
--- the number of a process's next edit behind this answer of its recovery
-abbrev pub number_behind : Answer → ℕ
-number_behind (answers.Last told) = told.number + 1
-number_behind _ = 0
-
--- the answer of a report at its last stage
-abbrev pub show_answer : ReportStage → Answer
-show_answer (stages.Answer (shows.AtMark cell word)) = answers.Unsettled (place.Mark cell) word
-show_answer (stages.Answer (shows.AtAnnounce process word)) = answers.Unsettled (place.Announce process) word
-show_answer _ = answers.Settled
-
--- the values are those of a settled report; another one has none
-abbrev pub ShowsAt : PlainReportCall → ReportStage → Option (Vec Value Global) → Type 0
-ShowsAt e (stages.Answer shows.Settled) (Some values) = values.items ≡ answered e
-ShowsAt e (stages.Answer shows.Settled) None = ⊥
-ShowsAt e _ values = values ≡ None
-
--- so it is at its last stage
-abbrev pub ShowsValues : PlainReportCall → Option (Vec Value Global) → Type 0
-ShowsValues e values = ShowsAt e e.stage values
-
--- the answer of a call of which this is told
-abbrev pub answer_for : ℕ → Told → Answer
-answer_for processes (Edited e how) = answer_of processes e.number how
-answer_for processes (Worked e end) = work_answer end
-answer_for processes (Recovered e end) = recovery_answer end
-answer_for processes (Shown e) = show_answer e.stage
-
--- the call was told of, as the last one, and the answer says that; it came to its end by its own steps
-pub record Tells (layout : Layout) (old new : Pass) (t : Told) (a : Answer) : Type 0 where
+-- the pass was told this of its call, as the last thing; the call came to its end by its own steps
+pub record Tells (layout : Layout) (old new : Pass) (t : Told) : Type 0 where
   pub last : outcomes new.place ≡ t ∷ outcomes old.place
-  pub answer : a ≡ answer_for layout.processes t
   pub holds : CallHolds layout old.process (outcomes old.place) t
 
 -- how often the fuse said no: once in a call that it stopped
-abbrev pub noes : Ended → ℕ
-noes (ends.Answered a) = 0
+abbrev pub noes : {E : Type 0} → Ended E → ℕ
+noes (ends.Answered end) = 0
 noes (ends.Refused r) = 0
 noes ends.Stopped = 1
 
 -- the fuse was asked before each step, and said yes each time; where the call was stopped it then said no
-pub record IsAskedEachStep {F : Type 0} (said : F → F → ℕ → ℕ → Type 0) (old new : F) (before after : Pass) (how : Ended) : Type 0 where
+pub record IsAskedEachStep {F E : Type 0} (said : F → F → ℕ → ℕ → Type 0) (old new : F) (before after : Pass) (how : Ended E) : Type 0 where
   pub taken : ℕ
   pub steps : steps_of after.place ≡ steps_of before.place + taken
   pub asked : Asked said old new taken (noes how)
 
 -- the pass's call, which began so, was broken off: the pass is stopped, and was told no more; its process is in this call
 -- still, or, before the first step, where it was
-pub record BreaksOff {C : Type 0} (r : Rules C) (layout : Layout) (first : C) (old new : Pass) : Type 0 where
+pub record BreaksOff {C E : Type 0} (r : Rules C E) (layout : Layout) (first : C) (old new : Pass) : Type 0 where
   pub stopped : new.stopped ≡ true
   pub told : outcomes new.place ≡ outcomes old.place
   pub view : IsBroken r layout first old.place.me (deeds_at new.place.me) new.place.me

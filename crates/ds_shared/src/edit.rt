@@ -5,12 +5,11 @@ ghost use Rattle.ds_formula.specs.Cells.{IsInside, index_of};
 ghost use Rattle.ds_state.specs.Edits.{PlainEditCall};
 ghost use Rattle.ds_state.specs.World.{edit_of};
 ghost use Rattle.ds_state.specs.declared.stage.Outcome.{Outcome};
-ghost use Rattle.ds_state.specs.declared.stage.Stage.TheVariants.{Answer as Ends};
 ghost use Rattle.ds_edit.specs.Begun.{RefusesIn};
-ghost use Rattle.ds_state.specs.EditEndings.{answer_of};
+ghost use Rattle.ds_state.specs.EditEndings.{end_of};
 ghost use Rattle.ds_drives.specs.declared.board.Told.{Told};
 ghost use Rattle.ds_drives.specs.declared.board.Told.TheVariants.{Edited};
-ghost use Rattle.ds_drives.specs.EditRules.{IsEnded, IsFirst, edit_rules};
+ghost use Rattle.ds_drives.specs.EditRules.{IsFirst, edit_rules};
 ghost use Rattle.ds_drives.specs.Views.{In};
 ghost use Rattle.ds_shared.specs.Known.{outcomes};
 ghost use Rattle.ds_shared.specs.Answers.{IsOf, IfAnswered, IfRefused, IfStopped, IsAskedEachStep, BreaksOff, Tells, doing};
@@ -21,22 +20,9 @@ use crate::sheet::SharedSheet;
 use ds_drives::fuse::Fuse;
 use ds_edit::begin::prepared;
 use ds_formula::cells::Cell;
-use ds_state::answer::Answer;
-use ds_state::edit::EditCall;
+use ds_state::answer::EditEnd;
 use ds_state::refusal::Refusal;
-use ds_state::stage::Stage;
 use std::alloc::Global;
-
-// How the edit ended.
-fn answered(call: &EditCall) -> Answer
-    requires { IsEnded call.now.stage }
-    ensures { (how : Outcome) → call.now.stage ≡ Ends how → result ≡ answer_of call.now.processes call.now.number how }
-{
-    match call.stage {
-        Stage::Answer(how) => Answer::of(call.processes, call.number, how),
-        _ => unreachable!(),
-    }
-}
 
 impl SharedSheet {
     /// Sets the text of a cell: the process's edit, with the number of its pass. Refused where the pass is stopped
@@ -49,12 +35,12 @@ impl SharedSheet {
         cell: Cell,
         text: &[u8],
         fuse: &mut F,
-    ) -> Ended
+    ) -> Ended<EditEnd>
         requires pass { IsOf self.now pass.old }
         requires cell { IsInside self.now.board.layout.shape cell }
         ensures pass { IsOf self.now pass.new × (pass.new.process ≡ pass.old.process) }
-        ensures answered { IfAnswered result (λ a. (e : PlainEditCall) × (how : Outcome) × (edit_of e ≡ record { process = pass.old.process; number = pass.old.number; cell = index_of self.now.board.layout.shape cell; text = text.now }) × Tells self.now.board.layout pass.old pass.new (Edited e how) a) }
-        ensures runs { IfAnswered result (λ a. (pass.new.stopped ≡ false) × (pass.new.number ≡ pass.old.number + 1)) }
+        ensures answered { IfAnswered result (λ end. (e : PlainEditCall) × (how : Outcome) × (edit_of e ≡ record { process = pass.old.process; number = pass.old.number; cell = index_of self.now.board.layout.shape cell; text = text.now }) × (end ≡ end_of self.now.board.layout.processes e.number how) × Tells self.now.board.layout pass.old pass.new (Edited e how)) }
+        ensures runs { IfAnswered result (λ end. (pass.new.stopped ≡ false) × (pass.new.number ≡ pass.old.number + 1)) }
         ensures steps { IsAskedEachStep F.said fuse.old fuse.new pass.old pass.new result }
         ensures stopped { IfStopped result ((e : PlainEditCall) × IsFirst self.now.board.layout e × (edit_of e ≡ record { process = pass.old.process; number = pass.old.number; cell = index_of self.now.board.layout.shape cell; text = text.now }) × BreaksOff edit_rules self.now.board.layout e pass.old pass.new) }
         ensures kept { (t : Told) → In (outcomes pass.old.place) t → In (outcomes pass.new.place) t }
@@ -75,11 +61,15 @@ impl SharedSheet {
             Ok(begun) => begun,
             Err(refusal) => return Ended::Refused(refusal),
         };
-        if !self.board.edit(alloc, &mut pass.place, &mut call, fuse) {
-            pass.stopped = true;
-            return Ended::Stopped;
+        match self.board.edit(alloc, &mut pass.place, &mut call, fuse) {
+            Some(end) => {
+                pass.number += 1;
+                Ended::Answered(end)
+            }
+            None => {
+                pass.stopped = true;
+                Ended::Stopped
+            }
         }
-        pass.number += 1;
-        Ended::Answered(answered(&call))
     }
 }

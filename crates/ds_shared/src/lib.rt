@@ -7,9 +7,9 @@ pub mod ended;
 pub mod pass;
 pub mod recover;
 pub mod reopen;
+pub mod report;
 pub mod seats;
 pub mod sheet;
-pub mod report;
 #[cfg(test)]
 mod tests;
 pub mod work;

@@ -4,6 +4,7 @@ ghost use Rattle.std.specs.Prelude.{◌≡◌, ◌*◌, ◌<◌, ◌≤◌, [], 
 ghost use Rattle.std.specs.List.{range_with_len};
 ghost use Rattle.std.specs.Mem.Slots.{slots_items, slots_len};
 ghost use Rattle.ds_drives.specs.Rule.{AreTrue, AtRest, Behind};
+ghost use Rattle.ds_drives.specs.Views.{past_of};
 ghost use Rattle.ds_shared.specs.Known.{outcomes, past_in};
 ghost use Rattle.ds_shared.specs.Answers.{IsFresh, IsOf, IsPastOf};
 
@@ -34,11 +35,11 @@ impl ClosedSheet {
         self,
         alloc: Global,
     ) -> Result<(SharedSheet, Past, Vec<Pass, Global>), ClosedSheet>
-        requires { (b : Behind) × AtRest self.layout (slots_items self.table.words) b × AreTrue self.layout (slots_items self.table.words) b (past_in self.before) }
+        requires { (b : Behind) × AtRest self.layout (slots_items self.table.words) b × AreTrue self.layout (slots_items self.table.words) b (past_of self.before) }
         ensures layout { IfOk result (λ r. r.0.board.layout ≡ self.layout) }
         ensures order { IfOk result (λ r. map (λ p. p.process) r.2.items ≡ range_with_len 0 self.layout.processes) }
         ensures fit { IfOk result (λ r. All (λ p. IsOf r.0 p × IsFresh true p) r.2.items) }
-        ensures past { IfOk result (λ r. IsPastOf r.0 r.1 × (past_in r.1.place ≡ past_in self.before)) }
+        ensures past { IfOk result (λ r. IsPastOf r.0 r.1 × (past_in r.1.place ≡ past_of self.before)) }
         ensures back { IfErr result (λ c. c ≡ self) }
     {
         let Ok(words) = self.copied(alloc) else {

@@ -8,24 +8,22 @@ ghost use Rattle.ds_state.specs.KnownReport.{values_of, noted};
 ghost use Rattle.ds_report.specs.ReportSteps.{fresh as begun};
 ghost use Rattle.ds_work.specs.WorkTakes.{RefusesIn};
 ghost use Rattle.ds_drives.specs.declared.board.Told.{Told};
-ghost use Rattle.ds_drives.specs.declared.board.Told.TheVariants.{Shown};
-ghost use Rattle.ds_drives.specs.ReportRules.{IsEnded, show_rules};
+ghost use Rattle.ds_drives.specs.declared.board.Told.TheVariants.{Reported};
+ghost use Rattle.ds_drives.specs.ReportRules.{IsEnded, report_rules};
 ghost use Rattle.ds_drives.specs.Views.{In, second_rest};
 ghost use Rattle.ds_shared.specs.Known.{outcomes};
-ghost use Rattle.ds_shared.specs.Answers.{IsOf, IfAnswered, IfRefused, IfStopped, IsAskedEachStep, BreaksOff, ShowsValues, Tells, show_answer, doing};
+ghost use Rattle.ds_shared.specs.Answers.{IsOf, IfAnswered, IfRefused, IfStopped, IsAskedEachStep, BreaksOff, ShowsValues, Tells, doing};
 
 use crate::ended::Ended;
 use crate::pass::Pass;
 use crate::sheet::SharedSheet;
 use ds_drives::fuse::Fuse;
 use ds_eval::value::Value;
-use ds_layout::place::Place;
 use ds_layout::stored::Stored;
 use ds_report::begin::fresh;
-use ds_state::answer::Answer;
 use ds_state::refusal::Refusal;
+use ds_state::report::{ReportCall, ReportEnd};
 use ds_state::shown::shown;
-use ds_state::report::{ReportCall, ReportEnd, ReportStage};
 use std::alloc::Global;
 
 // It is a report of a sheet.
@@ -33,21 +31,6 @@ fn is_report(call: &ReportCall)
     ensures { IsReport call.now }
 {
     let _stage = call.stage;
-}
-
-// The answer of a report at its end.
-fn answer(call: &ReportCall) -> Answer
-    ensures { result ≡ show_answer call.now.stage }
-{
-    match call.stage {
-        ReportStage::Answer(ReportEnd::AtMark { cell, word }) => {
-            Answer::Report(ReportEnd::Unsettled(Place::Mark(cell), word))
-        }
-        ReportStage::Answer(ReportEnd::AtAnnounce { process, word }) => {
-            Answer::Report(ReportEnd::Unsettled(Place::Announce(process), word))
-        }
-        _ => Answer::Report(ReportEnd::Settled),
-    }
 }
 
 // The values that these words of cells show, in room that is reserved.
@@ -64,15 +47,15 @@ fn fill(report: &mut Vec<Value>, cells: usize, values: &[u64], kinds: &[u64])
     }
 }
 
-// The values of a settled report, in room that is reserved.
-fn read_off(call: &ReportCall, mut values: Vec<Value>) -> Option<Vec<Value>>
+// The values of a report that has ended so, in room that is reserved, where it is settled.
+fn read_off(call: &ReportCall, end: ReportEnd, mut values: Vec<Value>) -> Option<Vec<Value>>
     requires room { call.now.cells ≤ vec_capacity values }
-    requires ended { IsEnded call.now.stage }
-    ensures { ShowsValues call.now result }
+    requires ended { IsEnded call.now end }
+    ensures { ShowsValues call.now end result }
 {
     is_report(call);
-    match call.stage {
-        ReportStage::Answer(ReportEnd::Settled) => {
+    match end {
+        ReportEnd::Settled => {
             fill(
                 &mut values,
                 call.cells,
@@ -81,7 +64,7 @@ fn read_off(call: &ReportCall, mut values: Vec<Value>) -> Option<Vec<Value>>
             );
             Some(values)
         }
-        _ => None,
+        ReportEnd::Unsettled(_, _) => None,
     }
 }
 
@@ -92,13 +75,13 @@ impl SharedSheet {
         alloc: Global,
         pass: &mut Pass,
         fuse: &mut F,
-    ) -> (Ended, Option<Vec<Value>>)
+    ) -> (Ended<ReportEnd>, Option<Vec<Value>>)
         requires { IsOf self.now pass.old }
         ensures pass { IsOf self.now pass.new × (pass.new.process ≡ pass.old.process) }
-        ensures answered { IfAnswered result.0 (λ a. (e : PlainReportCall) × (e.process ≡ pass.old.process) × Tells self.now.board.layout pass.old pass.new (Shown e) a × ShowsValues e result.1) }
-        ensures runs { IfAnswered result.0 (λ a. (pass.new.stopped ≡ false) × (pass.new.number ≡ pass.old.number)) }
+        ensures answered { IfAnswered result.0 (λ end. (e : PlainReportCall) × (e.process ≡ pass.old.process) × Tells self.now.board.layout pass.old pass.new (Reported e end) × ShowsValues e end result.1) }
+        ensures runs { IfAnswered result.0 (λ end. (pass.new.stopped ≡ false) × (pass.new.number ≡ pass.old.number)) }
         ensures steps { IsAskedEachStep F.said fuse.old fuse.new pass.old pass.new result.0 }
-        ensures stopped { IfStopped result.0 ((result.1 ≡ None) × ((e : PlainReportCall) × (e ≡ begun pass.old.process (second_rest pass.old.number) (cells_of self.now.board.layout) self.now.board.layout.processes) × BreaksOff show_rules self.now.board.layout e pass.old pass.new)) }
+        ensures stopped { IfStopped result.0 ((result.1 ≡ None) × ((e : PlainReportCall) × (e ≡ begun pass.old.process (second_rest pass.old.number) (cells_of self.now.board.layout) self.now.board.layout.processes) × BreaksOff report_rules self.now.board.layout e pass.old pass.new)) }
         ensures kept { (t : Told) → In (outcomes pass.old.place) t → In (outcomes pass.new.place) t }
         ensures refused { IfRefused result.0 (λ r. RefusesIn (doing pass.old.stopped pass.old.number) r) }
         ensures unchanged { IfRefused result.0 (λ r. (pass.new ≡ pass.old) × (result.1 ≡ None)) }
@@ -114,10 +97,12 @@ impl SharedSheet {
             Ok(call) => call,
             Err(_) => return (Ended::Refused(Refusal::NoMemory), None),
         };
-        if !self.board.report(alloc, &mut pass.place, &mut call, fuse) {
-            pass.stopped = true;
-            return (Ended::Stopped, None);
+        match self.board.report(alloc, &mut pass.place, &mut call, fuse) {
+            Some(end) => (Ended::Answered(end), read_off(&call, end, values)),
+            None => {
+                pass.stopped = true;
+                (Ended::Stopped, None)
+            }
         }
-        (Ended::Answered(answer(&call)), read_off(&call, values))
     }
 }

@@ -4,7 +4,7 @@ ghost use Rattle.std.specs.Prelude.{◌≡◌, ◌+◌, ◌*◌, ◌<◌, ◌≤
 ghost use Rattle.std.specs.List.{range_with_len};
 ghost use Rattle.std.specs.Mem.Slots.{slots_items};
 ghost use Rattle.ds_drives.specs.declared.board.Seated.{Seated};
-ghost use Rattle.ds_drives.specs.Views.{In, sole, first_now, first_view};
+ghost use Rattle.ds_drives.specs.Views.{In, sole, first_now, first_view, past_of};
 ghost use Rattle.ds_drives.specs.Rule.{Closes};
 ghost use Rattle.ds_shared.specs.declared.pass.Pass.{Pass};
 ghost use Rattle.ds_shared.specs.Known.{IsMemory, outcomes, past_in, steps_of};
@@ -69,10 +69,10 @@ impl SharedSheet {
         requires past { IsPastOf self past }
         requires fit { All (λ p. IsOf self p) passes.items }
         ensures layout { result.layout ≡ self.board.layout }
-        ensures got { past_in result.before ≡ past_in past.place ++ seated_by passes.items }
-        ensures handed { (p : Pass) → Contains passes.items p → In (past_in result.before) (sole p.place) }
-        ensures before { (e : Seated) → In (past_in past.place) e → In (past_in result.before) e }
-        ensures stand { Closes self.board.layout (slots_items result.table.words) (λ e. (p : Pass) × Contains passes.items p × (e ≡ sole p.place)) (past_in result.before) }
+        ensures got { past_of result.before ≡ past_in past.place ++ seated_by passes.items }
+        ensures handed { (p : Pass) → Contains passes.items p → In (past_of result.before) (sole p.place) }
+        ensures before { (e : Seated) → In (past_in past.place) e → In (past_of result.before) e }
+        ensures stand { Closes self.board.layout (slots_items result.table.words) (λ e. (p : Pass) × Contains passes.items p × (e ≡ sole p.place)) (past_of result.before) }
     {
         let SharedSheet { board } = self;
         let Past { place: mut seat } = past;
@@ -90,7 +90,7 @@ impl SharedSheet {
         ClosedSheet {
             table,
             layout,
-            before,
+            before: Some(before),
         }
     }
 }

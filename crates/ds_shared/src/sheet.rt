@@ -3,7 +3,7 @@
 ghost use Rattle.std.specs.Prelude.{◌≡◌, ◌+◌, ◌*◌, ◌<◌, ℕ, false, slice_index, slice_index_or, slice_set, length, IfOk};
 ghost use Rattle.std.specs.Mem.Slots.{slots_items, slots_len, IsFull};
 ghost use Rattle.ds_layout.specs.Places.{words_of};
-ghost use Rattle.ds_shared.specs.Known.{past_in};
+ghost use Rattle.ds_drives.specs.Views.{past_of};
 
 use atomic_table::Closed;
 use ds_drives::board::{self, Board};
@@ -34,7 +34,7 @@ impl SharedSheet {
 pub struct ClosedSheet {
     pub(crate) table: Closed<u8, Global>,
     pub(crate) layout: Layout,
-    pub(crate) before: board::Place,
+    pub(crate) before: Option<board::Place>,
     pub ghost full: { IsFull table.words × (slots_len table.slots ≡ 0) },
     pub ghost sized: { slots_len table.words ≡ 8 * words_of layout },
 }
@@ -148,7 +148,7 @@ impl ClosedSheet {
     pub fn crash_with(&mut self, choice: &[bool])
         requires { length choice.now ≡ words_of self.old.layout }
         ensures layout { self.new.layout ≡ self.old.layout }
-        ensures before { past_in self.new.before ≡ past_in self.old.before }
+        ensures before { past_of self.new.before ≡ past_of self.old.before }
         ensures words { (n : ℕ) → n < words_of self.old.layout → HasSideLeft (slice_index_or choice.now n false) (slots_items self.old.table.words) (slots_items self.new.table.words) n }
         ensures survives { (b : Behind) → AtRest self.old.layout (slots_items self.old.table.words) b → Survives self.old.layout (slots_items self.old.table.words) (slots_items self.new.table.words) b }
     {

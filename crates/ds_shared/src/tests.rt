@@ -1,7 +1,7 @@
 ghost use Rattle.std.specs.Prelude.{◌≡◌, ◌+◌, ◌<◌, All, IfSome};
 ghost use Rattle.std.specs.Mem.Slots.{slots_items};
 ghost use Rattle.ds_drives.specs.Rule.{AreTrue, AtRest, Behind};
-ghost use Rattle.ds_shared.specs.Known.{past_in};
+ghost use Rattle.ds_drives.specs.Views.{past_of};
 ghost use Rattle.ds_formula.specs.Cells.{IsInside};
 ghost use Rattle.ds_shared.specs.Answers.{IsOf, IsPastOf};
 
@@ -14,10 +14,10 @@ use ds_formula::cells::{Cell, Shape};
 use ds_formula::fault::{FaultKind, TextFault};
 use ds_layout::layout::Layout;
 use ds_layout::place::Place;
-use ds_state::answer::{Answer, EditEnd};
-use ds_state::recovery::RecoveryEnd;
-use ds_state::report::ReportEnd;
+use ds_state::answer::EditEnd;
+use ds_state::recovery::{RecoveryEnd, Told};
 use ds_state::refusal::Refusal;
+use ds_state::report::ReportEnd;
 use std::alloc::Global;
 use std::test::Fail;
 use std::thread::{Threads, join};
@@ -80,7 +80,7 @@ fn ended(
     requires past { IsPastOf sheet past }
     requires first { IsOf sheet first }
     requires second { IsOf sheet second }
-    ensures { IfSome result (λ c. (c.layout ≡ sheet.board.layout) × ((b : Behind) × AtRest c.layout (slots_items c.table.words) b × AreTrue c.layout (slots_items c.table.words) b (past_in c.before))) }
+    ensures { IfSome result (λ c. (c.layout ≡ sheet.board.layout) × ((b : Behind) × AtRest c.layout (slots_items c.table.words) b × AreTrue c.layout (slots_items c.table.words) b (past_of c.before))) }
 {
     let mut passes: Vec<Pass, Global> = match Vec::with_capacity(alloc, 2) {
         Ok(passes) => passes,
@@ -107,8 +107,8 @@ fn many(
     let mut late: u64 = 0;
     for _round in 0..times {
         match sheet.edit(alloc, &mut pass, cell, b"=1+2", &mut Whole) {
-            Ended::Answered(Answer::Edit(EditEnd::Done(_))) => done = done.wrapping_add(1),
-            Ended::Answered(Answer::Edit(EditEnd::Overtaken(_, other))) if other.process < 2 => {
+            Ended::Answered(EditEnd::Done(_)) => done = done.wrapping_add(1),
+            Ended::Answered(EditEnd::Overtaken(_, other)) if other.process < 2 => {
                 late = late.wrapping_add(1);
             }
             _ => (),
@@ -222,7 +222,7 @@ fn a_write_is_read_back(rt: HostRuntime) -> Result<(), Fail> {
     let value = closed.value_of(a);
     closed.free();
     assert_eq!(rt; done, true);
-    assert_eq!(rt; said, Ended::Answered(Answer::Report(ReportEnd::Settled)));
+    assert_eq!(rt; said, Ended::Answered(ReportEnd::Settled));
     assert_eq!(rt; value, Value::Number(3));
     if let Some(values) = values {
         assert_eq!(rt; values.as_slice(), shows(3).as_slice());
@@ -242,9 +242,9 @@ fn stale_tree(rt: HostRuntime) -> Result<(), Fail> {
     work_all(rt.alloc(), &sheet, &mut second, a, b);
     let (said, values) = sheet.report(rt.alloc(), &mut second, &mut Whole);
     assert_eq!(rt; broken, Ended::Stopped);
-    assert_eq!(rt; nothing, Ended::Answered(Answer::Recovery(RecoveryEnd::Nothing)));
-    assert_eq!(rt; done, Ended::Answered(Answer::Edit(EditEnd::Done(0))));
-    assert_eq!(rt; said, Ended::Answered(Answer::Report(ReportEnd::Settled)));
+    assert_eq!(rt; nothing, Ended::Answered(RecoveryEnd::Nothing));
+    assert_eq!(rt; done, Ended::Answered(EditEnd::Done(0)));
+    assert_eq!(rt; said, Ended::Answered(ReportEnd::Settled));
     if let Some(values) = values {
         assert_eq!(rt; values.as_slice(), shows(2).as_slice());
     }
@@ -253,7 +253,11 @@ fn stale_tree(rt: HostRuntime) -> Result<(), Fail> {
 
 // An edit under a fuse of so many steps, a crash that leaves one side of every word, and what both
 // recoveries tell.
-fn broken_off(alloc: Global, steps: u64, cached: bool) -> Option<(Ended, Ended, Ended)> {
+fn broken_off(
+    alloc: Global,
+    steps: u64,
+    cached: bool,
+) -> Option<(Ended<EditEnd>, Ended<RecoveryEnd>, Ended<RecoveryEnd>)> {
     let (sheet, past, mut first, second, a, _b) = opened(alloc)?;
     let edited = sheet.edit(alloc, &mut first, a, b"7", &mut Times { left: steps });
     let count = sheet.board.layout.words();
@@ -277,28 +281,28 @@ fn broken_off(alloc: Global, steps: u64, cached: bool) -> Option<(Ended, Ended, 
     }
 }
 
-fn told(steps: u64, unannounced: u64, undone: u64) -> Ended {
+fn told(steps: u64, unannounced: u64, undone: u64) -> Ended<RecoveryEnd> {
     if steps <= unannounced {
-        return Ended::Answered(Answer::Recovery(RecoveryEnd::Nothing));
+        return Ended::Answered(RecoveryEnd::Nothing);
     }
-    Ended::Answered(Answer::Recovery(RecoveryEnd::Last(ds_edit::answer::Told {
+    Ended::Answered(RecoveryEnd::Last(Told {
         number: 0,
         cell: 0,
         counts: steps > undone,
-    })))
+    }))
 }
 
 #[test]
 fn edits_are_resolved(rt: HostRuntime) -> Result<(), Fail> {
     for steps in 0..20u64 {
         if let Some((edited, one, two)) = broken_off(rt.alloc(), steps, false) {
-            assert_eq!(rt; edited == Ended::Answered(Answer::Edit(EditEnd::Done(0))), steps == 19);
+            assert_eq!(rt; edited == Ended::Answered(EditEnd::Done(0)), steps == 19);
             assert_eq!(rt; one, told(steps, 8, 12));
-            assert_eq!(rt; two, Ended::Answered(Answer::Recovery(RecoveryEnd::Nothing)));
+            assert_eq!(rt; two, Ended::Answered(RecoveryEnd::Nothing));
         }
         if let Some((_edited, one, two)) = broken_off(rt.alloc(), steps, true) {
             assert_eq!(rt; one, told(steps, 6, 10));
-            assert_eq!(rt; two, Ended::Answered(Answer::Recovery(RecoveryEnd::Nothing)));
+            assert_eq!(rt; two, Ended::Answered(RecoveryEnd::Nothing));
         }
     }
     Ok(())
@@ -311,7 +315,7 @@ const LONGEST: &str =
 // What was told of an edit, and what its sheet shows behind a crash that leaves persisted sides.
 #[derive(Drop)]
 struct Outcome {
-    edited: Ended,
+    edited: Ended<EditEnd>,
     text: Vec<u8>,
     value: Value,
     version: (u64, u64),
@@ -347,7 +351,7 @@ fn kept(alloc: Global, text: &[u8]) -> Option<Outcome> {
 #[test]
 fn texts_have_up_to_240_bytes(rt: HostRuntime) -> Result<(), Fail> {
     if let Some(kept) = kept(rt.alloc(), LONGEST.as_bytes()) {
-        assert_eq!(rt; kept.edited, Ended::Answered(Answer::Edit(EditEnd::Done(0))));
+        assert_eq!(rt; kept.edited, Ended::Answered(EditEnd::Done(0)));
         assert_eq!(rt; kept.text.len(), 240);
         assert_eq!(rt; kept.text.as_slice(), LONGEST.as_bytes());
         assert_eq!(rt; kept.value, Value::Number(1_028_000_000));

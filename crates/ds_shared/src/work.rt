@@ -3,60 +3,38 @@
 ghost use Rattle.std.specs.Prelude.{◌<◌, ◌≡◌, false};
 ghost use Rattle.ds_formula.specs.Cells.{IsInside, index_of};
 ghost use Rattle.ds_state.specs.Works.{PlainWorkCall};
-ghost use Rattle.ds_state.specs.declared.work.WorkEnd.{WorkEnd as End};
-ghost use Rattle.ds_state.specs.declared.work.WorkStage.TheVariants.{Answer as Ends};
 ghost use Rattle.ds_work.specs.WorkTakes.{IsAskedFor, RefusesIn};
 ghost use Rattle.ds_drives.specs.declared.board.Told.{Told};
 ghost use Rattle.ds_drives.specs.declared.board.Told.TheVariants.{Worked};
-ghost use Rattle.ds_drives.specs.WorkRules.{IsEnded, work_rules};
+ghost use Rattle.ds_drives.specs.WorkRules.{work_rules};
 ghost use Rattle.ds_drives.specs.Views.{In, second_rest};
 ghost use Rattle.ds_shared.specs.Known.{outcomes};
-ghost use Rattle.ds_shared.specs.Answers.{IsOf, IfAnswered, IfRefused, IfStopped, IsAskedEachStep, BreaksOff, IsWorkOf, Tells, work_answer, doing};
+ghost use Rattle.ds_shared.specs.Answers.{IsOf, IfAnswered, IfRefused, IfStopped, IsAskedEachStep, BreaksOff, IsWorkOf, Tells, doing};
 
 use crate::ended::Ended;
 use crate::pass::Pass;
 use crate::sheet::SharedSheet;
 use ds_drives::fuse::Fuse;
 use ds_formula::cells::Cell;
-use ds_state::answer::Answer;
 use ds_state::refusal::Refusal;
-use ds_state::work::{WorkCall, WorkEnd, WorkStage};
+use ds_state::work::WorkEnd;
 use ds_work::begin::fresh;
 use std::alloc::Global;
 
-// How the work ended.
-fn ended(call: &WorkCall) -> WorkEnd
-    requires { IsEnded call.now.stage }
-    ensures { (end : End) → call.now.stage ≡ Ends end → result ≡ end }
-{
-    match call.stage {
-        WorkStage::Answer(end) => end,
-        _ => unreachable!(),
-    }
-}
-
-// The answer of a work that ended so.
-fn answered(end: WorkEnd) -> Answer
-    ensures { result ≡ work_answer end }
-{
-    match end {
-        WorkEnd::NotDirty => Answer::Work(WorkEnd::NotDirty),
-        WorkEnd::Missed => Answer::Work(WorkEnd::Missed),
-        WorkEnd::Worn => Answer::Work(WorkEnd::Worn),
-        WorkEnd::Published(changed) => Answer::Work(WorkEnd::Published(changed)),
-        WorkEnd::Again => Answer::Work(WorkEnd::Again),
-        WorkEnd::NoMemory => Answer::Work(WorkEnd::NoMemory),
-    }
-}
-
 impl SharedSheet {
     /// Works on a cell: where its mark is dirty, it is claimed, evaluated and published.
-    pub fn work<F: Fuse>(&self, alloc: Global, pass: &mut Pass, cell: Cell, fuse: &mut F) -> Ended
+    pub fn work<F: Fuse>(
+        &self,
+        alloc: Global,
+        pass: &mut Pass,
+        cell: Cell,
+        fuse: &mut F,
+    ) -> Ended<WorkEnd>
         requires pass { IsOf self.now pass.old }
         requires cell { IsInside self.now.board.layout.shape cell }
         ensures pass { IsOf self.now pass.new × (pass.new.process ≡ pass.old.process) }
-        ensures answered { IfAnswered result (λ a. (e : PlainWorkCall) × (end : End) × IsWorkOf e pass.old (index_of self.now.board.layout.shape cell) × Tells self.now.board.layout pass.old pass.new (Worked e end) a) }
-        ensures runs { IfAnswered result (λ a. (pass.new.stopped ≡ false) × (pass.new.number ≡ pass.old.number)) }
+        ensures answered { IfAnswered result (λ end. (e : PlainWorkCall) × IsWorkOf e pass.old (index_of self.now.board.layout.shape cell) × Tells self.now.board.layout pass.old pass.new (Worked e end)) }
+        ensures runs { IfAnswered result (λ end. (pass.new.stopped ≡ false) × (pass.new.number ≡ pass.old.number)) }
         ensures steps { IsAskedEachStep F.said fuse.old fuse.new pass.old pass.new result }
         ensures stopped { IfStopped result ((e : PlainWorkCall) × IsAskedFor self.now.board.layout pass.old.process (second_rest pass.old.number) (index_of self.now.board.layout.shape cell) e × BreaksOff work_rules self.now.board.layout e pass.old pass.new) }
         ensures kept { (t : Told) → In (outcomes pass.old.place) t → In (outcomes pass.new.place) t }
@@ -70,10 +48,12 @@ impl SharedSheet {
             Ok(call) => call,
             Err(_) => return Ended::Refused(Refusal::NoMemory),
         };
-        if !self.board.work(alloc, &mut pass.place, &mut call, fuse) {
-            pass.stopped = true;
-            return Ended::Stopped;
+        match self.board.work(alloc, &mut pass.place, &mut call, fuse) {
+            Some(end) => Ended::Answered(end),
+            None => {
+                pass.stopped = true;
+                Ended::Stopped
+            }
         }
-        Ended::Answered(answered(ended(&call)))
     }
 }

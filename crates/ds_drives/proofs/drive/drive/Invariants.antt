@@ -13,14 +13,14 @@ pub record Driving (A B C E : Type 0) (F D : ℕ → Type 0) : Type 0 where
   pub asked : F taken
   pub drives : D taken
 
-abbrev pub invariant-loop-alloc : goal.invariant-loop-alloc
-invariant-loop-alloc g l = Driving ((l.seat.table_id ≡ l.fn.seat.table_id) × (l.seat.id ≡ l.fn.seat.id)) (g.M.Machine.rules.fits l.layout l.call) (g.M.Machine.rules.stays l.fn.call l.call)
-    (IsServed g.M.Machine.rules l.layout l.call l.buffer.items)
+abbrev pub invariant-loop-end : goal.invariant-loop-end
+invariant-loop-end g l = Driving ((l.seat.table_id ≡ l.fn.seat.table_id) × (l.seat.id ≡ l.fn.seat.id)) (g.M.Machine.rules.fits l.board.layout l.call) (g.M.Machine.rules.stays l.fn.call l.call)
+    (IsServed g.M.Machine.rules l.board.layout l.call l.buffer.items)
     (λ n. Asked g.F.Fuse.said l.fn.fuse l.fuse n 0)
-    (λ n. Drives g.M.Machine.rules l.layout l.fn.call l.fn.seat.me (steps_later (deeds_at l.fn.seat.me) n) l.seat.me l.call l.buffer.items)
+    (λ n. Drives g.M.Machine.rules l.board.layout l.fn.call l.fn.seat.me (steps_later (deeds_at l.fn.seat.me) n) l.seat.me l.call l.buffer.items)
 
-abbrev pub decreases-loop-alloc : goal.decreases-loop-alloc
-decreases-loop-alloc g l = g.M.Machine.rules.rank l.call
+abbrev pub decreases-loop-end : goal.decreases-loop-end
+decreases-loop-end g l = g.M.Machine.rules.rank l.call
 
 abbrev pub ghosts-access : goal.ghosts-access
 ghosts-access g a = record {

@@ -4,7 +4,7 @@ use Rattle.ds_state.specs.declared.situation.Situation.TheVariants.{Reporting}
 use Rattle.ds_drives.specs.Views.{sole}
 use Rattle.ds_drives.specs.Rule.{Ready}
 use Rattle.ds_drives.proofs.Driving.{sits}
-use Rattle.ds_drives.proofs.Shows.{show_begins}
+use Rattle.ds_drives.proofs.Reports.{report_begins}
 use Rattle.ds_drives.proofs.board.Board.report.Goals as goal
 
 pub drive-requires-clause-poised : goal.drive-requires-clause-poised
@@ -13,4 +13,4 @@ drive-requires-clause-poised g c =
     let s = c.args.place.now in
     let e = c.args.call.now in
     sits l s.me (sole s) e.process (Reporting e) c.requires.place.1 c.requires.place.2
-    (subst (λ (z : PlainReportCall). Ready l (sole s) e.process (Reporting z) []) (sym c.requires.begun) (show_begins l (sole s) e.process e.next c.requires.idle))
+    (subst (λ (z : PlainReportCall). Ready l (sole s) e.process (Reporting z) []) (sym c.requires.begun) (report_begins l (sole s) e.process e.next c.requires.idle))

@@ -1,4 +1,4 @@
-use Rattle.ds_drives.proofs.Shows.{fewer_left, fits_still, stays_still}
+use Rattle.ds_drives.proofs.Reports.{fewer_left, fits_still, stays_still}
 use Rattle.ds_drives.proofs.report.ReportCallMachine.got.Goals as goal
 
 pub returns-clause-fits : goal.returns-clause-fits

@@ -5,10 +5,10 @@ use Rattle.ds_state.specs.declared.situation.Rest.{Rest}
 use Rattle.ds_shared.proofs.Passing.{broken_done, broken_view}
 use Rattle.ds_shared.proofs.sheet.SharedSheet.edit.Goals as goal
 
-pub returns-then-not-edit-clause-stopped : goal.returns-then-not-edit-clause-stopped
-returns-then-not-edit-clause-stopped g c =
+pub returns-clause-stopped : goal.returns-clause-stopped
+returns-clause-stopped g c =
     let asked = c.in-Ok.ensures.asked in
-    let b = c.if-not-edit.ensures.me in (
+    let b = c.in-None.ensures.me in (
       c.in-Ok.begun.0,
       record { is = asked.is; sheet = asked.sheet; edition = c.in-Ok.ensures.edition ∙ ap (λ (r : Rest). r.edition) c.rest.ensures; refs = asked.refs; first = c.in-Ok.ensures.first },
       asked.asked ∙ ap (λ (r : Rest). (let e : PlainEdit = record { process = c.args.pass.now.process; number = r.number; cell = index_of c.args.self.now.board.layout.shape c.args.cell; text = c.args.text.now } in e)) c.rest.ensures,

@@ -5,9 +5,9 @@ use Rattle.ds_report.specs.ReportSteps.{fresh}
 use Rattle.ds_shared.proofs.Passing.{broken_done, broken_view}
 use Rattle.ds_shared.proofs.sheet.SharedSheet.report.Goals as goal
 
-pub returns-then-not-show-clause-stopped : goal.returns-then-not-show-clause-stopped
-returns-then-not-show-clause-stopped g c =
-    let b = c.if-not-show.ensures.me in (
+pub returns-in-None-clause-stopped : goal.returns-in-None-clause-stopped
+returns-in-None-clause-stopped g c =
+    let b = c.in-None.ensures.me in (
       refl,
       (
         c.in-Ok-fresh.call,

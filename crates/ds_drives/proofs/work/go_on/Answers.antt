@@ -2,7 +2,7 @@ use Rattle.std.proofs.Common.{◌∙◌, sym, subst, ap}
 use Rattle.ds_state.specs.Works.{PlainWorkCall}
 use Rattle.ds_drives.specs.WorkRules.{Turned, stays, reads, takes}
 use Rattle.ds_drives.proofs.Works.{plain_else}
-use Rattle.ds_drives.proofs.work.turn.Goals as goal
+use Rattle.ds_drives.proofs.work.go_on.Goals as goal
 
 pub returns-in-Read : goal.returns-in-Read
 returns-in-Read c = reads c.reading.new.call (sym (ap (λ (z : PlainWorkCall). z.stage) c.call.view_is) ∙ c.in-Read.is) c.reading.ensures

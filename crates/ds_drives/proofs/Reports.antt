@@ -30,14 +30,14 @@ use Rattle.ds_report.proofs.ReportMiddles.{step_leaves, begin_leaves, middle_set
 use Rattle.ds_drives.specs.declared.board.Seated.{Seated}
 use Rattle.ds_drives.specs.declared.board.Deeds.{Deeds}
 use Rattle.ds_drives.specs.declared.board.Told.{Told}
-use Rattle.ds_drives.specs.declared.board.Told.TheVariants.{Edited, Shown}
+use Rattle.ds_drives.specs.declared.board.Told.TheVariants.{Edited, Reported}
 use Rattle.ds_drives.specs.Views.{In, seated, second_rest}
 use Rattle.ds_drives.specs.Rules.{Ran}
 use Rattle.ds_drives.specs.Rule.{put, Behind, world_on, IsSecond, IsTold, ReportHolds, CallHolds, CallsHold, After, Ready}
 use Rattle.ds_drives.specs.Machines.{Lawful, IsSettled}
 use Rattle.atomic_table.specs.Table.{Me}
 use Rattle.ds_drives.specs.declared.board.View.{View}
-use Rattle.ds_drives.specs.ReportRules.{IsGoing, IsEnded, IsReportOn, IsOfOne, landed_at, show_rules}
+use Rattle.ds_drives.specs.ReportRules.{IsGoing, IsReportOn, IsOfOne, landed_at, report_rules}
 use Rattle.ds_drives.proofs.Words.{put_here, put_else}
 use Rattle.ds_drives.proofs.Seconds.{version_grows, noted_second}
 use Rattle.ds_drives.proofs.Behinds.{told_on, after_none, after_left, written, answered, kept_back, performed, serves, nothing_kept, came_to, Ends}
@@ -51,8 +51,8 @@ landed_going : (e : PlainReportCall) (s : ReportStage) (x : List (BufferEntry �
 landed_going e (Answer end) x held g = absurd g
 landed_going e _ x held g = refl
 
-apart : (s : ReportStage) → IsGoing s → IsEnded s → ⊥
-apart s go end = subst IsGoing end.1 go
+apart : (s : ReportStage) (end : ReportEnd) → IsGoing s → s ≡ Answer end → ⊥
+apart s end go is = subst IsGoing is go
 
 -- the same process and number, on the same sheet
 pub record Same (e f : PlainReportCall) : Type 0 where
@@ -102,9 +102,9 @@ module _ (layout : Layout) where
       open_edits = λ q. refl;
     }
 
-    pub show_step : IsGoing e.stage
+    pub report_step : IsGoing e.stage
         → (b' : Behind) × After layout words (written layout words (report.access_at e.stage) x) b b' e.process (Reporting (report.got_at e word)) (kept_back layout words (report.access_at e.stage) x)
-    show_step going = (
+    report_step going = (
       behind,
       after_left layout words (written layout words (report.access_at e.stage) x) b behind e.process (Reporting (report.got_at e word)) (kept_back layout words (report.access_at e.stage) x)
           (step_leaves e word old new sound low is steps) (steps.situation ∙ after_going e e.stage word going) (put_here b.buffer e.process _ e.process refl) (λ q n. put_else b.buffer e.process _ q n)
@@ -113,7 +113,7 @@ module _ (layout : Layout) where
 
   -- the report that ends has its middle, with each edit that its process was told is done
   reported : (w : PlainWorld) → w.layout ≡ layout → (e : PlainReportCall) (end : ReportEnd) (ts : List Told) → HaveMiddles w → e.process < w.layout.processes → w.situation e.process ≡ Reporting e → e.stage ≡ Answer end
-      → ((t : Told) → In ts t → IsTold w e.process t) → ReportHolds layout e.process ts e (Answer end)
+      → ((t : Told) → In ts t → IsTold w e.process t) → ReportHolds layout e.process ts e end
   reported w same e Settled ts h low is at told =
       let m = h.2 e.process low e is in
       let was : WasSettled (h.0 e.process) w e.process e (h.1 e.process) = middle_settles (h.0 e.process) w e.process e (h.1 e.process) m at in
@@ -127,7 +127,7 @@ module _ (layout : Layout) where
       }
   reported w same e (Unsettled place w') ts h low is at told = tt
 
-  ends : (s : ReportStage) (words : List ℕ) (b : Behind) (e : PlainReportCall) (x : List (BufferEntry ℕ)) (ts : Deeds) → Ran show_rules layout (record e { stage = s }) → IsSound (world_on layout words b) → IsSecond (world_on layout words b) → HaveMiddles (world_on layout words b) → e.process < layout.processes
+  ends : (s : ReportStage) (words : List ℕ) (b : Behind) (e : PlainReportCall) (x : List (BufferEntry ℕ)) (ts : Deeds) → Ran report_rules layout (record e { stage = s }) → IsSound (world_on layout words b) → IsSecond (world_on layout words b) → HaveMiddles (world_on layout words b) → e.process < layout.processes
       → b.situation e.process ≡ Reporting (record e { stage = s }) → b.buffer e.process ≡ x → ((t : Told) → In ts.told t → IsTold (world_on layout words b) e.process t) → CallsHold layout e.process ts.told → Ends layout words b e.process (landed_at e s x ts)
   ends (Answer end) words b e x ts ran sound second middles low is same old reports =
       let e' : PlainReportCall = record e { stage = Answer end } in
@@ -152,29 +152,29 @@ module _ (layout : Layout) where
           | inl new ↦ subst (λ (z : Told). IsTold w' e.process z) new tt
           | inr last ↦ told_on layout words words b b' e.process (Idle (second_rest e.next)) x aft e.process u (old u last)
         ];
-        calls = ((ran, reported w refl e' end ts.told middles low is refl old), reports);
+        calls = ((ran, refl, reported w refl e' end ts.told middles low is refl old), reports);
       }
     where
       knows : e.edition ≡ Second → rest_of e ≡ second_rest e.next
       knows noted = ap (λ (d : Edition). (let r : Rest = record { number = e.next; edition = d } in r)) noted
   ends _ words b e x ts ran sound second middles low is same old reports = record { behind = b; own = refl; after = after_none layout words b e.process _ x sound is same; told = old; calls = reports }
 
-  pub shows_lawful : Lawful show_rules layout
-  shows_lawful = lawful show_rules layout
+  pub reports_lawful : Lawful report_rules layout
+  reports_lawful = lawful report_rules layout
       (λ e n. (next_same e e.stage n).process)
-      (λ words b e x long sound low is same fits go. show_step words b e x long sound low is same go)
+      (λ words b e x long sound low is same fits go. report_step words b e x long sound low is same go)
       (λ words b e f x sound low is same turn. (b, after_none layout words b e.process (Reporting f) x sound (is ∙ ap Reporting turn) same))
       (λ e f turn. sym (ap (λ (z : PlainReportCall). z.process) turn))
       (λ first e n h. let same = next_same e e.stage n in record { process = same.process ∙ h.process; next = same.next ∙ h.next })
       (λ words b e x ts ran sound second middles low is same old reports. ends e.stage words b e x ts ran sound second middles low is same old reports)
       (λ e f x ts turn go. landed_going e e.stage x ts (subst (λ (z : PlainReportCall). IsGoing z.stage) (sym turn) go))
-      (λ e f turn end. turn)
-      (λ e. apart e.stage)
+      (λ e f end turn over. turn)
+      (λ e end go over. apart e.stage end go over)
       (λ words b e x sound low is same fits. let can = laws.accesses e (world_on layout words b) sound low is in (can.0, serves layout words b e.process (report.access_at e.stage) can.1 x same))
 
   -- an idle process may begin a report
-  pub show_begins : (seat : Seated) (p next : ℕ) → seat.now ≡ Idle (second_rest next) → Ready layout seat p (Reporting (fresh p (second_rest next) (cells_of layout) layout.processes)) []
-  show_begins seat p next idle words b sound second low is same =
+  pub report_begins : (seat : Seated) (p next : ℕ) → seat.now ≡ Idle (second_rest next) → Ready layout seat p (Reporting (fresh p (second_rest next) (cells_of layout) layout.processes)) []
+  report_begins seat p next idle words b sound second low is same =
       let s : Situation = Reporting (fresh p (second_rest next) (cells_of layout) layout.processes) in
       let b' : Behind = record b { situation = put b.situation p s } in
       let w : PlainWorld = world_on layout words b in
@@ -213,15 +213,12 @@ stays_still e f word is first h = let s = next_same e e.stage word in record {
   next = ap (λ (z : PlainReportCall). z.next) is ∙ (s.next ∙ h.next);
 }
 
--- a report that has ended is told as it is
-held_at : (layout : Layout) (e : PlainReportCall) (s : ReportStage) (x : List (BufferEntry ℕ)) (held : Deeds) → IsEnded s → CallsHold layout e.process (landed_at e s x held).deeds.told → CallHolds layout e.process held.told (Shown (record e { stage = s }))
-held_at layout e (Answer end) x held is h = h.0
-held_at layout e (LoadAnnounce i) x held is h = absurd (let a = is.1 in cc)
-held_at layout e (LoadMark i) x held is h = absurd (let a = is.1 in cc)
-held_at layout e (LoadValue i) x held is h = absurd (let a = is.1 in cc)
-held_at layout e (LoadKind i) x held is h = absurd (let a = is.1 in cc)
-held_at layout e (AgainMark i) x held is h = absurd (let a = is.1 in cc)
-held_at layout e (AgainAnnounce i) x held is h = absurd (let a = is.1 in cc)
+-- the call that has ended is told as it is
+pub held_at : (layout : Layout) (e : PlainReportCall) (s : ReportStage) (x : List (BufferEntry ℕ)) (held : Deeds) (end : ReportEnd) → s ≡ Answer end → CallsHold layout e.process (landed_at e s x held).deeds.told → CallHolds layout e.process held.told (Reported (record e { stage = s }) end)
+held_at layout e s x held end is h = subst (λ (z : ReportStage). CallHolds layout e.process held.told (Reported (record e { stage = z }) end)) (sym is) (one (subst (λ (z : ReportStage). CallsHold layout e.process (landed_at e z x held).deeds.told) is h))
+  where
+    one : CallsHold layout e.process (landed_at e (Answer end) x held).deeds.told → CallHolds layout e.process held.told (Reported (record e { stage = Answer end }) end)
+    one k = k.0
 
-pub report_held : (layout : Layout) (held : Deeds) (me : Me ℕ View) (e : PlainReportCall) → IsSettled show_rules layout held me e → CallHolds layout e.process held.told (Shown e)
-report_held layout held me e s = held_at layout e e.stage s.buffer held s.ends s.calls
+pub call_held : (layout : Layout) (held : Deeds) (me : Me ℕ View) (e : PlainReportCall) (end : ReportEnd) → IsSettled report_rules layout held me e end → CallHolds layout e.process held.told (Reported e end)
+call_held layout held me e end s = held_at layout e e.stage s.buffer held end s.ends s.calls
