@@ -29,11 +29,11 @@ evicts_run named old told new h = one_event (Evict h.place) Evicted old new h.fi
 pub crashes_run : (old : WorldValue) (told : Unit {0}) (new : WorldValue) → Crashes old told new → IsRun old new
 crashes_run old told new h = one_event Crash Crashed old new h
 
-pub ended_run : (kind : Answer → Type 0) (p : ℕ) (event : Event) (old : WorldValue) (row : AnswerRow) (new : WorldValue) → Ended kind p event old row new → IsRun old new
-ended_run kind p event old row new h = whole_runs p event old h.came_to new h.whole.whole
+pub ended_run : {E : Type 0} (answer : E → Answer) (p : ℕ) (event : Event) (old : WorldValue) (row : AnswerRow) (new : WorldValue) → Ended answer p event old row new → IsRun old new
+ended_run answer p event old row new h = whole_runs _ _ p event old h.came_to new h.whole.whole
 
 pub migrates_run : (p : ℕ) (old : WorldValue) (row : AnswerRow) (new : WorldValue) → Migrates p old row new → IsRun old new
-migrates_run p old row new h = whole_runs p (BeginMigrate p) old h.came_to new h.whole.whole
+migrates_run p old row new h = whole_runs _ _ p (BeginMigrate p) old h.came_to new h.whole.whole
 
 pub settles_run : (p : ℕ) (old : WorldValue) (row : AnswerRow) (new : WorldValue) → Settles p old row new → IsRun old new
 settles_run p old row new h = settling_runs p old (Ends h.end) new h.settles

@@ -6,6 +6,11 @@ use Rattle.ds_core.specs.declared.reply.Reply.{Reply}
 use Rattle.ds_core.specs.declared.reply.Reply.TheVariants as reply
 use Rattle.ds_state.specs.declared.answer.Answer.{Answer}
 use Rattle.ds_state.specs.declared.answer.Answer.TheVariants as answer
+use Rattle.ds_state.specs.declared.answer.EditEnd.TheVariants as edit_ends
+use Rattle.ds_state.specs.declared.work.WorkEnd.TheVariants as work_ends
+use Rattle.ds_state.specs.declared.recovery.RecoveryEnd.TheVariants as recovery_ends
+use Rattle.ds_state.specs.declared.migration.MigrateEnd.TheVariants as migrate_ends
+use Rattle.ds_state.specs.declared.report.ReportEnd.TheVariants as report_ends
 use Rattle.ds_formula.specs.declared.fault.FaultKind.{FaultKind}
 use Rattle.ds_formula.specs.declared.fault.FaultKind.TheVariants as fault
 use Rattle.ds_layout.specs.declared.place.Place.{Place}
@@ -57,20 +62,20 @@ unsettled_row _ seen = plain_row kind.UnsettledWord
 
 -- the row of an answer
 abbrev pub answer_row : Answer → AnswerRow
-answer_row (answer.Done n) = record (plain_row kind.Done) { number = n }
-answer_row (answer.Overtaken n other) = record (plain_row kind.Overtaken) { number = n; process = other.process; other = other.number }
-answer_row answer.NotDirty = plain_row kind.NotDirty
-answer_row answer.Missed = plain_row kind.Missed
-answer_row answer.Worn = plain_row kind.Worn
-answer_row (answer.Published changed) = record (plain_row kind.Published) { holds = flag changed }
-answer_row answer.Again = plain_row kind.Again
-answer_row answer.NoMemory = plain_row kind.NoMemory
-answer_row (answer.Last told) = record (plain_row kind.Last) { number = told.number; cell = told.cell; holds = flag told.counts }
-answer_row answer.Nothing = plain_row kind.Nothing
-answer_row answer.Migrated = plain_row kind.Migrated
-answer_row answer.Already = plain_row kind.Already
-answer_row answer.Settled = plain_row kind.Settled
-answer_row (answer.Unsettled at seen) = unsettled_row at seen
+answer_row (answer.Edit (edit_ends.Done n)) = record (plain_row kind.Done) { number = n }
+answer_row (answer.Edit (edit_ends.Overtaken n other)) = record (plain_row kind.Overtaken) { number = n; process = other.process; other = other.number }
+answer_row (answer.Work work_ends.NotDirty) = plain_row kind.NotDirty
+answer_row (answer.Work work_ends.Missed) = plain_row kind.Missed
+answer_row (answer.Work work_ends.Worn) = plain_row kind.Worn
+answer_row (answer.Work (work_ends.Published changed)) = record (plain_row kind.Published) { holds = flag changed }
+answer_row (answer.Work work_ends.Again) = plain_row kind.Again
+answer_row (answer.Work work_ends.NoMemory) = plain_row kind.NoMemory
+answer_row (answer.Recovery (recovery_ends.Last told)) = record (plain_row kind.Last) { number = told.number; cell = told.cell; holds = flag told.counts }
+answer_row (answer.Recovery recovery_ends.Nothing) = plain_row kind.Nothing
+answer_row (answer.Migration migrate_ends.Migrated) = plain_row kind.Migrated
+answer_row (answer.Migration migrate_ends.Already) = plain_row kind.Already
+answer_row (answer.Report report_ends.Settled) = plain_row kind.Settled
+answer_row (answer.Report (report_ends.Unsettled at seen)) = unsettled_row at seen
 
 -- the row of a reply to an event
 abbrev pub reply_row : Reply → AnswerRow
@@ -85,10 +90,10 @@ reply_row reply.Stopped = plain_row kind.Stopped
 reply_row reply.Crashed = plain_row kind.Crashed
 reply_row reply.NotEnabled = plain_row kind.NotEnabled
 
--- the row of what a whole call came to
-abbrev pub result_row : Result Answer Refusal → AnswerRow
-result_row (Ok answered) = answer_row answered
-result_row (Err why) = refusal_row why
+-- the row of what a whole call came to, whose ends are answered so
+abbrev pub result_row : {E : Type 0} → (E → Answer) → Result E Refusal → AnswerRow
+result_row answered (Ok end) = answer_row (answered end)
+result_row answered (Err why) = refusal_row why
 
 -- the row of how a settle ended
 abbrev pub settle_row : SettleEnd → AnswerRow
@@ -96,8 +101,8 @@ settle_row (ends.Left cells) = record (plain_row kind.Left) { number = cells }
 settle_row (ends.Refused why) = refusal_row why
 settle_row ends.NoMemory = plain_row kind.NoMemory
 
--- the row of how a call on a sheet that threads share ended
-abbrev pub ended_row : Ended → AnswerRow
-ended_row (ended.Answered a) = answer_row a
-ended_row (ended.Refused why) = refusal_row why
-ended_row ended.Stopped = plain_row kind.Stopped
+-- the row of how a call on a sheet that threads share ended, whose ends are answered so
+abbrev pub ended_row : {E : Type 0} → (E → Answer) → Ended E → AnswerRow
+ended_row answered (ended.Answered end) = answer_row (answered end)
+ended_row answered (ended.Refused why) = refusal_row why
+ended_row answered ended.Stopped = plain_row kind.Stopped

@@ -4,6 +4,8 @@ use Rattle.ds_formula.specs.declared.cells.Cell.{Cell}
 use Rattle.ds_formula.specs.Cells.{IsInside}
 use Rattle.ds_eval.specs.Tasks.{PlainTask, PlainEvaluated, local_of}
 use Rattle.ds_state.specs.declared.answer.Answer.{Answer}
+use Rattle.ds_state.specs.declared.answer.Answer.TheVariants.{Migration}
+use Rattle.ds_state.specs.declared.migration.MigrateEnd.{MigrateEnd}
 use Rattle.ds_state.specs.Value.{WorldValue, world_of}
 use Rattle.ds_state.specs.Works.{PlainWorkCall}
 use Rattle.ds_state.specs.declared.refusal.Refusal.{Refusal}
@@ -39,17 +41,18 @@ pub record Replies (event : Event) (old : WorldValue) (row : AnswerRow) (new : W
   pub fits : Fits old event reply new
   pub row_is : row ≡ reply_row reply
 
--- a whole call of the process, which begins by this event; the row says its answer, or why it is refused
-pub record Ended (kind : Answer → Type 0) (p : ℕ) (event : Event) (old : WorldValue) (row : AnswerRow) (new : WorldValue) : Type 0 where
-  pub came_to : Result Answer Refusal
-  pub whole : IsWhole kind p event old came_to new
-  pub row_is : row ≡ result_row came_to
+-- a whole call of the process, whose ends are answered so, which begins by this event; the row says its answer, or why it
+-- is refused
+pub record Ended {E : Type 0} (answer : E → Answer) (p : ℕ) (event : Event) (old : WorldValue) (row : AnswerRow) (new : WorldValue) : Type 0 where
+  pub came_to : Result E Refusal
+  pub whole : IsWhole answer p event old came_to new
+  pub row_is : row ≡ result_row answer came_to
 
 -- a whole migration by the process, which leaves it stopped; the row says its answer, or why it is refused
 pub record Migrates (p : ℕ) (old : WorldValue) (row : AnswerRow) (new : WorldValue) : Type 0 where
-  pub came_to : Result Answer Refusal
+  pub came_to : Result MigrateEnd Refusal
   pub whole : IsWholeMigration p (BeginMigrate p) old came_to new
-  pub row_is : row ≡ result_row came_to
+  pub row_is : row ≡ result_row Migration came_to
 
 -- a whole settle of the process; the row says how it ended
 pub record Settles (p : ℕ) (old : WorldValue) (row : AnswerRow) (new : WorldValue) : Type 0 where

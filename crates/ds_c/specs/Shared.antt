@@ -10,6 +10,9 @@ use Rattle.ds_layout.specs.SheetMemory.{memory_at}
 use Rattle.ds_state.specs.Shown.{mark_at, value_at}
 use Rattle.ds_drives.specs.Table.{two_sided}
 use Rattle.ds_shared.specs.declared.ended.Ended.{Ended}
+use Rattle.ds_state.specs.declared.answer.Answer.{Answer}
+use Rattle.ds_state.specs.declared.answer.Answer.TheVariants.{Edit, Work, Report, Recovery}
+use Rattle.ds_state.specs.declared.report.ReportEnd.{ReportEnd}
 use Rattle.ds_shared.specs.declared.pass.Pass.{Pass}
 use Rattle.ds_shared.specs.declared.sheet.ClosedSheet.{ClosedSheet}
 use Rattle.ds_shared.specs.declared.sheet.SharedSheet.{SharedSheet}
@@ -90,32 +93,32 @@ pub data Moves (Did : Held → Held → Type 0) (Fails : Held → Failure → He
 
 -- ---- seats
 
--- the seat did this, and the row says how it ended; its values stay
-pub record SeatDoes (Did : SharedSheet → Pass → Pass → Ended → Type 0) (old : Seat) (row : AnswerRow) (new : Seat) : Type 0 where
-  pub how : Ended
+-- the seat did this, in a call whose ends are answered so, and the row says how it ended; its values stay
+pub record SeatDoes {E : Type 0} (answer : E → Answer) (Did : SharedSheet → Pass → Pass → Ended E → Type 0) (old : Seat) (row : AnswerRow) (new : Seat) : Type 0 where
+  pub how : Ended E
   pub did : Did (arc_value old.sheet) old.pass new.pass how
-  pub row_is : row ≡ ended_row how
+  pub row_is : row ≡ ended_row answer how
   pub seat : IsSeatOf (arc_value old.sheet) new
   pub last : new.last ≡ old.last
 
 -- the seat edits the cell to the text, under a fuse of so many steps
 abbrev pub SeatEdits : Cell → List ℕ → ℕ → Seat → AnswerRow → Seat → Type 0
-SeatEdits cell text fuse = SeatDoes (λ s p q how. IsInside s.board.layout.shape cell × Edits s cell text fuse p q how)
+SeatEdits cell text fuse = SeatDoes Edit (λ s p q how. IsInside s.board.layout.shape cell × Edits s cell text fuse p q how)
 
 -- the seat works on the cell
 abbrev pub SeatWorks : Cell → ℕ → Seat → AnswerRow → Seat → Type 0
-SeatWorks cell fuse = SeatDoes (λ s p q how. IsInside s.board.layout.shape cell × Works s cell fuse p q how)
+SeatWorks cell fuse = SeatDoes Work (λ s p q how. IsInside s.board.layout.shape cell × Works s cell fuse p q how)
 
 -- the seat's process recovers
 abbrev pub SeatRecovers : ℕ → Seat → AnswerRow → Seat → Type 0
-SeatRecovers fuse = SeatDoes (λ s p q how. Recovers s fuse p q how)
+SeatRecovers fuse = SeatDoes Recovery (λ s p q how. Recovers s fuse p q how)
 
 -- the seat reports, and the row says how it ended; a settled report's values are its last ones
 pub record SeatReports (fuse : ℕ) (old : Seat) (row : AnswerRow) (new : Seat) : Type 0 where
-  pub how : Ended
+  pub how : Ended ReportEnd
   pub values : Option (Vec Value Global)
   pub did : Reports (arc_value old.sheet) fuse old.pass new.pass how values
-  pub row_is : row ≡ ended_row how
+  pub row_is : row ≡ ended_row Report how
   pub seat : IsSeatOf (arc_value old.sheet) new
   pub last : new.last ≡ last_of old.last values
 

@@ -1,10 +1,12 @@
 //! What C is told of a call: replies and values as rows of numbers.
 
 ghost use Rattle.std.specs.Prelude.{◌≡◌};
-ghost use Rattle.ds_c.specs.Answers.{answer_row, reply_row, refusal_row, result_row, settle_row, ended_row, plain_row, fault_number};
+ghost use Rattle.ds_state.specs.declared.answer.Answer.TheVariants.{Edit, Work, Report, Recovery, Migration};
+ghost use Rattle.ds_c.specs.Answers.{answer_row, unsettled_row, reply_row, refusal_row, result_row, settle_row, ended_row, plain_row, fault_number};
 
 use crate::answer_kind::AnswerKind;
 use ds_calls::settle::SettleEnd;
+use ds_core::ends::CallEnd;
 use ds_core::reply::Reply;
 use ds_formula::fault::FaultKind;
 use ds_layout::place::Place;
@@ -112,51 +114,105 @@ impl AnswerRow {
         }
     }
 
-    /// The row of an answer.
-    pub fn of_answer(answer: Answer) -> AnswerRow
-        ensures { result ≡ answer_row answer }
+    // The row of how an edit ended.
+    fn of_edit(end: EditEnd) -> AnswerRow
+        ensures { result ≡ answer_row (Edit end) }
     {
-        match answer {
-            Answer::Edit(EditEnd::Done(number)) => AnswerRow {
+        match end {
+            EditEnd::Done(number) => AnswerRow {
                 number,
                 ..AnswerRow::plain(AnswerKind::Done)
             },
-            Answer::Edit(EditEnd::Overtaken(number, other)) => AnswerRow {
+            EditEnd::Overtaken(number, other) => AnswerRow {
                 number,
                 process: other.process,
                 other: other.number,
                 ..AnswerRow::plain(AnswerKind::Overtaken)
             },
-            Answer::Work(WorkEnd::NotDirty) => AnswerRow::plain(AnswerKind::NotDirty),
-            Answer::Work(WorkEnd::Missed) => AnswerRow::plain(AnswerKind::Missed),
-            Answer::Work(WorkEnd::Worn) => AnswerRow::plain(AnswerKind::Worn),
-            Answer::Work(WorkEnd::Published(changed)) => AnswerRow {
+        }
+    }
+
+    // The row of how a work ended.
+    fn of_work(end: WorkEnd) -> AnswerRow
+        ensures { result ≡ answer_row (Work end) }
+    {
+        match end {
+            WorkEnd::NotDirty => AnswerRow::plain(AnswerKind::NotDirty),
+            WorkEnd::Missed => AnswerRow::plain(AnswerKind::Missed),
+            WorkEnd::Worn => AnswerRow::plain(AnswerKind::Worn),
+            WorkEnd::Published(changed) => AnswerRow {
                 holds: changed as u32,
                 ..AnswerRow::plain(AnswerKind::Published)
             },
-            Answer::Work(WorkEnd::Again) => AnswerRow::plain(AnswerKind::Again),
-            Answer::Work(WorkEnd::NoMemory) => AnswerRow::plain(AnswerKind::NoMemory),
-            Answer::Recovery(RecoveryEnd::Last(told)) => AnswerRow {
+            WorkEnd::Again => AnswerRow::plain(AnswerKind::Again),
+            WorkEnd::NoMemory => AnswerRow::plain(AnswerKind::NoMemory),
+        }
+    }
+
+    // The row of what a report saw that was not at rest.
+    fn of_unsettled(place: Place, seen: u64) -> AnswerRow
+        ensures { result ≡ unsettled_row place seen }
+    {
+        match place {
+            Place::Mark(cell) => AnswerRow {
+                cell,
+                seen,
+                ..AnswerRow::plain(AnswerKind::UnsettledMark)
+            },
+            Place::Announce(process) => AnswerRow {
+                process,
+                seen,
+                ..AnswerRow::plain(AnswerKind::UnsettledAnnouncement)
+            },
+            _ => AnswerRow::plain(AnswerKind::UnsettledWord),
+        }
+    }
+
+    // The row of how a report ended.
+    fn of_report(end: ReportEnd) -> AnswerRow
+        ensures { result ≡ answer_row (Report end) }
+    {
+        match end {
+            ReportEnd::Settled => AnswerRow::plain(AnswerKind::Settled),
+            ReportEnd::Unsettled(place, seen) => AnswerRow::of_unsettled(place, seen),
+        }
+    }
+
+    // The row of how a recovery ended.
+    fn of_recovery(end: RecoveryEnd) -> AnswerRow
+        ensures { result ≡ answer_row (Recovery end) }
+    {
+        match end {
+            RecoveryEnd::Last(told) => AnswerRow {
                 number: told.number,
                 cell: told.cell,
                 holds: told.counts as u32,
                 ..AnswerRow::plain(AnswerKind::Last)
             },
-            Answer::Recovery(RecoveryEnd::Nothing) => AnswerRow::plain(AnswerKind::Nothing),
-            Answer::Migration(MigrateEnd::Migrated) => AnswerRow::plain(AnswerKind::Migrated),
-            Answer::Migration(MigrateEnd::Already) => AnswerRow::plain(AnswerKind::Already),
-            Answer::Report(ReportEnd::Settled) => AnswerRow::plain(AnswerKind::Settled),
-            Answer::Report(ReportEnd::Unsettled(Place::Mark(cell), seen)) => AnswerRow {
-                cell,
-                seen,
-                ..AnswerRow::plain(AnswerKind::UnsettledMark)
-            },
-            Answer::Report(ReportEnd::Unsettled(Place::Announce(process), seen)) => AnswerRow {
-                process,
-                seen,
-                ..AnswerRow::plain(AnswerKind::UnsettledAnnouncement)
-            },
-            Answer::Report(ReportEnd::Unsettled(_, _)) => AnswerRow::plain(AnswerKind::UnsettledWord),
+            RecoveryEnd::Nothing => AnswerRow::plain(AnswerKind::Nothing),
+        }
+    }
+
+    // The row of how a migration ended.
+    fn of_migration(end: MigrateEnd) -> AnswerRow
+        ensures { result ≡ answer_row (Migration end) }
+    {
+        match end {
+            MigrateEnd::Migrated => AnswerRow::plain(AnswerKind::Migrated),
+            MigrateEnd::Already => AnswerRow::plain(AnswerKind::Already),
+        }
+    }
+
+    /// The row of an answer.
+    pub fn of_answer(answer: Answer) -> AnswerRow
+        ensures { result ≡ answer_row answer }
+    {
+        match answer {
+            Answer::Edit(end) => AnswerRow::of_edit(end),
+            Answer::Work(end) => AnswerRow::of_work(end),
+            Answer::Report(end) => AnswerRow::of_report(end),
+            Answer::Recovery(end) => AnswerRow::of_recovery(end),
+            Answer::Migration(end) => AnswerRow::of_migration(end),
         }
     }
 
@@ -182,21 +238,21 @@ impl AnswerRow {
     }
 
     /// The row of what a whole call came to.
-    pub fn of_result(ended: Result<Answer, Refusal>) -> AnswerRow
-        ensures { result ≡ result_row ended }
+    pub fn of_result<E: CallEnd>(ended: Result<E, Refusal>) -> AnswerRow
+        ensures { result ≡ result_row E.kind.answer ended }
     {
         match ended {
-            Ok(answer) => AnswerRow::of_answer(answer),
+            Ok(end) => AnswerRow::of_answer(end.answer()),
             Err(refusal) => AnswerRow::of_refusal(refusal),
         }
     }
 
     /// The row of how a call on a sheet that threads share ended.
-    pub fn of_ended(ended: Ended) -> AnswerRow
-        ensures { result ≡ ended_row ended }
+    pub fn of_ended<E: CallEnd>(ended: Ended<E>) -> AnswerRow
+        ensures { result ≡ ended_row E.kind.answer ended }
     {
         match ended {
-            Ended::Answered(answer) => AnswerRow::of_answer(answer),
+            Ended::Answered(end) => AnswerRow::of_answer(end.answer()),
             Ended::Refused(refusal) => AnswerRow::of_refusal(refusal),
             Ended::Stopped => AnswerRow::plain(AnswerKind::Stopped),
         }

@@ -3,7 +3,7 @@
 ghost use Rattle.std.specs.Prelude.{◌≡◌, IfOk, IfErr, Some};
 ghost use Rattle.ds_formula.specs.Cells.{IsInside};
 ghost use Rattle.ds_core.specs.declared.event.Event.TheVariants.{BeginEdit, BeginWork, BeginReport, BeginRecover, BeginMigrate, Step, Offer, Stop};
-ghost use Rattle.ds_core.specs.Kinds.{IsEditAnswer, IsWorkAnswer, IsReportAnswer, IsRecoveryAnswer};
+ghost use Rattle.ds_state.specs.declared.answer.Answer.TheVariants.{Edit, Work, Report, Recovery};
 ghost use Rattle.ds_calls.specs.Whole.{HasProcess, request};
 ghost use Rattle.ds_c.specs.Calls.{Does};
 ghost use Rattle.ds_layout.specs.Places.{IsPlace};
@@ -186,7 +186,7 @@ pub fn edit(
     cell: Cell,
     text: &[u8],
 ) -> Result<AnswerRow, Failure>
-    ensures { Does (Ended IsEditAnswer process (BeginEdit (request process cell text.now))) (LacksRequest process cell) world.old result world.new }
+    ensures { Does (Ended Edit process (BeginEdit (request process cell text.now))) (LacksRequest process cell) world.old result world.new }
 {
     find(world, process, cell)?;
     Ok(AnswerRow::of_result(call::whole_edit(alloc, world, process, cell, text)))
@@ -199,7 +199,7 @@ pub fn work(
     process: usize,
     cell: Cell,
 ) -> Result<AnswerRow, Failure>
-    ensures { Does (Ended IsWorkAnswer process (BeginWork process cell)) (LacksRequest process cell) world.old result world.new }
+    ensures { Does (Ended Work process (BeginWork process cell)) (LacksRequest process cell) world.old result world.new }
 {
     find(world, process, cell)?;
     Ok(AnswerRow::of_result(call::whole_work(alloc, world, process, cell)))
@@ -207,7 +207,7 @@ pub fn work(
 
 /// A whole report. Where it is settled, the world keeps its values as the process's last ones.
 pub fn report(alloc: Global, world: &mut World, process: usize) -> Result<AnswerRow, Failure>
-    ensures { Does (Ended IsReportAnswer process (BeginReport process)) (LacksProcess process) world.old result world.new }
+    ensures { Does (Ended Report process (BeginReport process)) (LacksProcess process) world.old result world.new }
 {
     find_process(world, process)?;
     Ok(AnswerRow::of_result(call::whole_report(alloc, world, process)))
@@ -215,7 +215,7 @@ pub fn report(alloc: Global, world: &mut World, process: usize) -> Result<Answer
 
 /// A whole recovery.
 pub fn recover(alloc: Global, world: &mut World, process: usize) -> Result<AnswerRow, Failure>
-    ensures { Does (Ended IsRecoveryAnswer process (BeginRecover process)) (LacksProcess process) world.old result world.new }
+    ensures { Does (Ended Recovery process (BeginRecover process)) (LacksProcess process) world.old result world.new }
 {
     find_process(world, process)?;
     Ok(AnswerRow::of_result(call::whole_recovery(alloc, world, process)))

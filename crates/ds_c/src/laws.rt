@@ -7,7 +7,7 @@ ghost use Rattle.ds_core.specs.declared.event.Event.{Event};
 ghost use Rattle.ds_core.specs.declared.reply.Reply.{Reply};
 ghost use Rattle.ds_core.specs.Takes.{WorldRun};
 ghost use Rattle.ds_core.specs.Headline.{HasHeadline};
-ghost use Rattle.ds_core.specs.Kinds.{IsEditAnswer, IsWorkAnswer, IsReportAnswer, IsRecoveryAnswer};
+ghost use Rattle.ds_state.specs.declared.answer.Answer.TheVariants.{Edit, Work, Report, Recovery};
 ghost use Rattle.ds_calls.specs.Whole.{IsRun};
 ghost use Rattle.ds_c.specs.declared.answer.AnswerRow.{AnswerRow};
 ghost use Rattle.ds_c.specs.declared.rows.PlaceRow.{PlaceRow};
@@ -25,13 +25,13 @@ pub fn calls_are_runs()
         → Evicts named old told new → IsRun old new }
     ensures crashes { (old : WorldValue) (told : Unit {0}) (new : WorldValue) → Crashes old told new → IsRun old new }
     ensures edits { (p : ℕ) (event : Event) (old : WorldValue) (row : AnswerRow) (new : WorldValue)
-        → Ended IsEditAnswer p event old row new → IsRun old new }
+        → Ended Edit p event old row new → IsRun old new }
     ensures works { (p : ℕ) (event : Event) (old : WorldValue) (row : AnswerRow) (new : WorldValue)
-        → Ended IsWorkAnswer p event old row new → IsRun old new }
+        → Ended Work p event old row new → IsRun old new }
     ensures reports { (p : ℕ) (event : Event) (old : WorldValue) (row : AnswerRow) (new : WorldValue)
-        → Ended IsReportAnswer p event old row new → IsRun old new }
+        → Ended Report p event old row new → IsRun old new }
     ensures recoveries { (p : ℕ) (event : Event) (old : WorldValue) (row : AnswerRow) (new : WorldValue)
-        → Ended IsRecoveryAnswer p event old row new → IsRun old new }
+        → Ended Recovery p event old row new → IsRun old new }
     ensures migrations { (p : ℕ) (old : WorldValue) (row : AnswerRow) (new : WorldValue)
         → Migrates p old row new → IsRun old new }
     ensures settles { (p : ℕ) (old : WorldValue) (row : AnswerRow) (new : WorldValue)

@@ -1,7 +1,7 @@
 //! Exports: whole calls.
 
 ghost use Rattle.ds_core.specs.declared.event.Event.TheVariants.{BeginEdit, BeginWork, BeginReport, BeginRecover};
-ghost use Rattle.ds_core.specs.Kinds.{IsEditAnswer, IsWorkAnswer, IsReportAnswer, IsRecoveryAnswer};
+ghost use Rattle.ds_state.specs.declared.answer.Answer.TheVariants.{Edit, Work, Report, Recovery};
 ghost use Rattle.ds_calls.specs.Whole.{request};
 ghost use Rattle.ds_c.specs.Calls.{OnHandle, Does, Tells};
 ghost use Rattle.ds_c.specs.Events.{cell_of, Ended, Migrates, Settles, LacksProcess, LacksRequest};
@@ -25,7 +25,7 @@ pub extern "C" fn ds_c_world_edit(
     text: &[u8],
     answer: &mut AnswerRow,
 ) -> u32
-    ensures { OnHandle (Does (Ended IsEditAnswer process (BeginEdit (request process (cell_of column row) text.now))) (LacksRequest process (cell_of column row))) (Tells answer.old answer.new) handle.old handle.new result }
+    ensures { OnHandle (Does (Ended Edit process (BeginEdit (request process (cell_of column row) text.now))) (LacksRequest process (cell_of column row))) (Tells answer.old answer.new) handle.old handle.new result }
 {
     let Some(mut world) = handle.take(alloc) else {
         return Failure::Empty.number();
@@ -46,7 +46,7 @@ pub extern "C" fn ds_c_world_work(
     row: usize,
     answer: &mut AnswerRow,
 ) -> u32
-    ensures { OnHandle (Does (Ended IsWorkAnswer process (BeginWork process (cell_of column row))) (LacksRequest process (cell_of column row))) (Tells answer.old answer.new) handle.old handle.new result }
+    ensures { OnHandle (Does (Ended Work process (BeginWork process (cell_of column row))) (LacksRequest process (cell_of column row))) (Tells answer.old answer.new) handle.old handle.new result }
 {
     let Some(mut world) = handle.take(alloc) else {
         return Failure::Empty.number();
@@ -65,7 +65,7 @@ pub extern "C" fn ds_c_world_report(
     process: usize,
     answer: &mut AnswerRow,
 ) -> u32
-    ensures { OnHandle (Does (Ended IsReportAnswer process (BeginReport process)) (LacksProcess process)) (Tells answer.old answer.new) handle.old handle.new result }
+    ensures { OnHandle (Does (Ended Report process (BeginReport process)) (LacksProcess process)) (Tells answer.old answer.new) handle.old handle.new result }
 {
     let Some(mut world) = handle.take(alloc) else {
         return Failure::Empty.number();
@@ -83,7 +83,7 @@ pub extern "C" fn ds_c_world_recover(
     process: usize,
     answer: &mut AnswerRow,
 ) -> u32
-    ensures { OnHandle (Does (Ended IsRecoveryAnswer process (BeginRecover process)) (LacksProcess process)) (Tells answer.old answer.new) handle.old handle.new result }
+    ensures { OnHandle (Does (Ended Recovery process (BeginRecover process)) (LacksProcess process)) (Tells answer.old answer.new) handle.old handle.new result }
 {
     let Some(mut world) = handle.take(alloc) else {
         return Failure::Empty.number();

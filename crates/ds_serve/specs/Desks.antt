@@ -3,6 +3,9 @@ use Rattle.std.specs.Prelude.{◌≡◌, ◌⊎◌, ℕ, ◌+◌, List, Option, 
 use Rattle.ds_formula.specs.declared.cells.Cell.{Cell}
 use Rattle.ds_eval.specs.declared.value.Value.{Value}
 use Rattle.ds_state.specs.declared.answer.Answer.TheVariants as answers
+use Rattle.ds_state.specs.declared.answer.EditEnd.TheVariants as edit_ends
+use Rattle.ds_state.specs.declared.recovery.RecoveryEnd.TheVariants as recovery_ends
+use Rattle.ds_state.specs.declared.report.ReportEnd.TheVariants as report_ends
 use Rattle.ds_state.specs.declared.recovery.Told.{Told}
 use Rattle.ds_core.specs.declared.event.Event.{Event}
 use Rattle.ds_core.specs.declared.event.Event.TheVariants.{BeginEdit, BeginRecover, BeginReport}
@@ -27,8 +30,8 @@ edit_of process cell text = BeginEdit (record { process = process; cell = cell; 
 
 -- the answer of a recovery that tells this
 abbrev pub told_answer : Option Told → Reply
-told_answer (Some told) = Answered (answers.Last told)
-told_answer None = Answered answers.Nothing
+told_answer (Some told) = Answered (answers.Recovery (recovery_ends.Last told))
+told_answer None = Answered (answers.Recovery recovery_ends.Nothing)
 
 -- the last reply of a call, where the session is told that the call is refused for this cause
 abbrev pub Refuses : Reply → CallRefusal → Type 0
@@ -57,13 +60,13 @@ pub record HasJoined (process : ℕ) (last : Option Told) (new : Option PlainPas
 -- answer is Done with this number, and which it has counted
 abbrev pub after_done : PlainPass → ℕ → Cell → List ℕ → ℕ → PlainPass
 after_done pass process cell text number =
-    record (asked pass (edit_of process cell text) (Answered (answers.Done number))) { dones = pass.dones + 1 }
+    record (asked pass (edit_of process cell text) (Answered (answers.Edit (edit_ends.Done number)))) { dones = pass.dones + 1 }
 
 -- the pass after a report that was answered Settled: it was used for one call more, the report, which it has counted, and
 -- whose values it keeps
 abbrev pub after_settled : PlainPass → ℕ → List Value → PlainPass
 after_settled pass process values =
-    record (asked pass (BeginReport process) (Answered answers.Settled)) { last = values; settleds = pass.settleds + 1 }
+    record (asked pass (BeginReport process) (Answered (answers.Report report_ends.Settled))) { last = values; settleds = pass.settleds + 1 }
 
 -- what a call that was answered so does to the pass that the session has, if any. A join that is not refused takes one
 -- where there was none, and tells what the process's recovery tells. An edit is of the call's cell and text, and is told
@@ -76,12 +79,12 @@ Deals old (Join p) (Joined q last) new = (old ≡ None) × (q ≡ p) × HasJoine
 Deals old (Join p) (Refused why) new = new ≡ old
 Deals (Some pass) (Set p cell text) (Done number) new = new ≡ Some (after_done pass p cell text number)
 Deals (Some pass) (Set p cell text) (Overtaken number by) new =
-    new ≡ Some (asked pass (edit_of p cell text) (Answered (answers.Overtaken number by)))
+    new ≡ Some (asked pass (edit_of p cell text) (Answered (answers.Edit (edit_ends.Overtaken number by))))
 Deals (Some pass) (Set p cell text) (Refused why) new =
     ((new ≡ Some pass) × (why ≡ NoMemory)) ⊎ IsRefusedAt pass (edit_of p cell text) why new
 Deals (Some pass) (Report p) (Settled values) new = new ≡ Some (after_settled pass p values)
 Deals (Some pass) (Report p) (Unsettled place word) new =
-    new ≡ Some (asked pass (BeginReport p) (Answered (answers.Unsettled place word)))
+    new ≡ Some (asked pass (BeginReport p) (Answered (answers.Report (report_ends.Unsettled place word))))
 Deals (Some pass) (Report p) (Refused why) new = (new ≡ Some pass) ⊎ IsRefusedAt pass (BeginReport p) why new
 Deals (Some pass) (Last p) (Tells last) new = new ≡ Some (asked pass (BeginRecover p) (told_answer last))
 Deals (Some pass) (Last p) (Refused why) new = IsRefusedAt pass (BeginRecover p) why new

@@ -5,7 +5,13 @@ use Rattle.std.specs.Arc.{arc_value}
 use Rattle.ds_formula.specs.declared.cells.Cell.{Cell}
 use Rattle.ds_formula.specs.Cells.{IsInside}
 use Rattle.ds_eval.specs.declared.value.Value.{Value}
-use Rattle.ds_state.specs.declared.answer.Answer.TheVariants as answers
+use Rattle.ds_state.specs.declared.answer.EditEnd.{EditEnd}
+use Rattle.ds_state.specs.declared.answer.EditEnd.TheVariants as edit_ends
+use Rattle.ds_state.specs.declared.work.WorkEnd.{WorkEnd}
+use Rattle.ds_state.specs.declared.recovery.RecoveryEnd.{RecoveryEnd}
+use Rattle.ds_state.specs.declared.recovery.RecoveryEnd.TheVariants as recovery_ends
+use Rattle.ds_state.specs.declared.report.ReportEnd.{ReportEnd}
+use Rattle.ds_state.specs.declared.report.ReportEnd.TheVariants as report_ends
 use Rattle.ds_state.specs.declared.recovery.Told.{Told}
 use Rattle.ds_shared.specs.declared.ended.Ended.{Ended}
 use Rattle.ds_shared.specs.declared.ended.Ended.TheVariants.{Answered, Refused, Stopped}
@@ -32,44 +38,41 @@ IsSeatAt (Some seat) process = seat.pass.process ≡ process
 abbrev pub sheet_of : Seat → SharedSheet
 sheet_of seat = arc_value seat.sheet
 
--- what is said where a call was stopped, or answered as none of its kind is
+-- what is said where a call was stopped
 abbrev pub broken : said.Said
 broken = said.Refused refusals.Stopped
 
 -- what is said to an edit that ended so
-abbrev pub set_said : Ended → said.Said
-set_said (Answered (answers.Done number)) = said.Done number
-set_said (Answered (answers.Overtaken number by)) = said.Overtaken number by
-set_said (Answered other) = broken
+abbrev pub set_said : Ended EditEnd → said.Said
+set_said (Answered (edit_ends.Done number)) = said.Done number
+set_said (Answered (edit_ends.Overtaken number by)) = said.Overtaken number by
 set_said (Refused why) = said.Refused (refused_by why)
 set_said Stopped = broken
 
 -- what is said to a recovery that ended so
-abbrev pub last_said : Ended → said.Said
-last_said (Answered (answers.Last told)) = said.Tells (Some told)
-last_said (Answered answers.Nothing) = said.Tells None
-last_said (Answered other) = broken
+abbrev pub last_said : Ended RecoveryEnd → said.Said
+last_said (Answered (recovery_ends.Last told)) = said.Tells (Some told)
+last_said (Answered recovery_ends.Nothing) = said.Tells None
 last_said (Refused why) = said.Refused (refused_by why)
 last_said Stopped = broken
 
 -- what is said to a report that ended so, where these are the values that the seat kept then
-abbrev pub report_said : Ended → List Value → said.Said
-report_said (Answered answers.Settled) values = said.Settled values
-report_said (Answered (answers.Unsettled place word)) values = said.Unsettled place word
-report_said (Answered other) values = broken
+abbrev pub report_said : Ended ReportEnd → List Value → said.Said
+report_said (Answered report_ends.Settled) values = said.Settled values
+report_said (Answered (report_ends.Unsettled place word)) values = said.Unsettled place word
 report_said (Refused why) values = said.Refused (refused_by why)
 report_said Stopped values = broken
 
 -- the seat has come from the first one by works alone, each on a cell of the sheet; it keeps the values that it kept
 pub data HasWorked (s : SharedSheet) (first : Seat) : Seat → Type 0 where
   rests : HasWorked s first first
-  goes_on : (seat new : Seat) (cell : Cell) (how : Ended) → HasWorked s first seat → Works s cell STEPS_MOST seat.pass new.pass how → IsSeatOf s new → new.last ≡ seat.last → HasWorked s first new
+  goes_on : (seat new : Seat) (cell : Cell) (how : Ended WorkEnd) → HasWorked s first seat → Works s cell STEPS_MOST seat.pass new.pass how → IsSeatOf s new → new.last ≡ seat.last → HasWorked s first new
 
 -- the session has taken a seat of this process, and all that it has used it for is a recovery that tells this
 pub record HasJoined (process : ℕ) (last : Option Told) (new : Option Seat) : Type 0 where
   pub seat : Seat
   pub after : Seat
-  pub how : Ended
+  pub how : Ended RecoveryEnd
   pub process_is : seat.pass.process ≡ process
   pub recovers : Recovers (sheet_of seat) STEPS_MOST seat.pass after.pass how
   pub tells : last_said how ≡ said.Tells last
@@ -80,7 +83,7 @@ pub record HasJoined (process : ℕ) (last : Option Told) (new : Option Seat) : 
 pub record HasSet (seat : Seat) (cell : Cell) (text : List ℕ) (what : said.Said) (new : Option Seat) : Type 0 where
   pub after : Seat
   pub new_is : new ≡ Some after
-  pub edits : ((how : Ended) × Edits (sheet_of seat) cell text STEPS_MOST seat.pass after.pass how × (what ≡ set_said how)) ⊎ ((after ≡ seat) × (IsInside (sheet_of seat).board.layout.shape cell → ⊥))
+  pub edits : ((how : Ended EditEnd) × Edits (sheet_of seat) cell text STEPS_MOST seat.pass after.pass how × (what ≡ set_said how)) ⊎ ((after ≡ seat) × (IsInside (sheet_of seat).board.layout.shape cell → ⊥))
 
 -- the seat was used for works, and then for a report of which this is said, with its values where it is settled; or the
 -- works did not let it come so far
@@ -89,12 +92,12 @@ pub record HasReported (seat : Seat) (what : said.Said) (new : Option Seat) : Ty
   pub after : Seat
   pub new_is : new ≡ Some after
   pub works : HasWorked (sheet_of seat) seat worked
-  pub reports : ((how : Ended) × (values : Option (Vec Value Global)) × Reports (sheet_of seat) STEPS_MOST worked.pass after.pass how values × (what ≡ report_said how (last_of worked.last values).items)) ⊎ ((after ≡ worked) × ((why : CallRefusal) × (what ≡ said.Refused why)))
+  pub reports : ((how : Ended ReportEnd) × (values : Option (Vec Value Global)) × Reports (sheet_of seat) STEPS_MOST worked.pass after.pass how values × (what ≡ report_said how (last_of worked.last values).items)) ⊎ ((after ≡ worked) × ((why : CallRefusal) × (what ≡ said.Refused why)))
 
 -- the seat was used for one call more, a recovery, and this is said of it
 pub record HasRecovered (seat : Seat) (what : said.Said) (new : Option Seat) : Type 0 where
   pub after : Seat
-  pub how : Ended
+  pub how : Ended RecoveryEnd
   pub new_is : new ≡ Some after
   pub recovers : Recovers (sheet_of seat) STEPS_MOST seat.pass after.pass how
   pub says : what ≡ last_said how

@@ -3,7 +3,8 @@
 ghost use Rattle.ds_core.specs.declared.event.Event.TheVariants.{BeginEdit};
 ghost use Rattle.ds_core.specs.declared.reply.Reply.TheVariants.{Answered};
 ghost use Rattle.ds_crew.specs.Kept.{HasUsed};
-ghost use Rattle.ds_state.specs.declared.answer.Answer.TheVariants.{Done};
+ghost use Rattle.ds_state.specs.declared.answer.Answer.TheVariants.{Edit};
+ghost use Rattle.ds_state.specs.declared.answer.EditEnd.TheVariants.{Done};
 
 use ds_crew::ended::Receipt;
 use ds_store::edit::ToldEdit;
@@ -100,7 +101,7 @@ impl Keeping {
     /// Tells the keeper of an edit that was answered Done, by its receipt: it has happened. For want of memory nothing is
     /// kept any more.
     pub(crate) fn tell<R: Wait>(&self, rt: &R, receipt: Receipt)
-        requires { HasUsed receipt.process (BeginEdit (record { process = receipt.process; cell = receipt.cell; text = receipt.text })) (Answered (Done receipt.number)) }
+        requires { HasUsed receipt.process (BeginEdit (record { process = receipt.process; cell = receipt.cell; text = receipt.text })) (Answered (Edit (Done receipt.number))) }
     {
         let mut told = self.told.lock(rt);
         if told.edits.push(told_edit(receipt)).is_err() {

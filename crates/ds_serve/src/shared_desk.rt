@@ -10,9 +10,9 @@ use crate::visit::Visit;
 use crossbeam_queue::ArrayQueue;
 use ds_formula::cells::{Cell, Shape};
 use ds_seats::seat::Seat;
-use ds_server::board::{Board, CallRefusal, EditEnd, Reported};
+use ds_server::board::{Board, CallRefusal, Reported};
 use ds_shared::ended::Ended;
-use ds_state::answer::{Answer, EditEnd};
+use ds_state::answer::EditEnd;
 use ds_state::recovery::{RecoveryEnd, Told};
 use ds_state::report::ReportEnd;
 use std::alloc::Global;
@@ -52,26 +52,25 @@ impl<'a, R: Wait + Clock> SharedDesk<'a, R> {
 }
 
 // What a recovery tells. It is stopped only behind more steps than it can take.
-fn told(ended: Ended) -> Result<Option<Told>, CallRefusal>
+fn told(ended: Ended<RecoveryEnd>) -> Result<Option<Told>, CallRefusal>
     ensures { last_view result ≡ last_said ended }
 {
     match ended {
-        Ended::Answered(Answer::Recovery(RecoveryEnd::Last(told))) => Ok(Some(told)),
-        Ended::Answered(Answer::Recovery(RecoveryEnd::Nothing)) => Ok(None),
+        Ended::Answered(RecoveryEnd::Last(told)) => Ok(Some(told)),
+        Ended::Answered(RecoveryEnd::Nothing) => Ok(None),
         Ended::Refused(why) => Err(CallRefusal::from(why)),
-        Ended::Answered(_) | Ended::Stopped => Err(CallRefusal::Stopped),
+        Ended::Stopped => Err(CallRefusal::Stopped),
     }
 }
 
 // How an edit ended, or why it has not begun.
-fn ended(ended: Ended) -> Result<EditEnd, CallRefusal>
+fn ended(ended: Ended<EditEnd>) -> Result<EditEnd, CallRefusal>
     ensures { set_view result ≡ set_said ended }
 {
     match ended {
-        Ended::Answered(Answer::Edit(EditEnd::Done(number))) => Ok(EditEnd::Done(number)),
-        Ended::Answered(Answer::Edit(EditEnd::Overtaken(number, by))) => Ok(EditEnd::Overtaken(number, by)),
+        Ended::Answered(end) => Ok(end),
         Ended::Refused(why) => Err(CallRefusal::from(why)),
-        Ended::Answered(_) | Ended::Stopped => Err(CallRefusal::Stopped),
+        Ended::Stopped => Err(CallRefusal::Stopped),
     }
 }
 
@@ -86,15 +85,21 @@ fn edited(alloc: Global, seat: &mut Seat, cell: Cell, text: &[u8]) -> Result<Edi
 }
 
 // How a report ended; where it is settled, the seat gives away the values that it has kept of it.
-fn shown(alloc: Global, ended: Ended, seat: &mut Seat) -> Result<Reported, CallRefusal>
+fn reported_as(
+    alloc: Global,
+    ended: Ended<ReportEnd>,
+    seat: &mut Seat,
+) -> Result<Reported, CallRefusal>
     ensures said { report_view result ≡ report_said ended seat.old.last.items }
     ensures seat { IsSeatOf (sheet_of seat.old) seat.new × (seat.new.pass ≡ seat.old.pass) }
 {
     match ended {
-        Ended::Answered(Answer::Report(ReportEnd::Settled)) => Ok(Reported::Settled(seat.take_values(alloc))),
-        Ended::Answered(Answer::Report(ReportEnd::Unsettled(place, word))) => Ok(Reported::Unsettled(place, word)),
+        Ended::Answered(ReportEnd::Settled) => Ok(Reported::Settled(seat.take_values(alloc))),
+        Ended::Answered(ReportEnd::Unsettled(place, word)) => {
+            Ok(Reported::Unsettled(place, word))
+        }
         Ended::Refused(why) => Err(CallRefusal::from(why)),
-        Ended::Answered(_) | Ended::Stopped => Err(CallRefusal::Stopped),
+        Ended::Stopped => Err(CallRefusal::Stopped),
     }
 }
 
@@ -108,7 +113,7 @@ fn reported<R: Wait + Clock>(
 {
     shared_settle(rt, alloc, seat)?;
     let how = seat.report(alloc, STEPS_MOST);
-    shown(alloc, how, seat)
+    reported_as(alloc, how, seat)
 }
 
 // A whole recovery, and what it tells.

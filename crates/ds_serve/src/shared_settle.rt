@@ -8,7 +8,6 @@ use ds_seats::fault::Fault;
 use ds_seats::seat::Seat;
 use ds_server::board::CallRefusal;
 use ds_shared::ended::Ended;
-use ds_state::answer::Answer;
 use ds_state::work::WorkEnd;
 use std::alloc::Global;
 use std::sync::Wait;
@@ -20,11 +19,11 @@ pub(crate) const STEPS_MOST: u64 = u64::MAX;
 
 // What a round has found with this work, which may end the settle: an error is why. A cell that the sheet has not wants no
 // work.
-fn with_work(round: Round, worked: Result<Ended, Fault>) -> Result<Round, CallRefusal> {
+fn with_work(round: Round, worked: Result<Ended<WorkEnd>, Fault>) -> Result<Round, CallRefusal> {
     match worked {
-        Ok(Ended::Answered(Answer::Work(WorkEnd::NotDirty))) | Err(_) => Ok(round),
-        Ok(Ended::Answered(Answer::Work(WorkEnd::Missed))) if round != Round::Worked => Ok(Round::Held),
-        Ok(Ended::Answered(Answer::Work(WorkEnd::NoMemory))) => Err(CallRefusal::NoMemory),
+        Ok(Ended::Answered(WorkEnd::NotDirty)) | Err(_) => Ok(round),
+        Ok(Ended::Answered(WorkEnd::Missed)) if round != Round::Worked => Ok(Round::Held),
+        Ok(Ended::Answered(WorkEnd::NoMemory)) => Err(CallRefusal::NoMemory),
         Ok(Ended::Answered(_)) => Ok(Round::Worked),
         Ok(Ended::Refused(why)) => Err(CallRefusal::from(why)),
         Ok(Ended::Stopped) => Err(CallRefusal::Stopped),

@@ -2,7 +2,8 @@
 
 use crate::door::Door;
 use crate::keeping::Keeping;
-use ds_server::board::{CallRefusal, EditEnd, Reported};
+use ds_server::board::{CallRefusal, Reported};
+use ds_state::answer::EditEnd;
 use std::sync::atomic::{AtomicBool, AtomicU64, Ordering};
 
 /// A session, as the log tells it: which process it has joined, whether its client was silent for too long, and whether

@@ -13,6 +13,8 @@ use Rattle.ds_state.specs.declared.situation.Situation.TheVariants.{Working}
 use Rattle.ds_state.specs.declared.work.WorkStage.{WorkStage}
 use Rattle.ds_state.specs.declared.work.WorkStage.TheVariants.{Wait, Clear, StoreValue}
 use Rattle.ds_state.specs.declared.answer.Answer.{Answer}
+use Rattle.ds_state.specs.declared.answer.Answer.TheVariants.{Work}
+use Rattle.ds_state.specs.declared.work.WorkEnd.{WorkEnd}
 use Rattle.ds_work.specs.WorkSteps as steps
 use Rattle.ds_work.specs.WorkTakes.{IsOffered}
 use Rattle.ds_core.specs.Takes.{Fits}
@@ -49,6 +51,12 @@ pub within_by : (w : WorldValue) (p : ℕ) (until : Until) (rounds cell : ℕ) �
 within_by w p until rounds cell is h = subst (λ (u : Until). IsWithin w (left.Drives p u)) is h
 
 -- ---- answers
+
+-- a round ends with an answer that is none of work, and what is no round with each
+pub ends_with : (w : WorldValue) (p : ℕ) (until : Until) (answer : Answer) → ((end : WorkEnd) → answer ≡ Work end → ⊥) → ended w p until (Answered answer) ≡ Says (reply_text w p (Answered answer))
+ends_with w p (InRound rounds cell) (Work end) none = absurd (none end refl)
+ends_with w p (InRound rounds cell) _ none = refl
+ends_with w p _ answer none = refl
 
 -- a process that is not driven in a round ends with its answer
 pub answered : (w : WorldValue) (p : ℕ) (until : Until) (answer : Answer) → (until ≡ OneStep) ⊎ (((name : PointName) × (until ≡ ToPoint name)) ⊎ (until ≡ ToAnswer)) → Remains None (ended w p until (Answered answer))

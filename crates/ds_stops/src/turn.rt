@@ -63,13 +63,13 @@ pub fn to_point(world: &World, process: usize, name: PointName) -> Option<Left>
 }
 
 /// What is left of a settle by the process at this turn of its: nothing where it ends.
-pub fn left_of(process: usize, turn: settle::Turn) -> Option<Left>
+pub fn left_of(process: usize, turn: settle::SettleStage) -> Option<Left>
     ensures remains { (w : WorldValue) → Remains result (at_turn w process turn) }
     ensures within { (w : WorldValue) → IsInTurn (cells_of w.sheet.layout) turn → IfSome result (IsWithin w) }
 {
     match turn {
-        settle::Turn::Ends(_) => None,
-        settle::Turn::Works { rounds, cell } => Some(Left::Works {
+        settle::SettleStage::Ends(_) => None,
+        settle::SettleStage::Works { rounds, cell } => Some(Left::Works {
             process,
             rounds,
             cell,
@@ -144,8 +144,7 @@ pub fn after_answer(world: &World, process: usize, until: Until, answer: Answer)
         Until::OneStep | Until::ToPoint(_) | Until::ToAnswer => None,
         Until::InRound { rounds, cell } => match answer {
             Answer::Work(end) => after_work(world, process, rounds, cell, end),
-            Answer::Edit(_) | Answer::Report(_) => None,
-            Answer::Recovery(_) | Answer::Migration(_) => None,
+            _ => None,
         },
     }
 }

@@ -19,10 +19,10 @@ returns g c =
     let worked = c.shared_settle.new.seat in
     let made = c.report-how.ensures.made in
     let of : sheet_of worked ≡ sheet_of seat = same_sheet (sheet_of seat) seat worked refl c.shared_settle.ensures in
-    let pass : c.report-how.new.self.pass ≡ c.shown.new.seat.pass = sym c.shown.ensures.seat.1 in
+    let pass : c.report-how.new.self.pass ≡ c.reported_as.new.seat.pass = sym c.reported_as.ensures.seat.1 in
     record {
       worked = worked;
-      after = c.shown.new.seat;
+      after = c.reported_as.new.seat;
       new_is = refl;
       works = c.shared_settle.ensures;
       reports = inl (
@@ -30,6 +30,6 @@ returns g c =
         made.0,
         subst (λ p. Reports (sheet_of seat) STEPS_MOST worked.pass p c.report-how.result made.0) pass
             (subst (λ s. Reports s STEPS_MOST worked.pass c.report-how.new.self.pass c.report-how.result made.0) of made.1),
-        c.shown.ensures.said ∙ ap (λ v. report_said c.report-how.result v.items) made.2,
+        c.reported_as.ensures.said ∙ ap (λ v. report_said c.report-how.result v.items) made.2,
       );
     }
