@@ -3,6 +3,7 @@ use Rattle.std.proofs.Common.{ℕ, List, Option, Some, None, inl, inr}
 use Rattle.serde_json.specs.Data.{Data}
 use Rattle.ds_state.specs.Value.{WorldValue, world_of, IsGood}
 use Rattle.ds_state.specs.Fresh.{IsNew}
+use Rattle.ds_state.specs.declared.answer.Answer.TheVariants.{Edit, Report, Recovery}
 use Rattle.ds_core.specs.declared.event.Event.TheVariants.{BeginEdit, BeginReport, BeginRecover}
 use Rattle.ds_core.specs.Headline.{HasHeadline}
 use Rattle.ds_core.proofs.EachRun.{runs_have_headline}
@@ -17,12 +18,12 @@ use Rattle.ds_server.specs.WorldBoards.{Does, joins, sets, reports, is_refused, 
 use Rattle.ds_server.specs.Session.{Obeys, refuses, calls, Answers, no_json, no_memory, reads, Turns, short, long, Session, begins, turns, Served, Broken, Ran, Outcome}
 
 pub does_runs : (old new : WorldValue) (call : Call) (said : Said) → Does old call said new → IsRun old new
-does_runs old new call said (joins p answer told n whole is) = whole_runs p (BeginRecover p) old answer new whole
-does_runs old new call said (sets p cell text answer end n whole is) = whole_runs p (BeginEdit (request p cell text)) old answer new whole
-does_runs old new call said (reports p left mid n answer end settles whole is) = runs_on old mid new (settling_runs p old _ mid settles) (whole_runs p (BeginReport p) mid answer new whole)
+does_runs old new call said (joins p answer told n whole is) = whole_runs _ Recovery p (BeginRecover p) old answer new whole
+does_runs old new call said (sets p cell text answer end n whole is) = whole_runs _ Edit p (BeginEdit (request p cell text)) old answer new whole
+does_runs old new call said (reports p left mid n answer end settles whole is) = runs_on old mid new (settling_runs p old _ mid settles) (whole_runs _ Report p (BeginReport p) mid answer new whole)
 does_runs old new call said (is_refused p why n settles) = settling_runs p old _ new settles
 does_runs old new call said (lacks p n settles) = settling_runs p old _ new settles
-does_runs old new call said (tells p answer told n whole is) = whole_runs p (BeginRecover p) old answer new whole
+does_runs old new call said (tells p answer told n whole is) = whole_runs _ Recovery p (BeginRecover p) old answer new whole
 does_runs old new call said (leaves p free) = no_events old
 
 obeys_runs : (old new : WorldValue) (joined : Option ℕ) (value : Data) (said : Said) → Obeys world_rules old joined value said new → IsRun old new

@@ -3,8 +3,8 @@ use Rattle.std.specs.Prelude.{◌≡◌, ℕ, Bool, true, false, List, Option, R
 use Rattle.std.specs.Io.KnownBytes.{Appends}
 use Rattle.ds_formula.specs.declared.cells.Shape.{Shape}
 use Rattle.ds_server.specs.declared.request.LineFault.TheVariants.{LineTooLong}
-use Rattle.ds_server.specs.declared.answer.Reply.{Reply}
-use Rattle.ds_server.specs.declared.answer.Reply.TheVariants as reply
+use Rattle.ds_server.specs.declared.answer.Response.{Response}
+use Rattle.ds_server.specs.declared.answer.Response.TheVariants as response
 use Rattle.ds_server.specs.declared.session.Stop.{Stop}
 use Rattle.ds_server.specs.declared.session.Stop.TheVariants as stops
 use Rattle.ds_server.specs.declared.session.SessionEnd.{SessionEnd}
@@ -14,16 +14,16 @@ use Rattle.ds_server.specs.Boards.{Rules, Seated, joined_after}
 use Rattle.ds_server.specs.SessionTexts.{said_text}
 use Rattle.ds_server.specs.Session.{Answers}
 
--- what a reply says
-abbrev pub reply_view : Reply → Said
-reply_view (reply.Joined process last) = Joined process last
-reply_view (reply.Done number) = Done number
-reply_view (reply.Overtaken number by) = Overtaken number by
-reply_view (reply.Settled values) = Settled values.items
-reply_view (reply.Unsettled place word) = Unsettled place word
-reply_view (reply.Tells last) = Tells last
-reply_view (reply.Refused why) = Refused why
-reply_view (reply.Faulted fault) = Faulted fault
+-- what a response says
+abbrev pub response_view : Response → Said
+response_view (response.Joined process last) = Joined process last
+response_view (response.Done number) = Done number
+response_view (response.Overtaken number by) = Overtaken number by
+response_view (response.Settled values) = Settled values.items
+response_view (response.Unsettled place word) = Unsettled place word
+response_view (response.Tells last) = Tells last
+response_view (response.Refused why) = Refused why
+response_view (response.Faulted fault) = Faulted fault
 
 -- what is said is written, or memory is wanted to make its text, or a write failed
 abbrev pub Writes : Shape → Said → Option (List ℕ) → Option (List ℕ) → Bool → Bool → Result (Unit {0}) Stop → Type 0

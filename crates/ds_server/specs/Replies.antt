@@ -2,11 +2,11 @@
 use Rattle.std.specs.Prelude.{ℕ, List, Option, Result, Ok, Err}
 use Rattle.ds_eval.specs.declared.value.Value.{Value}
 use Rattle.ds_layout.specs.declared.place.Place.{Place}
+use Rattle.ds_state.specs.declared.answer.EditEnd.{EditEnd}
+use Rattle.ds_state.specs.declared.answer.EditEnd.TheVariants as edit
 use Rattle.ds_state.specs.declared.answer.Other.{Other}
 use Rattle.ds_state.specs.declared.recovery.Told.{Told}
 use Rattle.ds_server.specs.declared.board.CallRefusal.{CallRefusal}
-use Rattle.ds_server.specs.declared.board.EditEnd.{EditEnd}
-use Rattle.ds_server.specs.declared.board.EditEnd.TheVariants as edit
 use Rattle.ds_server.specs.declared.board.Reported.{Reported}
 use Rattle.ds_server.specs.declared.board.Reported.TheVariants as report
 use Rattle.ds_server.specs.declared.request.LineFault.{LineFault}

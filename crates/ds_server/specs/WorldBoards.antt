@@ -6,9 +6,13 @@ use Rattle.ds_state.specs.Value.{WorldValue, world_of}
 use Rattle.ds_state.specs.declared.refusal.Refusal.{Refusal}
 use Rattle.ds_state.specs.declared.refusal.Refusal.TheVariants as begin
 use Rattle.ds_recover.specs.RecoverBegun.{MayRecover}
-use Rattle.ds_state.specs.declared.answer.Answer.{Answer}
 use Rattle.ds_state.specs.declared.answer.Answer.TheVariants as answers
+use Rattle.ds_state.specs.declared.answer.EditEnd.{EditEnd}
+use Rattle.ds_state.specs.declared.recovery.RecoveryEnd.{RecoveryEnd}
+use Rattle.ds_state.specs.declared.recovery.RecoveryEnd.TheVariants as recovery
 use Rattle.ds_state.specs.declared.recovery.Told.{Told}
+use Rattle.ds_state.specs.declared.report.ReportEnd.{ReportEnd}
+use Rattle.ds_state.specs.declared.report.ReportEnd.TheVariants as ended
 use Rattle.ds_core.specs.declared.event.Event.TheVariants.{BeginEdit, BeginReport, BeginRecover}
 use Rattle.ds_calls.specs.declared.settle.SettleEnd.TheVariants as settle
 use Rattle.ds_calls.specs.declared.settle.SettleStage.TheVariants.{Ends}
@@ -16,8 +20,6 @@ use Rattle.ds_calls.specs.Whole.{HasProcess, Whole, request}
 use Rattle.ds_calls.specs.Settling.{Settling}
 use Rattle.ds_server.specs.declared.board.CallRefusal.{CallRefusal}
 use Rattle.ds_server.specs.declared.board.CallRefusal.TheVariants as refusal
-use Rattle.ds_server.specs.declared.board.EditEnd.{EditEnd}
-use Rattle.ds_server.specs.declared.board.EditEnd.TheVariants as edit
 use Rattle.ds_server.specs.declared.board.Reported.{Reported}
 use Rattle.ds_server.specs.declared.board.Reported.TheVariants as report
 use Rattle.ds_server.specs.BoardCalls.{Call, Join, Set, Report, Last, Leave}
@@ -37,18 +39,15 @@ refused_by begin.NoMemory = refusal.NoMemory
 refused_by (begin.Migrating q) = refusal.ProcessTaken
 refused_by (begin.NotStopped q) = refusal.ProcessTaken
 
--- a recovery that ended so tells this; no recovery has another answer
-abbrev pub Recovers : Result Answer Refusal → Result (Option Told) CallRefusal → Type 0
-Recovers (Ok (answers.Last told)) result = result ≡ Ok (Some told)
-Recovers (Ok answers.Nothing) result = result ≡ Ok None
-Recovers (Ok answer) result = ⊥
+-- a recovery that ended so tells this
+abbrev pub Recovers : Result RecoveryEnd Refusal → Result (Option Told) CallRefusal → Type 0
+Recovers (Ok (recovery.Last told)) result = result ≡ Ok (Some told)
+Recovers (Ok recovery.Nothing) result = result ≡ Ok None
 Recovers (Err why) result = result ≡ Err (refused_by why)
 
--- an edit that ended so is answered this; no edit has another answer
-abbrev pub Edits : Result Answer Refusal → Result EditEnd CallRefusal → Type 0
-Edits (Ok (answers.Done number)) result = result ≡ Ok (edit.Done number)
-Edits (Ok (answers.Overtaken number by)) result = result ≡ Ok (edit.Overtaken number by)
-Edits (Ok answer) result = ⊥
+-- an edit that ended so is answered so
+abbrev pub Edits : Result EditEnd Refusal → Result EditEnd CallRefusal → Type 0
+Edits (Ok end) result = result ≡ Ok end
 Edits (Err why) result = result ≡ Err (refused_by why)
 
 -- the values of the process's last settled report
@@ -61,11 +60,10 @@ Copies values (Ok (report.Settled copy)) = copy.items ≡ values
 Copies values (Ok (report.Unsettled place word)) = ⊥
 Copies values (Err why) = why ≡ refusal.NoMemory
 
--- a report that ended so, in the world behind it, is answered this; no report has another answer
-abbrev pub Reports : WorldValue → ℕ → Result Answer Refusal → Result Reported CallRefusal → Type 0
-Reports w p (Ok answers.Settled) result = Copies (values_of w p) result
-Reports w p (Ok (answers.Unsettled place word)) result = result ≡ Ok (report.Unsettled place word)
-Reports w p (Ok answer) result = ⊥
+-- a report that ended so, in the world behind it, is answered this
+abbrev pub Reports : WorldValue → ℕ → Result ReportEnd Refusal → Result Reported CallRefusal → Type 0
+Reports w p (Ok ended.Settled) result = Copies (values_of w p) result
+Reports w p (Ok (ended.Unsettled place word)) result = result ≡ Ok (report.Unsettled place word)
 Reports w p (Err why) result = result ≡ Err (refused_by why)
 
 -- ---- what a call does
@@ -74,15 +72,15 @@ Reports w p (Err why) result = result ≡ Err (refused_by why)
 -- is a whole edit, a report is a settle and then a whole report; a settle that is refused or lacks memory is answered
 -- so, and what it has worked on stays; a process is given back in no call
 pub data Does (old : WorldValue) : Call → Said → WorldValue → Type 0 where
-  joins : (p : ℕ) (answer : Result Answer Refusal) (told : Result (Option Told) CallRefusal) (new : WorldValue) → Whole p (BeginRecover p) old answer new → Recovers answer told
+  joins : (p : ℕ) (answer : Result RecoveryEnd Refusal) (told : Result (Option Told) CallRefusal) (new : WorldValue) → Whole answers.Recovery p (BeginRecover p) old answer new → Recovers answer told
       → Does old (Join p) (joined_view p told) new
-  sets : (p : ℕ) (cell : Cell) (text : List ℕ) (answer : Result Answer Refusal) (end : Result EditEnd CallRefusal) (new : WorldValue) → Whole p (BeginEdit (request p cell text)) old answer new → Edits answer end
+  sets : (p : ℕ) (cell : Cell) (text : List ℕ) (answer : Result EditEnd Refusal) (end : Result EditEnd CallRefusal) (new : WorldValue) → Whole answers.Edit p (BeginEdit (request p cell text)) old answer new → Edits answer end
       → Does old (Set p cell text) (set_view end) new
-  reports : (p left : ℕ) (mid new : WorldValue) (answer : Result Answer Refusal) (end : Result Reported CallRefusal) → Settling p old (Ends (settle.Left left)) mid → Whole p (BeginReport p) mid answer new → Reports new p answer end
+  reports : (p left : ℕ) (mid new : WorldValue) (answer : Result ReportEnd Refusal) (end : Result Reported CallRefusal) → Settling p old (Ends (settle.Left left)) mid → Whole answers.Report p (BeginReport p) mid answer new → Reports new p answer end
       → Does old (Report p) (report_view end) new
   is_refused : (p : ℕ) (why : Refusal) (new : WorldValue) → Settling p old (Ends (settle.Refused why)) new → Does old (Report p) (report_view (Err (refused_by why))) new
   lacks : (p : ℕ) (new : WorldValue) → Settling p old (Ends settle.NoMemory) new → Does old (Report p) (report_view (Err refusal.NoMemory)) new
-  tells : (p : ℕ) (answer : Result Answer Refusal) (told : Result (Option Told) CallRefusal) (new : WorldValue) → Whole p (BeginRecover p) old answer new → Recovers answer told
+  tells : (p : ℕ) (answer : Result RecoveryEnd Refusal) (told : Result (Option Told) CallRefusal) (new : WorldValue) → Whole answers.Recovery p (BeginRecover p) old answer new → Recovers answer told
       → Does old (Last p) (last_view told) new
   leaves : (p : ℕ) → MayRecover ((world_of old).situation p) → Does old (Leave p) Left old
 
@@ -104,18 +102,18 @@ world_rules = record {
 
 -- a whole recovery of the process, and what it tells
 pub record HasRecovered (p : ℕ) (old : WorldValue) (told : Result (Option Told) CallRefusal) (new : WorldValue) : Type 0 where
-  pub answer : Result Answer Refusal
-  pub whole : Whole p (BeginRecover p) old answer new
+  pub answer : Result RecoveryEnd Refusal
+  pub whole : Whole answers.Recovery p (BeginRecover p) old answer new
   pub tells : Recovers answer told
 
 -- a whole edit of the process, and how it ended
 pub record HasEdited (p : ℕ) (cell : Cell) (text : List ℕ) (old : WorldValue) (end : Result EditEnd CallRefusal) (new : WorldValue) : Type 0 where
-  pub answer : Result Answer Refusal
-  pub whole : Whole p (BeginEdit (request p cell text)) old answer new
+  pub answer : Result EditEnd Refusal
+  pub whole : Whole answers.Edit p (BeginEdit (request p cell text)) old answer new
   pub tells : Edits answer end
 
 -- a whole report of the process, and how it ended
 pub record HasReported (p : ℕ) (old : WorldValue) (end : Result Reported CallRefusal) (new : WorldValue) : Type 0 where
-  pub answer : Result Answer Refusal
-  pub whole : Whole p (BeginReport p) old answer new
+  pub answer : Result ReportEnd Refusal
+  pub whole : Whole answers.Report p (BeginReport p) old answer new
   pub tells : Reports new p answer end

@@ -6,7 +6,7 @@ ghost use Rattle.serde_json.specs.Written.{compact_text};
 ghost use Rattle.ds_formula.specs.Cells.{cell_at};
 ghost use Rattle.ds_formula.specs.Names.{cell_text};
 ghost use Rattle.ds_server.specs.SessionTexts.{code_of_fault, name_of_fault, outcome_text, told_data, last_data, other_data, row_data, rows_data, place_text, joined_data, done_data, overtaken_data, settled_data, unsettled_data, tells_data, error_data, text_fault_data, refusal_data, said_data, said_text};
-ghost use Rattle.ds_server.specs.LineAnswers.{reply_view};
+ghost use Rattle.ds_server.specs.LineAnswers.{response_view};
 
 use crate::board::CallRefusal;
 use crate::request::LineFault;
@@ -22,7 +22,7 @@ use std::alloc::{AllocError, Global};
 
 /// What a line is answered.
 #[derive(Debug, Drop)]
-pub enum Reply {
+pub enum Response {
     /// The process is the session's; its last edit that was announced, if any.
     Joined(usize, Option<Told>),
     /// The edit of this number counts.
@@ -218,35 +218,39 @@ fn refusal_value(alloc: Global, refusal: CallRefusal) -> Result<Json, AllocError
     }
 }
 
-fn reply_value(alloc: Global, shape: &Shape, reply: &Reply) -> Result<Json, AllocError>
-    ensures { IfOk result (λ v. view v ≡ said_data shape.now (reply_view reply.now)) }
+fn response_value(alloc: Global, shape: &Shape, response: &Response) -> Result<Json, AllocError>
+    ensures { IfOk result (λ v. view v ≡ said_data shape.now (response_view response.now)) }
 {
-    match reply {
-        Reply::Joined(process, last) => joined_value(alloc, shape, *process, *last),
-        Reply::Done(number) => done_value(alloc, *number),
-        Reply::Overtaken(number, by) => overtaken_value(alloc, *number, *by),
-        Reply::Settled(values) => settled_value(alloc, shape, values),
-        Reply::Unsettled(place, word) => unsettled_value(alloc, shape, *place, *word),
-        Reply::Tells(last) => tells_value(alloc, shape, *last),
-        Reply::Refused(refusal) => refusal_value(alloc, *refusal),
-        Reply::Faulted(fault) => error_value(alloc, fault.code(), fault.name()),
+    match response {
+        Response::Joined(process, last) => joined_value(alloc, shape, *process, *last),
+        Response::Done(number) => done_value(alloc, *number),
+        Response::Overtaken(number, by) => overtaken_value(alloc, *number, *by),
+        Response::Settled(values) => settled_value(alloc, shape, values),
+        Response::Unsettled(place, word) => unsettled_value(alloc, shape, *place, *word),
+        Response::Tells(last) => tells_value(alloc, shape, *last),
+        Response::Refused(refusal) => refusal_value(alloc, *refusal),
+        Response::Faulted(fault) => error_value(alloc, fault.code(), fault.name()),
     }
 }
 
-// The text of a reply, without its line feed.
+// The text of a response, without its line feed.
 #[tactic(auto, using(crate::proofs::Floats::said_no_float))]
-fn reply_text(alloc: Global, shape: &Shape, reply: &Reply) -> Result<String, AllocError>
-    ensures { IfOk result (λ t. string_bytes t ≡ compact_text (said_data shape.now (reply_view reply.now))) }
+fn response_text(alloc: Global, shape: &Shape, response: &Response) -> Result<String, AllocError>
+    ensures { IfOk result (λ t. string_bytes t ≡ compact_text (said_data shape.now (response_view response.now))) }
 {
-    let value = reply_value(alloc, shape, reply)?;
+    let value = response_value(alloc, shape, response)?;
     value.to_string(alloc)
 }
 
-/// The line that a reply is written as. An error is a want of memory.
-pub fn reply_line(alloc: Global, shape: &Shape, reply: &Reply) -> Result<Vec<u8>, AllocError>
-    ensures { IfOk result (λ v. v.items ≡ said_text shape.now (reply_view reply.now)) }
+/// The line that a response is written as. An error is a want of memory.
+pub fn response_line(
+    alloc: Global,
+    shape: &Shape,
+    response: &Response,
+) -> Result<Vec<u8>, AllocError>
+    ensures { IfOk result (λ v. v.items ≡ said_text shape.now (response_view response.now)) }
 {
-    let mut line = reply_text(alloc, shape, reply)?.into_bytes();
+    let mut line = response_text(alloc, shape, response)?.into_bytes();
     line.push(b'\n')?;
     Ok(line)
 }

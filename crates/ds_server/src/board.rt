@@ -10,7 +10,7 @@ use ds_eval::value::Value;
 use ds_formula::cells::{Cell, Shape};
 use ds_formula::fault::TextFault;
 use ds_layout::place::Place;
-use ds_state::answer::Other;
+use ds_state::answer::EditEnd;
 use ds_state::recovery::Told;
 use std::alloc::Global;
 
@@ -29,15 +29,6 @@ pub enum CallRefusal {
     RecordsFull,
     /// An allocation failed. Code 15.
     NoMemory,
-}
-
-/// How an edit ended.
-#[derive(Clone, Copy, Debug, PartialEq, Eq)]
-pub enum EditEnd {
-    /// The edit of this number counts.
-    Done(usize),
-    /// The edit of this number does not count: the other edit stood in its place.
-    Overtaken(usize, Other),
 }
 
 /// How a report ended.

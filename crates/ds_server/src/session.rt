@@ -11,14 +11,15 @@ ghost use Rattle.ds_server.specs.Boards.{Seated, Leaves, joined_after};
 ghost use Rattle.ds_server.specs.LineRequests.{IsCallOf};
 ghost use Rattle.ds_server.specs.Asked.{request_view};
 ghost use Rattle.ds_server.specs.Session.{Obeys, Answers, Ran, Outcome};
-ghost use Rattle.ds_server.specs.LineAnswers.{reply_view, Writes, Says, Turned, end_of};
+ghost use Rattle.ds_server.specs.LineAnswers.{response_view, Writes, Says, Turned, end_of};
 ghost use Rattle.ds_server.specs.declared.session.TheConstants as constants;
 
-use crate::answer::{Reply, reply_line};
-use crate::board::{Board, EditEnd, Reported};
+use crate::answer::{Response, response_line};
+use crate::board::{Board, Reported};
 use crate::line::{LineEnd, read_line};
 use crate::request::{LineFault, Request, read_json, read_request};
 use ds_formula::cells::{Cell, Shape};
+use ds_state::answer::EditEnd;
 use ds_streams::streams::{Reading, Writing};
 use serde_json::Value;
 use std::alloc::Global;
@@ -65,53 +66,53 @@ impl fmt::Display for SessionEnd {
 }
 
 // The process is taken.
-fn join<B: Board>(alloc: Global, board: &mut B, process: usize) -> Reply
+fn join<B: Board>(alloc: Global, board: &mut B, process: usize) -> Response
     requires { process < B.rules.processes board.old }
-    ensures does { B.rules.does board.old (Join process) (reply_view result) board.new }
-    ensures seated { Seated B.rules (joined_after None (reply_view result)) board.new }
+    ensures does { B.rules.does board.old (Join process) (response_view result) board.new }
+    ensures seated { Seated B.rules (joined_after None (response_view result)) board.new }
 {
     match board.join(alloc, process) {
-        Ok(last) => Reply::Joined(process, last),
-        Err(refusal) => Reply::Refused(refusal),
+        Ok(last) => Response::Joined(process, last),
+        Err(refusal) => Response::Refused(refusal),
     }
 }
 
 // A whole edit.
-fn set<B: Board>(alloc: Global, board: &mut B, process: usize, cell: Cell, text: &[u8]) -> Reply
+fn set<B: Board>(alloc: Global, board: &mut B, process: usize, cell: Cell, text: &[u8]) -> Response
     requires sits { B.rules.sits board.old process }
     requires inside { IsInside (B.rules.shape board.old) cell }
-    ensures does { B.rules.does board.old (Set process cell text.now) (reply_view result) board.new }
-    ensures seated { Seated B.rules (joined_after (Some process) (reply_view result)) board.new }
+    ensures does { B.rules.does board.old (Set process cell text.now) (response_view result) board.new }
+    ensures seated { Seated B.rules (joined_after (Some process) (response_view result)) board.new }
 {
     match board.set(alloc, process, cell, text) {
-        Ok(EditEnd::Done(number)) => Reply::Done(number),
-        Ok(EditEnd::Overtaken(number, by)) => Reply::Overtaken(number, by),
-        Err(refusal) => Reply::Refused(refusal),
+        Ok(EditEnd::Done(number)) => Response::Done(number),
+        Ok(EditEnd::Overtaken(number, by)) => Response::Overtaken(number, by),
+        Err(refusal) => Response::Refused(refusal),
     }
 }
 
 // A settle and a whole report.
-fn report<B: Board>(alloc: Global, board: &mut B, process: usize) -> Reply
+fn report<B: Board>(alloc: Global, board: &mut B, process: usize) -> Response
     requires { B.rules.sits board.old process }
-    ensures does { B.rules.does board.old (Report process) (reply_view result) board.new }
-    ensures seated { Seated B.rules (joined_after (Some process) (reply_view result)) board.new }
+    ensures does { B.rules.does board.old (Report process) (response_view result) board.new }
+    ensures seated { Seated B.rules (joined_after (Some process) (response_view result)) board.new }
 {
     match board.report(alloc, process) {
-        Ok(Reported::Settled(values)) => Reply::Settled(values),
-        Ok(Reported::Unsettled(place, word)) => Reply::Unsettled(place, word),
-        Err(refusal) => Reply::Refused(refusal),
+        Ok(Reported::Settled(values)) => Response::Settled(values),
+        Ok(Reported::Unsettled(place, word)) => Response::Unsettled(place, word),
+        Err(refusal) => Response::Refused(refusal),
     }
 }
 
 // A whole recovery.
-fn last<B: Board>(alloc: Global, board: &mut B, process: usize) -> Reply
+fn last<B: Board>(alloc: Global, board: &mut B, process: usize) -> Response
     requires { B.rules.sits board.old process }
-    ensures does { B.rules.does board.old (Last process) (reply_view result) board.new }
-    ensures seated { Seated B.rules (joined_after (Some process) (reply_view result)) board.new }
+    ensures does { B.rules.does board.old (Last process) (response_view result) board.new }
+    ensures seated { Seated B.rules (joined_after (Some process) (response_view result)) board.new }
 {
     match board.last(alloc, process) {
-        Ok(last) => Reply::Tells(last),
-        Err(refusal) => Reply::Refused(refusal),
+        Ok(last) => Response::Tells(last),
+        Err(refusal) => Response::Refused(refusal),
     }
 }
 
@@ -121,11 +122,11 @@ fn carry_out<B: Board>(
     board: &mut B,
     joined: Option<usize>,
     request: Request<'_>,
-) -> Reply
+) -> Response
     requires call { IsCallOf (B.rules.shape board.old) (B.rules.processes board.old) joined (request_view request) }
     requires seated { Seated B.rules joined board.old }
-    ensures does { B.rules.does board.old (request_view request.entry) (reply_view result) board.new }
-    ensures seated { Seated B.rules (joined_after joined (reply_view result)) board.new }
+    ensures does { B.rules.does board.old (request_view request.entry) (response_view result) board.new }
+    ensures seated { Seated B.rules (joined_after joined (response_view result)) board.new }
 {
     match request {
         Request::Join(process) => join(alloc, board, process),
@@ -136,40 +137,45 @@ fn carry_out<B: Board>(
 }
 
 // Answers the value of a line.
-fn obey_value<B: Board>(alloc: Global, board: &mut B, joined: Option<usize>, value: &Value) -> Reply
+fn obey_value<B: Board>(
+    alloc: Global,
+    board: &mut B,
+    joined: Option<usize>,
+    value: &Value,
+) -> Response
     requires { Seated B.rules joined board.old }
-    ensures obeys { Obeys B.rules board.old joined (view value.now) (reply_view result) board.new }
-    ensures seated { Seated B.rules (joined_after joined (reply_view result)) board.new }
+    ensures obeys { Obeys B.rules board.old joined (view value.now) (response_view result) board.new }
+    ensures seated { Seated B.rules (joined_after joined (response_view result)) board.new }
 {
     let shape = board.shape();
     let processes = board.processes();
     match read_request(value, &shape, processes, joined) {
         Ok(request) => carry_out(alloc, board, joined, request),
-        Err(fault) => Reply::Faulted(fault),
+        Err(fault) => Response::Faulted(fault),
     }
 }
 
 // Answers a line.
-fn obey<B: Board>(alloc: Global, board: &mut B, joined: Option<usize>, line: &[u8]) -> Reply
+fn obey<B: Board>(alloc: Global, board: &mut B, joined: Option<usize>, line: &[u8]) -> Response
     requires { Seated B.rules joined board.old }
-    ensures answers { Answers B.rules board.old joined line.now (reply_view result) board.new }
-    ensures seated { Seated B.rules (joined_after joined (reply_view result)) board.new }
+    ensures answers { Answers B.rules board.old joined line.now (response_view result) board.new }
+    ensures seated { Seated B.rules (joined_after joined (response_view result)) board.new }
 {
     match read_json(alloc, line) {
         Ok(value) => obey_value(alloc, board, joined, &value),
-        Err(fault) => Reply::Faulted(fault),
+        Err(fault) => Response::Faulted(fault),
     }
 }
 
 // The process that the session has joined, if any, once it is answered so.
-fn joined_with(joined: Option<usize>, reply: &Reply) -> Option<usize>
-    ensures { result ≡ joined_after joined (reply_view reply.now) }
+fn joined_with(joined: Option<usize>, response: &Response) -> Option<usize>
+    ensures { result ≡ joined_after joined (response_view response.now) }
 {
-    match reply {
-        Reply::Joined(process, _) => Some(*process),
-        Reply::Done(_) | Reply::Overtaken(_, _) => joined,
-        Reply::Settled(_) | Reply::Unsettled(_, _) | Reply::Tells(_) => joined,
-        Reply::Refused(_) | Reply::Faulted(_) => joined,
+    match response {
+        Response::Joined(process, _) => Some(*process),
+        Response::Done(_) | Response::Overtaken(_, _) => joined,
+        Response::Settled(_) | Response::Unsettled(_, _) | Response::Tells(_) => joined,
+        Response::Refused(_) | Response::Faulted(_) => joined,
     }
 }
 
@@ -190,16 +196,16 @@ enum Stop {
     WriteFailed,
 }
 
-// Makes the text of a reply and writes it.
+// Makes the text of a response and writes it.
 fn tell<W: Write>(
     alloc: Global,
     writer: &mut Writing<W>,
     shape: &Shape,
-    reply: &Reply,
+    response: &Response,
 ) -> Result<(), Stop>
-    ensures { Writes shape.now (reply_view reply.now) (W.contents (writer_of writer.old)) (W.contents (writer_of writer.new)) (write_failed writer.old) (write_failed writer.new) result }
+    ensures { Writes shape.now (response_view response.now) (W.contents (writer_of writer.old)) (W.contents (writer_of writer.new)) (write_failed writer.old) (write_failed writer.new) result }
 {
-    let Ok(text) = reply_line(alloc, shape, reply) else {
+    let Ok(text) = response_line(alloc, shape, response) else {
         return Err(Stop::NoMemory);
     };
     match writer.write_all(&text) {
@@ -223,19 +229,19 @@ fn end_at(stop: Stop) -> SessionEnd
 }
 
 // What a line is answered; one that is too long is refused unread.
-fn reply_to<B: Board>(
+fn response_to<B: Board>(
     alloc: Global,
     board: &mut B,
     joined: Option<usize>,
     line: &[u8],
     long: bool,
-) -> Reply
+) -> Response
     requires { Seated B.rules joined board.old }
-    ensures says { Says B.rules long board.old joined line.now (reply_view result) board.new }
-    ensures seated { Seated B.rules (joined_after joined (reply_view result)) board.new }
+    ensures says { Says B.rules long board.old joined line.now (response_view result) board.new }
+    ensures seated { Seated B.rules (joined_after joined (response_view result)) board.new }
 {
     if long {
-        Reply::Faulted(LineFault::LineTooLong)
+        Response::Faulted(LineFault::LineTooLong)
     } else {
         obey(alloc, board, joined, line)
     }
@@ -254,9 +260,9 @@ fn turn<W: Write, B: Board>(
     ensures { Turned B.rules long board.old joined.old line.now (W.contents (writer_of writer.old)) (W.contents (writer_of writer.new)) (write_failed writer.old) (write_failed writer.new) result board.new joined.new }
 {
     let shape = board.shape();
-    let reply = reply_to(alloc, board, *joined, line, long);
-    *joined = joined_with(*joined, &reply);
-    tell(alloc, writer, &shape, &reply)
+    let response = response_to(alloc, board, *joined, line, long);
+    *joined = joined_with(*joined, &response);
+    tell(alloc, writer, &shape, &response)
 }
 
 // Reads lines and answers them, each before the next is read, to an end.

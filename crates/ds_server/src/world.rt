@@ -13,14 +13,14 @@ ghost use Rattle.ds_server.specs.Replies.{Left, joined_view, set_view, report_vi
 ghost use Rattle.ds_server.specs.Session.{Outcome};
 ghost use Rattle.ds_server.specs.WorldBoards.{refused_by, values_of, Copies, Does, IsSeated, world_rules, HasRecovered, HasEdited, HasReported};
 
-use crate::board::{Board, CallRefusal, EditEnd, Reported};
+use crate::board::{Board, CallRefusal, Reported};
 use ds_calls::call::{whole_edit, whole_recovery, whole_report};
 use ds_calls::settle::{SettleEnd, settle};
 use ds_formula::cells::{Cell, Shape};
-use ds_state::answer::Answer;
+use ds_state::answer::EditEnd;
 use ds_state::recovery::{RecoveryEnd, Told};
-use ds_state::report::ReportEnd;
 use ds_state::refusal::Refusal;
+use ds_state::report::ReportEnd;
 use ds_state::world::World;
 use std::alloc::Global;
 
@@ -47,9 +47,8 @@ fn recovered(alloc: Global, world: &mut World, process: usize) -> Result<Option<
     ensures free { KeepsFree process world.old world.new }
 {
     match whole_recovery(alloc, world, process) {
-        Ok(Answer::Recovery(RecoveryEnd::Last(told))) => Ok(Some(told)),
-        Ok(Answer::Recovery(RecoveryEnd::Nothing)) => Ok(None),
-        Ok(_) => unreachable!(),
+        Ok(RecoveryEnd::Last(told)) => Ok(Some(told)),
+        Ok(RecoveryEnd::Nothing) => Ok(None),
         Err(refusal) => Err(CallRefusal::from(refusal)),
     }
 }
@@ -67,9 +66,7 @@ fn edited(
     ensures free { KeepsFree process world.old world.new }
 {
     match whole_edit(alloc, world, process, cell, text) {
-        Ok(Answer::Edit(EditEnd::Done(number))) => Ok(EditEnd::Done(number)),
-        Ok(Answer::Edit(EditEnd::Overtaken(number, by))) => Ok(EditEnd::Overtaken(number, by)),
-        Ok(_) => unreachable!(),
+        Ok(end) => Ok(end),
         Err(refusal) => Err(CallRefusal::from(refusal)),
     }
 }
@@ -93,9 +90,8 @@ fn reported(alloc: Global, world: &mut World, process: usize) -> Result<Reported
     ensures free { KeepsFree process world.old world.new }
 {
     match whole_report(alloc, world, process) {
-        Ok(Answer::Report(ReportEnd::Settled)) => copied(alloc, world, process),
-        Ok(Answer::Report(ReportEnd::Unsettled(place, word))) => Ok(Reported::Unsettled(place, word)),
-        Ok(_) => unreachable!(),
+        Ok(ReportEnd::Settled) => copied(alloc, world, process),
+        Ok(ReportEnd::Unsettled(place, word)) => Ok(Reported::Unsettled(place, word)),
         Err(refusal) => Err(CallRefusal::from(refusal)),
     }
 }

@@ -3,7 +3,7 @@ use Rattle.serde_json.specs.View.{view}
 use Rattle.ds_formula.specs.declared.cells.Shape.{Shape}
 use Rattle.ds_server.specs.LineRequests.{IsCallOf}
 use Rattle.ds_server.specs.Asked.{request_view}
-use Rattle.ds_server.specs.LineAnswers.{reply_view}
+use Rattle.ds_server.specs.LineAnswers.{response_view}
 use Rattle.ds_server.proofs.Answered.{obeys_call, obeys_fault}
 use Rattle.ds_server.proofs.session.obey_value.Goals as goal
 
@@ -15,7 +15,7 @@ carry_out-requires-clause-call g c =
 pub returns-in-Ok-clause-obeys : goal.returns-in-Ok-clause-obeys
 returns-in-Ok-clause-obeys g c =
     obeys_call g.B.Board.rules c.args.board.now c.args.joined (view c.args.value.now) c.shape-shape.result c.processes-processes.result
-    (request_view c.in-Ok.request) (reply_view c.carry_out.result) c.carry_out.new.board c.shape-shape.ensures c.processes-processes.ensures c.in-Ok.ensures.value c.carry_out.ensures.does
+    (request_view c.in-Ok.request) (response_view c.carry_out.result) c.carry_out.new.board c.shape-shape.ensures c.processes-processes.ensures c.in-Ok.ensures.value c.carry_out.ensures.does
 
 pub returns-in-Err-clause-obeys : goal.returns-in-Err-clause-obeys
 returns-in-Err-clause-obeys g c =

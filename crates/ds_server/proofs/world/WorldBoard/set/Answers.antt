@@ -1,3 +1,4 @@
+use Rattle.ds_state.specs.declared.answer.Answer.TheVariants.{Edit}
 use Rattle.ds_core.specs.declared.event.Event.TheVariants.{BeginEdit}
 use Rattle.ds_calls.specs.Whole.{request}
 use Rattle.ds_calls.proofs.Runs.{whole_runs}
@@ -11,4 +12,4 @@ returns-clause-does c = let r = c.edited.ensures.edited in sets c.args.process c
 pub returns-clause-sits : goal.returns-clause-sits
 returns-clause-sits c =
     let r = c.edited.ensures.edited in
-    stays_seated c.args.process c.args.self.now c.edited.new.world (whole_runs c.args.process (BeginEdit (request c.args.process c.args.cell c.args.text.now)) c.args.self.now r.answer c.edited.new.world r.whole) c.edited.ensures.free c.requires.sits
+    stays_seated c.args.process c.args.self.now c.edited.new.world (whole_runs _ Edit c.args.process (BeginEdit (request c.args.process c.args.cell c.args.text.now)) c.args.self.now r.answer c.edited.new.world r.whole) c.edited.ensures.free c.requires.sits
