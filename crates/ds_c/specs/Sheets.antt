@@ -1,6 +1,7 @@
 -- Sheets that threads share are made, their seats are taken, and they are closed and opened again.
 use Rattle.std.specs.Prelude.{ℕ, ◌≡◌, [], true, false}
 use Rattle.std.specs.Arc.{arc_value}
+use Rattle.ds_drives.specs.Views.{past_of}
 use Rattle.ds_shared.specs.Known.{past_in}
 use Rattle.ds_seats.specs.Sheets as seats
 use Rattle.ds_seats.specs.Resting.{Remembers}
@@ -78,7 +79,7 @@ pub record Opens (old new : Held) : Type 0 where
   pub was : old ≡ held.Closed closed
   pub is : new ≡ held.Sheet sheet
   pub layout : (arc_value sheet.sheet).board.layout ≡ closed.sheet.layout
-  pub past : past_in sheet.past.place ≡ past_in closed.sheet.before
+  pub past : past_in sheet.past.place ≡ past_of closed.sheet.before
   pub fresh : seats.AllFresh true sheet
 
 -- it is not opened: something else is held; or an allocation failed. What is remembered stays so

@@ -2,14 +2,15 @@
 
 use ds_formula::cells::Shape;
 use ds_recover::begin::begin;
-use ds_recover::machine::{Effect, RecoveryEnd};
 use ds_recover::step::step;
+use ds_state::recovery::RecoveryEnd;
 use ds_state::refusal::Refusal;
+use ds_state::turn::Turn;
 use ds_state::world::World;
 use std::test::Fail;
 
 // So many steps of a process, and what the last one did.
-fn steps(world: &mut World, process: usize, count: usize) -> Option<Effect> {
+fn steps(world: &mut World, process: usize, count: usize) -> Option<Turn<RecoveryEnd>> {
     let mut last = None;
     for _ in 0..count {
         last = step(world, process);
@@ -28,10 +29,10 @@ fn no_edit(rt: HostRuntime) -> Result<(), Fail> {
         if world.words.layout().processes == 2 {
             assert_eq!(rt; begin(&mut world, 1), Err(Refusal::Busy));
         }
-        assert_eq!(rt; steps(&mut world, 1, 8), Some(Effect::GoesOn));
+        assert_eq!(rt; steps(&mut world, 1, 8), Some(Turn::GoesOn));
         assert_eq!(rt;
             step(&mut world, 1),
-            Some(Effect::Answers(RecoveryEnd::Nothing))
+            Some(Turn::Answers(RecoveryEnd::Nothing))
         );
         assert_eq!(rt; step(&mut world, 1), None);
     }
