@@ -44,11 +44,11 @@ use Rattle.ds_state.specs.contracts.row.Row as Row
 use Rattle.ds_state.specs.contracts.situation.Situation as Situation
 use Rattle.ds_state.specs.contracts.stage.Stage as Stage
 use Rattle.ds_state.specs.contracts.text.Text as Text
-use Rattle.ds_state.specs.contracts.work.MigrateCall as MigrateCall
-use Rattle.ds_state.specs.contracts.work.RecoverCall as RecoverCall
-use Rattle.ds_state.specs.contracts.work.RecoverStage as RecoverStage
-use Rattle.ds_state.specs.contracts.work.ReportCall as ReportCall
-use Rattle.ds_state.specs.contracts.work.ReportStage as ReportStage
+use Rattle.ds_state.specs.contracts.migration.MigrateCall as MigrateCall
+use Rattle.ds_state.specs.contracts.recovery.RecoverCall as RecoverCall
+use Rattle.ds_state.specs.contracts.recovery.RecoverStage as RecoverStage
+use Rattle.ds_state.specs.contracts.report.ReportCall as ReportCall
+use Rattle.ds_state.specs.contracts.report.ReportStage as ReportStage
 use Rattle.ds_state.specs.contracts.work.WorkCall as WorkCall
 use Rattle.ds_state.specs.contracts.work.WorkStage as WorkStage
 use Rattle.ds_state.specs.contracts.world.World as World

@@ -1,17 +1,35 @@
--- A step of a report that is answered Settled.
-use Rattle.std.proofs.Common.{ℕ, ◌≡◌, List, refl, sym, subst}
+-- A step of a call under the lock, and one that is answered Settled.
+use Rattle.std.proofs.Common.{ℕ, ◌≡◌, ◌<◌, ◌+◌, List, [], length, refl, sym, ap, ◌∙◌, subst, arith}
+use Rattle.std.proofs.lemmas.List.{length-set, get_or-set_same}
+use Rattle.std.proofs.lemmas.List.FromFn.{length-map-range_with_len}
+use Rattle.std.specs.Prelude.{Option, Some, None}
 use Rattle.ds_eval.specs.declared.value.Value.{Value}
-use Rattle.ds_state.specs.Value.{WorldValue, IsGood}
-use Rattle.ds_state.specs.declared.answer.Answer.TheVariants.{Settled}
+use Rattle.ds_state.specs.Value.{WorldValue, IsGood, world_of}
+use Rattle.ds_state.specs.CallsFit.{CallFits}
+use Rattle.ds_state.specs.Reports.{PlainReports, with_report}
+use Rattle.ds_state.specs.declared.report.ReportEnd.{ReportEnd}
+use Rattle.ds_state.specs.declared.report.ReportEnd.TheVariants.{Settled, Unsettled}
+use Rattle.ds_state.specs.declared.situation.Situation.{Situation}
+use Rattle.ds_state.specs.declared.situation.Situation.TheVariants.{Reporting}
+use Rattle.ds_state.specs.declared.turn.Turn.{Turn}
+use Rattle.ds_state.specs.declared.turn.Turn.TheVariants.{GoesOn, Answers}
+use Rattle.ds_core.specs.Counts.{done_of, settled_of}
+use Rattle.ds_core.specs.Ends.{Kind, StepsAs}
+use Rattle.ds_report.specs.ReportSteps.{answered}
+use Rattle.ds_report.specs.ReportTakes.{reports_by}
+use Rattle.ds_core.specs.ReportEvents.{ReportStepsBy, report_reply}
+use Rattle.ds_core.specs.StepEvents.{StepsBy, edits, works, reports, recoveries, migrations}
 use Rattle.ds_core.specs.Takes.{Fits}
 use Rattle.ds_core.specs.declared.event.Event.TheVariants.{Step}
 use Rattle.ds_core.specs.declared.reply.Reply.{Reply}
-use Rattle.ds_core.specs.declared.reply.Reply.TheVariants.{Answered}
-use Rattle.ds_crew.specs.Kept.{HasSettled, HasStepped, StepsIn, report_of}
+use Rattle.ds_core.proofs.Counts.{adds}
+use Rattle.ds_crew.specs.LockedCalls.{IsKindOf, call_in, came_reply, step_reply}
+use Rattle.ds_crew.specs.Kept.{HasReport, HasSettled, HasStepped, StepsIn, is_settled, report_of}
+use Rattle.ds_crew.specs.declared.came.Came.{Came}
 use Rattle.ds_crew.specs.declared.steps.Call.{Call}
 
 -- a good world's step that is answered Settled, and the values of the world behind it
-pub settled_by : (process : ℕ) (old new : WorldValue) (reply : Reply) → IsGood old → Fits old (Step process) reply new → reply ≡ Answered Settled → HasSettled process (report_of new.reports process)
+pub settled_by : (process : ℕ) (old new : WorldValue) (reply : Reply) → IsGood old → Fits old (Step process) reply new → reply ≡ is_settled → HasSettled process (report_of new.reports process)
 settled_by process old new reply good fits is = record {
   old = old;
   new = new;
@@ -27,3 +45,64 @@ settled_as process values new are settled = subst (λ (v : List Value). HasSettl
 -- a step that was asked of a good world
 pub stepped_by : (call : Call) (process : ℕ) (old new : WorldValue) (reply : Reply) → IsGood old → StepsIn call process old reply new → HasStepped call process reply
 stepped_by call process old new reply good steps = record { old = old; new = new; good = good; steps = steps }
+
+-- a step of a process that is in a call of this kind
+module _ {E : Type 0} (kind : Kind E) (call : Call) (process : ℕ) (old new : WorldValue) where
+  -- is one of those that the world takes
+  pub fits_as : (turn : Option (Turn E)) → IsKindOf call kind → call_in ((world_of old).situation process) ≡ Some call → IsGood new → StepsAs kind old process turn new → Fits old (Step process) (step_reply kind turn) new
+  fits_as None of_kind is good h = record { takes = record { same = h.same; waits = λ low calls. h.waits low (of_kind ((world_of old).situation process) is) }; good = good }
+  fits_as (Some GoesOn) of_kind is good h = record { takes = h; good = good }
+  fits_as (Some (Answers end)) of_kind is good h = record { takes = h; good = good }
+
+  -- is a step in that call
+  pub steps_in : (reply : Reply) → call_in ((world_of old).situation process) ≡ Some call → Fits old (Step process) reply new → StepsIn call process old reply new
+  steps_in reply is fits = record { taken = λ in_it. fits; none = λ not. absurd (not is) }
+
+-- what a step adds to the counts
+pub done_by : (process : ℕ) (old new : WorldValue) (reply : Reply) → Fits old (Step process) reply new → new.done ≡ old.done + done_of reply
+done_by process old new reply fits = (adds old new (Step process) reply fits.takes).done
+
+pub counted_by : (process : ℕ) (old new : WorldValue) (reply : Reply) → Fits old (Step process) reply new → new.settled ≡ old.settled + settled_of reply
+counted_by process old new reply fits = (adds old new (Step process) reply fits.takes).settled
+
+-- ---- the values of a report that is answered Settled
+
+settles : (what : Turn ReportEnd) → is_settled ≡ report_reply what → what ≡ Answers Settled
+settles GoesOn is = absurd (cc)
+settles (Answers Settled) is = refl
+settles (Answers (Unsettled place word)) is = absurd (cc)
+
+report_left : (process : ℕ) (old new : WorldValue) → IsGood old → ReportStepsBy old process is_settled new → HasReport old.sheet.layout process new.reports
+report_left process old new good h =
+    let e = h.steps.show in
+    let kept : new.reports ≡ with_report old.reports e.process (answered e) = h.steps.reports ∙ ap (reports_by old.reports e) (settles h.what h.is) in
+    let mine : new.reports ≡ with_report old.reports process (answered e) = kept ∙ ap (λ (q : ℕ). with_report old.reports q (answered e)) h.steps.mine in
+    let many : length old.reports.values ≡ old.sheet.layout.processes = good.reports.processes in
+    let there = h.steps.there in
+    let low : process < length old.reports.values = omega (arith, many, there) in
+    let fits : CallFits (world_of old) process (Reporting e) = subst (λ (s : Situation). CallFits (world_of old) process s) h.steps.at (good.sound.calls process there) in
+    record {
+      process_is = subst (λ (r : PlainReports). process < length r.values) (sym mine) (subst (λ (n : ℕ). process < n) (sym (length-set old.reports.values process (answered e))) low);
+      full =
+          ap (λ (r : PlainReports). length (report_of r process)) mine ∙ ap length (get_or-set_same old.reports.values process (answered e) [] low) ∙ length-map-range_with_len _ 0 e.cells
+          ∙ sym fits.1.cells;
+    }
+
+by_report : (process : ℕ) (old new : WorldValue) → IsGood old → StepsBy old process is_settled new → new.settled ≡ old.settled + 1 → HasReport old.sheet.layout process new.reports
+by_report process old new good (edits h) more = absurd (let same = h.reports.settled in omega (arith, same, more))
+by_report process old new good (works h) more = absurd (let same = h.reports.settled in omega (arith, same, more))
+by_report process old new good (reports h) more = report_left process old new good h
+by_report process old new good (recoveries h) more = absurd (let same = h.steps.settled in omega (arith, same, more))
+by_report process old new good (migrations h) more = absurd (let same = h.steps.settled in omega (arith, same, more))
+
+-- the process has a last report, with a value for each cell
+pub reported_by : (process : ℕ) (old new : WorldValue) (reply : Reply) → IsGood old → Fits old (Step process) reply new → reply ≡ is_settled → HasReport old.sheet.layout process new.reports
+reported_by process old new reply good fits is =
+    let settled = subst (λ (r : Reply). Fits old (Step process) r new) is fits in
+    by_report process old new good settled.takes (counted_by process old new is_settled settled)
+
+-- ---- ends
+
+-- what was asked of a good world, by the last reply to the call
+pub ends_by : {E : Type 0} (kind : Kind E) (call : Call) (p q : ℕ) (reply : Reply) (came : Came E) → q ≡ p → reply ≡ came_reply kind came → HasStepped call q reply → HasStepped call p (came_reply kind came)
+ends_by kind call p q reply came same is stepped = subst (λ (n : ℕ). HasStepped call n (came_reply kind came)) same (subst (λ (r : Reply). HasStepped call q r) is stepped)

@@ -1,15 +1,17 @@
 -- What the ends of locked calls say, and what they do to a pass.
 use Rattle.std.specs.Prelude.{ℕ, ◌≡◌, ◌+◌, List, length}
 use Rattle.ds_formula.specs.declared.cells.Cell.{Cell}
-use Rattle.ds_state.specs.declared.answer.Answer.TheVariants.{Settled}
-use Rattle.ds_state.specs.declared.answer.Answer.TheVariants as answers
+use Rattle.ds_state.specs.declared.answer.Answer.TheVariants.{Edit, Report, Recovery}
+use Rattle.ds_state.specs.declared.answer.EditEnd.TheVariants as edits
+use Rattle.ds_state.specs.declared.report.ReportEnd.TheVariants as reports
+use Rattle.ds_state.specs.declared.recovery.RecoveryEnd.TheVariants as recoveries
 use Rattle.ds_core.specs.declared.event.Event.{Event}
-use Rattle.ds_core.specs.declared.event.Event.TheVariants.{BeginEdit, BeginRecover, BeginReport}
+use Rattle.ds_core.specs.declared.event.Event.TheVariants.{BeginEdit, BeginWork, BeginReport, BeginRecover}
 use Rattle.ds_core.specs.declared.reply.Reply.{Reply}
 use Rattle.ds_core.specs.declared.reply.Reply.TheVariants.{Answered}
 use Rattle.ds_core.specs.declared.reply.Reply.TheVariants as replies
 use Rattle.ds_crew.specs.Receipts.{PlainReceipt}
-use Rattle.ds_crew.specs.Kept.{HasSettled}
+use Rattle.ds_crew.specs.Kept.{HasSettled, is_settled}
 use Rattle.ds_crew.specs.Passes.{PlainPass, asked}
 use Rattle.ds_crew.specs.declared.ended.Edited.{Edited}
 use Rattle.ds_crew.specs.declared.ended.Edited.TheVariants as edited
@@ -32,27 +34,27 @@ pub record IsSettled (cells : ℕ) (old new : PlainPass) : Type 0 where
 -- the pass after a step of its process's report: a Settled is counted in its share, and the pass then keeps so many
 -- values; else all stays
 abbrev pub AfterStep : ℕ → PlainPass → Reply → PlainPass → Type 0
-AfterStep cells old (Answered Settled) new = IsSettled cells old new
+AfterStep cells old (Answered (Report reports.Settled)) new = IsSettled cells old new
 AfterStep cells old reply new = new ≡ old
 
 -- the last reply of an edit that ended so
 abbrev pub edit_reply : Edited → Reply
-edit_reply (edited.Done receipt) = Answered (answers.Done receipt.number)
-edit_reply (edited.Overtaken number by) = Answered (answers.Overtaken number by)
+edit_reply (edited.Done receipt) = Answered (Edit (edits.Done receipt.number))
+edit_reply (edited.Overtaken number by) = Answered (Edit (edits.Overtaken number by))
 edit_reply (edited.Refused why) = replies.Refused why
 edit_reply edited.NotEnabled = replies.NotEnabled
 
 -- the last reply of a report that ended so
 abbrev pub show_reply : Shown → Reply
-show_reply shown.Settled = Answered Settled
-show_reply (shown.Unsettled place word) = Answered (answers.Unsettled place word)
+show_reply shown.Settled = is_settled
+show_reply (shown.Unsettled place word) = Answered (Report (reports.Unsettled place word))
 show_reply (shown.Refused why) = replies.Refused why
 show_reply shown.NotEnabled = replies.NotEnabled
 
 -- the last reply of a recovery that ended so
 abbrev pub recovery_reply : Recovered → Reply
-recovery_reply (recovered.Last told) = Answered (answers.Last told)
-recovery_reply recovered.Nothing = Answered answers.Nothing
+recovery_reply (recovered.Last told) = Answered (Recovery (recoveries.Last told))
+recovery_reply recovered.Nothing = Answered (Recovery recoveries.Nothing)
 recovery_reply (recovered.Refused why) = replies.Refused why
 recovery_reply recovered.NotEnabled = replies.NotEnabled
 
@@ -68,6 +70,14 @@ after_edit cell text pass end = record (asked pass (edit_begin pass cell text) (
 -- the pass after a recovery: it has the recovery as its last call, and all else stays
 abbrev pub after_recovery : PlainPass → Recovered → PlainPass
 after_recovery pass end = asked pass (BeginRecover pass.process) (recovery_reply end)
+
+-- the beginning of a call of the lock's: an edit, work, a report or a recovery
+abbrev pub BeginsCall : Event → Type 0
+BeginsCall (BeginEdit request) = Unit {0}
+BeginsCall (BeginWork process cell) = Unit {0}
+BeginsCall (BeginReport process) = Unit {0}
+BeginsCall (BeginRecover process) = Unit {0}
+BeginsCall event = ⊥
 
 -- the beginning of an edit
 abbrev pub IsBegin : Event → Type 0
@@ -98,5 +108,5 @@ HasReceiptOf begin end = ⊥
 -- the pass after a report of a sheet with so many cells: it has the report as its last call; a Settled is counted, and
 -- the pass then keeps a value for each cell; else all else stays
 abbrev pub AfterReport : ℕ → PlainPass → Shown → PlainPass → Type 0
-AfterReport cells old shown.Settled new = IsSettled cells (asked old (BeginReport old.process) (Answered Settled)) new
+AfterReport cells old shown.Settled new = IsSettled cells (asked old (BeginReport old.process) is_settled) new
 AfterReport cells old end new = new ≡ asked old (BeginReport old.process) (show_reply end)

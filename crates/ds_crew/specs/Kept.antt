@@ -5,7 +5,8 @@ use Rattle.ds_layout.specs.declared.layout.Layout.{Layout}
 use Rattle.ds_layout.specs.Places.{cells_of}
 use Rattle.ds_state.specs.Reports.{PlainReports}
 use Rattle.ds_state.specs.Value.{WorldValue, IsGood, world_of}
-use Rattle.ds_state.specs.declared.answer.Answer.TheVariants.{Settled}
+use Rattle.ds_state.specs.declared.answer.Answer.TheVariants as answers
+use Rattle.ds_state.specs.declared.report.ReportEnd.TheVariants.{Settled}
 use Rattle.ds_core.specs.Takes.{Fits}
 use Rattle.ds_core.specs.declared.event.Event.{Event}
 use Rattle.ds_core.specs.declared.event.Event.TheVariants.{Step, BeginEdit, BeginReport, BeginRecover}
@@ -14,6 +15,10 @@ use Rattle.ds_core.specs.declared.reply.Reply.TheVariants.{Answered, Begun, Ente
 use Rattle.ds_crew.specs.LockedCalls.{call_in}
 use Rattle.ds_crew.specs.declared.steps.Call.{Call}
 use Rattle.ds_crew.specs.declared.steps.Call.TheVariants.{Edit, Report, Recovery}
+
+-- the reply by which a report is settled
+abbrev pub is_settled : Reply
+is_settled = Answered (answers.Report Settled)
 
 -- the values of the process's last settled report; none where it has had none, or the sheet has no such process
 abbrev pub report_of : PlainReports → ℕ → List Value
@@ -26,7 +31,7 @@ pub record HasReport (layout : Layout) (process : ℕ) (reports : PlainReports) 
 
 -- the values that are kept after a reply: those of the report that is answered Settled, else those before
 abbrev pub last_after : Reply → List Value → List Value → List Value
-last_after (Answered Settled) report before = report
+last_after (Answered (answers.Report Settled)) report before = report
 last_after reply report before = before
 
 -- a process in this call makes its next step: the world takes it as any step; a process that is not in the call makes none
@@ -53,7 +58,7 @@ pub record HasSettled (process : ℕ) (values : List Value) : Type 0 where
   pub old : WorldValue
   pub new : WorldValue
   pub good : IsGood old
-  pub fits : Fits old (Step process) (Answered Settled) new
+  pub fits : Fits old (Step process) is_settled new
   pub values_are : values ≡ report_of new.reports process
 
 -- a process's next step in this call was asked of a good world, with this reply; or it was of a report whose values there

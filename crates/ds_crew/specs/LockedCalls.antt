@@ -1,12 +1,16 @@
 -- The calls of a process, and the replies to their steps.
-use Rattle.std.specs.Prelude.{Option, Some, None}
+use Rattle.std.specs.Prelude.{◌≡◌, Option, Some, None}
 use Rattle.ds_state.specs.declared.situation.Situation.{Situation}
 use Rattle.ds_state.specs.declared.situation.Situation.TheVariants as situations
 use Rattle.ds_core.specs.declared.event.Event.{Event}
 use Rattle.ds_core.specs.declared.event.Event.TheVariants.{Step}
+use Rattle.ds_state.specs.declared.turn.Turn.{Turn}
 use Rattle.ds_core.specs.declared.reply.Reply.{Reply}
-use Rattle.ds_core.specs.declared.reply.Reply.TheVariants.{Stepped, Answered, NotEnabled, Refused}
-use Rattle.ds_core.specs.Kinds.{IsEditAnswer, IsWorkAnswer, IsReportAnswer, IsRecoveryAnswer}
+use Rattle.ds_core.specs.declared.reply.Reply.TheVariants.{Answered, NotEnabled, Refused}
+use Rattle.ds_core.specs.Ends.{Kind, IsCallOf}
+use Rattle.ds_core.specs.Replies.{reply_of}
+use Rattle.ds_crew.specs.declared.came.Came.{Came}
+use Rattle.ds_crew.specs.declared.came.Came.TheVariants as came
 use Rattle.ds_crew.specs.declared.steps.Call.{Call}
 use Rattle.ds_crew.specs.declared.steps.Call.TheVariants.{Edit, Work, Report, Recovery}
 
@@ -20,23 +24,20 @@ call_in (situations.Recovering e) = Some Recovery
 call_in (situations.Reporting e) = Some Report
 call_in (situations.Migrating e) = None
 
--- the replies that a step of each call can have
-abbrev pub IsStepOf : Call → Reply → Type 0
-IsStepOf call Stepped = Unit {0}
-IsStepOf call NotEnabled = Unit {0}
-IsStepOf Edit (Answered answer) = IsEditAnswer answer
-IsStepOf Work (Answered answer) = IsWorkAnswer answer
-IsStepOf Report (Answered answer) = IsReportAnswer answer
-IsStepOf Recovery (Answered answer) = IsRecoveryAnswer answer
-IsStepOf call reply = ⊥
+-- a process that is in this call is in one of this kind
+abbrev pub IsKindOf : {E : Type 0} → Call → Kind E → Type 0
+IsKindOf call kind = (s : Situation) → call_in s ≡ Some call → IsCallOf kind.is s
 
--- the last replies that each call can have: its answer; that its beginning is refused; or that its beginning, or a step of
--- it, is not enabled
-abbrev pub IsEndOf : Call → Reply → Type 0
-IsEndOf call (Answered answer) = IsStepOf call (Answered answer)
-IsEndOf call (Refused why) = Unit {0}
-IsEndOf call NotEnabled = Unit {0}
-IsEndOf call reply = ⊥
+-- the reply to a step that did this to a call of this kind, or could not be made
+abbrev pub step_reply : {E : Type 0} → Kind E → Option (Turn E) → Reply
+step_reply kind None = NotEnabled
+step_reply kind (Some turn) = reply_of kind.answer turn
+
+-- the last reply to a call of this kind that came to this
+abbrev pub came_reply : {E : Type 0} → Kind E → Came E → Reply
+came_reply kind (came.Ended end) = Answered (kind.answer end)
+came_reply kind (came.Refused why) = Refused why
+came_reply kind came.NotEnabled = NotEnabled
 
 -- the event is no step: it begins a call, offers an entry, or is of no process's call
 abbrev pub IsNoStep : Event → Type 0

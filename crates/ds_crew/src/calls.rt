@@ -1,27 +1,30 @@
 //! The calls of a locked sheet: each event under the lock, each evaluation outside of it.
 
-ghost use Rattle.std.specs.Prelude.{◌≡◌, ◌<◌, ◌≤◌, ◌+◌, IfSome};
+ghost use Rattle.std.specs.Prelude.{◌≡◌, ◌<◌, ◌≤◌, ◌+◌, IfSome, IfNone};
 ghost use Rattle.ds_layout.specs.Places.{cells_of};
 ghost use Rattle.ds_core.specs.Counts.{IsReplyTo, done_of};
 ghost use Rattle.ds_core.specs.declared.event.Event.TheVariants.{BeginRecover};
-ghost use Rattle.ds_crew.specs.LockedCalls.{CountsNothing, IsEndOf, IsNoStep, IsStepOf};
-ghost use Rattle.ds_core.specs.Kinds.{IsWorkAnswer};
-ghost use Rattle.ds_crew.specs.Ends.{AfterReport, AfterStep, HasReceipt, HasReceiptOf, IsBegin, IsReportBegin, after_edit, after_recovery, edit_reply, recovery_reply, show_reply};
+ghost use Rattle.ds_core.specs.Ends.{edits, reports, recoveries};
+ghost use Rattle.ds_crew.specs.LockedCalls.{CountsNothing, IsKindOf, IsNoStep, came_reply, step_reply};
+ghost use Rattle.ds_crew.specs.Ends.{AfterReport, AfterStep, BeginsCall, HasReceipt, HasReceiptOf, IsBegin, IsReportBegin, after_edit, after_recovery, edit_reply, recovery_reply, show_reply};
 ghost use Rattle.ds_crew.specs.Kept.{Happened, HasBegun, HasEnded, HasMade, HasStepped, IsEntry};
 ghost use Rattle.ds_crew.specs.declared.steps.Call.TheVariants.{Edit, Recovery, Report};
 
+use crate::came::Came;
 use crate::ended::{Edited, Receipt, Recovered, Shown, Worked};
 use crate::locked::LockedSheet;
 use crate::pass::Pass;
 use crate::steps::Call;
 use crate::workers::{Gate, Open};
+use ds_core::ends::CallEnd;
 use ds_core::event::{Event, Request};
 use ds_core::reply::Reply;
 use ds_eval::task::{Task, evaluate};
 use ds_formula::cells::Cell;
-use ds_state::answer::{Answer, EditEnd};
+use ds_state::answer::EditEnd;
 use ds_state::recovery::RecoveryEnd;
 use ds_state::report::ReportEnd;
+use ds_state::turn::Turn;
 use ds_state::work::WorkEnd;
 use ds_work::offer::TaskFault;
 use std::alloc::Global;
@@ -40,20 +43,43 @@ impl<L: Ledger, M: Ledger> LockedSheet<L, M> {
         self.kept.lock(rt).happen(alloc, event)
     }
 
-    // A step of work or of a recovery.
-    fn step<R: Wait>(&self, rt: &R, alloc: Global, process: usize, call: Call) -> Reply
-        requires { CountsNothing call }
-        ensures happened { HasStepped call process result }
-        ensures reply { IsStepOf call result }
+    // A call begins, and is under way: none; or what it came to at once.
+    fn begin<E: CallEnd, R: Wait>(&self, rt: &R, alloc: Global, begin: &Event) -> Option<Came<E>>
+        requires { BeginsCall begin.now }
+        ensures begun { IfNone result (HasBegun begin.now) }
+        ensures at_once { IfSome result (λ came. Happened begin.now (came_reply E.kind came)) }
+    {
+        match self.happen(rt, alloc, begin) {
+            Reply::Refused(why) => Some(Came::Refused(why)),
+            Reply::NotEnabled => Some(Came::NotEnabled),
+            _ => None,
+        }
+    }
+
+    // A step of work or of a recovery, and what it did to the call; none where the process is in no such call.
+    fn step<E: CallEnd, R: Wait>(
+        &self,
+        rt: &R,
+        alloc: Global,
+        process: usize,
+        call: Call,
+    ) -> Option<Turn<E>>
+        requires counts { CountsNothing call }
+        requires kind { IsKindOf call E.kind }
+        ensures { HasStepped call process (step_reply E.kind result) }
     {
         self.kept.lock(rt).step(alloc, process, call)
     }
 
-    // A step of an edit.
-    fn step_edit<R: Wait>(&self, rt: &R, alloc: Global, pass: &mut Pass<L, M>) -> Reply
-        ensures happened { HasStepped Edit pass.old.process result }
-        ensures reply { IsStepOf Edit result }
-        ensures pass { pass.new ≡ record pass.old { dones = pass.old.dones + done_of result } }
+    // A step of an edit, and what it did to it; none where the pass's process is in none.
+    fn step_edit<R: Wait>(
+        &self,
+        rt: &R,
+        alloc: Global,
+        pass: &mut Pass<L, M>,
+    ) -> Option<Turn<EditEnd>>
+        ensures happened { HasStepped Edit pass.old.process (step_reply edits result) }
+        ensures pass { pass.new ≡ record pass.old { dones = pass.old.dones + done_of (step_reply edits result) } }
     {
         let Pass {
             process,
@@ -65,12 +91,16 @@ impl<L: Ledger, M: Ledger> LockedSheet<L, M> {
         self.kept.lock(rt).step_edit(alloc, *process, dones)
     }
 
-    // A step of a report.
-    fn step_report<R: Wait>(&self, rt: &R, alloc: Global, pass: &mut Pass<L, M>) -> Reply
-        ensures happened { HasMade Report pass.old.process result }
-        ensures reply { IsStepOf Report result }
+    // A step of a report, and what it did to it; none where the pass's process is in none.
+    fn step_report<R: Wait>(
+        &self,
+        rt: &R,
+        alloc: Global,
+        pass: &mut Pass<L, M>,
+    ) -> Option<Turn<ReportEnd>>
+        ensures happened { HasMade Report pass.old.process (step_reply reports result) }
         ensures process { pass.new.process ≡ pass.old.process }
-        ensures pass { AfterStep (cells_of self.now.layout) pass.old result pass.new }
+        ensures pass { AfterStep (cells_of self.now.layout) pass.old (step_reply reports result) pass.new }
     {
         let cells = self.layout.cells();
         let Pass {
@@ -104,88 +134,93 @@ impl<L: Ledger, M: Ledger> LockedSheet<L, M> {
     }
 }
 
-// How an edit ended, by the event that began it and the last reply: its receipt has what was asked for.
-fn edited_by(begin: Event, reply: Reply) -> Edited
-    requires begin { IsBegin begin }
-    requires end { IsEndOf Edit reply }
-    ensures reply { edit_reply result ≡ reply }
+// How an edit ended, by the event that began it and what it came to: its receipt has what was asked for.
+fn edited_by(begin: Event, came: Came<EditEnd>) -> Edited
+    requires { IsBegin begin }
+    ensures reply { edit_reply result ≡ came_reply edits came }
     ensures receipt { HasReceiptOf begin result }
 {
-    match reply {
-        Reply::Answered(Answer::Edit(EditEnd::Done(number))) => match begin {
-            Event::BeginEdit(request) => Edited::Done(Receipt {
-                process: request.process,
-                number,
-                cell: request.cell,
-                text: request.text,
-            }),
-            _ => unreachable!(),
-        },
-        Reply::Answered(Answer::Edit(EditEnd::Overtaken(number, by))) => Edited::Overtaken { number, by },
-        Reply::Refused(why) => Edited::Refused(why),
-        Reply::NotEnabled => Edited::NotEnabled,
-        _ => unreachable!(),
+    match (begin, came) {
+        (Event::BeginEdit(request), Came::Ended(EditEnd::Done(number))) => Edited::Done(Receipt {
+            process: request.process,
+            number,
+            cell: request.cell,
+            text: request.text,
+        }),
+        (_, Came::Ended(EditEnd::Overtaken(number, by))) => Edited::Overtaken { number, by },
+        (_, Came::Refused(why)) => Edited::Refused(why),
+        _ => Edited::NotEnabled,
     }
 }
 
-// How a report ended, by its last reply.
-fn shown_by(reply: Reply) -> Shown
-    requires { IsEndOf Report reply }
-    ensures { show_reply result ≡ reply }
+// How a report ended, by what it came to.
+fn shown_by(came: Came<ReportEnd>) -> Shown
+    ensures { show_reply result ≡ came_reply reports came }
 {
-    match reply {
-        Reply::Answered(Answer::Report(ReportEnd::Settled)) => Shown::Settled,
-        Reply::Answered(Answer::Report(ReportEnd::Unsettled(place, word))) => Shown::Unsettled(place, word),
-        Reply::Refused(why) => Shown::Refused(why),
-        Reply::NotEnabled => Shown::NotEnabled,
-        _ => unreachable!(),
+    match came {
+        Came::Ended(ReportEnd::Settled) => Shown::Settled,
+        Came::Ended(ReportEnd::Unsettled(place, word)) => Shown::Unsettled(place, word),
+        Came::Refused(why) => Shown::Refused(why),
+        Came::NotEnabled => Shown::NotEnabled,
     }
 }
 
-// How a recovery ended, by its last reply.
-fn recovered_by(reply: Reply) -> Recovered
-    requires { IsEndOf Recovery reply }
-    ensures { recovery_reply result ≡ reply }
+// How a recovery ended, by what it came to.
+fn recovered_by(came: Came<RecoveryEnd>) -> Recovered
+    ensures { recovery_reply result ≡ came_reply recoveries came }
 {
-    match reply {
-        Reply::Answered(Answer::Recovery(RecoveryEnd::Last(told))) => Recovered::Last(told),
-        Reply::Answered(Answer::Recovery(RecoveryEnd::Nothing)) => Recovered::Nothing,
-        Reply::Refused(why) => Recovered::Refused(why),
-        Reply::NotEnabled => Recovered::NotEnabled,
-        _ => unreachable!(),
+    match came {
+        Came::Ended(RecoveryEnd::Last(told)) => Recovered::Last(told),
+        Came::Ended(RecoveryEnd::Nothing) => Recovered::Nothing,
+        Came::Refused(why) => Recovered::Refused(why),
+        Came::NotEnabled => Recovered::NotEnabled,
+    }
+}
+
+// How work ended, by what it came to.
+fn worked_by(came: Came<WorkEnd>) -> Worked {
+    match came {
+        Came::Ended(end) => Worked::Ended(end),
+        Came::Refused(why) => Worked::Refused(why),
+        Came::NotEnabled => Worked::NotEnabled,
     }
 }
 
 impl<L: Ledger, M: Ledger> LockedSheet<L, M> {
-    // The steps of an edit, until its last reply.
-    fn finish_edit<R: Wait>(&self, rt: &R, alloc: Global, pass: &mut Pass<L, M>) -> Reply
-        ensures happened { HasStepped Edit pass.old.process result }
-        ensures end { IsEndOf Edit result }
-        ensures pass { pass.new ≡ record pass.old { dones = pass.old.dones + done_of result } }
+    // The steps of an edit, until it ends, or none of it is enabled.
+    fn finish_edit<R: Wait>(&self, rt: &R, alloc: Global, pass: &mut Pass<L, M>) -> Came<EditEnd>
+        ensures happened { HasStepped Edit pass.old.process (came_reply edits result) }
+        ensures pass { pass.new ≡ record pass.old { dones = pass.old.dones + done_of (came_reply edits result) } }
     {
+        let mut came = Came::NotEnabled;
         for _ in rt.forever() {
             match self.step_edit(rt, alloc, pass) {
-                Reply::Stepped => {}
-                Reply::Answered(answer) => return Reply::Answered(answer),
-                Reply::NotEnabled => return Reply::NotEnabled,
-                _ => unreachable!(),
+                Some(Turn::GoesOn) => {}
+                Some(Turn::Answers(end)) => {
+                    came = Came::Ended(end);
+                    break;
+                }
+                None => break,
             }
         }
-        unreachable!()
+        came
     }
 
-    // An edit, from the event that begins it to its last reply.
-    fn edit_as<R: Wait>(&self, rt: &R, alloc: Global, pass: &mut Pass<L, M>, begin: &Event) -> Reply
+    // An edit, from the event that begins it to what it comes to.
+    fn edit_as<R: Wait>(
+        &self,
+        rt: &R,
+        alloc: Global,
+        pass: &mut Pass<L, M>,
+        begin: &Event,
+    ) -> Came<EditEnd>
         requires { IsBegin begin.now }
-        ensures ended { HasEnded Edit pass.old.process begin.now result }
-        ensures end { IsEndOf Edit result }
-        ensures pass { pass.new ≡ record pass.old { dones = pass.old.dones + done_of result } }
+        ensures ended { HasEnded Edit pass.old.process begin.now (came_reply edits result) }
+        ensures pass { pass.new ≡ record pass.old { dones = pass.old.dones + done_of (came_reply edits result) } }
     {
-        match self.happen(rt, alloc, begin) {
-            Reply::Begun(_) => self.finish_edit(rt, alloc, pass),
-            Reply::Refused(why) => Reply::Refused(why),
-            Reply::NotEnabled => Reply::NotEnabled,
-            _ => unreachable!(),
+        match self.begin(rt, alloc, begin) {
+            Some(came) => came,
+            None => self.finish_edit(rt, alloc, pass),
         }
     }
 
@@ -208,42 +243,52 @@ impl<L: Ledger, M: Ledger> LockedSheet<L, M> {
             cell,
             text,
         });
-        let reply = self.edit_as(rt, alloc, pass, &begin);
-        pass.remember(&begin, &reply);
-        edited_by(begin, reply)
+        let came = self.edit_as(rt, alloc, pass, &begin);
+        pass.remember(&begin, &came.reply());
+        edited_by(begin, came)
     }
 
-    // The steps of a report, until its last reply.
-    fn finish_report<R: Wait>(&self, rt: &R, alloc: Global, pass: &mut Pass<L, M>) -> Reply
-        ensures happened { HasMade Report pass.old.process result }
-        ensures end { IsEndOf Report result }
+    // The steps of a report, until it ends, or none of it is enabled.
+    fn finish_report<R: Wait>(
+        &self,
+        rt: &R,
+        alloc: Global,
+        pass: &mut Pass<L, M>,
+    ) -> Came<ReportEnd>
+        ensures happened { HasMade Report pass.old.process (came_reply reports result) }
         ensures process { pass.new.process ≡ pass.old.process }
-        ensures pass { AfterStep (cells_of self.now.layout) pass.old result pass.new }
+        ensures pass { AfterStep (cells_of self.now.layout) pass.old (came_reply reports result) pass.new }
     {
+        let mut came = Came::NotEnabled;
         for _ in rt.forever() {
             match self.step_report(rt, alloc, pass) {
-                Reply::Stepped => {}
-                Reply::Answered(answer) => return Reply::Answered(answer),
-                Reply::NotEnabled => return Reply::NotEnabled,
-                _ => unreachable!(),
+                Some(Turn::GoesOn) => {}
+                Some(Turn::Answers(end)) => {
+                    came = Came::Ended(end);
+                    break;
+                }
+                None => break,
             }
         }
-        unreachable!()
+        came
     }
 
-    // A report, from the event that begins it to its last reply.
-    fn report_as<R: Wait>(&self, rt: &R, alloc: Global, pass: &mut Pass<L, M>, begin: &Event) -> Reply
+    // A report, from the event that begins it to what it comes to.
+    fn report_as<R: Wait>(
+        &self,
+        rt: &R,
+        alloc: Global,
+        pass: &mut Pass<L, M>,
+        begin: &Event,
+    ) -> Came<ReportEnd>
         requires { IsReportBegin begin.now }
-        ensures ended { HasEnded Report pass.old.process begin.now result }
-        ensures end { IsEndOf Report result }
+        ensures ended { HasEnded Report pass.old.process begin.now (came_reply reports result) }
         ensures process { pass.new.process ≡ pass.old.process }
-        ensures pass { AfterStep (cells_of self.now.layout) pass.old result pass.new }
+        ensures pass { AfterStep (cells_of self.now.layout) pass.old (came_reply reports result) pass.new }
     {
-        match self.happen(rt, alloc, begin) {
-            Reply::Entered => self.finish_report(rt, alloc, pass),
-            Reply::Refused(why) => Reply::Refused(why),
-            Reply::NotEnabled => Reply::NotEnabled,
-            _ => unreachable!(),
+        match self.begin(rt, alloc, begin) {
+            Some(came) => came,
+            None => self.finish_report(rt, alloc, pass),
         }
     }
 
@@ -255,30 +300,15 @@ impl<L: Ledger, M: Ledger> LockedSheet<L, M> {
         ensures { AfterReport (cells_of self.now.layout) pass.old result pass.new }
     {
         let begin = Event::BeginReport(pass.process);
-        let reply = self.report_as(rt, alloc, pass, &begin);
-        pass.remember(&begin, &reply);
-        shown_by(reply)
-    }
-}
-
-// How a work that was answered so ended.
-fn work_end(answer: Answer) -> WorkEnd
-    requires { IsWorkAnswer answer }
-{
-    match answer {
-        Answer::Work(WorkEnd::NotDirty) => WorkEnd::NotDirty,
-        Answer::Work(WorkEnd::Missed) => WorkEnd::Missed,
-        Answer::Work(WorkEnd::Worn) => WorkEnd::Worn,
-        Answer::Work(WorkEnd::Published(changed)) => WorkEnd::Published(changed),
-        Answer::Work(WorkEnd::Again) => WorkEnd::Again,
-        Answer::Work(WorkEnd::NoMemory) => WorkEnd::NoMemory,
-        _ => unreachable!(),
+        let came = self.report_as(rt, alloc, pass, &begin);
+        pass.remember(&begin, &came.reply());
+        shown_by(came)
     }
 }
 
 impl<L: Ledger, M: Ledger> LockedSheet<L, M> {
-    // Work that waits: its task is copied under the lock, evaluated outside of it, and offered. How the
-    // work ended, where it did. An offer of a task that nobody waits for any more changes nothing.
+    // Work that waits: its task is copied under the lock, evaluated outside of it, and offered. What the
+    // work came to, where it did. An offer of a task that nobody waits for any more changes nothing.
     fn evaluate<G: Gate, R: Wait>(
         &self,
         rt: &R,
@@ -286,13 +316,13 @@ impl<L: Ledger, M: Ledger> LockedSheet<L, M> {
         process: usize,
         cell: Cell,
         gate: &G,
-    ) -> Option<Worked> {
+    ) -> Option<Came<WorkEnd>> {
         let task = match self.task(rt, alloc, process) {
             Ok(task) => task,
-            Err(TaskFault::NoTask) => return Some(Worked::NotEnabled),
+            Err(TaskFault::NoTask) => return Some(Came::NotEnabled),
             Err(TaskFault::NoMemory) => {
                 let _stopped = self.happen(rt, alloc, &Event::Stop(process));
-                return Some(Worked::Ended(WorkEnd::NoMemory));
+                return Some(Came::Ended(WorkEnd::NoMemory));
             }
         };
         gate.before(process, cell);
@@ -302,7 +332,23 @@ impl<L: Ledger, M: Ledger> LockedSheet<L, M> {
         None
     }
 
-    // The steps of a work, with the offer that it waits for, until its answer.
+    // A step of work, or the evaluation that it waits for. What the work came to, where it did.
+    fn go_on<G: Gate, R: Wait>(
+        &self,
+        rt: &R,
+        alloc: Global,
+        process: usize,
+        cell: Cell,
+        gate: &G,
+    ) -> Option<Came<WorkEnd>> {
+        match self.step(rt, alloc, process, Call::Work) {
+            Some(Turn::GoesOn) => None,
+            Some(Turn::Answers(end)) => Some(Came::Ended(end)),
+            None => self.evaluate(rt, alloc, process, cell, gate),
+        }
+    }
+
+    // The steps of a work, with the offer that it waits for, until it ends, or none of it is enabled.
     fn finish_work<G: Gate, R: Wait>(
         &self,
         rt: &R,
@@ -310,20 +356,15 @@ impl<L: Ledger, M: Ledger> LockedSheet<L, M> {
         process: usize,
         cell: Cell,
         gate: &G,
-    ) -> Worked {
+    ) -> Came<WorkEnd> {
+        let mut came = Came::NotEnabled;
         for _ in rt.forever() {
-            match self.step(rt, alloc, process, Call::Work) {
-                Reply::Stepped => {}
-                Reply::Answered(answer) => return Worked::Ended(work_end(answer)),
-                Reply::NotEnabled => {
-                    if let Some(worked) = self.evaluate(rt, alloc, process, cell, gate) {
-                        return worked;
-                    }
-                }
-                _ => unreachable!(),
+            if let Some(end) = self.go_on(rt, alloc, process, cell, gate) {
+                came = end;
+                break;
             }
         }
-        unreachable!()
+        came
     }
 
     // A whole work by a process, with a gate.
@@ -335,12 +376,12 @@ impl<L: Ledger, M: Ledger> LockedSheet<L, M> {
         cell: Cell,
         gate: &G,
     ) -> Worked {
-        match self.happen(rt, alloc, &Event::BeginWork(process, cell)) {
-            Reply::Entered => self.finish_work(rt, alloc, process, cell, gate),
-            Reply::Refused(why) => Worked::Refused(why),
-            Reply::NotEnabled => Worked::NotEnabled,
-            _ => unreachable!(),
-        }
+        worked_by(
+            match self.begin(rt, alloc, &Event::BeginWork(process, cell)) {
+                Some(came) => came,
+                None => self.finish_work(rt, alloc, process, cell, gate),
+            },
+        )
     }
 
     /// Recalculates a cell: a whole work by the pass's process. The evaluation is made while the lock
@@ -352,40 +393,39 @@ impl<L: Ledger, M: Ledger> LockedSheet<L, M> {
         self.work_as(rt, alloc, pass.process, cell, &Open)
     }
 
-    // A whole recovery by a process, from the event that begins it to its last reply.
+    // A whole recovery by a process, from the event that begins it to what it comes to.
     pub(crate) fn recover_as<R: Wait>(
         &self,
         rt: &R,
         alloc: Global,
         process: usize,
         begin: &Event,
-    ) -> Reply
+    ) -> Came<RecoveryEnd>
         requires { begin.now ≡ BeginRecover process }
-        ensures ended { HasEnded Recovery process begin.now result }
-        ensures end { IsEndOf Recovery result }
+        ensures { HasEnded Recovery process begin.now (came_reply recoveries result) }
     {
-        match self.happen(rt, alloc, begin) {
-            Reply::Entered => self.finish_recovery(rt, alloc, process),
-            Reply::Refused(why) => Reply::Refused(why),
-            Reply::NotEnabled => Reply::NotEnabled,
-            _ => unreachable!(),
+        match self.begin(rt, alloc, begin) {
+            Some(came) => came,
+            None => self.finish_recovery(rt, alloc, process),
         }
     }
 
-    // The steps of a recovery, until its last reply.
-    fn finish_recovery<R: Wait>(&self, rt: &R, alloc: Global, process: usize) -> Reply
-        ensures happened { HasStepped Recovery process result }
-        ensures end { IsEndOf Recovery result }
+    // The steps of a recovery, until it ends, or none of it is enabled.
+    fn finish_recovery<R: Wait>(&self, rt: &R, alloc: Global, process: usize) -> Came<RecoveryEnd>
+        ensures { HasStepped Recovery process (came_reply recoveries result) }
     {
+        let mut came = Came::NotEnabled;
         for _ in rt.forever() {
             match self.step(rt, alloc, process, Call::Recovery) {
-                Reply::Stepped => {}
-                Reply::Answered(answer) => return Reply::Answered(answer),
-                Reply::NotEnabled => return Reply::NotEnabled,
-                _ => unreachable!(),
+                Some(Turn::GoesOn) => {}
+                Some(Turn::Answers(end)) => {
+                    came = Came::Ended(end);
+                    break;
+                }
+                None => break,
             }
         }
-        unreachable!()
+        came
     }
 
     /// Recovers the pass's process, stopped or idle. The pass remembers the recovery, with its end, and
@@ -395,8 +435,8 @@ impl<L: Ledger, M: Ledger> LockedSheet<L, M> {
         ensures { pass.new ≡ after_recovery pass.old result }
     {
         let begin = Event::BeginRecover(pass.process);
-        let reply = self.recover_as(rt, alloc, pass.process, &begin);
-        pass.remember(&begin, &reply);
-        recovered_by(reply)
+        let came = self.recover_as(rt, alloc, pass.process, &begin);
+        pass.remember(&begin, &came.reply());
+        recovered_by(came)
     }
 }

@@ -2,24 +2,25 @@
 
 ghost use Rattle.std.specs.Prelude.{◌≡◌, ◌+◌, ◌<◌, ◌≤◌, IfSome, length, vec_capacity};
 ghost use Rattle.ds_layout.specs.Places.{cells_of};
-ghost use Rattle.ds_state.specs.declared.answer.Answer.TheVariants.{Settled};
 ghost use Rattle.ds_core.specs.Takes.{Fits};
 ghost use Rattle.ds_core.specs.Counts.{done_of, settled_of, IsReplyTo};
-ghost use Rattle.ds_core.specs.declared.reply.Reply.TheVariants.{Answered};
-ghost use Rattle.ds_crew.specs.LockedCalls.{CountsNothing, IsNoStep, IsStepOf};
-ghost use Rattle.ds_crew.specs.Kept.{Happened, HasMade, HasSettled, HasStepped, StepsIn, last_after, report_of};
+ghost use Rattle.ds_core.specs.Ends.{edits, reports};
+ghost use Rattle.ds_crew.specs.LockedCalls.{CountsNothing, IsKindOf, IsNoStep, step_reply};
+ghost use Rattle.ds_crew.specs.Kept.{Happened, HasMade, HasSettled, HasStepped, StepsIn, is_settled, last_after, report_of};
 ghost use Rattle.ds_crew.specs.declared.steps.Call.TheVariants.{Edit, Report};
 
 use crate::steps::{Call, step};
+use ds_core::ends::CallEnd;
 use ds_core::event::Event;
 use ds_core::reply::Reply;
 use ds_core::take::take;
 use ds_eval::task::Task;
 use ds_eval::value::Value;
 use ds_layout::mark::State;
-use ds_state::answer::{Answer, EditEnd};
+use ds_state::answer::EditEnd;
 use ds_state::report::ReportEnd;
 use ds_state::shown::mark;
+use ds_state::turn::Turn;
 use ds_state::world::World;
 use ds_work::offer::{TaskFault, task_of};
 use std::alloc::Global;
@@ -76,23 +77,33 @@ impl<L: Ledger, M: Ledger> Kept<L, M> {
         take(alloc, &mut self.world, event)
     }
 
-    // A step of work or of a recovery: it counts nothing.
-    pub(crate) fn step(&mut self, alloc: Global, process: usize, call: Call) -> Reply
-        requires { CountsNothing call }
-        ensures steps { StepsIn call process self.old.world result self.new.world }
-        ensures happened { HasStepped call process result }
-        ensures reply { IsStepOf call result }
+    // A step of work or of a recovery, and what it did to the call; none where the process is in no such call. It
+    // counts nothing.
+    pub(crate) fn step<E: CallEnd>(
+        &mut self,
+        alloc: Global,
+        process: usize,
+        call: Call,
+    ) -> Option<Turn<E>>
+        requires counts { CountsNothing call }
+        requires kind { IsKindOf call E.kind }
+        ensures steps { StepsIn call process self.old.world (step_reply E.kind result) self.new.world }
+        ensures happened { HasStepped call process (step_reply E.kind result) }
     {
         step(alloc, &mut self.world, process, call)
     }
 
-    // A step of an edit: a Done is counted in the share.
-    pub(crate) fn step_edit(&mut self, alloc: Global, process: usize, share: &mut Share<L>) -> Reply
+    // A step of an edit, and what it did to it; none where the process is in none. A Done is counted in the share.
+    pub(crate) fn step_edit(
+        &mut self,
+        alloc: Global,
+        process: usize,
+        share: &mut Share<L>,
+    ) -> Option<Turn<EditEnd>>
         requires { 0 < share.old.parts }
-        ensures steps { StepsIn Edit process self.old.world result self.new.world }
-        ensures happened { HasStepped Edit process result }
-        ensures reply { IsStepOf Edit result }
-        ensures amount { share.new.amount ≡ share.old.amount + done_of result }
+        ensures steps { StepsIn Edit process self.old.world (step_reply edits result) self.new.world }
+        ensures happened { HasStepped Edit process (step_reply edits result) }
+        ensures amount { share.new.amount ≡ share.old.amount + done_of (step_reply edits result) }
         ensures parts { share.new.parts ≡ share.old.parts }
     {
         let Kept {
@@ -100,16 +111,16 @@ impl<L: Ledger, M: Ledger> Kept<L, M> {
             dones,
             settleds: _,
         } = self;
-        let reply = step(alloc, world, process, Call::Edit);
-        if let Reply::Answered(Answer::Edit(EditEnd::Done(_))) = reply {
+        let turn = step(alloc, world, process, Call::Edit);
+        if let Some(Turn::Answers(EditEnd::Done(_))) = turn {
             dones.add(share, 1);
         }
-        reply
+        turn
     }
 
-    // A step of a report: a Settled is counted in the share, and its values are the last ones from
-    // then on. `NotEnabled` also where the last ones have too little room, or the sheet another number
-    // of cells.
+    // A step of a report, and what it did to it; none where the process is in none. A Settled is counted in the share,
+    // and its values are the last ones from then on. None also where the last ones have too little room, or the sheet
+    // another number of cells.
     pub(crate) fn step_report(
         &mut self,
         alloc: Global,
@@ -117,17 +128,16 @@ impl<L: Ledger, M: Ledger> Kept<L, M> {
         cells: usize,
         share: &mut Share<M>,
         last: &mut Vec<Value>,
-    ) -> Reply
+    ) -> Option<Turn<ReportEnd>>
         requires { 0 < share.old.parts }
         ensures steps { cells_of self.old.world.sheet.layout ≡ cells → cells ≤ vec_capacity last.old
-            → StepsIn Report process self.old.world result self.new.world }
-        ensures happened { HasMade Report process result }
-        ensures settled { result ≡ Answered Settled → HasSettled process last.new.items }
-        ensures reply { IsStepOf Report result }
-        ensures amount { share.new.amount ≡ share.old.amount + settled_of result }
+            → StepsIn Report process self.old.world (step_reply reports result) self.new.world }
+        ensures happened { HasMade Report process (step_reply reports result) }
+        ensures settled { step_reply reports result ≡ is_settled → HasSettled process last.new.items }
+        ensures amount { share.new.amount ≡ share.old.amount + settled_of (step_reply reports result) }
         ensures parts { share.new.parts ≡ share.old.parts }
-        ensures last { last.new.items ≡ last_after result (report_of self.new.world.reports process) last.old.items }
-        ensures full { result ≡ Answered Settled → length last.new.items ≡ cells }
+        ensures last { last.new.items ≡ last_after (step_reply reports result) (report_of self.new.world.reports process) last.old.items }
+        ensures full { step_reply reports result ≡ is_settled → length last.new.items ≡ cells }
     {
         let Kept {
             world,
@@ -135,14 +145,14 @@ impl<L: Ledger, M: Ledger> Kept<L, M> {
             settleds,
         } = self;
         if world.words.layout().cells() != cells || last.capacity() < cells {
-            return Reply::NotEnabled;
+            return None;
         }
-        let reply = step(alloc, world, process, Call::Report);
-        if let Reply::Answered(Answer::Report(ReportEnd::Settled)) = reply {
+        let turn = step(alloc, world, process, Call::Report);
+        if let Some(Turn::Answers(ReportEnd::Settled)) = turn {
             settleds.add(share, 1);
             replace(last, world.reports.of(process));
         }
-        reply
+        turn
     }
 
     // The task that a process's work waits for, in memory of its own.

@@ -3,6 +3,7 @@
 
 pub mod audit;
 mod calls;
+mod came;
 mod dealing;
 pub mod ended;
 mod kept;

@@ -12,8 +12,8 @@ use std::alloc::Global;
 use std::sync::Mutex;
 use std::sync::ledger::{Blank, Ledger};
 
-/// A sheet behind a lock. Its world is sound whenever the lock is free, and each event is one
-/// `ds_core::take` on the world while the lock is held. `L` names the count of edits that are answered
+/// A sheet behind a lock. Its world is sound whenever the lock is free, and each event happens to
+/// it as by `ds_core::take`, while the lock is held. `L` names the count of edits that are answered
 /// Done, `M` that of reports that are answered Settled.
 ///
 /// No call of it migrates the sheet. Where a process of the world was in the middle of a migration, it stays there while
@@ -112,10 +112,10 @@ impl<L: Ledger, M: Ledger> LockedSheet<L, M> {
     {
         let kept = self.kept.into_inner();
         let stray = stray_of(&kept.world, &passes);
-        let Some((dones, settleds)) = gather(passes) else {
-            unreachable!()
+        let world = match gather(passes) {
+            Some((dones, settleds)) => kept.closed(dones, settleds),
+            None => kept.world,
         };
-        let world = kept.closed(dones, settleds);
         Closed { world, stray }
     }
 }

@@ -1,17 +1,14 @@
 //! Steps of a process whose call is known.
 
-ghost use Rattle.std.specs.Prelude.{◌≡◌, ◌<◌, ◌+◌, ◌↔◌, IsTrue, Some};
+ghost use Rattle.std.specs.Prelude.{◌≡◌, ◌+◌, ◌↔◌, IsTrue, Some};
 ghost use Rattle.ds_state.specs.Value.{world_of};
-ghost use Rattle.ds_state.specs.declared.answer.Answer.TheVariants.{Settled};
 ghost use Rattle.ds_core.specs.Counts.{done_of, settled_of};
-ghost use Rattle.ds_core.specs.declared.reply.Reply.TheVariants.{Answered};
-ghost use Rattle.ds_crew.specs.LockedCalls.{call_in, IsStepOf};
-ghost use Rattle.ds_crew.specs.Kept.{HasMade, HasReport, HasSettled, HasStepped, StepsIn, report_of};
+ghost use Rattle.ds_crew.specs.LockedCalls.{call_in, step_reply, IsKindOf};
+ghost use Rattle.ds_crew.specs.Kept.{HasMade, HasReport, HasSettled, HasStepped, StepsIn, is_settled, report_of};
 
-use ds_core::event::Event;
-use ds_core::reply::Reply;
-use ds_core::take::take;
+use ds_core::ends::CallEnd;
 use ds_state::situation::Situation;
+use ds_state::turn::Turn;
 use ds_state::world::World;
 use std::alloc::Global;
 
@@ -48,21 +45,28 @@ fn is_in(world: &World, process: usize, call: Call) -> bool
     process < world.situations.len() && call_in(&world.situations[process]) == Some(call)
 }
 
-// The next step of a process's call, where that is this one; else nothing happens, and the reply is
-// `NotEnabled`. So it is for every call, where the process migrates the sheet.
-pub(crate) fn step(alloc: Global, world: &mut World, process: usize, call: Call) -> Reply
-    ensures steps { StepsIn call process world.old result world.new }
-    ensures happened { HasStepped call process result }
-    ensures made { HasMade call process result }
-    ensures settles { result ≡ Answered Settled → HasSettled process (report_of world.new.reports process) }
-    ensures reply { IsStepOf call result }
-    ensures done { world.new.done ≡ world.old.done + done_of result }
-    ensures settled { world.new.settled ≡ world.old.settled + settled_of result }
-    ensures report { result ≡ Answered Settled → HasReport world.old.sheet.layout process world.new.reports }
+// The next step of a process's call, where that is this one, and what it did to the call; else none, and nothing
+// happens. So it is for every call, where the process migrates the sheet.
+pub(crate) fn step<E: CallEnd>(
+    alloc: Global,
+    world: &mut World,
+    process: usize,
+    call: Call,
+) -> Option<Turn<E>>
+    requires { IsKindOf call E.kind }
+    ensures steps { StepsIn call process world.old (step_reply E.kind result) world.new }
+    ensures happened { HasStepped call process (step_reply E.kind result) }
+    ensures made { HasMade call process (step_reply E.kind result) }
+    ensures settles { step_reply E.kind result ≡ is_settled → HasSettled process (report_of world.new.reports process) }
+    ensures done { world.new.done ≡ world.old.done + done_of (step_reply E.kind result) }
+    ensures settled { world.new.settled ≡ world.old.settled + settled_of (step_reply E.kind result) }
+    ensures report { step_reply E.kind result ≡ is_settled → HasReport world.old.sheet.layout process world.new.reports }
 {
     world.is_always_good();
     if !is_in(world, process, call) {
-        return Reply::NotEnabled;
+        return None;
     }
-    take(alloc, world, &Event::Step(process))
+    let turn = E::step(alloc, world, process);
+    world.is_always_good();
+    turn
 }

@@ -46,7 +46,7 @@ fn round<L: Ledger, M: Ledger, G: Gate, R: Wait>(
         let worked = sheet.work_as(rt, alloc, process, shape.cell(index), gate);
         if worked == Worked::Refused(Refusal::Stopped) {
             let begin = Event::BeginRecover(process);
-            let _reply = sheet.recover_as(rt, alloc, process, &begin);
+            let _came = sheet.recover_as(rt, alloc, process, &begin);
         }
     }
 }
