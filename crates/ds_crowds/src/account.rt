@@ -5,9 +5,8 @@ use ds_layout::place::RECORDS;
 use ds_shared::ended::Ended;
 use ds_state::answer::{Answer, EditEnd};
 use ds_state::recovery::{RecoveryEnd, Told};
-use ds_state::report::ReportEnd;
-use ds_state::work::WorkEnd;
 use ds_state::refusal::Refusal;
+use ds_state::work::WorkEnd;
 use std::alloc::Global;
 
 /// What became of an edit, as far as its process was told.
@@ -42,7 +41,7 @@ pub struct Surprise {
     /// The number that its next edit was to have.
     pub next: usize,
     /// How it ended.
-    pub ended: Ended,
+    pub ended: Ended<Answer>,
 }
 
 /// What a process was told: its edits, in the order of their numbers. At most the last one is in doubt.
@@ -97,7 +96,7 @@ impl Account {
     }
 
     /// A call has ended so.
-    pub fn note(&mut self, call: Call, ended: Ended) {
+    pub fn note(&mut self, call: Call, ended: Ended<Answer>) {
         let next = self.next();
         if !self.fits(call, ended) && self.surprise.is_none() {
             self.surprise = Some(Surprise { call, next, ended });
@@ -110,17 +109,17 @@ impl Account {
     }
 
     // Takes the end of the call in, and says whether it fits.
-    fn fits(&mut self, call: Call, ended: Ended) -> bool {
+    fn fits(&mut self, call: Call, ended: Ended<Answer>) -> bool {
         match call {
             Call::Recover => self.recovered(ended),
             _ if self.is_stopped => ended == Ended::Refused(Refusal::Stopped),
             Call::Edit { cell, text } => self.edited(cell, text, ended),
             Call::Work(_) => is_of_work(ended),
-            Call::Show => is_of_report(ended),
+            Call::Report => is_of_report(ended),
         }
     }
 
-    fn edited(&mut self, cell: usize, text: &'static str, ended: Ended) -> bool {
+    fn edited(&mut self, cell: usize, text: &'static str, ended: Ended<Answer>) -> bool {
         let next = self.next();
         let (number, fate) = match ended {
             Ended::Answered(Answer::Edit(EditEnd::Done(number))) => (number, Fate::Counts),
@@ -139,7 +138,7 @@ impl Account {
         number == next && next < RECORDS && self.edits.push(edit).is_ok()
     }
 
-    fn recovered(&mut self, ended: Ended) -> bool {
+    fn recovered(&mut self, ended: Ended<Answer>) -> bool {
         match ended {
             Ended::Answered(Answer::Recovery(RecoveryEnd::Nothing)) => {
                 self.forget();
@@ -186,9 +185,9 @@ impl Account {
 }
 
 // Whether a work of a process that runs ends so.
-fn is_of_work(ended: Ended) -> bool {
+fn is_of_work(ended: Ended<Answer>) -> bool {
     match ended {
-        Ended::Answered(Answer::Work(WorkEnd::NotDirty) | Answer::Work(WorkEnd::Missed) | Answer::Work(WorkEnd::Again)) => true,
+        Ended::Answered(Answer::Work(WorkEnd::NotDirty | WorkEnd::Missed | WorkEnd::Again)) => true,
         Ended::Answered(Answer::Work(WorkEnd::Published(_))) => true,
         Ended::Stopped => true,
         _ => false,
@@ -196,10 +195,9 @@ fn is_of_work(ended: Ended) -> bool {
 }
 
 // Whether a report of a process that runs ends so.
-fn is_of_report(ended: Ended) -> bool {
+fn is_of_report(ended: Ended<Answer>) -> bool {
     match ended {
-        Ended::Answered(Answer::Report(ReportEnd::Settled) | Answer::Report(ReportEnd::Unsettled(_, _))) => true,
-        Ended::Stopped => true,
+        Ended::Answered(Answer::Report(_)) | Ended::Stopped => true,
         _ => false,
     }
 }

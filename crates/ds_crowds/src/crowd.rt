@@ -4,7 +4,7 @@ ghost use Rattle.std.specs.Prelude.{◌≡◌, All, IfSome};
 ghost use Rattle.std.specs.Mem.Slots.{slots_items};
 ghost use Rattle.ds_drives.specs.Rule.{AreTrue, AtRest, Behind};
 ghost use Rattle.ds_shared.specs.Answers.{IsOf, IsPastOf};
-ghost use Rattle.ds_shared.specs.Known.{past_in};
+ghost use Rattle.ds_drives.specs.Views.{past_of};
 
 use crate::draw::{Call, Limit};
 use crate::gate::Gate;
@@ -16,6 +16,7 @@ use ds_layout::layout::Layout;
 use ds_shared::ended::Ended;
 use ds_shared::pass::{Pass, Past};
 use ds_shared::sheet::{ClosedSheet, SharedSheet};
+use ds_state::answer::Answer;
 use std::alloc::Global;
 use std::thread::{Threads, join};
 
@@ -197,7 +198,7 @@ fn four<R: Threads + Sync>(
 fn ended(sheet: SharedSheet, past: Past, passes: Vec<Pass, Global>) -> ClosedSheet
     requires past { IsPastOf sheet past }
     requires fit { All (λ p. IsOf sheet p) passes.items }
-    ensures { (b : Behind) × AtRest result.layout (slots_items result.table.words) b × AreTrue result.layout (slots_items result.table.words) b (past_in result.before) }
+    ensures { (b : Behind) × AtRest result.layout (slots_items result.table.words) b × AreTrue result.layout (slots_items result.table.words) b (past_of result.before) }
 {
     sheet.close(past, passes)
 }
@@ -206,7 +207,9 @@ impl Crowd {
     /// Four processes on a new sheet of two columns and two rows. `None` for want of memory.
     pub fn new(alloc: Global, seed: u64) -> Option<Crowd> {
         let layout = Layout::new(Shape::new(2, 2)?, PROCESSES)?;
-        let (sheet, past, passes) = SharedSheet::make(alloc, layout).ok()?;
+        let Ok((sheet, past, passes)) = SharedSheet::make(alloc, layout) else {
+            return None;
+        };
         let members = seated(&sheet, passes, Hands::new(alloc, seed))?;
         Some(Crowd {
             sheet,
@@ -248,7 +251,7 @@ impl Crowd {
         process: usize,
         asked: Call,
         mut limit: Limit,
-    ) -> (Option<Ended>, Option<Vec<Value>>) {
+    ) -> (Option<Ended<Answer>>, Option<Vec<Value>>) {
         let sheet = &self.sheet;
         let members = &mut self.members;
         match process {
@@ -309,7 +312,7 @@ impl Crowd {
 
     /// The sheet is closed. `None` for want of memory.
     pub fn close(self, alloc: Global) -> Option<(ClosedSheet, Hands)>
-        ensures { IfSome result (λ r. (b : Behind) × AtRest r.0.layout (slots_items r.0.table.words) b × AreTrue r.0.layout (slots_items r.0.table.words) b (past_in r.0.before)) }
+        ensures { IfSome result (λ r. (b : Behind) × AtRest r.0.layout (slots_items r.0.table.words) b × AreTrue r.0.layout (slots_items r.0.table.words) b (past_of r.0.before)) }
     {
         let Crowd {
             sheet,
@@ -340,7 +343,7 @@ impl Crowd {
 
 /// A closed sheet is opened again. `None` for want of memory.
 pub fn reopened(alloc: Global, closed: ClosedSheet, hands: Hands) -> Option<Crowd>
-    requires { (b : Behind) × AtRest closed.layout (slots_items closed.table.words) b × AreTrue closed.layout (slots_items closed.table.words) b (past_in closed.before) }
+    requires { (b : Behind) × AtRest closed.layout (slots_items closed.table.words) b × AreTrue closed.layout (slots_items closed.table.words) b (past_of closed.before) }
 {
     match closed.reopen(alloc) {
         Ok((sheet, past, passes)) => {

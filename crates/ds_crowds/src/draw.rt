@@ -23,7 +23,7 @@ pub enum Call {
     /// A recovery.
     Recover,
     /// A report.
-    Show,
+    Report,
 }
 
 /// What stops a call: it says yes so often, and counts how often it did.
@@ -97,7 +97,7 @@ impl Draw {
             }
             7 => Call::Edit { cell, text: FAULTY },
             8..=15 => Call::Work(cell),
-            16..=18 => Call::Show,
+            16..=18 => Call::Report,
             _ => Call::Recover,
         }
     }

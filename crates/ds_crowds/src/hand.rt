@@ -6,14 +6,16 @@ ghost use Rattle.ds_shared.specs.Answers.{IsOf};
 use crate::account::Account;
 use crate::draw::{Call, Draw, Limit};
 use crate::grid::{Values, cell_of};
+use ds_core::ends::CallEnd;
 use ds_drives::fuse::Whole;
 use ds_eval::value::Value;
 use ds_formula::cells::Cell;
 use ds_shared::ended::Ended;
 use ds_shared::pass::Pass;
 use ds_shared::sheet::SharedSheet;
-use ds_state::answer::Answer;
+use ds_state::answer::{Answer, EditEnd};
 use ds_state::report::ReportEnd;
+use ds_state::work::WorkEnd;
 use std::alloc::Global;
 
 /// What a process draws, and what it was told.
@@ -60,6 +62,15 @@ impl Hand {
     }
 }
 
+// An end of a call of one kind, among those of calls of any kind.
+fn among_all<E: CallEnd>(ended: Ended<E>) -> Ended<Answer> {
+    match ended {
+        Ended::Answered(end) => Ended::Answered(end.answer()),
+        Ended::Refused(refusal) => Ended::Refused(refusal),
+        Ended::Stopped => Ended::Stopped,
+    }
+}
+
 // An edit of the cell with this number, under a limit.
 fn edit(
     alloc: Global,
@@ -68,7 +79,7 @@ fn edit(
     cell: usize,
     text: &str,
     limit: &mut Limit,
-) -> Option<Ended>
+) -> Option<Ended<EditEnd>>
     requires { IsOf sheet.now pass.old }
     ensures { IsOf sheet.now pass.new }
 {
@@ -83,7 +94,7 @@ fn work(
     pass: &mut Pass,
     cell: usize,
     limit: &mut Limit,
-) -> Option<Ended>
+) -> Option<Ended<WorkEnd>>
     requires { IsOf sheet.now pass.old }
     ensures { IsOf sheet.now pass.new }
 {
@@ -99,17 +110,20 @@ pub fn call(
     pass: &mut Pass,
     call: Call,
     limit: &mut Limit,
-) -> (Option<Ended>, Option<Vec<Value>>)
+) -> (Option<Ended<Answer>>, Option<Vec<Value>>)
     requires { IsOf sheet.now pass.old }
     ensures { IsOf sheet.now pass.new }
 {
     match call {
-        Call::Edit { cell, text } => (edit(alloc, sheet, pass, cell, text, limit), None),
-        Call::Work(cell) => (work(alloc, sheet, pass, cell, limit), None),
-        Call::Recover => (Some(sheet.recover(alloc, pass, limit)), None),
-        Call::Show => {
+        Call::Edit { cell, text } => (
+            edit(alloc, sheet, pass, cell, text, limit).map(among_all),
+            None,
+        ),
+        Call::Work(cell) => (work(alloc, sheet, pass, cell, limit).map(among_all), None),
+        Call::Recover => (Some(among_all(sheet.recover(alloc, pass, limit))), None),
+        Call::Report => {
             let (ended, values) = sheet.report(alloc, pass, limit);
-            (Some(ended), values)
+            (Some(among_all(ended)), values)
         }
     }
 }
@@ -178,7 +192,7 @@ pub fn settle(alloc: Global, sheet: &SharedSheet, member: &mut Member) -> Option
         }
     }
     match sheet.report(alloc, &mut member.pass, &mut Whole) {
-        (Ended::Answered(Answer::Report(ReportEnd::Settled)), values) => values,
+        (Ended::Answered(ReportEnd::Settled), values) => values,
         _ => None,
     }
 }

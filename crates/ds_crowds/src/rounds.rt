@@ -3,7 +3,7 @@
 ghost use Rattle.std.specs.Prelude.{◌≡◌, IfOk};
 ghost use Rattle.std.specs.Mem.Slots.{slots_items};
 ghost use Rattle.ds_drives.specs.Rule.{AreTrue, AtRest, Behind};
-ghost use Rattle.ds_shared.specs.Known.{past_in};
+ghost use Rattle.ds_drives.specs.Views.{past_of};
 
 use crate::crowd::{Crowd, Game, reopened};
 use crate::draw::Draw;
@@ -27,8 +27,8 @@ const STEPS: u64 = 3_200;
 
 /// A crash in front of which the words with these numbers were evicted; none where they are not all words.
 pub fn crash(closed: &mut ClosedSheet, sides: &[bool])
-    requires { (b : Behind) × AtRest closed.old.layout (slots_items closed.old.table.words) b × AreTrue closed.old.layout (slots_items closed.old.table.words) b (past_in closed.old.before) }
-    ensures { (b : Behind) × AtRest closed.new.layout (slots_items closed.new.table.words) b × AreTrue closed.new.layout (slots_items closed.new.table.words) b (past_in closed.new.before) }
+    requires { (b : Behind) × AtRest closed.old.layout (slots_items closed.old.table.words) b × AreTrue closed.old.layout (slots_items closed.old.table.words) b (past_of closed.old.before) }
+    ensures { (b : Behind) × AtRest closed.new.layout (slots_items closed.new.table.words) b × AreTrue closed.new.layout (slots_items closed.new.table.words) b (past_of closed.new.before) }
 {
     if sides.len() == closed.layout().words() {
         closed.crash_with(sides);

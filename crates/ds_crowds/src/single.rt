@@ -11,10 +11,11 @@ use ds_formula::cells::Shape;
 use ds_layout::layout::Layout;
 use ds_layout::place::Place;
 use ds_shared::ended::Ended;
-use ds_state::situation::Situation;
-use ds_state::stage::Stage;
+use ds_state::answer::Answer;
 use ds_state::recovery::RecoverStage;
 use ds_state::report::ReportStage;
+use ds_state::situation::Situation;
+use ds_state::stage::Stage;
 use ds_state::work::WorkStage;
 use ds_state::world::World;
 use ds_words::words::Word;
@@ -96,7 +97,7 @@ impl Single {
             })),
             Call::Work(cell) => Some(Event::BeginWork(process, cell_of(shape, cell)?)),
             Call::Recover => Some(Event::BeginRecover(process)),
-            Call::Show => Some(Event::BeginReport(process)),
+            Call::Report => Some(Event::BeginReport(process)),
         }
     }
 
@@ -106,7 +107,7 @@ impl Single {
         alloc: Global,
         process: usize,
         limit: &mut Limit,
-    ) -> Result<Option<Ended>, ()> {
+    ) -> Result<Option<Ended<Answer>>, ()> {
         let event = match next_of(&self.world, process) {
             Due::Word if limit.is_over() => Event::Stop(process),
             Due::Word | Due::Thought => Event::Step(process),
@@ -124,7 +125,7 @@ impl Single {
     }
 
     // A call that has begun, to its end.
-    fn drive(&mut self, alloc: Global, process: usize, mut limit: Limit) -> Option<Ended> {
+    fn drive(&mut self, alloc: Global, process: usize, mut limit: Limit) -> Option<Ended<Answer>> {
         for _ in 0..STEPS {
             match self.go_on(alloc, process, &mut limit) {
                 Ok(None) => {}
@@ -142,7 +143,7 @@ impl Single {
         process: usize,
         call: Call,
         limit: Limit,
-    ) -> Option<Ended> {
+    ) -> Option<Ended<Answer>> {
         let event = self.begin(alloc, process, call)?;
         match take(alloc, &mut self.world, &event) {
             Reply::Begun(_) | Reply::Entered => self.drive(alloc, process, limit),

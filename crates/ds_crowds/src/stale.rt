@@ -11,7 +11,7 @@ use ds_layout::layout::Layout;
 use ds_shared::ended::Ended;
 use ds_shared::pass::Pass;
 use ds_shared::sheet::SharedSheet;
-use ds_state::answer::{Answer, EditEnd};
+use ds_state::answer::EditEnd;
 use ds_state::work::WorkEnd;
 use std::alloc::Global;
 use std::test::Fail;
@@ -26,7 +26,7 @@ struct Meddler<'a> {
     text: &'static str,
     before: u64,
     asked: u64,
-    edited: Option<Ended>,
+    edited: Option<Ended<EditEnd>>,
     ghost pass_fits: { IsOf sheet.now pass },
     ghost inside: { IsInside sheet.now.board.layout.shape cell },
 }
@@ -64,9 +64,9 @@ fn two(sheet: &SharedSheet, mut passes: Vec<Pass, Global>) -> Option<(Pass, Pass
 #[derive(Clone, Copy, Debug, PartialEq, Eq)]
 struct Outcome {
     /// How the edit that came between ended; none where the work was over.
-    edited: Option<Ended>,
+    edited: Option<Ended<EditEnd>>,
     /// How the work ended.
-    worked: Ended,
+    worked: Ended<WorkEnd>,
     /// The cell's value in a report then, where that is settled.
     first: Option<Value>,
     /// Its value in a report behind one more work.
@@ -126,13 +126,13 @@ const CLEARS: u64 = 16;
 fn wanted(before: u64) -> Outcome {
     let meets = before < STEPS;
     let (worked, settles) = match before {
-        0 | 1 => (Answer::Work(WorkEnd::Published(true)), true),
-        2..=CLEARS => (Answer::Work(WorkEnd::Again), false),
-        _ => (Answer::Work(WorkEnd::Published(true)), !meets),
+        0 | 1 => (WorkEnd::Published(true), true),
+        2..=CLEARS => (WorkEnd::Again, false),
+        _ => (WorkEnd::Published(true), !meets),
     };
     Outcome {
         edited: if meets {
-            Some(Ended::Answered(Answer::Edit(EditEnd::Done(0))))
+            Some(Ended::Answered(EditEnd::Done(0)))
         } else {
             None
         },

@@ -3,7 +3,7 @@
 ghost use Rattle.std.specs.Prelude.{◌≡◌};
 ghost use Rattle.std.specs.Mem.Slots.{slots_items};
 ghost use Rattle.ds_drives.specs.Rule.{AreTrue, AtRest, Behind};
-ghost use Rattle.ds_shared.specs.Known.{past_in};
+ghost use Rattle.ds_drives.specs.Views.{past_of};
 
 use crate::crowd::{Crowd, reopened};
 use crate::draw::{Call, Draw};
@@ -12,6 +12,7 @@ use crate::single::Single;
 use ds_layout::place::Place;
 use ds_shared::ended::Ended;
 use ds_shared::sheet::ClosedSheet;
+use ds_state::answer::Answer;
 use ds_state::shown::SheetReader;
 use ds_words::words::Word;
 use std::alloc::Global;
@@ -35,8 +36,8 @@ enum Difference {
     Call {
         process: usize,
         call: Call,
-        single: Option<Ended>,
-        shared: Option<Ended>,
+        single: Option<Ended<Answer>>,
+        shared: Option<Ended<Answer>>,
     },
     /// The values of a process's settled report are other ones.
     Values(usize),
@@ -102,8 +103,8 @@ fn crash_both(
     closed: &mut ClosedSheet,
     draw: &mut Draw,
 ) -> Result<(), Difference>
-    requires { (b : Behind) × AtRest closed.old.layout (slots_items closed.old.table.words) b × AreTrue closed.old.layout (slots_items closed.old.table.words) b (past_in closed.old.before) }
-    ensures { (b : Behind) × AtRest closed.new.layout (slots_items closed.new.table.words) b × AreTrue closed.new.layout (slots_items closed.new.table.words) b (past_in closed.new.before) }
+    requires { (b : Behind) × AtRest closed.old.layout (slots_items closed.old.table.words) b × AreTrue closed.old.layout (slots_items closed.old.table.words) b (past_of closed.old.before) }
+    ensures { (b : Behind) × AtRest closed.new.layout (slots_items closed.new.table.words) b × AreTrue closed.new.layout (slots_items closed.new.table.words) b (past_of closed.new.before) }
 {
     single.stop(alloc);
     compare(single, closed)?;

@@ -13,7 +13,7 @@ use ds_layout::layout::Layout;
 use ds_shared::ended::Ended;
 use ds_shared::pass::Pass;
 use ds_shared::sheet::SharedSheet;
-use ds_state::answer::{Answer, EditEnd};
+use ds_state::answer::EditEnd;
 use ds_state::report::ReportEnd;
 use ds_state::work::WorkEnd;
 use std::alloc::{AllocError, Global};
@@ -45,7 +45,7 @@ impl Seat {
             return false;
         }
         match sheet.edit(alloc, &mut self.pass, cell, text.as_bytes(), &mut Whole) {
-            Ended::Answered(Answer::Edit(EditEnd::Done(_))) => true,
+            Ended::Answered(EditEnd::Done(_)) => true,
             _ => false,
         }
     }
@@ -58,7 +58,7 @@ impl Seat {
             return false;
         }
         match sheet.work(alloc, &mut self.pass, cell, &mut Whole) {
-            Ended::Answered(Answer::Work(WorkEnd::Published(_))) => true,
+            Ended::Answered(WorkEnd::Published(_)) => true,
             _ => false,
         }
     }
@@ -66,7 +66,7 @@ impl Seat {
     // A report: whether it is Settled.
     fn report(&mut self, alloc: Global) -> bool {
         let (ended, _values) = self.sheet.report(alloc, &mut self.pass, &mut Whole);
-        ended == Ended::Answered(Answer::Report(ReportEnd::Settled))
+        ended == Ended::Answered(ReportEnd::Settled)
     }
 
     // The call with this number of a task.
