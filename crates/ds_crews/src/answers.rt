@@ -31,7 +31,7 @@ const STEPS: usize = 65536;
 enum Ask {
     Edit(Cell, &'static str),
     Work(Cell),
-    Show,
+    Report,
     Recover,
 }
 
@@ -66,7 +66,7 @@ fn answer_to<L: Ledger, M: Ledger, R: Wait>(
             Err(_) => Seen::NoMemory,
         },
         Ask::Work(cell) => Seen::Worked(sheet.work(rt, alloc, pass, cell)),
-        Ask::Show => Seen::Shown(sheet.report(rt, alloc, pass)),
+        Ask::Report => Seen::Shown(sheet.report(rt, alloc, pass)),
         Ask::Recover => Seen::Recovered(sheet.recover(rt, alloc, pass)),
     }
 }
@@ -83,7 +83,7 @@ const ROWS: [Row; 10] = [
     (0, Ask::Edit(A1, "=1+2"), Seen::Done(0)),
     (
         0,
-        Ask::Show,
+        Ask::Report,
         Seen::Shown(Shown::Unsettled(Place::Mark(0), 1)),
     ),
     (
@@ -96,7 +96,7 @@ const ROWS: [Row; 10] = [
         Ask::Work(A1),
         Seen::Worked(Worked::Ended(WorkEnd::NotDirty)),
     ),
-    (0, Ask::Show, Seen::Shown(Shown::Settled)),
+    (0, Ask::Report, Seen::Shown(Shown::Settled)),
     (
         0,
         Ask::Edit(A1, "=1.5"),
@@ -132,7 +132,7 @@ const MIGRATING: [Row; 6] = [
         Ask::Work(A1),
         Seen::Worked(Worked::Refused(Refusal::Busy)),
     ),
-    (0, Ask::Show, Seen::Shown(Shown::Refused(Refusal::Busy))),
+    (0, Ask::Report, Seen::Shown(Shown::Refused(Refusal::Busy))),
     (
         0,
         Ask::Recover,

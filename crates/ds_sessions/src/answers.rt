@@ -1,6 +1,6 @@
 use ds_formula::cells::Shape;
 use ds_layout::place::Place;
-use ds_server::answer::{Reply, reply_line};
+use ds_server::answer::{Response, response_line};
 use ds_server::board::CallRefusal;
 use ds_server::request::LineFault;
 use ds_state::answer::Other;
@@ -8,11 +8,11 @@ use std::alloc::AllocError;
 use std::process::Abort;
 
 // What is said to a line, and the line that says so, for what no session over a sheet of its own is answered.
-fn expect_line(rt: &(impl Abort + AllocGlobal), reply: &Reply, expected: &str) {
+fn expect_line(rt: &(impl Abort + AllocGlobal), response: &Response, expected: &str) {
     let Some(shape) = Shape::new(2, 2) else {
         return;
     };
-    match reply_line(rt.alloc(), &shape, reply) {
+    match response_line(rt.alloc(), &shape, response) {
         Ok(line) => assert!(rt; line.as_slice() == expected.as_bytes(), "{expected}"),
         Err(AllocError) => assert!(rt; false, "{expected}"),
     }
@@ -26,7 +26,7 @@ fn overtaken(rt: HostRuntime) {
     };
     expect_line(
         &rt,
-        &Reply::Overtaken(3, by),
+        &Response::Overtaken(3, by),
         "{\"by\":{\"number\":0,\"process\":1},\"number\":3,\"ok\":\"overtaken\"}\n",
     );
 }
@@ -35,7 +35,7 @@ fn overtaken(rt: HostRuntime) {
 fn unsettled(rt: HostRuntime) {
     expect_line(
         &rt,
-        &Reply::Unsettled(Place::Mark(3), 1),
+        &Response::Unsettled(Place::Mark(3), 1),
         "{\"ok\":\"unsettled\",\"place\":\"mark B2\",\"word\":1}\n",
     );
 }
@@ -63,7 +63,7 @@ const REFUSALS: [(CallRefusal, &str); 4] = [
 #[test]
 fn refusals(rt: HostRuntime) {
     for (refusal, expected) in REFUSALS {
-        expect_line(&rt, &Reply::Refused(refusal), expected);
+        expect_line(&rt, &Response::Refused(refusal), expected);
     }
 }
 
@@ -71,7 +71,7 @@ fn refusals(rt: HostRuntime) {
 fn no_memory_for_a_line(rt: HostRuntime) {
     expect_line(
         &rt,
-        &Reply::Faulted(LineFault::NoMemory),
+        &Response::Faulted(LineFault::NoMemory),
         "{\"code\":15,\"error\":\"no-memory\"}\n",
     );
 }
