@@ -7,6 +7,8 @@ use Rattle.std.specs.Arc.{arc_value}
 use Rattle.ds_formula.specs.declared.cells.Cell.{Cell}
 use Rattle.ds_formula.specs.Cells.{IsInside}
 use Rattle.ds_eval.specs.declared.value.Value.{Value}
+use Rattle.ds_state.specs.declared.report.ReportEnd.{ReportEnd}
+use Rattle.ds_state.specs.declared.work.WorkEnd.{WorkEnd}
 use Rattle.ds_shared.specs.declared.ended.Ended.{Ended}
 use Rattle.ds_shared.specs.declared.sheet.SharedSheet.{SharedSheet}
 use Rattle.ds_seats.specs.Calls.{Reports, Works, last_of}
@@ -20,7 +22,7 @@ use Rattle.ds_server.specs.Replies.{Said, Refused, report_view}
 use Rattle.ds_serve.specs.SharedDesks.{HasReported, HasWorked, STEPS_MOST, goes_on, report_said, rests, sheet_of}
 
 -- one work more, or none
-pub one_more : (s : SharedSheet) (first seat new : Seat) (cell : Cell) (r : Result Ended Fault) → HasWorked s first seat → IsSeatOf s seat
+pub one_more : (s : SharedSheet) (first seat new : Seat) (cell : Cell) (r : Result (Ended WorkEnd) Fault) → HasWorked s first seat → IsSeatOf s seat
     → IfOk r (λ how. IsInside (sheet_of seat).board.layout.shape cell × Works (sheet_of seat) cell STEPS_MOST seat.pass new.pass how)
     → IfErr r (λ why. LacksCell (sheet_of seat) cell why × (new ≡ seat)) → IsSeatOf (sheet_of seat) new × (new.last ≡ seat.last) → HasWorked s first new
 one_more s first seat new cell (Ok how) before of made err same =
@@ -62,7 +64,7 @@ refused_is (Err why) P h = (why, refl)
 -- a report leaves the process of a seat
 pub reported_process : (seat new : Seat) (what : Said) → HasReported seat what (Some new) → new.pass.process ≡ seat.pass.process
 reported_process seat new what h = let is : Some new ≡ Some h.after = h.new_is in let same : new ≡ h.after = cc in ap (λ (s : Seat). s.pass.process) same ∙ (go h.reports ∙ same_process (sheet_of seat) seat h.worked h.works) where
-  go : ((how : Ended) × (values : Option (Vec Value Global)) × Reports (sheet_of seat) STEPS_MOST h.worked.pass h.after.pass how values × (what ≡ report_said how (last_of h.worked.last values).items)) ⊎ ((h.after ≡ h.worked) × ((why : CallRefusal) × (what ≡ Refused why)))
+  go : ((how : Ended ReportEnd) × (values : Option (Vec Value Global)) × Reports (sheet_of seat) STEPS_MOST h.worked.pass h.after.pass how values × (what ≡ report_said how (last_of h.worked.last values).items)) ⊎ ((h.after ≡ h.worked) × ((why : CallRefusal) × (what ≡ Refused why)))
       → h.after.pass.process ≡ h.worked.pass.process
   go (inl k) = k.2.goes.process
   go (inr k) = ap (λ (s : Seat). s.pass.process) k.0
