@@ -14,9 +14,9 @@ use ds_shared::ended::Ended;
 use ds_state::answer::{Answer, EditEnd};
 use ds_state::migration::MigrateEnd;
 use ds_state::recovery::RecoveryEnd;
+use ds_state::refusal::Refusal;
 use ds_state::report::ReportEnd;
 use ds_state::work::WorkEnd;
-use ds_state::refusal::Refusal;
 
 /// What was replied to an event, or answered by a call. `kind` says which; fields that it does not use are 0.
 #[repr(C)]

@@ -148,7 +148,11 @@ pub fn whole_report(alloc: Global, world: &mut World, process: usize) -> Result<
 
 /// A whole recovery of a process of the sheet, stopped or idle. Where its begin is refused, the world
 /// is as it was.
-pub fn whole_recovery(alloc: Global, world: &mut World, process: usize) -> Result<RecoveryEnd, Refusal>
+pub fn whole_recovery(
+    alloc: Global,
+    world: &mut World,
+    process: usize,
+) -> Result<RecoveryEnd, Refusal>
     requires { HasProcess world.old process }
     ensures { IsWhole Recovery process (BeginRecover process) world.old result world.new }
 {
@@ -159,7 +163,11 @@ pub fn whole_recovery(alloc: Global, world: &mut World, process: usize) -> Resul
 /// A whole migration of the sheet to the second layout, by a process of it; all are stopped. It is answered `Migrated`,
 /// or `Already` where the sheet has come to that layout before; behind either the process is stopped, and recovers
 /// next. Where its begin is refused, the world is as it was.
-pub fn whole_migration(alloc: Global, world: &mut World, process: usize) -> Result<MigrateEnd, Refusal>
+pub fn whole_migration(
+    alloc: Global,
+    world: &mut World,
+    process: usize,
+) -> Result<MigrateEnd, Refusal>
     requires { HasProcess world.old process }
     ensures { IsWholeMigration process (BeginMigrate process) world.old result world.new }
 {

@@ -11,8 +11,8 @@ ghost use Rattle.ds_calls.specs.Settling.{ends, round, first_turn, goes_behind, 
 
 use crate::call::whole_work;
 use crate::marked::{cells, left, next_marked};
-use ds_state::work::WorkEnd;
 use ds_state::refusal::Refusal;
+use ds_state::work::WorkEnd;
 use ds_state::world::World;
 use std::alloc::Global;
 
@@ -90,7 +90,12 @@ fn goes_behind(world: &World, rounds: usize, cell: usize) -> SettleStage
 
 /// What a settle does, with so many rounds left behind this one, once its work on the cell has ended
 /// so: it ends where the begin was refused or memory was wanting, else it goes on behind the cell.
-pub fn worked(world: &World, rounds: usize, cell: usize, answered: Result<WorkEnd, Refusal>) -> SettleStage
+pub fn worked(
+    world: &World,
+    rounds: usize,
+    cell: usize,
+    answered: Result<WorkEnd, Refusal>,
+) -> SettleStage
     requires { cell < cells_of world.now.sheet.layout }
     ensures value { result ≡ worked world.now rounds cell answered }
     ensures fewer { works_left (cells_of world.now.sheet.layout) result < works_left (cells_of world.now.sheet.layout) (Works rounds cell) }
@@ -104,7 +109,12 @@ pub fn worked(world: &World, rounds: usize, cell: usize, answered: Result<WorkEn
 }
 
 // A whole work on the cell with this number.
-fn work_on(alloc: Global, world: &mut World, process: usize, cell: usize) -> Result<WorkEnd, Refusal>
+fn work_on(
+    alloc: Global,
+    world: &mut World,
+    process: usize,
+    cell: usize,
+) -> Result<WorkEnd, Refusal>
     requires process { HasProcess world.old process }
     requires cell { cell < cells_of world.old.sheet.layout }
     ensures { IsWhole Work process (BeginWork process (cell_at world.old.sheet.layout.shape cell)) world.old result world.new }

@@ -105,7 +105,10 @@ const VALUE_NOT_PERSISTED: [Row; 15] = [
     Row::Word(Place::Value(0), 5, 0),
     Row::Event(Action::Stop(1), Reply::Stopped),
     Row::Call(Action::Recover(1), Answer::Recovery(RecoveryEnd::Nothing)),
-    Row::Call(Action::Edit(0, B1, "=[.A1]"), Answer::Edit(EditEnd::Done(1))),
+    Row::Call(
+        Action::Edit(0, B1, "=[.A1]"),
+        Answer::Edit(EditEnd::Done(1)),
+    ),
     Row::Call(Action::Work(0, B1), Answer::Work(WorkEnd::Published(true))),
     Row::Event(Action::Crash, Reply::Crashed),
     Row::Call(
@@ -166,7 +169,10 @@ const SEEN_AND_LOST: [Row; 10] = [
     Row::Value(A1, Value::Number(1)),
     Row::Event(Action::Crash, Reply::Crashed),
     Row::Call(Action::Recover(1), COUNTS),
-    Row::Call(Action::Show(1), Answer::Report(ReportEnd::Unsettled(Place::Announce(0), 5))),
+    Row::Call(
+        Action::Show(1),
+        Answer::Report(ReportEnd::Unsettled(Place::Announce(0), 5)),
+    ),
     Row::Call(Action::Recover(0), COUNTS_NOT),
     Row::Settled(0, [Value::Number(9), BLANK, BLANK, BLANK]),
 ];

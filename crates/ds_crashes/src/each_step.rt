@@ -71,7 +71,10 @@ fn of_an_edit_with_a_reference(rt: HostRuntime) -> Result<(), Fail> {
 
 // A cell is marked that another one refers to, and process 1 begins to work on it.
 const WORK: [Row; 5] = [
-    Row::Call(Action::Edit(0, B1, "=[.A1]+1"), Answer::Edit(EditEnd::Done(0))),
+    Row::Call(
+        Action::Edit(0, B1, "=[.A1]+1"),
+        Answer::Edit(EditEnd::Done(0)),
+    ),
     Row::Call(Action::Edit(0, A1, "5"), Answer::Edit(EditEnd::Done(1))),
     Row::Settle(0),
     Row::Call(Action::Edit(0, A1, "6"), Answer::Edit(EditEnd::Done(2))),

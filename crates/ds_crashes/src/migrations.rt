@@ -287,7 +287,10 @@ const LOST: [Row; 5] = [
 const TAKES_NO_LONGER: [Row; 12] = [
     Row::Still(Action::Edit(0, B1, LONGER), TOO_LONG),
     Row::Call(Action::Edit(0, A1, "22"), Answer::Edit(EditEnd::Done(1))),
-    Row::Call(Action::Edit(1, B2, "=[.A1]"), Answer::Edit(EditEnd::Done(1))),
+    Row::Call(
+        Action::Edit(1, B2, "=[.A1]"),
+        Answer::Edit(EditEnd::Done(1)),
+    ),
     CRASH,
     Row::Event(Action::Migrate(0), Reply::Entered),
     Row::Steps(0, OF_TWO, MIGRATED),

@@ -24,12 +24,12 @@ use Rattle.ds_core.specs.declared.event.Event.TheVariants.{Step}
 use Rattle.ds_core.specs.declared.reply.Reply.{Reply}
 use Rattle.ds_core.proofs.Counts.{adds}
 use Rattle.ds_crew.specs.LockedCalls.{IsKindOf, call_in, came_reply, step_reply}
-use Rattle.ds_crew.specs.Kept.{HasReport, HasSettled, HasStepped, StepsIn, is_settled, report_of}
+use Rattle.ds_crew.specs.Kept.{HasReport, HasSettled, HasStepped, StepsIn, settled_reply, report_of}
 use Rattle.ds_crew.specs.declared.came.Came.{Came}
 use Rattle.ds_crew.specs.declared.steps.Call.{Call}
 
 -- a good world's step that is answered Settled, and the values of the world behind it
-pub settled_by : (process : ℕ) (old new : WorldValue) (reply : Reply) → IsGood old → Fits old (Step process) reply new → reply ≡ is_settled → HasSettled process (report_of new.reports process)
+pub settled_by : (process : ℕ) (old new : WorldValue) (reply : Reply) → IsGood old → Fits old (Step process) reply new → reply ≡ settled_reply → HasSettled process (report_of new.reports process)
 settled_by process old new reply good fits is = record {
   old = old;
   new = new;
@@ -67,12 +67,12 @@ counted_by process old new reply fits = (adds old new (Step process) reply fits.
 
 -- ---- the values of a report that is answered Settled
 
-settles : (what : Turn ReportEnd) → is_settled ≡ report_reply what → what ≡ Answers Settled
+settles : (what : Turn ReportEnd) → settled_reply ≡ report_reply what → what ≡ Answers Settled
 settles GoesOn is = absurd (cc)
 settles (Answers Settled) is = refl
 settles (Answers (Unsettled place word)) is = absurd (cc)
 
-report_left : (process : ℕ) (old new : WorldValue) → IsGood old → ReportStepsBy old process is_settled new → HasReport old.sheet.layout process new.reports
+report_left : (process : ℕ) (old new : WorldValue) → IsGood old → ReportStepsBy old process settled_reply new → HasReport old.sheet.layout process new.reports
 report_left process old new good h =
     let e = h.steps.show in
     let kept : new.reports ≡ with_report old.reports e.process (answered e) = h.steps.reports ∙ ap (reports_by old.reports e) (settles h.what h.is) in
@@ -88,7 +88,7 @@ report_left process old new good h =
           ∙ sym fits.1.cells;
     }
 
-by_report : (process : ℕ) (old new : WorldValue) → IsGood old → StepsBy old process is_settled new → new.settled ≡ old.settled + 1 → HasReport old.sheet.layout process new.reports
+by_report : (process : ℕ) (old new : WorldValue) → IsGood old → StepsBy old process settled_reply new → new.settled ≡ old.settled + 1 → HasReport old.sheet.layout process new.reports
 by_report process old new good (edits h) more = absurd (let same = h.reports.settled in omega (arith, same, more))
 by_report process old new good (works h) more = absurd (let same = h.reports.settled in omega (arith, same, more))
 by_report process old new good (reports h) more = report_left process old new good h
@@ -96,10 +96,10 @@ by_report process old new good (recoveries h) more = absurd (let same = h.steps.
 by_report process old new good (migrations h) more = absurd (let same = h.steps.settled in omega (arith, same, more))
 
 -- the process has a last report, with a value for each cell
-pub reported_by : (process : ℕ) (old new : WorldValue) (reply : Reply) → IsGood old → Fits old (Step process) reply new → reply ≡ is_settled → HasReport old.sheet.layout process new.reports
+pub reported_by : (process : ℕ) (old new : WorldValue) (reply : Reply) → IsGood old → Fits old (Step process) reply new → reply ≡ settled_reply → HasReport old.sheet.layout process new.reports
 reported_by process old new reply good fits is =
     let settled = subst (λ (r : Reply). Fits old (Step process) r new) is fits in
-    by_report process old new good settled.takes (counted_by process old new is_settled settled)
+    by_report process old new good settled.takes (counted_by process old new settled_reply settled)
 
 -- ---- ends
 

@@ -11,7 +11,7 @@ use Rattle.ds_core.specs.declared.reply.Reply.{Reply}
 use Rattle.ds_core.specs.declared.reply.Reply.TheVariants.{Answered}
 use Rattle.ds_core.specs.declared.reply.Reply.TheVariants as replies
 use Rattle.ds_crew.specs.Receipts.{PlainReceipt}
-use Rattle.ds_crew.specs.Kept.{HasSettled, is_settled}
+use Rattle.ds_crew.specs.Kept.{HasSettled, settled_reply}
 use Rattle.ds_crew.specs.Passes.{PlainPass, asked}
 use Rattle.ds_crew.specs.declared.ended.Edited.{Edited}
 use Rattle.ds_crew.specs.declared.ended.Edited.TheVariants as edited
@@ -46,7 +46,7 @@ edit_reply edited.NotEnabled = replies.NotEnabled
 
 -- the last reply of a report that ended so
 abbrev pub show_reply : Shown → Reply
-show_reply shown.Settled = is_settled
+show_reply shown.Settled = settled_reply
 show_reply (shown.Unsettled place word) = Answered (Report (reports.Unsettled place word))
 show_reply (shown.Refused why) = replies.Refused why
 show_reply shown.NotEnabled = replies.NotEnabled
@@ -108,5 +108,5 @@ HasReceiptOf begin end = ⊥
 -- the pass after a report of a sheet with so many cells: it has the report as its last call; a Settled is counted, and
 -- the pass then keeps a value for each cell; else all else stays
 abbrev pub AfterReport : ℕ → PlainPass → Shown → PlainPass → Type 0
-AfterReport cells old shown.Settled new = IsSettled cells (asked old (BeginReport old.process) is_settled) new
+AfterReport cells old shown.Settled new = IsSettled cells (asked old (BeginReport old.process) settled_reply) new
 AfterReport cells old end new = new ≡ asked old (BeginReport old.process) (show_reply end)

@@ -16,9 +16,9 @@ use Rattle.ds_crew.specs.LockedCalls.{call_in}
 use Rattle.ds_crew.specs.declared.steps.Call.{Call}
 use Rattle.ds_crew.specs.declared.steps.Call.TheVariants.{Edit, Report, Recovery}
 
--- the reply by which a report is settled
-abbrev pub is_settled : Reply
-is_settled = Answered (answers.Report Settled)
+-- the reply to a step by which a report is settled
+abbrev pub settled_reply : Reply
+settled_reply = Answered (answers.Report Settled)
 
 -- the values of the process's last settled report; none where it has had none, or the sheet has no such process
 abbrev pub report_of : PlainReports → ℕ → List Value
@@ -58,7 +58,7 @@ pub record HasSettled (process : ℕ) (values : List Value) : Type 0 where
   pub old : WorldValue
   pub new : WorldValue
   pub good : IsGood old
-  pub fits : Fits old (Step process) is_settled new
+  pub fits : Fits old (Step process) settled_reply new
   pub values_are : values ≡ report_of new.reports process
 
 -- a process's next step in this call was asked of a good world, with this reply; or it was of a report whose values there

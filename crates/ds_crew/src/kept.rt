@@ -6,7 +6,7 @@ ghost use Rattle.ds_core.specs.Takes.{Fits};
 ghost use Rattle.ds_core.specs.Counts.{done_of, settled_of, IsReplyTo};
 ghost use Rattle.ds_core.specs.Ends.{edits, reports};
 ghost use Rattle.ds_crew.specs.LockedCalls.{CountsNothing, IsKindOf, IsNoStep, step_reply};
-ghost use Rattle.ds_crew.specs.Kept.{Happened, HasMade, HasSettled, HasStepped, StepsIn, is_settled, last_after, report_of};
+ghost use Rattle.ds_crew.specs.Kept.{Happened, HasMade, HasSettled, HasStepped, StepsIn, settled_reply, last_after, report_of};
 ghost use Rattle.ds_crew.specs.declared.steps.Call.TheVariants.{Edit, Report};
 
 use crate::steps::{Call, step};
@@ -133,11 +133,11 @@ impl<L: Ledger, M: Ledger> Kept<L, M> {
         ensures steps { cells_of self.old.world.sheet.layout ≡ cells → cells ≤ vec_capacity last.old
             → StepsIn Report process self.old.world (step_reply reports result) self.new.world }
         ensures happened { HasMade Report process (step_reply reports result) }
-        ensures settled { step_reply reports result ≡ is_settled → HasSettled process last.new.items }
+        ensures settled { step_reply reports result ≡ settled_reply → HasSettled process last.new.items }
         ensures amount { share.new.amount ≡ share.old.amount + settled_of (step_reply reports result) }
         ensures parts { share.new.parts ≡ share.old.parts }
         ensures last { last.new.items ≡ last_after (step_reply reports result) (report_of self.new.world.reports process) last.old.items }
-        ensures full { step_reply reports result ≡ is_settled → length last.new.items ≡ cells }
+        ensures full { step_reply reports result ≡ settled_reply → length last.new.items ≡ cells }
     {
         let Kept {
             world,

@@ -4,7 +4,7 @@ ghost use Rattle.std.specs.Prelude.{◌≡◌, ◌+◌, ◌↔◌, IsTrue, Some}
 ghost use Rattle.ds_state.specs.Value.{world_of};
 ghost use Rattle.ds_core.specs.Counts.{done_of, settled_of};
 ghost use Rattle.ds_crew.specs.LockedCalls.{call_in, step_reply, IsKindOf};
-ghost use Rattle.ds_crew.specs.Kept.{HasMade, HasReport, HasSettled, HasStepped, StepsIn, is_settled, report_of};
+ghost use Rattle.ds_crew.specs.Kept.{HasMade, HasReport, HasSettled, HasStepped, StepsIn, settled_reply, report_of};
 
 use ds_core::ends::CallEnd;
 use ds_state::situation::Situation;
@@ -57,10 +57,10 @@ pub(crate) fn step<E: CallEnd>(
     ensures steps { StepsIn call process world.old (step_reply E.kind result) world.new }
     ensures happened { HasStepped call process (step_reply E.kind result) }
     ensures made { HasMade call process (step_reply E.kind result) }
-    ensures settles { step_reply E.kind result ≡ is_settled → HasSettled process (report_of world.new.reports process) }
+    ensures settles { step_reply E.kind result ≡ settled_reply → HasSettled process (report_of world.new.reports process) }
     ensures done { world.new.done ≡ world.old.done + done_of (step_reply E.kind result) }
     ensures settled { world.new.settled ≡ world.old.settled + settled_of (step_reply E.kind result) }
-    ensures report { step_reply E.kind result ≡ is_settled → HasReport world.old.sheet.layout process world.new.reports }
+    ensures report { step_reply E.kind result ≡ settled_reply → HasReport world.old.sheet.layout process world.new.reports }
 {
     world.is_always_good();
     if !is_in(world, process, call) {

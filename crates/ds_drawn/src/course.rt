@@ -98,7 +98,12 @@ impl Course {
 }
 
 fn is_migration(reply: Reply) -> bool {
-    matches!(reply, Reply::Answered(Answer::Migration(MigrateEnd::Migrated) | Answer::Migration(MigrateEnd::Already)))
+    matches!(
+        reply,
+        Reply::Answered(
+            Answer::Migration(MigrateEnd::Migrated) | Answer::Migration(MigrateEnd::Already)
+        )
+    )
 }
 
 // The word of a text that stands there among all those of the first layout, in this one.

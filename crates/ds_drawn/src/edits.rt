@@ -47,7 +47,9 @@ impl Answers {
     fn add(&mut self, answer: Answer) {
         match answer {
             Answer::Edit(EditEnd::Done(_)) => self.done = self.done.wrapping_add(1),
-            Answer::Edit(EditEnd::Overtaken(_, _)) => self.overtaken = self.overtaken.wrapping_add(1),
+            Answer::Edit(EditEnd::Overtaken(_, _)) => self.overtaken = self
+                .overtaken
+                .wrapping_add(1),
             _ => {}
         }
     }

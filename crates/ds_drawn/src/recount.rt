@@ -8,12 +8,12 @@ use ds_formula::cells::Cell;
 use ds_formula::fault::{FaultKind, TextFault};
 use ds_layout::place::{Edition, Place};
 use ds_state::answer::{Answer, EditEnd};
+use ds_state::ledger::Edit;
 use ds_state::migration::MigrateEnd;
 use ds_state::recovery::{RecoveryEnd, Told};
+use ds_state::refusal::Refusal;
 use ds_state::report::ReportEnd;
 use ds_state::work::WorkEnd;
-use ds_state::ledger::Edit;
-use ds_state::refusal::Refusal;
 use ds_state::world::World;
 use std::alloc::{AllocError, Global};
 
@@ -102,7 +102,9 @@ impl Counts {
     fn add(&mut self, answer: Answer) {
         match answer {
             Answer::Edit(EditEnd::Done(_)) => self.done = self.done.wrapping_add(1),
-            Answer::Edit(EditEnd::Overtaken(_, _)) => self.overtaken = self.overtaken.wrapping_add(1),
+            Answer::Edit(EditEnd::Overtaken(_, _)) => self.overtaken = self
+                .overtaken
+                .wrapping_add(1),
             Answer::Recovery(RecoveryEnd::Last(told)) => if told.counts {
                 self.counted = self.counted.wrapping_add(1);
             } else {
@@ -111,7 +113,9 @@ impl Counts {
             Answer::Recovery(RecoveryEnd::Nothing) => self.nothing = self.nothing.wrapping_add(1),
             Answer::Work(WorkEnd::Published(_)) => self.published = self.published.wrapping_add(1),
             Answer::Report(ReportEnd::Settled) => self.settled = self.settled.wrapping_add(1),
-            Answer::Migration(MigrateEnd::Migrated) => self.migrated = self.migrated.wrapping_add(1),
+            Answer::Migration(MigrateEnd::Migrated) => self.migrated = self
+                .migrated
+                .wrapping_add(1),
             Answer::Migration(MigrateEnd::Already) => self.already = self.already.wrapping_add(1),
             _ => {}
         }

@@ -241,7 +241,12 @@ fn expect_settled(
     for (cell, value) in CELLS.into_iter().zip(wanted) {
         expect_value(world, cell, value)?;
     }
-    expect_call(alloc, world, Action::Show(process), Answer::Report(ReportEnd::Settled))?;
+    expect_call(
+        alloc,
+        world,
+        Action::Show(process),
+        Answer::Report(ReportEnd::Settled),
+    )?;
     expect_report(world, process, &wanted)
 }
 

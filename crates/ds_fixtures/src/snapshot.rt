@@ -1,11 +1,11 @@
 //! All that is seen of a sheet.
 
 use ds_layout::place::Edition;
-use ds_state::situation::{Rest, Situation};
-use ds_state::stage::{Point, Stage};
 use ds_state::migration::MigrateStage;
 use ds_state::recovery::RecoverStage;
 use ds_state::report::ReportStage;
+use ds_state::situation::{Rest, Situation};
+use ds_state::stage::{Point, Stage};
 use ds_state::work::WorkStage;
 use ds_state::world::World;
 use ds_words::words::Word;
@@ -37,7 +37,10 @@ impl Doing {
             }
             Situation::Working(call) => Doing::Working(rest(call.next, call.edition), call.stage),
             Situation::Recovering(call) => Doing::Recovering(call.edition, call.stage),
-            Situation::Reporting(call) => Doing::Reporting(rest(call.next, call.edition), call.stage),
+            Situation::Reporting(call) => Doing::Reporting(
+                rest(call.next, call.edition),
+                call.stage,
+            ),
             Situation::Migrating(call) => Doing::Migrating(call.word, call.stage),
         }
     }

@@ -3,10 +3,10 @@
 ghost use Rattle.std.specs.Prelude.{◌≡◌};
 ghost use Rattle.ds_play.specs.Points.{name_of_point, edit_order, work_order, recovery_order, migration_order, order_in, is_in_call, lacks, behind_point, behind_end, behind_answer, behind_work, behind_recovered, behind_recovery, behind_migration, behind_in, is_passed, has_passed};
 
-use ds_state::situation::Situation;
-use ds_state::stage::Point;
 use ds_state::migration::{MigrateEnd, MigrateStage};
 use ds_state::recovery::RecoverStage;
+use ds_state::situation::Situation;
+use ds_state::stage::Point;
 use ds_state::work::{WorkEnd, WorkStage};
 
 /// The name of a point, of whichever call.

@@ -265,7 +265,12 @@ pub fn end_bytes(
             reply_bytes(alloc, world, process, Reply::Refused(refusal))
         }
         SettleEnd::NoMemory => {
-            reply_bytes(alloc, world, process, Reply::Answered(Answer::Work(WorkEnd::NoMemory)))
+            reply_bytes(
+                alloc,
+                world,
+                process,
+                Reply::Answered(Answer::Work(WorkEnd::NoMemory)),
+            )
         }
     }
 }

@@ -10,10 +10,10 @@ ghost use Rattle.ds_recover.specs.RecoverBegun.{MayRecover, IsBegun, Refuses};
 
 use ds_layout::layout::Layout;
 use ds_layout::place::Edition;
+use ds_state::recovery::{RecoverCall, RecoverStage};
 use ds_state::refusal::Refusal;
 use ds_state::row::Row;
 use ds_state::situation::{Situation, put};
-use ds_state::recovery::{RecoverCall, RecoverStage};
 use ds_state::world::World;
 
 // Whether the process is in no call.

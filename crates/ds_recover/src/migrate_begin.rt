@@ -8,9 +8,9 @@ ghost use Rattle.ds_recover.specs.MigrationTakes.{AllStopped, Refuses};
 
 use crate::begin::may_recover;
 use crate::migrate::fresh;
+use ds_state::migration::MigrateCall;
 use ds_state::refusal::Refusal;
 use ds_state::situation::{Situation, put};
-use ds_state::migration::MigrateCall;
 use ds_state::world::World;
 
 fn is_stopped(situation: &Situation) -> bool

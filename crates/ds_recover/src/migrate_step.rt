@@ -7,8 +7,8 @@ ghost use Rattle.ds_recover.specs.MigrationSteps.{after};
 ghost use Rattle.ds_recover.specs.MigrationTakes.{StepTakes};
 
 use crate::migrate::{effect_of, got, want};
-use ds_state::situation::Situation;
 use ds_state::migration::{MigrateCall, MigrateEnd, MigrateStage};
+use ds_state::situation::Situation;
 use ds_state::turn::Turn;
 use ds_state::world::World;
 

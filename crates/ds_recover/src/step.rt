@@ -9,8 +9,8 @@ ghost use Rattle.ds_recover.specs.RecoverTakes.{StepTakes, open_edit_by};
 
 use crate::machine::{effect_of, got, number, want};
 use ds_state::ledger::Issue;
-use ds_state::situation::{Rest, Situation};
 use ds_state::recovery::{RecoverCall, RecoverStage, RecoveryEnd};
+use ds_state::situation::{Rest, Situation};
 use ds_state::turn::Turn;
 use ds_state::world::World;
 

@@ -11,9 +11,9 @@ ghost use Rattle.ds_report.specs.ReportBegun.{IsBegun, Refuses};
 
 use ds_layout::layout::Layout;
 use ds_state::refusal::Refusal;
+use ds_state::report::{ReportCall, ReportStage};
 use ds_state::reports::SETTLED_MOST;
 use ds_state::situation::{Rest, Situation, next_edit, put};
-use ds_state::report::{ReportCall, ReportStage};
 use ds_state::world::World;
 use std::alloc::{AllocError, Global};
 

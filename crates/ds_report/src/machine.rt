@@ -17,9 +17,9 @@ pub fn want(call: &ReportCall) -> Access<Place>
     ensures { result ≡ access_at call.now.stage }
 {
     match call.stage {
-        ReportStage::LoadAnnounce(i) | ReportStage::AgainAnnounce(i) => Access::Load(Place::Announce(
-            i,
-        )),
+        ReportStage::LoadAnnounce(i) | ReportStage::AgainAnnounce(i) => Access::Load(
+            Place::Announce(i),
+        ),
         ReportStage::LoadMark(i) | ReportStage::AgainMark(i) => Access::Load(Place::Mark(i)),
         ReportStage::LoadValue(i) => Access::Load(Place::Value(i)),
         ReportStage::LoadKind(i) => Access::Load(Place::Kind(i)),

@@ -8,9 +8,9 @@ ghost use Rattle.ds_report.specs.ReportSteps.{after, effect_at};
 ghost use Rattle.ds_report.specs.ReportTakes.{StepTakes, settled_by, reports_by};
 
 use crate::machine::{effect_of, got, want};
+use ds_state::report::{ReportCall, ReportEnd, ReportStage};
 use ds_state::reports::Reports;
 use ds_state::situation::{Rest, Situation};
-use ds_state::report::{ReportCall, ReportEnd, ReportStage};
 use ds_state::turn::Turn;
 use ds_state::world::World;
 

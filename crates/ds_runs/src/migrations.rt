@@ -227,8 +227,14 @@ const FIRST_LAYOUT: [Row; 10] = [
 const SECOND_LAYOUT: [Row; 12] = [
     Row::Still(Action::Edit(0, A1, ONES_121), TOO_LARGE),
     Row::Still(Action::Edit(0, A1, ZEROS_241), TOO_LONG_240),
-    Row::Call(Action::Edit(0, A1, ZEROS_120), Answer::Edit(EditEnd::Done(0))),
-    Row::Call(Action::Edit(0, B1, ZEROS_121), Answer::Edit(EditEnd::Done(1))),
+    Row::Call(
+        Action::Edit(0, A1, ZEROS_120),
+        Answer::Edit(EditEnd::Done(0)),
+    ),
+    Row::Call(
+        Action::Edit(0, B1, ZEROS_121),
+        Answer::Edit(EditEnd::Done(1)),
+    ),
     Row::Event(Action::Edit(0, A2, ZEROS_240), Reply::Begun(2)),
     Row::Still(Action::Edit(0, A1, ZEROS_241), BUSY),
     Row::Steps(0, 107, Reply::Answered(Answer::Edit(EditEnd::Done(2)))),
@@ -253,7 +259,10 @@ const TAKES_MORE: [Row; 6] = [
     Row::Event(Action::Edit(1, A1, ZEROS_240), Reply::Begun(0)),
     Row::Steps(1, 112, Reply::Answered(Answer::Edit(EditEnd::Done(0)))),
     Row::Text(A1, ZEROS_240),
-    Row::Call(Action::Edit(0, B2, ZEROS_121), Answer::Edit(EditEnd::Done(1))),
+    Row::Call(
+        Action::Edit(0, B2, ZEROS_121),
+        Answer::Edit(EditEnd::Done(1)),
+    ),
     Row::Settled(1, [ZERO, BLANK, BLANK, ZERO]),
 ];
 

@@ -9,9 +9,9 @@ use ds_layout::mark::State;
 use ds_layout::place::Place;
 use ds_state::answer::Answer;
 use ds_state::migration::MigrateEnd;
-use ds_state::work::WorkEnd;
 use ds_state::refusal::Refusal;
 use ds_state::stage::Point;
+use ds_state::work::WorkEnd;
 use ds_words::words::Word;
 use std::test::Fail;
 

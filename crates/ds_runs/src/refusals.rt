@@ -96,7 +96,11 @@ fn spend_records(alloc: Global, world: &mut World) -> Result<(), Fail> {
         let count = if number == 0 { 20 } else { 25 };
         let rows = [
             Row::Event(Action::Edit(0, A1, "1"), Reply::Begun(number)),
-            Row::Steps(0, count, Reply::Answered(Answer::Edit(EditEnd::Done(number)))),
+            Row::Steps(
+                0,
+                count,
+                Reply::Answered(Answer::Edit(EditEnd::Done(number))),
+            ),
         ];
         play_on(alloc, world, &rows)?;
     }

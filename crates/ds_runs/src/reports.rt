@@ -13,13 +13,19 @@ const BLANK: Value = Value::Blank;
 
 const UNSETTLED: [Row; 8] = [
     Row::Call(Action::Edit(0, A1, "7"), Answer::Edit(EditEnd::Done(0))),
-    Row::Call(Action::Show(0), Answer::Report(ReportEnd::Unsettled(Place::Mark(0), 1))),
+    Row::Call(
+        Action::Show(0),
+        Answer::Report(ReportEnd::Unsettled(Place::Mark(0), 1)),
+    ),
     Row::Reports(0),
     Row::Settled(0, [Value::Number(7), BLANK, BLANK, BLANK]),
     Row::Reports(1),
     Row::Event(Action::Edit(0, A1, "8"), Reply::Begun(1)),
     Row::Steps(0, 9, Reply::Stepped),
-    Row::Call(Action::Show(1), Answer::Report(ReportEnd::Unsettled(Place::Announce(0), 9))),
+    Row::Call(
+        Action::Show(1),
+        Answer::Report(ReportEnd::Unsettled(Place::Announce(0), 9)),
+    ),
 ];
 
 #[test]

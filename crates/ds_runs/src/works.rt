@@ -47,7 +47,10 @@ const STEPS_OF_WORK: [Row; 14] = [
     Row::Word(Place::Kind(0), 1, 1),
     Row::Steps(1, 4, Reply::Stepped),
     Row::Word(Place::Mark(0), 64, 64),
-    Row::Event(Action::Step(1), Reply::Answered(Answer::Work(WorkEnd::Published(true)))),
+    Row::Event(
+        Action::Step(1),
+        Reply::Answered(Answer::Work(WorkEnd::Published(true))),
+    ),
 ];
 
 #[test]
@@ -77,7 +80,10 @@ fn two_workers(rt: HostRuntime) -> Result<(), Fail> {
 // Each work finds the cell one higher than it had shown it, marks it by its own bit and lets it go dirty: in four
 // works the height comes to the number of cells, which is circular. The fifth finds no difference.
 const REFERS_TO_ITSELF: [Row; 21] = [
-    Row::Call(Action::Edit(0, A1, "=[.A1]"), Answer::Edit(EditEnd::Done(0))),
+    Row::Call(
+        Action::Edit(0, A1, "=[.A1]"),
+        Answer::Edit(EditEnd::Done(0)),
+    ),
     Row::Word(Place::Index { row: 0, part: 0 }, 1, 1),
     Row::Call(Action::Work(1, A1), Answer::Work(WorkEnd::Again)),
     Row::Word(Place::Mark(0), 65, 65),
@@ -124,7 +130,10 @@ fn not_dirty(rt: HostRuntime) -> Result<(), Fail> {
 
 // The bit stays where the reference has gone: the cell is marked once more, and is right.
 const STALE_BITS: [Row; 12] = [
-    Row::Call(Action::Edit(0, B1, "=[.A1]"), Answer::Edit(EditEnd::Done(0))),
+    Row::Call(
+        Action::Edit(0, B1, "=[.A1]"),
+        Answer::Edit(EditEnd::Done(0)),
+    ),
     Row::Word(Place::Index { row: 0, part: 0 }, 2, 2),
     Row::Call(Action::Edit(0, B1, "5"), Answer::Edit(EditEnd::Done(1))),
     Row::Settle(0),
@@ -145,9 +154,18 @@ fn stale_bits(rt: HostRuntime) -> Result<(), Fail> {
 
 // Cells that follow one another in a circle, one that looks on, and then a way out.
 const CIRCLE: [Row; 6] = [
-    Row::Call(Action::Edit(0, A1, "=[.A2]"), Answer::Edit(EditEnd::Done(0))),
-    Row::Call(Action::Edit(1, A2, "=[.A1]"), Answer::Edit(EditEnd::Done(0))),
-    Row::Call(Action::Edit(0, B1, "=[.A1]+1"), Answer::Edit(EditEnd::Done(1))),
+    Row::Call(
+        Action::Edit(0, A1, "=[.A2]"),
+        Answer::Edit(EditEnd::Done(0)),
+    ),
+    Row::Call(
+        Action::Edit(1, A2, "=[.A1]"),
+        Answer::Edit(EditEnd::Done(0)),
+    ),
+    Row::Call(
+        Action::Edit(0, B1, "=[.A1]+1"),
+        Answer::Edit(EditEnd::Done(1)),
+    ),
     Row::Settled(
         1,
         [Value::Circular, Value::Circular, Value::Circular, BLANK],
@@ -184,11 +202,17 @@ fn marked_meanwhile(rt: HostRuntime) -> Result<(), Fail> {
 // B1 is recalculated between the store of A1's number and A1's mark of it: it reads the new number and is published.
 // The mark that comes behind costs one more work, which changes nothing.
 const RECALCULATED_BETWEEN: [Row; 17] = [
-    Row::Call(Action::Edit(0, B1, "=[.A1]+1"), Answer::Edit(EditEnd::Done(0))),
+    Row::Call(
+        Action::Edit(0, B1, "=[.A1]+1"),
+        Answer::Edit(EditEnd::Done(0)),
+    ),
     Row::Call(Action::Edit(0, A1, "5"), Answer::Edit(EditEnd::Done(1))),
     Row::Settle(0),
     Row::Call(Action::Edit(0, A1, "6"), Answer::Edit(EditEnd::Done(2))),
-    Row::Call(Action::Edit(0, B1, "=[.A1]+1"), Answer::Edit(EditEnd::Done(3))),
+    Row::Call(
+        Action::Edit(0, B1, "=[.A1]+1"),
+        Answer::Edit(EditEnd::Done(3)),
+    ),
     Row::Event(Action::Work(1, A1), Reply::Entered),
     Row::Steps(1, 10, Reply::Stepped),
     Row::Event(Action::Offer(1), Reply::Stepped),

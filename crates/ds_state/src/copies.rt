@@ -3,10 +3,10 @@
 ghost use Rattle.std.specs.Prelude.{◌≡◌, ◌≤◌, IfOk, vec_capacity};
 
 use crate::edit::EditCall;
-use crate::situation::Situation;
 use crate::migration::MigrateCall;
 use crate::recovery::RecoverCall;
 use crate::report::ReportCall;
+use crate::situation::Situation;
 use crate::work::WorkCall;
 use crate::world::World;
 use std::alloc::{AllocError, Global};

@@ -4,9 +4,9 @@ ghost use Rattle.std.specs.Prelude.{◌≡◌, ◌<◌, vec_len, slice_index_or,
 ghost use Rattle.ds_state.specs.Refusals.{next_edit};
 
 use crate::edit::EditCall;
-use crate::refusal::Refusal;
 use crate::migration::MigrateCall;
 use crate::recovery::RecoverCall;
+use crate::refusal::Refusal;
 use crate::report::ReportCall;
 use crate::work::WorkCall;
 use ds_layout::place::Edition;

@@ -30,8 +30,8 @@ use ds_layout::stored::{Kind, Stored};
 use ds_layout::text::{part_bytes, text_parts};
 use ds_state::row::Row;
 use ds_state::shown::header_in;
-use ds_state::text::Text;
 use ds_state::spread::Spread;
+use ds_state::text::Text;
 use ds_state::work::{WorkCall, WorkEnd, WorkStage};
 use ds_words::access::Access;
 
