@@ -161,7 +161,7 @@ module _ (old new : WorldValue) (sound : IsSound (world_of old)) (c : ℕ) where
   turn_older e low what (work_events.answers end at t) = still t.memory.1
 
   step_older : (p : ℕ) (reply : Reply) → StepsBy old p reply new → Older
-  step_older p reply (edits h) = gentle (world_of old).memory (world_of new).memory (edit_steps.access_at h.edit h.edit.stage) h.edit.process h.word (edit_gentle h.edit h.edit.stage) h.steps.memory c
+  step_older p reply (edits h) = gentle (world_of old).memory (world_of new).memory (edit_steps.access_at h.steps.edit h.steps.edit.stage) h.steps.edit.process h.steps.word (edit_gentle h.steps.edit h.steps.edit.stage) h.steps.steps.memory c
   step_older p reply (works h) = turn_older h.steps.work (let a = h.steps.is.process in let b = h.steps.is.processes in omega arith) h.what h.steps.turn
   step_older p reply (reports h) = gentle (world_of old).memory (world_of new).memory (show_steps.access_at h.steps.show.stage) h.steps.show.process h.steps.word (show_gentle h.steps.show.stage) h.steps.steps.memory c
   step_older p reply (recoveries h) = gentle (world_of old).memory (world_of new).memory (recovery_steps.access_at h.steps.recovery h.steps.recovery.stage) h.steps.recovery.process h.steps.word (recovery_gentle h.steps.recovery h.steps.recovery.stage) h.steps.steps.memory c

@@ -169,14 +169,14 @@ module _ (first : PlainWorld) (p c : ℕ) (all : AreIdle first) (old new : World
 
   step_goes : StepsBy old p Stepped new → Under first p c new
   step_goes (works h) = stepped Stepped h h.what h.is (turned Stepped h) (leaves_so Stepped h)
-  step_goes (edits h) = absurd (no_edit h.edit h.at)
+  step_goes (edits h) = absurd (no_edit h.steps.edit h.steps.at)
   step_goes (reports h) = absurd (no_report h.steps.show h.steps.at)
   step_goes (recoveries h) = absurd (no_recovery h.steps.recovery h.steps.at)
   step_goes (migrations h) = absurd (no_migration h.steps.migration h.steps.at)
 
   pub step_ends : (answer : Answer) → StepsBy old p (Answered answer) new → Over first p c answer new
   step_ends answer (works h) = answered (Answered answer) h h.what answer h.is (turned (Answered answer) h) (leaves_so (Answered answer) h)
-  step_ends answer (edits h) = absurd (no_edit h.edit h.at)
+  step_ends answer (edits h) = absurd (no_edit h.steps.edit h.steps.at)
   step_ends answer (reports h) = absurd (no_report h.steps.show h.steps.at)
   step_ends answer (recoveries h) = absurd (no_recovery h.steps.recovery h.steps.at)
   step_ends answer (migrations h) = absurd (no_migration h.steps.migration h.steps.at)

@@ -42,7 +42,7 @@ never_waits e old new what (work_events.lacked at l) is = absurd (let bad : work
 never_waits e old new what (work_events.answers end at s) is = absurd (let bad : work_stages.Answer end ≡ work_stages.Wait = sym at ∙ is in cc)
 
 not_waiting : (old new : WorldValue) (p : ℕ) (reply : Reply) → StepsBy old p reply new → (e : PlainWorkCall) → (world_of old).situation p ≡ Working e → e.stage ≡ work_stages.Wait → ⊥
-not_waiting old new p reply (edits h) e at waits = absurd (let bad : Editing h.edit ≡ Working e = sym h.at ∙ at in cc)
+not_waiting old new p reply (edits h) e at waits = absurd (let bad : Editing h.steps.edit ≡ Working e = sym h.steps.at ∙ at in cc)
 not_waiting old new p reply (works h) e at waits =
     let same : Working h.steps.work ≡ Working e = sym h.steps.works ∙ at in
     let is : h.steps.work ≡ e = cc in

@@ -10,7 +10,6 @@ use Rattle.ds_state.specs.Sound.{IsSound}
 use Rattle.ds_state.specs.Value.{WorldValue, world_of}
 use Rattle.ds_state.specs.declared.situation.Situation.TheVariants.{Editing, Working, Recovering, Reporting, Migrating}
 use Rattle.ds_state.specs.declared.report.ReportEnd.{ReportEnd}
-use Rattle.ds_state.specs.declared.report.ReportEnd.TheVariants as ends
 use Rattle.ds_state.specs.declared.report.ReportStage.{ReportStage}
 use Rattle.ds_state.specs.declared.report.ReportStage.TheVariants as stages
 use Rattle.ds_state.proofs.Accesses.{evict_sound}
@@ -78,7 +77,7 @@ module _ (p : ℕ) (old new : WorldValue) (sound : IsSound (world_of old)) (low 
   -- a step is one of the report
   is_report : (r : Reply) → StepsBy old p r new → ReportStepsBy old p r new
   is_report r (reports h) = h
-  is_report r (edits h) = absurd (let bad : Editing h.edit ≡ Reporting a.show = sym h.at ∙ a.is in cc)
+  is_report r (edits h) = absurd (let bad : Editing h.steps.edit ≡ Reporting a.show = sym h.steps.at ∙ a.is in cc)
   is_report r (works h) = absurd (let bad : Working h.steps.work ≡ Reporting a.show = sym h.steps.works ∙ a.is in cc)
   is_report r (recoveries h) = absurd (let bad : Recovering h.steps.recovery ≡ Reporting a.show = sym h.steps.at ∙ a.is in cc)
   is_report r (migrations h) = absurd (let bad : Migrating h.steps.migration ≡ Reporting a.show = sym h.steps.at ∙ a.is in cc)

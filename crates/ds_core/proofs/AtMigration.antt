@@ -1,5 +1,5 @@
 -- A migration, from its begin to its answer: what its process says of its edits, and what the words tell of them.
-use Rattle.std.proofs.Common.{ℕ, ◌≡◌, ◌/◌, ◌∷◌, [], List, refl, ap, sym, ◌∙◌, subst, inl, inr, Some, None}
+use Rattle.std.proofs.Common.{ℕ, ◌≡◌, ◌/◌, List, refl, ap, sym, ◌∙◌, subst, inl, inr}
 use Rattle.std.proofs.lemmas.Bool.{cases_eq}
 use Rattle.ds_words.specs.Memory.{Memory}
 use Rattle.ds_words.specs.declared.access.BufferEntry.{BufferEntry}
@@ -12,7 +12,7 @@ use Rattle.ds_state.specs.Works.{PlainMigrateCall, PlainReportCall, PlainRecover
 use Rattle.ds_state.specs.CallsFit.{CallFits, MigrationHolds, MigrationFits}
 use Rattle.ds_state.specs.Value.{WorldValue, world_of}
 use Rattle.ds_state.specs.declared.situation.Situation.{Situation}
-use Rattle.ds_state.specs.declared.situation.Situation.TheVariants.{Stopped, Recovering, Reporting, Migrating}
+use Rattle.ds_state.specs.declared.situation.Situation.TheVariants.{Recovering, Reporting, Migrating}
 use Rattle.ds_state.specs.declared.migration.MigrateStage.{MigrateStage}
 use Rattle.ds_state.specs.declared.migration.MigrateStage.TheVariants as stages
 use Rattle.ds_recover.specs.MigrationSteps as steps
@@ -23,7 +23,7 @@ use Rattle.ds_core.specs.declared.reply.Reply.{Reply}
 use Rattle.ds_core.proofs.Headers.{SidesStay, Spares, FirstSpares, sides_same, sides_performed}
 use Rattle.ds_core.proofs.Ledgers.{IsOf, SaysSame, says_same, doubts, numbered}
 use Rattle.ds_core.proofs.Turns.{migration_turn, migration_begins_turn}
-use Rattle.ds_core.proofs.Told.{Tells, SeesCell, told_on, tells_turn}
+use Rattle.ds_core.proofs.Told.{Tells, told_on, tells_turn}
 
 -- ---- its accesses
 

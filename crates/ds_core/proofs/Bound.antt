@@ -20,12 +20,13 @@ use Rattle.ds_edit.specs.EditTakes.{after}
 use Rattle.ds_state.specs.EditEndings.{outcome_at}
 use Rattle.ds_edit.proofs.Stays.{each_falls}
 use Rattle.ds_core.specs.EditEvents.{reply_with, EditStepsBy}
+use Rattle.ds_core.proofs.Replied.{replied}
 use Rattle.ds_core.specs.StepEvents.{edits, works, reports, recoveries, migrations}
 use Rattle.ds_core.specs.Takes.{Takes, WorldRun}
 use Rattle.ds_core.proofs.Did.{Did, did, nothing, edit_begins, work_begins, report_begins, recovery_begins, migration_begins, steps, offers, evicts, stops, crashes}
 use Rattle.ds_core.specs.declared.event.Event.{Event}
 use Rattle.ds_core.specs.declared.reply.Reply.{Reply}
-use Rattle.ds_core.specs.declared.reply.Reply.TheVariants.{Stepped, Answered}
+use Rattle.ds_core.specs.declared.reply.Reply.TheVariants.{Stepped}
 
 pub unanswered_at : (processes number : ℕ) (o : Option Outcome) → Stepped ≡ reply_with processes number o → o ≡ None
 unanswered_at processes number None is = refl
@@ -48,15 +49,15 @@ pub record EditGoesOn (p : ℕ) (e : PlainEditCall) (new : WorldValue) : Type 0 
   pub edits : (world_of new).situation p ≡ Editing edit
   pub fewer : rank edit edit.stage < rank e e.stage
 
-pub edit_goes_on : (old new : WorldValue) (p : ℕ) → IsSound (world_of old) → (h : EditStepsBy old p Stepped new) → EditGoesOn p h.edit new
+pub edit_goes_on : (old new : WorldValue) (p : ℕ) → IsSound (world_of old) → (h : EditStepsBy old p Stepped new) → EditGoesOn p h.steps.edit new
 edit_goes_on old new p sound h =
-    let e : PlainEditCall = h.edit in
-    let fits : EditFits (world_of old) p e = subst (λ (x : Situation). CallFits (world_of old) p x) h.at (sound.calls p h.there) in
-    let goes : outcome_at e.stage ≡ None = unanswered_at old.sheet.layout.processes e.number (outcome_at e.stage) h.is in
+    let e : PlainEditCall = h.steps.edit in
+    let fits : EditFits (world_of old) p e = subst (λ (x : Situation). CallFits (world_of old) p x) h.steps.at (sound.calls p h.steps.there) in
+    let goes : outcome_at e.stage ≡ None = unanswered_at old.sheet.layout.processes e.number (outcome_at e.stage) (replied old new p Stepped h) in
     record {
-      edit = record e { stage = next_at e e.stage h.word };
-      edits = ap (λ q. (world_of new).situation q) (sym h.mine) ∙ h.steps.situation ∙ after_on e e.stage h.word goes;
-      fewer = falls_on e e.stage _ goes (each_falls e h.word fits.is);
+      edit = record e { stage = next_at e e.stage h.steps.word };
+      edits = ap (λ q. (world_of new).situation q) (sym h.steps.mine) ∙ h.steps.steps.situation ∙ after_on e e.stage h.steps.word goes;
+      fewer = falls_on e e.stage _ goes (each_falls e h.steps.word fits.is);
     }
 
 work_layout : (old new : PlainWorld) (e : PlainWorkCall) (what : Turn WorkEnd) → work_events.TakesTurn e old new what → new.layout ≡ old.layout
@@ -72,7 +73,7 @@ layout_by old new _ _ (work_begins p cell h) = h.begun.begins.turn.layout
 layout_by old new _ _ (report_begins p h) = h.begun.begins.layout
 layout_by old new _ _ (recovery_begins p h) = h.begun.begins.layout
 layout_by old new _ _ (migration_begins p h) = h.begun.layout
-layout_by old new _ _ (steps p reply is (edits h)) = h.steps.layout
+layout_by old new _ _ (steps p reply is (edits h)) = h.steps.steps.layout
 layout_by old new _ _ (steps p reply is (works h)) = work_layout (world_of old) (world_of new) h.steps.work h.what h.steps.turn
 layout_by old new _ _ (steps p reply is (reports h)) = h.steps.steps.layout
 layout_by old new _ _ (steps p reply is (recoveries h)) = h.steps.steps.layout

@@ -1,7 +1,6 @@
 -- A step of a call stays in a call of its kind, or is answered as calls of its kind are.
-use Rattle.std.proofs.Common.{ℕ, ◌≡◌, ◌≢◌, ◌<◌, ◌+◌, ◌/◌, refl, sym, ap, ◌∙◌, subst, Some, None}
+use Rattle.std.proofs.Common.{ℕ, ◌≡◌, refl, sym, ap, ◌∙◌, subst}
 use Rattle.ds_state.specs.declared.turn.Turn.{Turn}
-use Rattle.ds_state.specs.declared.migration.MigrateEnd.{MigrateEnd}
 use Rattle.ds_state.specs.Value.{WorldValue, world_of}
 use Rattle.ds_state.specs.Sound.{IsSound}
 use Rattle.ds_state.specs.Edits.{PlainEditCall}
@@ -29,15 +28,16 @@ use Rattle.ds_state.specs.declared.turn.Turn.TheVariants as turns
 use Rattle.ds_work.proofs.Turning.{turns_fall}
 use Rattle.ds_report.specs.ReportSteps as show_steps
 use Rattle.ds_recover.specs.RecoverySteps as recovery_steps
-use Rattle.ds_state.specs.EditEndings.{end_of}
-use Rattle.ds_core.specs.MigrationEvents.{MigrationStepsBy, MigrationBegins, migration_reply}
-use Rattle.ds_core.specs.EditEvents.{EditStepsBy, reply_at}
+use Rattle.ds_state.specs.EditEndings.{end_of, outcome_at}
+use Rattle.ds_core.specs.MigrationEvents.{MigrationStepsBy, migration_reply}
+use Rattle.ds_core.specs.EditEvents.{EditStepsBy, reply_with}
+use Rattle.ds_core.proofs.Replied.{replied}
 use Rattle.ds_core.specs.WorkEvents.{WorkStepsBy, work_reply}
 use Rattle.ds_core.specs.ReportEvents.{ReportStepsBy, report_reply}
 use Rattle.ds_core.specs.RecoveryEvents.{RecoveryStepsBy, recovery_reply}
 use Rattle.ds_core.specs.StepEvents.{StepsBy, edits, works, reports, recoveries, migrations}
 use Rattle.ds_core.specs.Own.{IsInCall}
-use Rattle.ds_core.specs.declared.reply.Reply.TheVariants.{Stepped, Answered, NotEnabled}
+use Rattle.ds_core.specs.declared.reply.Reply.TheVariants.{Stepped, Answered}
 use Rattle.ds_core.proofs.Bound.{edit_goes_on}
 use Rattle.ds_core.specs.Kinds.{IsEditAnswer, IsWorkAnswer, IsReportAnswer, IsRecoveryAnswer, IsMigrationAnswer, AnswersTo, RestsAs}
 
@@ -56,7 +56,7 @@ stays_by old new p s t was now calls same = record {
 }
 
 edit_stays : (old new : WorldValue) (p : ℕ) → IsSound (world_of old) → EditStepsBy old p Stepped new → StaysIn old p new
-edit_stays old new p sound h = let g = edit_goes_on old new p sound h in stays_by old new p (Editing h.edit) (Editing g.edit) h.at g.edits tt (λ answer x. x)
+edit_stays old new p sound h = let g = edit_goes_on old new p sound h in stays_by old new p (Editing h.steps.edit) (Editing g.edit) h.steps.at g.edits tt (λ answer x. x)
 
 work_stays : (old new : WorldValue) (p : ℕ) → IsSound (world_of old) → WorkStepsBy old p Stepped new → StaysIn old p new
 work_stays old new p sound h = by h.what h.steps h.is
@@ -148,14 +148,14 @@ record EditEnds (e : PlainEditCall) (s : Stage) (word : ℕ) (answer : Answer) :
   after : edit_worlds.after e s word ≡ Idle next
   is : IsEditAnswer answer
 
-edit_answered : (processes : ℕ) (e : PlainEditCall) (s : Stage) (word : ℕ) (answer : Answer) → Answered answer ≡ reply_at processes e.number s → EditEnds e s word answer
+edit_answered : (processes : ℕ) (e : PlainEditCall) (s : Stage) (word : ℕ) (answer : Answer) → Answered answer ≡ reply_with processes e.number (outcome_at s) → EditEnds e s word answer
 edit_answered processes e (stages.Answer how) word answer is = record { next = edit_worlds.rest_behind e; after = refl; is = answer_is IsEditAnswer answer (Edit (end_of processes e.number how)) is tt }
 edit_answered processes e _ word answer is = absurd (cc)
 
 edit_ends : (old new : WorldValue) (p : ℕ) (answer : Answer) → EditStepsBy old p (Answered answer) new → EndsIn old p answer new
 edit_ends old new p answer h =
-    let g = edit_answered old.sheet.layout.processes h.edit h.edit.stage h.word answer h.is in
-    ends_by old new p g.next (Editing h.edit) answer h.at (ap (λ q. (world_of new).situation q) (sym h.mine) ∙ h.steps.situation ∙ g.after) g.is (edit_no answer g.is)
+    let g = edit_answered old.sheet.layout.processes h.steps.edit h.steps.edit.stage h.steps.word answer (replied old new p (Answered answer) h) in
+    ends_by old new p g.next (Editing h.steps.edit) answer h.steps.at (ap (λ q. (world_of new).situation q) (sym h.steps.mine) ∙ h.steps.steps.situation ∙ g.after) g.is (edit_no answer g.is)
 
 work_ends_in : (old new : WorldValue) (p : ℕ) (answer : Answer) → WorkStepsBy old p (Answered answer) new → EndsIn old p answer new
 work_ends_in old new p answer h = by h.what h.steps h.is

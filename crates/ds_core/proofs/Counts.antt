@@ -5,7 +5,7 @@ use Rattle.ds_state.specs.declared.recovery.RecoveryEnd.{RecoveryEnd}
 use Rattle.ds_state.specs.declared.report.ReportEnd.{ReportEnd}
 use Rattle.std.specs.Prelude.{Option, Some, None, slice_index_or}
 use Rattle.std.proofs.lemmas.List.{get_or-set_other}
-use Rattle.ds_state.specs.Value.{WorldValue, world_of}
+use Rattle.ds_state.specs.Value.{WorldValue, world_of, SameReports}
 use Rattle.ds_state.specs.Sound.{IsSound}
 use Rattle.ds_state.specs.Reports.{PlainReports}
 use Rattle.ds_state.specs.Works.{PlainReportCall}
@@ -25,15 +25,14 @@ use Rattle.ds_state.specs.declared.turn.Turn.TheVariants as turns
 use Rattle.ds_report.specs.ReportSteps as steps
 use Rattle.ds_report.specs.ReportTakes as shows
 use Rattle.ds_report.proofs.ReportKeeps as keeping
-use Rattle.ds_state.specs.declared.migration.MigrateEnd.TheVariants as migrate_ends
-use Rattle.ds_core.specs.MigrationEvents.{MigrationStepsBy, MigrationBegins, migration_reply}
-use Rattle.ds_core.specs.EditEvents.{SameReports, reply_with, done_with, EditStepsBy}
+use Rattle.ds_core.specs.MigrationEvents.{MigrationStepsBy, migration_reply}
+use Rattle.ds_core.specs.EditEvents.{reply_with, EditStepsBy}
+use Rattle.ds_edit.specs.EditTakes.{done_with}
+use Rattle.ds_core.proofs.Replied.{replied}
 use Rattle.ds_state.specs.Works.{PlainRecoverCall}
-use Rattle.ds_state.specs.declared.work.WorkEnd.TheVariants as work_ends
 use Rattle.ds_state.specs.declared.recovery.RecoverStage.{RecoverStage}
 use Rattle.ds_state.specs.declared.recovery.RecoverStage.TheVariants as recover_stages
 use Rattle.ds_state.specs.declared.work.WorkEnd.{WorkEnd}
-use Rattle.ds_state.specs.declared.recovery.RecoveryEnd.TheVariants as recovery_ends
 use Rattle.ds_recover.specs.RecoverySteps as recover_steps
 use Rattle.ds_recover.specs.MigrationSteps as migration_steps
 use Rattle.ds_recover.specs.MigrationTakes as migration_takes
@@ -60,7 +59,7 @@ use Rattle.ds_core.specs.Counts.{done_of, settled_of, IsReplyTo, KeepsReports}
 use Rattle.ds_core.specs.declared.event.Event.{Event}
 use Rattle.ds_core.specs.declared.event.Event.TheVariants.{BeginEdit, BeginWork, BeginReport, BeginRecover, BeginMigrate, Step, Offer, Evict, Stop, Crash}
 use Rattle.ds_core.specs.declared.reply.Reply.{Reply}
-use Rattle.ds_core.specs.declared.reply.Reply.TheVariants.{Begun, Entered, Stepped, Answered, Evicted, Stopped, Crashed, NotEnabled}
+use Rattle.ds_core.specs.declared.reply.Reply.TheVariants.{Begun, Entered, Stepped, Answered, Evicted, Stopped, Crashed}
 use Rattle.ds_core.proofs.Bound.{edit_goes_on}
 
 -- what an event with this answer adds
@@ -76,7 +75,7 @@ outcome_adds processes number done (Some outcome.Done) = refl
 outcome_adds processes number done (Some (outcome.Overtaken noted seen)) = omega arith
 
 step_adds : (old new : WorldValue) (p : ℕ) (reply : Reply) → EditStepsBy old p reply new → new.done ≡ old.done + done_of reply
-step_adds old new p reply h = h.done ∙ outcome_adds old.sheet.layout.processes h.edit.number old.done (outcome_at h.edit.stage) ∙ ap (λ (r : Reply). old.done + done_of r) (sym h.is)
+step_adds old new p reply h = h.steps.done ∙ outcome_adds old.sheet.layout.processes h.steps.edit.number old.done (outcome_at h.steps.edit.stage) ∙ ap (λ (r : Reply). old.done + done_of r) (sym (replied old new p reply h))
 
 -- where no report changes, none but an answered one does
 keeps : (old : WorldValue) (event : Event) (reply : Reply) (new : WorldValue) → new.reports ≡ old.reports → KeepsReports old event reply new
@@ -105,7 +104,7 @@ edit_settles_none processes number (Some outcome.Done) = refl
 edit_settles_none processes number (Some (outcome.Overtaken noted seen)) = refl
 
 edit_adds : (old new : WorldValue) (p : ℕ) (reply : Reply) → EditStepsBy old p reply new → IsReplyTo (Step p) reply → Adds old (Step p) reply new
-edit_adds old new p reply h is = adds_none old new (Step p) reply is (step_adds old new p reply h) (ap settled_of h.is ∙ edit_settles_none old.sheet.layout.processes h.edit.number (outcome_at h.edit.stage)) h.reports
+edit_adds old new p reply h is = adds_none old new (Step p) reply is (step_adds old new p reply h) (ap settled_of (replied old new p reply h) ∙ edit_settles_none old.sheet.layout.processes h.steps.edit.number (outcome_at h.steps.edit.stage)) h.steps.reports
 
 -- a report answers nothing as Done, and settles what it answers as Settled
 report_done : (what : Turn ReportEnd) → done_of (report_reply what) ≡ 0
@@ -200,7 +199,7 @@ edit_falls : (old new : WorldValue) (p : ℕ) → IsSound (world_of old) → Edi
 edit_falls old new p sound h =
     let g = edit_goes_on old new p sound h in
     let few = g.fewer in
-    let a : steps_left p old ≡ rank h.edit h.edit.stage = ap left_in h.at in
+    let a : steps_left p old ≡ rank h.steps.edit h.steps.edit.stage = ap left_in h.steps.at in
     let b : steps_left p new ≡ rank g.edit g.edit.stage = ap left_in g.edits in
     record { calls = subst IsInCall (sym g.edits) tt; fewer = omega (arith, few, a, b) }
 

@@ -22,7 +22,6 @@ use Rattle.ds_state.specs.declared.stage.Stage.TheVariants.{Answer}
 use Rattle.ds_state.specs.declared.situation.Situation.TheVariants.{Idle, Editing, Reporting}
 use Rattle.ds_state.specs.Works.{PlainReportCall}
 use Rattle.ds_state.specs.KnownReport.{noted, reads_pending, reads_clean}
-use Rattle.ds_state.specs.declared.report.ReportEnd.TheVariants as ends
 use Rattle.ds_state.specs.declared.report.ReportStage.{ReportStage}
 use Rattle.ds_state.specs.declared.report.ReportStage.TheVariants as stages
 use Rattle.ds_state.specs.declared.turn.Turn.TheVariants as turns
@@ -34,7 +33,6 @@ use Rattle.ds_state.specs.declared.answer.Other.{Other}
 use Rattle.ds_state.specs.declared.answer.Answer as replies
 use Rattle.ds_state.specs.declared.answer.Answer.TheVariants.{Edit}
 use Rattle.ds_state.specs.declared.answer.EditEnd.TheVariants.{Done, Overtaken}
-use Rattle.ds_state.specs.declared.migration.MigrateEnd.TheVariants as migrate_ends
 use Rattle.ds_core.specs.MigrationEvents.{MigrationStepsBy, MigrationBegins, migration_reply}
 use Rattle.ds_core.specs.EditEvents.{EditStepsBy}
 use Rattle.ds_core.specs.ReportEvents.{report_reply, ReportBegins, ReportStepsBy}
@@ -42,8 +40,6 @@ use Rattle.ds_core.specs.StepEvents.{edits, works, reports, recoveries, migratio
 use Rattle.ds_core.specs.WorkEvents.{work_reply, WorkStepsBy, WorkBegins, TakesEntry}
 use Rattle.ds_core.specs.RecoveryEvents.{recovery_reply, RecoveryStepsBy, RecoveryBegins}
 use Rattle.ds_state.specs.declared.work.WorkEnd.{WorkEnd}
-use Rattle.ds_state.specs.declared.work.WorkEnd.TheVariants as work_ends
-use Rattle.ds_state.specs.declared.recovery.RecoveryEnd.TheVariants as recovery_ends
 use Rattle.ds_core.specs.Takes.{Takes}
 use Rattle.ds_core.specs.Moments.{Ledger}
 use Rattle.ds_core.specs.LedgerSteps.{IsOvertakenBy, OneAccess, WordsMove, AnswerMoves, LedgerMoves}
@@ -53,7 +49,8 @@ use Rattle.ds_core.specs.declared.reply.Reply.{Reply}
 use Rattle.ds_core.specs.declared.reply.Reply.TheVariants.{Begun, Entered, Refused, Stepped, Answered, WrongTask, Evicted, Stopped, Crashed, NotEnabled}
 use Rattle.ds_core.proofs.Traces as traces
 use Rattle.ds_core.proofs.Moves.{begins_move, step_moves}
-use Rattle.ds_core.proofs.Good.{answers_at}
+use Rattle.ds_edit.proofs.Driving.{answers_at}
+use Rattle.ds_core.proofs.Replied.{replied}
 use Rattle.ds_core.proofs.Bound.{unanswered_at, after_on, same_layout}
 use Rattle.ds_core.proofs.Solo.{some_outcome, after_answer}
 use Rattle.ds_core.proofs.Ledgers.{IsOf, SaysSame, says_same, numbered, doubts, stays, issued, issue_of, issues_fit, pushed, push_of, own, counts_fit, closing, put_other, closed, close_of, closes_fit, stands_here, out_here, overtaken_here, doubted, stop_of, left, left_loses, crash_of}
@@ -147,35 +144,35 @@ module _ (place : ℕ) (layout : Layout) (l : Ledger) (v v' : WorldValue) (h : I
 
   module _ (p : ℕ) (reply : Reply) (t : EditStepsBy v p reply v') where
     access : OneAccess p (world_of v).memory (world_of v').memory
-    access = (access_at t.edit t.edit.stage, t.word, subst (λ (q : ℕ). PerformsAt (access_at t.edit t.edit.stage) q (world_of v).memory (world_of v').memory t.word) t.mine t.steps.memory)
+    access = (access_at t.steps.edit t.steps.edit.stage, t.steps.word, subst (λ (q : ℕ). PerformsAt (access_at t.steps.edit t.steps.edit.stage) q (world_of v).memory (world_of v').memory t.steps.word) t.steps.mine t.steps.steps.memory)
 
-    here : (world_of v).situation p ≡ Editing t.edit
-    here = t.at
+    here : (world_of v).situation p ≡ Editing t.steps.edit
+    here = t.steps.at
 
     pub sure : doubts ((world_of v).situation p) ≡ false
-    sure = ap doubts t.at
+    sure = ap doubts t.steps.at
 
     pub other_same : (q : ℕ) → q ≢ p → SaysSame ((world_of v).situation q) ((world_of v').situation q)
-    other_same q other = says_same _ _ (t.steps.others q (λ same. other (same ∙ t.mine)))
+    other_same q other = says_same _ _ (t.steps.steps.others q (λ same. other (same ∙ t.steps.mine)))
 
-    pub all_same : outcome_at t.edit.stage ≡ None → (q : ℕ) → SaysSame ((world_of v).situation q) ((world_of v').situation q)
+    pub all_same : outcome_at t.steps.edit.stage ≡ None → (q : ℕ) → SaysSame ((world_of v).situation q) ((world_of v').situation q)
     all_same goes q = elim (cases_eq q p) [
       | inl here ↦ (
-          let now = ap (λ x. (world_of v').situation x) (here ∙ sym t.mine) ∙ t.steps.situation ∙ after_on t.edit t.edit.stage t.word goes in
-          let before = ap (λ x. (world_of v).situation x) here ∙ t.at in
+          let now = ap (λ x. (world_of v').situation x) (here ∙ sym t.steps.mine) ∙ t.steps.steps.situation ∙ after_on t.steps.edit t.steps.edit.stage t.steps.word goes in
+          let before = ap (λ x. (world_of v).situation x) here ∙ t.steps.at in
           record { number = ap numbered now ∙ sym (ap numbered before); doubt = ap doubts now ∙ sym (ap doubts before) })
       | inr other ↦ other_same q other
     ]
 
-    idle_after : (how : Outcome) → t.edit.stage ≡ Answer how → doubts ((world_of v').situation p) ≡ false
-    idle_after how at = ap (λ x. doubts ((world_of v').situation x)) (sym t.mine) ∙ ap doubts (t.steps.situation ∙ after_answer t.edit t.edit.stage how t.word at)
+    idle_after : (how : Outcome) → t.steps.edit.stage ≡ Answer how → doubts ((world_of v').situation p) ≡ false
+    idle_after how at = ap (λ x. doubts ((world_of v').situation x)) (sym t.steps.mine) ∙ ap doubts (t.steps.steps.situation ∙ after_answer t.steps.edit t.steps.edit.stage how t.steps.word at)
 
-    pub number_after : (how : Outcome) → t.edit.stage ≡ Answer how → numbered ((world_of v').situation p) ≡ Some (t.edit.number + 1)
-    number_after how at = ap (λ x. numbered ((world_of v').situation x)) (sym t.mine) ∙ ap numbered (t.steps.situation ∙ after_answer t.edit t.edit.stage how t.word at)
+    pub number_after : (how : Outcome) → t.steps.edit.stage ≡ Answer how → numbered ((world_of v').situation p) ≡ Some (t.steps.edit.number + 1)
+    number_after how at = ap (λ x. numbered ((world_of v').situation x)) (sym t.steps.mine) ∙ ap numbered (t.steps.steps.situation ∙ after_answer t.steps.edit t.steps.edit.stage how t.steps.word at)
 
   stepped : (p : ℕ) → EditStepsBy v p Stepped v' → Next place layout l v (Step p) Stepped v'
   stepped p t =
-      let goes : outcome_at t.edit.stage ≡ None = unanswered_at v.sheet.layout.processes t.edit.number (outcome_at t.edit.stage) t.is in
+      let goes : outcome_at t.steps.edit.stage ≡ None = unanswered_at v.sheet.layout.processes t.steps.edit.number (outcome_at t.steps.edit.stage) (replied v v' p Stepped t) in
       let all = all_same p Stepped t goes in
       let kept = kept_layout (Step p) Stepped (edits t) in
       elim (step_moves v v' h.good.sound p Stepped t) [
@@ -196,7 +193,7 @@ module _ (place : ℕ) (layout : Layout) (l : Ledger) (v v' : WorldValue) (h : I
       ]
 
   answered_by : (p : ℕ) (how : Outcome) (number : ℕ) (answer : replies.Answer) → answer ≡ Edit (end_of v.sheet.layout.processes number how)
-      → (t : EditStepsBy v p (Answered answer) v') → t.edit.stage ≡ Answer how → t.edit.number ≡ number → Next place layout l v (Step p) (Answered answer) v'
+      → (t : EditStepsBy v p (Answered answer) v') → t.steps.edit.stage ≡ Answer how → t.steps.edit.number ≡ number → Next place layout l v (Step p) (Answered answer) v'
   answered_by p outcome.Done number answer is t at same =
       let t' : EditStepsBy v p (Answered (Edit (Done number))) v' = subst (λ (a : replies.Answer). EditStepsBy v p (Answered a) v') is t in
       let s : traces.Closes (world_of v) p number (λ issue. Contains v.counted issue.edit) (world_of v') = step_moves v v' h.good.sound p (Answered (Edit (Done number))) t' in
@@ -241,8 +238,8 @@ module _ (place : ℕ) (layout : Layout) (l : Ledger) (v v' : WorldValue) (h : I
 
   answered : (p : ℕ) (answer : replies.Answer) → EditStepsBy v p (Answered answer) v' → Next place layout l v (Step p) (Answered answer) v'
   answered p answer t =
-      let found = some_outcome v.sheet.layout.processes t.edit.number answer (outcome_at t.edit.stage) t.is in
-      answered_by p found.0 t.edit.number answer found.2 t (answers_at t.edit.stage found.0 found.1) refl
+      let found = some_outcome v.sheet.layout.processes t.steps.edit.number answer (outcome_at t.steps.edit.stage) (replied v v' p (Answered answer) t) in
+      answered_by p found.0 t.steps.edit.number answer found.2 t (answers_at t.steps.edit.stage found.0 found.1) refl
 
   -- a turn of a process that leaves the list, its issues, and what each process says of its edits
   silent : (event : Event) (reply : Reply) → Takes v event reply v' → v'.counted ≡ v.counted → ((q : ℕ) → (world_of v').open_edits q ≡ (world_of v).open_edits q) → ((q : ℕ) → SaysSame ((world_of v).situation q) ((world_of v').situation q))

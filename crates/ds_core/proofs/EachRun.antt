@@ -1,7 +1,7 @@
 -- The headline of every run.
 use Rattle.std.proofs.Common.{ℕ, ◌≡◌, ◌≤◌, ◌+◌, List, [], ◌∷◌, refl, ap, sym, ◌∙◌, arith, zero, suc, length, None, true, false, Some}
 use Rattle.ds_layout.specs.declared.layout.Layout.{Layout}
-use Rattle.ds_state.specs.Value.{first_rest, WorldValue, world_of, IsGood}
+use Rattle.ds_state.specs.Value.{WorldValue, world_of, IsGood}
 use Rattle.ds_state.specs.Fresh.{IsNew}
 use Rattle.ds_core.specs.Takes.{WorldRun, world_at}
 use Rattle.ds_core.specs.Moments.{Ledger, empty_ledger}

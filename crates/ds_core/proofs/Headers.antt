@@ -20,6 +20,7 @@ use Rattle.ds_state.specs.KnownWork.{WorkHeld, WorkHolds, work_held}
 use Rattle.ds_state.specs.KnownWork as works
 use Rattle.ds_state.specs.KnownRecovery.{RecoveryHeld, RecoveryHolds}
 use Rattle.ds_state.specs.KnownRecovery as recoveries
+use Rattle.ds_state.specs.Telling.{spread_access}
 use Rattle.ds_state.specs.declared.stage.Stage.{Stage}
 use Rattle.ds_state.specs.declared.stage.Stage.TheVariants.{StoreHeader}
 use Rattle.ds_state.specs.declared.work.WorkStage.{WorkStage}
@@ -129,12 +130,13 @@ edit_sides p n old new e word ne h performs = sides_performed p n e.process (edi
 
 -- ---- of work
 
-spread_spares : (p n : ℕ) (e : PlainWorkCall) (s : Spread) → Spares p n (work_steps.spread_access e s)
-spread_spares p n e (spreads.OrTold d) = tt
-spread_spares p n e _ = tt
+-- no step of telling stores a header
+pub spread_spares : (p n cell : ℕ) (s : Spread) → Spares p n (spread_access cell s)
+spread_spares p n cell (spreads.OrTold d) = tt
+spread_spares p n cell _ = tt
 
 work_spares : (p n : ℕ) (shape : Shape) (e : PlainWorkCall) (s : WorkStage) → Spares p n (work_steps.access_at shape e s)
-work_spares p n shape e (work_stages.Telling spread) = spread_spares p n e spread
+work_spares p n shape e (work_stages.Telling spread) = spread_spares p n e.cell spread
 work_spares p n shape e _ = tt
 
 work_first : (p n : ℕ) (w : PlainWorld) (e : PlainWorkCall) (h : WorkHeld) → WorkHolds w e h → FirstSpares p n (w.memory.buffer e.process)

@@ -1,5 +1,6 @@
 pub mod Did
-pub mod Good
+pub mod Evicted
+pub mod Replied
 pub mod Traces
 pub mod Moves
 pub mod Turns

@@ -19,7 +19,6 @@ use Rattle.ds_state.specs.declared.situation.Situation.{Situation}
 use Rattle.ds_state.specs.declared.situation.Situation.TheVariants.{Idle, Editing, Working, Recovering, Reporting, Migrating}
 use Rattle.ds_state.specs.declared.situation.Rest.{Rest}
 use Rattle.ds_work.specs.WorkSteps.{rest_of}
-use Rattle.ds_work.specs.WorkTakes as work_events
 use Rattle.ds_state.specs.declared.turn.Turn.{Turn}
 use Rattle.ds_state.specs.declared.turn.Turn.TheVariants as taken
 use Rattle.ds_work.specs.WorkAnswers.{mark_now}
@@ -35,9 +34,8 @@ use Rattle.ds_core.proofs.Did as did_so
 use Rattle.ds_core.proofs.Did.{Did, did, IsNothing, edit_begins, work_begins, report_begins, recovery_begins, migration_begins, steps, offers, evicts, stops, crashes}
 use Rattle.ds_core.specs.Solo.{IsLoneEvent, IsLone, IsLoneAnswer, IsLoneReply, AreLoneReplies, StandsInOwnRow}
 use Rattle.ds_core.specs.declared.event.Event.{Event}
-use Rattle.ds_core.specs.declared.event.Event.TheVariants.{BeginEdit, BeginWork, BeginReport, BeginRecover, BeginMigrate, Step, Offer, Evict, Stop, Crash}
 use Rattle.ds_core.specs.declared.reply.Reply.{Reply}
-use Rattle.ds_core.specs.declared.reply.Reply.TheVariants.{Stepped, Answered, WrongTask, Evicted, NotEnabled}
+use Rattle.ds_core.specs.declared.reply.Reply.TheVariants.{Answered}
 
 says_nothing : (first last : PlainWorld) (cell : ℕ) (reply : Reply) → IsNothing reply → IsLoneReply first last cell reply
 says_nothing first last cell (Answered answer) none = absurd none
@@ -60,7 +58,7 @@ module _ (first last : PlainWorld) (cell p : ℕ) (n : Rest) (old new : WorldVal
 
   by : (event : Event) (reply : Reply) → Did old new event reply → IsLoneEvent p event → IsOver first last cell p reply old new
   by _ _ (did_so.nothing event reply none is all) same = nothing reply (says_nothing first last cell reply none) all
-  by _ _ (steps q reply is (edits h)) same = absurd (let bad : Idle n ≡ Editing h.edit = sym (idle_at q same) ∙ h.at in cc)
+  by _ _ (steps q reply is (edits h)) same = absurd (let bad : Idle n ≡ Editing h.steps.edit = sym (idle_at q same) ∙ h.steps.at in cc)
   by _ _ (steps q reply is (works h)) same = absurd (let bad : Idle n ≡ Working h.steps.work = sym (idle_at q same) ∙ h.steps.works in cc)
   by _ _ (steps q reply is (reports h)) same = absurd (let bad : Idle n ≡ Reporting h.steps.show = sym (idle_at q same) ∙ h.steps.at in cc)
   by _ _ (steps q reply is (recoveries h)) same = absurd (let bad : Idle n ≡ Recovering h.steps.recovery = sym (idle_at q same) ∙ h.steps.at in cc)
@@ -167,7 +165,7 @@ module _ (first last : PlainWorld) (row : ℕ → ℕ) (before : CellWords) (p c
 
   by_event : (event : Event) (reply : Reply) → Did old new event reply → IsLoneEvent p event → Goes first last row before p cell reply new ⊎ Ends row before p cell reply new
   by_event _ _ (did_so.nothing event reply none is all) same = still reply (says_nothing first last cell reply none) all
-  by_event _ _ (steps q reply is (edits h)) same = absurd (no_edit row before p cell old new sound u q h.edit same h.at)
+  by_event _ _ (steps q reply is (edits h)) same = absurd (no_edit row before p cell old new sound u q h.steps.edit same h.steps.at)
   by_event _ _ (steps q reply is (works h)) same = by_work q reply same h
   by_event _ _ (steps q reply is (reports h)) same = absurd (no_report row before p cell old new sound u q h.steps.show same h.steps.at)
   by_event _ _ (steps q reply is (recoveries h)) same = absurd (no_recovery row before p cell old new sound u q h.steps.recovery same h.steps.at)

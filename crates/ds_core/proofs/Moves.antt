@@ -27,7 +27,8 @@ use Rattle.ds_state.specs.EditEndings.{end_of, other_of, outcome_at}
 use Rattle.ds_core.proofs.Traces.{Stays, Issues, Counts, Closes, StepMoves}
 use Rattle.ds_core.specs.declared.reply.Reply.{Reply}
 use Rattle.ds_core.specs.declared.reply.Reply.TheVariants.{Answered}
-use Rattle.ds_core.proofs.Good.{counted_cases, answers_at, goes_on_at}
+use Rattle.ds_edit.proofs.Driving.{counted_cases, answers_at, goes_on_at}
+use Rattle.ds_core.proofs.Replied.{replied}
 
 pub counts_at : (e : PlainEdit) (s : Stage) (word : ℕ) → counted_at e s word ≡ e ∷ [] → (noted : ℕ) × (s ≡ Swap noted)
 counts_at e (Swap noted) word is = (noted, refl)
@@ -64,64 +65,64 @@ module _ (old new : WorldValue) (g : IsSound (world_of old)) (p : ℕ) (reply : 
   w = world_of old
 
   abbrev E : PlainEdit
-  E = edit_of h.edit
+  E = edit_of h.steps.edit
 
-  low : h.edit.process < old.sheet.layout.processes
-  low = rw h.mine h.there
+  low : h.steps.edit.process < old.sheet.layout.processes
+  low = rw h.steps.mine h.steps.there
 
-  here : (world_of old).situation h.edit.process ≡ Editing h.edit
-  here = ap (λ q. (world_of old).situation q) h.mine ∙ h.at
+  here : (world_of old).situation h.steps.edit.process ≡ Editing h.steps.edit
+  here = ap (λ q. (world_of old).situation q) h.steps.mine ∙ h.steps.at
 
-  fits : EditFits (world_of old) h.edit.process h.edit
-  fits = subst (λ (x : Situation). CallFits (world_of old) h.edit.process x) here (g.calls h.edit.process low)
+  fits : EditFits (world_of old) h.steps.edit.process h.steps.edit
+  fits = subst (λ (x : Situation). CallFits (world_of old) h.steps.edit.process x) here (g.calls h.steps.edit.process low)
 
   open_here : (world_of old).open_edits p ≡ Some (record { edit = E; since = fits.since })
-  open_here = ap (λ q. (world_of old).open_edits q) (sym h.mine) ∙ fits.open_edits
+  open_here = ap (λ q. (world_of old).open_edits q) (sym h.steps.mine) ∙ fits.open_edits
 
-  open_edit_there : (q : ℕ) → outcome_at h.edit.stage ≡ None → (world_of new).open_edits q ≡ (world_of old).open_edits q
-  open_edit_there q goes = elim (cases_eq q h.edit.process) [
-    | inl same ↦ rw same (h.steps.open_edits ∙ goes_on_at h.edit.stage _ goes)
-    | inr other ↦ h.steps.others_open_edits q other
+  open_edit_there : (q : ℕ) → outcome_at h.steps.edit.stage ≡ None → (world_of new).open_edits q ≡ (world_of old).open_edits q
+  open_edit_there q goes = elim (cases_eq q h.steps.edit.process) [
+    | inl same ↦ rw same (h.steps.steps.open_edits ∙ goes_on_at h.steps.edit.stage _ goes)
+    | inr other ↦ h.steps.steps.others_open_edits q other
   ]
 
-  steps_on : outcome_at h.edit.stage ≡ None → Stays (world_of old) (world_of new) ⊎ Counts (world_of old) p (world_of new)
-  steps_on goes = elim (counted_cases E h.edit.stage h.word) [
+  steps_on : outcome_at h.steps.edit.stage ≡ None → Stays (world_of old) (world_of new) ⊎ Counts (world_of old) p (world_of new)
+  steps_on goes = elim (counted_cases E h.steps.edit.stage h.steps.word) [
     | inl none ↦ inl (record {
-      counted = h.steps.counted ∙ ap (λ es. old.counted ++ es) none ∙ append-nil old.counted;
+      counted = h.steps.steps.counted ∙ ap (λ es. old.counted ++ es) none ∙ append-nil old.counted;
       open_edits = λ q. open_edit_there q goes;
     })
     | inr one ↦ inr (
-        let swaps = counts_at E h.edit.stage h.word one in
-        let knows : Knowing (world_of old) h.edit.edition E h.edit.refs fits.since (known_at (text_parts h.edit.text) (length h.edit.refs) (Swap swaps.0)) =
-        subst (λ (s : Stage). Knowing (world_of old) h.edit.edition E h.edit.refs fits.since (known_at (text_parts h.edit.text) (length h.edit.refs) s)) swaps.1 fits.knows in
+        let swaps = counts_at E h.steps.edit.stage h.steps.word one in
+        let knows : Knowing (world_of old) h.steps.edit.edition E h.steps.edit.refs fits.since (known_at (text_parts h.steps.edit.text) (length h.steps.edit.refs) (Swap swaps.0)) =
+        subst (λ (s : Stage). Knowing (world_of old) h.steps.edit.edition E h.steps.edit.refs fits.since (known_at (text_parts h.steps.edit.text) (length h.steps.edit.refs) s)) swaps.1 fits.knows in
         record {
           issue = record { edit = E; since = fits.since };
           open_is = open_here;
-          mine = h.mine;
+          mine = h.steps.mine;
           not_yet = not_below (world_of old) E knows.standing;
-          counted = h.steps.counted ∙ ap (λ es. old.counted ++ es) one;
+          counted = h.steps.steps.counted ∙ ap (λ es. old.counted ++ es) one;
           open_edits = λ q. open_edit_there q goes;
         })
   ]
 
-  closes : (how : Outcome) (Is : PlainIssue → Type 0) → h.edit.stage ≡ Answer how → Is (record { edit = E; since = fits.since }) → Closes (world_of old) p h.edit.number Is (world_of new)
+  closes : (how : Outcome) (Is : PlainIssue → Type 0) → h.steps.edit.stage ≡ Answer how → Is (record { edit = E; since = fits.since }) → Closes (world_of old) p h.steps.edit.number Is (world_of new)
   closes how Is at is = record {
     issue = record { edit = E; since = fits.since };
     open_is = open_here;
     number_is = refl;
     is = is;
-    closed = ap (λ q. (world_of new).open_edits q) (sym h.mine) ∙ h.steps.open_edits ∙ ap (λ s. open_edit_at ((world_of old).open_edits h.edit.process) s) at;
-    others = λ q ne. h.steps.others_open_edits q (λ same. ne (same ∙ h.mine));
-    counted = h.steps.counted ∙ ap (λ s. old.counted ++ counted_at E s h.word) at ∙ append-nil old.counted;
+    closed = ap (λ q. (world_of new).open_edits q) (sym h.steps.mine) ∙ h.steps.steps.open_edits ∙ ap (λ s. open_edit_at ((world_of old).open_edits h.steps.edit.process) s) at;
+    others = λ q ne. h.steps.steps.others_open_edits q (λ same. ne (same ∙ h.steps.mine));
+    counted = h.steps.steps.counted ∙ ap (λ s. old.counted ++ counted_at E s h.steps.word) at ∙ append-nil old.counted;
   }
 
-  true_here : (how : Outcome) → h.edit.stage ≡ Answer how → IsTrueOf (world_of old) E fits.since how
+  true_here : (how : Outcome) → h.steps.edit.stage ≡ Answer how → IsTrueOf (world_of old) E fits.since how
   true_here how at =
-      let t : IsTrueAnswer (world_of old) E how = answer_true h.edit how (world_of old) g low at here in
+      let t : IsTrueAnswer (world_of old) E how = answer_true h.steps.edit how (world_of old) g low at here in
       let since : t.since ≡ fits.since = same_since (record { edit = E; since = t.since }) (record { edit = E; since = fits.since }) (sym t.issued ∙ fits.open_edits) in
       subst (λ (n : ℕ). IsTrueOf (world_of old) E n how) since t.holds
 
-  answers : (how : Outcome) → h.edit.stage ≡ Answer how → StepMoves (world_of old) p (Answered (Edit (end_of old.sheet.layout.processes h.edit.number how))) (world_of new)
+  answers : (how : Outcome) → h.steps.edit.stage ≡ Answer how → StepMoves (world_of old) p (Answered (Edit (end_of old.sheet.layout.processes h.steps.edit.number how))) (world_of new)
   answers outcome.Done at = closes outcome.Done _ at (true_here outcome.Done at)
   answers (outcome.Overtaken noted seen) at =
       let t = true_here (outcome.Overtaken noted seen) at in
@@ -136,8 +137,8 @@ module _ (old new : WorldValue) (g : IsSound (world_of old)) (p : ℕ) (reply : 
       })
 
   pub step_moves : StepMoves (world_of old) p reply (world_of new)
-  step_moves = by_outcome (outcome_at h.edit.stage) refl
+  step_moves = by_outcome (outcome_at h.steps.edit.stage) refl
     where
-      by_outcome : (o : Option Outcome) → outcome_at h.edit.stage ≡ o → StepMoves (world_of old) p reply (world_of new)
-      by_outcome None is = subst (λ (r : Reply). StepMoves (world_of old) p r (world_of new)) (sym (h.is ∙ ap (λ o. reply_with old.sheet.layout.processes h.edit.number o) is)) (steps_on is)
-      by_outcome (Some how) is = subst (λ (r : Reply). StepMoves (world_of old) p r (world_of new)) (sym (h.is ∙ ap (λ o. reply_with old.sheet.layout.processes h.edit.number o) is)) (answers how (answers_at h.edit.stage how is))
+      by_outcome : (o : Option Outcome) → outcome_at h.steps.edit.stage ≡ o → StepMoves (world_of old) p reply (world_of new)
+      by_outcome None is = subst (λ (r : Reply). StepMoves (world_of old) p r (world_of new)) (sym (replied old new p reply h ∙ ap (λ o. reply_with old.sheet.layout.processes h.steps.edit.number o) is)) (steps_on is)
+      by_outcome (Some how) is = subst (λ (r : Reply). StepMoves (world_of old) p r (world_of new)) (sym (replied old new p reply h ∙ ap (λ o. reply_with old.sheet.layout.processes h.steps.edit.number o) is)) (answers how (answers_at h.steps.edit.stage how is))

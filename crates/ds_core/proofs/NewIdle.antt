@@ -1,5 +1,5 @@
 -- In a new sheet every process is idle, before its edit 0.
-use Rattle.std.proofs.Common.{ℕ, ◌≡◌, ◌<◌, refl, inl, inr, arith}
+use Rattle.std.proofs.Common.{ℕ, ◌≡◌, refl, inl, inr, arith}
 use Rattle.std.proofs.lemmas.Bool.{cases_lt}
 use Rattle.std.proofs.lemmas.List.{get_or_past}
 use Rattle.ds_state.specs.Fresh.{IsNew}

@@ -20,8 +20,6 @@ use Rattle.ds_state.specs.declared.stage.Outcome.{Outcome}
 use Rattle.ds_state.specs.declared.stage.Outcome.TheVariants as outcome
 use Rattle.ds_state.specs.declared.recovery.RecoverStage.{RecoverStage}
 use Rattle.ds_state.specs.declared.recovery.RecoverStage.TheVariants as stages
-use Rattle.ds_state.specs.declared.report.ReportEnd.TheVariants as ends
-use Rattle.ds_state.specs.declared.work.WorkEnd.TheVariants as work_ends
 use Rattle.ds_state.specs.EditEndings.{end_of as end_by, outcome_at}
 use Rattle.ds_state.specs.declared.recovery.Told.{Told}
 use Rattle.ds_state.specs.declared.answer.Answer.TheVariants.{Edit, Recovery}
@@ -30,8 +28,7 @@ use Rattle.ds_state.specs.declared.turn.Turn.TheVariants as turns
 use Rattle.ds_state.specs.declared.work.WorkEnd.{WorkEnd}
 use Rattle.ds_recover.specs.RecoverySteps.{number_of, end_of, access_at}
 use Rattle.ds_recover.proofs.RecoveryLaws.{fits_of, repeated}
-use Rattle.ds_state.specs.declared.migration.MigrateEnd.TheVariants as migrate_ends
-use Rattle.ds_core.specs.MigrationEvents.{MigrationStepsBy, MigrationBegins, migration_reply}
+use Rattle.ds_core.specs.MigrationEvents.{migration_reply}
 use Rattle.ds_core.specs.RecoveryEvents.{recovery_reply, RecoveryStepsBy}
 use Rattle.ds_core.specs.ReportEvents.{report_reply}
 use Rattle.ds_core.specs.WorkEvents.{work_reply}
@@ -42,6 +39,7 @@ use Rattle.ds_core.specs.declared.event.Event.{Event}
 use Rattle.ds_core.specs.declared.event.Event.TheVariants.{Step}
 use Rattle.ds_core.specs.declared.reply.Reply.{Reply}
 use Rattle.ds_core.specs.declared.reply.Reply.TheVariants.{Answered}
+use Rattle.ds_core.proofs.Replied.{replied}
 use Rattle.ds_core.proofs.Resolved.{at_answer, counted_done}
 use Rattle.ds_core.proofs.Solo.{some_outcome}
 use Rattle.ds_core.proofs.Spent.{stays_out}
@@ -97,7 +95,7 @@ pub told_not_done_never : (old mid new : WorldValue) (events : List Event) (repl
 told_not_done_never old mid new events replies p told sound (recoveries s) not run =
     let o = resolved_out old mid p told sound s not in
     stays_out events replies mid new p told.number (recovery_turn old mid p (Answered (Recovery (Last told))) sound s).keeps.sound o.0 o.1 run
-told_not_done_never old mid new events replies p told sound (edits s) not run = absurd (let found = some_outcome old.sheet.layout.processes s.edit.number (Recovery (Last told)) (outcome_at s.edit.stage) s.is in edit_not_last old.sheet.layout.processes s.edit.number told found.0 found.2)
+told_not_done_never old mid new events replies p told sound (edits s) not run = absurd (let found = some_outcome old.sheet.layout.processes s.steps.edit.number (Recovery (Last told)) (outcome_at s.steps.edit.stage) (replied old mid p (Answered (Recovery (Last told))) s) in edit_not_last old.sheet.layout.processes s.steps.edit.number told found.0 found.2)
 told_not_done_never old mid new events replies p told sound (works s) not run = absurd (work_not_last s.what told s.is)
 told_not_done_never old mid new events replies p told sound (migrations s) not run = absurd (migration_not_last s.what told s.is)
 told_not_done_never old mid new events replies p told sound (reports s) not run = absurd (report_not_last s.what told s.is)

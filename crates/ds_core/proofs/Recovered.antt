@@ -21,6 +21,7 @@ use Rattle.ds_state.specs.CallsFit.{CallFits, RecoveryFits}
 use Rattle.ds_state.specs.KnownRecovery.{recovery_held, phase_for, ResolvedFits, resolved_at}
 use Rattle.std.specs.Int.{bit_at}
 use Rattle.ds_state.specs.declared.situation.Situation.{Situation}
+use Rattle.ds_state.specs.Telling.{spread_access}
 use Rattle.ds_state.specs.declared.spread.Spread.{Spread}
 use Rattle.ds_state.specs.declared.spread.Spread.TheVariants as spreads
 use Rattle.ds_state.specs.declared.recovery.RecoverStage.{RecoverStage}
@@ -32,7 +33,7 @@ use Rattle.ds_core.specs.RecoveryEvents.{RecoveryStepsBy, RecoveryBegins}
 use Rattle.ds_core.specs.Moments.{Ledger}
 use Rattle.ds_core.specs.declared.reply.Reply.{Reply}
 use Rattle.ds_core.proofs.AtRecovery.{recovery_now, recovery_pending}
-use Rattle.ds_core.proofs.Headers.{SidesStay, Spares, sides_same, sides_performed, recovery_first}
+use Rattle.ds_core.proofs.Headers.{SidesStay, Spares, sides_same, sides_performed, recovery_first, spread_spares}
 use Rattle.ds_core.proofs.Ledgers.{IsOf, doubts}
 use Rattle.ds_core.proofs.Turns.{recovery_turn, recovery_begins_turn}
 use Rattle.ds_core.proofs.Told.{cell_told, HasSeen, SeesCell, Tells, has_seen, told_on, tells_turn}
@@ -40,12 +41,8 @@ use Rattle.ds_core.proofs.Telling.{announces_now}
 
 -- ---- its accesses
 
-spread_spares : (p n : ℕ) (e : PlainRecoverCall) (cell : ℕ) (s : Spread) → Spares p n (steps.spread_access cell s)
-spread_spares p n e cell (spreads.OrTold d) = tt
-spread_spares p n e cell _ = tt
-
 spares : (p n : ℕ) (e : PlainRecoverCall) (s : RecoverStage) → Spares p n (steps.access_at e s)
-spares p n e (stages.Telling cell spread) = spread_spares p n e cell spread
+spares p n e (stages.Telling cell spread) = spread_spares p n cell spread
 spares p n e _ = tt
 
 pub recovery_sides : (p n : ℕ) (old new : PlainWorld) (e : PlainRecoverCall) (word : ℕ) → RecoveryFits old e.process e → PerformsAt (steps.access_at e e.stage) e.process old.memory new.memory word → SidesStay old.memory new.memory (Header p n)
@@ -71,11 +68,11 @@ cached_stays q (acts.SwapIf _ expected value) old new word r plain not h = absur
 cached_stays q (acts.Flush s) old new word r plain not h = h.1.cached r
 cached_stays q acts.Back old new word r plain not h = h.1.2.cached r
 
-spread_plain : (e : PlainRecoverCall) (cell : ℕ) (s : Spread) → IsPlain (steps.spread_access cell s)
-spread_plain e cell (spreads.LoadRow part) = tt
-spread_plain e cell (spreads.OrTold d) = tt
-spread_plain e cell (spreads.FlushTold d) = tt
-spread_plain e cell (spreads.BackTold d) = tt
+spread_plain : (cell : ℕ) (s : Spread) → IsPlain (spread_access cell s)
+spread_plain cell (spreads.LoadRow part) = tt
+spread_plain cell (spreads.OrTold d) = tt
+spread_plain cell (spreads.FlushTold d) = tt
+spread_plain cell (spreads.BackTold d) = tt
 
 -- the one that stores is that of an open edit
 abbrev IsStore : RecoverStage → Type 0 → Type 0
@@ -84,7 +81,7 @@ IsStore _ P = Unit {0}
 
 plain_or_store : (e : PlainRecoverCall) (s : RecoverStage) → IsPlain (steps.access_at e s) ⊎ ((how : Bool) × (s ≡ stages.StoreOutcome how))
 plain_or_store e (stages.StoreOutcome how) = inr (how, refl)
-plain_or_store e (stages.Telling cell spread) = inl (spread_plain e cell spread)
+plain_or_store e (stages.Telling cell spread) = inl (spread_plain cell spread)
 plain_or_store e _ = inl tt
 
 header_cached : (p n : ℕ) (old new : PlainWorld) (e : PlainRecoverCall) (word : ℕ) → PerformsAt (steps.access_at e e.stage) e.process old.memory new.memory word → new.memory.cached (Header p n) ≡ old.memory.cached (Header p n)

@@ -44,25 +44,23 @@ use Rattle.ds_edit.specs.EditTakes as edit_steps
 use Rattle.ds_edit.proofs.Answering.{begin_sound}
 use Rattle.ds_report.specs.ReportRuns.{Passes, HasBegun, Call, IsOf, AreInTurn, WasStill, WasOff, IsTrueReport}
 use Rattle.ds_report.proofs.ReportRuns.{rely_same, answer_true}
-use Rattle.ds_state.specs.declared.migration.MigrateEnd.TheVariants as migrate_ends
-use Rattle.ds_core.specs.MigrationEvents.{MigrationStepsBy, MigrationBegins, migration_reply}
+use Rattle.ds_core.specs.MigrationEvents.{migration_reply}
 use Rattle.ds_core.specs.EditEvents.{reply_with, EditStepsBy}
+use Rattle.ds_core.proofs.Replied.{replied}
 use Rattle.ds_core.specs.ReportEvents.{report_reply, ReportStepsBy, ReportBegins}
 use Rattle.ds_core.specs.StepEvents.{StepsBy, edits, works, reports, recoveries, migrations}
 use Rattle.ds_core.specs.WorkEvents.{work_reply}
 use Rattle.ds_core.specs.RecoveryEvents.{recovery_reply, RecoveryStepsBy}
 use Rattle.ds_state.specs.declared.work.WorkEnd.{WorkEnd}
-use Rattle.ds_state.specs.declared.work.WorkEnd.TheVariants as work_ends
-use Rattle.ds_state.specs.declared.recovery.RecoveryEnd.TheVariants as recovery_ends
 use Rattle.ds_core.specs.Takes.{Takes}
 use Rattle.ds_core.specs.Moments.{Moment, MomentFits, empty_ledger}
 use Rattle.ds_core.proofs.Did as did_so
 use Rattle.ds_core.proofs.Did.{Did, did, nothing, edit_begins, work_begins, report_begins, recovery_begins, migration_begins, offers, evicts, stops, crashes}
 use Rattle.ds_core.specs.Headline.{Happens, IsCall, IsWatched, IsUnrest, SettledFits, UnsettledFits, ReportsFit, kept_values}
 use Rattle.ds_core.specs.declared.event.Event.{Event}
-use Rattle.ds_core.specs.declared.event.Event.TheVariants.{BeginEdit, BeginWork, BeginReport, BeginRecover, BeginMigrate, Step, Offer, Evict, Stop, Crash}
+use Rattle.ds_core.specs.declared.event.Event.TheVariants.{BeginEdit, BeginWork, BeginReport, BeginRecover, BeginMigrate, Step, Offer, Stop}
 use Rattle.ds_core.specs.declared.reply.Reply.{Reply}
-use Rattle.ds_core.specs.declared.reply.Reply.TheVariants.{Begun, Entered, Refused, Stepped, Answered, WrongTask, Evicted, Stopped, Crashed, NotEnabled}
+use Rattle.ds_core.specs.declared.reply.Reply.TheVariants.{Begun, Entered, Stepped, Answered, Stopped}
 use Rattle.ds_core.proofs.Turns.{IsTurn, LeavesEdits, edit_turn, report_turn, report_begins_turn, stop_turn, work_leaves, work_begins_leaves, offer_leaves, recovery_turn, recovery_begins_turn, migration_turn, migration_begins_turn}
 use Rattle.ds_core.proofs.AtWork.{StaysAtWork, at_work_shows_not, work_stays, work_begins_stays, offer_stays}
 use Rattle.ds_core.proofs.AtRecovery.{recovery_shows_not}
@@ -113,7 +111,7 @@ module _ (p : ℕ) (old new : WorldValue) (good : IsGood old) (low : p < old.she
   ]
 
   by_edit : (q : ℕ) (reply : Reply) → EditStepsBy old q reply new → Either (Step q) reply
-  by_edit q reply h = by_turn (Step q) reply q (edit_turn old new q reply good.sound h) (λ same f is. edit_after h.edit h.edit.stage h.word f (sym h.steps.situation ∙ ap (λ x. (world_of new).situation x) h.mine ∙ is))
+  by_edit q reply h = by_turn (Step q) reply q (edit_turn old new q reply good.sound h) (λ same f is. edit_after h.steps.edit h.steps.edit.stage h.steps.word f (sym h.steps.steps.situation ∙ ap (λ x. (world_of new).situation x) h.steps.mine ∙ is))
     where
       edit_after : (e : PlainEditCall) (s : Stage) (word : ℕ) (f : PlainReportCall) → edit_steps.after e s word ≡ Reporting f → ⊥
       edit_after e (Answer how) word f is = absurd (cc)
@@ -370,7 +368,7 @@ module _ (old : WorldValue) (events : List Event) (replies : List Reply) (new : 
       lt = there events k (Step p) happens.event_is
 
       by : StepsBy (at k) p (Answered (Report Settled)) (at (k + 1)) → (start : ℕ) × IsCall events replies p start k × SettledFits run.moment start k (kept_values (at (k + 1)) p)
-      by (edits h) = absurd (edit_settles (at k).sheet.layout.processes h.edit.number (outcome_at h.edit.stage) h.is)
+      by (edits h) = absurd (edit_settles (at k).sheet.layout.processes h.steps.edit.number (outcome_at h.steps.edit.stage) (replied (at k) (at (k + 1)) p (Answered (Report Settled)) h))
       by (works h) = absurd (work_reports_not h.what (Report Settled) h.is)
       by (recoveries h) = absurd (recovery_reports_not h.what (Report Settled) h.is)
       by (migrations h) = absurd (migration_reports_not h.what (Report Settled) h.is)
@@ -439,7 +437,7 @@ module _ (old : WorldValue) (events : List Event) (replies : List Reply) (new : 
       lt = there events k (Step p) happens.event_is
 
       by : StepsBy (at k) p (Answered (Report (Unsettled place word))) (at (k + 1)) → (start : ℕ) × IsCall events replies p start k × UnsettledFits run.moment start k place word
-      by (edits h) = absurd (edit_unsettles (at k).sheet.layout.processes h.edit.number place word (outcome_at h.edit.stage) h.is)
+      by (edits h) = absurd (edit_unsettles (at k).sheet.layout.processes h.steps.edit.number place word (outcome_at h.steps.edit.stage) (replied (at k) (at (k + 1)) p (Answered (Report (Unsettled place word))) h))
       by (works h) = absurd (work_reports_not h.what (Report (Unsettled place word)) h.is)
       by (recoveries h) = absurd (recovery_reports_not h.what (Report (Unsettled place word)) h.is)
       by (migrations h) = absurd (migration_reports_not h.what (Report (Unsettled place word)) h.is)

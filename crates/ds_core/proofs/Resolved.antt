@@ -10,7 +10,7 @@ use Rattle.ds_layout.specs.declared.announcement.Phase.TheVariants as phase
 use Rattle.ds_layout.specs.declared.place.Place.TheVariants.{Header, Announce}
 use Rattle.ds_layout.specs.declared.layout.Layout.{Layout}
 use Rattle.ds_layout.specs.SheetMemory.{PerformsAt}
-use Rattle.ds_state.specs.World.{PlainEdit, PlainIssue, PlainWorld, announcement, last_announcement, phase_among, record_size, is_edit_of}
+use Rattle.ds_state.specs.World.{PlainEdit, PlainIssue, PlainWorld, announcement, last_announcement, phase_among, is_edit_of}
 use Rattle.ds_state.specs.Works.{PlainRecoverCall}
 use Rattle.ds_state.specs.Known.{Standing, outside, inside, safe, Announced, last, pending, ended, word_of, phase_of, AreBelow, StandsAs, IsRecorded}
 use Rattle.ds_state.specs.CallsFit.{CallFits, MaySay, DoubtFits, IsInDoubt, IsWritten, RecoveryFits}

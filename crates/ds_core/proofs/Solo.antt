@@ -1,5 +1,5 @@
 -- An edit that is alone is done.
-use Rattle.std.proofs.Common.{ℕ, ◌≡◌, ◌+◌, List, [], ◌∷◌, refl, ap, sym, ◌∙◌, subst, Some, None}
+use Rattle.std.proofs.Common.{ℕ, ◌≡◌, List, [], ◌∷◌, refl, ap, sym, ◌∙◌, subst, Some, None}
 use Rattle.std.specs.Prelude.{Option}
 use Rattle.ds_layout.specs.declared.place.Place.TheVariants as place
 use Rattle.ds_state.specs.Works.{PlainWorkCall, PlainReportCall, PlainRecoverCall, PlainMigrateCall}
@@ -24,13 +24,13 @@ use Rattle.ds_core.specs.Takes.{Takes, WorldRun}
 use Rattle.ds_core.specs.Solo.{IsSoloEvent, IsSolo, IsDoneOnly, AreDoneOnly}
 use Rattle.ds_core.proofs.Did.{Did, did, IsNothing, IsOfStep, nothing, edit_begins, work_begins, report_begins, recovery_begins, migration_begins, steps, offers, evicts, stops, crashes}
 use Rattle.ds_core.specs.declared.event.Event.{Event}
-use Rattle.ds_core.specs.declared.event.Event.TheVariants.{BeginEdit, BeginWork, BeginReport, BeginRecover, BeginMigrate, Step, Offer, Evict, Stop, Crash}
 use Rattle.ds_state.specs.declared.answer.Answer.{Answer as ReplyAnswer}
 use Rattle.ds_state.specs.declared.answer.Answer.TheVariants.{Edit}
 use Rattle.ds_state.specs.declared.answer.EditEnd.TheVariants.{Done}
 use Rattle.ds_core.specs.declared.reply.Reply.{Reply}
-use Rattle.ds_core.specs.declared.reply.Reply.TheVariants.{Stepped, Answered, Evicted, NotEnabled}
-use Rattle.ds_core.proofs.Good.{answers_at}
+use Rattle.ds_core.specs.declared.reply.Reply.TheVariants.{Stepped, Answered}
+use Rattle.ds_edit.proofs.Driving.{answers_at}
+use Rattle.ds_core.proofs.Replied.{replied}
 use Rattle.ds_core.proofs.Bound.{unanswered_at, after_on, editing_same}
 
 alone_same : (w w' : PlainWorld) (cell : ℕ) (s : Stage) → w'.memory.cached (place.Head cell) ≡ w.memory.cached (place.Head cell) → IsAloneAt w cell s → IsAloneAt w' cell s
@@ -71,42 +71,42 @@ module _ (old new : WorldValue) (sound : IsSound (world_of old)) (p number : ℕ
   -- a step of its own that is not answered
   module _ (q : ℕ) (same : q ≡ p) (h : EditStepsBy old q Stepped new) where
     abbrev next : PlainEditCall
-    next = record h.edit { stage = next_at h.edit h.edit.stage h.word }
+    next = record h.steps.edit { stage = next_at h.steps.edit h.steps.edit.stage h.steps.word }
 
-    goes : outcome_at h.edit.stage ≡ None
-    goes = unanswered_at old.sheet.layout.processes h.edit.number (outcome_at h.edit.stage) h.is
+    goes : outcome_at h.steps.edit.stage ≡ None
+    goes = unanswered_at old.sheet.layout.processes h.steps.edit.number (outcome_at h.steps.edit.stage) (replied old new q Stepped h)
 
     now : (world_of new).situation p ≡ Editing next
-    now = situation_now h.edit q h.mine same (Editing next) (h.steps.situation ∙ after_on h.edit h.edit.stage h.word goes)
+    now = situation_now h.steps.edit q h.steps.mine same (Editing next) (h.steps.steps.situation ∙ after_on h.steps.edit h.steps.edit.stage h.steps.word goes)
 
     stepped : IsAlone new p number
     stepped = record {
       only = subst EditsOnly (sym now) tt;
       edit = λ e' is. (
-          let before = a.edit h.edit (ap (λ x. (world_of old).situation x) (sym same) ∙ h.at) in
+          let before = a.edit h.steps.edit (ap (λ x. (world_of old).situation x) (sym same) ∙ h.steps.at) in
           subst (λ (x : PlainEditCall). (x.number ≡ number) × IsAloneAt (world_of new) x.cell x.stage) (editing_same ((world_of new).situation p) next e' now is)
-          (before.0, alone h.edit h.word (world_of old) (world_of new) sound h.edit.stage h.steps.memory before.1));
+          (before.0, alone h.steps.edit h.steps.word (world_of old) (world_of new) sound h.steps.edit.stage h.steps.steps.memory before.1));
     }
 
   -- its answer
   module _ (q : ℕ) (answer : ReplyAnswer) (same : q ≡ p) (h : EditStepsBy old q (Answered answer) new) where
-    found : (how : Outcome) × (outcome_at h.edit.stage ≡ Some how) × (answer ≡ Edit (end_of old.sheet.layout.processes h.edit.number how))
-    found = some_outcome old.sheet.layout.processes h.edit.number answer (outcome_at h.edit.stage) h.is
+    found : (how : Outcome) × (outcome_at h.steps.edit.stage ≡ Some how) × (answer ≡ Edit (end_of old.sheet.layout.processes h.steps.edit.number how))
+    found = some_outcome old.sheet.layout.processes h.steps.edit.number answer (outcome_at h.steps.edit.stage) (replied old new q (Answered answer) h)
 
-    last : h.edit.stage ≡ Answer found.0
-    last = answers_at h.edit.stage found.0 found.1
+    last : h.steps.edit.stage ≡ Answer found.0
+    last = answers_at h.steps.edit.stage found.0 found.1
 
-    over : (world_of new).situation p ≡ Idle (rest_behind h.edit)
-    over = situation_now h.edit q h.mine same _ (h.steps.situation ∙ after_answer h.edit h.edit.stage found.0 h.word last)
+    over : (world_of new).situation p ≡ Idle (rest_behind h.steps.edit)
+    over = situation_now h.steps.edit q h.steps.mine same _ (h.steps.steps.situation ∙ after_answer h.steps.edit h.steps.edit.stage found.0 h.steps.word last)
 
     answered : (answer ≡ Edit (Done number)) × IsAlone new p number
     answered =
-        let before = a.edit h.edit (ap (λ x. (world_of old).situation x) (sym same) ∙ h.at) in
-        let done : found.0 ≡ outcome.Done = subst (λ (s : Stage). IsAloneAt (world_of old) h.edit.cell s) last before.1 in (
-          found.2 ∙ ap (λ how. Edit (end_of old.sheet.layout.processes h.edit.number how)) done ∙ ap (λ n. Edit (Done n)) before.0,
+        let before = a.edit h.steps.edit (ap (λ x. (world_of old).situation x) (sym same) ∙ h.steps.at) in
+        let done : found.0 ≡ outcome.Done = subst (λ (s : Stage). IsAloneAt (world_of old) h.steps.edit.cell s) last before.1 in (
+          found.2 ∙ ap (λ how. Edit (end_of old.sheet.layout.processes h.steps.edit.number how)) done ∙ ap (λ n. Edit (Done n)) before.0,
           record {
             only = subst EditsOnly (sym over) tt;
-            edit = λ e' is. absurd (let bad : Idle (rest_behind h.edit) ≡ Editing e' = sym over ∙ is in cc);
+            edit = λ e' is. absurd (let bad : Idle (rest_behind h.steps.edit) ≡ Editing e' = sym over ∙ is in cc);
           },
         )
 

@@ -21,8 +21,7 @@ use Rattle.ds_state.specs.declared.situation.Situation.{Situation}
 use Rattle.ds_state.specs.declared.situation.Situation.TheVariants.{Editing}
 use Rattle.ds_edit.specs.EditTakes.{counted_at}
 use Rattle.ds_state.specs.declared.turn.Turn.TheVariants as turns
-use Rattle.ds_state.specs.declared.migration.MigrateEnd.TheVariants as migrate_ends
-use Rattle.ds_core.specs.MigrationEvents.{MigrationStepsBy, MigrationBegins, migration_reply}
+use Rattle.ds_core.specs.MigrationEvents.{migration_reply}
 use Rattle.ds_core.specs.EditEvents.{EditStepsBy}
 use Rattle.ds_state.specs.EditEndings.{end_of, outcome_at}
 use Rattle.ds_core.specs.Takes.{Takes, WorldRun}
@@ -35,19 +34,17 @@ use Rattle.ds_state.proofs.Crashed.{was_counted}
 use Rattle.ds_layout.specs.declared.place.Place.TheVariants.{Announce}
 use Rattle.ds_edit.proofs.Sound.{step_sound}
 use Rattle.ds_core.specs.declared.event.Event.{Event}
-use Rattle.ds_core.specs.declared.event.Event.TheVariants.{BeginEdit, BeginWork, BeginReport, BeginRecover, BeginMigrate, Step, Offer, Evict, Stop, Crash}
+use Rattle.ds_core.specs.declared.event.Event.TheVariants.{Step}
 use Rattle.ds_state.specs.declared.answer.Other.{Other}
 use Rattle.ds_state.specs.declared.answer.Answer.TheVariants.{Edit}
 use Rattle.ds_state.specs.declared.answer.EditEnd.TheVariants.{Overtaken}
 use Rattle.ds_core.specs.declared.reply.Reply.{Reply}
-use Rattle.ds_core.specs.declared.reply.Reply.TheVariants.{Begun, Entered, Refused, Stepped, Answered, WrongTask, Evicted, Stopped, Crashed, NotEnabled}
-use Rattle.ds_core.proofs.Good.{counted_cases, answers_at}
+use Rattle.ds_core.specs.declared.reply.Reply.TheVariants.{Answered}
+use Rattle.ds_edit.proofs.Driving.{counted_cases, answers_at}
+use Rattle.ds_core.proofs.Replied.{replied}
 use Rattle.ds_core.proofs.Moves.{counts_at}
-use Rattle.ds_state.specs.declared.report.ReportEnd.TheVariants as ends
 use Rattle.ds_core.specs.ReportEvents.{report_reply, ReportStepsBy}
-use Rattle.ds_state.specs.declared.work.WorkEnd.TheVariants as work_ends
 use Rattle.ds_state.specs.declared.work.WorkEnd.{WorkEnd}
-use Rattle.ds_state.specs.declared.recovery.RecoveryEnd.TheVariants as recovery_ends
 use Rattle.ds_core.specs.WorkEvents.{work_reply, WorkStepsBy}
 use Rattle.ds_core.specs.RecoveryEvents.{recovery_reply, RecoveryStepsBy}
 use Rattle.ds_core.specs.StepEvents.{edits, works, reports, recoveries, migrations}
@@ -67,23 +64,23 @@ module _ (old new : WorldValue) (sound : IsSound (world_of old)) (p n : ℕ) (sp
 
   by_step : (q : ℕ) (reply : Reply) → EditStepsBy old q reply new → Stays
   by_step q reply h =
-      let low : h.edit.process < old.sheet.layout.processes = rw h.mine h.there in
-      let here : (world_of old).situation h.edit.process ≡ Editing h.edit = ap (λ x. (world_of old).situation x) h.mine ∙ h.at in
-      let kept : Keeps h.edit.process (world_of old) (world_of new) = step_sound h.edit h.word (world_of old) (world_of new) sound low here h.steps in
-      let stays : IsOut (world_of new) p n = λ e there its is. elim (Contains-append_cases old.counted (counted_at (edit_of h.edit) h.edit.stage h.word) e (subst (λ (es : List PlainEdit). Contains es e) h.steps.counted there)) [
+      let low : h.steps.edit.process < old.sheet.layout.processes = rw h.steps.mine h.steps.there in
+      let here : (world_of old).situation h.steps.edit.process ≡ Editing h.steps.edit = ap (λ x. (world_of old).situation x) h.steps.mine ∙ h.steps.at in
+      let kept : Keeps h.steps.edit.process (world_of old) (world_of new) = step_sound h.steps.edit h.steps.word (world_of old) (world_of new) sound low here h.steps.steps in
+      let stays : IsOut (world_of new) p n = λ e there its is. elim (Contains-append_cases old.counted (counted_at (edit_of h.steps.edit) h.steps.edit.stage h.steps.word) e (subst (λ (es : List PlainEdit). Contains es e) h.steps.steps.counted there)) [
         | inl before ↦ out e before its is
-        | inr now ↦ elim (counted_cases (edit_of h.edit) h.edit.stage h.word) [
+        | inr now ↦ elim (counted_cases (edit_of h.steps.edit) h.steps.edit.stage h.steps.word) [
           | inl none ↦ (let c : Contains [] e = subst (λ (es : List PlainEdit). Contains es e) none now in let l = c.1 in omega arith)
           | inr one ↦ (
-              let same : e ≡ edit_of h.edit = contains_one (edit_of h.edit) e (subst (λ (es : List PlainEdit). Contains es e) one now) in
-              let swaps = counts_at (edit_of h.edit) h.edit.stage h.word one in
-              let mine : p ≡ h.edit.process = sym its ∙ ap (λ (x : PlainEdit). x.process) same in
-              let less : n < h.edit.number = swap_unspent (world_of old) h.edit sound low here swaps.0 n swaps.1 (subst (λ (x : ℕ). IsSpent (world_of old) x n) mine spent) in
-              let k : e.number ≡ h.edit.number = ap (λ (x : PlainEdit). x.number) same in
+              let same : e ≡ edit_of h.steps.edit = contains_one (edit_of h.steps.edit) e (subst (λ (es : List PlainEdit). Contains es e) one now) in
+              let swaps = counts_at (edit_of h.steps.edit) h.steps.edit.stage h.steps.word one in
+              let mine : p ≡ h.steps.edit.process = sym its ∙ ap (λ (x : PlainEdit). x.process) same in
+              let less : n < h.steps.edit.number = swap_unspent (world_of old) h.steps.edit sound low here swaps.0 n swaps.1 (subst (λ (x : ℕ). IsSpent (world_of old) x n) mine spent) in
+              let k : e.number ≡ h.steps.edit.number = ap (λ (x : PlainEdit). x.number) same in
               omega arith)
         ]
       ] in
-      (spent_stays h.edit.process (world_of old) (world_of new) kept p n spent, stays)
+      (spent_stays h.steps.edit.process (world_of old) (world_of new) kept p n spent, stays)
 
   -- a process's turn that leaves the list
   by_turn : (q : ℕ) → IsTurn q old new → new.counted ≡ old.counted → Stays
@@ -139,23 +136,23 @@ overtaken_how processes number n other (outcome.Overtaken noted seen) is = (cc, 
 
 pub overtaken_out : (old mid : WorldValue) (p n : ℕ) (other : Other) → IsSound (world_of old) → EditStepsBy old p (Answered (Edit (Overtaken n other))) mid → IsSpent (world_of mid) p n × IsOut (world_of mid) p n
 overtaken_out old mid p n other sound h =
-    let found = some_outcome old.sheet.layout.processes h.edit.number (Edit (Overtaken n other)) (outcome_at h.edit.stage) h.is in
-    let last : h.edit.stage ≡ Answer found.0 = answers_at h.edit.stage found.0 found.1 in
-    let how = overtaken_how old.sheet.layout.processes h.edit.number n other found.0 found.2 in
-    let stage : h.edit.stage ≡ Answer (outcome.Overtaken how.1.0 how.1.1) = last ∙ ap (λ x. Answer x) how.1.2 in
-    let low : h.edit.process < old.sheet.layout.processes = rw h.mine h.there in
-    let here : (world_of old).situation h.edit.process ≡ Editing h.edit = ap (λ q. (world_of old).situation q) h.mine ∙ h.at in
-    let fits : EditFits (world_of old) h.edit.process h.edit = subst (λ (x : Situation). CallFits (world_of old) h.edit.process x) here (sound.calls h.edit.process low) in
-    let knows : Knowing (world_of old) h.edit.edition (edit_of h.edit) h.edit.refs fits.since (known_at (text_parts h.edit.text) (length h.edit.refs) (Answer (outcome.Overtaken how.1.0 how.1.1))) =
-    subst (λ (s : Stage). Knowing (world_of old) h.edit.edition (edit_of h.edit) h.edit.refs fits.since (known_at (text_parts h.edit.text) (length h.edit.refs) s)) stage fits.knows in
-    let below : AreBelow (world_of old) h.edit.process h.edit.number = knows.standing in
-    let kept : Keeps h.edit.process (world_of old) (world_of mid) = step_sound h.edit h.word (world_of old) (world_of mid) sound low here h.steps in
-    let spent : IsSpent (world_of old) h.edit.process h.edit.number = answer_spent (world_of old) h.edit sound low here found.0 last in
-    let number : n ≡ h.edit.number = how.0 in
-    let counted : mid.counted ≡ old.counted = h.steps.counted ∙ ap (λ s. old.counted ++ counted_at (edit_of h.edit) s h.word) last ∙ append-nil old.counted in (
-      spent_stays h.edit.process (world_of old) (world_of mid) kept p n (rw (number, sym h.mine) spent),
+    let found = some_outcome old.sheet.layout.processes h.steps.edit.number (Edit (Overtaken n other)) (outcome_at h.steps.edit.stage) (replied old mid p (Answered (Edit (Overtaken n other))) h) in
+    let last : h.steps.edit.stage ≡ Answer found.0 = answers_at h.steps.edit.stage found.0 found.1 in
+    let how = overtaken_how old.sheet.layout.processes h.steps.edit.number n other found.0 found.2 in
+    let stage : h.steps.edit.stage ≡ Answer (outcome.Overtaken how.1.0 how.1.1) = last ∙ ap (λ x. Answer x) how.1.2 in
+    let low : h.steps.edit.process < old.sheet.layout.processes = rw h.steps.mine h.steps.there in
+    let here : (world_of old).situation h.steps.edit.process ≡ Editing h.steps.edit = ap (λ q. (world_of old).situation q) h.steps.mine ∙ h.steps.at in
+    let fits : EditFits (world_of old) h.steps.edit.process h.steps.edit = subst (λ (x : Situation). CallFits (world_of old) h.steps.edit.process x) here (sound.calls h.steps.edit.process low) in
+    let knows : Knowing (world_of old) h.steps.edit.edition (edit_of h.steps.edit) h.steps.edit.refs fits.since (known_at (text_parts h.steps.edit.text) (length h.steps.edit.refs) (Answer (outcome.Overtaken how.1.0 how.1.1))) =
+    subst (λ (s : Stage). Knowing (world_of old) h.steps.edit.edition (edit_of h.steps.edit) h.steps.edit.refs fits.since (known_at (text_parts h.steps.edit.text) (length h.steps.edit.refs) s)) stage fits.knows in
+    let below : AreBelow (world_of old) h.steps.edit.process h.steps.edit.number = knows.standing in
+    let kept : Keeps h.steps.edit.process (world_of old) (world_of mid) = step_sound h.steps.edit h.steps.word (world_of old) (world_of mid) sound low here h.steps.steps in
+    let spent : IsSpent (world_of old) h.steps.edit.process h.steps.edit.number = answer_spent (world_of old) h.steps.edit sound low here found.0 last in
+    let number : n ≡ h.steps.edit.number = how.0 in
+    let counted : mid.counted ≡ old.counted = h.steps.steps.counted ∙ ap (λ s. old.counted ++ counted_at (edit_of h.steps.edit) s h.steps.word) last ∙ append-nil old.counted in (
+      spent_stays h.steps.edit.process (world_of old) (world_of mid) kept p n (rw (number, sym h.steps.mine) spent),
       (λ e there its is.
-          let l = All-contains (λ (f : PlainEdit). f.process ≡ h.edit.process → f.number < h.edit.number) old.counted e below (subst (λ (es : List PlainEdit). Contains es e) counted there) (its ∙ sym h.mine) in
+          let l = All-contains (λ (f : PlainEdit). f.process ≡ h.steps.edit.process → f.number < h.steps.edit.number) old.counted e below (subst (λ (es : List PlainEdit). Contains es e) counted there) (its ∙ sym h.steps.mine) in
           omega arith),
     )
 

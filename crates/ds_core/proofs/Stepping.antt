@@ -19,11 +19,11 @@ use Rattle.ds_state.specs.declared.recovery.RecoveryEnd.{RecoveryEnd}
 use Rattle.ds_state.specs.declared.migration.MigrateEnd.{MigrateEnd}
 use Rattle.ds_state.specs.declared.turn.Turn.{Turn}
 use Rattle.ds_state.specs.declared.turn.Turn.TheVariants.{GoesOn, Answers}
+use Rattle.ds_edit.specs.EditTakes as edit_takes
 use Rattle.ds_work.specs.WorkTakes as work_takes
 use Rattle.ds_report.specs.ReportTakes as report_takes
 use Rattle.ds_recover.specs.RecoverTakes as recover_takes
 use Rattle.ds_recover.specs.MigrationTakes as migration_takes
-use Rattle.ds_core.specs.EditEvents.{EditStepTakes}
 use Rattle.ds_core.specs.Ends as kinds
 use Rattle.ds_core.specs.Ends.{Kind, StepsAs, all_of, IsCallOf, IsOnlyIn}
 use Rattle.ds_core.specs.Kinds.{IsEditAnswer, IsWorkAnswer, IsReportAnswer, IsRecoveryAnswer, IsMigrationAnswer}
@@ -79,9 +79,9 @@ which_migration (Migrating e) h = (e, refl)
 
 -- ---- a step of each kind
 
-pub of_edit : (old new : WorldValue) (p : ℕ) (turn : Option (Turn EditEnd)) → EditStepTakes old p turn new → StepsAs kinds.edits old p turn new
+pub of_edit : (old new : WorldValue) (p : ℕ) (turn : Option (Turn EditEnd)) → edit_takes.StepTakes old p turn new → StepsAs kinds.edits old p turn new
 of_edit old new p None h = record { same = h.same; waits = λ low call. absurd (let w = which_edit ((world_of old).situation p) call in h.none w.0 low w.1) }
-of_edit old new p (Some turn) h = edits h
+of_edit old new p (Some turn) h = edits (record { what = turn; steps = h; is = refl })
 
 pub of_work : (old new : WorldValue) (p : ℕ) (turn : Option (Turn WorkEnd)) → work_takes.StepTakes (world_of old) p turn (world_of new) → IfNone turn (new ≡ old)
     → new.done ≡ old.done → new.settled ≡ old.settled → new.reports ≡ old.reports → StepsAs kinds.works old p turn new

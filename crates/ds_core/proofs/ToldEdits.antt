@@ -45,21 +45,21 @@ tells_begun l l' v v' edit t s layout memory others sure next counted told =
     (λ issue is. (let one = one_some ((world_of v').open_edits edit.process) issue (record { edit = edit; since = length v.counted }) is s.issued in ap (λ (i : PlainIssue). i.edit.number) one ∙ next)) sure
 
 module _ (layout : _) (l : Ledger) (v v' : WorldValue) (h : IsOf layout l v) (t : Tells l v) (p : ℕ) (reply : Reply) (s : EditStepsBy v p reply v') where
-  fits : EditFits (world_of v) p s.edit
-  fits = subst (λ (x : Situation). CallFits (world_of v) p x) s.at (h.good.sound.calls p s.there)
+  fits : EditFits (world_of v) p s.steps.edit
+  fits = subst (λ (x : Situation). CallFits (world_of v) p x) s.steps.at (h.good.sound.calls p s.steps.there)
 
   -- its number is that behind the last closed edit's
-  number_next : s.edit.number ≡ next_number (l.told p)
-  number_next = t.opens p (record { edit = edit_of s.edit; since = fits.since }) fits.open_edits
+  number_next : s.steps.edit.number ≡ next_number (l.told p)
+  number_next = t.opens p (record { edit = edit_of s.steps.edit; since = fits.since }) fits.open_edits
 
-  apart : (c : Closed) → l.told p ≡ Some c → s.edit.number ≡ c.it.edit.number → ⊥
+  apart : (c : Closed) → l.told p ≡ Some c → s.steps.edit.number ≡ c.it.edit.number → ⊥
   apart c is same = let next = number_next ∙ ap next_number is in omega arith
 
   sides : (c : Closed) → l.told p ≡ Some c → SidesStay (world_of v).memory (world_of v').memory (Header p c.it.edit.number)
-  sides c is = edit_sides p c.it.edit.number (world_of v) (world_of v') s.edit s.word (apart c is) fits.buffer s.steps.memory
+  sides c is = edit_sides p c.it.edit.number (world_of v) (world_of v') s.steps.edit s.steps.word (apart c is) fits.buffer s.steps.steps.memory
 
-  its : (issue : PlainIssue) → (world_of v).open_edits p ≡ Some issue → issue.edit ≡ edit_of s.edit
-  its issue is = ap (λ (i : PlainIssue). i.edit) (one_some ((world_of v).open_edits p) issue (record { edit = edit_of s.edit; since = fits.since }) is fits.open_edits)
+  its : (issue : PlainIssue) → (world_of v).open_edits p ≡ Some issue → issue.edit ≡ edit_of s.steps.edit
+  its issue is = ap (λ (i : PlainIssue). i.edit) (one_some ((world_of v).open_edits p) issue (record { edit = edit_of s.steps.edit; since = fits.since }) is fits.open_edits)
 
   leaves : LeavesOthers p v v'
   leaves = turn_leaves p v v' (edit_turn v v' p reply h.good.sound s)
@@ -70,14 +70,14 @@ module _ (layout : _) (l : Ledger) (v v' : WorldValue) (h : IsOf layout l v) (t 
     opens issue is = t.opens p issue (sym pending ∙ is)
 
     pub tells_edit_on : Tells l v'
-    tells_edit_on = tells_on p l l v v' t leaves s.steps.layout (λ q. refl) (λ q c is. (t.told q c is).counted) sides opens sure
+    tells_edit_on = tells_on p l l v v' t leaves s.steps.steps.layout (λ q. refl) (λ q c is. (t.told q c is).counted) sides opens sure
 
     -- it comes to count
     module _ (l' : Ledger) (x : Placed) (counted : l'.counted ≡ l.counted ++ x ∷ []) (told : (q : ℕ) → l'.told q ≡ l.told q) (issue : PlainIssue) (open_is : (world_of v).open_edits p ≡ Some issue) (same : x.edit ≡ issue.edit) where
       mine : x.edit.process ≡ p
       mine = ap (λ (e : PlainEdit). e.process) (same ∙ its issue open_is) ∙ fits.mine
 
-      number : x.edit.number ≡ s.edit.number
+      number : x.edit.number ≡ s.steps.edit.number
       number = ap (λ (e : PlainEdit). e.number) (same ∙ its issue open_is)
 
       no_closed : (q : ℕ) (c : Closed) → l.told q ≡ Some c → (f : Placed) → Contains (x ∷ []) f → f.edit.process ≡ c.it.edit.process → f.edit.number ≡ c.it.edit.number → ⊥
@@ -87,18 +87,18 @@ module _ (layout : _) (l : Ledger) (v v' : WorldValue) (h : IsOf layout l v) (t 
           apart c (ap l.told its ∙ is) (sym number ∙ ap (λ (e : Placed). e.edit.number) one ∙ same_number)
 
       pub tells_counted : Tells l' v'
-      tells_counted = tells_on p l l' v v' t leaves s.steps.layout told
+      tells_counted = tells_on p l l' v v' t leaves s.steps.steps.layout told
           (λ q c is. subst (λ (es : List Placed). IsCounted es c.it c.counts) (sym counted)
           (counted_more l.counted (x ∷ []) c.it c.counts (t.told q c is).counted (λ there. Contains-append_left l.counted (x ∷ []) c.it there) (λ f there. Contains-append_cases l.counted (x ∷ []) f there) (no_closed q c is)))
           sides opens sure
 
   -- it is answered
-  module _ (how : Outcome) (at : s.edit.stage ≡ Answer how) where
-    knows : Knowing (world_of v) s.edit.edition (edit_of s.edit) s.edit.refs fits.since (known_at (text_parts s.edit.text) (length s.edit.refs) (Answer how))
-    knows = subst (λ (x : Stage). Knowing (world_of v) s.edit.edition (edit_of s.edit) s.edit.refs fits.since (known_at (text_parts s.edit.text) (length s.edit.refs) x)) at fits.knows
+  module _ (how : Outcome) (at : s.steps.edit.stage ≡ Answer how) where
+    knows : Knowing (world_of v) s.steps.edit.edition (edit_of s.steps.edit) s.steps.edit.refs fits.since (known_at (text_parts s.steps.edit.text) (length s.steps.edit.refs) (Answer how))
+    knows = subst (λ (x : Stage). Knowing (world_of v) s.steps.edit.edition (edit_of s.steps.edit) s.steps.edit.refs fits.since (known_at (text_parts s.steps.edit.text) (length s.steps.edit.refs) x)) at fits.knows
 
     memory : SameMemory (world_of v).memory (world_of v').memory
-    memory = (subst (λ (x : Stage). PerformsAt (access_at s.edit x) s.edit.process (world_of v).memory (world_of v').memory s.word) at s.steps.memory).1
+    memory = (subst (λ (x : Stage). PerformsAt (access_at s.steps.edit x) s.steps.edit.process (world_of v).memory (world_of v').memory s.steps.word) at s.steps.steps.memory).1
 
     module _ (issue : PlainIssue) (open_is : (world_of v).open_edits p ≡ Some issue) where
       pub tells_answered : (l' : Ledger) (c : Closed) → l'.told p ≡ Some c → ((q : ℕ) → q ≢ p → l'.told q ≡ l.told q) → l'.counted ≡ l.counted → c.it.edit ≡ issue.edit → IsCounted l.counted c.it c.counts
@@ -106,11 +106,11 @@ module _ (layout : _) (l : Ledger) (v v' : WorldValue) (h : IsOf layout l v) (t 
       tells_answered l' c here others list same counted none sure =
           let cells = fits.sheet.cells in
           let low = fits.is.cell in
-          tells_closed p l l' v v' t (edit_turn v v' p reply h.good.sound s) s.steps.layout c here others list
-          (told_by l.counted (world_of v) p c s.edit.edition (edit_of s.edit) (suc (text_parts s.edit.text)) (same ∙ its issue open_is) fits.mine counted (omega arith) knows.recorded (omega arith) fits.is.text.short)
+          tells_closed p l l' v v' t (edit_turn v v' p reply h.good.sound s) s.steps.steps.layout c here others list
+          (told_by l.counted (world_of v) p c s.steps.edit.edition (edit_of s.steps.edit) (suc (text_parts s.steps.edit.text)) (same ∙ its issue open_is) fits.mine counted (omega arith) knows.recorded (omega arith) fits.is.text.short)
           (sides_same (world_of v).memory (world_of v').memory (Header p c.it.edit.number) memory) none sure
 
-  pub overtaken_is_out : (noted seen : ℕ) → s.edit.stage ≡ Answer (outcome.Overtaken noted seen) → (issue : PlainIssue) → (world_of v).open_edits p ≡ Some issue → (it : Placed) → it.edit ≡ issue.edit → IsCounted l.counted it false
+  pub overtaken_is_out : (noted seen : ℕ) → s.steps.edit.stage ≡ Answer (outcome.Overtaken noted seen) → (issue : PlainIssue) → (world_of v).open_edits p ≡ Some issue → (it : Placed) → it.edit ≡ issue.edit → IsCounted l.counted it false
   overtaken_is_out noted seen at issue open_is it same =
-      let k : AreBelow (world_of v) s.edit.process s.edit.number = (knows (outcome.Overtaken noted seen) at).standing in
+      let k : AreBelow (world_of v) s.steps.edit.process s.steps.edit.number = (knows (outcome.Overtaken noted seen) at).standing in
       below_out l v it h.counted (subst (λ (e : PlainEdit). AreBelow (world_of v) e.process e.number) (sym (same ∙ its issue open_is)) k)

@@ -38,10 +38,10 @@ pub record IsTurn (q : ℕ) (old new : WorldValue) : Type 0 where
 
 pub edit_turn : (old new : WorldValue) (q : ℕ) (reply : Reply) → IsSound (world_of old) → EditStepsBy old q reply new → IsTurn q old new
 edit_turn old new q reply sound h = record {
-  there = h.there;
-  keeps = subst (λ (p : ℕ). Keeps p (world_of old) (world_of new)) h.mine
-      (step_sound h.edit h.word (world_of old) (world_of new) sound (rw h.mine h.there) (ap (λ p. (world_of old).situation p) h.mine ∙ h.at) h.steps);
-  others = λ r ne. h.steps.others r (λ same. ne (same ∙ h.mine));
+  there = h.steps.there;
+  keeps = subst (λ (p : ℕ). Keeps p (world_of old) (world_of new)) h.steps.mine
+      (step_sound h.steps.edit h.steps.word (world_of old) (world_of new) sound (rw h.steps.mine h.steps.there) (ap (λ p. (world_of old).situation p) h.steps.mine ∙ h.steps.at) h.steps.steps);
+  others = λ r ne. h.steps.steps.others r (λ same. ne (same ∙ h.steps.mine));
 }
 
 pub report_turn : (old new : WorldValue) (q : ℕ) (reply : Reply) → IsSound (world_of old) → ReportStepsBy old q reply new → IsTurn q old new

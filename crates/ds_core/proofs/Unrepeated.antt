@@ -1,17 +1,17 @@
 -- No begin of a process is answered with the number of an edit that it has open, or that was closed under its number.
-use Rattle.std.proofs.Common.{ℕ, ◌≡◌, ◌<◌, ◌≤◌, ◌+◌, ◌-◌, ◌⊎◌, List, refl, ap, sym, ◌∙◌, subst, arith, inl, inr, zero, suc, length, Some, None}
+use Rattle.std.proofs.Common.{ℕ, ◌≡◌, ◌<◌, ◌≤◌, ◌+◌, ◌-◌, List, ap, sym, ◌∙◌, subst, arith, inl, inr, zero, suc, length, Some, None}
 use Rattle.std.specs.Prelude.{Option}
 use Rattle.std.proofs.lemmas.Bool.{cases_lt}
 use Rattle.ds_state.specs.Value.{WorldValue}
 use Rattle.ds_core.specs.Requests.{PlainRequest}
-use Rattle.ds_core.specs.Moments.{Placed, Open, Closed, Ledger, Moment}
+use Rattle.ds_core.specs.Moments.{Placed, Open, Closed, Ledger}
 use Rattle.ds_core.specs.LedgerSteps.{next_number, Issues}
 use Rattle.ds_core.specs.Headline.{Happens, RunFits, IsClosed}
 use Rattle.ds_core.specs.declared.event.Event.{Event}
 use Rattle.ds_core.specs.declared.event.Event.TheVariants.{BeginEdit}
 use Rattle.ds_core.specs.declared.reply.Reply.{Reply}
 use Rattle.ds_core.specs.declared.reply.Reply.TheVariants.{Begun}
-use Rattle.ds_core.proofs.Moved.{put_here, none_some}
+use Rattle.ds_core.proofs.Moved.{none_some}
 use Rattle.ds_core.proofs.Closing.{up, the_move}
 
 -- the number is spent in the ledger: the process's next one is greater, and so is that of its open edit

@@ -158,7 +158,7 @@ stepped (taken.Answers end) is = absurd (cc)
 
 goes : (p n : ℕ) (e : PlainWorkCall) (old new : WorldValue) → (world_of old).situation p ≡ Working e → OwnMove p old new n → Goes p e n new
 goes p n e old new at (stays same) = still p e new (same ∙ at)
-goes p n e old new at (steps_once (steps.edits h)) = absurd (let bad : Working e ≡ Editing h.edit = sym at ∙ h.at in cc)
+goes p n e old new at (steps_once (steps.edits h)) = absurd (let bad : Working e ≡ Editing h.steps.edit = sym at ∙ h.steps.at in cc)
 goes p n e old new at (steps_once (steps.works h)) = subst (λ (x : PlainWorkCall). Goes p x 1 new) (working_same ((world_of old).situation p) e h.steps.work at h.steps.works)
     (by_taken p old new h.steps.work h.steps.mine h.steps.is h.what (stepped h.what h.is) h.steps.turn)
 goes p n e old new at (steps_once (steps.reports h)) = absurd (let bad : Working e ≡ Reporting h.steps.show = sym at ∙ h.steps.at in cc)

@@ -1,14 +1,13 @@
 -- The beginning of a migration and its steps, from world to world.
 use Rattle.std.specs.Prelude.{ℕ, ◌≡◌, ◌<◌}
 use Rattle.ds_state.specs.declared.turn.Turn.{Turn}
-use Rattle.ds_state.specs.Value.{WorldValue, world_of}
+use Rattle.ds_state.specs.Value.{WorldValue, world_of, SameReports}
 use Rattle.ds_state.specs.declared.refusal.Refusal.{Refusal}
 use Rattle.ds_state.specs.declared.migration.MigrateEnd.{MigrateEnd}
 use Rattle.ds_state.specs.declared.answer.Answer.TheVariants.{Migration}
 use Rattle.ds_core.specs.Replies.{reply_of}
 use Rattle.ds_recover.specs.MigrationSteps.{BeginsMigration}
 use Rattle.ds_recover.specs.MigrationTakes as migrations
-use Rattle.ds_core.specs.EditEvents.{SameReports}
 use Rattle.ds_core.specs.ReportEvents.{NoSuchProcess}
 use Rattle.ds_core.specs.declared.reply.Reply.{Reply}
 use Rattle.ds_core.specs.declared.reply.Reply.TheVariants.{Entered, Refused, NotEnabled}

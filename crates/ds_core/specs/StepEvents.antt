@@ -3,12 +3,12 @@ use Rattle.std.specs.Prelude.{ℕ, ◌≡◌, ◌<◌}
 use Rattle.ds_layout.specs.declared.place.Place.{Place}
 use Rattle.ds_layout.specs.Places.{IsPlace}
 use Rattle.ds_state.specs.Works.{PlainWorkCall}
-use Rattle.ds_state.specs.Value.{WorldValue, world_of}
+use Rattle.ds_state.specs.Value.{WorldValue, world_of, SameReports}
 use Rattle.ds_state.specs.Events.{Evicts}
 use Rattle.ds_state.specs.declared.situation.Situation.{Situation}
 use Rattle.ds_state.specs.declared.situation.Situation.TheVariants.{Working}
 use Rattle.ds_state.specs.declared.work.WorkStage.TheVariants.{Wait}
-use Rattle.ds_core.specs.EditEvents.{SameReports, EditStepsBy}
+use Rattle.ds_core.specs.EditEvents.{EditStepsBy}
 use Rattle.ds_core.specs.ReportEvents.{ReportStepsBy}
 use Rattle.ds_core.specs.WorkEvents.{WorkStepsBy}
 use Rattle.ds_core.specs.RecoveryEvents.{RecoveryStepsBy}

@@ -3,10 +3,9 @@ use Rattle.std.specs.Prelude.{ℕ, ◌≡◌, ◌≢◌, ◌<◌}
 use Rattle.ds_layout.specs.declared.layout.Layout.{Layout}
 use Rattle.ds_layout.specs.Places.{cells_of}
 use Rattle.ds_state.specs.World.{PlainEdit}
-use Rattle.ds_state.specs.Value.{WorldValue, world_of}
+use Rattle.ds_state.specs.Value.{WorldValue, world_of, SameReports}
 use Rattle.ds_state.specs.Crashes.{StopsIn, CrashesTo}
 use Rattle.ds_state.specs.declared.situation.Situation.TheVariants as situation
-use Rattle.ds_core.specs.EditEvents.{SameReports}
 use Rattle.ds_core.specs.declared.reply.Reply.{Reply}
 use Rattle.ds_core.specs.declared.reply.Reply.TheVariants.{Stopped, Crashed, NotEnabled}
 

@@ -1,11 +1,10 @@
 -- What each event does to a world, and what is answered.
 use Rattle.std.specs.Prelude.{ℕ, ◌≡◌, ◌<◌, List, [], ◌∷◌, suc}
 use Rattle.ds_formula.specs.Cells.{IsInside, index_of}
-use Rattle.ds_state.specs.Value.{WorldValue, world_of, IsGood}
+use Rattle.ds_state.specs.Value.{WorldValue, world_of, IsGood, SameReports}
 use Rattle.ds_edit.specs.Begun.{IsBegun, Refuses}
 use Rattle.ds_state.specs.declared.refusal.Refusal.{Refusal}
 use Rattle.ds_core.specs.Requests.{PlainRequest}
-use Rattle.ds_core.specs.EditEvents.{SameReports}
 use Rattle.ds_core.specs.ReportEvents.{BeginReportTakes}
 use Rattle.ds_core.specs.WorkEvents.{BeginWorkTakes, OfferTakes}
 use Rattle.ds_core.specs.RecoveryEvents.{BeginRecoverTakes}

@@ -3,14 +3,13 @@ use Rattle.std.specs.Prelude.{ℕ, ◌≡◌, ◌<◌}
 use Rattle.ds_formula.specs.Cells.{IsInside, index_of}
 use Rattle.ds_formula.specs.declared.cells.Cell.{Cell}
 use Rattle.ds_eval.specs.Tasks.{PlainEvaluated}
-use Rattle.ds_state.specs.Value.{WorldValue, world_of}
+use Rattle.ds_state.specs.Value.{WorldValue, world_of, SameReports}
 use Rattle.ds_state.specs.declared.refusal.Refusal.{Refusal}
 use Rattle.ds_state.specs.declared.work.WorkEnd.{WorkEnd}
 use Rattle.ds_state.specs.declared.answer.Answer.TheVariants.{Work}
 use Rattle.ds_state.specs.declared.turn.Turn.{Turn}
 use Rattle.ds_core.specs.Replies.{reply_of}
 use Rattle.ds_work.specs.WorkTakes as works
-use Rattle.ds_core.specs.EditEvents.{SameReports}
 use Rattle.ds_core.specs.declared.reply.Reply.{Reply}
 use Rattle.ds_core.specs.declared.reply.Reply.TheVariants.{Entered, Refused, Stepped, WrongTask, NotEnabled}
 

@@ -44,7 +44,7 @@ impl CallEnd for EditEnd {
     #[tactic(auto, using(crate::proofs::Stepping::of_edit))]
     fn step(alloc: Global, world: &mut World, process: usize) -> Option<Turn<EditEnd>> {
         let _alloc = alloc;
-        crate::step::edit_step(world, process)
+        ds_edit::step::step(world, process)
     }
 }
 

@@ -89,7 +89,7 @@ report_left process old new good h =
     }
 
 by_report : (process : ℕ) (old new : WorldValue) → IsGood old → StepsBy old process settled_reply new → new.settled ≡ old.settled + 1 → HasReport old.sheet.layout process new.reports
-by_report process old new good (edits h) more = absurd (let same = h.reports.settled in omega (arith, same, more))
+by_report process old new good (edits h) more = absurd (let same = h.steps.reports.settled in omega (arith, same, more))
 by_report process old new good (works h) more = absurd (let same = h.reports.settled in omega (arith, same, more))
 by_report process old new good (reports h) more = report_left process old new good h
 by_report process old new good (recoveries h) more = absurd (let same = h.steps.settled in omega (arith, same, more))

@@ -24,8 +24,7 @@ use Rattle.ds_state.proofs.EditFrame.{Framed, silent_framed, silent_keeps}
 use Rattle.ds_state.proofs.Frames.{Moves, KeepsOwing}
 use Rattle.ds_state.proofs.Accesses.{Turn, same_moves, quiet_sound}
 use Rattle.ds_edit.specs.EditTakes.{StepsAt, Begins}
-use Rattle.ds_edit.proofs.Turns.{is_within, noted_of, on, turn}
-use Rattle.ds_layout.specs.declared.place.Edition.{Edition}
+use Rattle.ds_edit.proofs.Turns.{is_within, on, turn}
 use Rattle.ds_state.proofs.Frames.{notes, noted_in}
 use Rattle.ds_edit.specs.EditTakes.{rest_before}
 

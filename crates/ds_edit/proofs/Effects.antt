@@ -1,12 +1,11 @@
 -- What a step does by its effect is what it does at its stage.
-use Rattle.std.proofs.Common.{ℕ, ◌≡◌, List, [], ◌∷◌, refl, ap, subst, inl, inr, ◌==◌}
+use Rattle.std.proofs.Common.{ℕ, ◌≡◌, [], ◌∷◌, refl, ap, subst, inl, inr, ◌==◌}
 use Rattle.std.specs.Prelude.{Bool, true, false, if◌then◌else◌, Option}
 use Rattle.std.proofs.lemmas.Bool.Decides.{eqb_tells}
 use Rattle.ds_state.specs.Edits.{PlainEditCall}
 use Rattle.ds_state.specs.World.{PlainEdit, PlainIssue}
 use Rattle.ds_state.specs.declared.stage.Stage.{Stage}
 use Rattle.ds_state.specs.declared.stage.Stage.TheVariants.{Swap, Answer}
-use Rattle.ds_state.specs.declared.situation.Situation.{Situation}
 use Rattle.ds_state.specs.declared.situation.Situation.TheVariants.{Editing}
 use Rattle.ds_edit.specs.EditSteps.{next_at}
 use Rattle.ds_edit.specs.EditTakes.{after, after_by, counted_at, counted_by, effect_at, open_edit_at, open_edit_by, outcome_by}

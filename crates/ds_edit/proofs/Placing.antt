@@ -28,7 +28,7 @@ use Rattle.ds_state.proofs.Frames.{word_bears, kept_stable}
 use Rattle.ds_state.proofs.Sides.{done_or_fits}
 use Rattle.ds_edit.specs.EditSteps.{next_at, help_from}
 use Rattle.ds_edit.specs.EditTakes.{StepsAt}
-use Rattle.ds_edit.proofs.Turns.{is_within, noted_of, on, Known_on, Holds_on, IsPlainStep, turn}
+use Rattle.ds_edit.proofs.Turns.{is_within, on, Known_on, Holds_on, IsPlainStep, turn}
 use Rattle.ds_edit.proofs.Sorts.{loads, flushes, backs, ors}
 use Rattle.ds_layout.specs.declared.place.Edition.{Edition}
 

@@ -1,14 +1,20 @@
 -- The events of edits, from world to world.
-use Rattle.std.specs.Prelude.{ℕ, ◌≡◌, ◌≢◌, ◌+◌, ◌++◌, if◌then◌else◌, List, [], ◌∷◌, length, Option, Some, None}
+use Rattle.std.specs.Prelude.{ℕ, ◌≡◌, ◌≢◌, ◌<◌, ◌+◌, ◌++◌, if◌then◌else◌, List, [], ◌∷◌, length, Option, Some, None}
 use Rattle.ds_words.specs.Memory.{SameMemory}
 use Rattle.ds_layout.specs.SheetMemory.{PerformsAt}
 use Rattle.ds_state.specs.Edits.{PlainEditCall}
 use Rattle.ds_state.specs.World.{PlainEdit, edit_of, PlainIssue, PlainWorld}
+use Rattle.ds_state.specs.Value.{WorldValue, world_of, SameReports}
+use Rattle.ds_state.specs.EditEndings.{end_of, outcome_at}
 use Rattle.ds_state.specs.declared.stage.Stage.{Stage}
 use Rattle.ds_state.specs.declared.stage.Stage.TheVariants.{StoreHeader, Swap, Answer}
 use Rattle.ds_state.specs.declared.situation.Situation.{Situation}
 use Rattle.ds_state.specs.declared.situation.Situation.TheVariants.{Idle, Editing}
 use Rattle.ds_state.specs.declared.stage.Outcome.{Outcome}
+use Rattle.ds_state.specs.declared.stage.Outcome.TheVariants as outcome
+use Rattle.ds_state.specs.declared.answer.EditEnd.{EditEnd}
+use Rattle.ds_state.specs.declared.turn.Turn.{Turn}
+use Rattle.ds_state.specs.declared.turn.Turn.TheVariants as does
 use Rattle.ds_edit.specs.EditSteps.{access_at, got_at, next_at, wins}
 use Rattle.ds_edit.specs.declared.machine.Effect.{Effect}
 use Rattle.ds_edit.specs.declared.machine.Effect.TheVariants.{GoesOn, Counts, Answers}
@@ -92,3 +98,58 @@ pub record Begins (e : PlainEditCall) (old new : PlainWorld) : Type 0 where
   pub counted : new.counted ≡ old.counted
   pub open_edits : new.open_edits e.process ≡ Some (record { edit = edit_of e; since = length old.counted })
   pub others_open_edits : (q : ℕ) → q ≢ e.process → new.open_edits q ≡ old.open_edits q
+
+-- ---- a step, with what the world counts
+
+-- what a step does to the edit with this number: it ends where it has an outcome, else it goes on
+abbrev pub turn_with : ℕ → ℕ → Option Outcome → Turn EditEnd
+turn_with processes number None = does.GoesOn
+turn_with processes number (Some how) = does.Answers (end_of processes number how)
+
+-- what the step of an edit at this stage does to it
+abbrev pub turn_at : ℕ → ℕ → Stage → Turn EditEnd
+turn_at processes number s = turn_with processes number (outcome_at s)
+
+-- what a step of this effect does to the edit with this number
+abbrev pub turn_by : ℕ → ℕ → Effect → Turn EditEnd
+turn_by processes number what = turn_with processes number (outcome_by what)
+
+-- how many edits have been answered Done after a step of an edit: one more where its outcome is Done
+abbrev pub done_with : ℕ → Option Outcome → ℕ
+done_with done (Some outcome.Done) = done + 1
+done_with done _ = done
+
+-- how many edits have been answered Done after the step of an edit at this stage
+abbrev pub done_at : ℕ → Stage → ℕ
+done_at done s = done_with done (outcome_at s)
+
+-- how many edits have been answered Done after a step of this effect
+abbrev pub done_by : ℕ → Effect → ℕ
+done_by done what = done_with done (outcome_by what)
+
+-- the process is one of the sheet, and is in this edit
+pub record IsEditing (v : WorldValue) (p : ℕ) (e : PlainEditCall) : Type 0 where
+  pub there : p < length v.situations
+  pub is : (world_of v).situation p ≡ Editing e
+
+-- the process makes a step of its edit
+pub record StepsBy (old : WorldValue) (p : ℕ) (what : Turn EditEnd) (new : WorldValue) : Type 0 where
+  pub there : p < old.sheet.layout.processes
+  pub edit : PlainEditCall
+  pub mine : edit.process ≡ p
+  pub at : (world_of old).situation p ≡ Editing edit
+  pub word : ℕ
+  pub steps : Steps edit word (world_of old) (world_of new)
+  pub is : what ≡ turn_at old.sheet.layout.processes edit.number edit.stage
+  pub done : new.done ≡ done_at old.done edit.stage
+  pub reports : SameReports old new
+
+-- the process has no edit under way, or the sheet has no such process; the world stays
+pub record CanNotStep (old : WorldValue) (p : ℕ) (new : WorldValue) : Type 0 where
+  pub same : new ≡ old
+  pub none : (edit : PlainEditCall) → p < old.sheet.layout.processes → (world_of old).situation p ≡ Editing edit → ⊥
+
+-- the process makes a step of its edit; or it can make none, and the world stays
+abbrev pub StepTakes : WorldValue → ℕ → Option (Turn EditEnd) → WorldValue → Type 0
+StepTakes old p None new = CanNotStep old p new
+StepTakes old p (Some what) new = StepsBy old p what new

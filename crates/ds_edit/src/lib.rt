@@ -4,3 +4,4 @@
 pub mod begin;
 pub mod laws;
 pub mod machine;
+pub mod step;

@@ -1,7 +1,5 @@
 -- Each access of a migration can be performed.
-use Rattle.std.proofs.Common.{ℕ, ◌≡◌, ◌<◌, ◌≤◌, ◌+◌, ◌*◌, ◌/◌, ◌%◌, List, [], ◌∷◌, length, ap, arith}
-use Rattle.std.proofs.lemmas.Nat.{div_below, mod_below}
-use Rattle.ds_words.specs.declared.access.BufferEntry.{BufferEntry}
+use Rattle.std.proofs.Common.{ℕ, ◌≡◌, ◌<◌, ◌/◌, [], ◌∷◌, length, ap, arith}
 use Rattle.ds_words.specs.declared.words.TheConstants.{BUFFER_ENTRIES}
 use Rattle.ds_layout.specs.declared.layout.Layout.{Layout}
 use Rattle.ds_layout.specs.declared.place.Place.{Place}
@@ -9,7 +7,7 @@ use Rattle.ds_layout.specs.declared.place.Place.TheVariants as place
 use Rattle.ds_layout.specs.declared.place.TheConstants.{RECORDS, FIRST_PARTS}
 use Rattle.ds_layout.specs.Places.{IsPlace, first_text}
 use Rattle.ds_layout.specs.SheetMemory.{NamesPlace, HasEntry, HasBuffer, CanPerform}
-use Rattle.ds_state.specs.Works.{PlainMigrateCall, IsMigration, IsCopied, old_words, new_text}
+use Rattle.ds_state.specs.Works.{PlainMigrateCall, IsCopied, old_words, new_text}
 use Rattle.ds_state.specs.World.{PlainWorld}
 use Rattle.ds_state.specs.Owing.{entry}
 use Rattle.ds_state.specs.CallsFit.{MigrationHolds, MigrationFits}

@@ -16,7 +16,7 @@ use Rattle.ds_layout.specs.Bits.{HasBit}
 use Rattle.ds_layout.proofs.OrBits.{HasBit-subset}
 use Rattle.ds_layout.proofs.Packed.{announcement_of-announcement_word, header_of-header_word}
 use Rattle.ds_layout.specs.declared.place.Edition.TheVariants.{First}
-use Rattle.ds_state.specs.World.{PlainEdit, PlainIssue, PlainWorld, of_cell, head_after_all, announcement, last_announcement, phase_among, is_edit_of, done_place, record_size}
+use Rattle.ds_state.specs.World.{PlainEdit, PlainIssue, PlainWorld, of_cell, head_after_all, announcement, last_announcement, phase_among, is_edit_of, done_place}
 use Rattle.ds_state.specs.Known.{IsRecorded, Standing, outside, inside, safe, Announced, last, pending, ended, word_of, phase_of, AreBelow, IsIn, IsSafe, IsSafelyIn, StandsAs}
 use Rattle.ds_state.specs.declared.stage.Outcome.TheVariants as outcome
 use Rattle.ds_state.specs.KnownRecovery.{Tells, IsPassed}

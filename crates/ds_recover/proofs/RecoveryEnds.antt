@@ -14,7 +14,6 @@ use Rattle.ds_formula.specs.Cells.{count_of}
 use Rattle.ds_formula.specs.declared.cells.Cell.{Cell}
 use Rattle.ds_formula.specs.declared.cells.Shape.{Shape}
 use Rattle.ds_eval.proofs.Walks.{index_below}
-use Rattle.ds_layout.specs.declared.place.Edition.TheVariants.{First}
 use Rattle.ds_state.specs.Works.{PlainRecoverCall}
 use Rattle.ds_state.specs.World.{PlainEdit, PlainIssue, PlainWorld, of_cell, head_after_all, announcement, last_announcement, phase_among}
 use Rattle.ds_state.specs.Known.{Standing, outside, inside, safe, Announced, last, pending, ended, word_of, phase_of, AreBelow, StandsAs}
@@ -31,7 +30,7 @@ use Rattle.ds_state.specs.declared.situation.Situation.{Situation}
 use Rattle.ds_state.specs.declared.situation.Situation.TheVariants.{Idle, Stopped, Recovering}
 use Rattle.ds_state.proofs.Outcomes.{not_among, among}
 use Rattle.ds_state.proofs.Lasting.{below_stable, last_stable}
-use Rattle.ds_state.proofs.Stable.{doubt_grows, record_no_version}
+use Rattle.ds_state.proofs.Stable.{doubt_grows}
 use Rattle.ds_state.proofs.Frames.{Moves, turns, grows_own}
 use Rattle.ds_state.specs.LayoutsFit.{LayoutFits, NoneMoves}
 use Rattle.ds_state.specs.declared.situation.Rest.{Rest}

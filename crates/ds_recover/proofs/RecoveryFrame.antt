@@ -7,7 +7,6 @@ use Rattle.ds_words.specs.Memory.{SameMemory, FlushesAt}
 use Rattle.ds_layout.specs.Places.{class_of}
 use Rattle.ds_layout.specs.declared.place.Place.{Place}
 use Rattle.ds_layout.specs.declared.place.Place.TheVariants.{Version, Head, Mark, Value, Kind, Announce}
-use Rattle.ds_layout.specs.declared.place.Edition.TheVariants.{First}
 use Rattle.ds_state.specs.Works.{PlainRecoverCall}
 use Rattle.ds_state.specs.RecoverStages.{IsStage}
 use Rattle.ds_state.specs.World.{PlainEdit, PlainIssue, PlainWorld, of_cell, head_after_all}
@@ -23,7 +22,7 @@ use Rattle.ds_state.specs.declared.recovery.RecoverStage.{RecoverStage}
 use Rattle.ds_state.specs.declared.situation.Situation.{Situation}
 use Rattle.ds_state.specs.declared.situation.Situation.TheVariants.{Recovering}
 use Rattle.ds_recover.proofs.RecoveryKeeping.{IsAwake, recovery_goes}
-use Rattle.ds_state.proofs.Stable.{doubt_grows, record_no_version}
+use Rattle.ds_state.proofs.Stable.{doubt_grows}
 use Rattle.ds_state.proofs.StableRecovery.{freed_stable, resolved_stable}
 use Rattle.ds_state.proofs.Frames.{Moves, KeepsOwing, KeepsApart, grows_own}
 use Rattle.ds_state.proofs.Bearing.{Mine, MyMarks, bears, all_stand, text_same, no_new_marks, apart_lasts, splits_last, pends_last, marks_grow}

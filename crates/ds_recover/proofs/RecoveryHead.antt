@@ -6,7 +6,6 @@ use Rattle.ds_words.specs.Memory.{FlushesAt, WritesBack}
 use Rattle.ds_layout.specs.Places.{class_of}
 use Rattle.ds_layout.specs.declared.place.Place.{Place}
 use Rattle.ds_layout.specs.declared.place.Place.TheVariants.{Version, Head, Mark, Announce}
-use Rattle.ds_layout.specs.declared.place.Edition.TheVariants.{First}
 use Rattle.ds_state.specs.Works.{PlainRecoverCall}
 use Rattle.ds_state.specs.World.{PlainEdit, PlainIssue, PlainWorld, of_cell, head_after_all, IsHeadBy}
 use Rattle.ds_state.specs.Known.{IsIn}
@@ -24,7 +23,7 @@ use Rattle.ds_state.specs.declared.situation.Situation.TheVariants.{Recovering}
 use Rattle.ds_state.proofs.Heads.{Small, small_counted, small_of_cell, by_most, by_last, by_cases, persisted_most}
 use Rattle.ds_state.proofs.Noted.{last_cases}
 use Rattle.ds_state.proofs.Losing.{increasing_cell, last_greater}
-use Rattle.ds_state.proofs.Stable.{doubt_grows, record_no_version}
+use Rattle.ds_state.proofs.Stable.{doubt_grows}
 use Rattle.ds_state.proofs.StableRecovery.{resolved_stable}
 use Rattle.ds_state.proofs.Frames.{CatchesUp, Moves, KeepsOwing, KeepsApart, moves_sound}
 use Rattle.ds_state.proofs.Bearing.{Mine, bears, all_stand, text_same, apart_lasts, excused_lasts, splits_last, pends_last, marks_grow}

@@ -17,7 +17,7 @@ use Rattle.ds_state.specs.declared.recovery.RecoverStage.{RecoverStage}
 use Rattle.ds_state.specs.declared.recovery.RecoverStage.TheVariants.{LoadVersion, FlushVersion, BackVersion, LoadMark, FlushValue, FlushKind, BackValue, BackKind, Telling, Give, GiveDirty, FlushGiven, BackGiven, LoadAnnounce, LoadHeader, LoadHead, FlushHead, BackHead, LoadDone, OrMark, FlushMark, BackMark, StoreOutcome, FlushOutcome, BackOutcome, Answer}
 use Rattle.ds_state.specs.declared.situation.Situation.TheVariants.{Recovering}
 use Rattle.ds_state.proofs.Frames.{Goes, notes, noted_in, noted_stage}
-use Rattle.ds_recover.specs.RecoverySteps.{at, after, next_at, StepsAt, number_of, reads_held, looks_from, told, tell_from, announced_from, resolves_from, phase_from, is_shown}
+use Rattle.ds_recover.specs.RecoverySteps.{after, StepsAt, number_of, reads_held, told, tell_from, announced_from, resolves_from, phase_from, is_shown}
 
 -- a stage behind the first three
 abbrev pub IsAwake : RecoverStage → Type 0

@@ -1,10 +1,10 @@
 -- The first three steps of a recovery: it notes the layout, and persists the version's word.
-use Rattle.std.proofs.Common.{ℕ, ◌≡◌, ◌≢◌, ◌<◌, [], refl, sym, ◌∙◌, subst, inl, inr, ap}
+use Rattle.std.proofs.Common.{ℕ, ◌≡◌, ◌<◌, [], refl, sym, ◌∙◌, inl, inr, ap}
 use Rattle.std.specs.Prelude.{Option}
 use Rattle.std.proofs.lemmas.Bool.{cases_eq}
 use Rattle.ds_words.specs.Memory.{WritesBack}
 use Rattle.ds_layout.specs.declared.place.Place.TheVariants.{Version}
-use Rattle.ds_state.specs.CallsFit.{CallFits, RecoveryFits}
+use Rattle.ds_state.specs.CallsFit.{RecoveryFits}
 use Rattle.ds_state.specs.Owing.{entry}
 use Rattle.ds_state.specs.Rely.{Keeps}
 use Rattle.ds_state.specs.Sound.{IsSound}

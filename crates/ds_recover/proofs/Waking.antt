@@ -7,22 +7,21 @@ use Rattle.ds_layout.specs.declared.place.Place.{Place}
 use Rattle.ds_layout.specs.declared.place.Place.TheVariants.{Version, Mark}
 use Rattle.ds_layout.specs.declared.layout.Layout.{Layout}
 use Rattle.ds_layout.specs.Places.{class_of, cells_of, edition_of}
-use Rattle.ds_state.specs.Editions.{seen_edition, Agrees}
 use Rattle.ds_state.specs.World.{PlainWorld}
 use Rattle.ds_state.specs.Works.{PlainRecoverCall}
 use Rattle.ds_state.specs.RecoverStages.{IsRecovery}
 use Rattle.ds_state.specs.KnownRecovery.{FreedFits, freed_at, ResolvedFits, resolved_at, RecoveryHolds, recovery_held}
 use Rattle.ds_state.specs.Owing.{entry}
 use Rattle.ds_state.specs.CallsFit.{CallFits, DoubtFits, RecoveryFits}
-use Rattle.ds_state.specs.WordsFit.{VersionFits, WordFits}
-use Rattle.ds_state.specs.LayoutsFit.{WakesAt, LayoutFits, MovesFit, IsMoving, NoneMoves}
+use Rattle.ds_state.specs.WordsFit.{VersionFits}
+use Rattle.ds_state.specs.LayoutsFit.{WakesAt, LayoutFits, IsMoving, NoneMoves}
 use Rattle.ds_state.specs.Rely.{Keeps}
 use Rattle.ds_state.specs.Sound.{IsSound}
 use Rattle.ds_state.specs.declared.recovery.RecoverStage.{RecoverStage}
 use Rattle.ds_state.specs.declared.recovery.RecoverStage.TheVariants.{LoadVersion, FlushVersion, BackVersion, LoadMark}
 use Rattle.ds_state.specs.declared.situation.Situation.{Situation}
 use Rattle.ds_state.specs.declared.situation.Situation.TheVariants.{Idle, Stopped, Editing, Working, Recovering, Reporting, Migrating}
-use Rattle.ds_state.proofs.Frames.{Moves, turns, MovesVersion, MovesWord, version_word}
+use Rattle.ds_state.proofs.Frames.{Moves, turns, MovesVersion, version_word}
 use Rattle.ds_state.proofs.Buffers.{none, not_mark}
 use Rattle.ds_recover.proofs.Migrating.{IsHalted, IsWaking, halted_keeps, doubt_on, Backed, backed}
 

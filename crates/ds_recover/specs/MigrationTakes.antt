@@ -11,7 +11,7 @@ use Rattle.ds_state.specs.declared.migration.MigrateStage.{MigrateStage}
 use Rattle.ds_state.specs.declared.migration.MigrateStage.TheVariants.{Answer}
 use Rattle.ds_state.specs.declared.situation.Situation.TheVariants.{Stopped, Migrating}
 use Rattle.ds_recover.specs.RecoverBegun.{MayRecover}
-use Rattle.ds_recover.specs.MigrationSteps.{StepsAt, BeginsMigration, next_at}
+use Rattle.ds_recover.specs.MigrationSteps.{StepsAt, next_at}
 use Rattle.ds_state.specs.declared.turn.Turn.TheVariants.{GoesOn, Answers}
 
 -- what a step at a stage does to the migration: it goes on, or it answers

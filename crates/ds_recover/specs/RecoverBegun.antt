@@ -1,5 +1,5 @@
 -- How a recovery begins, or is refused.
-use Rattle.std.specs.Prelude.{ℕ, ◌≡◌, ◌<◌}
+use Rattle.std.specs.Prelude.{ℕ}
 use Rattle.ds_layout.specs.Places.{cells_of}
 use Rattle.ds_state.specs.World.{PlainWorld}
 use Rattle.ds_state.specs.LayoutsFit.{IsMigrating, NoneMoves}

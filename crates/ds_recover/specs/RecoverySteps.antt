@@ -25,7 +25,7 @@ use Rattle.ds_state.specs.World.{PlainEdit, PlainIssue, PlainWorld, announcement
 use Rattle.ds_state.specs.Owing.{StandsIn}
 use Rattle.ds_state.specs.Known.{AreBelow, IsSafelyIn}
 use Rattle.ds_state.specs.KnownRecovery.{phase_for}
-use Rattle.ds_state.specs.Telling.{told_from}
+use Rattle.ds_state.specs.Telling.{spread_access, told_from}
 use Rattle.ds_state.specs.declared.turn.Turn.TheVariants.{GoesOn, Answers}
 use Rattle.ds_state.specs.declared.recovery.RecoveryEnd.{RecoveryEnd}
 use Rattle.ds_state.specs.declared.recovery.RecoveryEnd.TheVariants.{Nothing, Last}
@@ -46,13 +46,6 @@ parts_of e = parts_for e.cells
 -- the number of the edit that the recovery saw announced
 abbrev pub number_of : PlainRecoverCall → ℕ
 number_of e = number_after e.announcement - 1
-
--- the access of a stage of telling, for a cell that is given back
-abbrev pub spread_access : ℕ → Spread → Access Place
-spread_access cell (LoadRow part) = acts.Load (place.Index cell part)
-spread_access cell (OrTold d) = acts.Or (place.Mark d) DIRTY
-spread_access cell (FlushTold d) = acts.Flush (place.Mark d)
-spread_access cell (BackTold d) = acts.Back
 
 -- the access of a stage of a recovery
 abbrev pub access_at : PlainRecoverCall → RecoverStage → Access Place

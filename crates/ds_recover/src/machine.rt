@@ -7,12 +7,11 @@ ghost use Rattle.ds_layout.specs.Bits.{parts_for};
 ghost use Rattle.ds_layout.specs.Mark.{generation_of, freed_after, marked, dirtied};
 ghost use Rattle.ds_state.specs.World.{announcement};
 ghost use Rattle.ds_state.specs.Works.{HELD_MOST};
-ghost use Rattle.ds_state.specs.Telling.{told_from};
 ghost use Rattle.ds_state.specs.RecoverStages.{IsStage, IsAnnounced, IsResolving};
 ghost use Rattle.ds_state.specs.KnownRecovery.{phase_for};
 ghost use Rattle.ds_state.specs.declared.spread.Spread.TheVariants.{LoadRow, BackTold};
 ghost use Rattle.ds_state.specs.declared.recovery.RecoverStage.TheVariants.{LoadVersion, BackVersion, LoadMark, Telling, Give, BackGiven, LoadAnnounce, LoadHeader, LoadHead, LoadDone, StoreOutcome};
-ghost use Rattle.ds_recover.specs.RecoverySteps.{access_at, spread_access, next_at, got_at, effect_at, number_of, reads_held, looks_from, told, tell_from, row_from, is_shown, phase_from, at};
+ghost use Rattle.ds_recover.specs.RecoverySteps.{access_at, next_at, got_at, effect_at, number_of, reads_held, looks_from, told, tell_from, row_from, is_shown, phase_from, at};
 
 use ds_layout::announcement::{Announcement, Phase};
 use ds_layout::bits;
@@ -21,7 +20,7 @@ use ds_layout::header::Header;
 use ds_layout::mark::{DIRTY, Mark, State};
 use ds_layout::place::{Edition, Place};
 use ds_state::recovery::{RecoverCall, RecoverStage, RecoveryEnd, Told};
-use ds_state::spread::Spread;
+use ds_state::spread::{Spread, told_from};
 use ds_state::turn::Turn;
 use ds_words::access::Access;
 
@@ -78,17 +77,6 @@ fn dirtied(mark: u64) -> u64
     mark | DIRTY
 }
 
-fn spread_access(cell: usize, spread: Spread) -> Access<Place>
-    ensures { result ≡ spread_access cell spread }
-{
-    match spread {
-        Spread::LoadRow(part) => Access::Load(Place::Index { row: cell, part }),
-        Spread::OrTold(told) => Access::Or(Place::Mark(told), DIRTY),
-        Spread::FlushTold(told) => Access::Flush(Place::Mark(told)),
-        Spread::BackTold(_) => Access::Back,
-    }
-}
-
 /// What the recovery does next.
 pub fn want(call: &RecoverCall) -> Access<Place>
     ensures { result ≡ access_at call.now call.now.stage }
@@ -102,7 +90,7 @@ pub fn want(call: &RecoverCall) -> Access<Place>
         RecoverStage::FlushValue(cell) => Access::Flush(Place::Value(cell)),
         RecoverStage::FlushKind(cell) => Access::Flush(Place::Kind(cell)),
         RecoverStage::BackValue(_) | RecoverStage::BackKind(_) => Access::Back,
-        RecoverStage::Telling(cell, spread) => spread_access(cell, spread),
+        RecoverStage::Telling(cell, spread) => spread.access(cell),
         RecoverStage::Give(cell) => Access::SwapIf {
             place: Place::Mark(cell),
             expected: call.mark,
@@ -167,13 +155,6 @@ fn looks_from(cells: usize, cell: usize) -> RecoverStage
     } else {
         RecoverStage::LoadAnnounce
     }
-}
-
-// The first cell from this one on whose bit stands in the row.
-fn told_from(row: &[u64], cells: usize, from: usize) -> Option<usize>
-    ensures { result ≡ told_from row.now (cells - from) from }
-{
-    bits::first_bit(row, from, cells)
 }
 
 fn tell_from(row: &[u64], cells: usize, cell: usize, from: usize) -> RecoverStage

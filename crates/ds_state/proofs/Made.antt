@@ -1,5 +1,5 @@
 -- A world that is made anew is good.
-use Rattle.std.proofs.Common.{ℕ, ◌≡◌, ◌<◌, ◌≤◌, ◌+◌, ◌*◌, ◌++◌, List, [], ◌∷◌, get_or, replicate, refl, sym, ◌∙◌, subst, arith, zero, suc, Option, None}
+use Rattle.std.proofs.Common.{ℕ, ◌≡◌, ◌<◌, ◌≤◌, ◌+◌, ◌*◌, ◌++◌, List, [], ◌∷◌, get_or, replicate, refl, ◌∙◌, arith, zero, suc, Option, None}
 use Rattle.std.proofs.lemmas.List.{length-replicate, replicate_more}
 use Rattle.ds_words.specs.Memory.{Memory, IsFresh, StoresAt, EvictsAt}
 use Rattle.ds_layout.specs.declared.place.Edition.{Edition}

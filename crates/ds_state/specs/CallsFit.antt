@@ -17,7 +17,7 @@ use Rattle.ds_layout.specs.Places.{cells_of}
 use Rattle.ds_layout.specs.Head.{head_word}
 use Rattle.ds_layout.specs.Bits.{HasBit, IsSubset}
 use Rattle.ds_state.specs.Edits.{PlainEditCall, IsEdit, text_parts}
-use Rattle.ds_state.specs.World.{PlainEdit, PlainIssue, edit_of, PlainWorld, record_place, record_word, record_size, index_place, done_place, of_cell, IsHeadBy, last_announcement}
+use Rattle.ds_state.specs.World.{PlainEdit, PlainIssue, edit_of, PlainWorld, record_place, record_word, index_place, done_place, of_cell, IsHeadBy, last_announcement}
 use Rattle.ds_state.specs.Known.{Standing, outside, inside, safe, Announced, last, pending, ended, word_of, AreBelow, StandsAs, IsRecorded, known_at, Knowing}
 use Rattle.ds_state.specs.Owing.{entry, IsMark, HoldsNone}
 use Rattle.ds_state.specs.declared.stage.Outcome.TheVariants.{Done, Overtaken}

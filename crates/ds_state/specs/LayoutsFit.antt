@@ -1,5 +1,5 @@
 -- Which layout each process counts on, and how far a migration has come.
-use Rattle.std.specs.Prelude.{ℕ, ◌≡◌, ◌≢◌, ◌<◌, ◌+◌, [], ◌∷◌}
+use Rattle.std.specs.Prelude.{ℕ, ◌≡◌, ◌≢◌, ◌<◌, [], ◌∷◌}
 use Rattle.ds_words.specs.Memory.{Memory}
 use Rattle.ds_layout.specs.declared.place.Edition.TheVariants.{First, Second}
 use Rattle.ds_layout.specs.Places.{first_text}

@@ -68,3 +68,8 @@ pub record IsGood (v : WorldValue) : Type 0 where
 pub record IsReserved (v : WorldValue) (room : ℕ) : Type 0 where
   pub good : IsGood v
   pub reserved : v.sheet.layout.processes * RECORDS ≤ room
+
+-- the count of settled reports and the values kept of them are the same in both worlds
+pub record SameReports (old new : WorldValue) : Type 0 where
+  pub settled : new.settled ≡ old.settled
+  pub reports : new.reports ≡ old.reports

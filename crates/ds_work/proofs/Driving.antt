@@ -1,6 +1,5 @@
 -- What an event of a work makes of a world, and that it stays one.
-use Rattle.std.proofs.Common.{ℕ, ◌≡◌, ◌≢◌, ◌<◌, ◌≤◌, ◌*◌, length, get_or, set, refl, ap, sym, ◌∙◌, subst, arith, inl, inr, Ok, Err}
-use Rattle.std.specs.Prelude.{Result, IfErr, IsErrAnd}
+use Rattle.std.proofs.Common.{ℕ, ◌≡◌, ◌≢◌, ◌<◌, ◌≤◌, ◌*◌, length, get_or, set, refl, ap, sym, ◌∙◌, subst, arith, inl, inr, Err}
 use Rattle.std.proofs.lemmas.List.{get_or-set_same, get_or-set_other, get_or_default, length-set}
 use Rattle.ds_formula.specs.Cells.{count_of}
 use Rattle.ds_layout.specs.declared.layout.Layout.{Layout}
@@ -26,13 +25,12 @@ use Rattle.ds_eval.specs.Local.{local}
 use Rattle.ds_state.specs.declared.work.WorkEnd.{WorkEnd}
 use Rattle.ds_state.specs.declared.work.WorkStage.{WorkStage}
 use Rattle.ds_work.specs.declared.machine.Doing.TheVariants as doings
-use Rattle.ds_state.specs.declared.turn.Turn.{Turn}
 use Rattle.ds_state.specs.declared.turn.Turn.TheVariants as does
 use Rattle.ds_work.specs.WorkSteps.{at, access_at, next_at, after, offered, IsPlainStep, StepsAt, Turns, BeginsWork, OffersAt}
 use Rattle.ds_work.specs.Noted.{turn_at}
 use Rattle.ds_work.specs.Reading.{IsReading}
 use Rattle.ds_state.specs.Refusals.{next_edit}
-use Rattle.ds_work.specs.WorkTakes.{IsAskedFor, IsOffered, Refuses, StepsBy, TakesTurn, answers, lacked, reads, steps}
+use Rattle.ds_work.specs.WorkTakes.{IsAskedFor, IsOffered, Refuses, StepsBy, lacked, reads}
 use Rattle.ds_work.proofs.EachWork.{begins_keep, offer_keep, work_steps_keep, reads_keep, lacks_keep}
 use Rattle.ds_work.proofs.WorkNamed.{can_perform}
 use Rattle.ds_state.specs.Value.{first_rest}

@@ -5,7 +5,6 @@ use Rattle.ds_state.specs.Editions.{Agrees, most_in}
 use Rattle.ds_state.specs.LayoutsFit.{LayoutFits}
 use Rattle.ds_state.specs.Sound.{IsSound, IsOfSheet}
 use Rattle.ds_state.specs.declared.situation.Situation.{Situation}
-use Rattle.std.specs.Prelude.{Option}
 use Rattle.ds_layout.specs.declared.place.Edition.{Edition}
 use Rattle.ds_state.specs.World.{PlainEdit, PlainWorld}
 use Rattle.ds_state.specs.Works.{PlainWorkCall}
@@ -13,7 +12,7 @@ use Rattle.ds_state.specs.declared.work.WorkStage.{WorkStage}
 use Rattle.ds_state.specs.declared.work.WorkStage.TheVariants.{Answer}
 use Rattle.ds_state.specs.declared.situation.Situation.TheVariants.{Working}
 use Rattle.ds_state.proofs.Frames.{Goes, notes, noted_in}
-use Rattle.ds_work.specs.WorkSteps.{at, next_at, after, StepsAt, Turns}
+use Rattle.ds_work.specs.WorkSteps.{at, after, StepsAt, Turns}
 use Rattle.ds_work.proofs.Next.{next_noted}
 
 noted_after : (e : PlainWorkCall) (s : WorkStage) (word : ℕ) → noted_in (after e s word) ≡ Some e.edition

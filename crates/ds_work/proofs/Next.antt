@@ -12,12 +12,10 @@ use Rattle.ds_layout.specs.declared.head.Head.{Head}
 use Rattle.ds_layout.specs.declared.header.Header.{Header}
 use Rattle.ds_layout.specs.declared.mark.State.{State}
 use Rattle.ds_layout.specs.declared.mark.State.TheVariants.{Clean, Marked, Held}
-use Rattle.ds_formula.specs.Limits.{TEXT_MOST}
 use Rattle.ds_layout.specs.Head.{head_of}
 use Rattle.ds_layout.specs.Header.{header_of}
 use Rattle.ds_layout.specs.Mark.{mark_of, state_of, held_after}
 use Rattle.ds_layout.specs.TextWords.{bytes_of}
-use Rattle.ds_layout.proofs.Packed.{IsHeader-header_of}
 use Rattle.ds_state.specs.Works.{PlainWorkCall, IsWork, IsWorkIn, StageFits, ClaimFits, TellsFits, Differs, SEEN_MOST}
 use Rattle.ds_state.specs.Standing.{shown_entry}
 use Rattle.ds_state.specs.Telling.{told_from}

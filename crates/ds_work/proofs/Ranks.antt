@@ -13,7 +13,6 @@ use Rattle.ds_layout.specs.Head.{head_of}
 use Rattle.ds_layout.specs.Header.{header_of}
 use Rattle.ds_layout.specs.Mark.{mark_of, state_of, held_after}
 use Rattle.ds_layout.specs.TextWords.{bytes_of}
-use Rattle.ds_layout.proofs.Packed.{IsHeader-header_of}
 use Rattle.ds_state.specs.Works.{PlainWorkCall, IsWork}
 use Rattle.ds_state.specs.Standing.{shown_entry, value_for, word_for}
 use Rattle.ds_state.specs.Telling.{told_from}

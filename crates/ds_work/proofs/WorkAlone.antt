@@ -1,5 +1,5 @@
 -- Work that is alone goes on so.
-use Rattle.std.proofs.Common.{ℕ, ◌≡◌, ◌<◌, ◌≤◌, ◌+◌, ◌-◌, ◌*◌, ◌/◌, ◌%◌, ◌^◌, ◌==◌, ◌&&◌, List, [], ◌∷◌, ◌++◌, length-append, nat_lt, le-ltb, if◌then◌else◌, refl, ap, sym, ◌∙◌, subst, arith, inl, inr, zero, suc, length, take, Bool, true, false, Some, None}
+use Rattle.std.proofs.Common.{ℕ, ◌≡◌, ◌<◌, ◌≤◌, ◌+◌, ◌-◌, ◌*◌, ◌/◌, ◌^◌, ◌==◌, ◌&&◌, List, [], ◌∷◌, ◌++◌, length-append, nat_lt, le-ltb, if◌then◌else◌, refl, ap, sym, ◌∙◌, subst, arith, inl, inr, zero, suc, length, take, Bool, true, false, Some, None}
 use Rattle.std.specs.Prelude.{Option, slice_index_or}
 use Rattle.std.proofs.lemmas.Bool.{cases_eq, cases_lt, eq-eqb, ltb-false, ne_eqb}
 use Rattle.ds_words.proofs.Frames.{cached_kept, Changes}
@@ -10,7 +10,7 @@ use Rattle.ds_layout.specs.declared.mark.State.{State}
 use Rattle.ds_layout.specs.declared.mark.State.TheVariants as state
 use Rattle.ds_layout.specs.declared.head.Head.{Head}
 use Rattle.ds_layout.specs.declared.header.Header.{Header}
-use Rattle.ds_layout.specs.Bits.{HasBit, part_with, parts_for}
+use Rattle.ds_layout.specs.Bits.{HasBit}
 use Rattle.ds_layout.specs.Places.{class_of}
 use Rattle.ds_layout.specs.Mark.{mark_of, state_of, IsEven, IsClean}
 use Rattle.ds_layout.specs.Head.{head_of}

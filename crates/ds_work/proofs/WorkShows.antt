@@ -1,5 +1,5 @@
 -- Work that is alone: what its cell shows.
-use Rattle.std.proofs.Common.{ℕ, ◌≡◌, ◌≢◌, ◌≤◌, ◌<◌, ◌+◌, ◌-◌, ◌*◌, ◌/◌, ◌^◌, ◌==◌, ◌&&◌, List, [], ◌∷◌, ◌++◌, nat_lt, if◌then◌else◌, refl, ap, sym, ◌∙◌, subst, arith, inl, inr, length, take, Bool, true, false, Some, None}
+use Rattle.std.proofs.Common.{ℕ, ◌≡◌, ◌≢◌, ◌+◌, ◌-◌, ◌==◌, ◌&&◌, [], ◌∷◌, ◌++◌, nat_lt, if◌then◌else◌, ap, sym, ◌∙◌, subst, length, take, Bool, true, false, Some, None}
 use Rattle.std.specs.Prelude.{Option}
 use Rattle.std.proofs.lemmas.Bool.{eq-eqb}
 use Rattle.ds_words.specs.Memory.{SameMemory}
@@ -19,7 +19,7 @@ use Rattle.ds_layout.specs.Head.{head_of}
 use Rattle.ds_layout.specs.Header.{header_of}
 use Rattle.ds_layout.specs.TextWords.{bytes_of}
 use Rattle.ds_layout.specs.SheetMemory.{PerformsAt}
-use Rattle.ds_state.specs.Works.{PlainWorkCall, TellsFits, IsSame, Differs, SEEN_MOST}
+use Rattle.ds_state.specs.Works.{PlainWorkCall, TellsFits, Differs, SEEN_MOST}
 use Rattle.ds_state.specs.Standing.{value_for, word_for, shown_entry}
 use Rattle.ds_state.specs.Telling.{told_from}
 use Rattle.ds_state.specs.World.{PlainWorld}
@@ -27,7 +27,7 @@ use Rattle.ds_state.specs.declared.spread.Spread.{Spread}
 use Rattle.ds_state.specs.declared.spread.Spread.TheVariants.{LoadRow, OrTold, FlushTold, BackTold}
 use Rattle.ds_state.specs.declared.work.WorkStage.{WorkStage}
 use Rattle.ds_state.specs.declared.work.WorkStage.TheVariants as works
-use Rattle.ds_work.specs.WorkSteps.{access_at, claims_from, head_from, header_from, text_from, input_from, told, tell_from, row_from, spread_next, next_at, read_from, lacks, offered, text_parts, parts_of}
+use Rattle.ds_work.specs.WorkSteps.{access_at, claims_from, head_from, header_from, text_from, input_from, told, tell_from, row_from, spread_next, next_at, offered, text_parts, parts_of}
 use Rattle.ds_work.specs.WorkAnswers.{mark_now}
 use Rattle.ds_work.specs.WorkShows.{CellWords, shown_in, noted_by, words_for, HasNoted, ShowsAt}
 use Rattle.ds_state.specs.Shown.{header_in}

@@ -19,7 +19,6 @@ use Rattle.ds_layout.specs.declared.head.Head.{Head}
 use Rattle.ds_layout.specs.declared.header.Header.{Header}
 use Rattle.ds_layout.specs.declared.mark.State.{State}
 use Rattle.ds_layout.specs.declared.mark.State.TheVariants.{Clean, Marked, Held}
-use Rattle.ds_layout.specs.declared.mark.TheConstants.{DIRTY}
 use Rattle.ds_layout.specs.Head.{head_of}
 use Rattle.ds_layout.specs.Header.{header_of}
 use Rattle.ds_layout.specs.Mark.{mark_of, state_of, held_after, generation_of, freed_after, dirtied}
@@ -29,7 +28,7 @@ use Rattle.ds_layout.specs.Places.{cells_of}
 use Rattle.ds_layout.specs.Bits.{parts_for}
 use Rattle.ds_layout.specs.Head as head_parts
 use Rattle.ds_layout.specs.TextWords as text_words
-use Rattle.ds_state.specs.Telling.{told_from}
+use Rattle.ds_state.specs.Telling.{spread_access, told_from}
 use Rattle.ds_state.specs.Works.{PlainWorkCall, SEEN_MOST}
 use Rattle.ds_state.specs.Standing.{shown_entry, value_for, word_for}
 use Rattle.ds_state.specs.World.{PlainWorld}
@@ -64,13 +63,6 @@ record_header word = let head : Head = head_parts.parts_of word in place.Header 
 abbrev pub record_text : Edition → ℕ → ℕ → Place
 record_text edition word part = let head : Head = head_parts.parts_of word in place.Text edition head.process head.number part
 
--- the access of a stage of telling
-abbrev pub spread_access : PlainWorkCall → Spread → Access Place
-spread_access e (LoadRow part) = acts.Load (place.Index e.cell part)
-spread_access e (OrTold d) = acts.Or (place.Mark d) DIRTY
-spread_access e (FlushTold d) = acts.Flush (place.Mark d)
-spread_access e (BackTold d) = acts.Back
-
 -- the access of a stage of work
 abbrev pub access_at : Shape → PlainWorkCall → WorkStage → Access Place
 access_at shape e LoadMark = acts.Load (place.Mark e.cell)
@@ -92,7 +84,7 @@ access_at shape e FlushValue = acts.Flush (place.Value e.cell)
 access_at shape e FlushKind = acts.Flush (place.Kind e.cell)
 access_at shape e BackValue = acts.Back
 access_at shape e BackKind = acts.Back
-access_at shape e (Telling spread) = spread_access e spread
+access_at shape e (Telling spread) = spread_access e.cell spread
 access_at shape e (Clear changed) = acts.SwapIf (place.Mark e.cell) e.mark (freed_after e.mark)
 access_at shape e ClearDirty = acts.SwapIf (place.Mark e.cell) (dirtied e.mark) (dirtied (freed_after e.mark))
 access_at shape e Give = acts.SwapIf (place.Mark e.cell) e.mark (dirtied (freed_after e.mark))

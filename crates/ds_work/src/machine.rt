@@ -7,14 +7,13 @@ ghost use Rattle.ds_layout.specs.Header.{header_of};
 ghost use Rattle.ds_state.specs.Shown.{header_in};
 ghost use Rattle.ds_layout.specs.Mark.{mark_of, state_of, holder_code, dirty_bit, mark_word, generation_of, freed_after, held_after, dirtied};
 ghost use Rattle.ds_state.specs.Standing.{stored_for, shown_entry};
-ghost use Rattle.ds_state.specs.Telling.{told_from};
 ghost use Rattle.ds_formula.specs.Limits.{TEXT_MOST};
 ghost use Rattle.ds_state.specs.Works.{PlainWorkCall, StageFits, SEEN_MOST};
 ghost use Rattle.ds_words.specs.declared.access.Access.TheVariants.{SwapIf};
 ghost use Rattle.ds_layout.specs.declared.place.Place.TheVariants as places;
 ghost use Rattle.ds_state.specs.declared.work.WorkStage.TheVariants.{LoadMark, Claim, Clear, Give, Telling};
 ghost use Rattle.ds_state.specs.declared.spread.Spread.TheVariants.{LoadRow};
-ghost use Rattle.ds_work.specs.WorkSteps.{record_header, record_text, input_place, access_at, next_at, claims_from, head_from, header_from, text_from, input_from, told, tell_from, row_from, spread_access};
+ghost use Rattle.ds_work.specs.WorkSteps.{record_header, record_text, input_place, access_at, next_at, claims_from, head_from, header_from, text_from, input_from, told, tell_from, row_from};
 ghost use Rattle.ds_work.specs.declared.machine.Noting.TheVariants as noted;
 ghost use Rattle.ds_work.specs.Noted.{mark_at, head_at, length_at, text_after, inputs_after, value_after, kind_after, row_after, stage_at, notes_at, turn_at, FitsInputs, FitsRow};
 
@@ -30,7 +29,7 @@ use ds_layout::stored::{Kind, Stored};
 use ds_layout::text::{part_bytes, text_parts};
 use ds_state::row::Row;
 use ds_state::shown::header_in;
-use ds_state::spread::Spread;
+use ds_state::spread::{Spread, told_from};
 use ds_state::text::Text;
 use ds_state::work::{WorkCall, WorkEnd, WorkStage};
 use ds_words::access::Access;
@@ -181,20 +180,6 @@ fn shown(value: u64, kind: u64, cells: usize) -> Entry
     }
 }
 
-fn want_telling(call: &WorkCall, spread: Spread) -> Access<Place>
-    ensures { result ≡ spread_access call.now spread }
-{
-    match spread {
-        Spread::LoadRow(part) => Access::Load(Place::Index {
-            row: call.cell,
-            part,
-        }),
-        Spread::OrTold(cell) => Access::Or(Place::Mark(cell), DIRTY),
-        Spread::FlushTold(cell) => Access::Flush(Place::Mark(cell)),
-        Spread::BackTold(_) => Access::Back,
-    }
-}
-
 // The swap of the cell's mark that expects this word, for that one.
 #[inline(always)]
 fn swap_mark(call: &WorkCall, expected: u64, value: u64) -> Access<Place>
@@ -232,7 +217,7 @@ pub fn want(call: &WorkCall, shape: Shape) -> Access<Place>
         WorkStage::StoreKind => Access::Store(kind, stored(call.entry).kind_word()),
         WorkStage::FlushValue => Access::Flush(value),
         WorkStage::FlushKind => Access::Flush(kind),
-        WorkStage::Telling(spread) => want_telling(call, spread),
+        WorkStage::Telling(spread) => spread.access(call.cell),
         WorkStage::Clear(_) => swap_mark(call, call.mark, release(call, false)),
         WorkStage::Give => swap_mark(call, call.mark, release(call, true)),
         WorkStage::ClearDirty | WorkStage::GiveDirty => {
@@ -290,13 +275,6 @@ pub(crate) fn input_from(count: usize, i: usize) -> WorkStage
     } else {
         WorkStage::LoadOwnValue
     }
-}
-
-// The first cell from this one on whose bit the row has.
-fn told_from(row: &[u64], cells: usize, from: usize) -> Option<usize>
-    ensures { result ≡ told_from row.now (cells - from) from }
-{
-    bits::first_bit(row, from, cells)
 }
 
 // The next cell that is told; where all are told, the cell is let go.

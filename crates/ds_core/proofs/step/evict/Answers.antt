@@ -1,5 +1,5 @@
 use Rattle.ds_state.specs.Value.{WorldValue}
-use Rattle.ds_core.proofs.Good.{evict_kept}
+use Rattle.ds_core.proofs.Evicted.{evict_kept}
 use Rattle.ds_core.proofs.step.evict.Goals as goal
 
 pub invariant_of-world : goal.invariant_of-world

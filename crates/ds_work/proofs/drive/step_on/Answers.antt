@@ -1,9 +1,8 @@
-use Rattle.std.proofs.Common.{ℕ, ◌≡◌, ◌<◌, ◌∙◌, length, sym, ap, subst, arith}
+use Rattle.std.proofs.Common.{ℕ, ◌≡◌, ◌<◌, ◌∙◌, length, sym, subst, arith}
 use Rattle.std.proofs.lemmas.List.{get_or_default}
 use Rattle.ds_layout.specs.SheetMemory.{CanPerform, memory}
 use Rattle.ds_state.specs.Works.{PlainWorkCall}
 use Rattle.ds_state.specs.Value.{WorldValue, world_of, first_rest}
-use Rattle.ds_state.specs.declared.situation.Situation.{Situation}
 use Rattle.ds_state.specs.declared.situation.Situation.TheVariants.{Idle, Working}
 use Rattle.ds_work.specs.WorkSteps.{access_at, after}
 use Rattle.ds_work.specs.WorkTakes.{GoesBy, IsIn, steps}

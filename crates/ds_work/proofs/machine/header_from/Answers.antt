@@ -1,4 +1,4 @@
-use Rattle.std.proofs.Common.{ℕ, ◌≡◌, ◌∙◌, sym, ap, refl, [], arith}
+use Rattle.std.proofs.Common.{◌∙◌, sym, ap, refl, [], arith}
 use Rattle.std.specs.Prelude.{Option}
 use Rattle.ds_layout.specs.declared.header.Header.{Header}
 use Rattle.ds_layout.specs.Header.{header_of}

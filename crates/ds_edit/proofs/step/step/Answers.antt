@@ -3,14 +3,11 @@ use Rattle.std.proofs.Common.{ℕ, ◌≡◌, arith, ap, sym, ◌∙◌, subst}
 use Rattle.ds_state.specs.Edits.{PlainEditCall}
 use Rattle.ds_state.specs.Value.{WorldValue}
 use Rattle.ds_state.specs.declared.stage.Outcome.{Outcome}
-use Rattle.ds_core.specs.EditEvents.{IsEditing, EditStepsBy, reply_at, reply_with}
 use Rattle.ds_state.specs.declared.answer.EditEnd.{EditEnd}
-use Rattle.ds_state.specs.declared.answer.Answer.TheVariants.{Edit}
 use Rattle.ds_state.specs.declared.turn.Turn.{Turn}
-use Rattle.ds_core.specs.Replies.{reply_of}
-use Rattle.ds_core.specs.declared.reply.Reply.{Reply}
-use Rattle.ds_core.proofs.Good.{editing_from, processes_are}
-use Rattle.ds_core.proofs.step.edit_step.Goals as goal
+use Rattle.ds_edit.specs.EditTakes.{IsEditing, StepsBy, turn_at, turn_with}
+use Rattle.ds_edit.proofs.Driving.{editing_from, processes_are}
+use Rattle.ds_edit.proofs.step.step.Goals as goal
 
 pub edit_on-what-requires : goal.edit_on-what-requires
 edit_on-what-requires c =
@@ -32,5 +29,5 @@ returns c =
     let stage : c.call.inside.stage ≡ e.stage = ap (λ (x : PlainEditCall). x.stage) c.call.view_is in
     let number : c.call.inside.number ≡ e.number = ap (λ (x : PlainEditCall). x.number) c.call.view_is in
     let processes : c.call.inside.processes ≡ c.args.world.now.sheet.layout.processes = ap (λ (x : PlainEditCall). x.processes) c.call.view_is ∙ processes_are v c.world.invariant.good p e here ∙ ap (λ (w : WorldValue). w.sheet.layout.processes) c.world.view_is in
-    let turn : reply_of Edit c.turn.result ≡ reply_at c.args.world.now.sheet.layout.processes e.number c.call.inside.stage = ap (λ (t : Turn EditEnd). reply_of Edit t) c.turn.ensures ∙ ap (λ (o : Option Outcome). reply_with c.call.inside.processes c.call.inside.number o) c.edit_on-what.ensures.outcome ∙ ap (λ (n : ℕ). reply_at n c.call.inside.number c.call.inside.stage) processes ∙ ap (λ (n : ℕ). reply_at c.args.world.now.sheet.layout.processes n c.call.inside.stage) number in
-    subst (λ (r : Reply). EditStepsBy c.args.world.now p r c.edit_on-what.new.world) (sym turn) (c.edit_on-what.ensures.takes e at)
+    let turn : c.turn.result ≡ turn_at c.args.world.now.sheet.layout.processes e.number c.call.inside.stage = c.turn.ensures ∙ ap (λ (o : Option Outcome). turn_with c.call.inside.processes c.call.inside.number o) c.edit_on-what.ensures.outcome ∙ ap (λ (n : ℕ). turn_at n c.call.inside.number c.call.inside.stage) processes ∙ ap (λ (n : ℕ). turn_at c.args.world.now.sheet.layout.processes n c.call.inside.stage) number in
+    subst (λ (x : Turn EditEnd). StepsBy c.args.world.now p x c.edit_on-what.new.world) (sym turn) (c.edit_on-what.ensures.takes e at)

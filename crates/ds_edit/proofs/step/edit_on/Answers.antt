@@ -9,16 +9,15 @@ use Rattle.ds_state.specs.declared.stage.Stage.{Stage}
 use Rattle.ds_state.specs.declared.stage.Outcome.{Outcome}
 use Rattle.ds_state.specs.declared.situation.Situation.TheVariants.{Idle, Editing}
 use Rattle.ds_edit.specs.EditSteps.{access_at}
-use Rattle.ds_edit.specs.EditTakes.{after, after_by, counted_at, counted_by, effect_at, open_edit_at, open_edit_by, outcome_by}
+use Rattle.ds_edit.specs.EditTakes.{IsEditing, StepsBy, after, after_by, counted_at, counted_by, done_at, done_by, done_with, effect_at, open_edit_at, open_edit_by, outcome_by, turn_at}
 use Rattle.ds_state.specs.EditEndings.{outcome_at}
 use Rattle.ds_edit.specs.declared.machine.Effect.{Effect}
-use Rattle.ds_edit.specs.declared.machine.Effect.TheVariants.{Counts}
 use Rattle.ds_edit.proofs.Effects.{after_same, counted_same, open_edit_same, outcome_same, counts_swaps}
-use Rattle.ds_core.specs.EditEvents.{IsEditing, EditStepsBy, reply_at, done_at, done_by, done_with}
-use Rattle.ds_core.specs.declared.reply.Reply.{Reply}
-use Rattle.ds_core.proofs.Good.{perform_at, next, next_is, next_kept, next_room, next_takes, open_edit_there}
+use Rattle.ds_state.specs.declared.answer.EditEnd.{EditEnd}
+use Rattle.ds_state.specs.declared.turn.Turn.{Turn}
+use Rattle.ds_edit.proofs.Driving.{perform_at, next, next_is, next_kept, next_room, next_takes, open_edit_there}
 use Rattle.ds_state.proofs.Dones.{few_done}
-use Rattle.ds_core.proofs.step.edit_on.Goals as goal
+use Rattle.ds_edit.proofs.step.edit_on.Goals as goal
 
 pub perform-word-requires : goal.perform-word-requires
 perform-word-requires c =
@@ -90,11 +89,11 @@ returns c =
     record {
       takes = λ f is.
           let same : e ≡ f = (let both : Editing e ≡ Editing f = sym c.requires.1.is ∙ is.is in cc) in
-          let reply : reply_at v.sheet.layout.processes e.number e.stage ≡ reply_at v.sheet.layout.processes f.number c.args.stage =
-          ap (λ (x : PlainEditCall). reply_at v.sheet.layout.processes x.number e.stage) same ∙ ap (λ (s : Stage). reply_at v.sheet.layout.processes f.number s) (sym stage) in
+          let turn : turn_at v.sheet.layout.processes e.number e.stage ≡ turn_at v.sheet.layout.processes f.number c.args.stage =
+          ap (λ (x : PlainEditCall). turn_at v.sheet.layout.processes x.number e.stage) same ∙ ap (λ (s : Stage). turn_at v.sheet.layout.processes f.number s) (sym stage) in
           rw (← c.world.view_is)
-          (subst (λ (w : WorldValue). EditStepsBy v p (reply_at v.sheet.layout.processes f.number c.args.stage) w) (sym (next_is v c.world.invariant.good p e at word c.perform-word.new.self c.perform-word.ensures.layout performs c.go_on.new.situation c.count.new.counted.items c.close.new.open_edit c.done_after-world-inside.result situation counted open_edit done))
-          (subst (λ (r : Reply). EditStepsBy v p r (next v c.world.invariant.good p e at word c.perform-word.new.self c.perform-word.ensures.layout performs)) reply
+          (subst (λ (w : WorldValue). StepsBy v p (turn_at v.sheet.layout.processes f.number c.args.stage) w) (sym (next_is v c.world.invariant.good p e at word c.perform-word.new.self c.perform-word.ensures.layout performs c.go_on.new.situation c.count.new.counted.items c.close.new.open_edit c.done_after-world-inside.result situation counted open_edit done))
+          (subst (λ (x : Turn EditEnd). StepsBy v p x (next v c.world.invariant.good p e at word c.perform-word.new.self c.perform-word.ensures.layout performs)) turn
           (next_takes v c.world.invariant.good p e at word c.perform-word.new.self c.perform-word.ensures.layout performs)));
       outcome = outcome;
     }

@@ -1,20 +1,17 @@
--- Steps and evictions keep a world good.
+-- A step of an edit keeps a world good.
 use Rattle.std.proofs.Common.{ℕ, ◌≡◌, ◌<◌, ◌≤◌, ◌*◌, ◌⊎◌, List, [], ◌∷◌, ◌++◌, refl, ap, sym, ◌∙◌, subst, arith, length, length-append, get_or, set, inl, inr, Bool, true, false, ◌==◌}
 use Rattle.std.specs.Prelude.{Contains, Some, None, Option, if◌then◌else◌}
 use Rattle.std.proofs.Math.ListN.{length-set}
 use Rattle.std.proofs.lemmas.Bool.{eq-eqb, cases_eq}
 use Rattle.std.proofs.lemmas.List.{get_or-set_same, get_or-set_other, get_or_default}
 use Rattle.std.proofs.lemmas.List.Elements.{Contains-append_left}
-use Rattle.ds_words.specs.Memory.{EvictsAt}
 use Rattle.ds_layout.specs.declared.layout.Layout.{Layout}
 use Rattle.ds_layout.specs.declared.place.TheConstants.{RECORDS}
-use Rattle.ds_layout.specs.declared.place.Place.{Place}
 use Rattle.ds_layout.specs.SheetMemory.{SheetValue, memory, CanPerform, PerformsAt}
 use Rattle.ds_state.specs.Edits.{PlainEditCall}
 use Rattle.ds_state.specs.World.{PlainEdit, PlainIssue, edit_of}
 use Rattle.ds_state.specs.Value.{first_rest, WorldValue, world_of, IsGood, IsReserved}
 use Rattle.ds_state.specs.CallsFit.{CallFits, EditFits}
-use Rattle.ds_state.specs.Events.{Evicts}
 use Rattle.ds_state.specs.Sound.{IsSound}
 use Rattle.ds_state.specs.declared.stage.Outcome.{Outcome}
 use Rattle.ds_state.specs.declared.stage.Outcome.TheVariants as outcome
@@ -26,17 +23,13 @@ use Rattle.ds_state.specs.declared.stage.Stage.{Stage}
 use Rattle.ds_state.specs.declared.stage.Stage.TheVariants.{Swap, Answer}
 use Rattle.ds_state.specs.declared.situation.Situation.{Situation}
 use Rattle.ds_state.specs.declared.situation.Situation.TheVariants.{Idle, Editing}
-use Rattle.ds_state.proofs.Accesses.{evict_sound}
-use Rattle.ds_state.proofs.Buffers.{buffered}
 use Rattle.ds_state.proofs.Few.{counted_few}
 use Rattle.ds_state.proofs.Underway.{no_more}
 use Rattle.ds_state.specs.Underway.{reports_in}
 use Rattle.ds_edit.specs.EditSteps.{access_at}
-use Rattle.ds_edit.specs.EditTakes.{Steps, after, counted_at, open_edit_at}
+use Rattle.ds_edit.specs.EditTakes.{IsEditing, Steps, StepsBy, after, counted_at, done_at, done_with, open_edit_at, turn_at}
 use Rattle.ds_edit.proofs.Sound.{step_sound}
 use Rattle.ds_edit.proofs.Possible.{can_perform}
-use Rattle.ds_core.specs.EditEvents.{IsEditing, reply_at, reply_with, done_at, done_with, EditStepsBy, EditStepTakes}
-use Rattle.ds_core.specs.declared.reply.Reply.TheVariants.{Stepped}
 use Rattle.ds_state.specs.EditEndings.{outcome_at}
 
 pub editing_from : (v : WorldValue) (p : ℕ) (e : PlainEditCall) (read : Situation) → p < length v.situations → read ≡ get_or v.situations p read → read ≡ Editing e → IsEditing v p e
@@ -178,7 +171,7 @@ module _ (v : WorldValue) (g : IsGood v) (p : ℕ) (e : PlainEditCall) (at : IsE
         counted_won : (noted : ℕ) → word ≡ noted → counted_at (edit_of e) (Swap noted) word ≡ edit_of e ∷ []
         counted_won noted same = rw (eq-eqb word noted same) refl
 
-    pub next_takes : EditStepsBy v p (reply_at v.sheet.layout.processes e.number e.stage) next
+    pub next_takes : StepsBy v p (turn_at v.sheet.layout.processes e.number e.stage) next
     unfolding next
     next_takes = record {
       there = low;
@@ -204,23 +197,3 @@ module _ (v : WorldValue) (g : IsGood v) (p : ℕ) (e : PlainEditCall) (at : IsE
         ∙ ap (λ es. made (after e e.stage word) es open_issue done) b
         ∙ ap (λ i. made (after e e.stage word) (v.counted ++ counted_at (edit_of e) e.stage word) i done) c
         ∙ ap (λ n. made (after e e.stage word) (v.counted ++ counted_at (edit_of e) e.stage word) (open_edit_at (get_or v.open_edits p None) e.stage) n) d
-
--- an eviction
-pub evict_kept : (v : WorldValue) (sheet : SheetValue) (place : Place) (room : ℕ) → IsReserved v room → sheet.layout ≡ v.sheet.layout → EvictsAt place (memory v.sheet) (memory sheet)
-    → IsReserved (record v { sheet = sheet }) room × Evicts place (world_of v) (world_of (record v { sheet = sheet }))
-evict_kept v sheet place room k layout m =
-    let e : Evicts place (world_of v) (world_of (record v { sheet = sheet })) = record { layout = layout; memory = m; situation = λ q. refl; counted = refl; open_edits = λ q. refl } in
-    let same = ap (λ (l : Layout). l.processes) layout in (
-      record {
-        good = record {
-          sound = (evict_sound place (world_of v) (world_of (record v { sheet = sheet })) k.good.sound (buffered (world_of v) k.good.sound) e).0;
-          situations = k.good.situations ∙ sym same;
-          open_edits = k.good.open_edits ∙ sym same;
-          reports = rw layout k.good.reports;
-          answered = k.good.answered;
-          counts = k.good.counts;
-        };
-        reserved = (let r = k.reserved in omega arith);
-      },
-      e,
-    )
